@@ -1,0 +1,2 @@
+//! Clauses: heads, converted bodies, and the terms that spell them.
+#![tactic(auto)]

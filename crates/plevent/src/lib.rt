@@ -1,0 +1,2 @@
+//! Plain values: updates, batches, requests, replies and journal entries.
+#![tactic(auto)]

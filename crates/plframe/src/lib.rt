@@ -1,0 +1,2 @@
+//! Goal lists and choice points over the heap.
+#![tactic(auto)]

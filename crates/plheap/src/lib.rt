@@ -1,0 +1,2 @@
+//! Terms as cells, with bindings that can be undone.
+#![tactic(auto)]

@@ -1,0 +1,2 @@
+//! Histories: what follows, what is legal, the report.
+#![tactic(auto)]

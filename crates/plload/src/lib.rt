@@ -1,0 +1,2 @@
+//! Programs from their text.
+#![tactic(auto)]

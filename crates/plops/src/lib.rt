@@ -1,0 +1,2 @@
+//! Operators.
+#![tactic(auto)]

@@ -1,0 +1,2 @@
+//! Terms from tokens.
+#![tactic(auto)]

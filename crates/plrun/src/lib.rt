@@ -1,0 +1,2 @@
+//! Running all threads of a program.
+#![tactic(auto)]

@@ -1,0 +1,2 @@
+//! The definition of the depth-first search.
+#![tactic(auto)]

@@ -1,0 +1,2 @@
+//! The depth-first search, resumable.
+#![tactic(auto)]

@@ -1,0 +1,2 @@
+//! The clauses of all batches.
+#![tactic(auto)]

@@ -1,0 +1,2 @@
+//! Substitutions, and the most general unifier of two terms.
+#![tactic(auto)]

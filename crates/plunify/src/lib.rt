@@ -1,0 +1,2 @@
+//! Unification on the heap.
+#![tactic(auto)]

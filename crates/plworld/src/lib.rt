@@ -1,0 +1,2 @@
+//! The sequential core: one journal.
+#![tactic(auto)]

@@ -1,0 +1,2 @@
+//! The text of terms.
+#![tactic(auto)]
