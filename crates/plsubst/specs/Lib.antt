@@ -1,0 +1,2 @@
+pub mod Subst
+pub mod Unify
