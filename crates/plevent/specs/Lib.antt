@@ -1,0 +1,4 @@
+pub mod Alive
+pub mod Reading
+pub mod Rows
+pub mod Search

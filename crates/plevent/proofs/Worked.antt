@@ -1,0 +1,127 @@
+-- Journals of small runs, computed.
+use Rattle.std.specs.Prelude.{◌≡◌, ℕ, Bool, true, false, List, [], ◌∷◌, ◌++◌, Option, Some, None, refl}
+use Rattle.plterm.specs.Tree.{Tree, atom}
+use Rattle.plevent.specs.declared.clause.Indicator.{Indicator}
+use Rattle.plevent.specs.declared.clause.Clause.{Clause}
+use Rattle.plevent.specs.declared.update.Update.{Update}
+use Rattle.plevent.specs.declared.update.Update.TheVariants.{First, Last, Erase, EraseOwn, Declare}
+use Rattle.plevent.specs.declared.request.ThreadEnd.{ThreadEnd}
+use Rattle.plevent.specs.declared.request.Request.{Request}
+use Rattle.plevent.specs.declared.request.Reply.{Reply}
+use Rattle.plevent.specs.declared.act.Act.{Act}
+use Rattle.plevent.specs.declared.act.Entry.{Entry}
+use Rattle.plevent.specs.Alive.{Stamped, stamped, named, alive, exists, is_alive, before, view}
+use Rattle.plevent.specs.Reading.{Reading, reading, main}
+use Rattle.plevent.specs.Rows.{served, is_over, adds, reply_to}
+use Rattle.plevent.specs.Search.{Search}
+
+-- p/0 and its facts
+abbrev p : Indicator
+p = record { name = 112 ∷ []; arity = 0 }
+
+abbrev fact : Clause
+fact = record { head = atom (112 ∷ []); body = atom (116 ∷ 114 ∷ 117 ∷ 101 ∷ []); variables = 0 }
+
+abbrev two_batches : List Stamped
+two_batches = stamped 0 0 (Declare p ∷ Last fact ∷ Last fact ∷ []) ++ stamped 4 0 (Erase (named 0 1) ∷ First fact ∷ [])
+
+-- the second batch erases one clause and puts another in front
+pub walk_before : alive (before 4 two_batches) p ≡ named 0 1 ∷ named 0 2 ∷ []
+unfolding alive before
+walk_before = refl
+
+pub walk_after : alive (before 5 two_batches) p ≡ named 4 1 ∷ named 0 2 ∷ []
+unfolding alive before
+walk_after = refl
+
+pub erased : is_alive (named 0 1) (before 5 two_batches) ≡ false
+unfolding is_alive before
+erased = refl
+
+pub not_yet_erased : is_alive (named 0 1) (before 4 two_batches) ≡ true
+unfolding is_alive before
+not_yet_erased = refl
+
+-- a procedure that was declared is there before it has a clause
+pub declared : exists (stamped 0 0 (Declare p ∷ [])) p ≡ true
+unfolding exists
+declared = refl
+
+-- an erasure of a clause that is not made yet does nothing, and a second one neither
+pub too_early : alive (stamped 0 0 (EraseOwn 1 ∷ Last fact ∷ [])) p ≡ named 0 1 ∷ []
+unfolding alive
+too_early = refl
+
+pub twice : alive (two_batches ++ stamped 5 0 (Erase (named 0 1) ∷ [])) p ≡ named 4 1 ∷ named 0 2 ∷ []
+unfolding alive
+twice = refl
+
+-- those put in front in one batch stand by falling number
+pub fronts : alive (view [] 0 (First fact ∷ First fact ∷ Last fact ∷ EraseOwn 0 ∷ []) 4) p ≡ named 0 1 ∷ named 0 2 ∷ []
+unfolding alive before
+fronts = refl
+
+-- a journal: the first batch, and what worker 1 then adds by a start, a batch and an end
+abbrev opened : List Entry
+opened = record { worker = 0; thread = 0; act = Act.Batch (Declare p ∷ []) } ∷ []
+
+abbrev started : List Entry
+started = opened ++ record { worker = 1; thread = 1; act = Act.Start } ∷ []
+
+abbrev published : List Entry
+published = started ++ record { worker = 1; thread = 1; act = Act.Batch (Last fact ∷ []) } ∷ []
+
+abbrev ended : List Entry
+ended = published ++ record { worker = 1; thread = 1; act = Act.End ThreadEnd.True } ∷ []
+
+-- a start names the thread that is started, and not the one that asks
+pub start_adds : opened ++ adds opened 1 7 Request.Start ≡ started
+unfolding served reading
+start_adds = refl
+
+pub start_is_told : reply_to opened 7 Request.Start ≡ Reply.Started 1 (Some main) None
+unfolding served reading
+start_is_told = refl
+
+pub publish_adds : started ++ adds started 1 1 (Request.Publish (Last fact ∷ [])) ≡ published
+unfolding served reading
+publish_adds = refl
+
+pub publish_is_told : reply_to started 1 (Request.Publish (Last fact ∷ [])) ≡ Reply.Published
+unfolding served reading
+publish_is_told = refl
+
+pub finish_adds : published ++ adds published 1 1 (Request.Finish ThreadEnd.True) ≡ ended
+unfolding served reading
+finish_adds = refl
+
+-- the batch has the place of its entry
+pub names_of_all : alive (reading ended).updates p ≡ named 2 0 ∷ []
+unfolding reading alive
+names_of_all = refl
+
+-- a thread that is not started is told to wait, and adds nothing; so is one that has ended
+pub not_started : served (Request.Finish ThreadEnd.True) 1 (reading opened) ≡ (Reply.NotYet (Request.Finish ThreadEnd.True), None)
+unfolding served reading
+not_started = refl
+
+pub has_ended : served (Request.Publish []) 1 (reading ended) ≡ (Reply.NotYet (Request.Publish []), None)
+unfolding served reading
+has_ended = refl
+
+-- a second start is told to wait while main runs, and that the run is over when main has ended
+pub second_start : served Request.Start 0 (reading started) ≡ (Reply.NotYet Request.Start, None)
+unfolding served reading
+second_start = refl
+
+pub run_over : served Request.Start 0 (reading ended) ≡ (Reply.RunOver, None)
+unfolding served reading
+run_over = refl
+
+pub not_over : is_over (reading published).standing ≡ false
+unfolding reading
+not_over = refl
+
+pub over : is_over (reading ended).standing ≡ true
+unfolding reading
+over = refl

@@ -1,0 +1,111 @@
+-- The clauses that are alive after some updates, and those of a view.
+use Rattle.std.specs.Prelude.{ℕ, suc, Bool, true, false, ◌||◌, ◌&&◌, not, List, [], ◌∷◌, ◌++◌, take, filter, fold, nat_eq, nat_lt, bytes_eq}
+use Rattle.std.specs.List.{list_any}
+use Rattle.plterm.specs.Tree.{Tree, var, int, atom, compound, Trees, none, more, list_of}
+use Rattle.std.specs.Prelude.{length}
+use Rattle.plevent.specs.declared.clause.Indicator.{Indicator}
+use Rattle.plevent.specs.declared.clause.Clause.{Clause}
+use Rattle.plevent.specs.declared.update.Update.{Update}
+use Rattle.plevent.specs.declared.update.Update.TheVariants.{First, Last, Erase, EraseOwn, Declare}
+use Rattle.plevent.specs.declared.update.ClauseName.{ClauseName}
+
+-- (until the crate of clauses stands)
+abbrev pub indicator : Tree → Indicator
+indicator (var n) = record { name = []; arity = 0 }
+indicator (int i) = record { name = []; arity = 0 }
+indicator (atom s) = record { name = s; arity = 0 }
+indicator (compound s ts) = record { name = s; arity = length (list_of ts) }
+
+-- an update and its own name
+pub record Stamped : Type 0 where
+  pub at : ClauseName
+  pub update : Update
+
+abbrev pub named : ℕ → ℕ → ClauseName
+named b k = record { place = b; number = k }
+
+-- the updates of a batch at place b, from its update number k on
+abbrev pub stamped : ℕ → ℕ → List Update → List Stamped
+stamped b k [] = []
+stamped b k (u ∷ us) = record { at = named b k; update = u } ∷ stamped b (suc k) us
+
+abbrev pub same_name : ClauseName → ClauseName → Bool
+same_name x y = nat_eq x.place y.place && nat_eq x.number y.number
+
+abbrev pub same_pred : Indicator → Indicator → Bool
+same_pred p q = bytes_eq p.name q.name && nat_eq p.arity q.arity
+
+-- a clause belongs to the procedure that its head names
+abbrev pub is_of : Indicator → Clause → Bool
+is_of p c = same_pred (indicator c.head) p
+
+abbrev pub add_if : {A : Type 0} → Bool → A → A → A
+add_if true new old = new
+add_if false new old = old
+
+abbrev pub without : ClauseName → List ClauseName → List ClauseName
+without y xs = filter (λ x. not (same_name x y)) xs
+
+-- what an update named x makes of the names of p that are alive, in their order
+abbrev pub changed : Indicator → ClauseName → Update → List ClauseName → List ClauseName
+changed p x (First c) xs = add_if (is_of p c) (x ∷ xs) xs
+changed p x (Last c) xs = add_if (is_of p c) (xs ++ x ∷ []) xs
+changed p x (Erase y) xs = without y xs
+changed p x (EraseOwn k) xs = without (named x.place k) xs
+changed p x (Declare q) xs = xs
+
+abbrev pub change : Indicator → List ClauseName → Stamped → List ClauseName
+change p xs s = changed p s.at s.update xs
+
+-- the names of p that are alive, in their order
+unfoldable pub alive : List Stamped → Indicator → List ClauseName
+alive us p = fold (change p) [] us
+
+abbrev pub names : Indicator → Update → Bool
+names p (First c) = is_of p c
+names p (Last c) = is_of p c
+names p (Erase y) = false
+names p (EraseOwn k) = false
+names p (Declare q) = same_pred q p
+
+-- some update names p
+unfoldable pub exists : List Stamped → Indicator → Bool
+exists us p = list_any (λ s. names p s.update) us
+
+-- the update s makes the clause x
+abbrev pub makes : ClauseName → Stamped → Bool
+makes x s = made_by s.update && same_name s.at x
+  where
+    made_by : Update → Bool
+    made_by (First c) = true
+    made_by (Last c) = true
+    made_by (Erase y) = false
+    made_by (EraseOwn k) = false
+    made_by (Declare q) = false
+
+-- the update s names the clause x as one to go
+abbrev pub erases : ClauseName → Stamped → Bool
+erases x s = erased_by s.update
+  where
+    erased_by : Update → Bool
+    erased_by (Erase y) = same_name x y
+    erased_by (EraseOwn k) = same_name x (named s.at.place k)
+    erased_by (First c) = false
+    erased_by (Last c) = false
+    erased_by (Declare q) = false
+
+-- what an update makes of whether x is alive
+abbrev pub lives : ClauseName → Bool → Stamped → Bool
+lives x was s = (was || makes x s) && not (erases x s)
+
+-- the clause x was made, and is not erased
+unfoldable pub is_alive : ClauseName → List Stamped → Bool
+is_alive x us = fold (lives x) false us
+
+-- the updates of the batches below a place
+unfoldable pub before : ℕ → List Stamped → List Stamped
+before g us = filter (λ s. nat_lt s.at.place g) us
+
+-- a view: the batches below g, and then the first m own updates as one last batch
+abbrev pub view : List Stamped → ℕ → List Update → ℕ → List Stamped
+view us g own m = before g us ++ stamped g 0 (take m own)

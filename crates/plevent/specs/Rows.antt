@@ -1,0 +1,63 @@
+-- The table of requests: for each its reply and its act, in one row.
+use Rattle.std.specs.Prelude.{ℕ, Bool, true, false, ◌||◌, ◌&&◌, not, List, [], ◌∷◌, ◌++◌, find, option_to_list, Option, Some, None}
+use Rattle.std.specs.Option.{is_some}
+use Rattle.std.specs.List.{list_any}
+use Rattle.plevent.specs.declared.request.ThreadEnd.{ThreadEnd}
+use Rattle.plevent.specs.declared.request.Request.{Request}
+use Rattle.plevent.specs.declared.request.Reply.{Reply}
+use Rattle.plevent.specs.declared.act.Act.{Act}
+use Rattle.plevent.specs.declared.act.Entry.{Entry}
+use Rattle.plevent.specs.declared.standing.Thread.{Thread}
+use Rattle.plevent.specs.declared.standing.Standing.{Standing}
+use Rattle.plevent.specs.Alive.{add_if}
+use Rattle.plevent.specs.Reading.{Reading, reading, is_thread}
+
+-- the reply, and the act, if any, with the thread that its entry names
+abbrev pub Row : Type 0
+Row = Reply × Option (ℕ × Act)
+
+-- each thread was started, and has ended
+abbrev pub is_settled : Thread → Bool
+is_settled t = is_some t.worker && is_some t.ended
+
+abbrev pub is_over : Standing → Bool
+is_over r = not (list_any (λ t. not (is_settled t)) r.threads)
+
+abbrev pub is_new : Thread → Bool
+is_new t = not (is_some t.worker)
+
+-- thread t is started, and has not ended
+abbrev pub runs : ℕ → Standing → Bool
+runs t r = list_any (λ x. is_thread t x && is_some x.worker && not (is_some x.ended)) r.threads
+
+-- a start names the thread that is started, whoever asks
+abbrev pub start_row : Standing → Option Thread → Row
+start_row r None = (add_if (is_over r) Reply.RunOver (Reply.NotYet Request.Start), None)
+start_row r (Some x) = (Reply.Started x.number x.alias x.goal, Some (x.number, Act.Start))
+
+abbrev pub row : Request → ℕ → Standing → Row
+row Request.Start t r = start_row r (find is_new r.threads)
+row (Request.Publish us) t r = (Reply.Published, Some (t, Act.Batch us))
+row (Request.Finish e) t r = (Reply.Done, Some (t, Act.End e))
+
+-- a worker asks it, and no thread
+abbrev pub is_workers : Request → Bool
+is_workers Request.Start = true
+is_workers (Request.Publish us) = false
+is_workers (Request.Finish e) = false
+
+-- a thread that is not started, or has ended, waits
+unfoldable pub served : Request → ℕ → Reading → Row
+served q t r = add_if (is_workers q || runs t r.standing) (row q t r.standing) (Reply.NotYet q, None)
+
+-- the entry of a row, asked by worker w
+abbrev pub entries_of : ℕ → Option (ℕ × Act) → List Entry
+entries_of w None = []
+entries_of w (Some x) = record { worker = w; thread = x.0; act = x.1 } ∷ []
+
+-- what a request adds to a journal, and its reply
+abbrev pub adds : List Entry → ℕ → ℕ → Request → List Entry
+adds h w t q = entries_of w (served q t (reading h)).1
+
+abbrev pub reply_to : List Entry → ℕ → Request → Reply
+reply_to h t q = (served q t (reading h)).0
