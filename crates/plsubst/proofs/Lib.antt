@@ -1,0 +1,4 @@
+pub mod Unify
+pub mod UnifyFinds
+pub mod UnifyUnique
+pub mod Worked
