@@ -1,0 +1,5 @@
+pub mod Standins
+pub mod Types
+pub mod Errors
+pub mod Table
+pub mod Engine

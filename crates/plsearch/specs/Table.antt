@@ -1,0 +1,191 @@
+-- The table of control (ISO/IEC 13211-1 7.7, 7.8): one row for each form of goal, marker, answer and handler. No function here is recursive on goals.
+use Rattle.std.specs.Prelude.{ℕ, ◌+◌, Bool, true, false, ◌||◌, List, [], ◌∷◌, ◌++◌, map, filter_map, Option, Some, None, option_map, codes, bytes_eq, if◌then◌else◌}
+use Rattle.plterm.specs.Tree.{Tree, var, int, atom, compound, none, more}
+use Rattle.plterm.specs.Variables.{copied}
+use Rattle.plsubst.specs.Subst.{bind, shift}
+use Rattle.plsubst.specs.Unify.{unify}
+use Rattle.plsearch.specs.Standins.{Clause, Indicator, indicator, converted, Clausal, NoHead, BadHead, BadBody, IsClause, clausal, Last, Stamped, exists, clauses_alive, Publish, Reply, Started, RunOver, NotYet, Published, Done, View, Ask, Answer, Seen, Got, Program, static_clauses, is_fixed, text}
+use Rattle.plsearch.specs.Types.{Result, Fail, Throw, Ceased, Element, Goal, Commit, Look, Await, Place, Choice, Handler, Local, Move, Give, Go, Meeting, Select, Asks, Marked, Return}
+use Rattle.plsearch.specs.Errors.{instantiation_error, callable_error, procedure_error, static_error, error_term}
+
+-- a goal as the table reads it
+pub data Control : Type 0 where
+  True : Control
+  Both : Tree → Tree → Control
+  Once : Tree → Control
+  Write : Tree → Control
+  Newline : Control
+  AddLast : Tree → Control
+  Call : Indicator → Control
+  NoGoal : Control
+
+abbrev pub nullary : List ℕ → Control
+nullary f =
+    if bytes_eq f (codes "true") then True else
+    if bytes_eq f (codes "nl") then Newline else Call (record { name = f; arity = 0 })
+
+abbrev pub unary : List ℕ → Tree → Control
+unary f t =
+    if bytes_eq f (codes "once") then Once t else
+    if bytes_eq f (codes "write") then Write t else
+    if bytes_eq f (codes "assertz") then AddLast t else Call (record { name = f; arity = 1 })
+
+abbrev pub binary : List ℕ → Tree → Tree → Control
+binary f t u = if bytes_eq f (codes ",") then Both t u else Call (record { name = f; arity = 2 })
+
+abbrev pub control : Tree → Control
+control (atom f) = nullary f
+control (compound f (more t none)) = unary f t
+control (compound f (more t (more u none))) = binary f t u
+control (compound f ts) = Call (indicator (compound f ts))
+control (var x) = NoGoal
+control (int i) = NoGoal
+
+-- a list of goals under a substitution
+abbrev pub bind_element : (ℕ → Tree) → Element → Element
+bind_element σ (Goal k t) = Goal k (bind σ t)
+bind_element σ (Commit l) = Commit l
+bind_element σ (Look t) = Look (bind σ t)
+bind_element σ (Await q) = Await q
+
+abbrev pub bind_goals : (ℕ → Tree) → List Element → List Element
+bind_goals σ = map (bind_element σ)
+
+abbrev pub is_true : Tree → Bool
+is_true (atom f) = bytes_eq f (codes "true")
+is_true (var x) = false
+is_true (int i) = false
+is_true (compound f ts) = false
+
+-- a clause's body before the rest, at the level d; a body that is the atom true is no goal
+abbrev pub before_rest : Bool → ℕ → Tree → List Element → List Element
+before_rest true d b rest = rest
+before_rest false d b rest = Goal d b ∷ rest
+
+-- the goal t resolved against a clause, at the level d, where n variables are in use
+abbrev pub resolve : ℕ → ℕ → Tree → List Element → Clause → Option Place
+resolve d n t rest c =
+    option_map
+    (λ σ. record { goals = before_rest (is_true c.body) d (bind σ (shift n c.body)) (bind_goals σ rest); variables = n + c.variables })
+    (unify t (shift n c.head))
+
+-- each place in turn, at a level of its own
+abbrev pub choose : List Place → Local → Move
+choose [] w = Give Fail w
+choose (p ∷ ps) w = Go (Choice ps ∷ []) p w
+
+-- the clauses that fit, in their order
+abbrev pub call : ℕ → ℕ → Tree → List Element → List Clause → Local → Move
+call d n t rest cs w = choose (filter_map (resolve d n t rest) cs) w
+
+-- the levels of the markers of a list
+abbrev pub levels : List Element → List ℕ
+levels [] = []
+levels (Goal k t ∷ es) = levels es
+levels (Commit l ∷ es) = l ∷ levels es
+levels (Look t ∷ es) = levels es
+levels (Await q ∷ es) = levels es
+
+-- an error of a predicate is thrown: a copy, its variables numbered from 0, with the levels of the markers of a list
+unfoldable pub raised : Tree → Indicator → List Element → Local → Move
+raised e p es w = Give (Throw (copied 0 (error_term e p)) (levels es)) w
+
+abbrev pub once_1 : Indicator
+once_1 = record { name = codes "once"; arity = 1 }
+
+abbrev pub assertz_1 : Indicator
+assertz_1 = record { name = codes "assertz"; arity = 1 }
+
+-- what running a term as a goal comes to: the goal that it converts to, or an error (7.8.3)
+pub data Runnable : Type 0 where
+  Runs : Tree → Runnable
+  Raises : Tree → Runnable
+
+abbrev pub runnable_if : Option Tree → Tree → Runnable
+runnable_if None g = Raises (callable_error g)
+runnable_if (Some b) g = Runs b
+
+abbrev pub runnable : Tree → Runnable
+runnable (var x) = Raises instantiation_error
+runnable (int i) = Raises (callable_error (int i))
+runnable (atom f) = runnable_if (converted (atom f)) (atom f)
+runnable (compound f ts) = runnable_if (converted (compound f ts)) (compound f ts)
+
+-- a term is run as a goal at a cut level of its own, before a list; its errors are those of p
+abbrev pub run : Runnable → Indicator → ℕ → List Element → ℕ → Local → Move
+run (Runs b) p d rest n w = Go (Choice [] ∷ []) (record { goals = Goal d b ∷ rest; variables = n }) w
+run (Raises e) p d rest n w = raised e p rest w
+
+abbrev pub some_of : List Clause → Bool
+some_of [] = false
+some_of (c ∷ cs) = true
+
+-- control constructs, built-in predicates and the program's procedures are static
+abbrev pub is_static : Program → Indicator → Bool
+is_static P p = is_fixed p || some_of (static_clauses P p)
+
+abbrev pub add_if : Bool → Clause → List Element → ℕ → Local → Move
+add_if true c rest n w = raised (static_error (indicator c.head)) assertz_1 rest w
+add_if false c rest n w = Go [] (record { goals = Await (Publish (Last c ∷ [])) ∷ rest; variables = n }) w
+
+-- a clause that is added last is published (8.9.2)
+abbrev pub add : Program → Clausal → List Element → ℕ → Local → Move
+add P NoHead rest n w = raised instantiation_error assertz_1 rest w
+add P (BadHead h) rest n w = raised (callable_error h) assertz_1 rest w
+add P (BadBody b) rest n w = raised (callable_error b) assertz_1 rest w
+add P (IsClause c) rest n w = add_if (is_static P (indicator c.head)) c rest n w
+
+-- a call of a procedure that is not static looks for its clauses in a view
+abbrev pub user : List Clause → ℕ → Tree → List Element → ℕ → Local → Move
+user [] d t rest n w = Go [] (record { goals = Look t ∷ rest; variables = n }) w
+user (c ∷ cs) d t rest n w = call d n t rest (c ∷ cs) w
+
+-- a goal that is selected, with its cut level k, at the depth d
+unfoldable pub row : Program → Control → ℕ → Tree → ℕ → List Element → ℕ → Local → Move
+row P True k t d rest n w = Go [] (record { goals = rest; variables = n }) w
+row P (Both a b) k t d rest n w = Go [] (record { goals = Goal k a ∷ Goal k b ∷ rest; variables = n }) w
+row P (Once g) k t d rest n w = run (runnable g) once_1 d (Commit d ∷ rest) n w
+row P (Write a) k t d rest n w = Go [] (record { goals = rest; variables = n }) (record { out = w.out ++ text a })
+row P Newline k t d rest n w = Go [] (record { goals = rest; variables = n }) (record { out = w.out ++ 10 ∷ [] })
+row P (AddLast c) k t d rest n w = add P (clausal c) rest n w
+row P (Call p) k t d rest n w = user (static_clauses P p) d t rest n w
+row P NoGoal k t d rest n w = Give Fail w
+
+unfoldable pub select : Program → ℕ → Tree → ℕ → List Element → ℕ → Local → Move
+unfolding row
+select P k t d rest n w = row P (control t) k t d rest n w
+
+-- what the head of a list is
+unfoldable pub meet : Element → List Element → Local → Meeting
+meet (Goal k t) rest w = Select k t
+meet (Commit l) rest w = Marked l w
+meet (Look t) rest w = Asks View
+meet (Await q) rest w = Asks (Ask q)
+
+-- the clauses of p in a view; a procedure that does not exist there is an error (7.7.7)
+abbrev pub walk_if : Bool → List Clause → ℕ → Tree → List Element → ℕ → Local → Move
+walk_if false cs d t rest n w = raised (procedure_error (indicator t)) (indicator t) rest w
+walk_if true cs d t rest n w = call d n t rest cs w
+
+abbrev pub walk_over : List Stamped → ℕ → Tree → List Element → ℕ → Local → Move
+walk_over us d t rest n w = walk_if (exists us (indicator t)) (clauses_alive us (indicator t)) d t rest n w
+
+abbrev pub replied : Reply → List Element → ℕ → Local → Move
+replied Published rest n w = Go [] (record { goals = rest; variables = n }) w
+replied (Started i a g) rest n w = Give Ceased w
+replied RunOver rest n w = Give Ceased w
+replied (NotYet q) rest n w = Give Ceased w
+replied Done rest n w = Give Ceased w
+
+-- an element that asked, and its answer
+unfoldable pub answered : Element → Answer → ℕ → List Element → ℕ → Local → Move
+answered (Look t) (Seen g us) d rest n w = walk_over us d t rest n w
+answered (Look t) (Got r) d rest n w = Give Ceased w
+answered (Await q) (Got r) d rest n w = replied r rest n w
+answered (Await q) (Seen g us) d rest n w = Give Ceased w
+answered (Goal k t) a d rest n w = Give Ceased w
+answered (Commit l) a d rest n w = Give Ceased w
+
+-- a handler, at the level d, and the result of its list
+unfoldable pub resume : Handler → ℕ → Result → Local → Return
+resume h d r w = elim h [ ]

@@ -1,0 +1,68 @@
+-- The values that the search is about.
+use Rattle.std.specs.Prelude.{ℕ, List}
+use Rattle.plterm.specs.Tree.{Tree}
+use Rattle.plsearch.specs.Standins.{Item, Answer, Request}
+
+-- how a visit ends: its list is done; it has no further solution; the choices down to a level are given up; a ball is thrown,
+-- with the levels of the markers behind it; no step is left; no answer is left for what is asked; an answer does not fit what was asked
+pub data Result : Type 0 where
+  Stop : Result
+  Fail : Result
+  CutTo : ℕ → Result
+  Throw : Tree → List ℕ → Result
+  Spent : Result
+  Asking : Item → Result
+  Ceased : Result
+
+-- what a goal list holds: goals, each with its cut level; markers, each with the level of the case that put it; and what asks:
+-- Look, which waits for the view in which a goal's clauses are looked up, and Await, which waits for the reply to a request
+pub data Element : Type 0 where
+  Goal : ℕ → Tree → Element
+  Commit : ℕ → Element
+  Look : Tree → Element
+  Await : Request → Element
+
+-- what is left to do: a goal list, its terms with all that stands for their variables put in, and how many variables are in use
+pub record Place : Type 0 where
+  pub goals : List Element
+  pub variables : ℕ
+
+-- what an open case does besides choosing and marking
+pub data Handler : Type 0 where
+
+-- an open case, outside of the list that is visited now: the places still to try, a mark, behind which Fail is a cut to its level, or a handler.
+-- The level of a case is the number of cases that are open outside of it
+pub data Case : Type 0 where
+  Choice : List Place → Case
+  Mark : ℕ → Case
+  Handle : Handler → Case
+
+-- what a thread has besides its steps and answers: its output
+pub record Local : Type 0 where
+  pub out : List ℕ
+
+-- what a row of the table says: the result, or cases to open, the innermost first, and the list to visit in them
+pub data Move : Type 0 where
+  Give : Result → Local → Move
+  Go : List Case → Place → Local → Move
+
+-- what an element at the head of a list is: a goal, which takes a step; an item, which takes an answer;
+-- an end; or nothing but a mark on the rest
+pub data Meeting : Type 0 where
+  Select : ℕ → Tree → Meeting
+  Asks : Item → Meeting
+  End : Result → Local → Meeting
+  Pass : Local → Meeting
+  Marked : ℕ → Local → Meeting
+
+-- what a handler makes of a result: another, or a list to visit in its place, at a cut level of its own or not
+pub data Return : Type 0 where
+  Keep : Result → Local → Return
+  Again : Place → Local → Return
+  Anew : Place → Local → Return
+
+-- the steps and the answers that are left, and the rest
+pub record Run : Type 0 where
+  pub steps : ℕ
+  pub answers : List Answer
+  pub local : Local
