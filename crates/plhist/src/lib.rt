@@ -1,2 +1,7 @@
-//! Histories: what follows, what is legal, the report.
+//! The history of a run: what each thread did, and the one journal of all. A run follows its
+//! thread's search, a journal is legal, a run is over; the report of a history, and its status.
 #![tactic(auto)]
+
+pub mod history;
+
+pub use history::{History, Journal, Output, Places, Run, RunEnd, Runs};
