@@ -10,7 +10,7 @@ use Rattle.plevent.specs.declared.request.Request.{Request}
 use Rattle.plevent.specs.declared.request.Reply.{Reply}
 use Rattle.plevent.specs.declared.act.Act.{Act}
 use Rattle.plevent.specs.declared.act.Entry.{Entry}
-use Rattle.plevent.specs.Alive.{Stamped, stamped, named, alive, exists, is_alive, before, view}
+use Rattle.plevent.specs.Alive.{Stamped, stamped, named, living, alive, clauses_alive, exists, is_alive, before, view}
 use Rattle.plevent.specs.Reading.{Reading, reading, main}
 use Rattle.plevent.specs.Rows.{served, is_over, adds, reply_to}
 use Rattle.plevent.specs.Search.{Search}
@@ -27,12 +27,16 @@ two_batches = stamped 0 0 (Declare p ∷ Last fact ∷ Last fact ∷ []) ++ stam
 
 -- the second batch erases one clause and puts another in front
 pub walk_before : alive (before 4 two_batches) p ≡ named 0 1 ∷ named 0 2 ∷ []
-unfolding alive before
+unfolding living before
 walk_before = refl
 
 pub walk_after : alive (before 5 two_batches) p ≡ named 4 1 ∷ named 0 2 ∷ []
-unfolding alive before
+unfolding living before
 walk_after = refl
+
+pub clauses_after : clauses_alive (before 5 two_batches) p ≡ fact ∷ fact ∷ []
+unfolding living before
+clauses_after = refl
 
 pub erased : is_alive (named 0 1) (before 5 two_batches) ≡ false
 unfolding is_alive before
@@ -49,16 +53,16 @@ declared = refl
 
 -- an erasure of a clause that is not made yet does nothing, and a second one neither
 pub too_early : alive (stamped 0 0 (EraseOwn 1 ∷ Last fact ∷ [])) p ≡ named 0 1 ∷ []
-unfolding alive
+unfolding living
 too_early = refl
 
 pub twice : alive (two_batches ++ stamped 5 0 (Erase (named 0 1) ∷ [])) p ≡ named 4 1 ∷ named 0 2 ∷ []
-unfolding alive
+unfolding living
 twice = refl
 
 -- those put in front in one batch stand by falling number
 pub fronts : alive (view [] 0 (First fact ∷ First fact ∷ Last fact ∷ EraseOwn 0 ∷ []) 4) p ≡ named 0 1 ∷ named 0 2 ∷ []
-unfolding alive before
+unfolding living before
 fronts = refl
 
 -- a journal: the first batch, and what worker 1 then adds by a start, a batch and an end
@@ -97,7 +101,7 @@ finish_adds = refl
 
 -- the batch has the place of its entry
 pub names_of_all : alive (reading ended).updates p ≡ named 2 0 ∷ []
-unfolding reading alive
+unfolding reading living
 names_of_all = refl
 
 -- a thread that is not started is told to wait, and adds nothing; so is one that has ended

@@ -1,5 +1,5 @@
 -- The clauses that are alive after some updates, and those of a view.
-use Rattle.std.specs.Prelude.{ℕ, suc, Bool, true, false, ◌||◌, ◌&&◌, not, List, [], ◌∷◌, ◌++◌, take, filter, fold, nat_eq, nat_lt, bytes_eq}
+use Rattle.std.specs.Prelude.{ℕ, suc, Bool, true, false, ◌||◌, ◌&&◌, not, List, [], ◌∷◌, ◌++◌, take, map, filter, fold, nat_eq, nat_lt, bytes_eq}
 use Rattle.std.specs.List.{list_any}
 use Rattle.plterm.specs.Tree.{Tree, var, int, atom, compound, Trees, none, more, list_of}
 use Rattle.std.specs.Prelude.{length}
@@ -43,23 +43,44 @@ abbrev pub add_if : {A : Type 0} → Bool → A → A → A
 add_if true new old = new
 add_if false new old = old
 
-abbrev pub without : ClauseName → List ClauseName → List ClauseName
-without y xs = filter (λ x. not (same_name x y)) xs
+-- a clause and its name
+pub record Living : Type 0 where
+  pub name : ClauseName
+  pub clause : Clause
 
--- what an update named x makes of the names of p that are alive, in their order
-abbrev pub changed : Indicator → ClauseName → Update → List ClauseName → List ClauseName
-changed p x (First c) xs = add_if (is_of p c) (x ∷ xs) xs
-changed p x (Last c) xs = add_if (is_of p c) (xs ++ x ∷ []) xs
+abbrev pub lives_as : ClauseName → Clause → Living
+lives_as x c = record { name = x; clause = c }
+
+abbrev pub without : ClauseName → List Living → List Living
+without y xs = filter (λ x. not (same_name x.name y)) xs
+
+-- what an update named x makes of the clauses of p that are alive, in their order
+abbrev pub changed : Indicator → ClauseName → Update → List Living → List Living
+changed p x (First c) xs = add_if (is_of p c) (lives_as x c ∷ xs) xs
+changed p x (Last c) xs = add_if (is_of p c) (xs ++ lives_as x c ∷ []) xs
 changed p x (Erase y) xs = without y xs
 changed p x (EraseOwn k) xs = without (named x.place k) xs
 changed p x (Declare q) xs = xs
 
-abbrev pub change : Indicator → List ClauseName → Stamped → List ClauseName
+abbrev pub change : Indicator → List Living → Stamped → List Living
 change p xs s = changed p s.at s.update xs
 
--- the names of p that are alive, in their order
-unfoldable pub alive : List Stamped → Indicator → List ClauseName
-alive us p = fold (change p) [] us
+-- the clauses of p that are alive, in their order
+unfoldable pub living : List Stamped → Indicator → List Living
+living us p = fold (change p) [] us
+
+abbrev pub names_of : List Living → List ClauseName
+names_of xs = map (λ x. x.name) xs
+
+abbrev pub clauses_of : List Living → List Clause
+clauses_of xs = map (λ x. x.clause) xs
+
+-- their names, and the clauses themselves
+abbrev pub alive : List Stamped → Indicator → List ClauseName
+alive us p = names_of (living us p)
+
+abbrev pub clauses_alive : List Stamped → Indicator → List Clause
+clauses_alive us p = clauses_of (living us p)
 
 abbrev pub names : Indicator → Update → Bool
 names p (First c) = is_of p c
