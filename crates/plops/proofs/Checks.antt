@@ -1,0 +1,130 @@
+-- A table is sane where each entry passes a test, and the comma is its operator.
+use Rattle.std.proofs.Common.{◌≡◌, ◌<◌, ◌≤◌, Bool, true, false, cond, ◌&&◌, ◌||◌, nat_lt, nat_le, ltb, leb, ℕ, List, [], ◌∷◌, Option, Some, None, refl, arith, sym, subst, ap, ◌∙◌}
+use Rattle.std.proofs.lemmas.Bool.{false≢true, leb-true, ltb-true}
+use Rattle.std.specs.Prelude.{is_none, option_and_then}
+use Rattle.std.specs.List.{list_all}
+use Rattle.plops.specs.declared.operator.Prefix.{Prefix}
+use Rattle.plops.specs.declared.operator.Infix.{Infix}
+use Rattle.plops.specs.declared.operator.Postfix.{Postfix}
+use Rattle.plops.specs.declared.table.Entry.{Entry}
+use Rattle.plops.specs.Tables.{is_named, find, prefix_of, infix_of, postfix_of}
+use Rattle.plops.specs.Sane.{IsSane, comma, comma_op}
+
+-- an operator's numbers as tests
+abbrev pub good_prefix : Option Prefix → Bool
+good_prefix None = true
+good_prefix (Some op) = nat_lt 0 op.priority && (nat_le op.priority 1200 && nat_le op.right op.priority)
+
+abbrev pub good_infix : Option Infix → Bool
+good_infix None = true
+good_infix (Some op) = nat_lt 0 op.priority && (nat_le op.priority 1200 && (nat_le op.left op.priority && nat_le op.right op.priority))
+
+abbrev pub good_postfix : Option Postfix → Bool
+good_postfix None = true
+good_postfix (Some op) = nat_lt 0 op.priority && (nat_le op.priority 1200 && nat_le op.left op.priority)
+
+abbrev pub alone : Option Infix → Option Postfix → Bool
+alone None o = true
+alone (Some op) o = is_none o
+
+abbrev pub is_good : Entry → Bool
+is_good e = good_prefix e.as_prefix && (good_infix e.as_infix && (good_postfix e.as_postfix && alone e.as_infix e.as_postfix))
+
+abbrev IsGood : Option Entry → Type 0
+IsGood None = Unit {0}
+IsGood (Some e) = is_good e ≡ true
+
+good_if : (b : Bool) (x y : Option Entry) → IsGood x → IsGood y → IsGood (cond b x y)
+good_if true x y h k = h
+good_if false x y h k = k
+
+both : (a b : Bool) → (a && b) ≡ true → (a ≡ true) × (b ≡ true)
+both true b h = (refl, h)
+both false b h = absurd (false≢true h)
+
+found_good : (entries : List Entry) (n : List ℕ) → list_all is_good entries ≡ true → IsGood (find entries n)
+found_good [] n h = tt
+found_good (e ∷ entries) n h =
+    let parts = both (is_good e) (list_all is_good entries) h in
+    good_if (is_named n e) (Some e) (find entries n) parts.0 (found_good entries n parts.1)
+
+-- what the test of an entry says
+record Parts (e : Entry) : Type 0 where
+  before : good_prefix e.as_prefix ≡ true
+  between : good_infix e.as_infix ≡ true
+  behind : good_postfix e.as_postfix ≡ true
+  lone : alone e.as_infix e.as_postfix ≡ true
+
+parts : (e : Entry) → is_good e ≡ true → Parts e
+parts e h =
+    let first = both (good_prefix e.as_prefix) (good_infix e.as_infix && (good_postfix e.as_postfix && alone e.as_infix e.as_postfix)) h in
+    let second = both (good_infix e.as_infix) (good_postfix e.as_postfix && alone e.as_infix e.as_postfix) first.1 in
+    let third = both (good_postfix e.as_postfix) (alone e.as_infix e.as_postfix) second.1 in
+    record { before = first.0; between = second.0; behind = third.0; lone = third.1 }
+
+prefix_good : (o : Option Entry) (op : Prefix) → IsGood o → option_and_then (λ e. e.as_prefix) o ≡ Some op → good_prefix (Some op) ≡ true
+prefix_good None op h e = absurd cc
+prefix_good (Some x) op h e = subst (λ o. good_prefix o ≡ true) e (parts x h).before
+
+infix_good : (o : Option Entry) (op : Infix) → IsGood o → option_and_then (λ e. e.as_infix) o ≡ Some op → good_infix (Some op) ≡ true
+infix_good None op h e = absurd cc
+infix_good (Some x) op h e = subst (λ o. good_infix o ≡ true) e (parts x h).between
+
+postfix_good : (o : Option Entry) (op : Postfix) → IsGood o → option_and_then (λ e. e.as_postfix) o ≡ Some op → good_postfix (Some op) ≡ true
+postfix_good None op h e = absurd cc
+postfix_good (Some x) op h e = subst (λ o. good_postfix o ≡ true) e (parts x h).behind
+
+no_postfix : (o : Option Postfix) → is_none o ≡ true → o ≡ None
+no_postfix None h = refl
+no_postfix (Some op) h = absurd (false≢true h)
+
+infix_alone : (o : Option Entry) (op : Infix) → IsGood o → option_and_then (λ e. e.as_infix) o ≡ Some op → option_and_then (λ e. e.as_postfix) o ≡ None
+infix_alone None op h e = refl
+infix_alone (Some x) op h e = no_postfix x.as_postfix (subst (λ o. alone o x.as_postfix ≡ true) e (parts x h).lone)
+
+-- what the test of an infix operator says
+record Numbers (op : Infix) : Type 0 where
+  some : 0 < op.priority
+  top : op.priority ≤ 1200
+  left : op.left ≤ op.priority
+  right : op.right ≤ op.priority
+
+numbers : (op : Infix) → good_infix (Some op) ≡ true → Numbers op
+numbers op h =
+    let first = both (nat_lt 0 op.priority) (nat_le op.priority 1200 && (nat_le op.left op.priority && nat_le op.right op.priority)) h in
+    let second = both (nat_le op.priority 1200) (nat_le op.left op.priority && nat_le op.right op.priority) first.1 in
+    let third = both (nat_le op.left op.priority) (nat_le op.right op.priority) second.1 in
+    record { some = ltb-true 0 op.priority first.0; top = leb-true op.priority 1200 second.0; left = leb-true op.left op.priority third.0; right = leb-true op.right op.priority third.1 }
+
+module _ (ops : List Entry) (good : list_all is_good ops ≡ true) where
+  pre : (n : List ℕ) (op : Prefix) → prefix_of ops n ≡ Some op → good_prefix (Some op) ≡ true
+  unfolding prefix_of
+  pre n op e = prefix_good (find ops n) op (found_good ops n good) e
+
+  mid : (n : List ℕ) (op : Infix) → infix_of ops n ≡ Some op → good_infix (Some op) ≡ true
+  unfolding infix_of
+  mid n op e = infix_good (find ops n) op (found_good ops n good) e
+
+  post : (n : List ℕ) (op : Postfix) → postfix_of ops n ≡ Some op → good_postfix (Some op) ≡ true
+  unfolding postfix_of
+  post n op e = postfix_good (find ops n) op (found_good ops n good) e
+
+  lone : (n : List ℕ) (op : Infix) → infix_of ops n ≡ Some op → postfix_of ops n ≡ None
+  unfolding infix_of postfix_of
+  lone n op e = infix_alone (find ops n) op (found_good ops n good) e
+
+  pub sane : infix_of ops comma ≡ Some comma_op → IsSane ops
+  sane h = record {
+    pre_some = λ n op e. ltb-true 0 op.priority (both _ _ (pre n op e)).0;
+    pre_top = λ n op e. leb-true op.priority 1200 (both _ _ (both _ _ (pre n op e)).1).0;
+    pre_right = λ n op e. leb-true op.right op.priority (both _ _ (both _ _ (pre n op e)).1).1;
+    in_some = λ n op e. (numbers op (mid n op e)).some;
+    in_top = λ n op e. (numbers op (mid n op e)).top;
+    in_left = λ n op e. (numbers op (mid n op e)).left;
+    in_right = λ n op e. (numbers op (mid n op e)).right;
+    in_alone = lone;
+    post_some = λ n op e. ltb-true 0 op.priority (both _ _ (post n op e)).0;
+    post_top = λ n op e. leb-true op.priority 1200 (both _ _ (both _ _ (post n op e)).1).0;
+    post_left = λ n op e. leb-true op.left op.priority (both _ _ (both _ _ (post n op e)).1).1;
+    in_comma = h;
+  }
