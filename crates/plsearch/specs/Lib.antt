@@ -3,3 +3,8 @@ pub mod Types
 pub mod Errors
 pub mod Table
 pub mod Engine
+pub mod Machine
+pub mod Weight
+pub mod Search
+pub mod Solving
+pub mod Laws

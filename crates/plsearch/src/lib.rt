@@ -1,2 +1,33 @@
-//! The definition of the depth-first search.
+//! What a Prolog search is: the depth-first search of a program, defined over the answers that its
+//! thread takes from the journal, and the laws of that definition.
+//!
+//! It has no code. `specs/Table.antt` has a row for each form of goal, `specs/Engine.antt` the
+//! search over these rows, `specs/Machine.antt` the same search one row at a time, and
+//! `specs/Search.antt` main's search as the journal sees it.
 #![tactic(auto)]
+
+ghost use Rattle.plsearch.specs.Laws.{VisitsByWalks, TurnsKeepRest, TurnsEnd, EndsIgnoreAnswers};
+
+/// A list of goals is visited by one walk, and what comes behind a step or an answer by the search again.
+#[tactic(auto, using(crate::proofs::Fuel::laws))]
+pub fn visits_by_walks()
+    ensures { VisitsByWalks }
+{}
+
+/// Each turn of the machine keeps the rest of the search.
+#[tactic(auto, using(crate::proofs::Turns::laws))]
+pub fn turns_keep_rest()
+    ensures { TurnsKeepRest }
+{}
+
+/// A turn before the end takes a step or an answer, or makes the machine lighter: so turns come to an end.
+#[tactic(auto, using(crate::proofs::Weight::laws))]
+pub fn turns_end()
+    ensures { TurnsEnd }
+{}
+
+/// A search that has ended ignores further answers.
+#[tactic(auto, using(crate::proofs::Ends::ends_ignore))]
+pub fn ends_ignore_answers()
+    ensures { EndsIgnoreAnswers }
+{}

@@ -1,0 +1,81 @@
+-- Each turn of the machine keeps the rest of the search.
+use Rattle.std.proofs.Common.{◌≡◌, ℕ, zero, suc, List, [], ◌∷◌, ◌++◌, refl, sym, ap, ◌∙◌}
+use Rattle.plsearch.specs.Standins.{Program, Answer}
+use Rattle.plsearch.specs.Types.{Result, Fail, Element, Place, Case, Choice, Mark, Handle, Local, Move, Give, Go, Meeting, Select, Asks, End, Pass, Marked, Return, Keep, Again, Anew, Run}
+use Rattle.plsearch.specs.Table.{select, meet, answered, resume}
+use Rattle.plsearch.specs.Engine.{Ended, Visitor, deeper, choice, returned, out, outs, moved, stepped, asks, met, walk, Visit}
+use Rattle.plsearch.specs.Machine.{Mode, At, Back, Machine, Rest, move, step, ask, meets, visits, choose, return, backs, turn_in, turn}
+use Rattle.plsearch.proofs.Fuel.{Visit-walk}
+
+deeper-append : (cs cases : List Case) → deeper (cs ++ cases) 0 ≡ deeper cs (deeper cases 0)
+deeper-append [] cases = refl
+deeper-append (c ∷ cs) cases = ap suc (deeper-append cs cases)
+
+outs-append : (V : Visitor) (cs cases : List Case) (e : Ended) → outs V 0 (cs ++ cases) e ≡ outs V 0 cases (outs V (deeper cases 0) cs e)
+unfolding outs
+outs-append V [] cases e = refl
+outs-append V (c ∷ cs) cases e = ap (λ d. outs V 0 (cs ++ cases) (out V d c e)) (deeper-append cs cases) ∙ outs-append V cs cases (out V (deeper cs (deeper cases 0)) c e)
+
+Rest-move : (P : Program) (cases : List Case) (run : Run) (m : Move) →
+    outs (Visit P) 0 cases (moved (Visit P) (deeper cases 0) m run) ≡ Rest P (move cases run m)
+unfolding Rest moved
+Rest-move P cases run (Give r w) = refl
+Rest-move P cases run (Go cs p w) = rw (deeper-append, outs-append) refl
+
+Rest-choose : (P : Program) (cases : List Case) (run : Run) (ps : List Place) (r : Result) →
+    outs (Visit P) 0 cases (choice (Visit P) (deeper cases 0) ps r run) ≡ Rest P (choose cases run ps r)
+unfolding Rest outs out choice
+Rest-choose P cases run (p ∷ ps) Fail = refl
+Rest-choose P cases run [] Fail = refl
+Rest-choose P cases run ps r = refl
+
+Rest-return : (P : Program) (cases : List Case) (run : Run) (b : Return) →
+    outs (Visit P) 0 cases (returned (Visit P) (deeper cases 0) b run) ≡ Rest P (return cases run b)
+unfolding Rest outs out
+Rest-return P cases run (Keep r w) = refl
+Rest-return P cases run (Again p w) = refl
+Rest-return P cases run (Anew p w) = refl
+
+Rest-backs : (P : Program) (r : Result) (run : Run) (cases : List Case) →
+    outs (Visit P) 0 cases (r, run) ≡ Rest P (backs r run cases)
+unfolding Rest outs out
+Rest-backs P r run [] = refl
+Rest-backs P r run (Choice ps ∷ cases) = Rest-choose P cases run ps r
+Rest-backs P r run (Mark l ∷ cases) = refl
+Rest-backs P r run (Handle c ∷ cases) = Rest-return P cases run (resume c (deeper cases 0) r run.local)
+
+Rest-meets : (P : Program) (cases : List Case) (e : Element) (es : List Element) (n : ℕ) (run : Run) (m : Meeting) →
+    outs (Visit P) 0 cases (met P (Visit P) (walk P (Visit P) es n) e es n (deeper cases 0) run m) ≡ Rest P (meets P cases e es n run m)
+unfolding Rest outs
+Rest-meets P cases e es n run (Select k t) = step_keeps (select P k t (deeper cases 0) es n) run.steps
+  where
+    step_keeps : (row : Local → Move) (n : ℕ) →
+        outs (Visit P) 0 cases (stepped (Visit P) row (deeper cases 0) run n) ≡ Rest P (step cases row run n)
+    step_keeps row zero = refl
+    step_keeps row (suc n) = Rest-move P cases (record run { steps = n }) (row run.local)
+Rest-meets P cases e es n run (Asks q) = ask_keeps (λ a. answered e a (deeper cases 0) es n) run.answers
+  where
+    ask_keeps : (row : Answer → Local → Move) (xs : List Answer) →
+        outs (Visit P) 0 cases (asks (Visit P) row q (deeper cases 0) run xs) ≡ Rest P (ask cases row q run xs)
+    ask_keeps row [] = refl
+    ask_keeps row (a ∷ more) = Rest-move P cases (record run { answers = more }) (row a run.local)
+Rest-meets P cases e es n run (End r w) = refl
+Rest-meets P cases e es n run (Pass w) = ap (outs (Visit P) 0 cases) (sym (Visit-walk P (deeper cases 0) (record { goals = es; variables = n }) (record run { local = w })))
+Rest-meets P cases e es n run (Marked l w) = ap (λ e. outs (Visit P) 0 cases (out (Visit P) (deeper cases 0) (Mark l) e)) (sym (Visit-walk P (suc (deeper cases 0)) (record { goals = es; variables = n }) (record run { local = w })))
+
+Rest-visits : (P : Program) (cases : List Case) (es : List Element) (n : ℕ) (run : Run) →
+    outs (Visit P) 0 cases (walk P (Visit P) es n (deeper cases 0) run) ≡ Rest P (visits P cases es n run)
+unfolding Rest walk
+Rest-visits P cases [] n run = refl
+Rest-visits P cases (e ∷ es) n run = Rest-meets P cases e es n run (meet e es run.local)
+
+-- each turn keeps the rest
+pub Rest-turn : (P : Program) (m : Machine) → Rest P m ≡ Rest P (turn P m)
+unfolding Rest turn
+Rest-turn P m = go m.mode
+  where
+    go : (mode : Mode) → Rest P (record { mode = mode; cases = m.cases; run = m.run }) ≡ Rest P (turn_in P m.cases m.run mode)
+    go (At p) = ap (outs (Visit P) 0 m.cases) (Visit-walk P (deeper m.cases 0) p m.run) ∙ Rest-visits P m.cases p.goals p.variables m.run
+    go (Back r) = Rest-backs P r m.run m.cases
+
+pub ruleset laws = (Rest-turn)

@@ -1,0 +1,88 @@
+-- Each turn takes a step or an answer, or makes the machine lighter: so turns come to an end.
+use Rattle.std.proofs.Common.{◌≡◌, ℕ, zero, suc, ◌+◌, ◌≤◌, inl, inr, List, [], ◌∷◌, length, refl, ap, arith}
+use Rattle.plsearch.specs.Standins.{Program, Item, Answer}
+use Rattle.plsearch.specs.Types.{Result, Fail, Element, Place, Case, Choice, Mark, Handle, Handler, Local, Move, Give, Go, Meeting, Select, Asks, End, Pass, Marked, Return, Keep, Again, Anew, Run}
+use Rattle.plsearch.specs.Table.{select, meet, answered, resume}
+use Rattle.plsearch.specs.Engine.{left, deeper}
+use Rattle.plsearch.specs.Machine.{Mode, At, Back, Machine, move, step, ask, meets, visits, choose, return, backs, turn_in, turn}
+use Rattle.plsearch.specs.Weight.{place_weight, handler_weight, weight, Lighter}
+
+abbrev return_weight : Return → ℕ
+return_weight (Keep r w) = 1
+return_weight (Again p w) = place_weight p
+return_weight (Anew p w) = place_weight p + 1
+
+-- a handler weighs as much as what it may go on with
+resume-weight : (h : Handler) (d : ℕ) (r : Result) (w : Local) → return_weight (resume h d r w) ≤ handler_weight h
+resume-weight h d r w = elim h [ ]
+
+-- the machine at a goal list
+abbrev at_goals : Place → List Case → Run → Machine
+at_goals p cases run = record { mode = At p; cases = cases; run = run }
+
+move-run : (cases : List Case) (run : Run) (m : Move) → left (move cases run m).run ≡ left run
+move-run cases run (Give r w) = refl
+move-run cases run (Go cs p w) = refl
+
+lighter-step : (cases : List Case) (row : Local → Move) (p : Place) (run : Run) → Lighter (at_goals p cases run) (step cases row run run.steps)
+unfolding weight
+lighter-step cases row p run = go run.steps refl
+  where
+    go : (n : ℕ) → run.steps ≡ n → Lighter (at_goals p cases run) (step cases row run n)
+    go zero is = inr (refl, omega arith)
+    go (suc n) is = inl (omega (arith, is, move-run cases (record run { steps = n }) (row run.local)))
+
+lighter-ask : (cases : List Case) (row : Answer → Local → Move) (q : Item) (p : Place) (run : Run) → Lighter (at_goals p cases run) (ask cases row q run run.answers)
+unfolding weight
+lighter-ask cases row q p run = go run.answers refl
+  where
+    go : (xs : List Answer) → run.answers ≡ xs → Lighter (at_goals p cases run) (ask cases row q run xs)
+    go [] is = inr (refl, omega arith)
+    go (a ∷ more) is = inl (omega (arith, ap length is, move-run cases (record run { answers = more }) (row a run.local)))
+
+lighter-meets : (P : Program) (cases : List Case) (e : Element) (es : List Element) (n : ℕ) (run : Run) (m : Meeting) →
+    Lighter (at_goals (record { goals = e ∷ es; variables = n }) cases run) (meets P cases e es n run m)
+unfolding weight
+lighter-meets P cases e es n run (Select k t) = lighter-step cases (select P k t (deeper cases 0) es n) (record { goals = e ∷ es; variables = n }) run
+lighter-meets P cases e es n run (Asks q) = lighter-ask cases (λ a. answered e a (deeper cases 0) es n) q (record { goals = e ∷ es; variables = n }) run
+lighter-meets P cases e es n run (End r w) = inr (refl, omega arith)
+lighter-meets P cases e es n run (Pass w) = inr (refl, omega arith)
+lighter-meets P cases e es n run (Marked l w) = inr (refl, omega arith)
+
+lighter-choose : (cases : List Case) (run : Run) (ps : List Place) (r : Result) → Lighter (record { mode = Back r; cases = Choice ps ∷ cases; run = run }) (choose cases run ps r)
+unfolding weight
+lighter-choose cases run (p ∷ ps) Fail = inr (refl, omega arith)
+lighter-choose cases run [] Fail = inr (refl, omega arith)
+lighter-choose cases run (p ∷ ps) r = inr (refl, omega arith)
+lighter-choose cases run [] r = inr (refl, omega arith)
+
+lighter-return : (cases : List Case) (run : Run) (r : Result) (h : Handler) (b : Return) → return_weight b ≤ handler_weight h →
+    Lighter (record { mode = Back r; cases = Handle h ∷ cases; run = run }) (return cases run b)
+unfolding weight
+lighter-return cases run r h (Keep r' w) le = inr (refl, omega arith)
+lighter-return cases run r h (Again p w) le = inr (refl, omega arith)
+lighter-return cases run r h (Anew p w) le = inr (refl, omega arith)
+
+lighter-mark : (P : Program) (cases : List Case) (run : Run) (r : Result) (l : ℕ) → Lighter (record { mode = Back r; cases = Mark l ∷ cases; run = run }) (backs r run (Mark l ∷ cases))
+unfolding weight
+lighter-mark P cases run r l = inr (refl, omega arith)
+
+lighter-visits : (P : Program) (cases : List Case) (es : List Element) (n : ℕ) (run : Run) →
+    Lighter (at_goals (record { goals = es; variables = n }) cases run) (visits P cases es n run)
+unfolding weight
+lighter-visits P cases [] n run = inr (refl, omega arith)
+lighter-visits P cases (e ∷ es) n run = lighter-meets P cases e es n run (meet e es run.local)
+
+-- a turn that is not the end makes the machine lighter, or takes a step or an answer
+pub lighter-turn : (P : Program) (m : Machine) → ((r : Result) → m.mode ≡ Back r → m.cases ≡ [] → ⊥) → Lighter m (turn P m)
+unfolding turn
+lighter-turn P m over = go m.mode m.cases refl refl
+  where
+    go : (mode : Mode) (cases : List Case) → m.mode ≡ mode → m.cases ≡ cases → Lighter (record { mode = mode; cases = cases; run = m.run }) (turn_in P cases m.run mode)
+    go (At p) cases is of = lighter-visits P cases p.goals p.variables m.run
+    go (Back r) [] is of = absurd (over r is of)
+    go (Back r) (Choice ps ∷ cases) is of = lighter-choose cases m.run ps r
+    go (Back r) (Mark l ∷ cases) is of = lighter-mark P cases m.run r l
+    go (Back r) (Handle h ∷ cases) is of = lighter-return cases m.run r h (resume h (deeper cases 0) r m.run.local) (resume-weight h (deeper cases 0) r m.run.local)
+
+pub ruleset laws = (lighter-turn)

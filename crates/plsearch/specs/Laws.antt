@@ -1,0 +1,25 @@
+-- The laws of the search and of its machine.
+use Rattle.std.specs.Prelude.{◌≡◌, ℕ, List, [], ◌++◌}
+use Rattle.plsearch.specs.Standins.{Program, Answer, ThreadEnd, Finishes}
+use Rattle.plsearch.specs.Types.{Result, Place, Run}
+use Rattle.plsearch.specs.Engine.{walk, Visit}
+use Rattle.plsearch.specs.Machine.{Machine, Back, Rest, turn}
+use Rattle.plsearch.specs.Weight.{Lighter}
+use Rattle.plsearch.specs.Search.{search_of}
+
+-- a list is visited by one walk, and what comes behind a step or an answer by the search again
+abbrev pub VisitsByWalks : Type 0
+VisitsByWalks = (P : Program) (d : ℕ) (p : Place) (run : Run) → Visit P d p run ≡ walk P (Visit P) p.goals p.variables d run
+
+-- each turn of the machine keeps the rest of the search
+abbrev pub TurnsKeepRest : Type 0
+TurnsKeepRest = (P : Program) (m : Machine) → Rest P m ≡ Rest P (turn P m)
+
+-- a turn before the end takes a step or an answer, or makes the machine lighter
+abbrev pub TurnsEnd : Type 0
+TurnsEnd = (P : Program) (m : Machine) → ((r : Result) → m.mode ≡ Back r → m.cases ≡ [] → ⊥) → Lighter m (turn P m)
+
+-- a search that has ended ignores further answers
+abbrev pub EndsIgnoreAnswers : Type 0
+EndsIgnoreAnswers = (P : Program) (limit n : ℕ) (answers further : List Answer) (e : ThreadEnd) →
+    (search_of P limit n answers).next ≡ Finishes e → search_of P limit n (answers ++ further) ≡ search_of P limit n answers

@@ -1,0 +1,47 @@
+-- A thread's search, as its journal sees it.
+use Rattle.std.specs.Prelude.{ℕ, ◌+◌, ◌-◌, List, [], ◌∷◌, length, codes, min}
+use Rattle.plterm.specs.Tree.{Tree, compound, none, more}
+use Rattle.plterm.specs.Variables.{variables}
+use Rattle.plsubst.specs.Subst.{shift}
+use Rattle.plsearch.specs.Standins.{Program, Answer, True, False, Exception, Budget, Next, Wants, Finishes, Ceases, Ending, Search}
+use Rattle.plsearch.specs.Types.{Result, Stop, Fail, CutTo, Throw, Spent, Asking, Ceased, Goal, Place, Run}
+use Rattle.plsearch.specs.Engine.{Ended, Visit}
+
+abbrev pub once : Tree → Tree
+once g = compound (codes "once") (more g none)
+
+abbrev pub started : Tree → ℕ → Place → Place
+started g n rest = record rest { goals = Goal 0 (once (shift n g)) ∷ rest.goals }
+
+-- the goals in order, each once, their variables apart and numbered from n on
+unfoldable pub start_from : ℕ → List Tree → Place
+start_from n [] = record { goals = []; variables = n }
+start_from n (g ∷ gs) = started g n (start_from (n + length (variables g)) gs)
+
+-- where main starts
+unfoldable pub start_of : Program → Place
+unfolding start_from
+start_of P = start_from 0 P.goals
+
+-- a cut at the very outside and an answer that does not fit what was asked do not occur in a run
+abbrev pub next_of : Result → Next
+next_of Stop = Finishes True
+next_of Fail = Finishes False
+next_of (CutTo l) = Ceases
+next_of (Throw b ls) = Finishes (Exception b)
+next_of Spent = Finishes Budget
+next_of (Asking q) = Wants q
+next_of Ceased = Ceases
+
+-- the end of a visit that began with so many steps
+abbrev pub ending_of : ℕ → Ended → Ending
+ending_of steps e = record { next = next_of e.0; used = steps - e.1.steps; out = e.1.local.out }
+
+-- so many steps and these answers are left, and nothing was written
+abbrev pub from_start : ℕ → List Answer → Run
+from_start steps answers = record { steps = steps; answers = answers; local = record { out = [] } }
+
+-- main's search, which takes no more steps than the limit
+unfoldable pub search_of : Program → ℕ → Search
+unfolding Visit start_of
+search_of P limit n answers = ending_of (min n limit) (Visit P 0 (start_of P) (from_start (min n limit) answers))
