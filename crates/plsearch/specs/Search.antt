@@ -3,7 +3,9 @@ use Rattle.std.specs.Prelude.{ℕ, ◌+◌, ◌-◌, List, [], ◌∷◌, length
 use Rattle.plterm.specs.Tree.{Tree, compound, none, more}
 use Rattle.plterm.specs.Variables.{variables}
 use Rattle.plsubst.specs.Subst.{shift}
-use Rattle.plsearch.specs.Standins.{Program, Answer, True, False, Exception, Budget, Next, Wants, Finishes, Ceases, Ending, Search}
+use Rattle.plevent.specs.Search.{Answer, Next, Wants, Finishes, Ceases, Ending, Search}
+use Rattle.plevent.specs.declared.request.ThreadEnd.TheVariants.{True, False, Exception, Budget}
+use Rattle.plsearch.specs.Standins.{Program}
 use Rattle.plsearch.specs.Types.{Result, Stop, Fail, CutTo, Throw, Spent, Asking, Ceased, Goal, Place, Run}
 use Rattle.plsearch.specs.Engine.{Ended, Visit}
 

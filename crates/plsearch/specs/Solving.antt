@@ -1,6 +1,7 @@
 -- What the calls of a resumable search say of it. Limits of steps count from the start of its thread.
 use Rattle.std.specs.Prelude.{◌≡◌, ℕ, ◌≤◌, List, [], ◌∷◌}
-use Rattle.plsearch.specs.Standins.{ThreadEnd, Item, Answer, Next, Wants, Finishes, Search}
+use Rattle.plevent.specs.Search.{Item, Answer, Next, Wants, Finishes, Search}
+use Rattle.plevent.specs.declared.request.ThreadEnd.{ThreadEnd}
 
 -- it is at the start of the search
 abbrev pub Begins : Search → Search → ℕ → Type 0

@@ -1,25 +1,11 @@
 -- Stands for what other crates define.
-use Rattle.std.specs.Prelude.{ℕ, Bool, true, false, ◌&&◌, ◌||◌, List, [], ◌∷◌, ◌++◌, Option, Some, None, codes, nat_eq, bytes_eq, if◌then◌else◌, length}
-use Rattle.plterm.specs.Tree.{Tree, var, int, atom, compound, Trees, none, more, list_of}
+use Rattle.std.specs.Prelude.{ℕ, Bool, true, false, ◌||◌, List, [], ◌∷◌, ◌++◌, Option, Some, None, codes, bytes_eq, if◌then◌else◌, length}
+use Rattle.plterm.specs.Tree.{Tree, var, int, atom, compound, Trees, none, more}
+use Rattle.plevent.specs.declared.clause.Clause.{Clause}
+use Rattle.plevent.specs.declared.clause.Indicator.{Indicator}
+use Rattle.plevent.specs.declared.update.Update.{Update}
+use Rattle.plevent.specs.Alive.{same_pred}
 use Rattle.plterm.specs.Variables.{copied, variables}
-
-pub record Indicator : Type 0 where
-  pub name : List ℕ
-  pub arity : ℕ
-
-pub record Clause : Type 0 where
-  pub head : Tree
-  pub body : Tree
-  pub variables : ℕ
-
-abbrev pub indicator : Tree → Indicator
-indicator (var x) = record { name = []; arity = 0 }
-indicator (int i) = record { name = []; arity = 0 }
-indicator (atom f) = record { name = f; arity = 0 }
-indicator (compound f ts) = record { name = f; arity = length (list_of ts) }
-
-abbrev pub same_indicator : Indicator → Indicator → Bool
-same_indicator p q = bytes_eq p.name q.name && nat_eq p.arity q.arity
 
 abbrev both : List ℕ → Option Tree → Option Tree → Option Tree
 both f None b = None
@@ -64,89 +50,6 @@ unfolding converted
 clausal (compound f (more h (more b none))) = if bytes_eq f (codes ":-") then of h b else of (compound f (more h (more b none))) (atom (codes "true"))
 clausal t = of t (atom (codes "true"))
 
-pub record ClauseName : Type 0 where
-  pub place : ℕ
-  pub number : ℕ
-
-pub data Update : Type 0 where
-  First : Clause → Update
-  Last : Clause → Update
-  Erase : ClauseName → Update
-  EraseOwn : ℕ → Update
-  Declare : Indicator → Update
-
-pub record Stamped : Type 0 where
-  pub at : ClauseName
-  pub update : Update
-
-pub data ThreadEnd : Type 0 where
-  True : ThreadEnd
-  False : ThreadEnd
-  Exception : Tree → ThreadEnd
-  Budget : ThreadEnd
-
-pub data Request : Type 0 where
-  Start : Request
-  Publish : List Update → Request
-  Finish : ThreadEnd → Request
-
-pub data Reply : Type 0 where
-  Started : ℕ → Option (List ℕ) → Option Tree → Reply
-  RunOver : Reply
-  NotYet : Request → Reply
-  Published : Reply
-  Done : Reply
-
-pub data Item : Type 0 where
-  View : Item
-  Ask : Request → Item
-
-pub data Answer : Type 0 where
-  Seen : ℕ → List Stamped → Answer
-  Got : Reply → Answer
-
-pub data Next : Type 0 where
-  Wants : Item → Next
-  Finishes : ThreadEnd → Next
-  Ceases : Next
-
-pub record Ending : Type 0 where
-  pub next : Next
-  pub used : ℕ
-  pub out : List ℕ
-
-abbrev pub Search : Type 0
-Search = ℕ → List Answer → Ending
-
-abbrev is_of : Indicator → Update → Bool
-is_of p (First c) = same_indicator (indicator c.head) p
-is_of p (Last c) = same_indicator (indicator c.head) p
-is_of p (Erase y) = false
-is_of p (EraseOwn k) = false
-is_of p (Declare q) = same_indicator q p
-
-abbrev any_of : Indicator → List Stamped → Bool
-any_of p [] = false
-any_of p (s ∷ ss) = is_of p s.update || any_of p ss
-
-unfoldable pub exists : List Stamped → Indicator → Bool
-exists us p = any_of p us
-
-abbrev clauses_in : List Stamped → Indicator → List Clause → List Clause
-clauses_in [] p cs = cs
-clauses_in (s ∷ ss) p cs = clauses_in ss p (added p s.update cs)
-  where
-    added_if : Bool → Clause → List Clause → List Clause
-    added_if true c cs = cs ++ c ∷ []
-    added_if false c cs = cs
-
-    added : Indicator → Update → List Clause → List Clause
-    added p (Last c) cs = added_if (same_indicator (indicator c.head) p) c cs
-    added p u cs = cs
-
-unfoldable pub clauses_alive : List Stamped → Indicator → List Clause
-clauses_alive us p = clauses_in us p []
-
 pub record Program : Type 0 where
   pub procedures : List (Indicator × List Clause)
   pub goals : List Tree
@@ -158,7 +61,7 @@ found false cs other = other
 
 abbrev clauses_of_in : List (Indicator × List Clause) → Indicator → List Clause
 clauses_of_in [] p = []
-clauses_of_in (x ∷ xs) p = found (same_indicator x.0 p) x.1 (clauses_of_in xs p)
+clauses_of_in (x ∷ xs) p = found (same_pred x.0 p) x.1 (clauses_of_in xs p)
 
 unfoldable pub static_clauses : Program → Indicator → List Clause
 static_clauses P p = clauses_of_in P.procedures p

@@ -4,7 +4,15 @@ use Rattle.plterm.specs.Tree.{Tree, var, int, atom, compound, none, more}
 use Rattle.plterm.specs.Variables.{copied}
 use Rattle.plsubst.specs.Subst.{bind, shift}
 use Rattle.plsubst.specs.Unify.{unify}
-use Rattle.plsearch.specs.Standins.{Clause, Indicator, indicator, converted, Clausal, NoHead, BadHead, BadBody, IsClause, clausal, Last, Stamped, exists, clauses_alive, Publish, Reply, Started, RunOver, NotYet, Published, Done, View, Ask, Answer, Seen, Got, Program, static_clauses, is_fixed, text}
+use Rattle.plevent.specs.Alive.{indicator, Stamped, exists, clauses_alive}
+use Rattle.plevent.specs.Search.{View, Ask, Answer, Seen, Got}
+use Rattle.plevent.specs.declared.clause.Clause.{Clause}
+use Rattle.plevent.specs.declared.clause.Indicator.{Indicator}
+use Rattle.plevent.specs.declared.request.Reply.{Reply}
+use Rattle.plevent.specs.declared.request.Reply.TheVariants.{Started, RunOver, NotYet, Published, Done}
+use Rattle.plevent.specs.declared.request.Request.TheVariants.{Publish}
+use Rattle.plevent.specs.declared.update.Update.TheVariants.{Last}
+use Rattle.plsearch.specs.Standins.{converted, Clausal, NoHead, BadHead, BadBody, IsClause, clausal, Program, static_clauses, is_fixed, text}
 use Rattle.plsearch.specs.Types.{Result, Fail, Throw, Ceased, Element, Goal, Commit, Look, Await, Place, Choice, Handler, Local, Move, Give, Go, Meeting, Select, Asks, Marked, Return}
 use Rattle.plsearch.specs.Errors.{instantiation_error, callable_error, procedure_error, static_error, error_term}
 

@@ -1,7 +1,8 @@
 -- The values that the search is about.
 use Rattle.std.specs.Prelude.{ℕ, List}
 use Rattle.plterm.specs.Tree.{Tree}
-use Rattle.plsearch.specs.Standins.{Item, Answer, Request}
+use Rattle.plevent.specs.Search.{Item, Answer}
+use Rattle.plevent.specs.declared.request.Request.{Request}
 
 -- how a visit ends: its list is done; it has no further solution; the choices down to a level are given up; a ball is thrown,
 -- with the levels of the markers behind it; no step is left; no answer is left for what is asked; an answer does not fit what was asked
