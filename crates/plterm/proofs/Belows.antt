@@ -1,5 +1,5 @@
 -- The variables of a copy are below their number.
-use Rattle.std.proofs.Common.{◌≡◌, ◌==◌, ℕ, ◌+◌, ◌<◌, ◌≤◌, List, [], ◌∷◌, ◌++◌, length, map, refl, sym, ap, ◌∙◌, arith, length-append}
+use Rattle.std.proofs.Common.{◌≡◌, ◌==◌, ℕ, ◌+◌, ◌<◌, ◌≤◌, List, [], ◌∷◌, ◌++◌, length, map, subst, arith}
 use Rattle.std.proofs.lemmas.List.{map-append}
 use Rattle.plterm.specs.declared.node.Node.{Node}
 use Rattle.plterm.specs.declared.node.Node.TheVariants.{Var, Int, Atom, Compound}
@@ -76,4 +76,4 @@ AllBelow-copied from t =
 
 -- and so for one from 0
 pub AllBelow-copied_0 : (t : Tree) → AllBelow (length (variables t)) (copied 0 t)
-AllBelow-copied_0 t = let e : 0 + length (variables t) ≡ length (variables t) = omega arith in rw e at AllBelow-copied 0 t
+AllBelow-copied_0 t = let e : 0 + length (variables t) ≡ length (variables t) = omega arith in subst (λ n. AllBelow n (copied 0 t)) e (AllBelow-copied 0 t)

@@ -187,7 +187,7 @@ turns_start nodes waiting made h e f =
 pub turns_step : (start nodes rest : List Node) (waiting opened' waiting' : List Open) (made made' : List Node) (n : Node) (k : ℕ)
     → Turns start waiting nodes made → nodes ≡ rest ++ n ∷ [] → k ≡ arity n → opened' ≡ waiting ++ record { node = n; left = k } ∷ []
     → ((trees : List Tree) → IsReady (reverse opened') trees (reading (reverse made)) → IsForest (reverse made)
-        → Closes (reverse opened') (reverse waiting') (reverse made) (reverse made') trees)
+    → Closes (reverse opened') (reverse waiting') (reverse made) (reverse made') trees)
     → Turns start waiting' rest made'
 turns_step start nodes rest waiting opened' waiting' made made' n k h pop is push close =
     let parts = IsPostfix-last rest n (rw pop at h.postfix) in

@@ -1,5 +1,5 @@
 //! Terms built from their nodes, each compound behind its arguments.
-ghost use Rattle.std.specs.Prelude.{◌≡◌, ◌<◌, ◌≤◌, ◌↔◌, [], ◌∷◌, length, IfOk, IsTrue, OnErr, OnOk};
+ghost use Rattle.std.specs.Prelude.{◌≡◌, ◌<◌, ◌≤◌, [], ◌∷◌, length, IfOk, OnErr, OnOk};
 ghost use Rattle.plterm.specs.Tree.{Tree};
 ghost use Rattle.plterm.specs.Reading.{arity};
 ghost use Rattle.plterm.specs.Building.{with_node, IsWithinLimits};
@@ -43,13 +43,6 @@ impl Builder {
         }
     }
 
-    /// How many terms are complete.
-    pub fn is_empty(&self) -> bool
-        ensures { IsTrue result ↔ (self.now ≡ []) }
-    {
-        self.nodes.is_empty()
-    }
-
     /// Adds a node, which takes its arguments from the latest terms: the last argument is the latest.
     pub fn push(&mut self, node: Node) -> Result<(), AllocError>
         requires limits { IsWithinLimits node }
@@ -58,10 +51,8 @@ impl Builder {
         ensures err { OnErr result (self.new ≡ self.old) }
     {
         let _fitting = node.name_len();
-        match self.nodes.push(node) {
-            Ok(()) => Ok(()),
-            Err(_) => Err(AllocError),
-        }
+        self.nodes.push(node)?;
+        Ok(())
     }
 
     /// The one term that is complete, in time linear in its nodes.

@@ -37,5 +37,4 @@ impl Indicator {
 /// `same_indicator` tells whether two indicators are the same.
 pub fn same_indicator_law()
     ensures { (a b : Indicator) → (IsTrue (same_indicator a b) ↔ (a ≡ b)) }
-{
-}
+{}

@@ -34,12 +34,11 @@ pub fn reordered(alloc: Global, mut nodes: Vec<Node>) -> Result<Vec<Node>, Alloc
 
 /// Closes the open nodes that have all their arguments, and counts the next tree as an argument of the one behind them.
 fn close(waiting: &mut Vec<Open>, made: &mut Vec<Node>) -> Result<(), AllocError>
-    ensures {
-        OnOk result ((trees : List Tree) → IsReady (reverse waiting.old.items) trees (reading (reverse made.old.items)) → IsForest (reverse made.old.items)
-            → Closes (reverse waiting.old.items) (reverse waiting.new.items) (reverse made.old.items) (reverse made.new.items) trees)
-    }
+    ensures { OnOk result ((trees : List Tree) → IsReady (reverse waiting.old.items) trees (reading (reverse made.old.items)) → IsForest (reverse made.old.items)
+        → Closes (reverse waiting.old.items) (reverse waiting.new.items) (reverse made.old.items) (reverse made.new.items) trees) }
 {
-    'open: while let Some(Open { node, left }) = waiting.pop() {
+    'open: while let Some(top) = waiting.pop() {
+        let Open { node, left } = top;
         if left > 0 {
             waiting.push(Open {
                 node,
