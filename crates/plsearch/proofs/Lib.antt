@@ -2,3 +2,4 @@ pub mod Fuel
 pub mod Turns
 pub mod Weight
 pub mod Ends
+mod Worked

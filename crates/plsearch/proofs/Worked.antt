@@ -1,0 +1,163 @@
+-- Worked programs.
+use Rattle.std.proofs.Common.{◌≡◌, ℕ, ◌+◌, List, [], ◌∷◌, ◌++◌, codes, refl, pos}
+use Rattle.plterm.specs.Tree.{Tree, var, int, atom, compound, none, more}
+use Rattle.plsubst.specs.Subst.{bind, occurs}
+use Rattle.plsubst.specs.Unify.{places, differ, unify_in, unify}
+use Rattle.plevent.specs.Alive.{Stamped, named, living, exists}
+use Rattle.plevent.specs.Search.{View, Ask, Answer, Seen, Got, Next, Wants, Finishes, Ceases, Ending}
+use Rattle.plevent.specs.declared.request.Reply.TheVariants.{Published, Done}
+use Rattle.plevent.specs.declared.request.Request.TheVariants.{Publish}
+use Rattle.plevent.specs.declared.request.ThreadEnd.TheVariants.{True, False, Exception, Budget}
+use Rattle.plevent.specs.declared.update.Update.TheVariants.{Last}
+use Rattle.plsearch.specs.Standins.{Program, converted, clausal, static_clauses, is_fixed, text}
+use Rattle.plsearch.specs.Errors.{indicator_term, instantiation_error, callable_error, procedure_error, static_error, error_term, pair}
+use Rattle.plsearch.specs.Table.{raised, row, select, meet, answered}
+use Rattle.plsearch.specs.Engine.{choice, out, outs, moved, walk, visit_in, Visit}
+use Rattle.plsearch.specs.Search.{start_from, start_of, search_of}
+
+-- all that a search computes with
+pub all : ℕ
+unfolding bind occurs places differ unify_in unify living exists converted clausal static_clauses is_fixed text indicator_term instantiation_error callable_error procedure_error static_error error_term raised row select meet answered choice out outs moved walk visit_in Visit start_from start_of search_of
+all = 0
+
+abbrev name : List ℕ → Tree
+name f = atom f
+
+abbrev of : List ℕ → Tree → Tree
+of f t = compound f (more t none)
+
+abbrev and : Tree → Tree → Tree
+and a b = pair (codes ",") a b
+
+abbrev with_goal : Tree → Program
+with_goal g = record {
+  procedures =
+      (record { name = codes "p"; arity = 1 }, record { head = of (codes "p") (name (codes "a")); body = name (codes "true"); variables = 0 } ∷ record { head = of (codes "p") (name (codes "b")); body = name (codes "true"); variables = 0 } ∷ [])
+      ∷ (record { name = codes "main"; arity = 0 }, record { head = name (codes "main"); body = g; variables = 1 } ∷ [])
+      ∷ [];
+  goals = name (codes "main") ∷ [];
+  first = [];
+}
+
+abbrev search : Tree → ℕ → List Answer → Ending
+search g = search_of (with_goal g) 1000
+
+-- main :- write(hello), nl.
+abbrev hello : Tree
+hello = and (of (codes "write") (name (codes "hello"))) (name (codes "nl"))
+
+says_hello : search hello 1000 [] ≡ record { next = Finishes True; used = 5; out = codes "hello\n" }
+unfolding all
+says_hello = refl
+
+-- the fifth goal, nl, is not selected
+has_four_steps : search hello 4 [] ≡ record { next = Finishes Budget; used = 4; out = codes "hello" }
+unfolding all
+has_four_steps = refl
+
+-- no run has more steps than the limit
+keeps_the_limit : search_of (with_goal hello) 4 1000 [] ≡ record { next = Finishes Budget; used = 4; out = codes "hello" }
+unfolding all
+keeps_the_limit = refl
+
+-- main :- p(X), write(X), p(b), nl.
+abbrev calls : Tree
+calls = and (of (codes "p") (var 0)) (and (of (codes "write") (var 0)) (and (of (codes "p") (name (codes "b"))) (name (codes "nl"))))
+
+writes_a : search calls 1000 [] ≡ record { next = Finishes True; used = 9; out = codes "a\n" }
+unfolding all
+writes_a = refl
+
+-- main :- p(X), write(X), p(c).
+abbrev tries : Tree
+tries = and (of (codes "p") (var 0)) (and (of (codes "write") (var 0)) (of (codes "p") (name (codes "c"))))
+
+writes_both : search tries 1000 [] ≡ record { next = Finishes False; used = 10; out = codes "ab" }
+unfolding all
+writes_both = refl
+
+-- main :- once(p(X)), write(X), p(c).
+abbrev tries_once : Tree
+tries_once = and (of (codes "once") (of (codes "p") (var 0))) (and (of (codes "write") (var 0)) (of (codes "p") (name (codes "c"))))
+
+writes_one : search tries_once 1000 [] ≡ record { next = Finishes False; used = 8; out = codes "a" }
+unfolding all
+writes_one = refl
+
+-- main :- assertz(q(7)), q(X), write(X).
+abbrev q7 : Tree
+q7 = of (codes "q") (int (pos 7))
+
+abbrev adds : Tree
+adds = and (of (codes "assertz") q7) (and (of (codes "q") (var 0)) (of (codes "write") (var 0)))
+
+abbrev added : List Stamped
+added = record { at = named 2 0; update = Last (record { head = q7; body = name (codes "true"); variables = 0 }) } ∷ []
+
+publishes : search adds 1000 [] ≡ record { next = Wants (Ask (Publish (Last (record { head = q7; body = name (codes "true"); variables = 0 }) ∷ []))); used = 4; out = [] }
+unfolding all
+publishes = refl
+
+looks : search adds 1000 (Got Published ∷ []) ≡ record { next = Wants View; used = 6; out = [] }
+unfolding all
+looks = refl
+
+writes_7 : search adds 1000 (Got Published ∷ Seen 3 added ∷ []) ≡ record { next = Finishes True; used = 7; out = text (int (pos 7)) }
+unfolding all
+writes_7 = refl
+
+-- an answer that does not fit what was asked
+goes_no_further : (search adds 1000 (Seen 3 added ∷ [])).next ≡ Ceases
+unfolding all
+goes_no_further = refl
+
+-- main :- q.
+no_procedure : search (name (codes "q")) 1000 (Seen 2 [] ∷ []) ≡ record {
+  next = Finishes (Exception (pair (codes "error") (pair (codes "existence_error") (name (codes "procedure")) (pair (codes "/") (name (codes "q")) (int (pos 0)))) (pair (codes "/") (name (codes "q")) (int (pos 0)))));
+  used = 3;
+  out = [];
+}
+unfolding all
+no_procedure = refl
+
+abbrev assertz_1 : Tree
+assertz_1 = pair (codes "/") (name (codes "assertz")) (int (pos 1))
+
+-- main :- assertz(main).
+is_static : (search (of (codes "assertz") (name (codes "main"))) 1000 []).next ≡ Finishes (Exception (pair (codes "error")
+    (compound (codes "permission_error") (more (name (codes "modify")) (more (name (codes "static_procedure")) (more (pair (codes "/") (name (codes "main")) (int (pos 0))) none))))
+    assertz_1))
+unfolding all
+is_static = refl
+
+-- main :- assertz(X).
+no_head : (search (of (codes "assertz") (var 0)) 1000 []).next ≡ Finishes (Exception (pair (codes "error") (name (codes "instantiation_error")) assertz_1))
+unfolding all
+no_head = refl
+
+-- main :- assertz((3 :- true)).
+bad_head : (search (of (codes "assertz") (pair (codes ":-") (int (pos 3)) (name (codes "true")))) 1000 []).next
+    ≡ Finishes (Exception (pair (codes "error") (pair (codes "type_error") (name (codes "callable")) (int (pos 3))) assertz_1))
+unfolding all
+bad_head = refl
+
+-- main :- assertz((q :- 4, X)): the variable of the ball is numbered anew
+bad_body : (search (and (name (codes "true")) (of (codes "assertz") (pair (codes ":-") (name (codes "q")) (and (int (pos 4)) (var 0))))) 1000 []).next
+    ≡ Finishes (Exception (pair (codes "error") (pair (codes "type_error") (name (codes "callable")) (and (int (pos 4)) (var 0))) assertz_1))
+unfolding all
+bad_body = refl
+
+-- main :- once(X).
+unbound : (search (of (codes "once") (var 0)) 1000 []).next
+    ≡ Finishes (Exception (pair (codes "error") (name (codes "instantiation_error")) (pair (codes "/") (name (codes "once")) (int (pos 1)))))
+unfolding all
+unbound = refl
+
+-- main :- once((write(a), 1)): nothing is written
+not_callable : search (of (codes "once") (and (of (codes "write") (name (codes "a"))) (int (pos 1)))) 1000 [] ≡ record {
+  next = Finishes (Exception (pair (codes "error") (pair (codes "type_error") (name (codes "callable")) (and (of (codes "write") (name (codes "a"))) (int (pos 1)))) (pair (codes "/") (name (codes "once")) (int (pos 1)))));
+  used = 3;
+  out = [];
+}
+unfolding all
+not_callable = refl
