@@ -1,2 +1,11 @@
-//! Tokens.
+//! The tokens of program text (ISO/IEC 13211-1 6.4): layout and comments are passed over, and each token is the
+//! longest that can stand at its place.
 #![tactic(auto)]
+
+pub mod characters;
+pub mod clause;
+pub mod error;
+pub mod item;
+pub mod layout;
+pub mod runs;
+pub mod token;

@@ -1,0 +1,5 @@
+pub mod RunEnds
+pub mod Decoded
+pub mod Values
+pub mod Clauses
+pub mod Names

@@ -1,0 +1,56 @@
+//! Tokens, and what else can stand in a text.
+
+/// What a token is (6.4). The value of an integer is at most 2^63.
+#[derive(Clone, Copy, Debug, PartialEq, Eq)]
+pub enum Kind {
+    Name,
+    Variable,
+    Integer(u64),
+    Open,
+    Close,
+    Comma,
+    End,
+}
+
+/// A token, and the places in the text at which it starts and ends.
+#[derive(Clone, Copy, Debug, PartialEq, Eq)]
+pub struct Token {
+    pub kind: Kind,
+    pub start: usize,
+    pub end: usize,
+}
+
+/// Why no token stands at a place of a text.
+#[derive(Clone, Copy, Debug, PartialEq, Eq)]
+pub enum Fault {
+    /// Bytes that are no UTF-8. The place is that of the first bad byte.
+    BadUtf8,
+    /// A character that begins no token. The place is its own.
+    BadCharacter,
+    /// An integer above 2^63. The place is that of its first digit.
+    IntTooBig,
+    /// Digits, a full stop and a digit. The place is that of the first digit.
+    FloatLiteral,
+    /// A name or a variable of more than 65,535 bytes. The place is its start.
+    NameTooLong,
+    /// A bracketed comment that is not closed. The place is its start.
+    OpenComment,
+    /// The text ends before an end token. The place is that of the clause's first token.
+    NoEnd,
+}
+
+/// What stands at a place: a token, a fault with its place, or the end of the text.
+#[derive(Clone, Copy, Debug, PartialEq, Eq)]
+pub enum Item {
+    Token(Token),
+    Fault(Fault, usize),
+    Nothing,
+}
+
+/// A class of characters of which a run is one token.
+#[derive(Clone, Copy, Debug, PartialEq, Eq)]
+pub enum Class {
+    Alphanumeric,
+    Symbol,
+    Digit,
+}
