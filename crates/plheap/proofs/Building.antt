@@ -42,7 +42,7 @@ link-more m n (Atom a) le l = l
 link-more m n (Struct f k) le l = absurd l
 
 -- runs of cells that stay
-terms-stay : (h new : Store) (k c : ℕ) → ((d : ℕ) → d < length h.cells → term new d ≡ term h d) → c + k ≤ length h.cells → terms new c k ≡ terms h c k
+pub terms-stay : (h new : Store) (k c : ℕ) → ((d : ℕ) → d < length h.cells → term new d ≡ term h d) → c + k ≤ length h.cells → terms new c k ≡ terms h c k
 terms-stay h new zero c stay le = refl
 terms-stay h new (suc k) c stay le = ap₂ (λ t ts. t ∷ ts) (stay c (omega arith)) (terms-stay h new k (suc c) stay (omega arith))
 
