@@ -1,5 +1,5 @@
 -- The clauses that are alive after some updates, and those of a view.
-use Rattle.std.specs.Prelude.{ℕ, suc, Bool, true, false, ◌||◌, ◌&&◌, not, List, [], ◌∷◌, ◌++◌, take, map, filter, fold, nat_eq, nat_lt, bytes_eq}
+use Rattle.std.specs.Prelude.{ℕ, suc, Bool, true, false, ◌||◌, ◌&&◌, not, List, [], ◌∷◌, ◌++◌, take, map, filter, fold, nat_eq, nat_lt, bytes_eq, Option, Some, None}
 use Rattle.std.specs.List.{list_any}
 use Rattle.plterm.specs.Tree.{Tree, var, int, atom, compound, Trees, none, more, list_of}
 use Rattle.std.specs.Prelude.{length}
@@ -122,6 +122,26 @@ lives x was s = (was || makes x s) && not (erases x s)
 -- the clause x was made, and is not erased
 unfoldable pub is_alive : ClauseName → List Stamped → Bool
 is_alive x us = fold (lives x) false us
+
+-- the clause that an update makes
+abbrev pub clause_in : Update → Option Clause
+clause_in (First c) = Some c
+clause_in (Last c) = Some c
+clause_in (Erase y) = None
+clause_in (EraseOwn k) = None
+clause_in (Declare q) = None
+
+abbrev pub or_else : {A : Type 0} → Option A → Option A → Option A
+or_else None b = b
+or_else (Some a) b = Some a
+
+abbrev pub made_in : ClauseName → Stamped → Option Clause
+made_in x s = add_if (same_name s.at x) (clause_in s.update) None
+
+-- the clause that was made with a name, alive or not
+abbrev pub clause_named : ClauseName → List Stamped → Option Clause
+clause_named x [] = None
+clause_named x (s ∷ ss) = or_else (made_in x s) (clause_named x ss)
 
 -- the updates of the batches below a place
 unfoldable pub before : ℕ → List Stamped → List Stamped

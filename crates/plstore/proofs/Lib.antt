@@ -1,0 +1,4 @@
+pub mod Law
+pub mod Search
+pub mod Whole
+pub mod Look
