@@ -2,3 +2,4 @@ pub mod Alive
 pub mod Reading
 pub mod Rows
 pub mod Search
+pub mod First

@@ -1,6 +1,9 @@
 //! The entries of the journal.
+ghost use Rattle.std.specs.Prelude.{◌≡◌, IfOk};
+
 use crate::request::ThreadEnd;
 use crate::update::Batch;
+use std::alloc::{AllocError, Global};
 
 /// What an entry says.
 #[derive(Drop)]
@@ -21,4 +24,37 @@ pub struct Entry {
     /// The thread that it is of, from 1; 0 for the program's first batch.
     pub thread: u32,
     pub act: Act,
+}
+
+impl Act {
+    /// The same act again; it shares its clauses.
+    pub fn copied(&self, alloc: Global) -> Result<Act, AllocError>
+        ensures { IfOk result (λ a. a ≡ self.now) }
+    {
+        match self {
+            Act::Start => return Ok(Act::Start),
+            Act::Batch(batch) => {
+                let copy = batch.copied(alloc)?;
+                return Ok(Act::Batch(copy));
+            }
+            Act::End(end) => {
+                let copy = end.copied(alloc)?;
+                return Ok(Act::End(copy));
+            }
+        }
+    }
+}
+
+impl Entry {
+    /// The same entry again; it shares its clauses.
+    pub fn copied(&self, alloc: Global) -> Result<Entry, AllocError>
+        ensures { IfOk result (λ e. e ≡ self.now) }
+    {
+        let act = self.act.copied(alloc)?;
+        Ok(Entry {
+            worker: self.worker,
+            thread: self.thread,
+            act,
+        })
+    }
 }

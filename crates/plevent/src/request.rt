@@ -1,7 +1,10 @@
 //! What a thread asks of the world, and what it is told.
+ghost use Rattle.std.specs.Prelude.{◌≡◌, IfOk};
+
 use crate::update::Batch;
 use plterm::name::Name;
 use plterm::term::Term;
+use std::alloc::{AllocError, Global};
 
 /// How a thread came to its end.
 #[derive(Drop)]
@@ -16,6 +19,23 @@ pub enum ThreadEnd {
     Budget,
 }
 
+impl ThreadEnd {
+    /// The same end again.
+    pub fn copied(&self, alloc: Global) -> Result<ThreadEnd, AllocError>
+        ensures { IfOk result (λ e. e ≡ self.now) }
+    {
+        match self {
+            ThreadEnd::True => return Ok(ThreadEnd::True),
+            ThreadEnd::False => return Ok(ThreadEnd::False),
+            ThreadEnd::Budget => return Ok(ThreadEnd::Budget),
+            ThreadEnd::Exception(ball) => {
+                let copy = ball.copied(alloc)?;
+                return Ok(ThreadEnd::Exception(copy));
+            }
+        }
+    }
+}
+
 /// What is asked.
 #[derive(Drop)]
 pub enum Request {
@@ -25,6 +45,25 @@ pub enum Request {
     Publish(Batch),
     /// A thread has ended.
     Finish(ThreadEnd),
+}
+
+impl Request {
+    /// The same request again.
+    pub fn copied(&self, alloc: Global) -> Result<Request, AllocError>
+        ensures { IfOk result (λ q. q ≡ self.now) }
+    {
+        match self {
+            Request::Start => return Ok(Request::Start),
+            Request::Publish(batch) => {
+                let copy = batch.copied(alloc)?;
+                return Ok(Request::Publish(copy));
+            }
+            Request::Finish(end) => {
+                let copy = end.copied(alloc)?;
+                return Ok(Request::Finish(copy));
+            }
+        }
+    }
 }
 
 /// The answer to a request.

@@ -1,7 +1,17 @@
 //! What a journal says of its threads.
+ghost use Rattle.std.specs.Prelude.{◌≡◌, ◌&&◌, ◌+◌, ◌<◌, ◌^◌, Some, None, MatchOption, find, position, not, IfOk, true, ℕ, List};
+ghost use Rattle.plevent.specs.declared.act.Act.{Act};
+ghost use Rattle.plevent.specs.declared.update.Update.{Update};
+ghost use Rattle.std.specs.List.{list_any};
+ghost use Rattle.std.specs.Option.{option_copied, is_some};
+ghost use Rattle.plevent.specs.Reading.{changed_first, is_thread, stand, blank};
+ghost use Rattle.plevent.specs.Rows.{is_new, is_settled, is_over, runs};
+ghost use Rattle.plevent.specs.First.{NoneFirst, FirstAt};
+
 use crate::request::ThreadEnd;
 use plterm::name::Name;
 use plterm::term::Term;
+use std::alloc::{AllocError, Global};
 use std::marker::Model;
 
 /// What a journal says of one thread.
@@ -43,4 +53,158 @@ pub struct Standing {
     /// How many entries it has.
     pub size: u64,
     pub threads: Threads,
+}
+
+/// Whether a thread was not started, or has not ended.
+fn is_open(thread: &Thread) -> bool
+    ensures { result ≡ not (is_settled thread.now) }
+{
+    !(thread.worker.is_some() && thread.ended.is_some())
+}
+
+impl Threads {
+    /// The first thread that is not started.
+    pub fn first_new(&self) -> Option<&Thread>
+        ensures { option_copied result ≡ find is_new self.now }
+    {
+        self.rows.iter().find(|t| t.worker.is_none())
+    }
+
+    /// Whether a thread is started and has not ended.
+    pub fn runs(&self, number: u32) -> bool
+        ensures { result ≡ list_any (λ x. is_thread number x && is_some x.worker && not (is_some x.ended)) self.now }
+    {
+        self.rows.iter().any(|x| x.number == number && x.worker.is_some() && !x.ended.is_some())
+    }
+
+    /// Whether each thread was started and has ended.
+    pub fn are_settled(&self) -> bool
+        ensures { result ≡ not (list_any (λ t. not (is_settled t)) self.now) }
+    {
+        !self.is_any_open()
+    }
+
+    /// Whether some thread was not started or has not ended.
+    fn is_any_open(&self) -> bool
+        ensures { result ≡ list_any (λ t. not (is_settled t)) self.now }
+    {
+        self.rows.iter().any(|t| is_open(t))
+    }
+
+    /// A worker has started a thread.
+    fn start(&mut self, number: u32, worker: u32)
+        ensures { self.new ≡ changed_first (is_thread number) (λ x. record x { worker = Some worker }) self.old }
+    {
+        start_at(self.rows.as_mut_slice(), number, worker);
+    }
+
+    /// A thread has ended.
+    fn end(&mut self, number: u32, end: ThreadEnd)
+        ensures { self.new ≡ changed_first (is_thread number) (λ x. record x { ended = Some end }) self.old }
+    {
+        end_at(self.rows.as_mut_slice(), number, end);
+    }
+}
+
+fn thread_index(rows: &[Thread], number: u32) -> Option<usize>
+    ensures { result ≡ position (is_thread number) rows.now }
+{
+    rows.iter().position(|t| t.number == number)
+}
+
+/// Where the first row of a thread stands.
+fn thread_place(rows: &[Thread], number: u32) -> Option<usize>
+    ensures { MatchOption result (NoneFirst (is_thread number) rows.now) (λ i. FirstAt (is_thread number) rows.now i) }
+{
+    thread_index(rows, number)
+}
+
+fn start_row(row: &mut Thread, worker: u32)
+    ensures { row.new ≡ record row.old { worker = Some worker } }
+{
+    row.worker = Some(worker);
+}
+
+fn start_at(rows: &mut [Thread], number: u32, worker: u32)
+    ensures { rows.new ≡ changed_first (is_thread number) (λ x. record x { worker = Some worker }) rows.old }
+{
+    if let Some(at) = thread_place(rows, number) {
+        start_row(&mut rows[at], worker);
+    }
+}
+
+fn end_row(row: &mut Thread, end: ThreadEnd)
+    ensures { row.new ≡ record row.old { ended = Some end } }
+{
+    row.ended = Some(end);
+}
+
+fn end_at(rows: &mut [Thread], number: u32, end: ThreadEnd)
+    ensures { rows.new ≡ changed_first (is_thread number) (λ x. record x { ended = Some end }) rows.old }
+{
+    if let Some(at) = thread_place(rows, number) {
+        end_row(&mut rows[at], end);
+    }
+}
+
+/// The alias of thread 1.
+const MAIN: &str = "main";
+
+impl Standing {
+    /// Before any entry: main is created, and not started.
+    pub fn blank(alloc: Global) -> Result<Standing, AllocError>
+        ensures { IfOk result (λ s. s ≡ blank.standing) }
+    {
+        let alias = Name::new(alloc, MAIN)?;
+        let mut rows = Vec::new(alloc);
+        rows.push(Thread {
+            number: 1,
+            alias: Some(alias),
+            goal: None,
+            worker: None,
+            ended: None,
+        })?;
+        let threads = Threads { rows };
+        Ok(Standing { size: 0, threads })
+    }
+
+    /// Whether a thread is started and has not ended.
+    pub fn runs(&self, number: u32) -> bool
+        ensures { result ≡ runs number self.now }
+    {
+        self.threads.runs(number)
+    }
+
+    /// Whether each thread was started and has ended.
+    pub fn is_over(&self) -> bool
+        ensures { result ≡ is_over self.now }
+    {
+        self.threads.are_settled()
+    }
+
+    /// One more entry: a worker has started a thread.
+    pub fn start(&mut self, worker: u32, thread: u32)
+        requires { self.old.size < 2 ^ 63 }
+        ensures { self.new ≡ stand self.old (record { worker = worker; thread = thread; act = Act.Start }) }
+    {
+        self.threads.start(thread, worker);
+        self.size += 1;
+    }
+
+    /// One more entry: a batch.
+    pub fn publish(&mut self)
+        requires { self.old.size < 2 ^ 63 }
+        ensures { (w t : ℕ) (us : List Update) → self.new ≡ stand self.old (record { worker = w; thread = t; act = Act.Batch us }) }
+    {
+        self.size += 1;
+    }
+
+    /// One more entry: a thread has ended.
+    pub fn end(&mut self, thread: u32, end: ThreadEnd)
+        requires { self.old.size < 2 ^ 63 }
+        ensures { (w : ℕ) → self.new ≡ stand self.old (record { worker = w; thread = thread; act = Act.End end }) }
+    {
+        self.threads.end(thread, end);
+        self.size += 1;
+    }
 }

@@ -1,7 +1,8 @@
 //! Updates of the database, and batches of them.
-ghost use Rattle.std.specs.Prelude.{◌≡◌};
+ghost use Rattle.std.specs.Prelude.{◌≡◌, IfOk};
 
 use crate::clause::{Clause, Indicator};
+use std::alloc::{AllocError, Global};
 use std::marker::Model;
 
 /// The name of a clause: update `number` of the batch at `place` of the journal made it.
@@ -26,6 +27,30 @@ pub enum Update {
     EraseOwn(u64),
     /// A procedure is there from now on, maybe without clauses.
     Declare(Indicator),
+}
+
+impl Update {
+    /// The same update again; it shares its clause.
+    pub fn copied(&self, alloc: Global) -> Result<Update, AllocError>
+        ensures { IfOk result (λ u. u ≡ self.now) }
+    {
+        match self {
+            Update::First(clause) => {
+                let copy = clause.copied(alloc)?;
+                return Ok(Update::First(copy));
+            }
+            Update::Last(clause) => {
+                let copy = clause.copied(alloc)?;
+                return Ok(Update::Last(copy));
+            }
+            Update::Erase(name) => return Ok(Update::Erase(*name)),
+            Update::EraseOwn(number) => return Ok(Update::EraseOwn(*number)),
+            Update::Declare(pred) => {
+                let copy = pred.copied()?;
+                return Ok(Update::Declare(copy));
+            }
+        }
+    }
 }
 
 /// Updates that are made at once, in their order.
@@ -67,5 +92,16 @@ impl Batch {
         ensures { result.items ≡ self }
     {
         self.updates
+    }
+
+    /// The same batch again; it shares its clauses.
+    pub fn copied(&self, alloc: Global) -> Result<Batch, AllocError>
+        ensures { IfOk result (λ b. b ≡ self.now) }
+    {
+        let mut updates = Vec::with_capacity(alloc, self.updates.len())?;
+        for update in self.updates.as_slice() {
+            updates.push(update.copied(alloc)?)?;
+        }
+        Ok(Batch { updates })
     }
 }

@@ -79,8 +79,10 @@ there-keep g p k s = by-case s.update
   where
     rs : List Record
     rs = k.records
+
     ds : List Declared
     ds = k.declared
+
     by-case : (u : Update) → is_there g p (record { records = kept s.at u k.records; declared = noted s.at u k.declared }) ≡ is_there g p k || (nat_lt s.at.place g && names p u)
     by-case (First c) = ap (λ v. v || list_any (declared_names g p) k.declared) (any-append (record_names g p) k.records (made s.at c true ∷ []))
         ∙ turn (list_any (record_names g p) k.records) (nat_lt s.at.place g && is_of p c) (list_any (declared_names g p) k.declared)

@@ -48,7 +48,11 @@ fn make(tables: &mut Tables, name: ClauseName, update: Update)
         Update::Erase(of) => erase(tables.records.as_mut_slice(), of, name.place),
         Update::EraseOwn(number) => {
             let place = name.place;
-            erase(tables.records.as_mut_slice(), ClauseName { place, number }, place)
+            erase(
+                tables.records.as_mut_slice(),
+                ClauseName { place, number },
+                place,
+            )
         }
         Update::Declare(pred) => declare(&mut tables.declared, pred, name.place),
     }
