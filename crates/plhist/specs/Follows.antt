@@ -8,7 +8,7 @@ use Rattle.plevent.specs.declared.act.Act.{Act}
 use Rattle.plevent.specs.declared.act.Entry.{Entry}
 use Rattle.plevent.specs.Reading.{reading}
 use Rattle.plevent.specs.Rows.{Row, served}
-use Rattle.plevent.specs.Search.{Item, View, Ask, Answer, Seen, Got, Next, Finishes, Ending, Search, item_of}
+use Rattle.plevent.specs.Search.{Item, View, Ask, Answer, Seen, Got, Next, Finishes, Search, item_of}
 use Rattle.plhist.specs.declared.history.Run.{Run}
 use Rattle.plhist.specs.declared.history.RunEnd.{RunEnd}
 

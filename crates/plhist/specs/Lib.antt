@@ -1,3 +1,4 @@
 pub mod Follows
 pub mod Legal
 pub mod Runs
+pub mod Main
