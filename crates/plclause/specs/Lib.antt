@@ -1,0 +1,6 @@
+pub mod Clause
+pub mod Conversion
+pub mod Soundness
+pub mod Clausal
+pub mod Indicators
+pub mod Goals

@@ -1,2 +1,6 @@
-//! Clauses: heads, converted bodies, and the terms that spell them.
+//! Clauses: heads, converted bodies, and the terms that spell them (ISO/IEC 13211-1 7.6).
 #![tactic(auto)]
+
+pub mod clause;
+pub mod convert;
+pub mod form;

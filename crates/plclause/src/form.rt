@@ -1,0 +1,82 @@
+//! The clause that a term spells.
+ghost use Rattle.std.specs.Prelude.{◌≡◌, IfOk, codes};
+ghost use Rattle.plterm.specs.Tree.{atom};
+ghost use Rattle.plclause.specs.Clausal.{clausal, clause_parts, neck_parts};
+
+use crate::clause::Clause;
+use crate::convert::convert;
+use plterm::name::Name;
+use plterm::node::Node;
+use plterm::term::Term;
+use plterm::walk::{Shape, TermRef};
+use std::alloc::{AllocError, Global};
+
+/// What a term is as a clause.
+#[derive(Drop)]
+pub enum ClauseForm {
+    /// The head is a variable.
+    NoHead,
+    /// The head is this number.
+    BadHead(Term),
+    /// The body is this term, which is not convertible.
+    BadBody(Term),
+    /// The term spells this clause.
+    IsClause(Clause),
+}
+
+/// The clause that a term spells: `Head :- Body`, or a head alone with the body `true` (ISO/IEC 13211-1 7.6.1 and 7.6.2).
+/// The head is judged before the body.
+pub fn clause_of(alloc: Global, term: &Term) -> Result<ClauseForm, AllocError>
+    ensures { IfOk result (λ form. form ≡ clausal term.now) }
+{
+    let root = term.root();
+    match parted(&root) {
+        Some((head, body)) => form_of(alloc, &head, &body),
+        None => {
+            let body = truth(alloc)?;
+            form_of(alloc, &root, &body.root())
+        }
+    }
+}
+
+/// The head and the body of a term `Head :- Body`.
+fn parted<'a>(term: &TermRef<'a>) -> Option<(TermRef<'a>, TermRef<'a>)>
+    ensures { result ≡ neck_parts term.now }
+{
+    match term.shape() {
+        Shape::Compound(name, mut args) => {
+            if args.len() != 2 || name.as_str() != ":-" {
+                return None;
+            }
+            match (args.next_term(), args.next_term()) {
+                (Some(head), Some(body)) => Some((head, body)),
+                _ => unreachable!(),
+            }
+        }
+        Shape::Var(_) | Shape::Int(_) | Shape::Atom(_) => None,
+    }
+}
+
+/// The atom `true`.
+fn truth(alloc: Global) -> Result<Term, AllocError>
+    ensures { IfOk result (λ t. t ≡ atom (codes "true")) }
+{
+    let mut nodes = Vec::new(alloc);
+    nodes.push(Node::Atom(Name::new(alloc, "true")?))?;
+    Ok(Term::from_prefix(nodes))
+}
+
+/// The clause of a head and a body.
+fn form_of(alloc: Global, head: &TermRef<'_>, body: &TermRef<'_>) -> Result<ClauseForm, AllocError>
+    ensures { IfOk result (λ form. form ≡ clause_parts head.now body.now) }
+{
+    match head.shape() {
+        Shape::Var(_) => return Ok(ClauseForm::NoHead),
+        Shape::Int(_) => return Ok(ClauseForm::BadHead(head.copied(alloc)?)),
+        Shape::Atom(_) | Shape::Compound(_, _) => {}
+    }
+    match convert(alloc, body)? {
+        None => Ok(ClauseForm::BadBody(body.copied(alloc)?)),
+        Some(goal) => Ok(ClauseForm::IsClause(Clause::new(alloc, head, &goal.root())?)),
+    }
+}
