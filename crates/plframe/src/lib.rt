@@ -1,2 +1,5 @@
-//! Goal lists and choice points over the heap.
+//! Goal lists that share their rest, and the open cases of a search, over a heap.
 #![tactic(auto)]
+
+pub mod frame;
+pub mod stack;

@@ -1,0 +1,128 @@
+-- What goal lists and open cases stand for.
+use Rattle.std.specs.Prelude.{◌<◌, ◌≤◌, ℕ, zero, suc, ◌+◌, List, [], ◌∷◌, ◌++◌, length, get_or, map, drop, filter_map}
+use Rattle.std.specs.List.{fold}
+use Rattle.std.specs.Bool.{⊤}
+use Rattle.plevent.specs.declared.clause.Clause.{Clause}
+use Rattle.plevent.specs.declared.request.Request.TheVariants.{Publish}
+use Rattle.plevent.specs.declared.update.Update.TheVariants.{Last}
+use Rattle.plheap.specs.Store.{Store, term, cut, IsMark}
+use Rattle.plsearch.specs.Types.{Element, Goal, Commit, Look, Await, Place, Case, Choice, Mark}
+use Rattle.plsearch.specs.Table.{resolve}
+use Rattle.plsearch.specs.Engine.{deeper}
+use Rattle.plframe.specs.declared.frame.Item.{Item}
+use Rattle.plframe.specs.declared.frame.Item.TheVariants.{Goal as GoalAt, Commit as CommitTo, Look as LookAt, Await as AwaitFor}
+use Rattle.plframe.specs.declared.frame.Link.{Link}
+use Rattle.plframe.specs.declared.frame.Source.{Source}
+use Rattle.plframe.specs.declared.frame.Source.TheVariants.{Procedure, Copied}
+use Rattle.plframe.specs.declared.frame.Alternatives.{Alternatives}
+use Rattle.plframe.specs.declared.frame.Frame.{Frame}
+use Rattle.plframe.specs.declared.frame.Frame.TheVariants.{Plain, Barrier, Call}
+
+-- the lists of all links so far, that of number 0 first
+abbrev pub added : List (List Item) → Link → List (List Item)
+added lists l = lists ++ (l.item ∷ get_or lists l.next []) ∷ []
+
+unfoldable pub lists_of : List Link → List (List Item)
+lists_of links = fold added ([] ∷ []) links
+
+unfoldable pub list_at : List Link → ℕ → List Item
+unfolding lists_of
+list_at links i = get_or (lists_of links) i []
+
+abbrev pub element : Store → Item → Element
+element h (GoalAt k c) = Goal k (term h c)
+element h (CommitTo l) = Commit l
+element h (LookAt c) = Look (term h c)
+element h (AwaitFor c) = Await (Publish (Last c ∷ []))
+
+abbrev pub goals_at : Store → List Link → ℕ → List Element
+goals_at h links i = map (element h) (list_at links i)
+
+abbrev pub place_at : Store → List Link → ℕ → Place
+place_at h links i = record { goals = goals_at h links i; variables = h.count }
+
+abbrev pub plain : ℕ → List Case → List Case
+plain zero below = below
+plain (suc n) below = Choice [] ∷ plain n below
+
+-- the clauses of the program's procedures, by their numbers
+abbrev pub Statics : Type 0
+Statics = ℕ → List Clause
+
+abbrev pub clauses_in : Statics → Source → List Clause
+clauses_in statics (Procedure i) = statics i
+clauses_in statics (Copied v) = v.items
+
+-- what is left of a call at the level d, of a goal, before a list, in a heap
+abbrev pub places_left : ℕ → Store → List Link → ℕ → ℕ → List Clause → List Place
+places_left d h links goal rest clauses = filter_map (resolve d h.count (term h goal) (goals_at h links rest)) clauses
+
+-- a call's places, read in the heap as it was at the mark
+abbrev pub alternatives : Statics → ℕ → Store → List Link → Alternatives → List Place
+alternatives statics d h links a = places_left d (cut a.mark h) links a.goal a.rest (drop a.next (clauses_in statics a.source))
+
+abbrev pub opened : Statics → Store → List Link → Frame → List Case → List Case
+opened statics h links (Plain n) below = plain n below
+opened statics h links (Barrier l) below = Mark l ∷ below
+opened statics h links (Call a) below = Choice (alternatives statics (deeper below 0) h links a) ∷ below
+
+-- of frames, the newest first
+abbrev pub cases : Statics → Store → List Link → List Frame → List Case
+cases statics h links [] = []
+cases statics h links (f ∷ fs) = opened statics h links f (cases statics h links fs)
+
+-- how many cases they are
+abbrev pub size : Frame → ℕ
+size (Plain n) = n
+size (Barrier l) = 1
+size (Call a) = 1
+
+abbrev pub depth_of : List Frame → ℕ
+depth_of [] = 0
+depth_of (f ∷ fs) = size f + depth_of fs
+
+-- the cells of a list stand below a number
+abbrev pub IsItemIn : ℕ → Item → Type 0
+IsItemIn n (GoalAt k c) = c < n
+IsItemIn n (CommitTo l) = ⊤
+IsItemIn n (LookAt c) = c < n
+IsItemIn n (AwaitFor c) = ⊤
+
+abbrev pub AreIn : ℕ → List Item → Type 0
+AreIn n [] = ⊤
+AreIn n (x ∷ xs) = IsItemIn n x × AreIn n xs
+
+-- a frame whose marks are not newer than these
+abbrev pub IsOlder : ℕ → ℕ → ℕ → Frame → Type 0
+IsOlder c t k (Plain n) = ⊤
+IsOlder c t k (Barrier l) = ⊤
+IsOlder c t k (Call a) = (a.mark.cells ≤ c) × (a.mark.trail ≤ t) × (a.links ≤ k)
+
+abbrev pub AreOlder : ℕ → ℕ → ℕ → List Frame → Type 0
+AreOlder c t k [] = ⊤
+AreOlder c t k (f ∷ fs) = IsOlder c t k f × AreOlder c t k fs
+
+-- a call whose lists and cells stand at its marks, with older frames behind it
+pub record IsCall (h : Store) (links : List Link) (a : Alternatives) (fs : List Frame) : Type 0 where
+  pub mark : IsMark a.mark h
+  pub room : a.links ≤ length links
+  pub rest : a.rest ≤ a.links
+  pub older : AreOlder a.mark.cells a.mark.trail a.links fs
+  pub inside : AreIn a.mark.cells (list_at links a.rest)
+  pub goal : a.goal < a.mark.cells
+
+abbrev pub IsFrame : Store → List Link → Frame → List Frame → Type 0
+IsFrame h links (Plain n) fs = ⊤
+IsFrame h links (Barrier l) fs = ⊤
+IsFrame h links (Call a) fs = IsCall h links a fs
+
+abbrev pub AreFrames : Store → List Link → List Frame → Type 0
+AreFrames h links [] = ⊤
+AreFrames h links (f ∷ fs) = IsFrame h links f fs × AreFrames h links fs
+
+-- each list has its rest among those before it
+abbrev pub link_at : List Link → ℕ → Link
+link_at links i = get_or links i (record { item = CommitTo 0; next = 0 })
+
+abbrev pub IsChain : List Link → Type 0
+IsChain links = (i : ℕ) → i < length links → (link_at links i).next ≤ i

@@ -1,0 +1,60 @@
+//! The parts of a stack.
+
+use plevent::clause::Clause;
+use plheap::cell::Mark;
+
+/// A member of a goal list.
+#[derive(Drop)]
+pub enum Item {
+    /// A goal: its cut level, and its cell.
+    Goal(u32, u32),
+    /// Behind it the choices down to a level are given up.
+    Commit(u32),
+    /// The goal of a cell waits for a view of the database.
+    Look(u32),
+    /// A clause waits until it is published as the last of its procedure.
+    Await(Clause),
+}
+
+/// A goal list: its first member, and the number of the list behind it. 0 is the empty list.
+#[derive(Drop)]
+pub struct Link {
+    pub item: Item,
+    pub next: u32,
+}
+
+/// Where the clauses of a call are found.
+#[derive(Drop)]
+pub enum Source {
+    /// The procedure of the program with this number.
+    Procedure(u32),
+    /// The clauses that were alive when the procedure was called.
+    Copied(Vec<Clause>),
+}
+
+/// A call with clauses that are still to be tried.
+#[derive(Drop)]
+pub struct Alternatives {
+    /// The heap when the procedure was called.
+    pub mark: Mark,
+    /// How many lists there were then.
+    pub links: usize,
+    /// The cell of the goal.
+    pub goal: u32,
+    /// The list behind the goal.
+    pub rest: u32,
+    pub source: Source,
+    /// The number of the first clause that was not tried, from 0.
+    pub next: usize,
+}
+
+/// Open cases.
+#[derive(Drop)]
+pub enum Frame {
+    /// So many choices with nothing left to try.
+    Plain(u32),
+    /// Behind it Fail is a cut to a level.
+    Barrier(u32),
+    /// A choice of the clauses of a call.
+    Call(Alternatives),
+}
