@@ -1,16 +1,17 @@
 -- Steps of a put.
-use Rattle.std.proofs.Common.{◌≡◌, ℕ, zero, suc, ◌+◌, ◌-◌, ◌<◌, ◌≤◌, inl, inr, List, [], ◌∷◌, ◌++◌, length, length-append, take, drop, map, reverse, refl, sym, ap, ap₂, ◌∙◌, subst, arith, le_trans, get_or}
+use Rattle.std.proofs.Common.{◌≡◌, ℕ, zero, suc, ◌+◌, ◌-◌, ◌^◌, ◌<◌, ◌≤◌, inl, inr, List, [], ◌∷◌, ◌++◌, length, length-append, take, drop, map, reverse, refl, sym, ap, ap₂, ◌∙◌, subst, arith, le_trans, get_or}
 use Rattle.std.proofs.lemmas.Bool.{cases_lt}
 use Rattle.std.proofs.lemmas.List.{reverse-append, length-map, take-map, drop-map, length-reverse, take_more, take-append-drop}
 use Rattle.plterm.specs.declared.node.Node.{Node}
 use Rattle.plterm.specs.declared.node.Node.TheVariants.{Var, Int as IntNode, Atom as AtomNode, Compound}
-use Rattle.plterm.specs.Tree.{Tree, Trees, var, int, atom, compound, none, more, trees}
-use Rattle.plterm.specs.Reading.{IsName, IsForest, arity, read, reading, Fits as FitsNode}
+use Rattle.plterm.specs.Tree.{Tree, Trees, var, int, atom, compound, none, more, trees, list_of, list_of-trees}
+use Rattle.plterm.specs.Reading.{IsName, IsForest, IsTerm, arity, first, read, reading, tree_of, Fits as FitsNode}
 use Rattle.plsubst.specs.Subst.{bind, bind_all, shift}
 use Rattle.plheap.specs.declared.cell.Cell.{Cell}
 use Rattle.plheap.specs.declared.cell.Cell.TheVariants.{Free, Ref, Int, Atom, Struct}
 use Rattle.plheap.specs.Store.{Store, term, terms, shown, IsHeap, IsNext, Adds, IsLink, AreLinks, link_term, Follows, Keeps, pushed}
-use Rattle.plheap.specs.Putting.{AllBelow, EachBelow, over, HasVariables, HasBlock, laid, IsPlaced, Pends, IsOver}
+use Rattle.plterm.specs.Variables.{AllBelow, EachBelow}
+use Rattle.plheap.specs.Putting.{over, HasVariables, HasBlock, laid, IsPlaced, Pends, IsOver}
 use Rattle.plheap.proofs.Cells.{term-pushed, term-at}
 use Rattle.plheap.proofs.Building.{pushed-shows, terms-stay, link-next, link-more, link-shown, follows-none, follows-more}
 use Rattle.plheap.proofs.Kept.{Keeps-refl, Keeps-trans, Keeps-pushed}
@@ -134,3 +135,153 @@ pends-compound old h base f k c before rest is links fo left len next at_end = r
 
     rest_links : AreLinks (length old.cells) (reverse rest)
     rest_links = subst (AreLinks (length old.cells)) (sym left) (links-drop (length old.cells) k (reverse before) links)
+
+bind-trees : (σ : ℕ → Tree) (ts : List Tree) → bind_all σ (trees ts) ≡ trees (map (bind σ) ts)
+unfolding bind
+bind-trees σ [] = refl
+bind-trees σ (t ∷ ts) = ap (more (bind σ t)) (bind-trees σ ts)
+
+-- substitutions that agree on the variables of a term
+mutual
+  unfolding bind
+
+  pub bind-agree : (v : ℕ) (σ τ : ℕ → Tree) → ((x : ℕ) → x < v → σ x ≡ τ x) → (t : Tree) → AllBelow v t → bind σ t ≡ bind τ t
+  bind-agree v σ τ same (var x) lt = same x lt
+  bind-agree v σ τ same (int i) b = refl
+  bind-agree v σ τ same (atom f) b = refl
+  bind-agree v σ τ same (compound f ts) b = ap (compound f) (bind_all-agree v σ τ same ts b)
+
+  pub bind_all-agree : (v : ℕ) (σ τ : ℕ → Tree) → ((x : ℕ) → x < v → σ x ≡ τ x) → (ts : Trees) → EachBelow v ts → bind_all σ ts ≡ bind_all τ ts
+  bind_all-agree v σ τ same none b = refl
+  bind_all-agree v σ τ same (more t ts) b = ap₂ more (bind-agree v σ τ same t b.0) (bind_all-agree v σ τ same ts b.1)
+
+-- over a block of variables a term is the same with these variables
+pub bind-block : (h : Store) (base n v : ℕ) (t : Tree) → HasVariables h base n v → AllBelow v t → bind (over h base) t ≡ shift n t
+bind-block h base n v t are below = bind-agree v (over h base) (λ x. var (n + x)) are.are t below
+
+-- all trees of a list
+abbrev pub AreBelow : ℕ → List Tree → Type 0
+AreBelow v [] = Unit {0}
+AreBelow v (t ∷ ts) = AllBelow v t × AreBelow v ts
+
+each-list : (v : ℕ) (ts : List Tree) → EachBelow v (trees ts) → AreBelow v ts
+each-list v [] b = tt
+each-list v (t ∷ ts) b = (b.0, each-list v ts b.1)
+
+below-split : (v k : ℕ) (ts : List Tree) → AreBelow v (take k ts) → AreBelow v (drop k ts) → AreBelow v ts
+below-split v zero ts a b = b
+below-split v (suc k) [] a b = tt
+below-split v (suc k) (t ∷ ts) a b = (a.0, below-split v k ts a.1 b)
+
+-- what a node takes its arguments from
+below-read : (v : ℕ) (n : Node) (ts : List Tree) → AreBelow v (read n ts) → AreBelow v ts
+below-read v (Var x) ts b = b.1
+below-read v (IntNode i) ts b = b.1
+below-read v (AtomNode s) ts b = b.1
+below-read v (Compound s k) ts b = below-split v k ts (each-list v (take k ts) b.0) b.1
+
+below-behind : (v : ℕ) (xs ys : List Node) → AreBelow v (reading (xs ++ ys)) → AreBelow v (reading ys)
+below-behind v [] ys b = b
+below-behind v (x ∷ xs) ys b = below-behind v xs ys (below-read v x (reading (xs ++ ys)) b)
+
+forest-behind : (xs ys : List Node) → IsForest (xs ++ ys) → IsForest ys
+forest-behind [] ys f = f
+forest-behind (x ∷ xs) ys f = forest-behind xs ys f.2
+
+reverse-more : (nodes : List Node) (i : ℕ) (d : Node) → i < length nodes → reverse (take (i + 1) nodes) ≡ get_or nodes i d ∷ reverse (take i nodes)
+reverse-more nodes i d lt = ap reverse (take_more nodes i d lt) ∙ reverse-append (take i nodes) (get_or nodes i d ∷ [])
+
+parts : (nodes : List Node) (i : ℕ) → reverse nodes ≡ reverse (drop i nodes) ++ reverse (take i nodes)
+parts nodes i = ap reverse (sym (take-append-drop i nodes)) ∙ reverse-append (take i nodes) (drop i nodes)
+
+pub reading-at : (nodes : List Node) (i : ℕ) (d n : Node) → i < length nodes → get_or nodes i d ≡ n → read n (reading (reverse (take i nodes))) ≡ reading (reverse (take (i + 1) nodes))
+reading-at nodes i d n lt e = ap (λ m. read m (reading (reverse (take i nodes)))) (sym e) ∙ ap reading (sym (reverse-more nodes i d lt))
+
+-- the node at i fits, and finds its arguments
+pub node-at : (nodes : List Node) (i : ℕ) (d n : Node) → i < length nodes → get_or nodes i d ≡ n → IsForest (reverse nodes) → FitsNode n × (arity n ≤ length (reading (reverse (take i nodes))))
+node-at nodes i d n lt e f =
+    let g = forest-behind (reverse (drop (i + 1) nodes)) (reverse (take (i + 1) nodes)) (subst IsForest (parts nodes (i + 1)) f) in
+    let h : IsForest (get_or nodes i d ∷ reverse (take i nodes)) = subst IsForest (reverse-more nodes i d lt) g in
+    subst (λ m. FitsNode m × (arity m ≤ length (reading (reverse (take i nodes))))) e (h.0, h.1)
+
+-- its variables are below v
+pub below-at : (v : ℕ) (nodes : List Node) (i : ℕ) (d n : Node) → i < length nodes → get_or nodes i d ≡ n → AreBelow v (reading (reverse nodes)) → AreBelow v (read n (reading (reverse (take i nodes))))
+below-at v nodes i d n lt e b =
+    let g = below-behind v (reverse (drop (i + 1) nodes)) (reverse (take (i + 1) nodes)) (subst (λ ns. AreBelow v (reading ns)) (parts nodes (i + 1)) b) in
+    subst (AreBelow v) (sym (reading-at nodes i d n lt e)) g
+
+-- so far the cells of a stack stand for these trees
+pub record IsPut (old h : Store) (base : ℕ) (pending : List Cell) (ts : List Tree) : Type 0 where
+  pub links : AreLinks (length h.cells) (reverse pending)
+  pub are : map (link_term h) (reverse pending) ≡ map (bind (over old base)) ts
+  pub stay : (d : ℕ) → d < length old.cells → term h d ≡ term old d
+  pub keeps : Keeps old h
+  pub count : h.count ≡ old.count
+
+pub put-none : (h : Store) (base : ℕ) → IsPut h h base [] []
+put-none h base = record { links = tt; are = refl; stay = λ d lt. refl; keeps = Keeps-refl h; count = refl }
+
+pub put-length : (old h : Store) (base : ℕ) (pending : List Cell) (ts : List Tree) → IsPut old h base pending ts → length pending ≡ length ts
+put-length old h base pending ts p = sym (length-reverse pending) ∙ sym (length-map (reverse pending) (link_term h)) ∙ ap length p.are ∙ length-map ts (bind (over old base))
+
+pub placed : (old h : Store) (base v : ℕ) (n : Node) (ts : List Tree) → base + v ≤ length old.cells → base + v < 2 ^ 32 → length old.cells ≤ length h.cells → AreBelow v (read n ts) → IsPlaced h base n
+placed old h base v (Var x) ts le few longer b = (omega (arith, b.0), omega (arith, b.0))
+placed old h base v (IntNode i) ts le few longer b = tt
+placed old h base v (AtomNode s) ts le few longer b = tt
+placed old h base v (Compound s k) ts le few longer b = tt
+
+laid-bind : (old h : Store) (base v : ℕ) (n : Node) (ts : List Tree) → base + v ≤ length old.cells → ((d : ℕ) → d < length old.cells → term h d ≡ term old d) → AreBelow v (read n ts) →
+    laid h base n (map (bind (over old base)) ts) ≡ map (bind (over old base)) (read n ts)
+unfolding bind
+laid-bind old h base v (Var x) ts le stay b = ap (λ t. t ∷ map (bind (over old base)) ts) (stay (base + x) (omega (arith, b.0)))
+laid-bind old h base v (IntNode i) ts le stay b = refl
+laid-bind old h base v (AtomNode s) ts le stay b = refl
+laid-bind old h base v (Compound s k) ts le stay b =
+    ap₂ (λ us vs. compound s us ∷ vs) (ap trees (take-map (bind (over old base)) k ts) ∙ sym (bind-trees (over old base) (take k ts))) (drop-map (bind (over old base)) k ts)
+
+pub put-more : (old h new : Store) (base v : ℕ) (n : Node) (before behind : List Cell) (ts : List Tree) → base + v ≤ length old.cells → IsPut old h base before ts → Pends h new base n before behind → Keeps h new →
+    AreBelow v (read n ts) → IsPut old new base behind (read n ts)
+put-more old h new base v n before behind ts le p q kept below = record {
+  links = q.links;
+  are = q.are ∙ ap (laid h base n) p.are ∙ laid-bind old h base v n ts le p.stay below;
+  stay = λ d lt. q.stay d (le_trans lt p.keeps.cells) ∙ p.stay d lt;
+  keeps = Keeps-trans old h new p.keeps kept;
+  count = q.count ∙ p.count;
+}
+
+-- a link of its own
+pub adds-ref : (h : Store) (c : ℕ) → c < length h.cells → Adds h h c (link_term h (Ref c))
+adds-ref h c lt = record { within = lt; is = refl; terms = λ d ld. refl; keeps = Keeps-refl h }
+
+pub adds-link : (h : Store) (n : Cell) (c : ℕ) → IsHeap h → IsLink (length h.cells) n → c ≡ length h.cells → Adds h (pushed h n h.count) c (link_term h n)
+adds-link h n c is link at_end = record {
+  within = omega (arith, at_end, length-append h.cells (n ∷ []));
+  is = ap (term (pushed h n h.count)) at_end ∙ pushed-shows h n h.count is (link-next h n link) ∙ link-shown h (pushed h n h.count) n (length h.cells) link (λ d lt. term-pushed h n h.count d is.trailed lt);
+  terms = λ d lt. term-pushed h n h.count d is.trailed lt;
+  keeps = Keeps-pushed h n h.count is;
+}
+
+one_tree : (ts : List Tree) → length ts ≡ 1 → ts ≡ first ts ∷ []
+one_tree [] e = absurd (omega (arith, e))
+one_tree (t ∷ []) e = refl
+one_tree (t ∷ u ∷ ts) e = absurd (omega (arith, e))
+
+pub below-tree : (v : ℕ) (ns : List Node) → IsTerm ns → AllBelow v (tree_of ns) → AreBelow v (reading ns)
+below-tree v ns is b = subst (AreBelow v) (sym (one_tree (reading ns) is.one)) (b, tt)
+
+last_link : {A : Type 0} (x y : A) (xs ys : List A) → x ∷ xs ≡ y ∷ ys → x ≡ y
+last_link x y xs ys e = cc
+
+-- the one cell that is left
+pub put-last : (old h new : Store) (base : ℕ) (ns : List Node) (pending rest : List Cell) (c : Cell) (d : ℕ) → IsTerm ns → IsPut old h base pending (reading ns) → pending ≡ rest ++ c ∷ [] →
+    Adds h new d (link_term h c) → Adds old new d (bind (over old base) (tree_of ns))
+put-last old h new base ns pending rest c d is p e a = record {
+  within = a.within;
+  is = a.is ∙ last_link (link_term h c) (bind (over old base) (tree_of ns)) (map (link_term h) (reverse rest)) []
+      (ap (map (link_term h)) (sym (reverse-push rest c) ∙ ap reverse (sym e)) ∙ p.are ∙ ap (map (bind (over old base))) (one_tree (reading ns) is.one));
+  terms = λ x lt. a.terms x (le_trans lt p.keeps.cells) ∙ p.stay x lt;
+  keeps = Keeps-trans old h new p.keeps a.keeps;
+}
+
+pub last-link : (old h : Store) (base : ℕ) (pending rest : List Cell) (c : Cell) (ts : List Tree) → IsPut old h base pending ts → pending ≡ rest ++ c ∷ [] → IsLink (length h.cells) c
+last-link old h base pending rest c ts p e = let l : AreLinks (length h.cells) (c ∷ reverse rest) = subst (AreLinks (length h.cells)) (ap reverse e ∙ reverse-push rest c) p.links in l.0

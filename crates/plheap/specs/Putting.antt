@@ -3,21 +3,10 @@ use Rattle.std.specs.Prelude.{◌≡◌, ℕ, ◌+◌, ◌^◌, ◌<◌, ◌≤�
 use Rattle.std.specs.Bool.{⊤}
 use Rattle.plterm.specs.declared.node.Node.{Node}
 use Rattle.plterm.specs.declared.node.Node.TheVariants.{Var, Int, Atom, Compound}
-use Rattle.plterm.specs.Tree.{Tree, Trees, var, int, atom, compound, none, more, trees}
+use Rattle.plterm.specs.Tree.{Tree, var, int, atom, compound, trees}
+use Rattle.plterm.specs.Variables.{AllBelow}
 use Rattle.plheap.specs.declared.cell.Cell.{Cell}
 use Rattle.plheap.specs.Store.{Store, term, Keeps, AreLinks, link_term}
-
--- each variable of the tree is below n
-abbrev mutual
-  pub AllBelow : ℕ → Tree → Type 0
-  AllBelow n (var v) = v < n
-  AllBelow n (int i) = Unit {0}
-  AllBelow n (atom s) = Unit {0}
-  AllBelow n (compound s ts) = EachBelow n ts
-
-  pub EachBelow : ℕ → Trees → Type 0
-  EachBelow n none = Unit {0}
-  EachBelow n (more t ts) = AllBelow n t × EachBelow n ts
 
 -- what a variable of a term stands for that is put over the cells from base on
 abbrev pub over : Store → ℕ → ℕ → Tree

@@ -2,14 +2,15 @@
 
 ghost use Rattle.std.specs.Prelude.{◌≡◌, ℕ, ◌+◌, ◌<◌, ◌≤◌, List, [], ◌∷◌, length, map, reverse, take, drop, IfOk, OnOk, OnErr};
 ghost use Rattle.plterm.specs.Tree.{Tree};
-ghost use Rattle.plterm.specs.Reading.{reading, tree_of, arity, IsForest, Fits as FitsNode};
+ghost use Rattle.plterm.specs.Reading.{tree_of, arity, IsTerm, Fits as FitsNode};
 ghost use Rattle.plsubst.specs.Subst.{bind};
-ghost use Rattle.plheap.specs.Store.{Adds, Keeps, AreLinks, Follows, link_term};
+ghost use Rattle.plheap.specs.Store.{Adds, Keeps, IsLink, AreLinks, Follows, link_term};
 ghost use Rattle.plheap.specs.Putting.{over, IsOver, IsPlaced, HasBlock, Pends};
 
 use crate::cell::Cell;
 use crate::heap::Heap;
 use plterm::node::Node;
+use plterm::term::Term;
 use std::alloc::{AllocError, Global};
 
 /// Room for the work of a put, which keeps its memory between calls.
@@ -101,5 +102,57 @@ impl Heap {
             }
         }
         Ok(())
+    }
+
+    /// A cell of its own for what a topmost cell stands for.
+    fn put_last(&mut self, cell: Cell) -> Result<u32, AllocError>
+        requires { IsLink (length self.old.cells) cell }
+        ensures ok { IfOk result (λ c. Adds self.old self.new c (link_term self.old cell)) }
+        ensures count { self.new.count ≡ self.old.count }
+        ensures err { OnErr result (self.new ≡ self.old) }
+    {
+        if let Cell::Ref(c) = cell {
+            return Ok(c);
+        }
+        let count = self.count();
+        let c = self.push(cell, count)?;
+        Ok(c)
+    }
+
+    /// A term that is given in prefix order from its end.
+    fn put_nodes(&mut self, pending: &mut Vec<Cell>, nodes: &[Node], base: u32) -> Result<u32, AllocError>
+        requires term { IsTerm (reverse nodes.now) }
+        requires over { (v : ℕ) × IsOver self.old base v (tree_of (reverse nodes.now)) }
+        ensures ok { IfOk result (λ c. Adds self.old self.new c (bind (over self.old base) (tree_of (reverse nodes.now)))) }
+        ensures count { OnOk result (self.new.count ≡ self.old.count) }
+        ensures keeps { Keeps self.old self.new }
+    {
+        if self.len() > u32::MAX as usize {
+            return Err(AllocError);
+        }
+        pending.clear();
+        for node in nodes {
+            self.put_node(pending, node, base)?;
+        }
+        let Some(cell) = pending.pop() else { unreachable!() };
+        let c = self.put_last(cell)?;
+        Ok(c)
+    }
+
+    /// Puts a term, whose variable x is what the cell `base` + x stands for: its cell.
+    pub fn put(&mut self, pending: &mut Pending, term: &Term, base: u32) -> Result<u32, AllocError>
+        requires { (v : ℕ) × IsOver self.old base v term.now }
+        ensures ok { IfOk result (λ c. Adds self.old self.new c (bind (over self.old base) term.now)) }
+        ensures count { self.new.count ≡ self.old.count }
+        ensures err { OnErr result (self.new ≡ self.old) }
+    {
+        let mark = self.mark();
+        match self.put_nodes(&mut pending.cells, term.nodes(), base) {
+            Ok(c) => Ok(c),
+            Err(e) => {
+                self.undo(mark);
+                Err(e)
+            }
+        }
     }
 }
