@@ -1,2 +1,8 @@
-//! The text of terms.
+//! The text of terms (ISO/IEC 13211-1 7.10.5).
 #![tactic(auto)]
+
+mod form;
+mod names;
+mod place;
+pub mod style;
+mod text;

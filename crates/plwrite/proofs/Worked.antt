@@ -1,0 +1,337 @@
+-- The text of small terms, worked.
+use Rattle.std.proofs.Common.{◌≡◌, ℕ, pos, negsuc, List, [], ◌∷◌, codes, refl}
+use Prim.Native.String.{String}
+use Rattle.std.specs.Fmt.{digits}
+use Rattle.plterm.specs.Tree.{Tree, var, int, atom, compound, none, more, trees}
+use Rattle.plops.specs.declared.operator.Kind.{Kind}
+use Rattle.plops.specs.declared.operator.Kind.TheVariants.{Xfx, Xfy, Yfx, Fy, Xf, Yf}
+use Rattle.plops.specs.declared.table.Entry.{Entry}
+use Rattle.plops.specs.Operators.{operator_of}
+use Rattle.plops.specs.Tables.{plain, with_operator, prefix_of, infix_of, postfix_of}
+use Rattle.plops.specs.Given.{iso_table, report_table}
+use Rattle.plwrite.specs.declared.style.Style.TheVariants.{Plain, Quoted}
+use Rattle.plwrite.specs.Writing.{words, others, written}
+
+abbrev op : String → ℕ → Kind → Entry
+op s priority kind = with_operator (plain (codes s)) (operator_of priority kind)
+
+-- more operators than a program text of now has
+abbrev some_table : List Entry
+some_table =
+    with_operator (op "-" 500 Yfx) (operator_of 200 Fy) ∷ op "+" 500 Yfx ∷ op "^" 200 Xfy ∷ op "\\" 200 Fy ∷ op "is" 700 Xfx ∷ op "=" 700 Xfx
+    ∷ op "!!" 300 Xf ∷ op "yf" 200 Yf ∷ op "A" 700 Xfx ∷ iso_table
+
+abbrev a : Tree
+a = atom (codes "a")
+
+abbrev b : Tree
+b = atom (codes "b")
+
+abbrev c : Tree
+c = atom (codes "c")
+
+abbrev of1 : String → Tree → Tree
+of1 s x = compound (codes s) (more x none)
+
+abbrev of2 : String → Tree → Tree → Tree
+of2 s x y = compound (codes s) (more x (more y none))
+
+abbrev cons : Tree → Tree → Tree
+cons x y = of2 "." x y
+
+abbrev nil : Tree
+nil = atom (codes "[]")
+
+abbrev rule : Tree → Tree → Tree
+rule x y = of2 ":-" x y
+
+abbrev both : Tree → Tree → Tree
+both x y = of2 "," x y
+
+clause_of_two : written iso_table Plain (rule a (both b c)) ≡ codes "a:-b,c"
+unfolding words others prefix_of infix_of postfix_of digits
+clause_of_two = refl
+
+rule_as_left : written iso_table Plain (rule (rule a b) c) ≡ codes "(a:-b):-c"
+unfolding words others prefix_of infix_of postfix_of digits
+rule_as_left = refl
+
+rule_as_right : written iso_table Plain (rule a (rule b c)) ≡ codes "a:-(b:-c)"
+unfolding words others prefix_of infix_of postfix_of digits
+rule_as_right = refl
+
+comma_as_left : written iso_table Plain (both (both a b) c) ≡ codes "(a,b),c"
+unfolding words others prefix_of infix_of postfix_of digits
+comma_as_left = refl
+
+comma_as_right : written iso_table Plain (both a (both b c)) ≡ codes "a,b,c"
+unfolding words others prefix_of infix_of postfix_of digits
+comma_as_right = refl
+
+rule_in_argument : written iso_table Plain (of1 "f" (rule a b)) ≡ codes "f((a:-b))"
+unfolding words others prefix_of infix_of postfix_of digits
+rule_in_argument = refl
+
+comma_in_argument : written iso_table Plain (of1 "f" (both a b)) ≡ codes "f((a,b))"
+unfolding words others prefix_of infix_of postfix_of digits
+comma_in_argument = refl
+
+operator_in_argument : written iso_table Plain (of1 "f" (atom (codes ":-"))) ≡ codes "f(:-)"
+unfolding words others prefix_of infix_of postfix_of digits
+operator_in_argument = refl
+
+operator_alone : written iso_table Plain (atom (codes ":-")) ≡ codes ":-"
+unfolding words others prefix_of infix_of postfix_of digits
+operator_alone = refl
+
+operator_as_operand : written iso_table Plain (both (atom (codes ":-")) a) ≡ codes "(:-),a"
+unfolding words others prefix_of infix_of postfix_of digits
+operator_as_operand = refl
+
+directive : written iso_table Plain (of1 ":-" a) ≡ codes ":-a"
+unfolding words others prefix_of infix_of postfix_of digits
+directive = refl
+
+directive_of_brackets : written iso_table Plain (of1 ":-" (rule a b)) ≡ codes ":- (a:-b)"
+unfolding words others prefix_of infix_of postfix_of digits
+directive_of_brackets = refl
+
+three_arguments : written iso_table Quoted (compound (codes "f") (trees (a ∷ b ∷ c ∷ []))) ≡ codes "f(a,b,c)"
+unfolding words others prefix_of infix_of postfix_of digits
+three_arguments = refl
+
+no_slash : written iso_table Plain (of2 "/" (atom (codes "q")) (int (pos 0))) ≡ codes "/(q,0)"
+unfolding words others prefix_of infix_of postfix_of digits
+no_slash = refl
+
+indicator : written report_table Plain (of2 "/" (atom (codes "q")) (int (pos 0))) ≡ codes "q/0"
+unfolding words others prefix_of infix_of postfix_of digits
+indicator = refl
+
+slash_of_left : written report_table Plain (of2 "/" (of2 "/" a b) c) ≡ codes "a/b/c"
+unfolding words others prefix_of infix_of postfix_of digits
+slash_of_left = refl
+
+slash_of_right : written report_table Plain (of2 "/" a (of2 "/" b c)) ≡ codes "a/(b/c)"
+unfolding words others prefix_of infix_of postfix_of digits
+slash_of_right = refl
+
+variables_by_occurrence : written iso_table Plain (compound (codes "f") (trees (var 7 ∷ var 3 ∷ var 7 ∷ []))) ≡ codes "f(_1,_2,_1)"
+unfolding words others prefix_of infix_of postfix_of digits
+variables_by_occurrence = refl
+
+one_variable : written iso_table Plain (var 5) ≡ codes "_1"
+unfolding words others prefix_of infix_of postfix_of digits
+one_variable = refl
+
+list_of_one : written iso_table Plain (cons a nil) ≡ codes "[a]"
+unfolding words others prefix_of infix_of postfix_of digits
+list_of_one = refl
+
+list_of_two : written iso_table Plain (cons a (cons b nil)) ≡ codes "[a,b]"
+unfolding words others prefix_of infix_of postfix_of digits
+list_of_two = refl
+
+list_with_tail : written iso_table Plain (cons a b) ≡ codes "[a|b]"
+unfolding words others prefix_of infix_of postfix_of digits
+list_with_tail = refl
+
+list_of_two_with_tail : written iso_table Plain (cons a (cons b c)) ≡ codes "[a,b|c]"
+unfolding words others prefix_of infix_of postfix_of digits
+list_of_two_with_tail = refl
+
+list_with_variable : written iso_table Plain (cons a (var 0)) ≡ codes "[a|_1]"
+unfolding words others prefix_of infix_of postfix_of digits
+list_with_variable = refl
+
+list_in_list : written iso_table Plain (cons (cons a nil) (cons nil nil)) ≡ codes "[[a],[]]"
+unfolding words others prefix_of infix_of postfix_of digits
+list_in_list = refl
+
+rule_in_list : written iso_table Plain (cons (rule a b) (rule b c)) ≡ codes "[(a:-b)|(b:-c)]"
+unfolding words others prefix_of infix_of postfix_of digits
+rule_in_list = refl
+
+operator_in_list : written iso_table Plain (cons (atom (codes ":-")) (atom (codes ":-"))) ≡ codes "[:-|:-]"
+unfolding words others prefix_of infix_of postfix_of digits
+operator_in_list = refl
+
+curly : written iso_table Plain (of1 "{}" (rule a b)) ≡ codes "{a:-b}"
+unfolding words others prefix_of infix_of postfix_of digits
+curly = refl
+
+curly_of_two : written iso_table Quoted (of2 "{}" a b) ≡ codes "'{}'(a,b)"
+unfolding words others prefix_of infix_of postfix_of digits
+curly_of_two = refl
+
+nil_as_functor : written iso_table Quoted (of1 "[]" a) ≡ codes "'[]'(a)"
+unfolding words others prefix_of infix_of postfix_of digits
+nil_as_functor = refl
+
+nil_as_functor_plain : written iso_table Plain (of1 "[]" a) ≡ codes "[](a)"
+unfolding words others prefix_of infix_of postfix_of digits
+nil_as_functor_plain = refl
+
+dot_of_one : written iso_table Quoted (of1 "." a) ≡ codes "'.'(a)"
+unfolding words others prefix_of infix_of postfix_of digits
+dot_of_one = refl
+
+letter : written iso_table Plain (of1 "$VAR" (int (pos 1))) ≡ codes "B"
+unfolding words others prefix_of infix_of postfix_of digits
+letter = refl
+
+letter_with_number : written iso_table Quoted (of1 "$VAR" (int (pos 53))) ≡ codes "B2"
+unfolding words others prefix_of infix_of postfix_of digits
+letter_with_number = refl
+
+no_letter : written iso_table Quoted (of1 "$VAR" (int (negsuc 0))) ≡ codes "'$VAR'(-1)"
+unfolding words others prefix_of infix_of postfix_of digits
+no_letter = refl
+
+no_letter_of_atom : written iso_table Plain (of1 "$VAR" a) ≡ codes "$VAR(a)"
+unfolding words others prefix_of infix_of postfix_of digits
+no_letter_of_atom = refl
+
+letter_as_tail : written iso_table Plain (cons a (of1 "$VAR" (int (pos 0)))) ≡ codes "[a|A]"
+unfolding words others prefix_of infix_of postfix_of digits
+letter_as_tail = refl
+
+empty_name : written iso_table Quoted (atom []) ≡ codes "''"
+unfolding words others prefix_of infix_of postfix_of digits
+empty_name = refl
+
+comma_quoted : written iso_table Quoted (atom (codes ",")) ≡ codes "','"
+unfolding words others prefix_of infix_of postfix_of digits
+comma_quoted = refl
+
+comma_plain : written iso_table Plain (atom (codes ",")) ≡ codes ","
+unfolding words others prefix_of infix_of postfix_of digits
+comma_plain = refl
+
+comma_functor : written iso_table Quoted (compound (codes ",") (trees (a ∷ b ∷ c ∷ []))) ≡ codes "','(a,b,c)"
+unfolding words others prefix_of infix_of postfix_of digits
+comma_functor = refl
+
+dot_quoted : written iso_table Quoted (atom (codes ".")) ≡ codes "'.'"
+unfolding words others prefix_of infix_of postfix_of digits
+dot_quoted = refl
+
+two_dots : written iso_table Quoted (atom (codes "..")) ≡ codes ".."
+unfolding words others prefix_of infix_of postfix_of digits
+two_dots = refl
+
+comment_quoted : written iso_table Quoted (atom (codes "/*")) ≡ codes "'/*'"
+unfolding words others prefix_of infix_of postfix_of digits
+comment_quoted = refl
+
+cut : written iso_table Quoted (atom (codes "!")) ≡ codes "!"
+unfolding words others prefix_of infix_of postfix_of digits
+cut = refl
+
+capital_quoted : written iso_table Quoted (atom (codes "Abc")) ≡ codes "'Abc'"
+unfolding words others prefix_of infix_of postfix_of digits
+capital_quoted = refl
+
+space_quoted : written iso_table Quoted (atom (codes "a b")) ≡ codes "'a b'"
+unfolding words others prefix_of infix_of postfix_of digits
+space_quoted = refl
+
+small_bare : written iso_table Quoted (atom (codes "aB_1")) ≡ codes "aB_1"
+unfolding words others prefix_of infix_of postfix_of digits
+small_bare = refl
+
+capital_plain : written iso_table Plain (atom (codes "Abc")) ≡ codes "Abc"
+unfolding words others prefix_of infix_of postfix_of digits
+capital_plain = refl
+
+sign_of_integer : written some_table Plain (of1 "-" (int (pos 1))) ≡ codes "-(1)"
+unfolding words others prefix_of infix_of postfix_of digits
+sign_of_integer = refl
+
+sign_of_negative : written some_table Plain (of1 "-" (int (negsuc 0))) ≡ codes "-(-1)"
+unfolding words others prefix_of infix_of postfix_of digits
+sign_of_negative = refl
+
+sign_of_atom : written some_table Plain (of1 "-" a) ≡ codes "-a"
+unfolding words others prefix_of infix_of postfix_of digits
+sign_of_atom = refl
+
+sign_of_sign : written some_table Plain (of1 "-" (of1 "-" a)) ≡ codes "- -a"
+unfolding words others prefix_of infix_of postfix_of digits
+sign_of_sign = refl
+
+sign_of_operator : written some_table Plain (of1 "-" (atom (codes "-"))) ≡ codes "- (-)"
+unfolding words others prefix_of infix_of postfix_of digits
+sign_of_operator = refl
+
+sign_of_power : written some_table Plain (of1 "-" (of2 "^" (int (pos 1)) (int (pos 2)))) ≡ codes "- 1^2"
+unfolding words others prefix_of infix_of postfix_of digits
+sign_of_power = refl
+
+power_of_sign : written some_table Plain (of2 "^" (of1 "-" (int (pos 1))) (int (pos 2))) ≡ codes "-(1)^2"
+unfolding words others prefix_of infix_of postfix_of digits
+power_of_sign = refl
+
+power_of_negative : written some_table Plain (of2 "^" (int (negsuc 0)) (int (pos 2))) ≡ codes "-1^2"
+unfolding words others prefix_of infix_of postfix_of digits
+power_of_negative = refl
+
+power_of_sign_of_atom : written some_table Plain (of2 "^" (of1 "-" a) (int (pos 2))) ≡ codes "(-a)^2"
+unfolding words others prefix_of infix_of postfix_of digits
+power_of_sign_of_atom = refl
+
+power_to_the_right : written some_table Plain (of2 "^" a (of2 "^" b c)) ≡ codes "a^b^c"
+unfolding words others prefix_of infix_of postfix_of digits
+power_to_the_right = refl
+
+power_to_the_left : written some_table Plain (of2 "^" (of2 "^" a b) c) ≡ codes "(a^b)^c"
+unfolding words others prefix_of infix_of postfix_of digits
+power_to_the_left = refl
+
+less_negative : written some_table Plain (of2 "-" (int (pos 1)) (int (negsuc 0))) ≡ codes "1- -1"
+unfolding words others prefix_of infix_of postfix_of digits
+less_negative = refl
+
+less_to_the_left : written some_table Plain (of2 "-" (of2 "-" a b) c) ≡ codes "a-b-c"
+unfolding words others prefix_of infix_of postfix_of digits
+less_to_the_left = refl
+
+less_to_the_right : written some_table Plain (of2 "-" a (of2 "-" b c)) ≡ codes "a-(b-c)"
+unfolding words others prefix_of infix_of postfix_of digits
+less_to_the_right = refl
+
+words_apart : written some_table Plain (of2 "is" (var 0) (of2 "+" (int (pos 2)) (int (pos 3)))) ≡ codes "_1 is 2+3"
+unfolding words others prefix_of infix_of postfix_of digits
+words_apart = refl
+
+symbols_apart : written some_table Plain (of2 "=" (of1 "\\" a) (of1 "\\" b)) ≡ codes "\\a= \\b"
+unfolding words others prefix_of infix_of postfix_of digits
+symbols_apart = refl
+
+backslash_quoted_beside : written some_table Quoted (of2 "=" a (atom (codes "B"))) ≡ codes "a='B'"
+unfolding words others prefix_of infix_of postfix_of digits
+backslash_quoted_beside = refl
+
+quote_behind_word : written some_table Quoted (of2 "is" (atom (codes "X")) (atom (codes "B"))) ≡ codes "'X'is 'B'"
+unfolding words others prefix_of infix_of postfix_of digits
+quote_behind_word = refl
+
+quote_behind_quote : written some_table Quoted (of2 "A" (atom (codes "B")) (atom (codes "C"))) ≡ codes "'B' 'A' 'C'"
+unfolding words others prefix_of infix_of postfix_of digits
+quote_behind_quote = refl
+
+postfix : written some_table Plain (of1 "!!" (of2 "^" a b)) ≡ codes "a^b!!"
+unfolding words others prefix_of infix_of postfix_of digits
+postfix = refl
+
+postfix_of_postfix : written some_table Plain (of1 "!!" (of1 "!!" a)) ≡ codes "(a!!)!!"
+unfolding words others prefix_of infix_of postfix_of digits
+postfix_of_postfix = refl
+
+yf_of_sign : written some_table Plain (of1 "yf" (of1 "-" a)) ≡ codes "(-a)yf"
+unfolding words others prefix_of infix_of postfix_of digits
+yf_of_sign = refl
+
+yf_of_yf : written some_table Plain (of1 "yf" (of1 "yf" a)) ≡ codes "a yf yf"
+unfolding words others prefix_of infix_of postfix_of digits
+yf_of_yf = refl

@@ -1,0 +1,58 @@
+-- Where a term stands, and when it stands in brackets there.
+use Rattle.std.specs.Prelude.{ℕ, List, Bool, true, false, ◌||◌, ◌&&◌, ◌==◌, nat_lt, is_some}
+use Rattle.plops.specs.declared.operator.Prefix.{Prefix}
+use Rattle.plops.specs.declared.operator.Infix.{Infix}
+use Rattle.plops.specs.declared.operator.Postfix.{Postfix}
+use Rattle.plops.specs.declared.operator.Operator.{Operator}
+use Rattle.plops.specs.declared.operator.Operator.TheVariants.{Before, Between, Behind}
+use Rattle.plops.specs.declared.table.Entry.{Entry}
+use Rattle.plops.specs.Tables.{prefix_of, infix_of, postfix_of}
+use Rattle.plwrite.specs.declared.place.Place.{Place}
+use Rattle.plwrite.specs.declared.place.Position.{Position}
+use Rattle.plwrite.specs.declared.place.Position.TheVariants.{At, Tail}
+
+-- a whole term, an argument or element, and the operands of operators
+abbrev pub whole : Place
+whole = record { most = 1200; is_operand = false; is_strict = false }
+
+abbrev pub argument : Place
+argument = record { most = 999; is_operand = false; is_strict = false }
+
+abbrev pub right_of_prefix : Prefix → Place
+right_of_prefix op = record { most = op.right; is_operand = true; is_strict = false }
+
+abbrev pub left_of : Infix → Place
+left_of op = record { most = op.left; is_operand = true; is_strict = op.left == op.priority }
+
+abbrev pub right_of : Infix → Place
+right_of op = record { most = op.right; is_operand = true; is_strict = false }
+
+abbrev pub left_of_postfix : Postfix → Place
+left_of_postfix op = record { most = op.left; is_operand = true; is_strict = op.left == op.priority }
+
+abbrev pub priority : Operator → ℕ
+priority (Before op) = op.priority
+priority (Between op) = op.priority
+priority (Behind op) = op.priority
+
+-- its right operand may have its own priority
+abbrev pub is_right_open : Operator → Bool
+is_right_open (Before op) = op.right == op.priority
+is_right_open (Between op) = op.right == op.priority
+is_right_open (Behind op) = false
+
+-- An operator's term is in brackets where its priority exceeds its place's, and where both are equal, it is the
+-- left operand of yfx or yf, and its own operator is fy or xfy.
+abbrev pub needs_brackets : Place → Operator → Bool
+needs_brackets place op = nat_lt place.most (priority op) || (place.is_strict && (is_right_open op && (priority op == place.most)))
+
+abbrev pub is_operator : List Entry → List ℕ → Bool
+is_operator ops s = is_some (prefix_of ops s) || (is_some (infix_of ops s) || is_some (postfix_of ops s))
+
+-- an atom that is an operator is in brackets as an operand
+abbrev pub is_bracketed_atom : List Entry → Place → List ℕ → Bool
+is_bracketed_atom ops place s = place.is_operand && is_operator ops s
+
+abbrev pub place_of : Position → Place
+place_of (At place) = place
+place_of Tail = argument
