@@ -4,16 +4,16 @@ use Rattle.std.proofs.lemmas.Bool.{cases_lt}
 use Rattle.std.proofs.lemmas.List.{reverse-append, length-map, take-map, drop-map, length-reverse, take_more, take-append-drop}
 use Rattle.plterm.specs.declared.node.Node.{Node}
 use Rattle.plterm.specs.declared.node.Node.TheVariants.{Var, Int as IntNode, Atom as AtomNode, Compound}
-use Rattle.plterm.specs.Tree.{Tree, Trees, var, int, atom, compound, none, more, trees, list_of, list_of-trees}
+use Rattle.plterm.specs.Tree.{Tree, Trees, var, int, atom, compound, none, more, trees}
 use Rattle.plterm.specs.Reading.{IsName, IsForest, IsTerm, arity, first, read, reading, tree_of, Fits as FitsNode}
 use Rattle.plsubst.specs.Subst.{bind, bind_all, shift}
 use Rattle.plheap.specs.declared.cell.Cell.{Cell}
-use Rattle.plheap.specs.declared.cell.Cell.TheVariants.{Free, Ref, Int, Atom, Struct}
-use Rattle.plheap.specs.Store.{Store, term, terms, shown, IsHeap, IsNext, Adds, IsLink, AreLinks, link_term, Follows, Keeps, pushed}
+use Rattle.plheap.specs.declared.cell.Cell.TheVariants.{Free, Ref, Struct}
+use Rattle.plheap.specs.Store.{Store, term, terms, IsHeap, IsNext, Adds, IsLink, AreLinks, link_term, Follows, Keeps, pushed}
 use Rattle.plterm.specs.Variables.{AllBelow, EachBelow}
-use Rattle.plheap.specs.Putting.{over, HasVariables, HasBlock, laid, IsPlaced, Pends, IsOver}
-use Rattle.plheap.proofs.Cells.{term-pushed, term-at}
-use Rattle.plheap.proofs.Building.{pushed-shows, terms-stay, link-next, link-more, link-shown, follows-none, follows-more}
+use Rattle.plheap.specs.Putting.{over, HasVariables, HasBlock, laid, IsPlaced, Pends}
+use Rattle.plheap.proofs.Cells.{term-pushed}
+use Rattle.plheap.proofs.Building.{pushed-shows, terms-stay, link-next, link-more, link-shown}
 use Rattle.plheap.proofs.Kept.{Keeps-refl, Keeps-trans, Keeps-pushed}
 
 pub reverse-push : {A : Type 0} (xs : List A) (y : A) → reverse (xs ++ y ∷ []) ≡ y ∷ reverse xs

@@ -71,14 +71,21 @@ impl Heap {
     {
         let count = self.count();
         for _ in 0..k {
-            let Some(cell) = pending.pop() else { unreachable!() };
+            let Some(cell) = pending.pop() else {
+                unreachable!()
+            };
             self.push(cell, count)?;
         }
         Ok(())
     }
 
     /// A node of a term, whose arguments are the topmost cells.
-    fn put_node(&mut self, pending: &mut Vec<Cell>, node: &Node, base: u32) -> Result<(), AllocError>
+    fn put_node(
+        &mut self,
+        pending: &mut Vec<Cell>,
+        node: &Node,
+        base: u32,
+    ) -> Result<(), AllocError>
         requires fits { FitsNode node.now }
         requires room { arity node.now ≤ length pending.old.items }
         requires links { AreLinks (length self.old.cells) (reverse pending.old.items) }
@@ -120,7 +127,12 @@ impl Heap {
     }
 
     /// A term that is given in prefix order from its end.
-    fn put_nodes(&mut self, pending: &mut Vec<Cell>, nodes: &[Node], base: u32) -> Result<u32, AllocError>
+    fn put_nodes(
+        &mut self,
+        pending: &mut Vec<Cell>,
+        nodes: &[Node],
+        base: u32,
+    ) -> Result<u32, AllocError>
         requires term { IsTerm (reverse nodes.now) }
         requires over { (v : ℕ) × IsOver self.old base v (tree_of (reverse nodes.now)) }
         ensures ok { IfOk result (λ c. Adds self.old self.new c (bind (over self.old base) (tree_of (reverse nodes.now)))) }
@@ -134,7 +146,9 @@ impl Heap {
         for node in nodes {
             self.put_node(pending, node, base)?;
         }
-        let Some(cell) = pending.pop() else { unreachable!() };
+        let Some(cell) = pending.pop() else {
+            unreachable!()
+        };
         let c = self.put_last(cell)?;
         Ok(c)
     }

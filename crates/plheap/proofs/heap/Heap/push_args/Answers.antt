@@ -1,5 +1,5 @@
-use Rattle.std.proofs.Common.{◌≡◌, ◌+◌, ◌<◌, ◌≤◌, ◌∷◌, [], ◌∙◌, ◌++◌, ℕ, length, length-append, take, drop, reverse, map, arith, ap, sym, subst}
-use Rattle.plheap.specs.Store.{Store, IsNext, Follows, IsLink, link_term, pushed}
+use Rattle.std.proofs.Common.{◌≡◌, ◌∷◌, [], ◌∙◌, ◌++◌, ℕ, length, length-append, take, reverse, map, arith, ap, sym, subst}
+use Rattle.plheap.specs.Store.{Store, Follows, link_term, pushed}
 use Rattle.plheap.proofs.Building.{link-next, link-more, follows-more}
 use Rattle.plheap.proofs.Puts.{taken_link, terms-more, rest-more}
 use Rattle.plheap.proofs.heap.Heap.push_args.Goals as goal

@@ -1,7 +1,5 @@
-use Rattle.std.proofs.Common.{◌≡◌, ◌+◌, ◌∷◌, [], ◌∙◌, ℕ, length, length-append, arith, ap, subst}
+use Rattle.std.proofs.Common.{◌∷◌, [], length, length-append, arith}
 use Rattle.plheap.specs.declared.cell.Cell.TheVariants.{Free}
-use Rattle.plheap.specs.Store.{Store, pushed}
-use Rattle.plheap.specs.Putting.{HasBlock}
 use Rattle.plheap.proofs.Puts.{block-more}
 use Rattle.plheap.proofs.heap.Heap.push_variables.Goals as goal
 

@@ -1,5 +1,5 @@
 use Rattle.std.proofs.Common.{◌≡◌, ◌∙◌, ap, sym, subst}
-use Rattle.plheap.specs.Store.{Store, Adds, pushed, link_term}
+use Rattle.plheap.specs.Store.{Adds, pushed, link_term}
 use Rattle.plheap.proofs.Puts.{adds-link}
 use Rattle.plheap.proofs.heap.Heap.put_last.Goals as goal
 

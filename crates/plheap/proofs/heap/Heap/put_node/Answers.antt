@@ -1,9 +1,9 @@
-use Rattle.std.proofs.Common.{◌≡◌, ◌+◌, ◌<◌, ◌≤◌, ◌∷◌, [], ◌∙◌, ◌++◌, length, length-take-le, take, drop, reverse, map, arith, ap, ap₂, sym, subst}
+use Rattle.std.proofs.Common.{◌≡◌, ◌≤◌, ◌∷◌, [], ◌∙◌, ◌++◌, length, length-take-le, take, reverse, map, arith, ap₂, sym, subst}
 use Rattle.std.proofs.lemmas.List.{length-map, length-reverse}
 use Rattle.plterm.specs.declared.node.Node.TheVariants.{Compound}
 use Rattle.plterm.specs.Reading.{arity, Fits as FitsNode}
 use Rattle.plheap.specs.declared.cell.Cell.TheVariants.{Ref, Struct}
-use Rattle.plheap.specs.Store.{Store, IsNext, Keeps, link_term, pushed}
+use Rattle.plheap.specs.Store.{IsNext, Keeps, link_term, pushed}
 use Rattle.plheap.specs.Putting.{Pends}
 use Rattle.plheap.proofs.Kept.{Keeps-trans, Keeps-pushed}
 use Rattle.plheap.proofs.Puts.{pends-compound, next-struct}

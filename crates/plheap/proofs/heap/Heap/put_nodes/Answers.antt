@@ -1,7 +1,6 @@
-use Rattle.std.proofs.Common.{◌≡◌, ◌+◌, ◌<◌, ◌≤◌, ◌∷◌, [], ◌∙◌, ◌++◌, length, take, reverse, arith, ap, sym, subst}
-use Rattle.std.proofs.lemmas.List.{take_all}
+use Rattle.std.proofs.Common.{take, reverse, arith, sym, subst}
 use Rattle.plterm.specs.Reading.{reading, read}
-use Rattle.plheap.proofs.Puts.{IsPut, AreBelow, put-none, put-more, put-last, put-length, last-link, node-at, below-at, below-tree, placed, reading-at}
+use Rattle.plheap.proofs.Puts.{IsPut, AreBelow, put-more, put-length, node-at, below-at, below-tree, placed, reading-at}
 use Rattle.plheap.proofs.heap.Heap.put_nodes.Goals as goal
 
 pub put_node-requires-clause-fits : goal.put_node-requires-clause-fits
