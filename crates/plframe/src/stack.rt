@@ -57,6 +57,7 @@ impl Stack {
     }
 
     /// How many cases are open.
+    #[tactic(auto, using(crate::proofs::Stacks::depth_is))]
     pub fn depth(&self) -> u32
         ensures { (statics : Statics) → result ≡ deeper (cases_of statics self.now) 0 }
     {
