@@ -1,6 +1,7 @@
 //! Terms converted to goals, in time linear in their nodes and without recursion.
 ghost use Rattle.std.specs.Prelude.{◌≡◌, ◌≤◌, length, IfOk, MatchBool, None, OnOk, Some};
-ghost use Rattle.plterm.specs.Reading.{arity, read, AllFit, Fits};
+ghost use Rattle.std.specs.List.{flat_map};
+ghost use Rattle.plterm.specs.Reading.{arity, read, spelling, AllFit, Fits};
 ghost use Rattle.plclause.specs.Conversion.{converted, is_control};
 ghost use Rattle.plclause.specs.Goals.{goal_nodes, joined};
 
@@ -36,6 +37,7 @@ fn put_goal(
     ensures same { IfOk result (λ good. MatchBool good
         (joined (Some nodes.new.items) (goal_nodes goals.new) ≡ joined (Some nodes.old.items) (goal_nodes (read node.now goals.old)))
         (joined (Some nodes.old.items) (goal_nodes (read node.now goals.old)) ≡ None)) }
+    ensures less { OnOk result (length (flat_map spelling goals.new) ≤ length (flat_map spelling goals.old)) }
     ensures fits { OnOk result (Fits node.now → AllFit nodes.old.items → AllFit nodes.new.items) }
 {
     match node {

@@ -45,12 +45,15 @@ fn parted<'a>(term: &TermRef<'a>) -> Option<(TermRef<'a>, TermRef<'a>)>
 {
     match term.shape() {
         Shape::Compound(name, mut args) => {
-            if args.len() != 2 || name.as_str() != ":-" {
+            if name.as_str() != ":-" {
                 return None;
             }
-            match (args.next_term(), args.next_term()) {
-                (Some(head), Some(body)) => Some((head, body)),
-                _ => unreachable!(),
+            let head = args.next_term()?;
+            let body = args.next_term()?;
+            if args.is_empty() {
+                Some((head, body))
+            } else {
+                None
             }
         }
         Shape::Var(_) | Shape::Int(_) | Shape::Atom(_) => None,

@@ -1,0 +1,5 @@
+pub mod GoalNodes
+pub mod Conversions
+pub mod Seen
+pub mod Necks
+pub mod Names

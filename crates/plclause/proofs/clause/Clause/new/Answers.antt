@@ -1,0 +1,26 @@
+use Rattle.std.proofs.Common.{◌≡◌, ◌∙◌, sym, ap}
+use Rattle.std.specs.Arc.{arc_value}
+use Rattle.plterm.specs.Reading.{spelling}
+use Rattle.plterm.specs.Variables.{seen_after}
+use Rattle.plclause.specs.declared.clause.Parts.{Parts}
+use Rattle.plclause.specs.Clause.{Clause}
+use Rattle.plclause.specs.Soundness.{clause_from}
+use Rattle.plclause.proofs.Seen.{clause_is_sound, clause_parts_is}
+use Rattle.plclause.proofs.clause.Clause.new.Goals as goal
+use Rattle.plclause.proofs.clause.Clause.new.Goals.{In_ok-parts}
+
+abbrev part : Parts → Clause
+part p = record { head = p.head; body = p.body; variables = p.variables }
+
+module _ (c : In_ok-parts) where
+  parts : record { head = (arc_value c.in_ok-parts.parts).head; body = (arc_value c.in_ok-parts.parts).body; variables = (arc_value c.in_ok-parts.parts).variables } ≡ clause_from c.args.head.now c.args.goal.now
+  parts =
+      ap part c.in_ok-parts.ensures.ok
+      ∙ clause_parts_is c.args.head.now c.args.goal.now c.in_ok-head.head c.in_ok-body.body c.numbered.new.seen c.numbered-2.new.seen c.count-variables.result
+      (c.in_ok-head.ensures.seen ∙ ap (λ vs. seen_after vs (spelling c.args.head.now)) c.new-seen.ensures) c.in_ok-body.ensures.seen c.in_ok-head.ensures.tree c.in_ok-body.ensures.tree c.count-variables.ensures
+
+pub invariant_of-result : goal.invariant_of-result
+invariant_of-result c = rw (parts c) (clause_is_sound c.args.head.now c.args.goal.now c.requires.callable c.requires.goal)
+
+pub returns : goal.returns
+returns c = parts (goal.at.returns c).In_ok-parts

@@ -1,0 +1,12 @@
+use Rattle.std.proofs.Common.{◌≡◌, ◌∷◌, [], ◌∙◌, ◌++◌, codes, refl, ap, arith}
+use Rattle.plterm.specs.declared.node.Node.{Node}
+use Rattle.plterm.specs.declared.node.Node.TheVariants.{Atom}
+use Rattle.plterm.specs.Reading.{IsTerm}
+use Rattle.plclause.proofs.Names.{IsName-true}
+use Rattle.plclause.proofs.form.truth.Goals as goal
+
+true_term : IsTerm (Atom (codes "true") ∷ [])
+true_term = record { forest = (IsName-true, omega arith, tt); one = refl }
+
+pub from_prefix-requires : goal.from_prefix-requires
+from_prefix-requires c = rw (c.in_ok-push.ensures.items, c.new-nodes.ensures.items, c.in_ok-new.ensures) true_term
