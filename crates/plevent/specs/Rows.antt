@@ -47,8 +47,11 @@ is_workers (Request.Publish us) = false
 is_workers (Request.Finish e) = false
 
 -- a thread that is not started, or has ended, waits
+abbrev pub served_in : Request → ℕ → Standing → Row
+served_in q t r = add_if (is_workers q || runs t r) (row q t r) (Reply.NotYet q, None)
+
 unfoldable pub served : Request → ℕ → Reading → Row
-served q t r = add_if (is_workers q || runs t r.standing) (row q t r.standing) (Reply.NotYet q, None)
+served q t r = served_in q t r.standing
 
 -- the entry of a row, asked by worker w
 abbrev pub entries_of : ℕ → Option (ℕ × Act) → List Entry

@@ -12,6 +12,7 @@ use Rattle.plevent.specs.declared.clause.Indicator.{Indicator}
 use Rattle.plevent.specs.Alive.{Stamped, same_name, same_pred, is_of, named, add_if, Living, lives_as, changed, change, without, living, before, lives, is_alive, makes, erases, exists, names as names_proc}
 use Rattle.std.specs.List.{list_any}
 use Rattle.plstore.specs.declared.record.Record.{Record}
+use Rattle.plstore.specs.Rising.{Rises, AllUnder}
 use Rattle.plstore.specs.Kept.{Kept, nothing, keep, changed_where, change_if, made, first_of, erase_at, is_named, kept, keep_record, keep_declared, noted, not_below, seen, in_front, behind_all, livings, picked, walk, is_here, here, record_names, declared_names, is_there}
 
 abbrev pub own : Record → Living
@@ -240,11 +241,6 @@ pub AllErasedBy-more : (a b : ℕ) (rs : List Record) → a ≤ b → AllErasedB
 AllErasedBy-more a b [] h k = tt
 AllErasedBy-more a b (r ∷ rs) h k = (erased-more a b r.erased h k.0, AllErasedBy-more a b rs h k.1)
 
--- places that do not fall, from b on
-abbrev pub Rises : ℕ → List Stamped → Type 0
-Rises b [] = Unit {0}
-Rises b (s ∷ ss) = (b ≤ s.at.place) × Rises s.at.place ss
-
 below-or : (v : Bool) (a b : ℕ) → nat_lt a b ≡ v → cond v (a < b) (b ≤ a)
 below-or true a b e = grind (arith, nat_tests)
 below-or false a b e = grind (arith, nat_tests)
@@ -335,11 +331,6 @@ here-keep g x s rs h k = by-case s.update
     by-case (Erase y) = here-erase g s.at.place x y rs h k ∙ ap (λ v. v && not (same_name x y)) (sym (or-false (list_any (is_here g x) rs)))
     by-case (EraseOwn n) = here-erase g s.at.place x (named s.at.place n) rs h k ∙ ap (λ v. v && not (same_name x (named s.at.place n))) (sym (or-false (list_any (is_here g x) rs)))
     by-case (Declare q) = sym (and-true (list_any (is_here g x) rs || false) ∙ or-false (list_any (is_here g x) rs))
-
--- each place is below g
-abbrev pub AllUnder : ℕ → List Stamped → Type 0
-AllUnder g [] = Unit {0}
-AllUnder g (s ∷ ss) = (s.at.place < g) × AllUnder g ss
 
 pub here-keeps : (g : ℕ) (x : ClauseName) (b : ℕ) (us : List Stamped) (rs : List Record) → Rises b us → AllUnder g us → AllErasedBy b rs →
     list_any (is_here g x) (fold keep_record rs us) ≡ fold (lives x) (list_any (is_here g x) rs) us

@@ -12,7 +12,8 @@ use Rattle.plevent.specs.Alive.{Stamped, same_name, same_pred, is_of, named, bef
 use Rattle.plstore.specs.declared.record.Record.{Record}
 use Rattle.plstore.specs.declared.record.Declared.{Declared}
 use Rattle.plstore.specs.Kept.{Kept, nothing, keep, keep_record, keep_declared, kept, noted, made, changed_where, change_if, erase_at, is_named, record_names, declared_names, is_there, here, clause_of, walk}
-use Rattle.plstore.proofs.Law.{Rises, walk-alive, walk-stays, alive-at}
+use Rattle.plstore.specs.Rising.{Rises}
+use Rattle.plstore.proofs.Law.{walk-alive, walk-stays, alive-at}
 
 pub keep-records : (k : Kept) (us : List Stamped) → (fold keep k us).records ≡ fold keep_record k.records us
 keep-records k [] = refl

@@ -1,7 +1,7 @@
 -- Records whose names rise, and where a name stands in them.
-use Rattle.std.specs.Prelude.{◌≡◌, ℕ, ◌<◌, ◌≢◌, Bool, true, false, ◌||◌, ◌&&◌, List, length, nat_eq, nat_lt, slice_index_or}
+use Rattle.std.specs.Prelude.{◌≡◌, ℕ, ◌<◌, ◌≤◌, ◌≢◌, Bool, true, false, ◌||◌, ◌&&◌, List, [], ◌∷◌, length, nat_eq, nat_lt, slice_index_or}
 use Rattle.plevent.specs.declared.update.ClauseName.{ClauseName}
-use Rattle.plevent.specs.Alive.{same_name}
+use Rattle.plevent.specs.Alive.{same_name, Stamped}
 use Rattle.plstore.specs.declared.record.Record.{Record}
 use Rattle.plstore.specs.Kept.{is_named}
 
@@ -30,3 +30,13 @@ AllBelowPlace b rs = (k : ℕ) (d : Record) → k < length rs → (slice_index_o
 pub record InOrder (x : ClauseName) (rs : List Record) : Type 0 where
   pub rising : IsRising rs
   pub below : AllBelow x rs
+
+-- places that do not fall, from b on
+abbrev pub Rises : ℕ → List Stamped → Type 0
+Rises b [] = Unit {0}
+Rises b (s ∷ ss) = (b ≤ s.at.place) × Rises s.at.place ss
+
+-- each place is below g
+abbrev pub AllUnder : ℕ → List Stamped → Type 0
+AllUnder g [] = Unit {0}
+AllUnder g (s ∷ ss) = (s.at.place < g) × AllUnder g ss

@@ -1,0 +1,145 @@
+-- One more entry of a world.
+use Rattle.std.proofs.Common.{◌≡◌, ◌++◌, ◌+◌, ◌<◌, ◌≤◌, ℕ, suc, Bool, true, false, List, [], ◌∷◌, Option, Some, None, refl, sym, ◌∙◌, ap, ap₂, subst, arith, length, length-append, fold}
+use Rattle.std.specs.Prelude.{if◌then◌else◌, ◌||◌, ◌&&◌, not, option_to_list}
+use Rattle.std.specs.List.{list_any}
+use Rattle.std.proofs.lemmas.List.{append-nil, take-append-drop, length-take-le}
+use Rattle.std.proofs.lemmas.List.Sums.{fold-append}
+use Rattle.plevent.specs.declared.update.Update.{Update}
+use Rattle.plevent.specs.declared.update.ClauseName.{ClauseName}
+use Rattle.plevent.specs.declared.request.Request.{Request}
+use Rattle.plevent.specs.declared.request.Reply.{Reply}
+use Rattle.plevent.specs.declared.act.Act.{Act}
+use Rattle.plevent.specs.declared.act.Entry.{Entry}
+use Rattle.plevent.specs.declared.standing.Standing.{Standing}
+use Rattle.std.specs.Prelude.{nat_lt, cond, take, drop}
+use Rattle.std.proofs.lemmas.List.Elements.{filter-append}
+use Rattle.std.proofs.lemmas.Bool.Decides.{nat_tests}
+use Rattle.plevent.specs.Alive.{Stamped, stamped, named, before}
+use Rattle.plevent.specs.Reading.{Reading, read, reading, stand, updates_of, blank}
+use Rattle.plevent.specs.Rows.{Row, served, served_in, adds, reply_to, entries_of}
+use Rattle.plstore.specs.declared.record.Record.{Record}
+use Rattle.plstore.specs.Kept.{Kept, keep, nothing}
+use Rattle.plstore.specs.Rising.{AllBelowPlace, Rises, AllUnder}
+use Rattle.plstore.proofs.Search.{place-keep}
+use Rattle.plworld.specs.Worlds.{IsWorld}
+
+rises-stamped : (a b k : ℕ) (vs : List Update) → a ≤ b → Rises a (stamped b k vs)
+rises-stamped a b k [] h = tt
+rises-stamped a b k (v ∷ vs) h = (h, rises-stamped b b (suc k) vs (omega arith))
+
+rises-append : (a b k : ℕ) (us : List Stamped) (vs : List Update) → a ≤ b → Rises a us → AllUnder b us → Rises a (us ++ stamped b k vs)
+rises-append a b k [] vs h up un = rises-stamped a b k vs h
+rises-append a b k (s ∷ us) vs h up un = let l : s.at.place ≤ b = omega (arith, un.0) in (up.0, rises-append s.at.place b k us vs l up.1 un.1)
+
+under-stamped : (b k : ℕ) (vs : List Update) → AllUnder (suc b) (stamped b k vs)
+under-stamped b k [] = tt
+under-stamped b k (v ∷ vs) = (omega arith, under-stamped b (suc k) vs)
+
+under-append : (b k : ℕ) (us : List Stamped) (vs : List Update) → AllUnder b us → AllUnder (suc b) (us ++ stamped b k vs)
+under-append b k [] vs un = under-stamped b k vs
+under-append b k (s ∷ us) vs un = let l : s.at.place < suc b = omega (arith, un.0) in (l, under-append b k us vs un.1)
+
+pub record Ordered (r : Reading) : Type 0 where
+  pub rises : Rises 0 r.updates
+  pub under : AllUnder r.standing.size r.updates
+
+ordered-read : (r : Reading) (e : Entry) → Ordered r → Ordered (read r e)
+ordered-read r e o = record {
+  rises = rises-append 0 r.standing.size 0 r.updates (updates_of e.act) (omega arith) o.rises o.under;
+  under = under-append r.standing.size 0 r.updates (updates_of e.act) o.under;
+}
+
+ordered-fold : (r : Reading) (es : List Entry) → Ordered r → Ordered (fold read r es)
+ordered-fold r [] o = o
+ordered-fold r (e ∷ es) o = ordered-fold (read r e) es (ordered-read r e o)
+
+pub ordered : (h : List Entry) → Ordered (reading h)
+unfolding reading
+ordered h = ordered-fold blank h (record { rises = tt; under = tt })
+
+-- the reading of one more entry
+pub reading-push : (h : List Entry) (e : Entry) → reading (h ++ e ∷ []) ≡ read (reading h) e
+unfolding reading
+reading-push h e = fold-append read blank h (e ∷ [])
+
+below-fold : (g : ℕ) (us : List Stamped) (rs : Kept) → AllUnder g us → AllBelowPlace g rs.records → AllBelowPlace g (fold keep rs us).records
+below-fold g [] rs un all = all
+below-fold g (s ∷ us) rs un all = below-fold g us (keep rs s) un.1 (place-keep g s rs.records un.0 all)
+
+pub IsWorld-push : (h : List Entry) (s : Standing) (rs : Kept) (e : Entry) (s2 : Standing) (rs2 : Kept) → IsWorld h s rs →
+    s2 ≡ stand s e → rs2 ≡ fold keep rs (stamped s.size 0 (updates_of e.act)) → IsWorld (h ++ e ∷ []) s2 rs2
+IsWorld-push h s rs e s2 rs2 w es er =
+    let st : s2 ≡ (reading (h ++ e ∷ [])).standing = es ∙ ap (λ x. stand x e) w.standing ∙ sym (ap (λ r. r.standing) (reading-push h e)) in
+    let sr : rs2 ≡ fold keep nothing (reading (h ++ e ∷ [])).updates =
+    er ∙ ap₂ (λ a b. fold keep a (stamped b 0 (updates_of e.act))) w.store (ap (λ x. x.size) w.standing)
+    ∙ sym (fold-append keep nothing (reading h).updates (stamped (reading h).standing.size 0 (updates_of e.act)))
+    ∙ sym (ap (λ r. fold keep nothing r.updates) (reading-push h e)) in
+    let sz : s2.size ≡ suc s.size = ap (λ x. x.size) es in
+    record {
+      standing = st;
+      store = sr;
+      size = omega (arith, sz, w.size, length-append h (e ∷ []));
+      below = subst (λ x. AllBelowPlace x rs2.records) (sym (ap (λ x. x.size) st))
+          (subst (λ k. AllBelowPlace (reading (h ++ e ∷ [])).standing.size k.records) (sym sr)
+          (below-fold (reading (h ++ e ∷ [])).standing.size (reading (h ++ e ∷ [])).updates nothing (ordered (h ++ e ∷ [])).under (λ k d l. absurd (omega arith))));
+    }
+
+-- the batches below g are those of the first g entries
+before-append : (g : ℕ) (us vs : List Stamped) → before g (us ++ vs) ≡ before g us ++ before g vs
+unfolding before
+before-append g us vs = filter-append (λ s. nat_lt s.at.place g) us vs
+
+before-stamped : (g b k : ℕ) (vs : List Update) → g ≤ b → before g (stamped b k vs) ≡ []
+unfolding before
+before-stamped g b k [] h = refl
+before-stamped g b k (v ∷ vs) h = let e : nat_lt b g ≡ false = grind (arith, nat_tests) in ap (λ t. cond t (record { at = named b k; update = v } ∷ before g (stamped b (suc k) vs)) (before g (stamped b (suc k) vs))) e ∙ before-stamped g b (suc k) vs h
+
+before-under : (g : ℕ) (us : List Stamped) → AllUnder g us → before g us ≡ us
+unfolding before
+before-under g [] h = refl
+before-under g (s ∷ us) h = let l : s.at.place < g = h.0 in let e : nat_lt s.at.place g ≡ true = grind (arith, nat_tests) in ap (λ t. cond t (s ∷ before g us) (before g us)) e ∙ ap (λ l. s ∷ l) (before-under g us h.1)
+
+before-fold : (g : ℕ) (r : Reading) (es : List Entry) → g ≤ r.standing.size → before g (fold read r es).updates ≡ before g r.updates
+before-fold g r [] h = refl
+before-fold g r (e ∷ es) h =
+    before-fold g (read r e) es (omega arith)
+    ∙ before-append g r.updates (stamped r.standing.size 0 (updates_of e.act))
+    ∙ ap (λ l. before g r.updates ++ l) (before-stamped g r.standing.size 0 (updates_of e.act) h)
+    ∙ append-nil (before g r.updates)
+
+size-fold : (r : Reading) (es : List Entry) → (fold read r es).standing.size ≡ r.standing.size + length es
+size-fold r [] = omega arith
+size-fold r (e ∷ es) = let h = size-fold (read r e) es in omega (arith, h)
+
+size-is : (h : List Entry) → (reading h).standing.size ≡ length h
+unfolding reading
+size-is h = let e = size-fold blank h in omega (arith, e)
+
+reading-take : (g : ℕ) (h : List Entry) → reading h ≡ fold read (reading (take g h)) (drop g h)
+unfolding reading
+reading-take g h = ap (λ l. fold read blank l) (sym (take-append-drop g h)) ∙ fold-append read blank (take g h) (drop g h)
+
+pub before-is : (g : ℕ) (h : List Entry) → g ≤ length h → before g (reading h).updates ≡ (reading (take g h)).updates
+before-is g h l =
+    let z : (reading (take g h)).standing.size ≡ g = size-is (take g h) ∙ length-take-le g h l in
+    ap (λ r. before g r.updates) (reading-take g h)
+    ∙ before-fold g (reading (take g h)) (drop g h) (omega (arith, z))
+    ∙ before-under g (reading (take g h)).updates (subst (λ n. AllUnder n (reading (take g h)).updates) z (ordered (take g h)).under)
+
+empty : IsWorld [] blank.standing nothing
+unfolding reading
+empty = record { standing = refl; store = refl; size = refl; below = λ k d l. absurd (omega arith) }
+
+pub IsWorld-blank : (h : List Entry) (s : Standing) (rs : Kept) → h ≡ [] → s ≡ blank.standing → rs ≡ nothing → IsWorld h s rs
+IsWorld-blank h s rs eh es er = subst (λ h. IsWorld h s rs) (sym eh) (subst (λ s. IsWorld [] s rs) (sym es) (subst (λ rs. IsWorld [] blank.standing rs) (sym er) empty))
+
+-- the row of a request
+pub row-is : (h : List Entry) (s : Standing) (k : Kept) (q : Request) (t : ℕ) (x : Row) → IsWorld h s k → x ≡ served_in q t s → served q t (reading h) ≡ x
+unfolding served
+row-is h s k q t x w e = ap (served_in q t) (sym w.standing) ∙ sym e
+
+pub adds-none : (h : List Entry) (w t : ℕ) (q : Request) (r : Reply) (a : Option (ℕ × Act)) → served q t (reading h) ≡ (r, a) → a ≡ None → adds h w t q ≡ []
+adds-none h w t q r a e k = ap (λ x. entries_of w x.1) e ∙ ap (entries_of w) k
+
+pub adds-some : (h : List Entry) (w t : ℕ) (q : Request) (r : Reply) (a : Option (ℕ × Act)) (x : ℕ × Act) → served q t (reading h) ≡ (r, a) → a ≡ Some x → adds h w t q ≡ record { worker = w; thread = x.0; act = x.1 } ∷ []
+adds-some h w t q r a x e k = ap (λ x. entries_of w x.1) e ∙ ap (entries_of w) k

@@ -1,0 +1,113 @@
+//! The rows of the table of requests: each computes its reply and its act, and changes nothing.
+ghost use Rattle.std.specs.Prelude.{◌≡◌, IfOk, find};
+ghost use Rattle.plevent.specs.Rows.{is_new, is_workers, start_row, row, served_in};
+
+use plevent::{Act, Reply, Request, Standing, Thread};
+use plterm::name::Name;
+use plterm::term::Term;
+use std::alloc::{AllocError, Global};
+
+/// A reply, and the act, if any, with the thread that its entry names.
+pub type Row = (Reply, Option<(u32, Act)>);
+
+/// The row of a request of a thread: a thread that is not started, or has ended, is told to wait.
+pub fn serve(
+    standing: &Standing,
+    alloc: Global,
+    thread: u32,
+    request: &Request,
+) -> Result<Row, AllocError>
+    ensures { IfOk result (λ r. r ≡ served_in request.now thread standing.now) }
+{
+    if is_of_workers(request) || standing.runs(thread) {
+        return row_of(standing, alloc, thread, request);
+    }
+    let again = request.copied(alloc)?;
+    Ok((Reply::NotYet(again), None))
+}
+
+/// Whether a worker asks it, and no thread.
+fn is_of_workers(request: &Request) -> bool
+    ensures { result ≡ is_workers request.now }
+{
+    match request {
+        Request::Start => true,
+        Request::Publish(_) | Request::Finish(_) => false,
+    }
+}
+
+fn row_of(
+    standing: &Standing,
+    alloc: Global,
+    thread: u32,
+    request: &Request,
+) -> Result<Row, AllocError>
+    ensures { IfOk result (λ r. r ≡ row request.now thread standing.now) }
+{
+    match request {
+        Request::Start => return start_of(standing, alloc),
+        Request::Publish(batch) => {
+            let copy = batch.copied(alloc)?;
+            return Ok((Reply::Published, Some((thread, Act::Batch(copy)))));
+        }
+        Request::Finish(end) => {
+            let copy = end.copied(alloc)?;
+            return Ok((Reply::Done, Some((thread, Act::End(copy)))));
+        }
+    }
+}
+
+/// The row of a start.
+fn start_of(standing: &Standing, alloc: Global) -> Result<Row, AllocError>
+    ensures { IfOk result (λ r. r ≡ start_row standing.now (find is_new standing.now.threads)) }
+{
+    match standing.threads.first_new() {
+        None => {
+            if standing.is_over() {
+                return Ok((Reply::RunOver, None));
+            }
+            return Ok((Reply::NotYet(Request::Start), None));
+        }
+        Some(thread) => {
+            let number = thread.number;
+            let reply = started(thread, alloc)?;
+            return Ok((reply, Some((number, Act::Start))));
+        }
+    }
+}
+
+fn started(thread: &Thread, alloc: Global) -> Result<Reply, AllocError>
+    ensures { IfOk result (λ r. r ≡ Reply.Started thread.now.number thread.now.alias thread.now.goal) }
+{
+    let alias = copied_name(&thread.alias)?;
+    let goal = copied_term(&thread.goal, alloc)?;
+    Ok(Reply::Started {
+        number: thread.number,
+        alias,
+        goal,
+    })
+}
+
+fn copied_name(name: &Option<Name>) -> Result<Option<Name>, AllocError>
+    ensures { IfOk result (λ n. n ≡ name.now) }
+{
+    match name {
+        None => return Ok(None),
+        Some(name) => {
+            let copy = name.copied()?;
+            return Ok(Some(copy));
+        }
+    }
+}
+
+fn copied_term(term: &Option<Term>, alloc: Global) -> Result<Option<Term>, AllocError>
+    ensures { IfOk result (λ t. t ≡ term.now) }
+{
+    match term {
+        None => return Ok(None),
+        Some(term) => {
+            let copy = term.copied(alloc)?;
+            return Ok(Some(copy));
+        }
+    }
+}

@@ -1,0 +1,169 @@
+//! All that the threads of a run share.
+ghost use Rattle.std.specs.Prelude.{◌≡◌, ◌<◌, ◌^◌, ◌++◌, ◌∷◌, [], IfOk, OnOk, OnErr, length, fold};
+ghost use Rattle.plevent.specs.Alive.{stamped};
+ghost use Rattle.plevent.specs.Reading.{stand, updates_of, reading};
+ghost use Rattle.plevent.specs.Rows.{adds, reply_to, is_over};
+ghost use Rattle.plstore.specs.Kept.{keep, nothing};
+ghost use Rattle.plstore.specs.Rising.{AllBelowPlace};
+ghost use Rattle.plworld.specs.Worlds.{opening};
+
+use crate::rows::serve;
+use plevent::{Act, Batch, Entry, Reply, Request, Standing};
+use plstore::Store;
+use std::alloc::{AllocError, Global};
+use std::marker::Model;
+
+/// A journal, and what it says: of its threads, and of its clauses.
+#[derive(Drop)]
+pub struct World {
+    journal: Vec<Entry>,
+    standing: Standing,
+    store: Store,
+}
+
+impl Model for World {
+    ghost use Rattle.plworld.specs.Worlds.{Shared, shared_code, IsWorld};
+
+    ghost Value = { Shared };
+
+    ghost coded = { shared_code };
+
+    ghost view = { λ a. record { journal = a.journal.items } };
+
+    ghost invariant = { λ a. IsWorld a.journal.items a.standing a.store };
+}
+
+impl World {
+    /// A world whose one entry is the program's first batch. Main is created, and not started.
+    pub fn open(alloc: Global, first: &Batch) -> Result<World, AllocError>
+        ensures { IfOk result (λ w. w ≡ record { journal = opening first.now }) }
+    {
+        let standing = Standing::blank(alloc)?;
+        let mut world = World {
+            journal: Vec::new(alloc),
+            standing,
+            store: Store::new(alloc),
+        };
+        let batch = first.copied(alloc)?;
+        match world.add(alloc, 0, 0, Act::Batch(batch)) {
+            Ok(()) => return Ok(world),
+            Err(error) => return Err(error),
+        }
+    }
+
+    /// The reply to a request that a worker asks of a thread, and the entry that it adds.
+    pub fn step(
+        &mut self,
+        alloc: Global,
+        worker: u32,
+        thread: u32,
+        request: &Request,
+    ) -> Result<Reply, AllocError>
+        ensures reply { IfOk result (λ r. r ≡ reply_to self.old.journal thread request.now) }
+        ensures entry { OnOk result (self.new ≡ record self.old { journal = self.old.journal ++ adds self.old.journal worker thread request.now }) }
+        ensures refused { OnErr result (self.new ≡ self.old) }
+    {
+        let (reply, act) = serve(&self.standing, alloc, thread, request)?;
+        match act {
+            None => return Ok(reply),
+            Some((of, act)) => match self.add(alloc, worker, of, act) {
+                Ok(()) => return Ok(reply),
+                Err(error) => return Err(error),
+            },
+        }
+    }
+
+    /// How many entries there are: the place of the next one, and the time that it is now.
+    pub fn front(&self) -> u64
+        ensures { result ≡ length self.now.journal }
+    {
+        self.journal.len() as u64
+    }
+
+    /// Whether each thread was started and has ended.
+    pub fn is_over(&self) -> bool
+        ensures { result ≡ is_over (reading self.now.journal).standing }
+    {
+        self.standing.is_over()
+    }
+
+    /// The database: it keeps the updates of the journal's batches.
+    pub fn store(&self) -> &Store
+        ensures { result.now ≡ fold keep nothing (reading self.now.journal).updates }
+    {
+        &self.store
+    }
+
+    /// The entries, in order.
+    pub fn entries(&self) -> &[Entry]
+        ensures { result.now ≡ self.now.journal }
+    {
+        self.journal.as_slice()
+    }
+
+    /// The entries, in order, for the caller to keep.
+    pub fn close(self) -> Vec<Entry>
+        ensures { result.items ≡ self.journal }
+    {
+        self.journal
+    }
+
+    /// Adds an entry.
+    fn add(&mut self, alloc: Global, worker: u32, thread: u32, act: Act) -> Result<(), AllocError>
+        ensures made { OnOk result (self.new ≡ record self.old { journal = self.old.journal ++ record { worker = worker; thread = thread; act = act } ∷ [] }) }
+        ensures refused { OnErr result (self.new ≡ self.old) }
+    {
+        self.journal.reserve(1)?;
+        change(
+            alloc,
+            &mut self.standing,
+            &mut self.store,
+            worker,
+            thread,
+            &act,
+        )?;
+        match self.journal.push(Entry {
+            worker,
+            thread,
+            act,
+        }) {
+            Ok(()) => return Ok(()),
+            Err(_) => unreachable!(),
+        }
+    }
+}
+
+/// What an act does to the parts.
+fn change(
+    alloc: Global,
+    standing: &mut Standing,
+    store: &mut Store,
+    worker: u32,
+    thread: u32,
+    act: &Act,
+) -> Result<(), AllocError>
+    requires size { standing.old.size < 2 ^ 63 }
+    requires below { AllBelowPlace standing.old.size store.old.records }
+    ensures standing { OnOk result (standing.new ≡ stand standing.old (record { worker = worker; thread = thread; act = act.now })) }
+    ensures store { OnOk result (store.new ≡ fold keep store.old (stamped standing.old.size 0 (updates_of act.now))) }
+    ensures refused_standing { OnErr result (standing.new ≡ standing.old) }
+    ensures refused_store { OnErr result (store.new ≡ store.old) }
+{
+    match act {
+        Act::Start => {
+            standing.start(worker, thread);
+            return Ok(());
+        }
+        Act::Batch(batch) => {
+            let batch = batch.copied(alloc)?;
+            store.apply(batch, standing.size)?;
+            standing.publish();
+            return Ok(());
+        }
+        Act::End(end) => {
+            let end = end.copied(alloc)?;
+            standing.end(thread, end);
+            return Ok(());
+        }
+    }
+}
