@@ -1,0 +1,149 @@
+-- The machine with a stack of open levels, and what each of its states still has to meet.
+use Rattle.std.specs.Prelude.{◌≡◌, ◌≤◌, ◌+◌, nat_lt, if◌then◌else◌, ℕ, zero, suc, List, [], ◌∷◌, drop, Option, Some, None, ◌⊎◌}
+use Rattle.plterm.specs.declared.node.Node.TheVariants as nodes
+use Rattle.plterm.specs.Tree.{Tree, Trees, compound, none}
+use Rattle.plterm.specs.Building.{gather, with_node}
+use Rattle.plops.specs.declared.table.OpTable.{OpTable}
+use Rattle.plread.specs.Signs.{Sign}
+use Rattle.plread.specs.Signs as tok
+use Rattle.plread.specs.Levels.{Level}
+use Rattle.plread.specs.Levels as frames
+use Rattle.plread.specs.Reading.{Start, Stands, Opens, Calls, Before, NoStart, Next, Between, Behind, Stop, start_of, next_of, Reads, Extends, Arguments, count}
+
+-- the greatest priority of the operand that the innermost open level waits for
+abbrev pub max_of : List Level → ℕ
+max_of [] = 1200
+max_of (frames.Bracket ∷ stack) = 1200
+max_of (frames.Call n k ∷ stack) = 999
+max_of (frames.Before n op ∷ stack) = op.right
+max_of (frames.Between n op ∷ stack) = op.right
+
+-- the open levels, the innermost first; the trees of complete operands, the latest first; the priority of
+-- the latest, unless an operand is wanted; and the signs that are left
+pub record State : Type 0 where
+  pub room : ℕ
+  pub stack : List Level
+  pub trees : List Tree
+  pub given : Option ℕ
+  pub left : List Sign
+
+pub data After : Type 0 where
+  Goes : State → After
+  Done : List Tree → After
+  Fails : After
+
+-- one more open level, where there is room
+abbrev pub opened : ℕ → List Level → List Tree → List Sign → After
+opened zero stack trees ts = Fails
+opened (suc room) stack trees ts = Goes (record { room = room; stack = stack; trees = trees; given = None; left = ts })
+
+abbrev pub complete : ℕ → List Level → List Tree → ℕ → List Sign → After
+complete room stack trees p ts = Goes (record { room = room; stack = stack; trees = trees; given = Some p; left = ts })
+
+-- an operand is wanted
+abbrev pub wants : ℕ → List Level → List Tree → Start → After
+wants room stack trees (Stands t ts) = complete room stack (t ∷ trees) 0 ts
+wants room stack trees (Opens ts) = opened room (frames.Bracket ∷ stack) trees ts
+wants room stack trees (Calls n ts) = opened room (frames.Call n 0 ∷ stack) trees ts
+wants room stack trees (Before n op ts) = opened room (frames.Before n op ∷ stack) trees ts
+wants room stack trees NoStart = Fails
+
+-- the innermost bracket is closed
+abbrev pub closes : ℕ → List Level → List Tree → List Sign → After
+closes room stack trees (tok.Close ∷ ts) = complete (suc room) stack trees 0 ts
+closes room stack trees ts = Fails
+
+-- an argument is complete, behind k others
+abbrev pub argues : List ℕ → ℕ → ℕ → List Level → List Tree → List Sign → After
+argues n k room stack trees (tok.Close ∷ ts) = if nat_lt k 1024 then complete (suc room) stack (with_node (nodes.Compound n (suc k)) trees) 0 ts else Fails
+argues n k room stack trees (tok.Comma ∷ ts) = if nat_lt k 1023 then Goes (record { room = room; stack = frames.Call n (suc k) ∷ stack; trees = trees; given = None; left = ts }) else Fails
+argues n k room stack trees ts = Fails
+
+abbrev pub ends : List Tree → List Sign → After
+ends trees (tok.End ∷ []) = Done trees
+ends trees ts = Fails
+
+-- an operand is complete, and no operator extends it
+abbrev pub stops : ℕ → List Level → List Tree → List Sign → After
+stops room [] trees ts = ends trees ts
+stops room (frames.Bracket ∷ stack) trees ts = closes room stack trees ts
+stops room (frames.Call n k ∷ stack) trees ts = argues n k room stack trees ts
+stops room (frames.Before n op ∷ stack) trees ts = complete (suc room) stack (with_node (nodes.Compound n 1) trees) op.priority ts
+stops room (frames.Between n op ∷ stack) trees ts = complete (suc room) stack (with_node (nodes.Compound n 2) trees) op.priority ts
+
+abbrev pub goes_on : ℕ → List Level → List Tree → List Sign → Next → After
+goes_on room stack trees ts (Between n op inside) = opened room (frames.Between n op ∷ stack) trees inside
+goes_on room stack trees ts (Behind n op behind) = complete room stack (with_node (nodes.Compound n 1) trees) op.priority behind
+goes_on room stack trees ts Stop = stops room stack trees ts
+
+abbrev pub step_at : OpTable → ℕ → List Level → List Tree → Option ℕ → List Sign → After
+step_at ops room stack trees None ts = wants room stack trees (start_of ops (max_of stack) ts)
+step_at ops room stack trees (Some p) ts = goes_on room stack trees ts (next_of ops (max_of stack) p ts)
+
+abbrev pub step : OpTable → State → After
+step ops s = step_at ops s.room s.stack s.trees s.given s.left
+
+-- The meaning of a stack. The operand that the innermost level waited for is complete and extended as far as
+-- it goes: with the trees so far and the signs that are left, the whole spells a tree.
+
+-- the latest tree is an operand of this priority, which is extended as far as it goes, and then meets what is asked
+abbrev pub Extended : OpTable → ℕ → ℕ → List Tree → ℕ → List Sign → (List Tree → ℕ → List Sign → Type 0) → Type 0
+Extended ops room max [] p ts Asked = ⊥
+Extended ops room max (t ∷ trees) p ts Asked =
+    (u : Tree) × (q : ℕ) × (rest : List Sign) × Extends ops room max (next_of ops max p ts) t p ts u q rest × Asked (u ∷ trees) q rest
+
+-- the functor with its arguments: the latest k trees, and those that are still to come
+abbrev pub with_args : List ℕ → ℕ → Trees → List Tree → List Tree
+with_args n k args trees = compound n (gather k trees args) ∷ drop k trees
+
+-- behind an argument: the closing bracket, or a comma and further arguments
+abbrev pub Follow : OpTable → ℕ → List Sign → Trees → List Sign → Type 0
+Follow ops room ts args rest =
+    ((ts ≡ tok.Close ∷ rest) × (args ≡ none)) ⊎ ((mid : List Sign) × (ts ≡ tok.Comma ∷ mid) × Arguments ops room mid args rest)
+
+-- where an operand is complete inside the open levels
+abbrev pub Completes : OpTable → ℕ → List Level → Tree → List Tree → ℕ → List Sign → Type 0
+Completes ops room [] whole trees p ts = (ts ≡ tok.End ∷ []) × (trees ≡ whole ∷ [])
+Completes ops room (frames.Bracket ∷ stack) whole trees p ts =
+    (rest : List Sign) × (ts ≡ tok.Close ∷ rest) × Extended ops (suc room) (max_of stack) trees 0 rest (Completes ops (suc room) stack whole)
+Completes ops room (frames.Call n k ∷ stack) whole trees p ts =
+    (args : Trees) × (rest : List Sign) × Follow ops room ts args rest × (suc k + count args ≤ 1024)
+    × Extended ops (suc room) (max_of stack) (with_args n (suc k) args trees) 0 rest (Completes ops (suc room) stack whole)
+Completes ops room (frames.Before n op ∷ stack) whole trees p ts =
+    Extended ops (suc room) (max_of stack) (with_node (nodes.Compound n 1) trees) op.priority ts (Completes ops (suc room) stack whole)
+Completes ops room (frames.Between n op ∷ stack) whole trees p ts =
+    Extended ops (suc room) (max_of stack) (with_node (nodes.Compound n 2) trees) op.priority ts (Completes ops (suc room) stack whole)
+
+-- where an operand is wanted
+abbrev pub Wanted : OpTable → ℕ → List Level → Tree → List Tree → List Sign → Type 0
+Wanted ops room stack whole trees ts =
+    (t : Tree) × (p : ℕ) × (rest : List Sign) × Reads ops room (max_of stack) ts t p rest × Completes ops room stack whole (t ∷ trees) p rest
+
+abbrev pub Given : OpTable → ℕ → List Level → Tree → List Tree → ℕ → List Sign → Type 0
+Given ops room stack whole trees p ts = Extended ops room (max_of stack) trees p ts (Completes ops room stack whole)
+
+abbrev pub Meets_at : OpTable → ℕ → List Level → Tree → List Tree → Option ℕ → List Sign → Type 0
+Meets_at ops room stack whole trees None ts = Wanted ops room stack whole trees ts
+Meets_at ops room stack whole trees (Some p) ts = Given ops room stack whole trees p ts
+
+-- from the state on the whole spells this tree
+abbrev pub Meets : OpTable → State → Tree → Type 0
+Meets ops s whole = Meets_at ops s.room s.stack whole s.trees s.given s.left
+
+-- the same of what a step gives
+abbrev pub MeetsAfter : OpTable → After → Tree → Type 0
+MeetsAfter ops (Goes s) whole = Meets ops s whole
+MeetsAfter ops (Done trees) whole = trees ≡ whole ∷ []
+MeetsAfter ops Fails whole = ⊥
+
+-- how many complete operands the open levels hold, and whether the latest is given
+abbrev pub held : List Level → ℕ
+held [] = 0
+held (frames.Bracket ∷ stack) = held stack
+held (frames.Call n k ∷ stack) = k + held stack
+held (frames.Before n op ∷ stack) = held stack
+held (frames.Between n op ∷ stack) = suc (held stack)
+
+abbrev pub one_if : Option ℕ → ℕ
+one_if None = 0
+one_if (Some p) = 1

@@ -1,0 +1,38 @@
+-- What the code holds, as the machine's state.
+use Rattle.std.specs.Prelude.{◌≡◌, ℕ, List, [], ◌∷◌, Result, Ok, Err, map}
+use Rattle.std.specs.List.{fold}
+use Rattle.std.specs.declared.alloc.AllocError.{AllocError}
+use Rattle.plterm.specs.Tree.{Tree}
+use Rattle.plread.specs.declared.frame.Frame.{Frame}
+use Rattle.plread.specs.declared.frame.Frame.TheVariants as frames
+use Rattle.plread.specs.declared.reader.Reader.{Reader}
+use Rattle.plread.specs.declared.reader.Turn.{Turn}
+use Rattle.plread.specs.declared.reader.Turn.TheVariants as turns
+use Rattle.plread.specs.Words.{name_at}
+use Rattle.plread.specs.Levels.{Level}
+use Rattle.plread.specs.Levels as levels
+use Rattle.plread.specs.Looks.{view}
+use Rattle.plread.specs.Machine.{State, After, Goes, Done, Fails}
+
+abbrev pub level_view : List (List ℕ) → Frame → Level
+level_view words frames.Bracket = levels.Bracket
+level_view words (frames.Call n k) = levels.Call (name_at words n) k
+level_view words (frames.Before n op) = levels.Before (name_at words n) op
+level_view words (frames.Between n op) = levels.Between (name_at words n) op
+
+-- the open levels, the innermost first
+abbrev pub stack_view : List (List ℕ) → List Frame → List Level
+stack_view words frames = fold (λ stack f. level_view words f ∷ stack) [] frames
+
+abbrev pub state_view : List (List ℕ) → Reader → State
+state_view words r = record { room = r.room; stack = stack_view words r.stack.items; trees = r.terms; given = r.given; left = view words r.left.now }
+
+-- What a turn gave is the machine's step, unless memory ran out.
+abbrev pub Turned : Turn → State → After → Type 0
+Turned turns.Goes s after = after ≡ Goes s
+Turned turns.Done s after = after ≡ Done s.trees
+Turned turns.Fails s after = after ≡ Fails
+
+abbrev pub Stepped : Result Turn AllocError → State → After → Type 0
+Stepped (Ok turn) s after = Turned turn s after
+Stepped (Err e) s after = Unit {0}

@@ -1,0 +1,13 @@
+//! The open levels of a reading.
+
+use plops::operator::{Infix, Prefix};
+
+/// An open level: a bracket, or an operator that waits for its right operand. Names are places among the words.
+#[derive(Clone, Copy, Debug, PartialEq, Eq)]
+pub enum Frame {
+    Bracket,
+    /// The arguments of a name, of which so many are complete.
+    Call(usize, u16),
+    Before(usize, Prefix),
+    Between(usize, Infix),
+}

@@ -1,0 +1,233 @@
+//! The machine: a stack of open levels, and the terms of complete operands.
+ghost use Rattle.std.specs.Prelude.{◌+◌, ◌<◌, ◌^◌, vec_len};
+
+use crate::frame::Frame;
+use crate::looks::{Follower, Leaf, Opening, next_of, start_of};
+use crate::token::Token;
+use crate::words::Words;
+use plops::table::OpTable;
+use plterm::builder::Builder;
+use plterm::node::Node;
+use std::alloc::{AllocError, Global};
+
+/// Whether the reading goes on, is done, or fails since the tokens spell no term.
+#[derive(Clone, Copy, Debug, PartialEq, Eq)]
+pub enum Turn {
+    Goes,
+    Done,
+    Fails,
+}
+
+/// How far a reading has come: how many more levels may be opened, those that are open, the complete operands, the
+/// priority of the latest unless an operand is wanted, and the tokens that are left.
+#[derive(Drop)]
+pub struct Reader<'a> {
+    pub alloc: Global,
+    pub room: u64,
+    pub stack: Vec<Frame>,
+    pub terms: Builder,
+    pub given: Option<u16>,
+    pub left: &'a [Token],
+    ghost in_range: { room + vec_len stack < 2 ^ 64 },
+}
+
+impl<'a> Reader<'a> {
+    ghost use Rattle.std.specs.Prelude.{◌≡◌, ◌≤◌, ◌∷◌, length};
+    ghost use Rattle.plterm.specs.Reading.{arity};
+    ghost use Rattle.plterm.specs.Building.{with_node, IsWithinLimits};
+    ghost use Rattle.plread.specs.Looks.{view};
+    ghost use Rattle.plread.specs.Machine.{max_of, opened, complete};
+    ghost use Rattle.plread.specs.Views.{level_view, stack_view, Stepped, state_view};
+
+    fn max(&self, words: &Words) -> u16
+        ensures { result ≡ max_of (stack_view words.now self.now.stack.items) }
+    {
+        match self.stack.last() {
+            None => 1200,
+            Some(Frame::Bracket) => 1200,
+            Some(Frame::Call(_, _)) => 999,
+            Some(Frame::Before(_, op)) => op.right,
+            Some(Frame::Between(_, op)) => op.right,
+        }
+    }
+
+    fn open(&mut self, words: &Words, frame: Frame, rest: &'a [Token]) -> Result<Turn, AllocError>
+        ensures { Stepped result (state_view words.now self.new)
+            (opened self.old.room (level_view words.now frame ∷ stack_view words.now self.old.stack.items) self.old.terms (view words.now rest.now)) }
+    {
+        if self.room == 0 {
+            return Ok(Turn::Fails);
+        }
+        self.room -= 1;
+        self.stack.push(frame)?;
+        self.given = None;
+        self.left = rest;
+        Ok(Turn::Goes)
+    }
+
+    fn complete(
+        &mut self,
+        words: &Words,
+        node: Node,
+        given: u16,
+        rest: &'a [Token],
+    ) -> Result<Turn, AllocError>
+        requires limits { IsWithinLimits node }
+        requires operands { arity node ≤ length self.old.terms }
+        ensures { Stepped result (state_view words.now self.new)
+            (complete self.old.room (stack_view words.now self.old.stack.items) (with_node node self.old.terms) given (view words.now rest.now)) }
+    {
+        self.terms.push(node)?;
+        self.given = Some(given);
+        self.left = rest;
+        Ok(Turn::Goes)
+    }
+}
+
+impl<'a> Reader<'a> {
+    ghost use Rattle.std.specs.Prelude.{◌≡◌, ◌≤◌, ◌+◌, ◌<◌, ◌^◌, ◌∷◌, length, vec_len};
+    ghost use Rattle.plterm.specs.Building.{with_node};
+    ghost use Rattle.plread.specs.Words.{name_at};
+    ghost use Rattle.plread.specs.Looks.{view, leaf_tree};
+    ghost use Rattle.plread.specs.Machine.{max_of, complete, wants, goes_on, stops, closes, argues, step, held, one_if};
+    ghost use Rattle.plread.specs.Reading.{start_of, next_of};
+    ghost use Rattle.plread.specs.Views.{level_view, stack_view, Stepped, state_view};
+
+    fn stand(&mut self, words: &Words, leaf: Leaf, rest: &'a [Token]) -> Result<Turn, AllocError>
+        ensures { Stepped result (state_view words.now self.new)
+            (complete self.old.room (stack_view words.now self.old.stack.items) (leaf_tree words.now leaf ∷ self.old.terms) 0 (view words.now rest.now)) }
+    {
+        match leaf {
+            Leaf::Variable(number) => self.complete(words, Node::Var(number), 0, rest),
+            Leaf::Integer(value) => self.complete(words, Node::Int(value), 0, rest),
+            Leaf::Atom(place) => {
+                let name = words.name(self.alloc, place)?;
+                self.complete(words, Node::Atom(name), 0, rest)
+            }
+        }
+    }
+
+    /// A compound of the latest operands is complete.
+    fn build(
+        &mut self,
+        words: &Words,
+        name: usize,
+        arity: u16,
+        given: u16,
+        rest: &'a [Token],
+    ) -> Result<Turn, AllocError>
+        requires some { 0 < arity }
+        requires few { arity ≤ 1024 }
+        requires operands { arity ≤ length self.old.terms }
+        ensures { Stepped result (state_view words.now self.new)
+            (complete self.old.room (stack_view words.now self.old.stack.items) (with_node (Node.Compound (name_at words.now name) arity) self.old.terms) given (view words.now rest.now)) }
+    {
+        let name = words.name(self.alloc, name)?;
+        self.complete(words, Node::Compound(name, arity), given, rest)
+    }
+
+    fn want(&mut self, words: &Words, ops: &OpTable) -> Result<Turn, AllocError>
+        ensures { let stack = stack_view words.now self.old.stack.items in
+            Stepped result (state_view words.now self.new) (wants self.old.room stack self.old.terms (start_of ops.now (max_of stack) (view words.now self.old.left.now))) }
+    {
+        match start_of(ops, words, self.max(words), self.left) {
+            Opening::Stands(leaf, rest) => self.stand(words, leaf, rest),
+            Opening::Opens(rest) => self.open(words, Frame::Bracket, rest),
+            Opening::Calls(name, rest) => self.open(words, Frame::Call(name, 0), rest),
+            Opening::Before(name, op, rest) => self.open(words, Frame::Before(name, op), rest),
+            Opening::Nothing => Ok(Turn::Fails),
+        }
+    }
+
+    fn close(&mut self, words: &Words) -> Result<Turn, AllocError>
+        requires { self.old.room + 1 + vec_len self.old.stack < 2 ^ 64 }
+        ensures { Stepped result (state_view words.now self.new) (closes self.old.room (stack_view words.now self.old.stack.items) self.old.terms (view words.now self.old.left.now)) }
+    {
+        match self.left {
+            [Token::Close, rest @ ..] => {
+                self.room += 1;
+                self.given = Some(0);
+                self.left = rest;
+                Ok(Turn::Goes)
+            }
+            _ => Ok(Turn::Fails),
+        }
+    }
+
+    /// An argument is complete, behind so many others.
+    fn argue(&mut self, words: &Words, name: usize, complete: u16) -> Result<Turn, AllocError>
+        requires room { self.old.room + 1 + vec_len self.old.stack < 2 ^ 64 }
+        requires operands { complete + 1 ≤ length self.old.terms }
+        ensures { Stepped result (state_view words.now self.new)
+            (argues (name_at words.now name) complete self.old.room (stack_view words.now self.old.stack.items) self.old.terms (view words.now self.old.left.now)) }
+    {
+        match self.left {
+            [Token::Close, rest @ ..] => {
+                if complete < 1024 {
+                    self.room += 1;
+                    self.build(words, name, complete + 1, 0, rest)
+                } else {
+                    Ok(Turn::Fails)
+                }
+            }
+            [Token::Comma, rest @ ..] => {
+                if complete < 1023 {
+                    self.stack.push(Frame::Call(name, complete + 1))?;
+                    self.given = None;
+                    self.left = rest;
+                    Ok(Turn::Goes)
+                } else {
+                    Ok(Turn::Fails)
+                }
+            }
+            _ => Ok(Turn::Fails),
+        }
+    }
+
+    /// No operator extends the latest operand: the innermost level takes it.
+    fn stop(&mut self, words: &Words) -> Result<Turn, AllocError>
+        requires { length self.old.terms ≡ held (stack_view words.now self.old.stack.items) + 1 }
+        ensures { Stepped result (state_view words.now self.new) (stops self.old.room (stack_view words.now self.old.stack.items) self.old.terms (view words.now self.old.left.now)) }
+    {
+        match self.stack.pop() {
+            None => match self.left {
+                [Token::End] => Ok(Turn::Done),
+                _ => Ok(Turn::Fails),
+            },
+            Some(Frame::Bracket) => self.close(words),
+            Some(Frame::Call(name, complete)) => self.argue(words, name, complete),
+            Some(Frame::Before(name, op)) => {
+                self.room += 1;
+                self.build(words, name, 1, op.priority, self.left)
+            }
+            Some(Frame::Between(name, op)) => {
+                self.room += 1;
+                self.build(words, name, 2, op.priority, self.left)
+            }
+        }
+    }
+
+    fn extend(&mut self, words: &Words, ops: &OpTable, given: u16) -> Result<Turn, AllocError>
+        requires { length self.old.terms ≡ held (stack_view words.now self.old.stack.items) + 1 }
+        ensures { let stack = stack_view words.now self.old.stack.items in
+            let left = view words.now self.old.left.now in
+            Stepped result (state_view words.now self.new) (goes_on self.old.room stack self.old.terms left (next_of ops.now (max_of stack) given left)) }
+    {
+        match next_of(ops, words, self.max(words), given, self.left) {
+            Follower::Between(name, op, rest) => self.open(words, Frame::Between(name, op), rest),
+            Follower::Behind(name, op, rest) => self.build(words, name, 1, op.priority, rest),
+            Follower::Stop => self.stop(words),
+        }
+    }
+
+    /// One step. Want of memory leaves it at the step's beginning or within it, and it is not to go on then.
+    pub fn step(&mut self, words: &Words, ops: &OpTable) -> Result<Turn, AllocError>
+        requires { length self.old.terms ≡ held (stack_view words.now self.old.stack.items) + one_if self.old.given }
+        ensures { Stepped result (state_view words.now self.new) (step ops.now (state_view words.now self.old)) }
+    {
+        match self.given {
+            None => self.want(words, ops),
+            Some(given) => self.extend(words, ops, given),
+        }
+    }
+}
