@@ -6,3 +6,4 @@ pub mod Looks
 pub mod Levels
 pub mod Machine
 pub mod Views
+pub mod Answers

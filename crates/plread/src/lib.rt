@@ -1,9 +1,10 @@
 //! Terms from tokens (ISO/IEC 13211-1 6.3): an operator precedence reader with a stack of open levels.
 #![tactic(auto)]
 
-pub mod looks;
-pub mod token;
-pub mod words;
+pub mod clause;
 pub mod error;
 pub mod frame;
+pub mod looks;
 pub mod reader;
+pub mod token;
+pub mod words;

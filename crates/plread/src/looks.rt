@@ -68,7 +68,13 @@ fn begins(ops: &OpTable, words: &Words, tokens: &[Token]) -> bool
     }
 }
 
-fn uncalled<'a>(ops: &OpTable, words: &Words, max: u16, name: usize, tokens: &'a [Token]) -> Opening<'a>
+fn uncalled<'a>(
+    ops: &OpTable,
+    words: &Words,
+    max: u16,
+    name: usize,
+    tokens: &'a [Token],
+) -> Opening<'a>
     ensures { start_view words.now result ≡ uncalled ops.now max (name_at words.now name) (view words.now tokens.now) (prefix_of ops.now (name_at words.now name)) }
 {
     match ops.prefix(words.text(name)) {
@@ -85,7 +91,13 @@ fn uncalled<'a>(ops: &OpTable, words: &Words, max: u16, name: usize, tokens: &'a
     }
 }
 
-fn name_start<'a>(ops: &OpTable, words: &Words, max: u16, name: usize, tokens: &'a [Token]) -> Opening<'a>
+fn name_start<'a>(
+    ops: &OpTable,
+    words: &Words,
+    max: u16,
+    name: usize,
+    tokens: &'a [Token],
+) -> Opening<'a>
     ensures { start_view words.now result ≡ name_start ops.now max (name_at words.now name) (view words.now tokens.now) (called (view words.now tokens.now)) }
 {
     match called(words, tokens) {
@@ -162,17 +174,39 @@ fn between<'a>(
 
 /// What extends an operand of priority `given`, where the whole may have at most `max`.
 #[tactic(auto, unfolding(crate::specs::Reading::next_of))]
-pub fn next_of<'a>(ops: &OpTable, words: &Words, max: u16, given: u16, tokens: &'a [Token]) -> Follower<'a>
+pub fn next_of<'a>(
+    ops: &OpTable,
+    words: &Words,
+    max: u16,
+    given: u16,
+    tokens: &'a [Token],
+) -> Follower<'a>
     ensures { next_view words.now result ≡ next_of ops.now max given (view words.now tokens.now) }
 {
     match tokens {
         [Token::Name(word), rest @ ..] => {
             let text = words.text(*word);
-            between(words, ops.infix(text), ops.postfix(text), max, given, *word, rest)
+            between(
+                words,
+                ops.infix(text),
+                ops.postfix(text),
+                max,
+                given,
+                *word,
+                rest,
+            )
         }
         [Token::Comma, rest @ ..] => {
             let comma = words.comma();
-            between(words, ops.infix(","), ops.postfix(","), max, given, comma, rest)
+            between(
+                words,
+                ops.infix(","),
+                ops.postfix(","),
+                max,
+                given,
+                comma,
+                rest,
+            )
         }
         _ => Follower::Stop,
     }
