@@ -5,4 +5,4 @@ use Rattle.plterm.specs.declared.indicator.Indicator.{Indicator}
 
 -- whether name and arity are the same
 abbrev pub same_indicator : Indicator → Indicator → Bool
-same_indicator a b = (a.arity == b.arity) && bytes_eq a.name b.name
+same_indicator a b = bytes_eq a.name b.name && (a.arity == b.arity)

@@ -7,7 +7,7 @@ use crate::name::Name;
 use std::alloc::AllocError;
 
 /// The indicator of a procedure: its name, and how many arguments it has (ISO/IEC 13211-1 7.1.6.6).
-#[derive(Drop)]
+#[derive(Drop, PartialEq, Eq, Hash)]
 pub struct Indicator {
     pub name: Name,
     pub arity: u16,
@@ -30,7 +30,7 @@ impl Indicator {
         ensures same { IsTrue result ↔ (self.now ≡ other.now) }
         ensures value { result ≡ same_indicator self.now other.now }
     {
-        self.arity == other.arity && self.name.is_same(&other.name)
+        self == other
     }
 }
 
