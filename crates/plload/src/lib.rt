@@ -1,2 +1,5 @@
 //! Programs from their text.
 #![tactic(auto)]
+
+pub mod fixed;
+pub mod program;
