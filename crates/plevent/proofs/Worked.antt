@@ -1,8 +1,8 @@
 -- Journals of small runs, computed.
 use Rattle.std.specs.Prelude.{◌≡◌, ℕ, Bool, true, false, List, [], ◌∷◌, ◌++◌, Option, Some, None, refl}
 use Rattle.plterm.specs.Tree.{Tree, atom}
-use Rattle.plevent.specs.declared.clause.Indicator.{Indicator}
-use Rattle.plevent.specs.declared.clause.Clause.{Clause}
+use Rattle.plterm.specs.declared.indicator.Indicator.{Indicator}
+use Rattle.plclause.specs.Clause.{Clause}
 use Rattle.plevent.specs.declared.update.Update.{Update}
 use Rattle.plevent.specs.declared.update.Update.TheVariants.{First, Last, Erase, EraseOwn, Declare}
 use Rattle.plevent.specs.declared.request.ThreadEnd.{ThreadEnd}

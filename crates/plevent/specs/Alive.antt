@@ -1,20 +1,13 @@
 -- The clauses that are alive after some updates, and those of a view.
 use Rattle.std.specs.Prelude.{ℕ, suc, Bool, true, false, ◌||◌, ◌&&◌, not, List, [], ◌∷◌, ◌++◌, take, map, filter, fold, nat_eq, nat_lt, bytes_eq, Option, Some, None}
 use Rattle.std.specs.List.{list_any}
-use Rattle.plterm.specs.Tree.{Tree, var, int, atom, compound, Trees, none, more, list_of}
-use Rattle.std.specs.Prelude.{length}
-use Rattle.plevent.specs.declared.clause.Indicator.{Indicator}
-use Rattle.plevent.specs.declared.clause.Clause.{Clause}
+use Rattle.plterm.specs.declared.indicator.Indicator.{Indicator}
+use Rattle.plterm.specs.Indicators.{same_indicator}
+use Rattle.plclause.specs.Clause.{Clause}
+use Rattle.plclause.specs.Indicators.{indicator}
 use Rattle.plevent.specs.declared.update.Update.{Update}
 use Rattle.plevent.specs.declared.update.Update.TheVariants.{First, Last, Erase, EraseOwn, Declare}
 use Rattle.plevent.specs.declared.update.ClauseName.{ClauseName}
-
--- (until the crate of clauses stands)
-abbrev pub indicator : Tree → Indicator
-indicator (var n) = record { name = []; arity = 0 }
-indicator (int i) = record { name = []; arity = 0 }
-indicator (atom s) = record { name = s; arity = 0 }
-indicator (compound s ts) = record { name = s; arity = length (list_of ts) }
 
 -- an update and its own name
 pub record Stamped : Type 0 where
@@ -32,12 +25,9 @@ stamped b k (u ∷ us) = record { at = named b k; update = u } ∷ stamped b (su
 abbrev pub same_name : ClauseName → ClauseName → Bool
 same_name x y = nat_eq x.place y.place && nat_eq x.number y.number
 
-abbrev pub same_pred : Indicator → Indicator → Bool
-same_pred p q = bytes_eq p.name q.name && nat_eq p.arity q.arity
-
 -- a clause belongs to the procedure that its head names
 abbrev pub is_of : Indicator → Clause → Bool
-is_of p c = same_pred (indicator c.head) p
+is_of p c = same_indicator (indicator c.head) p
 
 abbrev pub add_if : {A : Type 0} → Bool → A → A → A
 add_if true new old = new
@@ -87,7 +77,7 @@ names p (First c) = is_of p c
 names p (Last c) = is_of p c
 names p (Erase y) = false
 names p (EraseOwn k) = false
-names p (Declare q) = same_pred q p
+names p (Declare q) = same_indicator q p
 
 -- some update names p
 unfoldable pub exists : List Stamped → Indicator → Bool

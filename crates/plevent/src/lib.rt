@@ -3,13 +3,11 @@
 #![tactic(auto)]
 
 pub mod act;
-pub mod clause;
 pub mod request;
 pub mod standing;
 pub mod update;
 
 pub use act::{Act, Entry};
-pub use clause::{Clause, Indicator};
 pub use request::{Reply, Request, ThreadEnd};
 pub use standing::{Standing, Thread, Threads};
 pub use update::{Batch, ClauseName, Update};

@@ -1,7 +1,8 @@
 //! Updates of the database, and batches of them.
 ghost use Rattle.std.specs.Prelude.{◌≡◌, IfOk};
 
-use crate::clause::{Clause, Indicator};
+use plclause::clause::Clause;
+use plterm::indicator::Indicator;
 use std::alloc::{AllocError, Global};
 use std::marker::Model;
 
@@ -31,16 +32,16 @@ pub enum Update {
 
 impl Update {
     /// The same update again; it shares its clause.
-    pub fn copied(&self, alloc: Global) -> Result<Update, AllocError>
+    pub fn copied(&self) -> Result<Update, AllocError>
         ensures { IfOk result (λ u. u ≡ self.now) }
     {
         match self {
             Update::First(clause) => {
-                let copy = clause.copied(alloc)?;
+                let copy = clause.copied()?;
                 return Ok(Update::First(copy));
             }
             Update::Last(clause) => {
-                let copy = clause.copied(alloc)?;
+                let copy = clause.copied()?;
                 return Ok(Update::Last(copy));
             }
             Update::Erase(name) => return Ok(Update::Erase(*name)),
@@ -100,7 +101,7 @@ impl Batch {
     {
         let mut updates = Vec::with_capacity(alloc, self.updates.len())?;
         for update in self.updates.as_slice() {
-            updates.push(update.copied(alloc)?)?;
+            updates.push(update.copied()?)?;
         }
         Ok(Batch { updates })
     }

@@ -2,7 +2,7 @@
 use Rattle.std.specs.Prelude.{◌<◌, ◌≤◌, ℕ, zero, suc, ◌+◌, List, [], ◌∷◌, ◌++◌, length, get_or, map, drop, filter_map}
 use Rattle.std.specs.List.{fold}
 use Rattle.std.specs.Bool.{⊤}
-use Rattle.plevent.specs.declared.clause.Clause.{Clause}
+use Rattle.plclause.specs.Clause.{Clause}
 use Rattle.plevent.specs.declared.request.Request.TheVariants.{Publish}
 use Rattle.plevent.specs.declared.update.Update.TheVariants.{Last}
 use Rattle.plheap.specs.Store.{Store, term, cut, IsMark}

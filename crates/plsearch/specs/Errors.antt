@@ -1,7 +1,7 @@
 -- The error terms (ISO/IEC 13211-1 7.12.2).
 use Rattle.std.specs.Prelude.{ℕ, List, codes, pos}
 use Rattle.plterm.specs.Tree.{Tree, int, atom, compound, none, more}
-use Rattle.plevent.specs.declared.clause.Indicator.{Indicator}
+use Rattle.plterm.specs.declared.indicator.Indicator.{Indicator}
 
 abbrev pub pair : List ℕ → Tree → Tree → Tree
 pair f a b = compound f (more a (more b none))

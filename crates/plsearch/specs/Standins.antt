@@ -1,10 +1,10 @@
 -- Stands for what other crates define.
 use Rattle.std.specs.Prelude.{ℕ, Bool, true, false, ◌||◌, List, [], ◌∷◌, ◌++◌, Option, Some, None, codes, bytes_eq, if◌then◌else◌, length}
 use Rattle.plterm.specs.Tree.{Tree, var, int, atom, compound, Trees, none, more}
-use Rattle.plevent.specs.declared.clause.Clause.{Clause}
-use Rattle.plevent.specs.declared.clause.Indicator.{Indicator}
+use Rattle.plclause.specs.Clause.{Clause}
+use Rattle.plterm.specs.declared.indicator.Indicator.{Indicator}
+use Rattle.plterm.specs.Indicators.{same_indicator}
 use Rattle.plevent.specs.declared.update.Update.{Update}
-use Rattle.plevent.specs.Alive.{same_pred}
 use Rattle.plterm.specs.Variables.{copied, variables}
 
 abbrev both : List ℕ → Option Tree → Option Tree → Option Tree
@@ -61,7 +61,7 @@ found false cs other = other
 
 abbrev clauses_of_in : List (Indicator × List Clause) → Indicator → List Clause
 clauses_of_in [] p = []
-clauses_of_in (x ∷ xs) p = found (same_pred x.0 p) x.1 (clauses_of_in xs p)
+clauses_of_in (x ∷ xs) p = found (same_indicator x.0 p) x.1 (clauses_of_in xs p)
 
 unfoldable pub static_clauses : Program → Indicator → List Clause
 static_clauses P p = clauses_of_in P.procedures p

@@ -4,10 +4,11 @@ use Rattle.plterm.specs.Tree.{Tree, var, int, atom, compound, none, more}
 use Rattle.plterm.specs.Variables.{copied}
 use Rattle.plsubst.specs.Subst.{bind, shift}
 use Rattle.plsubst.specs.Unify.{unify}
-use Rattle.plevent.specs.Alive.{indicator, Stamped, exists, clauses_alive}
+use Rattle.plclause.specs.Indicators.{indicator}
+use Rattle.plevent.specs.Alive.{Stamped, exists, clauses_alive}
 use Rattle.plevent.specs.Search.{View, Ask, Answer, Seen, Got}
-use Rattle.plevent.specs.declared.clause.Clause.{Clause}
-use Rattle.plevent.specs.declared.clause.Indicator.{Indicator}
+use Rattle.plclause.specs.Clause.{Clause}
+use Rattle.plterm.specs.declared.indicator.Indicator.{Indicator}
 use Rattle.plevent.specs.declared.request.Reply.{Reply}
 use Rattle.plevent.specs.declared.request.Reply.TheVariants.{Started, RunOver, NotYet, Published, Done}
 use Rattle.plevent.specs.declared.request.Request.TheVariants.{Publish}

@@ -6,10 +6,11 @@ use Rattle.std.proofs.lemmas.List.Elements.{filter-append}
 use Rattle.std.proofs.lemmas.Bool.Decides.{nat_tests}
 use Rattle.plevent.specs.declared.update.Update.{Update}
 use Rattle.plevent.specs.declared.update.Update.TheVariants.{First, Last, Erase, EraseOwn, Declare}
-use Rattle.plevent.specs.declared.clause.Clause.{Clause}
+use Rattle.plclause.specs.Clause.{Clause}
 use Rattle.plevent.specs.declared.update.ClauseName.{ClauseName}
-use Rattle.plevent.specs.declared.clause.Indicator.{Indicator}
-use Rattle.plevent.specs.Alive.{Stamped, same_name, same_pred, is_of, named, add_if, Living, lives_as, changed, change, without, living, before, lives, is_alive, makes, erases, exists, names as names_proc}
+use Rattle.plterm.specs.declared.indicator.Indicator.{Indicator}
+use Rattle.plterm.specs.Indicators.{same_indicator}
+use Rattle.plevent.specs.Alive.{Stamped, same_name, is_of, named, add_if, Living, lives_as, changed, change, without, living, before, lives, is_alive, makes, erases, exists, names as names_proc}
 use Rattle.std.specs.List.{list_any}
 use Rattle.plstore.specs.declared.record.Record.{Record}
 use Rattle.plstore.specs.Rising.{Rises, AllUnder}

@@ -5,10 +5,11 @@ use Rattle.std.specs.List.{list_any}
 use Rattle.std.specs.Option.{option_map}
 use Rattle.plevent.specs.declared.update.Update.{Update}
 use Rattle.plevent.specs.declared.update.Update.TheVariants.{First, Last, Erase, EraseOwn, Declare}
-use Rattle.plevent.specs.declared.clause.Clause.{Clause}
-use Rattle.plevent.specs.declared.clause.Indicator.{Indicator}
+use Rattle.plclause.specs.Clause.{Clause}
+use Rattle.plterm.specs.declared.indicator.Indicator.{Indicator}
+use Rattle.plterm.specs.Indicators.{same_indicator}
 use Rattle.plevent.specs.declared.update.ClauseName.{ClauseName}
-use Rattle.plevent.specs.Alive.{Stamped, same_name, same_pred, is_of, named, before, exists, names, is_alive, living, clause_named, made_in, clause_in, or_else, add_if}
+use Rattle.plevent.specs.Alive.{Stamped, same_name, is_of, named, before, exists, names, is_alive, living, clause_named, made_in, clause_in, or_else, add_if}
 use Rattle.plstore.specs.declared.record.Record.{Record}
 use Rattle.plstore.specs.declared.record.Declared.{Declared}
 use Rattle.plstore.specs.Kept.{Kept, nothing, keep, keep_record, keep_declared, kept, noted, made, changed_where, change_if, erase_at, is_named, record_names, declared_names, is_there, here, clause_of, walk}
@@ -92,7 +93,7 @@ there-keep g p k s = by-case s.update
     by-case (Erase y) = ap (λ v. v || list_any (declared_names g p) k.declared) (any-erased g p s.at.place y k.records) ∙ still (is_there g p k) (nat_lt s.at.place g)
     by-case (EraseOwn n) = ap (λ v. v || list_any (declared_names g p) k.declared) (any-erased g p s.at.place (named s.at.place n) k.records) ∙ still (is_there g p k) (nat_lt s.at.place g)
     by-case (Declare q) = ap (λ v. list_any (record_names g p) k.records || v) (any-append (declared_names g p) k.declared (record { pred = q; place = s.at.place } ∷ []))
-        ∙ turn-last (list_any (record_names g p) k.records) (list_any (declared_names g p) k.declared) (nat_lt s.at.place g && same_pred q p)
+        ∙ turn-last (list_any (record_names g p) k.records) (list_any (declared_names g p) k.declared) (nat_lt s.at.place g && same_indicator q p)
 
 or-assoc-2 : (a b c : Bool) → (a || b) || c ≡ a || (b || c)
 or-assoc-2 true b c = refl

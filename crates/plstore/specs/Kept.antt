@@ -3,12 +3,13 @@ use Rattle.std.specs.Prelude.{ℕ, suc, Bool, true, false, ◌||◌, ◌&&◌, n
 use Rattle.std.specs.Coded.{Coded, code_by, coded×, coded_list}
 use Rattle.std.specs.List.{list_any}
 use Rattle.std.specs.Option.{option_map}
-use Rattle.plevent.specs.declared.clause.Indicator.{Indicator}
-use Rattle.plevent.specs.declared.clause.Clause.{Clause}
+use Rattle.plterm.specs.declared.indicator.Indicator.{Indicator}
+use Rattle.plterm.specs.Indicators.{same_indicator}
+use Rattle.plclause.specs.Clause.{Clause}
 use Rattle.plevent.specs.declared.update.Update.{Update}
 use Rattle.plevent.specs.declared.update.Update.TheVariants.{First, Last, Erase, EraseOwn, Declare}
 use Rattle.plevent.specs.declared.update.ClauseName.{ClauseName}
-use Rattle.plevent.specs.Alive.{Stamped, same_name, same_pred, is_of, named, add_if, Living, lives_as, names_of, clauses_of}
+use Rattle.plevent.specs.Alive.{Stamped, same_name, is_of, named, add_if, Living, lives_as, names_of, clauses_of}
 use Rattle.plstore.specs.declared.record.Record.{Record}
 use Rattle.plstore.specs.declared.record.Declared.{Declared}
 use Rattle.plstore.specs.declared.record.Cursor.{Cursor}
@@ -111,7 +112,7 @@ abbrev pub record_names : ℕ → Indicator → Record → Bool
 record_names g p r = nat_lt r.name.place g && is_of p r.clause
 
 abbrev pub declared_names : ℕ → Indicator → Declared → Bool
-declared_names g p d = nat_lt d.place g && same_pred d.pred p
+declared_names g p d = nat_lt d.place g && same_indicator d.pred p
 
 abbrev pub is_there : ℕ → Indicator → Kept → Bool
 is_there g p k = list_any (record_names g p) k.records || list_any (declared_names g p) k.declared

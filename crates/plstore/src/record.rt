@@ -2,7 +2,9 @@
 ghost use Rattle.std.specs.Prelude.{◌≡◌};
 ghost use Rattle.plstore.specs.Kept.{seen, not_below};
 
-use plevent::{Clause, ClauseName, Indicator};
+use plclause::clause::Clause;
+use plevent::ClauseName;
+use plterm::indicator::Indicator;
 
 /// A clause, and the place of the first batch that erased it.
 #[derive(Drop)]

@@ -1,13 +1,15 @@
 //! The store: every clause ever made, so that the database can be looked at as it was at each time.
 ghost use Rattle.std.specs.Prelude.{◌≡◌, IfOk, OnOk, OnErr, fold, length};
 ghost use Rattle.std.specs.Option.{option_copied};
-ghost use Rattle.plevent.specs.Alive.{stamped, is_of, same_pred};
+ghost use Rattle.plevent.specs.Alive.{stamped, is_of};
 ghost use Rattle.plstore.specs.Kept.{keep, nothing, here, clause_of, is_there, record_names, declared_names};
 ghost use Rattle.plstore.specs.Rising.{AllBelowPlace};
 
 use crate::record::{Cursor, Declared, Record};
 use crate::tables::{Tables, find, make_all};
-use plevent::{Batch, Clause, ClauseName, Indicator};
+use plclause::clause::Clause;
+use plevent::{Batch, ClauseName};
+use plterm::indicator::Indicator;
 use std::alloc::{AllocError, Global};
 use std::marker::Model;
 

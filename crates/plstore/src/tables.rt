@@ -7,7 +7,9 @@ ghost use Rattle.plstore.specs.Rising.{less, IsRising, InOrder, NoneIs, OneIs};
 ghost use Rattle.plstore.specs.Tables.{kept_in};
 
 use crate::record::{Declared, Record};
-use plevent::{Clause, ClauseName, Indicator, Update};
+use plclause::clause::Clause;
+use plevent::{ClauseName, Update};
+use plterm::indicator::Indicator;
 
 /// Each clause ever made, in the order of their names, and each declaration.
 #[derive(Drop)]
