@@ -7,7 +7,7 @@ use Rattle.plterm.specs.Variables.{AllBelow, EachBelow}
 use Rattle.plsubst.specs.Subst.{bind, bind_all, shift}
 use Rattle.plsubst.specs.Unify.{unify}
 use Rattle.plsubst.proofs.Unify.{bind-bind}
-use Rattle.plevent.specs.declared.clause.Clause.{Clause}
+use Rattle.plclause.specs.Clause.{Clause}
 use Rattle.plevent.specs.declared.request.Request.TheVariants.{Publish}
 use Rattle.plevent.specs.declared.update.Update.TheVariants.{Last}
 use Rattle.plheap.specs.Store.{Store, term, Keeps}
