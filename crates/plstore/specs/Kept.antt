@@ -90,6 +90,11 @@ in_front p r = r.front && is_of p r.clause
 abbrev pub behind_all : Indicator → Record → Bool
 behind_all p r = not r.front && is_of p r.clause
 
+-- of p, and put in front or not
+abbrev pub on_side : Bool → Indicator → Record → Bool
+on_side true p r = in_front p r
+on_side false p r = behind_all p r
+
 abbrev pub livings : List Record → List Living
 livings rs = map (λ r. lives_as r.name r.clause) rs
 

@@ -1,8 +1,9 @@
 //! The store: every clause ever made, so that the database can be looked at as it was at each time.
 ghost use Rattle.std.specs.Prelude.{◌≡◌, IfOk, OnOk, OnErr, fold, length};
+ghost use Rattle.std.specs.List.{list_any};
 ghost use Rattle.std.specs.Option.{option_copied};
-ghost use Rattle.plevent.specs.Alive.{stamped, is_of};
-ghost use Rattle.plstore.specs.Kept.{keep, nothing, here, clause_of, is_there, record_names, declared_names};
+ghost use Rattle.plevent.specs.Alive.{stamped, clauses_of, is_of};
+ghost use Rattle.plstore.specs.Kept.{keep, nothing, here, clause_of, is_there, record_names, declared_names, picked, on_side, walk};
 ghost use Rattle.plstore.specs.Rising.{AllBelowPlace};
 
 use crate::record::{Cursor, Declared, Record};
@@ -77,4 +78,61 @@ impl Store {
             Some(index) => Some(&self.tables.records[index].clause),
         }
     }
+
+    /// Whether some batch below `g` named the procedure: it declared it, or made a clause of it.
+    pub fn exists(&self, g: u64, pred: &Indicator) -> bool
+        ensures { result ≡ is_there g pred.now self.now }
+    {
+        is_recorded(&self.tables.records, g, pred) || is_declared(&self.tables.declared, g, pred)
+    }
+
+    /// The clauses of a procedure that are alive after the batches below `g`, in their order. They share their parts
+    /// with the store.
+    pub fn alive_clauses(
+        &self,
+        alloc: Global,
+        g: u64,
+        pred: &Indicator,
+    ) -> Result<Vec<Clause>, AllocError>
+        ensures { IfOk result (λ found. found.items ≡ clauses_of (walk g pred.now self.now.records)) }
+    {
+        let mut found = gathered(alloc, &self.tables.records, g, pred, true)?;
+        found.reverse();
+        let mut behind = gathered(alloc, &self.tables.records, g, pred, false)?;
+        found.append(&mut behind)?;
+        Ok(found)
+    }
+}
+
+/// The clauses of one side of a procedure that are seen at `g`, in the order in which they were made.
+fn gathered(
+    alloc: Global,
+    records: &[Record],
+    g: u64,
+    pred: &Indicator,
+    front: bool,
+) -> Result<Vec<Clause>, AllocError>
+    ensures { IfOk result (λ found. found.items ≡ clauses_of (picked (on_side front pred.now) g records.now)) }
+{
+    let mut found = Vec::new(alloc);
+    for record in records {
+        if record.is_seen(g) && record.is_on(front, pred) {
+            found.push(record.clause.copied()?)?;
+        }
+    }
+    Ok(found)
+}
+
+/// Whether a batch below `g` made a clause of the procedure.
+fn is_recorded(records: &[Record], g: u64, pred: &Indicator) -> bool
+    ensures { result ≡ list_any (record_names g pred.now) records.now }
+{
+    records.iter().any(|r| r.names(g, pred))
+}
+
+/// Whether a batch below `g` declared the procedure.
+fn is_declared(declared: &[Declared], g: u64, pred: &Indicator) -> bool
+    ensures { result ≡ list_any (declared_names g pred.now) declared.now }
+{
+    declared.iter().any(|d| d.names(g, pred))
 }

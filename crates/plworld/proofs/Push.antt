@@ -14,13 +14,15 @@ use Rattle.plevent.specs.declared.standing.Standing.{Standing}
 use Rattle.std.specs.Prelude.{nat_lt, cond, take, drop}
 use Rattle.std.proofs.lemmas.List.Elements.{filter-append}
 use Rattle.std.proofs.lemmas.Bool.Decides.{nat_tests}
-use Rattle.plevent.specs.Alive.{Stamped, stamped, named, before}
+use Rattle.plevent.specs.Alive.{Stamped, stamped, named, before, living, exists}
 use Rattle.plevent.specs.Reading.{Reading, read, reading, stand, updates_of, blank}
 use Rattle.plevent.specs.Rows.{Row, served, served_in, adds, reply_to, entries_of}
 use Rattle.plstore.specs.declared.record.Record.{Record}
-use Rattle.plstore.specs.Kept.{Kept, keep, nothing}
+use Rattle.plstore.specs.Kept.{Kept, keep, nothing, walk, is_there}
 use Rattle.plstore.specs.Rising.{AllBelowPlace, Rises, AllUnder}
 use Rattle.plstore.proofs.Search.{place-keep}
+use Rattle.plstore.proofs.Whole.{walk-is, there-is}
+use Rattle.plterm.specs.declared.indicator.Indicator.{Indicator}
 use Rattle.plworld.specs.Worlds.{IsWorld}
 
 rises-stamped : (a b k : ℕ) (vs : List Update) → a ≤ b → Rises a (stamped b k vs)
@@ -143,3 +145,12 @@ adds-none h w t q r a e k = ap (λ x. entries_of w x.1) e ∙ ap (entries_of w) 
 
 pub adds-some : (h : List Entry) (w t : ℕ) (q : Request) (r : Reply) (a : Option (ℕ × Act)) (x : ℕ × Act) → served q t (reading h) ≡ (r, a) → a ≡ Some x → adds h w t q ≡ record { worker = w; thread = x.0; act = x.1 } ∷ []
 adds-some h w t q r a x e k = ap (λ x. entries_of w x.1) e ∙ ap (entries_of w) k
+
+pub under-is : (h : List Entry) → AllUnder (length h) (reading h).updates
+under-is h = subst (λ n. AllUnder n (reading h).updates) (size-is h) (ordered h).under
+
+pub walk-at : (g : ℕ) (p : Indicator) (h : List Entry) → g ≤ length h → walk g p (fold keep nothing (reading h).updates).records ≡ living (reading (take g h)).updates p
+walk-at g p h l = walk-is g p (reading h).updates (ordered h).rises ∙ ap (λ us. living us p) (before-is g h l)
+
+pub there-at : (g : ℕ) (p : Indicator) (h : List Entry) → g ≤ length h → is_there g p (fold keep nothing (reading h).updates) ≡ exists (reading (take g h)).updates p
+there-at g p h l = there-is g p (reading h).updates ∙ ap (λ us. exists us p) (before-is g h l)

@@ -2,6 +2,7 @@
 //! request that a row of the table answers, and adds at most one entry.
 #![tactic(auto)]
 
+pub mod laws;
 pub mod rows;
 pub mod world;
 

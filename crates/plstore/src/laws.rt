@@ -1,0 +1,33 @@
+//! What a store keeps is the database at every time.
+ghost use Rattle.std.specs.Prelude.{◌≡◌, ℕ, List, fold};
+ghost use Rattle.plclause.specs.Clause.{Clause};
+ghost use Rattle.plterm.specs.declared.indicator.Indicator.{Indicator};
+ghost use Rattle.plevent.specs.declared.update.ClauseName.{ClauseName};
+ghost use Rattle.plevent.specs.Alive.{Stamped, before, living, is_alive, exists, clause_named};
+ghost use Rattle.plstore.specs.Kept.{Kept, keep, nothing, walk, here, is_there, clause_of};
+ghost use Rattle.plstore.specs.Rising.{Rises};
+
+/// Updates at rising places leave a store whose walk at each `g` is the clauses alive after the batches below `g`.
+pub fn walk_law()
+    ensures { (g : ℕ) (p : Indicator) (us : List Stamped) → Rises 0 us → walk g p (fold keep nothing us).records ≡ living (before g us) p }
+{}
+
+/// Later batches change no earlier walk.
+pub fn walk_stays_law()
+    ensures { (g : ℕ) (p : Indicator) (us : List Stamped) (k : Kept) → Rises g us → walk g p (fold keep k us).records ≡ walk g p k.records }
+{}
+
+/// A clause is seen at `g` exactly where it is alive after the batches below `g`.
+pub fn alive_law()
+    ensures { (g : ℕ) (x : ClauseName) (us : List Stamped) → Rises 0 us → here g x (fold keep nothing us) ≡ is_alive x (before g us) }
+{}
+
+/// A procedure is there at `g` exactly where a batch below `g` named it.
+pub fn exists_law()
+    ensures { (g : ℕ) (p : Indicator) (us : List Stamped) → is_there g p (fold keep nothing us) ≡ exists (before g us) p }
+{}
+
+/// The clause of a name is the one that was made with it.
+pub fn clause_law()
+    ensures { (x : ClauseName) (us : List Stamped) → clause_of x (fold keep nothing us) ≡ clause_named x us }
+{}

@@ -1,0 +1,29 @@
+//! What holds of every journal, and of the store that keeps its updates.
+ghost use Rattle.std.specs.Prelude.{◌≡◌, ◌≤◌, ℕ, List, fold, length, take};
+ghost use Rattle.plterm.specs.declared.indicator.Indicator.{Indicator};
+ghost use Rattle.plevent.specs.declared.act.Entry.{Entry};
+ghost use Rattle.plevent.specs.Alive.{before, living, exists};
+ghost use Rattle.plevent.specs.Reading.{reading};
+ghost use Rattle.plstore.specs.Kept.{keep, nothing, walk, is_there};
+ghost use Rattle.plstore.specs.Rising.{Rises, AllUnder};
+
+/// The updates of a journal stand at rising places, which are below its length.
+pub fn places_law()
+    ensures rises { (h : List Entry) → Rises 0 (reading h).updates }
+    ensures under { (h : List Entry) → AllUnder (length h) (reading h).updates }
+{}
+
+/// The updates below `g` are those of the first `g` entries.
+pub fn before_law()
+    ensures { (g : ℕ) (h : List Entry) → g ≤ length h → before g (reading h).updates ≡ (reading (take g h)).updates }
+{}
+
+/// The walk at `g` over what is kept of a journal is the clauses alive after its first `g` entries.
+pub fn walk_law()
+    ensures { (g : ℕ) (p : Indicator) (h : List Entry) → g ≤ length h → walk g p (fold keep nothing (reading h).updates).records ≡ living (reading (take g h)).updates p }
+{}
+
+/// A procedure is there at `g` in what is kept of a journal exactly where one of its first `g` entries named it.
+pub fn exists_law()
+    ensures { (g : ℕ) (p : Indicator) (h : List Entry) → g ≤ length h → is_there g p (fold keep nothing (reading h).updates) ≡ exists (reading (take g h)).updates p }
+{}
