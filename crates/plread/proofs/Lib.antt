@@ -1,3 +1,6 @@
 pub mod Steps
 pub mod Bounds
 pub mod Runs
+pub mod Unique
+pub mod Numbered
+pub mod Inputs

@@ -7,3 +7,5 @@ pub mod Levels
 pub mod Machine
 pub mod Views
 pub mod Answers
+pub mod Numbering
+pub mod Refusals

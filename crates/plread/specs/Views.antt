@@ -1,8 +1,7 @@
 -- What the code holds, as the machine's state.
-use Rattle.std.specs.Prelude.{◌≡◌, ℕ, List, [], ◌∷◌, Result, Ok, Err, map}
+use Rattle.std.specs.Prelude.{◌≡◌, ℕ, List, [], ◌∷◌, Result, Ok, Err}
 use Rattle.std.specs.List.{fold}
 use Rattle.std.specs.declared.alloc.AllocError.{AllocError}
-use Rattle.plterm.specs.Tree.{Tree}
 use Rattle.plread.specs.declared.frame.Frame.{Frame}
 use Rattle.plread.specs.declared.frame.Frame.TheVariants as frames
 use Rattle.plread.specs.declared.reader.Reader.{Reader}

@@ -4,7 +4,10 @@
 pub mod clause;
 pub mod error;
 pub mod frame;
+pub mod input;
 pub mod looks;
+pub mod read;
 pub mod reader;
 pub mod token;
+pub mod variables;
 pub mod words;

@@ -1,4 +1,3 @@
-use Rattle.std.proofs.Common.{◌≡◌, sym, subst, ◌∙◌}
 use Rattle.plread.specs.Views.{state_view}
 use Rattle.plread.proofs.Runs.{at_start, at_next, smaller, at_done, none_fails, is_goes, is_done, is_failure}
 use Rattle.plread.proofs.clause.term_of.Goals as goal

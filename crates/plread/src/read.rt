@@ -1,0 +1,61 @@
+//! Reading a clause of a text.
+ghost use Rattle.std.specs.Prelude.{◌≡◌, ℕ, List, IfOk, IfErr};
+ghost use Rattle.pllex.specs.Named.{AreNamed};
+ghost use Rattle.plterm.specs.Tree.{Tree};
+ghost use Rattle.plops.specs.declared.table.OpTable.{OpTable};
+ghost use Rattle.plread.specs.Signs.{Sign};
+ghost use Rattle.plread.specs.Spelling.{signs_of};
+ghost use Rattle.plread.specs.Reading.{Spells};
+ghost use Rattle.plread.specs.Refusals.{start_of, Refuses};
+
+use crate::clause::term_of;
+use crate::error::ReadError;
+use crate::input::input_of;
+use pllex::token::Token;
+use plops::table::OpTable;
+use plterm::term::Term;
+use std::alloc::Global;
+
+/// A term that was read. Its variables are numbered from 0 by first occurrence.
+#[derive(Drop)]
+pub struct ReadTerm {
+    pub term: Term,
+}
+
+/// The term that a clause's tokens spell under these operators, with at most `levels` open levels: open brackets
+/// and operators that wait for their right operand (6.2, 6.3). The time is linear in the tokens, and the stack does
+/// not grow with the term's depth.
+pub fn read_clause(
+    alloc: Global,
+    text: &[u8],
+    tokens: &[Token],
+    ops: &OpTable,
+    levels: u64,
+) -> Result<ReadTerm, ReadError>
+    requires { AreNamed text.now tokens.now }
+    ensures found { IfOk result (λ read. Spells ops.now levels (signs_of text.now tokens.now) read.term) }
+
+    // The tokens spell no term.
+    ensures none { IfErr result (Refuses ops.now levels text.now tokens.now) }
+{
+    let input = input_of(alloc, text, tokens)?;
+    match term_of(alloc, &input.words, &input.tokens, ops, levels)? {
+        Some(term) => Ok(ReadTerm { term }),
+        None => Err(ReadError::Syntax(start_of(tokens))),
+    }
+}
+
+/// Where the first token starts.
+fn start_of(tokens: &[Token]) -> usize
+    ensures { result ≡ start_of tokens.now }
+{
+    match tokens.first() {
+        None => 0,
+        Some(token) => token.start,
+    }
+}
+
+/// Signs spell at most one term.
+pub fn one_term()
+    ensures { (ops : OpTable) (levels : ℕ) (signs : List Sign) (t u : Tree) → Spells ops levels signs t → Spells ops levels signs u → t ≡ u }
+{}
