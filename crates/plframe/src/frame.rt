@@ -1,6 +1,6 @@
 //! The parts of a stack.
 
-use plevent::clause::Clause;
+use plclause::clause::Clause;
 use plheap::cell::Mark;
 
 /// A member of a goal list.

@@ -1,5 +1,6 @@
 //! Goal lists that share their rest, and the open cases of a search, over a heap.
 #![tactic(auto)]
 
+pub mod call;
 pub mod frame;
 pub mod stack;

@@ -1,15 +1,20 @@
 -- Worked programs.
-use Rattle.std.proofs.Common.{◌≡◌, ℕ, ◌+◌, List, [], ◌∷◌, ◌++◌, codes, refl, pos}
+use Rattle.std.proofs.Common.{◌≡◌, ℕ, ◌+◌, List, [], ◌∷◌, ◌++◌, codes, refl, pos, ap, append-nil}
 use Rattle.plterm.specs.Tree.{Tree, var, int, atom, compound, none, more}
 use Rattle.plsubst.specs.Subst.{bind, occurs}
 use Rattle.plsubst.specs.Unify.{places, differ, unify_in, unify}
+use Rattle.std.specs.Fmt.{signed_decimal}
+use Rattle.plwrite.specs.Writing.{words, others}
+use Rattle.plops.specs.Tables.{prefix_of, infix_of, postfix_of}
 use Rattle.plevent.specs.Alive.{Stamped, named, living, exists}
 use Rattle.plevent.specs.Search.{View, Ask, Answer, Seen, Got, Next, Wants, Finishes, Ceases, Ending}
 use Rattle.plevent.specs.declared.request.Reply.TheVariants.{Published, Done}
 use Rattle.plevent.specs.declared.request.Request.TheVariants.{Publish}
 use Rattle.plevent.specs.declared.request.ThreadEnd.TheVariants.{True, False, Exception, Budget}
 use Rattle.plevent.specs.declared.update.Update.TheVariants.{Last}
-use Rattle.plsearch.specs.Standins.{Program, converted, clausal, static_clauses, is_fixed, text}
+use Rattle.plclause.specs.Clausal.{clausal}
+use Rattle.plclause.specs.Conversion.{converted}
+use Rattle.plsearch.specs.Standins.{Program, static_clauses, is_fixed}
 use Rattle.plsearch.specs.Errors.{indicator_term, instantiation_error, callable_error, procedure_error, static_error, error_term, pair}
 use Rattle.plsearch.specs.Table.{raised, row, select, meet, answered}
 use Rattle.plsearch.specs.Engine.{choice, out, outs, moved, walk, visit_in, Visit}
@@ -17,7 +22,7 @@ use Rattle.plsearch.specs.Search.{start_from, start_of, search_of}
 
 -- all that a search computes with
 pub all : ℕ
-unfolding bind occurs places differ unify_in unify living exists converted clausal static_clauses is_fixed text indicator_term instantiation_error callable_error procedure_error static_error error_term raised row select meet answered choice out outs moved walk visit_in Visit start_from start_of search_of
+unfolding bind occurs places differ unify_in unify living exists static_clauses is_fixed words others prefix_of infix_of postfix_of indicator_term instantiation_error callable_error procedure_error static_error error_term raised row select meet answered choice out outs moved walk visit_in Visit start_from start_of search_of
 all = 0
 
 abbrev name : List ℕ → Tree
@@ -102,9 +107,9 @@ looks : search adds 1000 (Got Published ∷ []) ≡ record { next = Wants View; 
 unfolding all
 looks = refl
 
-writes_7 : search adds 1000 (Got Published ∷ Seen 3 added ∷ []) ≡ record { next = Finishes True; used = 7; out = text (int (pos 7)) }
+writes_7 : search adds 1000 (Got Published ∷ Seen 3 added ∷ []) ≡ record { next = Finishes True; used = 7; out = signed_decimal (pos 7) }
 unfolding all
-writes_7 = refl
+writes_7 = ap (λ o. record { next = Finishes True; used = 7; out = o }) (append-nil (signed_decimal (pos 7)))
 
 -- an answer that does not fit what was asked
 goes_no_further : (search adds 1000 (Seen 3 added ∷ [])).next ≡ Ceases

@@ -5,6 +5,9 @@ use Rattle.plterm.specs.Variables.{copied}
 use Rattle.plsubst.specs.Subst.{bind, shift}
 use Rattle.plsubst.specs.Unify.{unify}
 use Rattle.plclause.specs.Indicators.{indicator}
+use Rattle.plops.specs.Given.{iso_table}
+use Rattle.plwrite.specs.Writing.{written}
+use Rattle.plwrite.specs.declared.style.Style.TheVariants.{Plain}
 use Rattle.plevent.specs.Alive.{Stamped, exists, clauses_alive}
 use Rattle.plevent.specs.Search.{View, Ask, Answer, Seen, Got}
 use Rattle.plclause.specs.Clause.{Clause}
@@ -13,7 +16,11 @@ use Rattle.plevent.specs.declared.request.Reply.{Reply}
 use Rattle.plevent.specs.declared.request.Reply.TheVariants.{Started, RunOver, NotYet, Published, Done}
 use Rattle.plevent.specs.declared.request.Request.TheVariants.{Publish}
 use Rattle.plevent.specs.declared.update.Update.TheVariants.{Last}
-use Rattle.plsearch.specs.Standins.{converted, Clausal, NoHead, BadHead, BadBody, IsClause, clausal, Program, static_clauses, is_fixed, text}
+use Rattle.plclause.specs.Clausal.{clausal}
+use Rattle.plclause.specs.Conversion.{converted}
+use Rattle.plclause.specs.declared.form.ClauseForm.{ClauseForm}
+use Rattle.plclause.specs.declared.form.ClauseForm.TheVariants.{NoHead, BadHead, BadBody, IsClause}
+use Rattle.plsearch.specs.Standins.{Program, static_clauses, is_fixed}
 use Rattle.plsearch.specs.Types.{Result, Fail, Throw, Ceased, Element, Goal, Commit, Look, Await, Place, Choice, Handler, Local, Move, Give, Go, Meeting, Select, Asks, Marked, Return}
 use Rattle.plsearch.specs.Errors.{instantiation_error, callable_error, procedure_error, static_error, error_term}
 
@@ -138,7 +145,7 @@ add_if true c rest n w = raised (static_error (indicator c.head)) assertz_1 rest
 add_if false c rest n w = Go [] (record { goals = Await (Publish (Last c ∷ [])) ∷ rest; variables = n }) w
 
 -- a clause that is added last is published (8.9.2)
-abbrev pub add : Program → Clausal → List Element → ℕ → Local → Move
+abbrev pub add : Program → ClauseForm → List Element → ℕ → Local → Move
 add P NoHead rest n w = raised instantiation_error assertz_1 rest w
 add P (BadHead h) rest n w = raised (callable_error h) assertz_1 rest w
 add P (BadBody b) rest n w = raised (callable_error b) assertz_1 rest w
@@ -154,7 +161,7 @@ unfoldable pub row : Program → Control → ℕ → Tree → ℕ → List Eleme
 row P True k t d rest n w = Go [] (record { goals = rest; variables = n }) w
 row P (Both a b) k t d rest n w = Go [] (record { goals = Goal k a ∷ Goal k b ∷ rest; variables = n }) w
 row P (Once g) k t d rest n w = run (runnable g) once_1 d (Commit d ∷ rest) n w
-row P (Write a) k t d rest n w = Go [] (record { goals = rest; variables = n }) (record { out = w.out ++ text a })
+row P (Write a) k t d rest n w = Go [] (record { goals = rest; variables = n }) (record { out = w.out ++ written iso_table Plain a })
 row P Newline k t d rest n w = Go [] (record { goals = rest; variables = n }) (record { out = w.out ++ 10 ∷ [] })
 row P (AddLast c) k t d rest n w = add P (clausal c) rest n w
 row P (Call p) k t d rest n w = user (static_clauses P p) d t rest n w
