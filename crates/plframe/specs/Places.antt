@@ -2,6 +2,7 @@
 use Rattle.std.specs.Prelude.{◌<◌, ◌≤◌, ℕ, zero, suc, ◌+◌, List, [], ◌∷◌, ◌++◌, length, get_or, map, drop, filter_map}
 use Rattle.std.specs.List.{fold}
 use Rattle.std.specs.Bool.{⊤}
+use Rattle.plterm.specs.declared.indicator.Indicator.{Indicator}
 use Rattle.plclause.specs.Clause.{Clause}
 use Rattle.plevent.specs.declared.request.Request.TheVariants.{Publish}
 use Rattle.plevent.specs.declared.update.Update.TheVariants.{Last}
@@ -45,12 +46,12 @@ abbrev pub plain : ℕ → List Case → List Case
 plain zero below = below
 plain (suc n) below = Choice [] ∷ plain n below
 
--- the clauses of the program's procedures, by their numbers
+-- the clauses of the program's procedures
 abbrev pub Statics : Type 0
-Statics = ℕ → List Clause
+Statics = Indicator → List Clause
 
 abbrev pub clauses_in : Statics → Source → List Clause
-clauses_in statics (Procedure i) = statics i
+clauses_in statics (Procedure p) = statics p
 clauses_in statics (Copied v) = v.items
 
 -- what is left of a call at the level d, of a goal, before a list, in a heap

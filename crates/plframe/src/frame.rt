@@ -2,6 +2,7 @@
 
 use plclause::clause::Clause;
 use plheap::cell::Mark;
+use plterm::indicator::Indicator;
 
 /// A member of a goal list.
 #[derive(Drop)]
@@ -26,8 +27,8 @@ pub struct Link {
 /// Where the clauses of a call are found.
 #[derive(Drop)]
 pub enum Source {
-    /// The procedure of the program with this number.
-    Procedure(u32),
+    /// The clauses of this procedure in the program.
+    Procedure(Indicator),
     /// The clauses that were alive when the procedure was called.
     Copied(Vec<Clause>),
 }

@@ -1,7 +1,7 @@
 -- Each turn takes a step or an answer, or makes the machine lighter: so turns come to an end.
 use Rattle.std.proofs.Common.{◌≡◌, ℕ, zero, suc, ◌+◌, ◌≤◌, inl, inr, List, [], ◌∷◌, length, refl, ap, arith}
 use Rattle.plevent.specs.Search.{Item, Answer}
-use Rattle.plsearch.specs.Standins.{Program}
+use Rattle.plload.specs.Program.{Program}
 use Rattle.plsearch.specs.Types.{Result, Fail, Element, Place, Case, Choice, Mark, Handle, Handler, Local, Move, Give, Go, Meeting, Select, Asks, End, Pass, Marked, Return, Keep, Again, Anew, Run}
 use Rattle.plsearch.specs.Table.{select, meet, answered, resume}
 use Rattle.plsearch.specs.Engine.{left, deeper}

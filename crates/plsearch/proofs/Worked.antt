@@ -14,7 +14,7 @@ use Rattle.plevent.specs.declared.request.ThreadEnd.TheVariants.{True, False, Ex
 use Rattle.plevent.specs.declared.update.Update.TheVariants.{Last}
 use Rattle.plclause.specs.Clausal.{clausal}
 use Rattle.plclause.specs.Conversion.{converted}
-use Rattle.plsearch.specs.Standins.{Program, static_clauses, is_fixed}
+use Rattle.plload.specs.Program.{Program}
 use Rattle.plsearch.specs.Errors.{indicator_term, instantiation_error, callable_error, procedure_error, static_error, error_term, pair}
 use Rattle.plsearch.specs.Table.{raised, row, select, meet, answered}
 use Rattle.plsearch.specs.Engine.{choice, out, outs, moved, walk, visit_in, Visit}
@@ -22,7 +22,7 @@ use Rattle.plsearch.specs.Search.{start_from, start_of, search_of}
 
 -- all that a search computes with
 pub all : ℕ
-unfolding bind occurs places differ unify_in unify living exists static_clauses is_fixed words others prefix_of infix_of postfix_of indicator_term instantiation_error callable_error procedure_error static_error error_term raised row select meet answered choice out outs moved walk visit_in Visit start_from start_of search_of
+unfolding bind occurs places differ unify_in unify living exists words others prefix_of infix_of postfix_of indicator_term instantiation_error callable_error procedure_error static_error error_term raised row select meet answered choice out outs moved walk visit_in Visit start_from start_of search_of
 all = 0
 
 abbrev name : List ℕ → Tree

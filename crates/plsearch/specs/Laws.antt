@@ -2,7 +2,7 @@
 use Rattle.std.specs.Prelude.{◌≡◌, ℕ, List, [], ◌++◌}
 use Rattle.plevent.specs.Search.{Answer, Finishes}
 use Rattle.plevent.specs.declared.request.ThreadEnd.{ThreadEnd}
-use Rattle.plsearch.specs.Standins.{Program}
+use Rattle.plload.specs.Program.{Program}
 use Rattle.plsearch.specs.Types.{Result, Place, Run}
 use Rattle.plsearch.specs.Engine.{walk, Visit}
 use Rattle.plsearch.specs.Machine.{Machine, Back, Rest, turn}

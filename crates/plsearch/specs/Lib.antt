@@ -1,4 +1,3 @@
-pub mod Standins
 pub mod Types
 pub mod Errors
 pub mod Table

@@ -5,7 +5,7 @@ use Rattle.plterm.specs.Variables.{variables}
 use Rattle.plsubst.specs.Subst.{shift}
 use Rattle.plevent.specs.Search.{Answer, Next, Wants, Finishes, Ceases, Ending, Search}
 use Rattle.plevent.specs.declared.request.ThreadEnd.TheVariants.{True, False, Exception, Budget}
-use Rattle.plsearch.specs.Standins.{Program}
+use Rattle.plload.specs.Program.{Program}
 use Rattle.plsearch.specs.Types.{Result, Stop, Fail, CutTo, Throw, Spent, Asking, Ceased, Goal, Place, Run}
 use Rattle.plsearch.specs.Engine.{Ended, Visit}
 

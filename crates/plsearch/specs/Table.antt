@@ -20,7 +20,8 @@ use Rattle.plclause.specs.Clausal.{clausal}
 use Rattle.plclause.specs.Conversion.{converted}
 use Rattle.plclause.specs.declared.form.ClauseForm.{ClauseForm}
 use Rattle.plclause.specs.declared.form.ClauseForm.TheVariants.{NoHead, BadHead, BadBody, IsClause}
-use Rattle.plsearch.specs.Standins.{Program, static_clauses, is_fixed}
+use Rattle.plload.specs.Fixed.{is_fixed}
+use Rattle.plload.specs.Program.{Program, clauses_for}
 use Rattle.plsearch.specs.Types.{Result, Fail, Throw, Ceased, Element, Goal, Commit, Look, Await, Place, Choice, Handler, Local, Move, Give, Go, Meeting, Select, Asks, Marked, Return}
 use Rattle.plsearch.specs.Errors.{instantiation_error, callable_error, procedure_error, static_error, error_term}
 
@@ -138,7 +139,7 @@ some_of (c ∷ cs) = true
 
 -- control constructs, built-in predicates and the program's procedures are static
 abbrev pub is_static : Program → Indicator → Bool
-is_static P p = is_fixed p || some_of (static_clauses P p)
+is_static P p = is_fixed p || some_of (clauses_for P p)
 
 abbrev pub add_if : Bool → Clause → List Element → ℕ → Local → Move
 add_if true c rest n w = raised (static_error (indicator c.head)) assertz_1 rest w
@@ -164,7 +165,7 @@ row P (Once g) k t d rest n w = run (runnable g) once_1 d (Commit d ∷ rest) n 
 row P (Write a) k t d rest n w = Go [] (record { goals = rest; variables = n }) (record { out = w.out ++ written iso_table Plain a })
 row P Newline k t d rest n w = Go [] (record { goals = rest; variables = n }) (record { out = w.out ++ 10 ∷ [] })
 row P (AddLast c) k t d rest n w = add P (clausal c) rest n w
-row P (Call p) k t d rest n w = user (static_clauses P p) d t rest n w
+row P (Call p) k t d rest n w = user (clauses_for P p) d t rest n w
 row P NoGoal k t d rest n w = Give Fail w
 
 unfoldable pub select : Program → ℕ → Tree → ℕ → List Element → ℕ → Local → Move
