@@ -2,3 +2,5 @@ pub mod Names
 pub mod Words
 pub mod Places
 pub mod Writing
+pub mod Tasks
+pub mod Nodes

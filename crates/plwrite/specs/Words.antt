@@ -62,7 +62,7 @@ abbrev pub text_of : List Word → List ℕ
 text_of ws = text_behind start ws
 
 -- the text so far, with words that follow
-abbrev pub finished : Text → List Word → List ℕ
+unfoldable pub finished : Text → List Word → List ℕ
 finished t ws = t.bytes.items ++ text_behind t.edge ws
 
 abbrev pub plain : List ℕ → Word

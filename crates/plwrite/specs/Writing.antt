@@ -54,9 +54,17 @@ pair_form ops s = if bytes_eq s (codes ".") then pair.List else infix_form (infi
 -- Words are put before those that follow them. So the words of a part are a function of what follows it, and
 -- those of an argument also of the position where it stands.
 
+abbrev pub opening : Bool → List Word → List Word
+opening true ws = sign signs.Open ∷ ws
+opening false ws = ws
+
+abbrev pub closing : Bool → List Word → List Word
+closing true ws = sign signs.Close ∷ ws
+closing false ws = ws
+
+-- in round brackets, where it needs them
 abbrev pub bracketed : Bool → (List Word → List Word) → List Word → List Word
-bracketed true body rest = sign signs.Open ∷ body (sign signs.Close ∷ rest)
-bracketed false body rest = body rest
+bracketed needed body rest = opening needed (body (closing needed rest))
 
 -- a bar stands before a term that ends a list
 abbrev pub behind_bar : Position → List Word → List Word

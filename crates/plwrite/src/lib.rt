@@ -5,4 +5,6 @@ mod form;
 mod names;
 mod place;
 pub mod style;
+mod task;
 mod text;
+mod writer;

@@ -1,11 +1,16 @@
 //! Text made word by word.
 ghost use Rattle.std.specs.Prelude.{◌≡◌, ◌∷◌, ◌++◌, [], List, OnOk};
+ghost use Rattle.plwrite.specs.Places.{is_bracketed_atom};
+ghost use Rattle.plwrite.specs.Writing.{ends_list};
 ghost use Rattle.plwrite.specs.Names.{name_text, quoted_unless};
 ghost use Rattle.plwrite.specs.Words.{Word, first_byte, last_byte, is_letter, is_held_off, touches, finished, sign_text, sign, variable, integer, plain, digits_unless_zero, letter_text, name, functor, prefix, prefix_role, operator, text_of};
 
 use crate::names::{is_alphanumeric, is_bare, is_empty_brackets, is_symbol, quoted};
+use crate::place::{Place, Position};
 use crate::style::Style;
+use crate::task::Notation;
 use itoa::Buffer;
+use plops::table::OpTable;
 use std::alloc::{AllocError, Global};
 
 /// What a word is to the next one.
@@ -122,6 +127,9 @@ pub struct Text {
 }
 
 impl Text {
+    ghost use Rattle.plwrite.specs.Writing.{opening, closing, behind_bar, called, atom_words};
+
+    #[tactic(auto, unfolding(crate::specs::Words::finished))]
     pub fn new(alloc: Global) -> Text
         ensures { (ws : List Word) → finished result ws ≡ text_of ws }
     {
@@ -135,6 +143,7 @@ impl Text {
     }
 
     /// The bytes.
+    #[tactic(auto, unfolding(crate::specs::Words::finished))]
     pub fn into_bytes(self) -> Vec<u8>
         ensures { result.items ≡ finished self [] }
     {
@@ -143,6 +152,7 @@ impl Text {
     }
 
     /// Adds a word, behind a space where it would touch the last one.
+    #[tactic(auto, unfolding(crate::specs::Words::finished))]
     fn put(&mut self, text: &[u8], role: Role) -> Result<(), AllocError>
         ensures { OnOk result ((ws : List Word) → finished self.new ws ≡ finished self.old (record { text = text.now; role = role } ∷ ws)) }
     {
@@ -265,4 +275,88 @@ impl Text {
             self.put_name_as(alloc, style, text, Role::Other)
         }
     }
+
+    /// Adds a bar before a term that ends a list.
+    pub fn put_bar(&mut self, position: Position) -> Result<(), AllocError>
+        ensures { OnOk result ((ws : List Word) → finished self.new ws ≡ finished self.old (behind_bar position ws)) }
+    {
+        match position {
+            Position::At(_) => Ok(()),
+            Position::Tail => self.put_sign(Sign::Bar),
+        }
+    }
+
+    /// Adds an opening bracket, where one is needed.
+    pub fn put_opening(&mut self, is_needed: bool) -> Result<(), AllocError>
+        ensures { OnOk result ((ws : List Word) → finished self.new ws ≡ finished self.old (opening is_needed ws)) }
+    {
+        if is_needed {
+            self.put_sign(Sign::Open)
+        } else {
+            Ok(())
+        }
+    }
+
+    /// Adds a closing bracket, where one is needed.
+    pub fn put_closing(&mut self, is_needed: bool) -> Result<(), AllocError>
+        ensures { OnOk result ((ws : List Word) → finished self.new ws ≡ finished self.old (closing is_needed ws)) }
+    {
+        if is_needed {
+            self.put_sign(Sign::Close)
+        } else {
+            Ok(())
+        }
+    }
+
+    /// Adds a functor and the opening bracket of its arguments.
+    pub fn put_call(
+        &mut self,
+        notation: &Notation<'_>,
+        position: Position,
+        text: &str,
+    ) -> Result<(), AllocError>
+        ensures { OnOk result ((ws : List Word) → finished self.new ws ≡ finished self.old (called notation.now.style position text.now ws)) }
+    {
+        self.put_bar(position)?;
+        self.put_functor(notation.alloc, notation.style, text)?;
+        self.put_sign(Sign::Open)
+    }
+
+    /// Adds an atom.
+    pub fn put_atom(
+        &mut self,
+        notation: &Notation<'_>,
+        position: Position,
+        text: &str,
+    ) -> Result<(), AllocError>
+        ensures { OnOk result ((ws : List Word) → finished self.new ws
+            ≡ finished self.old (atom_words notation.now.ops.now notation.now.style position (ends_list position text.now) text.now ws)) }
+    {
+        if ends_list(position, text) {
+            return Ok(());
+        }
+        let needed = is_bracketed_atom(notation.ops, position.place(), text);
+        self.put_bar(position)?;
+        self.put_opening(needed)?;
+        self.put_name(notation.alloc, notation.style, text)?;
+        self.put_closing(needed)
+    }
+}
+
+/// Whether an atom is what is left of a list at its end.
+fn ends_list(position: Position, name: &str) -> bool
+    ensures { result ≡ ends_list position name.now }
+{
+    match position {
+        Position::At(_) => false,
+        Position::Tail => name == "[]",
+    }
+}
+
+/// Whether an atom stands in brackets in a place.
+fn is_bracketed_atom(ops: &OpTable, place: Place, name: &str) -> bool
+    ensures { result ≡ is_bracketed_atom ops.now place name.now }
+{
+    place.is_operand()
+        && (ops.prefix(name).is_some() || ops.infix(name).is_some() || ops.postfix(name).is_some())
 }
