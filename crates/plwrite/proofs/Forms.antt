@@ -1,10 +1,10 @@
 -- What is told of a term, by its node.
-use Rattle.std.proofs.Common.{◌≡◌, ◌≤◌, ◌+◌, ◌-◌, ℕ, ℤ, zero, suc, List, [], ◌∷◌, length, take, drop, Bool, true, false, cond, Option, Some, None, refl, sym, ap, ◌∙◌, arith}
+use Rattle.std.proofs.Common.{◌≡◌, ◌≤◌, ℕ, ℤ, zero, suc, List, [], ◌∷◌, length, take, drop, Bool, true, false, cond, Option, Some, None, refl, sym, ap, ◌∙◌, arith}
 use Rattle.std.specs.Borrow.{Bor}
 use Rattle.plterm.specs.declared.node.Node.{Node}
 use Rattle.plterm.specs.declared.node.Node.TheVariants as nodes
-use Rattle.plterm.specs.Tree.{Tree, var, int, atom, compound, Trees, none, more, trees}
-use Rattle.plterm.specs.Reading.{arity, read, first}
+use Rattle.plterm.specs.Tree.{Tree, trees}
+use Rattle.plterm.specs.Reading.{read, first}
 use Rattle.plops.specs.declared.operator.Operator.TheVariants as operators
 use Rattle.plops.specs.declared.table.Entry.{Entry}
 use Rattle.plops.specs.declared.operator.Infix.{Infix}

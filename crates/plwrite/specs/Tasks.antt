@@ -1,5 +1,5 @@
 -- What a writer has still to write: tasks, the next one first, over the terms that are left, in their order.
-use Rattle.std.specs.Prelude.{◌≡◌, ◌≤◌, ℕ, zero, suc, ◌+◌, ◌*◌, List, [], ◌∷◌, length, Option, Some, None, Bool, true, false, reverse}
+use Rattle.std.specs.Prelude.{◌≡◌, ◌≤◌, ℕ, zero, suc, ◌+◌, ◌*◌, List, [], ◌∷◌, length, Bool, true, false, reverse}
 use Rattle.std.specs.List.{flat_map}
 use Rattle.plterm.specs.declared.node.Node.{Node}
 use Rattle.plterm.specs.Tree.{Tree, compound, none, more}

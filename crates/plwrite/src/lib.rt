@@ -7,4 +7,5 @@ mod place;
 pub mod style;
 mod task;
 mod text;
+pub mod write;
 mod writer;

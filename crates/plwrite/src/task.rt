@@ -7,6 +7,7 @@ use plterm::name::Name;
 use std::alloc::Global;
 
 /// The operators and the style by which terms are written.
+#[derive(Drop)]
 pub struct Notation<'a> {
     pub alloc: Global,
     pub ops: &'a OpTable,

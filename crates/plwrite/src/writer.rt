@@ -9,7 +9,7 @@ use crate::text::{Sign, Text};
 use plops::operator::{Infix, Operator, Postfix, Prefix};
 use plterm::name::Name;
 use plterm::node::Node;
-use plterm::walk::Terms;
+use plterm::walk::{TermRef, Terms};
 use std::alloc::{AllocError, Global};
 
 /// The text so far, and the tasks that follow, the next one last.
@@ -30,17 +30,35 @@ fn node_int(node: &Node) -> Option<i64>
 }
 
 impl<'a> Writer<'a> {
-    ghost use Rattle.std.specs.Prelude.{◌≡◌, ◌≤◌, ◌<◌, ◌+◌, ◌-◌, ◌∷◌, [], List, length, IfOk, OnOk};
+    ghost use Rattle.std.specs.Prelude.{◌≡◌, ◌≤◌, ◌<◌, ◌+◌, ◌-◌, ◌∷◌, [], List, length, IfOk, OnOk, OnSome, MatchOption};
     ghost use Rattle.plterm.specs.declared.node.Node.TheVariants.{Int, Compound};
     ghost use Rattle.plops.specs.declared.operator.Operator.TheVariants.{Before, Between, Behind};
     ghost use Rattle.plwrite.specs.declared.place.Position.TheVariants.{At, Tail};
     ghost use Rattle.plwrite.specs.Places.{whole, argument, left_of, right_of, right_of_prefix, left_of_postfix, needs_brackets, place_of};
-    ghost use Rattle.plwrite.specs.Writing.{called, behind_bar, opening};
+    ghost use Rattle.plwrite.specs.Writing.{words, called, behind_bar, opening};
     ghost use Rattle.plterm.specs.Tree.{Tree};
     ghost use Rattle.plterm.specs.Reading.{arity, read};
     ghost use Rattle.plwrite.specs.declared.task.Task.TheVariants.{Mark, OperatorName, Term, Only, Others};
-    ghost use Rattle.plwrite.specs.Words.{finished, sign, prefix, plain, letter_text};
+    ghost use Rattle.plwrite.specs.Words.{Word, finished, text_of, sign, prefix, plain, letter_text};
     ghost use Rattle.plwrite.specs.Tasks.{closing_tasks, list_told, told, stack, awaited, awaited_with, WritesNode, AddsTasks, work};
+
+    fn new(alloc: Global) -> Writer<'a>
+        ensures text { (ws : List Word) → finished result.text ws ≡ text_of ws }
+        ensures tasks { stack result ≡ [] }
+    {
+        Writer {
+            text: Text::new(alloc),
+            tasks: Vec::new(alloc),
+        }
+    }
+
+    fn pop(&mut self) -> Option<Task<'a>>
+        ensures text { self.new.text ≡ self.old.text }
+        ensures tasks { MatchOption result (stack self.old ≡ []) (λ task. stack self.old ≡ task ∷ stack self.new) }
+        ensures count { OnSome result (AddsTasks self.new self.old 1 × (length self.new.tasks.items < length self.old.tasks.items)) }
+    {
+        self.tasks.pop()
+    }
 
     fn push(&mut self, task: Task<'a>) -> Result<(), AllocError>
         ensures text { self.new.text ≡ self.old.text }
@@ -416,5 +434,19 @@ impl<'a> Writer<'a> {
             Task::Only(name, position) => self.write_next_only(notation, terms, name, position),
             Task::Others(count) => self.write_others(notation, terms, count),
         }
+    }
+
+    /// The text of a term, whose variables have the numbers that they are written with.
+    pub fn text_of(notation: &Notation<'_>, term: &TermRef<'a>) -> Result<Vec<u8>, AllocError>
+        ensures { IfOk result (λ v. v.items ≡ text_of (words notation.now.ops.now notation.now.style (At whole) term.now [])) }
+    {
+        let mut terms = term.alone();
+        let mut writer = Writer::new(notation.alloc);
+        writer.push(Task::Term(Position::At(Place::whole())))?;
+        while let Some(task) = writer.pop() {
+            writer.step(notation, &mut terms, task)?;
+        }
+        let Writer { text, tasks: _ } = writer;
+        Ok(text.into_bytes())
     }
 }

@@ -1,4 +1,4 @@
-use Rattle.std.proofs.Common.{◌≡◌, ◌∙◌, ◌∷◌, ap, sym, to_z, of_z, w64}
+use Rattle.std.proofs.Common.{◌∙◌, ◌∷◌, ap, sym, w64}
 use Rattle.std.proofs.lemmas.Result.{on_ok_weaker}
 use Rattle.std.proofs.lemmas.Int.{to_z-of_z}
 use Rattle.plwrite.specs.Words.{finished, integer}

@@ -1,4 +1,4 @@
-use Rattle.std.proofs.Common.{◌≡◌, ◌∙◌, ◌-◌, ◌≤◌, suc, length, ap, sym, subst, arith}
+use Rattle.std.proofs.Common.{◌∙◌, ◌-◌, ap, arith}
 use Rattle.std.proofs.lemmas.Result.{on_ok_weaker}
 use Rattle.plwrite.specs.Words.{finished}
 use Rattle.plwrite.specs.Tasks.{stack}

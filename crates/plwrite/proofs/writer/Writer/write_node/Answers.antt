@@ -1,8 +1,8 @@
-use Rattle.std.proofs.Common.{◌≡◌, ◌∙◌, ◌∷◌, suc, ◌-◌, ◌≤◌, ap, sym, rules, arith}
+use Rattle.std.proofs.Common.{◌∙◌, ap, sym}
 use Rattle.std.proofs.lemmas.Result.{on_ok_weaker}
-use Rattle.plwrite.specs.Words.{finished, variable, integer}
-use Rattle.plwrite.specs.Tasks.{stack, told}
-use Rattle.plwrite.proofs.Forms.{var_told, int_told, atom_told, none_told, call_told}
+use Rattle.plwrite.specs.Words.{finished}
+use Rattle.plwrite.specs.Tasks.{stack}
+use Rattle.plwrite.proofs.Forms.{var_told, atom_told}
 use Rattle.plwrite.proofs.writer.Writer.write_node.Goals as goal
 
 pub returns-in_ok-put_bar-in-Var-clause-text : goal.returns-in_ok-put_bar-in-Var-clause-text
