@@ -3,3 +3,5 @@
 
 pub mod operator;
 pub mod table;
+#[cfg(test)]
+mod tests;
