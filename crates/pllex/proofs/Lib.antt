@@ -3,3 +3,4 @@ pub mod Decoded
 pub mod Values
 pub mod Clauses
 pub mod Names
+pub mod Worked

@@ -8,4 +8,6 @@ pub mod error;
 pub mod item;
 pub mod layout;
 pub mod runs;
+#[cfg(test)]
+mod tests;
 pub mod token;
