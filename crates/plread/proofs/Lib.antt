@@ -4,3 +4,4 @@ pub mod Runs
 pub mod Unique
 pub mod Numbered
 pub mod Inputs
+pub mod Worked

@@ -8,6 +8,8 @@ pub mod input;
 pub mod looks;
 pub mod read;
 pub mod reader;
+#[cfg(test)]
+mod tests;
 pub mod token;
 pub mod variables;
 pub mod words;
