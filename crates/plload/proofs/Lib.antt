@@ -1,1 +1,4 @@
 pub mod Procedures
+pub mod Arguments
+pub mod Once
+pub mod Loadings

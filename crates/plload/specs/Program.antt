@@ -1,5 +1,5 @@
 -- A loaded program as contracts see it.
-use Rattle.std.specs.Prelude.{ℕ, Bool, if◌then◌else◌, List, [], ◌∷◌, ◌++◌, refl}
+use Rattle.std.specs.Prelude.{if◌then◌else◌, List, [], ◌∷◌, ◌++◌, refl}
 use Rattle.std.specs.Coded.{Coded, code_by, coded×, coded_list}
 use Rattle.plterm.specs.Tree.{Tree}
 use Rattle.plterm.specs.Reading.{tree_code}

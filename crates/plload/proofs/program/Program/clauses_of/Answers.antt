@@ -1,4 +1,4 @@
-use Rattle.std.proofs.Common.{◌∙◌, sym, ap}
+use Rattle.std.proofs.Common.{◌∙◌, sym}
 use Rattle.plload.proofs.Procedures.{clauses_found, clauses_none}
 use Rattle.plload.proofs.program.Program.clauses_of.Goals as goal
 
