@@ -57,10 +57,12 @@ pub fn clause_tokens(
     ensures lexed { Lexed text.now from result }
 
     // A caller that goes on behind the clause comes to the text's end.
-    ensures onward { IfOk result (λ found. IfSome found (λ clause. (from < clause.after) × (clause.after ≤ length text.now))) }
+    ensures onward { IfOk result (λ found.
+        IfSome found (λ clause. (from < clause.after) × (clause.after ≤ length text.now))) }
 
     // Names and variables are text that lies within the text, of at most 65,535 bytes.
-    ensures named { IfOk result (λ found. IfSome found (λ clause. AreNamed text.now clause.tokens.items)) }
+    ensures named { IfOk result (λ found.
+        IfSome found (λ clause. AreNamed text.now clause.tokens.items)) }
 {
     let mut tokens = Vec::new(alloc);
     let mut place = from;
@@ -87,9 +89,16 @@ pub fn clause_tokens(
     }
 }
 
-/// A text has one answer: the tokens of a clause, a fault, or neither.
+/// A text has one answer: the tokens of a clause, a fault with its place, or neither.
 pub fn one_answer()
-    ensures clause { (text : List ℕ) (from : ℕ) (ts us : List Token) (a b : ℕ) → IsClause text from ts a → IsClause text from us b → (ts ≡ us) × (a ≡ b) }
-    ensures fault { (text : List ℕ) (from : ℕ) (ts : List Token) (a : ℕ) (f : Fault) (at : ℕ) → IsClause text from ts a → IsFault text from f at → ⊥ }
-    ensures over { (text : List ℕ) (from : ℕ) (ts : List Token) (a : ℕ) → IsClause text from ts a → IsOver text from → ⊥ }
+    ensures clause { (text : List ℕ) (from : ℕ) (ts us : List Token) (a b : ℕ) →
+        IsClause text from ts a → IsClause text from us b → (ts ≡ us) × (a ≡ b) }
+    ensures fault { (text : List ℕ) (from : ℕ) (ts : List Token) (a : ℕ) (f : Fault) (at : ℕ) →
+        IsClause text from ts a → IsFault text from f at → ⊥ }
+    ensures over { (text : List ℕ) (from : ℕ) (ts : List Token) (a : ℕ) →
+        IsClause text from ts a → IsOver text from → ⊥ }
+    ensures faults { (text : List ℕ) (from : ℕ) (f g : Fault) (p q : ℕ) →
+        IsFault text from f p → IsFault text from g q → (f ≡ g) × (p ≡ q) }
+    ensures fault_over { (text : List ℕ) (from : ℕ) (f : Fault) (p : ℕ) →
+        IsFault text from f p → IsOver text from → ⊥ }
 {}

@@ -49,7 +49,8 @@ fn is_fraction(text: &[u8], place: usize) -> bool
 fn value_of(text: &[u8], from: usize, first: u8) -> Option<u64>
     requires within { from ≤ length text.now }
     requires digit { first < 10 }
-    ensures { let v = value first (drop from text.now) in result ≡ (if nat_le v 9223372036854775808 then Some v else None) }
+    ensures { let v = value first (drop from text.now) in
+        result ≡ (if nat_le v 9223372036854775808 then Some v else None) }
 {
     let mut n = u64::from(first);
     let mut place = from;
@@ -72,7 +73,8 @@ fn number(text: &[u8], place: usize, end: usize, first: u8) -> Item
     requires place { place < end }
     requires within { end ≤ length text.now }
     ensures advances { Advances place end result }
-    ensures value { result ≡ number (value first (drop (place + 1) text.now)) place end (drop end text.now) }
+    ensures value { let n = value first (drop (place + 1) text.now) in
+        result ≡ number n place end (drop end text.now) }
 {
     if is_fraction(text, end) {
         return Item::Fault(Fault::FloatLiteral, place);
@@ -91,7 +93,8 @@ fn symbols(text: &[u8], place: usize, end: usize) -> Item
     requires place { place < end }
     requires within { end ≤ length text.now }
     ensures advances { Advances place end result }
-    ensures value { result ≡ symbols (slice_index text.now place) place end (drop (place + 1) text.now) }
+    ensures value { let b = slice_index text.now place in
+        result ≡ symbols b place end (drop (place + 1) text.now) }
 {
     if text[place] == b'.' && ends_here(text, place + 1) {
         Item::Token(Token {
@@ -131,7 +134,8 @@ fn stray(text: &[u8], place: usize) -> Fault
 fn item_of(text: &[u8], place: usize) -> Item
     requires { place < length text.now }
     ensures advances { Advances place (length text.now) result }
-    ensures value { result ≡ item_of text.now place (slice_index text.now place) (drop (place + 1) text.now) }
+    ensures value { let b = slice_index text.now place in
+        result ≡ item_of text.now place b (drop (place + 1) text.now) }
 {
     let b = text[place];
     if b.is_ascii_lowercase() {

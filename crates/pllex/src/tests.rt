@@ -22,7 +22,8 @@ fn kinds(alloc: Global, text: &[u8]) -> Result<Option<Vec<Kind>>, LexError> {
 // Layout, both comments, names, variables, integers, brackets, a comma and the end (6.4).
 #[test]
 fn tokens_of_a_clause(rt: HostRuntime) -> Result<(), Fail> {
-    let text = b"\xEF\xBB\xBF% \xC3\xA9\nf(X, _y, 12):- /* \xE2\x82\xAC \xF0\x9F\x98\x80 */!,b;c. d";
+    let text =
+        b"\xEF\xBB\xBF% \xC3\xA9\nf(X, _y, 12):- /* \xE2\x82\xAC \xF0\x9F\x98\x80 */!,b;c. d";
     let wanted = [
         Kind::Name,
         Kind::Open,

@@ -2,12 +2,14 @@
 use Rattle.std.specs.Prelude.{◌≡◌, ℕ, List, [], ◌∷◌, Result, Ok, Err}
 use Rattle.std.specs.List.{fold}
 use Rattle.std.specs.declared.alloc.AllocError.{AllocError}
+use Rattle.plterm.specs.Tree.{Tree}
 use Rattle.plread.specs.declared.frame.Frame.{Frame}
 use Rattle.plread.specs.declared.frame.Frame.TheVariants as frames
 use Rattle.plread.specs.declared.reader.Reader.{Reader}
 use Rattle.plread.specs.declared.reader.Turn.{Turn}
 use Rattle.plread.specs.declared.reader.Turn.TheVariants as turns
 use Rattle.plread.specs.Words.{name_at}
+use Rattle.plread.specs.Signs.{Sign}
 use Rattle.plread.specs.Levels.{Level}
 use Rattle.plread.specs.Levels as levels
 use Rattle.plread.specs.Looks.{view}
@@ -35,3 +37,9 @@ Turned turns.Fails s after = after ≡ Fails
 abbrev pub Stepped : Result Turn AllocError → State → After → Type 0
 Stepped (Ok turn) s after = Turned turn s after
 Stepped (Err e) s after = Unit {0}
+
+-- a turn from one state of the code to another gave what the machine gives from the room, the open levels, the
+-- trees and the signs that were left
+abbrev pub Gives : List (List ℕ) → Result Turn AllocError → Reader → Reader → (ℕ → List Level → List Tree → List Sign → After) → Type 0
+Gives words result old new machine =
+    Stepped result (state_view words new) (machine old.room (stack_view words old.stack.items) old.terms (view words old.left.now))

@@ -49,9 +49,11 @@ fn sign_of<'a>(
 ) -> Result<Token, AllocError>
     requires { IsNamedAs token.kind text.now token }
     // Whatever words come behind.
-    ensures sign { IfOk result (λ t. (more : List (List ℕ)) → sign_view (words.new ++ more) t ≡ sign token.kind (bytes_of text.now token) variables.old joined) }
+    ensures sign { IfOk result (λ t. (more : List (List ℕ)) →
+        sign_view (words.new ++ more) t ≡ sign token.kind (bytes_of text.now token) variables.old joined) }
     ensures words { OnOk result (StartsWith words.old words.new) }
-    ensures seen { OnOk result (variables.new ≡ seen_after token.kind variables.old (bytes_of text.now token)) }
+    ensures seen { OnOk result (
+        variables.new ≡ seen_after token.kind variables.old (bytes_of text.now token)) }
 {
     match token.kind {
         Kind::Name => {
@@ -80,7 +82,8 @@ fn sign_of<'a>(
 /// The words and the tokens of a clause of a text, in time linear in them.
 pub fn input_of(alloc: Global, text: &[u8], tokens: &[Spelled]) -> Result<Input, AllocError>
     requires { AreNamed text.now tokens.now }
-    ensures { IfOk result (λ input. view input.words input.tokens.items ≡ signs_of text.now tokens.now) }
+    ensures { IfOk result (λ input.
+        view input.words input.tokens.items ≡ signs_of text.now tokens.now) }
 {
     let mut words = Words::new(alloc)?;
     let mut variables = Variables::new(alloc);

@@ -75,7 +75,8 @@ fn uncalled<'a>(
     name: usize,
     tokens: &'a [Token],
 ) -> Opening<'a>
-    ensures { start_view words.now result ≡ uncalled ops.now max (name_at words.now name) (view words.now tokens.now) (prefix_of ops.now (name_at words.now name)) }
+    ensures { let text = name_at words.now name in
+        start_view words.now result ≡ uncalled ops.now max text (view words.now tokens.now) (prefix_of ops.now text) }
 {
     match ops.prefix(words.text(name)) {
         None => Opening::Stands(Leaf::Atom(name), tokens),
@@ -98,7 +99,8 @@ fn name_start<'a>(
     name: usize,
     tokens: &'a [Token],
 ) -> Opening<'a>
-    ensures { start_view words.now result ≡ name_start ops.now max (name_at words.now name) (view words.now tokens.now) (called (view words.now tokens.now)) }
+    ensures { let behind = view words.now tokens.now in
+        start_view words.now result ≡ name_start ops.now max (name_at words.now name) behind (called behind) }
 {
     match called(words, tokens) {
         Some(inside) => Opening::Calls(name, inside),
@@ -135,7 +137,8 @@ fn behind<'a>(
     name: usize,
     tokens: &'a [Token],
 ) -> Follower<'a>
-    ensures { next_view words.now result ≡ behind op max given (name_at words.now name) (view words.now tokens.now) }
+    ensures { let text = name_at words.now name in
+        next_view words.now result ≡ behind op max given text (view words.now tokens.now) }
 {
     match op {
         None => Follower::Stop,
@@ -158,7 +161,8 @@ fn between<'a>(
     name: usize,
     tokens: &'a [Token],
 ) -> Follower<'a>
-    ensures { next_view words.now result ≡ between op post max given (name_at words.now name) (view words.now tokens.now) }
+    ensures { let text = name_at words.now name in
+        next_view words.now result ≡ between op post max given text (view words.now tokens.now) }
 {
     match op {
         None => behind(words, post, max, given, name, tokens),

@@ -33,7 +33,8 @@ pub fn read_clause(
     levels: u64,
 ) -> Result<ReadTerm, ReadError>
     requires { AreNamed text.now tokens.now }
-    ensures found { IfOk result (λ read. Spells ops.now levels (signs_of text.now tokens.now) read.term) }
+    ensures found { IfOk result (λ read.
+        Spells ops.now levels (signs_of text.now tokens.now) read.term) }
 
     // The tokens spell no term.
     ensures none { IfErr result (Refuses ops.now levels text.now tokens.now) }
@@ -57,5 +58,6 @@ fn start_of(tokens: &[Token]) -> usize
 
 /// Signs spell at most one term.
 pub fn one_term()
-    ensures { (ops : OpTable) (levels : ℕ) (signs : List Sign) (t u : Tree) → Spells ops levels signs t → Spells ops levels signs u → t ≡ u }
+    ensures { (ops : OpTable) (levels : ℕ) (signs : List Sign) (t u : Tree) →
+        Spells ops levels signs t → Spells ops levels signs u → t ≡ u }
 {}

@@ -37,7 +37,7 @@ impl<'a> Reader<'a> {
     ghost use Rattle.plterm.specs.Building.{with_node, IsWithinLimits};
     ghost use Rattle.plread.specs.Looks.{view};
     ghost use Rattle.plread.specs.Machine.{max_of, opened, complete};
-    ghost use Rattle.plread.specs.Views.{level_view, stack_view, Stepped, state_view};
+    ghost use Rattle.plread.specs.Views.{level_view, stack_view, Gives};
 
     fn max(&self, words: &Words) -> u16
         ensures { result ≡ max_of (stack_view words.now self.now.stack.items) }
@@ -52,8 +52,8 @@ impl<'a> Reader<'a> {
     }
 
     fn open(&mut self, words: &Words, frame: Frame, rest: &'a [Token]) -> Result<Turn, AllocError>
-        ensures { Stepped result (state_view words.now self.new)
-            (opened self.old.room (level_view words.now frame ∷ stack_view words.now self.old.stack.items) self.old.terms (view words.now rest.now)) }
+        ensures { Gives words.now result self.old self.new
+            (λ room stack trees _. opened room (level_view words.now frame ∷ stack) trees (view words.now rest.now)) }
     {
         if self.room == 0 {
             return Ok(Turn::Fails);
@@ -74,8 +74,8 @@ impl<'a> Reader<'a> {
     ) -> Result<Turn, AllocError>
         requires limits { IsWithinLimits node }
         requires operands { arity node ≤ length self.old.terms }
-        ensures { Stepped result (state_view words.now self.new)
-            (complete self.old.room (stack_view words.now self.old.stack.items) (with_node node self.old.terms) given (view words.now rest.now)) }
+        ensures { Gives words.now result self.old self.new
+            (λ room stack trees _. complete room stack (with_node node trees) given (view words.now rest.now)) }
     {
         self.terms.push(node)?;
         self.given = Some(given);
@@ -91,11 +91,11 @@ impl<'a> Reader<'a> {
     ghost use Rattle.plread.specs.Looks.{view, leaf_tree};
     ghost use Rattle.plread.specs.Machine.{max_of, complete, wants, goes_on, stops, closes, argues, step, held, one_if};
     ghost use Rattle.plread.specs.Reading.{start_of, next_of};
-    ghost use Rattle.plread.specs.Views.{level_view, stack_view, Stepped, state_view};
+    ghost use Rattle.plread.specs.Views.{stack_view, Stepped, state_view, Gives};
 
     fn stand(&mut self, words: &Words, leaf: Leaf, rest: &'a [Token]) -> Result<Turn, AllocError>
-        ensures { Stepped result (state_view words.now self.new)
-            (complete self.old.room (stack_view words.now self.old.stack.items) (leaf_tree words.now leaf ∷ self.old.terms) 0 (view words.now rest.now)) }
+        ensures { Gives words.now result self.old self.new
+            (λ room stack trees _. complete room stack (leaf_tree words.now leaf ∷ trees) 0 (view words.now rest.now)) }
     {
         match leaf {
             Leaf::Variable(number) => self.complete(words, Node::Var(number), 0, rest),
@@ -119,16 +119,17 @@ impl<'a> Reader<'a> {
         requires some { 0 < arity }
         requires few { arity ≤ 1024 }
         requires operands { arity ≤ length self.old.terms }
-        ensures { Stepped result (state_view words.now self.new)
-            (complete self.old.room (stack_view words.now self.old.stack.items) (with_node (Node.Compound (name_at words.now name) arity) self.old.terms) given (view words.now rest.now)) }
+        ensures { let node = Node.Compound (name_at words.now name) arity in
+            Gives words.now result self.old self.new
+            (λ room stack trees _. complete room stack (with_node node trees) given (view words.now rest.now)) }
     {
         let name = words.name(self.alloc, name)?;
         self.complete(words, Node::Compound(name, arity), given, rest)
     }
 
     fn want(&mut self, words: &Words, ops: &OpTable) -> Result<Turn, AllocError>
-        ensures { let stack = stack_view words.now self.old.stack.items in
-            Stepped result (state_view words.now self.new) (wants self.old.room stack self.old.terms (start_of ops.now (max_of stack) (view words.now self.old.left.now))) }
+        ensures { Gives words.now result self.old self.new
+            (λ room stack trees left. wants room stack trees (start_of ops.now (max_of stack) left)) }
     {
         match start_of(ops, words, self.max(words), self.left) {
             Opening::Stands(leaf, rest) => self.stand(words, leaf, rest),
@@ -141,7 +142,7 @@ impl<'a> Reader<'a> {
 
     fn close(&mut self, words: &Words) -> Result<Turn, AllocError>
         requires { self.old.room + 1 + vec_len self.old.stack < 2 ^ 64 }
-        ensures { Stepped result (state_view words.now self.new) (closes self.old.room (stack_view words.now self.old.stack.items) self.old.terms (view words.now self.old.left.now)) }
+        ensures { Gives words.now result self.old self.new closes }
     {
         match self.left {
             [Token::Close, rest @ ..] => {
@@ -158,8 +159,7 @@ impl<'a> Reader<'a> {
     fn argue(&mut self, words: &Words, name: usize, complete: u16) -> Result<Turn, AllocError>
         requires room { self.old.room + 1 + vec_len self.old.stack < 2 ^ 64 }
         requires operands { complete + 1 ≤ length self.old.terms }
-        ensures { Stepped result (state_view words.now self.new)
-            (argues (name_at words.now name) complete self.old.room (stack_view words.now self.old.stack.items) self.old.terms (view words.now self.old.left.now)) }
+        ensures { Gives words.now result self.old self.new (argues (name_at words.now name) complete) }
     {
         match self.left {
             [Token::Close, rest @ ..] => {
@@ -187,7 +187,7 @@ impl<'a> Reader<'a> {
     /// No operator extends the latest operand: the innermost level takes it.
     fn stop(&mut self, words: &Words) -> Result<Turn, AllocError>
         requires { length self.old.terms ≡ held (stack_view words.now self.old.stack.items) + 1 }
-        ensures { Stepped result (state_view words.now self.new) (stops self.old.room (stack_view words.now self.old.stack.items) self.old.terms (view words.now self.old.left.now)) }
+        ensures { Gives words.now result self.old self.new stops }
     {
         match self.stack.pop() {
             None => match self.left {
@@ -209,9 +209,8 @@ impl<'a> Reader<'a> {
 
     fn extend(&mut self, words: &Words, ops: &OpTable, given: u16) -> Result<Turn, AllocError>
         requires { length self.old.terms ≡ held (stack_view words.now self.old.stack.items) + 1 }
-        ensures { let stack = stack_view words.now self.old.stack.items in
-            let left = view words.now self.old.left.now in
-            Stepped result (state_view words.now self.new) (goes_on self.old.room stack self.old.terms left (next_of ops.now (max_of stack) given left)) }
+        ensures { Gives words.now result self.old self.new
+            (λ room stack trees left. goes_on room stack trees left (next_of ops.now (max_of stack) given left)) }
     {
         match next_of(ops, words, self.max(words), given, self.left) {
             Follower::Between(name, op, rest) => self.open(words, Frame::Between(name, op), rest),
