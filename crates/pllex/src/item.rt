@@ -1,8 +1,8 @@
 //! One token, or a fault.
 ghost use Rattle.std.specs.Prelude.{◌≡◌, ◌≤◌, ◌+◌, ◌-◌, ◌^◌, ◌<◌, drop, length, slice_index, if◌then◌else◌, nat_le, Some, None};
-ghost use Rattle.pllex.specs.Tokens.{begins_in, ends_here, named, symbols, value, is_fraction, number, token, stray, item_of, item_at};
+ghost use Rattle.pllex.specs.Tokens.{run_end, begins_in, ends_here, named, symbols, value, is_fraction, number, token, stray, item_of, item_at};
 ghost use Rattle.pllex.specs.Places.{Advances};
-ghost use Rattle.pllex.specs.declared.token.Class.TheVariants.{Digit};
+ghost use Rattle.pllex.specs.declared.token.Class.TheVariants.{Alphanumeric, Digit};
 
 use crate::characters::rest_of_character;
 use crate::runs::{is_layout, is_symbol, run_end};
@@ -130,6 +130,15 @@ fn stray(text: &[u8], place: usize) -> Fault
     }
 }
 
+/// A name or a variable of letters, digits and underscores.
+fn word(kind: Kind, text: &[u8], place: usize) -> Item
+    requires { place < length text.now }
+    ensures advances { Advances place (length text.now) result }
+    ensures value { result ≡ named kind place (run_end Alphanumeric (place + 1) (drop (place + 1) text.now)) }
+{
+    named(kind, place, run_end(text, place + 1, Class::Alphanumeric))
+}
+
 #[tactic(auto, unfolding(crate::specs::Tokens::item_of))]
 fn item_of(text: &[u8], place: usize) -> Item
     requires { place < length text.now }
@@ -139,43 +148,26 @@ fn item_of(text: &[u8], place: usize) -> Item
 {
     let b = text[place];
     if b.is_ascii_lowercase() {
-        return named(
-            Kind::Name,
-            place,
-            run_end(text, place + 1, Class::Alphanumeric),
-        );
+        word(Kind::Name, text, place)
+    } else if b.is_ascii_uppercase() || b == b'_' {
+        word(Kind::Variable, text, place)
+    } else if b.is_ascii_digit() {
+        let end = run_end(text, place + 1, Class::Digit);
+        number(text, place, end, b - b'0')
+    } else if b == b'(' {
+        single(Kind::Open, place)
+    } else if b == b')' {
+        single(Kind::Close, place)
+    } else if b == b',' {
+        single(Kind::Comma, place)
+    } else if b == b'!' || b == b';' {
+        single(Kind::Name, place)
+    } else if is_symbol(b) {
+        let end = run_end(text, place + 1, Class::Symbol);
+        symbols(text, place, end)
+    } else {
+        Item::Fault(stray(text, place), place)
     }
-    if b.is_ascii_uppercase() || b == b'_' {
-        return named(
-            Kind::Variable,
-            place,
-            run_end(text, place + 1, Class::Alphanumeric),
-        );
-    }
-    if b.is_ascii_digit() {
-        return number(
-            text,
-            place,
-            run_end(text, place + 1, Class::Digit),
-            b - b'0',
-        );
-    }
-    if b == b'(' {
-        return single(Kind::Open, place);
-    }
-    if b == b')' {
-        return single(Kind::Close, place);
-    }
-    if b == b',' {
-        return single(Kind::Comma, place);
-    }
-    if b == b'!' || b == b';' {
-        return single(Kind::Name, place);
-    }
-    if is_symbol(b) {
-        return symbols(text, place, run_end(text, place + 1, Class::Symbol));
-    }
-    Item::Fault(stray(text, place), place)
 }
 
 /// What stands at a place.
