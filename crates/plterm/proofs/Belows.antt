@@ -1,12 +1,11 @@
 -- The variables of a copy are below their number.
-use Rattle.std.proofs.Common.{◌≡◌, ◌==◌, ℕ, ◌+◌, ◌<◌, ◌≤◌, List, [], ◌∷◌, ◌++◌, length, map, subst, arith}
-use Rattle.std.proofs.lemmas.List.{map-append}
+use Rattle.std.proofs.Common.{◌≡◌, ℕ, ◌+◌, ◌<◌, List, [], ◌∷◌, ◌++◌, length, map, subst, arith}
 use Rattle.plterm.specs.declared.node.Node.{Node}
 use Rattle.plterm.specs.declared.node.Node.TheVariants.{Var, Int, Atom, Compound}
 use Rattle.plterm.specs.Tree.{Tree, var, int, atom, compound, Trees, none, more}
 use Rattle.plterm.specs.Reading.{spelling, spellings}
-use Rattle.plterm.specs.Variables.{place, added, with_node, seen_after, variables, renamed, copied, rename, AllBelow, EachBelow}
-use Rattle.plterm.proofs.Spellings.{place-added, place-seen_after, kept_by_node, spelling-renamed}
+use Rattle.plterm.specs.Variables.{place, added, with_node, seen_after, variables, copied, rename, AllBelow, EachBelow}
+use Rattle.plterm.proofs.Spellings.{place-added, kept_by_node, spelling-renamed}
 
 -- each variable among the nodes is below n
 abbrev pub NodesBelow : ℕ → List Node → Type 0
@@ -23,13 +22,6 @@ below_front n (Int i ∷ ms) ns h = below_front n ms ns h
 below_front n (Atom s ∷ ms) ns h = below_front n ms ns h
 below_front n (Compound s k ∷ ms) ns h = below_front n ms ns h
 
-below_both : (n : ℕ) (ms ns : List Node) → NodesBelow n ms → NodesBelow n ns → NodesBelow n (ms ++ ns)
-below_both n [] ns h k = k
-below_both n (Var v ∷ ms) ns h k = (h.0, below_both n ms ns h.1 k)
-below_both n (Int i ∷ ms) ns h k = below_both n ms ns h k
-below_both n (Atom s ∷ ms) ns h k = below_both n ms ns h k
-below_both n (Compound s j ∷ ms) ns h k = below_both n ms ns h k
-
 mutual
   pub AllBelow-spelling : (n : ℕ) (t : Tree) → NodesBelow n (spelling t) → AllBelow n t
   AllBelow-spelling n (var v) h = h.0
@@ -41,17 +33,6 @@ mutual
   EachBelow-spellings n none h = tt
   EachBelow-spellings n (more t ts) h =
       let b = below_front n (spelling t) (spellings ts) h in (AllBelow-spelling n t b.0, EachBelow-spellings n ts b.1)
-
-mutual
-  pub spelling-AllBelow : (n : ℕ) (t : Tree) → AllBelow n t → NodesBelow n (spelling t)
-  spelling-AllBelow n (var v) h = (h, tt)
-  spelling-AllBelow n (int i) h = tt
-  spelling-AllBelow n (atom s) h = tt
-  spelling-AllBelow n (compound s ts) h = spellings-EachBelow n ts h
-
-  pub spellings-EachBelow : (n : ℕ) (ts : Trees) → EachBelow n ts → NodesBelow n (spellings ts)
-  spellings-EachBelow n none h = tt
-  spellings-EachBelow n (more t ts) h = below_both n (spelling t) (spellings ts) (spelling-AllBelow n t h.0) (spellings-EachBelow n ts h.1)
 
 -- more variables are seen
 known_after : (ns : List Node) (v : ℕ) (seen : List ℕ) → place v seen < length seen → place v (seen_after seen ns) < length (seen_after seen ns)

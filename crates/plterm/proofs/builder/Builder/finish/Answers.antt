@@ -1,4 +1,4 @@
-use Rattle.std.proofs.Common.{◌≡◌, ◌∙◌, [], ◌∷◌, sym, ap, length, reverse, arith}
+use Rattle.std.proofs.Common.{◌≡◌, ◌∙◌, [], ◌∷◌, sym, ap, length, reverse}
 use Rattle.plterm.specs.Reading.{reading, IsTerm}
 use Rattle.plterm.specs.Building.{trees_of}
 use Rattle.plterm.proofs.Forests.{reading_term}

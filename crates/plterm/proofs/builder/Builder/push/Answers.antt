@@ -1,5 +1,4 @@
-use Rattle.std.proofs.Common.{length}
-use Rattle.plterm.proofs.Postfixes.{IsPostfix-push, trees_of-push}
+use Rattle.plterm.proofs.Postfixes.{IsPostfix-push}
 use Rattle.plterm.proofs.builder.Builder.push.Goals as goal
 
 pub invariant_of-self : goal.invariant_of-self

@@ -1,4 +1,4 @@
-use Rattle.std.proofs.Common.{◌≡◌, ◌≤◌, ◌<◌, ◌+◌, ◌-◌, ◌∷◌, ◌++◌, [], length, sym, ap, arith, ◌∙◌}
+use Rattle.std.proofs.Common.{◌≡◌, ◌<◌, ◌+◌, ◌-◌, ◌∷◌, ◌++◌, [], length, ap, arith, ◌∙◌}
 use Rattle.plterm.specs.Reading.{arity, read}
 use Rattle.plterm.proofs.Forests.{length-read}
 use Rattle.plterm.proofs.Steps.{copies_step}
