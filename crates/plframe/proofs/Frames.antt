@@ -69,7 +69,7 @@ module _ (statics : Statics) (old new : Store) (links more : List Link) (k : Kee
 
 module _ (old new : Store) (links more : List Link) (k : Keeps old new) where
   frame-kept : (f : Frame) (fs : List Frame) (all : length links ≤ length (links ++ more)) → IsFrame old links f fs → IsFrame new (links ++ more) f fs
-  frame-kept (Plain n) fs all a = tt
+  frame-kept (Plain n) fs all a = a
   frame-kept (Barrier l) fs all a = tt
   frame-kept (Call x) fs all a = record {
     mark = IsMark-kept x.mark old new k a.mark;
@@ -86,7 +86,7 @@ module _ (old new : Store) (links more : List Link) (k : Keeps old new) where
 
 -- the undo to a mark that is not older than the frames
 module _ (h : Store) (links : List Link) (m : Mark) (n : ℕ) (mark : IsMark m h) (room : n ≤ length links) where
-  left-cut : (statics : Statics) (d : ℕ) (a : Alternatives) (fs : List Frame) → IsOlder m.cells m.trail n (Call a) → IsCall h links a fs →
+  pub left-cut : (statics : Statics) (d : ℕ) (a : Alternatives) (fs : List Frame) → IsOlder m.cells m.trail n (Call a) → IsCall h links a fs →
       alternatives statics d (cut m h) (take n links) a ≡ alternatives statics d h links a
   left-cut statics d a fs o is =
       ap₂ (λ s xs. filter_map (resolve d s.count (term s a.goal) (map (element s) xs)) (drop a.next (clauses_in statics a.source)))
@@ -101,7 +101,7 @@ module _ (h : Store) (links : List Link) (m : Mark) (n : ℕ) (mark : IsMark m h
       ∙ ap (λ ps. Choice ps ∷ cases statics h links fs) (left-cut statics (deeper (cases statics h links fs) 0) x fs o.0 a.0)
 
   frame-cut : (f : Frame) (fs : List Frame) → IsOlder m.cells m.trail n f → IsFrame h links f fs → IsFrame (cut m h) (take n links) f fs
-  frame-cut (Plain i) fs o a = tt
+  frame-cut (Plain i) fs o a = a
   frame-cut (Barrier l) fs o a = tt
   frame-cut (Call x) fs o a = record {
     mark = IsMark-cut x.mark m h a.mark mark o.0 o.1;

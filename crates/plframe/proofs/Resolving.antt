@@ -38,20 +38,17 @@ pub over-new : (h : Store) (base n v : ℕ) (t : Tree) → HasVariables h base n
 over-new h base n v t has below = bind-agree (over h base) (λ x. var (n + x)) v t has.are below
 
 -- and so it is once they are bound
-pub over-bound : (old new : Store) (σ : ℕ → Tree) (base n v : ℕ) (t : Tree) → HasVariables old base n v → ((c : ℕ) → term new c ≡ bind σ (term old c)) → AllBelow v t →
-    bind (over new base) t ≡ bind σ (shift n t)
+pub over-bound : (h : Store) (σ : ℕ → Tree) (base n v : ℕ) (t : Tree) → ((x : ℕ) → x < v → term h (base + x) ≡ σ (n + x)) → AllBelow v t → bind (over h base) t ≡ bind σ (shift n t)
 unfolding bind
-over-bound old new σ base n v t has terms below =
-    bind-agree (over new base) (λ x. σ (n + x)) v t (λ x lt. terms (base + x) ∙ ap (bind σ) (has.are x lt)) below
-    ∙ sym (bind-bind σ (λ x. var (n + x)) t)
+over-bound h σ base n v t is below = bind-agree (over h base) (λ x. σ (n + x)) v t is below ∙ sym (bind-bind σ (λ x. var (n + x)) t)
 
 -- a substitution in the heap is one in the goals
-pub elements-bind : (old new : Store) (σ : ℕ → Tree) → ((c : ℕ) → term new c ≡ bind σ (term old c)) → (xs : List Item) → map (element new) xs ≡ bind_goals σ (map (element old) xs)
-elements-bind old new σ e [] = refl
-elements-bind old new σ e (GoalAt k c ∷ xs) = ap₂ (λ t es. Goal k t ∷ es) (e c) (elements-bind old new σ e xs)
-elements-bind old new σ e (CommitTo l ∷ xs) = ap (λ es. Commit l ∷ es) (elements-bind old new σ e xs)
-elements-bind old new σ e (LookAt c ∷ xs) = ap₂ (λ t es. Look t ∷ es) (e c) (elements-bind old new σ e xs)
-elements-bind old new σ e (AwaitFor c ∷ xs) = ap (λ es. Await (Publish (Last c ∷ [])) ∷ es) (elements-bind old new σ e xs)
+pub elements-bind : (old new : Store) (σ : ℕ → Tree) (n : ℕ) → ((c : ℕ) → c < n → term new c ≡ bind σ (term old c)) → (xs : List Item) → AreIn n xs → map (element new) xs ≡ bind_goals σ (map (element old) xs)
+elements-bind old new σ n e [] i = refl
+elements-bind old new σ n e (GoalAt k c ∷ xs) i = ap₂ (λ t es. Goal k t ∷ es) (e c i.0) (elements-bind old new σ n e xs i.1)
+elements-bind old new σ n e (CommitTo l ∷ xs) i = ap (λ es. Commit l ∷ es) (elements-bind old new σ n e xs i.1)
+elements-bind old new σ n e (LookAt c ∷ xs) i = ap₂ (λ t es. Look t ∷ es) (e c i.0) (elements-bind old new σ n e xs i.1)
+elements-bind old new σ n e (AwaitFor c ∷ xs) i = ap (λ es. Await (Publish (Last c ∷ [])) ∷ es) (elements-bind old new σ n e xs i.1)
 
 -- the clause fits: its place, by its goals and their variables
 pub resolved : (d n : ℕ) (t : Tree) (rest goals : List Element) (c : Clause) (σ : ℕ → Tree) → unify t (shift n c.head) ≡ Some σ →

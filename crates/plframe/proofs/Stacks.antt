@@ -1,19 +1,26 @@
 -- What the calls of a stack keep.
-use Rattle.std.proofs.Common.{◌≡◌, ℕ, zero, suc, ◌+◌, ◌-◌, ◌<◌, ◌≤◌, List, [], ◌∷◌, ◌++◌, length, length-append, refl, sym, ap, ap₂, ◌∙◌, subst, arith, map, reverse, append-nil, le_trans, le_refl, get_or}
-use Rattle.std.proofs.lemmas.List.{get_or_default}
-use Rattle.plheap.specs.Store.{Store, term, Keeps}
-use Rattle.plheap.proofs.Kept.{Keeps-refl}
+use Rattle.std.proofs.Common.{◌≡◌, ℕ, zero, suc, ◌+◌, ◌-◌, ◌<◌, ◌≤◌, List, [], ◌∷◌, ◌++◌, length, length-append, refl, sym, ap, ap₂, ◌∙◌, subst, arith, map, reverse, append-nil, le_trans, le_refl, get_or, take, drop, filter_map, length-take-le}
+use Rattle.std.proofs.lemmas.List.{get_or_default, drop_all}
+use Rattle.plheap.specs.declared.cell.Mark.{Mark}
+use Rattle.plheap.specs.Store.{Store, term, cut, IsMark, Keeps}
+use Rattle.plheap.proofs.Kept.{Keeps-refl, IsMark-kept}
+use Rattle.plheap.proofs.Cuts.{cut-cells, cut-cut, IsMark-cut}
 use Rattle.plsearch.specs.Types.{Element, Case, Choice}
+use Rattle.plsearch.specs.Table.{resolve}
 use Rattle.plsearch.specs.Engine.{deeper}
 use Rattle.plframe.specs.declared.stack.Stack.TheInside.{Inside}
+use Rattle.plframe.specs.declared.call.Called.{Called}
 use Rattle.plframe.specs.declared.frame.Item.{Item}
 use Rattle.plframe.specs.declared.frame.Link.{Link}
+use Rattle.plframe.specs.declared.frame.Source.{Source}
+use Rattle.plframe.specs.declared.frame.Alternatives.{Alternatives}
 use Rattle.plframe.specs.declared.frame.Frame.{Frame}
 use Rattle.plframe.specs.declared.frame.Frame.TheVariants.{Plain, Barrier, Call}
-use Rattle.plframe.specs.Places.{Statics, element, goals_at, list_at, link_at, IsChain, IsItemIn, AreIn, AreFrames, cases, opened, depth_of, size, IsFrame}
-use Rattle.plframe.specs.State.{State, IsList, IsState, IsStack, Extends, Begins, Opens, CountsUp, goals_of, cases_of}
-use Rattle.plframe.proofs.Arena.{list_at-more, list_at-new, list_at-first, list_at-none, chain-push, chain-none}
-use Rattle.plframe.proofs.Frames.{are_in-more, elements-stay, cases-kept, AreFrames-kept, depth-cases, reverse-push}
+use Rattle.plframe.specs.Places.{Statics, element, goals_at, list_at, link_at, IsChain, IsItemIn, AreIn, AreFrames, cases, opened, depth_of, size, IsFrame, IsCall, plain, alternatives, places_left, clauses_in}
+use Rattle.plframe.specs.Calls.{IsCalled, FirstFits}
+use Rattle.plframe.specs.State.{State, IsList, IsState, IsStack, Extends, Begins, Opens, CountsUp, OpensRest, Calls, Retries, call_places, HasCall, BeginsWithCall, goals_of, cases_of}
+use Rattle.plframe.proofs.Arena.{list_at-more, list_at-new, list_at-first, list_at-none, list_at-take, chain-push, chain-none, chain-take}
+use Rattle.plframe.proofs.Frames.{are_in-more, elements-stay, cases-kept, AreFrames-kept, cases-cut, AreFrames-cut, left-cut, depth-cases, reverse-push, plain-more, older-mark, now_cells}
 
 -- the state of a stack's fields
 abbrev pub inside : Inside → State
@@ -57,6 +64,16 @@ module _ (s : State) (h : Store) (more : List Link) (k : Keeps s.heap h) (stay :
     goals = (list-grown s.goals is.goals).0;
   }
 
+-- the heap alone grew
+pub extends-heap : (s : State) (h : Store) (k : Keeps s.heap h) → ((c : ℕ) → c < length s.heap.cells → term h c ≡ term s.heap c) → IsState s → Extends s (record s { heap = h })
+extends-heap s h k stay is = subst (λ ls. Extends s (record { heap = h; links = ls; frames = s.frames; goals = s.goals })) (append-nil s.links) (extends-grown s h [] k stay is)
+
+pub stack-heap : (s : State) (d : ℕ) (h : Store) (k : Keeps s.heap h) → ((c : ℕ) → c < length s.heap.cells → term h c ≡ term s.heap c) → IsStack s d → IsStack (record s { heap = h }) d
+stack-heap s d h k stay is = (
+  subst (λ ls. IsState (record { heap = h; links = ls; frames = s.frames; goals = s.goals })) (append-nil s.links) (state-grown s h [] k stay is.0 (subst IsChain (sym (append-nil s.links)) is.0.chain)),
+  is.1,
+)
+
 -- a new list
 module _ (s : State) (l : Link) (is : IsState s) (rest : IsList s l.next) (within : IsItemIn (length s.heap.cells) l.item) where
   abbrev linked : State
@@ -98,6 +115,7 @@ begins s l is some at =
     let list : list_at s.links s.goals ≡ l.item ∷ list_at s.links l.next = ap (list_at s.links) next ∙ list_at-first s.links i is.chain lt ∙ ap (λ (x : Link). x.item ∷ list_at s.links x.next) (sym same) in
     record {
       items = list;
+      within = (subst (AreIn (length s.heap.cells)) list is.goals.inside).0;
       rest = record {
         there = le_trans (subst (λ (x : Link). x.next ≤ i) (sym same) (is.chain i lt)) (omega (arith, lt));
         inside = (subst (AreIn (length s.heap.cells)) list is.goals.inside).1;
@@ -128,3 +146,231 @@ counted s d frames c is = (
 pub counted-cases : (statics : Statics) (s : State) (frames : List Frame) → CountsUp (reverse s.frames) (reverse frames) → cases_of statics (record s { frames = frames }) ≡ Choice [] ∷ cases_of statics s
 unfolding cases_of
 counted-cases statics s frames c = c.cases statics s.heap s.links
+
+-- a frame that was taken off
+pub popped-cases : (statics : Statics) (s : State) (rest : List Frame) (f : Frame) → s.frames ≡ rest ++ f ∷ [] →
+    cases_of statics s ≡ opened statics s.heap s.links f (cases_of statics (record s { frames = rest }))
+unfolding cases_of
+popped-cases statics s rest f e = ap (cases statics s.heap s.links) (ap reverse e ∙ reverse-push rest f)
+
+pub no-cases : (statics : Statics) (s : State) → s.frames ≡ [] → cases_of statics s ≡ []
+unfolding cases_of
+no-cases statics s e = ap (λ fs. cases statics s.heap s.links (reverse fs)) e
+
+pub popped-frames : (s : State) (d : ℕ) (rest : List Frame) (f : Frame) → s.frames ≡ rest ++ f ∷ [] → IsStack s d →
+    IsFrame s.heap s.links f (reverse rest) × AreFrames s.heap s.links (reverse rest) × (d ≡ size f + depth_of (reverse rest))
+popped-frames s d rest f e is =
+    let same : reverse s.frames ≡ f ∷ reverse rest = ap reverse e ∙ reverse-push rest f in
+    let frames = subst (AreFrames s.heap s.links) same is.0.frames in
+    (frames.0, frames.1, is.1 ∙ ap depth_of same)
+
+pub empty_is : (xs : List Frame) → length xs ≡ 0 → xs ≡ []
+empty_is [] e = refl
+empty_is (x ∷ xs) e = absurd (omega arith)
+
+pub has-call : (s : State) (rest : List Frame) (a : Alternatives) → s.frames ≡ rest ++ Call a ∷ [] → HasCall s
+has-call s rest a e = subst BeginsWithCall (sym (ap reverse e ∙ reverse-push rest (Call a))) tt
+
+-- closing a choice of so many
+pub closed-plain : (statics : Statics) (s : State) (rest frames : List Frame) (n : ℕ) → s.frames ≡ rest ++ Plain n ∷ [] → 1 < n → frames ≡ rest ++ Plain (n - 1) ∷ [] →
+    cases_of statics s ≡ Choice [] ∷ cases_of statics (record s { frames = frames })
+closed-plain statics s rest frames n e lt e' =
+    popped-cases statics s rest (Plain n) e
+    ∙ plain-more (n - 1) n (cases_of statics (record s { frames = rest })) (omega (arith, lt))
+    ∙ ap (λ cs. Choice [] ∷ cs) (sym (popped-cases statics (record s { frames = frames }) rest (Plain (n - 1)) e'))
+
+pub closed-last : (statics : Statics) (s : State) (rest : List Frame) (n : ℕ) → s.frames ≡ rest ++ Plain n ∷ [] → n ≡ 1 →
+    cases_of statics s ≡ Choice [] ∷ cases_of statics (record s { frames = rest })
+closed-last statics s rest n e one = popped-cases statics s rest (Plain n) e ∙ ap (λ i. plain i (cases_of statics (record s { frames = rest }))) one
+
+-- a call that visits the first of some clauses that fits
+module _ (statics : Statics) (s : State) (d : ℕ) (is : IsStack s d) (mark : Mark) (marks : IsMark mark s.heap) (now : cut mark s.heap ≡ s.heap) (call : Called) (called : IsCalled s.heap s.links call) (level : call.level ≡ d) (source : Source) (n : ℕ) (many : n ≡ length s.links)
+    (from : ℕ) (h : Store) (links : List Link) (i list : ℕ) (fits : FirstFits s.heap h s.links links call (clauses_in statics source) from i list) (frames : List Frame) where
+  abbrev further : Alternatives
+  further = record { mark = mark; links = n; goal = call.goal; rest = call.rest; source = source; next = i + 1 }
+
+  module _ (opens : OpensRest statics (reverse s.frames) (reverse frames) further) where
+    abbrev after : State
+    after = record { heap = h; links = links; frames = frames; goals = list }
+
+    kept-frames : AreFrames h links (reverse s.frames)
+    kept-frames =
+        let more = fits.longer in
+        subst (λ ls. AreFrames h ls (reverse s.frames)) (sym more.is) (AreFrames-kept s.heap h s.links more.more fits.keeps (reverse s.frames) (omega (arith, length-append s.links more.more)) is.0.frames)
+
+    kept-cases : cases statics h links (reverse s.frames) ≡ cases_of statics s
+    unfolding cases_of
+    kept-cases =
+        let more = fits.longer in
+        ap (λ ls. cases statics h ls (reverse s.frames)) more.is ∙ cases-kept statics s.heap h s.links more.more fits.keeps (reverse s.frames) is.0.frames
+
+    rest-stays : list_at links call.rest ≡ list_at s.links call.rest
+    rest-stays = ap (λ ls. list_at ls call.rest) fits.longer.is ∙ list_at-more s.links fits.longer.more call.rest called.rest.there
+
+    longer : n ≤ length links
+    longer = omega (arith, many, ap length fits.longer.is, length-append s.links fits.longer.more)
+
+    is-call : IsCall h links further (reverse s.frames)
+    is-call = record {
+      mark = IsMark-kept mark s.heap h fits.keeps marks;
+      room = longer;
+      rest = omega (arith, many, called.rest.there);
+      older = older-mark mark s.heap marks now s.links n (reverse s.frames) many is.0.frames;
+      inside = subst (AreIn mark.cells) (sym rest-stays) (subst (λ k. AreIn k (list_at s.links call.rest)) (sym (now_cells mark s.heap marks now)) called.rest.inside);
+      goal = omega (arith, now_cells mark s.heap marks now, called.goal);
+    }
+
+    pub called-stack : IsStack after (d + 1)
+    called-stack = (
+      record { chain = fits.chain; frames = opens.frames h links kept-frames is-call; goals = record { there = fits.there.there; inside = fits.there.inside } },
+      omega (arith, is.1, opens.depth),
+    )
+
+    left-is : (k : ℕ) → alternatives statics k h links further ≡ places_left k s.heap s.links call.goal call.rest (drop (i + 1) (clauses_in statics source))
+    left-is k =
+        ap₂ (λ st xs. filter_map (resolve k st.count (term st call.goal) (map (element st) xs)) (drop (i + 1) (clauses_in statics source)))
+        (fits.keeps.kept mark marks.cells marks.trail ∙ now) rest-stays
+
+    depth-now : deeper (cases_of statics s) 0 ≡ call.level
+    depth-now = sym (depth_is statics s d is.1) ∙ sym level
+
+    pub called-cases : cases_of statics after ≡ Choice (places_left call.level s.heap s.links call.goal call.rest (drop (i + 1) (clauses_in statics source))) ∷ cases_of statics s
+    unfolding cases_of
+    called-cases =
+        opens.cases h links
+        ∙ ap₂ (λ k cs. Choice (alternatives statics k h links further) ∷ cs) (ap (λ cs. deeper cs 0) kept-cases ∙ depth-now) kept-cases
+        ∙ ap (λ ps. Choice ps ∷ cases_of statics s) (left-is call.level)
+
+    pub called-calls : from ≡ 0 → Calls statics s after call.goal call.rest source
+    called-calls none = record {
+      others = places_left call.level s.heap s.links call.goal call.rest (drop (i + 1) (clauses_in statics source));
+      places =
+          ap (λ k. places_left k s.heap s.links call.goal call.rest (clauses_in statics source)) depth-now
+          ∙ ap (λ f. places_left call.level s.heap s.links call.goal call.rest (drop f (clauses_in statics source))) (sym none)
+          ∙ fits.places;
+      cases = called-cases;
+    }
+
+-- the call whose clauses are tried again
+module _ (s : State) (d : ℕ) (is : IsStack s d) (rest : List Frame) (a : Alternatives) (popped : s.frames ≡ rest ++ Call a ∷ []) where
+  abbrev back : State
+  back = record { heap = cut a.mark s.heap; links = take a.links s.links; frames = rest; goals = 0 }
+
+  the-call : IsCall s.heap s.links a (reverse rest)
+  the-call = (popped-frames s d rest (Call a) popped is).0
+
+  pub back-depth : d ≡ suc (depth_of (reverse rest))
+  back-depth = omega (arith, (popped-frames s d rest (Call a) popped is).2)
+
+  pub back-stack : IsStack back (d - 1)
+  back-stack = (
+    record {
+      chain = chain-take s.links a.links is.0.chain the-call.room;
+      frames = AreFrames-cut s.heap s.links a.mark a.links the-call.mark the-call.room (reverse rest) the-call.older (popped-frames s d rest (Call a) popped is).1;
+      goals = record { there = omega arith; inside = subst (AreIn (length (cut a.mark s.heap).cells)) (sym (list_at-none (take a.links s.links))) tt };
+    },
+    omega (arith, back-depth),
+  )
+
+  pub back-cases : (statics : Statics) → cases_of statics back ≡ cases_of statics (record s { frames = rest })
+  unfolding cases_of
+  back-cases statics = cases-cut s.heap s.links a.mark a.links the-call.mark the-call.room statics (reverse rest) the-call.older (popped-frames s d rest (Call a) popped is).1
+
+  abbrev again : Called
+  again = record { goal = a.goal; rest = a.rest; level = d - 1 }
+
+  pub again-called : IsCalled (cut a.mark s.heap) (take a.links s.links) again
+  again-called = record {
+    goal = omega (arith, the-call.goal, cut-cells a.mark s.heap the-call.mark.cells);
+    rest = record {
+      there = omega (arith, the-call.rest, length-take-le a.links s.links the-call.room);
+      inside = subst (AreIn (length (cut a.mark s.heap).cells)) (sym (list_at-take s.links a.links a.rest the-call.rest the-call.room))
+          (subst (λ k. AreIn k (list_at s.links a.rest)) (sym (cut-cells a.mark s.heap the-call.mark.cells)) the-call.inside);
+    };
+  }
+
+-- a choice with no clause left is one with nothing left
+pub rest-none : (statics : Statics) (old new : List Frame) (a : Alternatives) → length (clauses_in statics a.source) ≤ a.next → CountsUp old new → OpensRest statics old new a
+rest-none statics old new a le c = record {
+  cases = λ h links.
+      c.cases statics h links
+      ∙ ap (λ cs. Choice (filter_map (resolve (deeper (cases statics h links old) 0) (cut a.mark h).count (term (cut a.mark h) a.goal) (goals_at (cut a.mark h) links a.rest)) cs) ∷ cases statics h links old)
+      (sym (drop_all a.next (clauses_in statics a.source) le));
+  frames = λ h links fs call. c.frames h links fs;
+  depth = c.depth;
+}
+
+pub called-none : (statics : Statics) (s : State) (d : ℕ) → IsStack s d → (goal rest : ℕ) (source : Source) →
+    places_left d s.heap s.links goal rest (clauses_in statics source) ≡ [] → call_places statics s goal rest source ≡ []
+called-none statics s d is goal rest source none = ap (λ k. places_left k s.heap s.links goal rest (clauses_in statics source)) (sym (depth_is statics s d is.1)) ∙ none
+
+-- what comes of it
+module _ (s : State) (d : ℕ) (is : IsStack s d) (rest : List Frame) (a : Alternatives) (popped : s.frames ≡ rest ++ Call a ∷ []) where
+  old-call : IsCall s.heap s.links a (reverse rest)
+  old-call = (popped-frames s d rest (Call a) popped is).0
+
+  same-rest : list_at (take a.links s.links) a.rest ≡ list_at s.links a.rest
+  same-rest = list_at-take s.links a.links a.rest old-call.rest old-call.room
+
+  call-then : IsCall (cut a.mark s.heap) (take a.links s.links) a (reverse rest)
+  call-then = record {
+    mark = IsMark-cut a.mark a.mark s.heap old-call.mark old-call.mark (le_refl _) (le_refl _);
+    room = omega (arith, length-take-le a.links s.links old-call.room);
+    rest = old-call.rest;
+    older = old-call.older;
+    inside = subst (AreIn a.mark.cells) (sym same-rest) old-call.inside;
+    goal = old-call.goal;
+  }
+
+  pub refused-stack : (frames : List Frame) → frames ≡ rest ++ Call a ∷ [] → IsStack (record { heap = cut a.mark s.heap; links = take a.links s.links; frames = frames; goals = 0 }) d
+  refused-stack frames e =
+      let o = opened-state (back s d is rest a popped) (d - 1) frames (Call a) e (back-stack s d is rest a popped) call-then in
+      (o.0, omega (arith, o.1, back-depth s d is rest a popped))
+
+  same-left : (statics : Statics) (k : ℕ) → alternatives statics k (cut a.mark s.heap) (take a.links s.links) a ≡ alternatives statics k s.heap s.links a
+  same-left statics k = left-cut s.heap s.links a.mark a.links old-call.mark old-call.room statics k a (reverse rest) (le_refl _, le_refl _, le_refl _) old-call
+
+  pub refused-cases : (frames : List Frame) → frames ≡ rest ++ Call a ∷ [] → (statics : Statics) →
+      cases_of statics (record { heap = cut a.mark s.heap; links = take a.links s.links; frames = frames; goals = 0 }) ≡ cases_of statics s
+  refused-cases frames e statics =
+      opened-cases statics (back s d is rest a popped) frames (Call a) e
+      ∙ ap (λ cs. Choice (alternatives statics (deeper cs 0) (cut a.mark s.heap) (take a.links s.links) a) ∷ cs) (back-cases s d is rest a popped statics)
+      ∙ ap (λ ps. Choice ps ∷ cases_of statics (record s { frames = rest })) (same-left statics (deeper (cases_of statics (record s { frames = rest })) 0))
+      ∙ sym (popped-cases statics s rest (Call a) popped)
+
+  level-then : (statics : Statics) → deeper (cases_of statics (record s { frames = rest })) 0 ≡ d - 1
+  unfolding cases_of
+  level-then statics = omega (arith, depth-cases statics s.heap s.links (reverse rest), back-depth s d is rest a popped)
+
+  -- the places that were left are those of the call in the heap as it was
+  was-left : (statics : Statics) → cases_of statics s ≡ Choice (places_left (d - 1) (cut a.mark s.heap) (take a.links s.links) a.goal a.rest (drop a.next (clauses_in statics a.source))) ∷ cases_of statics (back s d is rest a popped)
+  was-left statics =
+      popped-cases statics s rest (Call a) popped
+      ∙ ap (λ k. Choice (alternatives statics k s.heap s.links a) ∷ cases_of statics (record s { frames = rest })) (level-then statics)
+      ∙ ap (λ xs. Choice (filter_map (resolve (d - 1) (cut a.mark s.heap).count (term (cut a.mark s.heap) a.goal) (map (element (cut a.mark s.heap)) xs)) (drop a.next (clauses_in statics a.source))) ∷ cases_of statics (record s { frames = rest })) (sym same-rest)
+      ∙ ap (λ cs. Choice (places_left (d - 1) (cut a.mark s.heap) (take a.links s.links) a.goal a.rest (drop a.next (clauses_in statics a.source))) ∷ cs) (sym (back-cases s d is rest a popped statics))
+
+  pub none-left : (statics : Statics) → places_left (d - 1) (cut a.mark s.heap) (take a.links s.links) a.goal a.rest (drop a.next (clauses_in statics a.source)) ≡ [] →
+      cases_of statics s ≡ Choice [] ∷ cases_of statics (back s d is rest a popped)
+  none-left statics none = was-left statics ∙ ap (λ ps. Choice ps ∷ cases_of statics (back s d is rest a popped)) none
+
+  module _ (statics : Statics) (h : Store) (links : List Link) (i list : ℕ) (fits : FirstFits (cut a.mark s.heap) h (take a.links s.links) links (record { goal = a.goal; rest = a.rest; level = d - 1 }) (clauses_in statics a.source) a.next i list)
+      (frames : List Frame) (opens : OpensRest statics (reverse rest) (reverse frames) (record a { next = i + 1 })) where
+    now-then : cut a.mark (cut a.mark s.heap) ≡ cut a.mark s.heap
+    now-then = cut-cut a.mark a.mark s.heap (le_refl _) (le_refl _)
+
+    many-then : a.links ≡ length (take a.links s.links)
+    many-then = sym (length-take-le a.links s.links old-call.room)
+
+    pub retried-stack : IsStack (record { heap = h; links = links; frames = frames; goals = list }) d
+    retried-stack =
+        let r = called-stack statics (back s d is rest a popped) (d - 1) (back-stack s d is rest a popped) a.mark call-then.mark now-then (record { goal = a.goal; rest = a.rest; level = d - 1 }) (again-called s d is rest a popped) refl a.source a.links many-then a.next h links i list fits frames opens in
+        (r.0, omega (arith, r.1, back-depth s d is rest a popped))
+
+    pub retried : Retries statics s (record { heap = h; links = links; frames = frames; goals = list })
+    retried = record {
+      others = places_left (d - 1) (cut a.mark s.heap) (take a.links s.links) a.goal a.rest (drop (i + 1) (clauses_in statics a.source));
+      older = cases_of statics (back s d is rest a popped);
+      was = was-left statics ∙ ap (λ ps. Choice ps ∷ cases_of statics (back s d is rest a popped)) fits.places;
+      cases = called-cases statics (back s d is rest a popped) (d - 1) (back-stack s d is rest a popped) a.mark call-then.mark now-then (record { goal = a.goal; rest = a.rest; level = d - 1 }) (again-called s d is rest a popped) refl a.source a.links many-then a.next h links i list fits frames opens;
+    }

@@ -113,7 +113,7 @@ pub record IsCall (h : Store) (links : List Link) (a : Alternatives) (fs : List 
   pub goal : a.goal < a.mark.cells
 
 abbrev pub IsFrame : Store → List Link → Frame → List Frame → Type 0
-IsFrame h links (Plain n) fs = ⊤
+IsFrame h links (Plain n) fs = 0 < n
 IsFrame h links (Barrier l) fs = ⊤
 IsFrame h links (Call a) fs = IsCall h links a fs
 

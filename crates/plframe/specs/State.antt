@@ -1,13 +1,17 @@
 -- A stack's state, and what it stands for.
 use Rattle.std.specs.Prelude.{◌≡◌, ℕ, ◌+◌, ◌<◌, ◌≤◌, List, [], ◌∷◌, ◌++◌, length, reverse, take}
 use Rattle.plheap.specs.Store.{Store, term, cut}
-use Rattle.plsearch.specs.Types.{Element, Place, Case, Choice}
+use Rattle.plsearch.specs.Types.{Element, Place, Case, Choice, Mark}
+use Rattle.plsearch.specs.Engine.{deeper}
 use Rattle.plframe.specs.declared.frame.Item.{Item}
 use Rattle.plframe.specs.declared.frame.Link.{Link}
 use Rattle.plframe.specs.declared.frame.Frame.{Frame}
 use Rattle.plframe.specs.declared.frame.Frame.TheVariants.{Plain, Barrier, Call}
 use Rattle.plframe.specs.declared.frame.Alternatives.{Alternatives}
-use Rattle.plframe.specs.Places.{Statics, place_at, goals_at, cases, depth_of, AreFrames, AreIn, list_at, IsChain}
+use Rattle.plframe.specs.declared.frame.Source.{Source}
+use Rattle.plframe.specs.declared.frame.Closed.{Closed}
+use Rattle.plframe.specs.declared.frame.Closed.TheVariants.{Choice as Fails, Mark as Cuts}
+use Rattle.plframe.specs.Places.{Statics, alternatives, places_left, clauses_in, IsCall, place_at, goals_at, cases, depth_of, AreFrames, AreIn, IsItemIn, list_at, IsChain}
 
 -- the frames, the newest last; the list that is visited
 pub record State : Type 0 where
@@ -59,6 +63,7 @@ pub record Opens (old new : State) (case : Statics → Case) : Type 0 where
 -- the first of a list, and the list behind it
 pub record Begins (s : State) (l : Link) : Type 0 where
   pub items : list_at s.links s.goals ≡ l.item ∷ list_at s.links l.next
+  pub within : IsItemIn (length s.heap.cells) l.item
   pub rest : IsList s l.next
 
 -- one more choice with nothing left, whatever the others are
@@ -66,3 +71,44 @@ pub record CountsUp (old new : List Frame) : Type 0 where
   pub cases : (statics : Statics) (h : Store) (links : List Link) → cases statics h links new ≡ Choice [] ∷ cases statics h links old
   pub frames : (h : Store) (links : List Link) → AreFrames h links old → AreFrames h links new
   pub depth : depth_of new ≡ depth_of old + 1
+
+-- the choice of the further clauses of a call, whatever the other cases are
+pub record OpensRest (statics : Statics) (old new : List Frame) (a : Alternatives) : Type 0 where
+  pub cases : (h : Store) (links : List Link) → cases statics h links new ≡ Choice (alternatives statics (deeper (cases statics h links old) 0) h links a) ∷ cases statics h links old
+  pub frames : (h : Store) (links : List Link) → AreFrames h links old → IsCall h links a old → AreFrames h links new
+  pub depth : depth_of new ≡ depth_of old + 1
+
+-- the innermost case is a call
+abbrev pub IsCallFrame : Frame → Type 0
+IsCallFrame (Plain n) = ⊥
+IsCallFrame (Barrier l) = ⊥
+IsCallFrame (Call a) = Unit {0}
+
+abbrev pub BeginsWithCall : List Frame → Type 0
+BeginsWithCall [] = ⊥
+BeginsWithCall (f ∷ fs) = IsCallFrame f
+
+abbrev pub HasCall : State → Type 0
+HasCall s = BeginsWithCall (reverse s.frames)
+
+-- the innermost case was closed
+abbrev pub ClosedAs : Statics → State → State → Closed → Type 0
+ClosedAs statics old new Fails = (ps : List Place) × (cases_of statics old ≡ Choice ps ∷ cases_of statics new) × ((HasCall old → ⊥) → ps ≡ [])
+ClosedAs statics old new (Cuts l) = cases_of statics old ≡ Mark l ∷ cases_of statics new
+
+-- the places of a call at the level of the next case
+abbrev pub call_places : Statics → State → ℕ → ℕ → Source → List Place
+call_places statics s goal rest source = places_left (deeper (cases_of statics s) 0) s.heap s.links goal rest (clauses_in statics source)
+
+-- a call visits its first place, in a choice of the others
+pub record Calls (statics : Statics) (old new : State) (goal rest : ℕ) (source : Source) : Type 0 where
+  pub others : List Place
+  pub places : call_places statics old goal rest source ≡ place_of new ∷ others
+  pub cases : cases_of statics new ≡ Choice others ∷ cases_of statics old
+
+-- the next place of the innermost choice is visited
+pub record Retries (statics : Statics) (old new : State) : Type 0 where
+  pub others : List Place
+  pub older : List Case
+  pub was : cases_of statics old ≡ Choice (place_of new ∷ others) ∷ older
+  pub cases : cases_of statics new ≡ Choice others ∷ older

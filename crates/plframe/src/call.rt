@@ -1,6 +1,7 @@
 //! Calls of procedures, clause by clause.
 
 ghost use Rattle.std.specs.Prelude.{◌≡◌, ℕ, ◌+◌, ◌<◌, ◌≤◌, List, [], ◌∷◌, ◌++◌, length, drop, IfOk, OnOk, OnErr, IfNone, IfSome, Some, None};
+ghost use Rattle.plterm.specs.Variables.{AllBelow};
 ghost use Rattle.plsubst.specs.Subst.{shift};
 ghost use Rattle.plsubst.specs.Unify.{unify as unifier_of};
 ghost use Rattle.plheap.specs.Store.{term, Keeps};
@@ -101,6 +102,7 @@ fn put_body(
     requires within { base + clause.now.variables ≤ length heap.old.cells }
     requires rest { IsListIn heap.old links.old.items call.rest }
     requires chain { IsChain links.old.items }
+    ensures below { AllBelow clause.now.variables clause.now.body }
     ensures puts { IfOk result (λ list. PutsBody heap.old heap.new links.old.items links.new.items call base list clause.now) }
     ensures keeps { Keeps heap.old heap.new }
     ensures longer { Longer links.old.items links.new.items }
@@ -192,10 +194,10 @@ pub fn first_fit(
 {
     let mut i = from;
     while i < clauses.len() {
-        if let Some(list) = try_clause(heap, links, room, call, &clauses[i])? {
-            return Ok(Some((i, list)));
+        match try_clause(heap, links, room, call, &clauses[i])? {
+            Some(list) => return Ok(Some((i, list))),
+            None => i += 1,
         }
-        i += 1;
     }
     Ok(None)
 }

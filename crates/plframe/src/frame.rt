@@ -59,3 +59,12 @@ pub enum Frame {
     /// A choice of the clauses of a call.
     Call(Alternatives),
 }
+
+/// A case that was closed.
+#[derive(Clone, Copy)]
+pub enum Closed {
+    /// A choice.
+    Choice,
+    /// A mark of a level.
+    Mark(u32),
+}

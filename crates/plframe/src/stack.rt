@@ -1,13 +1,21 @@
 //! The stack.
 
-ghost use Rattle.std.specs.Prelude.{◌≡◌, ℕ, ◌+◌, ◌<◌, ◌≤◌, List, [], ◌∷◌, length, map, reverse, IfOk, OnOk, OnErr, IfNone, IfSome, Some, None, true, false};
+ghost use Rattle.std.specs.Prelude.{◌≡◌, ℕ, ◌+◌, ◌<◌, ◌≤◌, List, [], ◌∷◌, length, map, reverse, IfOk, OnOk, OnErr, IfNone, IfSome, Some, None, true, false, IsTrue, ◌↔◌, vec_len, vec_capacity};
+ghost use Rattle.plterm.specs.Variables.{AllBelow};
+ghost use Rattle.plsubst.specs.Subst.{shift};
+ghost use Rattle.plheap.specs.Store.{term};
+ghost use Rattle.plload.specs.Program.{clauses_for};
 ghost use Rattle.plsearch.specs.Types.{Choice, Mark as MarkOf, Place, Case};
 ghost use Rattle.plsearch.specs.Engine.{deeper};
-ghost use Rattle.plframe.specs.Places.{Statics, IsItemIn, list_at, depth_of, element};
-ghost use Rattle.plframe.specs.State.{place_of, goals_of, cases_of, IsList, Extends, Opens, Begins, CountsUp};
+ghost use Rattle.plframe.specs.Places.{Statics, IsItemIn, list_at, depth_of, element, clauses_in};
+ghost use Rattle.plframe.specs.State.{place_of, goals_of, cases_of, IsList, Extends, Opens, Begins, CountsUp, OpensRest, HasCall, ClosedAs, Calls, Retries, call_places};
 
-use crate::frame::{Frame, Item, Link};
+use crate::call::{Called, Room, first_fit};
+use crate::frame::{Alternatives, Closed, Frame, Item, Link, Source};
+use plclause::clause::Clause;
 use plheap::heap::Heap;
+use plload::program::Program;
+use plterm::term::Term;
 use std::alloc::{AllocError, Global};
 use std::marker::Model;
 
@@ -19,6 +27,7 @@ pub struct Stack {
     frames: Vec<Frame>,
     goals: u32,
     depth: u32,
+    room: Room,
 }
 
 impl Model for Stack {
@@ -46,6 +55,7 @@ impl Stack {
             frames: Vec::new(alloc),
             goals: 0,
             depth: 0,
+            room: Room::new(alloc),
         }
     }
 
@@ -91,6 +101,19 @@ impl Stack {
         Ok(number as u32 + 1)
     }
 
+    /// Puts a term with variables below a count, which are new: its cell.
+    pub fn put(&mut self, given: &Term, count: u32) -> Result<u32, AllocError>
+        requires { AllBelow count given.now }
+        ensures cell { IfOk result (λ c. c < length self.new.heap.cells) }
+        ensures is { IfOk result (λ c. term self.new.heap c ≡ shift self.old.heap.count given.now) }
+        ensures count { OnOk result (self.new.heap.count ≡ self.old.heap.count + count) }
+        ensures stays { OnOk result (Extends self.old self.new) }
+    {
+        let base = self.heap.variables(count)?;
+        let cell = self.heap.put(&mut self.room.pending, given, base)?;
+        Ok(cell)
+    }
+
     /// Visits a list that is there.
     pub fn visit(&mut self, list: u32)
         requires { IsList self.old list }
@@ -107,7 +130,8 @@ impl Stack {
         if self.depth == u32::MAX {
             return Err(AllocError);
         }
-        count_up(&mut self.frames)?;
+        self.frames.reserve(1)?;
+        count_up(&mut self.frames);
         self.depth += 1;
         Ok(())
     }
@@ -124,28 +148,219 @@ impl Stack {
         self.depth += 1;
         Ok(())
     }
+
+    /// Calls a procedure: visits the body of its first clause that fits the goal, before a list, in a choice of the clauses behind that one.
+    /// It says whether there is such a clause.
+    pub fn call(
+        &mut self,
+        program: &Program,
+        goal: u32,
+        rest: u32,
+        source: Source,
+    ) -> Result<bool, AllocError>
+        requires goal { goal < length self.old.heap.cells }
+        requires rest { IsList self.old rest }
+        ensures yes { IfOk result (λ fits. fits ≡ true → Calls (clauses_for program.now) self.old self.new goal rest source) }
+        ensures no { IfOk result (λ fits. fits ≡ false → call_places (clauses_for program.now) self.old goal rest source ≡ []) }
+        ensures same { IfOk result (λ fits. fits ≡ false → self.new ≡ self.old) }
+        ensures err { OnErr result (self.new ≡ self.old) }
+    {
+        if self.depth == u32::MAX {
+            return Err(AllocError);
+        }
+        self.frames.reserve(1)?;
+        let mark = self.heap.mark();
+        let links = self.links.len();
+        let call = Called {
+            goal,
+            rest,
+            level: self.depth,
+        };
+        let clauses = clauses_of(program, &source);
+        let count = clauses.len();
+        match first_fit(
+            &mut self.heap,
+            &mut self.links,
+            &mut self.room,
+            call,
+            clauses,
+            0,
+        ) {
+            Err(e) => Err(e),
+            Ok(None) => Ok(false),
+            Ok(Some((i, list))) => {
+                let further = Alternatives {
+                    mark,
+                    links,
+                    goal,
+                    rest,
+                    source,
+                    next: i + 1,
+                };
+                open_rest(&mut self.frames, further, count);
+                self.goals = list;
+                self.depth += 1;
+                Ok(true)
+            }
+        }
+    }
+
+    /// Whether the innermost case is a choice with clauses to be tried.
+    pub fn is_call(&self) -> bool
+        ensures { IsTrue result ↔ HasCall self.now }
+    {
+        matches!(self.frames.last(), Some(Frame::Call(_)))
+    }
+
+    /// Closes the innermost case, if one is open.
+    pub fn close(&mut self) -> Option<Closed>
+        ensures some { IfSome result (λ c. (statics : Statics) → ClosedAs statics self.old self.new c) }
+        ensures none { IfNone result ((statics : Statics) → cases_of statics self.old ≡ []) }
+        ensures same { IfNone result (self.new ≡ self.old) }
+    {
+        match self.frames.pop() {
+            None => None,
+            Some(Frame::Barrier(level)) => {
+                self.depth -= 1;
+                Some(Closed::Mark(level))
+            }
+            Some(Frame::Call(_)) => {
+                self.depth -= 1;
+                Some(Closed::Choice)
+            }
+            Some(Frame::Plain(n)) => {
+                self.depth -= 1;
+                if n > 1 {
+                    match self.frames.push(Frame::Plain(n - 1)) {
+                        Ok(()) => return Some(Closed::Choice),
+                        Err(_) => unreachable!(),
+                    }
+                }
+                Some(Closed::Choice)
+            }
+        }
+    }
+
+    /// Comes back to the innermost choice, whose clauses are to be tried: visits the body of the next one that fits, or closes the choice.
+    /// It says whether there is such a clause.
+    pub fn retry(&mut self, program: &Program) -> Result<bool, AllocError>
+        requires { HasCall self.old }
+        ensures yes { IfOk result (λ fits. fits ≡ true → Retries (clauses_for program.now) self.old self.new) }
+        ensures no { IfOk result (λ fits. fits ≡ false → cases_of (clauses_for program.now) self.old ≡ Choice [] ∷ cases_of (clauses_for program.now) self.new) }
+        ensures err { OnErr result ((statics : Statics) → cases_of statics self.new ≡ cases_of statics self.old) }
+    {
+        let Some(Frame::Call(further)) = self.frames.pop() else {
+            unreachable!()
+        };
+        self.heap.undo(further.mark);
+        self.links.truncate(further.links);
+        self.goals = 0;
+        let call = Called {
+            goal: further.goal,
+            rest: further.rest,
+            level: self.depth - 1,
+        };
+        let clauses = clauses_of(program, &further.source);
+        let count = clauses.len();
+        match first_fit(
+            &mut self.heap,
+            &mut self.links,
+            &mut self.room,
+            call,
+            clauses,
+            further.next,
+        ) {
+            Err(e) => {
+                match self.frames.push(Frame::Call(further)) {
+                    Ok(()) => {}
+                    Err(_) => unreachable!(),
+                }
+                Err(e)
+            }
+            Ok(None) => {
+                forget(further);
+                self.depth -= 1;
+                Ok(false)
+            }
+            Ok(Some((i, list))) => {
+                open_rest(&mut self.frames, after(further, i + 1), count);
+                self.goals = list;
+                Ok(true)
+            }
+        }
+    }
+}
+
+/// Lets a call go.
+fn forget(_further: Alternatives) {}
+
+/// The clauses of a call from a number on.
+fn after(further: Alternatives, next: usize) -> Alternatives
+    ensures { result ≡ record further { next = next } }
+{
+    let Alternatives {
+        mark,
+        links,
+        goal,
+        rest,
+        source,
+        next: _,
+    } = further;
+    Alternatives {
+        mark,
+        links,
+        goal,
+        rest,
+        source,
+        next,
+    }
 }
 
 /// One more choice with nothing left.
-fn count_up(frames: &mut Vec<Frame>) -> Result<(), AllocError>
-    ensures ok { OnOk result (CountsUp (reverse frames.old.items) (reverse frames.new.items)) }
-    ensures err { OnErr result (frames.new.items ≡ frames.old.items) }
+fn count_up(frames: &mut Vec<Frame>)
+    requires room { vec_len frames.old < vec_capacity frames.old }
+    ensures { CountsUp (reverse frames.old.items) (reverse frames.new.items) }
 {
     match frames.pop() {
         Some(Frame::Plain(n)) if n < u32::MAX => match frames.push(Frame::Plain(n + 1)) {
-            Ok(()) => Ok(()),
+            Ok(()) => {}
             Err(_) => unreachable!(),
         },
         Some(frame) => match frames.push(frame) {
-            Ok(()) => {
-                frames.push(Frame::Plain(1))?;
-                Ok(())
-            }
+            Ok(()) => match frames.push(Frame::Plain(1)) {
+                Ok(()) => {}
+                Err(_) => unreachable!(),
+            },
             Err(_) => unreachable!(),
         },
-        None => {
-            frames.push(Frame::Plain(1))?;
-            Ok(())
-        }
+        None => match frames.push(Frame::Plain(1)) {
+            Ok(()) => {}
+            Err(_) => unreachable!(),
+        },
+    }
+}
+
+/// The choice of the clauses of a call that were not tried, of so many clauses in all.
+fn open_rest(frames: &mut Vec<Frame>, rest: Alternatives, count: usize)
+    requires room { vec_len frames.old < vec_capacity frames.old }
+    ensures { (statics : Statics) → length (clauses_in statics rest.source) ≡ count → OpensRest statics (reverse frames.old.items) (reverse frames.new.items) rest }
+{
+    if rest.next >= count {
+        count_up(frames);
+        return;
+    }
+    match frames.push(Frame::Call(rest)) {
+        Ok(()) => {}
+        Err(_) => unreachable!(),
+    }
+}
+
+/// The clauses of a call.
+fn clauses_of<'a>(program: &'a Program, source: &'a Source) -> &'a [Clause]
+    ensures { result.now ≡ clauses_in (clauses_for program.now) source.now }
+{
+    match source {
+        Source::Procedure(indicator) => program.clauses_of(indicator),
+        Source::Copied(clauses) => clauses.as_slice(),
     }
 }

@@ -22,7 +22,7 @@ use Rattle.plsearch.specs.Search.{start_from, start_of, search_of}
 
 -- all that a search computes with
 pub all : ℕ
-unfolding bind occurs places differ unify_in unify living exists words others prefix_of infix_of postfix_of indicator_term instantiation_error callable_error procedure_error static_error error_term raised row select meet answered choice out outs moved walk visit_in Visit start_from start_of search_of
+unfolding bind occurs places differ unify_in unify living exists words others prefix_of infix_of postfix_of raised row select meet answered choice out outs moved walk visit_in Visit start_from start_of search_of
 all = 0
 
 abbrev name : List ℕ → Tree

@@ -7,24 +7,21 @@ abbrev pub pair : List ℕ → Tree → Tree → Tree
 pair f a b = compound f (more a (more b none))
 
 -- an indicator as a term: its name, `/`, its arity
-unfoldable pub indicator_term : Indicator → Tree
+abbrev pub indicator_term : Indicator → Tree
 indicator_term p = pair (codes "/") (atom p.name) (int (pos p.arity))
 
-unfoldable pub instantiation_error : Tree
+abbrev pub instantiation_error : Tree
 instantiation_error = atom (codes "instantiation_error")
 
-unfoldable pub callable_error : Tree → Tree
+abbrev pub callable_error : Tree → Tree
 callable_error t = pair (codes "type_error") (atom (codes "callable")) t
 
-unfoldable pub procedure_error : Indicator → Tree
-unfolding indicator_term
+abbrev pub procedure_error : Indicator → Tree
 procedure_error p = pair (codes "existence_error") (atom (codes "procedure")) (indicator_term p)
 
-unfoldable pub static_error : Indicator → Tree
-unfolding indicator_term
+abbrev pub static_error : Indicator → Tree
 static_error p = compound (codes "permission_error") (more (atom (codes "modify")) (more (atom (codes "static_procedure")) (more (indicator_term p) none)))
 
 -- an error, and the indicator of the predicate that raised it
-unfoldable pub error_term : Tree → Indicator → Tree
-unfolding indicator_term
+abbrev pub error_term : Tree → Indicator → Tree
 error_term e p = pair (codes "error") e (indicator_term p)

@@ -1,8 +1,7 @@
 -- A thread's search, as its journal sees it.
 use Rattle.std.specs.Prelude.{ℕ, ◌+◌, ◌-◌, List, [], ◌∷◌, length, codes, min}
 use Rattle.plterm.specs.Tree.{Tree, compound, none, more}
-use Rattle.plterm.specs.Variables.{variables}
-use Rattle.plsubst.specs.Subst.{shift}
+use Rattle.plterm.specs.Variables.{copied, variables}
 use Rattle.plevent.specs.Search.{Answer, Next, Wants, Finishes, Ceases, Ending, Search}
 use Rattle.plevent.specs.declared.request.ThreadEnd.TheVariants.{True, False, Exception, Budget}
 use Rattle.plload.specs.Program.{Program}
@@ -12,18 +11,19 @@ use Rattle.plsearch.specs.Engine.{Ended, Visit}
 abbrev pub once : Tree → Tree
 once g = compound (codes "once") (more g none)
 
-abbrev pub started : Tree → ℕ → Place → Place
-started g n rest = record rest { goals = Goal 0 (once (shift n g)) ∷ rest.goals }
+-- a goal, once, before a place, its variables numbered behind those of the place
+abbrev pub started : Tree → Place → Place
+started g p = record { goals = Goal 0 (once (copied p.variables g)) ∷ p.goals; variables = p.variables + length (variables g) }
 
--- the goals in order, each once, their variables apart and numbered from n on
-unfoldable pub start_from : ℕ → List Tree → Place
-start_from n [] = record { goals = []; variables = n }
-start_from n (g ∷ gs) = started g n (start_from (n + length (variables g)) gs)
+-- the goals in order, each once, their variables apart
+unfoldable pub start_from : List Tree → Place
+start_from [] = record { goals = []; variables = 0 }
+start_from (g ∷ gs) = started g (start_from gs)
 
 -- where main starts
 unfoldable pub start_of : Program → Place
 unfolding start_from
-start_of P = start_from 0 P.goals
+start_of P = start_from P.goals
 
 -- a cut at the very outside and an answer that does not fit what was asked do not occur in a run
 abbrev pub next_of : Result → Next
