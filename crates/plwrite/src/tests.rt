@@ -1,0 +1,51 @@
+use crate::style::Style;
+use crate::write::write_term;
+use plops::table::OpTable;
+use plterm::error::TermError;
+use plterm::name::Name;
+use plterm::term::Term;
+use std::alloc::Global;
+use std::test::Fail;
+
+fn atom(alloc: Global, name: &str) -> Result<Term, TermError> {
+    Term::atom(alloc, Name::new(alloc, name)?)
+}
+
+fn of(alloc: Global, name: &str, args: Vec<Term>) -> Result<Term, TermError> {
+    Term::compound(alloc, Name::new(alloc, name)?, args)
+}
+
+fn pair(alloc: Global, name: &str, left: Term, right: Term) -> Result<Term, TermError> {
+    of(alloc, name, vec![in alloc; left, right]?)
+}
+
+/// The clause `a:-b,'X y'`.
+fn clause(alloc: Global) -> Result<Term, TermError> {
+    let body = pair(alloc, ",", atom(alloc, "b")?, atom(alloc, "X y")?)?;
+    pair(alloc, ":-", atom(alloc, "a")?, body)
+}
+
+/// The list `[7,_|q/0]`.
+fn list(alloc: Global) -> Result<Term, TermError> {
+    let indicator = pair(alloc, "/", atom(alloc, "q")?, Term::int(alloc, 0)?)?;
+    let rest = pair(alloc, ".", Term::var(alloc, 9)?, indicator)?;
+    pair(alloc, ".", Term::int(alloc, 7)?, rest)
+}
+
+#[test]
+fn writes(rt: HostRuntime) -> Result<(), Fail> {
+    let alloc = rt.alloc();
+    let iso = OpTable::iso(alloc)?;
+    let report = OpTable::report(alloc)?;
+    let clause = clause(alloc)?;
+    let list = list(alloc)?;
+    let text = write_term(alloc, &clause, &iso, Style::Plain)?;
+    assert_eq!(rt; text.as_slice(), b"a:-b,X y".as_slice());
+    let text = write_term(alloc, &clause, &iso, Style::Quoted)?;
+    assert_eq!(rt; text.as_slice(), b"a:-b,'X y'".as_slice());
+    let text = write_term(alloc, &list, &iso, Style::Plain)?;
+    assert_eq!(rt; text.as_slice(), b"[7,_1|/(q,0)]".as_slice());
+    let text = write_term(alloc, &list, &report, Style::Quoted)?;
+    assert_eq!(rt; text.as_slice(), b"[7,_1|q/0]".as_slice());
+    Ok(())
+}
