@@ -1,2 +1,4 @@
 pub mod Alone
+pub mod OneMore
+mod Aliases
 mod Worked

@@ -3,5 +3,9 @@
 #![tactic(auto)]
 
 pub mod history;
+pub mod report;
+pub mod status;
 
 pub use history::{History, Journal, Output, Places, Run, RunEnd, Runs};
+pub use report::report_text;
+pub use status::{Status, kind_word, refusal_text, status_of};

@@ -1,0 +1,142 @@
+//! What a call of the program came to: its number for the system, and its words.
+ghost use Rattle.std.specs.Prelude.{◌≡◌, ◌++◌, ◌∷◌, [], Some, codes, decimal, nat_eq, IfOk, option_copied};
+ghost use Rattle.plhist.specs.Status.{number_of, line_of, kind_text, refusal_text, status_of, status_of_end, status_after};
+
+use crate::history::Journal;
+use itoa::Buffer;
+use plevent::{Act, Entry, ThreadEnd};
+use plload::error::RefusalKind;
+use std::alloc::{AllocError, Global};
+
+/// What a call came to.
+#[derive(Clone, Copy, PartialEq, Eq)]
+pub enum Status {
+    /// The run is over, and main ended `true`; or the command had no run.
+    Done,
+    /// Main ended `false`.
+    Failed,
+    /// Main ended with an exception that nothing caught.
+    Raised,
+    /// Main took all of its steps.
+    Spent,
+    /// The words are no command.
+    Usage,
+    /// The program text is refused at this line and column, both from 1.
+    Refused {
+        line: u64,
+        column: u64,
+        kind: RefusalKind,
+    },
+    /// A source could not be read.
+    ReadFault,
+    /// A source is longer than is allowed.
+    TooLong,
+    /// There was no memory.
+    NoMemory,
+    /// The output could not be written.
+    WriteFault,
+}
+
+impl Status {
+    /// The number that the process ends with.
+    pub fn number(&self) -> u8
+        ensures { result ≡ number_of self.now }
+    {
+        match self {
+            Status::Done => 0,
+            Status::Failed => 1,
+            Status::Raised => 2,
+            Status::Spent => 4,
+            Status::Usage => 64,
+            Status::Refused { .. } => 65,
+            Status::ReadFault => 66,
+            Status::TooLong => 67,
+            Status::NoMemory => 71,
+            Status::WriteFault => 74,
+        }
+    }
+
+    /// The line for standard error, without its newline; none where the output tells all.
+    pub fn line(&self) -> Option<&'static str>
+        ensures { option_copied result ≡ line_of self.now }
+    {
+        match self {
+            Status::Usage => Some("usage"),
+            Status::ReadFault => Some("cannot read"),
+            Status::TooLong => Some("too long"),
+            Status::NoMemory => Some("no memory"),
+            Status::WriteFault => Some("cannot write"),
+            _ => None,
+        }
+    }
+}
+
+/// The word for a kind of refusal.
+pub fn kind_word(kind: RefusalKind) -> &'static str
+    ensures { result.now ≡ kind_text kind }
+{
+    match kind {
+        RefusalKind::Lex => "lex",
+        RefusalKind::Syntax => "syntax",
+        RefusalKind::NotCallable => "not_callable",
+        RefusalKind::StaticRedefined => "static_redefined",
+        RefusalKind::BadDirective => "bad_directive",
+    }
+}
+
+/// The output where a program text is refused: one line.
+pub fn refusal_text(
+    alloc: Global,
+    line: u64,
+    column: u64,
+    kind: RefusalKind,
+) -> Result<Vec<u8>, AllocError>
+    ensures { IfOk result (λ text. text.items ≡ refusal_text line column kind) }
+{
+    let mut buffer = Buffer::new();
+    let mut text = Vec::from_slice(alloc, b"refused: line ")?;
+    text.extend_from_slice(buffer.format(line).as_bytes())?;
+    text.extend_from_slice(b" column ")?;
+    text.extend_from_slice(buffer.format(column).as_bytes())?;
+    text.extend_from_slice(b": ")?;
+    text.extend_from_slice(kind_word(kind).as_bytes())?;
+    text.extend_from_slice(b"\n")?;
+    Ok(text)
+}
+
+/// The status of a thread's end.
+fn status_of_end(end: &ThreadEnd) -> Status
+    ensures { result ≡ status_of_end (Some end.now) }
+{
+    match end {
+        ThreadEnd::True => Status::Done,
+        ThreadEnd::False => Status::Failed,
+        ThreadEnd::Exception(_) => Status::Raised,
+        ThreadEnd::Budget => Status::Spent,
+    }
+}
+
+/// What an entry makes of the status.
+fn status_after(entry: &Entry, before: Status) -> Status
+    ensures { result ≡ status_after (nat_eq entry.now.thread 1) entry.now.act before }
+{
+    if entry.thread != 1 {
+        return before;
+    }
+    match &entry.act {
+        Act::End(end) => status_of_end(end),
+        _ => before,
+    }
+}
+
+/// The status of a run: how main ended.
+pub fn status_of(journal: &Journal) -> Status
+    ensures { result ≡ status_of journal.now }
+{
+    let entries = journal.as_slice();
+    let mut status = Status::Done;
+    for entry in entries {
+        status = status_after(entry, status);
+    }
+    status
+}
