@@ -3,3 +3,6 @@ pub mod Search
 pub mod Whole
 pub mod Look
 pub mod Gather
+pub mod Bits
+pub mod Index
+pub mod Plans

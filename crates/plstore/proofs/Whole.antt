@@ -69,7 +69,7 @@ names-erased : (g : ℕ) (p : Indicator) (b : ℕ) (r : Record) (v : Bool) → r
 names-erased g p b r true = refl
 names-erased g p b r false = refl
 
-any-erased : (g : ℕ) (p : Indicator) (b : ℕ) (y : ClauseName) (rs : List Record) → list_any (record_names g p) (changed_where (is_named y) (erase_at b) rs) ≡ list_any (record_names g p) rs
+pub any-erased : (g : ℕ) (p : Indicator) (b : ℕ) (y : ClauseName) (rs : List Record) → list_any (record_names g p) (changed_where (is_named y) (erase_at b) rs) ≡ list_any (record_names g p) rs
 any-erased g p b y [] = refl
 any-erased g p b y (r ∷ rs) = ap₂ (λ u v. u || v) (names-erased g p b r (is_named y r)) (any-erased g p b y rs)
 

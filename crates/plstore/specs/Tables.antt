@@ -3,6 +3,16 @@ use Rattle.plstore.specs.declared.record.Record.{Record}
 use Rattle.plstore.specs.declared.record.Declared.{Declared}
 use Rattle.plstore.specs.declared.tables.Tables.{Tables}
 use Rattle.plstore.specs.Kept.{Kept}
+use Rattle.plstore.specs.Rising.{IsRising}
+use Rattle.plstore.specs.Links.{IsIndexed, ends_in}
 
 abbrev pub kept_in : Tables → Kept
 kept_in t = record { records = t.records.items; declared = t.declared.items }
+
+-- links and ends are those of the records
+abbrev pub Indexed : Tables → Type 0
+Indexed t = IsIndexed t.records.items t.declared.items t.next.items (ends_in t.index)
+
+pub record IsStored (t : Tables) : Type 0 where
+  pub rising : IsRising t.records.items
+  pub indexed : Indexed t

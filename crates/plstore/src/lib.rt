@@ -1,7 +1,9 @@
 //! The clauses of all batches, each with the place of its erasure: the database at every time.
 #![tactic(auto)]
 
+mod ends;
 pub mod laws;
+mod plan;
 pub mod record;
 pub mod store;
 pub mod tables;

@@ -7,11 +7,13 @@ ghost use Rattle.plstore.specs.Kept.{keep, nothing, here, clause_of, is_there, r
 ghost use Rattle.plstore.specs.Rising.{AllBelowPlace};
 
 use crate::record::{Cursor, Declared, Record};
+use crate::plan::plan;
 use crate::tables::{Tables, find, make_all};
 use plclause::clause::Clause;
 use plevent::{Batch, ClauseName};
 use plterm::indicator::Indicator;
 use std::alloc::{AllocError, Global};
+use std::collections::HashMap;
 use std::marker::Model;
 
 /// The clauses of all batches so far, and the procedures declared.
@@ -22,15 +24,15 @@ pub struct Store {
 
 impl Model for Store {
     ghost use Rattle.plstore.specs.Kept.{Kept, kept_code};
-    ghost use Rattle.plstore.specs.Rising.{IsRising};
-
     ghost Value = { Kept };
 
     ghost coded = { kept_code };
 
     ghost view = { λ a. record { records = a.tables.records.items; declared = a.tables.declared.items } };
 
-    ghost invariant = { λ a. IsRising a.tables.records.items };
+    ghost use Rattle.plstore.specs.Tables.{IsStored};
+
+    ghost invariant = { λ a. IsStored a.tables };
 }
 
 impl Store {
@@ -42,20 +44,24 @@ impl Store {
             tables: Tables {
                 records: Vec::new(alloc),
                 declared: Vec::new(alloc),
+                next: Vec::new(alloc),
+                index: HashMap::new(alloc),
             },
         }
     }
 
     /// Makes the updates of a batch, whose place is above those of all batches before it.
-    pub fn apply(&mut self, batch: Batch, place: u64) -> Result<(), AllocError>
+    pub fn apply(&mut self, alloc: Global, batch: Batch, place: u64) -> Result<(), AllocError>
         requires { AllBelowPlace place self.old.records }
         ensures made { OnOk result (self.new ≡ fold keep self.old (stamped place 0 batch)) }
         ensures refused { OnErr result (self.new ≡ self.old) }
     {
-        let updates = batch.into_vec();
-        self.tables.records.reserve(updates.len())?;
-        self.tables.declared.reserve(updates.len())?;
-        make_all(&mut self.tables, updates, place);
+        let plan = plan(alloc, batch.into_vec())?;
+        self.tables.records.reserve(plan.len())?;
+        self.tables.declared.reserve(plan.len())?;
+        self.tables.next.reserve(plan.len())?;
+        self.tables.index.reserve(plan.len())?;
+        make_all(&mut self.tables, plan, place);
         Ok(())
     }
 

@@ -1,99 +1,148 @@
 //! The tables of a store, and how an update changes them.
 ghost use Rattle.std.specs.Prelude.{◌≡◌, ◌+◌, ◌<◌, ◌≤◌, ◌++◌, ◌∷◌, [], MatchOption, fold, length, vec_len};
 ghost use Rattle.std.specs.Vec.{vec_capacity};
-ghost use Rattle.plevent.specs.Alive.{stamped, named, same_name};
+ghost use Rattle.std.specs.HashMap.{spare};
+ghost use Rattle.plclause.specs.Indicators.{indicator};
+ghost use Rattle.plevent.specs.Alive.{stamped, named};
 ghost use Rattle.plstore.specs.Kept.{keep, made, erase_at, first_of, changed_where, is_named};
+ghost use Rattle.plstore.specs.Plan.{update_of, updates_of, IsPlanned, AllPlanned};
 ghost use Rattle.plstore.specs.Rising.{less, IsRising, InOrder, NoneIs, OneIs};
-ghost use Rattle.plstore.specs.Tables.{kept_in};
+ghost use Rattle.plstore.specs.Tables.{kept_in, Indexed};
 
+use crate::ends::{Ends, earlier, ends_of, grown, link, set_ends};
+use crate::plan::Planned;
 use crate::record::{Declared, Record};
 use plclause::clause::Clause;
-use plevent::{ClauseName, Update};
+use plevent::ClauseName;
 use plterm::indicator::Indicator;
+use std::collections::HashMap;
 
-/// Each clause ever made, in the order of their names, and each declaration.
+/// Each clause ever made, in the order of their names, and each declaration; and where to find those of a procedure.
 #[derive(Drop)]
 pub(crate) struct Tables {
     pub(crate) records: Vec<Record>,
     pub(crate) declared: Vec<Declared>,
+    /// By the number of a record the next one of its side: downward in front, upward behind.
+    pub(crate) next: Vec<Option<usize>>,
+    pub(crate) index: HashMap<Indicator, Ends>,
 }
 
 /// Makes the updates of a batch, for which there is room.
-pub(crate) fn make_all(tables: &mut Tables, updates: Vec<Update>, place: u64)
-    requires records_room { vec_len tables.old.records + vec_len updates ≤ vec_capacity tables.old.records }
-    requires declared_room { vec_len tables.old.declared + vec_len updates ≤ vec_capacity tables.old.declared }
+pub(crate) fn make_all(tables: &mut Tables, plan: Vec<Planned>, place: u64)
+    requires records_room { vec_len tables.old.records + vec_len plan ≤ vec_capacity tables.old.records }
+    requires declared_room { vec_len tables.old.declared + vec_len plan ≤ vec_capacity tables.old.declared }
+    requires next_room { vec_len tables.old.next + vec_len plan ≤ vec_capacity tables.old.next }
+    requires index_room { vec_len plan ≤ spare tables.old.index }
+    requires planned { AllPlanned plan.items }
     requires order { InOrder (named place 0) tables.old.records.items }
-    ensures made { kept_in tables.new ≡ fold keep (kept_in tables.old) (stamped place 0 updates.items) }
+    requires indexed { Indexed tables.old }
+    ensures made { kept_in tables.new ≡ fold keep (kept_in tables.old) (stamped place 0 (updates_of plan.items)) }
     ensures order { IsRising tables.new.records.items }
+    ensures indexed { Indexed tables.new }
 {
     let mut number = 0;
-    for update in updates {
-        make(tables, ClauseName { place, number }, update);
+    for planned in plan {
+        make(tables, ClauseName { place, number }, planned);
         number += 1;
     }
 }
 
 /// Makes one update.
-fn make(tables: &mut Tables, name: ClauseName, update: Update)
+fn make(tables: &mut Tables, name: ClauseName, planned: Planned)
     requires records_room { vec_len tables.old.records < vec_capacity tables.old.records }
     requires declared_room { vec_len tables.old.declared < vec_capacity tables.old.declared }
+    requires next_room { vec_len tables.old.next < vec_capacity tables.old.next }
+    requires index_room { 0 < spare tables.old.index }
+    requires planned { IsPlanned planned }
     requires order { InOrder name tables.old.records.items }
-    ensures made { kept_in tables.new ≡ keep (kept_in tables.old) (record { at = name; update = update }) }
+    requires indexed { Indexed tables.old }
+    ensures made { kept_in tables.new ≡ keep (kept_in tables.old) (record { at = name; update = update_of planned }) }
+    ensures indexed { Indexed tables.new }
     ensures records_room { vec_capacity tables.old.records ≤ vec_capacity tables.new.records }
     ensures records_len { vec_len tables.new.records ≤ vec_len tables.old.records + 1 }
     ensures declared_room { vec_capacity tables.old.declared ≤ vec_capacity tables.new.declared }
     ensures declared_len { vec_len tables.new.declared ≤ vec_len tables.old.declared + 1 }
+    ensures next_room { vec_capacity tables.old.next ≤ vec_capacity tables.new.next }
+    ensures next_len { vec_len tables.new.next ≤ vec_len tables.old.next + 1 }
+    ensures index_room { spare tables.old.index ≤ spare tables.new.index + 1 }
 {
-    match update {
-        Update::First(clause) => put(&mut tables.records, name, clause, true),
-        Update::Last(clause) => put(&mut tables.records, name, clause, false),
-        Update::Erase(of) => erase(tables.records.as_mut_slice(), of, name.place),
-        Update::EraseOwn(number) => {
+    match planned {
+        Planned::Put(clause, pred, front) => put(tables, name, clause, pred, front),
+        Planned::Drop(of) => erase(&mut tables.records, of, name.place),
+        Planned::DropOwn(number) => {
             let place = name.place;
-            erase(
-                tables.records.as_mut_slice(),
-                ClauseName { place, number },
-                place,
-            )
+            erase(&mut tables.records, ClauseName { place, number }, place)
         }
-        Update::Declare(pred) => declare(&mut tables.declared, pred, name.place),
+        Planned::Name(pred, key) => declare(tables, pred, key, name.place),
     }
 }
 
 /// Appends a record, for which there is room.
-fn put(records: &mut Vec<Record>, name: ClauseName, clause: Clause, front: bool)
-    requires { vec_len records.old < vec_capacity records.old }
-    ensures made { records.new.items ≡ records.old.items ++ made name clause front ∷ [] }
-    ensures room { vec_capacity records.old ≤ vec_capacity records.new }
-    ensures len { vec_len records.new ≡ vec_len records.old + 1 }
+fn put(tables: &mut Tables, name: ClauseName, clause: Clause, pred: Indicator, front: bool)
+    requires records_room { vec_len tables.old.records < vec_capacity tables.old.records }
+    requires next_room { vec_len tables.old.next < vec_capacity tables.old.next }
+    requires index_room { 0 < spare tables.old.index }
+    requires pred { pred ≡ indicator clause.head }
+    requires indexed { Indexed tables.old }
+    ensures made { tables.new.records.items ≡ tables.old.records.items ++ made name clause front ∷ [] }
+    ensures indexed { Indexed tables.new }
+    ensures declared { tables.new.declared ≡ tables.old.declared }
+    ensures records_room { vec_capacity tables.old.records ≤ vec_capacity tables.new.records }
+    ensures records_len { vec_len tables.new.records ≡ vec_len tables.old.records + 1 }
+    ensures next_room { vec_capacity tables.old.next ≤ vec_capacity tables.new.next }
+    ensures next_len { vec_len tables.new.next ≡ vec_len tables.old.next + 1 }
+    ensures index_room { spare tables.old.index ≤ spare tables.new.index + 1 }
 {
+    let number = tables.records.len();
+    let ends = ends_of(&tables.index, &pred);
+    link(&mut tables.next, front, number, ends);
+    set_ends(&mut tables.index, pred, grown(ends, front, number, name.place));
     let record = Record {
         name,
         clause,
         front,
         erased: None,
     };
-    match records.push(record) {
+    match tables.records.push(record) {
         Ok(()) => {}
         Err(_) => unreachable!(),
     }
 }
 
 /// Appends a declaration, for which there is room.
-fn declare(declared: &mut Vec<Declared>, pred: Indicator, place: u64)
-    requires { vec_len declared.old < vec_capacity declared.old }
-    ensures made { declared.new.items ≡ declared.old.items ++ record { pred = pred; place = place } ∷ [] }
-    ensures room { vec_capacity declared.old ≤ vec_capacity declared.new }
-    ensures len { vec_len declared.new ≡ vec_len declared.old + 1 }
+fn declare(tables: &mut Tables, pred: Indicator, key: Indicator, place: u64)
+    requires declared_room { vec_len tables.old.declared < vec_capacity tables.old.declared }
+    requires index_room { 0 < spare tables.old.index }
+    requires key { key ≡ pred }
+    requires indexed { Indexed tables.old }
+    ensures made { tables.new.declared.items ≡ tables.old.declared.items ++ record { pred = pred; place = place } ∷ [] }
+    ensures indexed { Indexed tables.new }
+    ensures records { tables.new.records ≡ tables.old.records }
+    ensures next { tables.new.next ≡ tables.old.next }
+    ensures declared_room { vec_capacity tables.old.declared ≤ vec_capacity tables.new.declared }
+    ensures declared_len { vec_len tables.new.declared ≡ vec_len tables.old.declared + 1 }
+    ensures index_room { spare tables.old.index ≤ spare tables.new.index + 1 }
 {
-    match declared.push(Declared { pred, place }) {
+    let mut ends = ends_of(&tables.index, &key);
+    ends.since = earlier(ends.since, place);
+    set_ends(&mut tables.index, key, ends);
+    match tables.declared.push(Declared { pred, place }) {
         Ok(()) => {}
         Err(_) => unreachable!(),
     }
 }
 
 /// Marks the clause of a name as erased, if there is one and it is not.
-fn erase(records: &mut [Record], of: ClauseName, place: u64)
+fn erase(records: &mut Vec<Record>, of: ClauseName, place: u64)
+    requires { IsRising records.old.items }
+    ensures erased { records.new.items ≡ changed_where (is_named of) (erase_at place) records.old.items }
+    ensures room { vec_capacity records.new ≡ vec_capacity records.old }
+    ensures len { vec_len records.new ≡ vec_len records.old }
+{
+    erase_in(records.as_mut_slice(), of, place);
+}
+
+fn erase_in(records: &mut [Record], of: ClauseName, place: u64)
     requires { IsRising records.old }
     ensures { records.new ≡ changed_where (is_named of) (erase_at place) records.old }
 {

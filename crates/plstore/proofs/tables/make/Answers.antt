@@ -1,0 +1,17 @@
+use Rattle.std.proofs.Common.{sym, subst}
+use Rattle.plevent.specs.Alive.{named}
+use Rattle.plstore.specs.Links.{IsIndexed, ends_in}
+use Rattle.plstore.proofs.Index.{erase-keeps}
+use Rattle.plstore.proofs.tables.make.Goals as goal
+
+pub returns-in-Drop-clause-indexed : goal.returns-in-Drop-clause-indexed
+returns-in-Drop-clause-indexed c =
+    let t = c.args.tables.now in
+    subst (λ rs. IsIndexed rs t.declared.items t.next.items (ends_in t.index)) (sym c.erase.ensures.erased)
+    (erase-keeps c.in-Drop.of c.args.name.place t.records.items t.declared.items t.next.items (ends_in t.index) c.requires.indexed)
+
+pub returns-in-DropOwn-clause-indexed : goal.returns-in-DropOwn-clause-indexed
+returns-in-DropOwn-clause-indexed c =
+    let t = c.args.tables.now in
+    subst (λ rs. IsIndexed rs t.declared.items t.next.items (ends_in t.index)) (sym c.erase-in-DropOwn.ensures.erased)
+    (erase-keeps (named c.args.name.place c.in-DropOwn.number) c.args.name.place t.records.items t.declared.items t.next.items (ends_in t.index) c.requires.indexed)
