@@ -1,6 +1,6 @@
 -- Marks: the last below a place, and the first from one on.
-use Rattle.std.proofs.Common.{◌≡◌, ◌≢◌, ◌+◌, ◌⊎◌, inl, inr, refl, sym, ◌∙◌, ap, ap₂, subst, arith, ℕ, suc, zero, ◌<◌, ◌≤◌, Bool, true, false, cond, List, [], ◌∷◌, ◌++◌, Option, Some, None, length, get_or, drop, length-append, drop-cons}
-use Rattle.std.proofs.lemmas.List.{get_or_append_left, get_or_at, drop-append-le}
+use Rattle.std.proofs.Common.{◌≡◌, ◌+◌, ◌⊎◌, inl, inr, refl, sym, ◌∙◌, ap, ap₂, subst, arith, ℕ, suc, zero, ◌<◌, ◌≤◌, Bool, true, false, List, [], ◌∷◌, ◌++◌, Option, Some, None, length, get_or, drop, length-append, drop-cons}
+use Rattle.std.proofs.lemmas.List.{get_or_append_left, get_or_at}
 use Rattle.plevent.specs.Alive.{add_if, or_else}
 use Rattle.plstore.specs.Links.{last_below, first_from}
 
@@ -87,3 +87,7 @@ drop-whole (b ∷ bs) (suc k) h = drop-whole bs k (omega arith)
 pub or-nothing : (o : Option ℕ) → or_else o None ≡ o
 or-nothing None = refl
 or-nothing (Some n) = refl
+
+-- the marks from k on begin with that of k
+pub drop-mark : (bs : List Bool) (k : ℕ) → k < length bs → first_from k (drop k bs) ≡ add_if (get_or bs k false) (Some k) (first_from (suc k) (drop (suc k) bs))
+drop-mark bs k l = ap (first_from k) (drop-cons bs k false l)

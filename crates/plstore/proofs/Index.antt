@@ -1,5 +1,5 @@
 -- Links and ends stay those of the records.
-use Rattle.std.proofs.Common.{◌≡◌, ◌≢◌, ◌+◌, ◌-◌, ◌⊎◌, inl, inr, refl, sym, ◌∙◌, ap, ap₂, subst, arith, ℕ, suc, zero, ◌<◌, ◌≤◌, Bool, true, false, cond, List, [], ◌∷◌, ◌++◌, Option, Some, None, length, get_or, set, drop, map, length-append, nat_lt, nat_eq}
+use Rattle.std.proofs.Common.{◌≡◌, ◌≢◌, ◌+◌, ◌-◌, inl, inr, refl, sym, ◌∙◌, ap, ap₂, subst, arith, ℕ, suc, zero, ◌<◌, Bool, true, false, cond, List, [], ◌∷◌, ◌++◌, Option, Some, None, length, get_or, set, drop, nat_lt, nat_eq}
 use Rattle.std.specs.Prelude.{◌||◌, ◌&&◌, not}
 use Rattle.std.proofs.lemmas.List.{get_or_append_left, get_or_at, drop-append-le, map-append, length-map, length-drop, get_or-set_same, get_or-set_other, length-set}
 use Rattle.std.proofs.lemmas.Bool.Decides.{nat_tests}
@@ -9,16 +9,15 @@ use Rattle.plterm.specs.declared.indicator.Indicator.{Indicator}
 use Rattle.plterm.specs.Indicators.{same_indicator}
 use Rattle.plclause.specs.Clause.{Clause}
 use Rattle.plclause.specs.Indicators.{indicator}
-use Rattle.plevent.specs.declared.update.Update.{Update}
-use Rattle.plevent.specs.declared.update.Update.TheVariants.{First, Last, Erase, EraseOwn, Declare}
+use Rattle.plevent.specs.declared.update.Update.TheVariants.{First, Last, Declare}
 use Rattle.plevent.specs.declared.update.ClauseName.{ClauseName}
-use Rattle.plevent.specs.Alive.{Stamped, add_if, or_else, is_of, names, named}
+use Rattle.plevent.specs.Alive.{add_if, or_else, is_of, named}
 use Rattle.plstore.specs.declared.record.Record.{Record}
 use Rattle.plstore.specs.declared.record.Declared.{Declared}
 use Rattle.plstore.specs.declared.ends.Ends.{Ends}
-use Rattle.plstore.specs.Kept.{Kept, keep, kept, noted, made, changed_where, change_if, erase_at, is_named, in_front, behind_all, is_there, declared_names}
+use Rattle.plstore.specs.Kept.{made, changed_where, change_if, erase_at, is_named, in_front, behind_all, declared_names}
 use Rattle.plstore.specs.Links.{last_below, first_from, fronts, backs, since_below, earlier, ends_after, linked_at, links_after, no_ends, IsIndexed}
-use Rattle.plstore.proofs.Bits.{get-in, length-push, last-snoc, last-push, first-snoc, NoneBelow, LastIs, last-none, last-some, first-none, first-kept, get-drop, drop-whole, or-nothing, cases}
+use Rattle.plstore.proofs.Bits.{get-in, length-push, last-snoc, last-push, first-snoc, LastIs, last-none, last-some, first-none, first-kept, get-drop, drop-whole, or-nothing, cases}
 use Rattle.plstore.proofs.Whole.{there-keep, any-erased}
 use Rattle.std.specs.List.{list_any}
 
@@ -32,6 +31,7 @@ same-is a b e =
     left : (u v : Bool) → u && v ≡ true → u ≡ true
     left true v e = refl
     left false v e = e
+
     right : (u v : Bool) → u && v ≡ true → v ≡ true
     right true v e = e
     right false v e = absurd (cc)
@@ -120,10 +120,12 @@ module _ (x : ClauseName) (c : Clause) (f : Bool) (b : ℕ) (rs : List Record) (
       and-true : (u : Bool) → u ≡ u && true
       and-true true = refl
       and-true false = refl
+
       or-and-false : (u w : Bool) → u ≡ u || (w && false)
       or-and-false true w = refl
       or-and-false false true = refl
       or-and-false false false = refl
+
       by-case : (v : Bool) → same_indicator q p ≡ v → since_below g (cond v (ends_after f (length rs) b (E q)) (E p)).since ≡ since_below g (E p).since || (nat_lt b g && v)
       by-case true e = h ∙ ap₂ (λ u w. u || w) (ap (λ z. since_below g (E z).since) (same-is q p e)) (and-true (nat_lt b g))
       by-case false e = or-and-false (since_below g (E p).since) (nat_lt b g)
@@ -280,15 +282,15 @@ back-put x c rs ds next E E' ix law =
         let s : LastIs bs (length rs) j = last-some bs (length rs) j (sym (ix.newest p) ∙ ap (λ z. (E z).newest_back) (sym e) ∙ k) in
         elim (cases i j) [
           | inl lt ↦
-            let at : suc i + (j - suc i) ≡ j = omega arith in
-            get_or-set_other (next ++ None ∷ []) j i (Some (length rs)) None (λ q. absurd (omega arith)) ∙ get_or_append_left next (None ∷ []) None i (omega (arith, m, ix.count)) ∙ ix.newer p i h
-            ∙ sym (first-kept (suc i) (drop (suc i) bs) (j - suc i) (Some (length bs)) (get-drop (suc i) bs (j - suc i) ∙ ap (λ n. get_or bs n false) at ∙ s.here))
+              let at : suc i + (j - suc i) ≡ j = omega arith in
+              get_or-set_other (next ++ None ∷ []) j i (Some (length rs)) None (λ q. absurd (omega arith)) ∙ get_or_append_left next (None ∷ []) None i (omega (arith, m, ix.count)) ∙ ix.newer p i h
+              ∙ sym (first-kept (suc i) (drop (suc i) bs) (j - suc i) (Some (length bs)) (get-drop (suc i) bs (j - suc i) ∙ ap (λ n. get_or bs n false) at ∙ s.here))
           | inr o ↦ elim o [
             | inl same ↦
-              let none : first_from (suc i) (drop (suc i) bs) ≡ None = first-none (suc i) (drop (suc i) bs) (λ w b. get-drop (suc i) bs w ∙ s.above (suc i + w) (omega arith) (omega (arith, b, length-drop (suc i) bs, m))) in
-              ap (λ n. get_or (set (next ++ None ∷ []) j (Some (length rs))) n None) same
-              ∙ get_or-set_same (next ++ None ∷ []) j (Some (length rs)) None (omega (arith, length-push next None, ix.count, s.within))
-              ∙ sym (ap (λ u. or_else u (Some (length bs))) none ∙ ap Some m)
+                let none : first_from (suc i) (drop (suc i) bs) ≡ None = first-none (suc i) (drop (suc i) bs) (λ w b. get-drop (suc i) bs w ∙ s.above (suc i + w) (omega arith) (omega (arith, b, length-drop (suc i) bs, m))) in
+                ap (λ n. get_or (set (next ++ None ∷ []) j (Some (length rs))) n None) same
+                ∙ get_or-set_same (next ++ None ∷ []) j (Some (length rs)) None (omega (arith, length-push next None, ix.count, s.within))
+                ∙ sym (ap (λ u. or_else u (Some (length bs))) none ∙ ap Some m)
             | inr gt ↦ let z : get_or bs i false ≡ false = s.above i gt (omega (arith, m)) in absurd (cc)
           ]
         ]
@@ -298,8 +300,8 @@ back-put x c rs ds next E E' ix law =
     other-procedure p i f l h =
         let m : length (backs p rs) ≡ length rs = length-map rs (behind_all p) in
         link-other (E (indicator c.head)).newest_back (length rs) (next ++ None ∷ []) i (λ j k e.
-            let same : indicator c.head ≡ p = one-procedure p (indicator c.head) rs i h (subst (λ j. get_or (backs (indicator c.head) rs) j false ≡ true) (sym e) (last-of j k).here) in
-            let z : true ≡ false = sym (self-same p) ∙ same-self (indicator c.head) p same false f in absurd (cc))
+        let same : indicator c.head ≡ p = one-procedure p (indicator c.head) rs i h (subst (λ j. get_or (backs (indicator c.head) rs) j false ≡ true) (sym e) (last-of j k).here) in
+        let z : true ≡ false = sym (self-same p) ∙ same-self (indicator c.head) p same false f in absurd (cc))
         ∙ get_or_append_left next (None ∷ []) None i (omega (arith, m, ix.count)) ∙ ix.newer p i h
 
     newer-of : (p : Indicator) (i : ℕ) (v : Bool) → is_of p c ≡ v → get_or (backs p rs ++ v ∷ []) i false ≡ true →
@@ -443,5 +445,5 @@ pub declare-all : (k q : Indicator) (b : ℕ) (rs : List Record) (ds ds' : List 
     k ≡ q → d ≡ record (E k) { since = earlier (E k).since b } → ((p : Indicator) → E' p ≡ cond (same_indicator k p) d (E p)) → ds' ≡ ds ++ record { pred = q; place = b } ∷ [] → IsIndexed rs ds' next E'
 declare-all k q b rs ds ds' next E E' d ix ek ed law eds =
     let law2 : (p : Indicator) → E' p ≡ cond (same_indicator q p) (record (E q) { since = earlier (E q).since b }) (E p) =
-        λ p. law p ∙ ap₂ (λ k d. cond (same_indicator k p) d (E p)) ek (ed ∙ ap (λ k. record (E k) { since = earlier (E k).since b }) ek) in
+    λ p. law p ∙ ap₂ (λ k d. cond (same_indicator k p) d (E p)) ek (ed ∙ ap (λ k. record (E k) { since = earlier (E k).since b }) ek) in
     subst (λ ds. IsIndexed rs ds next E') (sym eds) (declare-put q (named b 0) rs ds next E E' ix law2)

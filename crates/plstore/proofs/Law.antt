@@ -1,5 +1,5 @@
 -- The walk over the records is the list of clauses alive, at every place.
-use Rattle.std.specs.Prelude.{ℕ, suc, ◌≤◌, ◌<◌, Bool, true, false, ◌||◌, ◌&&◌, not, List, [], ◌∷◌, ◌++◌, map, filter, reverse, fold, nat_eq, nat_lt, nat_le, Option, Some, None, cond}
+use Rattle.std.specs.Prelude.{ℕ, ◌≤◌, ◌<◌, Bool, true, false, ◌||◌, ◌&&◌, not, List, [], ◌∷◌, ◌++◌, filter, reverse, fold, nat_eq, nat_lt, Option, Some, None, cond}
 use Rattle.std.proofs.Common.{◌≡◌, refl, sym, ◌∙◌, ap, ap₂, arith, append_assoc}
 use Rattle.std.proofs.lemmas.List.{reverse-append, append-nil}
 use Rattle.std.proofs.lemmas.List.Elements.{filter-append}
@@ -9,12 +9,11 @@ use Rattle.plevent.specs.declared.update.Update.TheVariants.{First, Last, Erase,
 use Rattle.plclause.specs.Clause.{Clause}
 use Rattle.plevent.specs.declared.update.ClauseName.{ClauseName}
 use Rattle.plterm.specs.declared.indicator.Indicator.{Indicator}
-use Rattle.plterm.specs.Indicators.{same_indicator}
-use Rattle.plevent.specs.Alive.{Stamped, same_name, is_of, named, add_if, Living, lives_as, changed, change, without, living, before, lives, is_alive, makes, erases, exists, names as names_proc}
+use Rattle.plevent.specs.Alive.{Stamped, same_name, is_of, named, add_if, Living, lives_as, changed, change, without, living, before, lives, is_alive}
 use Rattle.std.specs.List.{list_any}
 use Rattle.plstore.specs.declared.record.Record.{Record}
 use Rattle.plstore.specs.Rising.{Rises, AllUnder}
-use Rattle.plstore.specs.Kept.{Kept, nothing, keep, changed_where, change_if, made, first_of, erase_at, is_named, kept, keep_record, keep_declared, noted, not_below, seen, in_front, behind_all, livings, picked, walk, is_here, here, record_names, declared_names, is_there}
+use Rattle.plstore.specs.Kept.{changed_where, change_if, made, first_of, erase_at, is_named, kept, keep_record, not_below, seen, in_front, behind_all, livings, picked, walk, is_here}
 
 abbrev pub own : Record → Living
 own r = lives_as r.name r.clause

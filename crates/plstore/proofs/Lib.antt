@@ -6,3 +6,4 @@ pub mod Gather
 pub mod Bits
 pub mod Index
 pub mod Plans
+pub mod Chains

@@ -1,5 +1,5 @@
 -- What is found by a name.
-use Rattle.std.proofs.Common.{◌≡◌, ◌≢◌, refl, sym, ◌∙◌, ap, ap₂, arith, ℕ, ◌<◌, suc, zero, Bool, true, false, cond, List, [], ◌∷◌, Option, Some, None, length, get_or}
+use Rattle.std.proofs.Common.{◌≡◌, ◌≢◌, refl, sym, ◌∙◌, ap, arith, ℕ, ◌<◌, suc, zero, Bool, true, false, cond, List, [], ◌∷◌, Some, None, length, get_or}
 use Rattle.std.specs.Prelude.{find, ◌&&◌, ◌||◌}
 use Rattle.std.specs.List.{list_any}
 use Rattle.plevent.specs.declared.update.ClauseName.{ClauseName}

@@ -1,5 +1,5 @@
 -- Names in order.
-use Rattle.std.proofs.Common.{◌+◌, ◌⊎◌, inl, inr, ◌≡◌, ◌≢◌, ◌||◌, ◌&&◌, refl, sym, ◌∙◌, ap, subst, arith, ℕ, ◌<◌, ◌≤◌, suc, zero, Bool, true, false, List, [], ◌∷◌, length, get_or, set}
+use Rattle.std.proofs.Common.{◌+◌, ◌⊎◌, inl, inr, ◌≡◌, ◌≢◌, refl, sym, ◌∙◌, ap, subst, arith, ℕ, ◌<◌, ◌≤◌, suc, zero, Bool, true, false, List, [], ◌∷◌, length, get_or, set}
 use Rattle.std.proofs.lemmas.Bool.Decides.{nat_tests}
 use Rattle.plevent.specs.declared.update.ClauseName.{ClauseName}
 use Rattle.std.proofs.Common.{◌++◌, ap₂, length-append, fold}
@@ -9,8 +9,8 @@ use Rattle.plevent.specs.declared.update.Update.{Update}
 use Rattle.plevent.specs.declared.update.Update.TheVariants.{First, Last, Erase, EraseOwn, Declare}
 use Rattle.plevent.specs.Alive.{Stamped, stamped, named, same_name}
 use Rattle.plstore.specs.declared.record.Record.{Record}
-use Rattle.plstore.specs.Kept.{Kept, changed_where, change_if, is_named, erase_at, made, kept, noted, keep, keep_record, seen, is_here, clause_of}
-use Rattle.plstore.specs.Rising.{less, IsRising, AllBelow, AllBelowPlace, InOrder, NoneIs, OneIs}
+use Rattle.plstore.specs.Kept.{Kept, changed_where, change_if, is_named, erase_at, made, kept, keep, keep_record}
+use Rattle.plstore.specs.Rising.{less, IsRising, AllBelowPlace, InOrder, NoneIs, OneIs}
 
 pub less-trans : (x y z : ClauseName) → less x y ≡ true → less y z ≡ true → less x z ≡ true
 less-trans x y z h k = grind (arith, nat_tests)

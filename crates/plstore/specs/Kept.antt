@@ -1,5 +1,5 @@
 -- What a store keeps of the updates, and the walk over it.
-use Rattle.std.specs.Prelude.{ℕ, suc, Bool, true, false, ◌||◌, ◌&&◌, not, List, [], ◌∷◌, ◌++◌, map, filter, reverse, find, fold, nat_eq, nat_lt, Option, Some, None, refl}
+use Rattle.std.specs.Prelude.{ℕ, Bool, true, false, ◌||◌, ◌&&◌, not, List, [], ◌∷◌, ◌++◌, map, filter, reverse, find, nat_lt, Option, Some, None, refl}
 use Rattle.std.specs.Coded.{Coded, code_by, coded×, coded_list}
 use Rattle.std.specs.List.{list_any}
 use Rattle.std.specs.Option.{option_map}
@@ -9,7 +9,7 @@ use Rattle.plclause.specs.Clause.{Clause}
 use Rattle.plevent.specs.declared.update.Update.{Update}
 use Rattle.plevent.specs.declared.update.Update.TheVariants.{First, Last, Erase, EraseOwn, Declare}
 use Rattle.plevent.specs.declared.update.ClauseName.{ClauseName}
-use Rattle.plevent.specs.Alive.{Stamped, same_name, is_of, named, add_if, Living, lives_as, names_of, clauses_of}
+use Rattle.plevent.specs.Alive.{Stamped, same_name, is_of, named, add_if, Living, lives_as}
 use Rattle.plstore.specs.declared.record.Record.{Record}
 use Rattle.plstore.specs.declared.record.Declared.{Declared}
 use Rattle.plstore.specs.declared.record.Cursor.{Cursor}
@@ -89,11 +89,6 @@ in_front p r = r.front && is_of p r.clause
 
 abbrev pub behind_all : Indicator → Record → Bool
 behind_all p r = not r.front && is_of p r.clause
-
--- of p, and put in front or not
-abbrev pub on_side : Bool → Indicator → Record → Bool
-on_side true p r = in_front p r
-on_side false p r = behind_all p r
 
 abbrev pub livings : List Record → List Living
 livings rs = map (λ r. lives_as r.name r.clause) rs

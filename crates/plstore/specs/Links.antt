@@ -1,5 +1,5 @@
 -- How records of one side of a procedure are linked, and where each side begins and ends.
-use Rattle.std.specs.Prelude.{◌≡◌, ℕ, zero, suc, ◌<◌, ◌≤◌, Bool, true, false, List, [], ◌∷◌, ◌++◌, map, drop, Option, Some, None, length, slice_index_or, slice_set, nat_lt, unwrap_or}
+use Rattle.std.specs.Prelude.{◌≡◌, ℕ, zero, suc, Bool, true, false, List, [], ◌∷◌, ◌++◌, map, drop, Option, Some, None, length, slice_index_or, slice_set, nat_lt, unwrap_or}
 use Rattle.std.specs.HashMap.{HashMap, get}
 use Rattle.std.specs.declared.hash.FoldHasher.{FoldHasher}
 use Rattle.std.specs.declared.hash.BuildHasherDefault.{BuildHasherDefault}
@@ -69,3 +69,12 @@ pub record IsIndexed (rs : List Record) (ds : List Declared) (next : List (Optio
   pub older : (p : Indicator) (i : ℕ) → slice_index_or (fronts p rs) i false ≡ true → slice_index_or next i None ≡ last_below (fronts p rs) i
   pub newer : (p : Indicator) (i : ℕ) → slice_index_or (backs p rs) i false ≡ true → slice_index_or next i None ≡ first_from (suc i) (drop (suc i) (backs p rs))
   pub since : (p : Indicator) (g : ℕ) → since_below g (ends p).since ≡ is_there g p (record { records = rs; declared = ds })
+
+-- the links of p alone
+pub record IsDown (p : Indicator) (rs : List Record) (next : List (Option ℕ)) : Type 0 where
+  pub count : length next ≡ length rs
+  pub older : (i : ℕ) → slice_index_or (fronts p rs) i false ≡ true → slice_index_or next i None ≡ last_below (fronts p rs) i
+
+pub record IsUp (p : Indicator) (rs : List Record) (next : List (Option ℕ)) : Type 0 where
+  pub count : length next ≡ length rs
+  pub newer : (i : ℕ) → slice_index_or (backs p rs) i false ≡ true → slice_index_or next i None ≡ first_from (suc i) (drop (suc i) (backs p rs))

@@ -1,6 +1,5 @@
 -- Updates, with the procedures that they name.
 use Rattle.std.specs.Prelude.{◌≡◌, Bool, true, false, List, [], ◌∷◌}
-use Rattle.plterm.specs.declared.indicator.Indicator.{Indicator}
 use Rattle.plclause.specs.Clause.{Clause}
 use Rattle.plclause.specs.Indicators.{indicator}
 use Rattle.plevent.specs.declared.update.Update.{Update}

@@ -1,7 +1,7 @@
 -- Records whose names rise, and where a name stands in them.
 use Rattle.std.specs.Prelude.{◌≡◌, ℕ, ◌<◌, ◌≤◌, ◌≢◌, Bool, true, false, ◌||◌, ◌&&◌, List, [], ◌∷◌, length, nat_eq, nat_lt, slice_index_or}
 use Rattle.plevent.specs.declared.update.ClauseName.{ClauseName}
-use Rattle.plevent.specs.Alive.{same_name, Stamped}
+use Rattle.plevent.specs.Alive.{Stamped}
 use Rattle.plstore.specs.declared.record.Record.{Record}
 use Rattle.plstore.specs.Kept.{is_named}
 

@@ -1,6 +1,4 @@
 -- What a store's tables keep.
-use Rattle.plstore.specs.declared.record.Record.{Record}
-use Rattle.plstore.specs.declared.record.Declared.{Declared}
 use Rattle.plstore.specs.declared.tables.Tables.{Tables}
 use Rattle.plstore.specs.Kept.{Kept}
 use Rattle.plstore.specs.Rising.{IsRising}

@@ -4,7 +4,7 @@ ghost use Rattle.std.specs.Vec.{vec_capacity};
 ghost use Rattle.std.specs.HashMap.{spare};
 ghost use Rattle.plterm.specs.declared.indicator.Indicator.{Indicator};
 ghost use Rattle.plterm.specs.Indicators.{same_indicator};
-ghost use Rattle.plstore.specs.Links.{earlier, ends_after, ends_in, links_after};
+ghost use Rattle.plstore.specs.Links.{earlier, ends_after, ends_in, links_after, since_below};
 
 use plterm::indicator::Indicator;
 use std::collections::HashMap;
@@ -17,6 +17,18 @@ pub(crate) struct Ends {
     pub(crate) newest_front: Option<usize>,
     pub(crate) oldest_back: Option<usize>,
     pub(crate) newest_back: Option<usize>,
+}
+
+impl Ends {
+    /// Whether a batch below `g` named the procedure.
+    pub(crate) fn is_since(self, g: u64) -> bool
+        ensures { result ≡ since_below g self.since }
+    {
+        match self.since {
+            None => false,
+            Some(place) => place < g,
+        }
+    }
 }
 
 /// The ends of a procedure; one that no batch named has none.
@@ -52,13 +64,7 @@ pub(crate) fn earlier(since: Option<u64>, place: u64) -> Option<u64>
 {
     match since {
         None => Some(place),
-        Some(at) => {
-            if at < place {
-                Some(at)
-            } else {
-                Some(place)
-            }
-        }
+        Some(at) => { if at < place { Some(at) } else { Some(place) } }
     }
 }
 

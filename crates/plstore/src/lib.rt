@@ -7,6 +7,7 @@ mod plan;
 pub mod record;
 pub mod store;
 pub mod tables;
+mod walk;
 
 pub use record::{Cursor, Declared, Record};
 pub use store::Store;

@@ -1,14 +1,15 @@
 //! The store: every clause ever made, so that the database can be looked at as it was at each time.
 ghost use Rattle.std.specs.Prelude.{◌≡◌, IfOk, OnOk, OnErr, fold, length};
-ghost use Rattle.std.specs.List.{list_any};
 ghost use Rattle.std.specs.Option.{option_copied};
-ghost use Rattle.plevent.specs.Alive.{stamped, clauses_of, is_of};
-ghost use Rattle.plstore.specs.Kept.{keep, nothing, here, clause_of, is_there, record_names, declared_names, picked, on_side, walk};
+ghost use Rattle.plevent.specs.Alive.{stamped, clauses_of};
+ghost use Rattle.plstore.specs.Kept.{keep, nothing, here, clause_of, is_there, walk};
 ghost use Rattle.plstore.specs.Rising.{AllBelowPlace};
 
-use crate::record::{Cursor, Declared, Record};
+use crate::ends::ends_of;
 use crate::plan::plan;
+use crate::record::{Cursor, Declared, Record};
 use crate::tables::{Tables, find, make_all};
+use crate::walk::{gather_back, gather_front};
 use plclause::clause::Clause;
 use plevent::{Batch, ClauseName};
 use plterm::indicator::Indicator;
@@ -24,6 +25,7 @@ pub struct Store {
 
 impl Model for Store {
     ghost use Rattle.plstore.specs.Kept.{Kept, kept_code};
+
     ghost Value = { Kept };
 
     ghost coded = { kept_code };
@@ -89,11 +91,11 @@ impl Store {
     pub fn exists(&self, g: u64, pred: &Indicator) -> bool
         ensures { result ≡ is_there g pred.now self.now }
     {
-        is_recorded(&self.tables.records, g, pred) || is_declared(&self.tables.declared, g, pred)
+        ends_of(&self.tables.index, pred).is_since(g)
     }
 
-    /// The clauses of a procedure that are alive after the batches below `g`, in their order. They share their parts
-    /// with the store.
+    /// The clauses of a procedure that are alive after the batches below `g`, in their order, in time linear in all
+    /// clauses of it that were ever made. They share their parts with the store.
     pub fn alive_clauses(
         &self,
         alloc: Global,
@@ -102,43 +104,12 @@ impl Store {
     ) -> Result<Vec<Clause>, AllocError>
         ensures { IfOk result (λ found. found.items ≡ clauses_of (walk g pred.now self.now.records)) }
     {
-        let mut found = gathered(alloc, &self.tables.records, g, pred, true)?;
-        found.reverse();
-        let mut behind = gathered(alloc, &self.tables.records, g, pred, false)?;
-        found.append(&mut behind)?;
+        let records = self.tables.records.as_slice();
+        let next = self.tables.next.as_slice();
+        let ends = ends_of(&self.tables.index, pred);
+        let mut found = Vec::new(alloc);
+        gather_front(records, next, pred, ends.newest_front, g, &mut found)?;
+        gather_back(records, next, pred, ends.oldest_back, g, &mut found)?;
         Ok(found)
     }
-}
-
-/// The clauses of one side of a procedure that are seen at `g`, in the order in which they were made.
-fn gathered(
-    alloc: Global,
-    records: &[Record],
-    g: u64,
-    pred: &Indicator,
-    front: bool,
-) -> Result<Vec<Clause>, AllocError>
-    ensures { IfOk result (λ found. found.items ≡ clauses_of (picked (on_side front pred.now) g records.now)) }
-{
-    let mut found = Vec::new(alloc);
-    for record in records {
-        if record.is_seen(g) && record.is_on(front, pred) {
-            found.push(record.clause.copied()?)?;
-        }
-    }
-    Ok(found)
-}
-
-/// Whether a batch below `g` made a clause of the procedure.
-fn is_recorded(records: &[Record], g: u64, pred: &Indicator) -> bool
-    ensures { result ≡ list_any (record_names g pred.now) records.now }
-{
-    records.iter().any(|r| r.names(g, pred))
-}
-
-/// Whether a batch below `g` declared the procedure.
-fn is_declared(declared: &[Declared], g: u64, pred: &Indicator) -> bool
-    ensures { result ≡ list_any (declared_names g pred.now) declared.now }
-{
-    declared.iter().any(|d| d.names(g, pred))
 }

@@ -96,7 +96,11 @@ fn put(tables: &mut Tables, name: ClauseName, clause: Clause, pred: Indicator, f
     let number = tables.records.len();
     let ends = ends_of(&tables.index, &pred);
     link(&mut tables.next, front, number, ends);
-    set_ends(&mut tables.index, pred, grown(ends, front, number, name.place));
+    set_ends(
+        &mut tables.index,
+        pred,
+        grown(ends, front, number, name.place),
+    );
     let record = Record {
         name,
         clause,

@@ -156,7 +156,7 @@ fn change(
         }
         Act::Batch(batch) => {
             let batch = batch.copied(alloc)?;
-            store.apply(batch, standing.size)?;
+            store.apply(alloc, batch, standing.size)?;
             standing.publish();
             return Ok(());
         }

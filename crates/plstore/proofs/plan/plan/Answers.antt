@@ -8,8 +8,7 @@ loop-update-preserved c =
     let i = c.loop-update.invariant in
     let s = c.in-Some.ensures.steps in
     let u = c.in-Some.update in
-    let x = c.in_ok-made_plan.field-0 in
-    (
+    let x = c.in_ok-made_plan.field-0 in (
       tt,
       tt,
       append_assoc c.loop-update.yielded (u ∷ []) c.next.new.self.rest.items ∙ ap (λ l. c.loop-update.yielded ++ l) (sym s.0) ∙ i.2,

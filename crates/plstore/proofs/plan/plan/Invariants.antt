@@ -1,5 +1,4 @@
-use Rattle.std.proofs.Common.{◌≡◌, ◌++◌, List}
-use Rattle.plevent.specs.declared.update.Update.{Update}
+use Rattle.std.proofs.Common.{◌≡◌, ◌++◌}
 use Rattle.plstore.specs.Plan.{updates_of, AllPlanned}
 use Rattle.plstore.proofs.plan.plan.Given as goal
 

@@ -1,4 +1,4 @@
-use Rattle.std.proofs.Common.{sym, refl}
+use Rattle.std.proofs.Common.{sym}
 use Rattle.plstore.specs.Kept.{is_named, erase_at}
 use Rattle.plstore.proofs.Search.{changed-none, erased-one}
 use Rattle.plstore.proofs.tables.erase_in.Goals as goal

@@ -1,7 +1,7 @@
-use Rattle.std.proofs.Common.{◌≡◌, ◌+◌, suc, List, [], ◌∷◌, ◌++◌, length, fold, refl, sym, ◌∙◌, ap, subst, arith, append_assoc, length-append}
+use Rattle.std.proofs.Common.{◌≡◌, ◌+◌, suc, [], ◌∷◌, ◌++◌, length, fold, sym, ◌∙◌, ap, subst, arith, append_assoc, length-append}
 use Rattle.plevent.specs.Alive.{stamped, named}
-use Rattle.plstore.specs.Kept.{keep, kept}
-use Rattle.plstore.specs.Plan.{update_of, updates_of, IsPlanned, AllPlanned}
+use Rattle.plstore.specs.Kept.{keep}
+use Rattle.plstore.specs.Plan.{update_of, updates_of, AllPlanned}
 use Rattle.plstore.specs.Rising.{InOrder}
 use Rattle.plstore.specs.Tables.{kept_in}
 use Rattle.plstore.proofs.Plans.{updates-append, updates-length}

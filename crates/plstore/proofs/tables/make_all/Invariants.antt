@@ -3,7 +3,7 @@ use Rattle.std.specs.Vec.{vec_capacity}
 use Rattle.std.specs.HashMap.{spare}
 use Rattle.plevent.specs.Alive.{stamped, named}
 use Rattle.plstore.specs.declared.plan.Planned.{Planned}
-use Rattle.plstore.specs.Kept.{Kept, keep}
+use Rattle.plstore.specs.Kept.{keep}
 use Rattle.plstore.specs.Plan.{updates_of, AllPlanned}
 use Rattle.plstore.specs.Rising.{InOrder}
 use Rattle.plstore.specs.Tables.{kept_in, Indexed}

@@ -1,4 +1,4 @@
-use Rattle.std.proofs.Common.{◌∙◌, sym, ap, subst}
+use Rattle.std.proofs.Common.{◌∙◌, ap, subst}
 use Rattle.plstore.specs.Kept.{seen}
 use Rattle.plstore.specs.Rising.{NoneIs, OneIs}
 use Rattle.plstore.proofs.Look.{here-none, here-one}

@@ -1,6 +1,6 @@
-use Rattle.std.proofs.Common.{◌∙◌, ◌++◌, ap, ap₂, true, false}
+use Rattle.std.proofs.Common.{◌∙◌, ◌++◌, ap, ap₂, reverse}
 use Rattle.plevent.specs.Alive.{clauses_of}
-use Rattle.plstore.specs.Kept.{picked, on_side}
+use Rattle.plstore.specs.Kept.{picked, in_front, behind_all}
 use Rattle.plstore.proofs.Gather.{walk-of}
 use Rattle.plstore.proofs.store.Store.alive_clauses.Goals as goal
 
@@ -8,7 +8,6 @@ pub returns : goal.returns
 returns c =
     let g = c.args.g in
     let p = c.args.pred.now in
-    rw (← c.self.view_is) (c.in_ok-append.ensures.items ∙ ap (λ l. l ++ c.in_ok-behind.behind.items) c.reverse.ensures.items
-    ∙ walk-of g p c.self.inside.tables.records.items c.in_ok-found.found.items c.in_ok-behind.behind.items
-    (c.in_ok-found.ensures ∙ ap (λ rs. clauses_of (picked (on_side true p) g rs)) c.deref.ensures.value)
-    (c.in_ok-behind.ensures ∙ ap (λ rs. clauses_of (picked (on_side false p) g rs)) c.deref-2.ensures.value))
+    rw (← c.self.view_is) (walk-of g p c.self.inside.tables.records.items c.gather_front.new.found.items c.gather_back.new.found.items
+    (c.in_ok-gather_front.ensures ∙ ap₂ (λ l rs. l ++ clauses_of (reverse (picked (in_front p) g rs))) c.new-found.ensures.items c.as_slice-records.ensures.value)
+    (c.in_ok-gather_back.ensures ∙ ap (λ rs. c.gather_front.new.found.items ++ clauses_of (picked (behind_all p) g rs)) c.as_slice-records.ensures.value))

@@ -1,0 +1,273 @@
+-- The links of a procedure pass all its clauses.
+use Rattle.std.proofs.Common.{◌≡◌, ◌+◌, ◌-◌, refl, sym, ◌∙◌, ap, ap₂, subst, arith, ℕ, suc, zero, ◌<◌, ◌≤◌, Bool, true, false, cond, List, [], ◌∷◌, ◌++◌, Option, Some, None, length, get_or, take, drop, map, reverse, drop-cons, append_assoc}
+use Rattle.std.specs.Prelude.{◌&&◌}
+use Rattle.std.proofs.Math.Seq.{take-suc, take-length}
+use Rattle.std.proofs.lemmas.List.{append-nil, reverse-append, length-map}
+use Rattle.plclause.specs.Clause.{Clause}
+use Rattle.plterm.specs.declared.indicator.Indicator.{Indicator}
+use Rattle.plevent.specs.Alive.{Living, clauses_of, add_if, named}
+use Rattle.plterm.specs.Tree.{atom}
+use Rattle.plstore.specs.declared.record.Record.{Record}
+use Rattle.plstore.specs.Kept.{seen, picked, in_front, behind_all}
+use Rattle.plstore.specs.Links.{last_below, first_from, fronts, backs, IsDown, IsUp}
+use Rattle.plstore.proofs.Law.{picked-append, picked-cons, cons_if, own}
+use Rattle.plstore.proofs.Bits.{LastIs, last-some, drop-whole, drop-mark}
+
+get-map : (t : Record → Bool) (rs : List Record) (i : ℕ) (d : Record) → i < length rs → get_or (map t rs) i false ≡ t (get_or rs i d)
+get-map t [] i d l = absurd (omega arith)
+get-map t (r ∷ rs) zero d l = refl
+get-map t (r ∷ rs) (suc i) d l = get-map t rs i d (omega arith)
+
+-- what is still to come downward from n, and upward from k
+abbrev pub down : Indicator → ℕ → List Record → ℕ → List Living
+down p g rs n = reverse (picked (in_front p) g (take n rs))
+
+abbrev pub up : Indicator → ℕ → List Record → ℕ → List Living
+up p g rs k = picked (behind_all p) g (drop k rs)
+
+reverse-cons : (v : Bool) (x : Living) (xs : List Living) → reverse (xs ++ cons_if v x []) ≡ cons_if v x (reverse xs)
+reverse-cons true x xs = reverse-append xs (x ∷ [])
+reverse-cons false x xs = ap reverse (append-nil xs)
+
+down-step : (p : Indicator) (g : ℕ) (rs : List Record) (m : ℕ) (d : Record) (v : Bool) → m < length rs → get_or (fronts p rs) m false ≡ v →
+    down p g rs (suc m) ≡ cons_if (seen g (get_or rs m d) && v) (own (get_or rs m d)) (down p g rs m)
+down-step p g rs m d v l e =
+    let r = get_or rs m d in
+    let side : in_front p r ≡ v = sym (get-map (in_front p) rs m d l) ∙ e in
+    ap (λ l. reverse (picked (in_front p) g l)) (take-suc rs m d l)
+    ∙ ap reverse (picked-append (in_front p) g (take m rs) (r ∷ []) ∙ ap (λ l. picked (in_front p) g (take m rs) ++ l) (picked-cons (in_front p) g r []))
+    ∙ reverse-cons (seen g r && in_front p r) (own r) (picked (in_front p) g (take m rs))
+    ∙ ap (λ v. cons_if (seen g r && v) (own r) (down p g rs m)) side
+
+cons-out : (s : Bool) (x : Living) (xs : List Living) → cons_if (s && false) x xs ≡ xs
+cons-out true x xs = refl
+cons-out false x xs = refl
+
+cons-in : (s : Bool) (x : Living) (xs : List Living) → cons_if (s && true) x xs ≡ cons_if s x xs
+cons-in true x xs = refl
+cons-in false x xs = refl
+
+some-same : {a b : ℕ} → Some a ≡ Some b → a ≡ b
+some-same e = cc
+
+pub down-none : (p : Indicator) (g : ℕ) (rs : List Record) (n : ℕ) → n ≤ length rs → last_below (fronts p rs) n ≡ None → down p g rs n ≡ []
+down-none p g rs zero l e = refl
+down-none p g [] (suc n) l e = absurd (omega arith)
+down-none p g (r ∷ rs) (suc n) l e = by-mark (get_or (fronts p (r ∷ rs)) n false) refl e (λ e. down-none p g (r ∷ rs) n (omega arith) e)
+  where
+    by-mark : (v : Bool) → get_or (fronts p (r ∷ rs)) n false ≡ v → add_if v (Some n) (last_below (fronts p (r ∷ rs)) n) ≡ None →
+        (last_below (fronts p (r ∷ rs)) n ≡ None → down p g (r ∷ rs) n ≡ []) → down p g (r ∷ rs) (suc n) ≡ []
+    by-mark true h e next = absurd (cc)
+    by-mark false h e next = down-step p g (r ∷ rs) n r false (omega arith) h ∙ cons-out (seen g (get_or (r ∷ rs) n r)) (own (get_or (r ∷ rs) n r)) (down p g (r ∷ rs) n) ∙ next e
+
+pub down-some : (p : Indicator) (g : ℕ) (rs : List Record) (n i : ℕ) (d : Record) → n ≤ length rs → last_below (fronts p rs) n ≡ Some i →
+    down p g rs n ≡ cons_if (seen g (get_or rs i d)) (own (get_or rs i d)) (down p g rs i)
+down-some p g rs zero i d l e = absurd (cc)
+down-some p g rs (suc n) i d l e = by-mark (get_or (fronts p rs) n false) refl e (λ e. down-some p g rs n i d (omega arith) e)
+  where
+    by-mark : (v : Bool) → get_or (fronts p rs) n false ≡ v → add_if v (Some n) (last_below (fronts p rs) n) ≡ Some i →
+        (last_below (fronts p rs) n ≡ Some i → down p g rs n ≡ cons_if (seen g (get_or rs i d)) (own (get_or rs i d)) (down p g rs i)) →
+        down p g rs (suc n) ≡ cons_if (seen g (get_or rs i d)) (own (get_or rs i d)) (down p g rs i)
+    by-mark true h e next = down-step p g rs n d true (omega arith) h ∙ cons-in (seen g (get_or rs n d)) (own (get_or rs n d)) (down p g rs n)
+        ∙ ap (λ i. cons_if (seen g (get_or rs i d)) (own (get_or rs i d)) (down p g rs i)) (some-same e)
+    by-mark false h e next = down-step p g rs n d false (omega arith) h ∙ cons-out (seen g (get_or rs n d)) (own (get_or rs n d)) (down p g rs n) ∙ next e
+
+-- upward
+up-step : (p : Indicator) (g : ℕ) (rs : List Record) (k : ℕ) (d : Record) (v : Bool) → k < length rs → get_or (backs p rs) k false ≡ v →
+    up p g rs k ≡ cons_if (seen g (get_or rs k d) && v) (own (get_or rs k d)) (up p g rs (suc k))
+up-step p g rs k d v l e =
+    let r = get_or rs k d in
+    let side : behind_all p r ≡ v = sym (get-map (behind_all p) rs k d l) ∙ e in
+    ap (picked (behind_all p) g) (drop-cons rs k d l) ∙ picked-cons (behind_all p) g r (drop (suc k) rs)
+    ∙ ap (λ v. cons_if (seen g r && v) (own r) (up p g rs (suc k))) side
+
+pub record UpIs (p : Indicator) (g : ℕ) (rs : List Record) (k i : ℕ) (d : Record) : Type 0 where
+  pub above : k ≤ i
+  pub within : i < length rs
+  pub mark : get_or (backs p rs) i false ≡ true
+  pub rest : up p g rs k ≡ cons_if (seen g (get_or rs i d)) (own (get_or rs i d)) (up p g rs (suc i))
+
+drop-records : (rs : List Record) (k : ℕ) → length rs ≤ k → drop k rs ≡ []
+drop-records [] zero h = refl
+drop-records [] (suc k) h = refl
+drop-records (b ∷ bs) zero h = absurd (omega arith)
+drop-records (b ∷ bs) (suc k) h = drop-records bs k (omega arith)
+
+pub up-none : (p : Indicator) (g : ℕ) (rs : List Record) (m k : ℕ) → k + m ≡ length rs → first_from k (drop k (backs p rs)) ≡ None → up p g rs k ≡ []
+up-none p g rs zero k s e = ap (picked (behind_all p) g) (drop-records rs k (omega arith))
+up-none p g [] (suc m) k s e = absurd (omega arith)
+up-none p g (r ∷ rs) (suc m) k s e = by-mark (get_or (backs p (r ∷ rs)) k false) refl (λ e. up-none p g (r ∷ rs) m (suc k) (omega arith) e)
+  where
+    by-mark : (v : Bool) → get_or (backs p (r ∷ rs)) k false ≡ v → (first_from (suc k) (drop (suc k) (backs p (r ∷ rs))) ≡ None → up p g (r ∷ rs) (suc k) ≡ []) → up p g (r ∷ rs) k ≡ []
+    by-mark true h next =
+        let l : k < length (backs p (r ∷ rs)) = omega (arith, length-map (r ∷ rs) (behind_all p)) in
+        let z : None ≡ Some k = sym e ∙ drop-mark (backs p (r ∷ rs)) k l ∙ ap (λ v. add_if v (Some k) (first_from (suc k) (drop (suc k) (backs p (r ∷ rs))))) h in
+        absurd (cc)
+    by-mark false h next =
+        let l : k < length (backs p (r ∷ rs)) = omega (arith, length-map (r ∷ rs) (behind_all p)) in
+        let z : first_from (suc k) (drop (suc k) (backs p (r ∷ rs))) ≡ None = sym (drop-mark (backs p (r ∷ rs)) k l ∙ ap (λ v. add_if v (Some k) (first_from (suc k) (drop (suc k) (backs p (r ∷ rs))))) h) ∙ e in
+        up-step p g (r ∷ rs) k r false (omega arith) h ∙ cons-out (seen g (get_or (r ∷ rs) k r)) (own (get_or (r ∷ rs) k r)) (up p g (r ∷ rs) (suc k)) ∙ next z
+
+no-marks : (p : Indicator) (rs : List Record) (k : ℕ) → length rs ≤ k → first_from k (drop k (backs p rs)) ≡ None
+no-marks p rs k h = ap (first_from k) (drop-whole (backs p rs) k (omega (arith, length-map rs (behind_all p))))
+
+pub up-some : (p : Indicator) (g : ℕ) (rs : List Record) (m k i : ℕ) (d : Record) → k + m ≡ length rs → first_from k (drop k (backs p rs)) ≡ Some i → UpIs p g rs k i d
+up-some p g rs zero k i d s e = let z : None ≡ Some i = sym (no-marks p rs k (omega arith)) ∙ e in absurd (cc)
+up-some p g rs (suc m) k i d s e = by-mark (get_or (backs p rs) k false) refl (λ e. up-some p g rs m (suc k) i d (omega arith) e)
+  where
+    by-mark : (v : Bool) → get_or (backs p rs) k false ≡ v → (first_from (suc k) (drop (suc k) (backs p rs)) ≡ Some i → UpIs p g rs (suc k) i d) → UpIs p g rs k i d
+    by-mark true h next =
+        let l : k < length (backs p rs) = omega (arith, length-map rs (behind_all p)) in
+        let z : Some k ≡ Some i = sym (drop-mark (backs p rs) k l ∙ ap (λ v. add_if v (Some k) (first_from (suc k) (drop (suc k) (backs p rs)))) h) ∙ e in
+        let q : k ≡ i = some-same z in
+        record {
+          above = omega arith;
+          within = omega arith;
+          mark = subst (λ n. get_or (backs p rs) n false ≡ true) q h;
+          rest = up-step p g rs k d true (omega arith) h ∙ cons-in (seen g (get_or rs k d)) (own (get_or rs k d)) (up p g rs (suc k))
+              ∙ ap (λ n. cons_if (seen g (get_or rs n d)) (own (get_or rs n d)) (up p g rs (suc n))) q;
+        }
+    by-mark false h next =
+        let l : k < length (backs p rs) = omega (arith, length-map rs (behind_all p)) in
+        let z : first_from (suc k) (drop (suc k) (backs p rs)) ≡ Some i = sym (drop-mark (backs p rs) k l ∙ ap (λ v. add_if v (Some k) (first_from (suc k) (drop (suc k) (backs p rs)))) h) ∙ e in
+        let u = next z in
+        record {
+          above = omega (arith, u.above);
+          within = u.within;
+          mark = u.mark;
+          rest = up-step p g rs k d false (omega arith) h ∙ cons-out (seen g (get_or rs k d)) (own (get_or rs k d)) (up p g rs (suc k)) ∙ u.rest;
+        }
+
+-- a loop downward: what was gathered, and what is to come
+pub record Down (p : Indicator) (g : ℕ) (rs : List Record) (at : Option ℕ) (was now : List Clause) : Type 0 where
+  pub below : ℕ
+  pub within : below ≤ length rs
+  pub at_is : at ≡ last_below (fronts p rs) below
+  pub found : now ++ clauses_of (down p g rs below) ≡ was ++ clauses_of (down p g rs (length rs))
+
+abbrev pub place_after : Option ℕ → ℕ
+place_after None = 0
+place_after (Some i) = suc i
+
+front-last : (p : Indicator) (rs : List Record) (n i : ℕ) → last_below (fronts p rs) n ≡ Some i → LastIs (fronts p rs) n i
+front-last p rs n i e = last-some (fronts p rs) n i e
+
+pub down-within : (p : Indicator) (g : ℕ) (rs : List Record) (at : Option ℕ) (was now : List Clause) (i : ℕ) → Down p g rs at was now → at ≡ Some i → i < length rs
+down-within p g rs at was now i w e = let l = (front-last p rs w.below i (sym w.at_is ∙ e)).within in omega (arith, l, w.within)
+
+-- the next one downward
+pub down-next : (p : Indicator) (g : ℕ) (rs : List Record) (next : List (Option ℕ)) (at : Option ℕ) (was now : List Clause) (i : ℕ) → IsDown p rs next → Down p g rs at was now → at ≡ Some i →
+    get_or next i None ≡ last_below (fronts p rs) i
+down-next p g rs next at was now i links w e = links.older i (front-last p rs w.below i (sym w.at_is ∙ e)).here
+
+pub down-smaller : (p : Indicator) (g : ℕ) (rs : List Record) (next : List (Option ℕ)) (at to : Option ℕ) (was now : List Clause) (i : ℕ) → IsDown p rs next → Down p g rs at was now → at ≡ Some i → to ≡ get_or next i None →
+    place_after to < place_after at
+down-smaller p g rs next at to was now i links w e t =
+    let n : to ≡ last_below (fronts p rs) i = t ∙ down-next p g rs next at was now i links w e in
+    subst (λ a. place_after to < place_after a) (sym e) (by-case to n)
+  where
+    by-case : (to : Option ℕ) → to ≡ last_below (fronts p rs) i → place_after to < suc i
+    by-case None n = omega arith
+    by-case (Some j) n = let l = (front-last p rs i j (sym n)).within in omega (arith, l)
+
+clauses-cons : (v : Bool) (x : Living) (xs : List Living) → clauses_of (cons_if v x xs) ≡ cond v (x.clause ∷ clauses_of xs) (clauses_of xs)
+clauses-cons true x xs = refl
+clauses-cons false x xs = refl
+
+-- one more record passed: its clause was added where it is seen
+pub down-more : (p : Indicator) (g : ℕ) (rs : List Record) (next : List (Option ℕ)) (at to : Option ℕ) (was now more : List Clause) (i : ℕ) (r : Record) (v : Bool) → IsDown p rs next → Down p g rs at was now → at ≡ Some i →
+    r ≡ get_or rs i r → seen g r ≡ v → more ≡ cond v (now ++ r.clause ∷ []) now → to ≡ get_or next i None → Down p g rs to was more
+down-more p g rs next at to was now more i r v links w e er ev em et =
+    let l = front-last p rs w.below i (sym w.at_is ∙ e) in
+    record {
+      below = i;
+      within = omega (arith, l.within, w.within);
+      at_is = et ∙ down-next p g rs next at was now i links w e;
+      found = ap (λ m. m ++ clauses_of (down p g rs i)) em ∙ by-case v
+          ∙ ap (λ m. now ++ m) (sym (ap clauses_of (down-some p g rs w.below i r w.within (sym w.at_is ∙ e) ∙ ap₂ (λ q u. cons_if u (own q) (down p g rs i)) (sym er) (ap (seen g) (sym er) ∙ ev))
+          ∙ clauses-cons v (own r) (down p g rs i)))
+          ∙ w.found;
+    }
+  where
+    by-case : (v : Bool) → cond v (now ++ r.clause ∷ []) now ++ clauses_of (down p g rs i) ≡ now ++ cond v (r.clause ∷ clauses_of (down p g rs i)) (clauses_of (down p g rs i))
+    by-case true = append_assoc now (r.clause ∷ []) (clauses_of (down p g rs i))
+    by-case false = refl
+
+pub down-start : (p : Indicator) (g : ℕ) (rs : List Record) (at : Option ℕ) (was : List Clause) → at ≡ last_below (fronts p rs) (length rs) → Down p g rs at was was
+down-start p g rs at was e = record { below = length rs; within = omega arith; at_is = e; found = refl }
+
+pub down-end : (p : Indicator) (g : ℕ) (rs : List Record) (at : Option ℕ) (was now : List Clause) → Down p g rs at was now → at ≡ None → now ≡ was ++ clauses_of (reverse (picked (in_front p) g rs))
+down-end p g rs at was now w e =
+    sym (append-nil now) ∙ ap (λ l. now ++ clauses_of l) (sym (down-none p g rs w.below w.within (sym w.at_is ∙ e))) ∙ w.found
+    ∙ ap (λ l. was ++ clauses_of (reverse (picked (in_front p) g l))) (take-length rs)
+
+-- a loop upward
+pub record Up (p : Indicator) (g : ℕ) (rs : List Record) (at : Option ℕ) (was now : List Clause) : Type 0 where
+  pub from : ℕ
+  pub left : ℕ
+  pub whole : from + left ≡ length rs
+  pub at_is : at ≡ first_from from (drop from (backs p rs))
+  pub found : now ++ clauses_of (up p g rs from) ≡ was ++ clauses_of (picked (behind_all p) g rs)
+
+-- how many records are left, if any is to come
+abbrev pub left_from : ℕ → Option ℕ → ℕ
+left_from n None = 0
+left_from n (Some i) = n - i
+
+pub up-is : (p : Indicator) (g : ℕ) (rs : List Record) (at : Option ℕ) (was now : List Clause) (i : ℕ) (d : Record) → (w : Up p g rs at was now) → at ≡ Some i → UpIs p g rs w.from i d
+up-is p g rs at was now i d w e = up-some p g rs w.left w.from i d w.whole (sym w.at_is ∙ e)
+
+pub up-smaller : (p : Indicator) (g : ℕ) (rs : List Record) (next : List (Option ℕ)) (at to : Option ℕ) (was now : List Clause) (i : ℕ) (d : Record) → IsUp p rs next → Up p g rs at was now → at ≡ Some i → to ≡ get_or next i None →
+    left_from (length rs) to < left_from (length rs) at
+up-smaller p g rs next at to was now i d links w e t =
+    let u = up-is p g rs at was now i d w e in
+    let n : to ≡ first_from (suc i) (drop (suc i) (backs p rs)) = t ∙ links.newer i u.mark in
+    subst (λ a. left_from (length rs) to < left_from (length rs) a) (sym e) (by-case to n u.within)
+  where
+    by-case : (to : Option ℕ) → to ≡ first_from (suc i) (drop (suc i) (backs p rs)) → i < length rs → left_from (length rs) to < length rs - i
+    by-case None n l = omega arith
+    by-case (Some j) n l =
+        let whole : suc i + (length rs - suc i) ≡ length rs = omega arith in
+        let u = up-some p g rs (length rs - suc i) (suc i) j d whole (sym n) in omega (arith, u.above, u.within)
+
+pub up-more : (p : Indicator) (g : ℕ) (rs : List Record) (next : List (Option ℕ)) (at to : Option ℕ) (was now more : List Clause) (i : ℕ) (r : Record) (v : Bool) → IsUp p rs next → Up p g rs at was now → at ≡ Some i →
+    r ≡ get_or rs i r → seen g r ≡ v → more ≡ cond v (now ++ r.clause ∷ []) now → to ≡ get_or next i None → Up p g rs to was more
+up-more p g rs next at to was now more i r v links w e er ev em et =
+    let u = up-is p g rs at was now i r w e in
+    record {
+      from = suc i;
+      left = length rs - suc i;
+      whole = omega (arith, u.within);
+      at_is = et ∙ links.newer i u.mark;
+      found = ap (λ m. m ++ clauses_of (up p g rs (suc i))) em ∙ by-case v
+          ∙ ap (λ m. now ++ m) (sym (ap clauses_of (u.rest ∙ ap₂ (λ q u. cons_if u (own q) (up p g rs (suc i))) (sym er) (ap (seen g) (sym er) ∙ ev))
+          ∙ clauses-cons v (own r) (up p g rs (suc i))))
+          ∙ w.found;
+    }
+  where
+    by-case : (v : Bool) → cond v (now ++ r.clause ∷ []) now ++ clauses_of (up p g rs (suc i)) ≡ now ++ cond v (r.clause ∷ clauses_of (up p g rs (suc i))) (clauses_of (up p g rs (suc i)))
+    by-case true = append_assoc now (r.clause ∷ []) (clauses_of (up p g rs (suc i)))
+    by-case false = refl
+
+pub up-start : (p : Indicator) (g : ℕ) (rs : List Record) (at : Option ℕ) (was : List Clause) → at ≡ first_from 0 (backs p rs) → Up p g rs at was was
+up-start p g rs at was e = record { from = 0; left = length rs; whole = omega arith; at_is = e; found = refl }
+
+pub up-end : (p : Indicator) (g : ℕ) (rs : List Record) (at : Option ℕ) (was now : List Clause) → Up p g rs at was now → at ≡ None → now ≡ was ++ clauses_of (picked (behind_all p) g rs)
+up-end p g rs at was now w e =
+    sym (append-nil now) ∙ ap (λ l. now ++ clauses_of l) (sym (up-none p g rs w.left w.from w.whole (sym w.at_is ∙ e))) ∙ w.found
+
+not-some : (at : Option ℕ) → ((i : ℕ) → at ≡ Some i → ⊥) → at ≡ None
+not-some None h = refl
+not-some (Some i) h = absurd (h i refl)
+
+pub down-over : (p : Indicator) (g : ℕ) (rs : List Record) (at : Option ℕ) (was now : List Clause) → Down p g rs at was now → ((i : ℕ) → at ≡ Some i → ⊥) → now ≡ was ++ clauses_of (reverse (picked (in_front p) g rs))
+down-over p g rs at was now w h = down-end p g rs at was now w (not-some at h)
+
+pub up-over : (p : Indicator) (g : ℕ) (rs : List Record) (at : Option ℕ) (was now : List Clause) → Up p g rs at was now → ((i : ℕ) → at ≡ Some i → ⊥) → now ≡ was ++ clauses_of (picked (behind_all p) g rs)
+up-over p g rs at was now w h = up-end p g rs at was now w (not-some at h)
+
+some-record : Record
+some-record = record { name = named 0 0; clause = record { head = atom []; body = atom []; variables = 0 }; front = true; erased = None }
+
+pub up-within : (p : Indicator) (g : ℕ) (rs : List Record) (at : Option ℕ) (was now : List Clause) (i : ℕ) → Up p g rs at was now → at ≡ Some i → i < length rs
+up-within p g rs at was now i w e = (up-is p g rs at was now i some-record w e).within

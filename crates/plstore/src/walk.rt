@@ -1,0 +1,80 @@
+//! The walk over the clauses of a procedure, by its links.
+ghost use Rattle.std.specs.Prelude.{◌≡◌, ◌++◌, ◌<◌, ◌∷◌, [], None, cond, length, reverse, slice_index_or, OnOk};
+ghost use Rattle.plevent.specs.Alive.{clauses_of};
+ghost use Rattle.plstore.specs.Kept.{picked, seen, in_front, behind_all};
+ghost use Rattle.plstore.specs.Links.{fronts, backs, last_below, first_from, IsDown, IsUp};
+
+use crate::record::Record;
+use plclause::clause::Clause;
+use plterm::indicator::Indicator;
+use std::alloc::AllocError;
+
+/// Adds the clauses that are seen at `g`, of those put in front, the newest first.
+pub(crate) fn gather_front(
+    records: &[Record],
+    next: &[Option<usize>],
+    pred: &Indicator,
+    newest: Option<usize>,
+    g: u64,
+    found: &mut Vec<Clause>,
+) -> Result<(), AllocError>
+    requires links { IsDown pred.now records.now next.now }
+    requires newest { newest ≡ last_below (fronts pred.now records.now) (length records.now) }
+    ensures { OnOk result (found.new.items ≡ found.old.items ++ clauses_of (reverse (picked (in_front pred.now) g records.now))) }
+{
+    let _ = pred;
+    let mut at = newest;
+    while let Some(number) = at {
+        let record = record_at(records, number);
+        add_seen(found, record, g)?;
+        at = link_at(next, number);
+    }
+    Ok(())
+}
+
+/// Adds the clauses that are seen at `g`, of those put behind, the oldest first.
+pub(crate) fn gather_back(
+    records: &[Record],
+    next: &[Option<usize>],
+    pred: &Indicator,
+    oldest: Option<usize>,
+    g: u64,
+    found: &mut Vec<Clause>,
+) -> Result<(), AllocError>
+    requires links { IsUp pred.now records.now next.now }
+    requires oldest { oldest ≡ first_from 0 (backs pred.now records.now) }
+    ensures { OnOk result (found.new.items ≡ found.old.items ++ clauses_of (picked (behind_all pred.now) g records.now)) }
+{
+    let _ = pred;
+    let mut at = oldest;
+    while let Some(number) = at {
+        let record = record_at(records, number);
+        add_seen(found, record, g)?;
+        at = link_at(next, number);
+    }
+    Ok(())
+}
+
+fn record_at(records: &[Record], number: usize) -> &Record
+    requires { number < length records.now }
+    ensures { result.now ≡ slice_index_or records.now number result.now }
+{
+    &records[number]
+}
+
+fn link_at(next: &[Option<usize>], number: usize) -> Option<usize>
+    requires { number < length next.now }
+    ensures { result ≡ slice_index_or next.now number None }
+{
+    next[number]
+}
+
+/// Adds the clause of a record where it is seen at `g`.
+fn add_seen(found: &mut Vec<Clause>, one: &Record, g: u64) -> Result<(), AllocError>
+    ensures { OnOk result (found.new.items ≡ cond (seen g one.now) (found.old.items ++ one.now.clause ∷ []) found.old.items) }
+{
+    if one.is_seen(g) {
+        found.push(one.clause.copied()?)?;
+    }
+    Ok(())
+}
