@@ -20,10 +20,10 @@ use Rattle.plwrite.specs.declared.form.Pair.TheVariants as pair
 use Rattle.plwrite.specs.declared.form.Alone.{Alone}
 use Rattle.plwrite.specs.declared.form.Alone.TheVariants as alone
 use Rattle.plwrite.specs.Nodes.{node_int}
-use Rattle.plwrite.specs.Words.{Word, sign, variable, integer, operator, prefix, plain, letter_text}
+use Rattle.plwrite.specs.Words.{Word, sign, variable, integer, operator, prefix}
 use Rattle.plwrite.specs.Places.{whole, argument, left_of, right_of, right_of_prefix, left_of_postfix, needs_brackets, place_of}
 use Rattle.plwrite.specs.Writing.{words, others, behind_bar, opening, closing, called, atom_words, ends_list, pair_form, pair_words, list_words, alone_form, alone_words, operated}
-use Rattle.plwrite.specs.Tasks.{told, arguments, closing_tasks, list_told}
+use Rattle.plwrite.specs.Tasks.{told, arguments, closing_tasks, call_told, functional_told, list_told, curly_told, between_told, before_told, behind_told, letter_told}
 
 module _ (ops : List Entry) (style : Style) where
   closing_told : (needed : Bool) (rest : List Task) (ts : List Tree) → told ops style (closing_tasks needed rest) ts ≡ closing needed (told ops style rest ts)
@@ -57,13 +57,13 @@ module _ (ops : List Entry) (style : Style) where
   pair_told position rest s a b ts = refl
 
   list_is : (position : Position) (rest : List Task) (a b : Tree) (ts : List Tree) →
-      list_told ops style position rest (a ∷ b ∷ ts)
+      list_told position ops style rest (a ∷ b ∷ ts)
       ≡ list_words position (λ p ws. words ops style p a ws) (λ p ws. words ops style p b ws) (told ops style rest ts)
   list_is (At place) rest a b ts = refl
   list_is Tail rest a b ts = refl
 
   pub list_of_pair : (position : Position) (rest : List Task) (s : List ℕ) (ts : List Tree) → 2 ≤ length ts → pair_form ops s ≡ pair.List →
-      list_told ops style position rest ts ≡ told ops style (tasks.Term position ∷ rest) (read (nodes.Compound s 2) ts)
+      list_told position ops style rest ts ≡ told ops style (tasks.Term position ∷ rest) (read (nodes.Compound s 2) ts)
   list_of_pair position rest s [] h e = absurd (omega arith)
   list_of_pair position rest s (a ∷ []) h e = absurd (omega arith)
   list_of_pair position rest s (a ∷ b ∷ ts) h e =
@@ -72,8 +72,7 @@ module _ (ops : List Entry) (style : Style) where
       ∙ sym (pair_told position rest s a b ts)
 
   pub between_of_pair : (position : Position) (rest : List Task) (name : Bor (List ℕ)) (op : Infix) (ts : List Tree) → 2 ≤ length ts → pair_form ops name.now ≡ pair.Between op →
-      behind_bar position (opening (needs_brackets (place_of position) (operators.Between op))
-      (told ops style (tasks.Term (At (left_of op)) ∷ tasks.OperatorName name ∷ tasks.Term (At (right_of op)) ∷ closing_tasks (needs_brackets (place_of position) (operators.Between op)) rest) ts))
+      between_told position name op ops style rest ts
       ≡ told ops style (tasks.Term position ∷ rest) (read (nodes.Compound name.now 2) ts)
   between_of_pair position rest name op [] h e = absurd (omega arith)
   between_of_pair position rest name op (a ∷ []) h e = absurd (omega arith)
@@ -84,7 +83,7 @@ module _ (ops : List Entry) (style : Style) where
       ∙ sym (pair_told position rest name.now a b ts)
 
   pub call_of_pair : (position : Position) (rest : List Task) (s : List ℕ) (ts : List Tree) → 2 ≤ length ts → pair_form ops s ≡ pair.Functional →
-      called style position s (told ops style (tasks.Term (At argument) ∷ tasks.Others 1 ∷ rest) ts)
+      call_told position s 1 ops style rest ts
       ≡ told ops style (tasks.Term position ∷ rest) (read (nodes.Compound s 2) ts)
   call_of_pair position rest s [] h e = absurd (omega arith)
   call_of_pair position rest s (a ∷ []) h e = absurd (omega arith)
@@ -108,7 +107,7 @@ module _ (ops : List Entry) (style : Style) where
       (arguments_are k ts (told ops style rest) h)
 
   behind_one : (position : Position) (rest : List Task) (s : List ℕ) (m : ℕ) (ts : List Tree) → 2 ≤ m → suc m ≤ length ts →
-      called style position s (told ops style (tasks.Term (At argument) ∷ tasks.Others m ∷ rest) ts)
+      call_told position s m ops style rest ts
       ≡ told ops style (tasks.Term position ∷ rest) (read (nodes.Compound s (suc m)) ts)
   behind_one position rest s zero ts h room = absurd (omega arith)
   behind_one position rest s (suc zero) ts h room = absurd (omega arith)
@@ -117,10 +116,10 @@ module _ (ops : List Entry) (style : Style) where
   behind_one position rest s (suc (suc k)) (a ∷ b ∷ []) h room = absurd (omega arith)
   behind_one position rest s (suc (suc k)) (a ∷ b ∷ c ∷ ts) h room = many_told position rest s k a b c ts (omega arith)
 
-  pub call_told : (position : Position) (rest : List Task) (s : List ℕ) (k m : ℕ) (ts : List Tree) → k ≡ suc m → 2 ≤ m → k ≤ length ts →
-      called style position s (told ops style (tasks.Term (At argument) ∷ tasks.Others m ∷ rest) ts)
+  pub call_of_many : (position : Position) (rest : List Task) (s : List ℕ) (k m : ℕ) (ts : List Tree) → k ≡ suc m → 2 ≤ m → k ≤ length ts →
+      call_told position s m ops style rest ts
       ≡ told ops style (tasks.Term position ∷ rest) (read (nodes.Compound s k) ts)
-  call_told position rest s k m ts e h room = rw e (behind_one position rest s m ts h (omega arith))
+  call_of_many position rest s k m ts e h room = rw e (behind_one position rest s m ts h (omega arith))
 
   pub term_told : (position : Position) (rest : List Task) (node : Node) (ts : List Tree) →
       told ops style (tasks.Term position ∷ rest) (read node ts) ≡ words ops style position (first (read node ts)) (told ops style rest (drop 1 (read node ts)))
@@ -145,35 +144,33 @@ module _ (ops : List Entry) (style : Style) where
       ap (λ f. alone_words style position name.now f (λ p ws. words ops style p (first (read node ts)) ws) (told ops style rest (drop 1 (read node ts)))) (sym e)
       ∙ sym (only_told position rest name node ts)
 
-  pub curly_told : (position : Position) (rest : List Task) (name : Bor (List ℕ)) (node : Node) (ts : List Tree) → alone_form ops name.now (node_int node) ≡ alone.Curly →
-      behind_bar position (sign signs.OpenCurly ∷ told ops style (tasks.Term (At whole) ∷ tasks.Mark signs.CloseCurly ∷ rest) (read node ts))
+  pub curly_of_only : (position : Position) (rest : List Task) (name : Bor (List ℕ)) (node : Node) (ts : List Tree) → alone_form ops name.now (node_int node) ≡ alone.Curly →
+      curly_told position ops style rest (read node ts)
       ≡ told ops style (tasks.Only name position ∷ rest) (read node ts)
-  curly_told position rest name node ts e =
+  curly_of_only position rest name node ts e =
       ap (λ ws. behind_bar position (sign signs.OpenCurly ∷ ws)) (term_told (At whole) (tasks.Mark signs.CloseCurly ∷ rest) node ts)
       ∙ only_as position rest name node ts alone.Curly e
 
-  pub functional_told : (position : Position) (rest : List Task) (name : Bor (List ℕ)) (node : Node) (ts : List Tree) → alone_form ops name.now (node_int node) ≡ alone.Functional →
-      called style position name.now (told ops style (tasks.Term (At argument) ∷ tasks.Mark signs.Close ∷ rest) (read node ts))
+  pub functional_of_only : (position : Position) (rest : List Task) (name : Bor (List ℕ)) (node : Node) (ts : List Tree) → alone_form ops name.now (node_int node) ≡ alone.Functional →
+      functional_told position name.now ops style rest (read node ts)
       ≡ told ops style (tasks.Only name position ∷ rest) (read node ts)
-  functional_told position rest name node ts e =
+  functional_of_only position rest name node ts e =
       ap (called style position name.now) (term_told (At argument) (tasks.Mark signs.Close ∷ rest) node ts)
       ∙ only_as position rest name node ts alone.Functional e
 
-  pub before_told : (position : Position) (rest : List Task) (name : Bor (List ℕ)) (node : Node) (ts : List Tree) (op : Prefix) → alone_form ops name.now (node_int node) ≡ alone.Before op →
-      behind_bar position (opening (needs_brackets (place_of position) (operators.Before op)) (prefix style name.now
-      ∷ told ops style (tasks.Term (At (right_of_prefix op)) ∷ closing_tasks (needs_brackets (place_of position) (operators.Before op)) rest) (read node ts)))
+  pub before_of_only : (position : Position) (rest : List Task) (name : Bor (List ℕ)) (node : Node) (ts : List Tree) (op : Prefix) → alone_form ops name.now (node_int node) ≡ alone.Before op →
+      before_told position name.now op ops style rest (read node ts)
       ≡ told ops style (tasks.Only name position ∷ rest) (read node ts)
-  before_told position rest name node ts op e =
+  before_of_only position rest name node ts op e =
       let needed = needs_brackets (place_of position) (operators.Before op) in
       ap (λ ws. behind_bar position (opening needed (prefix style name.now ∷ ws))) (term_told (At (right_of_prefix op)) (closing_tasks needed rest) node ts)
       ∙ ap (λ ws. behind_bar position (opening needed (prefix style name.now ∷ words ops style (At (right_of_prefix op)) (first (read node ts)) ws))) (closing_told needed rest (drop 1 (read node ts)))
       ∙ only_as position rest name node ts (alone.Before op) e
 
-  pub behind_told : (position : Position) (rest : List Task) (name : Bor (List ℕ)) (node : Node) (ts : List Tree) (op : Postfix) → alone_form ops name.now (node_int node) ≡ alone.Behind op →
-      behind_bar position (opening (needs_brackets (place_of position) (operators.Behind op))
-      (told ops style (tasks.Term (At (left_of_postfix op)) ∷ tasks.OperatorName name ∷ closing_tasks (needs_brackets (place_of position) (operators.Behind op)) rest) (read node ts)))
+  pub behind_of_only : (position : Position) (rest : List Task) (name : Bor (List ℕ)) (node : Node) (ts : List Tree) (op : Postfix) → alone_form ops name.now (node_int node) ≡ alone.Behind op →
+      behind_told position name op ops style rest (read node ts)
       ≡ told ops style (tasks.Only name position ∷ rest) (read node ts)
-  behind_told position rest name node ts op e =
+  behind_of_only position rest name node ts op e =
       let needed = needs_brackets (place_of position) (operators.Behind op) in
       ap (λ ws. behind_bar position (opening needed ws)) (term_told (At (left_of_postfix op)) (tasks.OperatorName name ∷ closing_tasks needed rest) node ts)
       ∙ ap (λ ws. behind_bar position (opening needed (words ops style (At (left_of_postfix op)) (first (read node ts)) (operator style name.now ∷ ws)))) (closing_told needed rest (drop 1 (read node ts)))
@@ -188,10 +185,10 @@ module _ (ops : List Entry) (style : Style) where
   no_letter_of_none true before behind n e = cc
   no_letter_of_none false before behind n e = no_letter before behind n e
 
-  pub letter_told : (position : Position) (rest : List Task) (name : Bor (List ℕ)) (node : Node) (ts : List Tree) (n : ℕ) → alone_form ops name.now (node_int node) ≡ alone.Letter n →
-      behind_bar position (plain (letter_text n) ∷ told ops style rest ts)
+  pub letter_of_only : (position : Position) (rest : List Task) (name : Bor (List ℕ)) (node : Node) (ts : List Tree) (n : ℕ) → alone_form ops name.now (node_int node) ≡ alone.Letter n →
+      letter_told position n ops style rest ts
       ≡ told ops style (tasks.Only name position ∷ rest) (read node ts)
-  letter_told position rest name (nodes.Var v) ts n e = absurd (no_letter_of_none _ _ _ n e)
-  letter_told position rest name (nodes.Int i) ts n e = only_as position rest name (nodes.Int i) ts (alone.Letter n) e
-  letter_told position rest name (nodes.Atom s) ts n e = absurd (no_letter_of_none _ _ _ n e)
-  letter_told position rest name (nodes.Compound s k) ts n e = absurd (no_letter_of_none _ _ _ n e)
+  letter_of_only position rest name (nodes.Var v) ts n e = absurd (no_letter_of_none _ _ _ n e)
+  letter_of_only position rest name (nodes.Int i) ts n e = only_as position rest name (nodes.Int i) ts (alone.Letter n) e
+  letter_of_only position rest name (nodes.Atom s) ts n e = absurd (no_letter_of_none _ _ _ n e)
+  letter_of_only position rest name (nodes.Compound s k) ts n e = absurd (no_letter_of_none _ _ _ n e)

@@ -4,6 +4,11 @@ use Rattle.std.specs.List.{flat_map}
 use Rattle.plterm.specs.declared.node.Node.{Node}
 use Rattle.plterm.specs.Tree.{Tree, compound, none, more}
 use Rattle.plterm.specs.Reading.{arity, read, spelling}
+use Rattle.std.specs.Borrow.{Bor}
+use Rattle.plops.specs.declared.operator.Prefix.{Prefix}
+use Rattle.plops.specs.declared.operator.Infix.{Infix}
+use Rattle.plops.specs.declared.operator.Postfix.{Postfix}
+use Rattle.plops.specs.declared.operator.Operator.TheVariants as operators
 use Rattle.plops.specs.declared.table.Entry.{Entry}
 use Rattle.plwrite.specs.declared.style.Style.{Style}
 use Rattle.plwrite.specs.declared.place.Position.{Position}
@@ -13,9 +18,9 @@ use Rattle.plwrite.specs.declared.task.Task.{Task}
 use Rattle.plwrite.specs.declared.task.Task.TheVariants as tasks
 use Rattle.plwrite.specs.declared.task.Notation.{Notation}
 use Rattle.plwrite.specs.declared.writer.Writer.{Writer}
-use Rattle.plwrite.specs.Words.{Word, sign, operator, finished}
-use Rattle.plwrite.specs.Places.{argument}
-use Rattle.plwrite.specs.Writing.{words}
+use Rattle.plwrite.specs.Words.{Word, sign, operator, prefix, plain, letter_text, finished}
+use Rattle.plwrite.specs.Places.{whole, argument, left_of, right_of, right_of_prefix, left_of_postfix, needs_brackets, place_of}
+use Rattle.plwrite.specs.Writing.{words, behind_bar, opening, called}
 
 -- the first of the terms, before what is said of the others
 abbrev pub with_first : List Tree → (Tree → List Word → List Word) → (List Tree → List Word) → List Word
@@ -53,14 +58,56 @@ awaited n w ts = finished w.text (told n.ops.now n.style (stack w) ts)
 abbrev pub awaited_with : Notation → Writer → Task → List Tree → List ℕ
 awaited_with n w task ts = finished w.text (told n.ops.now n.style (task ∷ stack w) ts)
 
--- a list's first element and what is left of it
-abbrev pub list_told : List Entry → Style → Position → List Task → List Tree → List Word
-list_told ops style (At place) rest ts = sign signs.OpenSquare ∷ told ops style (tasks.Term (At argument) ∷ tasks.Term Tail ∷ tasks.Mark signs.CloseSquare ∷ rest) ts
-list_told ops style Tail rest ts = sign signs.Comma ∷ told ops style (tasks.Term (At argument) ∷ tasks.Term Tail ∷ rest) ts
+-- what words a step makes of the terms that are left
+abbrev pub Makes : Notation → Writer → Writer → (List Entry → Style → List Task → List Tree → List Word) → Type 0
+Makes n old new made = (ts : List Tree) → awaited n new ts ≡ finished old.text (made n.ops.now n.style (stack old) ts)
 
--- What was still to be written with a task before a term that begins with a node, whose arguments stand first now.
+-- the same where the first of these terms begins with a node that is taken off, so that its arguments stand first now
+abbrev pub MakesOfNode : Notation → Writer → Writer → Node → (List Entry → Style → List Task → List Tree → List Word) → Type 0
+MakesOfNode n old new node made =
+    (ts : List Tree) → arity node ≤ length ts → awaited n new ts ≡ finished old.text (made n.ops.now n.style (stack old) (read node ts))
+
+-- a functor, before its first argument and others
+abbrev pub call_told : Position → List ℕ → ℕ → List Entry → Style → List Task → List Tree → List Word
+call_told position s count ops style rest ts = called style position s (told ops style (tasks.Term (At argument) ∷ tasks.Others count ∷ rest) ts)
+
+-- a functor and its only argument
+abbrev pub functional_told : Position → List ℕ → List Entry → Style → List Task → List Tree → List Word
+functional_told position s ops style rest ts = called style position s (told ops style (tasks.Term (At argument) ∷ tasks.Mark signs.Close ∷ rest) ts)
+
+-- a list's first element and what is left of it
+abbrev pub list_told : Position → List Entry → Style → List Task → List Tree → List Word
+list_told (At place) ops style rest ts = sign signs.OpenSquare ∷ told ops style (tasks.Term (At argument) ∷ tasks.Term Tail ∷ tasks.Mark signs.CloseSquare ∷ rest) ts
+list_told Tail ops style rest ts = sign signs.Comma ∷ told ops style (tasks.Term (At argument) ∷ tasks.Term Tail ∷ rest) ts
+
+-- a term in braces
+abbrev pub curly_told : Position → List Entry → Style → List Task → List Tree → List Word
+curly_told position ops style rest ts = behind_bar position (sign signs.OpenCurly ∷ told ops style (tasks.Term (At whole) ∷ tasks.Mark signs.CloseCurly ∷ rest) ts)
+
+-- operators with their operands
+abbrev pub between_told : Position → Bor (List ℕ) → Infix → List Entry → Style → List Task → List Tree → List Word
+between_told position name op ops style rest ts =
+    let needed = needs_brackets (place_of position) (operators.Between op) in
+    behind_bar position (opening needed (told ops style
+    (tasks.Term (At (left_of op)) ∷ tasks.OperatorName name ∷ tasks.Term (At (right_of op)) ∷ closing_tasks needed rest) ts))
+
+abbrev pub before_told : Position → List ℕ → Prefix → List Entry → Style → List Task → List Tree → List Word
+before_told position s op ops style rest ts =
+    let needed = needs_brackets (place_of position) (operators.Before op) in
+    behind_bar position (opening needed (prefix style s ∷ told ops style (tasks.Term (At (right_of_prefix op)) ∷ closing_tasks needed rest) ts))
+
+abbrev pub behind_told : Position → Bor (List ℕ) → Postfix → List Entry → Style → List Task → List Tree → List Word
+behind_told position name op ops style rest ts =
+    let needed = needs_brackets (place_of position) (operators.Behind op) in
+    behind_bar position (opening needed (told ops style (tasks.Term (At (left_of_postfix op)) ∷ tasks.OperatorName name ∷ closing_tasks needed rest) ts))
+
+-- a variable by its place in the alphabet
+abbrev pub letter_told : Position → ℕ → List Entry → Style → List Task → List Tree → List Word
+letter_told position n ops style rest ts = behind_bar position (plain (letter_text n) ∷ told ops style rest ts)
+
+-- what was still to be written with a task before a term that begins with this node
 abbrev pub WritesNode : Notation → Writer → Writer → Task → Node → Type 0
-WritesNode n old new task node = (ts : List Tree) → arity node ≤ length ts → awaited n new ts ≡ awaited_with n old task (read node ts)
+WritesNode n old new task node = MakesOfNode n old new node (λ ops style rest. told ops style (task ∷ rest))
 
 -- at most so many tasks more
 abbrev pub AddsTasks : Writer → Writer → ℕ → Type 0

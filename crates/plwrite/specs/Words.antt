@@ -1,5 +1,5 @@
 -- Words, and their text: one space stands between two words exactly where they would be read otherwise.
-use Rattle.std.specs.Prelude.{ℕ, ℤ, ◌+◌, ◌-◌, ◌/◌, ◌%◌, List, [], ◌∷◌, ◌++◌, length, Bool, true, false, ◌||◌, ◌&&◌, ◌==◌, nat_le, slice_get, unwrap_or, if◌then◌else◌, codes, decimal}
+use Rattle.std.specs.Prelude.{◌≡◌, ℕ, ℤ, ◌+◌, ◌-◌, ◌/◌, ◌%◌, List, [], ◌∷◌, ◌++◌, length, Bool, true, false, ◌||◌, ◌&&◌, ◌==◌, nat_le, slice_get, unwrap_or, if◌then◌else◌, codes, decimal}
 use Rattle.std.specs.Fmt.{signed_decimal}
 use Rattle.std.specs.Str.{bytes_eq}
 use Rattle.std.specs.Char.{is_ascii_digit}
@@ -64,6 +64,13 @@ text_of ws = text_behind start ws
 -- the text so far, with words that follow
 unfoldable pub finished : Text → List Word → List ℕ
 finished t ws = t.bytes.items ++ text_behind t.edge ws
+
+-- what is put before the words that follow
+abbrev pub Puts : Text → Text → (List Word → List Word) → Type 0
+Puts old new f = (ws : List Word) → finished new ws ≡ finished old (f ws)
+
+abbrev pub Adds : Text → Text → Word → Type 0
+Adds old new w = (ws : List Word) → finished new ws ≡ finished old (w ∷ ws)
 
 abbrev pub plain : List ℕ → Word
 plain s = record { text = s; role = Other }

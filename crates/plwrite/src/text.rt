@@ -3,7 +3,7 @@ ghost use Rattle.std.specs.Prelude.{◌≡◌, ◌∷◌, ◌++◌, [], List, On
 ghost use Rattle.plwrite.specs.Places.{is_bracketed_atom};
 ghost use Rattle.plwrite.specs.Writing.{ends_list};
 ghost use Rattle.plwrite.specs.Names.{name_text, quoted_unless};
-ghost use Rattle.plwrite.specs.Words.{Word, first_byte, last_byte, is_letter, is_held_off, touches, finished, sign_text, sign, variable, integer, plain, digits_unless_zero, letter_text, name, functor, prefix, prefix_role, operator, text_of};
+ghost use Rattle.plwrite.specs.Words.{Word, first_byte, last_byte, is_letter, is_held_off, touches, finished, Puts, Adds, sign_text, sign, variable, integer, plain, digits_unless_zero, letter_text, name, functor, prefix, prefix_role, operator, text_of};
 
 use crate::names::{is_alphanumeric, is_bare, is_empty_brackets, is_symbol, quoted};
 use crate::place::{Place, Position};
@@ -154,7 +154,7 @@ impl Text {
     /// Adds a word, behind a space where it would touch the last one.
     #[tactic(auto, unfolding(crate::specs::Words::finished))]
     fn put(&mut self, text: &[u8], role: Role) -> Result<(), AllocError>
-        ensures { OnOk result ((ws : List Word) → finished self.new ws ≡ finished self.old (record { text = text.now; role = role } ∷ ws)) }
+        ensures { OnOk result (Adds self.old self.new (record { text = text.now; role = role })) }
     {
         if touches(self.edge, first_byte(text)) {
             self.bytes.push(b' ')?;
@@ -169,14 +169,14 @@ impl Text {
 
     /// Adds punctuation.
     pub fn put_sign(&mut self, mark: Sign) -> Result<(), AllocError>
-        ensures { OnOk result ((ws : List Word) → finished self.new ws ≡ finished self.old (sign mark ∷ ws)) }
+        ensures { OnOk result (Adds self.old self.new (sign mark)) }
     {
         self.put(mark.text(), Role::Other)
     }
 
     /// Adds a variable by its number.
     pub fn put_variable(&mut self, alloc: Global, number: u64) -> Result<(), AllocError>
-        ensures { OnOk result ((ws : List Word) → finished self.new ws ≡ finished self.old (variable number ∷ ws)) }
+        ensures { OnOk result (Adds self.old self.new (variable number)) }
     {
         let mut buffer = Buffer::new();
         let mut text = Vec::from_slice(alloc, b"_")?;
@@ -186,7 +186,7 @@ impl Text {
 
     /// Adds an integer.
     pub fn put_integer(&mut self, value: i64) -> Result<(), AllocError>
-        ensures { OnOk result ((ws : List Word) → finished self.new ws ≡ finished self.old (integer value ∷ ws)) }
+        ensures { OnOk result (Adds self.old self.new (integer value)) }
     {
         let mut buffer = Buffer::new();
         self.put(buffer.format(value).as_bytes(), Role::Other)
@@ -194,7 +194,7 @@ impl Text {
 
     /// Adds a variable by its place among A .. Z, A1 .. Z1, and so on.
     pub fn put_letter(&mut self, alloc: Global, number: u64) -> Result<(), AllocError>
-        ensures { OnOk result ((ws : List Word) → finished self.new ws ≡ finished self.old (plain (letter_text number) ∷ ws)) }
+        ensures { OnOk result (Adds self.old self.new (plain (letter_text number))) }
     {
         let mut text = Vec::from_slice(alloc, &[b'A' + (number % 26) as u8])?;
         push_unless_zero(&mut text, number / 26)?;
@@ -208,7 +208,7 @@ impl Text {
         name: &str,
         role: Role,
     ) -> Result<(), AllocError>
-        ensures { OnOk result ((ws : List Word) → finished self.new ws ≡ finished self.old (record { text = name_text style name.now; role = role } ∷ ws)) }
+        ensures { OnOk result (Adds self.old self.new (record { text = name_text style name.now; role = role })) }
     {
         match style {
             Style::Plain => self.put(name.as_bytes(), role),
@@ -223,7 +223,7 @@ impl Text {
         name: &str,
         role: Role,
     ) -> Result<(), AllocError>
-        ensures { OnOk result ((ws : List Word) → finished self.new ws ≡ finished self.old (record { text = quoted_unless is_bare name.now; role = role } ∷ ws)) }
+        ensures { OnOk result (Adds self.old self.new (record { text = quoted_unless is_bare name.now; role = role })) }
     {
         if is_bare {
             self.put(name.as_bytes(), role)
@@ -235,14 +235,14 @@ impl Text {
 
     /// Adds a name as an atom.
     pub fn put_name(&mut self, alloc: Global, style: Style, text: &str) -> Result<(), AllocError>
-        ensures { OnOk result ((ws : List Word) → finished self.new ws ≡ finished self.old (name style text.now ∷ ws)) }
+        ensures { OnOk result (Adds self.old self.new (name style text.now)) }
     {
         self.put_name_as(alloc, style, text, Role::Other)
     }
 
     /// Adds a name before its arguments.
     pub fn put_functor(&mut self, alloc: Global, style: Style, text: &str) -> Result<(), AllocError>
-        ensures { OnOk result ((ws : List Word) → finished self.new ws ≡ finished self.old (functor style text.now ∷ ws)) }
+        ensures { OnOk result (Adds self.old self.new (functor style text.now)) }
     {
         match style {
             Style::Plain => self.put(text.as_bytes(), Role::Other),
@@ -255,7 +255,7 @@ impl Text {
 
     /// Adds a name as a prefix operator.
     pub fn put_prefix(&mut self, alloc: Global, style: Style, text: &str) -> Result<(), AllocError>
-        ensures { OnOk result ((ws : List Word) → finished self.new ws ≡ finished self.old (prefix style text.now ∷ ws)) }
+        ensures { OnOk result (Adds self.old self.new (prefix style text.now)) }
     {
         self.put_name_as(alloc, style, text, prefix_role(text))
     }
@@ -267,7 +267,7 @@ impl Text {
         style: Style,
         text: &str,
     ) -> Result<(), AllocError>
-        ensures { OnOk result ((ws : List Word) → finished self.new ws ≡ finished self.old (operator style text.now ∷ ws)) }
+        ensures { OnOk result (Adds self.old self.new (operator style text.now)) }
     {
         if text == "," {
             self.put_sign(Sign::Comma)
@@ -278,7 +278,7 @@ impl Text {
 
     /// Adds a bar before a term that ends a list.
     pub fn put_bar(&mut self, position: Position) -> Result<(), AllocError>
-        ensures { OnOk result ((ws : List Word) → finished self.new ws ≡ finished self.old (behind_bar position ws)) }
+        ensures { OnOk result (Puts self.old self.new (behind_bar position)) }
     {
         match position {
             Position::At(_) => Ok(()),
@@ -288,7 +288,7 @@ impl Text {
 
     /// Adds an opening bracket, where one is needed.
     pub fn put_opening(&mut self, is_needed: bool) -> Result<(), AllocError>
-        ensures { OnOk result ((ws : List Word) → finished self.new ws ≡ finished self.old (opening is_needed ws)) }
+        ensures { OnOk result (Puts self.old self.new (opening is_needed)) }
     {
         if is_needed {
             self.put_sign(Sign::Open)
@@ -299,7 +299,7 @@ impl Text {
 
     /// Adds a closing bracket, where one is needed.
     pub fn put_closing(&mut self, is_needed: bool) -> Result<(), AllocError>
-        ensures { OnOk result ((ws : List Word) → finished self.new ws ≡ finished self.old (closing is_needed ws)) }
+        ensures { OnOk result (Puts self.old self.new (closing is_needed)) }
     {
         if is_needed {
             self.put_sign(Sign::Close)
@@ -315,7 +315,7 @@ impl Text {
         position: Position,
         text: &str,
     ) -> Result<(), AllocError>
-        ensures { OnOk result ((ws : List Word) → finished self.new ws ≡ finished self.old (called notation.now.style position text.now ws)) }
+        ensures { OnOk result (Puts self.old self.new (called notation.now.style position text.now)) }
     {
         self.put_bar(position)?;
         self.put_functor(notation.alloc, notation.style, text)?;
@@ -329,8 +329,8 @@ impl Text {
         position: Position,
         text: &str,
     ) -> Result<(), AllocError>
-        ensures { OnOk result ((ws : List Word) → finished self.new ws
-            ≡ finished self.old (atom_words notation.now.ops.now notation.now.style position (ends_list position text.now) text.now ws)) }
+        ensures { OnOk result (Puts self.old self.new
+            (atom_words notation.now.ops.now notation.now.style position (ends_list position text.now) text.now)) }
     {
         if ends_list(position, text) {
             return Ok(());

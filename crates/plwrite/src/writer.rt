@@ -40,7 +40,7 @@ impl<'a> Writer<'a> {
     ghost use Rattle.plterm.specs.Reading.{arity, read};
     ghost use Rattle.plwrite.specs.declared.task.Task.TheVariants.{Mark, OperatorName, Term, Only, Others};
     ghost use Rattle.plwrite.specs.Words.{Word, finished, text_of, sign, prefix, plain, letter_text};
-    ghost use Rattle.plwrite.specs.Tasks.{closing_tasks, list_told, told, stack, awaited, awaited_with, WritesNode, AddsTasks, work};
+    ghost use Rattle.plwrite.specs.Tasks.{closing_tasks, call_told, functional_told, list_told, curly_told, between_told, before_told, behind_told, letter_told, stack, awaited, awaited_with, Makes, MakesOfNode, WritesNode, AddsTasks, work};
 
     fn new(alloc: Global) -> Writer<'a>
         ensures text { (ws : List Word) → finished result.text ws ≡ text_of ws }
@@ -91,9 +91,7 @@ impl<'a> Writer<'a> {
         position: Position,
     ) -> Result<(), AllocError>
         requires { 0 < count }
-        ensures text { OnOk result ((ts : List Tree) → awaited notation.now self.new ts
-            ≡ finished self.old.text (called notation.now.style position name.entry.now
-            (told notation.now.ops.now notation.now.style (Term (At argument) ∷ Others (count - 1) ∷ stack self.old) ts))) }
+        ensures text { OnOk result (Makes notation.now self.old self.new (call_told position name.entry.now (count - 1))) }
         ensures count { OnOk result (AddsTasks self.old self.new 2) }
     {
         self.text.put_call(notation, position, name.as_str())?;
@@ -109,10 +107,7 @@ impl<'a> Writer<'a> {
         op: Infix,
         position: Position,
     ) -> Result<(), AllocError>
-        ensures text { OnOk result ((ts : List Tree) → awaited notation.now self.new ts
-            ≡ finished self.old.text (behind_bar position (opening (needs_brackets (place_of position) (Between op))
-            (told notation.now.ops.now notation.now.style (Term (At (left_of op)) ∷ OperatorName name.entry ∷ Term (At (right_of op))
-            ∷ closing_tasks (needs_brackets (place_of position) (Between op)) (stack self.old)) ts)))) }
+        ensures text { OnOk result (Makes notation.now self.old self.new (between_told position name.entry op)) }
         ensures count { OnOk result (AddsTasks self.old self.new 4) }
     {
         let needed = position.place().needs_brackets(Operator::Between(op));
@@ -126,8 +121,7 @@ impl<'a> Writer<'a> {
 
     /// A list's first element and what is left of it.
     fn write_list(&mut self, notation: &Notation<'_>, position: Position) -> Result<(), AllocError>
-        ensures text { OnOk result ((ts : List Tree) → awaited notation.now self.new ts
-            ≡ finished self.old.text (list_told notation.now.ops.now notation.now.style position (stack self.old) ts)) }
+        ensures text { OnOk result (Makes notation.now self.old self.new (list_told position)) }
         ensures count { OnOk result (AddsTasks self.old self.new 3) }
     {
         match position {
@@ -246,9 +240,7 @@ impl<'a> Writer<'a> {
         node: &'a Node,
         position: Position,
     ) -> Result<(), AllocError>
-        ensures text { OnOk result ((ts : List Tree) → arity node.entry.now ≤ length ts → awaited notation.now self.new ts
-            ≡ finished self.old.text (behind_bar position (sign Sign.OpenCurly
-            ∷ told notation.now.ops.now notation.now.style (Term (At whole) ∷ Mark Sign.CloseCurly ∷ stack self.old) (read node.entry.now ts)))) }
+        ensures text { OnOk result (MakesOfNode notation.now self.old self.new node.entry.now (curly_told position)) }
         ensures count { OnOk result (AddsTasks self.old self.new 5) }
     {
         self.text.put_bar(position)?;
@@ -265,9 +257,7 @@ impl<'a> Writer<'a> {
         node: &'a Node,
         position: Position,
     ) -> Result<(), AllocError>
-        ensures text { OnOk result ((ts : List Tree) → arity node.entry.now ≤ length ts → awaited notation.now self.new ts
-            ≡ finished self.old.text (called notation.now.style position name.now
-            (told notation.now.ops.now notation.now.style (Term (At argument) ∷ Mark Sign.Close ∷ stack self.old) (read node.entry.now ts)))) }
+        ensures text { OnOk result (MakesOfNode notation.now self.old self.new node.entry.now (functional_told position name.now)) }
         ensures count { OnOk result (AddsTasks self.old self.new 5) }
     {
         self.text.put_call(notation, position, name.as_str())?;
@@ -284,10 +274,7 @@ impl<'a> Writer<'a> {
         node: &'a Node,
         position: Position,
     ) -> Result<(), AllocError>
-        ensures text { OnOk result ((ts : List Tree) → arity node.entry.now ≤ length ts → awaited notation.now self.new ts
-            ≡ finished self.old.text (behind_bar position (opening (needs_brackets (place_of position) (Before op)) (prefix notation.now.style name.now
-            ∷ told notation.now.ops.now notation.now.style (Term (At (right_of_prefix op))
-            ∷ closing_tasks (needs_brackets (place_of position) (Before op)) (stack self.old)) (read node.entry.now ts))))) }
+        ensures text { OnOk result (MakesOfNode notation.now self.old self.new node.entry.now (before_told position name.now op)) }
         ensures count { OnOk result (AddsTasks self.old self.new 5) }
     {
         let needed = position.place().needs_brackets(Operator::Before(op));
@@ -308,10 +295,7 @@ impl<'a> Writer<'a> {
         node: &'a Node,
         position: Position,
     ) -> Result<(), AllocError>
-        ensures text { OnOk result ((ts : List Tree) → arity node.entry.now ≤ length ts → awaited notation.now self.new ts
-            ≡ finished self.old.text (behind_bar position (opening (needs_brackets (place_of position) (Behind op))
-            (told notation.now.ops.now notation.now.style (Term (At (left_of_postfix op)) ∷ OperatorName name.entry
-            ∷ closing_tasks (needs_brackets (place_of position) (Behind op)) (stack self.old)) (read node.entry.now ts))))) }
+        ensures text { OnOk result (MakesOfNode notation.now self.old self.new node.entry.now (behind_told position name.entry op)) }
         ensures count { OnOk result (AddsTasks self.old self.new 6) }
     {
         let needed = position.place().needs_brackets(Operator::Behind(op));
@@ -329,9 +313,7 @@ impl<'a> Writer<'a> {
         number: u64,
         position: Position,
     ) -> Result<(), AllocError>
-        ensures text { OnOk result ((ts : List Tree) → awaited notation.now self.new ts
-            ≡ finished self.old.text (behind_bar position (plain (letter_text number)
-            ∷ told notation.now.ops.now notation.now.style (stack self.old) ts))) }
+        ensures text { OnOk result (Makes notation.now self.old self.new (letter_told position number)) }
         ensures count { self.new.tasks ≡ self.old.tasks }
     {
         self.text.put_bar(position)?;
