@@ -14,7 +14,8 @@ use Rattle.plheap.specs.declared.cell.Cell.TheVariants.{Struct}
 use Rattle.plheap.specs.Putting.{over}
 use Rattle.plheap.specs.Runs.{run}
 use Rattle.plheap.proofs.Takes.{Plants}
-use Rattle.plgoal.specs.Goal.{Spells}
+use Rattle.plheap.proofs.Kept.{Keeps-refl}
+use Rattle.plgoal.specs.Goal.{Stays, Spells}
 
 -- the goals of the terms, if each has one
 abbrev pub goals : List Tree → Option (List Tree)
@@ -232,3 +233,6 @@ plants-call out stack rest d f e s p name = λ behind forest le.
 
 pub struct_name : {f g : List ℕ} {j k : ℕ} → Struct f j ≡ Struct g k → f ≡ g
 struct_name e = cc
+
+pub stays-same : (h : Store) → Stays h h
+stays-same h = record { stay = λ d lt. refl; count = refl; keeps = Keeps-refl h }

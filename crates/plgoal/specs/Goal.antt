@@ -12,10 +12,13 @@ use Rattle.plheap.specs.Putting.{over}
 use Rattle.plgoal.specs.declared.goal.Kind.{Kind}
 use Rattle.plgoal.specs.declared.goal.Kind.TheVariants.{Number, Variable, Construct, Goal}
 
--- the cell goal stands for the goal of the term of a cell, and the other cells for what they stood for
+-- the cell goal stands for the goal of the term of a cell
 pub record IsGoal (old new : Store) (cell goal : ℕ) : Type 0 where
   pub is : converted (term old cell) ≡ Some (term new goal)
   pub within : goal < length new.cells
+
+-- there may be more cells, and the others stand for what they stood for
+pub record Stays (old new : Store) : Type 0 where
   pub stay : (d : ℕ) → d < length old.cells → term new d ≡ term old d
   pub count : new.count ≡ old.count
   pub keeps : Keeps old new

@@ -3,7 +3,7 @@
 ghost use Rattle.std.specs.Prelude.{◌≡◌, ◌<◌, length, IfOk, IfSome, IfNone, None, OnErr};
 ghost use Rattle.plclause.specs.Conversion.{converted, is_control};
 ghost use Rattle.plheap.specs.Store.{term};
-ghost use Rattle.plgoal.specs.Goal.{IsGoal, Spells, Says};
+ghost use Rattle.plgoal.specs.Goal.{IsGoal, Stays, Spells, Says};
 
 use plheap::cell::Cell;
 use plheap::heap::Heap;
@@ -101,6 +101,7 @@ pub fn goal_of(
     requires { cell < length heap.old.cells }
     ensures some { IfOk result (λ found. IfSome found (λ goal. IsGoal heap.old heap.new cell goal)) }
     ensures none { IfOk result (λ found. IfNone found ((converted (term heap.old cell) ≡ None) × (heap.new ≡ heap.old))) }
+    ensures stays { Stays heap.old heap.new }
     ensures err { OnErr result (heap.new ≡ heap.old) }
 {
     match goal_nodes(heap, alloc, cell)? {
