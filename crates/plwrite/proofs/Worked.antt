@@ -335,3 +335,27 @@ yf_of_sign = refl
 yf_of_yf : written some_table Plain (of1 "yf" (of1 "yf" a)) ≡ codes "a yf yf"
 unfolding words others prefix_of infix_of postfix_of digits
 yf_of_yf = refl
+
+quote_escaped : written iso_table Quoted (atom (codes "it's")) ≡ codes "'it\\'s'"
+unfolding words others prefix_of infix_of postfix_of digits
+quote_escaped = refl
+
+backslash_escaped : written iso_table Quoted (atom (codes "a\\ b")) ≡ codes "'a\\\\ b'"
+unfolding words others prefix_of infix_of postfix_of digits
+backslash_escaped = refl
+
+newline_escaped : written iso_table Quoted (atom (97 ∷ 10 ∷ [])) ≡ codes "'a\\n'"
+unfolding words others prefix_of infix_of postfix_of digits
+newline_escaped = refl
+
+control_escaped : written iso_table Quoted (atom (1 ∷ 31 ∷ 127 ∷ [])) ≡ codes "'\\x1\\\\x1f\\\\x7f\\'"
+unfolding words others prefix_of infix_of postfix_of digits
+control_escaped = refl
+
+past_ascii_quoted : written iso_table Quoted (atom (195 ∷ 169 ∷ [])) ≡ 39 ∷ 195 ∷ 169 ∷ 39 ∷ []
+unfolding words others prefix_of infix_of postfix_of digits
+past_ascii_quoted = refl
+
+past_ascii_apart : written some_table Plain (of2 "is" (atom (195 ∷ 169 ∷ [])) a) ≡ 195 ∷ 169 ∷ codes " is a"
+unfolding words others prefix_of infix_of postfix_of digits
+past_ascii_apart = refl
