@@ -3,3 +3,4 @@ pub mod Conversions
 pub mod Seen
 pub mod Necks
 pub mod Names
+pub mod Worked

@@ -1,6 +1,7 @@
 //! Terms converted to goals, in time linear in their nodes and without recursion.
 ghost use Rattle.std.specs.Prelude.{◌≡◌, ◌≤◌, length, IfOk, MatchBool, None, OnOk, Some};
 ghost use Rattle.std.specs.List.{flat_map};
+ghost use Rattle.plterm.specs.Tree.{Tree};
 ghost use Rattle.plterm.specs.Reading.{arity, read, spelling, AllFit, Fits};
 ghost use Rattle.plclause.specs.Conversion.{converted, is_control};
 ghost use Rattle.plclause.specs.Goals.{goal_nodes, joined};
@@ -69,3 +70,8 @@ fn holds_goals(name: &Name, count: usize) -> bool
     let text = name.as_str();
     count == 2 && (text == "," || text == ";" || text == "->")
 }
+
+/// A goal is its own conversion.
+pub fn converted_once()
+    ensures { (t goal : Tree) → converted t ≡ Some goal → converted goal ≡ Some goal }
+{}

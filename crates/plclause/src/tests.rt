@@ -1,0 +1,76 @@
+use crate::form::{ClauseForm, clause_of};
+use plterm::error::TermError;
+use plterm::name::Name;
+use plterm::term::Term;
+use std::alloc::Global;
+use std::test::Fail;
+
+fn atom(alloc: Global, name: &str) -> Result<Term, TermError> {
+    Term::atom(alloc, Name::new(alloc, name)?)
+}
+
+fn one(alloc: Global, name: &str, argument: Term) -> Result<Term, TermError> {
+    let mut args = Vec::new(alloc);
+    args.push(argument)?;
+    Term::compound(alloc, Name::new(alloc, name)?, args)
+}
+
+fn two(alloc: Global, name: &str, first: Term, second: Term) -> Result<Term, TermError> {
+    let mut args = Vec::new(alloc);
+    args.push(first)?;
+    args.push(second)?;
+    Term::compound(alloc, Name::new(alloc, name)?, args)
+}
+
+// `p(X) :- X` has the body `call(X)`, its variable being 0.
+#[test]
+fn variable_bodies(rt: HostRuntime) -> Result<(), Fail> {
+    let alloc = rt.alloc();
+    let head = one(alloc, "p", Term::var(alloc, 4)?)?;
+    let term = two(alloc, ":-", head, Term::var(alloc, 4)?)?;
+    match clause_of(alloc, &term)? {
+        ClauseForm::IsClause(clause) => {
+            let copy = clause.copied()?;
+            assert!(rt; copy.head().is_same(&one(alloc, "p", Term::var(alloc, 0)?)?));
+            assert!(rt;
+                copy.body()
+                    .is_same(&one(alloc, "call", Term::var(alloc, 0)?)?)
+            );
+            assert_eq!(rt; copy.variables(), 1);
+            let indicator = copy.indicator()?;
+            assert_eq!(rt; indicator.name.as_str(), "p");
+            assert_eq!(rt; indicator.arity, 1);
+        }
+        ClauseForm::NoHead | ClauseForm::BadHead(_) | ClauseForm::BadBody(_) => assert!(rt;
+            false,
+            "a clause"
+        ),
+    }
+    Ok(())
+}
+
+// `p :- q, 1` has a bad body, `1 :- a` a bad head, and `X :- a` none. `b` is a fact.
+#[test]
+fn refusals(rt: HostRuntime) -> Result<(), Fail> {
+    let alloc = rt.alloc();
+    let body = two(alloc, ",", atom(alloc, "q")?, Term::int(alloc, 1)?)?;
+    let term = two(alloc, ":-", atom(alloc, "p")?, body)?;
+    match clause_of(alloc, &term)? {
+        ClauseForm::BadBody(found) => {
+            assert!(rt; found.is_same(&two(alloc, ",", atom(alloc, "q")?, Term::int(alloc, 1)?)?));
+        }
+        ClauseForm::NoHead | ClauseForm::BadHead(_) | ClauseForm::IsClause(_) => assert!(rt;
+            false,
+            "a bad body"
+        ),
+    }
+    let numbered = two(alloc, ":-", Term::int(alloc, 1)?, atom(alloc, "a")?)?;
+    let found = clause_of(alloc, &numbered)?;
+    assert!(rt; matches!(&found, ClauseForm::BadHead(_)));
+    let open = two(alloc, ":-", Term::var(alloc, 0)?, atom(alloc, "a")?)?;
+    let found = clause_of(alloc, &open)?;
+    assert!(rt; matches!(&found, ClauseForm::NoHead));
+    let found = clause_of(alloc, &atom(alloc, "b")?)?;
+    assert!(rt; matches!(&found, ClauseForm::IsClause(_)));
+    Ok(())
+}
