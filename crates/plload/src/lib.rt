@@ -8,3 +8,5 @@ pub mod meaning;
 pub mod next;
 mod position;
 pub mod program;
+#[cfg(test)]
+mod tests;
