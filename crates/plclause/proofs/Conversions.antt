@@ -1,5 +1,5 @@
 -- A converted goal is its own conversion, and stays one under other variables.
-use Rattle.std.proofs.Common.{◌≡◌, ℕ, suc, Bool, true, false, List, [], ◌∷◌, length, Option, Some, None, option_map, option_and_then, IfSome, refl, sym, ap, ◌∙◌, subst, if◌then◌else◌}
+use Rattle.std.proofs.Common.{◌≡◌, ℕ, suc, Bool, true, false, List, length, Option, Some, None, option_map, option_and_then, IfSome, refl, ap, ◌∙◌, subst, if◌then◌else◌}
 use Rattle.plterm.specs.Tree.{Tree, var, int, atom, compound, Trees, none, more, list_of}
 use Rattle.plterm.specs.Variables.{renamed, all_renamed}
 use Rattle.plclause.specs.Conversion.{is_control, converted, all_converted}

@@ -1,10 +1,10 @@
 -- The nodes of goals, a node at a time.
-use Rattle.std.proofs.Common.{◌≡◌, ℕ, zero, suc, ◌+◌, ◌<◌, ◌≤◌, Bool, true, false, ℤ, List, [], ◌∷◌, ◌++◌, length, take, drop, flat_map, Option, Some, None, option_map, option_and_then, IfSome, refl, sym, ap, ◌∙◌, arith, append_assoc, append-nil, length-append, if◌then◌else◌}
+use Rattle.std.proofs.Common.{◌≡◌, ℕ, zero, suc, ◌≤◌, Bool, true, false, ℤ, List, [], ◌∷◌, ◌++◌, length, take, drop, flat_map, Option, Some, None, option_map, option_and_then, IfSome, refl, sym, ap, ◌∙◌, arith, append_assoc, append-nil, length-append, if◌then◌else◌}
 use Rattle.std.proofs.lemmas.List.{take-append-drop}
 use Rattle.plterm.specs.declared.node.Node.{Node}
-use Rattle.plterm.specs.declared.node.Node.TheVariants.{Var, Int, Atom, Compound}
-use Rattle.plterm.specs.Tree.{Tree, var, int, atom, compound, Trees, none, more, trees, list_of, list_of-trees}
-use Rattle.plterm.specs.Reading.{arity, read, tree_of, spelling, spellings, Fits, AllFit, IsTerm}
+use Rattle.plterm.specs.declared.node.Node.TheVariants.{Compound}
+use Rattle.plterm.specs.Tree.{Tree, int, compound, Trees, none, more, trees, list_of, list_of-trees}
+use Rattle.plterm.specs.Reading.{read, tree_of, spelling, spellings, Fits, AllFit, IsTerm}
 use Rattle.plterm.proofs.Spellings.{length-take_room, whole_nodes}
 use Rattle.plterm.proofs.Forests.{AllFit-push}
 use Rattle.plclause.specs.Conversion.{is_control, converted, all_converted}

@@ -1,6 +1,7 @@
 pub mod GoalNodes
 pub mod Conversions
 pub mod Seen
+pub mod Numbered
 pub mod Necks
 pub mod Names
 pub mod Worked

@@ -1,6 +1,6 @@
 -- Names that the code writes.
-use Rattle.std.proofs.Common.{◌≡◌, ℕ, zero, suc, ◌<◌, ◌≤◌, List, [], ◌∷◌, length, codes, true, refl, arith, lit<}
-use Rattle.std.specs.Str.{is_utf8, IsAscii}
+use Rattle.std.proofs.Common.{ℕ, zero, suc, ◌<◌, ◌≤◌, List, [], ◌∷◌, length, codes, arith, lit<}
+use Rattle.std.specs.Str.{IsAscii}
 use Rattle.std.proofs.lemmas.Str.{is_utf8-from_IsUtf8, IsUtf8-from_ascii}
 use Rattle.plterm.specs.Reading.{IsName}
 

@@ -1,5 +1,5 @@
 -- Variables that were seen, and terms numbered by them.
-use Rattle.std.proofs.Common.{◌≡◌, ℕ, ◌<◌, List, [], ◌∷◌, length, map, Some, refl, sym, ap, ◌∙◌}
+use Rattle.std.proofs.Common.{◌≡◌, ℕ, ◌<◌, List, [], ◌∷◌, length, map, refl, sym, ap, ◌∙◌}
 use Rattle.plterm.specs.declared.node.Node.{Node}
 use Rattle.plterm.specs.declared.node.Node.TheVariants.{Var, Int, Atom, Compound}
 use Rattle.plterm.specs.Tree.{Tree, var, int, atom, compound}
@@ -8,9 +8,7 @@ use Rattle.plterm.specs.Variables.{place, added, with_node, seen_after, variable
 use Rattle.plterm.proofs.Spellings.{place-added, place-seen_after, kept_by_node, spelling-renamed}
 use Rattle.plterm.proofs.Belows.{NodesBelow, AllBelow-spelling}
 use Rattle.plclause.specs.Clause.{Clause}
-use Rattle.plclause.specs.Conversion.{converted}
-use Rattle.plclause.specs.Soundness.{IsCallable, IsSound, both_variables, clause_from}
-use Rattle.plclause.proofs.Conversions.{goal_renamed}
+use Rattle.plclause.specs.Soundness.{IsCallable, both_variables, clause_from}
 
 -- each variable among the nodes was seen
 abbrev pub AllSeen : List ℕ → List Node → Type 0
@@ -64,22 +62,11 @@ nodes_below (Compound s k ∷ ns) seen h = nodes_below ns seen h
 pub renamed_below : (t : Tree) (seen : List ℕ) → AllSeen seen (spelling t) → AllBelow (length seen) (renamed (λ v. place v seen) t)
 renamed_below t seen h = AllBelow-spelling (length seen) (renamed (λ v. place v seen) t) (rw (spelling-renamed (λ v. place v seen) t) (nodes_below (spelling t) seen h))
 
-callable_renamed : (f : ℕ → ℕ) (t : Tree) → IsCallable t → IsCallable (renamed f t)
+pub callable_renamed : (f : ℕ → ℕ) (t : Tree) → IsCallable t → IsCallable (renamed f t)
 callable_renamed f (var v) h = h
 callable_renamed f (int i) h = h
 callable_renamed f (atom s) h = tt
 callable_renamed f (compound s ts) h = tt
-
--- a clause numbered anew is sound
-pub clause_is_sound : (head goal : Tree) → IsCallable head → converted goal ≡ Some goal → IsSound (clause_from head goal)
-clause_is_sound head goal callable is =
-    let seen = both_variables head goal in
-    record {
-      callable = callable_renamed (λ v. place v seen) head callable;
-      converted_body = goal_renamed (λ v. place v seen) goal is;
-      head_below = renamed_below head seen (AllSeen-more (spelling goal) (spelling head) (variables head) (AllSeen-after (spelling head) []));
-      body_below = renamed_below goal seen (AllSeen-after (spelling goal) (variables head));
-    }
 
 -- the head was numbered before the body was seen
 pub clause_parts_is : (head goal h g : Tree) (first seen : List ℕ) (n : ℕ) → first ≡ seen_after [] (spelling head) → seen ≡ seen_after first (spelling goal)

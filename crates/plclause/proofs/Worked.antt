@@ -1,6 +1,6 @@
 -- The definitions on small clauses.
-use Rattle.std.proofs.Common.{◌≡◌, ℕ, ℤ, pos, List, [], ◌∷◌, Option, Some, None, codes, refl}
-use Rattle.plterm.specs.Tree.{Tree, var, int, atom, compound, Trees, none, more}
+use Rattle.std.proofs.Common.{◌≡◌, ℕ, pos, List, Some, codes, refl}
+use Rattle.plterm.specs.Tree.{Tree, var, int, atom, compound, none, more}
 use Rattle.plclause.specs.declared.form.ClauseForm.TheVariants.{NoHead, BadHead, BadBody, IsClause}
 use Rattle.plclause.specs.Conversion.{converted}
 use Rattle.plclause.specs.Clausal.{clausal}

@@ -1,5 +1,5 @@
 -- The procedure of a head.
-use Rattle.std.specs.Prelude.{List, [], length}
+use Rattle.std.specs.Prelude.{[], length}
 use Rattle.plterm.specs.declared.indicator.Indicator.{Indicator}
 use Rattle.plterm.specs.Tree.{Tree, var, int, atom, compound, list_of}
 

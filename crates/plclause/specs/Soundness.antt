@@ -23,9 +23,10 @@ clause_from head goal =
     let seen = both_variables head goal in
     record { head = renamed (λ v. place v seen) head; body = renamed (λ v. place v seen) goal; variables = length seen }
 
--- the head is an atom or a compound, the body is converted, and there are no other variables
+-- the head is an atom or a compound, the body is converted, there are no other variables, and they are numbered by first occurrence
 pub record IsSound (c : Clause) : Type 0 where
   pub callable : IsCallable c.head
   pub converted_body : converted c.body ≡ Some c.body
   pub head_below : AllBelow c.variables c.head
   pub body_below : AllBelow c.variables c.body
+  pub numbered : clause_from c.head c.body ≡ c

@@ -71,6 +71,9 @@ impl Clause {
         ensures value { result.now ≡ self.now.head }
         ensures callable { IsCallable self.now.head }
         ensures below { AllBelow self.now.variables self.now.head }
+
+        // The variables are numbered by first occurrence, those of the head first.
+        ensures numbered { clause_from self.now.head self.now.body ≡ self.now }
     {
         &self.parts.head
     }

@@ -1,5 +1,5 @@
-use Rattle.std.proofs.Common.{◌≡◌, ◌∙◌, ◌≤◌, ◌∷◌, ◌++◌, [], ℕ, List, length, take, flat_map, true, false, codes, refl, sym, ap, rules, arith}
-use Rattle.plterm.specs.declared.node.Node.TheVariants.{Atom, Compound}
+use Rattle.std.proofs.Common.{◌≡◌, ◌∙◌, ◌≤◌, ◌∷◌, ◌++◌, [], ℕ, List, length, take, flat_map, codes, sym, ap, arith}
+use Rattle.plterm.specs.declared.node.Node.TheVariants.{Compound}
 use Rattle.plterm.specs.Reading.{spelling, Fits}
 use Rattle.plclause.proofs.GoalNodes.{plain_same, fewer_nodes, pushed_fits}
 use Rattle.plclause.proofs.Names.{IsName-call}

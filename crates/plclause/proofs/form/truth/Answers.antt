@@ -1,5 +1,4 @@
-use Rattle.std.proofs.Common.{◌≡◌, ◌∷◌, [], ◌∙◌, ◌++◌, codes, refl, ap, arith}
-use Rattle.plterm.specs.declared.node.Node.{Node}
+use Rattle.std.proofs.Common.{◌∷◌, [], codes, refl, arith}
 use Rattle.plterm.specs.declared.node.Node.TheVariants.{Atom}
 use Rattle.plterm.specs.Reading.{IsTerm}
 use Rattle.plclause.proofs.Names.{IsName-true}

@@ -1,11 +1,12 @@
-use Rattle.std.proofs.Common.{◌≡◌, ◌∙◌, sym, ap}
+use Rattle.std.proofs.Common.{◌≡◌, ◌∙◌, ap}
 use Rattle.std.specs.Arc.{arc_value}
 use Rattle.plterm.specs.Reading.{spelling}
 use Rattle.plterm.specs.Variables.{seen_after}
 use Rattle.plclause.specs.declared.clause.Parts.{Parts}
 use Rattle.plclause.specs.Clause.{Clause}
 use Rattle.plclause.specs.Soundness.{clause_from}
-use Rattle.plclause.proofs.Seen.{clause_is_sound, clause_parts_is}
+use Rattle.plclause.proofs.Numbered.{clause_is_sound}
+use Rattle.plclause.proofs.Seen.{clause_parts_is}
 use Rattle.plclause.proofs.clause.Clause.new.Goals as goal
 use Rattle.plclause.proofs.clause.Clause.new.Goals.{In_ok-parts}
 
