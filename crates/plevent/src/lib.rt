@@ -5,6 +5,8 @@
 pub mod act;
 pub mod request;
 pub mod standing;
+#[cfg(test)]
+mod tests;
 pub mod update;
 
 pub use act::{Act, Entry};

@@ -7,3 +7,4 @@ pub mod Bits
 pub mod Index
 pub mod Plans
 pub mod Chains
+mod Worked

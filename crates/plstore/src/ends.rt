@@ -63,8 +63,8 @@ pub(crate) fn earlier(since: Option<u64>, place: u64) -> Option<u64>
     ensures { result ≡ earlier since place }
 {
     match since {
-        None => Some(place),
-        Some(at) => { if at < place { Some(at) } else { Some(place) } }
+        Some(at) if at < place => Some(at),
+        Some(_) | None => Some(place),
     }
 }
 

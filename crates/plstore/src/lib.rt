@@ -6,7 +6,9 @@ pub mod laws;
 mod plan;
 pub mod record;
 pub mod store;
-pub mod tables;
+mod tables;
+#[cfg(test)]
+mod tests;
 mod walk;
 
 pub use record::{Cursor, Declared, Record};

@@ -4,6 +4,8 @@
 
 pub mod laws;
 pub mod rows;
+#[cfg(test)]
+mod tests;
 pub mod world;
 
 pub use world::World;

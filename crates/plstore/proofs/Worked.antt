@@ -1,0 +1,98 @@
+-- A store after two batches, computed.
+use Rattle.std.specs.Prelude.{◌≡◌, ℕ, Bool, true, false, List, [], ◌∷◌, ◌++◌, fold, Option, Some, None, refl}
+use Rattle.plterm.specs.Tree.{atom}
+use Rattle.plterm.specs.declared.indicator.Indicator.{Indicator}
+use Rattle.plclause.specs.Clause.{Clause}
+use Rattle.plevent.specs.declared.update.Update.{Update}
+use Rattle.plevent.specs.declared.update.Update.TheVariants.{First, Last, Erase, EraseOwn, Declare}
+use Rattle.plevent.specs.declared.update.ClauseName.{ClauseName}
+use Rattle.plevent.specs.Alive.{stamped, named, names_of, clauses_of}
+use Rattle.plstore.specs.declared.record.Cursor.TheVariants.{Start, After}
+use Rattle.plstore.specs.Kept.{Kept, nothing, keep, walk, here, is_there, clause_of, next_of}
+
+abbrev p : Indicator
+p = record { name = 112 ∷ []; arity = 0 }
+
+abbrev q : Indicator
+q = record { name = 112 ∷ []; arity = 1 }
+
+-- p :- a.  p :- b.  p :- c.
+abbrev clause : List ℕ → Clause
+clause body = record { head = atom (112 ∷ []); body = atom body; variables = 0 }
+
+abbrev c1 : Clause
+c1 = clause (97 ∷ [])
+
+abbrev c2 : Clause
+c2 = clause (98 ∷ [])
+
+abbrev c3 : Clause
+c3 = clause (99 ∷ [])
+
+-- one batch at 0, and one at 4 that erases a clause and puts one in front
+abbrev first : Kept
+first = fold keep nothing (stamped 0 0 (Declare p ∷ Last c1 ∷ Last c2 ∷ []))
+
+abbrev both : Kept
+both = fold keep first (stamped 4 0 (Erase (named 0 1) ∷ First c3 ∷ []))
+
+-- before the second batch both first clauses are there, whatever came later
+pub before_second : names_of (walk 4 p both.records) ≡ named 0 1 ∷ named 0 2 ∷ []
+unfolding walk
+before_second = refl
+
+pub after_second : names_of (walk 5 p both.records) ≡ named 4 1 ∷ named 0 2 ∷ []
+unfolding walk
+after_second = refl
+
+pub clauses_after : clauses_of (walk 5 p both.records) ≡ c3 ∷ c2 ∷ []
+unfolding walk
+clauses_after = refl
+
+pub before_any : names_of (walk 0 p both.records) ≡ []
+unfolding walk
+before_any = refl
+
+pub erased : here 5 (named 0 1) both ≡ false
+erased = refl
+
+pub not_yet_erased : here 4 (named 0 1) both ≡ true
+not_yet_erased = refl
+
+-- an erased clause is still known by its name
+pub still_known : clause_of (named 0 1) both ≡ Some c1
+still_known = refl
+
+pub never_made : clause_of (named 0 0) both ≡ None
+never_made = refl
+
+-- the first erasure counts: a second one, later, moves nothing
+pub twice : here 5 (named 0 1) (fold keep both (stamped 7 0 (Erase (named 0 1) ∷ []))) ≡ false
+twice = refl
+
+-- p is there from its declaration on, and p/1 never
+pub there : is_there 1 p both ≡ true
+there = refl
+
+pub not_there_yet : is_there 0 p both ≡ false
+not_there_yet = refl
+
+pub never_there : is_there 9 q both ≡ false
+never_there = refl
+
+-- from one name to the next
+pub starts : next_of Start (names_of (walk 5 p both.records)) ≡ Some (named 4 1)
+unfolding walk
+starts = refl
+
+pub goes_on : next_of (After (named 4 1)) (names_of (walk 5 p both.records)) ≡ Some (named 0 2)
+unfolding walk
+goes_on = refl
+
+pub ends : next_of (After (named 0 2)) (names_of (walk 5 p both.records)) ≡ None
+unfolding walk
+ends = refl
+
+pub not_in_it : next_of (After (named 0 1)) (names_of (walk 5 p both.records)) ≡ None
+unfolding walk
+not_in_it = refl

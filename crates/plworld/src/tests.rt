@@ -1,0 +1,67 @@
+use crate::world::World;
+use plclause::clause::Clause;
+use plevent::{Act, Batch, Reply, Request, ThreadEnd, Update};
+use plterm::error::TermError;
+use plterm::indicator::Indicator;
+use plterm::name::Name;
+use plterm::term::Term;
+use std::alloc::Global;
+use std::test::Fail;
+
+/// A batch with the clause `p.` behind all others.
+fn batch(alloc: Global) -> Result<Batch, TermError> {
+    let head = Term::atom(alloc, Name::new(alloc, "p")?)?;
+    let body = Term::atom(alloc, Name::new(alloc, "true")?)?;
+    let mut updates = Vec::new(alloc);
+    updates.push(Update::Last(Clause::new(alloc, &head.root(), &body.root())?))?;
+    Ok(Batch::new(updates))
+}
+
+// Main is started by worker 1, publishes a clause and ends: four entries. What is asked too early or too late waits.
+#[test]
+fn a_run_of_main(rt: HostRuntime) -> Result<(), Fail> {
+    let alloc = rt.alloc();
+    let mut world = World::open(alloc, &Batch::new(Vec::new(alloc)))?;
+    let publish = Request::Publish(batch(alloc)?);
+    let early = world.step(alloc, 1, 1, &publish)?;
+    assert!(rt; matches!(early, Reply::NotYet(Request::Publish(_))));
+    assert_eq!(rt; world.front(), 1);
+    match world.step(alloc, 1, 0, &Request::Start)? {
+        Reply::Started {
+            number: 1,
+            alias: Some(alias),
+            goal: None,
+        } => assert_eq!(rt; alias.as_str(), "main"),
+        _ => return Err("main is not started".into()),
+    }
+    assert!(rt; matches!(world.step(alloc, 1, 1, &publish)?, Reply::Published));
+    let name = Name::new(alloc, "p")?;
+    let pred = Indicator { name, arity: 0 };
+    for (g, count) in [(2, 0), (3, 1)] {
+        let alive = world.store().alive_clauses(alloc, g, &pred)?;
+        assert_eq!(rt; alive.len(), count, "clauses at {g}");
+    }
+    assert!(rt; !world.is_over());
+    assert!(rt;
+        matches!(
+            world.step(alloc, 1, 0, &Request::Start)?,
+            Reply::NotYet(Request::Start)
+        )
+    );
+    let finish = Request::Finish(ThreadEnd::False);
+    assert!(rt; matches!(world.step(alloc, 1, 1, &finish)?, Reply::Done));
+    assert!(rt; world.is_over());
+    assert!(rt; matches!(world.step(alloc, 1, 0, &Request::Start)?, Reply::RunOver));
+    assert_eq!(rt; world.entries().len(), 4);
+    match world.close().as_slice() {
+        [opening, start, publish, end] => {
+            assert_eq!(rt; (opening.worker, opening.thread), (0, 0));
+            assert_eq!(rt; (start.worker, start.thread), (1, 1));
+            assert!(rt; matches!(&start.act, Act::Start));
+            assert!(rt; matches!(&publish.act, Act::Batch(batch) if batch.as_slice().len() == 1));
+            assert!(rt; matches!(&end.act, Act::End(ThreadEnd::False)));
+        }
+        _ => return Err("another journal".into()),
+    }
+    Ok(())
+}
