@@ -4,12 +4,13 @@ use Rattle.std.specs.Prelude.{◌&&◌}
 use Rattle.std.proofs.Math.Seq.{take-suc, take-length}
 use Rattle.std.proofs.lemmas.List.{append-nil, reverse-append, length-map}
 use Rattle.plclause.specs.Clause.{Clause}
+use Rattle.plevent.specs.declared.update.ClauseName.{ClauseName}
 use Rattle.plterm.specs.declared.indicator.Indicator.{Indicator}
-use Rattle.plevent.specs.Alive.{Living, clauses_of, add_if, named}
+use Rattle.plevent.specs.Alive.{Living, clauses_of, names_of, add_if, named}
 use Rattle.plterm.specs.Tree.{atom}
 use Rattle.plstore.specs.declared.record.Record.{Record}
-use Rattle.plstore.specs.Kept.{seen, picked, in_front, behind_all}
-use Rattle.plstore.specs.Links.{last_below, first_from, fronts, backs, IsDown, IsUp}
+use Rattle.plstore.specs.Kept.{seen, picked, in_front, behind_all, head}
+use Rattle.plstore.specs.Links.{last_below, first_from, fronts, backs, down, up, IsDown, IsUp}
 use Rattle.plstore.proofs.Law.{picked-append, picked-cons, cons_if, own}
 use Rattle.plstore.proofs.Bits.{LastIs, last-some, drop-whole, drop-mark}
 
@@ -18,18 +19,11 @@ get-map t [] i d l = absurd (omega arith)
 get-map t (r ∷ rs) zero d l = refl
 get-map t (r ∷ rs) (suc i) d l = get-map t rs i d (omega arith)
 
--- what is still to come downward from n, and upward from k
-abbrev pub down : Indicator → ℕ → List Record → ℕ → List Living
-down p g rs n = reverse (picked (in_front p) g (take n rs))
-
-abbrev pub up : Indicator → ℕ → List Record → ℕ → List Living
-up p g rs k = picked (behind_all p) g (drop k rs)
-
 reverse-cons : (v : Bool) (x : Living) (xs : List Living) → reverse (xs ++ cons_if v x []) ≡ cons_if v x (reverse xs)
 reverse-cons true x xs = reverse-append xs (x ∷ [])
 reverse-cons false x xs = ap reverse (append-nil xs)
 
-down-step : (p : Indicator) (g : ℕ) (rs : List Record) (m : ℕ) (d : Record) (v : Bool) → m < length rs → get_or (fronts p rs) m false ≡ v →
+pub down-step : (p : Indicator) (g : ℕ) (rs : List Record) (m : ℕ) (d : Record) (v : Bool) → m < length rs → get_or (fronts p rs) m false ≡ v →
     down p g rs (suc m) ≡ cons_if (seen g (get_or rs m d) && v) (own (get_or rs m d)) (down p g rs m)
 down-step p g rs m d v l e =
     let r = get_or rs m d in
@@ -73,7 +67,7 @@ down-some p g rs (suc n) i d l e = by-mark (get_or (fronts p rs) n false) refl e
     by-mark false h e next = down-step p g rs n d false (omega arith) h ∙ cons-out (seen g (get_or rs n d)) (own (get_or rs n d)) (down p g rs n) ∙ next e
 
 -- upward
-up-step : (p : Indicator) (g : ℕ) (rs : List Record) (k : ℕ) (d : Record) (v : Bool) → k < length rs → get_or (backs p rs) k false ≡ v →
+pub up-step : (p : Indicator) (g : ℕ) (rs : List Record) (k : ℕ) (d : Record) (v : Bool) → k < length rs → get_or (backs p rs) k false ≡ v →
     up p g rs k ≡ cons_if (seen g (get_or rs k d) && v) (own (get_or rs k d)) (up p g rs (suc k))
 up-step p g rs k d v l e =
     let r = get_or rs k d in
@@ -87,7 +81,7 @@ pub record UpIs (p : Indicator) (g : ℕ) (rs : List Record) (k i : ℕ) (d : Re
   pub mark : get_or (backs p rs) i false ≡ true
   pub rest : up p g rs k ≡ cons_if (seen g (get_or rs i d)) (own (get_or rs i d)) (up p g rs (suc i))
 
-drop-records : (rs : List Record) (k : ℕ) → length rs ≤ k → drop k rs ≡ []
+pub drop-records : (rs : List Record) (k : ℕ) → length rs ≤ k → drop k rs ≡ []
 drop-records [] zero h = refl
 drop-records [] (suc k) h = refl
 drop-records (b ∷ bs) zero h = absurd (omega arith)
@@ -149,7 +143,7 @@ abbrev pub place_after : Option ℕ → ℕ
 place_after None = 0
 place_after (Some i) = suc i
 
-front-last : (p : Indicator) (rs : List Record) (n i : ℕ) → last_below (fronts p rs) n ≡ Some i → LastIs (fronts p rs) n i
+pub front-last : (p : Indicator) (rs : List Record) (n i : ℕ) → last_below (fronts p rs) n ≡ Some i → LastIs (fronts p rs) n i
 front-last p rs n i e = last-some (fronts p rs) n i e
 
 pub down-within : (p : Indicator) (g : ℕ) (rs : List Record) (at : Option ℕ) (was now : List Clause) (i : ℕ) → Down p g rs at was now → at ≡ Some i → i < length rs
@@ -256,7 +250,7 @@ pub up-end : (p : Indicator) (g : ℕ) (rs : List Record) (at : Option ℕ) (was
 up-end p g rs at was now w e =
     sym (append-nil now) ∙ ap (λ l. now ++ clauses_of l) (sym (up-none p g rs w.left w.from w.whole (sym w.at_is ∙ e))) ∙ w.found
 
-not-some : (at : Option ℕ) → ((i : ℕ) → at ≡ Some i → ⊥) → at ≡ None
+pub not-some : (at : Option ℕ) → ((i : ℕ) → at ≡ Some i → ⊥) → at ≡ None
 not-some None h = refl
 not-some (Some i) h = absurd (h i refl)
 
@@ -266,8 +260,111 @@ down-over p g rs at was now w h = down-end p g rs at was now w (not-some at h)
 pub up-over : (p : Indicator) (g : ℕ) (rs : List Record) (at : Option ℕ) (was now : List Clause) → Up p g rs at was now → ((i : ℕ) → at ≡ Some i → ⊥) → now ≡ was ++ clauses_of (picked (behind_all p) g rs)
 up-over p g rs at was now w h = up-end p g rs at was now w (not-some at h)
 
-some-record : Record
+pub some-record : Record
 some-record = record { name = named 0 0; clause = record { head = atom []; body = atom []; variables = 0 }; front = true; erased = None }
 
 pub up-within : (p : Indicator) (g : ℕ) (rs : List Record) (at : Option ℕ) (was now : List Clause) (i : ℕ) → Up p g rs at was now → at ≡ Some i → i < length rs
 up-within p g rs at was now i w e = (up-is p g rs at was now i some-record w e).within
+
+-- a search downward for the first that is seen
+pub record SeekDown (p : Indicator) (g : ℕ) (rs : List Record) (at : Option ℕ) (all : Option ClauseName) : Type 0 where
+  pub below : ℕ
+  pub within : below ≤ length rs
+  pub at_is : at ≡ last_below (fronts p rs) below
+  pub same : head (names_of (down p g rs below)) ≡ all
+
+head-cons : (v : Bool) (x : Living) (xs : List Living) → head (names_of (cons_if v x xs)) ≡ cond v (Some x.name) (head (names_of xs))
+head-cons true x xs = refl
+head-cons false x xs = refl
+
+pub seek-down-within : (p : Indicator) (g : ℕ) (rs : List Record) (at : Option ℕ) (all : Option ClauseName) (i : ℕ) → SeekDown p g rs at all → at ≡ Some i → i < length rs
+seek-down-within p g rs at all i w e = let l = (front-last p rs w.below i (sym w.at_is ∙ e)).within in omega (arith, l, w.within)
+
+seek-down-next : (p : Indicator) (g : ℕ) (rs : List Record) (next : List (Option ℕ)) (at : Option ℕ) (all : Option ClauseName) (i : ℕ) → IsDown p rs next → SeekDown p g rs at all → at ≡ Some i → get_or next i None ≡ last_below (fronts p rs) i
+seek-down-next p g rs next at all i links w e = links.older i (front-last p rs w.below i (sym w.at_is ∙ e)).here
+
+pub seek-down-smaller : (p : Indicator) (g : ℕ) (rs : List Record) (next : List (Option ℕ)) (at to : Option ℕ) (all : Option ClauseName) (i : ℕ) → IsDown p rs next → SeekDown p g rs at all → at ≡ Some i → to ≡ get_or next i None →
+    place_after to < place_after at
+seek-down-smaller p g rs next at to all i links w e t =
+    let n : to ≡ last_below (fronts p rs) i = t ∙ seek-down-next p g rs next at all i links w e in
+    subst (λ a. place_after to < place_after a) (sym e) (by-case to n)
+  where
+    by-case : (to : Option ℕ) → to ≡ last_below (fronts p rs) i → place_after to < suc i
+    by-case None n = omega arith
+    by-case (Some j) n = let l = (front-last p rs i j (sym n)).within in omega (arith, l)
+
+seek-down-at : (p : Indicator) (g : ℕ) (rs : List Record) (at : Option ℕ) (all : Option ClauseName) (i : ℕ) (r : Record) (v : Bool) → SeekDown p g rs at all → at ≡ Some i → r ≡ get_or rs i r → seen g r ≡ v →
+    all ≡ cond v (Some r.name) (head (names_of (down p g rs i)))
+seek-down-at p g rs at all i r v w e er ev =
+    sym w.same ∙ ap (λ l. head (names_of l)) (down-some p g rs w.below i r w.within (sym w.at_is ∙ e) ∙ ap₂ (λ q u. cons_if u (own q) (down p g rs i)) (sym er) (ap (seen g) (sym er) ∙ ev))
+    ∙ head-cons v (own r) (down p g rs i)
+
+pub seek-down-found : (p : Indicator) (g : ℕ) (rs : List Record) (at : Option ℕ) (all : Option ClauseName) (i : ℕ) (r : Record) → SeekDown p g rs at all → at ≡ Some i → r ≡ get_or rs i r → seen g r ≡ true → Some r.name ≡ all
+seek-down-found p g rs at all i r w e er ev = sym (seek-down-at p g rs at all i r true w e er ev)
+
+pub seek-down-more : (p : Indicator) (g : ℕ) (rs : List Record) (next : List (Option ℕ)) (at to : Option ℕ) (all : Option ClauseName) (i : ℕ) (r : Record) → IsDown p rs next → SeekDown p g rs at all → at ≡ Some i → r ≡ get_or rs i r → seen g r ≡ false →
+    to ≡ get_or next i None → SeekDown p g rs to all
+seek-down-more p g rs next at to all i r links w e er ev et = record {
+  below = i;
+  within = let l = seek-down-within p g rs at all i w e in omega (arith, l);
+  at_is = et ∙ seek-down-next p g rs next at all i links w e;
+  same = sym (seek-down-at p g rs at all i r false w e er ev);
+}
+
+pub seek-down-over : (p : Indicator) (g : ℕ) (rs : List Record) (at : Option ℕ) (all : Option ClauseName) → SeekDown p g rs at all → ((i : ℕ) → at ≡ Some i → ⊥) → None ≡ all
+seek-down-over p g rs at all w h = ap (λ l. head (names_of l)) (sym (down-none p g rs w.below w.within (sym w.at_is ∙ not-some at h))) ∙ w.same
+
+-- and upward
+pub record SeekUp (p : Indicator) (g : ℕ) (rs : List Record) (at : Option ℕ) (all : Option ClauseName) : Type 0 where
+  pub from : ℕ
+  pub left : ℕ
+  pub whole : from + left ≡ length rs
+  pub at_is : at ≡ first_from from (drop from (backs p rs))
+  pub same : head (names_of (up p g rs from)) ≡ all
+
+seek-up-is : (p : Indicator) (g : ℕ) (rs : List Record) (at : Option ℕ) (all : Option ClauseName) (i : ℕ) (d : Record) → (w : SeekUp p g rs at all) → at ≡ Some i → UpIs p g rs w.from i d
+seek-up-is p g rs at all i d w e = up-some p g rs w.left w.from i d w.whole (sym w.at_is ∙ e)
+
+pub seek-up-start : (p : Indicator) (g : ℕ) (rs : List Record) (at : Option ℕ) (from : ℕ) → from ≤ length rs → at ≡ first_from from (drop from (backs p rs)) → SeekUp p g rs at (head (names_of (up p g rs from)))
+seek-up-start p g rs at from l e = record { from = from; left = length rs - from; whole = omega arith; at_is = e; same = refl }
+
+pub seek-up-within : (p : Indicator) (g : ℕ) (rs : List Record) (at : Option ℕ) (all : Option ClauseName) (i : ℕ) → SeekUp p g rs at all → at ≡ Some i → i < length rs
+seek-up-within p g rs at all i w e = (seek-up-is p g rs at all i some-record w e).within
+
+pub seek-up-smaller : (p : Indicator) (g : ℕ) (rs : List Record) (next : List (Option ℕ)) (at to : Option ℕ) (all : Option ClauseName) (i : ℕ) → IsUp p rs next → SeekUp p g rs at all → at ≡ Some i → to ≡ get_or next i None →
+    left_from (length rs) to < left_from (length rs) at
+seek-up-smaller p g rs next at to all i links w e t =
+    let u = seek-up-is p g rs at all i some-record w e in
+    let n : to ≡ first_from (suc i) (drop (suc i) (backs p rs)) = t ∙ links.newer i u.mark in
+    subst (λ a. left_from (length rs) to < left_from (length rs) a) (sym e) (by-case to n u.within)
+  where
+    by-case : (to : Option ℕ) → to ≡ first_from (suc i) (drop (suc i) (backs p rs)) → i < length rs → left_from (length rs) to < length rs - i
+    by-case None n l = omega arith
+    by-case (Some j) n l =
+        let whole : suc i + (length rs - suc i) ≡ length rs = omega arith in
+        let u = up-some p g rs (length rs - suc i) (suc i) j some-record whole (sym n) in omega (arith, u.above, u.within)
+
+seek-up-at : (p : Indicator) (g : ℕ) (rs : List Record) (at : Option ℕ) (all : Option ClauseName) (i : ℕ) (r : Record) (v : Bool) → SeekUp p g rs at all → at ≡ Some i → r ≡ get_or rs i r → seen g r ≡ v →
+    all ≡ cond v (Some r.name) (head (names_of (up p g rs (suc i))))
+seek-up-at p g rs at all i r v w e er ev =
+    let u = seek-up-is p g rs at all i r w e in
+    sym w.same ∙ ap (λ l. head (names_of l)) (u.rest ∙ ap₂ (λ q u. cons_if u (own q) (up p g rs (suc i))) (sym er) (ap (seen g) (sym er) ∙ ev))
+    ∙ head-cons v (own r) (up p g rs (suc i))
+
+pub seek-up-found : (p : Indicator) (g : ℕ) (rs : List Record) (at : Option ℕ) (all : Option ClauseName) (i : ℕ) (r : Record) → SeekUp p g rs at all → at ≡ Some i → r ≡ get_or rs i r → seen g r ≡ true → Some r.name ≡ all
+seek-up-found p g rs at all i r w e er ev = sym (seek-up-at p g rs at all i r true w e er ev)
+
+pub seek-up-more : (p : Indicator) (g : ℕ) (rs : List Record) (next : List (Option ℕ)) (at to : Option ℕ) (all : Option ClauseName) (i : ℕ) (r : Record) → IsUp p rs next → SeekUp p g rs at all → at ≡ Some i → r ≡ get_or rs i r → seen g r ≡ false →
+    to ≡ get_or next i None → SeekUp p g rs to all
+seek-up-more p g rs next at to all i r links w e er ev et =
+    let u = seek-up-is p g rs at all i r w e in
+    record {
+      from = suc i;
+      left = length rs - suc i;
+      whole = omega (arith, u.within);
+      at_is = et ∙ links.newer i u.mark;
+      same = sym (seek-up-at p g rs at all i r false w e er ev);
+    }
+
+pub seek-up-over : (p : Indicator) (g : ℕ) (rs : List Record) (at : Option ℕ) (all : Option ClauseName) → SeekUp p g rs at all → ((i : ℕ) → at ≡ Some i → ⊥) → None ≡ all
+seek-up-over p g rs at all w h = ap (λ l. head (names_of l)) (sym (up-none p g rs w.left w.from w.whole (sym w.at_is ∙ not-some at h))) ∙ w.same

@@ -8,3 +8,4 @@ pub mod Index
 pub mod Plans
 pub mod Chains
 mod Worked
+pub mod Visible

@@ -1,11 +1,9 @@
 -- A store after two batches, computed.
-use Rattle.std.specs.Prelude.{◌≡◌, ℕ, Bool, true, false, List, [], ◌∷◌, ◌++◌, fold, Option, Some, None, refl}
+use Rattle.std.specs.Prelude.{◌≡◌, ℕ, true, false, List, [], ◌∷◌, fold, Some, None, refl}
 use Rattle.plterm.specs.Tree.{atom}
 use Rattle.plterm.specs.declared.indicator.Indicator.{Indicator}
 use Rattle.plclause.specs.Clause.{Clause}
-use Rattle.plevent.specs.declared.update.Update.{Update}
-use Rattle.plevent.specs.declared.update.Update.TheVariants.{First, Last, Erase, EraseOwn, Declare}
-use Rattle.plevent.specs.declared.update.ClauseName.{ClauseName}
+use Rattle.plevent.specs.declared.update.Update.TheVariants.{First, Last, Erase, Declare}
 use Rattle.plevent.specs.Alive.{stamped, named, names_of, clauses_of}
 use Rattle.plstore.specs.declared.record.Cursor.TheVariants.{Start, After}
 use Rattle.plstore.specs.Kept.{Kept, nothing, keep, walk, here, is_there, clause_of, next_of}

@@ -1,15 +1,15 @@
 -- How records of one side of a procedure are linked, and where each side begins and ends.
-use Rattle.std.specs.Prelude.{◌≡◌, ℕ, zero, suc, Bool, true, false, List, [], ◌∷◌, ◌++◌, map, drop, Option, Some, None, length, slice_index_or, slice_set, nat_lt, unwrap_or}
+use Rattle.std.specs.Prelude.{◌≡◌, ℕ, zero, suc, Bool, true, false, List, [], ◌∷◌, ◌++◌, map, take, drop, reverse, Option, Some, None, length, slice_index_or, slice_set, nat_lt, unwrap_or}
 use Rattle.std.specs.HashMap.{HashMap, get}
 use Rattle.std.specs.declared.hash.FoldHasher.{FoldHasher}
 use Rattle.std.specs.declared.hash.BuildHasherDefault.{BuildHasherDefault}
 use Rattle.plterm.specs.declared.indicator.Indicator.{Indicator}
 use Rattle.plterm.specs.Indicators.{same_indicator}
-use Rattle.plevent.specs.Alive.{add_if, or_else}
+use Rattle.plevent.specs.Alive.{Living, add_if, or_else}
 use Rattle.plstore.specs.declared.record.Record.{Record}
 use Rattle.plstore.specs.declared.record.Declared.{Declared}
 use Rattle.plstore.specs.declared.ends.Ends.{Ends}
-use Rattle.plstore.specs.Kept.{in_front, behind_all, is_there}
+use Rattle.plstore.specs.Kept.{in_front, behind_all, picked, is_there}
 
 -- the last mark below n, and the first one of a list that begins at k
 abbrev pub last_below : List Bool → ℕ → Option ℕ
@@ -26,6 +26,13 @@ fronts p rs = map (in_front p) rs
 
 abbrev pub backs : Indicator → List Record → List Bool
 backs p rs = map (behind_all p) rs
+
+-- the clauses of p that are seen at g: those in front below n downward, and those behind from k on upward
+abbrev pub down : Indicator → ℕ → List Record → ℕ → List Living
+down p g rs n = reverse (picked (in_front p) g (take n rs))
+
+abbrev pub up : Indicator → ℕ → List Record → ℕ → List Living
+up p g rs k = picked (behind_all p) g (drop k rs)
 
 abbrev pub Index : Type 0
 Index = HashMap Indicator Ends (BuildHasherDefault FoldHasher)

@@ -1,10 +1,16 @@
 //! One clause that was made, and a place in a walk.
-ghost use Rattle.std.specs.Prelude.{◌≡◌};
+ghost use Rattle.std.specs.Prelude.{◌≡◌, nat_eq, length};
+ghost use Rattle.plterm.specs.Indicators.{same_indicator};
+ghost use Rattle.plterm.specs.Tree.{trees, list_of};
+ghost use Rattle.plclause.specs.Indicators.{indicator};
+ghost use Rattle.plevent.specs.Alive.{is_of};
 ghost use Rattle.plstore.specs.Kept.{seen, not_below};
 
 use plclause::clause::Clause;
 use plevent::ClauseName;
 use plterm::indicator::Indicator;
+use plterm::term::Term;
+use plterm::walk::{Shape, Terms};
 
 /// A clause, and the place of the first batch that erased it.
 #[derive(Drop)]
@@ -47,4 +53,30 @@ impl Record {
             Some(place) => g <= place,
         }
     }
+}
+
+impl Record {
+    /// Whether its clause belongs to the procedure.
+    pub fn is_of(&self, pred: &Indicator) -> bool
+        ensures { result ≡ is_of pred.now self.now.clause }
+    {
+        heads(self.clause.head(), pred)
+    }
+}
+
+/// Whether the head is one of the procedure.
+fn heads(head: &Term, pred: &Indicator) -> bool
+    ensures { result ≡ same_indicator (indicator head.now) pred.now }
+{
+    match head.root().shape() {
+        Shape::Atom(name) => name.is_same(&pred.name) && pred.arity == 0,
+        Shape::Compound(name, args) => name.is_same(&pred.name) && has_arity(&args, pred.arity),
+        Shape::Var(_) | Shape::Int(_) => pred.name.is_empty() && pred.arity == 0,
+    }
+}
+
+fn has_arity(args: &Terms<'_>, arity: u16) -> bool
+    ensures { result ≡ nat_eq (length (list_of (trees args.now))) arity }
+{
+    args.len() == arity as usize
 }

@@ -1,14 +1,14 @@
 //! The store: every clause ever made, so that the database can be looked at as it was at each time.
 ghost use Rattle.std.specs.Prelude.{◌≡◌, IfOk, OnOk, OnErr, fold, length};
 ghost use Rattle.std.specs.Option.{option_copied};
-ghost use Rattle.plevent.specs.Alive.{stamped, clauses_of};
-ghost use Rattle.plstore.specs.Kept.{keep, nothing, here, clause_of, is_there, walk};
+ghost use Rattle.plevent.specs.Alive.{stamped, clauses_of, names_of};
+ghost use Rattle.plstore.specs.Kept.{keep, nothing, here, clause_of, is_there, next_of, walk};
 ghost use Rattle.plstore.specs.Rising.{AllBelowPlace};
 
 use crate::ends::ends_of;
 use crate::plan::plan;
 use crate::record::{Cursor, Declared, Record};
-use crate::tables::{Tables, find, make_all};
+use crate::tables::{Tables, find, first_visible, make_all, visible_after};
 use crate::walk::{gather_back, gather_front};
 use plclause::clause::Clause;
 use plevent::{Batch, ClauseName};
@@ -84,6 +84,17 @@ impl Store {
         match find(&self.tables.records, name) {
             None => None,
             Some(index) => Some(&self.tables.records[index].clause),
+        }
+    }
+
+    /// The name of the first clause of a procedure that is alive after the batches below `g`, or of the one behind that
+    /// at the cursor; none where that one is the last, or is not among them.
+    pub fn next_visible(&self, g: u64, pred: &Indicator, cursor: Cursor) -> Option<ClauseName>
+        ensures { result ≡ next_of cursor (names_of (walk g pred.now self.now.records)) }
+    {
+        match cursor {
+            Cursor::Start => first_visible(&self.tables, g, pred),
+            Cursor::After(name) => visible_after(&self.tables, g, pred, name),
         }
     }
 

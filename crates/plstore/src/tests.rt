@@ -1,3 +1,4 @@
+use crate::record::Cursor;
 use crate::store::Store;
 use plclause::clause::Clause;
 use plevent::{Batch, ClauseName, Update};
@@ -45,6 +46,15 @@ fn one_batch(rt: HostRuntime) -> Result<(), Fail> {
         let want = Term::atom(alloc, Name::new(alloc, body)?)?;
         assert!(rt; clause.body().is_same(&want), "clause {number}");
     }
+    let mut walk = Vec::new(alloc);
+    let mut cursor = Cursor::Start;
+    for _ in 0..3 {
+        if let Some(name) = store.next_visible(4, &pred, cursor) {
+            walk.push(name.number)?;
+            cursor = Cursor::After(name);
+        }
+    }
+    assert_eq!(rt; walk.as_slice(), [2, 1].as_slice());
     for (arity, g, there) in [(0, 3, false), (0, 4, true), (1, 4, false), (2, 4, true)] {
         let pred = indicator(alloc, arity)?;
         assert_eq!(rt; store.exists(g, &pred), there, "p/{arity} at {g}");

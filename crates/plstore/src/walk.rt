@@ -1,11 +1,12 @@
 //! The walk over the clauses of a procedure, by its links.
-ghost use Rattle.std.specs.Prelude.{◌≡◌, ◌++◌, ◌<◌, ◌∷◌, [], None, cond, length, reverse, slice_index_or, OnOk};
-ghost use Rattle.plevent.specs.Alive.{clauses_of};
-ghost use Rattle.plstore.specs.Kept.{picked, seen, in_front, behind_all};
-ghost use Rattle.plstore.specs.Links.{fronts, backs, last_below, first_from, IsDown, IsUp};
+ghost use Rattle.std.specs.Prelude.{◌≡◌, ◌++◌, ◌<◌, ◌≤◌, drop, ◌∷◌, [], None, cond, length, reverse, slice_index_or, OnOk};
+ghost use Rattle.plevent.specs.Alive.{clauses_of, names_of};
+ghost use Rattle.plstore.specs.Kept.{head, picked, seen, in_front, behind_all};
+ghost use Rattle.plstore.specs.Links.{down, up, fronts, backs, last_below, first_from, IsDown, IsUp};
 
 use crate::record::Record;
 use plclause::clause::Clause;
+use plevent::ClauseName;
 use plterm::indicator::Indicator;
 use std::alloc::AllocError;
 
@@ -55,14 +56,68 @@ pub(crate) fn gather_back(
     Ok(())
 }
 
-fn record_at(records: &[Record], number: usize) -> &Record
+/// The name of the first clause that is seen at `g`, of those put in front that stand below a record, the newest first.
+pub(crate) fn seek_front(
+    records: &[Record],
+    next: &[Option<usize>],
+    pred: &Indicator,
+    newest: Option<usize>,
+    below: usize,
+    g: u64,
+) -> Option<ClauseName>
+    requires links { IsDown pred.now records.now next.now }
+    requires within { below ≤ length records.now }
+    requires newest { newest ≡ last_below (fronts pred.now records.now) below }
+    ensures { result ≡ head (names_of (down pred.now g records.now below)) }
+{
+    let _ = pred;
+    let _ = below;
+    let mut at = newest;
+    while let Some(number) = at {
+        let record = record_at(records, number);
+        if record.is_seen(g) {
+            return Some(record.name);
+        }
+        at = link_at(next, number);
+    }
+    None
+}
+
+/// The same of those put behind, from a record on, the oldest first.
+pub(crate) fn seek_back(
+    records: &[Record],
+    next: &[Option<usize>],
+    pred: &Indicator,
+    oldest: Option<usize>,
+    from: usize,
+    g: u64,
+) -> Option<ClauseName>
+    requires links { IsUp pred.now records.now next.now }
+    requires within { from ≤ length records.now }
+    requires oldest { oldest ≡ first_from from (drop from (backs pred.now records.now)) }
+    ensures { result ≡ head (names_of (up pred.now g records.now from)) }
+{
+    let _ = pred;
+    let _ = from;
+    let mut at = oldest;
+    while let Some(number) = at {
+        let record = record_at(records, number);
+        if record.is_seen(g) {
+            return Some(record.name);
+        }
+        at = link_at(next, number);
+    }
+    None
+}
+
+pub(crate) fn record_at(records: &[Record], number: usize) -> &Record
     requires { number < length records.now }
     ensures { result.now ≡ slice_index_or records.now number result.now }
 {
     &records[number]
 }
 
-fn link_at(next: &[Option<usize>], number: usize) -> Option<usize>
+pub(crate) fn link_at(next: &[Option<usize>], number: usize) -> Option<usize>
     requires { number < length next.now }
     ensures { result ≡ slice_index_or next.now number None }
 {
