@@ -1,10 +1,8 @@
 -- The definitions on a small heap.
-use Rattle.std.specs.Prelude.{◌≡◌, ℕ, List, [], ◌∷◌, pos, refl}
-use Rattle.plterm.specs.Tree.{Tree, var, int, atom, compound, none, more}
+use Rattle.std.specs.Prelude.{◌≡◌, [], ◌∷◌, pos, refl}
+use Rattle.plterm.specs.Tree.{var, int, atom, compound, none, more}
 use Rattle.plsubst.specs.Subst.{bind}
-use Rattle.plheap.specs.declared.cell.Cell.{Cell}
-use Rattle.plheap.specs.declared.cell.Cell.TheVariants.{Free, Bound, Ref, Int, Atom, Struct}
-use Rattle.plheap.specs.declared.cell.Mark.{Mark}
+use Rattle.plheap.specs.declared.cell.Cell.TheVariants.{Free, Ref, Int, Atom, Struct}
 use Rattle.plheap.specs.Store.{Store, term, sub, skeletons, cut, linked}
 use Rattle.plheap.specs.Putting.{over}
 

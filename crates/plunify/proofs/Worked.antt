@@ -1,5 +1,5 @@
 -- What pairs of cells come to.
-use Rattle.std.specs.Prelude.{◌≡◌, ℕ, List, [], ◌∷◌, pos, refl}
+use Rattle.std.specs.Prelude.{◌≡◌, [], ◌∷◌, pos, refl}
 use Rattle.plheap.specs.declared.cell.Cell.TheVariants.{Free, Int, Atom, Struct}
 use Rattle.plunify.specs.declared.unify.Verdict.TheVariants.{Same, Clash, Binds, Args}
 use Rattle.plunify.specs.Unifying.{verdict_of, pairs}

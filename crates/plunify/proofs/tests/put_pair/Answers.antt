@@ -1,5 +1,4 @@
 use Rattle.std.proofs.Common.{arith}
-use Rattle.plterm.specs.Variables.{AllBelow}
 use Rattle.plunify.proofs.tests.put_pair.Goals as goal
 
 pub put-requires : goal.put-requires
