@@ -2,3 +2,4 @@ pub mod Alone
 pub mod OneMore
 mod Aliases
 mod Worked
+mod Reports
