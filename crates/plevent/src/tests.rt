@@ -89,6 +89,7 @@ fn main_from_start_to_end(rt: HostRuntime) -> Result<(), Fail> {
     assert!(rt; standing.runs(1));
     assert!(rt; !standing.is_over());
     standing.publish();
+    assert_eq!(rt; standing.size, 2);
     standing.end(1, ThreadEnd::True);
     assert!(rt; !standing.runs(1));
     assert!(rt; standing.is_over());
