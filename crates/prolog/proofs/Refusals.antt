@@ -44,10 +44,10 @@ pub told : (before now holds held : Option (List ℕ)) (faults later line column
     Told before now holds held status
 told before now holds held faults later line column kind status refused w =
     elim w.ends [
-      inl whole ↦ subst (Told before now holds held) (sym whole.0) (refused, whole.1)
-    | inr other ↦ elim other [
-        inl e ↦ subst (Told before now holds held) (sym e) tt
-      | inr e ↦ subst (Told before now holds held) (sym e.0) tt
+      | inl whole ↦ subst (Told before now holds held) (sym whole.0) (refused, whole.1)
+      | inr other ↦ elim other [
+        | inl e ↦ subst (Told before now holds held) (sym e) tt
+        | inr e ↦ subst (Told before now holds held) (sym e.0) tt
       ]
     ]
 

@@ -2,11 +2,13 @@
 #![tactic(auto)]
 
 mod command;
+#[cfg(test)]
+mod tests;
 mod words;
 
 use command::prolog_command;
-use plio::{FileSource, NoGate, StdSink};
 use plhist::Status;
+use plio::{FileSource, NoGate, StdSink};
 use std::alloc::Global;
 use std::io::ErrorKind;
 use std::process::ExitCode;

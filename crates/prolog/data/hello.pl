@@ -1,0 +1,3 @@
+% Writes one line.
+main :- write(hello), nl.
+:- initialization(main).

@@ -1,0 +1,276 @@
+use crate::command::{Report, TEXT_LIMIT, prolog_command};
+use crate::words::{Words, paths};
+use plhist::Status;
+use plio::{MemorySink, MemorySource, NoGate};
+use plload::error::RefusalKind;
+use std::alloc::{AllocError, Global};
+use std::test::Fail;
+
+/// The words of a command line.
+fn words_of(alloc: Global, texts: &[&str]) -> Result<Words, AllocError> {
+    let mut words = Words::new(alloc);
+    for text in texts {
+        words.push(text.to_string(alloc)?)?;
+    }
+    Ok(words)
+}
+
+/// Runs a text, and gives the report and the status.
+fn run(rt: &HostRuntime, text: &[u8]) -> Result<(Vec<u8>, Status), Fail> {
+    let alloc = rt.alloc();
+    let words = words_of(alloc, &["prolog", "run", "P"])?;
+    let mut program = MemorySource::new(Vec::from_slice(alloc, text)?, 4096, Vec::new(alloc));
+    let mut second = MemorySource::new(Vec::new(alloc), 1, Vec::new(alloc));
+    let mut out = MemorySink::new(alloc, 1_000_000, Vec::new(alloc))?;
+    let report = prolog_command(
+        rt,
+        alloc,
+        &words,
+        &mut program,
+        &mut second,
+        &mut out,
+        &NoGate,
+    );
+    Ok((Vec::from_slice(alloc, out.bytes())?, report.status))
+}
+
+const ROWS: [(&str, &str, Status); 20] = [
+    (
+        "main :- write(hello), nl. :- initialization(main).",
+        "% thread 1 main: true\nhello\n",
+        Status::Done,
+    ),
+    ("", "% thread 1 main: true\n", Status::Done),
+    (
+        "main :- assertz(q(7)), q(X), write(X), nl. :- initialization(main).",
+        "% thread 1 main: true\n7\n",
+        Status::Done,
+    ),
+    (
+        ":- initialization(q).",
+        "% thread 1 main: exception(error(existence_error(procedure,q/0),q/0))\n",
+        Status::Raised,
+    ),
+    (
+        "main :- assertz(main). :- initialization(main).",
+        "% thread 1 main: exception(error(permission_error(modify,static_procedure,main/0),assertz/1))\n",
+        Status::Raised,
+    ),
+    (
+        ":- assertz(X).",
+        "% thread 1 main: exception(error(instantiation_error,assertz/1))\n",
+        Status::Raised,
+    ),
+    (
+        ":- assertz((X :- a)).",
+        "% thread 1 main: exception(error(instantiation_error,assertz/1))\n",
+        Status::Raised,
+    ),
+    (
+        ":- assertz((1 :- a)).",
+        "% thread 1 main: exception(error(type_error(callable,1),assertz/1))\n",
+        Status::Raised,
+    ),
+    (
+        ":- assertz((a :- b, 1)).",
+        "% thread 1 main: exception(error(type_error(callable,(b,1)),assertz/1))\n",
+        Status::Raised,
+    ),
+    (
+        ":- assertz(write(_)).",
+        "% thread 1 main: exception(error(permission_error(modify,static_procedure,write/1),assertz/1))\n",
+        Status::Raised,
+    ),
+    (
+        ":- once(_).",
+        "% thread 1 main: exception(error(instantiation_error,once/1))\n",
+        Status::Raised,
+    ),
+    ("a(1). :- a(2).", "% thread 1 main: false\n", Status::Failed),
+    (
+        "a :- write(x). :- a. :- b.",
+        "% thread 1 main: exception(error(existence_error(procedure,b/0),b/0))\nx\n",
+        Status::Raised,
+    ),
+    // A later update changes no call that has begun (7.5.4).
+    (
+        "m :- assertz(p(1)), assertz(p(2)), w. w :- p(X), write(X), assertz(p(3)), n(X). w :- p(X), write(X), n(X). w. n(z). :- m.",
+        "% thread 1 main: true\n121233\n",
+        Status::Done,
+    ),
+    // once/1 gives up the other clauses, and a conjunction comes back to them.
+    (
+        "t(1). t(2). t(3). m :- once(t(X)), write(X), n(X). m :- t(Y), write(Y), o(Y). o(2). n(z). :- m.",
+        "% thread 1 main: true\n112\n",
+        Status::Done,
+    ),
+    // No cyclic term is made, and the younger of two variables stands for the older.
+    (
+        "e(X, X). m :- e(Y, f(Y)). m :- e(A, B), write(g(A, B, C)). :- m.",
+        "% thread 1 main: true\ng(_1,_1,_2)\n",
+        Status::Done,
+    ),
+    (
+        ":- write((a:-b,c)), write(.(a,.(b,c))), write(;(!,-(1))).",
+        "% thread 1 main: true\na:-b,c[a,b|c];(!,-(1))\n",
+        Status::Done,
+    ),
+    (
+        "a.\nb.\nc :- x,",
+        "refused: line 3 column 1: lex\n",
+        Status::Refused {
+            line: 3,
+            column: 1,
+            kind: RefusalKind::Lex,
+        },
+    ),
+    (
+        "a.\n  b :- 1.",
+        "refused: line 2 column 3: not_callable\n",
+        Status::Refused {
+            line: 2,
+            column: 3,
+            kind: RefusalKind::NotCallable,
+        },
+    ),
+    (
+        ":- write(9223372036854775808).",
+        "refused: line 1 column 1: syntax\n",
+        Status::Refused {
+            line: 1,
+            column: 1,
+            kind: RefusalKind::Syntax,
+        },
+    ),
+];
+
+// Programs and their reports.
+#[test]
+fn rows(rt: HostRuntime) -> Result<(), Fail> {
+    for (text, report, status) in ROWS {
+        let (bytes, ended) = run(&rt, text.as_bytes())?;
+        assert!(rt; bytes.as_slice() == report.as_bytes());
+        assert!(rt; ended == status);
+    }
+    Ok(())
+}
+
+/// A piece of text so many times.
+fn repeated(
+    alloc: Global,
+    text: &mut Vec<u8>,
+    piece: &str,
+    times: usize,
+) -> Result<(), AllocError> {
+    for _ in 0..times {
+        text.extend_from_slice(piece.as_bytes())?;
+    }
+    Ok(())
+}
+
+// Deep terms, long bodies and deep recursion take no stack.
+#[test]
+fn depth(rt: HostRuntime) -> Result<(), Fail> {
+    let alloc = rt.alloc();
+    let mut text = Vec::from_slice(alloc, b"p(")?;
+    repeated(alloc, &mut text, "f(", 65_000)?;
+    text.extend_from_slice(b"X")?;
+    repeated(alloc, &mut text, ")", 65_000)?;
+    text.extend_from_slice(b"). q :- ")?;
+    repeated(alloc, &mut text, "true, ", 20_000)?;
+    text.extend_from_slice(b"true. z(o). z(s(X)) :- z(X). r :- z(")?;
+    repeated(alloc, &mut text, "s(", 10_000)?;
+    text.extend_from_slice(b"o")?;
+    repeated(alloc, &mut text, ")", 10_000)?;
+    text.extend_from_slice(b"). :- p(_), q, r, write(done).")?;
+    let (bytes, ended) = run(&rt, &text)?;
+    assert!(rt; bytes.as_slice() == b"% thread 1 main: true\ndone\n".as_slice());
+    assert!(rt; ended == Status::Done);
+    Ok(())
+}
+
+/// Runs hello with a source and a sink that fail at these calls.
+fn with_faults(
+    rt: &HostRuntime,
+    text: &str,
+    reads: &[u64],
+    writes: &[u64],
+) -> Result<(Vec<u8>, Report), Fail> {
+    let alloc = rt.alloc();
+    let words = words_of(alloc, &["prolog", "run", "P"])?;
+    let mut program = MemorySource::new(
+        Vec::from_slice(alloc, text.as_bytes())?,
+        4,
+        Vec::from_slice(alloc, reads)?,
+    );
+    let mut second = MemorySource::new(Vec::new(alloc), 1, Vec::new(alloc));
+    let mut out = MemorySink::new(alloc, 1000, Vec::from_slice(alloc, writes)?)?;
+    let report = prolog_command(
+        rt,
+        alloc,
+        &words,
+        &mut program,
+        &mut second,
+        &mut out,
+        &NoGate,
+    );
+    Ok((Vec::from_slice(alloc, out.bytes())?, report))
+}
+
+// A fault of the source, of the sink, and too long a text.
+#[test]
+fn faults(rt: HostRuntime) -> Result<(), Fail> {
+    let (bytes, report) = with_faults(&rt, "a.\nb.\nc :- x,", &[2], &[])?;
+    assert!(rt; bytes.is_empty() && report.status == Status::ReadFault && report.history.is_none());
+    let (bytes, report) = with_faults(
+        &rt,
+        "main :- write(hello), nl. :- initialization(main).",
+        &[],
+        &[1],
+    )?;
+    assert!(rt;
+        bytes.is_empty() && report.status == Status::WriteFault && report.history.is_some()
+    );
+    let alloc = rt.alloc();
+    let mut text = Vec::new(alloc);
+    repeated(alloc, &mut text, "\n", TEXT_LIMIT)?;
+    let (bytes, ended) = run(&rt, &text)?;
+    assert!(rt; bytes.as_slice() == b"% thread 1 main: true\n".as_slice() && ended == Status::Done);
+    text.push(b'\n')?;
+    let (bytes, ended) = run(&rt, &text)?;
+    assert!(rt; bytes.is_empty() && ended == Status::TooLong);
+    Ok(())
+}
+
+// Words that are no command.
+#[test]
+fn usage(rt: HostRuntime) -> Result<(), Fail> {
+    let alloc = rt.alloc();
+    let cases: [&[&str]; 5] = [
+        &["prolog"],
+        &["prolog", "run"],
+        &["prolog", "run", "-x"],
+        &["prolog", "go", "P"],
+        &["prolog", "run", "P", "Q"],
+    ];
+    for case in cases {
+        let words = words_of(alloc, case)?;
+        let mut program = MemorySource::new(Vec::from_slice(alloc, b"a.")?, 4, Vec::new(alloc));
+        let mut second = MemorySource::new(Vec::new(alloc), 1, Vec::new(alloc));
+        let mut out = MemorySink::new(alloc, 1000, Vec::new(alloc))?;
+        let report = prolog_command(
+            &rt,
+            alloc,
+            &words,
+            &mut program,
+            &mut second,
+            &mut out,
+            &NoGate,
+        );
+        assert!(rt; report.status == Status::Usage && out.bytes().is_empty());
+        assert!(rt; paths(&words)?.0.is_none());
+    }
+    let words = words_of(alloc, &["prolog", "run", "-"])?;
+    assert!(rt; paths(&words)? == (Some("-"), None));
+    Ok(())
+}
