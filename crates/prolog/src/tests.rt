@@ -4,7 +4,9 @@ use plhist::Status;
 use plio::{MemorySink, MemorySource, NoGate};
 use plload::error::RefusalKind;
 use std::alloc::{AllocError, Global};
+use std::sync::Wait;
 use std::test::Fail;
+use std::thread::Threads;
 
 /// The words of a command line.
 fn words_of(alloc: Global, texts: &[&str]) -> Result<Words, AllocError> {
@@ -16,8 +18,11 @@ fn words_of(alloc: Global, texts: &[&str]) -> Result<Words, AllocError> {
 }
 
 /// Runs a text, and gives the report and the status.
-fn run(rt: &HostRuntime, text: &[u8]) -> Result<(Vec<u8>, Status), Fail> {
-    let alloc = rt.alloc();
+fn run<R: Threads + Wait + Sync>(
+    rt: &R,
+    alloc: Global,
+    text: &[u8],
+) -> Result<(Vec<u8>, Status), Fail> {
     let words = words_of(alloc, &["prolog", "run", "P"])?;
     let mut program = MemorySource::new(Vec::from_slice(alloc, text)?, 4096, Vec::new(alloc));
     let mut second = MemorySource::new(Vec::new(alloc), 1, Vec::new(alloc));
@@ -148,7 +153,7 @@ const ROWS: [(&str, &str, Status); 20] = [
 #[test]
 fn rows(rt: HostRuntime) -> Result<(), Fail> {
     for (text, report, status) in ROWS {
-        let (bytes, ended) = run(&rt, text.as_bytes())?;
+        let (bytes, ended) = run(&rt, rt.alloc(), text.as_bytes())?;
         assert!(rt; bytes.as_slice() == report.as_bytes());
         assert!(rt; ended == status);
     }
@@ -183,20 +188,20 @@ fn depth(rt: HostRuntime) -> Result<(), Fail> {
     text.extend_from_slice(b"o")?;
     repeated(alloc, &mut text, ")", 10_000)?;
     text.extend_from_slice(b"). :- p(_), q, r, write(done).")?;
-    let (bytes, ended) = run(&rt, &text)?;
+    let (bytes, ended) = run(&rt, alloc, &text)?;
     assert!(rt; bytes.as_slice() == b"% thread 1 main: true\ndone\n".as_slice());
     assert!(rt; ended == Status::Done);
     Ok(())
 }
 
 /// Runs hello with a source and a sink that fail at these calls.
-fn with_faults(
-    rt: &HostRuntime,
+fn with_faults<R: Threads + Wait + Sync>(
+    rt: &R,
+    alloc: Global,
     text: &str,
     reads: &[u64],
     writes: &[u64],
 ) -> Result<(Vec<u8>, Report), Fail> {
-    let alloc = rt.alloc();
     let words = words_of(alloc, &["prolog", "run", "P"])?;
     let mut program = MemorySource::new(
         Vec::from_slice(alloc, text.as_bytes())?,
@@ -220,10 +225,12 @@ fn with_faults(
 // A fault of the source, of the sink, and too long a text.
 #[test]
 fn faults(rt: HostRuntime) -> Result<(), Fail> {
-    let (bytes, report) = with_faults(&rt, "a.\nb.\nc :- x,", &[2], &[])?;
+    let alloc = rt.alloc();
+    let (bytes, report) = with_faults(&rt, alloc, "a.\nb.\nc :- x,", &[2], &[])?;
     assert!(rt; bytes.is_empty() && report.status == Status::ReadFault && report.history.is_none());
     let (bytes, report) = with_faults(
         &rt,
+        alloc,
         "main :- write(hello), nl. :- initialization(main).",
         &[],
         &[1],
@@ -231,13 +238,12 @@ fn faults(rt: HostRuntime) -> Result<(), Fail> {
     assert!(rt;
         bytes.is_empty() && report.status == Status::WriteFault && report.history.is_some()
     );
-    let alloc = rt.alloc();
     let mut text = Vec::new(alloc);
     repeated(alloc, &mut text, "\n", TEXT_LIMIT)?;
-    let (bytes, ended) = run(&rt, &text)?;
+    let (bytes, ended) = run(&rt, alloc, &text)?;
     assert!(rt; bytes.as_slice() == b"% thread 1 main: true\n".as_slice() && ended == Status::Done);
     text.push(b'\n')?;
-    let (bytes, ended) = run(&rt, &text)?;
+    let (bytes, ended) = run(&rt, alloc, &text)?;
     assert!(rt; bytes.is_empty() && ended == Status::TooLong);
     Ok(())
 }
