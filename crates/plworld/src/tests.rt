@@ -17,9 +17,18 @@ fn batch(alloc: Global) -> Result<Batch, TermError> {
     Ok(Batch::new(updates))
 }
 
-// Main is started by worker 1, publishes a clause and ends: four entries. What is asked too early or too late waits.
+/// A world in which worker 1 has started main, which has published a clause.
+fn begun(alloc: Global) -> Result<World, TermError> {
+    let mut world = World::open(alloc, &Batch::new(Vec::new(alloc)))?;
+    world.step(alloc, 1, 0, &Request::Start)?;
+    let publish = Request::Publish(batch(alloc)?);
+    world.step(alloc, 1, 1, &publish)?;
+    Ok(world)
+}
+
+// Before main is started it can publish nothing; a start tells its number and its alias.
 #[test]
-fn a_run_of_main(rt: HostRuntime) -> Result<(), Fail> {
+fn main_is_started(rt: HostRuntime) -> Result<(), Fail> {
     let alloc = rt.alloc();
     let mut world = World::open(alloc, &Batch::new(Vec::new(alloc)))?;
     let publish = Request::Publish(batch(alloc)?);
@@ -35,24 +44,37 @@ fn a_run_of_main(rt: HostRuntime) -> Result<(), Fail> {
         _ => return Err("main is not started".into()),
     }
     assert!(rt; matches!(world.step(alloc, 1, 1, &publish)?, Reply::Published));
+    Ok(())
+}
+
+// The clause that main published is there from place 3 on.
+#[test]
+fn clauses_by_time(rt: HostRuntime) -> Result<(), Fail> {
+    let alloc = rt.alloc();
+    let world = begun(alloc)?;
     let name = Name::new(alloc, "p")?;
     let pred = Indicator { name, arity: 0 };
     for (g, count) in [(2, 0), (3, 1)] {
         let alive = world.store().alive_clauses(alloc, g, &pred)?;
         assert_eq!(rt; alive.len(), count, "clauses at {g}");
     }
+    assert_eq!(rt; world.entries().len(), 3);
+    Ok(())
+}
+
+// The run is over once main has ended, and its journal has four entries.
+#[test]
+fn a_whole_run(rt: HostRuntime) -> Result<(), Fail> {
+    let alloc = rt.alloc();
+    let mut world = begun(alloc)?;
+    let second = world.step(alloc, 1, 0, &Request::Start)?;
+    assert!(rt; matches!(second, Reply::NotYet(Request::Start)));
     assert!(rt; !world.is_over());
-    assert!(rt;
-        matches!(
-            world.step(alloc, 1, 0, &Request::Start)?,
-            Reply::NotYet(Request::Start)
-        )
-    );
     let finish = Request::Finish(ThreadEnd::False);
     assert!(rt; matches!(world.step(alloc, 1, 1, &finish)?, Reply::Done));
     assert!(rt; world.is_over());
-    assert!(rt; matches!(world.step(alloc, 1, 0, &Request::Start)?, Reply::RunOver));
-    assert_eq!(rt; world.entries().len(), 4);
+    let third = world.step(alloc, 1, 0, &Request::Start)?;
+    assert!(rt; matches!(third, Reply::RunOver));
     match world.close().as_slice() {
         [opening, start, publish, end] => {
             assert_eq!(rt; (opening.worker, opening.thread), (0, 0));
