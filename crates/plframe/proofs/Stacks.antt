@@ -374,3 +374,6 @@ module _ (s : State) (d : ℕ) (is : IsStack s d) (rest : List Frame) (a : Alter
       was = was-left statics ∙ ap (λ ps. Choice ps ∷ cases_of statics (back s d is rest a popped)) fits.places;
       cases = called-cases statics (back s d is rest a popped) (d - 1) (back-stack s d is rest a popped) a.mark call-then.mark now-then (record { goal = a.goal; rest = a.rest; level = d - 1 }) (again-called s d is rest a popped) refl a.source a.links many-then a.next h links i list fits frames opens;
     }
+
+pub extends-same : (s : State) → Extends s s
+extends-same s = record { goals = refl; cases = λ statics. refl; lists = λ i l. (l, refl); cells = le_refl _; terms = λ c lt. refl }

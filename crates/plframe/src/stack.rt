@@ -4,6 +4,8 @@ ghost use Rattle.std.specs.Prelude.{◌≡◌, ℕ, ◌+◌, ◌<◌, ◌≤◌,
 ghost use Rattle.plterm.specs.Variables.{AllBelow};
 ghost use Rattle.plsubst.specs.Subst.{shift};
 ghost use Rattle.plheap.specs.Store.{term};
+ghost use Rattle.plclause.specs.Conversion.{converted};
+ghost use Rattle.plgoal.specs.Goal.{IsGoal};
 ghost use Rattle.plload.specs.Program.{clauses_for};
 ghost use Rattle.plsearch.specs.Types.{Choice, Mark as MarkOf, Place, Case};
 ghost use Rattle.plsearch.specs.Engine.{deeper};
@@ -13,6 +15,7 @@ ghost use Rattle.plframe.specs.State.{place_of, goals_of, cases_of, IsList, Exte
 use crate::call::{Called, Room, first_fit};
 use crate::frame::{Alternatives, Closed, Frame, Item, Link, Source};
 use plclause::clause::Clause;
+use plgoal::goal::goal_of;
 use plheap::heap::Heap;
 use plload::program::Program;
 use plterm::term::Term;
@@ -112,6 +115,17 @@ impl Stack {
         let base = self.heap.variables(count)?;
         let cell = self.heap.put(&mut self.room.pending, given, base)?;
         Ok(cell)
+    }
+
+    /// The goal that the term of a cell stands for, if it is convertible (ISO/IEC 13211-1 7.6.2): its cell.
+    pub fn goal_of(&mut self, alloc: Global, cell: u32) -> Result<Option<u32>, AllocError>
+        requires { cell < length self.old.heap.cells }
+        ensures some { IfOk result (λ found. IfSome found (λ goal. IsGoal self.old.heap self.new.heap cell goal)) }
+        ensures none { IfOk result (λ found. IfNone found (converted (term self.old.heap cell) ≡ None)) }
+        ensures count { self.new.heap.count ≡ self.old.heap.count }
+        ensures stays { Extends self.old self.new }
+    {
+        goal_of(&mut self.heap, &mut self.room.pending, alloc, cell)
     }
 
     /// Visits a list that is there.

@@ -25,11 +25,11 @@ unfoldable pub start_of : Program → Place
 unfolding start_from
 start_of P = start_from P.goals
 
--- a cut at the very outside and an answer that does not fit what was asked do not occur in a run
+-- at the very outside a cut gives up all choices, as failure does; an answer that does not fit what was asked does not occur in a run
 abbrev pub next_of : Result → Next
 next_of Stop = Finishes True
 next_of Fail = Finishes False
-next_of (CutTo l) = Ceases
+next_of (CutTo l) = Finishes False
 next_of (Throw b ls) = Finishes (Exception b)
 next_of Spent = Finishes Budget
 next_of (Asking q) = Wants q
