@@ -51,6 +51,7 @@ module _ (s : State) (h : Store) (more : List Link) (k : Keeps s.heap h) (stay :
   unfolding cases_of
   extends-grown = record {
     goals = refl;
+    visited = (list-grown s.goals is.goals).1;
     cases = λ statics. cases-kept statics s.heap h s.links more k (reverse s.frames) is.frames;
     lists = list-grown;
     cells = k.cells;
@@ -376,4 +377,14 @@ module _ (s : State) (d : ℕ) (is : IsStack s d) (rest : List Frame) (a : Alter
     }
 
 pub extends-same : (s : State) → Extends s s
-extends-same s = record { goals = refl; cases = λ statics. refl; lists = λ i l. (l, refl); cells = le_refl _; terms = λ c lt. refl }
+extends-same s = record { goals = refl; visited = refl; cases = λ statics. refl; lists = λ i l. (l, refl); cells = le_refl _; terms = λ c lt. refl }
+
+pub Extends-trans : (a b c : State) → Extends a b → Extends b c → Extends a c
+Extends-trans a b c e f = record {
+  goals = f.goals ∙ e.goals;
+  visited = f.visited ∙ e.visited;
+  cases = λ statics. f.cases statics ∙ e.cases statics;
+  lists = λ i l. let x = e.lists i l in let y = f.lists i x.0 in (y.0, y.1 ∙ x.1);
+  cells = le_trans e.cells f.cells;
+  terms = λ c lt. f.terms c (le_trans lt e.cells) ∙ e.terms c lt;
+}

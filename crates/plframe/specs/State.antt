@@ -48,6 +48,7 @@ IsStack s depth = IsState s × (depth ≡ depth_of (reverse s.frames))
 -- the cases, the lists and the cells stay, and there may be more lists and cells
 pub record Extends (old new : State) : Type 0 where
   pub goals : new.goals ≡ old.goals
+  pub visited : goals_of new new.goals ≡ goals_of old old.goals
   pub cases : (statics : Statics) → cases_of statics new ≡ cases_of statics old
   pub lists : (i : ℕ) → IsList old i → IsList new i × (goals_of new i ≡ goals_of old i)
   pub cells : length old.heap.cells ≤ length new.heap.cells
