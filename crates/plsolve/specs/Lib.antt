@@ -1,0 +1,4 @@
+pub mod Heads
+pub mod Controls
+pub mod Solver
+pub mod Says

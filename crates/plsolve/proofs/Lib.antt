@@ -1,0 +1,6 @@
+pub mod Moves
+pub mod Runs
+pub mod Quiets
+pub mod Heading
+pub mod Starts
+pub mod Looks

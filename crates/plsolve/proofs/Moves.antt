@@ -1,0 +1,199 @@
+-- What the solver's rows make of its machine.
+use Rattle.std.proofs.Common.{◌≡◌, ℕ, ◌+◌, List, [], ◌∷◌, ◌++◌, refl, sym, ap, ap₂, ◌∙◌, subst, OnErr, OnOk, IfOk, Ok, Err}
+use Rattle.std.specs.Prelude.{Result as Outcomes}
+use Rattle.plterm.specs.Tree.{Tree}
+use Rattle.plterm.specs.Variables.{copied}
+use Rattle.plterm.specs.declared.indicator.Indicator.{Indicator}
+use Rattle.plheap.specs.Store.{term}
+use Rattle.plevent.specs.Search.{Answer}
+use Rattle.plload.specs.Program.{Program, clauses_for}
+use Rattle.plsearch.specs.Types.{Throw, Element, Place, Case, Choice, Mark, Handle, Local, Move, Give, Go, Run}
+use Rattle.plsearch.specs.Errors.{error_term}
+use Rattle.plsearch.specs.Table.{raised, levels, call, choose}
+use Rattle.plsearch.specs.Engine.{choice, out, outs, Visit}
+use Rattle.plsearch.specs.Machine.{At, Back, Machine, Rest, move}
+use Rattle.plsearch.specs.Search.{ending_of}
+use Rattle.plframe.specs.declared.frame.Source.{Source}
+use Rattle.plframe.specs.Places.{clauses_in, place_at}
+use Rattle.plframe.specs.State.{State, place_of, cases_of, goals_of, Extends, Opens, Calls, call_places}
+use Rattle.plsolve.specs.declared.solver.Outcome.{Outcome}
+use Rattle.plsolve.specs.declared.solver.Outcome.TheVariants as outcomes
+use Rattle.plsolve.specs.declared.solver.Mode.{Mode as Going}
+use Rattle.plsolve.specs.declared.solver.Mode.TheVariants as modes
+use Rattle.plsolve.specs.declared.solver.Solver.{Solver}
+use Rattle.plsolve.specs.Solver.{result_of, mode_of, local_of, depth_of, machine, Moved, Stays}
+
+-- a solver at a list is a machine at a place
+pub machine-at : (P : Program) (s : Solver) (p : Place) (cs : List Case) (w : Local) → s.mode ≡ modes.Visit → place_of s.stack ≡ p → cases_of (clauses_for P) s.stack ≡ cs → local_of s ≡ w →
+    (left : ℕ) (answers : List Answer) → machine P left answers s ≡ record { mode = At p; cases = cs; run = record { steps = left; answers = answers; local = w } }
+unfolding machine
+machine-at P s p cs w at place cases local left answers =
+    ap (λ m. record { mode = mode_of m s.stack; cases = cases_of (clauses_for P) s.stack; run = record { steps = left; answers = answers; local = local_of s } }) at
+    ∙ ap (λ q. record { mode = At q; cases = cases_of (clauses_for P) s.stack; run = record { steps = left; answers = answers; local = local_of s } }) place
+    ∙ ap₂ (λ cs w. record { mode = At p; cases = cs; run = record { steps = left; answers = answers; local = w } }) cases local
+
+machine-back : (P : Program) (s : Solver) (r : Outcome) (cs : List Case) (w : Local) → s.mode ≡ modes.Back r → cases_of (clauses_for P) s.stack ≡ cs → local_of s ≡ w →
+    (left : ℕ) (answers : List Answer) → machine P left answers s ≡ record { mode = Back (result_of r); cases = cs; run = record { steps = left; answers = answers; local = w } }
+unfolding machine
+machine-back P s r cs w at cases local left answers =
+    ap (λ m. record { mode = mode_of m s.stack; cases = cases_of (clauses_for P) s.stack; run = record { steps = left; answers = answers; local = local_of s } }) at
+    ∙ ap₂ (λ cs w. record { mode = Back (result_of r); cases = cs; run = record { steps = left; answers = answers; local = w } }) cases local
+
+pub stays_put : (P : Program) (s : Solver) → Stays P s s
+stays_put P s = record { used = refl; limit = refl; places = refl; out = refl; same = λ left answers. refl }
+
+-- the same machine, by its parts
+pub stays-by : (P : Program) (s new : Solver) → new.used ≡ s.used → new.limit ≡ s.limit → new.places.items ≡ s.places.items → new.mode ≡ s.mode → place_of new.stack ≡ place_of s.stack →
+    cases_of (clauses_for P) new.stack ≡ cases_of (clauses_for P) s.stack → new.out.items ≡ s.out.items → Stays P s new
+unfolding machine
+stays-by P s new used limit places at place cases out = record {
+  used = used;
+  limit = limit;
+  places = places;
+  out = out;
+  same = λ left answers. rw (at, out, cases) (go s.mode left answers);
+}
+  where
+    go : (m : Going) (left : ℕ) (answers : List Answer) →
+        ◌≡◌ {A = Machine} (record { mode = mode_of m new.stack; cases = cases_of (clauses_for P) s.stack; run = record { steps = left; answers = answers; local = local_of s } })
+        (record { mode = mode_of m s.stack; cases = cases_of (clauses_for P) s.stack; run = record { steps = left; answers = answers; local = local_of s } })
+    go modes.Visit left answers = ap (λ p. record { mode = At p; cases = cases_of (clauses_for P) s.stack; run = record { steps = left; answers = answers; local = local_of s } }) place
+    go (modes.Back r) left answers = refl
+
+-- a list is visited, in more cases
+pub goes-to : (P : Program) (s new : Solver) (cs : List Case) (p : Place) (w : Local) (cost : ℕ) → new.used ≡ s.used + cost → new.limit ≡ s.limit → new.places.items ≡ s.places.items →
+    new.mode ≡ modes.Visit → place_of new.stack ≡ p → cases_of (clauses_for P) new.stack ≡ cs ++ cases_of (clauses_for P) s.stack → local_of new ≡ w → Moved P s new (Go cs p w) cost
+goes-to P s new cs p w cost used limit places at place cases local = record {
+  used = used;
+  limit = limit;
+  places = places;
+  ends = λ most left answers. ap (λ m. ending_of most (Rest P m)) (sym (machine-at P new p (cs ++ cases_of (clauses_for P) s.stack) w at place cases local left answers));
+}
+
+-- a result is carried
+pub gives : (P : Program) (s new : Solver) (r : Outcome) (w : Local) (cost : ℕ) → new.used ≡ s.used + cost → new.limit ≡ s.limit → new.places.items ≡ s.places.items →
+    new.mode ≡ modes.Back r → cases_of (clauses_for P) new.stack ≡ cases_of (clauses_for P) s.stack → local_of new ≡ w → Moved P s new (Give (result_of r) w) cost
+gives P s new r w cost used limit places at cases local = record {
+  used = used;
+  limit = limit;
+  places = places;
+  ends = λ most left answers. ap (λ m. ending_of most (Rest P m)) (sym (machine-back P new r (cases_of (clauses_for P) s.stack) w at cases local left answers));
+}
+
+-- nothing catches a ball
+throws-out : (P : Program) (cases : List Case) (b : Tree) (ls : List ℕ) (run : Run) → outs (Visit P) 0 cases (Throw b ls, run) ≡ (Throw b ls, run)
+unfolding outs out choice
+throws-out P [] b ls run = refl
+throws-out P (Choice [] ∷ cases) b ls run = throws-out P cases b ls run
+throws-out P (Choice (p ∷ ps) ∷ cases) b ls run = throws-out P cases b ls run
+throws-out P (Mark l ∷ cases) b ls run = throws-out P cases b ls run
+throws-out P (Handle h ∷ cases) b ls run = elim h [ ]
+
+throw-ends : (P : Program) (most : ℕ) (cases : List Case) (b : Tree) (ls : List ℕ) (run : Run) →
+    ending_of most (Rest P (record { mode = Back (Throw b ls); cases = cases; run = run })) ≡ ending_of most (Rest P (record { mode = Back (Throw b []); cases = cases; run = run }))
+unfolding Rest
+throw-ends P most cases b ls run = ap (ending_of most) (throws-out P cases b ls run) ∙ ap (ending_of most) (sym (throws-out P cases b [] run))
+
+pub raises : (P : Program) (s new : Solver) (e : Tree) (p : Indicator) (es : List Element) (cost : ℕ) → new ≡ record s { mode = modes.Back (outcomes.Throw (copied 0 (error_term e p))); used = s.used + cost } →
+    Moved P s new (raised e p es (local_of s)) cost
+unfolding raised machine
+raises P s new e p es cost is = rw is (record {
+  used = refl;
+  limit = refl;
+  places = refl;
+  ends = λ most left answers. throw-ends P most (cases_of (clauses_for P) s.stack) (copied 0 (error_term e p)) (levels es) (record { steps = left; answers = answers; local = local_of s });
+})
+
+-- lists and cells were added
+pub extended : (P : Program) (s : Solver) (stack : State) → Extends s.stack stack → stack.heap.count ≡ s.stack.heap.count → Stays P s (record s { stack = stack })
+extended P s stack e count =
+    stays-by P s (record s { stack = stack }) refl refl refl refl
+    (ap₂ (λ gs n. record { goals = gs; variables = n }) e.visited count)
+    (e.cases (clauses_for P)) refl
+
+-- a new list is visited
+pub visits : (P : Program) (s : Solver) (stack : State) (list cost : ℕ) (gs : List Element) (out : List ℕ) (new : Solver) → Extends s.stack stack → stack.heap.count ≡ s.stack.heap.count → goals_of stack list ≡ gs →
+    new.used ≡ s.used + cost → new.limit ≡ s.limit → new.places.items ≡ s.places.items → new.mode ≡ modes.Visit → new.stack ≡ record stack { goals = list } → new.out.items ≡ out →
+    Moved P s new (Go [] (record { goals = gs; variables = s.stack.heap.count }) (record { out = out })) cost
+unfolding cases_of
+visits P s stack list cost gs out new e count goals used limit places at is wrote =
+    goes-to P s new [] (record { goals = gs; variables = s.stack.heap.count }) (record { out = out }) cost used limit places at
+    (ap place_of is ∙ ap₂ (λ gs n. record { goals = gs; variables = n }) goals count)
+    (ap (cases_of (clauses_for P)) is ∙ e.cases (clauses_for P))
+    (ap (λ o. record { out = o }) wrote)
+
+pub on_err : {A E K : Type 0} (r : Outcomes A E) → K → OnErr r K
+on_err (Ok a) k = tt
+on_err (Err e) k = k
+
+pub on_ok_map : {A E K L : Type 0} (r : Outcomes A E) → (K → L) → OnOk r K → OnOk r L
+on_ok_map (Ok a) f k = f k
+on_ok_map (Err e) f k = tt
+
+pub on_err_map : {A E K L : Type 0} (r : Outcomes A E) → (K → L) → OnErr r K → OnErr r L
+on_err_map (Ok a) f k = tt
+on_err_map (Err e) f k = f k
+
+pub stays-trans : (P : Program) (a b c : Solver) → Stays P a b → Stays P b c → Stays P a c
+stays-trans P a b c f g = record {
+  used = g.used ∙ f.used;
+  limit = g.limit ∙ f.limit;
+  places = g.places ∙ f.places;
+  out = g.out ∙ f.out;
+  same = λ left answers. g.same left answers ∙ f.same left answers;
+}
+
+-- a move from where it stood
+pub moved-from : (P : Program) (s t new : Solver) (m : Move) (cost : ℕ) → Stays P s t → Moved P t new m cost → Moved P s new m cost
+unfolding machine
+moved-from P s t new m cost stay moved = record {
+  used = moved.used ∙ ap (λ u. u + cost) stay.used;
+  limit = moved.limit ∙ stay.limit;
+  places = moved.places ∙ stay.places;
+  ends = λ most left answers.
+      ap (λ x. ending_of most (Rest P (move x.cases (record { steps = left; answers = answers; local = x.run.local }) m))) (sym (stay.same left answers))
+      ∙ moved.ends most left answers;
+}
+
+-- the levels of the markers behind a ball change nothing
+pub raised-any : (P : Program) (s new : Solver) (e : Tree) (p : Indicator) (es es' : List Element) (cost : ℕ) → Moved P s new (raised e p es (local_of s)) cost → Moved P s new (raised e p es' (local_of s)) cost
+unfolding raised
+raised-any P s new e p es es' cost moved = record {
+  used = moved.used;
+  limit = moved.limit;
+  places = moved.places;
+  ends = λ most left answers.
+      throw-ends P most (cases_of (clauses_for P) s.stack) (copied 0 (error_term e p)) (levels es') (record { steps = left; answers = answers; local = local_of s })
+      ∙ sym (throw-ends P most (cases_of (clauses_for P) s.stack) (copied 0 (error_term e p)) (levels es) (record { steps = left; answers = answers; local = local_of s }))
+      ∙ moved.ends most left answers;
+}
+
+-- a goal was resolved
+pub called : (P : Program) (s new : Solver) (cell rest : ℕ) (source : Source) (cost : ℕ) → Calls (clauses_for P) s.stack new.stack cell rest source →
+    new.used ≡ s.used + cost → new.limit ≡ s.limit → new.places.items ≡ s.places.items → new.mode ≡ modes.Visit → local_of new ≡ local_of s →
+    Moved P s new (call (depth_of P s) s.stack.heap.count (term s.stack.heap cell) (goals_of s.stack rest) (clauses_in (clauses_for P) source) (local_of s)) cost
+called P s new cell rest source cost calls used limit places at local =
+    subst (λ ps. Moved P s new (choose ps (local_of s)) cost) (sym calls.places)
+    (goes-to P s new (Choice calls.others ∷ []) (place_of new.stack) (local_of s) cost used limit places at refl calls.cases local)
+
+pub uncalled : (P : Program) (s new : Solver) (cell rest : ℕ) (source : Source) (cost : ℕ) → call_places (clauses_for P) s.stack cell rest source ≡ [] → new.stack ≡ s.stack →
+    new.used ≡ s.used + cost → new.limit ≡ s.limit → new.places.items ≡ s.places.items → new.mode ≡ modes.Back outcomes.Fail → local_of new ≡ local_of s →
+    Moved P s new (call (depth_of P s) s.stack.heap.count (term s.stack.heap cell) (goals_of s.stack rest) (clauses_in (clauses_for P) source) (local_of s)) cost
+uncalled P s new cell rest source cost none same used limit places at local =
+    subst (λ ps. Moved P s new (choose ps (local_of s)) cost) (sym none)
+    (gives P s new outcomes.Fail (local_of s) cost used limit places at (ap (cases_of (clauses_for P)) same) local)
+
+-- a new list is visited in one more case
+pub opens-visit : (P : Program) (s : Solver) (st st' : State) (list : ℕ) (gs : List Element) (case : Case) (new : Solver) → Extends s.stack st → Opens st st' (λ statics. case) → st.heap.count ≡ s.stack.heap.count → goals_of st list ≡ gs →
+    new.used ≡ s.used + 1 → new.limit ≡ s.limit → new.places.items ≡ s.places.items → new.mode ≡ modes.Visit → new.stack ≡ record st' { goals = list } → new.out.items ≡ s.out.items →
+    Moved P s new (Go (case ∷ []) (record { goals = gs; variables = s.stack.heap.count }) (local_of s)) 1
+unfolding cases_of
+opens-visit P s st st' list gs case new e o count goals used limit places at is wrote =
+    goes-to P s new (case ∷ []) (record { goals = gs; variables = s.stack.heap.count }) (local_of s) 1 used limit places at
+    (ap place_of is ∙ ap₂ (λ h ls. place_at h ls list) o.heap o.links ∙ ap₂ (λ gs n. record { goals = gs; variables = n }) goals count)
+    (ap (cases_of (clauses_for P)) is ∙ o.cases (clauses_for P) ∙ ap (λ cs. case ∷ cs) (e.cases (clauses_for P)))
+    (ap (λ o. record { out = o }) wrote)
+
+pub if_ok_map : {A E : Type 0} (P Q : A → Type 0) (r : Outcomes A E) → ((a : A) → P a → Q a) → IfOk r P → IfOk r Q
+if_ok_map P Q (Ok a) f k = f a k
+if_ok_map P Q (Err e) f k = tt

@@ -1,0 +1,188 @@
+-- The turns that take no step.
+use Rattle.std.proofs.Common.{◌≡◌, ℕ, zero, suc, Bool, true, false, List, [], ◌∷◌, refl, sym, ap, ap₂, ◌∙◌, arith, map, nat_eq, IsTrue, ◌↔◌}
+use Rattle.plheap.specs.Store.{term}
+use Rattle.plevent.specs.Search.{Answer}
+use Rattle.plload.specs.Program.{Program, clauses_for}
+use Rattle.plsearch.specs.Types.{Result, Spent, Element, Goal, Commit, Place, Case, Choice, Mark, Local, Move, Run}
+use Rattle.plsearch.specs.Table.{select, meet}
+use Rattle.plsearch.specs.Engine.{deeper, mark, stop_cut_if}
+use Rattle.plsearch.specs.Machine.{At, Back, Machine, turn, step}
+use Rattle.plframe.specs.Places.{element, list_at, place_at}
+use Rattle.plframe.specs.State.{State, place_of, cases_of, goals_of, Opens, Retries}
+use Rattle.plsolve.specs.declared.solver.Outcome.{Outcome}
+use Rattle.plsolve.specs.declared.solver.Outcome.TheVariants as outcomes
+use Rattle.plsolve.specs.declared.solver.Mode.{Mode as Going}
+use Rattle.plsolve.specs.declared.solver.Mode.TheVariants as modes
+use Rattle.plsolve.specs.declared.solver.Solver.{Solver}
+use Rattle.plsolve.specs.Heads.{AtGoal, AtCommit}
+use Rattle.plsolve.specs.Solver.{result_of, mode_of, local_of, depth_of, machine, Quiet, Stays, IsOver, marked, marked_result, cut_stopped, stopped_result, fail_if}
+
+at_place : (P : Program) (s : Solver) (p : Place) → s.mode ≡ modes.Visit → place_of s.stack ≡ p → (left : ℕ) (answers : List Answer) →
+    machine P left answers s ≡ record { mode = At p; cases = cases_of (clauses_for P) s.stack; run = record { steps = left; answers = answers; local = local_of s } }
+unfolding machine
+at_place P s p at place left answers =
+    ap (λ m. record { mode = mode_of m s.stack; cases = cases_of (clauses_for P) s.stack; run = record { steps = left; answers = answers; local = local_of s } }) at
+    ∙ ap (λ q. record { mode = At q; cases = cases_of (clauses_for P) s.stack; run = record { steps = left; answers = answers; local = local_of s } }) place
+
+carried : (P : Program) (s : Solver) (r : Outcome) (cs : List Case) → s.mode ≡ modes.Back r → cases_of (clauses_for P) s.stack ≡ cs → (left : ℕ) (answers : List Answer) →
+    machine P left answers s ≡ record { mode = Back (result_of r); cases = cs; run = record { steps = left; answers = answers; local = local_of s } }
+unfolding machine
+carried P s r cs at cases left answers =
+    ap (λ m. record { mode = mode_of m s.stack; cases = cases_of (clauses_for P) s.stack; run = record { steps = left; answers = answers; local = local_of s } }) at
+    ∙ ap (λ cs. record { mode = Back (result_of r); cases = cs; run = record { steps = left; answers = answers; local = local_of s } }) cases
+
+not_back : (s : Solver) (r : Result) → s.mode ≡ modes.Visit → mode_of s.mode s.stack ≡ Back r → ⊥
+not_back s r at is = let e : At (place_of s.stack) ≡ Back r = ap (λ m. mode_of m s.stack) (sym at) ∙ is in cc
+
+some_case : (c : Case) (cs all : List Case) → all ≡ c ∷ cs → all ≡ [] → ⊥
+some_case c cs all is none = let e : c ∷ cs ≡ [] = sym is ∙ none in cc
+
+pub quiet-stop : (P : Program) (s : Solver) → s.mode ≡ modes.Visit → list_at s.stack.links s.stack.goals ≡ [] → Quiet P s (record s { mode = modes.Back outcomes.Stop })
+unfolding turn machine
+quiet-stop P s at none = record {
+  used = refl;
+  limit = refl;
+  places = refl;
+  turned = λ left answers few. sym (ap (turn P) (at_place P s (record { goals = []; variables = s.stack.heap.count }) at (ap (λ xs. record { goals = map (element s.stack.heap) xs; variables = s.stack.heap.count }) none) left answers));
+  goes = λ r is no. not_back s r at is;
+}
+
+spent : (P : Program) (cases : List Case) (row : Local → Move) (run : Run) (n : ℕ) → n ≡ 0 → ◌≡◌ {A = Machine} (record { mode = Back Spent; cases = cases; run = run }) (step cases row run n)
+spent P cases row run zero e = refl
+spent P cases row run (suc n) e = absurd (omega (arith, e))
+
+pub quiet-spent : (P : Program) (s : Solver) (level cell rest : ℕ) → s.mode ≡ modes.Visit → AtGoal s.stack level cell rest → s.used ≡ s.limit → Quiet P s (record s { mode = modes.Back outcomes.Spent })
+unfolding turn machine meet
+quiet-spent P s level cell rest at goal all = record {
+  used = refl;
+  limit = refl;
+  places = refl;
+  turned = λ left answers few.
+      let gs : List Element = goals_of s.stack rest in
+      spent P (cases_of (clauses_for P) s.stack) (select P level (term s.stack.heap cell) (depth_of P s) gs s.stack.heap.count) (record { steps = left; answers = answers; local = local_of s }) left (omega (arith, few, all))
+      ∙ sym (ap (turn P) (at_place P s (record { goals = Goal level (term s.stack.heap cell) ∷ gs; variables = s.stack.heap.count }) at (ap (λ xs. record { goals = map (element s.stack.heap) xs; variables = s.stack.heap.count }) goal.items) left answers));
+  goes = λ r is no. not_back s r at is;
+}
+
+pub quiet-commit : (P : Program) (s : Solver) (st : State) (level rest : ℕ) → s.mode ≡ modes.Visit → AtCommit s.stack level rest → Opens s.stack st (λ statics. Mark level) → Quiet P s (record s { stack = record st { goals = rest } })
+unfolding turn meet cases_of
+quiet-commit P s st level rest at commit o = record {
+  used = refl;
+  limit = refl;
+  places = refl;
+  turned = λ left answers few.
+      let gs : List Element = goals_of s.stack rest in
+      at_place P (record s { stack = record st { goals = rest } }) (record { goals = gs; variables = s.stack.heap.count }) at (ap₂ (λ h ls. place_at h ls rest) o.heap o.links) left answers
+      ∙ ap (λ cs. record { mode = At (record { goals = gs; variables = s.stack.heap.count }); cases = cs; run = record { steps = left; answers = answers; local = local_of s } }) (o.cases (clauses_for P))
+      ∙ sym (ap (turn P) (at_place P s (record { goals = Commit level ∷ gs; variables = s.stack.heap.count }) at (ap (λ xs. record { goals = map (element s.stack.heap) xs; variables = s.stack.heap.count }) commit.items) left answers));
+  goes = λ r is no. not_back s r at is;
+}
+
+pub quiet-retry : (P : Program) (s : Solver) (st : State) → s.mode ≡ modes.Back outcomes.Fail → Retries (clauses_for P) s.stack st → Quiet P s (record s { stack = st; mode = modes.Visit })
+unfolding turn
+quiet-retry P s st at r = record {
+  used = refl;
+  limit = refl;
+  places = refl;
+  turned = λ left answers few.
+      at_place P (record s { stack = st; mode = modes.Visit }) (place_of st) refl refl left answers
+      ∙ ap (λ cs. record { mode = At (place_of st); cases = cs; run = record { steps = left; answers = answers; local = local_of s } }) r.cases
+      ∙ sym (ap (turn P) (carried P s outcomes.Fail (Choice (place_of st ∷ r.others) ∷ r.older) at r.was left answers));
+  goes = λ x is no. some_case _ _ _ r.was no;
+}
+
+pub quiet-close : (P : Program) (s : Solver) (st : State) → s.mode ≡ modes.Back outcomes.Fail → cases_of (clauses_for P) s.stack ≡ Choice [] ∷ cases_of (clauses_for P) st → Quiet P s (record s { stack = st })
+unfolding turn
+quiet-close P s st at was = record {
+  used = refl;
+  limit = refl;
+  places = refl;
+  turned = λ left answers few.
+      carried P (record s { stack = st }) outcomes.Fail (cases_of (clauses_for P) st) at refl left answers
+      ∙ sym (ap (turn P) (carried P s outcomes.Fail (Choice [] ∷ cases_of (clauses_for P) st) at was left answers));
+  goes = λ x is no. some_case _ _ _ was no;
+}
+
+mark-result : (l : ℕ) (r : Outcome) → result_of (marked_result l r) ≡ mark l (result_of r)
+mark-result l outcomes.Fail = refl
+mark-result l outcomes.Stop = refl
+mark-result l (outcomes.CutTo k) = refl
+mark-result l (outcomes.Throw t) = refl
+mark-result l outcomes.Spent = refl
+
+pub quiet-mark : (P : Program) (s new : Solver) (st : State) (l : ℕ) → (s.mode ≡ modes.Visit → ⊥) → cases_of (clauses_for P) s.stack ≡ Mark l ∷ cases_of (clauses_for P) st →
+    new ≡ record s { stack = st; mode = marked l s.mode } → Quiet P s new
+unfolding turn
+quiet-mark P s new st l back was is = rw is (go s.mode refl)
+  where
+    go : (m : Going) → s.mode ≡ m → Quiet P s (record s { stack = st; mode = marked l m })
+    go modes.Visit e = absurd (back e)
+    go (modes.Back r) e = record {
+      used = refl;
+      limit = refl;
+      places = refl;
+      turned = λ left answers few.
+          carried P (record s { stack = st; mode = modes.Back (marked_result l r) }) (marked_result l r) (cases_of (clauses_for P) st) refl refl left answers
+          ∙ ap (λ x. record { mode = Back x; cases = cases_of (clauses_for P) st; run = record { steps = left; answers = answers; local = local_of s } }) (mark-result l r)
+          ∙ sym (ap (turn P) (carried P s r (Mark l ∷ cases_of (clauses_for P) st) e was left answers));
+      goes = λ x is no. some_case _ _ _ was no;
+    }
+
+cut-result : (P : Program) (d : ℕ) (r : Outcome) (ps : List Place) (cases : List Case) (run : Run) → deeper cases 0 ≡ d → (r ≡ outcomes.Fail → ps ≡ []) →
+    ◌≡◌ {A = Machine} (record { mode = Back (result_of (stopped_result d r)); cases = cases; run = run }) (turn P (record { mode = Back (result_of r); cases = Choice ps ∷ cases; run = run }))
+unfolding turn
+cut-result P d outcomes.Fail ps cases run is none = rw (none refl) refl
+cut-result P d outcomes.Stop [] cases run is none = refl
+cut-result P d outcomes.Stop (p ∷ ps) cases run is none = refl
+cut-result P d (outcomes.CutTo l) [] cases run is none = rw is (cuts (nat_eq l d))
+  where
+    cuts : (b : Bool) → ◌≡◌ {A = Machine} (record { mode = Back (result_of (fail_if b l)); cases = cases; run = run }) (record { mode = Back (stop_cut_if b l); cases = cases; run = run })
+    cuts true = refl
+    cuts false = refl
+cut-result P d (outcomes.CutTo l) (p ∷ ps) cases run is none = rw is (cuts (nat_eq l d))
+  where
+    cuts : (b : Bool) → ◌≡◌ {A = Machine} (record { mode = Back (result_of (fail_if b l)); cases = cases; run = run }) (record { mode = Back (stop_cut_if b l); cases = cases; run = run })
+    cuts true = refl
+    cuts false = refl
+cut-result P d (outcomes.Throw t) [] cases run is none = refl
+cut-result P d (outcomes.Throw t) (p ∷ ps) cases run is none = refl
+cut-result P d outcomes.Spent [] cases run is none = refl
+cut-result P d outcomes.Spent (p ∷ ps) cases run is none = refl
+
+pub quiet-choice : (P : Program) (s new : Solver) (st : State) (ps : List Place) → (s.mode ≡ modes.Visit → ⊥) → cases_of (clauses_for P) s.stack ≡ Choice ps ∷ cases_of (clauses_for P) st →
+    (s.mode ≡ modes.Back outcomes.Fail → ps ≡ []) → new ≡ record s { stack = st; mode = cut_stopped (deeper (cases_of (clauses_for P) st) 0) s.mode } → Quiet P s new
+quiet-choice P s new st ps back was none is = rw is (go s.mode refl)
+  where
+    go : (m : Going) → s.mode ≡ m → Quiet P s (record s { stack = st; mode = cut_stopped (deeper (cases_of (clauses_for P) st) 0) m })
+    go modes.Visit e = absurd (back e)
+    go (modes.Back r) e = record {
+      used = refl;
+      limit = refl;
+      places = refl;
+      turned = λ left answers few.
+          let d : ℕ = deeper (cases_of (clauses_for P) st) 0 in
+          carried P (record s { stack = st; mode = modes.Back (stopped_result d r) }) (stopped_result d r) (cases_of (clauses_for P) st) refl refl left answers
+          ∙ cut-result P d r ps (cases_of (clauses_for P) st) (record { steps = left; answers = answers; local = local_of s }) refl (λ f. none (e ∙ ap modes.Back f))
+          ∙ sym (ap (turn P) (carried P s r (Choice ps ∷ cases_of (clauses_for P) st) e was left answers));
+      goes = λ x is no. some_case _ _ _ was no;
+    }
+
+pub over-now : (P : Program) (s : Solver) → (s.mode ≡ modes.Visit → ⊥) → cases_of (clauses_for P) s.stack ≡ [] → IsOver P s
+over-now P s back none = go s.mode refl
+  where
+    go : (m : Going) → s.mode ≡ m → IsOver P s
+    go modes.Visit e = absurd (back e)
+    go (modes.Back r) e = (r, e, none)
+
+-- with a result the list that is visited does not matter
+pub stays-back : (P : Program) (s : Solver) (st : State) (r : Outcome) → s.mode ≡ modes.Back r → cases_of (clauses_for P) st ≡ cases_of (clauses_for P) s.stack → Stays P s (record s { stack = st })
+stays-back P s st r at same = record {
+  used = refl;
+  limit = refl;
+  places = refl;
+  out = refl;
+  same = λ left answers. carried P (record s { stack = st }) r (cases_of (clauses_for P) s.stack) at same left answers ∙ sym (carried P s r (cases_of (clauses_for P) s.stack) at refl left answers);
+}
+
+pub not_both : {A B : Type 0} (b : Bool) → (IsTrue b ↔ (A × B)) → b ≡ false → A → B → ⊥
+not_both b iff is x y = grind (arith, is, iff.1 (x, y))

@@ -1,0 +1,21 @@
+use Rattle.std.proofs.Common.{refl}
+use Rattle.plload.specs.Program.{clauses_for}
+use Rattle.plsolve.specs.Solver.{Settled}
+use Rattle.plsolve.proofs.Quiets.{quiet-mark, quiet-choice, over-now, not_both}
+use Rattle.plsolve.proofs.solver.Solver.back.Goals as goal
+
+pub returns-in-None-clause-due : goal.returns-in-None-clause-due
+unfolding Settled
+returns-in-None-clause-due c = rw c.in-None.ensures.same (over-now c.args.program.now c.args.self.now c.requires (c.in-None.ensures.none (clauses_for c.args.program.now)), refl)
+
+pub returns-in-Some-Mark-clause-on : goal.returns-in-Some-Mark-clause-on
+returns-in-Some-Mark-clause-on c =
+    let closed = (rw c.in-Some-Mark.field-0-is at c.in-Some-Mark.ensures.some) (clauses_for c.args.program.now) in
+    quiet-mark c.args.program.now c.args.self.now c.pass_mark.new.self c.close.new.self c.in-Some-Mark.level c.requires closed c.pass_mark.ensures
+
+pub returns-in-Some-Choice-clause-on : goal.returns-in-Some-Choice-clause-on
+returns-in-Some-Choice-clause-on c =
+    let closed = (rw c.in-Some-Choice.field-0-is at c.in-Some-Choice.ensures.some) (clauses_for c.args.program.now) in
+    quiet-choice c.args.program.now c.args.self.now c.stop_cut.new.self c.close.new.self closed.0 c.requires closed.1
+    (λ f. closed.2 (λ has. not_both c.retries.result c.retries.ensures c.if-retries.false f has))
+    (c.stop_cut.ensures (clauses_for c.args.program.now))

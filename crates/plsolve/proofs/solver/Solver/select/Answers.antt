@@ -1,0 +1,45 @@
+use Rattle.std.proofs.Common.{ap, refl}
+use Rattle.plsearch.specs.Table.{row}
+use Rattle.plload.specs.Program.{clauses_for}
+use Rattle.plframe.specs.State.{cases_of}
+use Rattle.plframe.proofs.Stacks.{extends-same}
+use Rattle.plsolve.proofs.Moves.{visits, gives}
+use Rattle.plsolve.specs.Solver.{local_of}
+use Rattle.plsolve.specs.declared.solver.Outcome.TheVariants as outcomes
+use Rattle.plsolve.proofs.solver.Solver.select.Goals as goal
+
+pub returns-in-True-clause-ok : goal.returns-in-True-clause-ok
+unfolding row
+returns-in-True-clause-ok c =
+    let s = c.args.self.now in
+    rw c.in-True.is (visits c.args.program.now s s.stack c.args.rest 1 _ s.out.items c.go_on.new.self (extends-same s.stack) refl refl (ap (λ x. x.used) c.go_on.ensures) (ap (λ x. x.limit) c.go_on.ensures) (ap (λ x. x.places.items) c.go_on.ensures) (ap (λ x. x.mode) c.go_on.ensures) (ap (λ x. x.stack) c.go_on.ensures) (ap (λ x. x.out.items) c.go_on.ensures))
+
+pub returns-in-NoGoal-clause-ok : goal.returns-in-NoGoal-clause-ok
+unfolding row
+returns-in-NoGoal-clause-ok c =
+    let s = c.args.self.now in
+    rw c.in-NoGoal.is (gives c.args.program.now s c.give.new.self outcomes.Fail (local_of s) 1 (ap (λ x. x.used) c.give.ensures) (ap (λ x. x.limit) c.give.ensures) (ap (λ x. x.places.items) c.give.ensures) (ap (λ x. x.mode) c.give.ensures) (ap (λ x. cases_of (clauses_for c.args.program.now) x.stack) c.give.ensures) (ap (λ x. record { out = x.out.items }) c.give.ensures))
+
+pub returns-in-Both-clause-ok : goal.returns-in-Both-clause-ok
+unfolding row
+returns-in-Both-clause-ok c = rw c.in-Both.is c.both.ensures.ok
+
+pub returns-in-Once-clause-ok : goal.returns-in-Once-clause-ok
+unfolding row
+returns-in-Once-clause-ok c = rw c.in-Once.is c.once.ensures.ok
+
+pub returns-in-Write-clause-ok : goal.returns-in-Write-clause-ok
+unfolding row
+returns-in-Write-clause-ok c = rw c.in-Write.is c.write.ensures.ok
+
+pub returns-in-Newline-clause-ok : goal.returns-in-Newline-clause-ok
+unfolding row
+returns-in-Newline-clause-ok c = rw c.in-Newline.is c.write_bytes.ensures.ok
+
+pub returns-in-AddLast-clause-ok : goal.returns-in-AddLast-clause-ok
+unfolding row
+returns-in-AddLast-clause-ok c = rw c.in-AddLast.is c.add_last.ensures.ok
+
+pub returns-in-Call-clause-ok : goal.returns-in-Call-clause-ok
+unfolding row
+returns-in-Call-clause-ok c = rw c.in-Call.is c.call.ensures.ok

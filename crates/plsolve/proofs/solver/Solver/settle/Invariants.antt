@@ -1,0 +1,16 @@
+use Rattle.std.proofs.Common.{◌≡◌}
+use Rattle.plsearch.specs.Solving.{Goes}
+use Rattle.plsolve.specs.Solver.{rest_of}
+use Rattle.plsolve.proofs.Runs.{load}
+use Rattle.plsolve.proofs.solver.Solver.settle.Given as goal
+
+abbrev pub invariant-loop-due : goal.invariant-loop-due
+invariant-loop-due l = record {
+  goes : Goes l.fn.self.limit (rest_of l.program l.fn.self) l.fn.self.used (rest_of l.program l.self) l.self.used;
+  used : l.self.used ≡ l.fn.self.used;
+  limit : l.self.limit ≡ l.fn.self.limit;
+  places : l.self.places.items ≡ l.fn.self.places.items;
+}
+
+abbrev pub decreases-loop-due : goal.decreases-loop-due
+decreases-loop-due l = load l.program l.self

@@ -1,0 +1,174 @@
+-- What a solver stands for.
+use Rattle.std.specs.Prelude.{◌≡◌, ℕ, ◌+◌, ◌-◌, ◌<◌, ◌≤◌, Bool, true, false, List, [], ◌∷◌, length, min, nat_eq}
+use Rattle.plterm.specs.Tree.{Tree, var, int, atom, compound}
+use Rattle.plterm.specs.Variables.{copied, variables}
+use Rattle.plclause.specs.Clause.{Clause}
+use Rattle.plheap.specs.Store.{term}
+use Rattle.plsearch.specs.Table.{Runnable, Runs, Raises, runnable}
+use Rattle.plsearch.specs.Types.{Goal as GoalOf}
+use Rattle.plevent.specs.Search.{Answer, Ending, Search}
+use Rattle.plload.specs.Program.{Program, clauses_for}
+use Rattle.plsearch.specs.Types.{Result, Stop, Fail, CutTo, Throw, Spent, Local, Move}
+use Rattle.plsearch.specs.Engine.{deeper}
+use Rattle.plsearch.specs.Machine.{Mode, At, Back, Machine, Rest, move, turn}
+use Rattle.plsearch.specs.Solving.{Goes}
+use Rattle.plsearch.specs.Search.{ending_of, once, start_from}
+use Rattle.plframe.specs.Places.{Statics}
+use Rattle.plframe.specs.State.{State, place_of, cases_of, goals_of, IsList}
+use Rattle.plsolve.specs.Heads.{AtGoal, AtLook, AtAwait}
+use Rattle.plsolve.specs.declared.rows.Ready.{Ready}
+use Rattle.plsolve.specs.declared.rows.Ready.TheVariants as readies
+use Rattle.plsolve.specs.declared.solver.Due.{Due}
+use Rattle.plsolve.specs.declared.solver.Due.TheVariants as dues
+use Rattle.plsolve.specs.declared.solver.Outcome.{Outcome}
+use Rattle.plsolve.specs.declared.solver.Outcome.TheVariants as outcomes
+use Rattle.plsolve.specs.declared.solver.Mode.{Mode as Going}
+use Rattle.plsolve.specs.declared.solver.Mode.TheVariants as modes
+use Rattle.plsolve.specs.declared.solver.Solver.{Solver}
+
+-- nothing catches a ball, so the levels of the markers behind it are left out
+abbrev pub result_of : Outcome → Result
+result_of outcomes.Stop = Stop
+result_of outcomes.Fail = Fail
+result_of (outcomes.CutTo l) = CutTo l
+result_of (outcomes.Throw t) = Throw t []
+result_of outcomes.Spent = Spent
+
+abbrev pub mode_of : Going → State → Mode
+mode_of modes.Visit s = At (place_of s)
+mode_of (modes.Back r) s = Back (result_of r)
+
+abbrev pub local_of : Solver → Local
+local_of s = record { out = s.out.items }
+
+-- the machine that a solver is, with so many steps and these answers left
+unfoldable pub machine : Program → ℕ → List Answer → Solver → Machine
+machine P left answers s = record {
+  mode = mode_of s.mode s.stack;
+  cases = cases_of (clauses_for P) s.stack;
+  run = record { steps = left; answers = answers; local = local_of s };
+}
+
+-- the rest of its search, by a limit of steps from the start and the answers to come
+unfoldable pub rest_of : Program → Solver → Search
+unfolding machine
+rest_of P s n answers = ending_of (min n s.limit) (Rest P (machine P (min n s.limit - s.used) answers s))
+
+abbrev pub depth_of : Program → Solver → ℕ
+depth_of P s = deeper (cases_of (clauses_for P) s.stack) 0
+
+-- what the search ends with from here, and after a move
+abbrev pub now : Program → Solver → ℕ → ℕ → List Answer → Ending
+now P s most left answers = ending_of most (Rest P (machine P left answers s))
+
+abbrev pub after : Program → Solver → ℕ → ℕ → List Answer → Move → Ending
+after P s most left answers m = ending_of most (Rest P (move (cases_of (clauses_for P) s.stack) (record { steps = left; answers = answers; local = local_of s }) m))
+
+-- it made a move that took so many steps
+pub record Moved (P : Program) (old new : Solver) (m : Move) (cost : ℕ) : Type 0 where
+  pub used : new.used ≡ old.used + cost
+  pub limit : new.limit ≡ old.limit
+  pub places : new.places.items ≡ old.places.items
+  pub ends : (most left : ℕ) (answers : List Answer) → after P old most left answers m ≡ now P new most left answers
+
+-- it stands where it stood
+pub record Stays (P : Program) (old new : Solver) : Type 0 where
+  pub used : new.used ≡ old.used
+  pub limit : new.limit ≡ old.limit
+  pub places : new.places.items ≡ old.places.items
+  pub out : new.out.items ≡ old.out.items
+  pub same : (left : ℕ) (answers : List Answer) → machine P left answers new ≡ machine P left answers old
+
+abbrev pub is_var : Tree → Bool
+is_var (var x) = true
+is_var (int i) = false
+is_var (atom f) = false
+is_var (compound f ts) = false
+
+-- what a term comes to as a goal, in a heap that may have grown
+abbrev pub ready_as : Solver → Ready → Runnable
+ready_as s (readies.Runs c) = Runs (term s.stack.heap c)
+ready_as s (readies.Raises e) = Raises e
+
+abbrev pub ReadyWithin : Solver → Ready → Type 0
+ReadyWithin s (readies.Runs c) = c < length s.stack.heap.cells
+ReadyWithin s (readies.Raises e) = Unit {0}
+
+pub record Readies (old new : Solver) (goal : ℕ) (r : Ready) : Type 0 where
+  pub is : runnable (term old.stack.heap goal) ≡ ready_as new r
+  pub within : ReadyWithin new r
+
+-- a turn without a step
+pub record Quiet (P : Program) (old new : Solver) : Type 0 where
+  pub used : new.used ≡ old.used
+  pub limit : new.limit ≡ old.limit
+  pub places : new.places.items ≡ old.places.items
+  pub turned : (left : ℕ) (answers : List Answer) → left + old.used ≤ old.limit → machine P left answers new ≡ turn P (machine P left answers old)
+  pub goes : (r : Result) → mode_of old.mode old.stack ≡ Back r → cases_of (clauses_for P) old.stack ≡ [] → ⊥
+
+-- it carries a result, and no case is open
+abbrev pub IsOver : Program → Solver → Type 0
+IsOver P s = (r : Outcome) × (s.mode ≡ modes.Back r) × (cases_of (clauses_for P) s.stack ≡ [])
+
+-- a goal waits for a view, or a clause until it is published
+abbrev pub WaitsForView : Solver → Type 0
+WaitsForView s = (s.mode ≡ modes.Visit) × (cell : ℕ) × (rest : ℕ) × AtLook s.stack cell rest
+
+abbrev pub WaitsToPublish : Solver → Type 0
+WaitsToPublish s = (s.mode ≡ modes.Visit) × (c : Clause) × (rest : ℕ) × AtAwait s.stack c rest
+
+unfoldable pub Settled : Program → Solver → Due → Type 0
+Settled P s (dues.Goal level cell rest) = (s.mode ≡ modes.Visit) × AtGoal s.stack level cell rest × (s.used + 1 ≤ s.limit)
+Settled P s (dues.Look cell rest) = WaitsForView s
+Settled P s (dues.Await rest) = WaitsToPublish s
+Settled P s dues.Over = IsOver P s
+
+-- a step was taken
+pub record Stepped (P : Program) (old new : Solver) : Type 0 where
+  pub goes : Goes old.limit (rest_of P old) old.used (rest_of P new) new.used
+  pub used : new.used ≡ old.used + 1
+  pub limit : new.limit ≡ old.limit
+  pub places : new.places.items ≡ old.places.items
+
+abbrev pub marked_result : ℕ → Outcome → Outcome
+marked_result l outcomes.Fail = outcomes.CutTo l
+marked_result l outcomes.Stop = outcomes.Stop
+marked_result l (outcomes.CutTo k) = outcomes.CutTo k
+marked_result l (outcomes.Throw t) = outcomes.Throw t
+marked_result l outcomes.Spent = outcomes.Spent
+
+abbrev pub marked : ℕ → Going → Going
+marked l modes.Visit = modes.Visit
+marked l (modes.Back r) = modes.Back (marked_result l r)
+
+abbrev pub fail_if : Bool → ℕ → Outcome
+fail_if true l = outcomes.Fail
+fail_if false l = outcomes.CutTo l
+
+abbrev pub stopped_result : ℕ → Outcome → Outcome
+stopped_result d outcomes.Fail = outcomes.Fail
+stopped_result d outcomes.Stop = outcomes.Stop
+stopped_result d (outcomes.CutTo l) = fail_if (nat_eq l d) l
+stopped_result d (outcomes.Throw t) = outcomes.Throw t
+stopped_result d outcomes.Spent = outcomes.Spent
+
+abbrev pub cut_stopped : ℕ → Going → Going
+cut_stopped d modes.Visit = modes.Visit
+cut_stopped d (modes.Back r) = modes.Back (stopped_result d r)
+
+-- a stack with nothing on it
+abbrev pub empty : State
+empty = record { heap = record { cells = []; trail = []; count = 0 }; links = []; frames = []; goals = 0 }
+
+-- a list of goals, each once, and no case is open
+pub record Starts (s : State) (list : ℕ) (goals : List Tree) : Type 0 where
+  pub list_there : IsList s list
+  pub place : record { goals = goals_of s list; variables = s.heap.count } ≡ start_from goals
+  pub cases : (statics : Statics) → cases_of statics s ≡ []
+
+-- one more goal before a list
+pub record StartsGoal (old new : State) (list made : ℕ) (g : Tree) : Type 0 where
+  pub list_there : IsList new made
+  pub goals : goals_of new made ≡ GoalOf 0 (once (copied old.heap.count g)) ∷ goals_of old list
+  pub count : new.heap.count ≡ old.heap.count + length (variables g)
+  pub cases : (statics : Statics) → cases_of statics new ≡ cases_of statics old

@@ -1,0 +1,36 @@
+//! The first member of the list that a stack visits.
+
+ghost use Rattle.plsolve.specs.Heads.{IsHead};
+
+use plframe::frame::Item;
+use plframe::stack::Stack;
+
+/// The first member of a list, and the list behind it.
+#[derive(Clone, Copy)]
+pub enum Head {
+    /// The list is empty.
+    Nothing,
+    /// A goal: its cut level, and its cell.
+    Goal(u32, u32, u32),
+    /// A mark of a level.
+    Commit(u32, u32),
+    /// The goal of a cell waits for a view.
+    Look(u32, u32),
+    /// A clause waits until it is published.
+    Await(u32),
+}
+
+/// The first member of the list that a stack visits.
+pub fn head_of(stack: &Stack) -> Head
+    ensures { IsHead stack.now result }
+{
+    let Some(link) = stack.first() else {
+        return Head::Nothing;
+    };
+    match &link.item {
+        Item::Goal(level, cell) => Head::Goal(*level, *cell, link.next),
+        Item::Commit(level) => Head::Commit(*level, link.next),
+        Item::Look(cell) => Head::Look(*cell, link.next),
+        Item::Await(_) => Head::Await(link.next),
+    }
+}

@@ -1,0 +1,343 @@
+//! The rows of the table of control: what each form of goal makes of a solver (ISO/IEC 13211-1 7.8).
+//!
+//! A row that is refused memory leaves the search where it was.
+ghost use Rattle.std.specs.Prelude.{◌≡◌, ◌+◌, ◌<◌, ◌≤◌, ℕ, [], ◌∷◌, ◌++◌, length, IfOk, OnOk, OnErr};
+ghost use Rattle.plheap.specs.Store.{term};
+ghost use Rattle.plops.specs.Given.{iso_table};
+ghost use Rattle.plwrite.specs.Writing.{written};
+ghost use Rattle.plwrite.specs.declared.style.Style.TheVariants.{Plain};
+ghost use Rattle.plclause.specs.Clausal.{clausal};
+ghost use Rattle.plclause.specs.Indicators.{indicator};
+ghost use Rattle.plload.specs.Program.{clauses_for};
+ghost use Rattle.plsearch.specs.Types.{Goal, Commit, Go, Choice};
+ghost use Rattle.plsearch.specs.Table.{run, runnable, Runnable, once_1, assertz_1, raised, add, add_if, is_static, call, user, row};
+ghost use Rattle.plframe.specs.Places.{clauses_in, element, IsItemIn};
+ghost use Rattle.plframe.specs.State.{goals_of, IsList, Extends};
+ghost use Rattle.plsolve.specs.Controls.{shown_control, IsInside};
+ghost use Rattle.plsolve.specs.Solver.{local_of, depth_of, Moved, Stays, Readies, is_var};
+
+use crate::control::Control;
+use crate::error;
+use crate::solver::{Mode, Outcome, Solver};
+use plclause::clause::Clause;
+use plclause::form::{ClauseForm, clause_of};
+use plframe::frame::{Item, Source};
+use plheap::cell::Cell;
+use plheap::heap::Heap;
+use plload::fixed::is_fixed;
+use plload::program::Program;
+use plops::table::OpTable;
+use plterm::indicator::Indicator;
+use plterm::term::Term;
+use plwrite::style::Style;
+use plwrite::write::write_term;
+use std::alloc::AllocError;
+
+/// A term that is to be run as a goal.
+#[derive(Drop)]
+pub enum Ready {
+    /// It is the goal of a cell.
+    Runs(u32),
+    /// It is none: the error.
+    Raises(Term),
+}
+
+/// Whether a procedure is static.
+fn is_static_procedure(program: &Program, p: &Indicator) -> bool
+    ensures { result ≡ is_static program.now p.now }
+{
+    is_fixed(p) || !program.clauses_of(p).is_empty()
+}
+
+impl Solver {
+    /// Visits a list.
+    pub(crate) fn go_on(&mut self, list: u32, cost: u64)
+        requires list { IsList self.old.stack list }
+        requires left { self.old.used + cost ≤ self.old.limit }
+        ensures { self.new ≡ record self.old { stack = record self.old.stack { goals = list }; mode = Mode.Visit; used = self.old.used + cost } }
+    {
+        self.stack.visit(list);
+        self.mode = Mode::Visit;
+        self.used += cost;
+    }
+
+    /// Carries a result.
+    pub(crate) fn give(&mut self, outcome: Outcome, cost: u64)
+        requires { self.old.used + cost ≤ self.old.limit }
+        ensures { self.new ≡ record self.old { mode = Mode.Back outcome; used = self.old.used + cost } }
+    {
+        self.mode = Mode::Back(outcome);
+        self.used += cost;
+    }
+
+    /// Raises an error of a predicate.
+    pub(crate) fn raise(
+        &mut self,
+        program: &Program,
+        error: Term,
+        p: &Indicator,
+        rest: u32,
+        cost: u64,
+    ) -> Result<(), AllocError>
+        requires { self.old.used + cost ≤ self.old.limit }
+        ensures ok { OnOk result (Moved program.now self.old self.new (raised error p.now (goals_of self.old.stack rest) (local_of self.old)) cost) }
+        ensures err { OnErr result (Stays program.now self.old self.new) }
+    {
+        let ball = error::ball(self.alloc, error, p)?;
+        self.give(Outcome::Throw(ball), cost);
+        Ok(())
+    }
+
+    /// A conjunction.
+    fn both(
+        &mut self,
+        program: &Program,
+        level: u32,
+        a: u32,
+        b: u32,
+        rest: u32,
+    ) -> Result<(), AllocError>
+        requires first { a < length self.old.stack.heap.cells }
+        requires second { b < length self.old.stack.heap.cells }
+        requires rest { IsList self.old.stack rest }
+        requires left { self.old.used + 1 ≤ self.old.limit }
+        ensures ok { OnOk result (Moved program.now self.old self.new (Go [] (record { goals = Goal level (term self.old.stack.heap a) ∷ Goal level (term self.old.stack.heap b) ∷ goals_of self.old.stack rest; variables = self.old.stack.heap.count }) (local_of self.old)) 1) }
+        ensures err { OnErr result (Stays program.now self.old self.new) }
+    {
+        let behind = self.stack.link(Item::Goal(level, b), rest)?;
+        let list = self.stack.link(Item::Goal(level, a), behind)?;
+        self.go_on(list, 1);
+        Ok(())
+    }
+
+    /// A member before a list.
+    fn push(&mut self, program: &Program, item: Item, rest: u32) -> Result<(), AllocError>
+        requires inside { IsItemIn (length self.old.stack.heap.cells) item }
+        requires rest { IsList self.old.stack rest }
+        requires left { self.old.used + 1 ≤ self.old.limit }
+        ensures ok { OnOk result (Moved program.now self.old self.new (Go [] (record { goals = element self.old.stack.heap item ∷ goals_of self.old.stack rest; variables = self.old.stack.heap.count }) (local_of self.old)) 1) }
+        ensures err { OnErr result (Stays program.now self.old self.new) }
+    {
+        let list = self.stack.link(item, rest)?;
+        self.go_on(list, 1);
+        Ok(())
+    }
+
+    /// Writes bytes, and goes on.
+    fn write_bytes(&mut self, program: &Program, bytes: &[u8], rest: u32) -> Result<(), AllocError>
+        requires rest { IsList self.old.stack rest }
+        requires left { self.old.used + 1 ≤ self.old.limit }
+        ensures ok { OnOk result (Moved program.now self.old self.new (Go [] (record { goals = goals_of self.old.stack rest; variables = self.old.stack.heap.count }) (record { out = (local_of self.old).out ++ bytes.now })) 1) }
+        ensures err { OnErr result (Stays program.now self.old self.new) }
+    {
+        self.out.extend_from_slice(bytes)?;
+        self.go_on(rest, 1);
+        Ok(())
+    }
+
+    /// write/1.
+    fn write(&mut self, program: &Program, a: u32, rest: u32) -> Result<(), AllocError>
+        requires a { a < length self.old.stack.heap.cells }
+        requires rest { IsList self.old.stack rest }
+        requires left { self.old.used + 1 ≤ self.old.limit }
+        ensures ok { OnOk result (Moved program.now self.old self.new (Go [] (record { goals = goals_of self.old.stack rest; variables = self.old.stack.heap.count }) (record { out = (local_of self.old).out ++ written iso_table Plain (term self.old.stack.heap a) })) 1) }
+        ensures err { OnErr result (Stays program.now self.old self.new) }
+    {
+        let term = self.stack.heap().take(self.alloc, a)?;
+        let operators = OpTable::iso(self.alloc)?;
+        let text = write_term(self.alloc, &term, &operators, Style::Plain)?;
+        self.write_bytes(program, &text, rest)
+    }
+
+    /// assertz/1.
+    fn add_last(&mut self, program: &Program, c: u32, rest: u32) -> Result<(), AllocError>
+        requires a { c < length self.old.stack.heap.cells }
+        requires rest { IsList self.old.stack rest }
+        requires left { self.old.used + 1 ≤ self.old.limit }
+        ensures ok { OnOk result (Moved program.now self.old self.new (add program.now (clausal (term self.old.stack.heap c)) (goals_of self.old.stack rest) self.old.stack.heap.count (local_of self.old)) 1) }
+        ensures err { OnErr result (Stays program.now self.old self.new) }
+    {
+        let term = self.stack.heap().take(self.alloc, c)?;
+        let p = error::predicate(self.alloc, "assertz")?;
+        match clause_of(self.alloc, &term)? {
+            ClauseForm::NoHead => {
+                let error = error::instantiation(self.alloc)?;
+                self.raise(program, error, &p, rest, 1)
+            }
+            ClauseForm::BadHead(head) => {
+                let error = error::not_callable(self.alloc, head)?;
+                self.raise(program, error, &p, rest, 1)
+            }
+            ClauseForm::BadBody(body) => {
+                let error = error::not_callable(self.alloc, body)?;
+                self.raise(program, error, &p, rest, 1)
+            }
+            ClauseForm::IsClause(clause) => self.add_clause(program, clause, &p, rest),
+        }
+    }
+
+    /// A clause is added last, unless its procedure is static.
+    fn add_clause(
+        &mut self,
+        program: &Program,
+        clause: Clause,
+        p: &Indicator,
+        rest: u32,
+    ) -> Result<(), AllocError>
+        requires p { p.now ≡ assertz_1 }
+        requires rest { IsList self.old.stack rest }
+        requires left { self.old.used + 1 ≤ self.old.limit }
+        ensures ok { OnOk result (Moved program.now self.old self.new (add_if (is_static program.now (indicator clause.head)) clause (goals_of self.old.stack rest) self.old.stack.heap.count (local_of self.old)) 1) }
+        ensures err { OnErr result (Stays program.now self.old self.new) }
+    {
+        let procedure = clause.indicator()?;
+        if is_static_procedure(program, &procedure) {
+            let error = error::is_static(self.alloc, &procedure)?;
+            return self.raise(program, error, p, rest, 1);
+        }
+        self.push(program, Item::Await(clause), rest)
+    }
+
+    /// A goal is resolved against clauses.
+    pub(crate) fn resolve(
+        &mut self,
+        program: &Program,
+        cell: u32,
+        rest: u32,
+        source: Source,
+        cost: u64,
+    ) -> Result<(), AllocError>
+        requires cell { cell < length self.old.stack.heap.cells }
+        requires rest { IsList self.old.stack rest }
+        requires left { self.old.used + cost ≤ self.old.limit }
+        ensures ok { OnOk result (Moved program.now self.old self.new (call (depth_of program.now self.old) self.old.stack.heap.count (term self.old.stack.heap cell) (goals_of self.old.stack rest) (clauses_in (clauses_for program.now) source) (local_of self.old)) cost) }
+        ensures err { OnErr result (Stays program.now self.old self.new) }
+    {
+        if self.stack.call(program, cell, rest, source)? {
+            self.mode = Mode::Visit;
+            self.used += cost;
+            return Ok(());
+        }
+        self.give(Outcome::Fail, cost);
+        Ok(())
+    }
+
+    /// A call of a procedure.
+    fn call(
+        &mut self,
+        program: &Program,
+        p: Indicator,
+        cell: u32,
+        rest: u32,
+    ) -> Result<(), AllocError>
+        requires cell { cell < length self.old.stack.heap.cells }
+        requires rest { IsList self.old.stack rest }
+        requires left { self.old.used + 1 ≤ self.old.limit }
+        ensures ok { OnOk result (Moved program.now self.old self.new (user (clauses_for program.now p) (depth_of program.now self.old) (term self.old.stack.heap cell) (goals_of self.old.stack rest) self.old.stack.heap.count (local_of self.old)) 1) }
+        ensures err { OnErr result (Stays program.now self.old self.new) }
+    {
+        if program.clauses_of(&p).is_empty() {
+            return self.push(program, Item::Look(cell), rest);
+        }
+        self.resolve(program, cell, rest, Source::Procedure(p), 1)
+    }
+
+    /// once/1.
+    fn once(&mut self, program: &Program, goal: u32, rest: u32) -> Result<(), AllocError>
+        requires goal { goal < length self.old.stack.heap.cells }
+        requires rest { IsList self.old.stack rest }
+        requires left { self.old.used + 1 ≤ self.old.limit }
+        ensures ok { OnOk result (Moved program.now self.old self.new (run (runnable (term self.old.stack.heap goal)) once_1 (depth_of program.now self.old) (Commit (depth_of program.now self.old) ∷ goals_of self.old.stack rest) self.old.stack.heap.count (local_of self.old)) 1) }
+        ensures err { OnErr result (Stays program.now self.old self.new) }
+    {
+        match self.ready(goal)? {
+            Ready::Raises(error) => {
+                let p = error::predicate(self.alloc, "once")?;
+                self.raise(program, error, &p, rest, 1)
+            }
+            Ready::Runs(cell) => self.run_once(program, cell, rest),
+        }
+    }
+
+    /// Runs the goal of a cell once.
+    fn run_once(&mut self, program: &Program, cell: u32, rest: u32) -> Result<(), AllocError>
+        requires cell { cell < length self.old.stack.heap.cells }
+        requires rest { IsList self.old.stack rest }
+        requires left { self.old.used + 1 ≤ self.old.limit }
+        ensures ok { OnOk result (Moved program.now self.old self.new (Go (Choice [] ∷ []) (record { goals = Goal (depth_of program.now self.old) (term self.old.stack.heap cell) ∷ Commit (depth_of program.now self.old) ∷ goals_of self.old.stack rest; variables = self.old.stack.heap.count }) (local_of self.old)) 1) }
+        ensures err { OnErr result (Stays program.now self.old self.new) }
+    {
+        let level = self.stack.depth();
+        let behind = self.stack.link(Item::Commit(level), rest)?;
+        let list = self.stack.link(Item::Goal(level, cell), behind)?;
+        self.stack.open_plain()?;
+        self.go_on(list, 1);
+        Ok(())
+    }
+
+    /// What a term comes to as a goal.
+    fn ready(&mut self, goal: u32) -> Result<Ready, AllocError>
+        requires { goal < length self.old.stack.heap.cells }
+        ensures ok { IfOk result (λ r. Readies self.old self.new goal r) }
+        ensures stays { Extends self.old.stack self.new.stack }
+        ensures count { self.new.stack.heap.count ≡ self.old.stack.heap.count }
+        ensures frame { self.new ≡ record self.old { stack = self.new.stack } }
+    {
+        if is_variable(self.stack.heap(), goal) {
+            let error = error::instantiation(self.alloc)?;
+            return Ok(Ready::Raises(error));
+        }
+        match self.stack.goal_of(self.alloc, goal) {
+            Err(e) => Err(e),
+            Ok(Some(cell)) => Ok(Ready::Runs(cell)),
+            Ok(None) => {
+                let culprit = self.stack.heap().take(self.alloc, goal)?;
+                let error = error::not_callable(self.alloc, culprit)?;
+                Ok(Ready::Raises(error))
+            }
+        }
+    }
+
+    /// The row of a goal.
+    pub(crate) fn select(
+        &mut self,
+        program: &Program,
+        control: Control,
+        level: u32,
+        cell: u32,
+        rest: u32,
+    ) -> Result<(), AllocError>
+        requires cell { cell < length self.old.stack.heap.cells }
+        requires inside { IsInside self.old.stack.heap control }
+        requires rest { IsList self.old.stack rest }
+        requires left { self.old.used + 1 ≤ self.old.limit }
+        ensures ok { OnOk result (Moved program.now self.old self.new (row program.now (shown_control self.old.stack.heap control) level (term self.old.stack.heap cell) (depth_of program.now self.old) (goals_of self.old.stack rest) self.old.stack.heap.count (local_of self.old)) 1) }
+        ensures err { OnErr result (Stays program.now self.old self.new) }
+    {
+        match control {
+            Control::True => {
+                self.go_on(rest, 1);
+                Ok(())
+            }
+            Control::Both(a, b) => self.both(program, level, a, b, rest),
+            Control::Once(goal) => self.once(program, goal, rest),
+            Control::Write(a) => self.write(program, a, rest),
+            Control::Newline => self.write_bytes(program, b"\n", rest),
+            Control::AddLast(clause) => self.add_last(program, clause, rest),
+            Control::Call(p) => self.call(program, p, cell, rest),
+            Control::NoGoal => {
+                self.give(Outcome::Fail, 1);
+                Ok(())
+            }
+        }
+    }
+}
+
+/// Whether the term of a cell is a variable.
+fn is_variable(heap: &Heap, cell: u32) -> bool
+    requires { cell < length heap.now.cells }
+    ensures { result ≡ is_var (term heap.now cell) }
+{
+    let (_, node) = heap.root(cell);
+    matches!(node, Cell::Free(_))
+}

@@ -1,0 +1,501 @@
+//! The solver.
+
+ghost use Rattle.std.specs.Prelude.{◌≡◌, ◌+◌, ◌<◌, ◌≤◌, ◌↔◌, ℕ, List, [], ◌∷◌, ◌++◌, length, IfOk, OnOk, OnErr, IfSome, IfNone, IsNone, IsTrue, fold};
+ghost use Rattle.plheap.specs.Store.{term};
+ghost use Rattle.plclause.specs.Indicators.{indicator};
+ghost use Rattle.plevent.specs.Alive.{Stamped, before};
+ghost use Rattle.plevent.specs.Search.{Seen, Got, Finishes};
+ghost use Rattle.plevent.specs.declared.request.Reply.TheVariants.{Published as IsPublished};
+ghost use Rattle.plload.specs.Program.{clauses_for};
+ghost use Rattle.plstore.specs.Kept.{keep, nothing};
+ghost use Rattle.plstore.specs.Rising.{Rises};
+ghost use Rattle.plsearch.specs.Engine.{deeper};
+ghost use Rattle.plsearch.specs.Table.{walk_over};
+ghost use Rattle.plsearch.specs.Search.{search_of, next_of};
+ghost use Rattle.plsearch.specs.Solving.{Begins, Goes, TakesOne};
+ghost use Rattle.plframe.specs.Places.{Statics};
+ghost use Rattle.plframe.specs.State.{cases_of, goals_of, HasCall, IsList};
+ghost use Rattle.plsolve.specs.Heads.{AtGoal};
+ghost use Rattle.plsolve.specs.Solver.{local_of, depth_of, Moved, Stays, rest_of, result_of, Quiet, Settled, WaitsForView, WaitsToPublish, IsOver, Stepped, marked, cut_stopped, empty, Starts, StartsGoal};
+ghost use Rattle.plsolve.specs.Says.{Says, IsSlice};
+
+use crate::control::read_control;
+use crate::error;
+use crate::head::{Head, head_of};
+use plevent::request::{Reply, Request, ThreadEnd};
+use plevent::update::{Batch, Update};
+use plframe::frame::{Closed, Item, Source};
+use plframe::stack::Stack;
+use plheap::cell::Cell;
+use plheap::heap::Heap;
+use plload::program::Program;
+use plstore::store::Store;
+use plterm::indicator::Indicator;
+use plterm::name::Name;
+use plterm::term::Term;
+use std::alloc::{AllocError, Global};
+
+/// How the visit of a list ends.
+#[derive(Drop)]
+pub enum Outcome {
+    /// The list is done.
+    Stop,
+    /// It has no further solution.
+    Fail,
+    /// The choices down to a level are given up.
+    CutTo(u32),
+    /// A ball was thrown.
+    Throw(Term),
+    /// No step is left.
+    Spent,
+}
+
+/// What the solver does next: visit its list, or carry a result outward.
+#[derive(Drop)]
+pub enum Mode {
+    Visit,
+    Back(Outcome),
+}
+
+/// The search of a thread, which can stop and go on.
+#[derive(Drop)]
+pub struct Solver {
+    pub alloc: Global,
+    pub stack: Stack,
+    pub mode: Mode,
+    /// The steps taken.
+    pub used: u64,
+    /// The most steps.
+    pub limit: u64,
+    /// The bytes written.
+    pub out: Vec<u8>,
+    /// The places of the answers taken.
+    pub places: Vec<u64>,
+}
+
+/// What a call of a solver came to.
+#[derive(Drop)]
+pub enum Turn {
+    /// It asks a request.
+    Ask(Request),
+    /// It asks for a view of the database.
+    Refresh,
+    /// The fuel is used.
+    Slice,
+    /// The search has ended.
+    Ended(ThreadEnd),
+}
+
+/// What is due.
+#[derive(Clone, Copy)]
+pub enum Due {
+    /// The goal of a level and a cell is to be selected, before a list.
+    Goal(u32, u32, u32),
+    /// The goal of a cell waits for a view.
+    Look(u32, u32),
+    /// A clause waits until it is published.
+    Await(u32),
+    /// The search has ended.
+    Over,
+}
+
+impl Solver {
+    /// The search of main: the program's goals in order, each once, with at most so many steps.
+    pub fn new(alloc: Global, program: &Program, limit: u64) -> Result<Solver, AllocError>
+        ensures begins { IfOk result (λ s. Begins (search_of program.now limit) (rest_of program.now s) s.used) }
+        ensures limit { IfOk result (λ s. s.limit ≡ limit) }
+        ensures places { IfOk result (λ s. s.places.items ≡ []) }
+    {
+        let mut stack = Stack::new(alloc);
+        let list = start(&mut stack, alloc, program.goals())?;
+        stack.visit(list);
+        Ok(Solver {
+            alloc,
+            stack,
+            mode: Mode::Visit,
+            used: 0,
+            limit,
+            out: Vec::new(alloc),
+            places: Vec::new(alloc),
+        })
+    }
+
+    /// The bytes written so far.
+    pub fn output(&self) -> &[u8]
+        ensures { result.now ≡ self.now.out.items }
+    {
+        &self.out
+    }
+
+    /// The places of the answers taken so far, in order.
+    pub fn places(&self) -> &[u64]
+        ensures { result.now ≡ self.now.places.items }
+    {
+        &self.places
+    }
+
+    /// The steps taken so far.
+    pub fn steps(&self) -> u64
+        ensures { result ≡ self.now.used }
+    {
+        self.used
+    }
+
+    /// Goes on until something is asked, the search ends, or so many steps are taken.
+    #[tactic(auto, using(crate::proofs::Runs::goes_on, crate::proofs::Runs::goes_nowhere, crate::proofs::Runs::stays_goes))]
+    pub fn advance(&mut self, program: &Program, fuel: u64) -> Result<Turn, AllocError>
+        requires { self.old.used ≤ self.old.limit }
+        ensures goes { Goes self.old.limit (rest_of program.now self.old) self.old.used (rest_of program.now self.new) self.new.used }
+        ensures limit { self.new.limit ≡ self.old.limit }
+        ensures places { self.new.places.items ≡ self.old.places.items }
+        ensures fuel { self.new.used ≤ self.old.used + fuel }
+        ensures slice { IfOk result (λ turn. IsSlice turn → self.new.used ≡ self.old.used + fuel) }
+        ensures says { IfOk result (λ turn. Says program.now self.new turn) }
+    {
+        let mut left = fuel;
+        loop {
+            match self.settle(program)? {
+                Due::Goal(level, cell, rest) => {
+                    if left == 0 {
+                        return Ok(Turn::Slice);
+                    }
+                    self.step(program, level, cell, rest)?;
+                    left -= 1;
+                }
+                Due::Look(_, _) => return Ok(Turn::Refresh),
+                Due::Await(_) => return self.asked(program),
+                Due::Over => return self.ended(program),
+            }
+        }
+    }
+
+    /// The reply to the request that is asked.
+    pub fn reply(&mut self, program: &Program, place: u64, reply: Reply) -> Result<(), AllocError>
+        requires waits { WaitsToPublish self.old }
+        requires published { reply ≡ IsPublished }
+        requires within { self.old.used ≤ self.old.limit }
+        ensures ok { OnOk result (TakesOne (Got reply) (rest_of program.now self.old) self.old.used (rest_of program.now self.new) self.new.used) }
+        ensures places { OnOk result (self.new.places.items ≡ self.old.places.items ++ place ∷ []) }
+        ensures limit { self.new.limit ≡ self.old.limit }
+        ensures err { OnErr result (Stays program.now self.old self.new) }
+    {
+        let Some(link) = self.stack.first() else {
+            unreachable!()
+        };
+        let rest = link.next;
+        self.places.push(place)?;
+        self.stack.visit(rest);
+        Ok(())
+    }
+
+    /// The database after the batches below a place, for the goal that waits for it.
+    pub fn refreshed(&mut self, program: &Program, g: u64, store: &Store) -> Result<(), AllocError>
+        requires waits { WaitsForView self.old }
+        requires within { self.old.used ≤ self.old.limit }
+        ensures ok { OnOk result ((us : List Stamped) → Rises 0 us → store.now ≡ fold keep nothing us → TakesOne (Seen g (before g us)) (rest_of program.now self.old) self.old.used (rest_of program.now self.new) self.new.used) }
+        ensures places { OnOk result (self.new.places.items ≡ self.old.places.items ++ g ∷ []) }
+        ensures limit { self.new.limit ≡ self.old.limit }
+        ensures err { OnErr result (Stays program.now self.old self.new) }
+    {
+        let Some(link) = self.stack.first() else {
+            unreachable!()
+        };
+        let Item::Look(cell) = &link.item else {
+            unreachable!()
+        };
+        let cell = *cell;
+        let rest = link.next;
+        self.places.push(g)?;
+        match self.look(program, g, store, cell, rest) {
+            Ok(()) => Ok(()),
+            Err(e) => {
+                self.places.pop();
+                Err(e)
+            }
+        }
+    }
+
+    /// The clauses of a goal that are alive after the batches below a place.
+    fn look(
+        &mut self,
+        program: &Program,
+        g: u64,
+        store: &Store,
+        cell: u32,
+        rest: u32,
+    ) -> Result<(), AllocError>
+        requires cell { cell < length self.old.stack.heap.cells }
+        requires rest { IsList self.old.stack rest }
+        requires within { self.old.used ≤ self.old.limit }
+        ensures ok { OnOk result ((us : List Stamped) → Rises 0 us → store.now ≡ fold keep nothing us → Moved program.now self.old self.new (walk_over (before g us) (depth_of program.now self.old) (term self.old.stack.heap cell) (goals_of self.old.stack rest) self.old.stack.heap.count (local_of self.old)) 0) }
+        ensures kept { OnOk result ((self.new.limit ≡ self.old.limit) × (self.new.places.items ≡ self.old.places.items)) }
+        ensures err { OnErr result (Stays program.now self.old self.new) }
+    {
+        let p = indicator_of(self.alloc, self.stack.heap(), cell)?;
+        if store.exists(g, &p) {
+            let clauses = store.alive_clauses(self.alloc, g, &p)?;
+            return self.resolve(program, cell, rest, Source::Copied(clauses), 0);
+        }
+        let error = error::no_procedure(self.alloc, &p)?;
+        self.raise(program, error, &p, rest, 0)
+    }
+
+    /// The request that waits.
+    fn asked(&self, program: &Program) -> Result<Turn, AllocError>
+        requires waits { WaitsToPublish self.now }
+        requires within { self.now.used ≤ self.now.limit }
+        ensures says { IfOk result (λ turn. Says program.now self.now turn) }
+        ensures other { IfOk result (λ turn. IsSlice turn → ⊥) }
+    {
+        let Some(link) = self.stack.first() else {
+            unreachable!()
+        };
+        let Item::Await(clause) = &link.item else {
+            unreachable!()
+        };
+        let clause = clause.copied()?;
+        let mut updates = Vec::new(self.alloc);
+        updates.push(Update::Last(clause))?;
+        Ok(Turn::Ask(Request::Publish(Batch::new(updates))))
+    }
+
+    /// The end of the search.
+    fn ended(&self, program: &Program) -> Result<Turn, AllocError>
+        requires over { IsOver program.now self.now }
+        requires within { self.now.used ≤ self.now.limit }
+        ensures says { IfOk result (λ turn. Says program.now self.now turn) }
+        ensures other { IfOk result (λ turn. IsSlice turn → ⊥) }
+    {
+        let Mode::Back(outcome) = &self.mode else {
+            unreachable!()
+        };
+        let end = end_of(self.alloc, outcome)?;
+        Ok(Turn::Ended(end))
+    }
+
+    /// Selects the goal that is due.
+    fn step(
+        &mut self,
+        program: &Program,
+        level: u32,
+        cell: u32,
+        rest: u32,
+    ) -> Result<(), AllocError>
+        requires visits { self.old.mode ≡ Mode.Visit }
+        requires goal { AtGoal self.old.stack level cell rest }
+        requires left { self.old.used + 1 ≤ self.old.limit }
+        ensures ok { OnOk result (Stepped program.now self.old self.new) }
+        ensures err { OnErr result (Stays program.now self.old self.new) }
+    {
+        let control = read_control(self.stack.heap(), cell)?;
+        self.select(program, control, level, cell, rest)
+    }
+
+    /// Quiet turns, up to what is due.
+    #[tactic(auto, using(crate::proofs::Runs::quiet_goes, crate::proofs::Runs::quiet_lighter, crate::proofs::Runs::goes_on, crate::proofs::Runs::goes_nowhere, crate::proofs::Runs::stays_goes))]
+    fn settle(&mut self, program: &Program) -> Result<Due, AllocError>
+        requires { self.old.used ≤ self.old.limit }
+        ensures goes { Goes self.old.limit (rest_of program.now self.old) self.old.used (rest_of program.now self.new) self.new.used }
+        ensures used { self.new.used ≡ self.old.used }
+        ensures limit { self.new.limit ≡ self.old.limit }
+        ensures places { self.new.places.items ≡ self.old.places.items }
+        ensures due { IfOk result (λ due. Settled program.now self.new due) }
+    {
+        loop {
+            match self.quiet_turn(program)? {
+                None => {}
+                Some(due) => return Ok(due),
+            }
+        }
+    }
+
+    /// One turn that takes no step, unless something is due.
+    fn quiet_turn(&mut self, program: &Program) -> Result<Option<Due>, AllocError>
+        requires { self.old.used ≤ self.old.limit }
+        ensures on { IfOk result (λ o. IfNone o (Quiet program.now self.old self.new)) }
+        ensures due { IfOk result (λ o. IfSome o (λ due. Settled program.now self.new due × (self.new ≡ self.old))) }
+        ensures err { OnErr result (Stays program.now self.old self.new) }
+    {
+        if self.is_visiting() {
+            self.pass(program)
+        } else {
+            self.back(program)
+        }
+    }
+
+    /// One turn at a list.
+    fn pass(&mut self, program: &Program) -> Result<Option<Due>, AllocError>
+        requires visits { self.old.mode ≡ Mode.Visit }
+        requires within { self.old.used ≤ self.old.limit }
+        ensures on { IfOk result (λ o. IfNone o (Quiet program.now self.old self.new)) }
+        ensures due { IfOk result (λ o. IfSome o (λ due. Settled program.now self.new due × (self.new ≡ self.old))) }
+        ensures err { OnErr result (Stays program.now self.old self.new) }
+    {
+        match head_of(&self.stack) {
+            Head::Nothing => {
+                self.mode = Mode::Back(Outcome::Stop);
+                Ok(None)
+            }
+            Head::Goal(level, cell, rest) => {
+                if self.used == self.limit {
+                    self.mode = Mode::Back(Outcome::Spent);
+                    return Ok(None);
+                }
+                Ok(Some(Due::Goal(level, cell, rest)))
+            }
+            Head::Commit(level, rest) => {
+                self.stack.open_barrier(level)?;
+                self.stack.visit(rest);
+                Ok(None)
+            }
+            Head::Look(cell, rest) => Ok(Some(Due::Look(cell, rest))),
+            Head::Await(rest) => Ok(Some(Due::Await(rest))),
+        }
+    }
+
+    /// One turn with a result.
+    fn back(&mut self, program: &Program) -> Result<Option<Due>, AllocError>
+        requires { self.old.mode ≡ Mode.Visit → ⊥ }
+        ensures on { IfOk result (λ o. IfNone o (Quiet program.now self.old self.new)) }
+        ensures due { IfOk result (λ o. IfSome o (λ due. Settled program.now self.new due × (self.new ≡ self.old))) }
+        ensures err { OnErr result (Stays program.now self.old self.new) }
+    {
+        if self.retries() {
+            return self.retry(program);
+        }
+        match self.stack.close() {
+            None => Ok(Some(Due::Over)),
+            Some(Closed::Mark(level)) => {
+                self.pass_mark(level);
+                Ok(None)
+            }
+            Some(Closed::Choice) => {
+                self.stop_cut();
+                Ok(None)
+            }
+        }
+    }
+
+    /// The next clause of the innermost call.
+    fn retry(&mut self, program: &Program) -> Result<Option<Due>, AllocError>
+        requires fails { self.old.mode ≡ Mode.Back Outcome.Fail }
+        requires call { HasCall self.old.stack }
+        ensures on { IfOk result (λ o. IfNone o (Quiet program.now self.old self.new)) }
+        ensures none { IfOk result (λ o. IsNone o) }
+        ensures err { OnErr result (Stays program.now self.old self.new) }
+    {
+        if self.stack.retry(program)? {
+            self.mode = Mode::Visit;
+        }
+        Ok(None)
+    }
+
+    fn is_visiting(&self) -> bool
+        ensures { IsTrue result ↔ (self.now.mode ≡ Mode.Visit) }
+    {
+        matches!(self.mode, Mode::Visit)
+    }
+
+    fn fails(&self) -> bool
+        ensures { IsTrue result ↔ (self.now.mode ≡ Mode.Back Outcome.Fail) }
+    {
+        matches!(self.mode, Mode::Back(Outcome::Fail))
+    }
+
+    /// Whether the innermost call is to be tried again.
+    fn retries(&self) -> bool
+        ensures { IsTrue result ↔ ((self.now.mode ≡ Mode.Back Outcome.Fail) × HasCall self.now.stack) }
+    {
+        self.fails() && self.stack.is_call()
+    }
+
+    /// Behind a mark Fail is a cut to its level.
+    fn pass_mark(&mut self, level: u32)
+        ensures { self.new ≡ record self.old { mode = marked level self.old.mode } }
+    {
+        if self.fails() {
+            self.mode = Mode::Back(Outcome::CutTo(level));
+        }
+    }
+
+    /// A cut to the level of a choice ends there.
+    fn stop_cut(&mut self)
+        ensures { (statics : Statics) → self.new ≡ record self.old { mode = cut_stopped (deeper (cases_of statics self.old.stack) 0) self.old.mode } }
+    {
+        let depth = self.stack.depth();
+        if let Mode::Back(Outcome::CutTo(level)) = &self.mode {
+            if *level == depth {
+                self.mode = Mode::Back(Outcome::Fail);
+            }
+        }
+    }
+}
+
+/// The end that a result is.
+fn end_of(alloc: Global, outcome: &Outcome) -> Result<ThreadEnd, AllocError>
+    ensures { IfOk result (λ e. next_of (result_of outcome.now) ≡ Finishes e) }
+{
+    match outcome {
+        Outcome::Stop => Ok(ThreadEnd::True),
+        Outcome::Fail | Outcome::CutTo(_) => Ok(ThreadEnd::False),
+        Outcome::Spent => Ok(ThreadEnd::Budget),
+        Outcome::Throw(ball) => {
+            let ball = ball.copied(alloc)?;
+            Ok(ThreadEnd::Exception(ball))
+        }
+    }
+}
+
+/// The indicator of the goal of a cell.
+fn indicator_of(alloc: Global, heap: &Heap, cell: u32) -> Result<Indicator, AllocError>
+    requires { cell < length heap.now.cells }
+    ensures { IfOk result (λ p. p ≡ indicator (term heap.now cell)) }
+{
+    let (_, node) = heap.root(cell);
+    match node {
+        Cell::Atom(name) => {
+            let name = name.copied()?;
+            Ok(Indicator { name, arity: 0 })
+        }
+        Cell::Struct(name, arity) => {
+            let name = name.copied()?;
+            Ok(Indicator {
+                name,
+                arity: *arity,
+            })
+        }
+        Cell::Free(_) | Cell::Bound(_, _) | Cell::Ref(_) | Cell::Int(_) => {
+            let name = Name::new(alloc, "")?;
+            Ok(Indicator { name, arity: 0 })
+        }
+    }
+}
+
+/// The list of goals, each once.
+fn start(stack: &mut Stack, alloc: Global, goals: &[Term]) -> Result<u32, AllocError>
+    requires { stack.old ≡ empty }
+    ensures { IfOk result (λ list. Starts stack.new list goals.now) }
+{
+    let mut list = 0;
+    let mut i = goals.len();
+    while i > 0 {
+        i -= 1;
+        list = start_goal(stack, alloc, &goals[i], list)?;
+    }
+    Ok(list)
+}
+
+/// A goal, once, before a list.
+fn start_goal(stack: &mut Stack, alloc: Global, goal: &Term, list: u32) -> Result<u32, AllocError>
+    requires { IsList stack.old list }
+    ensures { IfOk result (λ made. StartsGoal stack.old stack.new list made goal.now) }
+{
+    let copy = goal.copy(alloc, 0)?;
+    let variables = goal.variables(alloc)?;
+    let Ok(count) = u32::try_from(variables.len()) else {
+        return Err(AllocError);
+    };
+    let once = error::alone(alloc, "once", copy)?;
+    let cell = stack.put(&once, count)?;
+    stack.link(Item::Goal(0, cell), list)
+}
