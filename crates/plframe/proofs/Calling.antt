@@ -85,10 +85,10 @@ pub resolves : (h h1 h2 : Store) (links links' : List Link) (call : Called) (bas
 resolves h h1 h2 links links' call base list c called below f p =
     let rest : List Element = goals_at h links call.rest in
     let goals : goals_at h2 links' list ≡ before_rest (is_true c.body) call.level (bind f.unifier (shift h.count c.body)) (bind_goals f.unifier rest) =
-        p.goals
-        ∙ ap₂ (before_rest (is_true c.body) call.level)
-        (over-bound h1 f.unifier base h.count c.variables c.body f.over below)
-        (elements-bind h h1 f.unifier (length h.cells) f.terms (list_at links call.rest) called.rest.inside) in
+    p.goals
+    ∙ ap₂ (before_rest (is_true c.body) call.level)
+    (over-bound h1 f.unifier base h.count c.variables c.body f.over below)
+    (elements-bind h h1 f.unifier (length h.cells) f.terms (list_at links call.rest) called.rest.inside) in
     record {
       is =
           resolved call.level h.count (term h call.goal) rest (goals_at h2 links' list) c f.unifier f.is goals

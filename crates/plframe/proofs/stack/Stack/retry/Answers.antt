@@ -41,7 +41,7 @@ invariant_of-self-in-Ok-Some c =
     let statics : Statics = clauses_for c.args.program.now in
     let call : Called = record { goal = a.goal; rest = a.rest; level = c.self.inside.depth - 1 } in
     let fits : FirstFits (cut a.mark s.heap) c.first_fit.new.heap (take a.links s.links) c.first_fit.new.links.items call (clauses_in statics a.source) a.next c.in-Ok-Some.i c.in-Ok-Some.list =
-        rw (← c.undo.ensures, ← c.truncate.ensures.items, ← c.clauses_of-clauses.ensures) (rw c.in-Ok-Some.field-0-is at c.in-Ok-Some.ensures.some) in
+    rw (← c.undo.ensures, ← c.truncate.ensures.items, ← c.clauses_of-clauses.ensures) (rw c.in-Ok-Some.field-0-is at c.in-Ok-Some.ensures.some) in
     let count = ap length (sym c.clauses_of-clauses.ensures) in
     let opens = (rw c.after.ensures at c.open_rest.ensures) statics count in
     retried-stack s c.self.inside.depth c.self.invariant c.pop.new.self.items a popped statics c.first_fit.new.heap c.first_fit.new.links.items c.in-Ok-Some.i c.in-Ok-Some.list fits c.open_rest.new.frames.items opens
@@ -62,7 +62,7 @@ returns-in-Ok-None-clause-no c = λ is.
     let statics : Statics = clauses_for c.args.program.now in
     let same = rw c.in-Ok-None.field-0-is at c.in-Ok-None.ensures.same in
     let none : left_of (cut a.mark s.heap) (take a.links s.links) (record { goal = a.goal; rest = a.rest; level = c.self.inside.depth - 1 }) (drop a.next (clauses_in statics a.source)) ≡ [] =
-        rw (← c.undo.ensures, ← c.truncate.ensures.items, ← c.clauses_of-clauses.ensures) (rw c.in-Ok-None.field-0-is at c.in-Ok-None.ensures.none) in
+    rw (← c.undo.ensures, ← c.truncate.ensures.items, ← c.clauses_of-clauses.ensures) (rw c.in-Ok-None.field-0-is at c.in-Ok-None.ensures.none) in
     rw (← c.self.view_is) (rw (same.0, same.1, c.undo.ensures, c.truncate.ensures.items) (none-left s c.self.inside.depth c.self.invariant c.pop.new.self.items a popped statics none))
 
 pub returns-in-Ok-Some-clause-yes : goal.returns-in-Ok-Some-clause-yes
@@ -73,7 +73,7 @@ returns-in-Ok-Some-clause-yes c = λ is.
     let statics : Statics = clauses_for c.args.program.now in
     let call : Called = record { goal = a.goal; rest = a.rest; level = c.self.inside.depth - 1 } in
     let fits : FirstFits (cut a.mark s.heap) c.first_fit.new.heap (take a.links s.links) c.first_fit.new.links.items call (clauses_in statics a.source) a.next c.in-Ok-Some.i c.in-Ok-Some.list =
-        rw (← c.undo.ensures, ← c.truncate.ensures.items, ← c.clauses_of-clauses.ensures) (rw c.in-Ok-Some.field-0-is at c.in-Ok-Some.ensures.some) in
+    rw (← c.undo.ensures, ← c.truncate.ensures.items, ← c.clauses_of-clauses.ensures) (rw c.in-Ok-Some.field-0-is at c.in-Ok-Some.ensures.some) in
     let count = ap length (sym c.clauses_of-clauses.ensures) in
     let opens = (rw c.after.ensures at c.open_rest.ensures) statics count in
     rw (← c.self.view_is) (retried s c.self.inside.depth c.self.invariant c.pop.new.self.items a popped statics c.first_fit.new.heap c.first_fit.new.links.items c.in-Ok-Some.i c.in-Ok-Some.list fits c.open_rest.new.frames.items opens)
