@@ -1,0 +1,4 @@
+pub mod Going
+pub mod Overall
+pub mod Paid
+pub mod Threads

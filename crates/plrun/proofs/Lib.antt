@@ -1,0 +1,9 @@
+pub mod Grow
+pub mod Free
+pub mod Rows
+pub mod Steps
+pub mod Ends
+pub mod Serve
+pub mod Start
+pub mod Paid
+pub mod Turns

@@ -1,0 +1,53 @@
+-- What a running thread's requests come to, and what Start does.
+use Rattle.std.proofs.Common.{◌≡◌, ℕ, suc, ◌≤◌, Bool, true, false, ◌||◌, ◌&&◌, not, List, [], ◌∷◌, ◌++◌, Option, Some, None, refl, sym, ap, ap₂, ◌∙◌, subst, arith, nat_eq, eq-eqb, true≢false}
+use Rattle.std.specs.List.{find, list_any}
+use Rattle.std.specs.Option.{is_some, option_and_then}
+use Rattle.plterm.specs.Tree.{Tree}
+use Rattle.plevent.specs.declared.request.ThreadEnd.{ThreadEnd}
+use Rattle.plevent.specs.declared.request.Request.{Request}
+use Rattle.plevent.specs.declared.request.Reply.{Reply}
+use Rattle.plevent.specs.declared.update.Update.{Update}
+use Rattle.plevent.specs.declared.act.Act.{Act}
+use Rattle.plevent.specs.declared.act.Entry.{Entry}
+use Rattle.plevent.specs.declared.standing.Thread.{Thread}
+use Rattle.plevent.specs.declared.standing.Standing.{Standing}
+use Rattle.plevent.specs.Alive.{add_if}
+use Rattle.plevent.specs.Reading.{Reading, reading, is_thread}
+use Rattle.plevent.specs.Rows.{Row, row, served, is_workers, is_new, is_over, start_row, runs, entries_of}
+use Rattle.plhist.specs.Legal.{MayAsk, IsDue, worker_of}
+use Rattle.plrun.specs.Going.{Free}
+
+runs-found : (t : ℕ) (xs : List Thread) (x : Thread) → find (is_thread t) xs ≡ Some x → is_some x.worker ≡ true → is_some x.ended ≡ false →
+    list_any (λ x. is_thread t x && is_some x.worker && not (is_some x.ended)) xs ≡ true
+runs-found t [] x is started lives = absurd (grind (arith, is))
+runs-found t (y ∷ ys) x is started lives = go (nat_eq y.number t) refl (λ i. runs-found t ys x i started lives) is
+  where
+    go : (b : Bool) → nat_eq y.number t ≡ b → (find (is_thread t) ys ≡ Some x → list_any (λ x. is_thread t x && is_some x.worker && not (is_some x.ended)) ys ≡ true) →
+        find (is_thread t) (y ∷ ys) ≡ Some x → list_any (λ x. is_thread t x && is_some x.worker && not (is_some x.ended)) (y ∷ ys) ≡ true
+    go true same next is = grind (arith, same, is, started, lives)
+    go false apart next is = grind (arith, apart, next, is)
+
+pub free-runs : (t : ℕ) (r : Standing) → Free t r → runs t r ≡ true
+free-runs t r f = runs-found t r.threads f.row f.found (ap is_some f.started) (ap is_some f.lives)
+
+-- a request of a thread that runs has its row
+pub row-served : (q : Request) (t : ℕ) (r : Reading) → is_workers q ≡ false → Free t r.standing → served q t r ≡ row q t r.standing
+unfolding served
+row-served q t r workers f = ap₂ (λ a b. add_if (a || b) (row q t r.standing) (Reply.NotYet q, None)) workers (free-runs t r.standing f)
+
+started-by : (t : ℕ) (r : Standing) → Free t r → worker_of t r.threads ≡ Some 1
+started-by t r f = ap (option_and_then (λ x. x.worker)) f.found ∙ f.started
+
+pub publish-due : (us : List Update) (t : ℕ) (r : Reading) → Free t r.standing → IsDue r (record { worker = 1; thread = t; act = Act.Batch us })
+publish-due us t r f = record { asked = Request.Publish us; thread = t; may = started-by t r.standing f; made = ap (λ x. x.1) (row-served (Request.Publish us) t r refl f) }
+
+pub finish-due : (e : ThreadEnd) (t : ℕ) (r : Reading) → Free t r.standing → IsDue r (record { worker = 1; thread = t; act = Act.End e })
+finish-due e t r f = record { asked = Request.Finish e; thread = t; may = started-by t r.standing f; made = ap (λ x. x.1) (row-served (Request.Finish e) t r refl f) }
+
+-- Start takes a new thread, if there is one
+pub start-served : (t : ℕ) (r : Reading) → served Request.Start t r ≡ start_row r.standing (find is_new r.standing.threads)
+unfolding served
+start-served t r = refl
+
+pub start-due : (t : ℕ) (r : Reading) (x : Thread) → find is_new r.standing.threads ≡ Some x → IsDue r (record { worker = 1; thread = x.number; act = Act.Start })
+start-due t r x is = record { asked = Request.Start; thread = t; may = (omega arith, omega arith); made = ap (λ y. y.1) (start-served t r) ∙ ap (λ o. (start_row r.standing o).1) is }

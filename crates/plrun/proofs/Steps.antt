@@ -1,0 +1,137 @@
+-- The invariant of a thread, turn by turn.
+use Rattle.std.proofs.Common.{◌≡◌, ℕ, zero, suc, ◌+◌, ◌<◌, ◌≤◌, Bool, true, false, List, [], ◌∷◌, ◌++◌, length, take, Option, Some, None, refl, sym, ap, ◌∙◌, subst, arith, nat_lt, nat_eq, length-append, append_assoc, append-nil, lt-ltb, eq-eqb}
+use Rattle.std.specs.Option.{option_and_then}
+use Rattle.std.proofs.Math.Seq.{take-append_seam}
+use Rattle.plevent.specs.declared.request.Request.{Request}
+use Rattle.plevent.specs.declared.request.Reply.{Reply}
+use Rattle.plevent.specs.declared.act.Act.{Act}
+use Rattle.plevent.specs.declared.act.Entry.{Entry}
+use Rattle.plevent.specs.Reading.{Reading, reading}
+use Rattle.plevent.specs.Rows.{served}
+use Rattle.plevent.specs.Search.{Item, View, Ask, Answer, Seen, Got, Next, Wants, Search, item_of}
+use Rattle.plhist.specs.Follows.{own, own_if, Taken, is_not_yet, noted, guarded, not_below, replied, answered, answer_at, item_at, takes, from_start, asks_of}
+use Rattle.plsearch.specs.Solving.{Goes, TakesOne, StandsAt}
+use Rattle.plrun.specs.Going.{Free, Going}
+use Rattle.plrun.proofs.Grow.{own-push, takes-grow, takes-push}
+use Rattle.plrun.proofs.Free.{free-plain, free-other, is_plain}
+
+-- the solver's own steps
+pub going-goes : (search : Search) (limit : ℕ) (old new : Search) (before used : ℕ) (h : List Entry) (t : ℕ) (places : List ℕ) →
+    Goes limit old before new used → Going search limit old before h t places → Going search limit new used h t places
+going-goes search limit old new before used h t places goes g = record {
+  start = g.start;
+  state = g.state;
+  owns = g.owns;
+  items = λ n le. g.items n (omega (arith, le, goes.0));
+  rests = λ n answers le. g.rests n answers (omega (arith, le, goes.0)) ∙ goes.2 n answers le;
+  within = goes.1 g.within;
+  low = g.low;
+  free = g.free;
+}
+
+-- another thread's entry
+pub going-other : (search : Search) (limit : ℕ) (ends : Search) (used : ℕ) (h : List Entry) (t : ℕ) (places : List ℕ) (e : Entry) →
+    nat_eq e.thread t ≡ false → Going search limit ends used h t places → Going search limit ends used (h ++ e ∷ []) t places
+going-other search limit ends used h t places e other g = record {
+  start = g.start;
+  state = g.state;
+  owns = own-push t h e ∙ ap (λ b. own t h ++ own_if b (length h) e.act []) other ∙ append-nil (own t h) ∙ g.owns;
+  items = λ n le. takes-grow (asks_of search n) h (e ∷ []) t places (from_start g.start) g.state (g.items n le);
+  rests = g.rests;
+  within = g.within;
+  low = omega (arith, g.low, length-append h (e ∷ []));
+  free = free-other t h e other g.free;
+}
+
+let_in : (low g : ℕ) → low ≤ g → not_below low g ≡ true
+let_in low g le = lt-ltb low (suc g) (omega (arith, le))
+
+-- an item that is answered at the length of a journal
+answer-now : (h more : List Entry) (t : ℕ) (q : Item) (s : Taken) → s.low ≤ length h → answer_at (h ++ more) t q (length h) s ≡ answered (h ++ more) t q (length h) s
+unfolding answer_at
+answer-now h more t q s low =
+    let g = length h in
+    ap (λ b. guarded b (guarded (not_below s.low g) (answered (h ++ more) t q g s))) (let_in g (length (h ++ more)) (omega (arith, length-append h more)))
+    ∙ ap (λ b. guarded b (answered (h ++ more) t q g s)) (let_in s.low g low)
+
+pub answer-view : (h more : List Entry) (t : ℕ) (s : Taken) → s.low ≤ length h →
+    answer_at (h ++ more) t View (length h) s ≡ Some (record { answers = s.answers ++ Seen (length h) (reading h).updates ∷ []; low = length h; made = s.made })
+answer-view h more t s low =
+    answer-now h more t View s low
+    ∙ ap (λ front. Some (record { answers = s.answers ++ Seen (length h) (reading front).updates ∷ []; low = length h; made = s.made })) (take-append_seam h more)
+
+pub answer-ask : (h more : List Entry) (t : ℕ) (q : Request) (s : Taken) → s.low ≤ length h → answer_at (h ++ more) t (Ask q) (length h) s ≡ replied (served q t (reading h)) (length h) s
+answer-ask h more t q s low =
+    answer-now h more t (Ask q) s low ∙ ap (λ front. replied (served q t (reading front)) (length h) s) (take-append_seam h more)
+
+-- what the thread asks is what its search asks
+pub asks-same : (search ends : Search) (n used : ℕ) (answers : List Answer) (next : Next) →
+    ((n : ℕ) (more : List Answer) → used ≤ n → search n (answers ++ more) ≡ ends n more) → used ≤ n → (ends n []).next ≡ next → (search n answers).next ≡ next
+asks-same search ends n used answers next rest le is = ap (λ l. (search n l).next) (sym (append-nil answers)) ∙ ap (λ e. e.next) (rest n [] le) ∙ is
+
+-- the rest behind one more answer
+rest-behind : (search old new : Search) (before used n : ℕ) (answers more : List Answer) (a : Answer) →
+    ((n : ℕ) (more : List Answer) → before ≤ n → search n (answers ++ more) ≡ old n more) → TakesOne a old before new used → used ≤ n →
+    search n ((answers ++ a ∷ []) ++ more) ≡ new n more
+rest-behind search old new before used n answers more a rest takes_one le =
+    ap (search n) (append_assoc answers (a ∷ []) more) ∙ rest n (a ∷ more) (omega (arith, le, takes_one.0)) ∙ takes_one.1 n more le
+
+-- the items with one more at its place, in a longer journal
+pub items-push : (search : Search) (n : ℕ) (h more : List Entry) (t : ℕ) (places : List ℕ) (k g : ℕ) (s s' : Taken) (q : Item) →
+    takes (asks_of search n) h t places (from_start k) ≡ Some s → item_of (search n s.answers).next ≡ Some q → answer_at (h ++ more) t q g s ≡ Some s' →
+    takes (asks_of search n) (h ++ more) t (places ++ g ∷ []) (from_start k) ≡ Some s'
+items-push search n h more t places k g s s' q items asks at =
+    takes-push (asks_of search n) (h ++ more) t places g (from_start k) s (takes-grow (asks_of search n) h more t places (from_start k) s items)
+    ∙ ap (λ o. option_and_then (λ s. Some s) (item_at (h ++ more) t o g s)) asks
+    ∙ ap (option_and_then (λ s. Some s)) at
+
+-- a view at the journal's length
+pub going-view : (search : Search) (limit : ℕ) (old new : Search) (before used : ℕ) (h : List Entry) (t : ℕ) (places : List ℕ) →
+    ((n : ℕ) → before ≤ n → (old n []).next ≡ Wants View) → TakesOne (Seen (length h) (reading h).updates) old before new used →
+    Going search limit old before h t places → Going search limit new used h t (places ++ length h ∷ [])
+going-view search limit old new before used h t places asks one g =
+    let s = g.state in
+    let after : Taken = record { answers = s.answers ++ Seen (length h) (reading h).updates ∷ []; low = length h; made = s.made } in record {
+      start = g.start;
+      state = after;
+      owns = g.owns;
+      items = λ n le.
+          let from : before ≤ n = omega (arith, le, one.0) in
+          subst (λ l. takes (asks_of search n) l t (places ++ length h ∷ []) (from_start g.start) ≡ Some after) (append-nil h)
+          (items-push search n h [] t places g.start (length h) s after View (g.items n from) (ap item_of (asks-same search old n before s.answers (Wants View) g.rests from (asks n from))) (answer-view h [] t s g.low));
+      rests = λ n more le. rest-behind search old new before used n s.answers more (Seen (length h) (reading h).updates) g.rests one le;
+      within = omega (arith, g.within, one.0);
+      low = omega arith;
+      free = g.free;
+    }
+
+-- the thread's own entry, at the journal's length
+pub own-grows : (h : List Entry) (t w : ℕ) (x : Act) (k : ℕ) (made : List (ℕ × Act)) → own t h ≡ (k, Act.Start) ∷ made →
+    own t (h ++ record { worker = w; thread = t; act = x } ∷ []) ≡ (k, Act.Start) ∷ made ++ (length h, x) ∷ []
+own-grows h t w x k made is =
+    own-push t h (record { worker = w; thread = t; act = x })
+    ∙ ap (λ b. own t h ++ own_if b (length h) x []) (eq-eqb t t refl)
+    ∙ ap (λ l. l ++ (length h, x) ∷ []) is
+
+-- a request that makes an entry
+pub going-act : (search : Search) (limit : ℕ) (old new : Search) (before used : ℕ) (h : List Entry) (t w : ℕ) (places : List ℕ) (q : Request) (reply : Reply) (x : Act) →
+    ((n : ℕ) → before ≤ n → (old n []).next ≡ Wants (Ask q)) → TakesOne (Got reply) old before new used →
+    served q t (reading h) ≡ (reply, Some (t, x)) → is_not_yet reply ≡ false → is_plain x ≡ true →
+    Going search limit old before h t places → Going search limit new used (h ++ record { worker = w; thread = t; act = x } ∷ []) t (places ++ length h ∷ [])
+going-act search limit old new before used h t w places q reply x asks one row some plain g =
+    let s = g.state in
+    let e : Entry = record { worker = w; thread = t; act = x } in
+    let after : Taken = record { answers = s.answers ++ Got reply ∷ []; low = suc (length h); made = s.made ++ (length h, x) ∷ [] } in record {
+      start = g.start;
+      state = after;
+      owns = own-grows h t w x g.start s.made g.owns;
+      items = λ n le.
+          let from : before ≤ n = omega (arith, le, one.0) in
+          items-push search n h (e ∷ []) t places g.start (length h) s after (Ask q) (g.items n from)
+          (ap item_of (asks-same search old n before s.answers (Wants (Ask q)) g.rests from (asks n from)))
+          (answer-ask h (e ∷ []) t q s g.low ∙ ap (λ r. replied r (length h) s) row ∙ ap (λ b. noted b (length h) s reply (Some (t, x))) some);
+      rests = λ n more le. rest-behind search old new before used n s.answers more (Got reply) g.rests one le;
+      within = omega (arith, g.within, one.0);
+      low = omega (arith, length-append h (e ∷ []));
+      free = free-plain t h e plain g.free;
+    }

@@ -1,0 +1,10 @@
+use Rattle.std.proofs.Common.{◌-◌, length}
+use Rattle.plsearch.specs.Search.{search_of}
+use Rattle.plrun.specs.Overall.{Stage}
+use Rattle.plrun.proofs.schedule.run_all.Given as goal
+
+abbrev pub invariant-loop-runs : goal.invariant-loop-runs
+invariant-loop-runs l = Stage l.program.first (λ t. search_of l.program l.steps) l.steps l.world.journal l.runs.items
+
+abbrev pub decreases-loop-runs : goal.decreases-loop-runs
+decreases-loop-runs l = 1 - length l.runs.items
