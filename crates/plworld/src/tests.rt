@@ -26,33 +26,6 @@ fn begun(alloc: Global) -> Result<World, TermError> {
     Ok(world)
 }
 
-/// Whether the reply tells that main is started.
-fn is_main(reply: &Reply) -> bool {
-    match reply {
-        Reply::Started {
-            number,
-            alias: Some(alias),
-            goal: None,
-        } => *number == 1 && alias.as_str() == "main",
-        _ => false,
-    }
-}
-
-// Before main is started it can publish nothing; a start tells its number and its alias.
-#[test]
-fn main_is_started(rt: HostRuntime) -> Result<(), Fail> {
-    let alloc = rt.alloc();
-    let mut world = World::open(alloc, &Batch::new(Vec::new(alloc)))?;
-    let publish = Request::Publish(batch(alloc)?);
-    let early = world.step(alloc, 1, 1, &publish)?;
-    assert!(rt; matches!(early, Reply::NotYet(Request::Publish(_))));
-    assert_eq!(rt; world.front(), 1);
-    let started = world.step(alloc, 1, 0, &Request::Start)?;
-    assert!(rt; is_main(&started));
-    assert!(rt; matches!(world.step(alloc, 1, 1, &publish)?, Reply::Published));
-    Ok(())
-}
-
 // The clause that main published is there from place 3 on.
 #[test]
 fn clauses_by_time(rt: HostRuntime) -> Result<(), Fail> {
