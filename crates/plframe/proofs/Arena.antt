@@ -1,5 +1,5 @@
 -- Goal lists in one growing vector of links.
-use Rattle.std.proofs.Common.{◌≡◌, ℕ, suc, ◌+◌, ◌<◌, ◌≤◌, List, [], ◌∷◌, ◌++◌, length, length-append, take, drop, refl, sym, ap, ◌∙◌, subst, arith, get_or, ◌⊎◌, inl, inr, append-nil, append_assoc, length-take-le, drop-cons, le_trans}
+use Rattle.std.proofs.Common.{◌≡◌, ℕ, suc, ◌+◌, ◌<◌, ◌≤◌, List, [], ◌∷◌, ◌++◌, length, length-append, take, drop, refl, sym, ap, ◌∙◌, subst, arith, get_or, ◌⊎◌, inl, inr, append-nil, append_assoc, length-take-le, drop-cons}
 use Rattle.std.specs.List.{fold}
 use Rattle.std.proofs.lemmas.List.{get_or_append_left, get_or_push, get_or-take, take-append-drop}
 use Rattle.std.proofs.Math.Nat.{eq-or-lt_of_le}

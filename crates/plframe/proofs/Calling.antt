@@ -1,22 +1,20 @@
 -- How a call is resolved against a clause, step by step.
-use Rattle.std.proofs.Common.{◌≡◌, ℕ, suc, ◌+◌, ◌<◌, ◌≤◌, Bool, true, false, List, [], ◌∷◌, ◌++◌, length, length-append, map, drop, refl, sym, ap, ap₂, ◌∙◌, subst, arith, Option, Some, None, le_trans, append-nil, append_assoc}
-use Rattle.plterm.specs.Tree.{Tree, var}
+use Rattle.std.proofs.Common.{◌≡◌, ℕ, ◌+◌, ◌<◌, true, false, List, [], ◌∷◌, ◌++◌, length, length-append, map, refl, sym, ap, ap₂, ◌∙◌, subst, arith, Some, None, le_trans, append-nil}
 use Rattle.plterm.specs.Variables.{AllBelow}
 use Rattle.plsubst.specs.Subst.{bind, shift}
 use Rattle.plsubst.specs.Unify.{unify}
 use Rattle.plclause.specs.Clause.{Clause}
 use Rattle.plheap.specs.Store.{Store, term, Keeps, Adds}
-use Rattle.plheap.specs.Putting.{over, HasVariables, HasBlock}
-use Rattle.plheap.proofs.Kept.{Keeps-refl}
+use Rattle.plheap.specs.Putting.{over, HasBlock}
 use Rattle.plunify.specs.Unifying.{Unified}
-use Rattle.plsearch.specs.Types.{Element, Goal, Place}
-use Rattle.plsearch.specs.Table.{bind_goals, is_true, before_rest, resolve}
+use Rattle.plsearch.specs.Types.{Element, Goal}
+use Rattle.plsearch.specs.Table.{bind_goals, is_true, before_rest}
 use Rattle.plframe.specs.declared.frame.Item.TheVariants.{Goal as GoalAt}
 use Rattle.plframe.specs.declared.frame.Link.{Link}
 use Rattle.plframe.specs.declared.call.Called.{Called}
-use Rattle.plframe.specs.Places.{element, goals_at, place_at, list_at, AreIn, IsChain}
+use Rattle.plframe.specs.Places.{element, goals_at, list_at, AreIn}
 use Rattle.plframe.specs.Calls.{Longer, IsListIn, IsCalled, Fitted, PutsBody, Resolves}
-use Rattle.plframe.proofs.Arena.{list_at-more, list_at-new, chain-push}
+use Rattle.plframe.proofs.Arena.{list_at-new}
 use Rattle.plframe.proofs.Frames.{are_in-more, elements-stay}
 use Rattle.plframe.proofs.Resolving.{over-new, over-bound, elements-bind, resolved}
 

@@ -1,15 +1,13 @@
 -- Open cases keep what they stand for while the heap and the lists grow, and when both are cut to a newer mark.
-use Rattle.std.proofs.Common.{◌≡◌, ℕ, zero, suc, ◌+◌, ◌<◌, ◌≤◌, List, [], ◌∷◌, ◌++◌, length, take, refl, sym, ap, ap₂, ◌∙◌, subst, arith, map, reverse, append-nil, le_trans, length-take-le, drop, filter_map}
+use Rattle.std.proofs.Common.{◌≡◌, ℕ, zero, suc, ◌+◌, ◌<◌, ◌≤◌, List, [], ◌∷◌, ◌++◌, length, take, refl, sym, ap, ap₂, ◌∙◌, subst, arith, map, reverse, le_trans, length-take-le, drop, filter_map}
 use Rattle.std.proofs.lemmas.List.{reverse-append}
-use Rattle.plterm.specs.Tree.{Tree}
-use Rattle.plsubst.specs.Subst.{bind}
 use Rattle.plheap.specs.declared.cell.Mark.{Mark}
 use Rattle.plheap.specs.declared.cell.Cell.{Cell}
 use Rattle.plheap.specs.Store.{Store, term, cut, IsMark, Keeps}
 use Rattle.plheap.proofs.Kept.{IsMark-kept}
 use Rattle.plheap.proofs.Cuts.{cut-cut, IsMark-cut, cut-cells, cut-trail}
-use Rattle.plsearch.specs.Types.{Element, Goal, Commit, Look, Await, Place, Case, Choice, Mark as MarkOf}
-use Rattle.plsearch.specs.Table.{bind_element, resolve}
+use Rattle.plsearch.specs.Types.{Goal, Look, Case, Choice, Mark as MarkOf}
+use Rattle.plsearch.specs.Table.{resolve}
 use Rattle.plsearch.specs.Engine.{deeper}
 use Rattle.plframe.specs.declared.frame.Item.{Item}
 use Rattle.plframe.specs.declared.frame.Item.TheVariants.{Goal as GoalAt, Commit as CommitTo, Look as LookAt, Await as AwaitFor}
@@ -17,7 +15,7 @@ use Rattle.plframe.specs.declared.frame.Link.{Link}
 use Rattle.plframe.specs.declared.frame.Alternatives.{Alternatives}
 use Rattle.plframe.specs.declared.frame.Frame.{Frame}
 use Rattle.plframe.specs.declared.frame.Frame.TheVariants.{Plain, Barrier, Call}
-use Rattle.plframe.specs.Places.{list_at, element, goals_at, place_at, plain, Statics, clauses_in, places_left, alternatives, opened, cases, size, depth_of, IsOlder, AreOlder, IsCall, IsFrame, AreFrames, IsItemIn, AreIn}
+use Rattle.plframe.specs.Places.{element, plain, Statics, clauses_in, alternatives, cases, depth_of, IsOlder, AreOlder, IsCall, IsFrame, AreFrames, IsItemIn, AreIn}
 use Rattle.plframe.proofs.Arena.{list_at-more, list_at-take}
 
 in_more : (n m : ℕ) (x : Item) → n ≤ m → IsItemIn n x → IsItemIn m x

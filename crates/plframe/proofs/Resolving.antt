@@ -1,5 +1,5 @@
 -- What a clause is resolved to on a heap.
-use Rattle.std.proofs.Common.{◌≡◌, ℕ, zero, suc, ◌+◌, ◌<◌, ◌≤◌, Bool, true, false, List, [], ◌∷◌, ◌++◌, length, map, drop, get_or, drop-cons, refl, sym, ap, ap₂, ◌∙◌, subst, arith, Option, Some, None, option_map, filter_map, le_trans}
+use Rattle.std.proofs.Common.{◌≡◌, ℕ, suc, ◌+◌, ◌<◌, ◌≤◌, List, [], ◌∷◌, length, map, drop, get_or, drop-cons, refl, sym, ap, ap₂, ◌∙◌, arith, Option, Some, None, option_map, filter_map}
 use Rattle.std.specs.List.{cons_option}
 use Rattle.std.proofs.lemmas.List.{drop_all}
 use Rattle.plterm.specs.Tree.{Tree, Trees, var, int, atom, compound, none, more}
@@ -10,14 +10,14 @@ use Rattle.plsubst.proofs.Unify.{bind-bind}
 use Rattle.plclause.specs.Clause.{Clause}
 use Rattle.plevent.specs.declared.request.Request.TheVariants.{Publish}
 use Rattle.plevent.specs.declared.update.Update.TheVariants.{Last}
-use Rattle.plheap.specs.Store.{Store, term, Keeps}
+use Rattle.plheap.specs.Store.{Store, term}
 use Rattle.plheap.specs.Putting.{over, HasVariables}
 use Rattle.plsearch.specs.Types.{Element, Goal, Commit, Look, Await, Place}
-use Rattle.plsearch.specs.Table.{bind_element, bind_goals, is_true, before_rest, resolve}
+use Rattle.plsearch.specs.Table.{bind_goals, is_true, before_rest, resolve}
 use Rattle.plframe.specs.declared.frame.Item.{Item}
 use Rattle.plframe.specs.declared.frame.Item.TheVariants.{Goal as GoalAt, Commit as CommitTo, Look as LookAt, Await as AwaitFor}
 use Rattle.plframe.specs.declared.frame.Link.{Link}
-use Rattle.plframe.specs.Places.{element, goals_at, place_at, places_left, list_at, AreIn}
+use Rattle.plframe.specs.Places.{element, goals_at, places_left, AreIn}
 
 -- substitutions that agree on the variables of a term
 mutual

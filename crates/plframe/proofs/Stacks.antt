@@ -1,24 +1,23 @@
 -- What the calls of a stack keep.
-use Rattle.std.proofs.Common.{◌≡◌, ℕ, zero, suc, ◌+◌, ◌-◌, ◌<◌, ◌≤◌, List, [], ◌∷◌, ◌++◌, length, length-append, refl, sym, ap, ap₂, ◌∙◌, subst, arith, map, reverse, append-nil, le_trans, le_refl, get_or, take, drop, filter_map, length-take-le}
+use Rattle.std.proofs.Common.{◌≡◌, ℕ, suc, ◌+◌, ◌-◌, ◌<◌, ◌≤◌, List, [], ◌∷◌, ◌++◌, length, length-append, refl, sym, ap, ap₂, ◌∙◌, subst, arith, map, reverse, append-nil, le_trans, le_refl, get_or, take, drop, filter_map, length-take-le}
 use Rattle.std.proofs.lemmas.List.{get_or_default, drop_all}
 use Rattle.plheap.specs.declared.cell.Mark.{Mark}
 use Rattle.plheap.specs.Store.{Store, term, cut, IsMark, Keeps}
 use Rattle.plheap.proofs.Kept.{Keeps-refl, IsMark-kept}
 use Rattle.plheap.proofs.Cuts.{cut-cells, cut-cut, IsMark-cut}
-use Rattle.plsearch.specs.Types.{Element, Case, Choice}
+use Rattle.plsearch.specs.Types.{Choice}
 use Rattle.plsearch.specs.Table.{resolve}
 use Rattle.plsearch.specs.Engine.{deeper}
 use Rattle.plframe.specs.declared.stack.Stack.TheInside.{Inside}
 use Rattle.plframe.specs.declared.call.Called.{Called}
-use Rattle.plframe.specs.declared.frame.Item.{Item}
 use Rattle.plframe.specs.declared.frame.Link.{Link}
 use Rattle.plframe.specs.declared.frame.Source.{Source}
 use Rattle.plframe.specs.declared.frame.Alternatives.{Alternatives}
 use Rattle.plframe.specs.declared.frame.Frame.{Frame}
-use Rattle.plframe.specs.declared.frame.Frame.TheVariants.{Plain, Barrier, Call}
+use Rattle.plframe.specs.declared.frame.Frame.TheVariants.{Plain, Call}
 use Rattle.plframe.specs.Places.{Statics, element, goals_at, list_at, link_at, IsChain, IsItemIn, AreIn, AreFrames, cases, opened, depth_of, size, IsFrame, IsCall, plain, alternatives, places_left, clauses_in}
 use Rattle.plframe.specs.Calls.{IsCalled, FirstFits}
-use Rattle.plframe.specs.State.{State, IsList, IsState, IsStack, Extends, Begins, Opens, CountsUp, OpensRest, Calls, Retries, call_places, HasCall, BeginsWithCall, goals_of, cases_of}
+use Rattle.plframe.specs.State.{State, IsList, IsState, IsStack, Extends, Begins, CountsUp, OpensRest, Calls, Retries, call_places, HasCall, BeginsWithCall, goals_of, cases_of}
 use Rattle.plframe.proofs.Arena.{list_at-more, list_at-new, list_at-first, list_at-none, list_at-take, chain-push, chain-none, chain-take}
 use Rattle.plframe.proofs.Frames.{are_in-more, elements-stay, cases-kept, AreFrames-kept, cases-cut, AreFrames-cut, left-cut, depth-cases, reverse-push, plain-more, older-mark, now_cells}
 

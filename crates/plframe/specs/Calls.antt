@@ -1,12 +1,12 @@
 -- What a call of a procedure makes of a heap and its goal lists.
-use Rattle.std.specs.Prelude.{◌≡◌, ℕ, ◌+◌, ◌<◌, ◌≤◌, List, [], ◌∷◌, ◌++◌, length, drop, Some, None}
+use Rattle.std.specs.Prelude.{◌≡◌, ℕ, ◌+◌, ◌<◌, ◌≤◌, List, ◌∷◌, ◌++◌, length, drop, Some}
 use Rattle.plterm.specs.Tree.{Tree}
 use Rattle.plsubst.specs.Subst.{bind, shift}
 use Rattle.plsubst.specs.Unify.{unify}
 use Rattle.plclause.specs.Clause.{Clause}
 use Rattle.plheap.specs.Store.{Store, term, Keeps}
 use Rattle.plheap.specs.Putting.{over}
-use Rattle.plsearch.specs.Types.{Element, Place}
+use Rattle.plsearch.specs.Types.{Place}
 use Rattle.plsearch.specs.Table.{is_true, before_rest, resolve}
 use Rattle.plframe.specs.declared.frame.Link.{Link}
 use Rattle.plframe.specs.declared.call.Called.{Called}

@@ -1,9 +1,8 @@
 -- A stack's state, and what it stands for.
-use Rattle.std.specs.Prelude.{◌≡◌, ℕ, ◌+◌, ◌<◌, ◌≤◌, List, [], ◌∷◌, ◌++◌, length, reverse, take}
-use Rattle.plheap.specs.Store.{Store, term, cut}
+use Rattle.std.specs.Prelude.{◌≡◌, ℕ, ◌+◌, ◌<◌, ◌≤◌, List, [], ◌∷◌, length, reverse}
+use Rattle.plheap.specs.Store.{Store, term}
 use Rattle.plsearch.specs.Types.{Element, Place, Case, Choice, Mark}
 use Rattle.plsearch.specs.Engine.{deeper}
-use Rattle.plframe.specs.declared.frame.Item.{Item}
 use Rattle.plframe.specs.declared.frame.Link.{Link}
 use Rattle.plframe.specs.declared.frame.Frame.{Frame}
 use Rattle.plframe.specs.declared.frame.Frame.TheVariants.{Plain, Barrier, Call}

@@ -5,6 +5,8 @@ ghost use Rattle.plterm.specs.Variables.{AllBelow};
 ghost use Rattle.plsubst.specs.Subst.{shift};
 ghost use Rattle.plsubst.specs.Unify.{unify as unifier_of};
 ghost use Rattle.plheap.specs.Store.{term, Keeps};
+ghost use Rattle.plheap.specs.Putting.{HoldsNothing};
+ghost use Rattle.plunify.specs.Unifying.{HoldsNothing as HoldsNoPair};
 ghost use Rattle.plsearch.specs.Table.{is_true, resolve};
 ghost use Rattle.plframe.specs.Places.{goals_at, element, IsChain, IsItemIn};
 ghost use Rattle.plframe.specs.Calls.{Longer, IsListIn, IsCalled, Fitted, PutsBody, Resolves, FirstFits, left_of};
@@ -34,7 +36,11 @@ pub struct Room {
 }
 
 impl Room {
-    pub fn new(alloc: Global) -> Room {
+    /// With nothing in it.
+    pub fn new(alloc: Global) -> Room
+        ensures pending { HoldsNothing result.pending }
+        ensures scratch { HoldsNoPair result.scratch }
+    {
         Room {
             pending: Pending::new(alloc),
             scratch: Scratch::new(alloc),

@@ -4,3 +4,5 @@
 pub mod call;
 pub mod frame;
 pub mod stack;
+#[cfg(test)]
+mod tests;

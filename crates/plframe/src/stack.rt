@@ -95,6 +95,7 @@ impl Stack {
         ensures list { IfOk result (λ i. IsList self.new i × (goals_of self.new i ≡ element self.old.heap item ∷ goals_of self.old rest)) }
         ensures stays { Extends self.old self.new }
         ensures heap { self.new.heap ≡ self.old.heap }
+        ensures err { OnErr result (self.new ≡ self.old) }
     {
         let number = self.links.len();
         if number >= u32::MAX as usize {
@@ -111,10 +112,17 @@ impl Stack {
         ensures is { IfOk result (λ c. term self.new.heap c ≡ shift self.old.heap.count given.now) }
         ensures count { OnOk result (self.new.heap.count ≡ self.old.heap.count + count) }
         ensures stays { OnOk result (Extends self.old self.new) }
+        ensures err { OnErr result (self.new ≡ self.old) }
     {
+        let mark = self.heap.mark();
         let base = self.heap.variables(count)?;
-        let cell = self.heap.put(&mut self.room.pending, given, base)?;
-        Ok(cell)
+        match self.heap.put(&mut self.room.pending, given, base) {
+            Ok(cell) => Ok(cell),
+            Err(e) => {
+                self.heap.undo(mark);
+                Err(e)
+            }
+        }
     }
 
     /// The goal that the term of a cell stands for, if it is convertible (ISO/IEC 13211-1 7.6.2): its cell.
@@ -124,6 +132,7 @@ impl Stack {
         ensures none { IfOk result (λ found. IfNone found (converted (term self.old.heap cell) ≡ None)) }
         ensures count { self.new.heap.count ≡ self.old.heap.count }
         ensures stays { Extends self.old self.new }
+        ensures err { OnErr result (self.new ≡ self.old) }
     {
         goal_of(&mut self.heap, &mut self.room.pending, alloc, cell)
     }

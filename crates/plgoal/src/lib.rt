@@ -2,3 +2,5 @@
 #![tactic(auto)]
 
 pub mod goal;
+#[cfg(test)]
+mod tests;

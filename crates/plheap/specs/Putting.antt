@@ -1,11 +1,12 @@
 -- Terms put on a heap.
-use Rattle.std.specs.Prelude.{◌≡◌, ℕ, ◌+◌, ◌^◌, ◌<◌, ◌≤◌, List, ◌∷◌, length, take, drop, map, reverse}
+use Rattle.std.specs.Prelude.{◌≡◌, ℕ, ◌+◌, ◌^◌, ◌<◌, ◌≤◌, List, [], ◌∷◌, length, take, drop, map, reverse}
 use Rattle.std.specs.Bool.{⊤}
 use Rattle.plterm.specs.declared.node.Node.{Node}
 use Rattle.plterm.specs.declared.node.Node.TheVariants.{Var, Int, Atom, Compound}
 use Rattle.plterm.specs.Tree.{Tree, var, int, atom, compound, trees}
 use Rattle.plterm.specs.Variables.{AllBelow}
 use Rattle.plheap.specs.declared.cell.Cell.{Cell}
+use Rattle.plheap.specs.declared.put.Pending.{Pending}
 use Rattle.plheap.specs.Store.{Store, term, Keeps, AreLinks, link_term}
 
 -- what a variable of a term stands for that is put over the cells from base on
@@ -49,3 +50,7 @@ pub record Pends (old new : Store) (base : ℕ) (n : Node) (before after : List 
   pub are : map (link_term new) (reverse after) ≡ laid old base n (map (link_term old) (reverse before))
   pub stay : (d : ℕ) → d < length old.cells → term new d ≡ term old d
   pub count : new.count ≡ old.count
+
+-- no cell is in a put's room
+abbrev pub HoldsNothing : Pending → Type 0
+HoldsNothing room = room.cells.items ≡ []

@@ -7,3 +7,5 @@ pub mod cell;
 pub mod heap;
 pub mod put;
 pub mod take;
+#[cfg(test)]
+mod tests;

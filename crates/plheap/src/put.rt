@@ -5,7 +5,7 @@ ghost use Rattle.plterm.specs.Tree.{Tree};
 ghost use Rattle.plterm.specs.Reading.{tree_of, arity, IsTerm, Fits as FitsNode};
 ghost use Rattle.plsubst.specs.Subst.{bind};
 ghost use Rattle.plheap.specs.Store.{Adds, Keeps, IsLink, AreLinks, Follows, link_term};
-ghost use Rattle.plheap.specs.Putting.{over, IsOver, IsPlaced, HasBlock, Pends};
+ghost use Rattle.plheap.specs.Putting.{over, IsOver, IsPlaced, HasBlock, Pends, HoldsNothing};
 
 use crate::cell::Cell;
 use crate::heap::Heap;
@@ -20,7 +20,10 @@ pub struct Pending {
 }
 
 impl Pending {
-    pub fn new(alloc: Global) -> Pending {
+    /// With nothing in it.
+    pub fn new(alloc: Global) -> Pending
+        ensures { HoldsNothing result }
+    {
         Pending {
             cells: Vec::new(alloc),
         }

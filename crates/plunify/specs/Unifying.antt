@@ -10,6 +10,7 @@ use Rattle.plheap.specs.declared.cell.Cell.{Cell}
 use Rattle.plheap.specs.declared.cell.Cell.TheVariants.{Free, Bound, Ref, Int, Atom, Struct}
 use Rattle.plheap.proofs.Walks.{weight, weights}
 use Rattle.plheap.specs.Store.{Store, at, term, terms, IsSolid, Keeps, Binds as BindsTo}
+use Rattle.plunify.specs.declared.unify.Scratch.{Scratch}
 use Rattle.plunify.specs.declared.unify.Verdict.{Verdict}
 use Rattle.plunify.specs.declared.unify.Verdict.TheVariants.{Same, Clash, Binds, Args}
 
@@ -163,3 +164,7 @@ Answers old new a b false = unify (term old a) (term old b) ≡ None
 unfoldable pub Bindings : Store → Store → ℕ → ℕ → Bool → Type 0
 Bindings old new c n true = (occurs n (term old c) ≡ false) × BindsTo old new c n
 Bindings old new c n false = (occurs n (term old c) ≡ true) × (new ≡ old)
+
+-- no pair and no cell is in a unification's room
+abbrev pub HoldsNothing : Scratch → Type 0
+HoldsNothing room = (room.work.items ≡ []) × (room.stack.items ≡ [])

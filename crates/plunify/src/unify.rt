@@ -3,7 +3,7 @@
 ghost use Rattle.std.specs.Prelude.{◌≡◌, ℕ, ◌+◌, ◌^◌, ◌<◌, ◌≤◌, length, IfOk, OnOk, OnErr, ◌++◌, None, true, false};
 ghost use Rattle.plsubst.specs.Subst.{occurs};
 ghost use Rattle.plsubst.specs.Unify.{unify as unify_terms};
-ghost use Rattle.plunify.specs.Unifying.{verdict_of, pairs, IsInside, Leaves, Says, Progress, Answers, Bindings, Unified, IsNear};
+ghost use Rattle.plunify.specs.Unifying.{verdict_of, pairs, IsInside, Leaves, Says, Progress, Answers, Bindings, Unified, IsNear, HoldsNothing};
 ghost use Rattle.plheap.specs.Store.{term, Keeps};
 
 use plheap::cell::Cell;
@@ -147,8 +147,10 @@ pub struct Scratch {
 }
 
 impl Scratch {
-    /// No room yet.
-    pub fn new(alloc: Global) -> Scratch {
+    /// With nothing in it.
+    pub fn new(alloc: Global) -> Scratch
+        ensures { HoldsNothing result }
+    {
         Scratch {
             work: Vec::new(alloc),
             stack: Vec::new(alloc),

@@ -1,9 +1,6 @@
-use Rattle.std.proofs.Common.{◌≡◌, ◌++◌, ◌∷◌, [], length, ap, sym, ◌∙◌, arith, refl, reverse, take}
+use Rattle.std.proofs.Common.{◌≡◌, [], length, ap, sym, arith, refl}
 use Rattle.plload.specs.Program.{clauses_for}
-use Rattle.plheap.specs.Store.{cut}
 use Rattle.plframe.specs.declared.call.Called.{Called}
-use Rattle.plframe.specs.declared.frame.Alternatives.{Alternatives}
-use Rattle.plframe.specs.declared.frame.Frame.TheVariants.{Call}
 use Rattle.plframe.specs.Places.{Statics, clauses_in}
 use Rattle.plframe.specs.Calls.{IsCalled, FirstFits, left_of}
 use Rattle.plframe.specs.State.{State}

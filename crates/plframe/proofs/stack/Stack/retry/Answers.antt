@@ -1,11 +1,11 @@
-use Rattle.std.proofs.Common.{◌≡◌, ◌++◌, ◌-◌, ◌∷◌, [], length, ap, sym, ◌∙◌, arith, refl, reverse, take, drop}
+use Rattle.std.proofs.Common.{◌≡◌, ◌++◌, ◌-◌, ◌∷◌, [], length, ap, sym, ◌∙◌, take, drop}
 use Rattle.plload.specs.Program.{clauses_for}
 use Rattle.plheap.specs.Store.{cut}
 use Rattle.plframe.specs.declared.call.Called.{Called}
 use Rattle.plframe.specs.declared.frame.Alternatives.{Alternatives}
 use Rattle.plframe.specs.declared.frame.Frame.TheVariants.{Call}
 use Rattle.plframe.specs.Places.{Statics, clauses_in}
-use Rattle.plframe.specs.Calls.{IsCalled, FirstFits, left_of}
+use Rattle.plframe.specs.Calls.{FirstFits, left_of}
 use Rattle.plframe.specs.State.{State}
 use Rattle.plframe.proofs.Stacks.{inside, again-called, back-stack, refused-stack, refused-cases, none-left, retried-stack, retried}
 use Rattle.plframe.proofs.stack.Stack.retry.Goals as goal
