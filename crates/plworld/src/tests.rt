@@ -26,6 +26,26 @@ fn begun(alloc: Global) -> Result<World, TermError> {
     Ok(world)
 }
 
+// The first thread that is started is main, thread 1, which has the program's goals and none of its own.
+#[test]
+fn main_is_started(rt: HostRuntime) -> Result<(), Fail> {
+    let alloc = rt.alloc();
+    let mut world = World::open(alloc, &Batch::new(Vec::new(alloc)))?;
+    let started = world.step(alloc, 1, 0, &Request::Start)?;
+    let Reply::Started {
+        number,
+        alias,
+        goal,
+    } = started
+    else {
+        return Err("nothing is started".into());
+    };
+    assert_eq!(rt; number, 1);
+    assert!(rt; matches!(alias, Some(name) if name.as_str() == "main"));
+    assert!(rt; goal.is_none());
+    Ok(())
+}
+
 // The clause that main published is there from place 3 on.
 #[test]
 fn clauses_by_time(rt: HostRuntime) -> Result<(), Fail> {
