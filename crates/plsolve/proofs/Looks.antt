@@ -13,10 +13,10 @@ use Rattle.plstore.proofs.Whole.{walk-is, there-is}
 use Rattle.plsearch.specs.Errors.{procedure_error}
 use Rattle.plsearch.specs.Types.{Element}
 use Rattle.plsearch.specs.Table.{raised, walk_if, walk_over, call}
-use Rattle.plsolve.specs.declared.solver.Solver.{Solver}
+use Rattle.plsolve.specs.declared.progress.Progress.{Progress}
 use Rattle.plsolve.specs.Solver.{Moved, local_of}
 
-module _ (P : Program) (s new : Solver) (g : ℕ) (us : List Stamped) (store : Kept) (is : store ≡ fold keep nothing us) (up : Rises 0 us) (d : ℕ) (t : Tree) (es : List Element) (n : ℕ) (p : Indicator) (of : p ≡ indicator t) where
+module _ (P : Program) (s new : Progress) (g : ℕ) (us : List Stamped) (store : Kept) (is : store ≡ fold keep nothing us) (up : Rises 0 us) (d : ℕ) (t : Tree) (es : List Element) (n : ℕ) (p : Indicator) (of : p ≡ indicator t) where
   there : (b : Bool) → is_there g p store ≡ b → exists (before g us) (indicator t) ≡ b
   there b e = sym (ap₂ (is_there g) of is ∙ there-is g (indicator t) us) ∙ e
 

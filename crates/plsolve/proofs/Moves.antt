@@ -16,15 +16,15 @@ use Rattle.plsearch.specs.Search.{ending_of}
 use Rattle.plframe.specs.declared.frame.Source.{Source}
 use Rattle.plframe.specs.Places.{clauses_in, place_at}
 use Rattle.plframe.specs.State.{State, place_of, cases_of, goals_of, Extends, Opens, Calls, call_places}
-use Rattle.plsolve.specs.declared.solver.Outcome.{Outcome}
-use Rattle.plsolve.specs.declared.solver.Outcome.TheVariants as outcomes
-use Rattle.plsolve.specs.declared.solver.Mode.{Mode as Going}
-use Rattle.plsolve.specs.declared.solver.Mode.TheVariants as modes
-use Rattle.plsolve.specs.declared.solver.Solver.{Solver}
+use Rattle.plsolve.specs.declared.progress.Outcome.{Outcome}
+use Rattle.plsolve.specs.declared.progress.Outcome.TheVariants as outcomes
+use Rattle.plsolve.specs.declared.progress.Mode.{Mode as Going}
+use Rattle.plsolve.specs.declared.progress.Mode.TheVariants as modes
+use Rattle.plsolve.specs.declared.progress.Progress.{Progress}
 use Rattle.plsolve.specs.Solver.{result_of, mode_of, local_of, depth_of, machine, Moved, Stays}
 
 -- a solver at a list is a machine at a place
-pub machine-at : (P : Program) (s : Solver) (p : Place) (cs : List Case) (w : Local) → s.mode ≡ modes.Visit → place_of s.stack ≡ p → cases_of (clauses_for P) s.stack ≡ cs → local_of s ≡ w →
+pub machine-at : (P : Program) (s : Progress) (p : Place) (cs : List Case) (w : Local) → s.mode ≡ modes.Visit → place_of s.stack ≡ p → cases_of (clauses_for P) s.stack ≡ cs → local_of s ≡ w →
     (left : ℕ) (answers : List Answer) → machine P left answers s ≡ record { mode = At p; cases = cs; run = record { steps = left; answers = answers; local = w } }
 unfolding machine
 machine-at P s p cs w at place cases local left answers =
@@ -32,18 +32,18 @@ machine-at P s p cs w at place cases local left answers =
     ∙ ap (λ q. record { mode = At q; cases = cases_of (clauses_for P) s.stack; run = record { steps = left; answers = answers; local = local_of s } }) place
     ∙ ap₂ (λ cs w. record { mode = At p; cases = cs; run = record { steps = left; answers = answers; local = w } }) cases local
 
-machine-back : (P : Program) (s : Solver) (r : Outcome) (cs : List Case) (w : Local) → s.mode ≡ modes.Back r → cases_of (clauses_for P) s.stack ≡ cs → local_of s ≡ w →
+machine-back : (P : Program) (s : Progress) (r : Outcome) (cs : List Case) (w : Local) → s.mode ≡ modes.Back r → cases_of (clauses_for P) s.stack ≡ cs → local_of s ≡ w →
     (left : ℕ) (answers : List Answer) → machine P left answers s ≡ record { mode = Back (result_of r); cases = cs; run = record { steps = left; answers = answers; local = w } }
 unfolding machine
 machine-back P s r cs w at cases local left answers =
     ap (λ m. record { mode = mode_of m s.stack; cases = cases_of (clauses_for P) s.stack; run = record { steps = left; answers = answers; local = local_of s } }) at
     ∙ ap₂ (λ cs w. record { mode = Back (result_of r); cases = cs; run = record { steps = left; answers = answers; local = w } }) cases local
 
-pub stays_put : (P : Program) (s : Solver) → Stays P s s
+pub stays_put : (P : Program) (s : Progress) → Stays P s s
 stays_put P s = record { used = refl; limit = refl; places = refl; out = refl; same = λ left answers. refl }
 
 -- the same machine, by its parts
-pub stays-by : (P : Program) (s new : Solver) → new.used ≡ s.used → new.limit ≡ s.limit → new.places.items ≡ s.places.items → new.mode ≡ s.mode → place_of new.stack ≡ place_of s.stack →
+pub stays-by : (P : Program) (s new : Progress) → new.used ≡ s.used → new.limit ≡ s.limit → new.places.items ≡ s.places.items → new.mode ≡ s.mode → place_of new.stack ≡ place_of s.stack →
     cases_of (clauses_for P) new.stack ≡ cases_of (clauses_for P) s.stack → new.out.items ≡ s.out.items → Stays P s new
 unfolding machine
 stays-by P s new used limit places at place cases out = record {
@@ -61,7 +61,7 @@ stays-by P s new used limit places at place cases out = record {
     go (modes.Back r) left answers = refl
 
 -- a list is visited, in more cases
-pub goes-to : (P : Program) (s new : Solver) (cs : List Case) (p : Place) (w : Local) (cost : ℕ) → new.used ≡ s.used + cost → new.limit ≡ s.limit → new.places.items ≡ s.places.items →
+pub goes-to : (P : Program) (s new : Progress) (cs : List Case) (p : Place) (w : Local) (cost : ℕ) → new.used ≡ s.used + cost → new.limit ≡ s.limit → new.places.items ≡ s.places.items →
     new.mode ≡ modes.Visit → place_of new.stack ≡ p → cases_of (clauses_for P) new.stack ≡ cs ++ cases_of (clauses_for P) s.stack → local_of new ≡ w → Moved P s new (Go cs p w) cost
 goes-to P s new cs p w cost used limit places at place cases local = record {
   used = used;
@@ -71,7 +71,7 @@ goes-to P s new cs p w cost used limit places at place cases local = record {
 }
 
 -- a result is carried
-pub gives : (P : Program) (s new : Solver) (r : Outcome) (w : Local) (cost : ℕ) → new.used ≡ s.used + cost → new.limit ≡ s.limit → new.places.items ≡ s.places.items →
+pub gives : (P : Program) (s new : Progress) (r : Outcome) (w : Local) (cost : ℕ) → new.used ≡ s.used + cost → new.limit ≡ s.limit → new.places.items ≡ s.places.items →
     new.mode ≡ modes.Back r → cases_of (clauses_for P) new.stack ≡ cases_of (clauses_for P) s.stack → local_of new ≡ w → Moved P s new (Give (result_of r) w) cost
 gives P s new r w cost used limit places at cases local = record {
   used = used;
@@ -94,7 +94,7 @@ throw-ends : (P : Program) (most : ℕ) (cases : List Case) (b : Tree) (ls : Lis
 unfolding Rest
 throw-ends P most cases b ls run = ap (ending_of most) (throws-out P cases b ls run) ∙ ap (ending_of most) (sym (throws-out P cases b [] run))
 
-pub raises : (P : Program) (s new : Solver) (e : Tree) (p : Indicator) (es : List Element) (cost : ℕ) → new ≡ record s { mode = modes.Back (outcomes.Throw (copied 0 (error_term e p))); used = s.used + cost } →
+pub raises : (P : Program) (s new : Progress) (e : Tree) (p : Indicator) (es : List Element) (cost : ℕ) → new ≡ record s { mode = modes.Back (outcomes.Throw (copied 0 (error_term e p))); used = s.used + cost } →
     Moved P s new (raised e p es (local_of s)) cost
 unfolding raised machine
 raises P s new e p es cost is = rw is (record {
@@ -105,14 +105,14 @@ raises P s new e p es cost is = rw is (record {
 })
 
 -- lists and cells were added
-pub extended : (P : Program) (s : Solver) (stack : State) → Extends s.stack stack → stack.heap.count ≡ s.stack.heap.count → Stays P s (record s { stack = stack })
+pub extended : (P : Program) (s : Progress) (stack : State) → Extends s.stack stack → stack.heap.count ≡ s.stack.heap.count → Stays P s (record s { stack = stack })
 extended P s stack e count =
     stays-by P s (record s { stack = stack }) refl refl refl refl
     (ap₂ (λ gs n. record { goals = gs; variables = n }) e.visited count)
     (e.cases (clauses_for P)) refl
 
 -- a new list is visited
-pub visits : (P : Program) (s : Solver) (stack : State) (list cost : ℕ) (gs : List Element) (out : List ℕ) (new : Solver) → Extends s.stack stack → stack.heap.count ≡ s.stack.heap.count → goals_of stack list ≡ gs →
+pub visits : (P : Program) (s : Progress) (stack : State) (list cost : ℕ) (gs : List Element) (out : List ℕ) (new : Progress) → Extends s.stack stack → stack.heap.count ≡ s.stack.heap.count → goals_of stack list ≡ gs →
     new.used ≡ s.used + cost → new.limit ≡ s.limit → new.places.items ≡ s.places.items → new.mode ≡ modes.Visit → new.stack ≡ record stack { goals = list } → new.out.items ≡ out →
     Moved P s new (Go [] (record { goals = gs; variables = s.stack.heap.count }) (record { out = out })) cost
 unfolding cases_of
@@ -134,7 +134,7 @@ pub on_err_map : {A E K L : Type 0} (r : Outcomes A E) → (K → L) → OnErr r
 on_err_map (Ok a) f k = tt
 on_err_map (Err e) f k = f k
 
-pub stays-trans : (P : Program) (a b c : Solver) → Stays P a b → Stays P b c → Stays P a c
+pub stays-trans : (P : Program) (a b c : Progress) → Stays P a b → Stays P b c → Stays P a c
 stays-trans P a b c f g = record {
   used = g.used ∙ f.used;
   limit = g.limit ∙ f.limit;
@@ -144,7 +144,7 @@ stays-trans P a b c f g = record {
 }
 
 -- a move from where it stood
-pub moved-from : (P : Program) (s t new : Solver) (m : Move) (cost : ℕ) → Stays P s t → Moved P t new m cost → Moved P s new m cost
+pub moved-from : (P : Program) (s t new : Progress) (m : Move) (cost : ℕ) → Stays P s t → Moved P t new m cost → Moved P s new m cost
 unfolding machine
 moved-from P s t new m cost stay moved = record {
   used = moved.used ∙ ap (λ u. u + cost) stay.used;
@@ -156,7 +156,7 @@ moved-from P s t new m cost stay moved = record {
 }
 
 -- the levels of the markers behind a ball change nothing
-pub raised-any : (P : Program) (s new : Solver) (e : Tree) (p : Indicator) (es es' : List Element) (cost : ℕ) → Moved P s new (raised e p es (local_of s)) cost → Moved P s new (raised e p es' (local_of s)) cost
+pub raised-any : (P : Program) (s new : Progress) (e : Tree) (p : Indicator) (es es' : List Element) (cost : ℕ) → Moved P s new (raised e p es (local_of s)) cost → Moved P s new (raised e p es' (local_of s)) cost
 unfolding raised
 raised-any P s new e p es es' cost moved = record {
   used = moved.used;
@@ -169,14 +169,14 @@ raised-any P s new e p es es' cost moved = record {
 }
 
 -- a goal was resolved
-pub called : (P : Program) (s new : Solver) (cell rest : ℕ) (source : Source) (cost : ℕ) → Calls (clauses_for P) s.stack new.stack cell rest source →
+pub called : (P : Program) (s new : Progress) (cell rest : ℕ) (source : Source) (cost : ℕ) → Calls (clauses_for P) s.stack new.stack cell rest source →
     new.used ≡ s.used + cost → new.limit ≡ s.limit → new.places.items ≡ s.places.items → new.mode ≡ modes.Visit → local_of new ≡ local_of s →
     Moved P s new (call (depth_of P s) s.stack.heap.count (term s.stack.heap cell) (goals_of s.stack rest) (clauses_in (clauses_for P) source) (local_of s)) cost
 called P s new cell rest source cost calls used limit places at local =
     subst (λ ps. Moved P s new (choose ps (local_of s)) cost) (sym calls.places)
     (goes-to P s new (Choice calls.others ∷ []) (place_of new.stack) (local_of s) cost used limit places at refl calls.cases local)
 
-pub uncalled : (P : Program) (s new : Solver) (cell rest : ℕ) (source : Source) (cost : ℕ) → call_places (clauses_for P) s.stack cell rest source ≡ [] → new.stack ≡ s.stack →
+pub uncalled : (P : Program) (s new : Progress) (cell rest : ℕ) (source : Source) (cost : ℕ) → call_places (clauses_for P) s.stack cell rest source ≡ [] → new.stack ≡ s.stack →
     new.used ≡ s.used + cost → new.limit ≡ s.limit → new.places.items ≡ s.places.items → new.mode ≡ modes.Back outcomes.Fail → local_of new ≡ local_of s →
     Moved P s new (call (depth_of P s) s.stack.heap.count (term s.stack.heap cell) (goals_of s.stack rest) (clauses_in (clauses_for P) source) (local_of s)) cost
 uncalled P s new cell rest source cost none same used limit places at local =
@@ -184,7 +184,7 @@ uncalled P s new cell rest source cost none same used limit places at local =
     (gives P s new outcomes.Fail (local_of s) cost used limit places at (ap (cases_of (clauses_for P)) same) local)
 
 -- a new list is visited in one more case
-pub opens-visit : (P : Program) (s : Solver) (st st' : State) (list : ℕ) (gs : List Element) (case : Case) (new : Solver) → Extends s.stack st → Opens st st' (λ statics. case) → st.heap.count ≡ s.stack.heap.count → goals_of st list ≡ gs →
+pub opens-visit : (P : Program) (s : Progress) (st st' : State) (list : ℕ) (gs : List Element) (case : Case) (new : Progress) → Extends s.stack st → Opens st st' (λ statics. case) → st.heap.count ≡ s.stack.heap.count → goals_of st list ≡ gs →
     new.used ≡ s.used + 1 → new.limit ≡ s.limit → new.places.items ≡ s.places.items → new.mode ≡ modes.Visit → new.stack ≡ record st' { goals = list } → new.out.items ≡ s.out.items →
     Moved P s new (Go (case ∷ []) (record { goals = gs; variables = s.stack.heap.count }) (local_of s)) 1
 unfolding cases_of

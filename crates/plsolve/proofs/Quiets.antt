@@ -9,35 +9,35 @@ use Rattle.plsearch.specs.Engine.{deeper, mark, stop_cut_if}
 use Rattle.plsearch.specs.Machine.{At, Back, Machine, turn, step}
 use Rattle.plframe.specs.Places.{element, list_at, place_at}
 use Rattle.plframe.specs.State.{State, place_of, cases_of, goals_of, Opens, Retries}
-use Rattle.plsolve.specs.declared.solver.Outcome.{Outcome}
-use Rattle.plsolve.specs.declared.solver.Outcome.TheVariants as outcomes
-use Rattle.plsolve.specs.declared.solver.Mode.{Mode as Going}
-use Rattle.plsolve.specs.declared.solver.Mode.TheVariants as modes
-use Rattle.plsolve.specs.declared.solver.Solver.{Solver}
+use Rattle.plsolve.specs.declared.progress.Outcome.{Outcome}
+use Rattle.plsolve.specs.declared.progress.Outcome.TheVariants as outcomes
+use Rattle.plsolve.specs.declared.progress.Mode.{Mode as Going}
+use Rattle.plsolve.specs.declared.progress.Mode.TheVariants as modes
+use Rattle.plsolve.specs.declared.progress.Progress.{Progress}
 use Rattle.plsolve.specs.Heads.{AtGoal, AtCommit}
 use Rattle.plsolve.specs.Solver.{result_of, mode_of, local_of, depth_of, machine, Quiet, Stays, IsOver, marked, marked_result, cut_stopped, stopped_result, fail_if}
 
-at_place : (P : Program) (s : Solver) (p : Place) → s.mode ≡ modes.Visit → place_of s.stack ≡ p → (left : ℕ) (answers : List Answer) →
+at_place : (P : Program) (s : Progress) (p : Place) → s.mode ≡ modes.Visit → place_of s.stack ≡ p → (left : ℕ) (answers : List Answer) →
     machine P left answers s ≡ record { mode = At p; cases = cases_of (clauses_for P) s.stack; run = record { steps = left; answers = answers; local = local_of s } }
 unfolding machine
 at_place P s p at place left answers =
     ap (λ m. record { mode = mode_of m s.stack; cases = cases_of (clauses_for P) s.stack; run = record { steps = left; answers = answers; local = local_of s } }) at
     ∙ ap (λ q. record { mode = At q; cases = cases_of (clauses_for P) s.stack; run = record { steps = left; answers = answers; local = local_of s } }) place
 
-carried : (P : Program) (s : Solver) (r : Outcome) (cs : List Case) → s.mode ≡ modes.Back r → cases_of (clauses_for P) s.stack ≡ cs → (left : ℕ) (answers : List Answer) →
+carried : (P : Program) (s : Progress) (r : Outcome) (cs : List Case) → s.mode ≡ modes.Back r → cases_of (clauses_for P) s.stack ≡ cs → (left : ℕ) (answers : List Answer) →
     machine P left answers s ≡ record { mode = Back (result_of r); cases = cs; run = record { steps = left; answers = answers; local = local_of s } }
 unfolding machine
 carried P s r cs at cases left answers =
     ap (λ m. record { mode = mode_of m s.stack; cases = cases_of (clauses_for P) s.stack; run = record { steps = left; answers = answers; local = local_of s } }) at
     ∙ ap (λ cs. record { mode = Back (result_of r); cases = cs; run = record { steps = left; answers = answers; local = local_of s } }) cases
 
-not_back : (s : Solver) (r : Result) → s.mode ≡ modes.Visit → mode_of s.mode s.stack ≡ Back r → ⊥
+not_back : (s : Progress) (r : Result) → s.mode ≡ modes.Visit → mode_of s.mode s.stack ≡ Back r → ⊥
 not_back s r at is = let e : At (place_of s.stack) ≡ Back r = ap (λ m. mode_of m s.stack) (sym at) ∙ is in cc
 
 some_case : (c : Case) (cs all : List Case) → all ≡ c ∷ cs → all ≡ [] → ⊥
 some_case c cs all is none = let e : c ∷ cs ≡ [] = sym is ∙ none in cc
 
-pub quiet-stop : (P : Program) (s : Solver) → s.mode ≡ modes.Visit → list_at s.stack.links s.stack.goals ≡ [] → Quiet P s (record s { mode = modes.Back outcomes.Stop })
+pub quiet-stop : (P : Program) (s : Progress) → s.mode ≡ modes.Visit → list_at s.stack.links s.stack.goals ≡ [] → Quiet P s (record s { mode = modes.Back outcomes.Stop })
 unfolding turn machine
 quiet-stop P s at none = record {
   used = refl;
@@ -51,7 +51,7 @@ spent : (P : Program) (cases : List Case) (row : Local → Move) (run : Run) (n 
 spent P cases row run zero e = refl
 spent P cases row run (suc n) e = absurd (omega (arith, e))
 
-pub quiet-spent : (P : Program) (s : Solver) (level cell rest : ℕ) → s.mode ≡ modes.Visit → AtGoal s.stack level cell rest → s.used ≡ s.limit → Quiet P s (record s { mode = modes.Back outcomes.Spent })
+pub quiet-spent : (P : Program) (s : Progress) (level cell rest : ℕ) → s.mode ≡ modes.Visit → AtGoal s.stack level cell rest → s.used ≡ s.limit → Quiet P s (record s { mode = modes.Back outcomes.Spent })
 unfolding turn machine meet
 quiet-spent P s level cell rest at goal all = record {
   used = refl;
@@ -64,7 +64,7 @@ quiet-spent P s level cell rest at goal all = record {
   goes = λ r is no. not_back s r at is;
 }
 
-pub quiet-commit : (P : Program) (s : Solver) (st : State) (level rest : ℕ) → s.mode ≡ modes.Visit → AtCommit s.stack level rest → Opens s.stack st (λ statics. Mark level) → Quiet P s (record s { stack = record st { goals = rest } })
+pub quiet-commit : (P : Program) (s : Progress) (st : State) (level rest : ℕ) → s.mode ≡ modes.Visit → AtCommit s.stack level rest → Opens s.stack st (λ statics. Mark level) → Quiet P s (record s { stack = record st { goals = rest } })
 unfolding turn meet cases_of
 quiet-commit P s st level rest at commit o = record {
   used = refl;
@@ -78,7 +78,7 @@ quiet-commit P s st level rest at commit o = record {
   goes = λ r is no. not_back s r at is;
 }
 
-pub quiet-retry : (P : Program) (s : Solver) (st : State) → s.mode ≡ modes.Back outcomes.Fail → Retries (clauses_for P) s.stack st → Quiet P s (record s { stack = st; mode = modes.Visit })
+pub quiet-retry : (P : Program) (s : Progress) (st : State) → s.mode ≡ modes.Back outcomes.Fail → Retries (clauses_for P) s.stack st → Quiet P s (record s { stack = st; mode = modes.Visit })
 unfolding turn
 quiet-retry P s st at r = record {
   used = refl;
@@ -91,7 +91,7 @@ quiet-retry P s st at r = record {
   goes = λ x is no. some_case _ _ _ r.was no;
 }
 
-pub quiet-close : (P : Program) (s : Solver) (st : State) → s.mode ≡ modes.Back outcomes.Fail → cases_of (clauses_for P) s.stack ≡ Choice [] ∷ cases_of (clauses_for P) st → Quiet P s (record s { stack = st })
+pub quiet-close : (P : Program) (s : Progress) (st : State) → s.mode ≡ modes.Back outcomes.Fail → cases_of (clauses_for P) s.stack ≡ Choice [] ∷ cases_of (clauses_for P) st → Quiet P s (record s { stack = st })
 unfolding turn
 quiet-close P s st at was = record {
   used = refl;
@@ -110,7 +110,7 @@ mark-result l (outcomes.CutTo k) = refl
 mark-result l (outcomes.Throw t) = refl
 mark-result l outcomes.Spent = refl
 
-pub quiet-mark : (P : Program) (s new : Solver) (st : State) (l : ℕ) → (s.mode ≡ modes.Visit → ⊥) → cases_of (clauses_for P) s.stack ≡ Mark l ∷ cases_of (clauses_for P) st →
+pub quiet-mark : (P : Program) (s new : Progress) (st : State) (l : ℕ) → (s.mode ≡ modes.Visit → ⊥) → cases_of (clauses_for P) s.stack ≡ Mark l ∷ cases_of (clauses_for P) st →
     new ≡ record s { stack = st; mode = marked l s.mode } → Quiet P s new
 unfolding turn
 quiet-mark P s new st l back was is = rw is (go s.mode refl)
@@ -149,7 +149,7 @@ cut-result P d (outcomes.Throw t) (p ∷ ps) cases run is none = refl
 cut-result P d outcomes.Spent [] cases run is none = refl
 cut-result P d outcomes.Spent (p ∷ ps) cases run is none = refl
 
-pub quiet-choice : (P : Program) (s new : Solver) (st : State) (ps : List Place) → (s.mode ≡ modes.Visit → ⊥) → cases_of (clauses_for P) s.stack ≡ Choice ps ∷ cases_of (clauses_for P) st →
+pub quiet-choice : (P : Program) (s new : Progress) (st : State) (ps : List Place) → (s.mode ≡ modes.Visit → ⊥) → cases_of (clauses_for P) s.stack ≡ Choice ps ∷ cases_of (clauses_for P) st →
     (s.mode ≡ modes.Back outcomes.Fail → ps ≡ []) → new ≡ record s { stack = st; mode = cut_stopped (deeper (cases_of (clauses_for P) st) 0) s.mode } → Quiet P s new
 quiet-choice P s new st ps back was none is = rw is (go s.mode refl)
   where
@@ -167,7 +167,7 @@ quiet-choice P s new st ps back was none is = rw is (go s.mode refl)
       goes = λ x is no. some_case _ _ _ was no;
     }
 
-pub over-now : (P : Program) (s : Solver) → (s.mode ≡ modes.Visit → ⊥) → cases_of (clauses_for P) s.stack ≡ [] → IsOver P s
+pub over-now : (P : Program) (s : Progress) → (s.mode ≡ modes.Visit → ⊥) → cases_of (clauses_for P) s.stack ≡ [] → IsOver P s
 over-now P s back none = go s.mode refl
   where
     go : (m : Going) → s.mode ≡ m → IsOver P s
@@ -175,7 +175,7 @@ over-now P s back none = go s.mode refl
     go (modes.Back r) e = (r, e, none)
 
 -- with a result the list that is visited does not matter
-pub stays-back : (P : Program) (s : Solver) (st : State) (r : Outcome) → s.mode ≡ modes.Back r → cases_of (clauses_for P) st ≡ cases_of (clauses_for P) s.stack → Stays P s (record s { stack = st })
+pub stays-back : (P : Program) (s : Progress) (st : State) (r : Outcome) → s.mode ≡ modes.Back r → cases_of (clauses_for P) st ≡ cases_of (clauses_for P) s.stack → Stays P s (record s { stack = st })
 stays-back P s st r at same = record {
   used = refl;
   limit = refl;

@@ -24,9 +24,9 @@ use Rattle.plframe.specs.declared.frame.Item.TheVariants.{Look as LookAt, Await 
 use Rattle.plframe.specs.declared.frame.Link.{Link}
 use Rattle.plframe.specs.Places.{element, list_at, IsItemIn}
 use Rattle.plframe.specs.State.{State, place_of, cases_of, goals_of, Begins}
-use Rattle.plsolve.specs.declared.solver.Outcome.{Outcome}
-use Rattle.plsolve.specs.declared.solver.Mode.TheVariants as modes
-use Rattle.plsolve.specs.declared.solver.Solver.{Solver}
+use Rattle.plsolve.specs.declared.progress.Outcome.{Outcome}
+use Rattle.plsolve.specs.declared.progress.Mode.TheVariants as modes
+use Rattle.plsolve.specs.declared.progress.Progress.{Progress}
 use Rattle.plsolve.specs.declared.solver.Turn.TheVariants as turns
 use Rattle.plsolve.specs.Says.{Says}
 use Rattle.plsolve.specs.Heads.{AtGoal, AtLook, AtAwait}
@@ -43,7 +43,7 @@ goes_on limit limit' a b c x y z same f g = (
 pub goes_nowhere : (limit : ℕ) (a : Search) (x : ℕ) → Goes limit a x a x
 goes_nowhere limit a x = (le_refl _, (λ le. le), λ n answers le. refl)
 
-pub stays_goes : (P : Program) (s new : Solver) → Stays P s new → Goes s.limit (rest_of P s) s.used (rest_of P new) new.used
+pub stays_goes : (P : Program) (s new : Progress) → Stays P s new → Goes s.limit (rest_of P s) s.used (rest_of P new) new.used
 unfolding rest_of
 stays_goes P s new t = (
   omega (arith, t.used),
@@ -53,7 +53,7 @@ stays_goes P s new t = (
       ∙ ap (λ m. ending_of (min n new.limit) (Rest P m)) (sym (t.same (min n new.limit - new.used) answers)),
 )
 
-pub quiet_goes : (P : Program) (s new : Solver) → s.used ≤ s.limit → Quiet P s new → Goes s.limit (rest_of P s) s.used (rest_of P new) new.used
+pub quiet_goes : (P : Program) (s new : Progress) → s.used ≤ s.limit → Quiet P s new → Goes s.limit (rest_of P s) s.used (rest_of P new) new.used
 unfolding rest_of
 quiet_goes P s new within q = (
   omega (arith, q.used),
@@ -66,10 +66,10 @@ quiet_goes P s new within q = (
 )
 
 -- how much a solver has before it without a step
-pub load : Program → Solver → ℕ
+pub load : Program → Progress → ℕ
 load P s = weight (machine P 0 [] s)
 
-pub quiet_lighter : (P : Program) (s new : Solver) → s.used ≤ s.limit → Quiet P s new → load P new < load P s
+pub quiet_lighter : (P : Program) (s new : Progress) → s.used ≤ s.limit → Quiet P s new → load P new < load P s
 unfolding load machine
 quiet_lighter P s new within q = fin (subst (λ m. Lighter (machine P 0 [] s) m) (sym (q.turned 0 [] (omega (arith, within)))) (lighter-turn P (machine P 0 [] s) q.goes))
   where
@@ -81,7 +81,7 @@ quiet_lighter P s new within q = fin (subst (λ m. Lighter (machine P 0 [] s) m)
 goals-are : (s : State) (e : Element) (rest : List Element) → goals_of s s.goals ≡ e ∷ rest → place_of s ≡ record { goals = e ∷ rest; variables = s.heap.count }
 goals-are s e rest is = ap (λ gs. record { goals = gs; variables = s.heap.count }) is
 
-at-place : (P : Program) (s : Solver) (p : Place) → s.mode ≡ modes.Visit → place_of s.stack ≡ p → (left : ℕ) (answers : List Answer) →
+at-place : (P : Program) (s : Progress) (p : Place) → s.mode ≡ modes.Visit → place_of s.stack ≡ p → (left : ℕ) (answers : List Answer) →
     machine P left answers s ≡ record { mode = At p; cases = cases_of (clauses_for P) s.stack; run = record { steps = left; answers = answers; local = local_of s } }
 unfolding machine
 at-place P s p at place left answers =
@@ -89,13 +89,13 @@ at-place P s p at place left answers =
     ∙ ap (λ q. record { mode = At q; cases = cases_of (clauses_for P) s.stack; run = record { steps = left; answers = answers; local = local_of s } }) place
 
 -- the turn of a goal that is due
-due-turn : (P : Program) (s : Solver) (level cell rest : ℕ) → s.mode ≡ modes.Visit → AtGoal s.stack level cell rest → (left : ℕ) (answers : List Answer) →
+due-turn : (P : Program) (s : Progress) (level cell rest : ℕ) → s.mode ≡ modes.Visit → AtGoal s.stack level cell rest → (left : ℕ) (answers : List Answer) →
     turn P (machine P (suc left) answers s) ≡ move (cases_of (clauses_for P) s.stack) (record { steps = left; answers = answers; local = local_of s }) (select P level (term s.stack.heap cell) (depth_of P s) (goals_of s.stack rest) s.stack.heap.count (local_of s))
 unfolding turn meet
 due-turn P s level cell rest at goal left answers =
     ap (turn P) (at-place P s (record { goals = Goal level (term s.stack.heap cell) ∷ goals_of s.stack rest; variables = s.stack.heap.count }) at (goals-are s.stack _ _ (ap (map (element s.stack.heap)) goal.items)) (suc left) answers)
 
-pub steps : (P : Program) (s new : Solver) (level cell rest : ℕ) (m : Move) → s.mode ≡ modes.Visit → AtGoal s.stack level cell rest → s.used + 1 ≤ s.limit →
+pub steps : (P : Program) (s new : Progress) (level cell rest : ℕ) (m : Move) → s.mode ≡ modes.Visit → AtGoal s.stack level cell rest → s.used + 1 ≤ s.limit →
     m ≡ select P level (term s.stack.heap cell) (depth_of P s) (goals_of s.stack rest) s.stack.heap.count (local_of s) → Moved P s new m 1 → Stepped P s new
 unfolding rest_of
 steps P s new level cell rest m at goal some is moved = record {
@@ -131,7 +131,7 @@ unfolding Rest
 asks-rest P cases q run = asks-out P cases q run
 
 -- an item that is first in the list
-pub stands : (P : Program) (s : Solver) (e : Element) (rest : List Element) (q : Item) → s.used ≤ s.limit → s.mode ≡ modes.Visit → goals_of s.stack s.stack.goals ≡ e ∷ rest →
+pub stands : (P : Program) (s : Progress) (e : Element) (rest : List Element) (q : Item) → s.used ≤ s.limit → s.mode ≡ modes.Visit → goals_of s.stack s.stack.goals ≡ e ∷ rest →
     ((left : ℕ) → turn P (record { mode = At (record { goals = e ∷ rest; variables = s.stack.heap.count }); cases = cases_of (clauses_for P) s.stack; run = record { steps = left; answers = []; local = local_of s } })
     ≡ record { mode = Back (Asking q); cases = cases_of (clauses_for P) s.stack; run = record { steps = left; answers = []; local = local_of s } }) →
     StandsAt q (rest_of P s) s.used s.out.items
@@ -145,13 +145,13 @@ stands P s e rest q within at first asks = λ n le.
     ∙ ap (ending_of k) (asks-rest P (cases_of (clauses_for P) s.stack) q (record { steps = k - s.used; answers = []; local = local_of s }))
     ∙ ap (λ u. record { next = Wants q; used = u; out = s.out.items }) few
 
-pub stands-look : (P : Program) (s : Solver) (cell rest : ℕ) → s.used ≤ s.limit → s.mode ≡ modes.Visit → AtLook s.stack cell rest → StandsAt View (rest_of P s) s.used s.out.items
+pub stands-look : (P : Program) (s : Progress) (cell rest : ℕ) → s.used ≤ s.limit → s.mode ≡ modes.Visit → AtLook s.stack cell rest → StandsAt View (rest_of P s) s.used s.out.items
 unfolding turn meet
 stands-look P s cell rest within at look =
     stands P s (Look (term s.stack.heap cell)) (goals_of s.stack rest) View within at (ap (map (element s.stack.heap)) look.items) (λ left. refl)
 
 -- the search has ended
-pub ends : (P : Program) (s : Solver) (e : ThreadEnd) (r : Outcome) → s.used ≤ s.limit → s.mode ≡ modes.Back r → cases_of (clauses_for P) s.stack ≡ [] → next_of (result_of r) ≡ Finishes e →
+pub ends : (P : Program) (s : Progress) (e : ThreadEnd) (r : Outcome) → s.used ≤ s.limit → s.mode ≡ modes.Back r → cases_of (clauses_for P) s.stack ≡ [] → next_of (result_of r) ≡ Finishes e →
     EndsAt s.limit e (rest_of P s) s.used s.out.items
 unfolding rest_of machine Rest outs
 ends P s e r within at none is = (λ answers. at_n s.used (le_refl _) answers, λ answers. at_n s.limit within answers)
@@ -163,7 +163,7 @@ ends P s e r within at none is = (λ answers. at_n s.used (le_refl _) answers, �
         rw (at, none) (ap₂ (λ x u. record { next = x; used = u; out = s.out.items }) is few)
 
 -- the next answer, at an element that asked
-answer-turn : (P : Program) (s : Solver) (e : Element) (rest : List Element) (q : Item) (a : Answer) → s.mode ≡ modes.Visit → goals_of s.stack s.stack.goals ≡ e ∷ rest →
+answer-turn : (P : Program) (s : Progress) (e : Element) (rest : List Element) (q : Item) (a : Answer) → s.mode ≡ modes.Visit → goals_of s.stack s.stack.goals ≡ e ∷ rest →
     ((w : Local) → meet e rest w ≡ Asks q) → (left : ℕ) (answers : List Answer) →
     turn P (machine P left (a ∷ answers) s) ≡ move (cases_of (clauses_for P) s.stack) (record { steps = left; answers = answers; local = local_of s }) (answered e a (depth_of P s) rest s.stack.heap.count (local_of s))
 unfolding turn
@@ -171,7 +171,7 @@ answer-turn P s e rest q a at first asks left answers =
     ap (turn P) (at-place P s (record { goals = e ∷ rest; variables = s.stack.heap.count }) at (goals-are s.stack e rest first) left (a ∷ answers))
     ∙ ap (meets P (cases_of (clauses_for P) s.stack) e rest s.stack.heap.count (record { steps = left; answers = a ∷ answers; local = local_of s })) (asks (local_of s))
 
-pub takes : (P : Program) (s new : Solver) (e : Element) (rest : List Element) (q : Item) (a : Answer) (m : Move) → s.mode ≡ modes.Visit → goals_of s.stack s.stack.goals ≡ e ∷ rest →
+pub takes : (P : Program) (s new : Progress) (e : Element) (rest : List Element) (q : Item) (a : Answer) (m : Move) → s.mode ≡ modes.Visit → goals_of s.stack s.stack.goals ≡ e ∷ rest →
     ((w : Local) → meet e rest w ≡ Asks q) → m ≡ answered e a (depth_of P s) rest s.stack.heap.count (local_of s) → new.used ≡ s.used → new.limit ≡ s.limit →
     ((most left : ℕ) (answers : List Answer) → after P s most left answers m ≡ now P new most left answers) →
     TakesOne a (rest_of P s) s.used (rest_of P new) new.used
@@ -187,7 +187,7 @@ takes P s new e rest q a m at first asks is used limit ends = (
       ∙ ap₂ (λ l u. ending_of (min n l) (Rest P (machine P (min n l - u) answers new))) (sym limit) (sym used),
 )
 
-pub takes-look : (P : Program) (s t new : Solver) (cell rest g : ℕ) (us : List Stamped) → s.mode ≡ modes.Visit → AtLook s.stack cell rest → t ≡ record s { places = t.places } →
+pub takes-look : (P : Program) (s t new : Progress) (cell rest g : ℕ) (us : List Stamped) → s.mode ≡ modes.Visit → AtLook s.stack cell rest → t ≡ record s { places = t.places } →
     Moved P t new (walk_over us (depth_of P s) (term s.stack.heap cell) (goals_of s.stack rest) s.stack.heap.count (local_of s)) 0 →
     TakesOne (Seen g us) (rest_of P s) s.used (rest_of P new) new.used
 unfolding meet answered
@@ -196,7 +196,7 @@ takes-look P s t new cell rest g us at look is moved =
     (omega (arith, moved.used, ap (λ x. x.used) is)) (moved.limit ∙ ap (λ x. x.limit) is)
     (λ most left answers. ap (λ x. after P x most left answers (walk_over us (depth_of P s) (term s.stack.heap cell) (goals_of s.stack rest) s.stack.heap.count (local_of s))) (sym is) ∙ moved.ends most left answers)
 
-pub takes-published : (P : Program) (s new : Solver) (c : Clause) (rest : ℕ) → s.mode ≡ modes.Visit → AtAwait s.stack c rest → new ≡ record s { stack = record s.stack { goals = rest }; places = new.places } →
+pub takes-published : (P : Program) (s new : Progress) (c : Clause) (rest : ℕ) → s.mode ≡ modes.Visit → AtAwait s.stack c rest → new ≡ record s { stack = record s.stack { goals = rest }; places = new.places } →
     TakesOne (Got Published) (rest_of P s) s.used (rest_of P new) new.used
 unfolding meet answered cases_of machine
 takes-published P s new c rest at await is =
@@ -204,21 +204,21 @@ takes-published P s new c rest at await is =
     (ap (λ x. x.used) is) (ap (λ x. x.limit) is)
     (λ most left answers. ap (λ m. ending_of most (Rest P m)) (sym (ap (machine P left answers) is ∙ at-place P (record s { stack = record s.stack { goals = rest }; places = new.places }) (record { goals = goals_of s.stack rest; variables = s.stack.heap.count }) at refl left answers)))
 
-pub stands-await : (P : Program) (s : Solver) (c : Clause) (rest : ℕ) → s.used ≤ s.limit → s.mode ≡ modes.Visit → AtAwait s.stack c rest → StandsAt (Ask (Publish (Last c ∷ []))) (rest_of P s) s.used s.out.items
+pub stands-await : (P : Program) (s : Progress) (c : Clause) (rest : ℕ) → s.used ≤ s.limit → s.mode ≡ modes.Visit → AtAwait s.stack c rest → StandsAt (Ask (Publish (Last c ∷ []))) (rest_of P s) s.used s.out.items
 unfolding turn meet
 stands-await P s c rest within at await =
     stands P s (Await (Publish (Last c ∷ []))) (goals_of s.stack rest) (Ask (Publish (Last c ∷ []))) within at (ap (map (element s.stack.heap)) await.items) (λ left. refl)
 
-pub says-await : (P : Program) (s : Solver) (c : Clause) (rest : ℕ) (us : List Update) → s.used ≤ s.limit → s.mode ≡ modes.Visit → AtAwait s.stack c rest → us ≡ Last c ∷ [] → Says P s (turns.Ask (Publish us))
+pub says-await : (P : Program) (s : Progress) (c : Clause) (rest : ℕ) (us : List Update) → s.used ≤ s.limit → s.mode ≡ modes.Visit → AtAwait s.stack c rest → us ≡ Last c ∷ [] → Says P s (turns.Ask (Publish us))
 unfolding Says
 says-await P s c rest us within at await is =
     ((us, refl), (at, c, rest, await), subst (λ us. StandsAt (Ask (Publish us)) (rest_of P s) s.used s.out.items) (sym is) (stands-await P s c rest within at await))
 
-pub says-look : (P : Program) (s : Solver) → s.used ≤ s.limit → WaitsForView s → Says P s turns.Refresh
+pub says-look : (P : Program) (s : Progress) → s.used ≤ s.limit → WaitsForView s → Says P s turns.Refresh
 unfolding Says
 says-look P s within w = (w, stands-look P s w.1 w.2 within w.0 w.3)
 
-pub says-ended : (P : Program) (s : Solver) (e : ThreadEnd) (r : Outcome) → s.used ≤ s.limit → s.mode ≡ modes.Back r → cases_of (clauses_for P) s.stack ≡ [] → next_of (result_of r) ≡ Finishes e → Says P s (turns.Ended e)
+pub says-ended : (P : Program) (s : Progress) (e : ThreadEnd) (r : Outcome) → s.used ≤ s.limit → s.mode ≡ modes.Back r → cases_of (clauses_for P) s.stack ≡ [] → next_of (result_of r) ≡ Finishes e → Says P s (turns.Ended e)
 unfolding Says
 says-ended P s e r within at none is = ends P s e r within at none is
 
@@ -248,7 +248,7 @@ pub await-at : (s : State) (l : Link) (c : Clause) → Begins s l → l.item ≡
 await-at s l c b is = record { items = b.items ∙ ap (λ i. i ∷ list_at s.links l.next) is; behind = b.rest }
 
 -- the same but for the places
-pub stays-places : (P : Program) (s t new : Solver) → t ≡ record s { places = t.places } → Stays P t new → (final : Solver) → final ≡ record new { places = final.places } → final.places.items ≡ s.places.items → Stays P s final
+pub stays-places : (P : Program) (s t new : Progress) → t ≡ record s { places = t.places } → Stays P t new → (final : Progress) → final ≡ record new { places = final.places } → final.places.items ≡ s.places.items → Stays P s final
 unfolding machine
 stays-places P s t new is stay final was same = record {
   used = ap (λ x. x.used) was ∙ stay.used ∙ ap (λ x. x.used) is;

@@ -13,8 +13,8 @@ use Rattle.plsearch.specs.Solving.{Begins}
 use Rattle.plframe.specs.Places.{element, AreIn}
 use Rattle.plframe.specs.State.{State, IsList, Extends, goals_of, cases_of, place_of}
 use Rattle.plframe.proofs.Arena.{list_at-none}
-use Rattle.plsolve.specs.declared.solver.Mode.TheVariants as modes
-use Rattle.plsolve.specs.declared.solver.Solver.{Solver}
+use Rattle.plsolve.specs.declared.progress.Mode.TheVariants as modes
+use Rattle.plsolve.specs.declared.progress.Progress.{Progress}
 use Rattle.plsolve.proofs.Moves.{machine-at}
 use Rattle.plsolve.specs.Solver.{Starts, StartsGoal, rest_of, machine, empty}
 
@@ -65,7 +65,7 @@ starts-goal old st new list made cell count g e is grown many l f heap there goa
 }
 
 -- a solver at the start
-pub begins : (P : Program) (s : Solver) (stack : State) (list : ℕ) → Starts stack list P.goals → s.stack ≡ record stack { goals = list } → s.mode ≡ modes.Visit → s.used ≡ 0 → s.out.items ≡ [] →
+pub begins : (P : Program) (s : Progress) (stack : State) (list : ℕ) → Starts stack list P.goals → s.stack ≡ record stack { goals = list } → s.mode ≡ modes.Visit → s.used ≡ 0 → s.out.items ≡ [] →
     Begins (search_of P s.limit) (rest_of P s) s.used
 unfolding search_of rest_of Rest outs start_of cases_of
 begins P s stack list starts is at used out = (

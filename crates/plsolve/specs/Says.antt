@@ -5,13 +5,13 @@ use Rattle.plevent.specs.declared.update.Update.{Update}
 use Rattle.plevent.specs.declared.request.Request.TheVariants.{Publish}
 use Rattle.plload.specs.Program.{Program}
 use Rattle.plsearch.specs.Solving.{StandsAt, EndsAt}
-use Rattle.plsolve.specs.declared.solver.Solver.{Solver}
+use Rattle.plsolve.specs.declared.progress.Progress.{Progress}
 use Rattle.plsolve.specs.declared.solver.Turn.{Turn}
 use Rattle.plsolve.specs.declared.solver.Turn.TheVariants as turns
 use Rattle.plsolve.specs.Solver.{rest_of, WaitsForView, WaitsToPublish}
 
 -- the only request is to publish a batch
-unfoldable pub Says : Program → Solver → Turn → Type 0
+unfoldable pub Says : Program → Progress → Turn → Type 0
 Says P s (turns.Ask q) = ((us : List Update) × (q ≡ Publish us)) × WaitsToPublish s × StandsAt (Ask q) (rest_of P s) s.used s.out.items
 Says P s turns.Refresh = WaitsForView s × StandsAt View (rest_of P s) s.used s.out.items
 Says P s turns.Slice = Unit {0}

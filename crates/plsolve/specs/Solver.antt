@@ -18,13 +18,13 @@ use Rattle.plframe.specs.State.{State, place_of, cases_of, goals_of, IsList}
 use Rattle.plsolve.specs.Heads.{AtGoal, AtLook, AtAwait}
 use Rattle.plsolve.specs.declared.rows.Ready.{Ready}
 use Rattle.plsolve.specs.declared.rows.Ready.TheVariants as readies
-use Rattle.plsolve.specs.declared.solver.Due.{Due}
-use Rattle.plsolve.specs.declared.solver.Due.TheVariants as dues
-use Rattle.plsolve.specs.declared.solver.Outcome.{Outcome}
-use Rattle.plsolve.specs.declared.solver.Outcome.TheVariants as outcomes
-use Rattle.plsolve.specs.declared.solver.Mode.{Mode as Going}
-use Rattle.plsolve.specs.declared.solver.Mode.TheVariants as modes
-use Rattle.plsolve.specs.declared.solver.Solver.{Solver}
+use Rattle.plsolve.specs.declared.progress.Due.{Due}
+use Rattle.plsolve.specs.declared.progress.Due.TheVariants as dues
+use Rattle.plsolve.specs.declared.progress.Outcome.{Outcome}
+use Rattle.plsolve.specs.declared.progress.Outcome.TheVariants as outcomes
+use Rattle.plsolve.specs.declared.progress.Mode.{Mode as Going}
+use Rattle.plsolve.specs.declared.progress.Mode.TheVariants as modes
+use Rattle.plsolve.specs.declared.progress.Progress.{Progress}
 
 -- nothing catches a ball, so the levels of the markers behind it are left out
 abbrev pub result_of : Outcome → Result
@@ -38,11 +38,11 @@ abbrev pub mode_of : Going → State → Mode
 mode_of modes.Visit s = At (place_of s)
 mode_of (modes.Back r) s = Back (result_of r)
 
-abbrev pub local_of : Solver → Local
+abbrev pub local_of : Progress → Local
 local_of s = record { out = s.out.items }
 
 -- the machine that a solver is, with so many steps and these answers left
-unfoldable pub machine : Program → ℕ → List Answer → Solver → Machine
+unfoldable pub machine : Program → ℕ → List Answer → Progress → Machine
 machine P left answers s = record {
   mode = mode_of s.mode s.stack;
   cases = cases_of (clauses_for P) s.stack;
@@ -50,29 +50,29 @@ machine P left answers s = record {
 }
 
 -- the rest of its search, by a limit of steps from the start and the answers to come
-unfoldable pub rest_of : Program → Solver → Search
+unfoldable pub rest_of : Program → Progress → Search
 unfolding machine
 rest_of P s n answers = ending_of (min n s.limit) (Rest P (machine P (min n s.limit - s.used) answers s))
 
-abbrev pub depth_of : Program → Solver → ℕ
+abbrev pub depth_of : Program → Progress → ℕ
 depth_of P s = deeper (cases_of (clauses_for P) s.stack) 0
 
 -- what the search ends with from here, and after a move
-abbrev pub now : Program → Solver → ℕ → ℕ → List Answer → Ending
+abbrev pub now : Program → Progress → ℕ → ℕ → List Answer → Ending
 now P s most left answers = ending_of most (Rest P (machine P left answers s))
 
-abbrev pub after : Program → Solver → ℕ → ℕ → List Answer → Move → Ending
+abbrev pub after : Program → Progress → ℕ → ℕ → List Answer → Move → Ending
 after P s most left answers m = ending_of most (Rest P (move (cases_of (clauses_for P) s.stack) (record { steps = left; answers = answers; local = local_of s }) m))
 
 -- it made a move that took so many steps
-pub record Moved (P : Program) (old new : Solver) (m : Move) (cost : ℕ) : Type 0 where
+pub record Moved (P : Program) (old new : Progress) (m : Move) (cost : ℕ) : Type 0 where
   pub used : new.used ≡ old.used + cost
   pub limit : new.limit ≡ old.limit
   pub places : new.places.items ≡ old.places.items
   pub ends : (most left : ℕ) (answers : List Answer) → after P old most left answers m ≡ now P new most left answers
 
 -- it stands where it stood
-pub record Stays (P : Program) (old new : Solver) : Type 0 where
+pub record Stays (P : Program) (old new : Progress) : Type 0 where
   pub used : new.used ≡ old.used
   pub limit : new.limit ≡ old.limit
   pub places : new.places.items ≡ old.places.items
@@ -86,20 +86,20 @@ is_var (atom f) = false
 is_var (compound f ts) = false
 
 -- what a term comes to as a goal, in a heap that may have grown
-abbrev pub ready_as : Solver → Ready → Runnable
+abbrev pub ready_as : Progress → Ready → Runnable
 ready_as s (readies.Runs c) = Runs (term s.stack.heap c)
 ready_as s (readies.Raises e) = Raises e
 
-abbrev pub ReadyWithin : Solver → Ready → Type 0
+abbrev pub ReadyWithin : Progress → Ready → Type 0
 ReadyWithin s (readies.Runs c) = c < length s.stack.heap.cells
 ReadyWithin s (readies.Raises e) = Unit {0}
 
-pub record Readies (old new : Solver) (goal : ℕ) (r : Ready) : Type 0 where
+pub record Readies (old new : Progress) (goal : ℕ) (r : Ready) : Type 0 where
   pub is : runnable (term old.stack.heap goal) ≡ ready_as new r
   pub within : ReadyWithin new r
 
 -- a turn without a step
-pub record Quiet (P : Program) (old new : Solver) : Type 0 where
+pub record Quiet (P : Program) (old new : Progress) : Type 0 where
   pub used : new.used ≡ old.used
   pub limit : new.limit ≡ old.limit
   pub places : new.places.items ≡ old.places.items
@@ -107,24 +107,24 @@ pub record Quiet (P : Program) (old new : Solver) : Type 0 where
   pub goes : (r : Result) → mode_of old.mode old.stack ≡ Back r → cases_of (clauses_for P) old.stack ≡ [] → ⊥
 
 -- it carries a result, and no case is open
-abbrev pub IsOver : Program → Solver → Type 0
+abbrev pub IsOver : Program → Progress → Type 0
 IsOver P s = (r : Outcome) × (s.mode ≡ modes.Back r) × (cases_of (clauses_for P) s.stack ≡ [])
 
 -- a goal waits for a view, or a clause until it is published
-abbrev pub WaitsForView : Solver → Type 0
+abbrev pub WaitsForView : Progress → Type 0
 WaitsForView s = (s.mode ≡ modes.Visit) × (cell : ℕ) × (rest : ℕ) × AtLook s.stack cell rest
 
-abbrev pub WaitsToPublish : Solver → Type 0
+abbrev pub WaitsToPublish : Progress → Type 0
 WaitsToPublish s = (s.mode ≡ modes.Visit) × (c : Clause) × (rest : ℕ) × AtAwait s.stack c rest
 
-unfoldable pub Settled : Program → Solver → Due → Type 0
+unfoldable pub Settled : Program → Progress → Due → Type 0
 Settled P s (dues.Goal level cell rest) = (s.mode ≡ modes.Visit) × AtGoal s.stack level cell rest × (s.used + 1 ≤ s.limit)
 Settled P s (dues.Look cell rest) = WaitsForView s
 Settled P s (dues.Await rest) = WaitsToPublish s
 Settled P s dues.Over = IsOver P s
 
 -- a step was taken
-pub record Stepped (P : Program) (old new : Solver) : Type 0 where
+pub record Stepped (P : Program) (old new : Progress) : Type 0 where
   pub goes : Goes old.limit (rest_of P old) old.used (rest_of P new) new.used
   pub used : new.used ≡ old.used + 1
   pub limit : new.limit ≡ old.limit

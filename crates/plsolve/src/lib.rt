@@ -1,8 +1,11 @@
 //! The depth-first search of a thread, which can stop and go on.
 #![tactic(auto)]
 
-pub mod control;
-pub mod error;
-pub mod head;
-pub mod rows;
+mod control;
+mod error;
+mod head;
+mod progress;
+mod rows;
 pub mod solver;
+#[cfg(test)]
+mod tests;

@@ -1,4 +1,4 @@
-//! The solver.
+//! How far a search has come, and how it goes on.
 
 ghost use Rattle.std.specs.Prelude.{◌≡◌, ◌+◌, ◌<◌, ◌≤◌, ◌↔◌, ℕ, List, [], ◌∷◌, ◌++◌, length, IfOk, OnOk, OnErr, IfSome, IfNone, IsNone, IsTrue, fold};
 ghost use Rattle.plheap.specs.Store.{term};
@@ -22,6 +22,7 @@ ghost use Rattle.plsolve.specs.Says.{Says, IsSlice};
 use crate::control::read_control;
 use crate::error;
 use crate::head::{Head, head_of};
+use crate::solver::Turn;
 use plevent::request::{Reply, Request, ThreadEnd};
 use plevent::update::{Batch, Update};
 use plframe::frame::{Closed, Item, Source};
@@ -50,16 +51,16 @@ pub enum Outcome {
     Spent,
 }
 
-/// What the solver does next: visit its list, or carry a result outward.
+/// What is next: the list is visited, or a result is carried outward.
 #[derive(Drop)]
 pub enum Mode {
     Visit,
     Back(Outcome),
 }
 
-/// The search of a thread, which can stop and go on.
+/// How far a search has come.
 #[derive(Drop)]
-pub struct Solver {
+pub struct Progress {
     pub alloc: Global,
     pub stack: Stack,
     pub mode: Mode,
@@ -71,19 +72,6 @@ pub struct Solver {
     pub out: Vec<u8>,
     /// The places of the answers taken.
     pub places: Vec<u64>,
-}
-
-/// What a call of a solver came to.
-#[derive(Drop)]
-pub enum Turn {
-    /// It asks a request.
-    Ask(Request),
-    /// It asks for a view of the database.
-    Refresh,
-    /// The fuel is used.
-    Slice,
-    /// The search has ended.
-    Ended(ThreadEnd),
 }
 
 /// What is due.
@@ -99,9 +87,9 @@ pub enum Due {
     Over,
 }
 
-impl Solver {
+impl Progress {
     /// The search of main: the program's goals in order, each once, with at most so many steps.
-    pub fn new(alloc: Global, program: &Program, limit: u64) -> Result<Solver, AllocError>
+    pub fn new(alloc: Global, program: &Program, limit: u64) -> Result<Self, AllocError>
         ensures begins { IfOk result (λ s. Begins (search_of program.now limit) (rest_of program.now s) s.used) }
         ensures limit { IfOk result (λ s. s.limit ≡ limit) }
         ensures places { IfOk result (λ s. s.places.items ≡ []) }
@@ -109,7 +97,7 @@ impl Solver {
         let mut stack = Stack::new(alloc);
         let list = start(&mut stack, alloc, program.goals())?;
         stack.visit(list);
-        Ok(Solver {
+        Ok(Progress {
             alloc,
             stack,
             mode: Mode::Visit,
@@ -118,27 +106,6 @@ impl Solver {
             out: Vec::new(alloc),
             places: Vec::new(alloc),
         })
-    }
-
-    /// The bytes written so far.
-    pub fn output(&self) -> &[u8]
-        ensures { result.now ≡ self.now.out.items }
-    {
-        &self.out
-    }
-
-    /// The places of the answers taken so far, in order.
-    pub fn places(&self) -> &[u64]
-        ensures { result.now ≡ self.now.places.items }
-    {
-        &self.places
-    }
-
-    /// The steps taken so far.
-    pub fn steps(&self) -> u64
-        ensures { result ≡ self.now.used }
-    {
-        self.used
     }
 
     /// Goes on until something is asked, the search ends, or so many steps are taken.

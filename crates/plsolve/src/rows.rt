@@ -18,7 +18,7 @@ ghost use Rattle.plsolve.specs.Solver.{local_of, depth_of, Moved, Stays, Readies
 
 use crate::control::Control;
 use crate::error;
-use crate::solver::{Mode, Outcome, Solver};
+use crate::progress::{Mode, Outcome, Progress};
 use plclause::clause::Clause;
 use plclause::form::{ClauseForm, clause_of};
 use plframe::frame::{Item, Source};
@@ -49,7 +49,7 @@ fn is_static_procedure(program: &Program, p: &Indicator) -> bool
     is_fixed(p) || !program.clauses_of(p).is_empty()
 }
 
-impl Solver {
+impl Progress {
     /// Visits a list.
     pub(crate) fn go_on(&mut self, list: u32, cost: u64)
         requires list { IsList self.old.stack list }

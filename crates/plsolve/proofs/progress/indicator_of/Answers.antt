@@ -3,7 +3,7 @@ use Rattle.plterm.specs.Tree.{compound, trees}
 use Rattle.plclause.specs.Indicators.{indicator}
 use Rattle.plheap.specs.Store.{term, terms}
 use Rattle.plsolve.proofs.Heading.{arity-is}
-use Rattle.plsolve.proofs.solver.indicator_of.Goals as goal
+use Rattle.plsolve.proofs.progress.indicator_of.Goals as goal
 
 pub returns-in_ok-name-in-Struct : goal.returns-in_ok-name-in-Struct
 returns-in_ok-name-in-Struct c =

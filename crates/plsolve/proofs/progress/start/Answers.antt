@@ -2,7 +2,7 @@ use Rattle.std.proofs.Common.{◌≡◌, ◌-◌, ◌<◌, ◌∷◌, le_refl, s
 use Rattle.std.proofs.lemmas.List.{drop_all}
 use Rattle.plsolve.specs.Solver.{Starts}
 use Rattle.plsolve.proofs.Starts.{starts-empty, starts-more}
-use Rattle.plsolve.proofs.solver.start.Goals as goal
+use Rattle.plsolve.proofs.progress.start.Goals as goal
 
 pub loop-i-init : goal.loop-i-init
 loop-i-init c = (le_refl _, subst (Starts c.args.stack.now 0) (sym (drop_all (length c.args.goals.now) c.args.goals.now (le_refl _))) (starts-empty c.args.stack.now c.requires))

@@ -6,7 +6,7 @@ use Rattle.plsearch.specs.Search.{once}
 use Rattle.plheap.specs.Store.{term}
 use Rattle.plsolve.proofs.Starts.{starts-goal}
 use Rattle.plsolve.proofs.Moves.{if_ok_map}
-use Rattle.plsolve.proofs.solver.start_goal.Goals as goal
+use Rattle.plsolve.proofs.progress.start_goal.Goals as goal
 
 pub put-requires : goal.put-requires
 put-requires c =

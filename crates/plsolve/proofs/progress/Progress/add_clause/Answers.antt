@@ -1,5 +1,5 @@
 use Rattle.plsolve.proofs.Moves.{stays_put, on_err}
-use Rattle.plsolve.proofs.solver.Solver.add_clause.Goals as goal
+use Rattle.plsolve.proofs.progress.Progress.add_clause.Goals as goal
 
 pub returns-in_err-procedure-clause-err : goal.returns-in_err-procedure-clause-err
 returns-in_err-procedure-clause-err c = on_err _ (stays_put c.args.program.now c.args.self.now)

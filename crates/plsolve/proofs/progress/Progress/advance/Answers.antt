@@ -3,7 +3,7 @@ use Rattle.plsolve.specs.Solver.{rest_of, Settled}
 use Rattle.plsolve.specs.Says.{Says}
 use Rattle.plsolve.proofs.Moves.{if_ok_map}
 use Rattle.plsolve.proofs.Runs.{goes_on, stays_goes, says-look}
-use Rattle.plsolve.proofs.solver.Solver.advance.Goals as goal
+use Rattle.plsolve.proofs.progress.Progress.advance.Goals as goal
 
 pub returns-then-left-eq0-clause-says : goal.returns-then-left-eq0-clause-says
 unfolding Says

@@ -1,7 +1,7 @@
 use Rattle.std.proofs.Common.{◌≡◌, ◌+◌, ◌≤◌}
 use Rattle.plsearch.specs.Solving.{Goes}
 use Rattle.plsolve.specs.Solver.{rest_of}
-use Rattle.plsolve.proofs.solver.Solver.advance.Given as goal
+use Rattle.plsolve.proofs.progress.Progress.advance.Given as goal
 
 abbrev pub invariant-loop-level : goal.invariant-loop-level
 invariant-loop-level l = record {

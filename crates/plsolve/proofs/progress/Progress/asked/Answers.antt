@@ -1,7 +1,7 @@
 use Rattle.std.proofs.Common.{ap₂, ◌∙◌, ◌++◌, ◌∷◌, []}
 use Rattle.plevent.specs.declared.update.Update.TheVariants.{Last}
 use Rattle.plsolve.proofs.Runs.{says-await, await-at}
-use Rattle.plsolve.proofs.solver.Solver.asked.Goals as goal
+use Rattle.plsolve.proofs.progress.Progress.asked.Goals as goal
 
 pub returns-clause-says : goal.returns-clause-says
 returns-clause-says c =

@@ -2,7 +2,7 @@ use Rattle.std.proofs.Common.{refl}
 use Rattle.plload.specs.Program.{clauses_for}
 use Rattle.plsolve.specs.Solver.{Settled}
 use Rattle.plsolve.proofs.Quiets.{quiet-mark, quiet-choice, over-now, not_both}
-use Rattle.plsolve.proofs.solver.Solver.back.Goals as goal
+use Rattle.plsolve.proofs.progress.Progress.back.Goals as goal
 
 pub returns-in-None-clause-due : goal.returns-in-None-clause-due
 unfolding Settled

@@ -3,7 +3,7 @@ use Rattle.plsearch.specs.Types.{Goal}
 use Rattle.plheap.specs.Store.{term}
 use Rattle.plframe.proofs.Stacks.{Extends-trans}
 use Rattle.plsolve.proofs.Moves.{visits, extended, on_err}
-use Rattle.plsolve.proofs.solver.Solver.both.Goals as goal
+use Rattle.plsolve.proofs.progress.Progress.both.Goals as goal
 
 pub returns-in_err-behind-clause-err : goal.returns-in_err-behind-clause-err
 returns-in_err-behind-clause-err c = on_err _ (extended c.args.program.now c.args.self.now c.link.new.self c.link.ensures.stays (ap (λ h. h.count) c.link.ensures.heap))

@@ -4,7 +4,7 @@ use Rattle.plheap.specs.Store.{term}
 use Rattle.plsolve.specs.Solver.{depth_of}
 use Rattle.plsolve.proofs.Looks.{look-none, look-some}
 use Rattle.plsolve.proofs.Moves.{on_ok_map}
-use Rattle.plsolve.proofs.solver.Solver.look.Goals as goal
+use Rattle.plsolve.proofs.progress.Progress.look.Goals as goal
 
 pub returns-then-exists-clause-ok : goal.returns-then-exists-clause-ok
 returns-then-exists-clause-ok c =

@@ -5,7 +5,7 @@ use Rattle.plheap.specs.Store.{term}
 use Rattle.plframe.specs.State.{goals_of}
 use Rattle.plsolve.specs.Solver.{Stays, Moved, depth_of, local_of}
 use Rattle.plsolve.proofs.Moves.{extended, stays-trans, moved-from, raised-any, on_err, on_ok_map, on_err_map}
-use Rattle.plsolve.proofs.solver.Solver.once.Goals as goal
+use Rattle.plsolve.proofs.progress.Progress.once.Goals as goal
 
 pub returns-in_err-error-clause-err : goal.returns-in_err-error-clause-err
 returns-in_err-error-clause-err c =

@@ -3,7 +3,7 @@ use Rattle.plsolve.specs.Heads.{IsHead}
 use Rattle.plsolve.specs.Solver.{Settled}
 use Rattle.plsolve.proofs.Heading.{list-opened}
 use Rattle.plsolve.proofs.Quiets.{quiet-stop, quiet-spent, quiet-commit}
-use Rattle.plsolve.proofs.solver.Solver.pass.Goals as goal
+use Rattle.plsolve.proofs.progress.Progress.pass.Goals as goal
 
 pub returns-then-self-clause-on : goal.returns-then-self-clause-on
 unfolding IsHead

@@ -1,6 +1,6 @@
 use Rattle.std.proofs.Common.{ap}
 use Rattle.plsolve.proofs.Moves.{visits, extended, on_err}
-use Rattle.plsolve.proofs.solver.Solver.push.Goals as goal
+use Rattle.plsolve.proofs.progress.Progress.push.Goals as goal
 
 pub returns-in_err-list-clause-err : goal.returns-in_err-list-clause-err
 returns-in_err-list-clause-err c = on_err _ (extended c.args.program.now c.args.self.now c.link.new.self c.link.ensures.stays (ap (λ h. h.count) c.link.ensures.heap))

@@ -1,9 +1,9 @@
 use Rattle.std.proofs.Common.{ap, ◌∙◌, ◌+◌}
 use Rattle.plframe.specs.State.{goals_of}
-use Rattle.plsolve.specs.declared.solver.Outcome.TheVariants as outcomes
-use Rattle.plsolve.specs.declared.solver.Mode.TheVariants as modes
+use Rattle.plsolve.specs.declared.progress.Outcome.TheVariants as outcomes
+use Rattle.plsolve.specs.declared.progress.Mode.TheVariants as modes
 use Rattle.plsolve.proofs.Moves.{raises, stays_put, on_err}
-use Rattle.plsolve.proofs.solver.Solver.raise.Goals as goal
+use Rattle.plsolve.proofs.progress.Progress.raise.Goals as goal
 
 pub returns-in_err-ball-clause-err : goal.returns-in_err-ball-clause-err
 returns-in_err-ball-clause-err c = on_err _ (stays_put c.args.program.now c.args.self.now)

@@ -2,7 +2,7 @@ use Rattle.std.proofs.Common.{refl, ◌∙◌}
 use Rattle.plevent.specs.Alive.{before}
 use Rattle.plsolve.proofs.Moves.{stays-by, on_err}
 use Rattle.plsolve.proofs.Runs.{takes-look, look-at, stays-places, popped}
-use Rattle.plsolve.proofs.solver.Solver.refreshed.Goals as goal
+use Rattle.plsolve.proofs.progress.Progress.refreshed.Goals as goal
 
 pub returns-in_err-push-clause-err : goal.returns-in_err-push-clause-err
 returns-in_err-push-clause-err c = on_err _ (stays-by c.args.program.now c.args.self.now _ refl refl c.in_err-push.ensures.items refl refl refl refl)

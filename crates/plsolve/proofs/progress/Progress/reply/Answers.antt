@@ -1,7 +1,7 @@
 use Rattle.std.proofs.Common.{ap, refl}
 use Rattle.plsolve.proofs.Moves.{stays-by, on_err}
 use Rattle.plsolve.proofs.Runs.{takes-published, first-await, await-some}
-use Rattle.plsolve.proofs.solver.Solver.reply.Goals as goal
+use Rattle.plsolve.proofs.progress.Progress.reply.Goals as goal
 
 pub unreachable-requires : goal.unreachable-requires
 unreachable-requires c = await-some c.args.self.now.stack c.requires.waits.1 c.requires.waits.2 c.requires.waits.3 c.in_default.ensures.none

@@ -1,6 +1,6 @@
 use Rattle.std.proofs.Common.{ap, refl, ◌∙◌}
 use Rattle.plsolve.proofs.Moves.{called, uncalled}
-use Rattle.plsolve.proofs.solver.Solver.resolve.Goals as goal
+use Rattle.plsolve.proofs.progress.Progress.resolve.Goals as goal
 
 pub returns-then-branch-clause-ok : goal.returns-then-branch-clause-ok
 returns-then-branch-clause-ok c = called c.args.program.now c.args.self.now _ c.args.cell c.args.rest c.args.source c.args.cost (c.in_ok-call.ensures.yes c.if-branch.true) refl refl refl refl refl

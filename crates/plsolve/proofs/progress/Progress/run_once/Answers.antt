@@ -6,7 +6,7 @@ use Rattle.plframe.specs.State.{goals_of}
 use Rattle.plframe.proofs.Stacks.{Extends-trans}
 use Rattle.plsolve.specs.Solver.{Stays}
 use Rattle.plsolve.proofs.Moves.{extended, opens-visit, on_err}
-use Rattle.plsolve.proofs.solver.Solver.run_once.Goals as goal
+use Rattle.plsolve.proofs.progress.Progress.run_once.Goals as goal
 
 pub returns-in_err-behind-clause-err : goal.returns-in_err-behind-clause-err
 returns-in_err-behind-clause-err c = on_err _ (extended c.args.program.now c.args.self.now c.link.new.self c.link.ensures.stays (ap (λ h. h.count) c.link.ensures.heap))

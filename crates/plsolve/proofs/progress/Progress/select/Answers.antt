@@ -5,8 +5,8 @@ use Rattle.plframe.specs.State.{cases_of}
 use Rattle.plframe.proofs.Stacks.{extends-same}
 use Rattle.plsolve.proofs.Moves.{visits, gives}
 use Rattle.plsolve.specs.Solver.{local_of}
-use Rattle.plsolve.specs.declared.solver.Outcome.TheVariants as outcomes
-use Rattle.plsolve.proofs.solver.Solver.select.Goals as goal
+use Rattle.plsolve.specs.declared.progress.Outcome.TheVariants as outcomes
+use Rattle.plsolve.proofs.progress.Progress.select.Goals as goal
 
 pub returns-in-True-clause-ok : goal.returns-in-True-clause-ok
 unfolding row

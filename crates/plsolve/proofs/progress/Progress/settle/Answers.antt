@@ -1,7 +1,7 @@
 use Rattle.std.proofs.Common.{arith, ◌∙◌}
 use Rattle.plsolve.specs.Solver.{rest_of}
 use Rattle.plsolve.proofs.Runs.{goes_on, stays_goes, quiet_goes}
-use Rattle.plsolve.proofs.solver.Solver.settle.Goals as goal
+use Rattle.plsolve.proofs.progress.Progress.settle.Goals as goal
 
 pub returns-in_err-quiet_turn-clause-goes : goal.returns-in_err-quiet_turn-clause-goes
 returns-in_err-quiet_turn-clause-goes c =

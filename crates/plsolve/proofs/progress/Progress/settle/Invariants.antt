@@ -2,7 +2,7 @@ use Rattle.std.proofs.Common.{◌≡◌}
 use Rattle.plsearch.specs.Solving.{Goes}
 use Rattle.plsolve.specs.Solver.{rest_of}
 use Rattle.plsolve.proofs.Runs.{load}
-use Rattle.plsolve.proofs.solver.Solver.settle.Given as goal
+use Rattle.plsolve.proofs.progress.Progress.settle.Given as goal
 
 abbrev pub invariant-loop-due : goal.invariant-loop-due
 invariant-loop-due l = record {

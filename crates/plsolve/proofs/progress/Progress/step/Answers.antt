@@ -6,7 +6,7 @@ use Rattle.plframe.specs.State.{goals_of}
 use Rattle.plheap.specs.Store.{term}
 use Rattle.plsolve.proofs.Runs.{steps}
 use Rattle.plsolve.proofs.Moves.{on_ok_map}
-use Rattle.plsolve.proofs.solver.Solver.step.Goals as goal
+use Rattle.plsolve.proofs.progress.Progress.step.Goals as goal
 
 pub returns-clause-ok : goal.returns-clause-ok
 unfolding select

@@ -1,7 +1,7 @@
 use Rattle.std.proofs.Common.{ap, refl, ◌∙◌}
 use Rattle.plframe.proofs.Stacks.{extends-same}
 use Rattle.plsolve.proofs.Moves.{visits, stays-by, on_err}
-use Rattle.plsolve.proofs.solver.Solver.write_bytes.Goals as goal
+use Rattle.plsolve.proofs.progress.Progress.write_bytes.Goals as goal
 
 pub returns-in_err-extend_from_slice-clause-err : goal.returns-in_err-extend_from_slice-clause-err
 returns-in_err-extend_from_slice-clause-err c = on_err _ (stays-by c.args.program.now c.args.self.now _ refl refl refl refl refl refl c.in_err-extend_from_slice.ensures.items)
