@@ -43,10 +43,10 @@ kept_utf8 b bytes rest =
     (λ t e. let none : 0 ≡ rest = cc in subst (λ n. is_utf8 (take (suc n) (b ∷ bytes)) ≡ true) none (is_utf8-from_IsUtf8 (b ∷ []) (IsUtf8-from_ascii (b ∷ []) (IsAscii-cons b [] (ltb-true b 128 t) IsAscii-nil))))
     (λ _. cond_both (is_character b bytes) (Some (width b - 1)) None (λ o. o ≡ Some rest → is_utf8 (take (suc rest) (b ∷ bytes)) ≡ true)
     (λ t e.
-      let n : width b - 1 ≡ rest = cc in
-      let wide = width_some b in
-      let same : width b ≡ suc rest = omega arith in
-      subst (λ k. is_utf8 (take k (b ∷ bytes)) ≡ true) same (and_parts (leb (width b) (length (b ∷ bytes))) (is_utf8 (take (width b) (b ∷ bytes))) t).1)
+    let n : width b - 1 ≡ rest = cc in
+    let wide = width_some b in
+    let same : width b ≡ suc rest = omega arith in
+    subst (λ k. is_utf8 (take k (b ∷ bytes)) ≡ true) same (and_parts (leb (width b) (length (b ∷ bytes))) (is_utf8 (take (width b) (b ∷ bytes))) t).1)
     (λ _ e. absurd cc))
   where
     width_some : (b : ℕ) → 1 ≤ width b

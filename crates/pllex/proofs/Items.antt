@@ -64,14 +64,14 @@ shut quote start mode count place (b ∷ bytes) end h =
 -- ---- how long its value is
 
 few_bounded : (start count more len place end : ℕ) (next : Within) (rest : Within → ℕ → Quoted) (value : List ℕ) → ((n : ℕ) → n ≤ 65535 → rest next n ≡ ends.Closed end → n + length value ≤ 65535) → len ≤ more →
-  quoted_goes_on rest (bounded Single start count more next) ≡ ends.Closed end → count + (len + length value) ≤ 65535
+    quoted_goes_on rest (bounded Single start count more next) ≡ ends.Closed end → count + (len + length value) ≤ 65535
 few_bounded start count more len place end next rest value f le =
     cond_both (leb (count + more) 65535) (onwards.Goes next (count + more)) (onwards.Ends (ends.Bad faults.NameTooLong start)) (λ o. quoted_goes_on rest o ≡ ends.Closed end → count + (len + length value) ≤ 65535)
     (λ t h. omega (arith, f (count + more) (leb-true (count + more) 65535 t) h))
     (λ _ h. absurd cc)
 
 few_by : (start count place end : ℕ) (bytes : List ℕ) (t : Turn) (rest : Within → ℕ → Quoted) (value : Within → List ℕ) → ((next : Within) (n : ℕ) → n ≤ 65535 → rest next n ≡ ends.Closed end → n + length (value next) ≤ 65535) → count ≤ 65535 →
-  quoted_goes_on rest (counted_turn Single start count place t) ≡ ends.Closed end → count + length (value_step bytes t ++ value_goes_on value (next_mode t)) ≤ 65535
+    quoted_goes_on rest (counted_turn Single start count place t) ≡ ends.Closed end → count + length (value_step bytes t ++ value_goes_on value (next_mode t)) ≤ 65535
 few_by start count place end bytes (turns.Goes next) rest value f le h = f next count le h
 few_by start count place end bytes (turns.Adds next c) rest value f le h =
     let n = few_bounded start count (len_utf8 c) (length (encode_utf8 c)) place end next rest (value next) (f next) (omega (arith, length-encode c)) h in
@@ -104,6 +104,7 @@ escaped_scalar b c =
   where
     itself : (b : ℕ) → ((b == 92) || (b == 39) || (b == 34) || (b == 96)) ≡ true → is_scalar b ≡ true
     itself b t = grind (arith, nat_tests)
+
     one : (n : ℕ) (test : Bool) (o : Option ℕ) → is_scalar n ≡ true → (o ≡ Some c → is_scalar c ≡ true) → cond test (Some n) o ≡ Some c → is_scalar c ≡ true
     one n true o h f e = let same : n ≡ c = cc in subst (λ x. is_scalar x ≡ true) same h
     one n false o h f e = f e

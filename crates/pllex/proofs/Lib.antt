@@ -6,3 +6,4 @@ pub mod Quotes
 pub mod Items
 pub mod Clauses
 pub mod Names
+pub mod Worked

@@ -19,17 +19,17 @@ module _ (quote : Quote) (start : ℕ) where
   quoted-nil mode count place = refl
 
   quoted_here : (mode : Within) (count place : ℕ) (text : List ℕ) → place < length text →
-    quoted quote start mode count place (drop place text)
-    ≡ quoted_goes_on (λ next more. quoted quote start next more (place + 1) (drop (place + 1) text)) (counted_turn quote start count place (quoted_turn quote start mode place (get_or text place 0) (drop (place + 1) text)))
+      quoted quote start mode count place (drop place text)
+      ≡ quoted_goes_on (λ next more. quoted quote start next more (place + 1) (drop (place + 1) text)) (counted_turn quote start count place (quoted_turn quote start mode place (get_or text place 0) (drop (place + 1) text)))
   quoted_here mode count place text h = ap (quoted quote start mode count place) (drop_here text place h) ∙ quoted-cons mode count place (get_or text place 0) (drop (place + 1) text)
 
   pub quoted_goes : (mode next : Within) (count more place : ℕ) (text : List ℕ) → place < length text → counted_turn quote start count place (quoted_turn quote start mode place (get_or text place 0) (drop (place + 1) text)) ≡ onwards.Goes next more →
-    quoted quote start next more (place + 1) (drop (place + 1) text) ≡ quoted quote start mode count place (drop place text)
+      quoted quote start next more (place + 1) (drop (place + 1) text) ≡ quoted quote start mode count place (drop place text)
   quoted_goes mode next count more place text h e =
       sym (quoted_here mode count place text h ∙ ap (quoted_goes_on (λ next more. quoted quote start next more (place + 1) (drop (place + 1) text))) e)
 
   pub quoted_ends : (mode : Within) (end : Quoted) (count place : ℕ) (text : List ℕ) → place < length text → counted_turn quote start count place (quoted_turn quote start mode place (get_or text place 0) (drop (place + 1) text)) ≡ onwards.Ends end →
-    quoted quote start mode count place (drop place text) ≡ end
+      quoted quote start mode count place (drop place text) ≡ end
   quoted_ends mode end count place text h e =
       quoted_here mode count place text h ∙ ap (quoted_goes_on (λ next more. quoted quote start next more (place + 1) (drop (place + 1) text))) e
 
@@ -37,8 +37,8 @@ module _ (quote : Quote) (start : ℕ) where
   quoted_over mode count place text h = ap (quoted quote start mode count place) (drop_of_length-le text h) ∙ quoted-nil mode count place
 
   value-cons : (mode : Within) (place b : ℕ) (bytes : List ℕ) →
-    quoted_value quote start mode place (b ∷ bytes)
-    ≡ value_step (b ∷ bytes) (quoted_turn quote start mode place b bytes) ++ value_goes_on (λ next. quoted_value quote start next (place + 1) bytes) (next_mode (quoted_turn quote start mode place b bytes))
+      quoted_value quote start mode place (b ∷ bytes)
+      ≡ value_step (b ∷ bytes) (quoted_turn quote start mode place b bytes) ++ value_goes_on (λ next. quoted_value quote start next (place + 1) bytes) (next_mode (quoted_turn quote start mode place b bytes))
   unfolding quoted_value
   value-cons mode place b bytes = refl
 
@@ -47,21 +47,21 @@ module _ (quote : Quote) (start : ℕ) where
   value-nil mode place = refl
 
   value_here : (mode : Within) (place : ℕ) (text : List ℕ) → place < length text →
-    quoted_value quote start mode place (drop place text)
-    ≡ value_step (drop place text) (quoted_turn quote start mode place (get_or text place 0) (drop (place + 1) text))
-    ++ value_goes_on (λ next. quoted_value quote start next (place + 1) (drop (place + 1) text)) (next_mode (quoted_turn quote start mode place (get_or text place 0) (drop (place + 1) text)))
+      quoted_value quote start mode place (drop place text)
+      ≡ value_step (drop place text) (quoted_turn quote start mode place (get_or text place 0) (drop (place + 1) text))
+      ++ value_goes_on (λ next. quoted_value quote start next (place + 1) (drop (place + 1) text)) (next_mode (quoted_turn quote start mode place (get_or text place 0) (drop (place + 1) text)))
   value_here mode place text h =
       ap (quoted_value quote start mode place) (drop_here text place h) ∙ value-cons mode place (get_or text place 0) (drop (place + 1) text)
       ∙ ap (λ l. value_step l (quoted_turn quote start mode place (get_or text place 0) (drop (place + 1) text))
       ++ value_goes_on (λ next. quoted_value quote start next (place + 1) (drop (place + 1) text)) (next_mode (quoted_turn quote start mode place (get_or text place 0) (drop (place + 1) text)))) (sym (drop_here text place h))
 
   pub value_goes : (mode next : Within) (place : ℕ) (text : List ℕ) → place < length text → next_mode (quoted_turn quote start mode place (get_or text place 0) (drop (place + 1) text)) ≡ Some next →
-    value_step (drop place text) (quoted_turn quote start mode place (get_or text place 0) (drop (place + 1) text)) ++ quoted_value quote start next (place + 1) (drop (place + 1) text) ≡ quoted_value quote start mode place (drop place text)
+      value_step (drop place text) (quoted_turn quote start mode place (get_or text place 0) (drop (place + 1) text)) ++ quoted_value quote start next (place + 1) (drop (place + 1) text) ≡ quoted_value quote start mode place (drop place text)
   value_goes mode next place text h e =
       sym (value_here mode place text h ∙ ap (λ o. value_step (drop place text) (quoted_turn quote start mode place (get_or text place 0) (drop (place + 1) text)) ++ value_goes_on (λ n. quoted_value quote start n (place + 1) (drop (place + 1) text)) o) e)
 
   pub value_stops : (mode : Within) (place : ℕ) (text : List ℕ) → place < length text → next_mode (quoted_turn quote start mode place (get_or text place 0) (drop (place + 1) text)) ≡ None →
-    value_step (drop place text) (quoted_turn quote start mode place (get_or text place 0) (drop (place + 1) text)) ≡ quoted_value quote start mode place (drop place text)
+      value_step (drop place text) (quoted_turn quote start mode place (get_or text place 0) (drop (place + 1) text)) ≡ quoted_value quote start mode place (drop place text)
   value_stops mode place text h e =
       sym (value_here mode place text h ∙ ap (λ o. value_step (drop place text) (quoted_turn quote start mode place (get_or text place 0) (drop (place + 1) text)) ++ value_goes_on (λ n. quoted_value quote start n (place + 1) (drop (place + 1) text)) o) e ∙ append-nil (value_step (drop place text) (quoted_turn quote start mode place (get_or text place 0) (drop (place + 1) text))))
 

@@ -1,7 +1,7 @@
 use crate::clause::clause_tokens;
 use crate::error::LexError;
 use crate::token::{Fault, Kind, Token};
-use crate::value::value_of;
+use crate::value::{has_value, value_of};
 use std::alloc::{AllocError, Global};
 use std::test::Fail;
 
@@ -96,7 +96,11 @@ fn first_tokens(rt: HostRuntime) -> Result<(), Fail> {
         (b"0b102.", Kind::Integer(2), 4),
         (b"0b2.", Kind::Integer(0), 1),
         (b"0x1.5.", Kind::Integer(1), 3),
-        (b"0x8000000000000000.", Kind::Integer(9223372036854775808), 18),
+        (
+            b"0x8000000000000000.",
+            Kind::Integer(9223372036854775808),
+            18,
+        ),
         (b"0'a.", Kind::Integer(97), 3),
         (b"0'''.", Kind::Integer(39), 4),
         (b"0''.", Kind::Integer(39), 3),
@@ -106,7 +110,11 @@ fn first_tokens(rt: HostRuntime) -> Result<(), Fail> {
         (b"0' .", Kind::Integer(32), 3),
         (b"0'\".", Kind::Integer(34), 3),
         (b"0'\xE2\x82\xAC.", Kind::Integer(8364), 5),
-        (b"9223372036854775808.", Kind::Integer(9223372036854775808), 19),
+        (
+            b"9223372036854775808.",
+            Kind::Integer(9223372036854775808),
+            19,
+        ),
         (b"1.a.", Kind::Integer(1), 1),
     ];
     for (text, kind, end) in cases.iter() {
@@ -220,21 +228,21 @@ fn values(rt: HostRuntime) -> Result<(), Fail> {
         (b"'\\xE9\\\\x20ac\\'.", "\u{E9}\u{20AC}"),
         (b"'\\x1F600\\'.", "\u{1F600}"),
         (b"'a\\\nb'.", "ab"),
-        (b"'\xC3\xA9\xE2\x82\xAC\xF0\x9F\x98\x80'.", "\u{E9}\u{20AC}\u{1F600}"),
+        (
+            b"'\xC3\xA9\xE2\x82\xAC\xF0\x9F\x98\x80'.",
+            "\u{E9}\u{20AC}\u{1F600}",
+        ),
         (b"'a\tb'.", "a\tb"),
     ];
     for (text, wanted) in cases.iter() {
         let clause = clause_tokens(rt.alloc(), text, 0)?;
         let clause = clause.expect(&rt, "a clause");
         match clause.tokens.first() {
-            Some(token) => match token.kind {
-                Kind::Name | Kind::Variable | Kind::QuotedName | Kind::DoubleQuoted => {
-                    let value = value_of(rt.alloc(), text, token)?;
-                    assert_eq!(rt; value.as_str(), *wanted);
-                }
-                _ => assert!(rt; false),
-            },
-            None => assert!(rt; false),
+            Some(token) if has_value(token.kind) => {
+                let value = value_of(rt.alloc(), text, token)?;
+                assert_eq!(rt; value.as_str(), *wanted);
+            }
+            _ => assert!(rt; false),
         }
     }
     Ok(())

@@ -89,6 +89,16 @@ fn bytes_of(alloc: Global, text: &[u8], token: &Token) -> Result<Vec<u8>, AllocE
     Ok(bytes)
 }
 
+/// Whether tokens of a kind have a value: names, variables and quoted items.
+pub fn has_value(kind: Kind) -> bool
+    ensures { result ≡ has_value kind }
+{
+    match kind {
+        Kind::Name | Kind::QuotedName | Kind::Variable | Kind::DoubleQuoted => true,
+        _ => false,
+    }
+}
+
 /// The value of a token that has one: that of a quoted item, with escape sequences and doubled quotes resolved, or
 /// the bytes of a name or a variable. The time is linear in the token's length.
 pub fn value_of(alloc: Global, text: &[u8], token: &Token) -> Result<String, AllocError>
