@@ -1,5 +1,5 @@
 -- A quoted item that closes: where it ends, and its value.
-use Rattle.std.proofs.Common.{◌≡◌, ℕ, zero, suc, ◌<◌, ◌≤◌, ◌+◌, ◌*◌, Bool, true, false, cond, ◌||◌, ◌==◌, eqb, leb, List, [], ◌∷◌, ◌++◌, length, take, Option, Some, None, refl, sym, ap, subst, ◌∙◌, arith, add-one, length-append, length-take}
+use Rattle.std.proofs.Common.{◌≡◌, ℕ, zero, suc, ◌<◌, ◌≤◌, ◌+◌, ◌*◌, Bool, true, false, cond, ◌||◌, ◌==◌, leb, List, [], ◌∷◌, ◌++◌, length, take, Option, Some, None, refl, sym, subst, arith, add-one, length-append, length-take}
 use Rattle.std.specs.Str.{IsUtf8}
 use Rattle.std.specs.Char.{len_utf8, digit_value}
 use Rattle.std.specs.Prelude.{encode_utf8}
@@ -8,7 +8,6 @@ use Rattle.std.proofs.lemmas.Bool.Decides.{nat_tests}
 use Rattle.std.proofs.lemmas.Str.{IsUtf8-append, IsUtf8-nil, IsUtf8-encode, length-encode}
 use Rattle.pllex.specs.declared.token.Base.{Base}
 use Rattle.pllex.specs.declared.token.Base.TheVariants.{Octal, Hexadecimal}
-use Rattle.pllex.specs.declared.token.Fault.{Fault}
 use Rattle.pllex.specs.declared.token.Fault.TheVariants as faults
 use Rattle.pllex.specs.declared.escape.Escape.{Escape}
 use Rattle.pllex.specs.declared.escape.Escape.TheVariants as escapes

@@ -1,6 +1,5 @@
 -- The names and variables of a clause are words.
 use Rattle.std.proofs.Common.{◌≡◌, ℕ, zero, suc, ◌<◌, ◌≤◌, ◌+◌, ◌-◌, true, false, cond, ◌&&◌, ◌||◌, ◌==◌, List, [], ◌∷◌, ◌++◌, Bool, Option, Some, None, length, take, drop, get_or, refl, sym, ap, subst, ◌∙◌, arith, leb, length-take, length-drop}
-use Rattle.std.specs.Prelude.{slice_get}
 use Rattle.std.specs.Str.{IsAscii}
 use Rattle.std.specs.Char.{is_ascii_lowercase, is_ascii_uppercase}
 use Rattle.std.proofs.lemmas.Bool.{leb-true, cond_both}
@@ -272,8 +271,3 @@ run_named text from (t ∷ ts) place e r h = (named_next text from t r.0, run_na
 -- the tokens of a run, and one behind them
 pub all_named : (text : List ℕ) (from : ℕ) (all ts : List Token) (place : ℕ) (e : Token) → Run text from ts place → next_item text place ≡ items.Token e → all ≡ ts ++ e ∷ [] → AreNamed text all
 all_named text from all ts place e r h same = subst (AreNamed text) (sym same) (run_named text from ts place e r h)
-
--- the first of tokens that are named is named
-pub first_named : (text : List ℕ) (ts : List Token) (t : Token) → AreNamed text ts → Some t ≡ slice_get ts 0 → IsNamedAs t.kind text t
-first_named text [] t h e = absurd cc
-first_named text (u ∷ ts) t h e = let same : u ≡ t = cc in subst (λ v. IsNamedAs v.kind text v) same h.0

@@ -1,5 +1,5 @@
 -- The tokens of small texts, one form each.
-use Rattle.std.proofs.Common.{◌≡◌, ℕ, List, [], ◌∷◌, ◌++◌, codes, refl, inl, inr}
+use Rattle.std.proofs.Common.{◌≡◌, ℕ, [], ◌∷◌, codes, refl, inl, inr}
 use Rattle.pllex.specs.declared.token.Token.{Token}
 use Rattle.pllex.specs.declared.token.Kind.{Kind}
 use Rattle.pllex.specs.declared.token.Kind.TheVariants.{Name, QuotedName, Variable, Integer, DoubleQuoted, Open, OpenSquare, CloseCurly, Bar, End}

@@ -1,7 +1,6 @@
 -- Quoted items, byte by byte: names in single quotes, and double-quoted items.
 use Rattle.std.specs.Prelude.{ℕ, zero, suc, ◌+◌, List, [], ◌∷◌, ◌++◌, take, ◌==◌, nat_le, if◌then◌else◌, Option, Some, None, encode_utf8}
 use Rattle.std.specs.Char.{len_utf8}
-use Rattle.pllex.specs.declared.token.Fault.{Fault}
 use Rattle.pllex.specs.declared.token.Fault.TheVariants as faults
 use Rattle.pllex.specs.declared.escape.Escape.{Escape}
 use Rattle.pllex.specs.declared.escape.Escape.TheVariants as escapes
