@@ -1,5 +1,6 @@
 -- A run, byte by byte.
-use Rattle.std.proofs.Common.{◌≡◌, ◌≤◌, ◌<◌, ◌+◌, ℕ, List, [], ◌∷◌, length, drop, get_or, true, false, cond, refl, sym, ap, ◌∙◌, add-one, drop-cons, drop_of_length-le}
+use Rattle.std.proofs.Common.{◌≡◌, ◌≤◌, ◌<◌, ◌+◌, ℕ, List, [], ◌∷◌, length, drop, get_or, true, false, cond, refl, sym, ap, ◌∙◌, arith, add-one, drop-cons, drop_of_length-le}
+use Rattle.std.proofs.lemmas.Bool.{cond_both}
 use Rattle.pllex.specs.declared.token.Class.{Class}
 use Rattle.pllex.specs.Classes.{in_class}
 use Rattle.pllex.specs.declared.layout.Mode.{Mode}
@@ -55,3 +56,13 @@ gap_fails mode place text h e =
 
 pub gap_over : (mode : Mode) (place : ℕ) (text : List ℕ) → length text ≤ place → gap mode place (drop place text) ≡ gap_end mode place
 gap_over mode place text h = ap (gap mode place) (drop_of_length-le text h) ∙ gap-nil mode place
+
+-- a run goes on from where it begins
+pub run_behind : (class : Class) (place : ℕ) (bytes : List ℕ) → place ≤ run_end class place bytes
+unfolding run_end
+run_behind class place [] = omega arith
+run_behind class place (b ∷ bytes) = cond_both (in_class class b) (run_end class (place + 1) bytes) place (λ e. place ≤ e) (λ t. omega (arith, run_behind class (place + 1) bytes)) (λ f. omega arith)
+
+-- one that has a byte ends behind it
+pub run_some : (class : Class) (place : ℕ) (text : List ℕ) → place < length text → in_class class (get_or text place 0) ≡ true → place < run_end class place (drop place text)
+run_some class place text h e = let same = run_goes class place text h e in let more = run_behind class (place + 1) (drop (place + 1) text) in omega arith

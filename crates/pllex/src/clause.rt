@@ -60,7 +60,8 @@ pub fn clause_tokens(
     ensures onward { IfOk result (λ found.
         IfSome found (λ clause. (from < clause.after) × (clause.after ≤ length text.now))) }
 
-    // Names and variables are text that lies within the text, of at most 65,535 bytes.
+    // Names and variables are text that lies within the text, of at most 65,535 bytes; so are the values of quoted
+    // names, and those of double-quoted items are text of any length.
     ensures named { IfOk result (λ found.
         IfSome found (λ clause. AreNamed text.now clause.tokens.items)) }
 {

@@ -1,12 +1,15 @@
 //! One token, or a fault.
 ghost use Rattle.std.specs.Prelude.{◌≡◌, ◌≤◌, ◌+◌, ◌-◌, ◌^◌, ◌<◌, drop, length, slice_index, if◌then◌else◌, nat_le, Some, None};
-ghost use Rattle.pllex.specs.Tokens.{run_end, begins_in, ends_here, named, symbols, value, is_fraction, number, token, stray, item_of, item_at};
+ghost use Rattle.pllex.specs.Tokens.{run_end, ends_here, named, symbols, token, stray, punctuation, marked, quoted_item, item_of, item_at};
 ghost use Rattle.pllex.specs.Places.{Advances};
-ghost use Rattle.pllex.specs.declared.token.Class.TheVariants.{Alphanumeric, Digit};
+ghost use Rattle.pllex.specs.declared.token.Class.TheVariants.{Alphanumeric};
 
 use crate::characters::rest_of_character;
+use crate::digits::is_digit;
+use crate::number::number;
+use crate::quoted::{Quote, Quoted, quoted_end};
 use crate::runs::{is_layout, is_symbol, run_end};
-use crate::token::{Class, Fault, Item, Kind, Token};
+use crate::token::{Base, Class, Fault, Item, Kind, Token};
 
 fn named(kind: Kind, start: usize, end: usize) -> Item
     requires { start < end }
@@ -26,67 +29,6 @@ fn ends_here(text: &[u8], place: usize) -> bool
     ensures { result ≡ ends_here (drop place text.now) }
 {
     place >= text.len() || is_layout(text[place]) || text[place] == b'%'
-}
-
-#[tactic(auto, using(crate::proofs::RunEnds::drop_here, crate::proofs::RunEnds::drop_over))]
-fn begins_with_digit(text: &[u8], place: usize) -> bool
-    requires { place ≤ length text.now }
-    ensures { result ≡ begins_in Digit (drop place text.now) }
-{
-    place < text.len() && text[place].is_ascii_digit()
-}
-
-#[tactic(auto, using(crate::proofs::RunEnds::drop_here, crate::proofs::RunEnds::drop_over))]
-fn is_fraction(text: &[u8], place: usize) -> bool
-    requires { place ≤ length text.now }
-    ensures { result ≡ is_fraction (drop place text.now) }
-{
-    place < text.len() && text[place] == b'.' && begins_with_digit(text, place + 1)
-}
-
-/// The value of the digits, where it is at most 2 ^ 63.
-#[tactic(auto, using(crate::proofs::Values::value_goes, crate::proofs::Values::value_stops, crate::proofs::Values::value_over, crate::proofs::Values::value_grows))]
-fn value_of(text: &[u8], from: usize, first: u8) -> Option<u64>
-    requires within { from ≤ length text.now }
-    requires digit { first < 10 }
-    ensures { let v = value first (drop from text.now) in
-        result ≡ (if nat_le v 9223372036854775808 then Some v else None) }
-{
-    let mut n = u64::from(first);
-    let mut place = from;
-    while place < text.len() && text[place].is_ascii_digit() {
-        if n > 922337203685477580 {
-            return None;
-        }
-        let next = 10 * n + u64::from(text[place] - b'0');
-        if next > 9223372036854775808 {
-            return None;
-        }
-        n = next;
-        place += 1;
-    }
-    Some(n)
-}
-
-fn number(text: &[u8], place: usize, end: usize, first: u8) -> Item
-    requires digit { first < 10 }
-    requires place { place < end }
-    requires within { end ≤ length text.now }
-    ensures advances { Advances place end result }
-    ensures value { let n = value first (drop (place + 1) text.now) in
-        result ≡ number n place end (drop end text.now) }
-{
-    if is_fraction(text, end) {
-        return Item::Fault(Fault::FloatLiteral, place);
-    }
-    match value_of(text, place + 1, first) {
-        Some(n) => Item::Token(Token {
-            kind: Kind::Integer(n),
-            start: place,
-            end,
-        }),
-        None => Item::Fault(Fault::IntTooBig, place),
-    }
 }
 
 fn symbols(text: &[u8], place: usize, end: usize) -> Item
@@ -139,6 +81,54 @@ fn word(kind: Kind, text: &[u8], place: usize) -> Item
     named(kind, place, run_end(text, place + 1, Class::Alphanumeric))
 }
 
+fn punctuation(b: u8) -> Option<Kind>
+    ensures { result ≡ punctuation b }
+{
+    match b {
+        b'(' => Some(Kind::Open),
+        b')' => Some(Kind::Close),
+        b'[' => Some(Kind::OpenSquare),
+        b']' => Some(Kind::CloseSquare),
+        b'{' => Some(Kind::OpenCurly),
+        b'}' => Some(Kind::CloseCurly),
+        b',' => Some(Kind::Comma),
+        b'|' => Some(Kind::Bar),
+        _ => None,
+    }
+}
+
+/// A mark, a name of symbol characters, or no token.
+fn marked(text: &[u8], place: usize) -> Item
+    requires { place < length text.now }
+    ensures advances { Advances place (length text.now) result }
+    ensures value { let b = slice_index text.now place in
+        result ≡ marked place b (drop (place + 1) text.now) (punctuation b) }
+{
+    match punctuation(text[place]) {
+        Some(kind) => single(kind, place),
+        None => {
+            if is_symbol(text[place]) {
+                let end = run_end(text, place + 1, Class::Symbol);
+                symbols(text, place, end)
+            } else {
+                Item::Fault(stray(text, place), place)
+            }
+        }
+    }
+}
+
+/// A quoted item.
+fn quoted_item(text: &[u8], start: usize, quote: Quote, kind: Kind) -> Item
+    requires { start < length text.now }
+    ensures advances { Advances start (length text.now) result }
+    ensures value { result ≡ quoted_item quote kind start (drop (start + 1) text.now) }
+{
+    match quoted_end(text, start, quote) {
+        Quoted::Closed(end) => Item::Token(Token { kind, start, end }),
+        Quoted::Bad(fault, at) => Item::Fault(fault, at),
+    }
+}
+
 #[tactic(auto, unfolding(crate::specs::Tokens::item_of))]
 fn item_of(text: &[u8], place: usize) -> Item
     requires { place < length text.now }
@@ -151,22 +141,16 @@ fn item_of(text: &[u8], place: usize) -> Item
         word(Kind::Name, text, place)
     } else if b.is_ascii_uppercase() || b == b'_' {
         word(Kind::Variable, text, place)
-    } else if b.is_ascii_digit() {
-        let end = run_end(text, place + 1, Class::Digit);
-        number(text, place, end, b - b'0')
-    } else if b == b'(' {
-        single(Kind::Open, place)
-    } else if b == b')' {
-        single(Kind::Close, place)
-    } else if b == b',' {
-        single(Kind::Comma, place)
+    } else if is_digit(Base::Decimal, b) {
+        number(text, place)
+    } else if b == b'\'' {
+        quoted_item(text, place, Quote::Single, Kind::QuotedName)
+    } else if b == b'"' {
+        quoted_item(text, place, Quote::Double, Kind::DoubleQuoted)
     } else if b == b'!' || b == b';' {
         single(Kind::Name, place)
-    } else if is_symbol(b) {
-        let end = run_end(text, place + 1, Class::Symbol);
-        symbols(text, place, end)
     } else {
-        Item::Fault(stray(text, place), place)
+        marked(text, place)
     }
 }
 

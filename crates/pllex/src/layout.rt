@@ -1,10 +1,10 @@
 //! Layout and comments (6.4.1).
 ghost use Rattle.std.specs.Prelude.{◌≡◌, ◌≤◌, ◌+◌, ◌^◌, ◌<◌, drop, length, slice_index};
-ghost use Rattle.pllex.specs.Tokens.{begins_with, between, on_line, in_comment, turn, gap_end, gap};
+ghost use Rattle.pllex.specs.Tokens.{between, on_line, in_comment, turn, gap_end, gap};
 ghost use Rattle.pllex.specs.Places.{IsWithin};
 ghost use Rattle.pllex.specs.declared.layout.Mode.TheVariants.{Between};
 
-use crate::characters::rest_of_character;
+use crate::characters::{begins_with, rest_of_character};
 use crate::runs::is_layout;
 
 /// Where in layout a byte stands. In a comment, how many bytes of a character are still to come; a bracketed
@@ -32,14 +32,6 @@ pub enum Gap {
     Before(usize),
     Unclosed(usize),
     Bad(usize),
-}
-
-#[tactic(auto, using(crate::proofs::RunEnds::drop_here, crate::proofs::RunEnds::drop_over))]
-fn begins_with(text: &[u8], place: usize, b: u8) -> bool
-    requires { place ≤ length text.now }
-    ensures { result ≡ begins_with b (drop place text.now) }
-{
-    place < text.len() && text[place] == b
 }
 
 fn between(text: &[u8], place: usize) -> After

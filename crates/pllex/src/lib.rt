@@ -4,10 +4,15 @@
 
 pub mod characters;
 pub mod clause;
+pub mod digits;
 pub mod error;
+pub mod escape;
 pub mod item;
 pub mod layout;
+pub mod number;
+pub mod quoted;
 pub mod runs;
 #[cfg(test)]
 mod tests;
 pub mod token;
+pub mod value;

@@ -6,29 +6,10 @@ use Rattle.std.specs.List.{list_all}
 use Rattle.plops.specs.declared.operator.Prefix.{Prefix}
 use Rattle.plops.specs.declared.operator.Infix.{Infix}
 use Rattle.plops.specs.declared.operator.Postfix.{Postfix}
-use Rattle.plops.specs.declared.table.Entry.{Entry}
+use Rattle.plops.specs.declared.entry.Entry.{Entry}
 use Rattle.plops.specs.Tables.{is_named, find, prefix_of, infix_of, postfix_of}
 use Rattle.plops.specs.Sane.{IsSane, comma, comma_op}
-
--- an operator's numbers as tests
-abbrev pub good_prefix : Option Prefix → Bool
-good_prefix None = true
-good_prefix (Some op) = nat_lt 0 op.priority && (nat_le op.priority 1200 && nat_le op.right op.priority)
-
-abbrev pub good_infix : Option Infix → Bool
-good_infix None = true
-good_infix (Some op) = nat_lt 0 op.priority && (nat_le op.priority 1200 && (nat_le op.left op.priority && nat_le op.right op.priority))
-
-abbrev pub good_postfix : Option Postfix → Bool
-good_postfix None = true
-good_postfix (Some op) = nat_lt 0 op.priority && (nat_le op.priority 1200 && nat_le op.left op.priority)
-
-abbrev pub alone : Option Infix → Option Postfix → Bool
-alone None o = true
-alone (Some op) o = is_none o
-
-abbrev pub is_good : Entry → Bool
-is_good e = good_prefix e.as_prefix && (good_infix e.as_infix && (good_postfix e.as_postfix && alone e.as_infix e.as_postfix))
+use Rattle.plops.specs.Checks.{good_prefix, good_infix, good_postfix, alone, is_good, IsTable}
 
 abbrev IsGood : Option Entry → Type 0
 IsGood None = Unit {0}
@@ -128,3 +109,6 @@ module _ (ops : List Entry) (good : list_all is_good ops ≡ true) where
     post_left = λ n op e. leb-true op.left op.priority (both _ _ (both _ _ (post n op e)).1).1;
     in_comma = h;
   }
+
+pub is_sane : (ops : List Entry) → IsTable ops → IsSane ops
+is_sane ops t = sane ops t.good t.comma_stands

@@ -1,3 +1,8 @@
+pub mod Names
+pub mod Ranks
+pub mod Finds
 pub mod Checks
-pub mod Tables
+pub mod Kept
+pub mod Given
 pub mod Worked
+pub mod Told

@@ -1,6 +1,6 @@
 //! An operator: its priority, and what operands it takes.
 ghost use Rattle.std.specs.Prelude.{◌≡◌, ◌<◌};
-ghost use Rattle.plops.specs.Operators.{operator_of};
+ghost use Rattle.plops.specs.Operators.{operator_of, prefix_kind, infix_kind, postfix_kind};
 
 /// Where an operator stands, `f`, and what operands stand beside it: `x` one of a lesser priority, `y` also one
 /// of the operator's own priority (6.3.4.1).
@@ -35,6 +35,47 @@ pub struct Infix {
 pub struct Postfix {
     pub priority: u16,
     pub left: u16,
+}
+
+impl Prefix {
+    /// What operand it takes.
+    pub fn kind(self) -> Kind
+        ensures { result ≡ prefix_kind self }
+    {
+        if self.right == self.priority {
+            Kind::Fy
+        } else {
+            Kind::Fx
+        }
+    }
+}
+
+impl Infix {
+    /// What operands it takes.
+    pub fn kind(self) -> Kind
+        ensures { result ≡ infix_kind self }
+    {
+        if self.left == self.priority {
+            Kind::Yfx
+        } else if self.right == self.priority {
+            Kind::Xfy
+        } else {
+            Kind::Xfx
+        }
+    }
+}
+
+impl Postfix {
+    /// What operand it takes.
+    pub fn kind(self) -> Kind
+        ensures { result ≡ postfix_kind self }
+    {
+        if self.left == self.priority {
+            Kind::Yf
+        } else {
+            Kind::Xf
+        }
+    }
 }
 
 /// An operator, by where it stands.

@@ -7,12 +7,12 @@ pub returns-in-Ok : goal.returns-in-Ok
 returns-in-Ok c =
     let n = c.width-width.result in
     let bytes = c.split_at-2.ensures.front ∙ ap (take n) c.split_at.ensures.back in
-    well_at c.args.text.now c.args.place n c.requires c.width-width.ensures (subst (λ l. n ≤ length l) c.split_at.ensures.back c.if-behind-width.false)
+    well_at c.args.text.now c.args.place n c.requires c.width-width.ensures.value (subst (λ l. n ≤ length l) c.split_at.ensures.back c.if-behind-width.false)
     (subst IsUtf8 bytes c.in-Ok.ensures.cases.1)
 
 pub returns-in-Err : goal.returns-in-Err
 returns-in-Err c =
     let n = c.width-width.result in
     let bytes = c.split_at-2.ensures.front ∙ ap (take n) c.split_at.ensures.back in
-    ill_at c.args.text.now c.args.place n c.requires c.width-width.ensures (subst (λ l. n ≤ length l) c.split_at.ensures.back c.if-behind-width.false)
+    ill_at c.args.text.now c.args.place n c.requires c.width-width.ensures.value (subst (λ l. n ≤ length l) c.split_at.ensures.back c.if-behind-width.false)
     (subst (λ l. ¬ (IsUtf8 l)) bytes c.in-Err.ensures.cases.0)
