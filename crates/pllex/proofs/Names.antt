@@ -20,7 +20,7 @@ use Rattle.pllex.specs.declared.layout.Gap.TheVariants as gaps
 use Rattle.pllex.specs.Classes.{in_class, is_symbol}
 use Rattle.pllex.specs.Tokens.{run_end, token, named, symbols, number, value, stray, item_of, item_at, after_gap, item_behind, next_item, Run, IsClause, is_end}
 use Rattle.pllex.specs.Tokens as lex
-use Rattle.pllex.specs.Named.{IsWord, IsNamedAs, AreNamed}
+use Rattle.pllex.specs.Named.{IsWord, IsText, IsNamedAs, AreNamed}
 
 class_ascii : (class : Class) (b : ℕ) → in_class class b ≡ true → b < 128
 class_ascii Alphanumeric b e = grind (arith, nat_tests)
@@ -73,13 +73,23 @@ of_fault text fault place = record { named_as = λ u e. absurd cc }
 of_nothing : (text : List ℕ) → IsNamedItem text items.Nothing
 of_nothing text = record { named_as = λ u e. absurd cc }
 
+as_text : (text : List ℕ) (t : Token) → IsWord text t → IsText text t
+as_text text t h = record { ordered = h.ordered; within = h.within; is_text = h.is_text }
+
 as_named : (kind : Kind) (text : List ℕ) (t : Token) → IsWord text t → IsNamedAs kind text t
 as_named kinds.Name text t h = h
+as_named kinds.QuotedName text t h = (as_text text t h, h.few)
 as_named kinds.Variable text t h = h
 as_named (kinds.Integer n) text t h = tt
+as_named kinds.DoubleQuoted text t h = as_text text t h
 as_named kinds.Open text t h = tt
 as_named kinds.Close text t h = tt
+as_named kinds.OpenSquare text t h = tt
+as_named kinds.CloseSquare text t h = tt
+as_named kinds.OpenCurly text t h = tt
+as_named kinds.CloseCurly text t h = tt
 as_named kinds.Comma text t h = tt
+as_named kinds.Bar text t h = tt
 as_named kinds.End text t h = tt
 
 word : (kind : Kind) (text : List ℕ) (place end : ℕ) → place ≤ end → end ≤ length text → end - place ≤ 65535 → IsAscii (take (end - place) (drop place text)) → IsNamedItem text (token kind place end)

@@ -147,11 +147,18 @@ next_item text from = item_behind text (after_mark text from)
 
 abbrev pub is_end : Kind → Bool
 is_end kinds.Name = false
+is_end kinds.QuotedName = false
 is_end kinds.Variable = false
 is_end (kinds.Integer n) = false
+is_end kinds.DoubleQuoted = false
 is_end kinds.Open = false
 is_end kinds.Close = false
+is_end kinds.OpenSquare = false
+is_end kinds.CloseSquare = false
+is_end kinds.OpenCurly = false
+is_end kinds.CloseCurly = false
 is_end kinds.Comma = false
+is_end kinds.Bar = false
 is_end kinds.End = true
 
 -- the tokens, none an end, stand one behind the other between two places

@@ -11,3 +11,4 @@ pub mod runs;
 #[cfg(test)]
 mod tests;
 pub mod token;
+pub mod value;

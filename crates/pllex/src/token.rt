@@ -1,14 +1,21 @@
 //! Tokens, and what else can stand in a text.
 
-/// What a token is (6.4). The value of an integer is at most 2^63.
+/// What a token is (6.4). A name stands without quotes. The value of an integer is at most 2^63.
 #[derive(Clone, Copy, Debug, PartialEq, Eq)]
 pub enum Kind {
     Name,
+    QuotedName,
     Variable,
     Integer(u64),
+    DoubleQuoted,
     Open,
     Close,
+    OpenSquare,
+    CloseSquare,
+    OpenCurly,
+    CloseCurly,
     Comma,
+    Bar,
     End,
 }
 
