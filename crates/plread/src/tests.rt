@@ -1,4 +1,5 @@
 use crate::error::ReadError;
+use crate::quotes::Quotes;
 use crate::read::read_clause;
 use pllex::clause::clause_tokens;
 use plops::table::OpTable;
@@ -12,7 +13,7 @@ fn read(alloc: Global, text: &[u8], levels: u64) -> Result<Option<Term>, ReadErr
     let ops = OpTable::iso(alloc)?;
     match clause_tokens(alloc, text, 0) {
         Ok(Some(clause)) => {
-            let read = read_clause(alloc, text, &clause.tokens, &ops, levels)?;
+            let read = read_clause(alloc, text, &clause.tokens, &ops, Quotes::Codes, levels)?;
             Ok(Some(read.term))
         }
         _ => Ok(None),
