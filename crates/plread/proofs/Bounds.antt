@@ -12,7 +12,7 @@ use Rattle.plread.specs.Signs.{Sign}
 use Rattle.plread.specs.Signs as tok
 use Rattle.plread.specs.Levels.{Level}
 use Rattle.plread.specs.Levels as frames
-use Rattle.plread.specs.Reading.{Start, Stands, Opens, OpensList, OpensCurly, Calls, Before, NoStart, Next, Between, Behind, Stop, called, joined, signed, begins, uncalled, name_start, word_start, integer_start, negative, negative_start, text_start, square_start, curly_start, fits, between, behind, start_of, next_of}
+use Rattle.plread.specs.Reading.{Start, Stands, Opens, OpensList, OpensCurly, Calls, Before, NoStart, Next, Between, Behind, Stop, called, joined, signed, begins, uncalled, name_start, word_start, integer_start, negative, text_start, square_start, curly_start, fits, between, behind, start_of, next_of}
 use Rattle.plread.specs.Texts.{minus}
 use Rattle.plread.specs.Machine.{max_of, After, Goes, Done, Fails, wants, goes_on, stops, closes, curls, lists, tails, argues, ends, step_at, held, one_if}
 

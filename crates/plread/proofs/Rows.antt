@@ -1,5 +1,5 @@
 -- What clauses spell and what spells none, by the machine's steps: the laws below say that it takes those of the grammar.
-use Rattle.std.proofs.Common.{◌≡◌, ℕ, zero, suc, pos, negsuc, List, [], ◌∷◌, None, codes, refl, true, false}
+use Rattle.std.proofs.Common.{◌≡◌, ℕ, zero, suc, pos, negsuc, List, [], ◌∷◌, codes, refl, true, false}
 use Prim.Native.String.{String}
 use Rattle.plterm.specs.Tree.{Tree, var, int, atom, compound, none, more}
 use Rattle.plops.specs.declared.operator.Kind.TheVariants.{Xfx, Xfy, Yfx, Fy, Yf}

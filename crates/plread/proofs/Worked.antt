@@ -1,16 +1,14 @@
 -- What small clauses spell, derived form by form.
-use Rattle.std.proofs.Common.{◌≡◌, ◌≤◌, ℕ, pos, List, [], ◌∷◌, Some, None, codes, refl, arith, true, false}
+use Rattle.std.proofs.Common.{◌≡◌, pos, [], ◌∷◌, codes, refl, arith, true, false}
 use Prim.Native.String.{String}
-use Rattle.plterm.specs.Tree.{Tree, var, int, atom, compound, none, more}
-use Rattle.pllex.specs.declared.token.Token as lex
-use Rattle.pllex.specs.declared.token.Kind.{Kind}
+use Rattle.plterm.specs.Tree.{Tree, int, atom, compound, none, more}
 use Rattle.pllex.specs.declared.token.Kind.TheVariants as kinds
 use Rattle.plops.specs.Tables.{prefix_of, infix_of, postfix_of}
 use Rattle.plops.specs.Given.{iso_table}
 use Rattle.plread.specs.declared.quotes.Quotes.TheVariants as quotes
 use Rattle.plread.specs.Signs.{Sign, Name, Variable, Integer, Open, OpenCall, Close, Comma, End}
 use Rattle.plread.specs.Spelling.{signs_of}
-use Rattle.plread.specs.Reading.{start_of, next_of, Reads, reads, Begins, leaf, bracket, call, before_op, Extends, stop, between_op, Arguments, last, another, Spells, NoStart, Stop}
+use Rattle.plread.specs.Reading.{start_of, next_of, reads, leaf, bracket, call, before_op, stop, between_op, last, another, Spells, NoStart, Stop}
 
 abbrev named : String → Sign
 named s = Name (codes s) true

@@ -1,5 +1,5 @@
 -- What the code found, without where the tokens lie in memory.
-use Rattle.std.specs.Prelude.{ℕ, List, map, Some, None}
+use Rattle.std.specs.Prelude.{List, map, Some, None}
 use Rattle.std.specs.Str.{chars}
 use Rattle.plterm.specs.Tree.{Tree, var, int, atom}
 use Rattle.plread.specs.declared.token.Token.{Token}

@@ -1,7 +1,7 @@
 //! What stands in operand position, and what extends an operand.
 ghost use Rattle.std.specs.Prelude.{◌≡◌, option_map, nat_le, if◌then◌else◌, Some, None};
 ghost use Rattle.plops.specs.Tables.{prefix_of};
-ghost use Rattle.plread.specs.Reading.{called, joined, signed, begins, name_begins, integer_start, negative, negative_start, word_start, square_start, curly_start, start_of, next_of, behind, between, uncalled, name_start};
+ghost use Rattle.plread.specs.Reading.{called, joined, signed, begins, name_begins, integer_start, negative, negative_start, word_start, square_start, curly_start, start_of, next_of, fits, behind, between, uncalled, name_start};
 ghost use Rattle.plread.specs.Words.{name_at};
 ghost use Rattle.plread.specs.Looks.{view, start_view, next_view};
 
@@ -234,6 +234,13 @@ pub fn start_of<'a>(ops: &OpTable, words: &Words, max: u16, tokens: &'a [Token])
     }
 }
 
+/// Whether an operator stands behind an operand of priority `given`, where the whole may have at most `max`.
+fn fits(priority: u16, left: u16, max: u16, given: u16) -> bool
+    ensures { result ≡ fits priority left max given }
+{
+    priority <= max && given <= left
+}
+
 fn behind<'a>(
     words: &Words,
     op: Option<Postfix>,
@@ -248,7 +255,7 @@ fn behind<'a>(
     match op {
         None => Follower::Stop,
         Some(op) => {
-            if op.priority <= max && given <= op.left {
+            if fits(op.priority, op.left, max, given) {
                 Follower::Behind(name, op, tokens)
             } else {
                 Follower::Stop
@@ -272,7 +279,7 @@ fn between<'a>(
     match op {
         None => behind(words, post, max, given, name, tokens),
         Some(op) => {
-            if op.priority <= max && given <= op.left {
+            if fits(op.priority, op.left, max, given) {
                 Follower::Between(name, op, tokens)
             } else {
                 behind(words, post, max, given, name, tokens)

@@ -201,7 +201,7 @@ impl<'a> Reader<'a> {
         }
     }
 
-    /// An element of a list is complete, behind so many others. More than 2^64 elements fit in no memory.
+    /// An element of a list is complete, behind so many others. A list of 2^64 elements fits in no memory.
     fn list(&mut self, words: &Words, complete: u64) -> Result<Turn, AllocError>
         requires room { self.old.room + 1 + vec_len self.old.stack < 2 ^ 64 }
         requires operands { complete + 1 ≤ length self.old.terms }

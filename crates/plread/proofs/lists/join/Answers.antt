@@ -3,7 +3,7 @@ use Rattle.plterm.specs.declared.node.Node.TheVariants as nodes
 use Rattle.plterm.specs.Building.{with_node}
 use Rattle.plread.specs.Texts.{dot}
 use Rattle.plread.specs.Machine.{with_tail}
-use Rattle.plread.proofs.Joined.{cell_more, length-with_tail}
+use Rattle.plread.proofs.Joined.{cell_more}
 use Rattle.plread.proofs.lists.join.Goals as goal
 
 pub cells-preserved : goal.cells-preserved

@@ -1,4 +1,4 @@
-use Rattle.std.proofs.Common.{◌≡◌, ◌≤◌, ◌∷◌, length, map, rules, arith, sym, ap, subst, ◌∙◌, map-id, OnOk}
+use Rattle.std.proofs.Common.{◌≡◌, length, rules, sym, ap, subst, ◌∙◌, map-id, OnOk}
 use Rattle.std.specs.Str.{chars}
 use Rattle.std.proofs.lemmas.Str.{chars_from_encodes}
 use Rattle.std.proofs.lemmas.Iterator.{YieldsList-from_chars}
