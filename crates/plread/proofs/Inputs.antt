@@ -76,10 +76,6 @@ with_text words new text e = (record { names = []; texts = text ∷ [] }, e ∙ 
 pub the_same : (words new : Lexicon) → new ≡ words → StartsWith words new
 the_same words new e = (no_words, e ∙ sym (wider_by_none words))
 
--- the value of a quoted name is short
-pub few_bytes : (text : List ℕ) (t : lex.Token) → t.kind ≡ kinds.QuotedName → IsNamedAs t.kind text t → length (value_of text t) ≤ 65535
-few_bytes text t e h = (subst (λ k. IsNamedAs k text t) e h).1
-
 -- punctuation and the end
 abbrev pub IsMark : Kind → Type 0
 IsMark kind =

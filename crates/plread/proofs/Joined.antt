@@ -26,15 +26,6 @@ pub cell_more : (k : ℕ) (old : List Tree) → suc k < length old → with_node
 cell_more k [] h = absurd (omega arith)
 cell_more k (tail ∷ ts) h = one_cell k tail ts (omega arith)
 
--- how many trees there are with a list of the latest
-pub length-with_tail : (k : ℕ) (old : List Tree) → k < length old → length (with_tail k old) + k ≡ length old
-length-with_tail k [] h = absurd (omega arith)
-length-with_tail k (tail ∷ ts) h = omega (arith, length-drop k ts)
-
-pub no_cell : (old : List Tree) → 0 < length old → with_tail 0 old ≡ old
-no_cell [] h = absurd (omega arith)
-no_cell (tail ∷ ts) h = refl
-
 -- trees put one after another onto others
 abbrev pub onto : List Tree → List Tree → List Tree
 onto [] ts = ts
