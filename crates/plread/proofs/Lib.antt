@@ -1,7 +1,9 @@
+pub mod Joined
 pub mod Steps
 pub mod Bounds
 pub mod Runs
 pub mod Unique
 pub mod Numbered
 pub mod Inputs
+pub mod Rows
 pub mod Worked

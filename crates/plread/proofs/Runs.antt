@@ -7,6 +7,7 @@ use Rattle.plread.specs.declared.reader.Turn.{Turn}
 use Rattle.plread.specs.declared.reader.Turn.TheVariants as turns
 use Rattle.plread.specs.Signs.{Sign}
 use Rattle.plread.specs.Signs as tok
+use Rattle.plread.specs.Words.{Lexicon}
 use Rattle.plread.specs.Views.{stack_view, Turned}
 use Rattle.plread.specs.Reading.{Reads, Spells}
 use Rattle.plread.specs.Answers.{IsSpelled}
@@ -75,7 +76,7 @@ module _ (ops : OpTable) (levels : ℕ) (signs : List Sign) where
   pub none_fails : (s : State) → Reading ops levels signs s → step ops s ≡ Fails → (t : Tree) → Spells ops levels signs t → ⊥
   none_fails s r e t h = subst (λ a. MeetsAfter ops a t) e (ahead_step s r t h)
 
-pub at_start : (ops : OpTable) (levels : ℕ) (signs : List Sign) (words : List (List ℕ)) (frames : List Frame) (trees : List Tree) → frames ≡ [] → trees ≡ [] → Reading ops levels signs (record { room = levels; stack = stack_view words frames; trees = trees; given = None; left = signs })
+pub at_start : (ops : OpTable) (levels : ℕ) (signs : List Sign) (words : Lexicon) (frames : List Frame) (trees : List Tree) → frames ≡ [] → trees ≡ [] → Reading ops levels signs (record { room = levels; stack = stack_view words frames; trees = trees; given = None; left = signs })
 at_start ops levels signs words frames trees f t =
     subst (λ x. Reading ops levels signs (record { room = levels; stack = stack_view words x; trees = trees; given = None; left = signs })) (sym f)
     (subst (λ x. Reading ops levels signs (record { room = levels; stack = []; trees = x; given = None; left = signs })) (sym t) (at_first ops levels signs))

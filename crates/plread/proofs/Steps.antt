@@ -1,15 +1,16 @@
 -- One step of the machine keeps what is spelled, in both directions.
 use Rattle.std.proofs.Common.{◌≡◌, ◌≤◌, ◌<◌, ◌+◌, nat_lt, Bool, true, false, cond, lt-ltb, arith, ℕ, zero, suc, List, [], ◌∷◌, drop, Option, Some, None, inl, inr, refl, sym, subst}
 use Rattle.std.proofs.lemmas.Bool.{ltb-true}
-use Rattle.plterm.specs.Tree.{Tree, Trees, compound, none, more}
+use Rattle.plterm.specs.Tree.{Tree, Trees, atom, compound, none, more}
 use Rattle.plterm.specs.Building.{gather}
 use Rattle.plops.specs.declared.table.OpTable.{OpTable}
 use Rattle.plread.specs.Signs.{Sign}
 use Rattle.plread.specs.Signs as tok
 use Rattle.plread.specs.Levels.{Level}
 use Rattle.plread.specs.Levels as frames
-use Rattle.plread.specs.Reading.{count, Start, Stands, Opens, Calls, Before, NoStart, Next, Between, Behind, Stop, start_of, next_of, Reads, reads, Begins, leaf, bracket, call, before_op, Extends, stop, between_op, behind_op, Arguments, last, another}
-use Rattle.plread.specs.Machine.{max_of, After, Fails, wants, goes_on, stops, closes, argues, ends, step_at, Extended, Completes, Follow, Wanted, Meets_at, MeetsAfter}
+use Rattle.plread.specs.Texts.{nil, curly, list_term}
+use Rattle.plread.specs.Reading.{count, Start, Stands, Opens, OpensList, OpensCurly, Calls, Before, NoStart, Next, Between, Behind, Stop, start_of, next_of, Reads, reads, Begins, leaf, bracket, list, braces, call, before_op, Extends, stop, between_op, behind_op, Arguments, last, another, Elements, closed, tailed, element}
+use Rattle.plread.specs.Machine.{max_of, After, Fails, wants, goes_on, stops, closes, curls, argues, lists, tails, ends, step_at, Extended, Completes, Follow, FollowList, with_list, Wanted, Given, Meets_at, MeetsAfter}
 
 first_of_few : (args : Trees) → suc (count args) ≤ 1024 → suc 0 + count args ≤ 1024
 first_of_few args h = omega arith
@@ -44,10 +45,16 @@ module _ (ops : OpTable) (whole : Tree) where
   began_after : (room : ℕ) (stack : List Level) (trees : List Tree) (start : Start) → Began room stack trees start → MeetsAfter ops (wants room stack trees start) whole
   began_after room stack trees (Stands x ts) (t, p, mid, leaf, h) = h
   began_after (suc room) stack trees (Opens ts) (t, p, mid, bracket r, h) = (_, _, _, r, (_, refl, h))
+  began_after (suc room) stack trees (OpensList ts) (t, p, mid, list (closed r), h) = (_, _, _, r, (_, _, _, inl (refl, refl, refl), h))
+  began_after (suc room) stack trees (OpensList ts) (t, p, mid, list (tailed r a), h) = (_, _, _, r, (_, _, _, inr (inl (_, _, refl, refl, a)), h))
+  began_after (suc room) stack trees (OpensList ts) (t, p, mid, list (element r a), h) = (_, _, _, r, (_, _, _, inr (inr (_, refl, a)), h))
+  began_after (suc room) stack trees (OpensCurly ts) (t, p, mid, braces r, h) = (_, _, _, r, (_, refl, h))
   began_after (suc room) stack trees (Calls n ts) (t, p, mid, call (last r) few, h) = (_, _, _, r, (_, _, inl (refl, refl), first_of_few none few, h))
   began_after (suc room) stack trees (Calls n ts) (t, p, mid, call (another r a) few, h) = (_, _, _, r, (_, _, inr (_, refl, a), first_of_few _ few, h))
   began_after (suc room) stack trees (Before n op ts) (t, p, mid, before_op r, h) = (_, _, _, r, h)
   began_after zero stack trees (Opens ts) (t, p, mid, b, h) = elim b [ ]
+  began_after zero stack trees (OpensList ts) (t, p, mid, b, h) = elim b [ ]
+  began_after zero stack trees (OpensCurly ts) (t, p, mid, b, h) = elim b [ ]
   began_after zero stack trees (Calls n ts) (t, p, mid, b, h) = elim b [ ]
   began_after zero stack trees (Before n op ts) (t, p, mid, b, h) = elim b [ ]
   began_after room stack trees NoStart (t, p, mid, b, h) = elim b [ ]
@@ -59,12 +66,22 @@ module _ (ops : OpTable) (whole : Tree) where
   argued room p ts from rest t args r (inl (e, z)) = subst (λ a. Arguments ops room ts (more t a) rest) (sym z) (last (before_close from r e))
   argued room p ts from rest t args r (inr (mid, e, a)) = another (before_close from r e) a
 
+  listed : (room p : ℕ) (ts from rest : List Sign) (t : Tree) (items : Trees) (tail : Tree) → Reads ops room 999 ts t p from → FollowList ops room from items tail rest → Elements ops room ts (more t items) tail rest
+  listed room p ts from rest t items tail r (inl (e, z, n)) =
+      subst (λ l. Elements ops room ts (more t items) l rest) (sym n) (subst (λ a. Elements ops room ts (more t a) (atom nil) rest) (sym z) (closed (before_close from r e)))
+  listed room p ts from rest t items tail r (inr (inl (mid, q, e, z, a))) = subst (λ l. Elements ops room ts (more t l) tail rest) (sym z) (tailed (before_close from r e) a)
+  listed room p ts from rest t items tail r (inr (inr (mid, e, a))) = element (before_close from r e) a
+
   after_began : (room : ℕ) (stack : List Level) (trees : List Tree) (start : Start) → MeetsAfter ops (wants room stack trees start) whole → Began room stack trees start
   after_began room stack trees (Stands x ts) h = (_, 0, ts, leaf, h)
   after_began (suc room) stack trees (Opens ts) (t, p, from, r, (rest, e, h)) = (t, 0, rest, bracket (before_close from r e), h)
+  after_began (suc room) stack trees (OpensList ts) (t, p, from, r, (items, tail, rest, f, h)) = (list_term (more t items) tail, 0, rest, list (listed room p ts from rest t items tail r f), h)
+  after_began (suc room) stack trees (OpensCurly ts) (t, p, from, r, (rest, e, h)) = (compound curly (more t none), 0, rest, braces (before_close from r e), h)
   after_began (suc room) stack trees (Calls n ts) (t, p, from, r, (args, rest, f, few, h)) = (compound n (more t args), 0, rest, call (argued room p ts from rest t args r f) (few_with_first args few), h)
   after_began (suc room) stack trees (Before n op ts) (t, p, mid, r, h) = (compound n (more t none), op.priority, mid, before_op r, h)
   after_began zero stack trees (Opens ts) h = absurd h
+  after_began zero stack trees (OpensList ts) h = absurd h
+  after_began zero stack trees (OpensCurly ts) h = absurd h
   after_began zero stack trees (Calls n ts) h = absurd h
   after_began zero stack trees (Before n op ts) h = absurd h
   after_began room stack trees NoStart h = absurd h
@@ -77,6 +94,20 @@ module _ (ops : OpTable) (whole : Tree) where
   completes_after : (room : ℕ) (stack : List Level) (t : Tree) (trees : List Tree) (p : ℕ) (ts : List Sign) → Completes ops room stack whole (t ∷ trees) p ts → MeetsAfter ops (stops room stack (t ∷ trees) ts) whole
   completes_after room [] t trees p ts (e, h) = subst (λ l. MeetsAfter ops (ends (t ∷ trees) l) whole) (sym e) h
   completes_after room (frames.Bracket ∷ stack) t trees p ts (rest, e, h) = subst (λ l. MeetsAfter ops (closes room stack (t ∷ trees) l) whole) (sym e) h
+  completes_after room (frames.Curly ∷ stack) t trees p ts (rest, e, h) = subst (λ l. MeetsAfter ops (curls room stack (t ∷ trees) l) whole) (sym e) h
+  completes_after room (frames.Tail k ∷ stack) t trees p ts (rest, e, h) = subst (λ l. MeetsAfter ops (tails k room stack (t ∷ trees) l) whole) (sym e) h
+  completes_after room (frames.Elements k ∷ stack) t trees p ts (items, tail, rest, inl (e, z, n), h) =
+      subst (λ l. MeetsAfter ops (lists k room stack (t ∷ trees) l) whole) (sym e)
+      (subst (λ a. Given ops (suc room) stack whole (with_list (suc k) none a (t ∷ trees)) 0 rest) n (subst (λ a. Given ops (suc room) stack whole (with_list (suc k) a tail (t ∷ trees)) 0 rest) z h))
+  completes_after room (frames.Elements k ∷ stack) t trees p ts (items, tail, rest, inr (inl (mid, q, e, z, a)), h) =
+      subst (λ l. MeetsAfter ops (lists k room stack (t ∷ trees) l) whole) (sym e)
+      (tail, q, _, a, (rest, refl, subst (λ l. Given ops (suc room) stack whole (with_list (suc k) l tail (t ∷ trees)) 0 rest) z h))
+  completes_after room (frames.Elements k ∷ stack) t trees p ts (items, tail, rest, inr (inr (mid, e, closed r)), h) =
+      subst (λ l. MeetsAfter ops (lists k room stack (t ∷ trees) l) whole) (sym e) (_, _, _, r, (_, _, _, inl (refl, refl, refl), h))
+  completes_after room (frames.Elements k ∷ stack) t trees p ts (items, tail, rest, inr (inr (mid, e, tailed r a)), h) =
+      subst (λ l. MeetsAfter ops (lists k room stack (t ∷ trees) l) whole) (sym e) (_, _, _, r, (_, _, _, inr (inl (_, _, refl, refl, a)), h))
+  completes_after room (frames.Elements k ∷ stack) t trees p ts (items, tail, rest, inr (inr (mid, e, element r a)), h) =
+      subst (λ l. MeetsAfter ops (lists k room stack (t ∷ trees) l) whole) (sym e) (_, _, _, r, (_, _, _, inr (inr (_, refl, a)), h))
   completes_after room (frames.Call n k ∷ stack) t trees p ts (args, rest, inl (e, z), few, h) =
       let all : k < 1024 = omega arith in
       subst (λ l. MeetsAfter ops (argues n k room stack (t ∷ trees) l) whole) (sym e)
@@ -95,6 +126,20 @@ module _ (ops : OpTable) (whole : Tree) where
   after_closes : (room : ℕ) (stack : List Level) (t : Tree) (trees : List Tree) (p : ℕ) (ts : List Sign) → MeetsAfter ops (closes room stack (t ∷ trees) ts) whole → Completes ops room (frames.Bracket ∷ stack) whole (t ∷ trees) p ts
   after_closes room stack t trees p (tok.Close ∷ ts) h = (ts, refl, h)
   after_closes room stack t trees p ts h = absurd h
+
+  after_curls : (room : ℕ) (stack : List Level) (t : Tree) (trees : List Tree) (p : ℕ) (ts : List Sign) → MeetsAfter ops (curls room stack (t ∷ trees) ts) whole → Completes ops room (frames.Curly ∷ stack) whole (t ∷ trees) p ts
+  after_curls room stack t trees p (tok.CloseCurly ∷ ts) h = (ts, refl, h)
+  after_curls room stack t trees p ts h = absurd h
+
+  after_tails : (k room : ℕ) (stack : List Level) (t : Tree) (trees : List Tree) (p : ℕ) (ts : List Sign) → MeetsAfter ops (tails k room stack (t ∷ trees) ts) whole → Completes ops room (frames.Tail k ∷ stack) whole (t ∷ trees) p ts
+  after_tails k room stack t trees p (tok.CloseSquare ∷ ts) h = (ts, refl, h)
+  after_tails k room stack t trees p ts h = absurd h
+
+  after_lists : (k room : ℕ) (stack : List Level) (t : Tree) (trees : List Tree) (p : ℕ) (ts : List Sign) → MeetsAfter ops (lists k room stack (t ∷ trees) ts) whole → Completes ops room (frames.Elements k ∷ stack) whole (t ∷ trees) p ts
+  after_lists k room stack t trees p (tok.CloseSquare ∷ ts) h = (none, atom nil, ts, inl (refl, refl, refl), h)
+  after_lists k room stack t trees p (tok.Bar ∷ ts) (tail, q, from, r, (rest, e, h)) = (none, tail, rest, inr (inl (ts, q, refl, refl, before_close from r e)), h)
+  after_lists k room stack t trees p (tok.Comma ∷ ts) (u, q, from, r, (items, tail, rest, f, h)) = (more u items, tail, rest, inr (inr (ts, refl, listed room q ts from rest u items tail r f)), h)
+  after_lists k room stack t trees p ts h = absurd h
 
   -- a test that chooses between a state and a failure was true where the tree is spelled
   tested : (b : Bool) (after : After) → MeetsAfter ops (cond b after Fails) whole → (b ≡ true) × MeetsAfter ops after whole
@@ -119,6 +164,9 @@ module _ (ops : OpTable) (whole : Tree) where
   after_completes : (room : ℕ) (stack : List Level) (t : Tree) (trees : List Tree) (p : ℕ) (ts : List Sign) → MeetsAfter ops (stops room stack (t ∷ trees) ts) whole → Completes ops room stack whole (t ∷ trees) p ts
   after_completes room [] t trees p ts h = after_ends room t trees p ts h
   after_completes room (frames.Bracket ∷ stack) t trees p ts h = after_closes room stack t trees p ts h
+  after_completes room (frames.Curly ∷ stack) t trees p ts h = after_curls room stack t trees p ts h
+  after_completes room (frames.Elements k ∷ stack) t trees p ts h = after_lists k room stack t trees p ts h
+  after_completes room (frames.Tail k ∷ stack) t trees p ts h = after_tails k room stack t trees p ts h
   after_completes room (frames.Call n k ∷ stack) t trees p ts h = after_argues n k room stack t trees p ts h
   after_completes room (frames.Before n op ∷ stack) t trees p ts h = h
   after_completes room (frames.Between n op ∷ stack) t trees p ts h = h

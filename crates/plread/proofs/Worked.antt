@@ -1,18 +1,17 @@
 -- What small clauses spell, derived form by form.
-use Rattle.std.proofs.Common.{◌≡◌, ◌≤◌, ℕ, pos, List, [], ◌∷◌, Some, None, codes, refl, arith}
+use Rattle.std.proofs.Common.{◌≡◌, pos, [], ◌∷◌, codes, refl, arith, true, false}
 use Prim.Native.String.{String}
-use Rattle.plterm.specs.Tree.{Tree, var, int, atom, compound, none, more}
-use Rattle.pllex.specs.declared.token.Token as lex
-use Rattle.pllex.specs.declared.token.Kind.{Kind}
+use Rattle.plterm.specs.Tree.{Tree, int, atom, compound, none, more}
 use Rattle.pllex.specs.declared.token.Kind.TheVariants as kinds
 use Rattle.plops.specs.Tables.{prefix_of, infix_of, postfix_of}
 use Rattle.plops.specs.Given.{iso_table}
+use Rattle.plread.specs.declared.quotes.Quotes.TheVariants as quotes
 use Rattle.plread.specs.Signs.{Sign, Name, Variable, Integer, Open, OpenCall, Close, Comma, End}
 use Rattle.plread.specs.Spelling.{signs_of}
-use Rattle.plread.specs.Reading.{start_of, next_of, Reads, reads, Begins, leaf, bracket, call, before_op, Extends, stop, between_op, Arguments, last, another, Spells, NoStart, Stop}
+use Rattle.plread.specs.Reading.{start_of, next_of, reads, leaf, bracket, call, before_op, stop, between_op, last, another, Spells, NoStart, Stop}
 
 abbrev named : String → Sign
-named s = Name (codes s)
+named s = Name (codes s) true
 
 abbrev a : Tree
 a = atom (codes "a")
@@ -25,7 +24,7 @@ c = atom (codes "c")
 
 -- `f(X, _, X)`: a bracket directly behind a token is a call's, a name has the number of its first occurrence, and
 -- `_` is always new
-numbers : signs_of (codes "f(X,_,X) (") (
+numbers : signs_of quotes.Codes (codes "f(X,_,X) (") (
     (record { kind = kinds.Name; start = 0; end = 1 }) ∷ (record { kind = kinds.Open; start = 1; end = 2 }) ∷ (record { kind = kinds.Variable; start = 2; end = 3 })
     ∷ (record { kind = kinds.Comma; start = 3; end = 4 }) ∷ (record { kind = kinds.Variable; start = 4; end = 5 }) ∷ (record { kind = kinds.Comma; start = 5; end = 6 })
     ∷ (record { kind = kinds.Variable; start = 6; end = 7 }) ∷ (record { kind = kinds.Close; start = 7; end = 8 }) ∷ (record { kind = kinds.Open; start = 9; end = 10 }) ∷ [])
@@ -38,7 +37,7 @@ unfolding start_of next_of prefix_of infix_of postfix_of
 fact = (0, reads leaf stop)
 
 -- `f(a, 1).`
-functional : Spells iso_table 1 (named "f" ∷ OpenCall ∷ named "a" ∷ Comma ∷ Integer 1 ∷ Close ∷ End ∷ []) (compound (codes "f") (more a (more (int (pos 1)) none)))
+functional : Spells iso_table 1 (named "f" ∷ OpenCall ∷ named "a" ∷ Comma ∷ Integer 1 false ∷ Close ∷ End ∷ []) (compound (codes "f") (more a (more (int (pos 1)) none)))
 unfolding start_of next_of prefix_of infix_of postfix_of
 functional = (0, reads (call (another (reads leaf stop) (last (reads leaf stop))) (omega arith)) stop)
 
@@ -70,7 +69,7 @@ unfolding start_of next_of prefix_of infix_of postfix_of
 no_room t (p, reads b e) = elim b [ ]
 
 -- an integer of 2^63 is a token, and no term
-too_great : start_of iso_table 1200 (Integer 9223372036854775808 ∷ End ∷ []) ≡ NoStart
+too_great : start_of iso_table 1200 (Integer 9223372036854775808 false ∷ End ∷ []) ≡ NoStart
 unfolding start_of
 too_great = refl
 

@@ -1,19 +1,23 @@
 -- The machine with a stack of open levels, and what each of its states still has to meet.
 use Rattle.std.specs.Prelude.{◌≡◌, ◌≤◌, ◌+◌, nat_lt, if◌then◌else◌, ℕ, zero, suc, List, [], ◌∷◌, drop, Option, Some, None, ◌⊎◌}
 use Rattle.plterm.specs.declared.node.Node.TheVariants as nodes
-use Rattle.plterm.specs.Tree.{Tree, Trees, compound, none}
+use Rattle.plterm.specs.Tree.{Tree, Trees, atom, compound, none}
 use Rattle.plterm.specs.Building.{gather, with_node}
 use Rattle.plops.specs.declared.table.OpTable.{OpTable}
 use Rattle.plread.specs.Signs.{Sign}
 use Rattle.plread.specs.Signs as tok
 use Rattle.plread.specs.Levels.{Level}
 use Rattle.plread.specs.Levels as frames
-use Rattle.plread.specs.Reading.{Start, Stands, Opens, Calls, Before, NoStart, Next, Between, Behind, Stop, start_of, next_of, Reads, Extends, Arguments, count}
+use Rattle.plread.specs.Texts.{nil, curly, list_term}
+use Rattle.plread.specs.Reading.{Start, Stands, Opens, OpensList, OpensCurly, Calls, Before, NoStart, Next, Between, Behind, Stop, start_of, next_of, Reads, Extends, Arguments, Elements, count}
 
 -- the greatest priority of the operand that the innermost open level waits for
 abbrev pub max_of : List Level → ℕ
 max_of [] = 1200
 max_of (frames.Bracket ∷ stack) = 1200
+max_of (frames.Curly ∷ stack) = 1200
+max_of (frames.Elements k ∷ stack) = 999
+max_of (frames.Tail k ∷ stack) = 999
 max_of (frames.Call n k ∷ stack) = 999
 max_of (frames.Before n op ∷ stack) = op.right
 max_of (frames.Between n op ∷ stack) = op.right
@@ -44,6 +48,8 @@ complete room stack trees p ts = Goes (record { room = room; stack = stack; tree
 abbrev pub wants : ℕ → List Level → List Tree → Start → After
 wants room stack trees (Stands t ts) = complete room stack (t ∷ trees) 0 ts
 wants room stack trees (Opens ts) = opened room (frames.Bracket ∷ stack) trees ts
+wants room stack trees (OpensList ts) = opened room (frames.Elements 0 ∷ stack) trees ts
+wants room stack trees (OpensCurly ts) = opened room (frames.Curly ∷ stack) trees ts
 wants room stack trees (Calls n ts) = opened room (frames.Call n 0 ∷ stack) trees ts
 wants room stack trees (Before n op ts) = opened room (frames.Before n op ∷ stack) trees ts
 wants room stack trees NoStart = Fails
@@ -53,11 +59,37 @@ abbrev pub closes : ℕ → List Level → List Tree → List Sign → After
 closes room stack trees (tok.Close ∷ ts) = complete (suc room) stack trees 0 ts
 closes room stack trees ts = Fails
 
+-- the braces are closed
+abbrev pub curls : ℕ → List Level → List Tree → List Sign → After
+curls room stack trees (tok.CloseCurly ∷ ts) = complete (suc room) stack (with_node (nodes.Compound curly 1) trees) 0 ts
+curls room stack trees ts = Fails
+
+-- an operand is wanted inside a level that takes the place of one that was open
+abbrev pub goes_in : ℕ → List Level → List Tree → List Sign → After
+goes_in room stack trees ts = Goes (record { room = room; stack = stack; trees = trees; given = None; left = ts })
+
 -- an argument is complete, behind k others
 abbrev pub argues : List ℕ → ℕ → ℕ → List Level → List Tree → List Sign → After
 argues n k room stack trees (tok.Close ∷ ts) = if nat_lt k 1024 then complete (suc room) stack (with_node (nodes.Compound n (suc k)) trees) 0 ts else Fails
-argues n k room stack trees (tok.Comma ∷ ts) = if nat_lt k 1023 then Goes (record { room = room; stack = frames.Call n (suc k) ∷ stack; trees = trees; given = None; left = ts }) else Fails
+argues n k room stack trees (tok.Comma ∷ ts) = if nat_lt k 1023 then goes_in room (frames.Call n (suc k) ∷ stack) trees ts else Fails
 argues n k room stack trees ts = Fails
+
+-- the latest tree is the tail of a list of the k before it
+abbrev pub with_tail : ℕ → List Tree → List Tree
+with_tail k [] = []
+with_tail k (tail ∷ trees) = list_term (gather k trees none) tail ∷ drop k trees
+
+-- an element is complete, behind k others
+abbrev pub lists : ℕ → ℕ → List Level → List Tree → List Sign → After
+lists k room stack trees (tok.CloseSquare ∷ ts) = complete (suc room) stack (with_tail (suc k) (atom nil ∷ trees)) 0 ts
+lists k room stack trees (tok.Comma ∷ ts) = goes_in room (frames.Elements (suc k) ∷ stack) trees ts
+lists k room stack trees (tok.Bar ∷ ts) = goes_in room (frames.Tail (suc k) ∷ stack) trees ts
+lists k room stack trees ts = Fails
+
+-- the tail is complete, behind k elements
+abbrev pub tails : ℕ → ℕ → List Level → List Tree → List Sign → After
+tails k room stack trees (tok.CloseSquare ∷ ts) = complete (suc room) stack (with_tail k trees) 0 ts
+tails k room stack trees ts = Fails
 
 abbrev pub ends : List Tree → List Sign → After
 ends trees (tok.End ∷ []) = Done trees
@@ -67,6 +99,9 @@ ends trees ts = Fails
 abbrev pub stops : ℕ → List Level → List Tree → List Sign → After
 stops room [] trees ts = ends trees ts
 stops room (frames.Bracket ∷ stack) trees ts = closes room stack trees ts
+stops room (frames.Curly ∷ stack) trees ts = curls room stack trees ts
+stops room (frames.Elements k ∷ stack) trees ts = lists k room stack trees ts
+stops room (frames.Tail k ∷ stack) trees ts = tails k room stack trees ts
 stops room (frames.Call n k ∷ stack) trees ts = argues n k room stack trees ts
 stops room (frames.Before n op ∷ stack) trees ts = complete (suc room) stack (with_node (nodes.Compound n 1) trees) op.priority ts
 stops room (frames.Between n op ∷ stack) trees ts = complete (suc room) stack (with_node (nodes.Compound n 2) trees) op.priority ts
@@ -101,11 +136,31 @@ abbrev pub Follow : OpTable → ℕ → List Sign → Trees → List Sign → Ty
 Follow ops room ts args rest =
     ((ts ≡ tok.Close ∷ rest) × (args ≡ none)) ⊎ ((mid : List Sign) × (ts ≡ tok.Comma ∷ mid) × Arguments ops room mid args rest)
 
+-- the elements, those to come too, and the tail
+abbrev pub with_list : ℕ → Trees → Tree → List Tree → List Tree
+with_list k items tail trees = list_term (gather k trees items) tail ∷ drop k trees
+
+-- behind an element: the closing bracket, a bar and the tail, or a comma and further elements
+abbrev pub FollowList : OpTable → ℕ → List Sign → Trees → Tree → List Sign → Type 0
+FollowList ops room ts items tail rest =
+    ((ts ≡ tok.CloseSquare ∷ rest) × (items ≡ none) × (tail ≡ atom nil))
+    ⊎ (((mid : List Sign) × (q : ℕ) × (ts ≡ tok.Bar ∷ mid) × (items ≡ none) × Reads ops room 999 mid tail q (tok.CloseSquare ∷ rest))
+    ⊎ ((mid : List Sign) × (ts ≡ tok.Comma ∷ mid) × Elements ops room mid items tail rest))
+
 -- where an operand is complete inside the open levels
 abbrev pub Completes : OpTable → ℕ → List Level → Tree → List Tree → ℕ → List Sign → Type 0
 Completes ops room [] whole trees p ts = (ts ≡ tok.End ∷ []) × (trees ≡ whole ∷ [])
 Completes ops room (frames.Bracket ∷ stack) whole trees p ts =
     (rest : List Sign) × (ts ≡ tok.Close ∷ rest) × Extended ops (suc room) (max_of stack) trees 0 rest (Completes ops (suc room) stack whole)
+Completes ops room (frames.Curly ∷ stack) whole trees p ts =
+    (rest : List Sign) × (ts ≡ tok.CloseCurly ∷ rest)
+    × Extended ops (suc room) (max_of stack) (with_node (nodes.Compound curly 1) trees) 0 rest (Completes ops (suc room) stack whole)
+Completes ops room (frames.Elements k ∷ stack) whole trees p ts =
+    (items : Trees) × (tail : Tree) × (rest : List Sign) × FollowList ops room ts items tail rest
+    × Extended ops (suc room) (max_of stack) (with_list (suc k) items tail trees) 0 rest (Completes ops (suc room) stack whole)
+Completes ops room (frames.Tail k ∷ stack) whole trees p ts =
+    (rest : List Sign) × (ts ≡ tok.CloseSquare ∷ rest)
+    × Extended ops (suc room) (max_of stack) (with_tail k trees) 0 rest (Completes ops (suc room) stack whole)
 Completes ops room (frames.Call n k ∷ stack) whole trees p ts =
     (args : Trees) × (rest : List Sign) × Follow ops room ts args rest × (suc k + count args ≤ 1024)
     × Extended ops (suc room) (max_of stack) (with_args n (suc k) args trees) 0 rest (Completes ops (suc room) stack whole)
@@ -140,6 +195,9 @@ MeetsAfter ops Fails whole = ⊥
 abbrev pub held : List Level → ℕ
 held [] = 0
 held (frames.Bracket ∷ stack) = held stack
+held (frames.Curly ∷ stack) = held stack
+held (frames.Elements k ∷ stack) = k + held stack
+held (frames.Tail k ∷ stack) = k + held stack
 held (frames.Call n k ∷ stack) = k + held stack
 held (frames.Before n op ∷ stack) = held stack
 held (frames.Between n op ∷ stack) = suc (held stack)

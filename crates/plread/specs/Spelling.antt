@@ -1,12 +1,14 @@
--- The signs of a clause's tokens. A variable has a number: that of its name's first occurrence, from 0, where each
--- `_` is new.
-use Rattle.std.specs.Prelude.{ℕ, List, [], ◌∷◌, ◌++◌, length, Bool, false, ◌==◌, if◌then◌else◌, Option, Some, None, codes}
+-- The signs of a clause's tokens, where the flag double_quotes has this value. A variable has a number: that of its
+-- name's first occurrence, from 0, where each `_` is new.
+use Rattle.std.specs.Prelude.{ℕ, List, [], ◌∷◌, ◌++◌, length, Bool, true, false, ◌==◌, if◌then◌else◌, Option, Some, None, codes}
 use Rattle.std.specs.List.{position_or_len}
 use Rattle.std.specs.Str.{bytes_eq}
 use Rattle.pllex.specs.declared.token.Kind.{Kind}
 use Rattle.pllex.specs.declared.token.Kind.TheVariants as kinds
 use Rattle.pllex.specs.declared.token.Token as lex
-use Rattle.pllex.specs.Named.{bytes_of}
+use Rattle.pllex.specs.Named.{bytes_of, value_of}
+use Rattle.plread.specs.declared.quotes.Quotes.{Quotes}
+use Rattle.plread.specs.Texts.{text_tree}
 use Rattle.plread.specs.Signs.{Sign}
 use Rattle.plread.specs.Signs as signs
 
@@ -22,35 +24,42 @@ abbrev pub seen_with : List (List ℕ) → List ℕ → List (List ℕ)
 seen_with seen name = if number_of seen name == length seen then seen ++ name ∷ [] else seen
 
 abbrev pub seen_after : Kind → List (List ℕ) → List ℕ → List (List ℕ)
-seen_after kinds.Name seen name = seen
 seen_after kinds.Variable seen name = seen_with seen name
-seen_after (kinds.Integer n) seen name = seen
-seen_after kinds.Open seen name = seen
-seen_after kinds.Close seen name = seen
-seen_after kinds.Comma seen name = seen
-seen_after kinds.End seen name = seen
+seen_after kind seen name = seen
 
 -- whether a token that starts here stands directly behind the one that ended there
 abbrev pub is_joined : Option ℕ → ℕ → Bool
 is_joined None start = false
 is_joined (Some end) start = end == start
 
-abbrev pub sign : Kind → List ℕ → List (List ℕ) → Bool → Sign
-sign kinds.Name bytes seen joined = signs.Name bytes
-sign kinds.Variable bytes seen joined = signs.Variable (number_of seen bytes)
-sign (kinds.Integer n) bytes seen joined = signs.Integer n
-sign kinds.Open bytes seen joined = if joined then signs.OpenCall else signs.Open
-sign kinds.Close bytes seen joined = signs.Close
-sign kinds.Comma bytes seen joined = signs.Comma
-sign kinds.End bytes seen joined = signs.End
+-- what punctuation says
+abbrev pub mark : Kind → Bool → Sign
+mark kinds.Open joined = if joined then signs.OpenCall else signs.Open
+mark kinds.Close joined = signs.Close
+mark kinds.OpenSquare joined = signs.OpenSquare
+mark kinds.CloseSquare joined = signs.CloseSquare
+mark kinds.OpenCurly joined = signs.OpenCurly
+mark kinds.CloseCurly joined = signs.CloseCurly
+mark kinds.Comma joined = signs.Comma
+mark kinds.Bar joined = signs.Bar
+mark kind joined = signs.End
+
+-- what a token says: a name or a variable by its bytes, and a quoted item by its value
+abbrev pub sign : Quotes → Kind → List ℕ → List ℕ → List (List ℕ) → Bool → Sign
+sign quotes kinds.Name bytes value seen joined = signs.Name bytes true
+sign quotes kinds.QuotedName bytes value seen joined = signs.Name value false
+sign quotes kinds.Variable bytes value seen joined = signs.Variable (number_of seen bytes)
+sign quotes (kinds.Integer n) bytes value seen joined = signs.Integer n joined
+sign quotes kinds.DoubleQuoted bytes value seen joined = signs.Text (text_tree quotes value)
+sign quotes kind bytes value seen joined = mark kind joined
 
 -- the signs of tokens behind one that ended here, where these variables were seen
-abbrev pub signs_behind : List ℕ → List (List ℕ) → Option ℕ → List lex.Token → List Sign
-signs_behind text seen last [] = []
-signs_behind text seen last (t ∷ ts) =
-    sign t.kind (bytes_of text t) seen (is_joined last t.start)
-    ∷ signs_behind text (seen_after t.kind seen (bytes_of text t)) (Some t.end) ts
+abbrev pub signs_behind : Quotes → List ℕ → List (List ℕ) → Option ℕ → List lex.Token → List Sign
+signs_behind quotes text seen last [] = []
+signs_behind quotes text seen last (t ∷ ts) =
+    sign quotes t.kind (bytes_of text t) (value_of text t) seen (is_joined last t.start)
+    ∷ signs_behind quotes text (seen_after t.kind seen (bytes_of text t)) (Some t.end) ts
 
 -- the signs of a clause's tokens
-abbrev pub signs_of : List ℕ → List lex.Token → List Sign
-signs_of text ts = signs_behind text [] None ts
+abbrev pub signs_of : Quotes → List ℕ → List lex.Token → List Sign
+signs_of quotes text ts = signs_behind quotes text [] None ts

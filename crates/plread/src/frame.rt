@@ -6,6 +6,11 @@ use plops::operator::{Infix, Prefix};
 #[derive(Clone, Copy, Debug, PartialEq, Eq)]
 pub enum Frame {
     Bracket,
+    Curly,
+    /// A list, of which so many elements are complete.
+    Elements(u64),
+    /// The tail of a list, behind so many elements.
+    Tail(u64),
     /// The arguments of a name, of which so many are complete.
     Call(usize, u16),
     Before(usize, Prefix),

@@ -5,7 +5,9 @@ pub mod clause;
 pub mod error;
 pub mod frame;
 pub mod input;
+pub mod lists;
 pub mod looks;
+pub mod quotes;
 pub mod read;
 pub mod reader;
 #[cfg(test)]

@@ -11,6 +11,7 @@ ghost use Rattle.plread.specs.Refusals.{start_of, Refuses};
 use crate::clause::term_of;
 use crate::error::ReadError;
 use crate::input::input_of;
+use crate::quotes::Quotes;
 use pllex::token::Token;
 use plops::table::OpTable;
 use plterm::term::Term;
@@ -22,24 +23,25 @@ pub struct ReadTerm {
     pub term: Term,
 }
 
-/// The term that a clause's tokens spell under these operators, with at most `levels` open levels: open brackets
-/// and operators that wait for their right operand (6.2, 6.3). The time is linear in the tokens, and the stack does
-/// not grow with the term's depth.
+/// The term that a clause's tokens spell under these operators and this value of the flag double_quotes, with at
+/// most `levels` open levels: open brackets and operators that wait for their right operand (6.2, 6.3). The time is
+/// linear in the tokens and their text, and the stack does not grow with the term's depth.
 pub fn read_clause(
     alloc: Global,
     text: &[u8],
     tokens: &[Token],
     ops: &OpTable,
+    quotes: Quotes,
     levels: u64,
 ) -> Result<ReadTerm, ReadError>
     requires { AreNamed text.now tokens.now }
     ensures found { IfOk result (λ read.
-        Spells ops.now levels (signs_of text.now tokens.now) read.term) }
+        Spells ops.now levels (signs_of quotes text.now tokens.now) read.term) }
 
     // The tokens spell no term.
-    ensures none { IfErr result (Refuses ops.now levels text.now tokens.now) }
+    ensures none { IfErr result (Refuses ops.now quotes levels text.now tokens.now) }
 {
-    let input = input_of(alloc, text, tokens)?;
+    let input = input_of(alloc, text, quotes, tokens)?;
     match term_of(alloc, &input.words, &input.tokens, ops, levels)? {
         Some(term) => Ok(ReadTerm { term }),
         None => Err(ReadError::Syntax(start_of(tokens))),

@@ -2,6 +2,7 @@
 ghost use Rattle.std.specs.Prelude.{◌+◌, ◌<◌, ◌^◌, vec_len};
 
 use crate::frame::Frame;
+use crate::lists::{close, join, push_chars, push_codes};
 use crate::looks::{Follower, Leaf, Opening, next_of, start_of};
 use crate::token::Token;
 use crate::words::Words;
@@ -32,12 +33,12 @@ pub struct Reader<'a> {
 }
 
 impl<'a> Reader<'a> {
-    ghost use Rattle.std.specs.Prelude.{◌≡◌, ◌≤◌, ◌∷◌, length};
+    ghost use Rattle.std.specs.Prelude.{◌≡◌, ◌≤◌, ◌<◌, ◌+◌, ◌^◌, ◌∷◌, length, vec_len};
     ghost use Rattle.plterm.specs.Reading.{arity};
     ghost use Rattle.plterm.specs.Building.{with_node, IsWithinLimits};
     ghost use Rattle.plread.specs.Looks.{view};
-    ghost use Rattle.plread.specs.Machine.{max_of, opened, complete};
-    ghost use Rattle.plread.specs.Views.{level_view, stack_view, Gives};
+    ghost use Rattle.plread.specs.Machine.{max_of, opened, complete, goes_in};
+    ghost use Rattle.plread.specs.Views.{level_view, stack_view, state_view, Turned, Gives};
 
     fn max(&self, words: &Words) -> u16
         ensures { result ≡ max_of (stack_view words.now self.now.stack.items) }
@@ -45,6 +46,9 @@ impl<'a> Reader<'a> {
         match self.stack.last() {
             None => 1200,
             Some(Frame::Bracket) => 1200,
+            Some(Frame::Curly) => 1200,
+            Some(Frame::Elements(_)) => 999,
+            Some(Frame::Tail(_)) => 999,
             Some(Frame::Call(_, _)) => 999,
             Some(Frame::Before(_, op)) => op.right,
             Some(Frame::Between(_, op)) => op.right,
@@ -78,7 +82,27 @@ impl<'a> Reader<'a> {
             (λ room stack trees _. complete room stack (with_node node trees) given (view words.now rest.now)) }
     {
         self.terms.push(node)?;
-        self.given = Some(given);
+        Ok(self.give(words, given, rest))
+    }
+
+    /// An operand is complete, before the rest.
+    fn give(&mut self, words: &Words, priority: u16, rest: &'a [Token]) -> Turn
+        ensures { Turned result (state_view words.now self.new)
+            (complete self.old.room (stack_view words.now self.old.stack.items) self.old.terms priority (view words.now rest.now)) }
+    {
+        self.given = Some(priority);
+        self.left = rest;
+        Turn::Goes
+    }
+
+    /// An operand is wanted inside a level that takes the place of one that was open.
+    fn go_in(&mut self, words: &Words, frame: Frame, rest: &'a [Token]) -> Result<Turn, AllocError>
+        requires { self.old.room + 1 + vec_len self.old.stack < 2 ^ 64 }
+        ensures { Gives words.now result self.old self.new
+            (λ room stack trees _. goes_in room (level_view words.now frame ∷ stack) trees (view words.now rest.now)) }
+    {
+        self.stack.push(frame)?;
+        self.given = None;
         self.left = rest;
         Ok(Turn::Goes)
     }
@@ -89,7 +113,7 @@ impl<'a> Reader<'a> {
     ghost use Rattle.plterm.specs.Building.{with_node};
     ghost use Rattle.plread.specs.Words.{name_at};
     ghost use Rattle.plread.specs.Looks.{view, leaf_tree};
-    ghost use Rattle.plread.specs.Machine.{max_of, complete, wants, goes_on, stops, closes, argues, step, held, one_if};
+    ghost use Rattle.plread.specs.Machine.{max_of, complete, wants, goes_on, stops, closes, curls, lists, tails, argues, step, held, one_if};
     ghost use Rattle.plread.specs.Reading.{start_of, next_of};
     ghost use Rattle.plread.specs.Views.{stack_view, Stepped, state_view, Gives};
 
@@ -103,6 +127,14 @@ impl<'a> Reader<'a> {
             Leaf::Atom(place) => {
                 let name = words.name(self.alloc, place)?;
                 self.complete(words, Node::Atom(name), 0, rest)
+            }
+            Leaf::Codes(place) => {
+                push_codes(self.alloc, words, &mut self.terms, words.quoted(place))?;
+                Ok(self.give(words, 0, rest))
+            }
+            Leaf::Chars(place) => {
+                push_chars(self.alloc, words, &mut self.terms, words.quoted(place))?;
+                Ok(self.give(words, 0, rest))
             }
         }
     }
@@ -134,6 +166,8 @@ impl<'a> Reader<'a> {
         match start_of(ops, words, self.max(words), self.left) {
             Opening::Stands(leaf, rest) => self.stand(words, leaf, rest),
             Opening::Opens(rest) => self.open(words, Frame::Bracket, rest),
+            Opening::OpensList(rest) => self.open(words, Frame::Elements(0), rest),
+            Opening::OpensCurly(rest) => self.open(words, Frame::Curly, rest),
             Opening::Calls(name, rest) => self.open(words, Frame::Call(name, 0), rest),
             Opening::Before(name, op, rest) => self.open(words, Frame::Before(name, op), rest),
             Opening::Nothing => Ok(Turn::Fails),
@@ -147,9 +181,56 @@ impl<'a> Reader<'a> {
         match self.left {
             [Token::Close, rest @ ..] => {
                 self.room += 1;
-                self.given = Some(0);
-                self.left = rest;
-                Ok(Turn::Goes)
+                Ok(self.give(words, 0, rest))
+            }
+            _ => Ok(Turn::Fails),
+        }
+    }
+
+    fn close_curly(&mut self, words: &Words) -> Result<Turn, AllocError>
+        requires room { self.old.room + 1 + vec_len self.old.stack < 2 ^ 64 }
+        requires operands { 1 ≤ length self.old.terms }
+        ensures { Gives words.now result self.old self.new curls }
+    {
+        match self.left {
+            [Token::CloseCurly, rest @ ..] => {
+                self.room += 1;
+                self.build(words, words.curly(), 1, 0, rest)
+            }
+            _ => Ok(Turn::Fails),
+        }
+    }
+
+    /// An element of a list is complete, behind so many others. A list of 2^64 elements fits in no memory.
+    fn list(&mut self, words: &Words, complete: u64) -> Result<Turn, AllocError>
+        requires room { self.old.room + 1 + vec_len self.old.stack < 2 ^ 64 }
+        requires operands { complete + 1 ≤ length self.old.terms }
+        ensures { Gives words.now result self.old self.new (lists complete) }
+    {
+        let complete = complete.checked_add(1).ok_or(AllocError)?;
+        match self.left {
+            [Token::CloseSquare, rest @ ..] => {
+                self.room += 1;
+                close(self.alloc, words, &mut self.terms, complete)?;
+                Ok(self.give(words, 0, rest))
+            }
+            [Token::Comma, rest @ ..] => self.go_in(words, Frame::Elements(complete), rest),
+            [Token::Bar, rest @ ..] => self.go_in(words, Frame::Tail(complete), rest),
+            _ => Ok(Turn::Fails),
+        }
+    }
+
+    /// The tail of a list is complete, behind so many elements.
+    fn close_tail(&mut self, words: &Words, elements: u64) -> Result<Turn, AllocError>
+        requires room { self.old.room + 1 + vec_len self.old.stack < 2 ^ 64 }
+        requires operands { elements + 1 ≤ length self.old.terms }
+        ensures { Gives words.now result self.old self.new (tails elements) }
+    {
+        match self.left {
+            [Token::CloseSquare, rest @ ..] => {
+                self.room += 1;
+                join(self.alloc, words, &mut self.terms, elements)?;
+                Ok(self.give(words, 0, rest))
             }
             _ => Ok(Turn::Fails),
         }
@@ -172,10 +253,7 @@ impl<'a> Reader<'a> {
             }
             [Token::Comma, rest @ ..] => {
                 if complete < 1023 {
-                    self.stack.push(Frame::Call(name, complete + 1))?;
-                    self.given = None;
-                    self.left = rest;
-                    Ok(Turn::Goes)
+                    self.go_in(words, Frame::Call(name, complete + 1), rest)
                 } else {
                     Ok(Turn::Fails)
                 }
@@ -195,6 +273,9 @@ impl<'a> Reader<'a> {
                 _ => Ok(Turn::Fails),
             },
             Some(Frame::Bracket) => self.close(words),
+            Some(Frame::Curly) => self.close_curly(words),
+            Some(Frame::Elements(complete)) => self.list(words, complete),
+            Some(Frame::Tail(elements)) => self.close_tail(words, elements),
             Some(Frame::Call(name, complete)) => self.argue(words, name, complete),
             Some(Frame::Before(name, op)) => {
                 self.room += 1;

@@ -1,50 +1,72 @@
-//! The names that stand in a clause.
-ghost use Rattle.std.specs.Prelude.{◌≡◌, ◌≤◌, ◌++◌, ◌∷◌, [], length, IfOk, OnOk, OnErr};
+//! The names and the texts that stand in a clause.
+ghost use Rattle.std.specs.Prelude.{◌≡◌, ◌≤◌, ◌++◌, ◌∷◌, [], length, IfOk, OnOk, OnErr, string_bytes};
 ghost use Rattle.plops.specs.Sane.{comma};
-ghost use Rattle.plread.specs.Words.{name_at};
+ghost use Rattle.plread.specs.Texts.{dot, nil, curly};
+ghost use Rattle.plread.specs.Words.{name_at, text_at};
 
 use plterm::name::Name;
 use std::alloc::{AllocError, Global};
 use std::marker::Model;
+use std::string::String;
 
-/// The names that stand in a clause, by their places. The first is the comma, which is no name where it stands but
-/// is the name of what it builds (6.3.4.2). A name has at most 65,535 bytes.
+/// The names that stand in a clause, by their places, and its double-quoted texts. The first names are those that
+/// are written by punctuation: the comma (6.3.4.2), the cell of a list, the empty list and the braces (6.3.5, 6.3.6).
+/// A name has at most 65,535 bytes.
 #[derive(Drop)]
 pub struct Words {
     names: Vec<Name>,
+    texts: Vec<String>,
 }
 
 impl Model for Words {
-    ghost use Rattle.std.specs.Prelude.{List, ℕ};
+    ghost use Rattle.std.specs.Prelude.{map, string_bytes};
+    ghost use Rattle.plread.specs.Words.{Lexicon, AreWords};
 
-    ghost Value = { List (List ℕ) };
+    ghost Value = { Lexicon };
 
-    ghost use Rattle.plread.specs.Words.{AreWords};
+    ghost view = { λ a. record { names = a.names.items; texts = map string_bytes a.texts.items } };
 
-    ghost view = { λ a. a.names.items };
-
-    ghost invariant = { λ a. AreWords a.names.items };
+    ghost invariant = { λ a. AreWords (record { names = a.names.items; texts = map string_bytes a.texts.items }) };
 }
 
 impl Words {
-    /// The comma alone.
+    /// The names of punctuation, and no text.
     pub fn new(alloc: Global) -> Result<Words, AllocError>
-        ensures { IfOk result (λ words. words ≡ comma ∷ []) }
+        ensures { IfOk result (λ words.
+            words ≡ record { names = comma ∷ dot ∷ nil ∷ curly ∷ []; texts = [] }) }
     {
         let mut names = Vec::new(alloc);
         names.push(Name::new(alloc, ",")?)?;
-        Ok(Words { names })
+        names.push(Name::new(alloc, ".")?)?;
+        names.push(Name::new(alloc, "[]")?)?;
+        names.push(Name::new(alloc, "{}")?)?;
+        Ok(Words {
+            names,
+            texts: Vec::new(alloc),
+        })
     }
 
     /// Adds a name, and answers its place.
     pub fn push(&mut self, name: Name) -> Result<usize, AllocError>
         requires { length name ≤ 65535 }
-        ensures place { IfOk result (λ place. place ≡ length self.old) }
-        ensures ok { OnOk result (self.new ≡ self.old ++ name ∷ []) }
+        ensures place { IfOk result (λ place. place ≡ length self.old.names) }
+        ensures ok { OnOk result (self.new ≡ record self.old { names = self.old.names ++ name ∷ [] }) }
         ensures err { OnErr result (self.new ≡ self.old) }
     {
         let place = self.names.len();
         self.names.push(name)?;
+        Ok(place)
+    }
+
+    /// Adds a text, and answers its place.
+    pub fn push_text(&mut self, text: String) -> Result<usize, AllocError>
+        ensures place { IfOk result (λ place. place ≡ length self.old.texts) }
+        ensures ok { OnOk result (
+            self.new ≡ record self.old { texts = self.old.texts ++ string_bytes text ∷ [] }) }
+        ensures err { OnErr result (self.new ≡ self.old) }
+    {
+        let place = self.texts.len();
+        self.texts.push(text)?;
         Ok(place)
     }
 
@@ -56,6 +78,30 @@ impl Words {
         0
     }
 
+    /// The place of the name of a list's cell.
+    pub fn dot(&self) -> usize
+        ensures { name_at self.now result ≡ dot }
+    {
+        let _names = &self.names;
+        1
+    }
+
+    /// The place of the empty list.
+    pub fn nil(&self) -> usize
+        ensures { name_at self.now result ≡ nil }
+    {
+        let _names = &self.names;
+        2
+    }
+
+    /// The place of the braces.
+    pub fn curly(&self) -> usize
+        ensures { name_at self.now result ≡ curly }
+    {
+        let _names = &self.names;
+        3
+    }
+
     /// The name at a place. Past the last it is empty.
     pub fn text(&self, place: usize) -> &str
         ensures value { result.now ≡ name_at self.now place }
@@ -63,6 +109,16 @@ impl Words {
     {
         match self.names.get(place) {
             Some(name) => name.as_str(),
+            None => "",
+        }
+    }
+
+    /// The double-quoted text at a place. Past the last it is empty.
+    pub fn quoted(&self, place: usize) -> &str
+        ensures { result.now ≡ text_at self.now place }
+    {
+        match self.texts.get(place) {
+            Some(text) => text.as_str(),
             None => "",
         }
     }

@@ -3,7 +3,7 @@ use Rattle.plread.proofs.Runs.{at_start, at_next, smaller, at_done, none_fails, 
 use Rattle.plread.proofs.clause.term_of.Goals as goal
 
 pub steps-init : goal.steps-init
-steps-init c = at_start _ _ _ _ _ _ c.new.ensures.items c.new-2.ensures
+steps-init c = at_start _ _ _ c.args.words.now _ _ c.new.ensures.items c.new-2.ensures
 
 pub steps-smaller : goal.steps-smaller
 steps-smaller c = smaller _ _ _ (state_view c.args.words.now c.steps.reader) _ c.steps.invariant (is_goes _ _ _ c.in-Ok-Goes.ensures c.in-Ok-Goes.field-0-is)

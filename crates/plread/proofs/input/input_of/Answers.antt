@@ -7,8 +7,8 @@ sign_of-requires c = named_at c.args.text.now c.args.tokens.now c.tokens.token-i
 
 pub tokens-preserved : goal.tokens-preserved
 tokens-preserved c =
-    added c.args.text.now c.tokens.words c.sign_of.new.words c.tokens.variables c.sign_of.new.variables c.tokens.last c.tokens.made.items c.push.new.self.items c.in_ok-sign.sign _ (drop c.tokens.token-index c.args.tokens.now) (drop (c.tokens.token-index + 1) c.args.tokens.now) c.is_joined-joined.result _
+    added c.args.quotes c.args.text.now c.tokens.words c.sign_of.new.words c.tokens.variables c.sign_of.new.variables c.tokens.last c.tokens.made.items c.push.new.self.items c.in_ok-sign.sign _ (drop c.tokens.token-index c.args.tokens.now) (drop (c.tokens.token-index + 1) c.args.tokens.now) c.is_joined-joined.result _
     (front_at c.args.tokens.now c.tokens.token-index _ (omega arith)) c.tokens.invariant c.in_ok-sign.ensures.words c.in_ok-sign.ensures.sign c.is_joined-joined.ensures c.in_ok-sign.ensures.seen c.in_ok-push.ensures.items
 
 pub returns : goal.returns
-returns c = all_made c.args.text.now c.tokens.words c.tokens.variables c.tokens.last c.tokens.made.items c.args.tokens.now c.tokens.token-index _ (omega arith) c.tokens.invariant
+returns c = all_made c.args.quotes c.args.text.now c.tokens.words c.tokens.variables c.tokens.last c.tokens.made.items c.args.tokens.now c.tokens.token-index _ (omega arith) c.tokens.invariant

@@ -1,0 +1,5 @@
+pub mod Fronts
+pub mod Forms
+pub mod Back
+pub mod Says
+pub mod Worked
