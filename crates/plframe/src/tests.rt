@@ -1,7 +1,7 @@
 use crate::frame::{Closed, Item, Source};
 use crate::stack::Stack;
 use plclause::clause::Clause;
-use plload::program::Program;
+use plload::load::load;
 use plterm::error::TermError;
 use plterm::name::Name;
 use plterm::term::Term;
@@ -27,7 +27,7 @@ fn clauses(alloc: Global) -> Result<Vec<Clause>, TermError> {
 #[test]
 fn a_call_and_its_retries(rt: HostRuntime) -> Result<(), Fail> {
     let alloc = rt.alloc();
-    let program = Program::new(alloc);
+    let program = load(alloc, b"")?;
     let mut stack = Stack::new(alloc);
     let name = Name::new(alloc, "a")?;
     let goal = Term::atom(alloc, name)?;

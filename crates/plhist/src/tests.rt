@@ -60,7 +60,7 @@ fn history_of(alloc: Global, word: &str, output: &str) -> Result<History, AllocE
 
 #[test]
 fn reports(rt: HostRuntime) -> Result<(), Fail> {
-    let ops = OpTable::report(rt.alloc())?;
+    let ops = OpTable::iso(rt.alloc())?;
     for (word, output, text, number) in [
         ("true", "hello\n", "% thread 1 main: true\nhello\n", 0),
         ("true", "1", "% thread 1 main: true\n1\n", 0),

@@ -1,5 +1,8 @@
 pub mod Procedures
 pub mod Arguments
+pub mod Each
+pub mod Parts
 pub mod Once
+pub mod Turns
 pub mod Loadings
 pub mod Worked

@@ -1,34 +1,45 @@
 -- What is next, from what a clause comes to.
-use Rattle.std.proofs.Common.{ℕ, ◌<◌, ◌≤◌, List, length, Result, Ok, Err, IfOk, sym, subst, inl, inr, arith}
+use Rattle.std.proofs.Common.{◌≡◌, ℕ, ◌+◌, ◌<◌, ◌≤◌, List, length, Result, Ok, Err, IfOk, refl, sym, subst, arith}
 use Rattle.std.specs.declared.alloc.AllocError.{AllocError}
+use Rattle.plterm.specs.Tree.{Tree}
 use Rattle.pllex.specs.declared.token.Token.{Token}
 use Rattle.pllex.specs.Tokens.{IsClause}
 use Rattle.plload.specs.declared.next.Next.{Next}
 use Rattle.plload.specs.declared.next.Next.TheVariants as nexts
-use Rattle.plload.specs.Loading.{IsNext, Follows, Stops, Moves, Means, first_place, unread, refused}
-use Rattle.plload.specs.declared.meaning.Meaning.TheVariants as meanings
+use Rattle.plload.specs.declared.settings.Settings.{Settings}
+use Rattle.plload.specs.Settings.{Takes, Refuses as Judged}
+use Rattle.plload.specs.Meaning.{Meaning, Adds, Runs as RunsGoal, Declares, Operates, SetsQuotes, SetsUnknown, Passes, Refused}
+use Rattle.plload.specs.Program.{Draft, with_meaning}
+use Rattle.plload.specs.declared.error.RefusalKind.{RefusalKind}
+use Rattle.plload.specs.Loading.{IsNext, Follows, Stops, Moves, first_place, unread, refused, judged, Goes, Ending, Fails, Runs, goes, stops}
 
-pub next_follows : (text : List ℕ) (from : ℕ) (ts : List Token) (after : ℕ) (next : Next) → IsClause text from ts after → Follows text ts after next → IsNext text from next
-next_follows text from ts after nexts.Over h f = absurd f
-next_follows text from ts after (nexts.Stops place kind) h (e, inl (k, none)) =
-    subst (λ p. Stops text from p kind) (sym e) (subst (λ q. Stops text from (first_place ts) q) (sym k) (unread (record { clause = h; term = none })))
-next_follows text from ts after (nexts.Stops place kind) h (e, inr (t, some, m)) =
-    subst (λ p. Stops text from p kind) (sym e) (refused (record { clause = h; term = some }) m)
-next_follows text from ts after (nexts.Adds c end) h (e, (t, some, m)) =
-    subst (λ a. Means text from (meanings.Adds c) a) (sym e) (record { tokens = ts; term = t; reads = record { clause = h; term = some }; is = m })
-next_follows text from ts after (nexts.Runs goal end) h (e, (t, some, m)) =
-    subst (λ a. Means text from (meanings.Runs goal) a) (sym e) (record { tokens = ts; term = t; reads = record { clause = h; term = some }; is = m })
+pub next_follows : (text : List ℕ) (from : ℕ) (s : Settings) (ts : List Token) (after : ℕ) (next : Next) → IsClause text from ts after → Follows text s ts after next → IsNext text from s next
+next_follows text from s ts after nexts.Over h f = absurd f
+next_follows text from s ts after (nexts.Stops place kind) h (e, k, none) =
+    subst (λ p. Stops text from s p kind) (sym e) (subst (λ q. Stops text from s (first_place ts) q) (sym k) (unread (record { clause = h; term = none })))
+next_follows text from s ts after (nexts.Reads t first end) h (e, some, f) =
+    (ts, record { clause = subst (λ a. IsClause text from ts a) (sym e) h; term = some }, f)
 
-pub next_result : (text : List ℕ) (from : ℕ) (ts : List Token) (after : ℕ) (r : Result Next AllocError) → IsClause text from ts after → IfOk r (Follows text ts after) → IfOk r (IsNext text from)
-next_result text from ts after (Ok next) h f = next_follows text from ts after next h f
-next_result text from ts after (Err e) h f = tt
+pub next_result : (text : List ℕ) (from : ℕ) (s : Settings) (ts : List Token) (after : ℕ) (r : Result Next AllocError) → IsClause text from ts after → IfOk r (Follows text s ts after) → IfOk r (IsNext text from s)
+next_result text from s ts after (Ok next) h f = next_follows text from s ts after next h f
+next_result text from s ts after (Err e) h f = tt
 
 -- a clause that was passed moves on
-pub moves_result : (text : List ℕ) (from : ℕ) (ts : List Token) (after : ℕ) (r : Result Next AllocError) → from < after → after ≤ length text → IfOk r (Follows text ts after) → IfOk r (Moves from (length text))
-moves_result text from ts after (Ok next) h k f = moves_next from after next h k f where
-  moves_next : (from after : ℕ) (next : Next) → from < after → after ≤ length text → Follows text ts after next → Moves from (length text) next
-  moves_next from after nexts.Over h k f = tt
-  moves_next from after (nexts.Stops place kind) h k f = tt
-  moves_next from after (nexts.Adds c end) h k f = (omega (arith, f.0, h), omega (arith, f.0, k))
-  moves_next from after (nexts.Runs goal end) h k f = (omega (arith, f.0, h), omega (arith, f.0, k))
-moves_result text from ts after (Err e) h k f = tt
+pub moves_result : (text : List ℕ) (from : ℕ) (s : Settings) (ts : List Token) (after : ℕ) (r : Result Next AllocError) → from < after → after ≤ length text → IfOk r (Follows text s ts after) → IfOk r (Moves from (length text))
+moves_result text from s ts after (Ok next) h k f = moves_next from s ts after next h k f where
+  moves_next : (from : ℕ) (s : Settings) (ts : List Token) (after : ℕ) (next : Next) → from < after → after ≤ length text → Follows text s ts after next → Moves from (length text) next
+  moves_next from s ts after nexts.Over h k f = tt
+  moves_next from s ts after (nexts.Stops place kind) h k f = tt
+  moves_next from s ts after (nexts.Reads t first end) h k f = (omega (arith, f.0, h), omega (arith, f.0, k))
+moves_result text from s ts after (Err e) h k f = tt
+
+-- a clause or directive counts once at most
+pub counts_once : (d : Draft) (m : Meaning) → (with_meaning d m).directives ≤ d.directives + 1
+counts_once d (Adds c) = omega arith
+counts_once d (RunsGoal goal) = omega arith
+counts_once d (Declares ps) = omega arith
+counts_once d (Operates priority kind names) = omega arith
+counts_once d (SetsQuotes quotes) = omega arith
+counts_once d (SetsUnknown unknown) = omega arith
+counts_once d Passes = omega arith
+counts_once d (Refused kind) = omega arith

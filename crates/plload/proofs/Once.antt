@@ -1,4 +1,4 @@
--- A text comes to one outcome.
+-- A text comes to one outcome, whatever is made of it.
 use Rattle.std.proofs.Common.{◌≡◌, ℕ, List, [], ◌∷◌, Option, Some, None, true, refl, sym, ap, subst, ◌∙◌, inl, inr}
 use Rattle.std.proofs.lemmas.Bool.{false≢true}
 use Rattle.plterm.specs.Tree.{Tree}
@@ -7,19 +7,17 @@ use Rattle.pllex.specs.declared.token.Fault.{Fault}
 use Rattle.pllex.specs.declared.token.Item.TheVariants as items
 use Rattle.pllex.specs.Tokens.{next_item, is_end, Run, IsFault, IsOver, IsFirst}
 use Rattle.pllex.proofs.Clauses.{one_clause, no_fault, not_over}
-use Rattle.plops.specs.Given.{iso_table}
 use Rattle.plread.specs.Signs.{Sign}
 use Rattle.plread.specs.Spelling.{signs_of}
 use Rattle.plread.proofs.Unique.{spelled_once}
 use Rattle.plload.specs.declared.error.RefusalKind.{RefusalKind}
 use Rattle.plload.specs.declared.error.RefusalKind.TheVariants as kinds
-use Rattle.plload.specs.declared.meaning.Meaning.{Meaning}
-use Rattle.plload.specs.declared.meaning.Meaning.TheVariants as meanings
-use Rattle.plload.specs.declared.next.Next.{Next}
-use Rattle.plload.specs.declared.next.Next.TheVariants as nexts
-use Rattle.plload.specs.Meaning.{meaning}
-use Rattle.plload.specs.Program.{Program, empty_program, with_clause, with_goal}
-use Rattle.plload.specs.Loading.{levels, Spelled, first_place, Reads, Stops, lexical, unread, refused, IsNext, Ending, LoadsFrom, over, stops, adds, runs, Outcome, outcome_of, Loads}
+use Rattle.plload.specs.declared.settings.Settings.{Settings}
+use Rattle.plload.specs.Settings.{Taken, Takes, Refuses as Judged, iso_settings}
+use Rattle.plload.specs.Position.{line_of, column_of}
+use Rattle.plload.specs.Program.{empty_draft, with_term, program_of}
+use Rattle.plload.specs.Loading.{levels, Spelled, first_place, Reads, judged, Stops, lexical, unread, refused, Goes, Ending, Ends, Fails, Runs, over, stops, goes, Outcome, Refuses, outcome_of, Comes, Loads}
+use Rattle.plload.specs.Listing.{with_line, whole_listing, Lists}
 
 -- ---- faults
 
@@ -70,108 +68,127 @@ fault_not_over text from f p ([], x, r, inl h) o = let place : from ≡ x = r in
 fault_not_over text from f p ([], x, r, inr h) o = h.2
 fault_not_over text from f p (t ∷ ts, x, r, h) o = let token : next_item text from ≡ items.Token t = r.0 in cc
 
--- ---- what is next
+-- ---- a clause
 
 -- the signs have one answer
-one_answer : (signs : List Sign) (a b : Option Tree) → Spelled signs a → Spelled signs b → a ≡ b
-one_answer signs None None h k = refl
-one_answer signs None (Some u) h k = absurd (h u k)
-one_answer signs (Some t) None h k = absurd (k t h)
-one_answer signs (Some t) (Some u) h k = ap (λ (x : Tree). Some x) (spelled_once iso_table levels signs t u h k)
+one_answer : (s : Settings) (signs : List Sign) (a b : Option Tree) → Spelled s signs a → Spelled s signs b → a ≡ b
+one_answer s signs None None h k = refl
+one_answer s signs None (Some u) h k = absurd (h u k)
+one_answer s signs (Some t) None h k = absurd (k t h)
+one_answer s signs (Some t) (Some u) h k = ap (λ (x : Tree). Some x) (spelled_once s.operators levels signs t u h k)
 
 pub record Same (ts us : List Token) (a b : ℕ) (x y : Option Tree) : Type 0 where
   pub tokens : ts ≡ us
   pub after : a ≡ b
   pub term : x ≡ y
 
-one_reading : (text : List ℕ) (from : ℕ) (ts us : List Token) (a b : ℕ) (x y : Option Tree) → Reads text from ts a x → Reads text from us b y → Same ts us a b x y
-one_reading text from ts us a b x y h k =
+one_reading : (text : List ℕ) (from : ℕ) (s : Settings) (ts us : List Token) (a b : ℕ) (x y : Option Tree) → Reads text from s ts a x → Reads text from s us b y → Same ts us a b x y
+one_reading text from s ts us a b x y h k =
     let same = one_clause text from ts us a b h.clause k.clause in
     record {
       tokens = same.0;
       after = same.1;
-      term = one_answer (signs_of text us) x y (subst (λ vs. Spelled (signs_of text vs) x) same.0 h.term) k.term;
+      term = one_answer s (signs_of s.quotes text us) x y (subst (λ vs. Spelled s (signs_of s.quotes text vs) x) same.0 h.term) k.term;
     }
 
--- what a clause does is known from its meaning
-abbrev said : Option Tree → Option Meaning
-said None = None
-said (Some t) = Some (meaning t)
+module _ (text : List ℕ) (from : ℕ) (s : Settings) where
+  stops_not_over : (p : ℕ) (k : RefusalKind) → Stops text from s p k → IsOver text from → ⊥
+  stops_not_over p k (lexical {fault} {place} h) o = fault_not_over text from fault place h o
+  stops_not_over p k (unread {ts} {after} r) o = not_over text from ts after r.clause o
+  stops_not_over p k (refused {ts} {after} r j) o = not_over text from ts after r.clause o
 
-abbrev does : List Token → ℕ → Option Meaning → Next
-does ts after None = nexts.Stops (first_place ts) kinds.Syntax
-does ts after (Some (meanings.Adds c)) = nexts.Adds c after
-does ts after (Some (meanings.Runs goal)) = nexts.Runs goal after
-does ts after (Some (meanings.Refused kind)) = nexts.Stops (first_place ts) kind
+  goes_not_over : (t : Tree) (after : ℕ) (new : Settings) → Goes text from s t after new → IsOver text from → ⊥
+  goes_not_over t after new g o = not_over text from g.tokens after g.reads.clause o
 
--- what is next, in one form: nothing, a fault, or a clause with its meaning
-data Found (text : List ℕ) (from : ℕ) : Next → Type 0 where
-  nothing : IsOver text from → Found text from nexts.Over
-  faulty : {fault : Fault} {place : ℕ} → IsFault text from fault place → Found text from (nexts.Stops place kinds.Lex)
-  read : {ts : List Token} {after : ℕ} {x : Option Tree} {next : Next} → Reads text from ts after x → next ≡ does ts after (said x) → Found text from next
+  -- an accepted term is not refused
+  stops_not_goes : (p : ℕ) (k : RefusalKind) (t : Tree) (after : ℕ) (new : Settings) → Stops text from s p k → Goes text from s t after new → ⊥
+  stops_not_goes p k t after new (lexical {fault} {place} h) g = no_fault text from g.tokens after fault place g.reads.clause h
+  stops_not_goes p k t after new (unread {ts} {after = end} r) g =
+      let same = (one_reading text from s ts g.tokens end after None (Some t) r g.reads).term in cc
+  stops_not_goes p k t after new (refused {ts} {after = end} {t = u} {kind} r j) g =
+      let same = (one_reading text from s ts g.tokens end after (Some u) (Some t) r g.reads).term in
+      let term : u ≡ t = cc in
+      let takes : judged s t ≡ Takes new = g.takes in
+      let refuses : judged s t ≡ Judged kind = ap (judged s) (sym term) ∙ j in cc
 
-stop_found : (text : List ℕ) (from place : ℕ) (kind : RefusalKind) → Stops text from place kind → Found text from (nexts.Stops place kind)
-stop_found text from place kind (lexical h) = faulty h
-stop_found text from place kind (unread r) = read r refl
-stop_found text from place kind (refused {ts} {after} r m) = read r (sym (ap (λ (x : Meaning). does ts after (Some x)) m))
+  pub record OneStop (p q : ℕ) (k l : RefusalKind) : Type 0 where
+    pub place : p ≡ q
+    pub kind : k ≡ l
 
-found : (text : List ℕ) (from : ℕ) (next : Next) → IsNext text from next → Found text from next
-found text from nexts.Over h = nothing h
-found text from (nexts.Stops place kind) h = stop_found text from place kind h
-found text from (nexts.Adds c after) h = read h.reads (sym (ap (λ (x : Meaning). does h.tokens after (Some x)) h.is))
-found text from (nexts.Runs goal after) h = read h.reads (sym (ap (λ (x : Meaning). does h.tokens after (Some x)) h.is))
+  one_stop : (p q : ℕ) (k l : RefusalKind) → Stops text from s p k → Stops text from s q l → OneStop p q k l
+  one_stop p q k l (lexical {fault} {place} h) (lexical {fault = g} {place = r} m) = record { place = one_fault text from fault g place r h m; kind = refl }
+  one_stop p q k l (lexical {fault} {place} h) (unread {ts} {after} r) = absurd (no_fault text from ts after fault place r.clause h)
+  one_stop p q k l (lexical {fault} {place} h) (refused {ts} {after} r j) = absurd (no_fault text from ts after fault place r.clause h)
+  one_stop p q k l (unread {ts} {after} r) (lexical {fault} {place} h) = absurd (no_fault text from ts after fault place r.clause h)
+  one_stop p q k l (unread {ts} {after} r) (unread {ts = us} {after = end} m) =
+      record { place = ap first_place (one_reading text from s ts us after end None None r m).tokens; kind = refl }
+  one_stop p q k l (unread {ts} {after} r) (refused {ts = us} {after = end} {t} m j) =
+      let same = (one_reading text from s ts us after end None (Some t) r m).term in absurd cc
+  one_stop p q k l (refused {ts} {after} r j) (lexical {fault} {place} h) = absurd (no_fault text from ts after fault place r.clause h)
+  one_stop p q k l (refused {ts} {after} {t} r j) (unread {ts = us} {after = end} m) =
+      let same = (one_reading text from s ts us after end (Some t) None r m).term in absurd cc
+  one_stop p q k l (refused {ts} {after} {t} {kind} r j) (refused {ts = us} {after = end} {t = u} {kind = other} m i) =
+      let both = one_reading text from s ts us after end (Some t) (Some u) r m in
+      let same = both.term in
+      let term : t ≡ u = cc in
+      let first : judged s u ≡ Judged kind = ap (judged s) (sym term) ∙ j in
+      record { place = ap first_place both.tokens; kind = cc }
 
-one_found : (text : List ℕ) (from : ℕ) (a b : Next) → Found text from a → Found text from b → a ≡ b
-one_found text from a b (nothing h) (nothing k) = refl
-one_found text from a b (nothing h) (faulty {fault} {place} k) = absurd (fault_not_over text from fault place k h)
-one_found text from a b (nothing h) (read {ts} {after} k e) = absurd (not_over text from ts after k.clause h)
-one_found text from a b (faulty {fault} {place} h) (nothing k) = absurd (fault_not_over text from fault place h k)
-one_found text from a b (faulty {fault} {place} h) (faulty {fault = g} {place = q} k) = ap (λ (p : ℕ). nexts.Stops p kinds.Lex) (one_fault text from fault g place q h k)
-one_found text from a b (faulty {fault} {place} h) (read {ts} {after} k e) = absurd (no_fault text from ts after fault place k.clause h)
-one_found text from a b (read {ts} {after} h e) (nothing k) = absurd (not_over text from ts after h.clause k)
-one_found text from a b (read {ts} {after} h e) (faulty {fault} {place} k) = absurd (no_fault text from ts after fault place h.clause k)
-one_found text from a b (read {ts} {after} {x} h e) (read {ts = us} {after = end} {x = y} k f) =
-    let same = one_reading text from ts us after end x y h k in
-    e
-    ∙ ap (λ (vs : List Token). does vs after (said x)) same.tokens
-    ∙ ap (λ (n : ℕ). does us n (said x)) same.after
-    ∙ ap (λ (z : Option Tree). does us end (said z)) same.term
-    ∙ sym f
+  pub record OneGoing (t u : Tree) (after end : ℕ) (new other : Settings) : Type 0 where
+    pub term : t ≡ u
+    pub place : after ≡ end
+    pub settings : new ≡ other
 
-one_next : (text : List ℕ) (from : ℕ) (a b : Next) → IsNext text from a → IsNext text from b → a ≡ b
-one_next text from a b h k = one_found text from a b (found text from a h) (found text from b k)
+  one_going : (t u : Tree) (after end : ℕ) (new other : Settings) → Goes text from s t after new → Goes text from s u end other → OneGoing t u after end new other
+  one_going t u after end new other g h =
+      let both = one_reading text from s g.tokens h.tokens after end (Some t) (Some u) g.reads h.reads in
+      let same = both.term in
+      let term : t ≡ u = cc in
+      let first : judged s u ≡ Takes new = ap (judged s) (sym term) ∙ g.takes in
+      let second : judged s u ≡ Takes other = h.takes in
+      record { term = term; place = both.after; settings = cc }
 
 -- ---- the whole text
 
-one_loading : (text : List ℕ) (from : ℕ) (p : Program) (a b : Ending) → LoadsFrom text from p a → LoadsFrom text from p b → a ≡ b
-one_loading text from p a b (over h) (over k) = refl
-one_loading text from p a b (over h) (stops {place = q} {kind} k) = absurd (let e = one_next text from nexts.Over (nexts.Stops q kind) h k in cc)
-one_loading text from p a b (over h) (adds {after} {c} k s) = absurd (let e = one_next text from nexts.Over (nexts.Adds c after) h k in cc)
-one_loading text from p a b (over h) (runs {after} {goal} k s) = absurd (let e = one_next text from nexts.Over (nexts.Runs goal after) h k in cc)
-one_loading text from p a b (stops {place} {kind} h) (over k) = absurd (let e = one_next text from (nexts.Stops place kind) nexts.Over h k in cc)
-one_loading text from p a b (stops {place} {kind} h) (stops {place = q} {kind = other} k) =
-    let e = one_next text from (nexts.Stops place kind) (nexts.Stops q other) h k in
-    let f : place ≡ q = cc in
-    let g : kind ≡ other = cc in cc
-one_loading text from p a b (stops {place} {kind} h) (adds {after} {c} k s) = absurd (let e = one_next text from (nexts.Stops place kind) (nexts.Adds c after) h k in cc)
-one_loading text from p a b (stops {place} {kind} h) (runs {after} {goal} k s) = absurd (let e = one_next text from (nexts.Stops place kind) (nexts.Runs goal after) h k in cc)
-one_loading text from p a b (adds {after} {c} h r) (over k) = absurd (let e = one_next text from (nexts.Adds c after) nexts.Over h k in cc)
-one_loading text from p a b (adds {after} {c} h r) (stops {place} {kind} k) = absurd (let e = one_next text from (nexts.Adds c after) (nexts.Stops place kind) h k in cc)
-one_loading text from p a b (adds {after} {c} h r) (adds {after = end} {c = d} k s) =
-    let e = one_next text from (nexts.Adds c after) (nexts.Adds d end) h k in
-    let f : c ≡ d = cc in
-    let g : after ≡ end = cc in
-    one_loading text after (with_clause p c) a b r (subst (λ n. LoadsFrom text n (with_clause p c) b) (sym g) (subst (λ x. LoadsFrom text end (with_clause p x) b) (sym f) s))
-one_loading text from p a b (adds {after} {c} h r) (runs {after = end} {goal} k s) = absurd (let e = one_next text from (nexts.Adds c after) (nexts.Runs goal end) h k in cc)
-one_loading text from p a b (runs {after} {goal} h r) (over k) = absurd (let e = one_next text from (nexts.Runs goal after) nexts.Over h k in cc)
-one_loading text from p a b (runs {after} {goal} h r) (stops {place} {kind} k) = absurd (let e = one_next text from (nexts.Runs goal after) (nexts.Stops place kind) h k in cc)
-one_loading text from p a b (runs {after} {goal} h r) (adds {after = end} {c} k s) = absurd (let e = one_next text from (nexts.Runs goal after) (nexts.Adds c end) h k in cc)
-one_loading text from p a b (runs {after} {goal} h r) (runs {after = end} {goal = other} k s) =
-    let e = one_next text from (nexts.Runs goal after) (nexts.Runs other end) h k in
-    let f : goal ≡ other = cc in
-    let g : after ≡ end = cc in
-    one_loading text after (with_goal p goal) a b r (subst (λ n. LoadsFrom text n (with_goal p goal) b) (sym g) (subst (λ x. LoadsFrom text end (with_goal p x) b) (sym f) s))
+module _ {A : Type 0} (add : A → Settings → Tree → A) (text : List ℕ) where
+  one_ending : (from : ℕ) (s : Settings) (a : A) (x y : Ending A) → Runs add text from s a x → Runs add text from s a y → x ≡ y
+  one_ending from s a x y (over h) (over k) = refl
+  one_ending from s a x y (over h) (stops {place} {kind} k) = absurd (stops_not_over text from s place kind k h)
+  one_ending from s a x y (over h) (goes {after} {new} {t} k r) = absurd (goes_not_over text from s t after new k h)
+  one_ending from s a x y (stops {place} {kind} h) (over k) = absurd (stops_not_over text from s place kind h k)
+  one_ending from s a x y (stops {place} {kind} h) (stops {place = q} {kind = l} k) =
+      let one = one_stop text from s place q kind l h k in
+      ap (λ p. Fails p kind) one.place ∙ ap (λ m. Fails q m) one.kind
+  one_ending from s a x y (stops {place} {kind} h) (goes {after} {new} {t} k r) = absurd (stops_not_goes text from s place kind t after new h k)
+  one_ending from s a x y (goes {after} {new} {t} h r) (over k) = absurd (goes_not_over text from s t after new h k)
+  one_ending from s a x y (goes {after} {new} {t} h r) (stops {place} {kind} k) = absurd (stops_not_goes text from s place kind t after new k h)
+  one_ending from s a x y (goes {after} {new} {t} h r) (goes {after = end} {new = other} {t = u} k m) =
+      let one = one_going text from s t u after end new other h k in
+      one_ending after new (add a s t) x y r
+      (subst (λ n. Runs add text n new (add a s t) y) (sym one.place)
+      (subst (λ z. Runs add text end z (add a s t) y) (sym one.settings)
+      (subst (λ v. Runs add text end other (add a s v) y) (sym one.term) m)))
 
-pub one_outcome : (text : List ℕ) (a b : Outcome) → Loads text a → Loads text b → a ≡ b
-one_outcome text a b h k =
-    h.told ∙ ap (outcome_of text) (one_loading text 0 empty_program h.ending k.ending h.from_start k.from_start) ∙ sym k.told
+  -- a text that is refused is refused whatever is made of it
+  pub alike : {B : Type 0} (also : B → Settings → Tree → B) (from : ℕ) (s : Settings) (a : A) (end : Ending A) (p : ℕ) (k : RefusalKind) (b : B) →
+      Runs add text from s a end → end ≡ Fails p k → Runs also text from s b (Fails p k)
+  alike also from s a end p k b (over h) e = absurd cc
+  alike {B} also from s a end p k b (stops {place} {kind} h) e =
+      let place_is : place ≡ p = cc in
+      let kind_is : kind ≡ k = cc in
+      let fails : Ending B = Fails place kind in
+      subst (λ q. Runs also text from s b (Fails q k)) place_is (subst (λ l. Runs also text from s b (Fails place l)) kind_is (stops h))
+  alike also from s a end p k b (goes {after} {new} {t} g r) e = goes g (alike also after new (add a s t) end p k (also b s t) r e)
+
+pub one_outcome : {A B : Type 0} (add : A → Settings → Tree → A) (start : A) (whole : Settings → A → B) (text : List ℕ) (a b : Outcome B) →
+    Comes add start whole text a → Comes add start whole text b → a ≡ b
+one_outcome add start whole text a b h k =
+    h.told ∙ ap (outcome_of whole text) (one_ending add text 0 iso_settings start h.ending k.ending h.from_start k.from_start) ∙ sym k.told
+
+-- where a text is refused
+pub refused_at : {A : Type 0} (add : A → Settings → Tree → A) (start : A) (text : List ℕ) (p : ℕ) (k : RefusalKind) → Runs add text 0 iso_settings start (Fails p k) →
+    Loads text (Refuses (line_of text p) (column_of text p) k) × Lists text (Refuses (line_of text p) (column_of text p) k)
+refused_at add start text p k r = (
+  record { ending = Fails p k; from_start = alike add text with_term 0 iso_settings start (Fails p k) p k empty_draft r refl; told = refl },
+  record { ending = Fails p k; from_start = alike add text with_line 0 iso_settings start (Fails p k) p k [] r refl; told = refl },
+)

@@ -4,11 +4,12 @@ use Rattle.plterm.specs.Tree.{Tree, var, int, atom, compound, Trees, none, more}
 use Rattle.plterm.specs.declared.indicator.Indicator.{Indicator}
 use Rattle.plclause.specs.Clause.{Clause}
 use Rattle.plload.specs.declared.error.RefusalKind.TheVariants.{NotCallable, StaticRedefined, BadDirective}
-use Rattle.plload.specs.declared.meaning.Meaning.TheVariants.{Adds, Runs, Refused}
+use Rattle.plops.specs.declared.operator.Kind.TheVariants.{Xfx}
+use Rattle.plread.specs.declared.quotes.Quotes.TheVariants.{Atom}
 use Rattle.plload.specs.Fixed.{is_fixed}
-use Rattle.plload.specs.Meaning.{meaning}
+use Rattle.plload.specs.Meaning.{Meaning, Adds, Runs, Declares, Operates, SetsQuotes, Passes, Refused, meaning}
 use Rattle.plload.specs.Position.{line_of, column_of}
-use Rattle.plload.specs.Program.{Program, clauses_for, empty_program, with_clause}
+use Rattle.plload.specs.Program.{procedures_of, clauses_in}
 
 abbrev one : List ℕ → Tree → Tree
 one name t = compound name (more t none)
@@ -60,8 +61,66 @@ variable_goal : meaning (one (codes ":-") (one (codes "initialization") (var 0))
 variable_goal = refl
 
 -- two clauses of a procedure, with one of another between them
-in_order : (clauses_for (with_clause (with_clause (with_clause empty_program (fact (codes "p"))) (fact (codes "q"))) (fact (codes "p"))) (record { name = codes "p"; arity = 0 })) ≡ fact (codes "p") ∷ fact (codes "p") ∷ []
+in_order : clauses_in (procedures_of (fact (codes "p") ∷ fact (codes "q") ∷ fact (codes "p") ∷ [])) (record { name = codes "p"; arity = 0 }) ≡ fact (codes "p") ∷ fact (codes "p") ∷ []
 in_order = refl
+
+-- :- dynamic(p/1).
+abbrev slash : Tree → Tree → Tree
+slash n a = two (codes "/") n a
+
+abbrev p_1 : Tree
+p_1 = slash (atom (codes "p")) (int (pos 1))
+
+dynamic_one : meaning (one (codes ":-") (one (codes "dynamic") p_1)) ≡ Declares (record { name = codes "p"; arity = 1 } ∷ [])
+dynamic_one = refl
+
+-- :- dynamic((p/1, q/0)).
+dynamic_two : meaning (one (codes ":-") (one (codes "dynamic") (two (codes ",") p_1 (slash (atom (codes "q")) (int (pos 0)))))) ≡ Declares (record { name = codes "p"; arity = 1 } ∷ record { name = codes "q"; arity = 0 } ∷ [])
+dynamic_two = refl
+
+-- :- dynamic([p/1]).
+dynamic_list : meaning (one (codes ":-") (one (codes "dynamic") (two (codes ".") p_1 (atom (codes "[]"))))) ≡ Declares (record { name = codes "p"; arity = 1 } ∷ [])
+dynamic_list = refl
+
+-- :- dynamic([p/1|X]).
+dynamic_partial : meaning (one (codes ":-") (one (codes "dynamic") (two (codes ".") p_1 (var 0)))) ≡ Refused BadDirective
+dynamic_partial = refl
+
+-- :- dynamic(write/1).
+dynamic_built_in : meaning (one (codes ":-") (one (codes "dynamic") (slash (atom (codes "write")) (int (pos 1))))) ≡ Refused BadDirective
+dynamic_built_in = refl
+
+-- :- dynamic.
+dynamic_atom : meaning (one (codes ":-") (atom (codes "dynamic"))) ≡ Refused BadDirective
+dynamic_atom = refl
+
+-- :- multifile(write/1).
+multifile_passes : meaning (one (codes ":-") (one (codes "multifile") (slash (atom (codes "write")) (int (pos 1))))) ≡ Passes
+multifile_passes = refl
+
+-- ?- dynamic(p/1).
+query : meaning (one (codes "?-") (one (codes "dynamic") p_1)) ≡ Runs (one (codes "dynamic") p_1)
+query = refl
+
+-- :- op(700, xfx, ===>).
+operator : meaning (one (codes ":-") (compound (codes "op") (more (int (pos 700)) (more (atom (codes "xfx")) (more (atom (codes "===>")) none))))) ≡ Operates 700 Xfx (codes "===>" ∷ [])
+operator = refl
+
+-- :- set_prolog_flag(double_quotes, atom).
+flag : meaning (one (codes ":-") (two (codes "set_prolog_flag") (atom (codes "double_quotes")) (atom (codes "atom")))) ≡ SetsQuotes Atom
+flag = refl
+
+-- :- set_prolog_flag(bounded, true).
+flag_read_only : meaning (one (codes ":-") (two (codes "set_prolog_flag") (atom (codes "bounded")) (atom (codes "true")))) ≡ Refused BadDirective
+flag_read_only = refl
+
+-- :- use_module(library(lists)).
+library : meaning (one (codes ":-") (one (codes "use_module") (one (codes "library") (atom (codes "lists"))))) ≡ Passes
+library = refl
+
+-- :- module(m, []).
+module_directive : meaning (one (codes ":-") (two (codes "module") (atom (codes "m")) (atom (codes "[]")))) ≡ Refused BadDirective
+module_directive = refl
 
 fixed_once : is_fixed (record { name = codes "once"; arity = 1 }) ≡ true
 fixed_once = refl

@@ -1,6 +1,11 @@
-pub mod Program
 pub mod Fixed
-pub mod Position
+pub mod Lists
 pub mod Meaning
+pub mod Shown
+pub mod Settings
+pub mod Tables
+pub mod Program
+pub mod Position
 pub mod Loading
+pub mod Listing
 pub mod Told

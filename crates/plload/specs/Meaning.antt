@@ -1,54 +1,177 @@
 -- What a clause of a program's text does.
-use Rattle.std.specs.Prelude.{ℕ, Bool, false, ◌||◌, if◌then◌else◌, List, codes, Option, Some, None, is_some}
+use Rattle.std.specs.Prelude.{ℕ, pos, negsuc, Bool, true, false, ◌||◌, nat_le, if◌then◌else◌, List, [], ◌∷◌, codes, Option, Some, None, is_some}
+use Rattle.std.specs.List.{list_any}
 use Rattle.std.specs.Str.{bytes_eq}
-use Rattle.plterm.specs.Tree.{Tree, var, int, atom, compound, Trees, none, more}
+use Rattle.plterm.specs.Tree.{Tree, var, int, atom, compound, list_of}
 use Rattle.plterm.specs.Variables.{copied}
 use Rattle.plterm.specs.declared.indicator.Indicator.{Indicator}
 use Rattle.plclause.specs.Conversion.{converted}
 use Rattle.plclause.specs.Clausal.{Clausal, clausal}
 use Rattle.plclause.specs.declared.form.ClauseForm.TheVariants as forms
 use Rattle.plclause.specs.Indicators.{indicator}
-use Rattle.plload.specs.declared.meaning.Meaning.{Meaning}
-use Rattle.plload.specs.declared.meaning.Meaning.TheVariants.{Adds, Runs, Refused}
+use Rattle.plclause.specs.Clause.{Clause}
+use Rattle.plops.specs.declared.operator.Kind.{Kind}
+use Rattle.plops.specs.declared.operator.Kind.TheVariants.{Xfx, Xfy, Yfx, Fx, Fy, Xf, Yf}
+use Rattle.plread.specs.declared.quotes.Quotes.{Quotes}
+use Rattle.plread.specs.declared.quotes.Quotes.TheVariants.{Codes, Chars, Atom}
+use Rattle.plload.specs.declared.settings.Unknown.{Unknown}
+use Rattle.plload.specs.declared.settings.Unknown.TheVariants.{Error, Fail}
+use Rattle.plload.specs.declared.error.RefusalKind.{RefusalKind}
 use Rattle.plload.specs.declared.error.RefusalKind.TheVariants.{NotCallable, StaticRedefined, BadDirective}
 use Rattle.plload.specs.Fixed.{is_fixed, is_named}
+use Rattle.plload.specs.Lists.{only_argument, pair_of, elements, members, is_atom, is_list, each}
+
+-- a clause of its procedure, a goal of main, names of dynamic procedures, operators of a priority and kind,
+-- a flag's value, nothing, or a refusal
+pub data Meaning : Type 0 where
+  Adds : Clause → Meaning
+  Runs : Tree → Meaning
+  Declares : List Indicator → Meaning
+  Operates : ℕ → Kind → List (List ℕ) → Meaning
+  SetsQuotes : Quotes → Meaning
+  SetsUnknown : Unknown → Meaning
+  Passes : Meaning
+  Refused : RefusalKind → Meaning
+
+abbrev pub bad : Meaning
+bad = Refused BadDirective
+
+abbrev pub passes_if : Bool → Meaning
+passes_if true = Passes
+passes_if false = bad
 
 -- no program defines a control construct, a built-in predicate or `-->`/2
 abbrev pub is_reserved : Indicator → Bool
 is_reserved p = is_fixed p || is_named p (codes "-->") 2
 
--- the one argument of a compound of this name
-abbrev pub argument_of : Trees → Option Tree
-argument_of none = None
-argument_of (more t none) = Some t
-argument_of (more t (more u ts)) = None
-
-abbrev pub only_argument : List ℕ → Tree → Option Tree
-only_argument name (var v) = None
-only_argument name (int i) = None
-only_argument name (atom s) = None
-only_argument name (compound s ts) = if bytes_eq s name then argument_of ts else None
-
 -- a goal of main is an atom or a compound, and convertible
 abbrev pub goal_meaning : Tree → Meaning
-goal_meaning (var v) = Refused BadDirective
-goal_meaning (int i) = Refused BadDirective
+goal_meaning (var v) = bad
+goal_meaning (int i) = bad
 goal_meaning (atom s) = Runs (copied 0 (atom s))
-goal_meaning (compound s ts) = if is_some (converted (compound s ts)) then Runs (copied 0 (compound s ts)) else Refused BadDirective
+goal_meaning (compound s ts) = if is_some (converted (compound s ts)) then Runs (copied 0 (compound s ts)) else bad
 
--- `initialization(G)` runs G, and each other directive is a goal itself; `initialization` as an atom is none
-abbrev pub is_bare : Tree → Bool
-is_bare (var v) = false
-is_bare (int i) = false
-is_bare (atom s) = bytes_eq s (codes "initialization")
-is_bare (compound s ts) = false
+-- `Name/Arity`, where an arity is at most 1,024
+abbrev pub name_of : Tree → Option (List ℕ)
+name_of (atom s) = Some s
+name_of t = None
 
-abbrev pub directive_or : Tree → Option Tree → Meaning
-directive_or t (Some goal) = goal_meaning goal
-directive_or t None = if is_bare t then Refused BadDirective else goal_meaning t
+abbrev pub number_to : ℕ → Tree → Option ℕ
+number_to most (int (pos n)) = if nat_le n most then Some n else None
+number_to most (int (negsuc n)) = None
+number_to most t = None
 
+abbrev pub named : Option (List ℕ) → Option ℕ → Option Indicator
+named (Some s) (Some n) = Some (record { name = s; arity = n })
+named (Some s) None = None
+named None n = None
+
+abbrev pub named_by : Option (Tree × Tree) → Option Indicator
+named_by None = None
+named_by (Some (a, b)) = named (name_of a) (number_to 1024 b)
+
+abbrev pub indicator_of : Tree → Option Indicator
+indicator_of t = named_by (pair_of (codes "/") t)
+
+-- indicators: one, a sequence of them, or a list
+abbrev pub each_of : {A : Type 0} → (Tree → Option A) → Option (List Tree) → Option (List A)
+each_of f None = None
+each_of f (Some ts) = each f ts
+
+abbrev pub indicators : Tree → Option (List Indicator)
+indicators t = each_of indicator_of (if is_list t then elements t else Some (members t))
+
+-- dynamic/1: control constructs and built-in predicates stay static
+abbrev pub dynamic_meaning : Option (List Indicator) → Meaning
+dynamic_meaning None = bad
+dynamic_meaning (Some ps) = if list_any is_fixed ps then bad else Declares ps
+
+-- use_module/1 and use_module/2 of a library
+abbrev pub is_library : Tree → Bool
+is_library t = is_some (only_argument (codes "library") t)
+
+-- set_prolog_flag/2
+abbrev pub quotes_meaning : List ℕ → Meaning
+quotes_meaning v =
+    if bytes_eq v (codes "codes") then SetsQuotes Codes
+    else (if bytes_eq v (codes "chars") then SetsQuotes Chars
+    else (if bytes_eq v (codes "atom") then SetsQuotes Atom else bad))
+
+abbrev pub unknown_meaning : List ℕ → Meaning
+unknown_meaning v =
+    if bytes_eq v (codes "error") then SetsUnknown Error
+    else (if bytes_eq v (codes "fail") then SetsUnknown Fail else bad)
+
+abbrev pub flag_meaning : Option (List ℕ) → Option (List ℕ) → Meaning
+flag_meaning (Some f) (Some v) = if bytes_eq f (codes "double_quotes") then quotes_meaning v else (if bytes_eq f (codes "unknown") then unknown_meaning v else bad)
+flag_meaning (Some f) None = bad
+flag_meaning None v = bad
+
+-- op/3: a priority, a kind, and a name or a list of names
+abbrev pub kind_of : List ℕ → Option Kind
+kind_of s =
+    if bytes_eq s (codes "xfx") then Some Xfx
+    else (if bytes_eq s (codes "xfy") then Some Xfy
+    else (if bytes_eq s (codes "yfx") then Some Yfx
+    else (if bytes_eq s (codes "fx") then Some Fx
+    else (if bytes_eq s (codes "fy") then Some Fy
+    else (if bytes_eq s (codes "xf") then Some Xf
+    else (if bytes_eq s (codes "yf") then Some Yf else None))))))
+
+abbrev pub kind_in : Option (List ℕ) → Option Kind
+kind_in None = None
+kind_in (Some s) = kind_of s
+
+abbrev pub names_of : Tree → Option (List (List ℕ))
+names_of t = each_of name_of (if is_list t then elements t else Some (t ∷ []))
+
+abbrev pub operator_meaning : Option ℕ → Option Kind → Option (List (List ℕ)) → Meaning
+operator_meaning (Some p) (Some k) (Some names) = Operates p k names
+operator_meaning (Some p) (Some k) None = bad
+operator_meaning (Some p) None names = bad
+operator_meaning None k names = bad
+
+-- a directive by its name and arguments; of another name, none
+abbrev pub of_one : List ℕ → Tree → Option Meaning
+of_one s a =
+    if bytes_eq s (codes "initialization") then Some (goal_meaning a)
+    else (if bytes_eq s (codes "dynamic") then Some (dynamic_meaning (indicators a))
+    else (if bytes_eq s (codes "discontiguous") || bytes_eq s (codes "multifile") then Some (passes_if (is_some (indicators a)))
+    else (if bytes_eq s (codes "use_module") then Some (passes_if (is_library a))
+    else (if bytes_eq s (codes "thread_local") then Some bad else None))))
+
+abbrev pub of_two : List ℕ → Tree → Tree → Option Meaning
+of_two s a b =
+    if bytes_eq s (codes "set_prolog_flag") then Some (flag_meaning (name_of a) (name_of b))
+    else (if bytes_eq s (codes "use_module") then Some (passes_if (is_library a))
+    else (if bytes_eq s (codes "module") then Some bad else None))
+
+abbrev pub of_three : List ℕ → Tree → Tree → Tree → Option Meaning
+of_three s a b c = if bytes_eq s (codes "op") then Some (operator_meaning (number_to 1200 a) (kind_in (name_of b)) (names_of c)) else None
+
+abbrev pub of_args : List ℕ → List Tree → Option Meaning
+of_args s [] = None
+of_args s (a ∷ []) = of_one s a
+of_args s (a ∷ b ∷ []) = of_two s a b
+of_args s (a ∷ b ∷ c ∷ []) = of_three s a b c
+of_args s (a ∷ b ∷ c ∷ d ∷ ts) = None
+
+-- the name of a directive, as an atom, is none
+abbrev pub is_directive_name : List ℕ → Bool
+is_directive_name s =
+    bytes_eq s (codes "dynamic") || bytes_eq s (codes "discontiguous") || bytes_eq s (codes "multifile") || bytes_eq s (codes "op")
+    || bytes_eq s (codes "set_prolog_flag") || bytes_eq s (codes "initialization") || bytes_eq s (codes "use_module")
+
+abbrev pub or_goal : Option Meaning → Tree → Meaning
+or_goal (Some m) t = m
+or_goal None t = goal_meaning t
+
+-- what a directive does; one of another name is a goal of main (7.4.2)
 abbrev pub directive_meaning : Tree → Meaning
-directive_meaning t = directive_or t (only_argument (codes "initialization") t)
+directive_meaning (var v) = bad
+directive_meaning (int i) = bad
+directive_meaning (atom s) = if is_directive_name s then bad else goal_meaning (atom s)
+directive_meaning (compound s ts) = or_goal (of_args s (list_of ts)) (compound s ts)
 
 -- a clause is added to its procedure
 abbrev pub form_meaning : Clausal → Meaning
@@ -57,10 +180,14 @@ form_meaning (forms.BadHead t) = Refused NotCallable
 form_meaning (forms.BadBody t) = Refused NotCallable
 form_meaning (forms.IsClause c) = if is_reserved (indicator c.head) then Refused StaticRedefined else Adds c
 
+abbrev pub clause_or : Tree → Option Tree → Meaning
+clause_or t (Some goal) = goal_meaning goal
+clause_or t None = form_meaning (clausal t)
+
 abbrev pub meaning_or : Tree → Option Tree → Meaning
 meaning_or t (Some directive) = directive_meaning directive
-meaning_or t None = form_meaning (clausal t)
+meaning_or t None = clause_or t (only_argument (codes "?-") t)
 
--- `:- D` is a directive, and each other term a clause
+-- `:- D` is a directive, `?- G` a goal of main, and each other term a clause
 abbrev pub meaning : Tree → Meaning
 meaning t = meaning_or t (only_argument (codes ":-") t)

@@ -1,12 +1,16 @@
-//! Programs from their text.
+//! Loading programs from their text, and listing them (ISO/IEC 13211-1 7.4).
 #![tactic(auto)]
 
+mod directive;
+mod draft;
 pub mod error;
 pub mod fixed;
+mod lists;
 pub mod load;
-pub mod meaning;
-pub mod next;
+mod meaning;
+mod next;
 mod position;
 pub mod program;
+pub mod settings;
 #[cfg(test)]
 mod tests;

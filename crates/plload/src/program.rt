@@ -1,55 +1,126 @@
 //! Loaded programs.
-ghost use Rattle.std.specs.Prelude.{◌≡◌, OnOk};
-ghost use Rattle.plload.specs.Program.{clauses_for, empty_program, with_clause, with_goal};
+ghost use Rattle.std.specs.Prelude.{◌≡◌, [], OnOk};
+ghost use Rattle.plload.specs.Program.{clauses_in, clauses_for, with_clause};
 
+use crate::settings::Settings;
 use indexmap::IndexMap;
 use plclause::clause::Clause;
 use plevent::update::Batch;
+use plops::table::OpTable;
 use plterm::indicator::Indicator;
 use plterm::term::Term;
 use std::alloc::{AllocError, Global};
 use std::marker::Model;
 
+/// Static procedures with their clauses, each in text order, by their first clauses.
+#[derive(Drop)]
+pub struct Procedures {
+    entries: IndexMap<Indicator, Vec<Clause>>,
+}
+
+impl Model for Procedures {
+    ghost use Rattle.std.specs.Prelude.{List, map};
+    ghost use Rattle.plterm.specs.declared.indicator.Indicator.{Indicator};
+    ghost use Rattle.plclause.specs.Clause.{Clause};
+    ghost use Rattle.plload.specs.Program.{procedures_code};
+
+    ghost Value = { List (Indicator × List Clause) };
+
+    ghost coded = { procedures_code };
+
+    ghost view = { λ a. map (λ e. (e.0, e.1.items)) a.entries.entries };
+}
+
+impl Procedures {
+    /// No procedures.
+    pub fn new(alloc: Global) -> Procedures
+        ensures { result ≡ [] }
+    {
+        Procedures {
+            entries: IndexMap::new(alloc),
+        }
+    }
+
+    /// The clauses of a procedure, in text order; none, if it is not there.
+    pub fn clauses_of(&self, indicator: &Indicator) -> &[Clause]
+        ensures { result.now ≡ clauses_in self.now indicator.now }
+    {
+        match self.entries.get(indicator) {
+            Some(clauses) => clauses.as_slice(),
+            None => &[],
+        }
+    }
+
+    /// Adds a clause, as the last of its procedure. After an `Err` the procedure may be there without the clause.
+    pub fn add(&mut self, alloc: Global, clause: Clause) -> Result<(), AllocError>
+        ensures { OnOk result (self.new ≡ with_clause self.old clause) }
+    {
+        let indicator = clause.indicator()?;
+        match self.entries.get_mut(&indicator) {
+            Some(clauses) => {
+                clauses.push(clause)?;
+                Ok(())
+            }
+            None => {
+                let mut clauses = Vec::new(alloc);
+                clauses.push(clause)?;
+                self.entries.insert(indicator, clauses)?;
+                Ok(())
+            }
+        }
+    }
+}
+
 /// A loaded program: its static clauses by procedure, in text order; the goals of main in order, each with variables 0, 1, ..
-/// by first occurrence; and the first batch of the journal.
+/// by first occurrence; the first batch of the journal, which declares the dynamic procedures and holds their clauses; and
+/// the operators and flags at the text's end.
 #[derive(Drop)]
 pub struct Program {
-    procedures: IndexMap<Indicator, Vec<Clause>>,
+    procedures: Procedures,
     goals: Vec<Term>,
     first: Batch,
+    settings: Settings,
+    clauses: u64,
+    directives: u64,
 }
 
 impl Model for Program {
-    ghost use Rattle.std.specs.Prelude.{map};
     ghost use Rattle.plload.specs.Program.{Program as Loaded, program_code};
 
     ghost Value = { Loaded };
 
     ghost coded = { program_code };
 
-    ghost view = { λ a. record { procedures = map (λ e. (e.0, e.1.items)) a.procedures.entries; goals = a.goals.items; first = a.first } };
+    ghost view = { λ a. record { procedures = a.procedures; goals = a.goals.items; first = a.first; settings = a.settings; clauses = a.clauses; directives = a.directives } };
 }
 
 impl Program {
-    /// A program with nothing in it.
-    pub fn new(alloc: Global) -> Program
-        ensures { result ≡ empty_program }
+    /// The program of these parts.
+    pub fn new(
+        procedures: Procedures,
+        goals: Vec<Term>,
+        first: Batch,
+        settings: Settings,
+        clauses: u64,
+        directives: u64,
+    ) -> Program
+        ensures { result ≡ record { procedures = procedures; goals = goals.items; first = first; settings = settings; clauses = clauses; directives = directives } }
     {
         Program {
-            procedures: IndexMap::new(alloc),
-            goals: Vec::new(alloc),
-            first: Batch::new(Vec::new(alloc)),
+            procedures,
+            goals,
+            first,
+            settings,
+            clauses,
+            directives,
         }
     }
 
-    /// The clauses of a procedure, in text order; none, if the program does not define it.
+    /// The clauses of a static procedure, in text order; none, if the program does not define it.
     pub fn clauses_of(&self, indicator: &Indicator) -> &[Clause]
         ensures { result.now ≡ clauses_for self.now indicator.now }
     {
-        match self.procedures.get(indicator) {
-            Some(clauses) => clauses.as_slice(),
-            None => &[],
-        }
+        self.procedures.clauses_of(indicator)
     }
 
     /// The goals of main, in order.
@@ -66,30 +137,24 @@ impl Program {
         &self.first
     }
 
-    /// Adds a clause, as the last of its procedure. After an `Err` the program may have the procedure without the clause.
-    pub fn add_clause(&mut self, alloc: Global, clause: Clause) -> Result<(), AllocError>
-        ensures { OnOk result (self.new ≡ with_clause self.old clause) }
+    /// The operators at the text's end.
+    pub fn operators(&self) -> &OpTable
+        ensures { result.now ≡ self.now.settings.operators }
     {
-        let indicator = clause.indicator()?;
-        match self.procedures.get_mut(&indicator) {
-            Some(clauses) => {
-                clauses.push(clause)?;
-                Ok(())
-            }
-            None => {
-                let mut clauses = Vec::new(alloc);
-                clauses.push(clause)?;
-                self.procedures.insert(indicator, clauses)?;
-                Ok(())
-            }
-        }
+        &self.settings.operators
     }
 
-    /// Adds a goal of main, as the last.
-    pub fn add_goal(&mut self, goal: Term) -> Result<(), AllocError>
-        ensures { OnOk result (self.new ≡ with_goal self.old goal) }
+    /// How many clauses the text has.
+    pub fn clause_count(&self) -> u64
+        ensures { result ≡ self.now.clauses }
     {
-        self.goals.push(goal)?;
-        Ok(())
+        self.clauses
+    }
+
+    /// How many directives the text has.
+    pub fn directive_count(&self) -> u64
+        ensures { result ≡ self.now.directives }
+    {
+        self.directives
     }
 }

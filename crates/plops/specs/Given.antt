@@ -42,7 +42,3 @@ iso_rows =
 
 unfoldable pub iso_table : List Entry
 iso_table = fold with_row [] iso_rows
-
--- the operators of the terms in a report are the same
-abbrev pub report_table : List Entry
-report_table = iso_table

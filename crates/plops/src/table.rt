@@ -5,7 +5,7 @@ ghost use Rattle.plops.specs.declared.operator.Kind.{Kind};
 ghost use Rattle.plops.specs.Tables.{plain, find, prefix_of, infix_of, postfix_of};
 ghost use Rattle.plops.specs.Sane.{IsSane};
 ghost use Rattle.plops.specs.Changes.{is_reserved, is_beside, changed, entry_of, is_rising, put, added, refusal, Adds};
-ghost use Rattle.plops.specs.Given.{with_names, iso_table, report_table};
+ghost use Rattle.plops.specs.Given.{with_names, iso_table};
 ghost use Rattle.plops.specs.Listing.{current_ops, told, told_by};
 ghost use Rattle.plops.specs.Ranks.{rank};
 
@@ -41,13 +41,6 @@ impl OpTable {
     {
         let entries = iso_entries(alloc)?;
         Ok(OpTable { alloc, entries })
-    }
-
-    /// The operators of the terms in a report: those of program text.
-    pub fn report(alloc: Global) -> Result<OpTable, AllocError>
-        ensures { IfOk result (λ t. t ≡ report_table) }
-    {
-        OpTable::iso(alloc)
     }
 
     /// Declares an operator (8.14.3), in place of one of the name that stands where it does. Priority 0 removes.

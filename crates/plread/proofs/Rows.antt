@@ -2,11 +2,10 @@
 use Rattle.std.proofs.Common.{◌≡◌, ℕ, zero, suc, pos, negsuc, List, [], ◌∷◌, codes, refl, true, false}
 use Prim.Native.String.{String}
 use Rattle.plterm.specs.Tree.{Tree, var, int, atom, compound, none, more}
-use Rattle.plops.specs.declared.operator.Kind.TheVariants.{Xfx, Xfy, Yfx, Fy, Yf}
+use Rattle.plops.specs.declared.operator.Kind.TheVariants.{Xfx, Xfy, Yfx, Fx, Fy, Yf}
 use Rattle.plops.specs.declared.table.OpTable.{OpTable}
 use Rattle.plops.specs.Operators.{operator_of}
 use Rattle.plops.specs.Tables.{plain, with_operator, prefix_of, infix_of, postfix_of}
-use Rattle.plops.specs.Given.{rule_entry, comma_entry}
 use Rattle.plread.specs.Signs.{Sign, Name, Variable, Integer, Open, OpenCall, Close, OpenSquare, CloseSquare, OpenCurly, CloseCurly, Comma, Bar, End}
 use Rattle.plread.specs.Reading.{start_of, next_of, Spells}
 use Rattle.plread.specs.Answers.{IsSpelled}
@@ -16,7 +15,8 @@ use Rattle.plread.proofs.Runs.{Reading, first, at_first, at_next, at_done, none_
 -- some operators of the standard, and a postfix one
 abbrev table : OpTable
 table =
-    rule_entry ∷ comma_entry
+    with_operator (with_operator (plain (codes ":-")) (operator_of 1200 Xfx)) (operator_of 1200 Fx)
+    ∷ with_operator (plain (codes ",")) (operator_of 1000 Xfy)
     ∷ with_operator (plain (codes "\\+")) (operator_of 900 Fy)
     ∷ with_operator (plain (codes "=")) (operator_of 700 Xfx)
     ∷ with_operator (with_operator (plain (codes "-")) (operator_of 500 Yfx)) (operator_of 200 Fy)

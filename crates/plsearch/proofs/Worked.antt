@@ -14,6 +14,8 @@ use Rattle.plevent.specs.declared.request.ThreadEnd.TheVariants.{True, False, Ex
 use Rattle.plevent.specs.declared.update.Update.TheVariants.{Last}
 use Rattle.plclause.specs.Clausal.{clausal}
 use Rattle.plclause.specs.Conversion.{converted}
+use Rattle.plread.specs.declared.quotes.Quotes.TheVariants.{Codes}
+use Rattle.plload.specs.declared.settings.Unknown.TheVariants.{Error}
 use Rattle.plload.specs.Program.{Program}
 use Rattle.plsearch.specs.Errors.{indicator_term, instantiation_error, callable_error, procedure_error, static_error, error_term, pair}
 use Rattle.plsearch.specs.Table.{raised, row, select, meet, answered}
@@ -42,6 +44,9 @@ with_goal g = record {
       ∷ [];
   goals = name (codes "main") ∷ [];
   first = [];
+  settings = record { operators = []; quotes = Codes; unknown = Error };
+  clauses = 3;
+  directives = 1;
 }
 
 abbrev search : Tree → ℕ → List Answer → Ending

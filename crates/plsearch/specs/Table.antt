@@ -5,7 +5,6 @@ use Rattle.plterm.specs.Variables.{copied}
 use Rattle.plsubst.specs.Subst.{bind, shift}
 use Rattle.plsubst.specs.Unify.{unify}
 use Rattle.plclause.specs.Indicators.{indicator}
-use Rattle.plops.specs.Given.{iso_table}
 use Rattle.plwrite.specs.Writing.{written}
 use Rattle.plwrite.specs.declared.style.Style.TheVariants.{Plain}
 use Rattle.plevent.specs.Alive.{Stamped, exists, clauses_alive}
@@ -162,7 +161,7 @@ unfoldable pub row : Program → Control → ℕ → Tree → ℕ → List Eleme
 row P True k t d rest n w = Go [] (record { goals = rest; variables = n }) w
 row P (Both a b) k t d rest n w = Go [] (record { goals = Goal k a ∷ Goal k b ∷ rest; variables = n }) w
 row P (Once g) k t d rest n w = run (runnable g) once_1 d (Commit d ∷ rest) n w
-row P (Write a) k t d rest n w = Go [] (record { goals = rest; variables = n }) (record { out = w.out ++ written iso_table Plain a })
+row P (Write a) k t d rest n w = Go [] (record { goals = rest; variables = n }) (record { out = w.out ++ written P.settings.operators Plain a })
 row P Newline k t d rest n w = Go [] (record { goals = rest; variables = n }) (record { out = w.out ++ 10 ∷ [] })
 row P (AddLast c) k t d rest n w = add P (clausal c) rest n w
 row P (Call p) k t d rest n w = user (clauses_for P p) d t rest n w

@@ -3,7 +3,6 @@
 //! A row that is refused memory leaves the search where it was.
 ghost use Rattle.std.specs.Prelude.{◌≡◌, ◌+◌, ◌<◌, ◌≤◌, ℕ, [], ◌∷◌, ◌++◌, length, IfOk, OnOk, OnErr};
 ghost use Rattle.plheap.specs.Store.{term};
-ghost use Rattle.plops.specs.Given.{iso_table};
 ghost use Rattle.plwrite.specs.Writing.{written};
 ghost use Rattle.plwrite.specs.declared.style.Style.TheVariants.{Plain};
 ghost use Rattle.plclause.specs.Clausal.{clausal};
@@ -26,7 +25,6 @@ use plheap::cell::Cell;
 use plheap::heap::Heap;
 use plload::fixed::is_fixed;
 use plload::program::Program;
-use plops::table::OpTable;
 use plterm::indicator::Indicator;
 use plterm::term::Term;
 use plwrite::style::Style;
@@ -140,12 +138,11 @@ impl Progress {
         requires a { a < length self.old.stack.heap.cells }
         requires rest { IsList self.old.stack rest }
         requires left { self.old.used + 1 ≤ self.old.limit }
-        ensures ok { OnOk result (Moved program.now self.old self.new (Go [] (record { goals = goals_of self.old.stack rest; variables = self.old.stack.heap.count }) (record { out = (local_of self.old).out ++ written iso_table Plain (term self.old.stack.heap a) })) 1) }
+        ensures ok { OnOk result (Moved program.now self.old self.new (Go [] (record { goals = goals_of self.old.stack rest; variables = self.old.stack.heap.count }) (record { out = (local_of self.old).out ++ written program.now.settings.operators Plain (term self.old.stack.heap a) })) 1) }
         ensures err { OnErr result (Stays program.now self.old self.new) }
     {
         let term = self.stack.heap().take(self.alloc, a)?;
-        let operators = OpTable::iso(self.alloc)?;
-        let text = write_term(self.alloc, &term, &operators, Style::Plain)?;
+        let text = write_term(self.alloc, &term, program.operators(), Style::Plain)?;
         self.write_bytes(program, &text, rest)
     }
 

@@ -6,7 +6,7 @@ use Rattle.plterm.specs.declared.node.Node.TheVariants as nodes
 use Rattle.plterm.specs.Tree.{Tree, trees}
 use Rattle.plterm.specs.Reading.{read, first}
 use Rattle.plops.specs.declared.operator.Operator.TheVariants as operators
-use Rattle.plops.specs.declared.table.Entry.{Entry}
+use Rattle.plops.specs.declared.entry.Entry.{Entry}
 use Rattle.plops.specs.declared.operator.Infix.{Infix}
 use Rattle.plops.specs.declared.operator.Prefix.{Prefix}
 use Rattle.plops.specs.declared.operator.Postfix.{Postfix}
@@ -52,7 +52,7 @@ module _ (ops : List Entry) (style : Style) where
 
   pair_told : (position : Position) (rest : List Task) (s : List ℕ) (a b : Tree) (ts : List Tree) →
       told ops style (tasks.Term position ∷ rest) (read (nodes.Compound s 2) (a ∷ b ∷ ts))
-      ≡ pair_words style position s (pair_form ops s) (λ p ws. words ops style p a ws) (λ p ws. words ops style p b ws) (told ops style rest ts)
+      ≡ pair_words style position s (pair_form ops style s) (λ p ws. words ops style p a ws) (λ p ws. words ops style p b ws) (told ops style rest ts)
   unfolding words
   pair_told position rest s a b ts = refl
 
@@ -62,7 +62,7 @@ module _ (ops : List Entry) (style : Style) where
   list_is (At place) rest a b ts = refl
   list_is Tail rest a b ts = refl
 
-  pub list_of_pair : (position : Position) (rest : List Task) (s : List ℕ) (ts : List Tree) → 2 ≤ length ts → pair_form ops s ≡ pair.List →
+  pub list_of_pair : (position : Position) (rest : List Task) (s : List ℕ) (ts : List Tree) → 2 ≤ length ts → pair_form ops style s ≡ pair.List →
       list_told position ops style rest ts ≡ told ops style (tasks.Term position ∷ rest) (read (nodes.Compound s 2) ts)
   list_of_pair position rest s [] h e = absurd (omega arith)
   list_of_pair position rest s (a ∷ []) h e = absurd (omega arith)
@@ -71,7 +71,7 @@ module _ (ops : List Entry) (style : Style) where
       ∙ ap (λ f. pair_words style position s f (λ p ws. words ops style p a ws) (λ p ws. words ops style p b ws) (told ops style rest ts)) (sym e)
       ∙ sym (pair_told position rest s a b ts)
 
-  pub between_of_pair : (position : Position) (rest : List Task) (name : Bor (List ℕ)) (op : Infix) (ts : List Tree) → 2 ≤ length ts → pair_form ops name.now ≡ pair.Between op →
+  pub between_of_pair : (position : Position) (rest : List Task) (name : Bor (List ℕ)) (op : Infix) (ts : List Tree) → 2 ≤ length ts → pair_form ops style name.now ≡ pair.Between op →
       between_told position name op ops style rest ts
       ≡ told ops style (tasks.Term position ∷ rest) (read (nodes.Compound name.now 2) ts)
   between_of_pair position rest name op [] h e = absurd (omega arith)
@@ -82,7 +82,7 @@ module _ (ops : List Entry) (style : Style) where
       ∙ ap (λ f. pair_words style position name.now f (λ p ws. words ops style p a ws) (λ p ws. words ops style p b ws) (told ops style rest ts)) (sym e)
       ∙ sym (pair_told position rest name.now a b ts)
 
-  pub call_of_pair : (position : Position) (rest : List Task) (s : List ℕ) (ts : List Tree) → 2 ≤ length ts → pair_form ops s ≡ pair.Functional →
+  pub call_of_pair : (position : Position) (rest : List Task) (s : List ℕ) (ts : List Tree) → 2 ≤ length ts → pair_form ops style s ≡ pair.Functional →
       call_told position s 1 ops style rest ts
       ≡ told ops style (tasks.Term position ∷ rest) (read (nodes.Compound s 2) ts)
   call_of_pair position rest s [] h e = absurd (omega arith)
@@ -130,35 +130,35 @@ module _ (ops : List Entry) (style : Style) where
 
   only_told : (position : Position) (rest : List Task) (name : Bor (List ℕ)) (node : Node) (ts : List Tree) →
       told ops style (tasks.Only name position ∷ rest) (read node ts)
-      ≡ alone_words style position name.now (alone_form ops name.now (node_int node)) (λ p ws. words ops style p (first (read node ts)) ws) (told ops style rest (drop 1 (read node ts)))
+      ≡ alone_words style position name.now (alone_form ops style name.now (node_int node)) (λ p ws. words ops style p (first (read node ts)) ws) (told ops style rest (drop 1 (read node ts)))
   unfolding words
   only_told position rest name (nodes.Var n) ts = refl
   only_told position rest name (nodes.Int i) ts = refl
   only_told position rest name (nodes.Atom s) ts = refl
   only_told position rest name (nodes.Compound s k) ts = refl
 
-  only_as : (position : Position) (rest : List Task) (name : Bor (List ℕ)) (node : Node) (ts : List Tree) (form : Alone) → alone_form ops name.now (node_int node) ≡ form →
+  only_as : (position : Position) (rest : List Task) (name : Bor (List ℕ)) (node : Node) (ts : List Tree) (form : Alone) → alone_form ops style name.now (node_int node) ≡ form →
       alone_words style position name.now form (λ p ws. words ops style p (first (read node ts)) ws) (told ops style rest (drop 1 (read node ts)))
       ≡ told ops style (tasks.Only name position ∷ rest) (read node ts)
   only_as position rest name node ts form e =
       ap (λ f. alone_words style position name.now f (λ p ws. words ops style p (first (read node ts)) ws) (told ops style rest (drop 1 (read node ts)))) (sym e)
       ∙ sym (only_told position rest name node ts)
 
-  pub curly_of_only : (position : Position) (rest : List Task) (name : Bor (List ℕ)) (node : Node) (ts : List Tree) → alone_form ops name.now (node_int node) ≡ alone.Curly →
+  pub curly_of_only : (position : Position) (rest : List Task) (name : Bor (List ℕ)) (node : Node) (ts : List Tree) → alone_form ops style name.now (node_int node) ≡ alone.Curly →
       curly_told position ops style rest (read node ts)
       ≡ told ops style (tasks.Only name position ∷ rest) (read node ts)
   curly_of_only position rest name node ts e =
       ap (λ ws. behind_bar position (sign signs.OpenCurly ∷ ws)) (term_told (At whole) (tasks.Mark signs.CloseCurly ∷ rest) node ts)
       ∙ only_as position rest name node ts alone.Curly e
 
-  pub functional_of_only : (position : Position) (rest : List Task) (name : Bor (List ℕ)) (node : Node) (ts : List Tree) → alone_form ops name.now (node_int node) ≡ alone.Functional →
+  pub functional_of_only : (position : Position) (rest : List Task) (name : Bor (List ℕ)) (node : Node) (ts : List Tree) → alone_form ops style name.now (node_int node) ≡ alone.Functional →
       functional_told position name.now ops style rest (read node ts)
       ≡ told ops style (tasks.Only name position ∷ rest) (read node ts)
   functional_of_only position rest name node ts e =
       ap (called style position name.now) (term_told (At argument) (tasks.Mark signs.Close ∷ rest) node ts)
       ∙ only_as position rest name node ts alone.Functional e
 
-  pub before_of_only : (position : Position) (rest : List Task) (name : Bor (List ℕ)) (node : Node) (ts : List Tree) (op : Prefix) → alone_form ops name.now (node_int node) ≡ alone.Before op →
+  pub before_of_only : (position : Position) (rest : List Task) (name : Bor (List ℕ)) (node : Node) (ts : List Tree) (op : Prefix) → alone_form ops style name.now (node_int node) ≡ alone.Before op →
       before_told position name.now op ops style rest (read node ts)
       ≡ told ops style (tasks.Only name position ∷ rest) (read node ts)
   before_of_only position rest name node ts op e =
@@ -167,7 +167,7 @@ module _ (ops : List Entry) (style : Style) where
       ∙ ap (λ ws. behind_bar position (opening needed (prefix style name.now ∷ words ops style (At (right_of_prefix op)) (first (read node ts)) ws))) (closing_told needed rest (drop 1 (read node ts)))
       ∙ only_as position rest name node ts (alone.Before op) e
 
-  pub behind_of_only : (position : Position) (rest : List Task) (name : Bor (List ℕ)) (node : Node) (ts : List Tree) (op : Postfix) → alone_form ops name.now (node_int node) ≡ alone.Behind op →
+  pub behind_of_only : (position : Position) (rest : List Task) (name : Bor (List ℕ)) (node : Node) (ts : List Tree) (op : Postfix) → alone_form ops style name.now (node_int node) ≡ alone.Behind op →
       behind_told position name op ops style rest (read node ts)
       ≡ told ops style (tasks.Only name position ∷ rest) (read node ts)
   behind_of_only position rest name node ts op e =
@@ -185,7 +185,7 @@ module _ (ops : List Entry) (style : Style) where
   no_letter_of_none true before behind n e = cc
   no_letter_of_none false before behind n e = no_letter before behind n e
 
-  pub letter_of_only : (position : Position) (rest : List Task) (name : Bor (List ℕ)) (node : Node) (ts : List Tree) (n : ℕ) → alone_form ops name.now (node_int node) ≡ alone.Letter n →
+  pub letter_of_only : (position : Position) (rest : List Task) (name : Bor (List ℕ)) (node : Node) (ts : List Tree) (n : ℕ) → alone_form ops style name.now (node_int node) ≡ alone.Letter n →
       letter_told position n ops style rest ts
       ≡ told ops style (tasks.Only name position ∷ rest) (read node ts)
   letter_of_only position rest name (nodes.Var v) ts n e = absurd (no_letter_of_none _ _ _ n e)

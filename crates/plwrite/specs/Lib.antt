@@ -1,4 +1,5 @@
 pub mod Names
+pub mod Styles
 pub mod Words
 pub mod Places
 pub mod Writing

@@ -4,7 +4,7 @@ use Rattle.std.specs.List.{flat_map, list_all, starts_with}
 use Rattle.std.specs.Str.{bytes_eq}
 use Rattle.std.specs.Char.{is_ascii_alphanumeric, is_ascii_lowercase}
 use Rattle.plwrite.specs.declared.style.Style.{Style}
-use Rattle.plwrite.specs.declared.style.Style.TheVariants.{Plain, Quoted}
+use Rattle.plwrite.specs.declared.style.Style.TheVariants.{Plain, Quoted, Canonical, Listed}
 
 -- ASCII letters, digits and `_`
 abbrev pub is_alphanumeric : ℕ → Bool
@@ -64,6 +64,8 @@ quoted_unless false s = quoted s
 abbrev pub name_text : Style → List ℕ → List ℕ
 name_text Plain s = s
 name_text Quoted s = quoted_unless (is_bare s) s
+name_text Canonical s = quoted_unless (is_bare s) s
+name_text Listed s = quoted_unless (is_bare s) s
 
 abbrev pub is_empty_brackets : List ℕ → Bool
 is_empty_brackets s = bytes_eq s (codes "[]") || bytes_eq s (codes "{}")
@@ -72,3 +74,5 @@ is_empty_brackets s = bytes_eq s (codes "[]") || bytes_eq s (codes "{}")
 abbrev pub functor_text : Style → List ℕ → List ℕ
 functor_text Plain s = s
 functor_text Quoted s = quoted_unless (is_bare s && not (is_empty_brackets s)) s
+functor_text Canonical s = quoted_unless (is_bare s && not (is_empty_brackets s)) s
+functor_text Listed s = quoted_unless (is_bare s && not (is_empty_brackets s)) s

@@ -5,8 +5,10 @@ use Rattle.plops.specs.declared.operator.Infix.{Infix}
 use Rattle.plops.specs.declared.operator.Postfix.{Postfix}
 use Rattle.plops.specs.declared.operator.Operator.{Operator}
 use Rattle.plops.specs.declared.operator.Operator.TheVariants.{Before, Between, Behind}
-use Rattle.plops.specs.declared.table.Entry.{Entry}
+use Rattle.plops.specs.declared.entry.Entry.{Entry}
 use Rattle.plops.specs.Tables.{prefix_of, infix_of, postfix_of}
+use Rattle.plwrite.specs.declared.style.Style.{Style}
+use Rattle.plwrite.specs.Styles.{used}
 use Rattle.plwrite.specs.declared.place.Place.{Place}
 use Rattle.plwrite.specs.declared.place.Position.{Position}
 use Rattle.plwrite.specs.declared.place.Position.TheVariants.{At, Tail}
@@ -46,12 +48,12 @@ is_right_open (Behind op) = false
 abbrev pub needs_brackets : Place → Operator → Bool
 needs_brackets place op = nat_lt place.most (priority op) || (place.is_strict && (is_right_open op && (priority op == place.most)))
 
-abbrev pub is_operator : List Entry → List ℕ → Bool
-is_operator ops s = is_some (prefix_of ops s) || (is_some (infix_of ops s) || is_some (postfix_of ops s))
+abbrev pub is_operator : List Entry → Style → List ℕ → Bool
+is_operator ops style s = is_some (used style (prefix_of ops s)) || (is_some (used style (infix_of ops s)) || is_some (used style (postfix_of ops s)))
 
 -- an atom that is an operator is in brackets as an operand
-abbrev pub is_bracketed_atom : List Entry → Place → List ℕ → Bool
-is_bracketed_atom ops place s = place.is_operand && is_operator ops s
+abbrev pub is_bracketed_atom : List Entry → Style → Place → List ℕ → Bool
+is_bracketed_atom ops style place s = place.is_operand && is_operator ops style s
 
 abbrev pub place_of : Position → Place
 place_of (At place) = place

@@ -1,5 +1,5 @@
 -- The text of a term (ISO/IEC 13211-1 7.10.5): its words, and their text.
-use Rattle.std.specs.Prelude.{ℕ, ℤ, pos, negsuc, List, [], ◌∷◌, Bool, true, false, Option, Some, None, if◌then◌else◌, codes}
+use Rattle.std.specs.Prelude.{ℕ, ℤ, pos, negsuc, List, [], ◌∷◌, ◌++◌, Bool, true, false, ◌&&◌, Option, Some, None, if◌then◌else◌, codes}
 use Rattle.std.specs.Str.{bytes_eq}
 use Rattle.plterm.specs.Tree.{Tree, var, int, atom, compound, Trees, none, more}
 use Rattle.plterm.specs.Variables.{copied}
@@ -7,9 +7,10 @@ use Rattle.plops.specs.declared.operator.Prefix.{Prefix}
 use Rattle.plops.specs.declared.operator.Infix.{Infix}
 use Rattle.plops.specs.declared.operator.Postfix.{Postfix}
 use Rattle.plops.specs.declared.operator.Operator.TheVariants as operators
-use Rattle.plops.specs.declared.table.Entry.{Entry}
+use Rattle.plops.specs.declared.entry.Entry.{Entry}
 use Rattle.plops.specs.Tables.{prefix_of, infix_of, postfix_of}
 use Rattle.plwrite.specs.declared.style.Style.{Style}
+use Rattle.plwrite.specs.declared.style.Style.TheVariants.{Listed}
 use Rattle.plwrite.specs.declared.place.Position.{Position}
 use Rattle.plwrite.specs.declared.place.Position.TheVariants.{At, Tail}
 use Rattle.plwrite.specs.declared.text.Sign.TheVariants as signs
@@ -17,7 +18,9 @@ use Rattle.plwrite.specs.declared.form.Alone.{Alone}
 use Rattle.plwrite.specs.declared.form.Alone.TheVariants as alone
 use Rattle.plwrite.specs.declared.form.Pair.{Pair}
 use Rattle.plwrite.specs.declared.form.Pair.TheVariants as pair
-use Rattle.plwrite.specs.Words.{Word, text_of, plain, sign, variable, integer, letter_text, name, functor, prefix, operator, is_minus}
+use Rattle.plwrite.specs.Styles.{used, has_letters}
+use Rattle.plwrite.specs.Names.{is_symbol}
+use Rattle.plwrite.specs.Words.{Word, last_byte, text_of, plain, sign, variable, integer, letter_text, name, functor, prefix, operator, is_minus}
 use Rattle.plwrite.specs.Places.{whole, argument, right_of_prefix, left_of, right_of, left_of_postfix, needs_brackets, is_bracketed_atom, place_of}
 
 -- the integer that a term is
@@ -35,21 +38,24 @@ operated (Some op) behind false = alone.Before op
 operated None (Some op) sign_of_int = alone.Behind op
 operated None None sign_of_int = alone.Functional
 
-abbrev pub numbered : List Entry → List ℕ → Option ℤ → Alone
-numbered ops s (Some (pos n)) = if bytes_eq s (codes "$VAR") then alone.Letter n else operated (prefix_of ops s) (postfix_of ops s) (is_minus s)
-numbered ops s (Some (negsuc n)) = operated (prefix_of ops s) (postfix_of ops s) (is_minus s)
-numbered ops s None = operated (prefix_of ops s) (postfix_of ops s) false
+abbrev pub as_operator : List Entry → Style → List ℕ → Bool → Alone
+as_operator ops style s sign_of_int = operated (used style (prefix_of ops s)) (used style (postfix_of ops s)) sign_of_int
 
-abbrev pub alone_form : List Entry → List ℕ → Option ℤ → Alone
-alone_form ops s value = if bytes_eq s (codes "{}") then alone.Curly else numbered ops s value
+abbrev pub numbered : List Entry → Style → List ℕ → Option ℤ → Alone
+numbered ops style s (Some (pos n)) = if has_letters style && bytes_eq s (codes "$VAR") then alone.Letter n else as_operator ops style s (is_minus s)
+numbered ops style s (Some (negsuc n)) = as_operator ops style s (is_minus s)
+numbered ops style s None = as_operator ops style s false
+
+abbrev pub alone_form : List Entry → Style → List ℕ → Option ℤ → Alone
+alone_form ops style s value = if bytes_eq s (codes "{}") then alone.Curly else numbered ops style s value
 
 -- How a compound of two arguments is written: as a list, or with its operator.
 abbrev pub infix_form : Option Infix → Pair
 infix_form None = pair.Functional
 infix_form (Some op) = pair.Between op
 
-abbrev pub pair_form : List Entry → List ℕ → Pair
-pair_form ops s = if bytes_eq s (codes ".") then pair.List else infix_form (infix_of ops s)
+abbrev pub pair_form : List Entry → Style → List ℕ → Pair
+pair_form ops style s = if bytes_eq s (codes ".") then pair.List else infix_form (used style (infix_of ops s))
 
 -- Words are put before those that follow them. So the words of a part are a function of what follows it, and
 -- those of an argument also of the position where it stands.
@@ -77,7 +83,7 @@ ends_list Tail s = bytes_eq s (codes "[]")
 
 abbrev pub atom_words : List Entry → Style → Position → Bool → List ℕ → List Word → List Word
 atom_words ops style position true s rest = rest
-atom_words ops style position false s rest = behind_bar position (bracketed (is_bracketed_atom ops (place_of position) s) (λ ws. name style s ∷ ws) rest)
+atom_words ops style position false s rest = behind_bar position (bracketed (is_bracketed_atom ops style (place_of position) s) (λ ws. name style s ∷ ws) rest)
 
 -- functional notation: the functor and the opening bracket, before the arguments
 abbrev pub called : Style → Position → List ℕ → List Word → List Word
@@ -111,9 +117,9 @@ unfoldable mutual
   words ops style position (int i) rest = behind_bar position (integer i ∷ rest)
   words ops style position (atom s) rest = atom_words ops style position (ends_list position s) s rest
   words ops style position (compound s none) rest = called style position s (sign signs.Close ∷ rest)
-  words ops style position (compound s (more a none)) rest = alone_words style position s (alone_form ops s (int_of a)) (λ p ws. words ops style p a ws) rest
+  words ops style position (compound s (more a none)) rest = alone_words style position s (alone_form ops style s (int_of a)) (λ p ws. words ops style p a ws) rest
   words ops style position (compound s (more a (more b none))) rest =
-      pair_words style position s (pair_form ops s) (λ p ws. words ops style p a ws) (λ p ws. words ops style p b ws) rest
+      pair_words style position s (pair_form ops style s) (λ p ws. words ops style p a ws) (λ p ws. words ops style p b ws) rest
   words ops style position (compound s (more a (more b (more c args)))) rest =
       called style position s (words ops style (At argument) a (sign signs.Comma ∷ words ops style (At argument) b (others ops style (more c args) rest)))
 
@@ -125,3 +131,12 @@ unfoldable mutual
 -- the text of a term, whose variables are _1, _2, .. by first occurrence
 abbrev pub written : List Entry → Style → Tree → List ℕ
 written ops style t = text_of (words ops style (At whole) (copied 1 t) [])
+
+-- the end of a clause: behind a symbol character a space stands before it
+abbrev pub end_text : Bool → List ℕ
+end_text true = codes " ." ++ 10 ∷ []
+end_text false = codes "." ++ 10 ∷ []
+
+-- a clause on a line of its own, as it is listed
+abbrev pub clause_text : List Entry → Tree → List ℕ
+clause_text ops t = let text = written ops Listed t in text ++ end_text (is_symbol (last_byte text))

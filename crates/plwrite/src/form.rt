@@ -1,10 +1,10 @@
 //! How compounds are written, by their name and arguments.
 ghost use Rattle.std.specs.Prelude.{◌≡◌};
-ghost use Rattle.plwrite.specs.Writing.{operated, numbered, alone_form, infix_form, pair_form};
+ghost use Rattle.plwrite.specs.Writing.{operated, as_operator, numbered, alone_form, infix_form, pair_form};
 ghost use Rattle.plwrite.specs.Words.{is_minus};
 
+use crate::task::Notation;
 use plops::operator::{Infix, Postfix, Prefix};
-use plops::table::OpTable;
 
 /// How a compound of one argument is written.
 #[derive(Clone, Copy)]
@@ -39,29 +39,39 @@ impl Alone {
         }
     }
 
-    fn numbered(ops: &OpTable, name: &str, value: Option<i64>) -> Alone
-        ensures { result ≡ numbered ops.now name.now value }
+    fn as_operator(notation: &Notation<'_>, name: &str, is_sign_of_int: bool) -> Alone
+        ensures { result ≡ as_operator notation.now.ops.now notation.now.style name.now is_sign_of_int }
+    {
+        Alone::operated(
+            notation.prefix(name),
+            notation.postfix(name),
+            is_sign_of_int,
+        )
+    }
+
+    fn numbered(notation: &Notation<'_>, name: &str, value: Option<i64>) -> Alone
+        ensures { result ≡ numbered notation.now.ops.now notation.now.style name.now value }
     {
         match value {
             Some(value) => {
-                if value >= 0 && name == "$VAR" {
+                if value >= 0 && notation.style.has_letters() && name == "$VAR" {
                     Alone::Letter(value as u64)
                 } else {
-                    Alone::operated(ops.prefix(name), ops.postfix(name), name == "-")
+                    Alone::as_operator(notation, name, name == "-")
                 }
             }
-            None => Alone::operated(ops.prefix(name), ops.postfix(name), false),
+            None => Alone::as_operator(notation, name, false),
         }
     }
 
     /// How a name is written before its only argument, of which the value is given if it is an integer.
-    pub fn of(ops: &OpTable, name: &str, value: Option<i64>) -> Alone
-        ensures { result ≡ alone_form ops.now name.now value }
+    pub fn of(notation: &Notation<'_>, name: &str, value: Option<i64>) -> Alone
+        ensures { result ≡ alone_form notation.now.ops.now notation.now.style name.now value }
     {
         if name == "{}" {
             Alone::Curly
         } else {
-            Alone::numbered(ops, name, value)
+            Alone::numbered(notation, name, value)
         }
     }
 }
@@ -76,13 +86,13 @@ pub enum Pair {
 
 impl Pair {
     /// How a name is written with its two arguments.
-    pub fn of(ops: &OpTable, name: &str) -> Pair
-        ensures { result ≡ pair_form ops.now name.now }
+    pub fn of(notation: &Notation<'_>, name: &str) -> Pair
+        ensures { result ≡ pair_form notation.now.ops.now notation.now.style name.now }
     {
         if name == "." {
             return Pair::List;
         }
-        match ops.infix(name) {
+        match notation.infix(name) {
             None => Pair::Functional,
             Some(op) => Pair::Between(op),
         }

@@ -1,5 +1,5 @@
 use crate::style::Style;
-use crate::write::write_term;
+use crate::write::{write_clause, write_term};
 use plops::table::OpTable;
 use plterm::error::TermError;
 use plterm::name::Name;
@@ -36,16 +36,20 @@ fn list(alloc: Global) -> Result<Term, TermError> {
 fn writes(rt: HostRuntime) -> Result<(), Fail> {
     let alloc = rt.alloc();
     let iso = OpTable::iso(alloc)?;
-    let report = OpTable::report(alloc)?;
     let clause = clause(alloc)?;
     let list = list(alloc)?;
     let text = write_term(alloc, &clause, &iso, Style::Plain)?;
     assert_eq!(rt; text.as_slice(), b"a:-b,X y".as_slice());
     let text = write_term(alloc, &clause, &iso, Style::Quoted)?;
     assert_eq!(rt; text.as_slice(), b"a:-b,'X y'".as_slice());
-    let text = write_term(alloc, &list, &iso, Style::Plain)?;
+    let text = write_term(alloc, &list, &iso, Style::Canonical)?;
     assert_eq!(rt; text.as_slice(), b"[7,_1|/(q,0)]".as_slice());
-    let text = write_term(alloc, &list, &report, Style::Quoted)?;
+    let text = write_term(alloc, &list, &iso, Style::Listed)?;
     assert_eq!(rt; text.as_slice(), b"[7,_1|q/0]".as_slice());
+    let line = write_clause(alloc, &clause, &iso)?;
+    assert_eq!(rt; line.as_slice(), b"a:-b,'X y'.\n".as_slice());
+    let plus = atom(alloc, "+")?;
+    let line = write_clause(alloc, &plus, &iso)?;
+    assert_eq!(rt; line.as_slice(), b"+ .\n".as_slice());
     Ok(())
 }

@@ -10,7 +10,6 @@ use crate::place::{Place, Position};
 use crate::style::Style;
 use crate::task::Notation;
 use itoa::Buffer;
-use plops::table::OpTable;
 use std::alloc::{AllocError, Global};
 
 /// What a word is to the next one.
@@ -64,7 +63,7 @@ fn first_byte(text: &[u8]) -> u8
     text.first().copied().unwrap_or(b' ')
 }
 
-fn last_byte(text: &[u8]) -> u8
+pub fn last_byte(text: &[u8]) -> u8
     ensures { result ≡ last_byte text.now }
 {
     text.last().copied().unwrap_or(b' ')
@@ -212,7 +211,9 @@ impl Text {
     {
         match style {
             Style::Plain => self.put(name.as_bytes(), role),
-            Style::Quoted => self.put_quoted_unless(alloc, is_bare(name), name, role),
+            Style::Quoted | Style::Canonical | Style::Listed => {
+                self.put_quoted_unless(alloc, is_bare(name), name, role)
+            }
         }
     }
 
@@ -246,7 +247,7 @@ impl Text {
     {
         match style {
             Style::Plain => self.put(text.as_bytes(), Role::Other),
-            Style::Quoted => {
+            Style::Quoted | Style::Canonical | Style::Listed => {
                 let bare = is_bare(text) && !is_empty_brackets(text);
                 self.put_quoted_unless(alloc, bare, text, Role::Other)
             }
@@ -335,7 +336,7 @@ impl Text {
         if ends_list(position, text) {
             return Ok(());
         }
-        let needed = is_bracketed_atom(notation.ops, position.place(), text);
+        let needed = is_bracketed_atom(notation, position.place(), text);
         self.put_bar(position)?;
         self.put_opening(needed)?;
         self.put_name(notation.alloc, notation.style, text)?;
@@ -354,9 +355,11 @@ fn ends_list(position: Position, name: &str) -> bool
 }
 
 /// Whether an atom stands in brackets in a place.
-fn is_bracketed_atom(ops: &OpTable, place: Place, name: &str) -> bool
-    ensures { result ≡ is_bracketed_atom ops.now place name.now }
+fn is_bracketed_atom(notation: &Notation<'_>, place: Place, name: &str) -> bool
+    ensures { result ≡ is_bracketed_atom notation.now.ops.now notation.now.style place name.now }
 {
     place.is_operand()
-        && (ops.prefix(name).is_some() || ops.infix(name).is_some() || ops.postfix(name).is_some())
+        && (notation.prefix(name).is_some()
+            || notation.infix(name).is_some()
+            || notation.postfix(name).is_some())
 }

@@ -1,9 +1,11 @@
 //! The text of a term.
 ghost use Rattle.std.specs.Prelude.{◌≡◌, IfOk};
-ghost use Rattle.plwrite.specs.Writing.{written};
+ghost use Rattle.plwrite.specs.Writing.{written, clause_text};
 
+use crate::names::is_symbol;
 use crate::style::Style;
 use crate::task::Notation;
+use crate::text::last_byte;
 use crate::writer::Writer;
 use plops::table::OpTable;
 use plterm::term::Term;
@@ -22,4 +24,17 @@ pub fn write_term(
     let numbered = term.copy(alloc, 1)?;
     let notation = Notation { alloc, ops, style };
     Writer::text_of(&notation, &numbered.root())
+}
+
+/// A clause or directive on a line of its own, quoted and with operators, with its end and a newline, so that it can be read
+/// back under the same operators.
+pub fn write_clause(alloc: Global, term: &Term, ops: &OpTable) -> Result<Vec<u8>, AllocError>
+    ensures { IfOk result (λ v. v.items ≡ clause_text ops.now term.now) }
+{
+    let mut text = write_term(alloc, term, ops, Style::Listed)?;
+    if is_symbol(last_byte(&text)) {
+        text.push(b' ')?;
+    }
+    text.extend_from_slice(b".\n")?;
+    Ok(text)
 }

@@ -145,7 +145,7 @@ impl<'a> Writer<'a> {
         ensures text { OnOk result (WritesNode notation.now self.old self.new (Term position) (Compound name.entry.now 2)) }
         ensures count { OnOk result (AddsTasks self.old self.new 4) }
     {
-        match Pair::of(notation.ops, name.as_str()) {
+        match Pair::of(notation, name.as_str()) {
             Pair::List => self.write_list(notation, position),
             Pair::Between(op) => self.write_between(notation, name, op, position),
             Pair::Functional => self.write_call(notation, name, 2, position),
@@ -331,7 +331,7 @@ impl<'a> Writer<'a> {
         ensures text { OnOk result (WritesNode notation.now self.old self.new (Only name.entry position) node.entry.now) }
         ensures count { OnOk result (AddsTasks self.old self.new 6) }
     {
-        match Alone::of(notation.ops, name.as_str(), node_int(node)) {
+        match Alone::of(notation, name.as_str(), node_int(node)) {
             Alone::Letter(number) => self.write_letter(notation, number, position),
             Alone::Curly => self.write_curly(notation, node, position),
             Alone::Before(op) => self.write_before(notation, name, op, node, position),

@@ -1,42 +1,41 @@
-use Rattle.std.proofs.Common.{◌∙◌, refl, ap, subst}
-use Rattle.plload.specs.Position.{line_of}
-use Rattle.plload.specs.Loading.{Ends, Fails, LoadsFrom, over, stops, adds, runs, Refuses}
+use Rattle.std.proofs.Common.{◌≡◌, ◌∙◌, ℕ, None, ap, subst, refl, arith}
+use Rattle.plload.specs.Shown.{shown}
+use Rattle.plload.specs.Program.{Draft, empty_draft, with_term, with_meaning}
+use Rattle.plload.specs.Loading.{Ending, Ends, Runs, over, goes, Accepts}
+use Rattle.plload.proofs.Loadings.{counts_once}
+use Rattle.plload.proofs.Turns.{bad, good, told}
 use Rattle.plload.proofs.load.load.Goals as goal
 
 pub returns-in-Over-clause-accepted : goal.returns-in-Over-clause-accepted
 returns-in-Over-clause-accepted c =
     let next = rw c.in-Over.is at c.in_ok-next_of.ensures.next in
-    record {
-      ending = Ends c.clauses.program;
-      from_start = c.clauses.invariant.ends (Ends c.clauses.program) (over next);
-      told = refl;
-    }
+    let end : Ending Draft = Ends c.clauses.settings c.clauses.draft in
+    record { ending = end; from_start = c.clauses.invariant.ends end (over next); told = ap Accepts c.in_ok-finish-in-Over.ensures }
 
 pub returns-in-Stops-clause-refused : goal.returns-in-Stops-clause-refused
 returns-in-Stops-clause-refused c =
     let next = rw c.in-Stops.is at c.in_ok-next_of.ensures.next in
-    let line = c.position_of-line.ensures.line in
-    let column = c.position_of-line.ensures.column in
-    record {
-      ending = Fails c.in-Stops.at c.in-Stops.kind;
-      from_start = c.clauses.invariant.ends (Fails c.in-Stops.at c.in-Stops.kind) (stops next);
-      told = ap (λ n. Refuses n c.position_of-line.result.1 c.in-Stops.kind) line ∙ ap (λ n. Refuses (line_of c.args.text.now c.in-Stops.at) n c.in-Stops.kind) column;
-    }
+    told with_term empty_draft c.args.text.now c.clauses.place c.clauses.settings c.clauses.draft c.in-Stops.at c.in-Stops.kind c.refused.result c.clauses.invariant.ends next c.refused.ensures
 
-pub clauses-preserved-in-Adds : goal.clauses-preserved-in-Adds
-clauses-preserved-in-Adds c =
-    let next = rw c.in-Adds.is at c.in_ok-next_of.ensures.next in
-    let moves = rw c.in-Adds.is at c.in_ok-next_of.ensures.onward in
-    record {
-      within = moves.1;
-      ends = λ end rest. c.clauses.invariant.ends end (adds next (subst (λ p. LoadsFrom c.args.text.now c.in-Adds.after p end) c.in_ok-add_clause-in-Adds.ensures rest));
-    }
+pub returns-in-Some-clause-refused : goal.returns-in-Some-clause-refused
+returns-in-Some-clause-refused c =
+    let next = rw c.in-Reads.is at c.in_ok-next_of.ensures.next in
+    let answer = rw c.in-Some.is at c.in_ok-kind-in-Reads.ensures in
+    told with_term empty_draft c.args.text.now c.clauses.place c.clauses.settings c.clauses.draft c.in-Reads.first c.in-Some.kind c.refused-in-Some.result c.clauses.invariant.ends
+    (bad c.args.text.now c.clauses.place c.clauses.settings c.take.new.self c.in-Reads.term c.in-Reads.first c.in-Reads.after (shown c.in_ok-meaning-in-Reads.meaning) c.in-Some.kind next c.in_ok-meaning-in-Reads.ensures answer)
+    c.refused-in-Some.ensures
 
 pub clauses-preserved : goal.clauses-preserved
 clauses-preserved c =
-    let next = rw c.in-Runs.is at c.in_ok-next_of.ensures.next in
-    let moves = rw c.in-Runs.is at c.in_ok-next_of.ensures.onward in
+    let next = rw c.in-Reads.is at c.in_ok-next_of.ensures.next in
+    let moves = rw c.in-Reads.is at c.in_ok-next_of.ensures.onward in
+    let answer = rw c.in_default.is at c.in_ok-kind-in-Reads.ensures in
+    let m = shown c.in_ok-meaning-in-Reads.meaning in
+    let added : c.add.new.self ≡ with_term c.clauses.draft c.clauses.settings c.in-Reads.term = c.in_ok-add-in-Reads.ensures ∙ ap (with_meaning c.clauses.draft) c.in_ok-meaning-in-Reads.ensures in
     record {
       within = moves.1;
-      ends = λ end rest. c.clauses.invariant.ends end (runs next (subst (λ p. LoadsFrom c.args.text.now c.in-Runs.after p end) c.in_ok-add_goal-in-Runs.ensures rest));
+      counted = omega (arith, ap (λ (d : Draft). d.directives) c.in_ok-add-in-Reads.ensures, counts_once c.clauses.draft m, c.clauses.invariant.counted, moves.0);
+      ends = λ end rest. c.clauses.invariant.ends end (goes
+          (good c.args.text.now c.clauses.place c.clauses.settings c.take.new.self c.in-Reads.term c.in-Reads.first c.in-Reads.after m next c.in_ok-meaning-in-Reads.ensures answer)
+          (subst (λ d. Runs with_term c.args.text.now c.in-Reads.after c.take.new.self d end) added rest));
     }

@@ -1,12 +1,14 @@
 use Rattle.std.proofs.Common.{◌≤◌, ◌-◌, length}
-use Rattle.plload.specs.Loading.{Ending, LoadsFrom}
-use Rattle.plload.specs.Program.{empty_program}
+use Rattle.plload.specs.Settings.{iso_settings}
+use Rattle.plload.specs.Program.{Draft, empty_draft, with_term}
+use Rattle.plload.specs.Loading.{Ending, Runs}
 use Rattle.plload.proofs.load.load.Given as goal
 
 abbrev pub invariant-clauses : goal.invariant-clauses
 invariant-clauses l = record {
   within : l.place ≤ length l.text;
-  ends : (end : Ending) → LoadsFrom l.text l.place l.program end → LoadsFrom l.text 0 empty_program end;
+  counted : l.draft.directives ≤ l.place;
+  ends : (end : Ending Draft) → Runs with_term l.text l.place l.settings l.draft end → Runs with_term l.text 0 iso_settings empty_draft end;
 }
 
 abbrev pub decreases-clauses : goal.decreases-clauses

@@ -1,0 +1,368 @@
+//! What a directive does.
+ghost use Rattle.std.specs.Prelude.{◌≡◌, Some, IfOk, option_map, option_copied, is_some, if◌then◌else◌};
+ghost use Rattle.std.specs.List.{list_any};
+ghost use Rattle.plload.specs.Fixed.{is_fixed};
+ghost use Rattle.plload.specs.Lists.{each, elements, members, is_list};
+ghost use Rattle.plload.specs.Meaning.{goal_meaning, directive_meaning, is_directive_name, of_args, of_one, of_two, of_three, dynamic_meaning, passes_if, is_library, flag_meaning, quotes_meaning, unknown_meaning, operator_meaning, kind_of, kind_in, name_of, names_of, number_to, indicators, indicator_of};
+ghost use Rattle.plload.specs.Shown.{shown};
+
+use crate::error::RefusalKind;
+use crate::fixed::is_fixed;
+use crate::lists::{argument_of, elements_of, is_list, members_of, pair_of};
+use crate::meaning::Meaning;
+use crate::settings::Unknown;
+use plclause::convert::convert;
+use plops::operator::Kind;
+use plread::quotes::Quotes;
+use plterm::indicator::Indicator;
+use plterm::name::Name;
+use plterm::walk::{Shape, TermRef, Terms};
+use std::alloc::{AllocError, Global};
+
+/// What a directive does (ISO/IEC 13211-1 7.4.2); one of a name that no directive has is a goal of main.
+pub fn directive_of(alloc: Global, directive: &TermRef<'_>) -> Result<Meaning, AllocError>
+    ensures { IfOk result (λ m. shown m ≡ directive_meaning directive.now) }
+{
+    match directive.shape() {
+        Shape::Var(_) | Shape::Int(_) => return Ok(Meaning::Refused(RefusalKind::BadDirective)),
+        Shape::Atom(name) => {
+            if is_directive_name(name.as_str()) {
+                return Ok(Meaning::Refused(RefusalKind::BadDirective));
+            }
+        }
+        Shape::Compound(name, args) => {
+            if let Some(meaning) = of_args(alloc, name.as_str(), args)? {
+                return Ok(meaning);
+            }
+        }
+    }
+    goal_of(alloc, directive)
+}
+
+/// A goal of main, if it is callable and convertible.
+pub fn goal_of(alloc: Global, goal: &TermRef<'_>) -> Result<Meaning, AllocError>
+    ensures { IfOk result (λ m. shown m ≡ goal_meaning goal.now) }
+{
+    match goal.shape() {
+        Shape::Var(_) | Shape::Int(_) => return Ok(Meaning::Refused(RefusalKind::BadDirective)),
+        Shape::Atom(_) | Shape::Compound(_, _) => {}
+    }
+    match convert(alloc, goal)? {
+        None => Ok(Meaning::Refused(RefusalKind::BadDirective)),
+        Some(_) => Ok(Meaning::Runs(goal.copied(alloc)?.copy(alloc, 0)?)),
+    }
+}
+
+/// Whether directives have this name.
+fn is_directive_name(name: &str) -> bool
+    ensures { result ≡ is_directive_name name.now }
+{
+    name == "dynamic"
+        || name == "discontiguous"
+        || name == "multifile"
+        || name == "op"
+        || name == "set_prolog_flag"
+        || name == "initialization"
+        || name == "use_module"
+}
+
+/// What a directive of this name and these arguments does, if it is one.
+fn of_args(alloc: Global, name: &str, mut args: Terms<'_>) -> Result<Option<Meaning>, AllocError>
+    ensures { IfOk result (λ o. option_map shown o ≡ of_args name.now args.entry) }
+{
+    let Some(a) = args.next_term() else {
+        return Ok(None);
+    };
+    let Some(b) = args.next_term() else {
+        return of_one(alloc, name, &a);
+    };
+    let Some(c) = args.next_term() else {
+        return of_two(name, &a, &b);
+    };
+    if args.is_empty() {
+        return of_three(alloc, name, &a, &b, &c);
+    }
+    Ok(None)
+}
+
+/// A directive of one argument.
+fn of_one(alloc: Global, name: &str, a: &TermRef<'_>) -> Result<Option<Meaning>, AllocError>
+    ensures { IfOk result (λ o. option_map shown o ≡ of_one name.now a.now) }
+{
+    if name == "initialization" {
+        let meaning = goal_of(alloc, a)?;
+        return Ok(Some(meaning));
+    }
+    if name == "dynamic" {
+        let meaning = dynamic_of(alloc, a)?;
+        return Ok(Some(meaning));
+    }
+    if name == "discontiguous" || name == "multifile" {
+        let named = indicators_of(alloc, a)?.is_some();
+        return Ok(Some(passes_if(named)));
+    }
+    if name == "use_module" {
+        return Ok(Some(passes_if(is_library(a))));
+    }
+    if name == "thread_local" {
+        return Ok(Some(Meaning::Refused(RefusalKind::BadDirective)));
+    }
+    Ok(None)
+}
+
+/// A directive of two arguments.
+fn of_two(name: &str, a: &TermRef<'_>, b: &TermRef<'_>) -> Result<Option<Meaning>, AllocError>
+    ensures { IfOk result (λ o. option_map shown o ≡ of_two name.now a.now b.now) }
+{
+    if name == "set_prolog_flag" {
+        return Ok(Some(flag_of(name_of(a), name_of(b))));
+    }
+    if name == "use_module" {
+        return Ok(Some(passes_if(is_library(a))));
+    }
+    if name == "module" {
+        return Ok(Some(Meaning::Refused(RefusalKind::BadDirective)));
+    }
+    Ok(None)
+}
+
+/// A directive of three arguments.
+fn of_three(
+    alloc: Global,
+    name: &str,
+    a: &TermRef<'_>,
+    b: &TermRef<'_>,
+    c: &TermRef<'_>,
+) -> Result<Option<Meaning>, AllocError>
+    ensures { IfOk result (λ o. option_map shown o ≡ of_three name.now a.now b.now c.now) }
+{
+    if name == "op" {
+        let names = names_of(alloc, c)?;
+        return Ok(Some(operator_of(number_to(1200, a), kind_in(name_of(b)), names)));
+    }
+    Ok(None)
+}
+
+/// No effect, or a bad directive.
+fn passes_if(good: bool) -> Meaning
+    ensures { shown result ≡ passes_if good }
+{
+    if good {
+        Meaning::Passes
+    } else {
+        Meaning::Refused(RefusalKind::BadDirective)
+    }
+}
+
+/// dynamic/1: its procedures are no control constructs or built-in predicates.
+fn dynamic_of(alloc: Global, term: &TermRef<'_>) -> Result<Meaning, AllocError>
+    ensures { IfOk result (λ m. shown m ≡ dynamic_meaning (indicators term.now)) }
+{
+    match indicators_of(alloc, term)? {
+        None => Ok(Meaning::Refused(RefusalKind::BadDirective)),
+        Some(indicators) => {
+            if any_fixed(&indicators) {
+                Ok(Meaning::Refused(RefusalKind::BadDirective))
+            } else {
+                Ok(Meaning::Declares(indicators))
+            }
+        }
+    }
+}
+
+/// Whether one of the procedures is a control construct or a built-in predicate.
+fn any_fixed(indicators: &[Indicator]) -> bool
+    ensures { result ≡ list_any is_fixed indicators.now }
+{
+    indicators.iter().any(|p| is_fixed(p))
+}
+
+/// The indicators of a directive: one, a sequence of them, or a list.
+fn indicators_of(alloc: Global, term: &TermRef<'_>) -> Result<Option<Vec<Indicator>>, AllocError>
+    ensures { IfOk result (λ o. option_map (λ v. v.items) o ≡ indicators term.now) }
+{
+    let Some(terms) = named_in(alloc, term)? else {
+        return Ok(None);
+    };
+    each_indicator(alloc, &terms)
+}
+
+/// The members of a sequence or the elements of a list.
+fn named_in<'a>(alloc: Global, term: &TermRef<'a>) -> Result<Option<Vec<TermRef<'a>>>, AllocError>
+    ensures { IfOk result (λ o. option_map (λ v. v.items) o ≡ (if is_list term.now then elements term.now else Some (members term.now))) }
+{
+    if is_list(term) {
+        return elements_of(alloc, term);
+    }
+    let terms = members_of(alloc, term)?;
+    Ok(Some(terms))
+}
+
+/// The indicator of each term, if each has one.
+fn each_indicator(
+    alloc: Global,
+    terms: &[TermRef<'_>],
+) -> Result<Option<Vec<Indicator>>, AllocError>
+    ensures { IfOk result (λ o. option_map (λ v. v.items) o ≡ each indicator_of terms.now) }
+{
+    let mut found = Vec::new(alloc);
+    for term in terms {
+        match indicator_of(term)? {
+            Some(indicator) => found.push(indicator)?,
+            None => return Ok(None),
+        }
+    }
+    Ok(Some(found))
+}
+
+/// The indicator `Name/Arity`.
+fn indicator_of(term: &TermRef<'_>) -> Result<Option<Indicator>, AllocError>
+    ensures { IfOk result (λ o. o ≡ indicator_of term.now) }
+{
+    let Some((name, arity)) = pair_of(term, "/") else {
+        return Ok(None);
+    };
+    let Some(name) = name_of(&name) else {
+        return Ok(None);
+    };
+    let Some(arity) = number_to(1024, &arity) else {
+        return Ok(None);
+    };
+    let name = name.copied()?;
+    Ok(Some(Indicator { name, arity }))
+}
+
+/// The name that an atom is.
+fn name_of<'a>(term: &TermRef<'a>) -> Option<&'a Name>
+    ensures { option_copied result ≡ name_of term.now }
+{
+    match term.shape() {
+        Shape::Atom(name) => Some(name),
+        Shape::Var(_) | Shape::Int(_) | Shape::Compound(_, _) => None,
+    }
+}
+
+/// The number that a term is, if it is from 0 to a greatest one.
+fn number_to(most: u16, term: &TermRef<'_>) -> Option<u16>
+    ensures { result ≡ number_to most term.now }
+{
+    match term.shape() {
+        Shape::Int(value) => {
+            if value >= 0 && value <= i64::from(most) {
+                Some(value as u16)
+            } else {
+                None
+            }
+        }
+        Shape::Var(_) | Shape::Atom(_) | Shape::Compound(_, _) => None,
+    }
+}
+
+/// Whether the term is `library(Name)`.
+fn is_library(term: &TermRef<'_>) -> bool
+    ensures { result ≡ is_library term.now }
+{
+    argument_of(term, "library").is_some()
+}
+
+/// set_prolog_flag/2 (7.11).
+fn flag_of(flag: Option<&Name>, value: Option<&Name>) -> Meaning
+    ensures { shown result ≡ flag_meaning (option_copied flag.entry) (option_copied value.entry) }
+{
+    let (Some(flag), Some(value)) = (flag, value) else {
+        return Meaning::Refused(RefusalKind::BadDirective);
+    };
+    match flag.as_str() {
+        "double_quotes" => quotes_of(value.as_str()),
+        "unknown" => unknown_of(value.as_str()),
+        _ => Meaning::Refused(RefusalKind::BadDirective),
+    }
+}
+
+fn quotes_of(value: &str) -> Meaning
+    ensures { shown result ≡ quotes_meaning value.now }
+{
+    match value {
+        "codes" => Meaning::SetsQuotes(Quotes::Codes),
+        "chars" => Meaning::SetsQuotes(Quotes::Chars),
+        "atom" => Meaning::SetsQuotes(Quotes::Atom),
+        _ => Meaning::Refused(RefusalKind::BadDirective),
+    }
+}
+
+fn unknown_of(value: &str) -> Meaning
+    ensures { shown result ≡ unknown_meaning value.now }
+{
+    match value {
+        "error" => Meaning::SetsUnknown(Unknown::Error),
+        "fail" => Meaning::SetsUnknown(Unknown::Fail),
+        _ => Meaning::Refused(RefusalKind::BadDirective),
+    }
+}
+
+/// The names of op/3: one, or a list of them.
+fn names_of(alloc: Global, term: &TermRef<'_>) -> Result<Option<Vec<Name>>, AllocError>
+    ensures { IfOk result (λ o. option_map (λ v. v.items) o ≡ names_of term.now) }
+{
+    if is_list(term) {
+        let Some(terms) = elements_of(alloc, term)? else {
+            return Ok(None);
+        };
+        return each_name(alloc, &terms);
+    }
+    let Some(name) = name_of(term) else {
+        return Ok(None);
+    };
+    let mut names = Vec::new(alloc);
+    names.push(name.copied()?)?;
+    Ok(Some(names))
+}
+
+/// The name of each term, if each has one.
+fn each_name(alloc: Global, terms: &[TermRef<'_>]) -> Result<Option<Vec<Name>>, AllocError>
+    ensures { IfOk result (λ o. option_map (λ v. v.items) o ≡ each name_of terms.now) }
+{
+    let mut found = Vec::new(alloc);
+    for term in terms {
+        match name_of(term) {
+            Some(name) => found.push(name.copied()?)?,
+            None => return Ok(None),
+        }
+    }
+    Ok(Some(found))
+}
+
+/// The kind of operator that a name says (6.3.4.1).
+fn kind_in(name: Option<&Name>) -> Option<Kind>
+    ensures { result ≡ kind_in (option_copied name.entry) }
+{
+    match name {
+        None => None,
+        Some(name) => kind_of(name.as_str()),
+    }
+}
+
+fn kind_of(name: &str) -> Option<Kind>
+    ensures { result ≡ kind_of name.now }
+{
+    match name {
+        "xfx" => Some(Kind::Xfx),
+        "xfy" => Some(Kind::Xfy),
+        "yfx" => Some(Kind::Yfx),
+        "fx" => Some(Kind::Fx),
+        "fy" => Some(Kind::Fy),
+        "xf" => Some(Kind::Xf),
+        "yf" => Some(Kind::Yf),
+        _ => None,
+    }
+}
+
+/// op/3.
+fn operator_of(priority: Option<u16>, kind: Option<Kind>, names: Option<Vec<Name>>) -> Meaning
+    ensures { shown result ≡ operator_meaning priority kind (option_map (λ v. v.items) names) }
+{
+    match (priority, kind, names) {
+        (Some(priority), Some(kind), Some(names)) => Meaning::Operates(priority, kind, names),
+        _ => Meaning::Refused(RefusalKind::BadDirective),
+    }
+}

@@ -1,5 +1,0 @@
-pub mod Fronts
-pub mod Forms
-pub mod Back
-pub mod Says
-pub mod Worked
