@@ -4,5 +4,3 @@
 pub mod call;
 pub mod frame;
 pub mod stack;
-#[cfg(test)]
-mod tests;
