@@ -382,61 +382,31 @@ fn declare(
 fn iso_entries(alloc: Global) -> Result<Vec<Entry>, AllocError>
     ensures { IfOk result (λ entries. entries.items ≡ iso_table) }
 {
+    let directives = [
+        "dynamic",
+        "discontiguous",
+        "initialization",
+        "multifile",
+        "thread_local",
+    ];
+    let equal = ["=", "\\=", "==", "\\=="];
+    let ordered = ["@<", "@=<", "@>", "@>=", "=..", "is"];
+    let compared = ["=:=", "=\\=", "<", "=<", ">", ">="];
+    let sums = ["+", "-", "/\\", "\\/"];
+    let products = ["*", "/", "//", "rem", "mod", "<<", ">>"];
     let mut entries = Vec::new(alloc);
     declare(alloc, &mut entries, 1200, Kind::Xfx, &[":-", "-->"])?;
     declare(alloc, &mut entries, 1200, Kind::Fx, &[":-", "?-"])?;
-    declare(
-        alloc,
-        &mut entries,
-        1150,
-        Kind::Fx,
-        &[
-            "dynamic",
-            "discontiguous",
-            "initialization",
-            "multifile",
-            "thread_local",
-        ],
-    )?;
+    declare(alloc, &mut entries, 1150, Kind::Fx, &directives)?;
     declare(alloc, &mut entries, 1100, Kind::Xfy, &[";"])?;
     declare(alloc, &mut entries, 1050, Kind::Xfy, &["->"])?;
     declare(alloc, &mut entries, 1000, Kind::Xfy, &[","])?;
     declare(alloc, &mut entries, 900, Kind::Fy, &["\\+"])?;
-    declare(
-        alloc,
-        &mut entries,
-        700,
-        Kind::Xfx,
-        &["=", "\\=", "==", "\\=="],
-    )?;
-    declare(
-        alloc,
-        &mut entries,
-        700,
-        Kind::Xfx,
-        &["@<", "@=<", "@>", "@>=", "=..", "is"],
-    )?;
-    declare(
-        alloc,
-        &mut entries,
-        700,
-        Kind::Xfx,
-        &["=:=", "=\\=", "<", "=<", ">", ">="],
-    )?;
-    declare(
-        alloc,
-        &mut entries,
-        500,
-        Kind::Yfx,
-        &["+", "-", "/\\", "\\/"],
-    )?;
-    declare(
-        alloc,
-        &mut entries,
-        400,
-        Kind::Yfx,
-        &["*", "/", "//", "rem", "mod", "<<", ">>"],
-    )?;
+    declare(alloc, &mut entries, 700, Kind::Xfx, &equal)?;
+    declare(alloc, &mut entries, 700, Kind::Xfx, &ordered)?;
+    declare(alloc, &mut entries, 700, Kind::Xfx, &compared)?;
+    declare(alloc, &mut entries, 500, Kind::Yfx, &sums)?;
+    declare(alloc, &mut entries, 400, Kind::Yfx, &products)?;
     declare(alloc, &mut entries, 200, Kind::Xfx, &["**"])?;
     declare(alloc, &mut entries, 200, Kind::Xfy, &["^"])?;
     declare(alloc, &mut entries, 200, Kind::Fy, &["-", "\\"])?;
