@@ -1,7 +1,7 @@
 -- The report of a run: for each thread a line that tells its end, and then its output.
 use Rattle.std.specs.Prelude.{ℕ, ◌==◌, ◌-◌, List, [], ◌++◌, length, slice_get, unwrap_or, Option, Some, None, option_and_then, find, codes, decimal, if◌then◌else◌}
 use Rattle.std.specs.List.{flat_map}
-use Rattle.plops.specs.declared.entry.Entry as operators
+use Rattle.plops.specs.declared.table.Entry as operators
 use Rattle.plwrite.specs.declared.style.Style.TheVariants.{Quoted}
 use Rattle.plwrite.specs.Names.{name_text}
 use Rattle.plwrite.specs.Writing.{written}

@@ -1,7 +1,7 @@
 -- What a text changes as it is read: the operators and the flags.
 use Rattle.std.specs.Prelude.{◌≡◌, ℕ, List, [], ◌∷◌, Option, Some, None}
 use Rattle.plops.specs.declared.operator.Kind.{Kind}
-use Rattle.plops.specs.declared.entry.Entry.{Entry}
+use Rattle.plops.specs.declared.table.Entry.{Entry}
 use Rattle.plops.specs.declared.error.OpError.{OpError}
 use Rattle.plops.specs.Changes.{added, refusal}
 use Rattle.plops.specs.Given.{iso_table}

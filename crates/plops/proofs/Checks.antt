@@ -6,7 +6,7 @@ use Rattle.std.specs.List.{list_all}
 use Rattle.plops.specs.declared.operator.Prefix.{Prefix}
 use Rattle.plops.specs.declared.operator.Infix.{Infix}
 use Rattle.plops.specs.declared.operator.Postfix.{Postfix}
-use Rattle.plops.specs.declared.entry.Entry.{Entry}
+use Rattle.plops.specs.declared.table.Entry.{Entry}
 use Rattle.plops.specs.Tables.{is_named, find, prefix_of, infix_of, postfix_of}
 use Rattle.plops.specs.Sane.{IsSane, comma, comma_op}
 use Rattle.plops.specs.Checks.{good_prefix, good_infix, good_postfix, alone, is_good, IsTable}

@@ -6,7 +6,7 @@ use Rattle.std.specs.Prelude.{filter, unwrap_or, is_none}
 use Rattle.std.specs.Option.{option_or}
 use Rattle.plops.specs.declared.operator.Kind.{Kind}
 use Rattle.plops.specs.declared.operator.Kind.TheVariants as kinds
-use Rattle.plops.specs.declared.entry.Entry.{Entry}
+use Rattle.plops.specs.declared.table.Entry.{Entry}
 use Rattle.plops.specs.Tables.{plain, is_named, find, with_operator}
 use Rattle.plops.specs.Operators.{operator_of}
 use Rattle.plops.specs.Changes.{without, changed, is_plain, is_before, kept, put, entry_of, added}

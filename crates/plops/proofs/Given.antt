@@ -1,7 +1,7 @@
 -- The table that is given.
 use Rattle.std.proofs.Common.{◌≡◌, ◌<◌, ◌+◌, ℕ, zero, suc, List, [], ◌∷◌, map, take, length, get_or, Bor, Some, refl, ap, ◌∙◌, arith, add-one}
 use Rattle.plops.specs.declared.operator.Kind.{Kind}
-use Rattle.plops.specs.declared.entry.Entry.{Entry}
+use Rattle.plops.specs.declared.table.Entry.{Entry}
 use Rattle.plops.specs.Tables.{infix_of}
 use Rattle.plops.specs.Sane.{comma, comma_op}
 use Rattle.plops.specs.Changes.{added}

@@ -9,7 +9,7 @@ use Rattle.plops.specs.declared.operator.Kind.{Kind}
 use Rattle.plops.specs.declared.operator.Kind.TheVariants as kinds
 use Rattle.plops.specs.declared.operator.Infix.{Infix}
 use Rattle.plops.specs.declared.operator.Postfix.{Postfix}
-use Rattle.plops.specs.declared.entry.Entry.{Entry}
+use Rattle.plops.specs.declared.table.Entry.{Entry}
 use Rattle.plops.specs.declared.error.OpError.TheVariants as errors
 use Rattle.plops.specs.Tables.{plain, is_named, find, with_operator, infix_of}
 use Rattle.plops.specs.Operators.{operator_of}

@@ -5,7 +5,7 @@ use Rattle.std.proofs.lemmas.List.{set_split}
 use Rattle.std.proofs.lemmas.Option.{slice_get-get_or, slice_get_past}
 use Rattle.std.specs.Prelude.{filter, slice_get}
 use Rattle.std.specs.List.{list_all}
-use Rattle.plops.specs.declared.entry.Entry.{Entry}
+use Rattle.plops.specs.declared.table.Entry.{Entry}
 use Rattle.plops.specs.Tables.{is_named, find}
 use Rattle.plops.specs.Changes.{is_before, is_rising, is_plain, kept, put}
 use Rattle.plops.specs.Ranks.{rank}

@@ -6,7 +6,7 @@ use Rattle.std.specs.Cmp.Lexicographic.{slice_cmp}
 use Rattle.std.specs.Ordering.{is_lt, nat_cmp}
 use Rattle.plops.specs.declared.operator.Kind.{Kind}
 use Rattle.plops.specs.declared.operator.Kind.TheVariants as kinds
-use Rattle.plops.specs.declared.entry.Entry.{Entry}
+use Rattle.plops.specs.declared.table.Entry.{Entry}
 use Rattle.plops.specs.declared.error.OpError.{OpError}
 use Rattle.plops.specs.declared.error.OpError.TheVariants as errors
 use Rattle.plops.specs.Operators.{operator_of}

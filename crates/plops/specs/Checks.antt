@@ -4,7 +4,7 @@ use Rattle.std.specs.List.{list_all}
 use Rattle.plops.specs.declared.operator.Prefix.{Prefix}
 use Rattle.plops.specs.declared.operator.Infix.{Infix}
 use Rattle.plops.specs.declared.operator.Postfix.{Postfix}
-use Rattle.plops.specs.declared.entry.Entry.{Entry}
+use Rattle.plops.specs.declared.table.Entry.{Entry}
 use Rattle.plops.specs.Tables.{infix_of}
 use Rattle.plops.specs.Sane.{comma, comma_op}
 use Rattle.plops.specs.Changes.{is_rising}

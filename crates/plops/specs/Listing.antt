@@ -4,8 +4,8 @@ use Rattle.plops.specs.declared.operator.Kind.{Kind}
 use Rattle.plops.specs.declared.operator.Prefix.{Prefix}
 use Rattle.plops.specs.declared.operator.Infix.{Infix}
 use Rattle.plops.specs.declared.operator.Postfix.{Postfix}
-use Rattle.plops.specs.declared.entry.Entry.{Entry}
-use Rattle.plops.specs.declared.entry.CurrentOp.{CurrentOp}
+use Rattle.plops.specs.declared.table.Entry.{Entry}
+use Rattle.plops.specs.declared.table.CurrentOp.{CurrentOp}
 use Rattle.plops.specs.Operators.{prefix_kind, infix_kind, postfix_kind}
 
 abbrev pub told : ℕ → Kind → List ℕ → CurrentOp

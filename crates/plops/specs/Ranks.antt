@@ -1,6 +1,6 @@
 -- How many entries stand before a name.
 use Rattle.std.specs.Prelude.{ℕ, suc, List, [], ◌∷◌, if◌then◌else◌}
-use Rattle.plops.specs.declared.entry.Entry.{Entry}
+use Rattle.plops.specs.declared.table.Entry.{Entry}
 use Rattle.plops.specs.Changes.{is_before}
 
 abbrev pub rank : List ℕ → List Entry → ℕ

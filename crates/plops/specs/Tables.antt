@@ -7,7 +7,7 @@ use Rattle.plops.specs.declared.operator.Infix.{Infix}
 use Rattle.plops.specs.declared.operator.Postfix.{Postfix}
 use Rattle.plops.specs.declared.operator.Operator.{Operator}
 use Rattle.plops.specs.declared.operator.Operator.TheVariants.{Before, Between, Behind}
-use Rattle.plops.specs.declared.entry.Entry.{Entry}
+use Rattle.plops.specs.declared.table.Entry.{Entry}
 
 -- a name that is no operator
 abbrev pub plain : List ℕ → Entry

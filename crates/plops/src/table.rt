@@ -1,19 +1,156 @@
 //! The table of operators.
-ghost use Rattle.std.specs.Prelude.{◌≡◌, ◌≤◌, ◌<◌, [], ◌∷◌, IfOk, OnOk, OnErr, length, map, option_copied, List, ℕ, true};
-ghost use Rattle.plops.specs.declared.entry.Entry.{Entry};
+ghost use Rattle.std.specs.Prelude.{◌≡◌, ◌≤◌, ◌<◌, ◌++◌, [], ◌∷◌, IfOk, OnOk, OnErr, length, map, option_copied, List, ℕ, true};
+ghost use Rattle.plops.specs.declared.table.Entry.{Entry};
 ghost use Rattle.plops.specs.declared.operator.Kind.{Kind};
-ghost use Rattle.plops.specs.Tables.{plain, find, prefix_of, infix_of, postfix_of};
+ghost use Rattle.plops.specs.Tables.{plain, with_operator, is_named, find, prefix_of, infix_of, postfix_of};
 ghost use Rattle.plops.specs.Sane.{IsSane};
-ghost use Rattle.plops.specs.Changes.{is_reserved, is_beside, changed, entry_of, is_rising, put, added, refusal, Adds};
+ghost use Rattle.plops.specs.Changes.{without, is_plain, is_before, is_reserved, is_beside, changed, entry_of, is_rising, put, added, refusal, Adds};
 ghost use Rattle.plops.specs.Given.{with_names, iso_table};
 ghost use Rattle.plops.specs.Listing.{current_ops, told, told_by};
 ghost use Rattle.plops.specs.Ranks.{rank};
 
-use crate::entry::{CurrentOp, Entry};
 use crate::error::OpError;
-use crate::operator::{Infix, Kind, Postfix, Prefix};
+use crate::operator::{Infix, Kind, Operator, Postfix, Prefix};
+use plterm::name::Name;
 use std::alloc::{AllocError, Global};
 use std::marker::Model;
+
+/// A name, and the operators that it is. It is never both infix and postfix (6.3.4.3).
+#[derive(Drop)]
+pub struct Entry {
+    name: Name,
+    as_prefix: Option<Prefix>,
+    as_infix: Option<Infix>,
+    as_postfix: Option<Postfix>,
+}
+
+/// An operator as current_op/3 tells it (8.14.4).
+#[derive(Drop)]
+pub struct CurrentOp {
+    pub priority: u16,
+    pub kind: Kind,
+    pub name: Name,
+}
+
+impl Entry {
+    fn named(alloc: Global, name: &str) -> Result<Entry, AllocError>
+        ensures { IfOk result (λ e. e ≡ plain name.now) }
+    {
+        let name = Name::new(alloc, name)?;
+        Ok(Entry {
+            name,
+            as_prefix: None,
+            as_infix: None,
+            as_postfix: None,
+        })
+    }
+
+    /// The same entry again.
+    fn copied(&self) -> Result<Entry, AllocError>
+        ensures { IfOk result (λ e. e ≡ self.now) }
+    {
+        let name = self.name.copied()?;
+        Ok(Entry {
+            name,
+            as_prefix: self.as_prefix,
+            as_infix: self.as_infix,
+            as_postfix: self.as_postfix,
+        })
+    }
+
+    /// The entry with one more operator, in place of one that stands where it does.
+    fn with(mut self, operator: Operator) -> Entry
+        ensures { result ≡ with_operator self operator }
+    {
+        match operator {
+            Operator::Before(op) => self.as_prefix = Some(op),
+            Operator::Between(op) => self.as_infix = Some(op),
+            Operator::Behind(op) => self.as_postfix = Some(op),
+        }
+        self
+    }
+
+    /// The entry without the operator that stands where one of this kind does.
+    fn without(mut self, kind: Kind) -> Entry
+        ensures { result ≡ without self kind }
+    {
+        match kind {
+            Kind::Fx | Kind::Fy => self.as_prefix = None,
+            Kind::Xfx | Kind::Xfy | Kind::Yfx => self.as_infix = None,
+            Kind::Xf | Kind::Yf => self.as_postfix = None,
+        }
+        self
+    }
+
+    /// The entry once an operator is declared; priority 0 removes it.
+    fn changed(self, priority: u16, kind: Kind) -> Entry
+        ensures { result ≡ changed priority kind self }
+    {
+        if priority == 0 {
+            self.without(kind)
+        } else {
+            self.with(Operator::of(priority, kind))
+        }
+    }
+
+    /// Whether the name is no operator.
+    fn is_plain(&self) -> bool
+        ensures { result ≡ is_plain self.now }
+    {
+        self.as_prefix.is_none() && self.as_infix.is_none() && self.as_postfix.is_none()
+    }
+
+    /// Whether the name is an operator that forbids one of this kind: an infix beside a postfix.
+    fn is_beside(&self, kind: Kind) -> bool
+        ensures { result ≡ is_beside kind self.now }
+    {
+        match kind {
+            Kind::Fx | Kind::Fy => false,
+            Kind::Xfx | Kind::Xfy | Kind::Yfx => self.as_postfix.is_some(),
+            Kind::Xf | Kind::Yf => self.as_infix.is_some(),
+        }
+    }
+
+    fn is_named(&self, name: &str) -> bool
+        ensures { result ≡ is_named name.now self.now }
+    {
+        self.name.as_str() == name
+    }
+
+    /// Whether the name comes before another, byte by byte.
+    fn is_before(&self, name: &str) -> bool
+        ensures { result ≡ is_before self.now.name name.now }
+    {
+        self.name.as_str() < name
+    }
+
+    /// Adds the operators that the name is: prefix, infix, postfix.
+    fn tell(&self, ops: &mut Vec<CurrentOp>) -> Result<(), AllocError>
+        ensures { OnOk result (ops.new.items ≡ ops.old.items ++ told_by self.now) }
+    {
+        if let Some(op) = self.as_prefix {
+            ops.push(self.told(op.priority, op.kind())?)?;
+        }
+        if let Some(op) = self.as_infix {
+            ops.push(self.told(op.priority, op.kind())?)?;
+        }
+        if let Some(op) = self.as_postfix {
+            ops.push(self.told(op.priority, op.kind())?)?;
+        }
+        Ok(())
+    }
+
+    fn told(&self, priority: u16, kind: Kind) -> Result<CurrentOp, AllocError>
+        ensures { IfOk result (λ op. op ≡ record { priority = priority; kind = kind; name = self.now.name }) }
+    {
+        let name = self.name.copied()?;
+        Ok(CurrentOp {
+            priority,
+            kind,
+            name,
+        })
+    }
+}
 
 /// The operators by name. Contracts see it as the list of its entries, which rise by name.
 #[derive(Drop)]
@@ -24,7 +161,7 @@ pub struct OpTable {
 
 impl Model for OpTable {
     ghost use Rattle.std.specs.Prelude.{List};
-    ghost use Rattle.plops.specs.declared.entry.Entry.{Entry};
+    ghost use Rattle.plops.specs.declared.table.Entry.{Entry};
     ghost use Rattle.plops.specs.Checks.{IsTable};
 
     ghost Value = { List Entry };
@@ -238,61 +375,31 @@ fn declare(
 fn iso_entries(alloc: Global) -> Result<Vec<Entry>, AllocError>
     ensures { IfOk result (λ entries. entries.items ≡ iso_table) }
 {
+    let directives = [
+        "dynamic",
+        "discontiguous",
+        "initialization",
+        "multifile",
+        "thread_local",
+    ];
+    let equal = ["=", "\\=", "==", "\\=="];
+    let ordered = ["@<", "@=<", "@>", "@>=", "=..", "is"];
+    let compared = ["=:=", "=\\=", "<", "=<", ">", ">="];
+    let sums = ["+", "-", "/\\", "\\/"];
+    let products = ["*", "/", "//", "rem", "mod", "<<", ">>"];
     let mut entries = Vec::new(alloc);
     declare(alloc, &mut entries, 1200, Kind::Xfx, &[":-", "-->"])?;
     declare(alloc, &mut entries, 1200, Kind::Fx, &[":-", "?-"])?;
-    declare(
-        alloc,
-        &mut entries,
-        1150,
-        Kind::Fx,
-        &[
-            "dynamic",
-            "discontiguous",
-            "initialization",
-            "multifile",
-            "thread_local",
-        ],
-    )?;
+    declare(alloc, &mut entries, 1150, Kind::Fx, &directives)?;
     declare(alloc, &mut entries, 1100, Kind::Xfy, &[";"])?;
     declare(alloc, &mut entries, 1050, Kind::Xfy, &["->"])?;
     declare(alloc, &mut entries, 1000, Kind::Xfy, &[","])?;
     declare(alloc, &mut entries, 900, Kind::Fy, &["\\+"])?;
-    declare(
-        alloc,
-        &mut entries,
-        700,
-        Kind::Xfx,
-        &["=", "\\=", "==", "\\=="],
-    )?;
-    declare(
-        alloc,
-        &mut entries,
-        700,
-        Kind::Xfx,
-        &["@<", "@=<", "@>", "@>=", "=..", "is"],
-    )?;
-    declare(
-        alloc,
-        &mut entries,
-        700,
-        Kind::Xfx,
-        &["=:=", "=\\=", "<", "=<", ">", ">="],
-    )?;
-    declare(
-        alloc,
-        &mut entries,
-        500,
-        Kind::Yfx,
-        &["+", "-", "/\\", "\\/"],
-    )?;
-    declare(
-        alloc,
-        &mut entries,
-        400,
-        Kind::Yfx,
-        &["*", "/", "//", "rem", "mod", "<<", ">>"],
-    )?;
+    declare(alloc, &mut entries, 700, Kind::Xfx, &equal)?;
+    declare(alloc, &mut entries, 700, Kind::Xfx, &ordered)?;
+    declare(alloc, &mut entries, 700, Kind::Xfx, &compared)?;
+    declare(alloc, &mut entries, 500, Kind::Yfx, &sums)?;
+    declare(alloc, &mut entries, 400, Kind::Yfx, &products)?;
     declare(alloc, &mut entries, 200, Kind::Xfx, &["**"])?;
     declare(alloc, &mut entries, 200, Kind::Xfy, &["^"])?;
     declare(alloc, &mut entries, 200, Kind::Fy, &["-", "\\"])?;

@@ -6,7 +6,7 @@ use Rattle.plterm.specs.declared.node.Node.TheVariants as nodes
 use Rattle.plterm.specs.Tree.{Tree, trees}
 use Rattle.plterm.specs.Reading.{read, first}
 use Rattle.plops.specs.declared.operator.Operator.TheVariants as operators
-use Rattle.plops.specs.declared.entry.Entry.{Entry}
+use Rattle.plops.specs.declared.table.Entry.{Entry}
 use Rattle.plops.specs.declared.operator.Infix.{Infix}
 use Rattle.plops.specs.declared.operator.Prefix.{Prefix}
 use Rattle.plops.specs.declared.operator.Postfix.{Postfix}

@@ -5,7 +5,7 @@ use Rattle.std.specs.Fmt.{digits}
 use Rattle.plterm.specs.Tree.{Tree, var, int, atom, compound, none, more, trees}
 use Rattle.plops.specs.declared.operator.Kind.{Kind}
 use Rattle.plops.specs.declared.operator.Kind.TheVariants.{Xfx, Xfy, Yfx, Fx, Fy, Xf, Yf}
-use Rattle.plops.specs.declared.entry.Entry.{Entry}
+use Rattle.plops.specs.declared.table.Entry.{Entry}
 use Rattle.plops.specs.Operators.{operator_of}
 use Rattle.plops.specs.Tables.{plain, with_operator, prefix_of, infix_of, postfix_of}
 use Rattle.plwrite.specs.declared.style.Style.TheVariants.{Plain, Quoted, Canonical, Listed}

@@ -7,7 +7,7 @@ use Rattle.plops.specs.declared.operator.Prefix.{Prefix}
 use Rattle.plops.specs.declared.operator.Infix.{Infix}
 use Rattle.plops.specs.declared.operator.Postfix.{Postfix}
 use Rattle.plops.specs.declared.operator.Operator.TheVariants as operators
-use Rattle.plops.specs.declared.entry.Entry.{Entry}
+use Rattle.plops.specs.declared.table.Entry.{Entry}
 use Rattle.plops.specs.Tables.{prefix_of, infix_of, postfix_of}
 use Rattle.plwrite.specs.declared.style.Style.{Style}
 use Rattle.plwrite.specs.declared.style.Style.TheVariants.{Listed}

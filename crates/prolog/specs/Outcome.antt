@@ -1,15 +1,21 @@
 -- What a call of the program comes to.
-use Rattle.std.specs.Prelude.{◌≡◌, ◌⊎◌, ◌+◌, ℕ, List, Option, None, Some}
+use Rattle.std.specs.Prelude.{◌≡◌, ◌⊎◌, ◌+◌, ◌++◌, ◌∷◌, [], ℕ, List, Option, None, Some, IsSomeAnd, IsNone, codes, decimal}
 use Rattle.std.specs.Io.KnownBytes.{Appends, Consumes, IsAtEnd}
 use Rattle.plio.specs.Causes.{Rose, TookCount, TookAtMost, AppendsPrefix}
+use Rattle.plops.specs.Given.{iso_table}
 use Rattle.plload.specs.Program.{Program}
 use Rattle.plload.specs.Loading.{Loads, Accepts, Refuses}
+use Rattle.plload.specs.Listing.{Lists}
 use Rattle.plload.specs.declared.error.RefusalKind.{RefusalKind}
 use Rattle.plsearch.specs.Search.{search_of}
 use Rattle.plhist.specs.declared.history.History.{History}
 use Rattle.plhist.specs.declared.status.Status.{Status}
 use Rattle.plhist.specs.Legal.{Legal, Over}
 use Rattle.plhist.specs.Runs.{AllFollow, OneEach}
+use Rattle.plhist.specs.Report.{report_text}
+use Rattle.plhist.specs.Status.{refusal_text, status_of}
+use Rattle.prolog.specs.declared.words.Form.{Form}
+use Rattle.prolog.specs.declared.words.Form.TheVariants.{Run, Check, List as ListForm}
 
 -- the most bytes of a program's text
 abbrev pub text_limit : ℕ
@@ -19,25 +25,42 @@ text_limit = 16777216
 abbrev pub step_limit : ℕ
 step_limit = 1073741824
 
--- The text that was read is a program's, and this is a history of its run: one legal journal of a run that is over,
--- and for each thread that was created exactly one run, which follows the thread's search.
-pub record HasRun (before now : Option (List ℕ)) (h : History) : Type 0 where
-  pub text : List ℕ
-  pub taken : Consumes before now text
-  pub whole : IsAtEnd now
-  pub program : Program
-  pub loaded : Loads text (Accepts program)
+-- a source gave this text, to its end
+abbrev pub Gave : Option (List ℕ) → Option (List ℕ) → List ℕ → Type 0
+Gave before now text = Consumes before now text × IsAtEnd now
+
+-- A program, and a history of its run: one legal journal of a run that is over, and for each thread that was created
+-- exactly one run, which follows the thread's search.
+pub record IsRunOf (program : Program) (h : History) : Type 0 where
   pub legal : Legal program.first h.journal
   pub over : Over h.journal
   pub each : OneEach h.journal h.runs
   pub follow : AllFollow (λ thread. search_of program step_limit) step_limit h.journal h.runs
 
--- the text that was read is refused at this line and column
-pub record IsRefused (before now : Option (List ℕ)) (line column : ℕ) (kind : RefusalKind) : Type 0 where
+-- the line that `check` writes
+abbrev pub check_text : Program → List ℕ
+check_text program = codes "clauses " ++ decimal program.clauses ++ codes " directives " ++ decimal program.directives ++ 10 ∷ []
+
+-- What a form makes of an accepted text: a history if it runs the program, the output, and the status.
+pub data Makes (text : List ℕ) : Form → Option History → List ℕ → Status → Type 0 where
+  ran : {program : Program} {h : History} → Loads text (Accepts program) → IsRunOf program h → Makes text Run (Some h) (report_text iso_table h) (status_of h.journal)
+  checked : {program : Program} → Loads text (Accepts program) → Makes text Check None (check_text program) Status.Done
+  listed : {lines : List ℕ} → Lists text (Accepts lines) → Makes text ListForm None lines Status.Done
+
+-- What a form makes of the text that a source gave: of one that is refused, the line that says where.
+pub data Comes (form : Form) (before now : Option (List ℕ)) : Option History → List ℕ → Status → Type 0 where
+  accepted : {text : List ℕ} {history : Option History} {output : List ℕ} {status : Status} →
+      Gave before now text → Makes text form history output status → Comes form before now history output status
+  refused : {text : List ℕ} {line column : ℕ} {kind : RefusalKind} →
+      Gave before now text → Loads text (Refuses line column kind) → Comes form before now None (refusal_text line column kind) (Status.Refused line column kind)
+
+-- the text that was read is a program's, and this is a history of its run
+pub record HasRun (before now : Option (List ℕ)) (h : History) : Type 0 where
   pub text : List ℕ
-  pub taken : Consumes before now text
-  pub whole : IsAtEnd now
-  pub refused : Loads text (Refuses line column kind)
+  pub gave : Gave before now text
+  pub program : Program
+  pub loaded : Loads text (Accepts program)
+  pub run : IsRunOf program h
 
 -- A text was written with this status, which is `whole` where all of it is written. At a fault of the sink and for want
 -- of memory a prefix of it is written.
@@ -45,18 +68,18 @@ pub record Wrote (before now : Option (List ℕ)) (faults later : ℕ) (text : L
   pub part : AppendsPrefix before now text
   pub ends : ((status ≡ whole) × Appends before now text) ⊎ ((status ≡ Status.NoMemory) ⊎ ((status ≡ Status.WriteFault) × Rose faults later))
 
--- the program ran, and all of its report is written
-abbrev pub IsOfRun : Status → Type 0
-IsOfRun Status.Done = Unit {0}
-IsOfRun Status.Failed = Unit {0}
-IsOfRun Status.Raised = Unit {0}
-IsOfRun Status.Spent = Unit {0}
-IsOfRun Status.Usage = ⊥
-IsOfRun (Status.Refused line column kind) = ⊥
-IsOfRun Status.ReadFault = ⊥
-IsOfRun Status.TooLong = ⊥
-IsOfRun Status.NoMemory = ⊥
-IsOfRun Status.WriteFault = ⊥
+-- the words, the source, the sink and memory were not in the way: all of the output is written
+abbrev pub IsAnswer : Status → Type 0
+IsAnswer Status.Done = Unit {0}
+IsAnswer Status.Failed = Unit {0}
+IsAnswer Status.Raised = Unit {0}
+IsAnswer Status.Spent = Unit {0}
+IsAnswer Status.Usage = ⊥
+IsAnswer (Status.Refused line column kind) = Unit {0}
+IsAnswer Status.ReadFault = ⊥
+IsAnswer Status.TooLong = ⊥
+IsAnswer Status.NoMemory = ⊥
+IsAnswer Status.WriteFault = ⊥
 
 -- the words or the source were in the way
 abbrev pub IsUnread : Status → Type 0
@@ -71,28 +94,41 @@ IsUnread Status.TooLong = Unit {0}
 IsUnread Status.NoMemory = ⊥
 IsUnread Status.WriteFault = ⊥
 
--- the source was asked for more, and gave no more than a program's text may have
+-- why a source gave no text
+abbrev pub IsReadCause : Option (List ℕ) → Option (List ℕ) → ℕ → ℕ → Status → Type 0
+IsReadCause before now faults later Status.Done = ⊥
+IsReadCause before now faults later Status.Failed = ⊥
+IsReadCause before now faults later Status.Raised = ⊥
+IsReadCause before now faults later Status.Spent = ⊥
+IsReadCause before now faults later Status.Usage = ⊥
+IsReadCause before now faults later (Status.Refused line column kind) = ⊥
+IsReadCause before now faults later Status.ReadFault = Rose faults later × TookAtMost before now text_limit
+IsReadCause before now faults later Status.TooLong = TookCount before now (text_limit + 1)
+IsReadCause before now faults later Status.NoMemory = Unit {0}
+IsReadCause before now faults later Status.WriteFault = ⊥
+
+-- why a text was not loaded or listed
+abbrev pub IsLoadCause : List ℕ → Status → Type 0
+IsLoadCause text Status.Done = ⊥
+IsLoadCause text Status.Failed = ⊥
+IsLoadCause text Status.Raised = ⊥
+IsLoadCause text Status.Spent = ⊥
+IsLoadCause text Status.Usage = ⊥
+IsLoadCause text (Status.Refused line column kind) = Loads text (Refuses line column kind)
+IsLoadCause text Status.ReadFault = ⊥
+IsLoadCause text Status.TooLong = ⊥
+IsLoadCause text Status.NoMemory = Unit {0}
+IsLoadCause text Status.WriteFault = ⊥
+
+-- the source was asked, and gave no more than a program's text may have, unless it is too long
 abbrev pub IsShort : Status → Type 0
+IsShort Status.Usage = ⊥
+IsShort Status.TooLong = ⊥
+IsShort Status.NoMemory = ⊥
 IsShort Status.Done = Unit {0}
 IsShort Status.Failed = Unit {0}
 IsShort Status.Raised = Unit {0}
 IsShort Status.Spent = Unit {0}
-IsShort Status.Usage = ⊥
 IsShort (Status.Refused line column kind) = Unit {0}
 IsShort Status.ReadFault = Unit {0}
-IsShort Status.TooLong = ⊥
-IsShort Status.NoMemory = ⊥
 IsShort Status.WriteFault = Unit {0}
-
--- why a source gave no program that ran
-abbrev pub IsCause : Option (List ℕ) → Option (List ℕ) → ℕ → ℕ → Status → Type 0
-IsCause before now faults later Status.Done = ⊥
-IsCause before now faults later Status.Failed = ⊥
-IsCause before now faults later Status.Raised = ⊥
-IsCause before now faults later Status.Spent = ⊥
-IsCause before now faults later Status.Usage = ⊥
-IsCause before now faults later (Status.Refused line column kind) = IsRefused before now line column kind × TookAtMost before now text_limit
-IsCause before now faults later Status.ReadFault = Rose faults later × TookAtMost before now text_limit
-IsCause before now faults later Status.TooLong = TookCount before now (text_limit + 1)
-IsCause before now faults later Status.NoMemory = Unit {0}
-IsCause before now faults later Status.WriteFault = ⊥

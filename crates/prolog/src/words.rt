@@ -1,9 +1,42 @@
 //! The words of a command line.
-ghost use Rattle.std.specs.Prelude.{◌≡◌, ◌++◌, ◌∷◌, [], List, ℕ, map, string_bytes, OnOk, OnErr, IfOk, IsNone, MatchOption, codes};
-ghost use Rattle.prolog.specs.Words.{IsRun, RunsPath, is_option as is_option_word};
+ghost use Rattle.std.specs.Prelude.{◌≡◌, ◌++◌, ◌∷◌, [], List, ℕ, map, string_bytes, OnOk, OnErr, IfOk, IfNone, IsNone, MatchOption, option_copied};
+ghost use Rattle.prolog.specs.declared.words.Form.{Form};
+ghost use Rattle.prolog.specs.Words.{form_of, IsCommand, Asks, is_option as is_option_word};
 
 use std::alloc::{AllocError, Global};
 use std::marker::Model;
+
+/// What a command line asks for.
+#[derive(Clone, Copy, Debug, PartialEq, Eq)]
+pub enum Form {
+    /// The report of a run of the program.
+    Run,
+    /// How many clauses and directives the program has.
+    Check,
+    /// The listing of the program.
+    List,
+}
+
+impl Form {
+    /// The form of a word.
+    fn of(word: &str) -> Option<Form>
+        ensures { result ≡ form_of word.now }
+    {
+        match word {
+            "run" => Some(Form::Run),
+            "check" => Some(Form::Check),
+            "list" => Some(Form::List),
+            _ => None,
+        }
+    }
+}
+
+/// A command: its form, and the path of its program.
+#[derive(Clone, Copy)]
+pub struct Command<'a> {
+    pub form: Form,
+    pub path: &'a str,
+}
 
 /// The words of a command line, the program's name first; seen as a list of texts.
 #[derive(Drop)]
@@ -36,20 +69,21 @@ impl Words {
         Ok(())
     }
 
-    /// The path in `run PATH`, where the words are of that form.
-    pub fn run_path(&self) -> Option<&str>
-        ensures { MatchOption result (IsRun self.now → ⊥) (λ path. RunsPath self.now path.now) }
+    /// The command, where the words are one of the forms `run PATH`, `check PATH` and `list PATH`.
+    pub fn command(&self) -> Option<Command<'_>>
+        ensures { MatchOption result (IsCommand self.now → ⊥) (λ c. Asks self.now c.form c.path.now) }
     {
-        let [_, form, path] = self.texts.as_slice() else {
+        let [_, word, path] = self.texts.as_slice() else {
             return None;
         };
-        if form.as_str() != "run" {
-            return None;
-        }
+        let form = Form::of(word.as_str())?;
         if is_option(path.as_str()) {
             return None;
         }
-        Some(path.as_str())
+        Some(Command {
+            form,
+            path: path.as_str(),
+        })
     }
 }
 
@@ -63,11 +97,15 @@ fn is_option(word: &str) -> bool
     }
 }
 
-/// The paths of the program and of the history that the words name: the first where they are
-/// `run PATH`, and the second for no form so far. Takes no memory yet.
+/// The paths of the program and of the history that the words name: the first where they are a command, and the second
+/// for no form so far. Takes no memory yet.
 pub fn paths(words: &Words) -> Result<(Option<&str>, Option<&str>), AllocError>
-    ensures program { IfOk result (λ p. MatchOption p.0 (IsRun words.now → ⊥) (λ path. RunsPath words.now path.now)) }
+    ensures none { IfOk result (λ p. IfNone p.0 (IsCommand words.now → ⊥)) }
+    ensures program { IfOk result (λ p. MatchOption p.0 (Unit {0}) (λ path. (form : Form) × Asks words.now form path.now)) }
     ensures history { IfOk result (λ p. IsNone p.1) }
 {
-    Ok((words.run_path(), None))
+    match words.command() {
+        Some(command) => Ok((Some(command.path), None)),
+        None => Ok((None, None)),
+    }
 }
