@@ -1,5 +1,5 @@
 -- What a call of the program comes to.
-use Rattle.std.specs.Prelude.{◌≡◌, ◌⊎◌, ◌+◌, ◌++◌, ◌∷◌, [], ℕ, List, Option, None, Some, IsSomeAnd, IsNone, codes, decimal}
+use Rattle.std.specs.Prelude.{◌≡◌, ◌⊎◌, ◌+◌, ◌++◌, ◌∷◌, [], ℕ, List, Option, None, Some, IfOk, codes, decimal}
 use Rattle.std.specs.Io.KnownBytes.{Appends, Consumes, IsAtEnd}
 use Rattle.plio.specs.Causes.{Rose, TookCount, TookAtMost, AppendsPrefix}
 use Rattle.plops.specs.Given.{iso_table}
@@ -15,6 +15,7 @@ use Rattle.plhist.specs.Runs.{AllFollow, OneEach}
 use Rattle.plhist.specs.Report.{report_text}
 use Rattle.plhist.specs.Status.{refusal_text, status_of}
 use Rattle.prolog.specs.declared.words.Form.{Form}
+use Rattle.prolog.specs.declared.command.Answer.{Answer}
 use Rattle.prolog.specs.declared.words.Form.TheVariants.{Run, Check, List as ListForm}
 
 -- the most bytes of a program's text
@@ -41,18 +42,19 @@ pub record IsRunOf (program : Program) (h : History) : Type 0 where
 abbrev pub check_text : Program → List ℕ
 check_text program = codes "clauses " ++ decimal program.clauses ++ codes " directives " ++ decimal program.directives ++ 10 ∷ []
 
--- What a form makes of an accepted text: a history if it runs the program, the output, and the status.
+-- What a form makes of a text: a history if it runs the program, the output, and the status. Of a text that is refused,
+-- the output is the line that says where.
 pub data Makes (text : List ℕ) : Form → Option History → List ℕ → Status → Type 0 where
   ran : {program : Program} {h : History} → Loads text (Accepts program) → IsRunOf program h → Makes text Run (Some h) (report_text iso_table h) (status_of h.journal)
   checked : {program : Program} → Loads text (Accepts program) → Makes text Check None (check_text program) Status.Done
   listed : {lines : List ℕ} → Lists text (Accepts lines) → Makes text ListForm None lines Status.Done
+  refused : {form : Form} {line column : ℕ} {kind : RefusalKind} → Loads text (Refuses line column kind) → Makes text form None (refusal_text line column kind) (Status.Refused line column kind)
 
--- What a form makes of the text that a source gave: of one that is refused, the line that says where.
-pub data Comes (form : Form) (before now : Option (List ℕ)) : Option History → List ℕ → Status → Type 0 where
-  accepted : {text : List ℕ} {history : Option History} {output : List ℕ} {status : Status} →
-      Gave before now text → Makes text form history output status → Comes form before now history output status
-  refused : {text : List ℕ} {line column : ℕ} {kind : RefusalKind} →
-      Gave before now text → Loads text (Refuses line column kind) → Comes form before now None (refusal_text line column kind) (Status.Refused line column kind)
+-- what a form makes of the text that a source gave
+pub record Comes (form : Form) (before now : Option (List ℕ)) (history : Option History) (output : List ℕ) (status : Status) : Type 0 where
+  pub text : List ℕ
+  pub gave : Gave before now text
+  pub makes : Makes text form history output status
 
 -- the text that was read is a program's, and this is a history of its run
 pub record HasRun (before now : Option (List ℕ)) (h : History) : Type 0 where
@@ -62,11 +64,17 @@ pub record HasRun (before now : Option (List ℕ)) (h : History) : Type 0 where
   pub loaded : Loads text (Accepts program)
   pub run : IsRunOf program h
 
--- A text was written with this status, which is `whole` where all of it is written. At a fault of the sink and for want
+-- An answer says what a form makes of a text; its output may be missing for want of memory.
+pub record Says (text : List ℕ) (form : Form) (a : Answer) : Type 0 where
+  pub output : List ℕ
+  pub makes : Makes text form a.history output a.status
+  pub is : IfOk a.output (λ o. o.items ≡ output)
+
+-- An output was written with this status, which is `whole` where all of it is written. At a fault of the sink and for want
 -- of memory a prefix of it is written.
-pub record Wrote (before now : Option (List ℕ)) (faults later : ℕ) (text : List ℕ) (whole status : Status) : Type 0 where
-  pub part : AppendsPrefix before now text
-  pub ends : ((status ≡ whole) × Appends before now text) ⊎ ((status ≡ Status.NoMemory) ⊎ ((status ≡ Status.WriteFault) × Rose faults later))
+pub record Wrote (before now : Option (List ℕ)) (faults later : ℕ) (output : List ℕ) (whole status : Status) : Type 0 where
+  pub part : AppendsPrefix before now output
+  pub ends : ((status ≡ whole) × Appends before now output) ⊎ ((status ≡ Status.NoMemory) ⊎ ((status ≡ Status.WriteFault) × Rose faults later))
 
 -- the words, the source, the sink and memory were not in the way: all of the output is written
 abbrev pub IsAnswer : Status → Type 0
@@ -107,28 +115,19 @@ IsReadCause before now faults later Status.TooLong = TookCount before now (text_
 IsReadCause before now faults later Status.NoMemory = Unit {0}
 IsReadCause before now faults later Status.WriteFault = ⊥
 
--- why a text was not loaded or listed
-abbrev pub IsLoadCause : List ℕ → Status → Type 0
-IsLoadCause text Status.Done = ⊥
-IsLoadCause text Status.Failed = ⊥
-IsLoadCause text Status.Raised = ⊥
-IsLoadCause text Status.Spent = ⊥
-IsLoadCause text Status.Usage = ⊥
-IsLoadCause text (Status.Refused line column kind) = Loads text (Refuses line column kind)
-IsLoadCause text Status.ReadFault = ⊥
-IsLoadCause text Status.TooLong = ⊥
-IsLoadCause text Status.NoMemory = Unit {0}
-IsLoadCause text Status.WriteFault = ⊥
+-- it is an answer, or there was no memory
+abbrev pub IsAnswerOrMemory : Status → Type 0
+IsAnswerOrMemory status = IsAnswer status ⊎ (status ≡ Status.NoMemory)
 
--- the source was asked, and gave no more than a program's text may have, unless it is too long
+-- the source was asked for more, and gave no more than a program's text may have
 abbrev pub IsShort : Status → Type 0
-IsShort Status.Usage = ⊥
-IsShort Status.TooLong = ⊥
-IsShort Status.NoMemory = ⊥
 IsShort Status.Done = Unit {0}
 IsShort Status.Failed = Unit {0}
 IsShort Status.Raised = Unit {0}
 IsShort Status.Spent = Unit {0}
+IsShort Status.Usage = ⊥
 IsShort (Status.Refused line column kind) = Unit {0}
 IsShort Status.ReadFault = Unit {0}
+IsShort Status.TooLong = ⊥
+IsShort Status.NoMemory = ⊥
 IsShort Status.WriteFault = Unit {0}

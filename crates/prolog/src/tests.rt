@@ -17,13 +17,14 @@ fn words_of(alloc: Global, texts: &[&str]) -> Result<Words, AllocError> {
     Ok(words)
 }
 
-/// Runs a text, and gives the report and the status.
-fn run<R: Threads + Wait + Sync>(
+/// What a form makes of a text: the output and the status.
+fn of<R: Threads + Wait + Sync>(
     rt: &R,
     alloc: Global,
+    form: &str,
     text: &[u8],
 ) -> Result<(Vec<u8>, Status), Fail> {
-    let words = words_of(alloc, &["prolog", "run", "P"])?;
+    let words = words_of(alloc, &["prolog", form, "P"])?;
     let mut program = MemorySource::new(Vec::from_slice(alloc, text)?, 4096, Vec::new(alloc));
     let mut second = MemorySource::new(Vec::new(alloc), 1, Vec::new(alloc));
     let mut out = MemorySink::new(alloc, 1_000_000, Vec::new(alloc))?;
@@ -39,7 +40,16 @@ fn run<R: Threads + Wait + Sync>(
     Ok((Vec::from_slice(alloc, out.bytes())?, report.status))
 }
 
-const ROWS: [(&str, &str, Status); 20] = [
+/// Runs a text, and gives the report and the status.
+fn run<R: Threads + Wait + Sync>(
+    rt: &R,
+    alloc: Global,
+    text: &[u8],
+) -> Result<(Vec<u8>, Status), Fail> {
+    of(rt, alloc, "run", text)
+}
+
+const ROWS: [(&str, &str, Status); 28] = [
     (
         "main :- write(hello), nl. :- initialization(main).",
         "% thread 1 main: true\nhello\n",
@@ -117,7 +127,49 @@ const ROWS: [(&str, &str, Status); 20] = [
     ),
     (
         ":- write((a:-b,c)), write(.(a,.(b,c))), write(;(!,-(1))).",
-        "% thread 1 main: true\na:-b,c[a,b|c];(!,-(1))\n",
+        "% thread 1 main: true\na:-b,c[a,b|c]!;-(1)\n",
+        Status::Done,
+    ),
+    // Clauses of dynamic procedures are there from the start, whatever stands first.
+    (
+        "p(1). :- dynamic p/1, q/0. p(2). main :- p(X), write(X), n(X). main :- q. main. n(3). :- initialization(main).",
+        "% thread 1 main: true\n12\n",
+        Status::Done,
+    ),
+    (
+        ":- dynamic([p/1]). :- write(x), p(_).",
+        "% thread 1 main: false\nx\n",
+        Status::Failed,
+    ),
+    // Terms are written under the operators that the text declares.
+    (
+        ":- op(700, xfx, ===>). :- initialization((write(a ===> b), nl)).",
+        "% thread 1 main: true\na===>b\n",
+        Status::Done,
+    ),
+    (
+        ":- write('hello world'), write(\"ab\"), write(['A',b|c]), write({a,b}), write(0'a), write(0x1F).",
+        "% thread 1 main: true\nhello world[97,98][A,b|c]{a,b}9731\n",
+        Status::Done,
+    ),
+    (
+        ":- set_prolog_flag(double_quotes, chars). :- write(\"ab\"). :- set_prolog_flag(double_quotes, atom). :- write(\"ab\").",
+        "% thread 1 main: true\n[a,b]ab\n",
+        Status::Done,
+    ),
+    (
+        ":- use_module(library(lists)). :- discontiguous p/1. :- multifile([p/1, q/2]). ?- write(x).",
+        "% thread 1 main: true\nx\n",
+        Status::Done,
+    ),
+    (
+        ":- write(-(1)), write(- 1), write(-1), write(1 - (-1)), write(-(1^2)), write(-(-(1))), write(- a), write(\\+ (a,b)).",
+        "% thread 1 main: true\n-(1)-(1)-11- -1- 1^2-(-1)-a\\+ (a,b)\n",
+        Status::Done,
+    ),
+    (
+        ":- initialization(write(-9223372036854775808)).",
+        "% thread 1 main: true\n-9223372036854775808\n",
         Status::Done,
     ),
     (
@@ -148,6 +200,87 @@ const ROWS: [(&str, &str, Status); 20] = [
         },
     ),
 ];
+
+// Texts, a form, and what it makes of them.
+const FORMS: [(&str, &str, &str, Status); 12] = [
+    ("list", "p(X,Y) :- q(Y,X), \\+ r.", "p(_1,_2):-q(_2,_1),\\+r.\n", Status::Done),
+    ("check", "p(X,Y) :- q(Y,X), \\+ r.", "clauses 1 directives 0\n", Status::Done),
+    (
+        "list",
+        ":- op(700, xfx, ===>). a ===> b.",
+        ":-op(700,xfx,===>).\na===>b.\n",
+        Status::Done,
+    ),
+    ("check", ":- op(700, xfx, ===>). a ===> b.", "clauses 1 directives 1\n", Status::Done),
+    ("list", "+ .", "+ .\n", Status::Done),
+    ("check", "", "clauses 0 directives 0\n", Status::Done),
+    ("list", "% only a comment", "", Status::Done),
+    (
+        "list",
+        ":- dynamic.",
+        "refused: line 1 column 1: bad_directive\n",
+        Status::Refused {
+            line: 1,
+            column: 1,
+            kind: RefusalKind::BadDirective,
+        },
+    ),
+    (
+        "check",
+        "a.\n :- op(1201, xfx, b).",
+        "refused: line 2 column 2: bad_directive\n",
+        Status::Refused {
+            line: 2,
+            column: 2,
+            kind: RefusalKind::BadDirective,
+        },
+    ),
+    (
+        "list",
+        "a(\"xy\"). :- set_prolog_flag(double_quotes, atom). a(\"x y\", 'B', [], '[]'(c), - 1, -(1), 1 - -1, {d,e}).",
+        "a([120,121]).\n:-set_prolog_flag(double_quotes,atom).\na('x y','B',[],'[]'(c),-(1),-(1),1- -1,{d,e}).\n",
+        Status::Done,
+    ),
+    (
+        "list",
+        ":- op(0, xfx, =). :- op(200, xf, =). a = . b(- (1), \\ (-), [(:-)|X], (a:-b), X).",
+        ":-op(0,xfx,=).\n:-op(200,xf,(=)).\na= .\nb(-(1),\\ (-),[:-|_1],(a:-b),_1).\n",
+        Status::Done,
+    ),
+    (
+        "list",
+        "?- a. :- dynamic p/1, q/2. p('a\\nb\\x1\\').",
+        "?-a.\n:-dynamic p/1,q/2.\np('a\\nb\\x1\\').\n",
+        Status::Done,
+    ),
+];
+
+// Listings, which list the same again, and counts.
+#[test]
+fn forms(rt: HostRuntime) -> Result<(), Fail> {
+    let alloc = rt.alloc();
+    for (form, text, output, status) in FORMS {
+        let (bytes, ended) = of(&rt, alloc, form, text.as_bytes())?;
+        assert!(rt; bytes.as_slice() == output.as_bytes(), "{text}");
+        assert!(rt; ended == status, "{text}");
+    }
+    Ok(())
+}
+
+// A listing is the listing of itself.
+#[test]
+fn listed_again(rt: HostRuntime) -> Result<(), Fail> {
+    let alloc = rt.alloc();
+    for (text, _, status) in ROWS {
+        let (bytes, ended) = of(&rt, alloc, "list", text.as_bytes())?;
+        assert!(rt; ended == status || ended == Status::Done, "{text}");
+        if ended == Status::Done {
+            let (again, _) = of(&rt, alloc, "list", &bytes)?;
+            assert!(rt; again.as_slice() == bytes.as_slice(), "{text}");
+        }
+    }
+    Ok(())
+}
 
 // Programs and their reports.
 #[test]
