@@ -7,5 +7,3 @@ mod head;
 mod progress;
 mod rows;
 pub mod solver;
-#[cfg(test)]
-mod tests;
