@@ -33,7 +33,7 @@ impl Model for Procedures {
 
 impl Procedures {
     /// No procedures.
-    pub fn new(alloc: Global) -> Procedures
+    pub(crate) fn new(alloc: Global) -> Procedures
         ensures { result ≡ [] }
     {
         Procedures {
@@ -52,7 +52,7 @@ impl Procedures {
     }
 
     /// Adds a clause, as the last of its procedure. After an `Err` the procedure may be there without the clause.
-    pub fn add(&mut self, alloc: Global, clause: Clause) -> Result<(), AllocError>
+    pub(crate) fn add(&mut self, alloc: Global, clause: Clause) -> Result<(), AllocError>
         ensures { OnOk result (self.new ≡ with_clause self.old clause) }
     {
         let indicator = clause.indicator()?;
@@ -96,7 +96,7 @@ impl Model for Program {
 
 impl Program {
     /// The program of these parts.
-    pub fn new(
+    pub(crate) fn new(
         procedures: Procedures,
         goals: Vec<Term>,
         first: Batch,

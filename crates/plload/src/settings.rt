@@ -45,7 +45,7 @@ impl Settings {
     }
 
     /// Takes what a clause or a directive does to the settings, or says why it is refused. After a refusal they are of no use.
-    pub fn take(&mut self, meaning: &Meaning) -> Result<Option<RefusalKind>, AllocError>
+    pub(crate) fn take(&mut self, meaning: &Meaning) -> Result<Option<RefusalKind>, AllocError>
         ensures { IfOk result (Answers (taken self.old (shown meaning.now)) self.new) }
     {
         match meaning {
