@@ -1,12 +1,16 @@
 -- What the calls of a stack keep.
-use Rattle.std.proofs.Common.{◌≡◌, ℕ, suc, ◌+◌, ◌-◌, ◌<◌, ◌≤◌, List, [], ◌∷◌, ◌++◌, length, length-append, refl, sym, ap, ap₂, ◌∙◌, subst, arith, map, reverse, append-nil, le_trans, le_refl, get_or, take, drop, filter_map, length-take-le}
+use Rattle.std.proofs.Common.{◌≡◌, ℕ, zero, suc, ◌+◌, ◌-◌, ◌<◌, ◌≤◌, List, [], ◌∷◌, ◌++◌, length, length-append, refl, sym, ap, ap₂, ◌∙◌, subst, arith, map, reverse, append-nil, le_trans, le_refl, get_or, take, drop, filter_map, length-take-le, Bool, true, false, None, Ok, Err, IfOk, OnErr}
 use Rattle.std.proofs.lemmas.List.{get_or_default, drop_all}
 use Rattle.plheap.specs.declared.cell.Mark.{Mark}
 use Rattle.plheap.specs.Store.{Store, term, cut, IsMark, Keeps}
 use Rattle.plheap.proofs.Kept.{Keeps-refl, IsMark-kept}
 use Rattle.plheap.proofs.Cuts.{cut-cells, cut-cut, IsMark-cut}
-use Rattle.plsearch.specs.Types.{Choice}
-use Rattle.plsearch.specs.Table.{resolve}
+use Rattle.plsubst.specs.Unify.{unify}
+use Rattle.plunify.specs.Unifying.{Unified}
+use Rattle.std.specs.Prelude.{Result as Outcomes}
+use Rattle.std.specs.declared.alloc.AllocError.{AllocError}
+use Rattle.plsearch.specs.Types.{Element, Case, Choice, Mark as MarkOf}
+use Rattle.plsearch.specs.Table.{resolve, branch, bind_goals}
 use Rattle.plsearch.specs.Engine.{deeper}
 use Rattle.plframe.specs.declared.stack.Stack.TheInside.{Inside}
 use Rattle.plframe.specs.declared.call.Called.{Called}
@@ -14,12 +18,14 @@ use Rattle.plframe.specs.declared.frame.Link.{Link}
 use Rattle.plframe.specs.declared.frame.Source.{Source}
 use Rattle.plframe.specs.declared.frame.Alternatives.{Alternatives}
 use Rattle.plframe.specs.declared.frame.Frame.{Frame}
-use Rattle.plframe.specs.declared.frame.Frame.TheVariants.{Plain, Call}
-use Rattle.plframe.specs.Places.{Statics, element, goals_at, list_at, link_at, IsChain, IsItemIn, AreIn, AreFrames, cases, opened, depth_of, size, IsFrame, IsCall, plain, alternatives, places_left, clauses_in}
+use Rattle.plframe.specs.declared.frame.Branch.{Branch}
+use Rattle.plframe.specs.declared.frame.Frame.TheVariants.{Plain, Barrier, Call, Branch as BranchOf}
+use Rattle.plframe.specs.Places.{branch_place, place_at, IsSaved, Statics, element, goals_at, list_at, link_at, IsChain, IsItemIn, AreIn, AreFrames, cases, opened, depth_of, size, IsFrame, IsCall, plain, alternatives, places_left, clauses_in}
 use Rattle.plframe.specs.Calls.{IsCalled, FirstFits}
-use Rattle.plframe.specs.State.{State, IsList, IsState, IsStack, Extends, Begins, CountsUp, OpensRest, Calls, Retries, call_places, HasCall, BeginsWithCall, goals_of, cases_of}
+use Rattle.plframe.specs.State.{State, IsList, IsState, IsStack, Extends, Begins, Opens, OpensFrame, OpensIn, Unifies, CountsUp, OpensRest, Calls, Retries, call_places, IsCallFrame, IsBranchFrame, BeginsWith, HasCall, HasBranch, place_of, goals_of, cases_of}
 use Rattle.plframe.proofs.Arena.{list_at-more, list_at-new, list_at-first, list_at-none, list_at-take, chain-push, chain-none, chain-take}
-use Rattle.plframe.proofs.Frames.{are_in-more, elements-stay, cases-kept, AreFrames-kept, cases-cut, AreFrames-cut, left-cut, depth-cases, reverse-push, plain-more, older-mark, now_cells}
+use Rattle.plframe.proofs.Frames.{are_in-more, elements-stay, cases-kept, AreFrames-kept, cases-cut, AreFrames-cut, left-cut, branch-cut, depth-cases, reverse-push, plain-more, older-mark, now_cells}
+use Rattle.plframe.proofs.Resolving.{elements-bind}
 
 -- the state of a stack's fields
 abbrev pub inside : Inside → State
@@ -169,7 +175,10 @@ empty_is [] e = refl
 empty_is (x ∷ xs) e = absurd (omega arith)
 
 pub has-call : (s : State) (rest : List Frame) (a : Alternatives) → s.frames ≡ rest ++ Call a ∷ [] → HasCall s
-has-call s rest a e = subst BeginsWithCall (sym (ap reverse e ∙ reverse-push rest (Call a))) tt
+has-call s rest a e = subst (BeginsWith IsCallFrame) (sym (ap reverse e ∙ reverse-push rest (Call a))) tt
+
+pub has-branch : (s : State) (rest : List Frame) (b : Branch) → s.frames ≡ rest ++ BranchOf b ∷ [] → HasBranch s
+has-branch s rest b e = subst (BeginsWith IsBranchFrame) (sym (ap reverse e ∙ reverse-push rest (BranchOf b))) tt
 
 -- closing a choice of so many
 pub closed-plain : (statics : Statics) (s : State) (rest frames : List Frame) (n : ℕ) → s.frames ≡ rest ++ Plain n ∷ [] → 1 < n → frames ≡ rest ++ Plain (n - 1) ∷ [] →
@@ -387,3 +396,151 @@ Extends-trans a b c e f = record {
   cells = le_trans e.cells f.cells;
   terms = λ c lt. f.terms c (le_trans lt e.cells) ∙ e.terms c lt;
 }
+
+-- a list that is saved as things are now
+module _ (s : State) (m : Mark) (marks : IsMark m s.heap) (now : cut m s.heap ≡ s.heap) (n list : ℕ) (many : n ≡ length s.links) where
+  abbrev saving : Branch
+  saving = record { mark = m; links = n; list = list }
+
+  pub saved-now : IsList s list → AreFrames s.heap s.links (reverse s.frames) → IsSaved s.heap s.links saving (reverse s.frames)
+  saved-now l frames = record {
+    mark = marks;
+    room = omega (arith, many);
+    list = omega (arith, many, l.there);
+    older = older-mark m s.heap marks now s.links n (reverse s.frames) many frames;
+    inside = subst (λ k. AreIn k (list_at s.links list)) (sym (now_cells m s.heap marks now)) l.inside;
+  }
+
+  pub place-now : branch_place s.heap s.links saving ≡ place_at s.heap s.links list
+  place-now = ap (λ h. place_at h s.links list) now
+
+-- the case of a frame
+module _ (s : State) (d : ℕ) (frame : Frame) (is : IsStack s d) (fits : IsFrame s.heap s.links frame (reverse s.frames)) (one : size frame ≡ 1) (more : List Frame) (e : more ≡ s.frames ++ frame ∷ []) where
+  pub framed-stack : IsStack (record s { frames = more }) (d + 1)
+  framed-stack =
+      let o = opened-state s d more frame e is fits in
+      (o.0, omega (arith, o.1, is.1, one))
+
+  pub framed-opens : OpensFrame s (record s { frames = more }) frame
+  framed-opens = record { cases = λ statics. opened-cases statics s more frame e; heap = refl; links = refl; goals = refl }
+
+  module _ (frames : List Frame) (up : CountsUp (reverse more) (reverse frames)) where
+    pub counted-in-stack : IsStack (record s { frames = frames }) (d + 2)
+    counted-in-stack =
+        let c = counted (record s { frames = more }) (d + 1) frames up framed-stack in
+        (c.0, omega (arith, c.1))
+
+    pub counted-in-opens : OpensIn s (record s { frames = frames }) frame
+    counted-in-opens = record {
+      cases = λ statics. counted-cases statics (record s { frames = more }) frames up ∙ ap (λ cs. Choice [] ∷ cs) (opened-cases statics s more frame e);
+      heap = refl;
+      links = refl;
+      goals = refl;
+    }
+
+-- what the frames of some cases open
+pub opens-barrier : (s new : State) (l : ℕ) → OpensFrame s new (Barrier l) → Opens s new (MarkOf l ∷ [])
+opens-barrier s new l o = record { cases = o.cases; heap = o.heap; links = o.links; goals = o.goals }
+
+module _ (s new : State) (b : Branch) (list : ℕ) (place : branch_place s.heap s.links b ≡ place_at s.heap s.links list) where
+  pub opens-branch : OpensFrame s new (BranchOf b) → Opens s new (branch (goals_of s list) s.heap.count ∷ [])
+  opens-branch o = record {
+    cases = λ statics. o.cases statics ∙ ap (λ p. Choice (p ∷ []) ∷ cases_of statics s) place;
+    heap = o.heap;
+    links = o.links;
+    goals = o.goals;
+  }
+
+  pub opens-in-branch : OpensIn s new (BranchOf b) → Opens s new (Choice [] ∷ branch (goals_of s list) s.heap.count ∷ [])
+  opens-in-branch o = record {
+    cases = λ statics. o.cases statics ∙ ap (λ p. Choice [] ∷ Choice (p ∷ []) ∷ cases_of statics s) place;
+    heap = o.heap;
+    links = o.links;
+    goals = o.goals;
+  }
+
+-- the terms of two cells were unified
+module _ (s : State) (h : Store) (a b : ℕ) (u : Unified s.heap h a b) where
+  list-unified : (i : ℕ) → IsList s i → IsList (record s { heap = h }) i × (goals_of (record s { heap = h }) i ≡ bind_goals u.unifier (goals_of s i))
+  list-unified i l = (
+    record { there = l.there; inside = are_in-more (length s.heap.cells) (length h.cells) (list_at s.links i) (omega (arith, u.length)) l.inside },
+    elements-bind s.heap h u.unifier (length s.heap.cells) (λ c lt. u.terms c) (list_at s.links i) l.inside,
+  )
+
+  pub unified-stack : (d : ℕ) → IsStack s d → IsStack (record s { heap = h }) d
+  unified-stack d is = (
+    record {
+      chain = is.0.chain;
+      frames = subst (λ ls. AreFrames h ls (reverse s.frames)) (append-nil s.links) (AreFrames-kept s.heap h s.links [] u.keeps (reverse s.frames) (omega (arith, length-append s.links [])) is.0.frames);
+      goals = (list-unified s.goals is.0.goals).0;
+    },
+    is.1,
+  )
+
+  pub unified : (d : ℕ) → IsStack s d → Unifies s (record s { heap = h }) a b
+  unfolding cases_of
+  unified d is = record {
+    unifier = u.unifier;
+    is = u.is;
+    lists = list-unified;
+    cases = λ statics. ap (λ ls. cases statics h ls (reverse s.frames)) (sym (append-nil s.links)) ∙ cases-kept statics s.heap h s.links [] u.keeps (reverse s.frames) is.0.frames;
+    count = u.count;
+  }
+
+-- whatever a unification answers, the stack stays one
+pub unify-stack : (s : State) (d : ℕ) (h : Store) (a b : ℕ) (r : Outcomes Bool AllocError) → IfOk r (λ fits. fits ≡ true → Unified s.heap h a b) → IfOk r (λ fits. fits ≡ false → (unify (term s.heap a) (term s.heap b) ≡ None) × (h ≡ s.heap)) →
+    OnErr r (h ≡ s.heap) → IsStack s d → IsStack (record s { heap = h }) d
+unify-stack s d h a b (Ok true) fits not err is = unified-stack s h a b (fits refl) d is
+unify-stack s d h a b (Ok false) fits not err is = rw (not refl).1 is
+unify-stack s d h a b (Err e) fits not err is = rw err is
+
+pub unify-unifies : (s : State) (d : ℕ) (h : Store) (a b : ℕ) (r : Outcomes Bool AllocError) → IfOk r (λ fits. fits ≡ true → Unified s.heap h a b) → IsStack s d → IfOk r (λ fits. fits ≡ true → Unifies s (record s { heap = h }) a b)
+unify-unifies s d h a b (Ok answer) fits is = λ e. unified s h a b (fits e) d is
+unify-unifies s d h a b (Err e) fits is = tt
+
+-- the list of a choice is visited
+module _ (s : State) (d : ℕ) (is : IsStack s d) (rest : List Frame) (b : Branch) (popped : s.frames ≡ rest ++ BranchOf b ∷ []) where
+  saved : IsSaved s.heap s.links b (reverse rest)
+  saved = (popped-frames s d rest (BranchOf b) popped is).0
+
+  same-list : list_at (take b.links s.links) b.list ≡ list_at s.links b.list
+  same-list = list_at-take s.links b.links b.list saved.list saved.room
+
+  abbrev before_it : State
+  before_it = record { heap = cut b.mark s.heap; links = take b.links s.links; frames = rest; goals = b.list }
+
+  taken-depth : d ≡ suc (depth_of (reverse rest))
+  taken-depth = omega (arith, (popped-frames s d rest (BranchOf b) popped is).2)
+
+  before-stack : IsStack before_it (d - 1)
+  before-stack = (
+    record {
+      chain = chain-take s.links b.links is.0.chain saved.room;
+      frames = AreFrames-cut s.heap s.links b.mark b.links saved.mark saved.room (reverse rest) saved.older (popped-frames s d rest (BranchOf b) popped is).1;
+      goals = record {
+        there = omega (arith, saved.list, length-take-le b.links s.links saved.room);
+        inside = subst (AreIn (length (cut b.mark s.heap).cells)) (sym same-list) (subst (λ k. AreIn k (list_at s.links b.list)) (sym (cut-cells b.mark s.heap saved.mark.cells)) saved.inside);
+      };
+    },
+    omega (arith, taken-depth),
+  )
+
+  before-cases : (statics : Statics) → cases_of statics before_it ≡ cases_of statics (record s { frames = rest })
+  unfolding cases_of
+  before-cases statics = cases-cut s.heap s.links b.mark b.links saved.mark saved.room statics (reverse rest) saved.older (popped-frames s d rest (BranchOf b) popped is).1
+
+  module _ (frames : List Frame) (up : CountsUp (reverse rest) (reverse frames)) where
+    pub taken-stack : IsStack (record { heap = cut b.mark s.heap; links = take b.links s.links; frames = frames; goals = b.list }) d
+    taken-stack =
+        let c = counted before_it (d - 1) frames up before-stack in
+        (c.0, omega (arith, c.1, taken-depth))
+
+    pub taken : (statics : Statics) → Retries statics s (record { heap = cut b.mark s.heap; links = take b.links s.links; frames = frames; goals = b.list })
+    taken statics = record {
+      others = [];
+      older = cases_of statics (record s { frames = rest });
+      was =
+          popped-cases statics s rest (BranchOf b) popped
+          ∙ ap (λ xs. Choice (record { goals = map (element (cut b.mark s.heap)) xs; variables = (cut b.mark s.heap).count } ∷ []) ∷ cases_of statics (record s { frames = rest })) (sym same-list);
+      cases = counted-cases statics before_it frames up ∙ ap (λ cs. Choice [] ∷ cs) (before-cases statics);
+    }

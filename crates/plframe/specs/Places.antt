@@ -7,17 +7,18 @@ use Rattle.plclause.specs.Clause.{Clause}
 use Rattle.plevent.specs.declared.request.Request.TheVariants.{Publish}
 use Rattle.plevent.specs.declared.update.Update.TheVariants.{Last}
 use Rattle.plheap.specs.Store.{Store, term, cut, IsMark}
-use Rattle.plsearch.specs.Types.{Element, Goal, Commit, Look, Await, Place, Case, Choice, Mark}
+use Rattle.plsearch.specs.Types.{Element, Goal, Commit, Never, Look, Await, Place, Case, Choice, Mark}
 use Rattle.plsearch.specs.Table.{resolve}
 use Rattle.plsearch.specs.Engine.{deeper}
 use Rattle.plframe.specs.declared.frame.Item.{Item}
-use Rattle.plframe.specs.declared.frame.Item.TheVariants.{Goal as GoalAt, Commit as CommitTo, Look as LookAt, Await as AwaitFor}
+use Rattle.plframe.specs.declared.frame.Item.TheVariants.{Goal as GoalAt, Commit as CommitTo, Never as NeverTo, Look as LookAt, Await as AwaitFor}
 use Rattle.plframe.specs.declared.frame.Link.{Link}
 use Rattle.plframe.specs.declared.frame.Source.{Source}
 use Rattle.plframe.specs.declared.frame.Source.TheVariants.{Procedure, Copied}
 use Rattle.plframe.specs.declared.frame.Alternatives.{Alternatives}
+use Rattle.plframe.specs.declared.frame.Branch.{Branch}
 use Rattle.plframe.specs.declared.frame.Frame.{Frame}
-use Rattle.plframe.specs.declared.frame.Frame.TheVariants.{Plain, Barrier, Call}
+use Rattle.plframe.specs.declared.frame.Frame.TheVariants.{Plain, Barrier, Call, Branch as BranchOf}
 
 -- the lists of all links so far, that of number 0 first
 abbrev pub added : List (List Item) → Link → List (List Item)
@@ -33,6 +34,7 @@ list_at links i = get_or (lists_of links) i []
 abbrev pub element : Store → Item → Element
 element h (GoalAt k c) = Goal k (term h c)
 element h (CommitTo l) = Commit l
+element h (NeverTo l) = Never l
 element h (LookAt c) = Look (term h c)
 element h (AwaitFor c) = Await (Publish (Last c ∷ []))
 
@@ -62,10 +64,15 @@ places_left d h links goal rest clauses = filter_map (resolve d h.count (term h 
 abbrev pub alternatives : Statics → ℕ → Store → List Link → Alternatives → List Place
 alternatives statics d h links a = places_left d (cut a.mark h) links a.goal a.rest (drop a.next (clauses_in statics a.source))
 
+-- a list that is left, read in the heap as it was at the mark
+abbrev pub branch_place : Store → List Link → Branch → Place
+branch_place h links b = place_at (cut b.mark h) links b.list
+
 abbrev pub opened : Statics → Store → List Link → Frame → List Case → List Case
 opened statics h links (Plain n) below = plain n below
 opened statics h links (Barrier l) below = Mark l ∷ below
 opened statics h links (Call a) below = Choice (alternatives statics (deeper below 0) h links a) ∷ below
+opened statics h links (BranchOf b) below = Choice (branch_place h links b ∷ []) ∷ below
 
 -- of frames, the newest first
 abbrev pub cases : Statics → Store → List Link → List Frame → List Case
@@ -77,6 +84,7 @@ abbrev pub size : Frame → ℕ
 size (Plain n) = n
 size (Barrier l) = 1
 size (Call a) = 1
+size (BranchOf b) = 1
 
 abbrev pub depth_of : List Frame → ℕ
 depth_of [] = 0
@@ -86,6 +94,7 @@ depth_of (f ∷ fs) = size f + depth_of fs
 abbrev pub IsItemIn : ℕ → Item → Type 0
 IsItemIn n (GoalAt k c) = c < n
 IsItemIn n (CommitTo l) = ⊤
+IsItemIn n (NeverTo l) = ⊤
 IsItemIn n (LookAt c) = c < n
 IsItemIn n (AwaitFor c) = ⊤
 
@@ -98,6 +107,7 @@ abbrev pub IsOlder : ℕ → ℕ → ℕ → Frame → Type 0
 IsOlder c t k (Plain n) = ⊤
 IsOlder c t k (Barrier l) = ⊤
 IsOlder c t k (Call a) = (a.mark.cells ≤ c) × (a.mark.trail ≤ t) × (a.links ≤ k)
+IsOlder c t k (BranchOf b) = (b.mark.cells ≤ c) × (b.mark.trail ≤ t) × (b.links ≤ k)
 
 abbrev pub AreOlder : ℕ → ℕ → ℕ → List Frame → Type 0
 AreOlder c t k [] = ⊤
@@ -112,10 +122,19 @@ pub record IsCall (h : Store) (links : List Link) (a : Alternatives) (fs : List 
   pub inside : AreIn a.mark.cells (list_at links a.rest)
   pub goal : a.goal < a.mark.cells
 
+-- a list that was there, with its cells, at a mark, with older frames behind it
+pub record IsSaved (h : Store) (links : List Link) (b : Branch) (fs : List Frame) : Type 0 where
+  pub mark : IsMark b.mark h
+  pub room : b.links ≤ length links
+  pub list : b.list ≤ b.links
+  pub older : AreOlder b.mark.cells b.mark.trail b.links fs
+  pub inside : AreIn b.mark.cells (list_at links b.list)
+
 abbrev pub IsFrame : Store → List Link → Frame → List Frame → Type 0
 IsFrame h links (Plain n) fs = 0 < n
 IsFrame h links (Barrier l) fs = ⊤
 IsFrame h links (Call a) fs = IsCall h links a fs
+IsFrame h links (BranchOf b) fs = IsSaved h links b fs
 
 abbrev pub AreFrames : Store → List Link → List Frame → Type 0
 AreFrames h links [] = ⊤

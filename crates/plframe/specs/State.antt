@@ -1,16 +1,23 @@
 -- A stack's state, and what it stands for.
-use Rattle.std.specs.Prelude.{◌≡◌, ℕ, ◌+◌, ◌<◌, ◌≤◌, List, [], ◌∷◌, length, reverse}
-use Rattle.plheap.specs.Store.{Store, term}
+use Rattle.std.specs.Prelude.{◌≡◌, ℕ, ◌+◌, ◌<◌, ◌≤◌, List, [], ◌∷◌, ◌++◌, length, reverse, take, Some}
+use Rattle.plterm.specs.Tree.{Tree}
+use Rattle.plsubst.specs.Unify.{unify}
+use Rattle.plheap.specs.Store.{Store, term, cut}
 use Rattle.plsearch.specs.Types.{Element, Place, Case, Choice, Mark}
+use Rattle.plsearch.specs.Table.{branch, bind_goals}
 use Rattle.plsearch.specs.Engine.{deeper}
 use Rattle.plframe.specs.declared.frame.Link.{Link}
 use Rattle.plframe.specs.declared.frame.Frame.{Frame}
-use Rattle.plframe.specs.declared.frame.Frame.TheVariants.{Plain, Barrier, Call}
+use Rattle.plframe.specs.declared.frame.Frame.TheVariants.{Plain, Barrier, Call, Branch as BranchOf}
+use Rattle.plframe.specs.declared.frame.Around.{Around}
+use Rattle.plframe.specs.declared.frame.Around.TheVariants.{Nothing, Branch as InBranch}
+use Rattle.plframe.specs.declared.frame.Opening.{Opening}
+use Rattle.plframe.specs.declared.frame.Opening.TheVariants.{Barrier as OpenBarrier, Branch as OpenBranch, Run as OpenRun}
 use Rattle.plframe.specs.declared.frame.Alternatives.{Alternatives}
 use Rattle.plframe.specs.declared.frame.Source.{Source}
 use Rattle.plframe.specs.declared.frame.Closed.{Closed}
 use Rattle.plframe.specs.declared.frame.Closed.TheVariants.{Choice as Fails, Mark as Cuts}
-use Rattle.plframe.specs.Places.{Statics, alternatives, places_left, clauses_in, IsCall, place_at, goals_at, cases, depth_of, AreFrames, AreIn, IsItemIn, list_at, IsChain}
+use Rattle.plframe.specs.Places.{Statics, opened, alternatives, places_left, clauses_in, IsCall, place_at, goals_at, cases, depth_of, AreFrames, AreIn, IsItemIn, list_at, IsChain}
 
 -- the frames, the newest last; the list that is visited
 pub record State : Type 0 where
@@ -53,12 +60,54 @@ pub record Extends (old new : State) : Type 0 where
   pub cells : length old.heap.cells ≤ length new.heap.cells
   pub terms : (c : ℕ) → c < length old.heap.cells → term new.heap c ≡ term old.heap c
 
--- one more case, behind the lists and cells that there were
-pub record Opens (old new : State) (case : Statics → Case) : Type 0 where
-  pub cases : (statics : Statics) → cases_of statics new ≡ case statics ∷ cases_of statics old
+-- the cases that a goal with a cut level of its own runs in
+abbrev pub around_cases : State → Around → List Case
+around_cases s Nothing = []
+around_cases s (InBranch i) = branch (goals_of s i) s.heap.count ∷ []
+
+-- the cases to open, the innermost first
+abbrev pub opening_cases : State → Opening → List Case
+opening_cases s (OpenBarrier l) = Mark l ∷ []
+opening_cases s (OpenBranch i) = branch (goals_of s i) s.heap.count ∷ []
+opening_cases s (OpenRun around) = Choice [] ∷ around_cases s around
+
+abbrev pub IsAround : State → Around → Type 0
+IsAround s Nothing = Unit {0}
+IsAround s (InBranch i) = IsList s i
+
+abbrev pub IsOpening : State → Opening → Type 0
+IsOpening s (OpenBarrier l) = Unit {0}
+IsOpening s (OpenBranch i) = IsList s i
+IsOpening s (OpenRun around) = IsAround s around
+
+-- more cases, and all else as it was
+pub record Opens (old new : State) (more : List Case) : Type 0 where
+  pub cases : (statics : Statics) → cases_of statics new ≡ more ++ cases_of statics old
   pub heap : new.heap ≡ old.heap
   pub links : new.links ≡ old.links
   pub goals : new.goals ≡ old.goals
+
+-- the case of a frame, and all else as it was
+pub record OpensFrame (old new : State) (frame : Frame) : Type 0 where
+  pub cases : (statics : Statics) → cases_of statics new ≡ opened statics old.heap old.links frame (cases_of statics old)
+  pub heap : new.heap ≡ old.heap
+  pub links : new.links ≡ old.links
+  pub goals : new.goals ≡ old.goals
+
+-- and in it a choice with nothing left
+pub record OpensIn (old new : State) (frame : Frame) : Type 0 where
+  pub cases : (statics : Statics) → cases_of statics new ≡ Choice [] ∷ opened statics old.heap old.links frame (cases_of statics old)
+  pub heap : new.heap ≡ old.heap
+  pub links : new.links ≡ old.links
+  pub goals : new.goals ≡ old.goals
+
+-- the most general unifier was put into all terms
+pub record Unifies (old new : State) (a b : ℕ) : Type 0 where
+  pub unifier : ℕ → Tree
+  pub is : unify (term old.heap a) (term old.heap b) ≡ Some unifier
+  pub lists : (i : ℕ) → IsList old i → IsList new i × (goals_of new i ≡ bind_goals unifier (goals_of old i))
+  pub cases : (statics : Statics) → cases_of statics new ≡ cases_of statics old
+  pub count : new.heap.count ≡ old.heap.count
 
 -- the first of a list, and the list behind it
 pub record Begins (s : State) (l : Link) : Type 0 where
@@ -78,22 +127,32 @@ pub record OpensRest (statics : Statics) (old new : List Frame) (a : Alternative
   pub frames : (h : Store) (links : List Link) → AreFrames h links old → IsCall h links a old → AreFrames h links new
   pub depth : depth_of new ≡ depth_of old + 1
 
--- the innermost case is a call
+-- the innermost case is a choice with something left to try: the clauses of a call, or a list
 abbrev pub IsCallFrame : Frame → Type 0
 IsCallFrame (Plain n) = ⊥
 IsCallFrame (Barrier l) = ⊥
 IsCallFrame (Call a) = Unit {0}
+IsCallFrame (BranchOf b) = ⊥
 
-abbrev pub BeginsWithCall : List Frame → Type 0
-BeginsWithCall [] = ⊥
-BeginsWithCall (f ∷ fs) = IsCallFrame f
+abbrev pub IsBranchFrame : Frame → Type 0
+IsBranchFrame (Plain n) = ⊥
+IsBranchFrame (Barrier l) = ⊥
+IsBranchFrame (Call a) = ⊥
+IsBranchFrame (BranchOf b) = Unit {0}
+
+abbrev pub BeginsWith : (Frame → Type 0) → List Frame → Type 0
+BeginsWith Is [] = ⊥
+BeginsWith Is (f ∷ fs) = Is f
 
 abbrev pub HasCall : State → Type 0
-HasCall s = BeginsWithCall (reverse s.frames)
+HasCall s = BeginsWith IsCallFrame (reverse s.frames)
+
+abbrev pub HasBranch : State → Type 0
+HasBranch s = BeginsWith IsBranchFrame (reverse s.frames)
 
 -- the innermost case was closed
 abbrev pub ClosedAs : Statics → State → State → Closed → Type 0
-ClosedAs statics old new Fails = (ps : List Place) × (cases_of statics old ≡ Choice ps ∷ cases_of statics new) × ((HasCall old → ⊥) → ps ≡ [])
+ClosedAs statics old new Fails = (ps : List Place) × (cases_of statics old ≡ Choice ps ∷ cases_of statics new) × ((HasCall old → ⊥) → (HasBranch old → ⊥) → ps ≡ [])
 ClosedAs statics old new (Cuts l) = cases_of statics old ≡ Mark l ∷ cases_of statics new
 
 -- the places of a call at the level of the next case

@@ -11,6 +11,8 @@ pub enum Item {
     Goal(u32, u32),
     /// Behind it the choices down to a level are given up.
     Commit(u32),
+    /// Here the choices down to a level are given up, and the list fails.
+    Never(u32),
     /// The goal of a cell waits for a view of the database.
     Look(u32),
     /// A clause waits until it is published as the last of its procedure.
@@ -49,6 +51,16 @@ pub struct Alternatives {
     pub next: usize,
 }
 
+/// A list that is still to be tried.
+#[derive(Drop)]
+pub struct Branch {
+    /// The heap when the choice was opened.
+    pub mark: Mark,
+    /// How many lists there were then.
+    pub links: usize,
+    pub list: u32,
+}
+
 /// Open cases.
 #[derive(Drop)]
 pub enum Frame {
@@ -58,6 +70,27 @@ pub enum Frame {
     Barrier(u32),
     /// A choice of the clauses of a call.
     Call(Alternatives),
+    /// A choice of one list.
+    Branch(Branch),
+}
+
+/// The cases that a goal with a cut level of its own runs in, besides the choice of that level.
+#[derive(Clone, Copy)]
+pub enum Around {
+    Nothing,
+    /// A choice of one list.
+    Branch(u32),
+}
+
+/// Cases to open.
+#[derive(Clone, Copy)]
+pub enum Opening {
+    /// A mark of a level, behind which Fail is a cut to it.
+    Barrier(u32),
+    /// A choice of one list.
+    Branch(u32),
+    /// A choice with nothing left, for the cut level of a goal, in other cases.
+    Run(Around),
 }
 
 /// A case that was closed.

@@ -2,5 +2,6 @@
 #![tactic(auto)]
 
 pub mod call;
+pub mod extend;
 pub mod frame;
 pub mod stack;

@@ -1,24 +1,28 @@
 //! The stack.
 
-ghost use Rattle.std.specs.Prelude.{◌≡◌, ℕ, ◌+◌, ◌<◌, ◌≤◌, List, [], ◌∷◌, length, map, reverse, IfOk, OnOk, OnErr, IfNone, IfSome, Some, None, true, false, IsTrue, ◌↔◌, vec_len, vec_capacity};
+ghost use Rattle.std.specs.Prelude.{◌≡◌, ℕ, ◌+◌, ◌<◌, ◌≤◌, List, [], ◌∷◌, ◌++◌, length, map, reverse, IfOk, OnOk, OnErr, IfNone, IfSome, Some, None, true, false, IsTrue, ◌↔◌, vec_len, vec_capacity};
 ghost use Rattle.plterm.specs.Variables.{AllBelow};
 ghost use Rattle.plsubst.specs.Subst.{shift};
+ghost use Rattle.plsubst.specs.Unify.{unify as unifier_of};
 ghost use Rattle.plheap.specs.Store.{term};
 ghost use Rattle.plclause.specs.Conversion.{converted};
 ghost use Rattle.plgoal.specs.Goal.{IsGoal};
 ghost use Rattle.plload.specs.Program.{clauses_for};
-ghost use Rattle.plsearch.specs.Types.{Choice, Mark as MarkOf, Place, Case};
+ghost use Rattle.plsearch.specs.Types.{Choice, Place, Case};
 ghost use Rattle.plsearch.specs.Engine.{deeper};
-ghost use Rattle.plframe.specs.Places.{Statics, IsItemIn, list_at, depth_of, element, clauses_in};
-ghost use Rattle.plframe.specs.State.{place_of, goals_of, cases_of, IsList, Extends, Opens, Begins, CountsUp, OpensRest, HasCall, ClosedAs, Calls, Retries, call_places};
+ghost use Rattle.plframe.specs.Places.{Statics, IsItemIn, list_at, depth_of, element, clauses_in, place_at, branch_place, size, IsFrame, IsSaved};
+ghost use Rattle.plframe.specs.State.{place_of, goals_of, cases_of, IsList, Extends, IsOpening, opening_cases, Opens, OpensFrame, OpensIn, Unifies, Begins, CountsUp, OpensRest, HasCall, HasBranch, ClosedAs, Calls, Retries, call_places};
+ghost use Rattle.plframe.specs.Extended.{IsRun, Extends as ExtendsTo};
 
 use crate::call::{Called, Room, first_fit};
-use crate::frame::{Alternatives, Closed, Frame, Item, Link, Source};
+use crate::extend::{Extended, Run, with_arguments};
+use crate::frame::{Alternatives, Around, Branch, Closed, Frame, Item, Link, Opening, Source};
 use plclause::clause::Clause;
 use plgoal::goal::goal_of;
 use plheap::heap::Heap;
 use plload::program::Program;
 use plterm::term::Term;
+use plunify::unify::unify;
 use std::alloc::{AllocError, Global};
 use std::marker::Model;
 
@@ -145,9 +149,71 @@ impl Stack {
         self.goals = list;
     }
 
+    /// The term of a cell with further arguments behind its own.
+    pub fn with_arguments(
+        &mut self,
+        alloc: Global,
+        cell: u32,
+        further: Run,
+    ) -> Result<Extended, AllocError>
+        requires cell { cell < length self.old.heap.cells }
+        requires further { IsRun self.old.heap further }
+        requires some { 0 < further.count }
+        requires few { further.count ≤ 1024 }
+        ensures is { IfOk result (λ r. ExtendsTo self.old.heap self.new.heap cell further r) }
+        ensures count { self.new.heap.count ≡ self.old.heap.count }
+        ensures stays { Extends self.old self.new }
+    {
+        with_arguments(&mut self.heap, &mut self.room.pending, alloc, cell, further)
+    }
+
+    /// Unifies the terms of two cells: whether they have a unifier.
+    pub fn unify(&mut self, a: u32, b: u32) -> Result<bool, AllocError>
+        requires left { a < length self.old.heap.cells }
+        requires right { b < length self.old.heap.cells }
+        ensures yes { IfOk result (λ fits. fits ≡ true → Unifies self.old self.new a b) }
+        ensures no { IfOk result (λ fits. fits ≡ false → (unifier_of (term self.old.heap a) (term self.old.heap b) ≡ None) × (self.new ≡ self.old)) }
+        ensures err { OnErr result (self.new ≡ self.old) }
+    {
+        unify(&mut self.heap, &mut self.room.scratch, a, b)
+    }
+
+    /// Opens cases.
+    pub fn open(&mut self, opening: Opening) -> Result<(), AllocError>
+        requires { IsOpening self.old opening }
+        ensures ok { OnOk result (Opens self.old self.new (opening_cases self.old opening)) }
+        ensures err { OnErr result (self.new ≡ self.old) }
+    {
+        match opening {
+            Opening::Barrier(level) => self.open_frame(Frame::Barrier(level)),
+            Opening::Branch(list) => {
+                let branch = self.branch_of(list);
+                self.open_frame(Frame::Branch(branch))
+            }
+            Opening::Run(Around::Nothing) => self.open_plain(),
+            Opening::Run(Around::Branch(list)) => {
+                let branch = self.branch_of(list);
+                self.open_plain_in(Frame::Branch(branch))
+            }
+        }
+    }
+
+    /// A list, to be tried in the heap as it is now.
+    fn branch_of(&self, list: u32) -> Branch
+        requires { IsList self.now list }
+        ensures saved { IsSaved self.now.heap self.now.links result (reverse self.now.frames) }
+        ensures place { branch_place self.now.heap self.now.links result ≡ place_at self.now.heap self.now.links list }
+    {
+        Branch {
+            mark: self.heap.mark(),
+            links: self.links.len(),
+            list,
+        }
+    }
+
     /// Opens a choice with nothing left to try, in place if the newest case is such a one.
-    pub fn open_plain(&mut self) -> Result<(), AllocError>
-        ensures ok { OnOk result (Opens self.old self.new (λ statics. Choice [])) }
+    fn open_plain(&mut self) -> Result<(), AllocError>
+        ensures ok { OnOk result (Opens self.old self.new (Choice [] ∷ [])) }
         ensures err { OnErr result (self.new ≡ self.old) }
     {
         if self.depth == u32::MAX {
@@ -159,16 +225,35 @@ impl Stack {
         Ok(())
     }
 
-    /// Opens a mark, behind which Fail is a cut to a level.
-    pub fn open_barrier(&mut self, level: u32) -> Result<(), AllocError>
-        ensures ok { OnOk result (Opens self.old self.new (λ statics. MarkOf level)) }
+    /// Opens the case of a frame.
+    fn open_frame(&mut self, frame: Frame) -> Result<(), AllocError>
+        requires frame { IsFrame self.old.heap self.old.links frame (reverse self.old.frames) }
+        requires one { size frame ≡ 1 }
+        ensures ok { OnOk result (OpensFrame self.old self.new frame) }
         ensures err { OnErr result (self.new ≡ self.old) }
     {
         if self.depth == u32::MAX {
             return Err(AllocError);
         }
-        self.frames.push(Frame::Barrier(level))?;
+        self.frames.push(frame)?;
         self.depth += 1;
+        Ok(())
+    }
+
+    /// Opens a choice with nothing left to try in the case of a frame.
+    fn open_plain_in(&mut self, frame: Frame) -> Result<(), AllocError>
+        requires frame { IsFrame self.old.heap self.old.links frame (reverse self.old.frames) }
+        requires one { size frame ≡ 1 }
+        ensures ok { OnOk result (OpensIn self.old self.new frame) }
+        ensures err { OnErr result (self.new ≡ self.old) }
+    {
+        if self.depth >= u32::MAX - 1 {
+            return Err(AllocError);
+        }
+        self.frames.reserve(2)?;
+        push_frame(&mut self.frames, frame);
+        count_up(&mut self.frames);
+        self.depth += 2;
         Ok(())
     }
 
@@ -235,6 +320,13 @@ impl Stack {
         matches!(self.frames.last(), Some(Frame::Call(_)))
     }
 
+    /// Whether the innermost case is a choice of a list that is to be tried.
+    pub fn is_branch(&self) -> bool
+        ensures { IsTrue result ↔ HasBranch self.now }
+    {
+        matches!(self.frames.last(), Some(Frame::Branch(_)))
+    }
+
     /// Closes the innermost case, if one is open.
     pub fn close(&mut self) -> Option<Closed>
         ensures some { IfSome result (λ c. (statics : Statics) → ClosedAs statics self.old self.new c) }
@@ -251,6 +343,10 @@ impl Stack {
                 self.depth -= 1;
                 Some(Closed::Choice)
             }
+            Some(Frame::Branch(_)) => {
+                self.depth -= 1;
+                Some(Closed::Choice)
+            }
             Some(Frame::Plain(n)) => {
                 self.depth -= 1;
                 if n > 1 {
@@ -262,6 +358,20 @@ impl Stack {
                 Some(Closed::Choice)
             }
         }
+    }
+
+    /// Comes back to the innermost choice, which has one list to be tried: visits it.
+    pub fn take_branch(&mut self)
+        requires { HasBranch self.old }
+        ensures { (statics : Statics) → Retries statics self.old self.new }
+    {
+        let Some(Frame::Branch(branch)) = self.frames.pop() else {
+            unreachable!()
+        };
+        self.heap.undo(branch.mark);
+        self.links.truncate(branch.links);
+        count_up(&mut self.frames);
+        self.goals = branch.list;
     }
 
     /// Comes back to the innermost choice, whose clauses are to be tried: visits the body of the next one that fits, or closes the choice.
@@ -311,6 +421,18 @@ impl Stack {
                 Ok(true)
             }
         }
+    }
+}
+
+/// One more frame.
+fn push_frame(frames: &mut Vec<Frame>, frame: Frame)
+    requires room { vec_len frames.old + 1 < vec_capacity frames.old }
+    ensures is { frames.new.items ≡ frames.old.items ++ frame ∷ [] }
+    ensures room { vec_len frames.new < vec_capacity frames.new }
+{
+    match frames.push(frame) {
+        Ok(()) => {}
+        Err(_) => unreachable!(),
     }
 }
 

@@ -16,8 +16,8 @@ use Rattle.plclause.specs.declared.form.ClauseForm.TheVariants.{NoHead, BadHead,
 use Rattle.plevent.specs.Alive.{Stamped, exists, clauses_alive}
 use Rattle.plevent.specs.Search.{Item, View, Ask, Answer, Seen, Got, Next, Wants, Search}
 use Rattle.plload.specs.Program.{Program, clauses_for}
-use Rattle.plsearch.specs.Types.{Result, Stop, Fail, CutTo, Throw, Spent, Asking, Ceased, Element, Goal, Commit, Look, Await, Place, Case, Choice, Mark, Handle, Local, Move, Give, Go, Meeting, Run}
-use Rattle.plsearch.specs.Table.{Control, True, Both, Once, Write, Newline, AddLast, Call, NoGoal, control, bind_element, bind_goals, is_true, before_rest, resolve, choose, call, raised, Runnable, Runs, Raises, run, runnable, is_static, add_if, add, user, row, select, meet, walk_if, walk_over, replied, answered}
+use Rattle.plsearch.specs.Types.{Result, Stop, Fail, CutTo, Throw, Spent, Asking, Ceased, Element, Goal, Commit, Never, Look, Await, Place, Case, Choice, Mark, Handle, Local, Move, Give, Go, Meeting, Run}
+use Rattle.plsearch.specs.Table.{Control, True, False, Both, Either, Then, Not, Once, CallWith, Cut, Unify, Write, WriteQuoted, Newline, AddLast, Call, NoGoal, control, bind_element, bind_goals, is_true, before_rest, resolve, choose, call, raised, Runnable, Runs, Raises, run, runnable, called, call_with, branch, unified, is_static, add_if, add, user, row, select, meet, walk_if, walk_over, replied, answered}
 use Rattle.plsearch.specs.Engine.{Ended, Visitor, stop_cut_if, stop_cut, mark, choice, out, deeper, outs, moved, stepped, asks, walk, met, visit_in, Visit, left}
 use Rattle.plsearch.specs.Search.{start_from, start_of, started, from_start, next_of, search_of}
 use Rattle.plrun.specs.Paid.{IsPlain, ItemsCostSteps}
@@ -26,6 +26,7 @@ use Rattle.plrun.specs.Paid.{IsPlain, ItemsCostSteps}
 IsQuiet : Element → Type 0
 IsQuiet (Goal k t) = Unit {0}
 IsQuiet (Commit l) = Unit {0}
+IsQuiet (Never l) = Unit {0}
 IsQuiet (Look t) = ⊥
 IsQuiet (Await q) = ⊥
 
@@ -37,6 +38,7 @@ AreQuiet (e ∷ es) = IsQuiet e × AreQuiet es
 Opens : Element → Type 0
 Opens (Goal k t) = Unit {0}
 Opens (Commit l) = Unit {0}
+Opens (Never l) = Unit {0}
 Opens (Look t) = Unit {0}
 Opens (Await q) = IsPlain (Ask q)
 
@@ -50,6 +52,7 @@ quiet_opens : (e : Element) → IsQuiet e → Opens e
 unfolding IsQuiet Opens
 quiet_opens (Goal k t) q = tt
 quiet_opens (Commit l) q = tt
+quiet_opens (Never l) q = tt
 quiet_opens (Look t) q = absurd q
 quiet_opens (Await q) never = absurd never
 
@@ -181,6 +184,7 @@ unfolding AreQuiet IsQuiet
 bind_quiet σ [] q = tt
 bind_quiet σ (Goal k t ∷ es) q = (tt, bind_quiet σ es q.1)
 bind_quiet σ (Commit l ∷ es) q = (tt, bind_quiet σ es q.1)
+bind_quiet σ (Never l ∷ es) q = (tt, bind_quiet σ es q.1)
 bind_quiet σ (Look t ∷ es) q = absurd q.0
 bind_quiet σ (Await r ∷ es) q = absurd q.0
 
@@ -218,10 +222,36 @@ raised_fits : (e : Tree) (p : Indicator) (es : List Element) (w : Local) (s : �
 unfolding MoveFits IsStill raised
 raised_fits e p es w s = tt
 
-run_fits : (r : Runnable) (p : Indicator) (d : ℕ) (rest : List Element) (n : ℕ) (w : Local) (s : ℕ) → AreQuiet rest → MoveFits s (run r p d rest n w)
+run_fits : (r : Runnable) (p : Indicator) (cs : List Case) (k : ℕ) (rest : List Element) (n : ℕ) (w : Local) (s : ℕ) → AreQuietCases cs → AreQuiet rest → MoveFits s (run r p cs k rest n w)
 unfolding MoveFits AreQuietCases CaseIsQuiet AllQuiet AreQuiet IsQuiet
-run_fits (Runs b) p d rest n w s quiet = (ready s (Goal d b ∷ rest) (tt, quiet), (tt, tt))
-run_fits (Raises e) p d rest n w s quiet = raised_fits e p rest w s
+run_fits (Runs b) p cs k rest n w s cases quiet = (ready s (Goal k b ∷ rest) (tt, quiet), (tt, cases))
+run_fits (Raises e) p cs k rest n w s cases quiet = raised_fits e p rest w s
+
+-- a list is visited in cases
+enter_fits : (cs : List Case) (es : List Element) (n : ℕ) (w : Local) (s : ℕ) → AreQuietCases cs → AreQuiet es → MoveFits s (Go cs (record { goals = es; variables = n }) w)
+unfolding MoveFits
+enter_fits cs es n w s cases quiet = (ready s es quiet, cases)
+
+no_cases : AreQuietCases []
+unfolding AreQuietCases
+no_cases = tt
+
+one_branch : (es : List Element) (n : ℕ) → AreQuiet es → AreQuietCases (branch es n ∷ [])
+unfolding AreQuietCases CaseIsQuiet AllQuiet
+one_branch es n quiet = ((quiet, tt), tt)
+
+in_branch : (es : List Element) (n : ℕ) → AreQuiet es → AreQuietCases (Choice [] ∷ branch es n ∷ [])
+unfolding AreQuietCases CaseIsQuiet AllQuiet
+in_branch es n quiet = (tt, ((quiet, tt), tt))
+
+one_mark : (l : ℕ) → AreQuietCases (Mark l ∷ [])
+unfolding AreQuietCases CaseIsQuiet
+one_mark l = (tt, tt)
+
+unified_fits : (o : Option (ℕ → Tree)) (rest : List Element) (n : ℕ) (w : Local) → AreQuiet rest → MoveFits 1 (unified o rest n w)
+unfolding MoveFits IsStill
+unified_fits None rest n w quiet = tt
+unified_fits (Some σ) rest n w quiet = go_fits 1 (bind_goals σ rest) n w (bind_quiet σ rest quiet)
 
 add_if_fits : (b : Bool) (c : Clause) (rest : List Element) (n : ℕ) (w : Local) → AreQuiet rest → MoveFits 1 (add_if b c rest n w)
 unfolding MoveFits AreQuietCases Ready Opens
@@ -249,9 +279,18 @@ give_fits s r w still = still
 row_fits : (P : Program) (c : Control) (k : ℕ) (t : Tree) (d : ℕ) (rest : List Element) (n : ℕ) (w : Local) → AreQuiet rest → MoveFits 1 (row P c k t d rest n w)
 unfolding row AreQuiet IsQuiet IsStill
 row_fits P True k t d rest n w quiet = go_fits 1 rest n w quiet
+row_fits P False k t d rest n w quiet = give_fits 1 Fail w tt
 row_fits P (Both a b) k t d rest n w quiet = go_fits 1 (Goal k a ∷ Goal k b ∷ rest) n w (tt, (tt, quiet))
-row_fits P (Once g) k t d rest n w quiet = run_fits (runnable g) _ d (Commit d ∷ rest) n w 1 (tt, quiet)
+row_fits P (Either a b) k t d rest n w quiet = enter_fits (branch (Goal k b ∷ rest) n ∷ []) (Goal k a ∷ rest) n w 1 (one_branch (Goal k b ∷ rest) n (tt, quiet)) (tt, quiet)
+row_fits P (Then c a e) k t d rest n w quiet =
+    enter_fits (Choice [] ∷ branch (Goal k e ∷ rest) n ∷ []) (Goal (suc d) c ∷ Commit d ∷ Goal k a ∷ rest) n w 1 (in_branch (Goal k e ∷ rest) n (tt, quiet)) (tt, (tt, (tt, quiet)))
+row_fits P (Not g) k t d rest n w quiet = run_fits (runnable g) _ (branch rest n ∷ []) (suc d) (Never d ∷ rest) n w 1 (one_branch rest n quiet) (tt, quiet)
+row_fits P (Once g) k t d rest n w quiet = run_fits (runnable g) _ [] d (Commit d ∷ rest) n w 1 no_cases (tt, quiet)
+row_fits P (CallWith g us) k t d rest n w quiet = run_fits (called g us) (call_with (length us)) [] d rest n w 1 no_cases quiet
+row_fits P Cut k t d rest n w quiet = enter_fits (Mark k ∷ []) rest n w 1 (one_mark k) quiet
+row_fits P (Unify a b) k t d rest n w quiet = unified_fits (unify a b) rest n w quiet
 row_fits P (Write a) k t d rest n w quiet = go_fits 1 rest n _ quiet
+row_fits P (WriteQuoted a) k t d rest n w quiet = go_fits 1 rest n _ quiet
 row_fits P Newline k t d rest n w quiet = go_fits 1 rest n _ quiet
 row_fits P (AddLast c) k t d rest n w quiet = add_fits P (clausal c) rest n w quiet
 row_fits P (Call p) k t d rest n w quiet = user_fits (clauses_for P p) d t rest n w quiet
@@ -277,6 +316,7 @@ answered_fits (Await q) (Got r) d rest n w quiet = replied_fits r rest n w quiet
 answered_fits (Await q) (Seen g us) d rest n w quiet = give_fits 0 Ceased w tt
 answered_fits (Goal k t) a d rest n w quiet = give_fits 0 Ceased w tt
 answered_fits (Commit l) a d rest n w quiet = give_fits 0 Ceased w tt
+answered_fits (Never l) a d rest n w quiet = give_fits 0 Ceased w tt
 
 -- a goal takes a step
 stepped_fits : (next : Visitor) → Pays next → (row : Local → Move) → ((w : Local) → MoveFits 1 (row w)) → (d s : ℕ) (run : Run) (steps : ℕ) → run.steps ≡ steps → Fits s run (stepped next row d run steps)
@@ -338,6 +378,7 @@ walk_fits P next pays (Commit l ∷ es) n d run s le r =
     let quiet = rest_quiet s (Commit l) es le r in
     let to : Run = record run { local = run.local } in
     at_most_one run (out next d (Mark l) (walk P next es n (suc d) to)) s le (out_fits next pays (Mark l) (mark_quiet l) d 0 run (walk P next es n (suc d) to) (walk_fits P next pays es n (suc d) to 0 (omega arith) quiet))
+walk_fits P next pays (Never l ∷ es) n d run s le r = still_fits s run (record run { local = run.local }) (CutTo l) tt (omega arith)
 walk_fits P next pays (Look t ∷ es) n d run zero le r = absurd r.0
 walk_fits P next pays (Look t ∷ es) n d run (suc zero) le r =
     asks_fits next pays (λ a. answered (Look t) a d es n) (λ a w. answered_fits (Look t) a d es n w r.1) View tt d run run.answers refl

@@ -171,3 +171,85 @@ not_callable : search (of (codes "once") (and (of (codes "write") (name (codes "
 }
 unfolding all
 not_callable = refl
+
+abbrev either : Tree → Tree → Tree
+either a b = pair (codes ";") a b
+
+abbrev if_then : Tree → Tree → Tree
+if_then c a = pair (codes "->") c a
+
+abbrev says : List ℕ → Tree
+says f = of (codes "write") (name f)
+
+abbrev cut : Tree
+cut = name (codes "!")
+
+abbrev fails : Tree
+fails = name (codes "fail")
+
+-- main :- p(X), write(X), call(!), fail ; write(e): the cut in call/1 is local
+abbrev cuts_locally : Tree
+cuts_locally = either (and (of (codes "p") (var 0)) (and (of (codes "write") (var 0)) (and (of (codes "call") cut) fails))) (says (codes "e"))
+
+writes_abe : search cuts_locally 1000 [] ≡ record { next = Finishes True; used = 18; out = codes "abe" }
+unfolding all
+writes_abe = refl
+
+-- main :- p(X), write(X), !, p(c): the cut gives up the other clauses of p
+abbrev cuts : Tree
+cuts = and (of (codes "p") (var 0)) (and (of (codes "write") (var 0)) (and cut (of (codes "p") (name (codes "c")))))
+
+cuts_choices : search cuts 1000 [] ≡ record { next = Finishes False; used = 9; out = codes "a" }
+unfolding all
+cuts_choices = refl
+
+-- main :- (!, fail -> true ; write(e)): a cut in a condition is local
+abbrev cuts_condition : Tree
+cuts_condition = either (if_then (and cut fails) (name (codes "true"))) (says (codes "e"))
+
+goes_on_with_else : search cuts_condition 1000 [] ≡ record { next = Finishes True; used = 7; out = codes "e" }
+unfolding all
+goes_on_with_else = refl
+
+-- main :- (p(X) -> write(X) ; write(n)), p(c): the condition is run once
+abbrev tests_once : Tree
+tests_once = and (either (if_then (of (codes "p") (var 0)) (of (codes "write") (var 0))) (says (codes "n"))) (of (codes "p") (name (codes "c")))
+
+has_one_solution : search tests_once 1000 [] ≡ record { next = Finishes False; used = 7; out = codes "a" }
+unfolding all
+has_one_solution = refl
+
+-- main :- fail -> true: the missing else is a goal fail
+without_else : search (if_then fails (name (codes "true"))) 1000 [] ≡ record { next = Finishes False; used = 5; out = [] }
+unfolding all
+without_else = refl
+
+-- main :- \+ p(c). main :- \+ p(a).
+is_not_provable : search (of (codes "\\+") (of (codes "p") (name (codes "c")))) 1000 [] ≡ record { next = Finishes True; used = 4; out = [] }
+unfolding all
+is_not_provable = refl
+
+is_provable : search (of (codes "\\+") (of (codes "p") (name (codes "a")))) 1000 [] ≡ record { next = Finishes False; used = 4; out = [] }
+unfolding all
+is_provable = refl
+
+-- main :- call(p, X), write(X).
+adds_an_argument : search (and (pair (codes "call") (name (codes "p")) (var 0)) (of (codes "write") (var 0))) 1000 [] ≡ record { next = Finishes True; used = 6; out = codes "a" }
+unfolding all
+adds_an_argument = refl
+
+-- main :- call((fail, 1), a): the argument is added first, so `,`/3 is called
+adds_first : (search (pair (codes "call") (and fails (int (pos 1))) (name (codes "a"))) 1000 []).next ≡ Wants View
+unfolding all
+adds_first = refl
+
+-- main :- call((fail, 1)).
+not_converted : (search (of (codes "call") (and fails (int (pos 1)))) 1000 []).next
+    ≡ Finishes (Exception (pair (codes "error") (pair (codes "type_error") (name (codes "callable")) (and fails (int (pos 1)))) (pair (codes "/") (name (codes "call")) (int (pos 1)))))
+unfolding all
+not_converted = refl
+
+-- main :- X = a, write(X).
+unifies : search (and (pair (codes "=") (var 0) (name (codes "a"))) (of (codes "write") (var 0))) 1000 [] ≡ record { next = Finishes True; used = 5; out = codes "a" }
+unfolding all
+unifies = refl

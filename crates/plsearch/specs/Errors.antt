@@ -22,6 +22,10 @@ procedure_error p = pair (codes "existence_error") (atom (codes "procedure")) (i
 abbrev pub static_error : Indicator → Tree
 static_error p = compound (codes "permission_error") (more (atom (codes "modify")) (more (atom (codes "static_procedure")) (more (indicator_term p) none)))
 
+-- a compound with more arguments than there may be
+abbrev pub arity_error : Tree
+arity_error = compound (codes "representation_error") (more (atom (codes "max_arity")) none)
+
 -- an error, and the indicator of the predicate that raised it
 abbrev pub error_term : Tree → Indicator → Tree
 error_term e p = pair (codes "error") e (indicator_term p)

@@ -1,12 +1,12 @@
 -- The table of control (ISO/IEC 13211-1 7.7, 7.8): one row for each form of goal, marker, answer and handler. No function here is recursive on goals.
-use Rattle.std.specs.Prelude.{ℕ, ◌+◌, Bool, true, false, ◌||◌, List, [], ◌∷◌, ◌++◌, map, filter_map, Option, Some, None, option_map, codes, bytes_eq, if◌then◌else◌}
-use Rattle.plterm.specs.Tree.{Tree, var, int, atom, compound, none, more}
+use Rattle.std.specs.Prelude.{ℕ, suc, ◌+◌, Bool, true, false, ◌&&◌, ◌||◌, nat_le, List, [], ◌∷◌, ◌++◌, length, map, filter_map, Option, Some, None, option_map, codes, bytes_eq, if◌then◌else◌}
+use Rattle.plterm.specs.Tree.{Tree, var, int, atom, compound, Trees, none, more, trees, list_of}
 use Rattle.plterm.specs.Variables.{copied}
 use Rattle.plsubst.specs.Subst.{bind, shift}
 use Rattle.plsubst.specs.Unify.{unify}
 use Rattle.plclause.specs.Indicators.{indicator}
 use Rattle.plwrite.specs.Writing.{written}
-use Rattle.plwrite.specs.declared.style.Style.TheVariants.{Plain}
+use Rattle.plwrite.specs.declared.style.Style.TheVariants.{Plain, Quoted}
 use Rattle.plevent.specs.Alive.{Stamped, exists, clauses_alive}
 use Rattle.plevent.specs.Search.{View, Ask, Answer, Seen, Got}
 use Rattle.plclause.specs.Clause.{Clause}
@@ -21,15 +21,23 @@ use Rattle.plclause.specs.declared.form.ClauseForm.{ClauseForm}
 use Rattle.plclause.specs.declared.form.ClauseForm.TheVariants.{NoHead, BadHead, BadBody, IsClause}
 use Rattle.plload.specs.Fixed.{is_fixed}
 use Rattle.plload.specs.Program.{Program, clauses_for}
-use Rattle.plsearch.specs.Types.{Result, Fail, Throw, Ceased, Element, Goal, Commit, Look, Await, Place, Choice, Handler, Local, Move, Give, Go, Meeting, Select, Asks, Marked, Return}
-use Rattle.plsearch.specs.Errors.{instantiation_error, callable_error, procedure_error, static_error, error_term}
+use Rattle.plsearch.specs.Types.{Result, Fail, CutTo, Throw, Ceased, Element, Goal, Commit, Never, Look, Await, Place, Case, Choice, Mark, Handler, Local, Move, Give, Go, Meeting, Select, Asks, End, Marked, Return}
+use Rattle.plsearch.specs.Errors.{instantiation_error, callable_error, procedure_error, static_error, arity_error, error_term}
 
 -- a goal as the table reads it
 pub data Control : Type 0 where
   True : Control
+  False : Control
   Both : Tree → Tree → Control
+  Either : Tree → Tree → Control
+  Then : Tree → Tree → Tree → Control
+  Not : Tree → Control
   Once : Tree → Control
+  CallWith : Tree → List Tree → Control
+  Cut : Control
+  Unify : Tree → Tree → Control
   Write : Tree → Control
+  WriteQuoted : Tree → Control
   Newline : Control
   AddLast : Tree → Control
   Call : Indicator → Control
@@ -38,22 +46,50 @@ pub data Control : Type 0 where
 abbrev pub nullary : List ℕ → Control
 nullary f =
     if bytes_eq f (codes "true") then True else
+    if bytes_eq f (codes "fail") then False else
+    if bytes_eq f (codes "false") then False else
+    if bytes_eq f (codes "!") then Cut else
     if bytes_eq f (codes "nl") then Newline else Call (record { name = f; arity = 0 })
 
 abbrev pub unary : List ℕ → Tree → Control
 unary f t =
     if bytes_eq f (codes "once") then Once t else
+    if bytes_eq f (codes "\\+") then Not t else
     if bytes_eq f (codes "write") then Write t else
+    if bytes_eq f (codes "writeq") then WriteQuoted t else
     if bytes_eq f (codes "assertz") then AddLast t else Call (record { name = f; arity = 1 })
 
+-- `C->T;E` is one construct; without an else E is fail
+abbrev pub either : Tree → Tree → Control
+either (compound f (more c (more t none))) e = if bytes_eq f (codes "->") then Then c t e else Either (compound f (more c (more t none))) e
+either (compound f ts) e = Either (compound f ts) e
+either (var x) e = Either (var x) e
+either (int i) e = Either (int i) e
+either (atom f) e = Either (atom f) e
+
 abbrev pub binary : List ℕ → Tree → Tree → Control
-binary f t u = if bytes_eq f (codes ",") then Both t u else Call (record { name = f; arity = 2 })
+binary f t u =
+    if bytes_eq f (codes ",") then Both t u else
+    if bytes_eq f (codes ";") then either t u else
+    if bytes_eq f (codes "->") then Then t u (atom (codes "fail")) else
+    if bytes_eq f (codes "=") then Unify t u else Call (record { name = f; arity = 2 })
+
+abbrev pub by_arity : List ℕ → Tree → List Tree → Control
+by_arity f t [] = unary f t
+by_arity f t (u ∷ []) = binary f t u
+by_arity f t us = Call (record { name = f; arity = suc (length us) })
+
+-- call/1 to call/8
+abbrev pub is_call : List ℕ → ℕ → Bool
+is_call f further = bytes_eq f (codes "call") && nat_le further 7
+
+abbrev pub control_of : List ℕ → Tree → List Tree → Control
+control_of f t us = if is_call f (length us) then CallWith t us else by_arity f t us
 
 abbrev pub control : Tree → Control
 control (atom f) = nullary f
-control (compound f (more t none)) = unary f t
-control (compound f (more t (more u none))) = binary f t u
-control (compound f ts) = Call (indicator (compound f ts))
+control (compound f none) = Call (record { name = f; arity = 0 })
+control (compound f (more t ts)) = control_of f t (list_of ts)
 control (var x) = NoGoal
 control (int i) = NoGoal
 
@@ -61,6 +97,7 @@ control (int i) = NoGoal
 abbrev pub bind_element : (ℕ → Tree) → Element → Element
 bind_element σ (Goal k t) = Goal k (bind σ t)
 bind_element σ (Commit l) = Commit l
+bind_element σ (Never l) = Never l
 bind_element σ (Look t) = Look (bind σ t)
 bind_element σ (Await q) = Await q
 
@@ -99,6 +136,7 @@ abbrev pub levels : List Element → List ℕ
 levels [] = []
 levels (Goal k t ∷ es) = levels es
 levels (Commit l ∷ es) = l ∷ levels es
+levels (Never l ∷ es) = l ∷ levels es
 levels (Look t ∷ es) = levels es
 levels (Await q ∷ es) = levels es
 
@@ -108,6 +146,13 @@ raised e p es w = Give (Throw (copied 0 (error_term e p)) (levels es)) w
 
 abbrev pub once_1 : Indicator
 once_1 = record { name = codes "once"; arity = 1 }
+
+abbrev pub not_1 : Indicator
+not_1 = record { name = codes "\\+"; arity = 1 }
+
+-- call/N of a goal and N - 1 further arguments
+abbrev pub call_with : ℕ → Indicator
+call_with further = record { name = codes "call"; arity = suc further }
 
 abbrev pub assertz_1 : Indicator
 assertz_1 = record { name = codes "assertz"; arity = 1 }
@@ -127,10 +172,39 @@ runnable (int i) = Raises (callable_error (int i))
 runnable (atom f) = runnable_if (converted (atom f)) (atom f)
 runnable (compound f ts) = runnable_if (converted (compound f ts)) (compound f ts)
 
--- a term is run as a goal at a cut level of its own, before a list; its errors are those of p
-abbrev pub run : Runnable → Indicator → ℕ → List Element → ℕ → Local → Move
-run (Runs b) p d rest n w = Go (Choice [] ∷ []) (record { goals = Goal d b ∷ rest; variables = n }) w
-run (Raises e) p d rest n w = raised e p rest w
+-- a name with arguments, of which there are at most 1,024
+abbrev pub compound_of : List ℕ → List Tree → Runnable
+compound_of f ts = if nat_le (length ts) 1024 then Runs (compound f (trees ts)) else Raises arity_error
+
+-- a callable term with further arguments behind its own
+abbrev pub with_arguments : Tree → List Tree → Runnable
+with_arguments (var x) us = Raises instantiation_error
+with_arguments (int i) us = Raises (callable_error (int i))
+with_arguments (atom f) us = compound_of f us
+with_arguments (compound f ts) us = compound_of f (list_of ts ++ us)
+
+abbrev pub then_run : Runnable → Runnable
+then_run (Runs t) = runnable t
+then_run (Raises e) = Raises e
+
+-- the goal of call/N: arguments are added first, and then the term is converted (8.15.4.1)
+abbrev pub called : Tree → List Tree → Runnable
+called g [] = runnable g
+called g (u ∷ us) = then_run (with_arguments g (u ∷ us))
+
+-- a term is run as a goal at the cut level k, in some cases, before a list; its errors are those of p
+abbrev pub run : Runnable → Indicator → List Case → ℕ → List Element → ℕ → Local → Move
+run (Runs b) p cs k rest n w = Go (Choice [] ∷ cs) (record { goals = Goal k b ∷ rest; variables = n }) w
+run (Raises e) p cs k rest n w = raised e p rest w
+
+-- the most general unifier is put into the list
+abbrev pub unified : Option (ℕ → Tree) → List Element → ℕ → Local → Move
+unified None rest n w = Give Fail w
+unified (Some σ) rest n w = Go [] (record { goals = bind_goals σ rest; variables = n }) w
+
+-- a choice of one list
+abbrev pub branch : List Element → ℕ → Case
+branch es n = Choice (record { goals = es; variables = n } ∷ [])
 
 abbrev pub some_of : List Clause → Bool
 some_of [] = false
@@ -156,12 +230,21 @@ abbrev pub user : List Clause → ℕ → Tree → List Element → ℕ → Loca
 user [] d t rest n w = Go [] (record { goals = Look t ∷ rest; variables = n }) w
 user (c ∷ cs) d t rest n w = call d n t rest (c ∷ cs) w
 
--- a goal that is selected, with its cut level k, at the depth d
+-- A goal that is selected, with its cut level k, at the depth d. The parts of a goal that is selected are converted, so the condition of
+-- `->` is run as it stands, at a cut level of its own.
 unfoldable pub row : Program → Control → ℕ → Tree → ℕ → List Element → ℕ → Local → Move
 row P True k t d rest n w = Go [] (record { goals = rest; variables = n }) w
+row P False k t d rest n w = Give Fail w
 row P (Both a b) k t d rest n w = Go [] (record { goals = Goal k a ∷ Goal k b ∷ rest; variables = n }) w
-row P (Once g) k t d rest n w = run (runnable g) once_1 d (Commit d ∷ rest) n w
+row P (Either a b) k t d rest n w = Go (branch (Goal k b ∷ rest) n ∷ []) (record { goals = Goal k a ∷ rest; variables = n }) w
+row P (Then c a e) k t d rest n w = Go (Choice [] ∷ branch (Goal k e ∷ rest) n ∷ []) (record { goals = Goal (suc d) c ∷ Commit d ∷ Goal k a ∷ rest; variables = n }) w
+row P (Not g) k t d rest n w = run (runnable g) not_1 (branch rest n ∷ []) (suc d) (Never d ∷ rest) n w
+row P (Once g) k t d rest n w = run (runnable g) once_1 [] d (Commit d ∷ rest) n w
+row P (CallWith g us) k t d rest n w = run (called g us) (call_with (length us)) [] d rest n w
+row P Cut k t d rest n w = Go (Mark k ∷ []) (record { goals = rest; variables = n }) w
+row P (Unify a b) k t d rest n w = unified (unify a b) rest n w
 row P (Write a) k t d rest n w = Go [] (record { goals = rest; variables = n }) (record { out = w.out ++ written P.settings.operators Plain a })
+row P (WriteQuoted a) k t d rest n w = Go [] (record { goals = rest; variables = n }) (record { out = w.out ++ written P.settings.operators Quoted a })
 row P Newline k t d rest n w = Go [] (record { goals = rest; variables = n }) (record { out = w.out ++ 10 ∷ [] })
 row P (AddLast c) k t d rest n w = add P (clausal c) rest n w
 row P (Call p) k t d rest n w = user (clauses_for P p) d t rest n w
@@ -175,6 +258,7 @@ select P k t d rest n w = row P (control t) k t d rest n w
 unfoldable pub meet : Element → List Element → Local → Meeting
 meet (Goal k t) rest w = Select k t
 meet (Commit l) rest w = Marked l w
+meet (Never l) rest w = End (CutTo l) w
 meet (Look t) rest w = Asks View
 meet (Await q) rest w = Asks (Ask q)
 
@@ -201,6 +285,7 @@ answered (Await q) (Got r) d rest n w = replied r rest n w
 answered (Await q) (Seen g us) d rest n w = Give Ceased w
 answered (Goal k t) a d rest n w = Give Ceased w
 answered (Commit l) a d rest n w = Give Ceased w
+answered (Never l) a d rest n w = Give Ceased w
 
 -- a handler, at the level d, and the result of its list
 unfoldable pub resume : Handler → ℕ → Result → Local → Return

@@ -15,11 +15,13 @@ pub data Result : Type 0 where
   Asking : Item → Result
   Ceased : Result
 
--- what a goal list holds: goals, each with its cut level; markers, each with the level of the case that put it; and what asks:
+-- what a goal list holds: goals, each with its cut level; markers, each with the level of the case that put it: Commit, behind which
+-- the choices down to it are given up, and Never, where they are given up and the list fails; and what asks:
 -- Look, which waits for the view in which a goal's clauses are looked up, and Await, which waits for the reply to a request
 pub data Element : Type 0 where
   Goal : ℕ → Tree → Element
   Commit : ℕ → Element
+  Never : ℕ → Element
   Look : Tree → Element
   Await : Request → Element
 

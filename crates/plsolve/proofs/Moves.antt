@@ -1,5 +1,5 @@
 -- What the solver's rows make of its machine.
-use Rattle.std.proofs.Common.{◌≡◌, ℕ, ◌+◌, List, [], ◌∷◌, ◌++◌, refl, sym, ap, ap₂, ◌∙◌, subst, OnErr, OnOk, IfOk, Ok, Err}
+use Rattle.std.proofs.Common.{◌≡◌, ℕ, ◌+◌, List, [], ◌∷◌, ◌++◌, refl, sym, ap, ap₂, ◌∙◌, subst, OnErr, OnOk, IfOk, Ok, Err, None}
 use Rattle.std.specs.Prelude.{Result as Outcomes}
 use Rattle.plterm.specs.Tree.{Tree}
 use Rattle.plterm.specs.Variables.{copied}
@@ -9,13 +9,19 @@ use Rattle.plevent.specs.Search.{Answer}
 use Rattle.plload.specs.Program.{Program, clauses_for}
 use Rattle.plsearch.specs.Types.{Throw, Element, Place, Case, Choice, Mark, Handle, Local, Move, Give, Go, Run}
 use Rattle.plsearch.specs.Errors.{error_term}
-use Rattle.plsearch.specs.Table.{raised, levels, call, choose}
-use Rattle.plsearch.specs.Engine.{choice, out, outs, Visit}
+use Rattle.plsubst.specs.Unify.{unify}
+use Rattle.plsearch.specs.Table.{raised, levels, call, choose, unified, branch, Runnable, run}
+use Rattle.plsearch.specs.Engine.{deeper, choice, out, outs, Visit}
 use Rattle.plsearch.specs.Machine.{At, Back, Machine, Rest, move}
 use Rattle.plsearch.specs.Search.{ending_of}
 use Rattle.plframe.specs.declared.frame.Source.{Source}
 use Rattle.plframe.specs.Places.{clauses_in, place_at}
-use Rattle.plframe.specs.State.{State, place_of, cases_of, goals_of, Extends, Opens, Calls, call_places}
+use Rattle.plframe.specs.State.{State, IsList, place_of, cases_of, goals_of, Extends, Opens, IsAround, around_cases, IsOpening, opening_cases, Unifies, Calls, call_places}
+use Rattle.plframe.specs.declared.frame.Around.{Around}
+use Rattle.plframe.specs.declared.frame.Around.TheVariants.{Nothing, Branch as InBranch}
+use Rattle.plframe.specs.declared.frame.Opening.{Opening}
+use Rattle.plframe.specs.declared.frame.Opening.TheVariants.{Barrier as OpenBarrier, Branch as OpenBranch, Run as OpenRun}
+use Rattle.plframe.proofs.Stacks.{Extends-trans}
 use Rattle.plsolve.specs.declared.progress.Outcome.{Outcome}
 use Rattle.plsolve.specs.declared.progress.Outcome.TheVariants as outcomes
 use Rattle.plsolve.specs.declared.progress.Mode.{Mode as Going}
@@ -183,17 +189,81 @@ uncalled P s new cell rest source cost none same used limit places at local =
     subst (λ ps. Moved P s new (choose ps (local_of s)) cost) (sym none)
     (gives P s new outcomes.Fail (local_of s) cost used limit places at (ap (cases_of (clauses_for P)) same) local)
 
--- a new list is visited in one more case
-pub opens-visit : (P : Program) (s : Progress) (st st' : State) (list : ℕ) (gs : List Element) (case : Case) (new : Progress) → Extends s.stack st → Opens st st' (λ statics. case) → st.heap.count ≡ s.stack.heap.count → goals_of st list ≡ gs →
-    new.used ≡ s.used + 1 → new.limit ≡ s.limit → new.places.items ≡ s.places.items → new.mode ≡ modes.Visit → new.stack ≡ record st' { goals = list } → new.out.items ≡ s.out.items →
-    Moved P s new (Go (case ∷ []) (record { goals = gs; variables = s.stack.heap.count }) (local_of s)) 1
+-- a list is visited in more cases
+pub enters : (P : Program) (s : Progress) (st : State) (more : List Case) (list : ℕ) (new : Progress) → Opens s.stack st more → new ≡ record s { stack = record st { goals = list }; mode = modes.Visit; used = s.used + 1 } →
+    Moved P s new (Go more (record { goals = goals_of s.stack list; variables = s.stack.heap.count }) (local_of s)) 1
 unfolding cases_of
-opens-visit P s st st' list gs case new e o count goals used limit places at is wrote =
-    goes-to P s new (case ∷ []) (record { goals = gs; variables = s.stack.heap.count }) (local_of s) 1 used limit places at
-    (ap place_of is ∙ ap₂ (λ h ls. place_at h ls list) o.heap o.links ∙ ap₂ (λ gs n. record { goals = gs; variables = n }) goals count)
-    (ap (cases_of (clauses_for P)) is ∙ o.cases (clauses_for P) ∙ ap (λ cs. case ∷ cs) (e.cases (clauses_for P)))
-    (ap (λ o. record { out = o }) wrote)
+enters P s st more list new o is =
+    goes-to P s new more (record { goals = goals_of s.stack list; variables = s.stack.heap.count }) (local_of s) 1 (ap (λ x. x.used) is) (ap (λ x. x.limit) is) (ap (λ x. x.places.items) is) (ap (λ x. x.mode) is)
+    (ap (λ x. place_of x.stack) is ∙ ap₂ (λ h ls. place_at h ls list) o.heap o.links)
+    (ap (λ x. cases_of (clauses_for P) x.stack) is ∙ o.cases (clauses_for P))
+    (ap (λ x. local_of x) is)
+
+-- lists and cells were added, but no variables
+pub record Grown (s t : State) : Type 0 where
+  pub extends : Extends s t
+  pub count : t.heap.count ≡ s.heap.count
+
+pub grown-trans : (a b c : State) → Grown a b → Grown b c → Grown a c
+grown-trans a b c f g = record { extends = Extends-trans a b c f.extends g.extends; count = g.count ∙ f.count }
+
+pub grown-link : (a b : State) → Extends a b → b.heap ≡ a.heap → Grown a b
+grown-link a b e h = record { extends = e; count = ap (λ h. h.count) h }
+
+pub grown-stays : (P : Program) (s t : Progress) → Grown s.stack t.stack → t ≡ record s { stack = t.stack } → Stays P s t
+grown-stays P s t g is = subst (Stays P s) (sym is) (extended P s t.stack g.extends g.count)
+
+-- the goals of a list, and the cases that it runs in
+pub grown-goals : (s t : State) → Grown s t → (i : ℕ) → IsList s i → goals_of t i ≡ goals_of s i
+grown-goals s t g i l = (g.extends.lists i l).1
+
+pub grown-list : (s t : State) → Grown s t → (i : ℕ) → IsList s i → IsList t i
+grown-list s t g i l = (g.extends.lists i l).0
+
+pub grown-depth : (P : Program) (s t : Progress) → Grown s.stack t.stack → depth_of P t ≡ depth_of P s
+grown-depth P s t g = ap (λ cs. deeper cs 0) (g.extends.cases (clauses_for P))
+
+-- a move that is made where lists and cells were added
+pub moved-grown : (P : Program) (s t new : Progress) (m m' : Move) (cost : ℕ) → Grown s.stack t.stack → t ≡ record s { stack = t.stack } → m ≡ m' → Moved P t new m cost → Moved P s new m' cost
+moved-grown P s t new m m' cost g is same moved = subst (λ x. Moved P s new x cost) same (moved-from P s t new m cost (grown-stays P s t g is) moved)
 
 pub if_ok_map : {A E : Type 0} (P Q : A → Type 0) (r : Outcomes A E) → ((a : A) → P a → Q a) → IfOk r P → IfOk r Q
 if_ok_map P Q (Ok a) f k = f a k
 if_ok_map P Q (Err e) f k = tt
+
+-- a unifier was put in
+pub unifies : (P : Program) (s : Progress) (st : State) (a b list : ℕ) (new : Progress) → Unifies s.stack st a b → IsList s.stack list → new ≡ record s { stack = record st { goals = list }; mode = modes.Visit; used = s.used + 1 } →
+    Moved P s new (unified (unify (term s.stack.heap a) (term s.stack.heap b)) (goals_of s.stack list) s.stack.heap.count (local_of s)) 1
+unfolding cases_of
+unifies P s st a b list new u l is =
+    subst (λ σ. Moved P s new (unified σ (goals_of s.stack list) s.stack.heap.count (local_of s)) 1) (sym u.is)
+    (goes-to P s new [] _ (local_of s) 1 (ap (λ x. x.used) is) (ap (λ x. x.limit) is) (ap (λ x. x.places.items) is) (ap (λ x. x.mode) is)
+    (ap (λ x. place_of x.stack) is ∙ ap₂ (λ gs n. record { goals = gs; variables = n }) (u.lists list l).1 u.count)
+    (ap (λ x. cases_of (clauses_for P) x.stack) is ∙ u.cases (clauses_for P))
+    (ap (λ x. local_of x) is))
+
+pub ununified : (P : Program) (s : Progress) (st : State) (a b list : ℕ) (new : Progress) → (unify (term s.stack.heap a) (term s.stack.heap b) ≡ None) × (st ≡ s.stack) → new ≡ record s { stack = st; mode = modes.Back outcomes.Fail; used = s.used + 1 } →
+    Moved P s new (unified (unify (term s.stack.heap a) (term s.stack.heap b)) (goals_of s.stack list) s.stack.heap.count (local_of s)) 1
+ununified P s st a b list new none is =
+    subst (λ σ. Moved P s new (unified σ (goals_of s.stack list) s.stack.heap.count (local_of s)) 1) (sym none.0)
+    (gives P s new outcomes.Fail (local_of s) 1 (ap (λ x. x.used) is) (ap (λ x. x.limit) is) (ap (λ x. x.places.items) is) (ap (λ x. x.mode) is)
+    (ap (λ x. cases_of (clauses_for P) x.stack) is ∙ ap (cases_of (clauses_for P)) none.1)
+    (ap (λ x. local_of x) is))
+
+-- the cases that are opened, where lists and cells were added
+pub around-grown : (s t : State) (around : Around) → Grown s t → IsAround s around → (around_cases t around ≡ around_cases s around) × IsAround t around
+around-grown s t Nothing g is = (refl, tt)
+around-grown s t (InBranch i) g is = (ap₂ (λ gs n. branch gs n ∷ []) (grown-goals s t g i is) g.count, grown-list s t g i is)
+
+pub opening-grown : (s t : State) (opening : Opening) → Grown s t → IsOpening s opening → (opening_cases t opening ≡ opening_cases s opening) × IsOpening t opening
+opening-grown s t (OpenBarrier l) g is = (refl, tt)
+opening-grown s t (OpenBranch i) g is = (ap₂ (λ gs n. branch gs n ∷ []) (grown-goals s t g i is) g.count, grown-list s t g i is)
+opening-grown s t (OpenRun around) g is = let a = around-grown s t around g is in (ap (λ cs. Choice [] ∷ cs) a.0, a.1)
+
+-- the same move, by its parts
+pub go-same : (cs cs' : List Case) (gs gs' : List Element) (n n' : ℕ) (w : Local) → cs ≡ cs' → gs ≡ gs' → n ≡ n' → ◌≡◌ {A = Move} (Go cs (record { goals = gs; variables = n }) w) (Go cs' (record { goals = gs'; variables = n' }) w)
+go-same cs cs' gs gs' n n' w a b c = ap (λ cs. Go cs (record { goals = gs; variables = n }) w) a ∙ ap₂ (λ gs n. Go cs' (record { goals = gs; variables = n }) w) b c
+
+pub run-same : (p : Indicator) (r r' : Runnable) (cs cs' : List Case) (k k' : ℕ) (es es' : List Element) (n n' : ℕ) (w w' : Local) → r ≡ r' → cs ≡ cs' → k ≡ k' → es ≡ es' → n ≡ n' → w ≡ w' → run r p cs k es n w ≡ run r' p cs' k' es' n' w'
+run-same p r r' cs cs' k k' es es' n n' w w' a b c d e f =
+    ap₂ (λ r cs. run r p cs k es n w) a b ∙ ap₂ (λ k es. run r' p cs' k es n w) c d ∙ ap₂ (λ n w. run r' p cs' k' es' n w) e f

@@ -3,7 +3,7 @@ use Rattle.std.proofs.Common.{◌≡◌, ℕ, zero, suc, Bool, true, false, List
 use Rattle.plheap.specs.Store.{term}
 use Rattle.plevent.specs.Search.{Answer}
 use Rattle.plload.specs.Program.{Program, clauses_for}
-use Rattle.plsearch.specs.Types.{Result, Spent, Element, Goal, Commit, Place, Case, Choice, Mark, Local, Move, Run}
+use Rattle.plsearch.specs.Types.{Result, Spent, Element, Goal, Commit, Never, Place, Case, Choice, Mark, Local, Move, Run}
 use Rattle.plsearch.specs.Table.{select, meet}
 use Rattle.plsearch.specs.Engine.{deeper, mark, stop_cut_if}
 use Rattle.plsearch.specs.Machine.{At, Back, Machine, turn, step}
@@ -14,7 +14,7 @@ use Rattle.plsolve.specs.declared.progress.Outcome.TheVariants as outcomes
 use Rattle.plsolve.specs.declared.progress.Mode.{Mode as Going}
 use Rattle.plsolve.specs.declared.progress.Mode.TheVariants as modes
 use Rattle.plsolve.specs.declared.progress.Progress.{Progress}
-use Rattle.plsolve.specs.Heads.{AtGoal, AtCommit}
+use Rattle.plsolve.specs.Heads.{AtGoal, AtCommit, AtNever}
 use Rattle.plsolve.specs.Solver.{result_of, mode_of, local_of, depth_of, machine, Quiet, Stays, IsOver, marked, marked_result, cut_stopped, stopped_result, fail_if}
 
 at_place : (P : Program) (s : Progress) (p : Place) → s.mode ≡ modes.Visit → place_of s.stack ≡ p → (left : ℕ) (answers : List Answer) →
@@ -64,7 +64,7 @@ quiet-spent P s level cell rest at goal all = record {
   goes = λ r is no. not_back s r at is;
 }
 
-pub quiet-commit : (P : Program) (s : Progress) (st : State) (level rest : ℕ) → s.mode ≡ modes.Visit → AtCommit s.stack level rest → Opens s.stack st (λ statics. Mark level) → Quiet P s (record s { stack = record st { goals = rest } })
+pub quiet-commit : (P : Program) (s : Progress) (st : State) (level rest : ℕ) → s.mode ≡ modes.Visit → AtCommit s.stack level rest → Opens s.stack st (Mark level ∷ []) → Quiet P s (record s { stack = record st { goals = rest } })
 unfolding turn meet cases_of
 quiet-commit P s st level rest at commit o = record {
   used = refl;
@@ -75,6 +75,18 @@ quiet-commit P s st level rest at commit o = record {
       at_place P (record s { stack = record st { goals = rest } }) (record { goals = gs; variables = s.stack.heap.count }) at (ap₂ (λ h ls. place_at h ls rest) o.heap o.links) left answers
       ∙ ap (λ cs. record { mode = At (record { goals = gs; variables = s.stack.heap.count }); cases = cs; run = record { steps = left; answers = answers; local = local_of s } }) (o.cases (clauses_for P))
       ∙ sym (ap (turn P) (at_place P s (record { goals = Commit level ∷ gs; variables = s.stack.heap.count }) at (ap (λ xs. record { goals = map (element s.stack.heap) xs; variables = s.stack.heap.count }) commit.items) left answers));
+  goes = λ r is no. not_back s r at is;
+}
+
+pub quiet-never : (P : Program) (s : Progress) (level rest : ℕ) → s.mode ≡ modes.Visit → AtNever s.stack level rest → Quiet P s (record s { mode = modes.Back (outcomes.CutTo level) })
+unfolding turn meet machine
+quiet-never P s level rest at never = record {
+  used = refl;
+  limit = refl;
+  places = refl;
+  turned = λ left answers few.
+      let gs : List Element = goals_of s.stack rest in
+      sym (ap (turn P) (at_place P s (record { goals = Never level ∷ gs; variables = s.stack.heap.count }) at (ap (λ xs. record { goals = map (element s.stack.heap) xs; variables = s.stack.heap.count }) never.items) left answers));
   goes = λ r is no. not_back s r at is;
 }
 
@@ -186,3 +198,6 @@ stays-back P s st r at same = record {
 
 pub not_both : {A B : Type 0} (b : Bool) → (IsTrue b ↔ (A × B)) → b ≡ false → A → B → ⊥
 not_both b iff is x y = grind (arith, is, iff.1 (x, y))
+
+pub both_are : {A B : Type 0} (b : Bool) → (IsTrue b ↔ (A × B)) → b ≡ true → A × B
+both_are b iff is = grind (arith, is, iff.0)

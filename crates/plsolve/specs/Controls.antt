@@ -1,15 +1,28 @@
 -- What a goal is, by the cells of its arguments.
-use Rattle.std.specs.Prelude.{◌<◌, length}
-use Rattle.plheap.specs.Store.{Store, term}
-use Rattle.plsearch.specs.Table.{Control, True, Both, Once, Write, Newline, AddLast, Call, NoGoal}
+use Rattle.std.specs.Prelude.{suc, ◌<◌, ◌≤◌, ◌==◌, ◌&&◌, Bool, false, bytes_eq, length, codes}
+use Rattle.plterm.specs.Tree.{atom}
+use Rattle.plheap.specs.declared.cell.Cell.{Cell}
+use Rattle.plheap.specs.declared.cell.Cell.TheVariants as cells
+use Rattle.plheap.specs.Store.{Store, term, terms}
+use Rattle.plsearch.specs.Table.{Control, True, False, Both, Either, Then, Not, Once, CallWith, Cut, Unify, Write, WriteQuoted, Newline, AddLast, Call, NoGoal}
+use Rattle.plframe.specs.Extended.{IsRun}
 use Rattle.plsolve.specs.declared.control.Control.{Control as Found}
 use Rattle.plsolve.specs.declared.control.Control.TheVariants as found
 
 abbrev pub shown_control : Store → Found → Control
 shown_control h found.True = True
+shown_control h found.False = False
 shown_control h (found.Both a b) = Both (term h a) (term h b)
+shown_control h (found.Either a b) = Either (term h a) (term h b)
+shown_control h (found.Then c a) = Then (term h c) (term h a) (atom (codes "fail"))
+shown_control h (found.ThenElse c a b) = Then (term h c) (term h a) (term h b)
+shown_control h (found.Not a) = Not (term h a)
 shown_control h (found.Once a) = Once (term h a)
+shown_control h (found.CallWith a n) = CallWith (term h a) (terms h (suc a) n)
+shown_control h found.Cut = Cut
+shown_control h (found.Unify a b) = Unify (term h a) (term h b)
 shown_control h (found.Write a) = Write (term h a)
+shown_control h (found.WriteQuoted a) = WriteQuoted (term h a)
 shown_control h found.Newline = Newline
 shown_control h (found.AddLast a) = AddLast (term h a)
 shown_control h (found.Call p) = Call p
@@ -18,10 +31,28 @@ shown_control h found.NoGoal = NoGoal
 -- the cells are there
 abbrev pub IsInside : Store → Found → Type 0
 IsInside h found.True = Unit {0}
+IsInside h found.False = Unit {0}
 IsInside h (found.Both a b) = (a < length h.cells) × (b < length h.cells)
+IsInside h (found.Either a b) = (a < length h.cells) × (b < length h.cells)
+IsInside h (found.Then c a) = (c < length h.cells) × (a < length h.cells)
+IsInside h (found.ThenElse c a b) = (c < length h.cells) × (a < length h.cells) × (b < length h.cells)
+IsInside h (found.Not a) = a < length h.cells
 IsInside h (found.Once a) = a < length h.cells
+IsInside h (found.CallWith a n) = (a < length h.cells) × IsRun h (record { first = suc a; count = n }) × (n ≤ 1024)
+IsInside h found.Cut = Unit {0}
+IsInside h (found.Unify a b) = (a < length h.cells) × (b < length h.cells)
 IsInside h (found.Write a) = a < length h.cells
+IsInside h (found.WriteQuoted a) = a < length h.cells
 IsInside h found.Newline = Unit {0}
 IsInside h (found.AddLast a) = a < length h.cells
 IsInside h (found.Call p) = Unit {0}
 IsInside h found.NoGoal = Unit {0}
+
+-- a structure of `->`/2
+abbrev pub is_then : Cell → Bool
+is_then (cells.Free n) = false
+is_then (cells.Bound j n) = false
+is_then (cells.Ref j) = false
+is_then (cells.Int i) = false
+is_then (cells.Atom f) = false
+is_then (cells.Struct f k) = (k == 2) && bytes_eq f (codes "->")

@@ -1,4 +1,5 @@
 pub mod Heads
 pub mod Controls
+pub mod Predicates
 pub mod Solver
 pub mod Says

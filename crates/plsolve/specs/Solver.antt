@@ -4,7 +4,7 @@ use Rattle.plterm.specs.Tree.{Tree, var, int, atom, compound}
 use Rattle.plterm.specs.Variables.{copied, variables}
 use Rattle.plclause.specs.Clause.{Clause}
 use Rattle.plheap.specs.Store.{term}
-use Rattle.plsearch.specs.Table.{Runnable, Runs, Raises, runnable}
+use Rattle.plsearch.specs.Table.{Runnable, Runs, Raises}
 use Rattle.plsearch.specs.Types.{Goal as GoalOf}
 use Rattle.plevent.specs.Search.{Answer, Ending, Search}
 use Rattle.plload.specs.Program.{Program, clauses_for}
@@ -94,9 +94,9 @@ abbrev pub ReadyWithin : Progress → Ready → Type 0
 ReadyWithin s (readies.Runs c) = c < length s.stack.heap.cells
 ReadyWithin s (readies.Raises e) = Unit {0}
 
-pub record Readies (old new : Progress) (goal : ℕ) (r : Ready) : Type 0 where
-  pub is : runnable (term old.stack.heap goal) ≡ ready_as new r
-  pub within : ReadyWithin new r
+pub record Readies (s : Progress) (runs : Runnable) (r : Ready) : Type 0 where
+  pub is : runs ≡ ready_as s r
+  pub within : ReadyWithin s r
 
 -- a turn without a step
 pub record Quiet (P : Program) (old new : Progress) : Type 0 where

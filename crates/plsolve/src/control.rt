@@ -1,9 +1,9 @@
 //! What a goal is (ISO/IEC 13211-1 7.8).
 
-ghost use Rattle.std.specs.Prelude.{◌≡◌, ◌<◌, ℕ, length, IfOk};
+ghost use Rattle.std.specs.Prelude.{◌≡◌, ◌+◌, ◌<◌, ◌≤◌, ℕ, length, IfOk};
 ghost use Rattle.plheap.specs.Store.{Store, term};
-ghost use Rattle.plsearch.specs.Table.{control as control_of, nullary as nullary_of, unary as unary_of, binary as binary_of, Call};
-ghost use Rattle.plsolve.specs.Controls.{shown_control, IsInside};
+ghost use Rattle.plsearch.specs.Table.{control as control_of, nullary as nullary_of, unary as unary_of, binary as binary_of, either as either_of, is_call, Call};
+ghost use Rattle.plsolve.specs.Controls.{shown_control, IsInside, is_then};
 
 use plheap::cell::Cell;
 use plheap::heap::Heap;
@@ -15,10 +15,25 @@ use std::alloc::AllocError;
 #[derive(Drop)]
 pub enum Control {
     True,
+    /// fail/0 and false/0.
+    False,
     /// A conjunction.
     Both(u32, u32),
+    /// A disjunction.
+    Either(u32, u32),
+    /// A condition and what follows it; nothing else.
+    Then(u32, u32),
+    /// A condition, what follows it, and what is done where it fails.
+    ThenElse(u32, u32, u32),
+    /// Not provable.
+    Not(u32),
     Once(u32),
+    /// call/N: the goal, and how many cells behind it are its further arguments.
+    CallWith(u32, u16),
+    Cut,
+    Unify(u32, u32),
     Write(u32),
+    WriteQuoted(u32),
     Newline,
     /// assertz/1 of a term.
     AddLast(u32),
@@ -38,11 +53,16 @@ pub fn read_control(heap: &Heap, cell: u32) -> Result<Control, AllocError>
     match node {
         Cell::Atom(name) => nullary(heap, name),
         Cell::Struct(name, arity) => {
-            if *arity == 1 {
-                return unary(heap, name, root - 1);
+            let first = root - u32::from(*arity);
+            let further = *arity - 1;
+            if adds_arguments(name, further) {
+                return Ok(Control::CallWith(first, further));
             }
-            if *arity == 2 {
-                return binary(heap, name, root - 2, root - 1);
+            if further == 0 {
+                return unary(heap, name, first);
+            }
+            if further == 1 {
+                return binary(heap, name, first, first + 1);
             }
             let name = name.copied()?;
             Ok(Control::Call(Indicator {
@@ -54,12 +74,28 @@ pub fn read_control(heap: &Heap, cell: u32) -> Result<Control, AllocError>
     }
 }
 
+/// Whether a name with a first argument and so many further ones is call/1 to call/8.
+fn adds_arguments(name: &Name, further: u16) -> bool
+    ensures { result ≡ is_call name.now further }
+{
+    name.as_str() == "call" && further <= 7
+}
+
 fn nullary(heap: &Heap, name: &Name) -> Result<Control, AllocError>
     ensures is { IfOk result (λ c. shown_control heap.now c ≡ nullary_of name.now) }
     ensures inside { IfOk result (λ c. IsInside heap.now c) }
 {
     if name.as_str() == "true" {
         return Ok(Control::True);
+    }
+    if name.as_str() == "fail" {
+        return Ok(Control::False);
+    }
+    if name.as_str() == "false" {
+        return Ok(Control::False);
+    }
+    if name.as_str() == "!" {
+        return Ok(Control::Cut);
     }
     if name.as_str() == "nl" {
         return Ok(Control::Newline);
@@ -76,8 +112,14 @@ fn unary(heap: &Heap, name: &Name, a: u32) -> Result<Control, AllocError>
     if name.as_str() == "once" {
         return Ok(Control::Once(a));
     }
+    if name.as_str() == "\\+" {
+        return Ok(Control::Not(a));
+    }
     if name.as_str() == "write" {
         return Ok(Control::Write(a));
+    }
+    if name.as_str() == "writeq" {
+        return Ok(Control::WriteQuoted(a));
     }
     if name.as_str() == "assertz" {
         return Ok(Control::AddLast(a));
@@ -95,6 +137,39 @@ fn binary(heap: &Heap, name: &Name, a: u32, b: u32) -> Result<Control, AllocErro
     if name.as_str() == "," {
         return Ok(Control::Both(a, b));
     }
+    if name.as_str() == ";" {
+        return Ok(either(heap, a, b));
+    }
+    if name.as_str() == "->" {
+        return Ok(Control::Then(a, b));
+    }
+    if name.as_str() == "=" {
+        return Ok(Control::Unify(a, b));
+    }
     let name = name.copied()?;
     Ok(Control::Call(Indicator { name, arity: 2 }))
+}
+
+/// `;`/2: with `->`/2 on its left side the two are one construct.
+fn either(heap: &Heap, a: u32, b: u32) -> Control
+    requires first { a < length heap.now.cells }
+    requires second { b < length heap.now.cells }
+    ensures is { shown_control heap.now result ≡ either_of (term heap.now a) (term heap.now b) }
+    ensures inside { IsInside heap.now result }
+{
+    let (root, node) = heap.root(a);
+    if is_then(node) {
+        return Control::ThenElse(root - 2, root - 1, b);
+    }
+    Control::Either(a, b)
+}
+
+/// Whether a cell is a structure of `->`/2.
+fn is_then(cell: &Cell) -> bool
+    ensures { result ≡ is_then cell.now }
+{
+    match cell {
+        Cell::Struct(name, arity) => *arity == 2 && name.as_str() == "->",
+        Cell::Free(_) | Cell::Bound(_, _) | Cell::Ref(_) | Cell::Int(_) | Cell::Atom(_) => false,
+    }
 }

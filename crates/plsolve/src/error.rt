@@ -3,7 +3,7 @@
 ghost use Rattle.std.specs.Prelude.{◌≡◌, IfOk, codes, pos};
 ghost use Rattle.plterm.specs.Tree.{atom, int, compound, none, more};
 ghost use Rattle.plterm.specs.Variables.{copied};
-ghost use Rattle.plsearch.specs.Errors.{pair as pair_of, indicator_term as term_of, instantiation_error, callable_error, procedure_error, static_error, error_term};
+ghost use Rattle.plsearch.specs.Errors.{pair as pair_of, indicator_term as term_of, instantiation_error, callable_error, procedure_error, static_error, arity_error, error_term};
 
 use plterm::indicator::Indicator;
 use plterm::name::Name;
@@ -78,6 +78,14 @@ pub fn not_callable(alloc: Global, culprit: Term) -> Result<Term, AllocError>
     pair(alloc, "type_error", kind, culprit)
 }
 
+/// A compound would have more than 1,024 arguments.
+pub fn too_long(alloc: Global) -> Result<Term, AllocError>
+    ensures { IfOk result (λ t. t ≡ arity_error) }
+{
+    let limit = atom(alloc, "max_arity")?;
+    alone(alloc, "representation_error", limit)
+}
+
 /// A procedure does not exist.
 pub fn no_procedure(alloc: Global, p: &Indicator) -> Result<Term, AllocError>
     ensures { IfOk result (λ t. t ≡ procedure_error p.now) }
@@ -109,12 +117,4 @@ pub fn ball(alloc: Global, error: Term, p: &Indicator) -> Result<Term, AllocErro
     let context = indicator_term(alloc, p)?;
     let term = pair(alloc, "error", error, context)?;
     term.copy(alloc, 0)
-}
-
-/// The indicator of a predicate of one argument.
-pub fn predicate(alloc: Global, name: &str) -> Result<Indicator, AllocError>
-    ensures { IfOk result (λ p. p ≡ record { name = name.now; arity = 1 }) }
-{
-    let name = Name::new(alloc, name)?;
-    Ok(Indicator { name, arity: 1 })
 }

@@ -14,6 +14,8 @@ pub enum Head {
     Goal(u32, u32, u32),
     /// A mark of a level.
     Commit(u32, u32),
+    /// Here the choices down to a level are given up, and the list fails.
+    Never(u32, u32),
     /// The goal of a cell waits for a view.
     Look(u32, u32),
     /// A clause waits until it is published.
@@ -30,6 +32,7 @@ pub fn head_of(stack: &Stack) -> Head
     match &link.item {
         Item::Goal(level, cell) => Head::Goal(*level, *cell, link.next),
         Item::Commit(level) => Head::Commit(*level, link.next),
+        Item::Never(level) => Head::Never(*level, link.next),
         Item::Look(cell) => Head::Look(*cell, link.next),
         Item::Await(_) => Head::Await(link.next),
     }

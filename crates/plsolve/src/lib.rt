@@ -4,6 +4,7 @@
 mod control;
 mod error;
 mod head;
+mod predicate;
 mod progress;
 mod rows;
 pub mod solver;

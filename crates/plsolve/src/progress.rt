@@ -14,7 +14,7 @@ ghost use Rattle.plsearch.specs.Table.{walk_over};
 ghost use Rattle.plsearch.specs.Search.{search_of, next_of};
 ghost use Rattle.plsearch.specs.Solving.{Begins, Goes, TakesOne};
 ghost use Rattle.plframe.specs.Places.{Statics};
-ghost use Rattle.plframe.specs.State.{cases_of, goals_of, HasCall, IsList};
+ghost use Rattle.plframe.specs.State.{cases_of, goals_of, HasCall, HasBranch, IsList};
 ghost use Rattle.plsolve.specs.Heads.{AtGoal};
 ghost use Rattle.plsolve.specs.Solver.{local_of, depth_of, Moved, Stays, rest_of, result_of, Quiet, Settled, WaitsForView, WaitsToPublish, IsOver, Stepped, marked, cut_stopped, empty, Starts, StartsGoal};
 ghost use Rattle.plsolve.specs.Says.{Says, IsSlice};
@@ -25,7 +25,7 @@ use crate::head::{Head, head_of};
 use crate::solver::Turn;
 use plevent::request::{Reply, Request, ThreadEnd};
 use plevent::update::{Batch, Update};
-use plframe::frame::{Closed, Item, Source};
+use plframe::frame::{Closed, Item, Opening, Source};
 use plframe::stack::Stack;
 use plheap::cell::Cell;
 use plheap::heap::Heap;
@@ -311,8 +311,12 @@ impl Progress {
                 Ok(Some(Due::Goal(level, cell, rest)))
             }
             Head::Commit(level, rest) => {
-                self.stack.open_barrier(level)?;
+                self.stack.open(Opening::Barrier(level))?;
                 self.stack.visit(rest);
+                Ok(None)
+            }
+            Head::Never(level, _) => {
+                self.mode = Mode::Back(Outcome::CutTo(level));
                 Ok(None)
             }
             Head::Look(cell, rest) => Ok(Some(Due::Look(cell, rest))),
@@ -329,6 +333,11 @@ impl Progress {
     {
         if self.retries() {
             return self.retry(program);
+        }
+        if self.branches() {
+            self.stack.take_branch();
+            self.mode = Mode::Visit;
+            return Ok(None);
         }
         match self.stack.close() {
             None => Ok(Some(Due::Over)),
@@ -374,6 +383,13 @@ impl Progress {
         ensures { IsTrue result ↔ ((self.now.mode ≡ Mode.Back Outcome.Fail) × HasCall self.now.stack) }
     {
         self.fails() && self.stack.is_call()
+    }
+
+    /// Whether the list of the innermost choice is to be tried.
+    fn branches(&self) -> bool
+        ensures { IsTrue result ↔ ((self.now.mode ≡ Mode.Back Outcome.Fail) × HasBranch self.now.stack) }
+    {
+        self.fails() && self.stack.is_branch()
     }
 
     /// Behind a mark Fail is a cut to its level.

@@ -1,26 +1,32 @@
 //! The rows of the table of control: what each form of goal makes of a solver (ISO/IEC 13211-1 7.8).
 //!
 //! A row that is refused memory leaves the search where it was.
-ghost use Rattle.std.specs.Prelude.{◌≡◌, ◌+◌, ◌<◌, ◌≤◌, ℕ, [], ◌∷◌, ◌++◌, length, IfOk, OnOk, OnErr};
-ghost use Rattle.plheap.specs.Store.{term};
+ghost use Rattle.std.specs.Prelude.{◌≡◌, ◌+◌, ◌<◌, ◌≤◌, ℕ, suc, [], ◌∷◌, ◌++◌, length, codes, IfOk, OnOk, OnErr};
+ghost use Rattle.plheap.specs.Store.{term, terms};
+ghost use Rattle.plterm.specs.Tree.{atom};
+ghost use Rattle.plsearch.specs.Errors.{callable_error};
 ghost use Rattle.plwrite.specs.Writing.{written};
-ghost use Rattle.plwrite.specs.declared.style.Style.TheVariants.{Plain};
 ghost use Rattle.plclause.specs.Clausal.{clausal};
 ghost use Rattle.plclause.specs.Indicators.{indicator};
 ghost use Rattle.plload.specs.Program.{clauses_for};
-ghost use Rattle.plsearch.specs.Types.{Goal, Commit, Go, Choice};
-ghost use Rattle.plsearch.specs.Table.{run, runnable, Runnable, once_1, assertz_1, raised, add, add_if, is_static, call, user, row};
+ghost use Rattle.plsubst.specs.Unify.{unify};
+ghost use Rattle.plsearch.specs.Types.{Goal, Commit, Never, Go, Choice, Mark};
+ghost use Rattle.plsearch.specs.Table.{run, runnable, Runnable, once_1, not_1, call_with, called, unified, branch, assertz_1, raised, add, add_if, is_static, call, user, row};
 ghost use Rattle.plframe.specs.Places.{clauses_in, element, IsItemIn};
-ghost use Rattle.plframe.specs.State.{goals_of, IsList, Extends};
+ghost use Rattle.plframe.specs.State.{goals_of, IsList, Extends, IsOpening, opening_cases, IsAround, around_cases};
+ghost use Rattle.plframe.specs.Extended.{IsRun, run_terms};
 ghost use Rattle.plsolve.specs.Controls.{shown_control, IsInside};
-ghost use Rattle.plsolve.specs.Solver.{local_of, depth_of, Moved, Stays, Readies, is_var};
+ghost use Rattle.plsolve.specs.Predicates.{predicate_of, IsFew};
+ghost use Rattle.plsolve.specs.Solver.{local_of, depth_of, Moved, Stays, Readies, ReadyWithin, ready_as, is_var};
 
 use crate::control::Control;
 use crate::error;
+use crate::predicate::Predicate;
 use crate::progress::{Mode, Outcome, Progress};
 use plclause::clause::Clause;
 use plclause::form::{ClauseForm, clause_of};
-use plframe::frame::{Item, Source};
+use plframe::extend::{Extended, Run};
+use plframe::frame::{Around, Item, Opening, Source};
 use plheap::cell::Cell;
 use plheap::heap::Heap;
 use plload::fixed::is_fixed;
@@ -121,6 +127,140 @@ impl Progress {
         Ok(())
     }
 
+    /// Opens cases, and visits a list in them.
+    fn enter(&mut self, program: &Program, list: u32, opening: Opening) -> Result<(), AllocError>
+        requires list { IsList self.old.stack list }
+        requires opening { IsOpening self.old.stack opening }
+        requires left { self.old.used + 1 ≤ self.old.limit }
+        ensures ok { OnOk result (Moved program.now self.old self.new (Go (opening_cases self.old.stack opening) (record { goals = goals_of self.old.stack list; variables = self.old.stack.heap.count }) (local_of self.old)) 1) }
+        ensures err { OnErr result (Stays program.now self.old self.new) }
+    {
+        self.stack.open(opening)?;
+        self.go_on(list, 1);
+        Ok(())
+    }
+
+    /// Opens cases, and visits a goal of a level and a cell before a list in them.
+    fn enter_goal(
+        &mut self,
+        program: &Program,
+        level: u32,
+        cell: u32,
+        rest: u32,
+        opening: Opening,
+    ) -> Result<(), AllocError>
+        requires cell { cell < length self.old.stack.heap.cells }
+        requires rest { IsList self.old.stack rest }
+        requires opening { IsOpening self.old.stack opening }
+        requires left { self.old.used + 1 ≤ self.old.limit }
+        ensures ok { OnOk result (Moved program.now self.old self.new (Go (opening_cases self.old.stack opening) (record { goals = Goal level (term self.old.stack.heap cell) ∷ goals_of self.old.stack rest; variables = self.old.stack.heap.count }) (local_of self.old)) 1) }
+        ensures err { OnErr result (Stays program.now self.old self.new) }
+    {
+        let list = self.stack.link(Item::Goal(level, cell), rest)?;
+        self.enter(program, list, opening)
+    }
+
+    /// A disjunction.
+    fn either(
+        &mut self,
+        program: &Program,
+        level: u32,
+        a: u32,
+        b: u32,
+        rest: u32,
+    ) -> Result<(), AllocError>
+        requires first { a < length self.old.stack.heap.cells }
+        requires second { b < length self.old.stack.heap.cells }
+        requires rest { IsList self.old.stack rest }
+        requires left { self.old.used + 1 ≤ self.old.limit }
+        ensures ok { OnOk result (Moved program.now self.old self.new (Go (branch (Goal level (term self.old.stack.heap b) ∷ goals_of self.old.stack rest) self.old.stack.heap.count ∷ []) (record { goals = Goal level (term self.old.stack.heap a) ∷ goals_of self.old.stack rest; variables = self.old.stack.heap.count }) (local_of self.old)) 1) }
+        ensures err { OnErr result (Stays program.now self.old self.new) }
+    {
+        let other = self.stack.link(Item::Goal(level, b), rest)?;
+        self.enter_goal(program, level, a, rest, Opening::Branch(other))
+    }
+
+    /// A condition, what follows it, and what is done where it fails.
+    fn then_else(
+        &mut self,
+        program: &Program,
+        level: u32,
+        goals: (u32, u32, u32),
+        rest: u32,
+    ) -> Result<(), AllocError>
+        requires condition { goals.0 < length self.old.stack.heap.cells }
+        requires then { goals.1 < length self.old.stack.heap.cells }
+        requires other { goals.2 < length self.old.stack.heap.cells }
+        requires rest { IsList self.old.stack rest }
+        requires left { self.old.used + 1 ≤ self.old.limit }
+        ensures ok { OnOk result (Moved program.now self.old self.new (Go (Choice [] ∷ branch (Goal level (term self.old.stack.heap goals.2) ∷ goals_of self.old.stack rest) self.old.stack.heap.count ∷ []) (record { goals = Goal (suc (depth_of program.now self.old)) (term self.old.stack.heap goals.0) ∷ Commit (depth_of program.now self.old) ∷ Goal level (term self.old.stack.heap goals.1) ∷ goals_of self.old.stack rest; variables = self.old.stack.heap.count }) (local_of self.old)) 1) }
+        ensures err { OnErr result (Stays program.now self.old self.new) }
+    {
+        let (condition, then, other) = goals;
+        let depth = self.stack.depth();
+        let Some(inner) = depth.checked_add(1) else {
+            return Err(AllocError);
+        };
+        let failing = self.stack.link(Item::Goal(level, other), rest)?;
+        let following = self.stack.link(Item::Goal(level, then), rest)?;
+        let behind = self.stack.link(Item::Commit(depth), following)?;
+        self.enter_goal(
+            program,
+            inner,
+            condition,
+            behind,
+            Opening::Run(Around::Branch(failing)),
+        )
+    }
+
+    /// A condition and what follows it, in place of which there is failure.
+    fn then(
+        &mut self,
+        program: &Program,
+        level: u32,
+        condition: u32,
+        then: u32,
+        rest: u32,
+    ) -> Result<(), AllocError>
+        requires condition { condition < length self.old.stack.heap.cells }
+        requires then { then < length self.old.stack.heap.cells }
+        requires rest { IsList self.old.stack rest }
+        requires left { self.old.used + 1 ≤ self.old.limit }
+        ensures ok { OnOk result (Moved program.now self.old self.new (Go (Choice [] ∷ branch (Goal level (atom (codes "fail")) ∷ goals_of self.old.stack rest) self.old.stack.heap.count ∷ []) (record { goals = Goal (suc (depth_of program.now self.old)) (term self.old.stack.heap condition) ∷ Commit (depth_of program.now self.old) ∷ Goal level (term self.old.stack.heap then) ∷ goals_of self.old.stack rest; variables = self.old.stack.heap.count }) (local_of self.old)) 1) }
+        ensures err { OnErr result (Stays program.now self.old self.new) }
+    {
+        let fail = error::atom(self.alloc, "fail")?;
+        let other = self.stack.put(&fail, 0)?;
+        self.then_else(program, level, (condition, then, other), rest)
+    }
+
+    /// A cut.
+    fn cut(&mut self, program: &Program, level: u32, rest: u32) -> Result<(), AllocError>
+        requires rest { IsList self.old.stack rest }
+        requires left { self.old.used + 1 ≤ self.old.limit }
+        ensures ok { OnOk result (Moved program.now self.old self.new (Go (Mark level ∷ []) (record { goals = goals_of self.old.stack rest; variables = self.old.stack.heap.count }) (local_of self.old)) 1) }
+        ensures err { OnErr result (Stays program.now self.old self.new) }
+    {
+        self.enter(program, rest, Opening::Barrier(level))
+    }
+
+    /// =/2.
+    fn unify(&mut self, program: &Program, a: u32, b: u32, rest: u32) -> Result<(), AllocError>
+        requires first { a < length self.old.stack.heap.cells }
+        requires second { b < length self.old.stack.heap.cells }
+        requires rest { IsList self.old.stack rest }
+        requires left { self.old.used + 1 ≤ self.old.limit }
+        ensures ok { OnOk result (Moved program.now self.old self.new (unified (unify (term self.old.stack.heap a) (term self.old.stack.heap b)) (goals_of self.old.stack rest) self.old.stack.heap.count (local_of self.old)) 1) }
+        ensures err { OnErr result (Stays program.now self.old self.new) }
+    {
+        if self.stack.unify(a, b)? {
+            self.go_on(rest, 1);
+            return Ok(());
+        }
+        self.give(Outcome::Fail, 1);
+        Ok(())
+    }
+
     /// Writes bytes, and goes on.
     fn write_bytes(&mut self, program: &Program, bytes: &[u8], rest: u32) -> Result<(), AllocError>
         requires rest { IsList self.old.stack rest }
@@ -133,16 +273,22 @@ impl Progress {
         Ok(())
     }
 
-    /// write/1.
-    fn write(&mut self, program: &Program, a: u32, rest: u32) -> Result<(), AllocError>
+    /// write/1 and writeq/1.
+    fn write(
+        &mut self,
+        program: &Program,
+        a: u32,
+        style: Style,
+        rest: u32,
+    ) -> Result<(), AllocError>
         requires a { a < length self.old.stack.heap.cells }
         requires rest { IsList self.old.stack rest }
         requires left { self.old.used + 1 ≤ self.old.limit }
-        ensures ok { OnOk result (Moved program.now self.old self.new (Go [] (record { goals = goals_of self.old.stack rest; variables = self.old.stack.heap.count }) (record { out = (local_of self.old).out ++ written program.now.settings.operators Plain (term self.old.stack.heap a) })) 1) }
+        ensures ok { OnOk result (Moved program.now self.old self.new (Go [] (record { goals = goals_of self.old.stack rest; variables = self.old.stack.heap.count }) (record { out = (local_of self.old).out ++ written program.now.settings.operators style (term self.old.stack.heap a) })) 1) }
         ensures err { OnErr result (Stays program.now self.old self.new) }
     {
         let term = self.stack.heap().take(self.alloc, a)?;
-        let text = write_term(self.alloc, &term, program.operators(), Style::Plain)?;
+        let text = write_term(self.alloc, &term, program.operators(), style)?;
         self.write_bytes(program, &text, rest)
     }
 
@@ -155,7 +301,7 @@ impl Progress {
         ensures err { OnErr result (Stays program.now self.old self.new) }
     {
         let term = self.stack.heap().take(self.alloc, c)?;
-        let p = error::predicate(self.alloc, "assertz")?;
+        let p = Predicate::AddLast.indicator(self.alloc)?;
         match clause_of(self.alloc, &term)? {
             ClauseForm::NoHead => {
                 let error = error::instantiation(self.alloc)?;
@@ -239,43 +385,116 @@ impl Progress {
         self.resolve(program, cell, rest, Source::Procedure(p), 1)
     }
 
+    /// A term is run as a goal at a cut level of its own, in other cases, before a list.
+    fn run(
+        &mut self,
+        program: &Program,
+        ready: Ready,
+        predicate: Predicate,
+        around: Around,
+        level: u32,
+        list: u32,
+    ) -> Result<(), AllocError>
+        requires ready { ReadyWithin self.old ready }
+        requires few { IsFew predicate }
+        requires around { IsAround self.old.stack around }
+        requires list { IsList self.old.stack list }
+        requires left { self.old.used + 1 ≤ self.old.limit }
+        ensures ok { OnOk result (Moved program.now self.old self.new (run (ready_as self.old ready) (predicate_of predicate) (around_cases self.old.stack around) level (goals_of self.old.stack list) self.old.stack.heap.count (local_of self.old)) 1) }
+        ensures err { OnErr result (Stays program.now self.old self.new) }
+    {
+        match ready {
+            Ready::Raises(error) => {
+                let p = predicate.indicator(self.alloc)?;
+                self.raise(program, error, &p, list, 1)
+            }
+            Ready::Runs(cell) => {
+                self.enter_goal(program, level, cell, list, Opening::Run(around))
+            }
+        }
+    }
+
     /// once/1.
     fn once(&mut self, program: &Program, goal: u32, rest: u32) -> Result<(), AllocError>
         requires goal { goal < length self.old.stack.heap.cells }
         requires rest { IsList self.old.stack rest }
         requires left { self.old.used + 1 ≤ self.old.limit }
-        ensures ok { OnOk result (Moved program.now self.old self.new (run (runnable (term self.old.stack.heap goal)) once_1 (depth_of program.now self.old) (Commit (depth_of program.now self.old) ∷ goals_of self.old.stack rest) self.old.stack.heap.count (local_of self.old)) 1) }
+        ensures ok { OnOk result (Moved program.now self.old self.new (run (runnable (term self.old.stack.heap goal)) once_1 [] (depth_of program.now self.old) (Commit (depth_of program.now self.old) ∷ goals_of self.old.stack rest) self.old.stack.heap.count (local_of self.old)) 1) }
         ensures err { OnErr result (Stays program.now self.old self.new) }
     {
-        match self.ready(goal)? {
-            Ready::Raises(error) => {
-                let p = error::predicate(self.alloc, "once")?;
-                self.raise(program, error, &p, rest, 1)
-            }
-            Ready::Runs(cell) => self.run_once(program, cell, rest),
-        }
+        let depth = self.stack.depth();
+        let behind = self.stack.link(Item::Commit(depth), rest)?;
+        let ready = self.ready(goal)?;
+        self.run(
+            program,
+            ready,
+            Predicate::Once,
+            Around::Nothing,
+            depth,
+            behind,
+        )
     }
 
-    /// Runs the goal of a cell once.
-    fn run_once(&mut self, program: &Program, cell: u32, rest: u32) -> Result<(), AllocError>
-        requires cell { cell < length self.old.stack.heap.cells }
+    /// `\+`/1.
+    fn not(&mut self, program: &Program, goal: u32, rest: u32) -> Result<(), AllocError>
+        requires goal { goal < length self.old.stack.heap.cells }
         requires rest { IsList self.old.stack rest }
         requires left { self.old.used + 1 ≤ self.old.limit }
-        ensures ok { OnOk result (Moved program.now self.old self.new (Go (Choice [] ∷ []) (record { goals = Goal (depth_of program.now self.old) (term self.old.stack.heap cell) ∷ Commit (depth_of program.now self.old) ∷ goals_of self.old.stack rest; variables = self.old.stack.heap.count }) (local_of self.old)) 1) }
+        ensures ok { OnOk result (Moved program.now self.old self.new (run (runnable (term self.old.stack.heap goal)) not_1 (branch (goals_of self.old.stack rest) self.old.stack.heap.count ∷ []) (suc (depth_of program.now self.old)) (Never (depth_of program.now self.old) ∷ goals_of self.old.stack rest) self.old.stack.heap.count (local_of self.old)) 1) }
+        ensures err { OnErr result (Stays program.now self.old self.new) }
+    {
+        let depth = self.stack.depth();
+        let Some(inner) = depth.checked_add(1) else {
+            return Err(AllocError);
+        };
+        let behind = self.stack.link(Item::Never(depth), rest)?;
+        let ready = self.ready(goal)?;
+        self.run(
+            program,
+            ready,
+            Predicate::Not,
+            Around::Branch(rest),
+            inner,
+            behind,
+        )
+    }
+
+    /// call/N.
+    fn call_with(
+        &mut self,
+        program: &Program,
+        goal: u32,
+        further: u16,
+        rest: u32,
+    ) -> Result<(), AllocError>
+        requires goal { goal < length self.old.stack.heap.cells }
+        requires further { IsRun self.old.stack.heap (record { first = suc goal; count = further }) }
+        requires few { further ≤ 1024 }
+        requires rest { IsList self.old.stack rest }
+        requires left { self.old.used + 1 ≤ self.old.limit }
+        ensures ok { OnOk result (Moved program.now self.old self.new (run (called (term self.old.stack.heap goal) (terms self.old.stack.heap (suc goal) further)) (call_with further) [] (depth_of program.now self.old) (goals_of self.old.stack rest) self.old.stack.heap.count (local_of self.old)) 1) }
         ensures err { OnErr result (Stays program.now self.old self.new) }
     {
         let level = self.stack.depth();
-        let behind = self.stack.link(Item::Commit(level), rest)?;
-        let list = self.stack.link(Item::Goal(level, cell), behind)?;
-        self.stack.open_plain()?;
-        self.go_on(list, 1);
-        Ok(())
+        let arguments = Run {
+            first: goal + 1,
+            count: further,
+        };
+        let ready = self.ready_with(goal, arguments)?;
+        self.run(
+            program,
+            ready,
+            Predicate::CallWith(further),
+            Around::Nothing,
+            level,
+            rest,
+        )
     }
 
     /// What a term comes to as a goal.
     fn ready(&mut self, goal: u32) -> Result<Ready, AllocError>
         requires { goal < length self.old.stack.heap.cells }
-        ensures ok { IfOk result (λ r. Readies self.old self.new goal r) }
+        ensures ok { IfOk result (λ r. Readies self.new (runnable (term self.old.stack.heap goal)) r) }
         ensures stays { Extends self.old.stack self.new.stack }
         ensures count { self.new.stack.heap.count ≡ self.old.stack.heap.count }
         ensures frame { self.new ≡ record self.old { stack = self.new.stack } }
@@ -288,8 +507,46 @@ impl Progress {
             Err(e) => Err(e),
             Ok(Some(cell)) => Ok(Ready::Runs(cell)),
             Ok(None) => {
-                let culprit = self.stack.heap().take(self.alloc, goal)?;
-                let error = error::not_callable(self.alloc, culprit)?;
+                let error = self.no_callable(goal)?;
+                Ok(Ready::Raises(error))
+            }
+        }
+    }
+
+    /// The error of a term that is not callable.
+    fn no_callable(&self, cell: u32) -> Result<Term, AllocError>
+        requires { cell < length self.now.stack.heap.cells }
+        ensures { IfOk result (λ e. e ≡ callable_error (term self.now.stack.heap cell)) }
+    {
+        let culprit = self.stack.heap().take(self.alloc, cell)?;
+        error::not_callable(self.alloc, culprit)
+    }
+
+    /// What a term comes to as a goal once further arguments are added.
+    fn ready_with(&mut self, goal: u32, further: Run) -> Result<Ready, AllocError>
+        requires goal { goal < length self.old.stack.heap.cells }
+        requires further { IsRun self.old.stack.heap further }
+        requires few { further.count ≤ 1024 }
+        ensures ok { IfOk result (λ r. Readies self.new (called (term self.old.stack.heap goal) (run_terms self.old.stack.heap further)) r) }
+        ensures stays { Extends self.old.stack self.new.stack }
+        ensures count { self.new.stack.heap.count ≡ self.old.stack.heap.count }
+        ensures frame { self.new ≡ record self.old { stack = self.new.stack } }
+    {
+        if further.count == 0 {
+            return self.ready(goal);
+        }
+        match self.stack.with_arguments(self.alloc, goal, further)? {
+            Extended::Is(cell) => self.ready(cell),
+            Extended::Unbound => {
+                let error = error::instantiation(self.alloc)?;
+                Ok(Ready::Raises(error))
+            }
+            Extended::Number => {
+                let error = self.no_callable(goal)?;
+                Ok(Ready::Raises(error))
+            }
+            Extended::TooLong => {
+                let error = error::too_long(self.alloc)?;
                 Ok(Ready::Raises(error))
             }
         }
@@ -316,9 +573,23 @@ impl Progress {
                 self.go_on(rest, 1);
                 Ok(())
             }
+            Control::False => {
+                self.give(Outcome::Fail, 1);
+                Ok(())
+            }
             Control::Both(a, b) => self.both(program, level, a, b, rest),
+            Control::Either(a, b) => self.either(program, level, a, b, rest),
+            Control::Then(condition, then) => self.then(program, level, condition, then, rest),
+            Control::ThenElse(condition, then, other) => {
+                self.then_else(program, level, (condition, then, other), rest)
+            }
+            Control::Not(goal) => self.not(program, goal, rest),
             Control::Once(goal) => self.once(program, goal, rest),
-            Control::Write(a) => self.write(program, a, rest),
+            Control::CallWith(goal, further) => self.call_with(program, goal, further, rest),
+            Control::Cut => self.cut(program, level, rest),
+            Control::Unify(a, b) => self.unify(program, a, b, rest),
+            Control::Write(a) => self.write(program, a, Style::Plain, rest),
+            Control::WriteQuoted(a) => self.write(program, a, Style::Quoted, rest),
             Control::Newline => self.write_bytes(program, b"\n", rest),
             Control::AddLast(clause) => self.add_last(program, clause, rest),
             Control::Call(p) => self.call(program, p, cell, rest),

@@ -255,6 +255,106 @@ const FORMS: [(&str, &str, &str, Status); 12] = [
     ),
 ];
 
+/// Control constructs: the program, the report and the status.
+const CONTROL: [(&str, &str, Status); 18] = [
+    // The second side of a disjunction is tried where the first fails, and where its solutions are used up.
+    (
+        ":- ;(fail, write(a)), write(b).",
+        "% thread 1 main: true\nab\n",
+        Status::Done,
+    ),
+    (
+        "t(1). t(2). :- ;(t(X), =(X, 9)), write(X), =(X, 9).",
+        "% thread 1 main: true\n129\n",
+        Status::Done,
+    ),
+    // A condition is run once, and a cut in it is local.
+    (
+        "t(1). t(2). :- ;(->(t(X), write(X)), write(n)), =(X, 2).",
+        "% thread 1 main: false\n1\n",
+        Status::Failed,
+    ),
+    (
+        ":- ;(->(fail, write(a)), write(b)).",
+        "% thread 1 main: true\nb\n",
+        Status::Done,
+    ),
+    (
+        ":- ->(fail, write(a)).",
+        "% thread 1 main: false\n",
+        Status::Failed,
+    ),
+    (
+        ":- ;(->((!, fail), true), write(e)).",
+        "% thread 1 main: true\ne\n",
+        Status::Done,
+    ),
+    // A cut gives up the other clauses, but not those of the goal that calls it by call/1.
+    (
+        "t(1). t(2). m :- t(X), write(X), !, =(X, 2). m :- write(z). :- m.",
+        "% thread 1 main: false\n1\n",
+        Status::Failed,
+    ),
+    (
+        "t(1). t(2). :- ;((t(X), write(X), call(!), fail), write(e)).",
+        "% thread 1 main: true\n12e\n",
+        Status::Done,
+    ),
+    (
+        "t(1). t(2). m :- =(G, !), t(X), write(X), G, =(X, 2). :- m.",
+        "% thread 1 main: true\n12\n",
+        Status::Done,
+    ),
+    (
+        "t(1). t(2). m :- once((t(X), !)), write(X), fail. m :- write(b). :- m.",
+        "% thread 1 main: true\n1b\n",
+        Status::Done,
+    ),
+    // What is proved under `\+` binds nothing.
+    (
+        "t(1). :- \\+(t(2)), \\+(\\+(=(X, 1))), =(X, 2), write(X).",
+        "% thread 1 main: true\n2\n",
+        Status::Done,
+    ),
+    (
+        "t(1). :- \\+(t(1)).",
+        "% thread 1 main: false\n",
+        Status::Failed,
+    ),
+    // Arguments are added behind those of the goal.
+    (
+        "a(X, Y, f(X, Y)). :- call(a(1), 2, Z), write(Z), call(write, b).",
+        "% thread 1 main: true\nf(1,2)b\n",
+        Status::Done,
+    ),
+    (
+        ":- call((fail, 1)).",
+        "% thread 1 main: exception(error(type_error(callable,(fail,1)),call/1))\n",
+        Status::Raised,
+    ),
+    (
+        ":- call(1, a).",
+        "% thread 1 main: exception(error(type_error(callable,1),call/2))\n",
+        Status::Raised,
+    ),
+    (
+        ":- call(_, a).",
+        "% thread 1 main: exception(error(instantiation_error,call/2))\n",
+        Status::Raised,
+    ),
+    // Unification has the occurs check.
+    (
+        ":- =(f(X, b), f(a, Y)), writeq(g(X, Y)).",
+        "% thread 1 main: true\ng(a,b)\n",
+        Status::Done,
+    ),
+    (
+        ":- ;(=(X, f(X)), writeq(f(Y, Z, Y))).",
+        "% thread 1 main: true\nf(_1,_2,_1)\n",
+        Status::Done,
+    ),
+];
+
 // Listings, which list the same again, and counts.
 #[test]
 fn forms(rt: HostRuntime) -> Result<(), Fail> {
@@ -289,6 +389,17 @@ fn rows(rt: HostRuntime) -> Result<(), Fail> {
         let (bytes, ended) = run(&rt, rt.alloc(), text.as_bytes())?;
         assert!(rt; bytes.as_slice() == report.as_bytes());
         assert!(rt; ended == status);
+    }
+    Ok(())
+}
+
+// Programs of control constructs and their reports.
+#[test]
+fn control(rt: HostRuntime) -> Result<(), Fail> {
+    for (text, report, status) in CONTROL {
+        let (bytes, ended) = run(&rt, rt.alloc(), text.as_bytes())?;
+        assert!(rt; bytes.as_slice() == report.as_bytes(), "{text}");
+        assert!(rt; ended == status, "{text}");
     }
     Ok(())
 }

@@ -1,7 +1,7 @@
 use Rattle.std.proofs.Common.{refl}
 use Rattle.plload.specs.Program.{clauses_for}
 use Rattle.plsolve.specs.Solver.{Settled}
-use Rattle.plsolve.proofs.Quiets.{quiet-mark, quiet-choice, over-now, not_both}
+use Rattle.plsolve.proofs.Quiets.{quiet-mark, quiet-choice, quiet-retry, over-now, not_both, both_are}
 use Rattle.plsolve.proofs.progress.Progress.back.Goals as goal
 
 pub returns-in-None-clause-due : goal.returns-in-None-clause-due
@@ -17,5 +17,10 @@ pub returns-in-Some-Choice-clause-on : goal.returns-in-Some-Choice-clause-on
 returns-in-Some-Choice-clause-on c =
     let closed = (rw c.in-Some-Choice.field-0-is at c.in-Some-Choice.ensures.some) (clauses_for c.args.program.now) in
     quiet-choice c.args.program.now c.args.self.now c.stop_cut.new.self c.close.new.self closed.0 c.requires closed.1
-    (λ f. closed.2 (λ has. not_both c.retries.result c.retries.ensures c.if-retries.false f has))
+    (λ f. closed.2 (λ has. not_both c.retries.result c.retries.ensures c.if-retries.false f has) (λ has. not_both c.branches.result c.branches.ensures c.if-branches.false f has))
     (c.stop_cut.ensures (clauses_for c.args.program.now))
+
+pub returns-then-branches-clause-on : goal.returns-then-branches-clause-on
+returns-then-branches-clause-on c =
+    let both = both_are c.branches.result c.branches.ensures c.if-branches.true in
+    quiet-retry c.args.program.now c.args.self.now c.take_branch.new.self both.0 (c.take_branch.ensures (clauses_for c.args.program.now))

@@ -1,49 +1,42 @@
-use Rattle.std.proofs.Common.{◌≡◌, ap, ◌∷◌, subst, sym}
+use Rattle.std.proofs.Common.{◌≡◌, refl, ap, ap₂, sym, ◌∙◌, ◌∷◌}
 use Rattle.plsearch.specs.Types.{Commit}
-use Rattle.plsearch.specs.Table.{run, runnable, Raises, raised, once_1}
+use Rattle.plsearch.specs.Table.{once_1, runnable}
 use Rattle.plheap.specs.Store.{term}
 use Rattle.plframe.specs.State.{goals_of}
-use Rattle.plsolve.specs.Solver.{Stays, Moved, depth_of, local_of}
-use Rattle.plsolve.proofs.Moves.{extended, stays-trans, moved-from, raised-any, on_err, on_ok_map, on_err_map}
+use Rattle.plload.specs.Program.{clauses_for}
+use Rattle.plsolve.proofs.Moves.{Grown, grown-link, grown-trans, grown-goals, grown-stays, moved-grown, run-same, stays-trans, on_err, on_ok_map, on_err_map}
 use Rattle.plsolve.proofs.progress.Progress.once.Goals as goal
 
-pub returns-in_err-error-clause-err : goal.returns-in_err-error-clause-err
-returns-in_err-error-clause-err c =
+pub returns-in_err-behind-clause-err : goal.returns-in_err-behind-clause-err
+returns-in_err-behind-clause-err c =
     let s = c.args.self.now in
-    on_err _ (subst (Stays c.args.program.now s) (sym c.ready.ensures.frame) (extended c.args.program.now s c.ready.new.self.stack c.ready.ensures.stays c.ready.ensures.count))
+    on_err _ (grown-stays c.args.program.now s _ (grown-link s.stack c.link.new.self c.link.ensures.stays c.link.ensures.heap) refl)
 
-pub returns-in_err-p-in-Raises-clause-err : goal.returns-in_err-p-in-Raises-clause-err
-returns-in_err-p-in-Raises-clause-err c =
+pub returns-in_err-ready-clause-err : goal.returns-in_err-ready-clause-err
+returns-in_err-ready-clause-err c =
     let s = c.args.self.now in
-    on_err _ (subst (Stays c.args.program.now s) (sym c.ready.ensures.frame) (extended c.args.program.now s c.ready.new.self.stack c.ready.ensures.stays c.ready.ensures.count))
+    let g = grown-link s.stack c.link.new.self c.link.ensures.stays c.link.ensures.heap in
+    let g2 = grown-trans s.stack c.link.new.self c.ready.new.self.stack g (record { extends = c.ready.ensures.stays; count = c.ready.ensures.count }) in
+    on_err _ (grown-stays c.args.program.now s c.ready.new.self g2 c.ready.ensures.frame)
 
-pub returns-in_ok-p-in-Raises-clause-ok : goal.returns-in_ok-p-in-Raises-clause-ok
-returns-in_ok-p-in-Raises-clause-ok c =
+pub returns-clause-ok : goal.returns-clause-ok
+returns-clause-ok c =
     let s = c.args.self.now in
-    let P = c.args.program.now in
-    let t = c.ready.new.self in
-    let new = c.raise.new.self in
-    let e = c.in-Raises.error in
-    let es = goals_of t.stack c.args.rest in
-    let es' = Commit (depth_of P s) ∷ goals_of s.stack c.args.rest in
-    let stay = subst (Stays P s) (sym c.ready.ensures.frame) (extended P s t.stack c.ready.ensures.stays c.ready.ensures.count) in
-    let ready : runnable (term s.stack.heap c.args.goal) ≡ Raises e = rw c.in-Raises.is at c.in_ok-error.ensures.ok.is in
-    let local : local_of t ≡ local_of s = ap (λ o. record { out = o }) stay.out in
-    on_ok_map _ (λ m.
-    subst (λ r. Moved P s new (run r once_1 (depth_of P s) es' s.stack.heap.count (local_of s)) 1) (sym ready)
-    (raised-any P s new e once_1 es es' 1
-    (subst (λ q. Moved P s new (raised e q es (local_of s)) 1) c.in_ok-p-in-Raises.ensures
-    (subst (λ w. Moved P s new (raised e c.in_ok-p-in-Raises.p es w) 1) local (moved-from P s t new (raised e c.in_ok-p-in-Raises.p es (local_of t)) 1 stay m)))))
-    c.raise.ensures.ok
+    let g = grown-link s.stack c.link.new.self c.link.ensures.stays c.link.ensures.heap in
+    let g1 : Grown c.link.new.self c.ready.new.self.stack = record { extends = c.ready.ensures.stays; count = c.ready.ensures.count } in
+    let g2 = grown-trans s.stack c.link.new.self c.ready.new.self.stack g g1 in
+    let depth = c.depth-depth.ensures (clauses_for c.args.program.now) in
+    let runs = sym c.in_ok-ready.ensures.ok.is ∙ ap (λ h. runnable (term h c.args.goal)) c.link.ensures.heap in
+    let goals = grown-goals c.link.new.self c.ready.new.self.stack g1 c.in_ok-behind.behind c.in_ok-behind.ensures.list.0 ∙ c.in_ok-behind.ensures.list.1 ∙ ap (λ d. Commit d ∷ goals_of s.stack c.args.rest) depth in
+    on_ok_map c.run.result (moved-grown c.args.program.now s c.ready.new.self c.run.new.self _ _ 1 g2 c.ready.ensures.frame
+    (run-same once_1 _ _ _ _ _ _ _ _ _ _ _ _ runs refl depth goals g2.count (ap (λ x. record { out = x.out.items }) c.ready.ensures.frame))) c.run.ensures.ok
 
-pub returns-in_ok-p-in-Raises-clause-err : goal.returns-in_ok-p-in-Raises-clause-err
-returns-in_ok-p-in-Raises-clause-err c =
+pub returns-clause-err : goal.returns-clause-err
+returns-clause-err c =
     let s = c.args.self.now in
-    let stay = subst (Stays c.args.program.now s) (sym c.ready.ensures.frame) (extended c.args.program.now s c.ready.new.self.stack c.ready.ensures.stays c.ready.ensures.count) in
-    on_err_map _ (stays-trans c.args.program.now s c.ready.new.self c.raise.new.self stay) c.raise.ensures.err
+    let g = grown-link s.stack c.link.new.self c.link.ensures.stays c.link.ensures.heap in
+    let g2 = grown-trans s.stack c.link.new.self c.ready.new.self.stack g (record { extends = c.ready.ensures.stays; count = c.ready.ensures.count }) in
+    on_err_map c.run.result (stays-trans c.args.program.now s c.ready.new.self c.run.new.self (grown-stays c.args.program.now s c.ready.new.self g2 c.ready.ensures.frame)) c.run.ensures.err
 
-pub returns-in-Runs-clause-err : goal.returns-in-Runs-clause-err
-returns-in-Runs-clause-err c =
-    let s = c.args.self.now in
-    let stay = subst (Stays c.args.program.now s) (sym c.ready.ensures.frame) (extended c.args.program.now s c.ready.new.self.stack c.ready.ensures.stays c.ready.ensures.count) in
-    on_err_map _ (stays-trans c.args.program.now s c.ready.new.self c.run_once.new.self stay) c.run_once.ensures.err
+pub run-requires-clause-list : goal.run-requires-clause-list
+run-requires-clause-list c = (c.ready.ensures.stays.lists c.in_ok-behind.behind c.in_ok-behind.ensures.list.0).0

@@ -2,7 +2,7 @@ use Rattle.std.proofs.Common.{refl, arith}
 use Rattle.plsolve.specs.Heads.{IsHead}
 use Rattle.plsolve.specs.Solver.{Settled}
 use Rattle.plsolve.proofs.Heading.{list-opened}
-use Rattle.plsolve.proofs.Quiets.{quiet-stop, quiet-spent, quiet-commit}
+use Rattle.plsolve.proofs.Quiets.{quiet-stop, quiet-spent, quiet-commit, quiet-never}
 use Rattle.plsolve.proofs.progress.Progress.pass.Goals as goal
 
 pub returns-then-self-clause-on : goal.returns-then-self-clause-on
@@ -11,7 +11,7 @@ returns-then-self-clause-on c = quiet-spent c.args.program.now c.args.self.now c
 
 pub visit-requires : goal.visit-requires
 unfolding IsHead
-visit-requires c = list-opened c.args.self.now.stack c.open_barrier.new.self c.in-Commit.level c.in-Commit.rest c.in_ok-open_barrier-in-Commit.ensures.ok c.in-Commit.ensures.behind
+visit-requires c = list-opened c.args.self.now.stack c.open.new.self _ c.in-Commit.rest c.in_ok-open-in-Commit.ensures.ok c.in-Commit.ensures.behind
 
 pub returns-in-Nothing-clause-on : goal.returns-in-Nothing-clause-on
 unfolding IsHead
@@ -21,10 +21,10 @@ pub returns-else-self-clause-due : goal.returns-else-self-clause-due
 unfolding IsHead Settled
 returns-else-self-clause-due c = ((c.requires.visits, c.in-Goal.ensures, omega (arith, c.requires.within, c.if-self.false)), refl)
 
-pub returns-in_ok-open_barrier-in-Commit-clause-on : goal.returns-in_ok-open_barrier-in-Commit-clause-on
+pub returns-in_ok-open-in-Commit-clause-on : goal.returns-in_ok-open-in-Commit-clause-on
 unfolding IsHead
-returns-in_ok-open_barrier-in-Commit-clause-on c =
-    rw c.visit.ensures (quiet-commit c.args.program.now c.args.self.now c.open_barrier.new.self c.in-Commit.level c.in-Commit.rest c.requires.visits c.in-Commit.ensures c.in_ok-open_barrier-in-Commit.ensures.ok)
+returns-in_ok-open-in-Commit-clause-on c =
+    rw c.visit.ensures (quiet-commit c.args.program.now c.args.self.now c.open.new.self c.in-Commit.level c.in-Commit.rest c.requires.visits c.in-Commit.ensures c.in_ok-open-in-Commit.ensures.ok)
 
 pub returns-in-Look-clause-due : goal.returns-in-Look-clause-due
 unfolding IsHead Settled
@@ -33,3 +33,7 @@ returns-in-Look-clause-due c = ((c.requires.visits, c.in-Look.cell, c.in-Look.re
 pub returns-in-Await-clause-due : goal.returns-in-Await-clause-due
 unfolding IsHead Settled
 returns-in-Await-clause-due c = ((c.requires.visits, c.in-Await.ensures.0, c.in-Await.rest, c.in-Await.ensures.1), refl)
+
+pub returns-in-Never-clause-on : goal.returns-in-Never-clause-on
+unfolding IsHead
+returns-in-Never-clause-on c = quiet-never c.args.program.now c.args.self.now c.in-Never.level c.in-Never.field-1 c.requires.visits c.in-Never.ensures

@@ -1,4 +1,5 @@
-use Rattle.std.proofs.Common.{ap, refl}
+use Rattle.std.proofs.Common.{ap, refl, suc}
+use Rattle.plsolve.proofs.Heading.{terms-length}
 use Rattle.plsearch.specs.Table.{row}
 use Rattle.plload.specs.Program.{clauses_for}
 use Rattle.plframe.specs.State.{cases_of}
@@ -14,11 +15,17 @@ returns-in-True-clause-ok c =
     let s = c.args.self.now in
     rw c.in-True.is (visits c.args.program.now s s.stack c.args.rest 1 _ s.out.items c.go_on.new.self (extends-same s.stack) refl refl (ap (λ x. x.used) c.go_on.ensures) (ap (λ x. x.limit) c.go_on.ensures) (ap (λ x. x.places.items) c.go_on.ensures) (ap (λ x. x.mode) c.go_on.ensures) (ap (λ x. x.stack) c.go_on.ensures) (ap (λ x. x.out.items) c.go_on.ensures))
 
+pub returns-in-False-clause-ok : goal.returns-in-False-clause-ok
+unfolding row
+returns-in-False-clause-ok c =
+    let s = c.args.self.now in
+    rw c.in-False.is (gives c.args.program.now s c.give.new.self outcomes.Fail (local_of s) 1 (ap (λ x. x.used) c.give.ensures) (ap (λ x. x.limit) c.give.ensures) (ap (λ x. x.places.items) c.give.ensures) (ap (λ x. x.mode) c.give.ensures) (ap (λ x. cases_of (clauses_for c.args.program.now) x.stack) c.give.ensures) (ap (λ x. record { out = x.out.items }) c.give.ensures))
+
 pub returns-in-NoGoal-clause-ok : goal.returns-in-NoGoal-clause-ok
 unfolding row
 returns-in-NoGoal-clause-ok c =
     let s = c.args.self.now in
-    rw c.in-NoGoal.is (gives c.args.program.now s c.give.new.self outcomes.Fail (local_of s) 1 (ap (λ x. x.used) c.give.ensures) (ap (λ x. x.limit) c.give.ensures) (ap (λ x. x.places.items) c.give.ensures) (ap (λ x. x.mode) c.give.ensures) (ap (λ x. cases_of (clauses_for c.args.program.now) x.stack) c.give.ensures) (ap (λ x. record { out = x.out.items }) c.give.ensures))
+    rw c.in-NoGoal.is (gives c.args.program.now s c.give-in-NoGoal.new.self outcomes.Fail (local_of s) 1 (ap (λ x. x.used) c.give-in-NoGoal.ensures) (ap (λ x. x.limit) c.give-in-NoGoal.ensures) (ap (λ x. x.places.items) c.give-in-NoGoal.ensures) (ap (λ x. x.mode) c.give-in-NoGoal.ensures) (ap (λ x. cases_of (clauses_for c.args.program.now) x.stack) c.give-in-NoGoal.ensures) (ap (λ x. record { out = x.out.items }) c.give-in-NoGoal.ensures))
 
 pub returns-in-Both-clause-ok : goal.returns-in-Both-clause-ok
 unfolding row
@@ -43,3 +50,35 @@ returns-in-AddLast-clause-ok c = rw c.in-AddLast.is c.add_last.ensures.ok
 pub returns-in-Call-clause-ok : goal.returns-in-Call-clause-ok
 unfolding row
 returns-in-Call-clause-ok c = rw c.in-Call.is c.call.ensures.ok
+
+pub returns-in-Either-clause-ok : goal.returns-in-Either-clause-ok
+unfolding row
+returns-in-Either-clause-ok c = rw c.in-Either.is c.either.ensures.ok
+
+pub returns-in-Then-clause-ok : goal.returns-in-Then-clause-ok
+unfolding row
+returns-in-Then-clause-ok c = rw c.in-Then.is c.then.ensures.ok
+
+pub returns-in-ThenElse-clause-ok : goal.returns-in-ThenElse-clause-ok
+unfolding row
+returns-in-ThenElse-clause-ok c = rw c.in-ThenElse.is c.then_else.ensures.ok
+
+pub returns-in-Not-clause-ok : goal.returns-in-Not-clause-ok
+unfolding row
+returns-in-Not-clause-ok c = rw c.in-Not.is c.not.ensures.ok
+
+pub returns-in-CallWith-clause-ok : goal.returns-in-CallWith-clause-ok
+unfolding row
+returns-in-CallWith-clause-ok c = rw (c.in-CallWith.is, terms-length c.args.self.now.stack.heap (suc c.in-CallWith.goal) c.in-CallWith.further) c.call_with.ensures.ok
+
+pub returns-in-Cut-clause-ok : goal.returns-in-Cut-clause-ok
+unfolding row
+returns-in-Cut-clause-ok c = rw c.in-Cut.is c.cut.ensures.ok
+
+pub returns-in-Unify-clause-ok : goal.returns-in-Unify-clause-ok
+unfolding row
+returns-in-Unify-clause-ok c = rw c.in-Unify.is c.unify.ensures.ok
+
+pub returns-in-WriteQuoted-clause-ok : goal.returns-in-WriteQuoted-clause-ok
+unfolding row
+returns-in-WriteQuoted-clause-ok c = rw c.in-WriteQuoted.is c.write-in-WriteQuoted.ensures.ok

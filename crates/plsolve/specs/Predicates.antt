@@ -1,0 +1,19 @@
+-- The predicates whose errors a solver raises.
+use Rattle.std.specs.Prelude.{◌≤◌}
+use Rattle.plterm.specs.declared.indicator.Indicator.{Indicator}
+use Rattle.plsearch.specs.Table.{once_1, not_1, call_with, assertz_1}
+use Rattle.plsolve.specs.declared.predicate.Predicate.{Predicate}
+use Rattle.plsolve.specs.declared.predicate.Predicate.TheVariants.{Once, Not, CallWith, AddLast}
+
+abbrev pub predicate_of : Predicate → Indicator
+predicate_of Once = once_1
+predicate_of Not = not_1
+predicate_of (CallWith n) = call_with n
+predicate_of AddLast = assertz_1
+
+-- it has no more arguments than there may be
+abbrev pub IsFew : Predicate → Type 0
+IsFew Once = Unit {0}
+IsFew Not = Unit {0}
+IsFew (CallWith n) = n ≤ 1024
+IsFew AddLast = Unit {0}

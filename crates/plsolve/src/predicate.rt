@@ -1,0 +1,36 @@
+//! The predicates whose errors a solver raises.
+
+ghost use Rattle.std.specs.Prelude.{◌≡◌, ◌≤◌, IfOk};
+ghost use Rattle.plsolve.specs.Predicates.{predicate_of, IsFew};
+
+use plterm::indicator::Indicator;
+use plterm::name::Name;
+use std::alloc::{AllocError, Global};
+
+/// A predicate that raises errors.
+#[derive(Clone, Copy)]
+pub enum Predicate {
+    Once,
+    Not,
+    /// call/N with N - 1 further arguments.
+    CallWith(u16),
+    /// assertz/1
+    AddLast,
+}
+
+impl Predicate {
+    /// Its indicator.
+    pub fn indicator(self, alloc: Global) -> Result<Indicator, AllocError>
+        requires { IsFew self }
+        ensures { IfOk result (λ p. p ≡ predicate_of self) }
+    {
+        let (name, arity) = match self {
+            Predicate::Once => ("once", 1),
+            Predicate::Not => ("\\+", 1),
+            Predicate::CallWith(further) => ("call", further + 1),
+            Predicate::AddLast => ("assertz", 1),
+        };
+        let name = Name::new(alloc, name)?;
+        Ok(Indicator { name, arity })
+    }
+}
