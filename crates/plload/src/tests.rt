@@ -1,8 +1,15 @@
 use crate::error::{LoadError, RefusalKind};
 use crate::fixed::is_fixed;
 use crate::load::load;
+use pllex::clause::clause_tokens;
+use plops::table::OpTable;
+use plread::quotes::Quotes;
+use plread::read::{ReadTerm, read_clause};
 use plterm::indicator::Indicator;
 use plterm::name::Name;
+use plterm::term::Term;
+use plwrite::style::Style;
+use plwrite::write::write_term;
 use std::alloc::Global;
 use std::test::Fail;
 
@@ -42,14 +49,29 @@ fn refusals(rt: HostRuntime) -> Result<(), Fail> {
         ("a. b('c).", 1, 6, RefusalKind::Lex),
         (":- op(200, xf, +).", 1, 1, RefusalKind::BadDirective),
         (":- op(700, xfx, [a, ','])).", 1, 1, RefusalKind::Syntax),
-        (":- op(700, xfx, [a, ',']).", 1, 1, RefusalKind::BadDirective),
+        (
+            ":- op(700, xfx, [a, ',']).",
+            1,
+            1,
+            RefusalKind::BadDirective,
+        ),
         (":- dynamic(p).", 1, 1, RefusalKind::BadDirective),
         (":- dynamic(true/0).", 1, 1, RefusalKind::BadDirective),
         (":- module(m, []).", 1, 1, RefusalKind::BadDirective),
         (":- thread_local a/1.", 1, 1, RefusalKind::BadDirective),
-        (":- set_prolog_flag(max_arity, 1).", 1, 1, RefusalKind::BadDirective),
+        (
+            ":- set_prolog_flag(max_arity, 1).",
+            1,
+            1,
+            RefusalKind::BadDirective,
+        ),
         (":- use_module(lists).", 1, 1, RefusalKind::BadDirective),
-        ("a. X ===> b. :- op(700, xfx, ===>).", 1, 4, RefusalKind::Syntax),
+        (
+            "a. X ===> b. :- op(700, xfx, ===>).",
+            1,
+            4,
+            RefusalKind::Syntax,
+        ),
         ("a.\n  b c.", 2, 3, RefusalKind::Syntax),
         ("1 :- a.", 1, 1, RefusalKind::NotCallable),
         ("X.", 1, 1, RefusalKind::NotCallable),
@@ -121,6 +143,240 @@ fn fixed_procedures(rt: HostRuntime) -> Result<(), Fail> {
             arity,
         };
         assert_eq!(rt; is_fixed(&indicator), wanted, "{name}");
+    }
+    Ok(())
+}
+
+/// Terms as program text, and their texts in the styles Plain, Quoted, Canonical and Listed.
+const STYLES: [(&str, &str, &str, &str, &str); 79] = [
+    ("a", "a", "a", "a", "a"),
+    ("'B'", "B", "'B'", "'B'", "'B'"),
+    (
+        "'hello world'",
+        "hello world",
+        "'hello world'",
+        "'hello world'",
+        "'hello world'",
+    ),
+    ("[]", "[]", "[]", "[]", "[]"),
+    ("{}", "{}", "{}", "{}", "{}"),
+    ("'[]'(x)", "[](x)", "'[]'(x)", "'[]'(x)", "'[]'(x)"),
+    ("'{}'(x)", "{x}", "{x}", "{x}", "{x}"),
+    ("!", "!", "!", "!", "!"),
+    (";", ";", ";", ";", ";"),
+    ("','", ",", "','", "','", "','"),
+    ("'|'", "|", "'|'", "'|'", "'|'"),
+    ("'it''s'", "it's", "'it\\'s'", "'it\\'s'", "'it\\'s'"),
+    ("'a\\\\b'", "a\\b", "'a\\\\b'", "'a\\\\b'", "'a\\\\b'"),
+    ("''", "", "''", "''", "''"),
+    ("'é'", "é", "'é'", "'é'", "'é'"),
+    ("'.'", ".", "'.'", "'.'", "'.'"),
+    ("'/*'", "/*", "'/*'", "'/*'", "'/*'"),
+    ("'a.b'", "a.b", "'a.b'", "'a.b'", "'a.b'"),
+    ("42", "42", "42", "42", "42"),
+    ("-7", "-7", "-7", "-7", "-7"),
+    ("- 7", "-(7)", "-(7)", "-(7)", "-(7)"),
+    ("-(7)", "-(7)", "-(7)", "-(7)", "-(7)"),
+    ("- (7)", "-(7)", "-(7)", "-(7)", "-(7)"),
+    ("-(-(7))", "- -(7)", "- -(7)", "-(-(7))", "- -(7)"),
+    ("0'a", "97", "97", "97", "97"),
+    ("0x1F", "31", "31", "31", "31"),
+    ("\"ab\"", "[97,98]", "[97,98]", "[97,98]", "[97,98]"),
+    ("1 - 2", "1-2", "1-2", "-(1,2)", "1-2"),
+    ("1 - (-2)", "1- -2", "1- -2", "-(1,-2)", "1- -2"),
+    (
+        "a - (b - c)",
+        "a-(b-c)",
+        "a-(b-c)",
+        "-(a,-(b,c))",
+        "a-(b-c)",
+    ),
+    ("a - b - c", "a-b-c", "a-b-c", "-(-(a,b),c)", "a-b-c"),
+    ("a :- b, c", "a:-b,c", "a:-b,c", ":-(a,','(b,c))", "a:-b,c"),
+    (
+        "f((a :- b))",
+        "f((a:-b))",
+        "f((a:-b))",
+        "f(:-(a,b))",
+        "f((a:-b))",
+    ),
+    (
+        "f((a , b))",
+        "f((a,b))",
+        "f((a,b))",
+        "f(','(a,b))",
+        "f((a,b))",
+    ),
+    (
+        "(a , b) :- c",
+        "a,b:-c",
+        "a,b:-c",
+        ":-(','(a,b),c)",
+        "a,b:-c",
+    ),
+    ("[a, b]", "[a,b]", "[a,b]", "[a,b]", "[a,b]"),
+    ("{a, b}", "{a,b}", "{a,b}", "{','(a,b)}", "{a,b}"),
+    (
+        "f(X, Y, X)",
+        "f(_1,_2,_1)",
+        "f(_1,_2,_1)",
+        "f(_1,_2,_1)",
+        "f(_1,_2,_1)",
+    ),
+    ("f(_, _)", "f(_1,_2)", "f(_1,_2)", "f(_1,_2)", "f(_1,_2)"),
+    ("\\+ a", "\\+a", "\\+a", "\\+(a)", "\\+a"),
+    (
+        "\\+ (a , b)",
+        "\\+ (a,b)",
+        "\\+ (a,b)",
+        "\\+(','(a,b))",
+        "\\+ (a,b)",
+    ),
+    ("- - a", "- -a", "- -a", "-(-(a))", "- -a"),
+    ("- a", "-a", "-a", "-(a)", "-a"),
+    ("-(-)", "- (-)", "- (-)", "-(-)", "- (-)"),
+    ("a = \\+", "a=(\\+)", "a=(\\+)", "=(a,\\+)", "a=(\\+)"),
+    ("[(:-)]", "[:-]", "[:-]", "[:-]", "[:-]"),
+    ("f(:-, b)", "f(:-,b)", "f(:-,b)", "f(:-,b)", "f(:-,b)"),
+    (":- a", ":-a", ":-a", ":-(a)", ":-a"),
+    ("?- a", "?-a", "?-a", "?-(a)", "?-a"),
+    ("2 ** 3", "2**3", "2**3", "**(2,3)", "2**3"),
+    ("2 ^ 3 ^ 4", "2^3^4", "2^3^4", "^(2,^(3,4))", "2^3^4"),
+    (
+        "(2 ^ 3) ^ 4",
+        "(2^3)^4",
+        "(2^3)^4",
+        "^(^(2,3),4)",
+        "(2^3)^4",
+    ),
+    ("- (2 ^ 3)", "- 2^3", "- 2^3", "-(^(2,3))", "- 2^3"),
+    ("(- 2) ^ 3", "-(2)^3", "-(2)^3", "^(-(2),3)", "-(2)^3"),
+    ("(- a) ^ 3", "(-a)^3", "(-a)^3", "^(-(a),3)", "(-a)^3"),
+    ("-2 ^ 3", "-2^3", "-2^3", "^(-2,3)", "-2^3"),
+    (
+        "X is Y mod 2",
+        "_1 is _2 mod 2",
+        "_1 is _2 mod 2",
+        "is(_1,mod(_2,2))",
+        "_1 is _2 mod 2",
+    ),
+    ("a -> b ; c", "a->b;c", "a->b;c", ";(->(a,b),c)", "a->b;c"),
+    (
+        "(a ; b) -> c",
+        "(a;b)->c",
+        "(a;b)->c",
+        "->(;(a,b),c)",
+        "(a;b)->c",
+    ),
+    (
+        "dynamic p",
+        "dynamic p",
+        "dynamic p",
+        "dynamic(p)",
+        "dynamic p",
+    ),
+    (
+        "f(dynamic)",
+        "f(dynamic)",
+        "f(dynamic)",
+        "f(dynamic)",
+        "f(dynamic)",
+    ),
+    ("dynamic", "dynamic", "dynamic", "dynamic", "dynamic"),
+    ("\\ a", "\\a", "\\a", "\\(a)", "\\a"),
+    ("\\ \\ a", "\\ \\a", "\\ \\a", "\\(\\(a))", "\\ \\a"),
+    ("1 = 2", "1=2", "1=2", "=(1,2)", "1=2"),
+    ("a \\== b", "a\\==b", "a\\==b", "\\==(a,b)", "a\\==b"),
+    (
+        "f(A, B) =.. C",
+        "f(_1,_2)=.._3",
+        "f(_1,_2)=.._3",
+        "=..(f(_1,_2),_3)",
+        "f(_1,_2)=.._3",
+    ),
+    ("f(- 1)", "f(-(1))", "f(-(1))", "f(-(1))", "f(-(1))"),
+    ("[- a]", "[-a]", "[-a]", "[-(a)]", "[-a]"),
+    ("1 + 2 * 3", "1+2*3", "1+2*3", "+(1,*(2,3))", "1+2*3"),
+    (
+        "(1 + 2) * 3",
+        "(1+2)*3",
+        "(1+2)*3",
+        "*(+(1,2),3)",
+        "(1+2)*3",
+    ),
+    (
+        "'X' is 'Y'",
+        "X is Y",
+        "'X'is 'Y'",
+        "is('X','Y')",
+        "'X'is 'Y'",
+    ),
+    ("'$VAR'(1)", "B", "B", "'$VAR'(1)", "'$VAR'(1)"),
+    ("'$VAR'(27)", "B1", "B1", "'$VAR'(27)", "'$VAR'(27)"),
+    (
+        "'$VAR'(-1)",
+        "$VAR(-1)",
+        "'$VAR'(-1)",
+        "'$VAR'(-1)",
+        "'$VAR'(-1)",
+    ),
+    (
+        "'$VAR'(x)",
+        "$VAR(x)",
+        "'$VAR'(x)",
+        "'$VAR'(x)",
+        "'$VAR'(x)",
+    ),
+    ("[a|X]", "[a|_1]", "[a|_1]", "[a|_1]", "[a|_1]"),
+    ("[a, b|c]", "[a,b|c]", "[a,b|c]", "[a,b|c]", "[a,b|c]"),
+    ("'\\n'", "\n", "'\\n'", "'\\n'", "'\\n'"),
+];
+
+/// The term that a clause's text spells under the standard operators.
+fn term_of(alloc: Global, text: &str) -> Result<Term, Fail> {
+    let mut clause = Vec::from_slice(alloc, text.as_bytes())?;
+    clause.extend_from_slice(b" .")?;
+    let operators = OpTable::iso(alloc)?;
+    match clause_tokens(alloc, &clause, 0) {
+        Ok(Some(found)) => match read_clause(
+            alloc,
+            &clause,
+            &found.tokens,
+            &operators,
+            Quotes::Codes,
+            65536,
+        ) {
+            Ok(read) => {
+                let ReadTerm { term } = read;
+                Ok(term)
+            }
+            Err(error) => Err(error.into()),
+        },
+        Ok(None) => Err("nothing there".into()),
+        Err(error) => Err(error.into()),
+    }
+}
+
+// Terms in the four styles; what is written canonical or as it is listed is read back.
+#[test]
+fn styles(rt: HostRuntime) -> Result<(), Fail> {
+    let alloc = rt.alloc();
+    let operators = OpTable::iso(alloc)?;
+    for (source, plain, quoted, canonical, listed) in STYLES {
+        let term = term_of(alloc, source)?;
+        for (style, wanted) in [
+            (Style::Plain, plain),
+            (Style::Quoted, quoted),
+            (Style::Canonical, canonical),
+            (Style::Listed, listed),
+        ] {
+            let text = write_term(alloc, &term, &operators, style)?;
+            assert!(rt; text.as_slice() == wanted.as_bytes(), "{source}");
+        }
+        for text in [canonical, listed] {
+            let again = write_term(alloc, &term_of(alloc, text)?, &operators, Style::Canonical)?;
+            assert!(rt; again.as_slice() == canonical.as_bytes(), "{source}");
+        }
     }
     Ok(())
 }

@@ -164,7 +164,7 @@ const ROWS: [(&str, &str, Status); 28] = [
     ),
     (
         ":- write(-(1)), write(- 1), write(-1), write(1 - (-1)), write(-(1^2)), write(-(-(1))), write(- a), write(\\+ (a,b)).",
-        "% thread 1 main: true\n-(1)-(1)-11- -1- 1^2-(-1)-a\\+ (a,b)\n",
+        "% thread 1 main: true\n-(1)-(1)-11- -1- 1^2- -(1)-a\\+ (a,b)\n",
         Status::Done,
     ),
     (
@@ -203,15 +203,30 @@ const ROWS: [(&str, &str, Status); 28] = [
 
 // Texts, a form, and what it makes of them.
 const FORMS: [(&str, &str, &str, Status); 12] = [
-    ("list", "p(X,Y) :- q(Y,X), \\+ r.", "p(_1,_2):-q(_2,_1),\\+r.\n", Status::Done),
-    ("check", "p(X,Y) :- q(Y,X), \\+ r.", "clauses 1 directives 0\n", Status::Done),
+    (
+        "list",
+        "p(X,Y) :- q(Y,X), \\+ r.",
+        "p(_1,_2):-q(_2,_1),\\+r.\n",
+        Status::Done,
+    ),
+    (
+        "check",
+        "p(X,Y) :- q(Y,X), \\+ r.",
+        "clauses 1 directives 0\n",
+        Status::Done,
+    ),
     (
         "list",
         ":- op(700, xfx, ===>). a ===> b.",
         ":-op(700,xfx,===>).\na===>b.\n",
         Status::Done,
     ),
-    ("check", ":- op(700, xfx, ===>). a ===> b.", "clauses 1 directives 1\n", Status::Done),
+    (
+        "check",
+        ":- op(700, xfx, ===>). a ===> b.",
+        "clauses 1 directives 1\n",
+        Status::Done,
+    ),
     ("list", "+ .", "+ .\n", Status::Done),
     ("check", "", "clauses 0 directives 0\n", Status::Done),
     ("list", "% only a comment", "", Status::Done),
@@ -244,7 +259,7 @@ const FORMS: [(&str, &str, &str, Status); 12] = [
     (
         "list",
         ":- op(0, xfx, =). :- op(200, xf, =). a = . b(- (1), \\ (-), [(:-)|X], (a:-b), X).",
-        ":-op(0,xfx,=).\n:-op(200,xf,(=)).\na= .\nb(-(1),\\ (-),[:-|_1],(a:-b),_1).\n",
+        ":-op(0,xfx,=).\n:-op(200,xf,=).\na= .\nb(-(1),\\ (-),[:-|_1],(a:-b),_1).\n",
         Status::Done,
     ),
     (
