@@ -1,0 +1,6 @@
+pub mod Digits
+pub mod Fronts
+pub mod Forms
+pub mod Back
+pub mod Says
+pub mod Worked

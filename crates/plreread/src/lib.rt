@@ -1,0 +1,29 @@
+//! What is written is read back: the law of writing and reading terms (ISO/IEC 13211-1 6.3, 7.10.5).
+#![tactic(auto)]
+
+ghost use Rattle.std.specs.Prelude.{◌≡◌, ◌≤◌, ℕ, [], None, false};
+ghost use Rattle.plterm.specs.Tree.{Tree};
+ghost use Rattle.plops.specs.declared.table.OpTable.{OpTable};
+ghost use Rattle.plops.specs.Sane.{IsSane};
+ghost use Rattle.plread.specs.Reading.{Spells};
+ghost use Rattle.plwrite.specs.declared.style.Style.{Style};
+ghost use Rattle.plwrite.specs.declared.place.Position.TheVariants.{At};
+ghost use Rattle.plwrite.specs.Places.{whole};
+ghost use Rattle.plwrite.specs.Styles.{has_letters};
+ghost use Rattle.plwrite.specs.Writing.{words};
+ghost use Rattle.plreread.specs.Written.{clause_signs, IsWhole};
+ghost use Rattle.plreread.specs.Levels.{levels_of};
+ghost use Rattle.plreread.specs.Told.{Tell};
+
+/// The signs that a term is written with spell it, where as many levels may be open as it needs.
+pub fn written_is_read()
+    ensures { (ops : OpTable) → IsSane ops → (style : Style) → (t : Tree) → IsWhole t →
+        (levels : ℕ) → levels_of ops style (At whole) t ≤ levels → Spells ops levels (clause_signs ops style t) t }
+{}
+
+/// The words of a term in a style that quotes names and writes no variable as a letter are the texts of its signs. Two
+/// signs stand directly behind each other where no space is put between them.
+pub fn words_tell_signs()
+    ensures { (ops : OpTable) → IsSane ops → (style : Style) → has_letters style ≡ false → (t : Tree) →
+        Tell style None (words ops style (At whole) t []) (clause_signs ops style t) }
+{}
