@@ -10,7 +10,8 @@ use Rattle.plops.specs.Tables.{plain, with_operator, prefix_of, infix_of, postfi
 use Rattle.plops.specs.Given.{iso_table}
 use Rattle.plwrite.specs.declared.style.Style.TheVariants.{Canonical, Listed}
 use Rattle.plread.specs.Signs.{Sign, Name, Variable, Integer, Open, OpenCall, Close, OpenSquare, CloseSquare, OpenCurly, CloseCurly, Comma, Bar, End}
-use Rattle.plreread.specs.Written.{signs, clause_signs}
+use Rattle.plreread.specs.Written.{signs, other_signs, clause_signs}
+use Rattle.plreread.specs.Numbered.{all_numbered}
 
 abbrev table : OpTable
 table =
@@ -71,3 +72,11 @@ is_two = refl
 without_operators : clause_signs table Canonical (two "-" (int (pos 1)) (one "{}" a)) ≡ named "-" ∷ OpenCall ∷ Integer 1 true ∷ Comma ∷ OpenCurly ∷ named "a" ∷ CloseCurly ∷ Close ∷ End ∷ []
 unfolding signs prefix_of infix_of postfix_of iso_table digits
 without_operators = refl
+
+-- `f(_1,_2,_1).` is read as `f(A,B,A).`
+abbrev call_of : Tree → Tree → Tree
+call_of t u = compound (codes "f") (more t (more u (more t none)))
+
+variables_again : all_numbered [] (clause_signs table Listed (call_of (var 1) (var 2))) ≡ clause_signs table Listed (call_of (var 0) (var 1))
+unfolding signs other_signs digits
+variables_again = refl

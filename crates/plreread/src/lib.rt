@@ -1,8 +1,9 @@
 //! What is written is read back: the law of writing and reading terms (ISO/IEC 13211-1 6.3, 7.10.5).
 #![tactic(auto)]
 
-ghost use Rattle.std.specs.Prelude.{◌≡◌, ◌≤◌, ℕ, [], None, false};
+ghost use Rattle.std.specs.Prelude.{◌≡◌, ◌≤◌, ◌<◌, ◌^◌, ℕ, [], length, None, false};
 ghost use Rattle.plterm.specs.Tree.{Tree};
+ghost use Rattle.plterm.specs.Variables.{variables, copied};
 ghost use Rattle.plops.specs.declared.table.OpTable.{OpTable};
 ghost use Rattle.plops.specs.Sane.{IsSane};
 ghost use Rattle.plread.specs.Reading.{Spells};
@@ -14,6 +15,7 @@ ghost use Rattle.plwrite.specs.Writing.{words};
 ghost use Rattle.plreread.specs.Written.{clause_signs, IsWhole};
 ghost use Rattle.plreread.specs.Levels.{levels_of};
 ghost use Rattle.plreread.specs.Told.{Tell};
+ghost use Rattle.plreread.specs.Numbered.{all_numbered};
 
 /// The signs that a term is written with spell it, where as many levels may be open as it needs.
 pub fn written_is_read()
@@ -26,4 +28,10 @@ pub fn written_is_read()
 pub fn words_tell_signs()
     ensures { (ops : OpTable) → IsSane ops → (style : Style) → has_letters style ≡ false → (t : Tree) →
         Tell style None (words ops style (At whole) t []) (clause_signs ops style t) }
+{}
+
+/// The variables `_1`, `_2`, .. that a term is written with are read as 0, 1, .. by first occurrence.
+pub fn variables_are_numbered()
+    ensures { (ops : OpTable) (style : Style) (t : Tree) → length (variables t) < 2 ^ 64 →
+        all_numbered [] (clause_signs ops style (copied 1 t)) ≡ clause_signs ops style (copied 0 t) }
 {}
