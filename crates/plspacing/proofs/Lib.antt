@@ -1,0 +1,6 @@
+pub mod Quoted
+pub mod Items
+pub mod Integers
+pub mod Parts
+pub mod Words
+pub mod Spacing
