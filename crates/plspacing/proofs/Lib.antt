@@ -4,3 +4,5 @@ pub mod Integers
 pub mod Parts
 pub mod Words
 pub mod Spacing
+pub mod Worked
+pub mod Terms

@@ -19,7 +19,7 @@ use Rattle.plwrite.specs.declared.text.Role.TheVariants.{Other, PrefixOperator, 
 use Rattle.plwrite.specs.Names.{is_symbol}
 use Rattle.plwrite.specs.Words.{Word, first_byte, last_byte, edge_of, is_letter, is_held_off, touches, spaced, start, text_behind}
 use Rattle.plspacing.specs.Pieces.{Piece, Part, word, parts, Quotes, Fits, AllFit}
-use Rattle.plspacing.specs.Tokens.{tokens_at, spaces, tokens_behind, words, text, tokens, values, ending, end_at}
+use Rattle.plspacing.specs.Tokens.{tokens_at, spaces, tokens_behind, words_of, text, tokens, values, ending, end_at}
 use Rattle.plspacing.specs.Read.{Clear, StandsWord, Stands, Told, Reads}
 use Rattle.plspacing.proofs.Items.{next_here, next_behind_space, past}
 use Rattle.plspacing.proofs.Parts.{IsToken, AreTokens, text_of_parts, placed, behind, last_or, last_is, last_or-append}
@@ -108,24 +108,24 @@ last_edge : Edge → List Word → Edge
 last_edge edge [] = edge
 last_edge edge (w ∷ ws) = last_edge (edge_of w) ws
 
-clear_words : (style : Style) → Quotes style → (edge : Edge) (ps : List Piece) → AllFit ps → (rest : List ℕ) → Clear (last_edge edge (words style ps)) rest → Clear edge (text_behind edge (words style ps) ++ rest)
+clear_words : (style : Style) → Quotes style → (edge : Edge) (ps : List Piece) → AllFit ps → (rest : List ℕ) → Clear (last_edge edge (words_of style ps)) rest → Clear edge (text_behind edge (words_of style ps) ++ rest)
 unfolding last_edge
 clear_words style q edge [] h rest c = c
 clear_words style q edge (p ∷ ps) h rest c =
     let t = (word style p).text in
     let b = touches edge (first_byte t) in
-    let more = text_behind (edge_of (word style p)) (words style ps) in
+    let more = text_behind (edge_of (word style p)) (words_of style ps) in
     subst (Clear edge) (sym (spaced-append b (t ++ more) rest ∙ ap (spaced b) (append_assoc t more rest))) (clear_word edge b t (more ++ rest) (word_read style q p h.0).front refl)
 
-words_told : (style : Style) → Quotes style → (edge : Edge) (ps : List Piece) → AllFit ps → (whole : List ℕ) (from : ℕ) (rest : List ℕ) → Clear (last_edge edge (words style ps)) rest → drop from whole ≡ text_behind edge (words style ps) ++ rest →
-    Told whole from (tokens_behind style edge from ps) (from + length (text_behind edge (words style ps))) (values ps)
+words_told : (style : Style) → Quotes style → (edge : Edge) (ps : List Piece) → AllFit ps → (whole : List ℕ) (from : ℕ) (rest : List ℕ) → Clear (last_edge edge (words_of style ps)) rest → drop from whole ≡ text_behind edge (words_of style ps) ++ rest →
+    Told whole from (tokens_behind style edge from ps) (from + length (text_behind edge (words_of style ps))) (values ps)
 unfolding last_edge
 words_told style q edge [] h whole from rest c e = record { run = omega arith; are = refl }
 words_told style q edge (p ∷ ps) h whole from rest c e =
     let t = (word style p).text in
     let b = touches edge (first_byte t) in
     let next = edge_of (word style p) in
-    let more = text_behind next (words style ps) in
+    let more = text_behind next (words_of style ps) in
     let begin = from + spaces b in
     let read = word_read style q p h.0 in
     let apart : drop from whole ≡ spaced b (t ++ (more ++ rest)) = e ∙ spaced-append b (t ++ more) rest ∙ ap (spaced b) (append_assoc t more rest) in
@@ -156,12 +156,12 @@ last_spaced d true bytes more f = last_behind 32 bytes more f
 last_spaced d false bytes more f = last_behind d bytes more f
 
 -- the text ends as its last word does
-last_words : (style : Style) → Quotes style → (edge : Edge) (ps : List Piece) → AllFit ps → last_or edge.last (text_behind edge (words style ps)) ≡ (last_edge edge (words style ps)).last
+last_words : (style : Style) → Quotes style → (edge : Edge) (ps : List Piece) → AllFit ps → last_or edge.last (text_behind edge (words_of style ps)) ≡ (last_edge edge (words_of style ps)).last
 unfolding last_or last_edge
 last_words style q edge [] h = refl
 last_words style q edge (p ∷ ps) h =
     let t = (word style p).text in
-    last_spaced edge.last (touches edge (first_byte t)) t (text_behind (edge_of (word style p)) (words style ps)) (word_read style q p h.0).front ∙ last_words style q (edge_of (word style p)) ps h.1
+    last_spaced edge.last (touches edge (first_byte t)) t (text_behind (edge_of (word style p)) (words_of style ps)) (word_read style q p h.0).front ∙ last_words style q (edge_of (word style p)) ps h.1
 
 held_stop : (role : Role) → is_held_off role 46 ≡ false
 held_stop Other = refl
@@ -198,8 +198,8 @@ end_next whole place is_apart rest o e =
 pub clause_read : (style : Style) → Quotes style → (ps : List Piece) → AllFit ps → (whole : List ℕ) (from : ℕ) (is_apart : Bool) (rest : List ℕ) → Stands style ps whole from is_apart rest →
     Reads whole from (tokens style from ps) (end_at is_apart (from + length (text style ps))) (values ps)
 clause_read style q ps h whole from is_apart rest s =
-    let last : last_byte (text style ps) ≡ (last_edge start (words style ps)).last = last_byte-is (text style ps) ∙ last_words style q start ps h in
-    let clear = clear_end (last_edge start (words style ps)) is_apart rest (λ e. s.apart (ap is_symbol last ∙ e)) s.over in
+    let last : last_byte (text style ps) ≡ (last_edge start (words_of style ps)).last = last_byte-is (text style ps) ∙ last_words style q start ps h in
+    let clear = clear_end (last_edge start (words_of style ps)) is_apart rest (λ e. s.apart (ap is_symbol last ∙ e)) s.over in
     let told = words_told style q start ps h whole from (ending is_apart rest) clear s.here in
     let stop = past whole from (text style ps) (ending is_apart rest) s.here in
     record {

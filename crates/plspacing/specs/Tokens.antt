@@ -25,12 +25,12 @@ tokens_behind style edge place (p ∷ ps) =
     let begin = place + spaces (touches edge (first_byte (word style p).text)) in
     tokens_at begin (parts p) ++ tokens_behind style (edge_of (word style p)) (begin + length (word style p).text) ps
 
-abbrev pub words : Style → List Piece → List Word
-words style ps = map (word style) ps
+abbrev pub words_of : Style → List Piece → List Word
+words_of style ps = map (word style) ps
 
 -- the text of words that nothing stands before, and its tokens
 abbrev pub text : Style → List Piece → List ℕ
-text style ps = text_of (words style ps)
+text style ps = text_of (words_of style ps)
 
 abbrev pub tokens : Style → ℕ → List Piece → List Token
 tokens style from ps = tokens_behind style start from ps
