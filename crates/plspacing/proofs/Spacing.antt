@@ -18,7 +18,7 @@ use Rattle.plwrite.specs.declared.text.Role.{Role}
 use Rattle.plwrite.specs.declared.text.Role.TheVariants.{Other, PrefixOperator, PrefixMinus}
 use Rattle.plwrite.specs.Names.{is_symbol}
 use Rattle.plwrite.specs.Words.{Word, first_byte, last_byte, edge_of, is_letter, is_held_off, touches, spaced, start, text_behind}
-use Rattle.plspacing.specs.Pieces.{Piece, Part, word, parts, Quotes, Fits, AllFit}
+use Rattle.plspacing.specs.Pieces.{Piece, Part, word, parts, QuotesNames, Fits, AllFit}
 use Rattle.plspacing.specs.Tokens.{tokens_at, spaces, tokens_behind, words_of, text, tokens, values, ending, end_at}
 use Rattle.plspacing.specs.Read.{Clear, StandsWord, Stands, Told, Reads}
 use Rattle.plspacing.proofs.Items.{next_here, next_behind_space, past}
@@ -54,7 +54,7 @@ no_tokens : (whole : List ℕ) (place stop : ℕ) → place ≡ stop → Told wh
 no_tokens whole place stop e = record { run = e; are = refl }
 
 -- A word is its tokens, where what stands behind it may stand there.
-pub word_told : (style : Style) → Quotes style → (p : Piece) → Fits p → (whole : List ℕ) (from : ℕ) (rest : List ℕ) → StandsWord style p whole from rest →
+pub word_told : (style : Style) → QuotesNames style → (p : Piece) → Fits p → (whole : List ℕ) (from : ℕ) (rest : List ℕ) → StandsWord style p whole from rest →
     Told whole from (tokens_at from (parts p)) (from + length (word style p).text) (map (λ part. part.value) (parts p))
 word_told style q p h whole from rest s =
     let t = (word style p).text in
@@ -108,7 +108,7 @@ last_edge : Edge → List Word → Edge
 last_edge edge [] = edge
 last_edge edge (w ∷ ws) = last_edge (edge_of w) ws
 
-clear_words : (style : Style) → Quotes style → (edge : Edge) (ps : List Piece) → AllFit ps → (rest : List ℕ) → Clear (last_edge edge (words_of style ps)) rest → Clear edge (text_behind edge (words_of style ps) ++ rest)
+clear_words : (style : Style) → QuotesNames style → (edge : Edge) (ps : List Piece) → AllFit ps → (rest : List ℕ) → Clear (last_edge edge (words_of style ps)) rest → Clear edge (text_behind edge (words_of style ps) ++ rest)
 unfolding last_edge
 clear_words style q edge [] h rest c = c
 clear_words style q edge (p ∷ ps) h rest c =
@@ -117,7 +117,7 @@ clear_words style q edge (p ∷ ps) h rest c =
     let more = text_behind (edge_of (word style p)) (words_of style ps) in
     subst (Clear edge) (sym (spaced-append b (t ++ more) rest ∙ ap (spaced b) (append_assoc t more rest))) (clear_word edge b t (more ++ rest) (word_read style q p h.0).front refl)
 
-words_told : (style : Style) → Quotes style → (edge : Edge) (ps : List Piece) → AllFit ps → (whole : List ℕ) (from : ℕ) (rest : List ℕ) → Clear (last_edge edge (words_of style ps)) rest → drop from whole ≡ text_behind edge (words_of style ps) ++ rest →
+words_told : (style : Style) → QuotesNames style → (edge : Edge) (ps : List Piece) → AllFit ps → (whole : List ℕ) (from : ℕ) (rest : List ℕ) → Clear (last_edge edge (words_of style ps)) rest → drop from whole ≡ text_behind edge (words_of style ps) ++ rest →
     Told whole from (tokens_behind style edge from ps) (from + length (text_behind edge (words_of style ps))) (values ps)
 unfolding last_edge
 words_told style q edge [] h whole from rest c e = record { run = omega arith; are = refl }
@@ -156,7 +156,7 @@ last_spaced d true bytes more f = last_behind 32 bytes more f
 last_spaced d false bytes more f = last_behind d bytes more f
 
 -- the text ends as its last word does
-last_words : (style : Style) → Quotes style → (edge : Edge) (ps : List Piece) → AllFit ps → last_or edge.last (text_behind edge (words_of style ps)) ≡ (last_edge edge (words_of style ps)).last
+last_words : (style : Style) → QuotesNames style → (edge : Edge) (ps : List Piece) → AllFit ps → last_or edge.last (text_behind edge (words_of style ps)) ≡ (last_edge edge (words_of style ps)).last
 unfolding last_or last_edge
 last_words style q edge [] h = refl
 last_words style q edge (p ∷ ps) h =
@@ -195,7 +195,7 @@ end_next whole place is_apart rest o e =
     l.0 ∙ next_here whole (place + spaces is_apart) 46 rest l.1 (omega arith) refl ∙ item_stop whole (place + spaces is_apart) rest o
 
 -- The text of words with a full stop is a clause of the words' tokens.
-pub clause_read : (style : Style) → Quotes style → (ps : List Piece) → AllFit ps → (whole : List ℕ) (from : ℕ) (is_apart : Bool) (rest : List ℕ) → Stands style ps whole from is_apart rest →
+pub clause_read : (style : Style) → QuotesNames style → (ps : List Piece) → AllFit ps → (whole : List ℕ) (from : ℕ) (is_apart : Bool) (rest : List ℕ) → Stands style ps whole from is_apart rest →
     Reads whole from (tokens style from ps) (end_at is_apart (from + length (text style ps))) (values ps)
 clause_read style q ps h whole from is_apart rest s =
     let last : last_byte (text style ps) ≡ (last_edge start (words_of style ps)).last = last_byte-is (text style ps) ∙ last_words style q start ps h in

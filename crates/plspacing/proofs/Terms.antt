@@ -1,14 +1,17 @@
 -- The words that a term is written with are those of pieces that fit.
-use Rattle.std.proofs.Common.{◌≡◌, ◌<◌, ◌+◌, ◌^◌, ℕ, ℤ, pos, negsuc, List, [], ◌∷◌, ◌++◌, length, Bool, true, false, cond, Option, Some, None, refl, sym, ap, subst, ◌∙◌, ◌&&◌, arith}
+use Rattle.std.proofs.Common.{◌≡◌, ◌<◌, ◌+◌, ◌^◌, ℕ, ℤ, pos, negsuc, List, [], ◌∷◌, ◌++◌, length, Bool, true, false, Option, Some, None, refl, sym, ap, subst, ◌∙◌, ◌&&◌, ◌≤◌, drop, append_assoc, arith}
 use Rattle.std.specs.Prelude.{codes}
 use Rattle.std.specs.Str.{bytes_eq}
 use Rattle.std.proofs.lemmas.Bool.{cond_both}
+use Rattle.plterm.specs.Variables.{place, variables, renamed, all_renamed, copied, AllBelow, EachBelow}
+use Rattle.plterm.proofs.Belows.{AllBelow-copied}
 use Rattle.plterm.specs.Tree.{Tree, var, int, atom, compound, Trees, none, more}
 use Rattle.plops.specs.declared.operator.Operator.TheVariants as operators
 use Rattle.plops.specs.declared.operator.Prefix.{Prefix as PrefixEntry}
 use Rattle.plops.specs.declared.operator.Postfix.{Postfix as PostfixEntry}
 use Rattle.plops.specs.declared.table.Entry.{Entry}
 use Rattle.plwrite.specs.declared.style.Style.{Style}
+use Rattle.plwrite.specs.declared.style.Style.TheVariants.{Listed}
 use Rattle.plwrite.specs.declared.place.Position.{Position}
 use Rattle.plwrite.specs.declared.place.Position.TheVariants.{At, Tail}
 use Rattle.plwrite.specs.declared.text.Sign.TheVariants as signs
@@ -20,9 +23,10 @@ use Rattle.plwrite.specs.Places.{whole, argument, right_of_prefix, left_of, righ
 use Rattle.plwrite.specs.Words.{Word, last_byte, text_of, is_minus}
 use Rattle.plwrite.specs.Names.{is_symbol}
 use Rattle.plwrite.specs.Styles.{has_letters}
-use Rattle.plwrite.specs.Writing.{words, others, int_of, alone_form, as_operator, operated, numbered, pair_form, ends_list, behind_bar, bracketed, called, atom_words, alone_words, list_words, pair_words}
-use Rattle.plspacing.specs.Pieces.{Piece, Variable, Letter, Integer, Name, Functor, Prefix, Operator, Punctuation, word, Quotes, Fits, AllFit, IsName}
-use Rattle.plspacing.specs.Tokens.{words_of, text, tokens, values, ending, end_at}
+use Rattle.plwrite.specs.Writing.{words, others, int_of, alone_form, as_operator, operated, numbered, pair_form, ends_list, behind_bar, bracketed, called, atom_words, alone_words, list_words, pair_words, written, end_text, clause_text}
+use Rattle.pllex.specs.Tokens.{ends_here}
+use Rattle.plspacing.specs.Pieces.{Piece, Variable, Letter, Integer, Name, Functor, Prefix, Operator, Punctuation, word, QuotesNames, Fits, IsName}
+use Rattle.plspacing.specs.Tokens.{text, tokens, values, ending, end_at}
 use Rattle.plspacing.specs.Read.{Stands, Reads}
 use Rattle.plspacing.specs.Terms.{IsFit, AreFit, ArePieces, term_words, StandsTerm, ReadsTerm}
 use Rattle.plspacing.proofs.Spacing.{clause_read}
@@ -140,23 +144,23 @@ module _ (ops : List Entry) (style : Style) where
   mutual
     unfolding IsFit
 
-    made : (t : Tree) → IsFit t → Told t
-    made (var n) h = var_made n h
-    made (int i) h = int_made i h
-    made (atom s) h = name_made s h
-    made (compound s none) h = none_made s h.0
-    made (compound s (more a none)) h = one_made s a h.0 h.1.0 (made a h.1.0)
-    made (compound s (more a (more b none))) h = two_made s a b h.0 (made a h.1.0) (made b h.1.1.0)
-    made (compound s (more a (more b (more c args)))) h = many_made s a b c args h.0 (made a h.1.0) (made b h.1.1.0) (all_made (more c args) h.1.1.1)
+    made : (t : Tree) → IsFit t → AllBelow (2 ^ 64) t → Told t
+    made (var n) h b = var_made n b
+    made (int i) h b = int_made i h
+    made (atom s) h b = name_made s h
+    made (compound s none) h b = none_made s h.0
+    made (compound s (more a none)) h b = one_made s a h.0 h.1.0 (made a h.1.0 b.0)
+    made (compound s (more a (more c none))) h b = two_made s a c h.0 (made a h.1.0 b.0) (made c h.1.1.0 b.1.0)
+    made (compound s (more a (more c (more d args)))) h b = many_made s a c d args h.0 (made a h.1.0 b.0) (made c h.1.1.0 b.1.0) (all_made (more d args) h.1.1.1 b.1.1)
 
-    all_made : (args : Trees) → AreFit args → AllTold args
-    all_made none h = no_others
-    all_made (more a args) h = more_others a args (made a h.0) (all_made args h.1)
+    all_made : (args : Trees) → AreFit args → EachBelow (2 ^ 64) args → AllTold args
+    all_made none h b = no_others
+    all_made (more a args) h b = more_others a args (made a h.0 b.0) (all_made args h.1 b.1)
 
 -- The text of a term with a full stop is a clause of the tokens of its words.
-pub term_read : (ops : List Entry) (style : Style) → Quotes style → (t : Tree) → IsFit t → (all : List ℕ) (from : ℕ) (is_apart : Bool) (rest : List ℕ) → StandsTerm ops style t all from is_apart rest → ReadsTerm ops style t all from is_apart
-term_read ops style q t h all from is_apart rest s =
-    let m = made ops style t h (At whole) [] (record { pieces = []; are = record { fit = tt; are = refl } }) in
+pub term_read : (ops : List Entry) (style : Style) → QuotesNames style → (t : Tree) → IsFit t → AllBelow (2 ^ 64) t → (all : List ℕ) (from : ℕ) (is_apart : Bool) (rest : List ℕ) → StandsTerm ops style t all from is_apart rest → ReadsTerm ops style t all from is_apart
+term_read ops style q t h b all from is_apart rest s =
+    let m = made ops style t h b (At whole) [] (record { pieces = []; are = record { fit = tt; are = refl } }) in
     let e : text_of (term_words ops style t) ≡ text style m.pieces = ap text_of m.are.are in
     let stands : Stands style m.pieces all from is_apart rest = record { here = s.here ∙ ap (λ l. l ++ ending is_apart rest) e; apart = λ k. s.apart (ap (λ l. is_symbol (last_byte l)) e ∙ k); over = s.over } in
     record {
@@ -164,3 +168,47 @@ term_read ops style q t h all from is_apart rest s =
       are_pieces = m.are;
       reads = subst (λ l. Reads all from (tokens style from m.pieces) (end_at is_apart (from + length l)) (values m.pieces)) (sym e) (clause_read style q m.pieces m.are.fit all from is_apart rest stands);
     }
+
+-- ---- a term with the variables of a written one
+
+mutual
+  unfolding IsFit
+
+  fit_renamed : (f : ℕ → ℕ) (t : Tree) → IsFit t → IsFit (renamed f t)
+  fit_renamed f (var n) h = tt
+  fit_renamed f (int i) h = h
+  fit_renamed f (atom s) h = h
+  fit_renamed f (compound s args) h = (h.0, fit_all_renamed f args h.1)
+
+  fit_all_renamed : (f : ℕ → ℕ) (args : Trees) → AreFit args → AreFit (all_renamed f args)
+  fit_all_renamed f none h = tt
+  fit_all_renamed f (more t args) h = (fit_renamed f t h.0, fit_all_renamed f args h.1)
+
+mutual
+  below_more : (m n : ℕ) (t : Tree) → m ≤ n → AllBelow m t → AllBelow n t
+  below_more m n (var v) h b = omega arith
+  below_more m n (int i) h b = tt
+  below_more m n (atom s) h b = tt
+  below_more m n (compound s args) h b = each_below_more m n args h b
+
+  each_below_more : (m n : ℕ) (args : Trees) → m ≤ n → EachBelow m args → EachBelow n args
+  each_below_more m n none h b = tt
+  each_below_more m n (more t args) h b = (below_more m n t h b.0, each_below_more m n args h b.1)
+
+written_read : (ops : List Entry) (style : Style) → QuotesNames style → (t : Tree) → IsFit t → length (variables t) < 2 ^ 64 → (all : List ℕ) (from : ℕ) (is_apart : Bool) (rest : List ℕ) → StandsTerm ops style (copied 1 t) all from is_apart rest → ReadsTerm ops style (copied 1 t) all from is_apart
+written_read ops style q t h b all from is_apart rest s =
+    term_read ops style q (copied 1 t) (fit_renamed (λ v. 1 + place v (variables t)) t h) (below_more (1 + length (variables t)) (2 ^ 64) (copied 1 t) (omega arith) (AllBelow-copied 1 t)) all from is_apart rest s
+
+-- Behind a space the full stop is apart from any text.
+pub apart_read : (ops : List Entry) (style : Style) → QuotesNames style → (t : Tree) → IsFit t → length (variables t) < 2 ^ 64 → (all : List ℕ) (from : ℕ) (rest : List ℕ) → ends_here rest ≡ true → drop from all ≡ written ops style t ++ (codes " ." ++ rest) → ReadsTerm ops style (copied 1 t) all from true
+apart_read ops style q t h b all from rest o e = written_read ops style q t h b all from true rest (record { here = e; apart = λ k. refl; over = o })
+
+line_end : (b : Bool) (text rest : List ℕ) → (text ++ end_text b) ++ rest ≡ text ++ ending b (10 ∷ rest)
+line_end true text rest = append_assoc text (end_text true) rest
+line_end false text rest = append_assoc text (end_text false) rest
+
+-- A listed clause puts the space where it has to stand.
+pub listed_read : (ops : List Entry) (t : Tree) → IsFit t → length (variables t) < 2 ^ 64 → (all : List ℕ) (from : ℕ) (rest : List ℕ) → drop from all ≡ clause_text ops t ++ rest → ReadsTerm ops Listed (copied 1 t) all from (is_symbol (last_byte (written ops Listed t)))
+listed_read ops t h b all from rest e =
+    let is_apart = is_symbol (last_byte (written ops Listed t)) in
+    written_read ops Listed tt t h b all from is_apart (10 ∷ rest) (record { here = e ∙ line_end is_apart (written ops Listed t) rest; apart = λ k. k; over = refl })

@@ -19,7 +19,7 @@ use Rattle.plwrite.specs.declared.text.Sign.{Sign}
 use Rattle.plwrite.specs.declared.text.Sign.TheVariants as signs
 use Rattle.plwrite.specs.Names.{quoted, quoted_unless, name_text, functor_text, is_alphanumeric, is_solo, is_small, is_symbolic, is_bare, is_empty_brackets}
 use Rattle.plwrite.specs.Words.{last_byte, is_letter, sign_text, letter_text, digits_unless_zero}
-use Rattle.plspacing.specs.Pieces.{Piece, Variable, Letter, Integer, Name, Functor, Prefix, Operator, Punctuation, Part, word, parts, Quotes, Fits, IsName, itself, quoted_part, functor_part, name_parts, operator_parts, integer_parts, sign_kind}
+use Rattle.plspacing.specs.Pieces.{Piece, Variable, Letter, Integer, Name, Functor, Prefix, Operator, Punctuation, Part, word, parts, QuotesNames, Fits, IsName, itself, quoted_part, functor_part, name_parts, operator_parts, integer_parts, sign_kind}
 use Rattle.plspacing.proofs.Integers.{decimal_digits, EndsNumber}
 use Rattle.plspacing.proofs.Parts.{IsToken, AreTokens, text_of_parts, sign_token, cut_token, semicolon_token, small_token, capital_token, symbolic_token, quoted_token, number_token, Behind, behind_letter, and_gives, no_symbols, no_quote, symbol_is, last_byte_all, last_byte-cons, last_byte-quoted}
 
@@ -248,20 +248,20 @@ letter_read n h =
 
 -- ---- words
 
-named_style : (style : Style) → Quotes style → (s : List ℕ) → quoted_unless (is_bare s) s ≡ name_text style s
+named_style : (style : Style) → QuotesNames style → (s : List ℕ) → quoted_unless (is_bare s) s ≡ name_text style s
 named_style styles.Plain h s = absurd h
 named_style styles.Quoted h s = refl
 named_style styles.Canonical h s = refl
 named_style styles.Listed h s = refl
 
-functor_style : (style : Style) → Quotes style → (s : List ℕ) → quoted_unless (is_bare s && not (is_empty_brackets s)) s ≡ functor_text style s
+functor_style : (style : Style) → QuotesNames style → (s : List ℕ) → quoted_unless (is_bare s && not (is_empty_brackets s)) s ≡ functor_text style s
 functor_style styles.Plain h s = absurd h
 functor_style styles.Quoted h s = refl
 functor_style styles.Canonical h s = refl
 functor_style styles.Listed h s = refl
 
 -- A word is read as its parts, whatever stands behind it apart from it.
-pub word_read : (style : Style) → Quotes style → (p : Piece) → Fits p → IsRead (word style p).text (parts p)
+pub word_read : (style : Style) → QuotesNames style → (p : Piece) → Fits p → IsRead (word style p).text (parts p)
 word_read style q (Variable n) h = variable_read n h
 word_read style q (Letter n) h = letter_read n h
 word_read style q (Integer i) h = integer_read i h

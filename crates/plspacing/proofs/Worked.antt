@@ -6,7 +6,7 @@ use Rattle.pllex.specs.declared.token.Kind.{Kind}
 use Rattle.pllex.specs.declared.token.Kind.TheVariants as kinds
 use Rattle.plwrite.specs.declared.style.Style.TheVariants.{Quoted, Canonical, Listed}
 use Rattle.plwrite.specs.declared.text.Sign.TheVariants as signs
-use Rattle.plspacing.specs.Pieces.{Piece, Variable, Letter, Integer, Name, Functor, Prefix, Operator, Punctuation, Part, parts, itself}
+use Rattle.plspacing.specs.Pieces.{Piece, Variable, Letter, Integer, Name, Functor, Prefix, Operator, Punctuation, parts, itself}
 use Rattle.plspacing.specs.Tokens.{text, tokens, values, ending, end_at}
 
 -- ---- the tokens that a word is

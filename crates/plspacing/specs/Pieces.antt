@@ -33,11 +33,11 @@ word style (Operator s) = operator style s
 word style (Punctuation s) = sign s
 
 -- a style in which names are quoted
-abbrev pub Quotes : Style → Type 0
-Quotes styles.Plain = ⊥
-Quotes styles.Quoted = Unit {0}
-Quotes styles.Canonical = Unit {0}
-Quotes styles.Listed = Unit {0}
+abbrev pub QuotesNames : Style → Type 0
+QuotesNames styles.Plain = ⊥
+QuotesNames styles.Quoted = Unit {0}
+QuotesNames styles.Canonical = Unit {0}
+QuotesNames styles.Listed = Unit {0}
 
 -- a name is text of at most 65,535 bytes
 pub record IsName (s : List ℕ) : Type 0 where

@@ -1,5 +1,5 @@
 -- The text of a term is read as a clause.
-use Rattle.std.specs.Prelude.{◌≡◌, ℕ, ◌+◌, ◌<◌, ◌^◌, ℤ, List, [], ◌∷◌, ◌++◌, length, drop, Bool, true}
+use Rattle.std.specs.Prelude.{◌≡◌, ℕ, ◌+◌, List, [], ◌++◌, length, drop, Bool, true}
 use Rattle.plterm.specs.Tree.{Tree, var, int, atom, compound, Trees, none, more}
 use Rattle.plops.specs.declared.table.Entry.{Entry}
 use Rattle.pllex.specs.Tokens.{ends_here}
@@ -13,10 +13,10 @@ use Rattle.plspacing.specs.Pieces.{Piece, Integer, AllFit, Fits, IsName}
 use Rattle.plspacing.specs.Tokens.{words_of, tokens, values, ending, end_at}
 use Rattle.plspacing.specs.Read.{Reads}
 
--- the names, integers and variables of a term fit
+-- the names and integers of a term fit
 unfoldable mutual
   pub IsFit : Tree → Type 0
-  IsFit (var n) = n < 2 ^ 64
+  IsFit (var n) = Unit {0}
   IsFit (int i) = Fits (Integer i)
   IsFit (atom s) = IsName s
   IsFit (compound s args) = IsName s × AreFit args
