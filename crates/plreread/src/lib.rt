@@ -3,7 +3,7 @@
 
 ghost use Rattle.std.specs.Prelude.{◌≡◌, ◌≤◌, ◌<◌, ◌^◌, ℕ, [], length, None, false};
 ghost use Rattle.plterm.specs.Tree.{Tree};
-ghost use Rattle.plterm.specs.Variables.{variables, copied};
+ghost use Rattle.plterm.specs.Variables.{variables, copied, AllBelow};
 ghost use Rattle.plops.specs.declared.table.OpTable.{OpTable};
 ghost use Rattle.plops.specs.Sane.{IsSane};
 ghost use Rattle.plread.specs.Reading.{Spells};
@@ -12,6 +12,7 @@ ghost use Rattle.plwrite.specs.declared.place.Position.TheVariants.{At};
 ghost use Rattle.plwrite.specs.Places.{whole};
 ghost use Rattle.plwrite.specs.Styles.{has_letters};
 ghost use Rattle.plwrite.specs.Writing.{words};
+ghost use Rattle.plspacing.specs.Terms.{IsFit};
 ghost use Rattle.plreread.specs.Written.{clause_signs, IsWhole};
 ghost use Rattle.plreread.specs.Levels.{levels_of};
 ghost use Rattle.plreread.specs.Told.{Tell};
@@ -23,10 +24,10 @@ pub fn written_is_read()
         (levels : ℕ) → levels_of ops style (At whole) t ≤ levels → Spells ops levels (clause_signs ops style t) t }
 {}
 
-/// The words of a term in a style that quotes names and writes no variable as a letter are the texts of its signs. Two
-/// signs stand directly behind each other where no space is put between them.
+/// The words of a term, in a style that writes no variable as a letter, are the texts of its signs. Two signs stand
+/// directly behind each other where no space is put between them.
 pub fn words_tell_signs()
-    ensures { (ops : OpTable) → IsSane ops → (style : Style) → has_letters style ≡ false → (t : Tree) →
+    ensures { (ops : OpTable) → IsSane ops → (style : Style) → has_letters style ≡ false → (t : Tree) → IsFit t → AllBelow (2 ^ 64) t →
         Tell style None (words ops style (At whole) t []) (clause_signs ops style t) }
 {}
 
