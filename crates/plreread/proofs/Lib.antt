@@ -5,4 +5,7 @@ pub mod Back
 pub mod Says
 pub mod Alike
 pub mod Numbers
+pub mod Spoken
+pub mod Limits
+pub mod Again
 pub mod Worked

@@ -2,3 +2,4 @@ pub mod Written
 pub mod Told
 pub mod Levels
 pub mod Numbered
+pub mod Again

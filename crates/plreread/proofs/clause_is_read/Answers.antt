@@ -1,0 +1,8 @@
+use Rattle.plreread.proofs.Again.{listed_again, apart_again}
+use Rattle.plreread.proofs.clause_is_read.Goals as goal
+
+pub returns-clause-listed : goal.returns-clause-listed
+returns-clause-listed c = listed_again
+
+pub returns-clause-apart : goal.returns-clause-apart
+returns-clause-apart c = apart_again
