@@ -49,9 +49,6 @@ abbrev pub AreTokens : List Part → List ℕ → Type 0
 AreTokens [] rest = Unit {0}
 AreTokens (part ∷ ps) rest = IsToken part (text_of_parts ps ++ rest) × AreTokens ps rest
 
-pub one : (part : Part) (rest : List ℕ) → IsToken part rest → AreTokens (part ∷ []) rest
-one part rest h = (h, tt)
-
 -- a kind whose tokens are their own values
 abbrev pub IsItself : Kind → Type 0
 IsItself kind = (whole : List ℕ) (t : Token) → value_as kind whole t ≡ bytes_of whole t
