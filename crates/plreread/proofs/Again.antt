@@ -7,9 +7,11 @@ use Rattle.plops.specs.declared.table.OpTable.{OpTable}
 use Rattle.plops.specs.Sane.{IsSane}
 use Rattle.pllex.specs.declared.token.Token.{Token}
 use Rattle.pllex.specs.Tokens.{ends_here, IsClause}
+use Rattle.pllex.proofs.Clauses.{one_clause}
 use Rattle.plread.specs.declared.quotes.Quotes.{Quotes}
 use Rattle.plread.specs.Spelling.{signs_of}
 use Rattle.plread.specs.Reading.{Spells}
+use Rattle.plread.proofs.Unique.{spelled_once}
 use Rattle.plwrite.specs.declared.style.Style.{Style}
 use Rattle.plwrite.specs.declared.style.Style.TheVariants as styles
 use Rattle.plwrite.specs.declared.place.Position.TheVariants.{At}
@@ -19,9 +21,10 @@ use Rattle.plwrite.specs.Styles.{has_letters}
 use Rattle.plwrite.specs.Words.{last_byte, text_of}
 use Rattle.plwrite.specs.Writing.{words, written, end_text, clause_text}
 use Rattle.plspacing.specs.Pieces.{QuotesNames}
-use Rattle.plspacing.specs.Tokens.{text, tokens, values, spaces, ending, end_at}
-use Rattle.plspacing.specs.Read.{Stands, Reads}
+use Rattle.plspacing.specs.Tokens.{text, tokens, spaces, ending, end_at}
+use Rattle.plspacing.specs.Read.{Stands}
 use Rattle.plspacing.proofs.Spacing.{clause_read}
+use Rattle.plspacing.proofs.Terms.{fit_renamed, below_more}
 use Rattle.plreread.specs.Written.{clause_signs}
 use Rattle.plreread.specs.Levels.{levels_of}
 use Rattle.plreread.specs.Numbered.{all_numbered}
@@ -31,7 +34,7 @@ use Rattle.plreread.proofs.Back.{clause_back}
 use Rattle.plreread.proofs.Says.{clause_told}
 use Rattle.plreread.proofs.Numbers.{clause_numbered}
 use Rattle.plreread.proofs.Spoken.{spoken}
-use Rattle.plreread.proofs.Limits.{is_fit, whole_renamed, fit_renamed, below_more, levels_renamed}
+use Rattle.plreread.proofs.Limits.{is_fit, whole_renamed, levels_renamed}
 
 quotes_names : (style : Style) → has_letters style ≡ false → QuotesNames style
 quotes_names styles.Plain e = absurd cc
@@ -89,3 +92,9 @@ apart_again ops sane style plain t limits quotes levels enough all from after re
     let bytes : List ℕ = written ops style t in
     let last : from + length bytes + 1 + 1 ≡ after = omega (arith, length-append bytes (codes " ."), e) in
     subst (λ n. ReadsAs ops quotes levels all from n (copied 0 t)) last (again ops sane style plain t limits quotes levels enough all from true rest here (λ k. refl) over)
+
+-- it is read as nothing else
+pub read_once : (ops : OpTable) (quotes : Quotes) (levels : ℕ) (all : List ℕ) (from a b : ℕ) (t u : Tree) → ReadsAs ops quotes levels all from a t → ReadsAs ops quotes levels all from b u → (a ≡ b) × (t ≡ u)
+read_once ops quotes levels all from a b t u h k =
+    let same = one_clause all from h.tokens k.tokens a b h.clause k.clause in
+    (same.1, spelled_once ops levels (signs_of quotes all k.tokens) t u (subst (λ ts. Spells ops levels (signs_of quotes all ts) t) same.0 h.spelled) k.spelled)

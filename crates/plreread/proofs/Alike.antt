@@ -65,7 +65,7 @@ alike_bracketed false b x y add h xs ys ps k = h b xs ys ps k
 alike_called : (position : Position) (s : List ℕ) (b : Option Word) (x y : List Sign) (ps : List ℕ) → Alike x y ps → Alike (called_signs position s x b) (called_signs position s y b) ps
 alike_called position s b x y ps h = alike_bar position b _ _ ps (λ o. alike_sign _ tt (alike_sign _ tt h))
 
-int_of-renamed : (f : ℕ → ℕ) (t : Tree) → int_of (renamed f t) ≡ int_of t
+pub int_of-renamed : (f : ℕ → ℕ) (t : Tree) → int_of (renamed f t) ≡ int_of t
 int_of-renamed f (var n) = refl
 int_of-renamed f (int i) = refl
 int_of-renamed f (atom s) = refl

@@ -1,5 +1,5 @@
 -- A number begins with a digit.
-use Rattle.std.proofs.Common.{◌≡◌, ◌<◌, ◌==◌, ◌/◌, ◌%◌, ℕ, zero, suc, true, false, List, [], ◌∷◌, decimal, arith, refl}
+use Rattle.std.proofs.Common.{◌≡◌, ◌==◌, ◌/◌, ◌%◌, ℕ, zero, suc, true, false, List, [], ◌∷◌, decimal, arith, refl}
 use Rattle.std.specs.Char.{is_ascii_digit}
 use Rattle.std.specs.Fmt.{digit_glyph, digits_onto, digits}
 use Rattle.std.proofs.lemmas.Bool.{cond_both, agree_below_at}

@@ -8,4 +8,5 @@ pub mod Numbers
 pub mod Spoken
 pub mod Limits
 pub mod Again
+pub mod Variants
 pub mod Worked

@@ -1,10 +1,10 @@
 -- A term within its limits, and with other variables, has the levels and the limits of a written term.
-use Rattle.std.proofs.Common.{◌≡◌, ◌≤◌, ◌<◌, ◌+◌, ◌^◌, max, ℕ, suc, ℤ, pos, negsuc, List, [], ◌++◌, ◌∷◌, length, Bool, true, false, Option, refl, ap, ◌∙◌, arith}
+use Rattle.std.proofs.Common.{◌≡◌, max, ℕ, suc, pos, negsuc, List, [], ◌++◌, ◌∷◌, length, refl, ap, ◌∙◌, arith}
 use Rattle.plterm.specs.declared.node.Node.{Node}
 use Rattle.plterm.specs.Tree.{Tree, Trees, var, int, atom, compound, none, more, list_of}
 use Rattle.plterm.specs.Reading as nodes
 use Rattle.plterm.specs.Reading.{spelling, spellings}
-use Rattle.plterm.specs.Variables.{renamed, all_renamed, AllBelow, EachBelow}
+use Rattle.plterm.specs.Variables.{renamed, all_renamed}
 use Rattle.plops.specs.declared.table.OpTable.{OpTable}
 use Rattle.plread.specs.Reading.{count}
 use Rattle.plwrite.specs.declared.style.Style.{Style}
@@ -14,13 +14,13 @@ use Rattle.plwrite.specs.declared.form.Alone.{Alone}
 use Rattle.plwrite.specs.declared.form.Alone.TheVariants as alone
 use Rattle.plwrite.specs.declared.form.Pair.{Pair}
 use Rattle.plwrite.specs.declared.form.Pair.TheVariants as pair
-use Rattle.plwrite.specs.declared.place.Place.{Place}
-use Rattle.plwrite.specs.Places.{whole, argument, right_of_prefix, left_of, right_of, left_of_postfix, needs_brackets, place_of}
+use Rattle.plwrite.specs.Places.{whole, argument, right_of_prefix, left_of, right_of, left_of_postfix}
 use Rattle.plwrite.specs.Writing.{int_of, alone_form, pair_form}
 use Rattle.plspacing.specs.Pieces.{IsName}
 use Rattle.plspacing.specs.Terms.{IsFit, AreFit}
 use Rattle.plreread.specs.Levels.{alone_levels, pair_levels, levels_of, other_levels}
 use Rattle.plreread.specs.Written.{IsWhole, AreWhole}
+use Rattle.plreread.proofs.Alike.{int_of-renamed}
 
 -- ---- limits
 
@@ -63,37 +63,7 @@ mutual
   wholes_renamed f none h = tt
   wholes_renamed f (more t ts) h = let p = fit_parts (spelling t) (spellings ts) h in (whole_renamed f t p.0, wholes_renamed f ts p.1)
 
-mutual
-  unfolding IsFit
-
-  pub fit_renamed : (f : ℕ → ℕ) (t : Tree) → IsFit t → IsFit (renamed f t)
-  fit_renamed f (var n) h = tt
-  fit_renamed f (int i) h = h
-  fit_renamed f (atom s) h = h
-  fit_renamed f (compound s ts) h = (h.0, fits_renamed f ts h.1)
-
-  fits_renamed : (f : ℕ → ℕ) (ts : Trees) → AreFit ts → AreFit (all_renamed f ts)
-  fits_renamed f none h = tt
-  fits_renamed f (more t ts) h = (fit_renamed f t h.0, fits_renamed f ts h.1)
-
-mutual
-  pub below_more : (m n : ℕ) (t : Tree) → m ≤ n → AllBelow m t → AllBelow n t
-  below_more m n (var v) h b = omega arith
-  below_more m n (int i) h b = tt
-  below_more m n (atom s) h b = tt
-  below_more m n (compound s ts) h b = each_below_more m n ts h b
-
-  each_below_more : (m n : ℕ) (ts : Trees) → m ≤ n → EachBelow m ts → EachBelow n ts
-  each_below_more m n none h b = tt
-  each_below_more m n (more t ts) h b = (below_more m n t h b.0, each_below_more m n ts h b.1)
-
 -- ---- levels
-
-int_of-renamed : (f : ℕ → ℕ) (t : Tree) → int_of (renamed f t) ≡ int_of t
-int_of-renamed f (var n) = refl
-int_of-renamed f (int i) = refl
-int_of-renamed f (atom s) = refl
-int_of-renamed f (compound s ts) = refl
 
 module _ (ops : OpTable) (style : Style) (f : ℕ → ℕ) where
   abbrev Same : Tree → Type 0

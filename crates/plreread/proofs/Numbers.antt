@@ -2,7 +2,7 @@
 use Rattle.std.proofs.Common.{◌≡◌, ◌≤◌, ◌<◌, ◌==◌, eqb, ◌+◌, ◌^◌, max, min, ℕ, zero, suc, Bool, true, false, cond, List, [], ◌∷◌, ◌++◌, length, decimal, length-append, refl, sym, ap, subst, ◌∙◌, arith}
 use Rattle.std.specs.List.{position_or_len}
 use Rattle.std.specs.Str.{bytes_eq}
-use Rattle.std.proofs.lemmas.Bool.{cond_both, cond-true, cond-false, eqb-true, eqb-false, eq-eqb, false_from_ne_true}
+use Rattle.std.proofs.lemmas.Bool.{cond_both, cond-false, eqb-true, eqb-false, false_from_ne_true}
 use Rattle.std.proofs.lemmas.Bool.Decides.{nat_tests}
 use Rattle.std.proofs.lemmas.Fmt.{decimal_nonempty, decimal_injective}
 use Rattle.std.proofs.lemmas.List.Sums.{prefix_len-le-length}
@@ -12,7 +12,7 @@ use Rattle.plterm.specs.declared.node.Node.{Node}
 use Rattle.plterm.specs.declared.node.Node.TheVariants.{Var, Int, Atom, Compound}
 use Rattle.plterm.specs.Tree.{Tree, Trees, var, int, atom, compound, none, more}
 use Rattle.plterm.specs.Reading.{spelling, spellings}
-use Rattle.plterm.specs.Variables.{place, added, with_node, seen_after, variables, copied}
+use Rattle.plterm.specs.Variables.{place, added, seen_after, variables, copied}
 use Rattle.plterm.proofs.Spellings.{place-added, place-seen_after}
 use Rattle.plops.specs.declared.table.OpTable.{OpTable}
 use Rattle.plread.specs.Signs.{Sign}
@@ -26,12 +26,12 @@ use Rattle.plreread.proofs.Alike.{IsNoVariable, Alike, alike_end, alike_sign, al
 -- ---- the places of a tree's variables
 
 -- Numbers by first occurrence behind some that were used: each is below the top, and one of those used or the next.
-abbrev InOrder : ℕ → ℕ → List ℕ → Type 0
+abbrev pub InOrder : ℕ → ℕ → List ℕ → Type 0
 InOrder top used [] = Unit {0}
 InOrder top used (p ∷ ps) = (p ≤ used) × (p < top) × InOrder top (max used (p + 1)) ps
 
 -- the numbers of the nodes' variables, before others
-abbrev node_numbers : (ℕ → ℕ) → List Node → List ℕ → List ℕ
+abbrev pub node_numbers : (ℕ → ℕ) → List Node → List ℕ → List ℕ
 node_numbers number [] ps = ps
 node_numbers number (Var v ∷ ns) ps = number v ∷ node_numbers number ns ps
 node_numbers number (Int i ∷ ns) ps = node_numbers number ns ps
@@ -77,7 +77,7 @@ longer (Int i ∷ ns) seen = longer ns seen
 longer (Atom s ∷ ns) seen = longer ns seen
 longer (Compound s k ∷ ns) seen = longer ns seen
 
-in_order : (all : List ℕ) (ns : List Node) (seen : List ℕ) → seen_after seen ns ≡ all → InOrder (length all) (length seen) (node_numbers (λ v. place v all) ns [])
+pub in_order : (all : List ℕ) (ns : List Node) (seen : List ℕ) → seen_after seen ns ≡ all → InOrder (length all) (length seen) (node_numbers (λ v. place v all) ns [])
 in_order all [] seen e = tt
 in_order all (Var v ∷ ns) seen e =
     let here = place-added v seen in

@@ -1,5 +1,5 @@
 -- The words of a term tell its signs.
-use Rattle.std.proofs.Common.{◌≡◌, ◌<◌, ◌^◌, ◌==◌, ◌&&◌, ◌||◌, not, ℕ, ℤ, pos, negsuc, List, [], ◌∷◌, ◌++◌, Bool, true, false, cond, Option, Some, None, refl, sym, ap, ◌∙◌, subst}
+use Rattle.std.proofs.Common.{◌≡◌, ◌<◌, ◌^◌, ◌==◌, ◌&&◌, ◌||◌, not, ℕ, ℤ, pos, negsuc, List, [], ◌∷◌, ◌++◌, Bool, true, false, cond, Option, Some, None, refl, sym, ◌∙◌, subst}
 use Rattle.std.proofs.lemmas.Bool.{false≢true}
 use Rattle.std.specs.Str.{bytes_eq}
 use Rattle.plterm.specs.Tree.{Tree, Trees, var, int, atom, compound, none, more}
@@ -28,7 +28,7 @@ use Rattle.plwrite.specs.Writing as writing
 use Rattle.plwrite.specs.Writing.{int_of, alone_form, pair_form, ends_list, words, others}
 use Rattle.plspacing.specs.Pieces.{Integer, Fits, IsName}
 use Rattle.plspacing.specs.Terms.{IsFit, AreFit}
-use Rattle.plreread.specs.Written.{is_direct, after, paren, opening, name_sign, operator_sign, atom_signs, integer_signs, bracketed, behind_bar, position_signs, called_signs, alone_signs, pair_signs, signs, other_signs, clause_signs}
+use Rattle.plreread.specs.Written.{is_direct, after, paren, name_sign, operator_sign, atom_signs, integer_signs, bracketed, behind_bar, position_signs, called_signs, alone_signs, pair_signs, signs, other_signs, clause_signs}
 use Rattle.plreread.specs.Told.{tells_variable, tells_integer, tells_atom, tells_functor, tells_prefix, tells_operator, tells_open, tells_close, tells_open_square, tells_close_square, tells_open_curly, tells_close_curly, tells_comma, tells_bar, Tell, no_word, one_word}
 use Rattle.plreread.proofs.Forms.{AloneIs, PairIs, alone_is, pair_is}
 

@@ -1,5 +1,5 @@
 -- The tokens of words that tell signs have these signs.
-use Rattle.std.proofs.Common.{◌≡◌, ◌<◌, ◌==◌, eqb, ◌+◌, not, ◌||◌, ◌&&◌, ℕ, zero, suc, ℤ, pos, negsuc, List, [], ◌∷◌, ◌++◌, map, length, Bool, true, false, cond, Option, Some, None, codes, append_assoc, length-append, refl, sym, ap, subst, ◌∙◌, arith}
+use Rattle.std.proofs.Common.{◌≡◌, ◌<◌, ◌==◌, ◌+◌, not, ◌||◌, ◌&&◌, ℕ, pos, negsuc, List, [], ◌∷◌, ◌++◌, map, length, Bool, true, false, cond, Option, Some, None, codes, append_assoc, length-append, refl, sym, ap, ◌∙◌, arith}
 use Rattle.std.specs.List.{flat_map}
 use Rattle.std.specs.Str.{bytes_eq}
 use Rattle.std.proofs.lemmas.Bool.{false≢true, eq-eqb, eqb-true, false_from_ne_true}
@@ -17,10 +17,9 @@ use Rattle.plread.specs.Spelling as spelling
 use Rattle.plread.specs.Spelling.{number_of, seen_with, is_joined, signs_behind}
 use Rattle.plwrite.specs.declared.style.Style.{Style}
 use Rattle.plwrite.specs.declared.text.Edge.{Edge}
-use Rattle.plwrite.specs.declared.text.Sign.TheVariants as marks
 use Rattle.plwrite.specs.Names.{is_bare, is_empty_brackets}
 use Rattle.plwrite.specs.Words.{Word, first_byte, edge_of, touches, start}
-use Rattle.plspacing.specs.Pieces.{Piece, Variable, Integer, Name, Functor, Prefix, Operator, Punctuation, Part, word, itself, quoted_part, name_part, functor_part, parts, QuotesNames, Fits, AllFit}
+use Rattle.plspacing.specs.Pieces.{Piece, Prefix, Part, word, itself, quoted_part, name_part, parts, QuotesNames, Fits, AllFit}
 use Rattle.plspacing.specs.Tokens.{tokens_at, tokens_behind, spaces, words_of, values, end_at}
 use Rattle.plspacing.proofs.Parts.{text_of_parts}
 use Rattle.plspacing.proofs.Words.{word_read}

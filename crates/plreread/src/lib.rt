@@ -3,7 +3,7 @@
 
 ghost use Rattle.std.specs.Prelude.{◌≡◌, ◌≤◌, ◌<◌, ◌+◌, ◌^◌, ◌++◌, ℕ, List, [], length, drop, None, true, false, codes};
 ghost use Rattle.plterm.specs.Tree.{Tree};
-ghost use Rattle.plterm.specs.Variables.{variables, copied, AllBelow};
+ghost use Rattle.plterm.specs.Variables.{variables, copied, AllBelow, IsVariant};
 ghost use Rattle.plops.specs.declared.table.OpTable.{OpTable};
 ghost use Rattle.plops.specs.Sane.{IsSane};
 ghost use Rattle.pllex.specs.Tokens.{ends_here};
@@ -43,7 +43,7 @@ pub fn variables_are_numbered()
 
 /// What is written is read back: as a clause that is listed, and in any style that writes no variable as a letter with
 /// ` .` behind it, wherever it stands in a text. Under the same operators it is read as the term with the variables 0, 1,
-/// .. by first occurrence, whatever the flag double_quotes is, where as many levels may be open as it needs.
+/// .. by first occurrence, a variant, whatever the flag double_quotes is, where as many levels may be open as it needs.
 pub fn clause_is_read()
     ensures listed { (ops : OpTable) → IsSane ops → (t : Tree) → IsWithinLimits t →
         (quotes : Quotes) (levels : ℕ) → levels_of ops Listed (At whole) t ≤ levels →
@@ -55,4 +55,11 @@ pub fn clause_is_read()
         (text : List ℕ) (from after : ℕ) (rest : List ℕ) →
         drop from text ≡ written ops style t ++ (codes " ." ++ rest) → ends_here rest ≡ true → after ≡ from + length (written ops style t ++ codes " .") →
         ReadsAs ops quotes levels text from after (copied 0 t) }
+    ensures variant { (t : Tree) → IsVariant (copied 0 t) t }
+{}
+
+/// A text is read as one term, and to one place.
+pub fn read_once()
+    ensures { (ops : OpTable) (quotes : Quotes) (levels : ℕ) (text : List ℕ) (from a b : ℕ) (t u : Tree) →
+        ReadsAs ops quotes levels text from a t → ReadsAs ops quotes levels text from b u → (a ≡ b) × (t ≡ u) }
 {}

@@ -174,7 +174,7 @@ term_read ops style q t h b all from is_apart rest s =
 mutual
   unfolding IsFit
 
-  fit_renamed : (f : ℕ → ℕ) (t : Tree) → IsFit t → IsFit (renamed f t)
+  pub fit_renamed : (f : ℕ → ℕ) (t : Tree) → IsFit t → IsFit (renamed f t)
   fit_renamed f (var n) h = tt
   fit_renamed f (int i) h = h
   fit_renamed f (atom s) h = h
@@ -185,7 +185,7 @@ mutual
   fit_all_renamed f (more t args) h = (fit_renamed f t h.0, fit_all_renamed f args h.1)
 
 mutual
-  below_more : (m n : ℕ) (t : Tree) → m ≤ n → AllBelow m t → AllBelow n t
+  pub below_more : (m n : ℕ) (t : Tree) → m ≤ n → AllBelow m t → AllBelow n t
   below_more m n (var v) h b = omega arith
   below_more m n (int i) h b = tt
   below_more m n (atom s) h b = tt
