@@ -1,5 +1,5 @@
 -- A table is sane where each entry passes a test, and the comma is its operator.
-use Rattle.std.proofs.Common.{◌≡◌, ◌<◌, ◌≤◌, Bool, true, false, cond, ◌&&◌, nat_lt, nat_le, ℕ, List, [], ◌∷◌, Option, Some, None, refl, subst}
+use Rattle.std.proofs.Common.{◌≡◌, ◌<◌, ◌≤◌, Bool, true, false, cond, ◌&&◌, nat_lt, nat_le, ℕ, List, [], ◌∷◌, Option, Some, None, refl, subst, ap}
 use Rattle.std.proofs.lemmas.Bool.{false≢true, leb-true, ltb-true}
 use Rattle.std.specs.Prelude.{is_none, option_and_then}
 use Rattle.std.specs.List.{list_all}
@@ -8,7 +8,7 @@ use Rattle.plops.specs.declared.operator.Infix.{Infix}
 use Rattle.plops.specs.declared.operator.Postfix.{Postfix}
 use Rattle.plops.specs.declared.table.Entry.{Entry}
 use Rattle.plops.specs.Tables.{is_named, find, prefix_of, infix_of, postfix_of}
-use Rattle.plops.specs.Sane.{IsSane, comma, comma_op}
+use Rattle.plops.specs.Sane.{IsSane, comma, comma_op, is_reserved}
 use Rattle.plops.specs.Checks.{good_prefix, good_infix, good_postfix, alone, is_good, IsTable}
 
 abbrev IsGood : Option Entry → Type 0
@@ -94,8 +94,20 @@ module _ (ops : List Entry) (good : list_all is_good ops ≡ true) where
   unfolding infix_of postfix_of
   lone n op e = infix_alone (find ops n) op (found_good ops n good) e
 
-  pub sane : infix_of ops comma ≡ Some comma_op → IsSane ops
-  sane h = record {
+  no_prefix : (n : List ℕ) → find ops n ≡ None → prefix_of ops n ≡ None
+  unfolding prefix_of
+  no_prefix n e = ap (option_and_then (λ x. x.as_prefix)) e
+
+  no_infix : (n : List ℕ) → find ops n ≡ None → infix_of ops n ≡ None
+  unfolding infix_of
+  no_infix n e = ap (option_and_then (λ x. x.as_infix)) e
+
+  not_behind : (n : List ℕ) → find ops n ≡ None → postfix_of ops n ≡ None
+  unfolding postfix_of
+  not_behind n e = ap (option_and_then (λ x. x.as_postfix)) e
+
+  pub sane : infix_of ops comma ≡ Some comma_op → ((n : List ℕ) → is_reserved n ≡ true → find ops n ≡ None) → IsSane ops
+  sane h none = record {
     pre_some = λ n op e. ltb-true 0 op.priority (both _ _ (pre n op e)).0;
     pre_top = λ n op e. leb-true op.priority 1200 (both _ _ (both _ _ (pre n op e)).1).0;
     pre_right = λ n op e. leb-true op.right op.priority (both _ _ (both _ _ (pre n op e)).1).1;
@@ -108,7 +120,10 @@ module _ (ops : List Entry) (good : list_all is_good ops ≡ true) where
     post_top = λ n op e. leb-true op.priority 1200 (both _ _ (both _ _ (post n op e)).1).0;
     post_left = λ n op e. leb-true op.left op.priority (both _ _ (both _ _ (post n op e)).1).1;
     in_comma = h;
+    pre_reserved = λ n r. no_prefix n (none n r);
+    in_reserved = λ n r. no_infix n (none n r);
+    post_reserved = λ n r. not_behind n (none n r);
   }
 
 pub is_sane : (ops : List Entry) → IsTable ops → IsSane ops
-is_sane ops t = sane ops t.good t.comma_stands
+is_sane ops t = sane ops t.good t.comma_stands t.none_reserved

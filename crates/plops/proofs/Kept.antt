@@ -13,9 +13,9 @@ use Rattle.plops.specs.declared.table.Entry.{Entry}
 use Rattle.plops.specs.declared.error.OpError.TheVariants as errors
 use Rattle.plops.specs.Tables.{plain, is_named, find, with_operator, infix_of}
 use Rattle.plops.specs.Operators.{operator_of}
-use Rattle.plops.specs.Sane.{comma, comma_op}
+use Rattle.plops.specs.Sane.{comma, comma_op, is_reserved}
 use Rattle.plops.specs.Checks.{good_prefix, good_infix, good_postfix, alone, is_good, IsTable}
-use Rattle.plops.specs.Changes.{without, changed, is_plain, is_before, is_rising, kept, put, entry_of, added, is_beside, is_reserved, refusal}
+use Rattle.plops.specs.Changes.{without, changed, is_plain, is_before, is_rising, kept, put, entry_of, added, is_beside, refusal}
 use Rattle.plops.proofs.Names.{same_name, by_test}
 use Rattle.plops.proofs.Ranks.{is_above, above_more}
 use Rattle.plops.proofs.Finds.{elsewhere}
@@ -137,17 +137,18 @@ with_good e p kinds.Yf h m b g = record { before = g.before; between = g.between
 record Allowed (p : ℕ) (k : Kind) (n : List ℕ) (t : List Entry) : Type 0 where
   low : p ≤ 1200
   not_comma : n ≡ comma → ⊥
+  free : is_reserved n ≡ false
   apart : (ltb 0 p && is_beside k (entry_of t n)) ≡ false
 
 allowed : (p : ℕ) (k : Kind) (n : List ℕ) (t : List Entry) → refusal p k n t ≡ None → Allowed p k n t
-allowed p k n t = by (ltb 1200 p) (bytes_eq n comma) (is_reserved n) (ltb 0 p && is_beside k (entry_of t n)) refl refl refl
+allowed p k n t = by (ltb 1200 p) (bytes_eq n comma) (is_reserved n) (ltb 0 p && is_beside k (entry_of t n)) refl refl refl refl
   where
-    by : (a b c d : Bool) → ltb 1200 p ≡ a → bytes_eq n comma ≡ b → (ltb 0 p && is_beside k (entry_of t n)) ≡ d → cond a (Some errors.Priority) (cond b (Some errors.Comma) (cond c (Some errors.Reserved) (cond d (Some errors.InfixPostfix) None))) ≡ None → Allowed p k n t
-    by true b c d e f g h = absurd cc
-    by false true c d e f g h = absurd cc
-    by false false true d e f g h = absurd cc
-    by false false false true e f g h = absurd cc
-    by false false false false e f g h = record { low = ltb-false 1200 p e; not_comma = λ s. true≢false (sym (same_name n comma s) ∙ f); apart = g }
+    by : (a b c d : Bool) → ltb 1200 p ≡ a → bytes_eq n comma ≡ b → is_reserved n ≡ c → (ltb 0 p && is_beside k (entry_of t n)) ≡ d → cond a (Some errors.Priority) (cond b (Some errors.Comma) (cond c (Some errors.Reserved) (cond d (Some errors.InfixPostfix) None))) ≡ None → Allowed p k n t
+    by true b c d e f r g h = absurd cc
+    by false true c d e f r g h = absurd cc
+    by false false true d e f r g h = absurd cc
+    by false false false true e f r g h = absurd cc
+    by false false false false e f r g h = record { low = ltb-false 1200 p e; not_comma = λ s. true≢false (sym (same_name n comma s) ∙ f); free = r; apart = g }
 
 plain_good : (n : List ℕ) → is_good (plain n) ≡ true
 plain_good n = refl
@@ -172,11 +173,14 @@ changed_good p k n t a g =
     ap is_good (cond-false (eqb p 0) (without e k) (with_operator e (operator_of p k)) b)
     ∙ good_from (with_operator e (operator_of p k)) (with_good e p k some a.low (apart_here (ltb 0 p) (is_beside k e) (lt-ltb 0 p (omega arith)) a.apart) (parts e g)))
 
--- ---- the comma
+-- ---- the comma, and the reserved names
 
 comma_added : (p : ℕ) (k : Kind) (n : List ℕ) (t : List Entry) → (n ≡ comma → ⊥) → infix_of t comma ≡ Some comma_op → infix_of (added p k n t) comma ≡ Some comma_op
 unfolding infix_of
 comma_added p k n t h e = ap (option_and_then (λ x. x.as_infix)) (elsewhere p k n comma t (λ s. h (sym s))) ∙ e
+
+none_added : (p : ℕ) (k : Kind) (n m : List ℕ) (t : List Entry) → is_reserved n ≡ false → is_reserved m ≡ true → find t m ≡ None → find (added p k n t) m ≡ None
+none_added p k n m t h r e = elsewhere p k n m t (λ s. true≢false (sym r ∙ ap is_reserved s ∙ h)) ∙ e
 
 pub table_added : (p : ℕ) (k : Kind) (n : List ℕ) (t : List Entry) → IsTable t → refusal p k n t ≡ None → IsTable (added p k n t)
 table_added p k n t h e =
@@ -185,4 +189,5 @@ table_added p k n t h e =
       rising = rising_added p k n t h.rising;
       good = all_put is_good (changed p k (entry_of t n)) t h.good (changed_good p k n t a (entry_good t n h.good));
       comma_stands = comma_added p k n t a.not_comma h.comma_stands;
+      none_reserved = λ m r. none_added p k n m t a.free r (h.none_reserved m r);
     }

@@ -1,5 +1,5 @@
 -- How a table of operators changes (8.14.3).
-use Rattle.std.specs.Prelude.{◌≡◌, ℕ, List, [], ◌∷◌, ◌++◌, Bool, true, false, ◌&&◌, ◌||◌, ◌==◌, nat_lt, if◌then◌else◌, Option, Some, None, is_some, is_none, unwrap_or, filter, codes, Result, Ok, Err}
+use Rattle.std.specs.Prelude.{◌≡◌, ℕ, List, [], ◌∷◌, ◌++◌, Bool, true, false, ◌&&◌, ◌==◌, nat_lt, if◌then◌else◌, Option, Some, None, is_some, is_none, unwrap_or, filter, Result, Ok, Err}
 use Rattle.std.specs.List.{list_all}
 use Rattle.std.specs.Str.{bytes_eq}
 use Rattle.std.specs.Cmp.Lexicographic.{slice_cmp}
@@ -11,7 +11,7 @@ use Rattle.plops.specs.declared.error.OpError.{OpError}
 use Rattle.plops.specs.declared.error.OpError.TheVariants as errors
 use Rattle.plops.specs.Operators.{operator_of}
 use Rattle.plops.specs.Tables.{plain, with_operator, find}
-use Rattle.plops.specs.Sane.{comma}
+use Rattle.plops.specs.Sane.{comma, is_reserved}
 
 -- an entry without the operator that stands where one of a kind does
 abbrev pub without : Entry → Kind → Entry
@@ -55,10 +55,6 @@ entry_of entries name = unwrap_or (find entries name) (plain name)
 -- the table once an operator is declared
 abbrev pub added : ℕ → Kind → List ℕ → List Entry → List Entry
 added priority kind name entries = put (changed priority kind (entry_of entries name)) entries
-
--- names that are never operators
-abbrev pub is_reserved : List ℕ → Bool
-is_reserved name = bytes_eq name (codes "|") || (bytes_eq name (codes "[]") || bytes_eq name (codes "{}"))
 
 -- an operator of a kind would be an infix beside a postfix that the name is, or the other way
 abbrev pub is_beside : Kind → Entry → Bool

@@ -3,8 +3,8 @@ ghost use Rattle.std.specs.Prelude.{◌≡◌, ◌≤◌, ◌<◌, ◌++◌, [],
 ghost use Rattle.plops.specs.declared.table.Entry.{Entry};
 ghost use Rattle.plops.specs.declared.operator.Kind.{Kind};
 ghost use Rattle.plops.specs.Tables.{plain, with_operator, is_named, find, prefix_of, infix_of, postfix_of};
-ghost use Rattle.plops.specs.Sane.{IsSane};
-ghost use Rattle.plops.specs.Changes.{without, is_plain, is_before, is_reserved, is_beside, changed, entry_of, is_rising, put, added, refusal, Adds};
+ghost use Rattle.plops.specs.Sane.{is_reserved, IsSane};
+ghost use Rattle.plops.specs.Changes.{without, is_plain, is_before, is_beside, changed, entry_of, is_rising, put, added, refusal, Adds};
 ghost use Rattle.plops.specs.Given.{with_names, iso_table};
 ghost use Rattle.plops.specs.Listing.{current_ops, told, told_by};
 ghost use Rattle.plops.specs.Ranks.{rank};

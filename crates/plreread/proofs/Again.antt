@@ -1,0 +1,100 @@
+-- What is written is read again.
+use Rattle.std.proofs.Common.{◌≡◌, ◌≤◌, ◌+◌, ◌^◌, ℕ, List, [], ◌∷◌, ◌++◌, length, drop, Bool, true, false, None, codes, append_assoc, length-append, refl, sym, ap, subst, ◌∙◌, arith}
+use Rattle.plterm.specs.Tree.{Tree}
+use Rattle.plterm.specs.Variables.{place, variables, copied}
+use Rattle.plterm.proofs.Belows.{AllBelow-copied}
+use Rattle.plops.specs.declared.table.OpTable.{OpTable}
+use Rattle.plops.specs.Sane.{IsSane}
+use Rattle.pllex.specs.declared.token.Token.{Token}
+use Rattle.pllex.specs.Tokens.{ends_here, IsClause}
+use Rattle.pllex.proofs.Clauses.{one_clause}
+use Rattle.plread.specs.declared.quotes.Quotes.{Quotes}
+use Rattle.plread.specs.Spelling.{signs_of}
+use Rattle.plread.specs.Reading.{Spells}
+use Rattle.plread.proofs.Unique.{spelled_once}
+use Rattle.plwrite.specs.declared.style.Style.{Style}
+use Rattle.plwrite.specs.declared.style.Style.TheVariants as styles
+use Rattle.plwrite.specs.declared.place.Position.TheVariants.{At}
+use Rattle.plwrite.specs.Names.{is_symbol}
+use Rattle.plwrite.specs.Places.{whole}
+use Rattle.plwrite.specs.Styles.{has_letters}
+use Rattle.plwrite.specs.Words.{last_byte, text_of}
+use Rattle.plwrite.specs.Writing.{words, written, end_text, clause_text}
+use Rattle.plspacing.specs.Pieces.{QuotesNames}
+use Rattle.plspacing.specs.Tokens.{text, tokens, spaces, ending, end_at}
+use Rattle.plspacing.specs.Read.{Stands}
+use Rattle.plspacing.proofs.Spacing.{clause_read}
+use Rattle.plspacing.proofs.Terms.{fit_renamed, below_more}
+use Rattle.plreread.specs.Written.{clause_signs}
+use Rattle.plreread.specs.Levels.{levels_of}
+use Rattle.plreread.specs.Numbered.{all_numbered}
+use Rattle.plreread.specs.Told.{Tell}
+use Rattle.plreread.specs.Again.{IsWithinLimits, ReadsAs}
+use Rattle.plreread.proofs.Back.{clause_back}
+use Rattle.plreread.proofs.Says.{clause_told}
+use Rattle.plreread.proofs.Numbers.{clause_numbered}
+use Rattle.plreread.proofs.Spoken.{spoken}
+use Rattle.plreread.proofs.Limits.{is_fit, whole_renamed, levels_renamed}
+
+quotes_names : (style : Style) → has_letters style ≡ false → QuotesNames style
+quotes_names styles.Plain e = absurd cc
+quotes_names styles.Quoted e = tt
+quotes_names styles.Canonical e = tt
+quotes_names styles.Listed e = tt
+
+module _ (ops : OpTable) (sane : IsSane ops) (style : Style) (plain : has_letters style ≡ false) (t : Tree) (limits : IsWithinLimits t) where
+  -- the term with the variables that are written
+  told : Tell style None (words ops style (At whole) (copied 1 t) []) (clause_signs ops style (copied 1 t))
+  told =
+      clause_told ops style sane plain (copied 1 t) (fit_renamed (λ v. 1 + place v (variables t)) t (is_fit t limits.fits))
+      (below_more (1 + length (variables t)) (2 ^ 64) (copied 1 t) (omega (arith, limits.few)) (AllBelow-copied 1 t))
+
+  -- and with those that are read
+  spelled : (levels : ℕ) → levels_of ops style (At whole) t ≤ levels → Spells ops levels (all_numbered [] (clause_signs ops style (copied 1 t))) (copied 0 t)
+  spelled levels enough =
+      let number : ℕ → ℕ = λ v. 0 + place v (variables t) in
+      let same : levels_of ops style (At whole) (copied 0 t) ≡ levels_of ops style (At whole) t = levels_renamed ops style number t (At whole) in
+      subst (λ l. Spells ops levels l (copied 0 t)) (sym (clause_numbered ops style t limits.few)) (clause_back ops style sane (copied 0 t) (whole_renamed number t limits.fits) levels (omega arith))
+
+  -- the text of the term with a full stop behind it
+  again : (quotes : Quotes) (levels : ℕ) → levels_of ops style (At whole) t ≤ levels → (all : List ℕ) (from : ℕ) (is_apart : Bool) (rest : List ℕ) → drop from all ≡ written ops style t ++ ending is_apart rest →
+      (is_symbol (last_byte (written ops style t)) ≡ true → is_apart ≡ true) → ends_here rest ≡ true → ReadsAs ops quotes levels all from (from + length (written ops style t) + spaces is_apart + 1) (copied 0 t)
+  again quotes levels enough all from is_apart rest here apart over =
+      let s = spoken style (quotes_names style plain) told in
+      let e : written ops style t ≡ text style s.pieces = ap text_of s.are in
+      let stands : Stands style s.pieces all from is_apart rest = record { here = here ∙ ap (λ l. l ++ ending is_apart rest) e; apart = λ k. apart (ap (λ l. is_symbol (last_byte l)) e ∙ k); over = over } in
+      let n : ℕ = from + length (text style s.pieces) in
+      let r = clause_read style (quotes_names style plain) s.pieces s.fit all from is_apart rest stands in
+      let ts : List Token = tokens style from s.pieces ++ end_at is_apart n ∷ [] in
+      record {
+        tokens = ts;
+        clause = subst (λ l. IsClause all from ts (from + length l + spaces is_apart + 1)) (sym e) r.clause;
+        spelled = subst (λ l. Spells ops levels l (copied 0 t)) (sym (s.says quotes all from [] is_apart n r.are)) (spelled levels enough);
+      }
+
+line_end : (b : Bool) (bytes rest : List ℕ) → (bytes ++ end_text b) ++ rest ≡ bytes ++ ending b (10 ∷ rest)
+line_end true bytes rest = append_assoc bytes (end_text true) rest
+line_end false bytes rest = append_assoc bytes (end_text false) rest
+
+length-end_text : (b : Bool) → length (end_text b) ≡ spaces b + 2
+length-end_text true = refl
+length-end_text false = refl
+
+pub listed_again : (ops : OpTable) → IsSane ops → (t : Tree) → IsWithinLimits t → (quotes : Quotes) (levels : ℕ) → levels_of ops styles.Listed (At whole) t ≤ levels → (all : List ℕ) (from after : ℕ) (rest : List ℕ) → drop from all ≡ clause_text ops t ++ rest → after + 1 ≡ from + length (clause_text ops t) → ReadsAs ops quotes levels all from after (copied 0 t)
+listed_again ops sane t limits quotes levels enough all from after rest here e =
+    let bytes : List ℕ = written ops styles.Listed t in
+    let is_apart : Bool = is_symbol (last_byte bytes) in
+    let last : from + length bytes + spaces is_apart + 1 ≡ after = omega (arith, length-append bytes (end_text is_apart), length-end_text is_apart, e) in
+    subst (λ n. ReadsAs ops quotes levels all from n (copied 0 t)) last (again ops sane styles.Listed refl t limits quotes levels enough all from is_apart (10 ∷ rest) (here ∙ line_end is_apart bytes rest) (λ k. k) refl)
+
+pub apart_again : (ops : OpTable) → IsSane ops → (style : Style) → has_letters style ≡ false → (t : Tree) → IsWithinLimits t → (quotes : Quotes) (levels : ℕ) → levels_of ops style (At whole) t ≤ levels → (all : List ℕ) (from after : ℕ) (rest : List ℕ) → drop from all ≡ written ops style t ++ (codes " ." ++ rest) → ends_here rest ≡ true → after ≡ from + length (written ops style t ++ codes " .") → ReadsAs ops quotes levels all from after (copied 0 t)
+apart_again ops sane style plain t limits quotes levels enough all from after rest here over e =
+    let bytes : List ℕ = written ops style t in
+    let last : from + length bytes + 1 + 1 ≡ after = omega (arith, length-append bytes (codes " ."), e) in
+    subst (λ n. ReadsAs ops quotes levels all from n (copied 0 t)) last (again ops sane style plain t limits quotes levels enough all from true rest here (λ k. refl) over)
+
+-- it is read as nothing else
+pub read_once : (ops : OpTable) (quotes : Quotes) (levels : ℕ) (all : List ℕ) (from a b : ℕ) (t u : Tree) → ReadsAs ops quotes levels all from a t → ReadsAs ops quotes levels all from b u → (a ≡ b) × (t ≡ u)
+read_once ops quotes levels all from a b t u h k =
+    let same = one_clause all from h.tokens k.tokens a b h.clause k.clause in
+    (same.1, spelled_once ops levels (signs_of quotes all k.tokens) t u (subst (λ ts. Spells ops levels (signs_of quotes all ts) t) same.0 h.spelled) k.spelled)

@@ -1,0 +1,12 @@
+use Rattle.plreread.proofs.Again.{listed_again, apart_again}
+use Rattle.plreread.proofs.Variants.{copied_again}
+use Rattle.plreread.proofs.clause_is_read.Goals as goal
+
+pub returns-clause-listed : goal.returns-clause-listed
+returns-clause-listed c = listed_again
+
+pub returns-clause-apart : goal.returns-clause-apart
+returns-clause-apart c = apart_again
+
+pub returns-clause-variant : goal.returns-clause-variant
+returns-clause-variant c = copied_again

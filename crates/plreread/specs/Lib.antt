@@ -1,0 +1,5 @@
+pub mod Written
+pub mod Told
+pub mod Levels
+pub mod Numbered
+pub mod Again
