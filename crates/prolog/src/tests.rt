@@ -296,8 +296,8 @@ const CONTROL: [(&str, &str, Status); 30] = [
         Status::Done,
     ),
     (
-        ":- catch(1, error(type_error(T, V), P), true), writeq(f(T, V, P)).",
-        "% thread 1 main: true\nf(callable,1,catch/3)\n",
+        ":- catch(1, error(type_error(T, V), /(catch, 3)), true), writeq(f(T, V)).",
+        "% thread 1 main: true\nf(callable,1)\n",
         Status::Done,
     ),
     (
