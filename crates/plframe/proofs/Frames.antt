@@ -6,8 +6,8 @@ use Rattle.plheap.specs.declared.cell.Cell.{Cell}
 use Rattle.plheap.specs.Store.{Store, term, cut, IsMark, Keeps}
 use Rattle.plheap.proofs.Kept.{IsMark-kept}
 use Rattle.plheap.proofs.Cuts.{cut-cut, IsMark-cut, cut-cells, cut-trail}
-use Rattle.plsearch.specs.Types.{Element, Goal, Commit, Never, Look, Await, Place, Case, Choice, Mark as MarkOf, Until, Handle, Catch}
-use Rattle.plsearch.specs.Table.{bind_element, resolve}
+use Rattle.plsearch.specs.Types.{Goal, Look, Case, Choice, Mark as MarkOf, Handle, Catch}
+use Rattle.plsearch.specs.Table.{resolve}
 use Rattle.plsearch.specs.Engine.{deeper}
 use Rattle.plframe.specs.declared.frame.Item.{Item}
 use Rattle.plframe.specs.declared.frame.Item.TheVariants.{Goal as GoalAt, Commit as CommitTo, Never as NeverTo, Until as UntilTo, Look as LookAt, Await as AwaitFor}
@@ -17,7 +17,7 @@ use Rattle.plframe.specs.declared.frame.Branch.{Branch}
 use Rattle.plframe.specs.declared.frame.Frame.{Frame}
 use Rattle.plframe.specs.declared.frame.Frame.TheVariants.{Plain, Barrier, Call, Branch as BranchOf, Catch as CatchOf}
 use Rattle.plframe.specs.declared.frame.Catcher.{Catcher}
-use Rattle.plframe.specs.Places.{list_at, element, goals_at, place_at, plain, Statics, clauses_in, places_left, alternatives, branch_place, catcher_case, opened, cases, size, depth_of, IsOlder, AreOlder, IsCall, IsSaved, IsFrame, AreFrames, IsItemIn, AreIn}
+use Rattle.plframe.specs.Places.{element, plain, Statics, clauses_in, alternatives, branch_place, catcher_case, cases, depth_of, IsOlder, AreOlder, IsCall, IsSaved, IsFrame, AreFrames, IsItemIn, AreIn}
 use Rattle.plframe.proofs.Arena.{list_at-more, list_at-take}
 
 in_more : (n m : ℕ) (x : Item) → n ≤ m → IsItemIn n x → IsItemIn m x

@@ -13,7 +13,7 @@ use Rattle.plevent.specs.declared.update.Update.TheVariants.{Last}
 use Rattle.plheap.specs.Store.{Store, term}
 use Rattle.plheap.specs.Putting.{over, HasVariables}
 use Rattle.plsearch.specs.Types.{Element, Goal, Commit, Never, Until, Look, Await, Place}
-use Rattle.plsearch.specs.Table.{bind_element, bind_goals, is_true, before_rest, resolve}
+use Rattle.plsearch.specs.Table.{bind_goals, is_true, before_rest, resolve}
 use Rattle.plframe.specs.declared.frame.Item.{Item}
 use Rattle.plframe.specs.declared.frame.Item.TheVariants.{Goal as GoalAt, Commit as CommitTo, Never as NeverTo, Until as UntilTo, Look as LookAt, Await as AwaitFor}
 use Rattle.plframe.specs.declared.frame.Link.{Link}

@@ -1,5 +1,5 @@
 -- What the calls of a stack keep.
-use Rattle.std.proofs.Common.{◌≡◌, ℕ, zero, suc, ◌+◌, ◌-◌, ◌<◌, ◌≤◌, List, [], ◌∷◌, ◌++◌, length, length-append, refl, sym, ap, ap₂, ◌∙◌, subst, arith, map, reverse, append-nil, le_trans, le_refl, get_or, take, drop, filter_map, length-take-le, Bool, true, false, None, Ok, Err, IfOk, OnErr}
+use Rattle.std.proofs.Common.{◌≡◌, ℕ, suc, ◌+◌, ◌-◌, ◌<◌, ◌≤◌, List, [], ◌∷◌, ◌++◌, length, length-append, refl, sym, ap, ap₂, ◌∙◌, subst, arith, map, reverse, append-nil, le_trans, le_refl, get_or, take, drop, filter_map, length-take-le, Bool, true, false, None, Ok, Err, IfOk, OnErr}
 use Rattle.std.proofs.lemmas.List.{get_or_default, drop_all}
 use Rattle.plheap.specs.declared.cell.Mark.{Mark}
 use Rattle.plheap.specs.Store.{Store, term, cut, IsMark, Keeps}
@@ -9,7 +9,7 @@ use Rattle.plsubst.specs.Unify.{unify}
 use Rattle.plunify.specs.Unifying.{Unified}
 use Rattle.std.specs.Prelude.{Result as Outcomes}
 use Rattle.std.specs.declared.alloc.AllocError.{AllocError}
-use Rattle.plsearch.specs.Types.{Element, Case, Choice, Mark as MarkOf, Handle, Catch}
+use Rattle.plsearch.specs.Types.{Case, Choice, Mark as MarkOf, Handle, Catch}
 use Rattle.plsearch.specs.Table.{resolve, branch, catching, bind_goals}
 use Rattle.plsearch.specs.Engine.{deeper}
 use Rattle.plframe.specs.declared.stack.Stack.TheInside.{Inside}
@@ -23,9 +23,9 @@ use Rattle.plframe.specs.declared.frame.Frame.TheVariants.{Plain, Barrier, Call,
 use Rattle.plframe.specs.declared.frame.Catcher.{Catcher}
 use Rattle.plframe.specs.Places.{catcher_case, branch_place, place_at, IsSaved, Statics, element, goals_at, list_at, link_at, IsChain, IsItemIn, AreIn, AreFrames, cases, opened, depth_of, size, IsFrame, IsCall, plain, alternatives, places_left, clauses_in}
 use Rattle.plframe.specs.Calls.{IsCalled, FirstFits}
-use Rattle.plframe.specs.State.{State, IsList, IsState, IsStack, Extends, Begins, Opens, OpensFrame, OpensIn, Unifies, CountsUp, OpensRest, Calls, Retries, call_places, IsCallFrame, IsBranchFrame, IsCatchFrame, BeginsWith, HasCall, HasBranch, HasCatch, AtCatch, Recovers, place_of, goals_of, cases_of}
+use Rattle.plframe.specs.State.{State, IsList, IsState, IsStack, Extends, Begins, Opens, OpensFrame, OpensIn, Unifies, CountsUp, OpensRest, Calls, Retries, call_places, IsCallFrame, IsBranchFrame, IsCatchFrame, BeginsWith, HasCall, HasBranch, HasCatch, AtCatch, Recovers, goals_of, cases_of}
 use Rattle.plframe.proofs.Arena.{list_at-more, list_at-new, list_at-first, list_at-none, list_at-take, chain-push, chain-none, chain-take}
-use Rattle.plframe.proofs.Frames.{are_in-more, elements-stay, cases-kept, AreFrames-kept, cases-cut, AreFrames-cut, left-cut, branch-cut, catcher-cut, frame-cut, depth-cases, reverse-push, plain-more, older-mark, now_cells}
+use Rattle.plframe.proofs.Frames.{are_in-more, elements-stay, cases-kept, AreFrames-kept, cases-cut, AreFrames-cut, left-cut, catcher-cut, frame-cut, depth-cases, reverse-push, plain-more, older-mark, now_cells}
 use Rattle.plframe.proofs.Resolving.{elements-bind}
 
 -- the state of a stack's fields

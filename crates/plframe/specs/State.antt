@@ -1,9 +1,9 @@
 -- A stack's state, and what it stands for.
-use Rattle.std.specs.Prelude.{◌≡◌, ℕ, ◌+◌, ◌<◌, ◌≤◌, List, [], ◌∷◌, ◌++◌, length, reverse, take, Some}
+use Rattle.std.specs.Prelude.{◌≡◌, ℕ, ◌+◌, ◌<◌, ◌≤◌, List, [], ◌∷◌, ◌++◌, length, reverse, Some}
 use Rattle.plterm.specs.Tree.{Tree}
 use Rattle.plsubst.specs.Subst.{bind}
 use Rattle.plsubst.specs.Unify.{unify}
-use Rattle.plheap.specs.Store.{Store, term, cut}
+use Rattle.plheap.specs.Store.{Store, term}
 use Rattle.plsearch.specs.Types.{Element, Place, Case, Choice, Mark, Handle, Handler}
 use Rattle.plsearch.specs.Table.{branch, catching, bind_goals}
 use Rattle.plsearch.specs.Engine.{deeper}

@@ -1,5 +1,5 @@
 -- Worked programs.
-use Rattle.std.proofs.Common.{◌≡◌, ℕ, ◌+◌, List, [], ◌∷◌, ◌++◌, codes, refl, pos, ap, append-nil}
+use Rattle.std.proofs.Common.{◌≡◌, ℕ, List, [], ◌∷◌, codes, refl, pos, ap, append-nil}
 use Rattle.plterm.specs.Tree.{Tree, var, int, atom, compound, none, more}
 use Rattle.plsubst.specs.Subst.{bind, occurs}
 use Rattle.plsubst.specs.Unify.{places, differ, unify_in, unify}
@@ -7,15 +7,13 @@ use Rattle.std.specs.Fmt.{signed_decimal}
 use Rattle.plwrite.specs.Writing.{words, others}
 use Rattle.plops.specs.Tables.{prefix_of, infix_of, postfix_of}
 use Rattle.plevent.specs.Alive.{Stamped, named, living, exists}
-use Rattle.plevent.specs.Search.{View, Ask, Answer, Seen, Got, Next, Wants, Finishes, Ceases, Ending}
-use Rattle.plevent.specs.declared.request.Reply.TheVariants.{Published, Done}
+use Rattle.plevent.specs.Search.{View, Ask, Answer, Seen, Got, Wants, Finishes, Ceases, Ending}
+use Rattle.plevent.specs.declared.request.Reply.TheVariants.{Published}
 use Rattle.plevent.specs.declared.request.Request.TheVariants.{Publish}
 use Rattle.plevent.specs.declared.request.ThreadEnd.TheVariants.{True, False, Exception, Budget}
 use Rattle.plevent.specs.declared.update.Update.TheVariants.{Last}
-use Rattle.plclause.specs.Clausal.{clausal}
-use Rattle.plclause.specs.Conversion.{converted}
 use Rattle.plload.specs.Program.{Program}
-use Rattle.plsearch.specs.Errors.{indicator_term, instantiation_error, callable_error, procedure_error, static_error, error_term, pair}
+use Rattle.plsearch.specs.Errors.{pair}
 use Rattle.plsearch.specs.Table.{raised, row, select, meet, answered, resume}
 use Rattle.plsearch.specs.Engine.{choice, out, outs, moved, walk, visit_in, Visit}
 use Rattle.plsearch.specs.Search.{start_from, start_of, search_of}

@@ -1,7 +1,7 @@
 -- The table of control (ISO/IEC 13211-1 7.7, 7.8): one row for each form of goal, marker, answer and handler. No function here is recursive on goals.
 use Rattle.std.specs.Prelude.{ℕ, suc, ◌+◌, Bool, true, false, ◌&&◌, ◌||◌, ◌==◌, nat_le, List, [], ◌∷◌, ◌++◌, length, map, filter_map, Option, Some, None, option_map, codes, bytes_eq, if◌then◌else◌}
 use Rattle.std.specs.List.{list_any}
-use Rattle.plterm.specs.Tree.{Tree, var, int, atom, compound, Trees, none, more, trees, list_of}
+use Rattle.plterm.specs.Tree.{Tree, var, int, atom, compound, none, more, trees, list_of}
 use Rattle.plterm.specs.Variables.{copied, variables}
 use Rattle.plsubst.specs.Subst.{bind, shift}
 use Rattle.plsubst.specs.Unify.{unify}

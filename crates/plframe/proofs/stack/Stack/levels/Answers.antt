@@ -1,4 +1,4 @@
-use Rattle.std.proofs.Common.{◌≡◌, ◌-◌, ◌≤◌, arith, le_trans, length}
+use Rattle.std.proofs.Common.{◌≡◌, arith, le_trans}
 use Rattle.plsearch.specs.Table.{levels}
 use Rattle.plframe.specs.State.{goals_of}
 use Rattle.plframe.proofs.Stacks.{inside}

@@ -1,5 +1,5 @@
-use Rattle.std.proofs.Common.{◌≡◌, ◌∙◌, ap, length, arith, subst}
-use Rattle.plterm.specs.Variables.{variables, copied}
+use Rattle.std.proofs.Common.{◌≡◌, ◌∙◌, ap, length, arith}
+use Rattle.plterm.specs.Variables.{variables}
 use Rattle.plterm.proofs.Belows.{AllBelow-copied_0}
 use Rattle.plsubst.specs.Subst.{shift}
 use Rattle.plframe.proofs.Joining.{if_ok}
