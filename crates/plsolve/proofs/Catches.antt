@@ -1,13 +1,12 @@
 -- A catcher and its ball, over the stack.
-use Rattle.std.proofs.Common.{◌≡◌, ℕ, suc, ◌+◌, ◌-◌, ◌<◌, true, List, [], ◌∷◌, length, refl, sym, ap, ap₂, ◌∙◌, subst, arith, le_trans, Option, Some, None, IfSome, IfNone}
+use Rattle.std.proofs.Common.{◌≡◌, ℕ, ◌+◌, ◌-◌, ◌<◌, true, List, [], ◌∷◌, length, refl, sym, ap, ap₂, ◌∙◌, subst, arith, Option, Some, None, IfSome, IfNone}
 use Rattle.plterm.specs.Tree.{Tree}
 use Rattle.plterm.specs.Variables.{copied, variables}
 use Rattle.plsubst.specs.Subst.{bind}
 use Rattle.plsubst.specs.Unify.{unify}
 use Rattle.plheap.specs.Store.{term}
-use Rattle.plevent.specs.Search.{Answer}
 use Rattle.plload.specs.Program.{Program, clauses_for}
-use Rattle.plsearch.specs.Types.{Goal, Element, Case, Throw, Choice, Run}
+use Rattle.plsearch.specs.Types.{Goal, Case, Throw}
 use Rattle.plsearch.specs.Errors.{error_term}
 use Rattle.plsearch.specs.Table.{Runs, Raises, runnable, recovers, levels, has, catch_3, catching, bind_goals}
 use Rattle.plsearch.specs.Engine.{deeper}

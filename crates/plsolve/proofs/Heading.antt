@@ -1,12 +1,12 @@
 -- What stands first in a list, and what a structure's cell shows.
-use Rattle.std.proofs.Common.{◌≡◌, ℕ, zero, suc, ◌<◌, ◌≤◌, true, false, List, ◌∷◌, length, refl, sym, ap, ap₂, ◌∙◌, ◌-◌, ◌==◌, ◌&&◌, subst, arith, bytes_eq}
+use Rattle.std.proofs.Common.{◌≡◌, ℕ, zero, suc, ◌≤◌, true, false, List, ◌∷◌, length, refl, sym, ap, ap₂, ◌∙◌, ◌-◌, ◌==◌, ◌&&◌, subst, arith, bytes_eq}
 use Rattle.std.specs.Prelude.{if◌then◌else◌, codes}
 use Rattle.plterm.specs.Tree.{Tree, compound, trees, list_of, list_of-trees}
 use Rattle.plheap.specs.declared.cell.Cell.{Cell}
 use Rattle.plheap.specs.declared.cell.Cell.TheVariants as cells
 use Rattle.plheap.specs.Store.{Store, term, terms, shown, Fits, IsEnd}
 use Rattle.plsolve.specs.Controls.{is_then}
-use Rattle.plsearch.specs.Table.{Control, Either, Then, CallWith, Call, control, control_of, is_call, by_arity, either}
+use Rattle.plsearch.specs.Table.{Either, Then, CallWith, Call, control, control_of, is_call, by_arity, either}
 use Rattle.plclause.specs.Clause.{Clause}
 use Rattle.plframe.specs.declared.frame.Item.TheVariants.{Goal as GoalAt, Commit as CommitTo, Never as NeverTo, Until as UntilTo, Look as LookAt, Await as AwaitFor}
 use Rattle.plframe.specs.declared.frame.Link.{Link}

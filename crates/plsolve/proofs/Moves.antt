@@ -7,11 +7,11 @@ use Rattle.plterm.specs.declared.indicator.Indicator.{Indicator}
 use Rattle.plheap.specs.Store.{term}
 use Rattle.plevent.specs.Search.{Answer}
 use Rattle.plload.specs.Program.{Program, clauses_for}
-use Rattle.plsearch.specs.Types.{Throw, Raise, Element, Place, Case, Choice, Mark, Handle, Local, Move, Give, Go, Run}
+use Rattle.plsearch.specs.Types.{Throw, Raise, Element, Place, Case, Choice, Local, Move, Give, Go, Run}
 use Rattle.plsearch.specs.Errors.{error_term, instantiation_error}
 use Rattle.plsubst.specs.Unify.{unify}
 use Rattle.plsearch.specs.Table.{meet, raised, levels, call, choose, unified, branch, catching, thrown, throw_1, Runnable, run}
-use Rattle.plsearch.specs.Engine.{deeper, choice, out, outs, Visit}
+use Rattle.plsearch.specs.Engine.{deeper, out}
 use Rattle.plsearch.specs.Machine.{At, Back, Machine, Rest, move, turn}
 use Rattle.plsearch.proofs.Turns.{Rest-turn}
 use Rattle.plsearch.specs.Search.{ending_of}

@@ -1,8 +1,8 @@
 -- Where a search starts.
-use Rattle.std.proofs.Common.{◌≡◌, ℕ, ◌+◌, ◌-◌, List, [], ◌∷◌, length, refl, sym, ap, ap₂, ◌∙◌, subst, arith, map, zero-add, min}
-use Rattle.plterm.specs.Tree.{Tree, Trees, var, int, atom, compound, none, more}
-use Rattle.plterm.specs.Variables.{place, variables, renamed, all_renamed, copied}
-use Rattle.plsubst.specs.Subst.{bind, bind_all, shift}
+use Rattle.std.proofs.Common.{◌≡◌, ℕ, ◌+◌, ◌-◌, List, [], ◌∷◌, length, refl, sym, ap, ap₂, ◌∙◌, subst, arith, map, min}
+use Rattle.plterm.specs.Tree.{Tree}
+use Rattle.plterm.specs.Variables.{variables, copied}
+use Rattle.plsubst.specs.Subst.{bind, shift}
 use Rattle.plheap.specs.Store.{term}
 use Rattle.plload.specs.Program.{Program, clauses_for}
 use Rattle.plsearch.specs.Types.{Goal}

@@ -1,4 +1,4 @@
-use Rattle.std.proofs.Common.{◌≡◌, refl, ap, ap₂, sym, ◌∙◌, ◌∷◌, [], suc, arith}
+use Rattle.std.proofs.Common.{◌≡◌, refl, ap, sym, ◌∙◌, ◌∷◌, suc, arith}
 use Rattle.plsearch.specs.Types.{Until}
 use Rattle.plsearch.specs.Table.{catch_3, runnable}
 use Rattle.plheap.specs.Store.{term}

@@ -4,7 +4,7 @@ use Rattle.plheap.specs.Store.{term}
 use Rattle.plframe.proofs.Stacks.{catch-stays}
 use Rattle.plsolve.specs.declared.progress.Progress.{Progress}
 use Rattle.plsolve.specs.Solver.{Stays}
-use Rattle.plsolve.proofs.Moves.{Grown, grown-link, grown-trans, grown-list, grown-stays, on_err, on_ok_map, on_err_map}
+use Rattle.plsolve.proofs.Moves.{Grown, grown-link, grown-trans, grown-stays, on_err, on_ok_map, on_err_map}
 use Rattle.plsolve.proofs.Catches.{recovered-raises, recovered-runs}
 use Rattle.plsolve.proofs.progress.Progress.recover.Goals as goal
 

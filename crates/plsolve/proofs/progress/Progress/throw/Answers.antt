@@ -1,12 +1,10 @@
-use Rattle.std.proofs.Common.{◌≡◌, true, false, ap, ap₂, sym, ◌∙◌, subst}
+use Rattle.std.proofs.Common.{◌≡◌, false, ap, ap₂, sym, ◌∙◌}
 use Rattle.plsearch.specs.Types.{Throw}
-use Rattle.plsearch.specs.Errors.{instantiation_error}
-use Rattle.plsearch.specs.Table.{raised, thrown, throw_1}
 use Rattle.plheap.specs.Store.{term}
 use Rattle.plframe.specs.State.{goals_of}
 use Rattle.plterm.specs.Variables.{copied}
-use Rattle.plsolve.specs.Solver.{Moved, local_of, is_var}
-use Rattle.plsolve.proofs.Moves.{throws, thrown-var, stays_put, on_err, on_ok_map}
+use Rattle.plsolve.specs.Solver.{is_var}
+use Rattle.plsolve.proofs.Moves.{throws}
 use Rattle.plsolve.proofs.progress.Progress.throw.Goals as goal
 
 pub returns-clause-ok : goal.returns-clause-ok
