@@ -6,23 +6,25 @@ use Rattle.plheap.specs.declared.cell.Cell.{Cell}
 use Rattle.plheap.specs.Store.{Store, term, cut, IsMark, Keeps}
 use Rattle.plheap.proofs.Kept.{IsMark-kept}
 use Rattle.plheap.proofs.Cuts.{cut-cut, IsMark-cut, cut-cells, cut-trail}
-use Rattle.plsearch.specs.Types.{Element, Goal, Commit, Never, Look, Await, Place, Case, Choice, Mark as MarkOf}
-use Rattle.plsearch.specs.Table.{bind_element, resolve}
+use Rattle.plsearch.specs.Types.{Goal, Look, Case, Choice, Mark as MarkOf, Handle, Catch}
+use Rattle.plsearch.specs.Table.{resolve}
 use Rattle.plsearch.specs.Engine.{deeper}
 use Rattle.plframe.specs.declared.frame.Item.{Item}
-use Rattle.plframe.specs.declared.frame.Item.TheVariants.{Goal as GoalAt, Commit as CommitTo, Never as NeverTo, Look as LookAt, Await as AwaitFor}
+use Rattle.plframe.specs.declared.frame.Item.TheVariants.{Goal as GoalAt, Commit as CommitTo, Never as NeverTo, Until as UntilTo, Look as LookAt, Await as AwaitFor}
 use Rattle.plframe.specs.declared.frame.Link.{Link}
 use Rattle.plframe.specs.declared.frame.Alternatives.{Alternatives}
 use Rattle.plframe.specs.declared.frame.Branch.{Branch}
 use Rattle.plframe.specs.declared.frame.Frame.{Frame}
-use Rattle.plframe.specs.declared.frame.Frame.TheVariants.{Plain, Barrier, Call, Branch as BranchOf}
-use Rattle.plframe.specs.Places.{list_at, element, goals_at, place_at, plain, Statics, clauses_in, places_left, alternatives, branch_place, opened, cases, size, depth_of, IsOlder, AreOlder, IsCall, IsSaved, IsFrame, AreFrames, IsItemIn, AreIn}
+use Rattle.plframe.specs.declared.frame.Frame.TheVariants.{Plain, Barrier, Call, Branch as BranchOf, Catch as CatchOf}
+use Rattle.plframe.specs.declared.frame.Catcher.{Catcher}
+use Rattle.plframe.specs.Places.{element, plain, Statics, clauses_in, alternatives, branch_place, catcher_case, cases, depth_of, IsOlder, AreOlder, IsCall, IsSaved, IsFrame, AreFrames, IsItemIn, AreIn}
 use Rattle.plframe.proofs.Arena.{list_at-more, list_at-take}
 
 in_more : (n m : ℕ) (x : Item) → n ≤ m → IsItemIn n x → IsItemIn m x
 in_more n m (GoalAt k c) le lt = le_trans lt le
 in_more n m (CommitTo l) le lt = tt
 in_more n m (NeverTo l) le lt = tt
+in_more n m (UntilTo l) le lt = tt
 in_more n m (LookAt c) le lt = le_trans lt le
 in_more n m (AwaitFor c) le lt = tt
 
@@ -35,6 +37,7 @@ element-stays : (old new : Store) (n : ℕ) → ((c : ℕ) → c < n → term ne
 element-stays old new n e (GoalAt k c) i = ap (Goal k) (e c i)
 element-stays old new n e (CommitTo l) i = refl
 element-stays old new n e (NeverTo l) i = refl
+element-stays old new n e (UntilTo l) i = refl
 element-stays old new n e (LookAt c) i = ap Look (e c i)
 element-stays old new n e (AwaitFor c) i = refl
 
@@ -53,6 +56,7 @@ depth-cases statics h links (Plain n ∷ fs) = omega (arith, plain-deeper n (cas
 depth-cases statics h links (Barrier l ∷ fs) = omega (arith, depth-cases statics h links fs)
 depth-cases statics h links (Call a ∷ fs) = omega (arith, depth-cases statics h links fs)
 depth-cases statics h links (BranchOf b ∷ fs) = omega (arith, depth-cases statics h links fs)
+depth-cases statics h links (CatchOf k ∷ fs) = omega (arith, depth-cases statics h links fs)
 
 -- the heap grew and was bound, and the lists grew
 module _ (statics : Statics) (old new : Store) (links more : List Link) (k : Keeps old new) where
@@ -66,6 +70,11 @@ module _ (statics : Statics) (old new : Store) (links more : List Link) (k : Kee
       ap₂ (λ h xs. record { goals = map (element h) xs; variables = h.count })
       (k.kept b.mark is.mark.cells is.mark.trail) (list_at-more links more b.list (le_trans is.list is.room))
 
+  catcher-kept : (c : Catcher) (fs : List Frame) → IsSaved old links c.behind fs → catcher_case new (links ++ more) c ≡ catcher_case old links c
+  catcher-kept c fs is =
+      ap₂ (λ h xs. Handle (Catch (term h c.catcher) (term h c.recovery) (record { goals = map (element h) xs; variables = h.count })))
+      (k.kept c.behind.mark is.mark.cells is.mark.trail) (list_at-more links more c.behind.list (le_trans is.list is.room))
+
   pub cases-kept : (fs : List Frame) → AreFrames old links fs → cases statics new (links ++ more) fs ≡ cases statics old links fs
   cases-kept [] a = refl
   cases-kept (Plain n ∷ fs) a = ap (plain n) (cases-kept fs a.1)
@@ -74,8 +83,18 @@ module _ (statics : Statics) (old new : Store) (links more : List Link) (k : Kee
       ap (λ cs. Choice (alternatives statics (deeper cs 0) new (links ++ more) x) ∷ cs) (cases-kept fs a.1)
       ∙ ap (λ ps. Choice ps ∷ cases statics old links fs) (left-kept (deeper (cases statics old links fs) 0) x fs a.0)
   cases-kept (BranchOf b ∷ fs) a = ap₂ (λ p cs. Choice (p ∷ []) ∷ cs) (branch-kept b fs a.0) (cases-kept fs a.1)
+  cases-kept (CatchOf c ∷ fs) a = ap₂ (λ x cs. x ∷ cs) (catcher-kept c fs a.0.0) (cases-kept fs a.1)
 
 module _ (old new : Store) (links more : List Link) (k : Keeps old new) where
+  saved-kept : (b : Branch) (fs : List Frame) (all : length links ≤ length (links ++ more)) → IsSaved old links b fs → IsSaved new (links ++ more) b fs
+  saved-kept b fs all a = record {
+    mark = IsMark-kept b.mark old new k a.mark;
+    room = le_trans a.room all;
+    list = a.list;
+    older = a.older;
+    inside = subst (AreIn b.mark.cells) (sym (list_at-more links more b.list (le_trans a.list a.room))) a.inside;
+  }
+
   frame-kept : (f : Frame) (fs : List Frame) (all : length links ≤ length (links ++ more)) → IsFrame old links f fs → IsFrame new (links ++ more) f fs
   frame-kept (Plain n) fs all a = a
   frame-kept (Barrier l) fs all a = tt
@@ -87,13 +106,8 @@ module _ (old new : Store) (links more : List Link) (k : Keeps old new) where
     inside = subst (AreIn x.mark.cells) (sym (list_at-more links more x.rest (le_trans a.rest a.room))) a.inside;
     goal = a.goal;
   }
-  frame-kept (BranchOf b) fs all a = record {
-    mark = IsMark-kept b.mark old new k a.mark;
-    room = le_trans a.room all;
-    list = a.list;
-    older = a.older;
-    inside = subst (AreIn b.mark.cells) (sym (list_at-more links more b.list (le_trans a.list a.room))) a.inside;
-  }
+  frame-kept (BranchOf b) fs all a = saved-kept b fs all a
+  frame-kept (CatchOf c) fs all a = (saved-kept c.behind fs all a.0, a.1, a.2)
 
   pub AreFrames-kept : (fs : List Frame) (all : length links ≤ length (links ++ more)) → AreFrames old links fs → AreFrames new (links ++ more) fs
   AreFrames-kept [] all a = tt
@@ -112,6 +126,11 @@ module _ (h : Store) (links : List Link) (m : Mark) (n : ℕ) (mark : IsMark m h
       ap₂ (λ s xs. record { goals = map (element s) xs; variables = s.count })
       (cut-cut b.mark m h o.0 o.1) (list_at-take links n b.list (le_trans is.list o.2) room)
 
+  pub catcher-cut : (c : Catcher) (fs : List Frame) → IsOlder m.cells m.trail n (CatchOf c) → IsSaved h links c.behind fs → catcher_case (cut m h) (take n links) c ≡ catcher_case h links c
+  catcher-cut c fs o is =
+      ap₂ (λ s xs. Handle (Catch (term s c.catcher) (term s c.recovery) (record { goals = map (element s) xs; variables = s.count })))
+      (cut-cut c.behind.mark m h o.0 o.1) (list_at-take links n c.behind.list (le_trans is.list o.2) room)
+
   pub cases-cut : (statics : Statics) (fs : List Frame) → AreOlder m.cells m.trail n fs → AreFrames h links fs → cases statics (cut m h) (take n links) fs ≡ cases statics h links fs
   cases-cut statics [] o a = refl
   cases-cut statics (Plain i ∷ fs) o a = ap (plain i) (cases-cut statics fs o.1 a.1)
@@ -120,8 +139,18 @@ module _ (h : Store) (links : List Link) (m : Mark) (n : ℕ) (mark : IsMark m h
       ap (λ cs. Choice (alternatives statics (deeper cs 0) (cut m h) (take n links) x) ∷ cs) (cases-cut statics fs o.1 a.1)
       ∙ ap (λ ps. Choice ps ∷ cases statics h links fs) (left-cut statics (deeper (cases statics h links fs) 0) x fs o.0 a.0)
   cases-cut statics (BranchOf b ∷ fs) o a = ap₂ (λ p cs. Choice (p ∷ []) ∷ cs) (branch-cut b fs o.0 a.0) (cases-cut statics fs o.1 a.1)
+  cases-cut statics (CatchOf c ∷ fs) o a = ap₂ (λ x cs. x ∷ cs) (catcher-cut c fs o.0 a.0.0) (cases-cut statics fs o.1 a.1)
 
-  frame-cut : (f : Frame) (fs : List Frame) → IsOlder m.cells m.trail n f → IsFrame h links f fs → IsFrame (cut m h) (take n links) f fs
+  saved-cut : (b : Branch) (fs : List Frame) → IsOlder m.cells m.trail n (BranchOf b) → IsSaved h links b fs → IsSaved (cut m h) (take n links) b fs
+  saved-cut b fs o a = record {
+    mark = IsMark-cut b.mark m h a.mark mark o.0 o.1;
+    room = omega (arith, o.2, length-take-le n links room);
+    list = a.list;
+    older = a.older;
+    inside = subst (AreIn b.mark.cells) (sym (list_at-take links n b.list (le_trans a.list o.2) room)) a.inside;
+  }
+
+  pub frame-cut : (f : Frame) (fs : List Frame) → IsOlder m.cells m.trail n f → IsFrame h links f fs → IsFrame (cut m h) (take n links) f fs
   frame-cut (Plain i) fs o a = a
   frame-cut (Barrier l) fs o a = tt
   frame-cut (Call x) fs o a = record {
@@ -132,13 +161,8 @@ module _ (h : Store) (links : List Link) (m : Mark) (n : ℕ) (mark : IsMark m h
     inside = subst (AreIn x.mark.cells) (sym (list_at-take links n x.rest (le_trans a.rest o.2) room)) a.inside;
     goal = a.goal;
   }
-  frame-cut (BranchOf b) fs o a = record {
-    mark = IsMark-cut b.mark m h a.mark mark o.0 o.1;
-    room = omega (arith, o.2, length-take-le n links room);
-    list = a.list;
-    older = a.older;
-    inside = subst (AreIn b.mark.cells) (sym (list_at-take links n b.list (le_trans a.list o.2) room)) a.inside;
-  }
+  frame-cut (BranchOf b) fs o a = saved-cut b fs o a
+  frame-cut (CatchOf c) fs o a = (saved-cut c.behind fs o a.0, a.1, a.2)
 
   pub AreFrames-cut : (fs : List Frame) → AreOlder m.cells m.trail n fs → AreFrames h links fs → AreFrames (cut m h) (take n links) fs
   AreFrames-cut [] o a = tt
@@ -151,6 +175,7 @@ module _ (h : Store) (links : List Link) where
   older_one (Barrier l) fs a = tt
   older_one (Call x) fs a = (a.mark.cells, a.mark.trail, a.room)
   older_one (BranchOf b) fs a = (a.mark.cells, a.mark.trail, a.room)
+  older_one (CatchOf c) fs a = (a.0.mark.cells, a.0.mark.trail, a.0.room)
 
   pub older-now : (fs : List Frame) → AreFrames h links fs → AreOlder (length h.cells) (length h.trail) (length links) fs
   older-now [] a = tt

@@ -1,11 +1,11 @@
 -- The nodes of a compound whose arguments are cells.
-use Rattle.std.proofs.Common.{◌≡◌, ℕ, zero, suc, ◌+◌, ◌<◌, ◌≤◌, true, List, [], ◌∷◌, ◌++◌, length, length-append, take, drop, map, refl, sym, ap, ap₂, ◌∙◌, subst, arith, append_assoc, append-nil, le_trans, IfOk, Ok, Err}
-use Rattle.std.specs.Prelude.{if◌then◌else◌, nat_le}
+use Rattle.std.proofs.Common.{◌≡◌, ℕ, zero, suc, ◌+◌, ◌<◌, ◌≤◌, List, [], ◌∷◌, ◌++◌, length, length-append, refl, sym, ap, ap₂, ◌∙◌, subst, arith, append-nil, IfOk, Ok, Err}
+use Rattle.std.specs.Prelude.{if◌then◌else◌}
 use Rattle.std.proofs.lemmas.Bool.{le-leb, lt-leb}
-use Rattle.std.proofs.lemmas.List.{take_all, drop_all, length-map}
+use Rattle.std.proofs.lemmas.List.{take_all, drop_all}
 use Rattle.plterm.specs.declared.node.Node.{Node}
 use Rattle.plterm.specs.declared.node.Node.TheVariants.{Var, Compound}
-use Rattle.plterm.specs.Tree.{Tree, var, atom, compound, Trees, none, more, trees, list_of, list_of-trees}
+use Rattle.plterm.specs.Tree.{Tree, var, atom, compound, more, trees, list_of, list_of-trees}
 use Rattle.plterm.specs.Variables.{AllBelow, EachBelow}
 use Rattle.plterm.specs.Reading.{reading, tree_of, first, read, IsName, IsForest, IsTerm}
 use Rattle.plsubst.specs.Subst.{bind, bind_all}
@@ -13,7 +13,7 @@ use Rattle.std.specs.Prelude.{Result as Outcomes}
 use Rattle.plheap.specs.Store.{Store, term, terms, Adds}
 use Rattle.plheap.specs.Putting.{over}
 use Rattle.plsearch.specs.Errors.{arity_error}
-use Rattle.plsearch.specs.Table.{Runnable, Runs, Raises, with_arguments, compound_of}
+use Rattle.plsearch.specs.Table.{Runs, Raises, with_arguments, compound_of}
 use Rattle.plframe.specs.declared.extend.Run.{Run}
 use Rattle.plframe.specs.declared.extend.Extended.TheVariants.{Is, TooLong}
 use Rattle.plframe.specs.Extended.{cell_nodes, IsRun, run_terms, Joined, Extends}

@@ -1,5 +1,5 @@
 -- What the calls of a stack keep.
-use Rattle.std.proofs.Common.{◌≡◌, ℕ, zero, suc, ◌+◌, ◌-◌, ◌<◌, ◌≤◌, List, [], ◌∷◌, ◌++◌, length, length-append, refl, sym, ap, ap₂, ◌∙◌, subst, arith, map, reverse, append-nil, le_trans, le_refl, get_or, take, drop, filter_map, length-take-le, Bool, true, false, None, Ok, Err, IfOk, OnErr}
+use Rattle.std.proofs.Common.{◌≡◌, ℕ, suc, ◌+◌, ◌-◌, ◌<◌, ◌≤◌, List, [], ◌∷◌, ◌++◌, length, length-append, refl, sym, ap, ap₂, ◌∙◌, subst, arith, map, reverse, append-nil, le_trans, le_refl, get_or, take, drop, filter_map, length-take-le, Bool, true, false, None, Ok, Err, IfOk, OnErr}
 use Rattle.std.proofs.lemmas.List.{get_or_default, drop_all}
 use Rattle.plheap.specs.declared.cell.Mark.{Mark}
 use Rattle.plheap.specs.Store.{Store, term, cut, IsMark, Keeps}
@@ -9,8 +9,8 @@ use Rattle.plsubst.specs.Unify.{unify}
 use Rattle.plunify.specs.Unifying.{Unified}
 use Rattle.std.specs.Prelude.{Result as Outcomes}
 use Rattle.std.specs.declared.alloc.AllocError.{AllocError}
-use Rattle.plsearch.specs.Types.{Element, Case, Choice, Mark as MarkOf}
-use Rattle.plsearch.specs.Table.{resolve, branch, bind_goals}
+use Rattle.plsearch.specs.Types.{Case, Choice, Mark as MarkOf, Handle, Catch}
+use Rattle.plsearch.specs.Table.{resolve, branch, catching, bind_goals}
 use Rattle.plsearch.specs.Engine.{deeper}
 use Rattle.plframe.specs.declared.stack.Stack.TheInside.{Inside}
 use Rattle.plframe.specs.declared.call.Called.{Called}
@@ -19,12 +19,13 @@ use Rattle.plframe.specs.declared.frame.Source.{Source}
 use Rattle.plframe.specs.declared.frame.Alternatives.{Alternatives}
 use Rattle.plframe.specs.declared.frame.Frame.{Frame}
 use Rattle.plframe.specs.declared.frame.Branch.{Branch}
-use Rattle.plframe.specs.declared.frame.Frame.TheVariants.{Plain, Barrier, Call, Branch as BranchOf}
-use Rattle.plframe.specs.Places.{branch_place, place_at, IsSaved, Statics, element, goals_at, list_at, link_at, IsChain, IsItemIn, AreIn, AreFrames, cases, opened, depth_of, size, IsFrame, IsCall, plain, alternatives, places_left, clauses_in}
+use Rattle.plframe.specs.declared.frame.Frame.TheVariants.{Plain, Barrier, Call, Branch as BranchOf, Catch as CatchOf}
+use Rattle.plframe.specs.declared.frame.Catcher.{Catcher}
+use Rattle.plframe.specs.Places.{catcher_case, branch_place, place_at, IsSaved, Statics, element, goals_at, list_at, link_at, IsChain, IsItemIn, AreIn, AreFrames, cases, opened, depth_of, size, IsFrame, IsCall, plain, alternatives, places_left, clauses_in}
 use Rattle.plframe.specs.Calls.{IsCalled, FirstFits}
-use Rattle.plframe.specs.State.{State, IsList, IsState, IsStack, Extends, Begins, Opens, OpensFrame, OpensIn, Unifies, CountsUp, OpensRest, Calls, Retries, call_places, IsCallFrame, IsBranchFrame, BeginsWith, HasCall, HasBranch, place_of, goals_of, cases_of}
+use Rattle.plframe.specs.State.{State, IsList, IsState, IsStack, Extends, Begins, Opens, OpensFrame, OpensIn, Unifies, CountsUp, OpensRest, Calls, Retries, call_places, IsCallFrame, IsBranchFrame, IsCatchFrame, BeginsWith, HasCall, HasBranch, HasCatch, AtCatch, Recovers, goals_of, cases_of}
 use Rattle.plframe.proofs.Arena.{list_at-more, list_at-new, list_at-first, list_at-none, list_at-take, chain-push, chain-none, chain-take}
-use Rattle.plframe.proofs.Frames.{are_in-more, elements-stay, cases-kept, AreFrames-kept, cases-cut, AreFrames-cut, left-cut, branch-cut, depth-cases, reverse-push, plain-more, older-mark, now_cells}
+use Rattle.plframe.proofs.Frames.{are_in-more, elements-stay, cases-kept, AreFrames-kept, cases-cut, AreFrames-cut, left-cut, catcher-cut, frame-cut, depth-cases, reverse-push, plain-more, older-mark, now_cells}
 use Rattle.plframe.proofs.Resolving.{elements-bind}
 
 -- the state of a stack's fields
@@ -55,6 +56,7 @@ module _ (s : State) (h : Store) (more : List Link) (k : Keeps s.heap h) (stay :
   pub extends-grown : Extends s grown
   unfolding cases_of
   extends-grown = record {
+    frames = refl;
     goals = refl;
     visited = (list-grown s.goals is.goals).1;
     cases = λ statics. cases-kept statics s.heap h s.links more k (reverse s.frames) is.frames;
@@ -176,6 +178,9 @@ empty_is (x ∷ xs) e = absurd (omega arith)
 
 pub has-call : (s : State) (rest : List Frame) (a : Alternatives) → s.frames ≡ rest ++ Call a ∷ [] → HasCall s
 has-call s rest a e = subst (BeginsWith IsCallFrame) (sym (ap reverse e ∙ reverse-push rest (Call a))) tt
+
+pub has-catch : (s : State) (rest : List Frame) (k : Catcher) → s.frames ≡ rest ++ CatchOf k ∷ [] → HasCatch s
+has-catch s rest k e = subst (BeginsWith IsCatchFrame) (sym (ap reverse e ∙ reverse-push rest (CatchOf k))) tt
 
 pub has-branch : (s : State) (rest : List Frame) (b : Branch) → s.frames ≡ rest ++ BranchOf b ∷ [] → HasBranch s
 has-branch s rest b e = subst (BeginsWith IsBranchFrame) (sym (ap reverse e ∙ reverse-push rest (BranchOf b))) tt
@@ -385,10 +390,11 @@ module _ (s : State) (d : ℕ) (is : IsStack s d) (rest : List Frame) (a : Alter
     }
 
 pub extends-same : (s : State) → Extends s s
-extends-same s = record { goals = refl; visited = refl; cases = λ statics. refl; lists = λ i l. (l, refl); cells = le_refl _; terms = λ c lt. refl }
+extends-same s = record { frames = refl; goals = refl; visited = refl; cases = λ statics. refl; lists = λ i l. (l, refl); cells = le_refl _; terms = λ c lt. refl }
 
 pub Extends-trans : (a b c : State) → Extends a b → Extends b c → Extends a c
 Extends-trans a b c e f = record {
+  frames = f.frames ∙ e.frames;
   goals = f.goals ∙ e.goals;
   visited = f.visited ∙ e.visited;
   cases = λ statics. f.cases statics ∙ e.cases statics;
@@ -482,6 +488,9 @@ module _ (s : State) (h : Store) (a b : ℕ) (u : Unified s.heap h a b) where
   unified d is = record {
     unifier = u.unifier;
     is = u.is;
+    terms = u.terms;
+    cells = u.length;
+    frames = refl;
     lists = list-unified;
     cases = λ statics. ap (λ ls. cases statics h ls (reverse s.frames)) (sym (append-nil s.links)) ∙ cases-kept statics s.heap h s.links [] u.keeps (reverse s.frames) is.0.frames;
     count = u.count;
@@ -498,42 +507,50 @@ pub unify-unifies : (s : State) (d : ℕ) (h : Store) (a b : ℕ) (r : Outcomes 
 unify-unifies s d h a b (Ok answer) fits is = λ e. unified s h a b (fits e) d is
 unify-unifies s d h a b (Err e) fits is = tt
 
--- the list of a choice is visited
-module _ (s : State) (d : ℕ) (is : IsStack s d) (rest : List Frame) (b : Branch) (popped : s.frames ≡ rest ++ BranchOf b ∷ []) where
-  saved : IsSaved s.heap s.links b (reverse rest)
-  saved = (popped-frames s d rest (BranchOf b) popped is).0
-
+-- the heap goes back to the mark of the newest frame
+module _ (s : State) (d : ℕ) (is : IsStack s d) (rest : List Frame) (f : Frame) (b : Branch) (popped : s.frames ≡ rest ++ f ∷ []) (one : size f ≡ 1) (saved : IsSaved s.heap s.links b (reverse rest)) where
   same-list : list_at (take b.links s.links) b.list ≡ list_at s.links b.list
   same-list = list_at-take s.links b.links b.list saved.list saved.room
 
-  abbrev before_it : State
-  before_it = record { heap = cut b.mark s.heap; links = take b.links s.links; frames = rest; goals = b.list }
+  abbrev pub cut_back : State
+  cut_back = record { heap = cut b.mark s.heap; links = take b.links s.links; frames = rest; goals = b.list }
 
-  taken-depth : d ≡ suc (depth_of (reverse rest))
-  taken-depth = omega (arith, (popped-frames s d rest (BranchOf b) popped is).2)
+  pub cut-depth : d ≡ suc (depth_of (reverse rest))
+  cut-depth = omega (arith, (popped-frames s d rest f popped is).2, one)
 
-  before-stack : IsStack before_it (d - 1)
-  before-stack = (
+  pub cut-list : IsList cut_back b.list
+  cut-list = record {
+    there = omega (arith, saved.list, length-take-le b.links s.links saved.room);
+    inside = subst (AreIn (length (cut b.mark s.heap).cells)) (sym same-list) (subst (λ k. AreIn k (list_at s.links b.list)) (sym (cut-cells b.mark s.heap saved.mark.cells)) saved.inside);
+  }
+
+  pub cut-stack : IsStack cut_back (d - 1)
+  cut-stack = (
     record {
       chain = chain-take s.links b.links is.0.chain saved.room;
-      frames = AreFrames-cut s.heap s.links b.mark b.links saved.mark saved.room (reverse rest) saved.older (popped-frames s d rest (BranchOf b) popped is).1;
-      goals = record {
-        there = omega (arith, saved.list, length-take-le b.links s.links saved.room);
-        inside = subst (AreIn (length (cut b.mark s.heap).cells)) (sym same-list) (subst (λ k. AreIn k (list_at s.links b.list)) (sym (cut-cells b.mark s.heap saved.mark.cells)) saved.inside);
-      };
+      frames = AreFrames-cut s.heap s.links b.mark b.links saved.mark saved.room (reverse rest) saved.older (popped-frames s d rest f popped is).1;
+      goals = cut-list;
     },
-    omega (arith, taken-depth),
+    omega (arith, cut-depth),
   )
 
-  before-cases : (statics : Statics) → cases_of statics before_it ≡ cases_of statics (record s { frames = rest })
+  pub cut-cases : (statics : Statics) → cases_of statics cut_back ≡ cases_of statics (record s { frames = rest })
   unfolding cases_of
-  before-cases statics = cases-cut s.heap s.links b.mark b.links saved.mark saved.room statics (reverse rest) saved.older (popped-frames s d rest (BranchOf b) popped is).1
+  cut-cases statics = cases-cut s.heap s.links b.mark b.links saved.mark saved.room statics (reverse rest) saved.older (popped-frames s d rest f popped is).1
+
+  pub cut-goals : goals_of cut_back b.list ≡ map (element (cut b.mark s.heap)) (list_at s.links b.list)
+  cut-goals = ap (map (element (cut b.mark s.heap))) same-list
+
+-- the list of a choice is visited
+module _ (s : State) (d : ℕ) (is : IsStack s d) (rest : List Frame) (b : Branch) (popped : s.frames ≡ rest ++ BranchOf b ∷ []) where
+  saved_list : IsSaved s.heap s.links b (reverse rest)
+  saved_list = (popped-frames s d rest (BranchOf b) popped is).0
 
   module _ (frames : List Frame) (up : CountsUp (reverse rest) (reverse frames)) where
     pub taken-stack : IsStack (record { heap = cut b.mark s.heap; links = take b.links s.links; frames = frames; goals = b.list }) d
     taken-stack =
-        let c = counted before_it (d - 1) frames up before-stack in
-        (c.0, omega (arith, c.1, taken-depth))
+        let c = counted (cut_back s d is rest (BranchOf b) b popped refl saved_list) (d - 1) frames up (cut-stack s d is rest (BranchOf b) b popped refl saved_list) in
+        (c.0, omega (arith, c.1, cut-depth s d is rest (BranchOf b) b popped refl saved_list))
 
     pub taken : (statics : Statics) → Retries statics s (record { heap = cut b.mark s.heap; links = take b.links s.links; frames = frames; goals = b.list })
     taken statics = record {
@@ -541,6 +558,116 @@ module _ (s : State) (d : ℕ) (is : IsStack s d) (rest : List Frame) (b : Branc
       older = cases_of statics (record s { frames = rest });
       was =
           popped-cases statics s rest (BranchOf b) popped
-          ∙ ap (λ xs. Choice (record { goals = map (element (cut b.mark s.heap)) xs; variables = (cut b.mark s.heap).count } ∷ []) ∷ cases_of statics (record s { frames = rest })) (sym same-list);
-      cases = counted-cases statics before_it frames up ∙ ap (λ cs. Choice [] ∷ cs) (before-cases statics);
+          ∙ ap (λ gs. Choice (record { goals = gs; variables = (cut b.mark s.heap).count } ∷ []) ∷ cases_of statics (record s { frames = rest })) (sym (cut-goals s d is rest (BranchOf b) b popped refl saved_list));
+      cases = counted-cases statics (cut_back s d is rest (BranchOf b) b popped refl saved_list) frames up ∙ ap (λ cs. Choice [] ∷ cs) (cut-cases s d is rest (BranchOf b) b popped refl saved_list statics);
     }
+
+-- the heap goes back to where a catcher was opened
+module _ (s : State) (d : ℕ) (is : IsStack s d) (rest : List Frame) (k : Catcher) (popped : s.frames ≡ rest ++ CatchOf k ∷ []) where
+  catch_frame : IsFrame s.heap s.links (CatchOf k) (reverse rest)
+  catch_frame = (popped-frames s d rest (CatchOf k) popped is).0
+
+  abbrev mark_of : Mark
+  mark_of = k.behind.mark
+
+  abbrev rewound : State
+  rewound = record { heap = cut k.behind.mark s.heap; links = take k.behind.links s.links; frames = s.frames; goals = 0 }
+
+  abbrev none_visited : State
+  none_visited = record { heap = cut k.behind.mark s.heap; links = take k.behind.links s.links; frames = rest; goals = 0 }
+
+  none-stack : IsStack none_visited (d - 1)
+  none-stack =
+      let c = cut-stack s d is rest (CatchOf k) k.behind popped refl catch_frame.0 in (
+        record { chain = c.0.chain; frames = c.0.frames; goals = record { there = omega arith; inside = subst (AreIn (length (cut k.behind.mark s.heap).cells)) (sym (list_at-none (take k.behind.links s.links))) tt } },
+        c.1,
+      )
+
+  frame-then : IsFrame (cut k.behind.mark s.heap) (take k.behind.links s.links) (CatchOf k) (reverse rest)
+  frame-then = frame-cut s.heap s.links k.behind.mark k.behind.links catch_frame.0.mark catch_frame.0.room (CatchOf k) (reverse rest) (le_refl _, le_refl _, le_refl _) catch_frame
+
+  pub rewound-stack : IsStack (record { heap = cut k.behind.mark s.heap; links = take k.behind.links s.links; frames = s.frames; goals = 0 }) d
+  rewound-stack =
+      let o = opened-state none_visited (d - 1) s.frames (CatchOf k) popped none-stack frame-then in
+      (o.0, omega (arith, o.1, cut-depth s d is rest (CatchOf k) k.behind popped refl catch_frame.0))
+
+  same-catcher : catcher_case (cut k.behind.mark s.heap) (take k.behind.links s.links) k ≡ catcher_case s.heap s.links k
+  same-catcher = catcher-cut s.heap s.links k.behind.mark k.behind.links catch_frame.0.mark catch_frame.0.room k (reverse rest) (le_refl _, le_refl _, le_refl _) catch_frame.0
+
+  below-then : (statics : Statics) → cases_of statics none_visited ≡ cases_of statics (record s { frames = rest })
+  unfolding cases_of
+  below-then statics = cases-cut s.heap s.links k.behind.mark k.behind.links catch_frame.0.mark catch_frame.0.room statics (reverse rest) catch_frame.0.older (popped-frames s d rest (CatchOf k) popped is).1
+
+  pub rewound-cases : (statics : Statics) → cases_of statics (record { heap = cut k.behind.mark s.heap; links = take k.behind.links s.links; frames = s.frames; goals = 0 }) ≡ cases_of statics s
+  rewound-cases statics =
+      opened-cases statics none_visited s.frames (CatchOf k) popped
+      ∙ ap₂ (λ x cs. x ∷ cs) same-catcher (below-then statics)
+      ∙ sym (popped-cases statics s rest (CatchOf k) popped)
+
+  catch-now : cut k.behind.mark (cut k.behind.mark s.heap) ≡ cut k.behind.mark s.heap
+  catch-now = cut-cut k.behind.mark k.behind.mark s.heap (le_refl _) (le_refl _)
+
+  pub rewound-at : AtCatch (record { heap = cut k.behind.mark s.heap; links = take k.behind.links s.links; frames = s.frames; goals = 0 }) k
+  rewound-at = record {
+    below = λ statics. cases_of statics none_visited;
+    cases = λ statics.
+        opened-cases statics none_visited s.frames (CatchOf k) popped
+        ∙ ap (λ h. Handle (Catch (term h k.catcher) (term h k.recovery) (place_at h (take k.behind.links s.links) k.behind.list)) ∷ cases_of statics none_visited) catch-now;
+    catcher = omega (arith, catch_frame.1, cut-cells k.behind.mark s.heap catch_frame.0.mark.cells);
+    recovery = omega (arith, catch_frame.2, cut-cells k.behind.mark s.heap catch_frame.0.mark.cells);
+    list = let l = cut-list s d is rest (CatchOf k) k.behind popped refl catch_frame.0 in record { there = l.there; inside = l.inside };
+    has = has-catch s rest k popped;
+  }
+
+tail_is : (x y : Case) (xs ys : List Case) → x ∷ xs ≡ y ∷ ys → xs ≡ ys
+tail_is x y xs ys e = cc
+
+-- the cases are the same, whatever list is visited
+same-below : (statics : Statics) (s : State) (list : ℕ) → cases_of statics (record s { goals = list }) ≡ cases_of statics s
+unfolding cases_of
+same-below statics s list = refl
+
+-- a list is visited in a choice in place of a catcher
+module _ (s : State) (d : ℕ) (is : IsStack s d) (rest : List Frame) (k : Catcher) (popped : s.frames ≡ rest ++ CatchOf k ∷ []) (frames : List Frame) (up : CountsUp (reverse rest) (reverse frames)) (list : ℕ) (l : IsList s list) where
+  without : State
+  without = record s { frames = rest; goals = list }
+
+  pub recovered-stack : IsStack (record s { frames = frames; goals = list }) d
+  recovered-stack =
+      let p = popped-frames s d rest (CatchOf k) popped is in
+      let c = counted (record s { frames = rest; goals = list }) (depth_of (reverse rest)) frames up (record { chain = is.0.chain; frames = p.1; goals = record { there = l.there; inside = l.inside } }, refl) in
+      (c.0, omega (arith, c.1, p.2))
+
+  pub recovers : Recovers s (record s { frames = frames; goals = list }) list
+  recovers = record {
+    cases = λ statics h below was.
+        let split : catcher_case s.heap s.links k ∷ cases_of statics (record s { frames = rest }) ≡ h ∷ below = sym (popped-cases statics s rest (CatchOf k) popped) ∙ was in
+        counted-cases statics (record s { frames = rest; goals = list }) frames up ∙ ap (λ cs. Choice [] ∷ cs) (same-below statics (record s { frames = rest }) list ∙ tail_is _ _ _ _ split);
+    place = refl;
+  }
+
+-- what the frame of a catcher opens
+module _ (s new : State) (k : Catcher) (now : cut k.behind.mark s.heap ≡ s.heap) where
+  pub opens-in-catch : OpensIn s new (CatchOf k) → Opens s new (Choice [] ∷ catching (term s.heap k.catcher) (term s.heap k.recovery) (goals_of s k.behind.list) s.heap.count ∷ [])
+  opens-in-catch o = record {
+    cases = λ statics. o.cases statics ∙ ap (λ h. Choice [] ∷ Handle (Catch (term h k.catcher) (term h k.recovery) (place_at h s.links k.behind.list)) ∷ cases_of statics s) now;
+    heap = o.heap;
+    links = o.links;
+    goals = o.goals;
+  }
+
+-- a catcher's level
+pub level_is : (s : State) (d : ℕ) → IsStack s d → HasCatch s → (statics : Statics) → deeper (cases_of statics s) 0 ≡ (d - 1) + 1
+level_is s d is has statics = sym (depth_is statics s d is.1) ∙ go (reverse s.frames) has is.1
+  where
+    go : (fs : List Frame) → BeginsWith IsCatchFrame fs → d ≡ depth_of fs → d ≡ (d - 1) + 1
+    go [] has e = absurd has
+    go (Plain n ∷ fs) has e = absurd has
+    go (Barrier l ∷ fs) has e = absurd has
+    go (Call a ∷ fs) has e = absurd has
+    go (BranchOf b ∷ fs) has e = absurd has
+    go (CatchOf k ∷ fs) has e = omega (arith, e)
+
+-- the innermost case stays a catcher
+pub catch-stays : (s t : State) → t.frames ≡ s.frames → HasCatch s → HasCatch t
+catch-stays s t e has = subst (λ fs. BeginsWith IsCatchFrame (reverse fs)) (sym e) has

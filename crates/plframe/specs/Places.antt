@@ -7,18 +7,19 @@ use Rattle.plclause.specs.Clause.{Clause}
 use Rattle.plevent.specs.declared.request.Request.TheVariants.{Publish}
 use Rattle.plevent.specs.declared.update.Update.TheVariants.{Last}
 use Rattle.plheap.specs.Store.{Store, term, cut, IsMark}
-use Rattle.plsearch.specs.Types.{Element, Goal, Commit, Never, Look, Await, Place, Case, Choice, Mark}
+use Rattle.plsearch.specs.Types.{Element, Goal, Commit, Never, Until, Look, Await, Place, Case, Choice, Mark, Handle, Catch}
 use Rattle.plsearch.specs.Table.{resolve}
 use Rattle.plsearch.specs.Engine.{deeper}
 use Rattle.plframe.specs.declared.frame.Item.{Item}
-use Rattle.plframe.specs.declared.frame.Item.TheVariants.{Goal as GoalAt, Commit as CommitTo, Never as NeverTo, Look as LookAt, Await as AwaitFor}
+use Rattle.plframe.specs.declared.frame.Item.TheVariants.{Goal as GoalAt, Commit as CommitTo, Never as NeverTo, Until as UntilTo, Look as LookAt, Await as AwaitFor}
 use Rattle.plframe.specs.declared.frame.Link.{Link}
 use Rattle.plframe.specs.declared.frame.Source.{Source}
 use Rattle.plframe.specs.declared.frame.Source.TheVariants.{Procedure, Copied}
 use Rattle.plframe.specs.declared.frame.Alternatives.{Alternatives}
 use Rattle.plframe.specs.declared.frame.Branch.{Branch}
 use Rattle.plframe.specs.declared.frame.Frame.{Frame}
-use Rattle.plframe.specs.declared.frame.Frame.TheVariants.{Plain, Barrier, Call, Branch as BranchOf}
+use Rattle.plframe.specs.declared.frame.Frame.TheVariants.{Plain, Barrier, Call, Branch as BranchOf, Catch as CatchOf}
+use Rattle.plframe.specs.declared.frame.Catcher.{Catcher}
 
 -- the lists of all links so far, that of number 0 first
 abbrev pub added : List (List Item) → Link → List (List Item)
@@ -35,6 +36,7 @@ abbrev pub element : Store → Item → Element
 element h (GoalAt k c) = Goal k (term h c)
 element h (CommitTo l) = Commit l
 element h (NeverTo l) = Never l
+element h (UntilTo l) = Until l
 element h (LookAt c) = Look (term h c)
 element h (AwaitFor c) = Await (Publish (Last c ∷ []))
 
@@ -68,11 +70,16 @@ alternatives statics d h links a = places_left d (cut a.mark h) links a.goal a.r
 abbrev pub branch_place : Store → List Link → Branch → Place
 branch_place h links b = place_at (cut b.mark h) links b.list
 
+-- a catcher, likewise
+abbrev pub catcher_case : Store → List Link → Catcher → Case
+catcher_case h links k = Handle (Catch (term (cut k.behind.mark h) k.catcher) (term (cut k.behind.mark h) k.recovery) (branch_place h links k.behind))
+
 abbrev pub opened : Statics → Store → List Link → Frame → List Case → List Case
 opened statics h links (Plain n) below = plain n below
 opened statics h links (Barrier l) below = Mark l ∷ below
 opened statics h links (Call a) below = Choice (alternatives statics (deeper below 0) h links a) ∷ below
 opened statics h links (BranchOf b) below = Choice (branch_place h links b ∷ []) ∷ below
+opened statics h links (CatchOf k) below = catcher_case h links k ∷ below
 
 -- of frames, the newest first
 abbrev pub cases : Statics → Store → List Link → List Frame → List Case
@@ -85,6 +92,7 @@ size (Plain n) = n
 size (Barrier l) = 1
 size (Call a) = 1
 size (BranchOf b) = 1
+size (CatchOf k) = 1
 
 abbrev pub depth_of : List Frame → ℕ
 depth_of [] = 0
@@ -95,6 +103,7 @@ abbrev pub IsItemIn : ℕ → Item → Type 0
 IsItemIn n (GoalAt k c) = c < n
 IsItemIn n (CommitTo l) = ⊤
 IsItemIn n (NeverTo l) = ⊤
+IsItemIn n (UntilTo l) = ⊤
 IsItemIn n (LookAt c) = c < n
 IsItemIn n (AwaitFor c) = ⊤
 
@@ -108,6 +117,7 @@ IsOlder c t k (Plain n) = ⊤
 IsOlder c t k (Barrier l) = ⊤
 IsOlder c t k (Call a) = (a.mark.cells ≤ c) × (a.mark.trail ≤ t) × (a.links ≤ k)
 IsOlder c t k (BranchOf b) = (b.mark.cells ≤ c) × (b.mark.trail ≤ t) × (b.links ≤ k)
+IsOlder c t k (CatchOf x) = (x.behind.mark.cells ≤ c) × (x.behind.mark.trail ≤ t) × (x.behind.links ≤ k)
 
 abbrev pub AreOlder : ℕ → ℕ → ℕ → List Frame → Type 0
 AreOlder c t k [] = ⊤
@@ -135,6 +145,7 @@ IsFrame h links (Plain n) fs = 0 < n
 IsFrame h links (Barrier l) fs = ⊤
 IsFrame h links (Call a) fs = IsCall h links a fs
 IsFrame h links (BranchOf b) fs = IsSaved h links b fs
+IsFrame h links (CatchOf k) fs = IsSaved h links k.behind fs × (k.catcher < k.behind.mark.cells) × (k.recovery < k.behind.mark.cells)
 
 abbrev pub AreFrames : Store → List Link → List Frame → Type 0
 AreFrames h links [] = ⊤

@@ -13,6 +13,8 @@ pub enum Item {
     Commit(u32),
     /// Here the choices down to a level are given up, and the list fails.
     Never(u32),
+    /// Up to here the catcher of a level is active.
+    Until(u32),
     /// The goal of a cell waits for a view of the database.
     Look(u32),
     /// A clause waits until it is published as the last of its procedure.
@@ -52,13 +54,21 @@ pub struct Alternatives {
 }
 
 /// A list that is still to be tried.
-#[derive(Drop)]
+#[derive(Clone, Copy)]
 pub struct Branch {
     /// The heap when the choice was opened.
     pub mark: Mark,
     /// How many lists there were then.
     pub links: usize,
     pub list: u32,
+}
+
+/// A catcher, with its recovery, before a list: their cells.
+#[derive(Clone, Copy)]
+pub struct Catcher {
+    pub behind: Branch,
+    pub catcher: u32,
+    pub recovery: u32,
 }
 
 /// Open cases.
@@ -72,6 +82,8 @@ pub enum Frame {
     Call(Alternatives),
     /// A choice of one list.
     Branch(Branch),
+    /// A catcher.
+    Catch(Catcher),
 }
 
 /// The cases that a goal with a cut level of its own runs in, besides the choice of that level.
@@ -80,6 +92,8 @@ pub enum Around {
     Nothing,
     /// A choice of one list.
     Branch(u32),
+    /// A catcher and its recovery, before a list.
+    Catch(u32, u32, u32),
 }
 
 /// Cases to open.
@@ -100,4 +114,6 @@ pub enum Closed {
     Choice,
     /// A mark of a level.
     Mark(u32),
+    /// A catcher.
+    Catch,
 }

@@ -1,22 +1,26 @@
 //! The stack.
 
 ghost use Rattle.std.specs.Prelude.{◌≡◌, ℕ, ◌+◌, ◌<◌, ◌≤◌, List, [], ◌∷◌, ◌++◌, length, map, reverse, IfOk, OnOk, OnErr, IfNone, IfSome, Some, None, true, false, IsTrue, ◌↔◌, vec_len, vec_capacity};
-ghost use Rattle.plterm.specs.Variables.{AllBelow};
+ghost use Rattle.plterm.specs.Variables.{AllBelow, copied, variables};
+ghost use Rattle.plframe.specs.Levels.{levels_of};
 ghost use Rattle.plsubst.specs.Subst.{shift};
 ghost use Rattle.plsubst.specs.Unify.{unify as unifier_of};
-ghost use Rattle.plheap.specs.Store.{term};
+ghost use Rattle.plheap.specs.Store.{term, cut};
+ghost use Rattle.plsearch.specs.Table.{levels};
 ghost use Rattle.plclause.specs.Conversion.{converted};
 ghost use Rattle.plgoal.specs.Goal.{IsGoal};
 ghost use Rattle.plload.specs.Program.{clauses_for};
 ghost use Rattle.plsearch.specs.Types.{Choice, Place, Case};
 ghost use Rattle.plsearch.specs.Engine.{deeper};
 ghost use Rattle.plframe.specs.Places.{Statics, IsItemIn, list_at, depth_of, element, clauses_in, place_at, branch_place, size, IsFrame, IsSaved};
-ghost use Rattle.plframe.specs.State.{place_of, goals_of, cases_of, IsList, Extends, IsOpening, opening_cases, Opens, OpensFrame, OpensIn, Unifies, Begins, CountsUp, OpensRest, HasCall, HasBranch, ClosedAs, Calls, Retries, call_places};
+ghost use Rattle.plframe.specs.State.{place_of, goals_of, cases_of, IsList, Extends, IsOpening, opening_cases, Opens, OpensFrame, OpensIn, Unifies, Begins, CountsUp, OpensRest, HasCall, HasBranch, HasCatch, AtCatch, Recovers, ClosedAs, Calls, Retries, call_places};
 ghost use Rattle.plframe.specs.Extended.{IsRun, Extends as ExtendsTo};
 
 use crate::call::{Called, Room, first_fit};
 use crate::extend::{Extended, Run, with_arguments};
-use crate::frame::{Alternatives, Around, Branch, Closed, Frame, Item, Link, Opening, Source};
+use crate::frame::{
+    Alternatives, Around, Branch, Catcher, Closed, Frame, Item, Link, Opening, Source,
+};
 use plclause::clause::Clause;
 use plgoal::goal::goal_of;
 use plheap::heap::Heap;
@@ -195,6 +199,14 @@ impl Stack {
                 let branch = self.branch_of(list);
                 self.open_plain_in(Frame::Branch(branch))
             }
+            Opening::Run(Around::Catch(catcher, recovery, list)) => {
+                let behind = self.branch_of(list);
+                self.open_plain_in(Frame::Catch(Catcher {
+                    behind,
+                    catcher,
+                    recovery,
+                }))
+            }
         }
     }
 
@@ -203,6 +215,9 @@ impl Stack {
         requires { IsList self.now list }
         ensures saved { IsSaved self.now.heap self.now.links result (reverse self.now.frames) }
         ensures place { branch_place self.now.heap self.now.links result ≡ place_at self.now.heap self.now.links list }
+        ensures list { result.list ≡ list }
+        ensures now { cut result.mark self.now.heap ≡ self.now.heap }
+        ensures cells { result.mark.cells ≡ length self.now.heap.cells }
     {
         Branch {
             mark: self.heap.mark(),
@@ -327,6 +342,36 @@ impl Stack {
         matches!(self.frames.last(), Some(Frame::Branch(_)))
     }
 
+    /// Whether the innermost case is a catcher.
+    pub fn is_catch(&self) -> bool
+        ensures { IsTrue result ↔ HasCatch self.now }
+    {
+        matches!(self.frames.last(), Some(Frame::Catch(_)))
+    }
+
+    /// The level of the innermost case, which is a catcher.
+    pub fn level(&self) -> u32
+        requires { HasCatch self.now }
+        ensures { (statics : Statics) → deeper (cases_of statics self.now) 0 ≡ result + 1 }
+    {
+        self.depth - 1
+    }
+
+    /// The levels of the markers of a list.
+    pub fn levels(&self, alloc: Global, list: u32) -> Result<Vec<u32>, AllocError>
+        requires { IsList self.now list }
+        ensures { IfOk result (λ found. found.items ≡ levels (goals_of self.now list)) }
+    {
+        let mut found = Vec::new(alloc);
+        let mut at = list;
+        while at > 0 {
+            let link = &self.links[at as usize - 1];
+            push_level(&mut found, &link.item)?;
+            at = link.next;
+        }
+        Ok(found)
+    }
+
     /// Closes the innermost case, if one is open.
     pub fn close(&mut self) -> Option<Closed>
         ensures some { IfSome result (λ c. (statics : Statics) → ClosedAs statics self.old self.new c) }
@@ -346,6 +391,10 @@ impl Stack {
             Some(Frame::Branch(_)) => {
                 self.depth -= 1;
                 Some(Closed::Choice)
+            }
+            Some(Frame::Catch(_)) => {
+                self.depth -= 1;
+                Some(Closed::Catch)
             }
             Some(Frame::Plain(n)) => {
                 self.depth -= 1;
@@ -372,6 +421,54 @@ impl Stack {
         self.links.truncate(branch.links);
         count_up(&mut self.frames);
         self.goals = branch.list;
+    }
+
+    /// Goes back to where the innermost case was opened, which is a catcher and stays open: the catcher.
+    pub fn rewind(&mut self) -> Catcher
+        requires { HasCatch self.old }
+        ensures cases { (statics : Statics) → cases_of statics self.new ≡ cases_of statics self.old }
+        ensures at { AtCatch self.new result }
+    {
+        let Some(Frame::Catch(catcher)) = self.frames.pop() else {
+            unreachable!()
+        };
+        self.heap.undo(catcher.behind.mark);
+        self.links.truncate(catcher.behind.links);
+        self.goals = 0;
+        match self.frames.push(Frame::Catch(catcher)) {
+            Ok(()) => {}
+            Err(_) => unreachable!(),
+        }
+        catcher
+    }
+
+    /// Visits a list in a choice with nothing left, in place of the innermost case, which is a catcher.
+    pub fn recover(&mut self, list: u32)
+        requires catch { HasCatch self.old }
+        requires list { IsList self.old list }
+        ensures { Recovers self.old self.new list }
+    {
+        let Some(Frame::Catch(_)) = self.frames.pop() else {
+            unreachable!()
+        };
+        count_up(&mut self.frames);
+        self.goals = list;
+    }
+
+    /// Puts a copy of a term, its variables new: its cell.
+    pub fn put_copy(&mut self, alloc: Global, given: &Term) -> Result<u32, AllocError>
+        ensures cell { IfOk result (λ c. c < length self.new.heap.cells) }
+        ensures is { IfOk result (λ c. term self.new.heap c ≡ copied self.old.heap.count given.now) }
+        ensures count { OnOk result (self.new.heap.count ≡ self.old.heap.count + length (variables given.now)) }
+        ensures stays { OnOk result (Extends self.old self.new) }
+        ensures err { OnErr result (self.new ≡ self.old) }
+    {
+        let copy = given.copy(alloc, 0)?;
+        let variables = given.variables(alloc)?;
+        let Ok(count) = u32::try_from(variables.len()) else {
+            return Err(AllocError);
+        };
+        self.put(&copy, count)
     }
 
     /// Comes back to the innermost choice, whose clauses are to be tried: visits the body of the next one that fits, or closes the choice.
@@ -422,6 +519,19 @@ impl Stack {
             }
         }
     }
+}
+
+/// One more level, if the member is a marker.
+fn push_level(found: &mut Vec<u32>, item: &Item) -> Result<(), AllocError>
+    ensures { OnOk result (found.new.items ≡ found.old.items ++ levels_of item.now) }
+{
+    match item {
+        Item::Commit(level) => found.push(*level)?,
+        Item::Never(level) => found.push(*level)?,
+        Item::Until(level) => found.push(*level)?,
+        Item::Goal(_, _) | Item::Look(_) | Item::Await(_) => {}
+    }
+    Ok(())
 }
 
 /// One more frame.

@@ -18,13 +18,13 @@ is_plain_control p = is_named p (codes "true") 0 || (is_named p (codes "fail") 0
 abbrev pub is_joining_control : Indicator → Bool
 is_joining_control p = is_named p (codes ",") 2 || (is_named p (codes ";") 2 || is_named p (codes "->") 2)
 
--- those that run a term as a goal: once/1, `\+`/1 and call/1 to call/8
+-- those that run a term as a goal: once/1, `\+`/1, catch/3 and call/1 to call/8
 abbrev pub is_running_control : Indicator → Bool
-is_running_control p = is_named p (codes "once") 1 || (is_named p (codes "\\+") 1 || is_call p)
+is_running_control p = is_named p (codes "once") 1 || (is_named p (codes "\\+") 1 || (is_named p (codes "catch") 3 || is_call p))
 
--- control constructs
+-- control constructs: these and throw/1
 abbrev pub is_control : Indicator → Bool
-is_control p = is_plain_control p || (is_joining_control p || is_running_control p)
+is_control p = is_plain_control p || (is_joining_control p || (is_running_control p || is_named p (codes "throw") 1))
 
 -- built-in predicates: =/2, write/1, writeq/1, nl/0 and assertz/1
 abbrev pub is_built_in : Indicator → Bool

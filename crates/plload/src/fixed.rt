@@ -16,7 +16,10 @@ pub fn is_fixed(indicator: &Indicator) -> bool
 fn is_control(indicator: &Indicator) -> bool
     ensures { result ≡ is_control indicator.now }
 {
-    is_plain_control(indicator) || is_joining_control(indicator) || is_running_control(indicator)
+    is_plain_control(indicator)
+        || is_joining_control(indicator)
+        || is_running_control(indicator)
+        || (indicator.name.as_str() == "throw" && indicator.arity == 1)
 }
 
 /// Whether it is a control construct without arguments.
@@ -46,7 +49,10 @@ fn is_running_control(indicator: &Indicator) -> bool
 {
     let name = indicator.name.as_str();
     let arity = indicator.arity;
-    (name == "once" && arity == 1) || (name == "\\+" && arity == 1) || is_call(indicator)
+    (name == "once" && arity == 1)
+        || (name == "\\+" && arity == 1)
+        || (name == "catch" && arity == 3)
+        || is_call(indicator)
 }
 
 /// Whether it is call/1 to call/8.

@@ -126,6 +126,8 @@ fn fixed_procedures(rt: HostRuntime) -> Result<(), Fail> {
         ("!", 0, true),
         ("once", 1, true),
         ("\\+", 1, true),
+        ("catch", 3, true),
+        ("throw", 1, true),
         ("call", 0, false),
         ("call", 1, true),
         ("call", 8, true),

@@ -2,7 +2,9 @@
 use Rattle.std.proofs.Common.{◌≡◌, ℕ, zero, suc, ◌+◌, ◌-◌, ◌≤◌, Bool, true, false, List, [], ◌∷◌, ◌++◌, length, map, min, Option, Some, None, refl, sym, ap, ◌∙◌, subst, arith, nat_eq}
 use Rattle.std.specs.List.{filter_map, cons_option}
 use Rattle.std.specs.Option.{option_map}
-use Rattle.plterm.specs.Tree.{Tree}
+use Rattle.plterm.specs.Tree.{Tree, var, int, atom, compound}
+use Rattle.plterm.specs.Variables.{copied, variables}
+use Rattle.plsearch.specs.Errors.{error_term}
 use Rattle.plsubst.specs.Subst.{bind, shift}
 use Rattle.plsubst.specs.Unify.{unify}
 use Rattle.plclause.specs.Clause.{Clause}
@@ -16,9 +18,9 @@ use Rattle.plclause.specs.declared.form.ClauseForm.TheVariants.{NoHead, BadHead,
 use Rattle.plevent.specs.Alive.{Stamped, exists, clauses_alive}
 use Rattle.plevent.specs.Search.{Item, View, Ask, Answer, Seen, Got, Next, Wants, Search}
 use Rattle.plload.specs.Program.{Program, clauses_for}
-use Rattle.plsearch.specs.Types.{Result, Stop, Fail, CutTo, Throw, Spent, Asking, Ceased, Element, Goal, Commit, Never, Look, Await, Place, Case, Choice, Mark, Handle, Local, Move, Give, Go, Meeting, Run}
-use Rattle.plsearch.specs.Table.{Control, True, False, Both, Either, Then, Not, Once, CallWith, Cut, Unify, Write, WriteQuoted, Newline, AddLast, Call, NoGoal, control, bind_element, bind_goals, is_true, before_rest, resolve, choose, call, raised, Runnable, Runs, Raises, run, runnable, called, call_with, branch, unified, is_static, add_if, add, user, row, select, meet, walk_if, walk_over, replied, answered}
-use Rattle.plsearch.specs.Engine.{Ended, Visitor, stop_cut_if, stop_cut, mark, choice, out, deeper, outs, moved, stepped, asks, walk, met, visit_in, Visit, left}
+use Rattle.plsearch.specs.Types.{Result, Stop, Fail, CutTo, Throw, Spent, Asking, Ceased, Element, Goal, Commit, Never, Until, Raise, Look, Await, Place, Case, Choice, Mark, Handle, Handler, Catch, Return, Keep, Again, Anew, Local, Move, Give, Go, Meeting, Run}
+use Rattle.plsearch.specs.Table.{Control, True, False, Both, Either, Then, Not, Once, Catching, Throwing, CallWith, Cut, Unify, Write, WriteQuoted, Newline, AddLast, Call, NoGoal, control, bind_element, bind_goals, is_true, before_rest, resolve, choose, call, raised, Runnable, Runs, Raises, run, runnable, called, call_with, branch, catching, thrown, catch_3, levels, has, recovers, met_by, caught, resume, unified, is_static, add_if, add, user, row, select, meet, walk_if, walk_over, replied, answered}
+use Rattle.plsearch.specs.Engine.{Ended, Visitor, stop_cut_if, stop_cut, mark, choice, returned, out, deeper, outs, moved, stepped, asks, walk, met, visit_in, Visit, left}
 use Rattle.plsearch.specs.Search.{start_from, start_of, started, from_start, next_of, search_of}
 use Rattle.plrun.specs.Paid.{IsPlain, ItemsCostSteps}
 
@@ -27,6 +29,8 @@ IsQuiet : Element → Type 0
 IsQuiet (Goal k t) = Unit {0}
 IsQuiet (Commit l) = Unit {0}
 IsQuiet (Never l) = Unit {0}
+IsQuiet (Until l) = Unit {0}
+IsQuiet (Raise b) = Unit {0}
 IsQuiet (Look t) = ⊥
 IsQuiet (Await q) = ⊥
 
@@ -39,6 +43,8 @@ Opens : Element → Type 0
 Opens (Goal k t) = Unit {0}
 Opens (Commit l) = Unit {0}
 Opens (Never l) = Unit {0}
+Opens (Until l) = Unit {0}
+Opens (Raise b) = Unit {0}
 Opens (Look t) = Unit {0}
 Opens (Await q) = IsPlain (Ask q)
 
@@ -53,6 +59,8 @@ unfolding IsQuiet Opens
 quiet_opens (Goal k t) q = tt
 quiet_opens (Commit l) q = tt
 quiet_opens (Never l) q = tt
+quiet_opens (Until l) q = tt
+quiet_opens (Raise b) q = tt
 quiet_opens (Look t) q = absurd q
 quiet_opens (Await q) never = absurd never
 
@@ -133,7 +141,7 @@ AllQuiet (p ∷ ps) = AreQuiet p.goals × AllQuiet ps
 CaseIsQuiet : Case → Type 0
 CaseIsQuiet (Choice ps) = AllQuiet ps
 CaseIsQuiet (Mark l) = Unit {0}
-CaseIsQuiet (Handle h) = Unit {0}
+CaseIsQuiet (Handle (Catch c r p)) = AreQuiet p.goals
 
 AreQuietCases : List Case → Type 0
 AreQuietCases [] = Unit {0}
@@ -152,11 +160,55 @@ choice_fits next pays (p ∷ ps) quiet d Spent s from to f = f
 choice_fits next pays (p ∷ ps) quiet d (Asking q) s from to f = f
 choice_fits next pays (p ∷ ps) quiet d Ceased s from to f = f
 
+bind_quiet : (σ : ℕ → Tree) (es : List Element) → AreQuiet es → AreQuiet (bind_goals σ es)
+unfolding AreQuiet IsQuiet
+bind_quiet σ [] q = tt
+bind_quiet σ (Goal k t ∷ es) q = (tt, bind_quiet σ es q.1)
+bind_quiet σ (Commit l ∷ es) q = (tt, bind_quiet σ es q.1)
+bind_quiet σ (Never l ∷ es) q = (tt, bind_quiet σ es q.1)
+bind_quiet σ (Until l ∷ es) q = (tt, bind_quiet σ es q.1)
+bind_quiet σ (Raise b ∷ es) q = (tt, bind_quiet σ es q.1)
+bind_quiet σ (Look t ∷ es) q = absurd q.0
+bind_quiet σ (Await r ∷ es) q = absurd q.0
+
+-- what a handler makes of a result
+ReturnFits : Result → Return → Type 0
+ReturnFits r (Keep x w) = (q : Item) → x ≡ Asking q → r ≡ Asking q
+ReturnFits r (Again p w) = IsStill r × AreQuiet p.goals
+ReturnFits r (Anew p w) = IsStill r × AreQuiet p.goals
+
+recovers_fits : (x : Runnable) (r : Result) (d : ℕ) (es : List Element) (n : ℕ) (w : Local) → IsStill r → AreQuiet es → ReturnFits r (recovers x d es n w)
+unfolding ReturnFits AreQuiet IsQuiet IsStill
+recovers_fits (Runs g) r d es n w still quiet = (still, (tt, quiet))
+recovers_fits (Raises e) r d es n w still quiet = λ q is. absurd (still_never (Throw (copied 0 (error_term e catch_3)) (levels es)) q tt is)
+
+caught_fits : (b : Bool) (c t : Tree) (ball : Tree) (ls : List ℕ) (p : Place) (d : ℕ) (w : Local) → AreQuiet p.goals → ReturnFits (Throw ball ls) (caught b c t ball ls p d w)
+unfolding ReturnFits IsStill
+caught_fits false c t ball ls p d w quiet = λ q is. is
+caught_fits true c t ball ls p d w quiet = go (unify c (copied p.variables ball))
+  where
+    go : (o : Option (ℕ → Tree)) → ReturnFits (Throw ball ls) (met_by o t ball ls p d w)
+    go None = λ q is. is
+    go (Some σ) = recovers_fits (runnable (bind σ t)) (Throw ball ls) d (bind_goals σ p.goals) (p.variables + length (variables ball)) w tt (bind_quiet σ p.goals quiet)
+
+resume_fits : (h : Handler) → CaseIsQuiet (Handle h) → (d : ℕ) (r : Result) (w : Local) → ReturnFits r (resume h d r w)
+unfolding CaseIsQuiet ReturnFits resume
+resume_fits (Catch c t p) quiet d (Throw b ls) w = caught_fits (has d ls) c t b ls p d w quiet
+resume_fits (Catch c t p) quiet d r w = λ q is. is
+
+returned_fits : (next : Visitor) → Pays next → (b : Return) (r : Result) → ReturnFits r b → (d s : ℕ) (from to : Run) → Fits s from (r, to) → Fits s from (returned next d b to)
+unfolding ReturnFits Pays Ready CaseIsQuiet AllQuiet
+returned_fits next pays (Keep x w) r fits d s from to f = record { paid = f.paid; asks = λ q is. f.asks q (fits q is) }
+returned_fits next pays (Again p w) r fits d s from to f = fits_then s from (record to { local = w }) (next d p (record to { local = w })) f.paid (pays d p (record to { local = w }) 0 (omega arith) fits.1)
+returned_fits next pays (Anew p w) r fits d s from to f =
+    let e = next (suc d) p (record to { local = w }) in
+    choice_fits next pays [] tt d e.0 s from e.1 (fits_then s from (record to { local = w }) e f.paid (pays (suc d) p (record to { local = w }) 0 (omega arith) fits.1))
+
 out_fits : (next : Visitor) → Pays next → (c : Case) → CaseIsQuiet c → (d s : ℕ) (from : Run) (e : Ended) → Fits s from e → Fits s from (out next d c e)
 unfolding out CaseIsQuiet
 out_fits next pays (Choice ps) quiet d s from e f = choice_fits next pays ps quiet d e.0 s from e.1 f
 out_fits next pays (Mark l) quiet d s from e f = changed_fits s from e.1 e.0 (mark l e.0) (mark_asking l e.0) f
-out_fits next pays (Handle h) quiet d s from e f = elim h [ ]
+out_fits next pays (Handle h) quiet d s from e f = returned_fits next pays (resume h d e.0 e.1.local) e.0 (resume_fits h quiet d e.0 e.1.local) d s from e.1 f
 
 outs_fits : (next : Visitor) → Pays next → (cs : List Case) → AreQuietCases cs → (d s : ℕ) (from : Run) (e : Ended) → Fits s from e → Fits s from (outs next d cs e)
 unfolding outs AreQuietCases
@@ -179,15 +231,6 @@ moved_fits next pays d s (Go cs p w) run le fits =
     from_same e f = record { paid = f.paid; asks = f.asks }
 
 -- the table's rows
-bind_quiet : (σ : ℕ → Tree) (es : List Element) → AreQuiet es → AreQuiet (bind_goals σ es)
-unfolding AreQuiet IsQuiet
-bind_quiet σ [] q = tt
-bind_quiet σ (Goal k t ∷ es) q = (tt, bind_quiet σ es q.1)
-bind_quiet σ (Commit l ∷ es) q = (tt, bind_quiet σ es q.1)
-bind_quiet σ (Never l ∷ es) q = (tt, bind_quiet σ es q.1)
-bind_quiet σ (Look t ∷ es) q = absurd q.0
-bind_quiet σ (Await r ∷ es) q = absurd q.0
-
 body_quiet : (b : Bool) (d : ℕ) (t : Tree) (es : List Element) → AreQuiet es → AreQuiet (before_rest b d t es)
 unfolding AreQuiet IsQuiet
 body_quiet true d t es q = q
@@ -225,7 +268,7 @@ raised_fits e p es w s = tt
 run_fits : (r : Runnable) (p : Indicator) (cs : List Case) (k : ℕ) (rest : List Element) (n : ℕ) (w : Local) (s : ℕ) → AreQuietCases cs → AreQuiet rest → MoveFits s (run r p cs k rest n w)
 unfolding MoveFits AreQuietCases CaseIsQuiet AllQuiet AreQuiet IsQuiet
 run_fits (Runs b) p cs k rest n w s cases quiet = (ready s (Goal k b ∷ rest) (tt, quiet), (tt, cases))
-run_fits (Raises e) p cs k rest n w s cases quiet = raised_fits e p rest w s
+run_fits (Raises e) p cs k rest n w s cases quiet = (ready s (Raise (copied 0 (error_term e p)) ∷ rest) (tt, quiet), (tt, cases))
 
 -- a list is visited in cases
 enter_fits : (cs : List Case) (es : List Element) (n : ℕ) (w : Local) (s : ℕ) → AreQuietCases cs → AreQuiet es → MoveFits s (Go cs (record { goals = es; variables = n }) w)
@@ -243,6 +286,17 @@ one_branch es n quiet = ((quiet, tt), tt)
 in_branch : (es : List Element) (n : ℕ) → AreQuiet es → AreQuietCases (Choice [] ∷ branch es n ∷ [])
 unfolding AreQuietCases CaseIsQuiet AllQuiet
 in_branch es n quiet = (tt, ((quiet, tt), tt))
+
+one_catcher : (c r : Tree) (es : List Element) (n : ℕ) → AreQuiet es → AreQuietCases (catching c r es n ∷ [])
+unfolding AreQuietCases CaseIsQuiet
+one_catcher c r es n quiet = (quiet, tt)
+
+thrown_fits : (b : Tree) (rest : List Element) (w : Local) → MoveFits 1 (thrown b rest w)
+unfolding MoveFits IsStill
+thrown_fits (var x) rest w = raised_fits _ _ rest w 1
+thrown_fits (int i) rest w = tt
+thrown_fits (atom f) rest w = tt
+thrown_fits (compound f ts) rest w = tt
 
 one_mark : (l : ℕ) → AreQuietCases (Mark l ∷ [])
 unfolding AreQuietCases CaseIsQuiet
@@ -285,6 +339,8 @@ row_fits P (Either a b) k t d rest n w quiet = enter_fits (branch (Goal k b ∷ 
 row_fits P (Then c a e) k t d rest n w quiet =
     enter_fits (Choice [] ∷ branch (Goal k e ∷ rest) n ∷ []) (Goal (suc d) c ∷ Commit d ∷ Goal k a ∷ rest) n w 1 (in_branch (Goal k e ∷ rest) n (tt, quiet)) (tt, (tt, (tt, quiet)))
 row_fits P (Not g) k t d rest n w quiet = run_fits (runnable g) _ (branch rest n ∷ []) (suc d) (Never d ∷ rest) n w 1 (one_branch rest n quiet) (tt, quiet)
+row_fits P (Catching g c r) k t d rest n w quiet = run_fits (runnable g) _ (catching c r rest n ∷ []) (suc d) (Until d ∷ rest) n w 1 (one_catcher c r rest n quiet) (tt, quiet)
+row_fits P (Throwing b) k t d rest n w quiet = thrown_fits b rest w
 row_fits P (Once g) k t d rest n w quiet = run_fits (runnable g) _ [] d (Commit d ∷ rest) n w 1 no_cases (tt, quiet)
 row_fits P (CallWith g us) k t d rest n w quiet = run_fits (called g us) (call_with (length us)) [] d rest n w 1 no_cases quiet
 row_fits P Cut k t d rest n w quiet = enter_fits (Mark k ∷ []) rest n w 1 (one_mark k) quiet
@@ -317,6 +373,8 @@ answered_fits (Await q) (Seen g us) d rest n w quiet = give_fits 0 Ceased w tt
 answered_fits (Goal k t) a d rest n w quiet = give_fits 0 Ceased w tt
 answered_fits (Commit l) a d rest n w quiet = give_fits 0 Ceased w tt
 answered_fits (Never l) a d rest n w quiet = give_fits 0 Ceased w tt
+answered_fits (Until l) a d rest n w quiet = give_fits 0 Ceased w tt
+answered_fits (Raise b) a d rest n w quiet = give_fits 0 Ceased w tt
 
 -- a goal takes a step
 stepped_fits : (next : Visitor) → Pays next → (row : Local → Move) → ((w : Local) → MoveFits 1 (row w)) → (d s : ℕ) (run : Run) (steps : ℕ) → run.steps ≡ steps → Fits s run (stepped next row d run steps)
@@ -379,6 +437,10 @@ walk_fits P next pays (Commit l ∷ es) n d run s le r =
     let to : Run = record run { local = run.local } in
     at_most_one run (out next d (Mark l) (walk P next es n (suc d) to)) s le (out_fits next pays (Mark l) (mark_quiet l) d 0 run (walk P next es n (suc d) to) (walk_fits P next pays es n (suc d) to 0 (omega arith) quiet))
 walk_fits P next pays (Never l ∷ es) n d run s le r = still_fits s run (record run { local = run.local }) (CutTo l) tt (omega arith)
+walk_fits P next pays (Until l ∷ es) n d run s le r =
+    let to : Run = record run { local = run.local } in
+    at_most_one run (walk P next es n d to) s le (walk_fits P next pays es n d to 0 (omega arith) (rest_quiet s (Until l) es le r))
+walk_fits P next pays (Raise b ∷ es) n d run s le r = still_fits s run (record run { local = run.local }) (Throw b (levels es)) tt (omega arith)
 walk_fits P next pays (Look t ∷ es) n d run zero le r = absurd r.0
 walk_fits P next pays (Look t ∷ es) n d run (suc zero) le r =
     asks_fits next pays (λ a. answered (Look t) a d es n) (λ a w. answered_fits (Look t) a d es n w r.1) View tt d run run.answers refl

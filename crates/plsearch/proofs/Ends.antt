@@ -3,9 +3,9 @@ use Rattle.std.proofs.Common.{◌≡◌, ℕ, zero, suc, ◌+◌, ◌<◌, ◌�
 use Rattle.plevent.specs.Search.{Item, Answer, Finishes}
 use Rattle.plevent.specs.declared.request.ThreadEnd.{ThreadEnd}
 use Rattle.plload.specs.Program.{Program}
-use Rattle.plsearch.specs.Types.{Result, Stop, Fail, CutTo, Throw, Spent, Asking, Ceased, Element, Place, Case, Choice, Mark, Handle, Local, Move, Give, Go, Meeting, Select, Asks, End, Pass, Marked, Run}
-use Rattle.plsearch.specs.Table.{select, meet, answered}
-use Rattle.plsearch.specs.Engine.{Ended, deeper, choice, out, outs, moved, stepped, asks, met, walk, left, Visit}
+use Rattle.plsearch.specs.Types.{Result, Stop, Fail, CutTo, Throw, Spent, Asking, Ceased, Element, Place, Case, Choice, Mark, Handle, Catch, Return, Keep, Again, Anew, Local, Move, Give, Go, Meeting, Select, Asks, End, Pass, Marked, Run}
+use Rattle.plsearch.specs.Table.{select, meet, answered, resume}
+use Rattle.plsearch.specs.Engine.{Ended, deeper, choice, returned, out, outs, moved, stepped, asks, met, walk, left, Visit}
 use Rattle.plsearch.specs.Search.{next_of, ending_of, from_start, start_of, search_of}
 use Rattle.plsearch.proofs.Fuel.{Agree, Same, out-agree, visit-agree, Visit-walk}
 
@@ -73,16 +73,26 @@ module _ (P : Program) (further : List Answer) where
   choice-grows k h ps d r run lt n = λ m. refl
 
   out-still : (c : Case) (d : ℕ) → Still (out (Visit P) d c)
-  unfolding out
+  unfolding out resume
   out-still (Choice ps) d q run n = choice-still ps d q run n
   out-still (Mark l) d q run n = n
-  out-still (Handle h) d q run n = elim h [ ]
+  out-still (Handle (Catch c r p)) d q run n = n
+
+  returned-grows : (k : ℕ) → Claim k → (d : ℕ) (b : Return) (run : Run) → left run < k → Grows (returned (Visit P) d b run) (returned (Visit P) d b (with_more run))
+  unfolding Grows with_more Claim
+  returned-grows k h d (Keep r w) run lt = λ n. refl
+  returned-grows k h d (Again p w) run lt = h d p (record run { local = w }) lt
+  returned-grows k h d (Anew p w) run lt =
+      let run' : Run = record run { local = w } in
+      let e = Visit P (suc d) p run' in
+      passed (λ e. choice (Visit P) d [] e.0 e.1) e (Visit P (suc d) p (with_more run')) (choice-still [] d) (h (suc d) p run' lt)
+      (λ n. choice-grows k h [] d e.0 e.1 (omega (arith, Visit-left P (suc d) p run')) n)
 
   out-grows : (k : ℕ) → Claim k → (d : ℕ) (c : Case) (e e' : Ended) → left e.1 < k → Grows e e' → Grows (out (Visit P) d c e) (out (Visit P) d c e')
   unfolding out Grows with_more
   out-grows k h d (Choice ps) e e' lt g = passed (out (Visit P) d (Choice ps)) e e' (out-still (Choice ps) d) g (λ n. choice-grows k h ps d e.0 e.1 lt n)
   out-grows k h d (Mark l) e e' lt g = passed (out (Visit P) d (Mark l)) e e' (out-still (Mark l) d) g (λ n m. refl)
-  out-grows k h d (Handle c) e e' lt g = elim c [ ]
+  out-grows k h d (Handle c) e e' lt g = passed (out (Visit P) d (Handle c)) e e' (out-still (Handle c) d) g (λ n. returned-grows k h d (resume c d e.0 e.1.local) e.1 lt)
 
   out-left : (d : ℕ) (c : Case) (e : Ended) → left (out (Visit P) d c e).1 ≤ left e.1
   unfolding Same

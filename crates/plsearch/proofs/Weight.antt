@@ -1,9 +1,14 @@
 -- Each turn takes a step or an answer, or makes the machine lighter: so turns come to an end.
-use Rattle.std.proofs.Common.{◌≡◌, ℕ, zero, suc, ◌+◌, ◌≤◌, inl, inr, List, [], ◌∷◌, length, refl, ap, arith}
+use Rattle.std.proofs.Common.{◌≡◌, ℕ, zero, suc, ◌+◌, ◌≤◌, inl, inr, List, [], ◌∷◌, length, refl, ap, arith, Bool, true, false, Option, Some, None}
 use Rattle.plevent.specs.Search.{Item, Answer}
 use Rattle.plload.specs.Program.{Program}
-use Rattle.plsearch.specs.Types.{Result, Fail, Element, Place, Case, Choice, Mark, Handle, Handler, Local, Move, Give, Go, Meeting, Select, Asks, End, Pass, Marked, Return, Keep, Again, Anew, Run}
-use Rattle.plsearch.specs.Table.{select, meet, answered, resume}
+use Rattle.std.proofs.lemmas.List.{length-map}
+use Rattle.plterm.specs.Tree.{Tree}
+use Rattle.plterm.specs.Variables.{variables, copied}
+use Rattle.plsubst.specs.Subst.{bind}
+use Rattle.plsubst.specs.Unify.{unify}
+use Rattle.plsearch.specs.Types.{Catch, Throw, Result, Fail, Element, Place, Case, Choice, Mark, Handle, Handler, Local, Move, Give, Go, Meeting, Select, Asks, End, Pass, Marked, Return, Keep, Again, Anew, Run}
+use Rattle.plsearch.specs.Table.{select, meet, answered, resume, has, Runnable, Runs, Raises, runnable, recovers, met_by, caught, bind_element, bind_goals}
 use Rattle.plsearch.specs.Engine.{left, deeper}
 use Rattle.plsearch.specs.Machine.{Mode, At, Back, Machine, move, step, ask, meets, visits, choose, return, backs, turn_in, turn}
 use Rattle.plsearch.specs.Weight.{place_weight, handler_weight, weight, Lighter}
@@ -15,7 +20,21 @@ return_weight (Anew p w) = place_weight p + 1
 
 -- a handler weighs as much as what it may go on with
 resume-weight : (h : Handler) (d : ℕ) (r : Result) (w : Local) → return_weight (resume h d r w) ≤ handler_weight h
-resume-weight h d r w = elim h [ ]
+unfolding resume
+resume-weight (Catch c r p) d (Throw b ls) w = caught-weight (has d ls)
+  where
+    recovers-weight : (x : Runnable) (es : List Element) (n : ℕ) → length es ≡ length p.goals → return_weight (recovers x d es n w) ≤ place_weight p + 3
+    recovers-weight (Runs g) es n same = omega (arith, same)
+    recovers-weight (Raises e) es n same = omega arith
+
+    met-weight : (x : Option (ℕ → Tree)) → return_weight (met_by x r b ls p d w) ≤ place_weight p + 3
+    met-weight None = omega arith
+    met-weight (Some σ) = recovers-weight (runnable (bind σ r)) (bind_goals σ p.goals) (p.variables + length (variables b)) (length-map p.goals (bind_element σ))
+
+    caught-weight : (x : Bool) → return_weight (caught x c r b ls p d w) ≤ place_weight p + 3
+    caught-weight false = omega arith
+    caught-weight true = met-weight (unify c (copied p.variables b))
+resume-weight (Catch c r p) d x w = omega arith
 
 -- the machine at a goal list
 abbrev at_goals : Place → List Case → Run → Machine

@@ -1,5 +1,5 @@
 -- Worked programs.
-use Rattle.std.proofs.Common.{◌≡◌, ℕ, ◌+◌, List, [], ◌∷◌, ◌++◌, codes, refl, pos, ap, append-nil}
+use Rattle.std.proofs.Common.{◌≡◌, ℕ, List, [], ◌∷◌, codes, refl, pos, ap, append-nil}
 use Rattle.plterm.specs.Tree.{Tree, var, int, atom, compound, none, more}
 use Rattle.plsubst.specs.Subst.{bind, occurs}
 use Rattle.plsubst.specs.Unify.{places, differ, unify_in, unify}
@@ -7,8 +7,8 @@ use Rattle.std.specs.Fmt.{signed_decimal}
 use Rattle.plwrite.specs.Writing.{words, others}
 use Rattle.plops.specs.Tables.{prefix_of, infix_of, postfix_of}
 use Rattle.plevent.specs.Alive.{Stamped, named, living, exists}
-use Rattle.plevent.specs.Search.{View, Ask, Answer, Seen, Got, Next, Wants, Finishes, Ceases, Ending}
-use Rattle.plevent.specs.declared.request.Reply.TheVariants.{Published, Done}
+use Rattle.plevent.specs.Search.{View, Ask, Answer, Seen, Got, Wants, Finishes, Ceases, Ending}
+use Rattle.plevent.specs.declared.request.Reply.TheVariants.{Published}
 use Rattle.plevent.specs.declared.request.Request.TheVariants.{Publish}
 use Rattle.plevent.specs.declared.request.ThreadEnd.TheVariants.{True, False, Exception, Budget}
 use Rattle.plevent.specs.declared.update.Update.TheVariants.{Last}
@@ -17,14 +17,14 @@ use Rattle.plclause.specs.Conversion.{converted}
 use Rattle.plread.specs.declared.quotes.Quotes.TheVariants.{Codes}
 use Rattle.plload.specs.declared.settings.Unknown.TheVariants.{Error}
 use Rattle.plload.specs.Program.{Program}
-use Rattle.plsearch.specs.Errors.{indicator_term, instantiation_error, callable_error, procedure_error, static_error, error_term, pair}
-use Rattle.plsearch.specs.Table.{raised, row, select, meet, answered}
+use Rattle.plsearch.specs.Errors.{pair}
+use Rattle.plsearch.specs.Table.{raised, row, select, meet, answered, resume}
 use Rattle.plsearch.specs.Engine.{choice, out, outs, moved, walk, visit_in, Visit}
 use Rattle.plsearch.specs.Search.{start_from, start_of, search_of}
 
 -- all that a search computes with
 pub all : ℕ
-unfolding bind occurs places differ unify_in unify living exists words others prefix_of infix_of postfix_of raised row select meet answered choice out outs moved walk visit_in Visit start_from start_of search_of
+unfolding bind occurs places differ unify_in unify living exists words others prefix_of infix_of postfix_of raised row select meet answered resume choice out outs moved walk visit_in Visit start_from start_of search_of
 all = 0
 
 abbrev name : List ℕ → Tree
@@ -36,11 +36,11 @@ of f t = compound f (more t none)
 abbrev and : Tree → Tree → Tree
 and a b = pair (codes ",") a b
 
-abbrev with_goal : Tree → Program
-with_goal g = record {
+abbrev with_variables : ℕ → Tree → Program
+with_variables n g = record {
   procedures =
       (record { name = codes "p"; arity = 1 }, record { head = of (codes "p") (name (codes "a")); body = name (codes "true"); variables = 0 } ∷ record { head = of (codes "p") (name (codes "b")); body = name (codes "true"); variables = 0 } ∷ [])
-      ∷ (record { name = codes "main"; arity = 0 }, record { head = name (codes "main"); body = g; variables = 1 } ∷ [])
+      ∷ (record { name = codes "main"; arity = 0 }, record { head = name (codes "main"); body = g; variables = n } ∷ [])
       ∷ [];
   goals = name (codes "main") ∷ [];
   first = [];
@@ -48,6 +48,9 @@ with_goal g = record {
   clauses = 3;
   directives = 1;
 }
+
+abbrev with_goal : Tree → Program
+with_goal = with_variables 1
 
 abbrev search : Tree → ℕ → List Answer → Ending
 search g = search_of (with_goal g) 1000
@@ -253,3 +256,52 @@ not_converted = refl
 unifies : search (and (pair (codes "=") (var 0) (name (codes "a"))) (of (codes "write") (var 0))) 1000 [] ≡ record { next = Finishes True; used = 5; out = codes "a" }
 unfolding all
 unifies = refl
+
+-- main :- catch(\+ throw(x), x, true): the ball sees the catcher behind the marker of \+
+abbrev catches : Tree → Tree → Tree → Tree
+catches g c r = compound (codes "catch") (more g (more c (more r none)))
+
+catches_in_not : search (catches (of (codes "\\+") (of (codes "throw") (name (codes "x")))) (name (codes "x")) (name (codes "true"))) 1000 [] ≡ record { next = Finishes True; used = 6; out = [] }
+unfolding all
+catches_in_not = refl
+
+abbrev search_3 : Tree → ℕ → List Answer → Ending
+search_3 g = search_of (with_variables 3 g) 1000
+
+-- main :- catch(p(X), Y, true), throw(X): a catcher whose goal has exited is not active
+exits : (search_3 (and (catches (of (codes "p") (var 0)) (var 1) (name (codes "true"))) (of (codes "throw") (var 0))) 1000 []).next ≡ Finishes (Exception (name (codes "a")))
+unfolding all
+exits = refl
+
+-- main :- catch((X = b, throw(a)), Y, write(Y)), p(X): what the goal bound is not bound for its catcher
+undone : search_3 (and (catches (and (pair (codes "=") (var 0) (name (codes "b"))) (of (codes "throw") (name (codes "a")))) (var 1) (of (codes "write") (var 1))) (and (of (codes "p") (var 0)) (of (codes "write") (var 0)))) 1000 [] ≡ record { next = Finishes True; used = 11; out = codes "aa" }
+unfolding all
+undone = refl
+
+-- main :- catch(1, error(type_error(X, Y), Z), write(X)): so are the errors of built-ins
+catches_errors : search_3 (catches (int (pos 1)) (pair (codes "error") (pair (codes "type_error") (var 0) (var 1)) (var 2)) (of (codes "write") (var 0))) 1000 [] ≡ record { next = Finishes True; used = 4; out = codes "callable" }
+unfolding all
+catches_errors = refl
+
+-- main :- throw(X).
+throws_no_variable : (search (of (codes "throw") (var 0)) 1000 []).next
+    ≡ Finishes (Exception (pair (codes "error") (name (codes "instantiation_error")) (pair (codes "/") (name (codes "throw")) (int (pos 1)))))
+unfolding all
+throws_no_variable = refl
+
+-- The variable of a ball is no variable of those that catch it: with t :- throw(f(_)) and r(X) :- X = a,
+-- main :- catch(t, E, true), r(_), E = f(b).
+abbrev with_balls : Tree → Program
+with_balls g = record {
+  procedures =
+      (record { name = codes "t"; arity = 0 }, record { head = name (codes "t"); body = of (codes "throw") (of (codes "f") (var 0)); variables = 1 } ∷ [])
+      ∷ (record { name = codes "r"; arity = 1 }, record { head = of (codes "r") (var 0); body = pair (codes "=") (var 0) (name (codes "a")); variables = 1 } ∷ [])
+      ∷ (record { name = codes "main"; arity = 0 }, record { head = name (codes "main"); body = g; variables = 2 } ∷ [])
+      ∷ [];
+  goals = name (codes "main") ∷ [];
+  first = [];
+}
+
+numbers_anew : search_of (with_balls (and (catches (name (codes "t")) (var 0) (name (codes "true"))) (and (of (codes "r") (var 1)) (pair (codes "=") (var 0) (of (codes "f") (name (codes "b"))))))) 1000 1000 [] ≡ record { next = Finishes True; used = 11; out = [] }
+unfolding all
+numbers_anew = refl

@@ -1,7 +1,8 @@
 -- The table of control (ISO/IEC 13211-1 7.7, 7.8): one row for each form of goal, marker, answer and handler. No function here is recursive on goals.
-use Rattle.std.specs.Prelude.{ℕ, suc, ◌+◌, Bool, true, false, ◌&&◌, ◌||◌, nat_le, List, [], ◌∷◌, ◌++◌, length, map, filter_map, Option, Some, None, option_map, codes, bytes_eq, if◌then◌else◌}
-use Rattle.plterm.specs.Tree.{Tree, var, int, atom, compound, Trees, none, more, trees, list_of}
-use Rattle.plterm.specs.Variables.{copied}
+use Rattle.std.specs.Prelude.{ℕ, suc, ◌+◌, Bool, true, false, ◌&&◌, ◌||◌, ◌==◌, nat_le, List, [], ◌∷◌, ◌++◌, length, map, filter_map, Option, Some, None, option_map, codes, bytes_eq, if◌then◌else◌}
+use Rattle.std.specs.List.{list_any}
+use Rattle.plterm.specs.Tree.{Tree, var, int, atom, compound, none, more, trees, list_of}
+use Rattle.plterm.specs.Variables.{copied, variables}
 use Rattle.plsubst.specs.Subst.{bind, shift}
 use Rattle.plsubst.specs.Unify.{unify}
 use Rattle.plclause.specs.Indicators.{indicator}
@@ -21,7 +22,7 @@ use Rattle.plclause.specs.declared.form.ClauseForm.{ClauseForm}
 use Rattle.plclause.specs.declared.form.ClauseForm.TheVariants.{NoHead, BadHead, BadBody, IsClause}
 use Rattle.plload.specs.Fixed.{is_fixed}
 use Rattle.plload.specs.Program.{Program, clauses_for}
-use Rattle.plsearch.specs.Types.{Result, Fail, CutTo, Throw, Ceased, Element, Goal, Commit, Never, Look, Await, Place, Case, Choice, Mark, Handler, Local, Move, Give, Go, Meeting, Select, Asks, End, Marked, Return}
+use Rattle.plsearch.specs.Types.{Result, Fail, CutTo, Throw, Ceased, Element, Goal, Commit, Never, Until, Raise, Look, Await, Place, Case, Choice, Mark, Handle, Handler, Catch, Local, Move, Give, Go, Meeting, Select, Asks, End, Pass, Marked, Return, Keep, Anew}
 use Rattle.plsearch.specs.Errors.{instantiation_error, callable_error, procedure_error, static_error, arity_error, error_term}
 
 -- a goal as the table reads it
@@ -33,6 +34,8 @@ pub data Control : Type 0 where
   Then : Tree → Tree → Tree → Control
   Not : Tree → Control
   Once : Tree → Control
+  Catching : Tree → Tree → Tree → Control
+  Throwing : Tree → Control
   CallWith : Tree → List Tree → Control
   Cut : Control
   Unify : Tree → Tree → Control
@@ -55,6 +58,7 @@ abbrev pub unary : List ℕ → Tree → Control
 unary f t =
     if bytes_eq f (codes "once") then Once t else
     if bytes_eq f (codes "\\+") then Not t else
+    if bytes_eq f (codes "throw") then Throwing t else
     if bytes_eq f (codes "write") then Write t else
     if bytes_eq f (codes "writeq") then WriteQuoted t else
     if bytes_eq f (codes "assertz") then AddLast t else Call (record { name = f; arity = 1 })
@@ -74,9 +78,13 @@ binary f t u =
     if bytes_eq f (codes "->") then Then t u (atom (codes "fail")) else
     if bytes_eq f (codes "=") then Unify t u else Call (record { name = f; arity = 2 })
 
+abbrev pub ternary : List ℕ → Tree → Tree → Tree → Control
+ternary f t u v = if bytes_eq f (codes "catch") then Catching t u v else Call (record { name = f; arity = 3 })
+
 abbrev pub by_arity : List ℕ → Tree → List Tree → Control
 by_arity f t [] = unary f t
 by_arity f t (u ∷ []) = binary f t u
+by_arity f t (u ∷ v ∷ []) = ternary f t u v
 by_arity f t us = Call (record { name = f; arity = suc (length us) })
 
 -- call/1 to call/8
@@ -98,6 +106,8 @@ abbrev pub bind_element : (ℕ → Tree) → Element → Element
 bind_element σ (Goal k t) = Goal k (bind σ t)
 bind_element σ (Commit l) = Commit l
 bind_element σ (Never l) = Never l
+bind_element σ (Until l) = Until l
+bind_element σ (Raise b) = Raise b
 bind_element σ (Look t) = Look (bind σ t)
 bind_element σ (Await q) = Await q
 
@@ -137,6 +147,8 @@ levels [] = []
 levels (Goal k t ∷ es) = levels es
 levels (Commit l ∷ es) = l ∷ levels es
 levels (Never l ∷ es) = l ∷ levels es
+levels (Until l ∷ es) = l ∷ levels es
+levels (Raise b ∷ es) = levels es
 levels (Look t ∷ es) = levels es
 levels (Await q ∷ es) = levels es
 
@@ -149,6 +161,12 @@ once_1 = record { name = codes "once"; arity = 1 }
 
 abbrev pub not_1 : Indicator
 not_1 = record { name = codes "\\+"; arity = 1 }
+
+abbrev pub catch_3 : Indicator
+catch_3 = record { name = codes "catch"; arity = 3 }
+
+abbrev pub throw_1 : Indicator
+throw_1 = record { name = codes "throw"; arity = 1 }
 
 -- call/N of a goal and N - 1 further arguments
 abbrev pub call_with : ℕ → Indicator
@@ -192,10 +210,25 @@ abbrev pub called : Tree → List Tree → Runnable
 called g [] = runnable g
 called g (u ∷ us) = then_run (with_arguments g (u ∷ us))
 
--- a term is run as a goal at the cut level k, in some cases, before a list; its errors are those of p
+-- what stands for a term that is run by p: its goal, at the cut level k, or the error that p raises
+abbrev pub first_of : Runnable → Indicator → ℕ → Element
+first_of (Runs b) p k = Goal k b
+first_of (Raises e) p k = Raise (copied 0 (error_term e p))
+
+-- a term is run as a goal at the cut level k, in some cases, before a list; its errors are thrown from there
 abbrev pub run : Runnable → Indicator → List Case → ℕ → List Element → ℕ → Local → Move
-run (Runs b) p cs k rest n w = Go (Choice [] ∷ cs) (record { goals = Goal k b ∷ rest; variables = n }) w
-run (Raises e) p cs k rest n w = raised e p rest w
+run r p cs k rest n w = Go (Choice [] ∷ cs) (record { goals = first_of r p k ∷ rest; variables = n }) w
+
+-- a term is thrown: a copy, its variables numbered from 0, with the levels of the markers of the list (7.8.10)
+abbrev pub thrown : Tree → List Element → Local → Move
+thrown (var x) rest w = raised instantiation_error throw_1 rest w
+thrown (int i) rest w = Give (Throw (copied 0 (int i)) (levels rest)) w
+thrown (atom f) rest w = Give (Throw (copied 0 (atom f)) (levels rest)) w
+thrown (compound f ts) rest w = Give (Throw (copied 0 (compound f ts)) (levels rest)) w
+
+-- a catcher and its recovery, at a list
+abbrev pub catching : Tree → Tree → List Element → ℕ → Case
+catching c r es n = Handle (Catch c r (record { goals = es; variables = n }))
 
 -- the most general unifier is put into the list
 abbrev pub unified : Option (ℕ → Tree) → List Element → ℕ → Local → Move
@@ -239,6 +272,8 @@ row P (Both a b) k t d rest n w = Go [] (record { goals = Goal k a ∷ Goal k b 
 row P (Either a b) k t d rest n w = Go (branch (Goal k b ∷ rest) n ∷ []) (record { goals = Goal k a ∷ rest; variables = n }) w
 row P (Then c a e) k t d rest n w = Go (Choice [] ∷ branch (Goal k e ∷ rest) n ∷ []) (record { goals = Goal (suc d) c ∷ Commit d ∷ Goal k a ∷ rest; variables = n }) w
 row P (Not g) k t d rest n w = run (runnable g) not_1 (branch rest n ∷ []) (suc d) (Never d ∷ rest) n w
+row P (Catching g c r) k t d rest n w = run (runnable g) catch_3 (catching c r rest n ∷ []) (suc d) (Until d ∷ rest) n w
+row P (Throwing b) k t d rest n w = thrown b rest w
 row P (Once g) k t d rest n w = run (runnable g) once_1 [] d (Commit d ∷ rest) n w
 row P (CallWith g us) k t d rest n w = run (called g us) (call_with (length us)) [] d rest n w
 row P Cut k t d rest n w = Go (Mark k ∷ []) (record { goals = rest; variables = n }) w
@@ -259,6 +294,8 @@ unfoldable pub meet : Element → List Element → Local → Meeting
 meet (Goal k t) rest w = Select k t
 meet (Commit l) rest w = Marked l w
 meet (Never l) rest w = End (CutTo l) w
+meet (Until l) rest w = Pass w
+meet (Raise b) rest w = End (Throw b (levels rest)) w
 meet (Look t) rest w = Asks View
 meet (Await q) rest w = Asks (Ask q)
 
@@ -286,7 +323,28 @@ answered (Await q) (Seen g us) d rest n w = Give Ceased w
 answered (Goal k t) a d rest n w = Give Ceased w
 answered (Commit l) a d rest n w = Give Ceased w
 answered (Never l) a d rest n w = Give Ceased w
+answered (Until l) a d rest n w = Give Ceased w
+answered (Raise b) a d rest n w = Give Ceased w
+
+abbrev pub has : ℕ → List ℕ → Bool
+has d ls = list_any (λ l. l == d) ls
+
+-- the recovery is run at a cut level of its own, before the list behind the goal
+abbrev pub recovers : Runnable → ℕ → List Element → ℕ → Local → Return
+recovers (Runs g) d es n w = Anew (record { goals = Goal d g ∷ es; variables = n }) w
+recovers (Raises e) d es n w = Keep (Throw (copied 0 (error_term e catch_3)) (levels es)) w
+
+-- a ball that unifies with the catcher is caught, and another one goes on
+abbrev pub met_by : Option (ℕ → Tree) → Tree → Tree → List ℕ → Place → ℕ → Local → Return
+met_by None r b ls p d w = Keep (Throw b ls) w
+met_by (Some σ) r b ls p d w = recovers (runnable (bind σ r)) d (bind_goals σ p.goals) (p.variables + length (variables b)) w
+
+-- a catcher is active while its goal runs; it is unified with a copy of the ball, whose variables are new, as all was when it was called
+abbrev pub caught : Bool → Tree → Tree → Tree → List ℕ → Place → ℕ → Local → Return
+caught false c r b ls p d w = Keep (Throw b ls) w
+caught true c r b ls p d w = met_by (unify c (copied p.variables b)) r b ls p d w
 
 -- a handler, at the level d, and the result of its list
 unfoldable pub resume : Handler → ℕ → Result → Local → Return
-resume h d r w = elim h [ ]
+resume (Catch c r p) d (Throw b ls) w = caught (has d ls) c r b ls p d w
+resume (Catch c r p) d x w = Keep x w

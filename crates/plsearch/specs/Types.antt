@@ -16,12 +16,15 @@ pub data Result : Type 0 where
   Ceased : Result
 
 -- what a goal list holds: goals, each with its cut level; markers, each with the level of the case that put it: Commit, behind which
--- the choices down to it are given up, and Never, where they are given up and the list fails; and what asks:
+-- the choices down to it are given up, Never, where they are given up and the list fails, and Until, up to which a catcher is active;
+-- a ball that is thrown here; and what asks:
 -- Look, which waits for the view in which a goal's clauses are looked up, and Await, which waits for the reply to a request
 pub data Element : Type 0 where
   Goal : ℕ → Tree → Element
   Commit : ℕ → Element
   Never : ℕ → Element
+  Until : ℕ → Element
+  Raise : Tree → Element
   Look : Tree → Element
   Await : Request → Element
 
@@ -30,8 +33,9 @@ pub record Place : Type 0 where
   pub goals : List Element
   pub variables : ℕ
 
--- what an open case does besides choosing and marking
+-- what an open case does besides choosing and marking: a catcher and its recovery, with the place behind the goal that it is for
 pub data Handler : Type 0 where
+  Catch : Tree → Tree → Place → Handler
 
 -- an open case, outside of the list that is visited now: the places still to try, a mark, behind which Fail is a cut to its level, or a handler.
 -- The level of a case is the number of cases that are open outside of it

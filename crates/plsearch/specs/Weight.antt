@@ -1,6 +1,6 @@
 -- How much a machine has before it without a step or an answer.
 use Rattle.std.specs.Prelude.{◌≡◌, ℕ, ◌+◌, ◌*◌, ◌<◌, ◌⊎◌, List, [], ◌∷◌, length}
-use Rattle.plsearch.specs.Types.{Place, Case, Choice, Mark, Handle, Handler}
+use Rattle.plsearch.specs.Types.{Place, Case, Choice, Mark, Handle, Handler, Catch}
 use Rattle.plsearch.specs.Engine.{left}
 use Rattle.plsearch.specs.Machine.{Mode, At, Back, Machine}
 
@@ -12,7 +12,7 @@ places_weight [] = 1
 places_weight (p ∷ ps) = place_weight p + 1 + places_weight ps
 
 abbrev pub handler_weight : Handler → ℕ
-handler_weight h = elim h [ ]
+handler_weight (Catch c r p) = place_weight p + 3
 
 abbrev pub case_weight : Case → ℕ
 case_weight (Choice ps) = places_weight ps

@@ -1,19 +1,19 @@
 -- What stands first in a list, and what a structure's cell shows.
-use Rattle.std.proofs.Common.{◌≡◌, ℕ, zero, suc, ◌<◌, ◌≤◌, true, false, List, ◌∷◌, length, refl, sym, ap, ap₂, ◌∙◌, ◌-◌, ◌==◌, ◌&&◌, subst, arith, bytes_eq}
+use Rattle.std.proofs.Common.{◌≡◌, ℕ, zero, suc, ◌≤◌, true, false, List, ◌∷◌, length, refl, sym, ap, ap₂, ◌∙◌, ◌-◌, ◌==◌, ◌&&◌, subst, arith, bytes_eq}
 use Rattle.std.specs.Prelude.{if◌then◌else◌, codes}
 use Rattle.plterm.specs.Tree.{Tree, compound, trees, list_of, list_of-trees}
 use Rattle.plheap.specs.declared.cell.Cell.{Cell}
 use Rattle.plheap.specs.declared.cell.Cell.TheVariants as cells
 use Rattle.plheap.specs.Store.{Store, term, terms, shown, Fits, IsEnd}
 use Rattle.plsolve.specs.Controls.{is_then}
-use Rattle.plsearch.specs.Table.{Control, Either, Then, CallWith, Call, control, control_of, is_call, by_arity, either}
+use Rattle.plsearch.specs.Table.{Either, Then, CallWith, Call, control, control_of, is_call, by_arity, either}
 use Rattle.plclause.specs.Clause.{Clause}
-use Rattle.plframe.specs.declared.frame.Item.TheVariants.{Goal as GoalAt, Commit as CommitTo, Never as NeverTo, Look as LookAt, Await as AwaitFor}
+use Rattle.plframe.specs.declared.frame.Item.TheVariants.{Goal as GoalAt, Commit as CommitTo, Never as NeverTo, Until as UntilTo, Look as LookAt, Await as AwaitFor}
 use Rattle.plframe.specs.declared.frame.Link.{Link}
 use Rattle.plframe.specs.Places.{list_at, IsItemIn}
 use Rattle.plframe.specs.State.{State, Begins, Opens, IsList}
 use Rattle.plsearch.specs.Types.{Case}
-use Rattle.plsolve.specs.declared.head.Head.TheVariants.{Goal, Commit, Never, Look, Await}
+use Rattle.plsolve.specs.declared.head.Head.TheVariants.{Goal, Commit, Never, Until, Look, Await}
 use Rattle.plsolve.specs.Heads.{IsHead}
 
 pub head-goal : (s : State) (l : Link) (level cell : ℕ) → Begins s l → l.item ≡ GoalAt level cell → IsHead s (Goal level cell l.next)
@@ -31,6 +31,10 @@ head-commit s l level b is = record { items = b.items ∙ ap (λ i. i ∷ list_a
 pub head-never : (s : State) (l : Link) (level : ℕ) → Begins s l → l.item ≡ NeverTo level → IsHead s (Never level l.next)
 unfolding IsHead
 head-never s l level b is = record { items = b.items ∙ ap (λ i. i ∷ list_at s.links l.next) is }
+
+pub head-until : (s : State) (l : Link) (level : ℕ) → Begins s l → l.item ≡ UntilTo level → IsHead s (Until l.next)
+unfolding IsHead
+head-until s l level b is = (level, record { items = b.items ∙ ap (λ i. i ∷ list_at s.links l.next) is; behind = b.rest })
 
 pub head-await : (s : State) (l : Link) (c : Clause) → Begins s l → l.item ≡ AwaitFor c → IsHead s (Await l.next)
 unfolding IsHead
@@ -64,10 +68,11 @@ module _ (h : Store) (f : List ℕ) (a k : ℕ) where
   pub control-other : is_call f k ≡ false → control_of f (term h a) (terms h (suc a) k) ≡ by_arity f (term h a) (terms h (suc a) k)
   control-other is = ap (λ b. if b then CallWith (term h a) (terms h (suc a) k) else by_arity f (term h a) (terms h (suc a) k)) (call-is ∙ is)
 
-pub many-control : (h : Store) (f : List ℕ) (a k : ℕ) → (k ≡ 0 → ⊥) → (k ≡ 1 → ⊥) → by_arity f (term h a) (terms h (suc a) k) ≡ Call (record { name = f; arity = suc k })
-many-control h f a zero zero_not one_not = absurd (zero_not refl)
-many-control h f a (suc zero) zero_not one_not = absurd (one_not refl)
-many-control h f a (suc (suc k)) zero_not one_not = ap (λ n. Call (record { name = f; arity = suc (suc (suc n)) })) (terms-length h (suc (suc (suc a))) k)
+pub many-control : (h : Store) (f : List ℕ) (a k : ℕ) → (k ≡ 0 → ⊥) → (k ≡ 1 → ⊥) → (k ≡ 2 → ⊥) → by_arity f (term h a) (terms h (suc a) k) ≡ Call (record { name = f; arity = suc k })
+many-control h f a zero none one two = absurd (none refl)
+many-control h f a (suc zero) none one two = absurd (one refl)
+many-control h f a (suc (suc zero)) none one two = absurd (two refl)
+many-control h f a (suc (suc (suc k))) none one two = ap (λ n. Call (record { name = f; arity = suc (suc (suc (suc n))) })) (terms-length h (suc (suc (suc (suc a)))) k)
 
 -- a disjunction whose left side is no `->`, and one whose left side is
 module _ (h : Store) (i : ℕ) (e : Tree) where

@@ -4,3 +4,4 @@ pub mod Quiets
 pub mod Heading
 pub mod Starts
 pub mod Looks
+pub mod Catches

@@ -1,24 +1,25 @@
 -- What the solver's rows make of its machine.
-use Rattle.std.proofs.Common.{◌≡◌, ℕ, ◌+◌, List, [], ◌∷◌, ◌++◌, refl, sym, ap, ap₂, ◌∙◌, subst, OnErr, OnOk, IfOk, Ok, Err, None}
+use Rattle.std.proofs.Common.{◌≡◌, ℕ, ◌+◌, List, [], ◌∷◌, ◌++◌, refl, sym, ap, ap₂, ◌∙◌, subst, OnErr, OnOk, IfOk, Ok, Err, None, true, false, arith, le_trans}
 use Rattle.std.specs.Prelude.{Result as Outcomes}
-use Rattle.plterm.specs.Tree.{Tree}
+use Rattle.plterm.specs.Tree.{Tree, var, int, atom, compound}
 use Rattle.plterm.specs.Variables.{copied}
 use Rattle.plterm.specs.declared.indicator.Indicator.{Indicator}
 use Rattle.plheap.specs.Store.{term}
 use Rattle.plevent.specs.Search.{Answer}
 use Rattle.plload.specs.Program.{Program, clauses_for}
-use Rattle.plsearch.specs.Types.{Throw, Element, Place, Case, Choice, Mark, Handle, Local, Move, Give, Go, Run}
-use Rattle.plsearch.specs.Errors.{error_term}
+use Rattle.plsearch.specs.Types.{Throw, Raise, Element, Place, Case, Choice, Local, Move, Give, Go, Run}
+use Rattle.plsearch.specs.Errors.{error_term, instantiation_error}
 use Rattle.plsubst.specs.Unify.{unify}
-use Rattle.plsearch.specs.Table.{raised, levels, call, choose, unified, branch, Runnable, run}
-use Rattle.plsearch.specs.Engine.{deeper, choice, out, outs, Visit}
-use Rattle.plsearch.specs.Machine.{At, Back, Machine, Rest, move}
+use Rattle.plsearch.specs.Table.{meet, raised, levels, call, choose, unified, branch, catching, thrown, throw_1, Runnable, run}
+use Rattle.plsearch.specs.Engine.{deeper, out}
+use Rattle.plsearch.specs.Machine.{At, Back, Machine, Rest, move, turn}
+use Rattle.plsearch.proofs.Turns.{Rest-turn}
 use Rattle.plsearch.specs.Search.{ending_of}
 use Rattle.plframe.specs.declared.frame.Source.{Source}
 use Rattle.plframe.specs.Places.{clauses_in, place_at}
 use Rattle.plframe.specs.State.{State, IsList, place_of, cases_of, goals_of, Extends, Opens, IsAround, around_cases, IsOpening, opening_cases, Unifies, Calls, call_places}
 use Rattle.plframe.specs.declared.frame.Around.{Around}
-use Rattle.plframe.specs.declared.frame.Around.TheVariants.{Nothing, Branch as InBranch}
+use Rattle.plframe.specs.declared.frame.Around.TheVariants.{Nothing, Branch as InBranch, Catch as InCatch}
 use Rattle.plframe.specs.declared.frame.Opening.{Opening}
 use Rattle.plframe.specs.declared.frame.Opening.TheVariants.{Barrier as OpenBarrier, Branch as OpenBranch, Run as OpenRun}
 use Rattle.plframe.proofs.Stacks.{Extends-trans}
@@ -27,7 +28,7 @@ use Rattle.plsolve.specs.declared.progress.Outcome.TheVariants as outcomes
 use Rattle.plsolve.specs.declared.progress.Mode.{Mode as Going}
 use Rattle.plsolve.specs.declared.progress.Mode.TheVariants as modes
 use Rattle.plsolve.specs.declared.progress.Progress.{Progress}
-use Rattle.plsolve.specs.Solver.{result_of, mode_of, local_of, depth_of, machine, Moved, Stays}
+use Rattle.plsolve.specs.Solver.{result_of, mode_of, local_of, depth_of, machine, is_var, Moved, Stays}
 
 -- a solver at a list is a machine at a place
 pub machine-at : (P : Program) (s : Progress) (p : Place) (cs : List Case) (w : Local) → s.mode ≡ modes.Visit → place_of s.stack ≡ p → cases_of (clauses_for P) s.stack ≡ cs → local_of s ≡ w →
@@ -86,29 +87,33 @@ gives P s new r w cost used limit places at cases local = record {
   ends = λ most left answers. ap (λ m. ending_of most (Rest P m)) (sym (machine-back P new r (cases_of (clauses_for P) s.stack) w at cases local left answers));
 }
 
--- nothing catches a ball
-throws-out : (P : Program) (cases : List Case) (b : Tree) (ls : List ℕ) (run : Run) → outs (Visit P) 0 cases (Throw b ls, run) ≡ (Throw b ls, run)
-unfolding outs out choice
-throws-out P [] b ls run = refl
-throws-out P (Choice [] ∷ cases) b ls run = throws-out P cases b ls run
-throws-out P (Choice (p ∷ ps) ∷ cases) b ls run = throws-out P cases b ls run
-throws-out P (Mark l ∷ cases) b ls run = throws-out P cases b ls run
-throws-out P (Handle h ∷ cases) b ls run = elim h [ ]
+-- an error is raised
+pub raises : (P : Program) (s new : Progress) (e : Tree) (p : Indicator) (es : List Element) (cost : ℕ) (r : Outcome) → result_of r ≡ Throw (copied 0 (error_term e p)) (levels es) →
+    new ≡ record s { mode = modes.Back r; used = s.used + cost } → Moved P s new (raised e p es (local_of s)) cost
+unfolding raised
+raises P s new e p es cost r is made =
+    subst (λ x. Moved P s new (Give x (local_of s)) cost) is
+    (gives P s new r (local_of s) cost (ap (λ x. x.used) made) (ap (λ x. x.limit) made) (ap (λ x. x.places.items) made) (ap (λ x. x.mode) made) (ap (λ x. cases_of (clauses_for P) x.stack) made) (ap (λ x. local_of x) made))
 
-throw-ends : (P : Program) (most : ℕ) (cases : List Case) (b : Tree) (ls : List ℕ) (run : Run) →
-    ending_of most (Rest P (record { mode = Back (Throw b ls); cases = cases; run = run })) ≡ ending_of most (Rest P (record { mode = Back (Throw b []); cases = cases; run = run }))
-unfolding Rest
-throw-ends P most cases b ls run = ap (ending_of most) (throws-out P cases b ls run) ∙ ap (ending_of most) (sym (throws-out P cases b [] run))
+-- a ball is thrown
+pub thrown-other : (t : Tree) (es : List Element) (w : Local) → is_var t ≡ false → thrown t es w ≡ Give (Throw (copied 0 t) (levels es)) w
+thrown-other (var x) es w not = absurd (grind (arith, not))
+thrown-other (int i) es w not = refl
+thrown-other (atom f) es w not = refl
+thrown-other (compound f ts) es w not = refl
 
-pub raises : (P : Program) (s new : Progress) (e : Tree) (p : Indicator) (es : List Element) (cost : ℕ) → new ≡ record s { mode = modes.Back (outcomes.Throw (copied 0 (error_term e p))); used = s.used + cost } →
-    Moved P s new (raised e p es (local_of s)) cost
-unfolding raised machine
-raises P s new e p es cost is = rw is (record {
-  used = refl;
-  limit = refl;
-  places = refl;
-  ends = λ most left answers. throw-ends P most (cases_of (clauses_for P) s.stack) (copied 0 (error_term e p)) (levels es) (record { steps = left; answers = answers; local = local_of s });
-})
+pub thrown-var : (t : Tree) (es : List Element) (w : Local) → is_var t ≡ true → thrown t es w ≡ raised instantiation_error throw_1 es w
+thrown-var (var x) es w is = refl
+thrown-var (int i) es w is = absurd (grind (arith, is))
+thrown-var (atom f) es w is = absurd (grind (arith, is))
+thrown-var (compound f ts) es w is = absurd (grind (arith, is))
+
+pub throws : (P : Program) (s new : Progress) (t : Tree) (es : List Element) (r : Outcome) → is_var t ≡ false → result_of r ≡ Throw (copied 0 t) (levels es) →
+    new ≡ record s { mode = modes.Back r; used = s.used + 1 } → Moved P s new (thrown t es (local_of s)) 1
+throws P s new t es r other is made =
+    subst (λ m. Moved P s new m 1) (sym (thrown-other t es (local_of s) other))
+    (subst (λ x. Moved P s new (Give x (local_of s)) 1) is
+    (gives P s new r (local_of s) 1 (ap (λ x. x.used) made) (ap (λ x. x.limit) made) (ap (λ x. x.places.items) made) (ap (λ x. x.mode) made) (ap (λ x. cases_of (clauses_for P) x.stack) made) (ap (λ x. local_of x) made)))
 
 -- lists and cells were added
 pub extended : (P : Program) (s : Progress) (stack : State) → Extends s.stack stack → stack.heap.count ≡ s.stack.heap.count → Stays P s (record s { stack = stack })
@@ -158,19 +163,6 @@ moved-from P s t new m cost stay moved = record {
   places = moved.places ∙ stay.places;
   ends = λ most left answers.
       ap (λ x. ending_of most (Rest P (move x.cases (record { steps = left; answers = answers; local = x.run.local }) m))) (sym (stay.same left answers))
-      ∙ moved.ends most left answers;
-}
-
--- the levels of the markers behind a ball change nothing
-pub raised-any : (P : Program) (s new : Progress) (e : Tree) (p : Indicator) (es es' : List Element) (cost : ℕ) → Moved P s new (raised e p es (local_of s)) cost → Moved P s new (raised e p es' (local_of s)) cost
-unfolding raised
-raised-any P s new e p es es' cost moved = record {
-  used = moved.used;
-  limit = moved.limit;
-  places = moved.places;
-  ends = λ most left answers.
-      throw-ends P most (cases_of (clauses_for P) s.stack) (copied 0 (error_term e p)) (levels es') (record { steps = left; answers = answers; local = local_of s })
-      ∙ sym (throw-ends P most (cases_of (clauses_for P) s.stack) (copied 0 (error_term e p)) (levels es) (record { steps = left; answers = answers; local = local_of s }))
       ∙ moved.ends most left answers;
 }
 
@@ -254,6 +246,12 @@ ununified P s st a b list new none is =
 pub around-grown : (s t : State) (around : Around) → Grown s t → IsAround s around → (around_cases t around ≡ around_cases s around) × IsAround t around
 around-grown s t Nothing g is = (refl, tt)
 around-grown s t (InBranch i) g is = (ap₂ (λ gs n. branch gs n ∷ []) (grown-goals s t g i is) g.count, grown-list s t g i is)
+around-grown s t (InCatch c r i) g is = (
+  ap (λ u. catching u (term t.heap r) (goals_of t i) t.heap.count ∷ []) (g.extends.terms c is.1)
+      ∙ ap (λ u. catching (term s.heap c) u (goals_of t i) t.heap.count ∷ []) (g.extends.terms r is.2)
+      ∙ ap₂ (λ gs n. catching (term s.heap c) (term s.heap r) gs n ∷ []) (grown-goals s t g i is.0) g.count,
+  (grown-list s t g i is.0, le_trans is.1 g.extends.cells, le_trans is.2 g.extends.cells),
+)
 
 pub opening-grown : (s t : State) (opening : Opening) → Grown s t → IsOpening s opening → (opening_cases t opening ≡ opening_cases s opening) × IsOpening t opening
 opening-grown s t (OpenBarrier l) g is = (refl, tt)
@@ -267,3 +265,21 @@ go-same cs cs' gs gs' n n' w a b c = ap (λ cs. Go cs (record { goals = gs; vari
 pub run-same : (p : Indicator) (r r' : Runnable) (cs cs' : List Case) (k k' : ℕ) (es es' : List Element) (n n' : ℕ) (w w' : Local) → r ≡ r' → cs ≡ cs' → k ≡ k' → es ≡ es' → n ≡ n' → w ≡ w' → run r p cs k es n w ≡ run r' p cs' k' es' n' w'
 run-same p r r' cs cs' k k' es es' n n' w w' a b c d e f =
     ap₂ (λ r cs. run r p cs k es n w) a b ∙ ap₂ (λ k es. run r' p cs' k es n w) c d ∙ ap₂ (λ n w. run r' p cs' k' es' n w) e f
+
+-- an error is raised in cases
+pub raises-in : (P : Program) (s new : Progress) (st : State) (more : List Case) (list : ℕ) (ball : Tree) (r : Outcome) → result_of r ≡ Throw ball (levels (goals_of s.stack list)) → Opens s.stack st more →
+    new ≡ record s { stack = st; mode = modes.Back r; used = s.used + 1 } →
+    Moved P s new (Go more (record { goals = Raise ball ∷ goals_of s.stack list; variables = s.stack.heap.count }) (local_of s)) 1
+unfolding turn meet
+raises-in P s new st more list ball r is o made = record {
+  used = ap (λ x. x.used) made;
+  limit = ap (λ x. x.limit) made;
+  places = ap (λ x. x.places.items) made;
+  ends = λ most left answers.
+      let run : Run = record { steps = left; answers = answers; local = local_of s } in
+      let all : List Case = more ++ cases_of (clauses_for P) s.stack in
+      ap (ending_of most) (Rest-turn P (record { mode = At (record { goals = Raise ball ∷ goals_of s.stack list; variables = s.stack.heap.count }); cases = all; run = run }))
+      ∙ ap (λ m. ending_of most (Rest P m)) (sym
+      (machine-back P new r all (local_of s) (ap (λ x. x.mode) made) (ap (λ x. cases_of (clauses_for P) x.stack) made ∙ o.cases (clauses_for P)) (ap (λ x. local_of x) made) left answers
+      ∙ ap (λ x. record { mode = Back x; cases = all; run = run }) is));
+}

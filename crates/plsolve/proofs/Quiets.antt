@@ -1,12 +1,16 @@
 -- The turns that take no step.
-use Rattle.std.proofs.Common.{◌≡◌, ℕ, zero, suc, Bool, true, false, List, [], ◌∷◌, refl, sym, ap, ap₂, ◌∙◌, arith, map, nat_eq, IsTrue, ◌↔◌}
+use Rattle.std.proofs.Common.{◌≡◌, ℕ, zero, suc, Bool, true, false, List, [], ◌∷◌, refl, sym, ap, ap₂, ◌∙◌, arith, map, nat_eq, IsTrue, ◌↔◌, Some, None, length, ◌+◌}
 use Rattle.plheap.specs.Store.{term}
 use Rattle.plevent.specs.Search.{Answer}
 use Rattle.plload.specs.Program.{Program, clauses_for}
-use Rattle.plsearch.specs.Types.{Result, Spent, Element, Goal, Commit, Never, Place, Case, Choice, Mark, Local, Move, Run}
-use Rattle.plsearch.specs.Table.{select, meet}
+use Rattle.plsearch.specs.Types.{Result, Spent, Throw, Element, Goal, Commit, Never, Until, Handle, Handler, Catch, Keep, Place, Case, Choice, Mark, Local, Move, Run}
+use Rattle.plterm.specs.Tree.{Tree}
+use Rattle.plterm.specs.Variables.{copied, variables}
+use Rattle.plsubst.specs.Subst.{bind}
+use Rattle.plsubst.specs.Unify.{unify}
+use Rattle.plsearch.specs.Table.{select, meet, resume, has, catching, caught, met_by, recovers, runnable, bind_goals}
 use Rattle.plsearch.specs.Engine.{deeper, mark, stop_cut_if}
-use Rattle.plsearch.specs.Machine.{At, Back, Machine, turn, step}
+use Rattle.plsearch.specs.Machine.{At, Back, Machine, return, turn, step}
 use Rattle.plframe.specs.Places.{element, list_at, place_at}
 use Rattle.plframe.specs.State.{State, place_of, cases_of, goals_of, Opens, Retries}
 use Rattle.plsolve.specs.declared.progress.Outcome.{Outcome}
@@ -14,17 +18,17 @@ use Rattle.plsolve.specs.declared.progress.Outcome.TheVariants as outcomes
 use Rattle.plsolve.specs.declared.progress.Mode.{Mode as Going}
 use Rattle.plsolve.specs.declared.progress.Mode.TheVariants as modes
 use Rattle.plsolve.specs.declared.progress.Progress.{Progress}
-use Rattle.plsolve.specs.Heads.{AtGoal, AtCommit, AtNever}
-use Rattle.plsolve.specs.Solver.{result_of, mode_of, local_of, depth_of, machine, Quiet, Stays, IsOver, marked, marked_result, cut_stopped, stopped_result, fail_if}
+use Rattle.plsolve.specs.Heads.{AtGoal, AtCommit, AtNever, AtUntil}
+use Rattle.plsolve.specs.Solver.{result_of, mode_of, local_of, depth_of, machine, Quiet, Stays, IsOver, marked, marked_result, cut_stopped, stopped_result, fail_if, result_throws, throws_to, Recovered}
 
-at_place : (P : Program) (s : Progress) (p : Place) → s.mode ≡ modes.Visit → place_of s.stack ≡ p → (left : ℕ) (answers : List Answer) →
+pub at_place : (P : Program) (s : Progress) (p : Place) → s.mode ≡ modes.Visit → place_of s.stack ≡ p → (left : ℕ) (answers : List Answer) →
     machine P left answers s ≡ record { mode = At p; cases = cases_of (clauses_for P) s.stack; run = record { steps = left; answers = answers; local = local_of s } }
 unfolding machine
 at_place P s p at place left answers =
     ap (λ m. record { mode = mode_of m s.stack; cases = cases_of (clauses_for P) s.stack; run = record { steps = left; answers = answers; local = local_of s } }) at
     ∙ ap (λ q. record { mode = At q; cases = cases_of (clauses_for P) s.stack; run = record { steps = left; answers = answers; local = local_of s } }) place
 
-carried : (P : Program) (s : Progress) (r : Outcome) (cs : List Case) → s.mode ≡ modes.Back r → cases_of (clauses_for P) s.stack ≡ cs → (left : ℕ) (answers : List Answer) →
+pub carried : (P : Program) (s : Progress) (r : Outcome) (cs : List Case) → s.mode ≡ modes.Back r → cases_of (clauses_for P) s.stack ≡ cs → (left : ℕ) (answers : List Answer) →
     machine P left answers s ≡ record { mode = Back (result_of r); cases = cs; run = record { steps = left; answers = answers; local = local_of s } }
 unfolding machine
 carried P s r cs at cases left answers =
@@ -90,6 +94,19 @@ quiet-never P s level rest at never = record {
   goes = λ r is no. not_back s r at is;
 }
 
+pub quiet-until : (P : Program) (s : Progress) (level rest : ℕ) → s.mode ≡ modes.Visit → AtUntil s.stack level rest → Quiet P s (record s { stack = record s.stack { goals = rest } })
+unfolding turn meet cases_of
+quiet-until P s level rest at until = record {
+  used = refl;
+  limit = refl;
+  places = refl;
+  turned = λ left answers few.
+      let gs : List Element = goals_of s.stack rest in
+      at_place P (record s { stack = record s.stack { goals = rest } }) (record { goals = gs; variables = s.stack.heap.count }) at refl left answers
+      ∙ sym (ap (turn P) (at_place P s (record { goals = Until level ∷ gs; variables = s.stack.heap.count }) at (ap (λ xs. record { goals = map (element s.stack.heap) xs; variables = s.stack.heap.count }) until.items) left answers));
+  goes = λ r is no. not_back s r at is;
+}
+
 pub quiet-retry : (P : Program) (s : Progress) (st : State) → s.mode ≡ modes.Back outcomes.Fail → Retries (clauses_for P) s.stack st → Quiet P s (record s { stack = st; mode = modes.Visit })
 unfolding turn
 quiet-retry P s st at r = record {
@@ -119,7 +136,7 @@ mark-result : (l : ℕ) (r : Outcome) → result_of (marked_result l r) ≡ mark
 mark-result l outcomes.Fail = refl
 mark-result l outcomes.Stop = refl
 mark-result l (outcomes.CutTo k) = refl
-mark-result l (outcomes.Throw t) = refl
+mark-result l (outcomes.Throw t ls) = refl
 mark-result l outcomes.Spent = refl
 
 pub quiet-mark : (P : Program) (s new : Progress) (st : State) (l : ℕ) → (s.mode ≡ modes.Visit → ⊥) → cases_of (clauses_for P) s.stack ≡ Mark l ∷ cases_of (clauses_for P) st →
@@ -156,8 +173,8 @@ cut-result P d (outcomes.CutTo l) (p ∷ ps) cases run is none = rw is (cuts (na
     cuts : (b : Bool) → ◌≡◌ {A = Machine} (record { mode = Back (result_of (fail_if b l)); cases = cases; run = run }) (record { mode = Back (stop_cut_if b l); cases = cases; run = run })
     cuts true = refl
     cuts false = refl
-cut-result P d (outcomes.Throw t) [] cases run is none = refl
-cut-result P d (outcomes.Throw t) (p ∷ ps) cases run is none = refl
+cut-result P d (outcomes.Throw t ls) [] cases run is none = refl
+cut-result P d (outcomes.Throw t ls) (p ∷ ps) cases run is none = refl
 cut-result P d outcomes.Spent [] cases run is none = refl
 cut-result P d outcomes.Spent (p ∷ ps) cases run is none = refl
 
@@ -201,3 +218,79 @@ not_both b iff is x y = grind (arith, is, iff.1 (x, y))
 
 pub both_are : {A B : Type 0} (b : Bool) → (IsTrue b ↔ (A × B)) → b ≡ true → A × B
 both_are b iff is = grind (arith, is, iff.0)
+
+-- a catcher that is not active passes every result on
+keeps : (h : Handler) (d : ℕ) (r : Outcome) (w : Local) → (result_throws d r ≡ true → ⊥) → resume h d (result_of r) w ≡ Keep (result_of r) w
+unfolding resume
+keeps (Catch c r p) d outcomes.Fail w not = refl
+keeps (Catch c r p) d outcomes.Stop w not = refl
+keeps (Catch c r p) d (outcomes.CutTo l) w not = refl
+keeps (Catch c r p) d (outcomes.Throw t ls) w not = go (has d ls.items) refl
+  where
+    go : (b : Bool) → has d ls.items ≡ b → caught (has d ls.items) c r t ls.items p d w ≡ Keep (Throw t ls.items) w
+    go true e = absurd (not e)
+    go false e = rw e refl
+keeps (Catch c r p) d outcomes.Spent w not = refl
+
+pub quiet-handler : (P : Program) (s : Progress) (st : State) (h : Handler) → (s.mode ≡ modes.Visit → ⊥) → cases_of (clauses_for P) s.stack ≡ Handle h ∷ cases_of (clauses_for P) st →
+    (throws_to (deeper (cases_of (clauses_for P) st) 0) s.mode ≡ true → ⊥) → Quiet P s (record s { stack = st })
+unfolding turn
+quiet-handler P s st h back was not = go s.mode refl
+  where
+    go : (m : Going) → s.mode ≡ m → Quiet P s (record s { stack = st })
+    go modes.Visit e = absurd (back e)
+    go (modes.Back r) e = record {
+      used = refl;
+      limit = refl;
+      places = refl;
+      turned = λ left answers few.
+          let d : ℕ = deeper (cases_of (clauses_for P) st) 0 in
+          carried P (record s { stack = st }) r (cases_of (clauses_for P) st) e refl left answers
+          ∙ sym (ap (turn P) (carried P s r (Handle h ∷ cases_of (clauses_for P) st) e was left answers)
+          ∙ ap (return (cases_of (clauses_for P) st) (record { steps = left; answers = answers; local = local_of s })) (keeps h d r (local_of s) (λ yes. not (ap (throws_to d) e ∙ yes))));
+      goes = λ x is no. some_case _ _ _ was no;
+    }
+
+-- the turn of an active catcher
+module _ (P : Program) (s : Progress) (o : Outcome) (ball : Tree) (found : List ℕ) (at : s.mode ≡ modes.Back o) (carries : result_of o ≡ Throw ball found) (c r : Tree) (gs : List Element) (n : ℕ) (below : List Case)
+    (was : cases_of (clauses_for P) s.stack ≡ catching c r gs n ∷ below) (active : has (deeper below 0) found ≡ true) where
+  catcher-turn : (left : ℕ) (answers : List Answer) → turn P (machine P left answers s) ≡
+      return below (record { steps = left; answers = answers; local = local_of s }) (met_by (unify c (copied n ball)) r ball found (record { goals = gs; variables = n }) (deeper below 0) (local_of s))
+  unfolding turn resume
+  catcher-turn left answers =
+      let run : Run = record { steps = left; answers = answers; local = local_of s } in
+      ap (turn P) (carried P s o (catching c r gs n ∷ below) at was left answers ∙ ap (λ x. record { mode = Back x; cases = catching c r gs n ∷ below; run = run }) carries)
+      ∙ ap (λ b. return below run (caught b c r ball found (record { goals = gs; variables = n }) (deeper below 0) (local_of s))) active
+
+  -- the ball is another
+  pub quiet-other : (new : Progress) (st : State) → unify c (copied n ball) ≡ None → new ≡ record s { stack = st } → cases_of (clauses_for P) st ≡ below → Quiet P s new
+  quiet-other new st none is now = record {
+    used = ap (λ x. x.used) is;
+    limit = ap (λ x. x.limit) is;
+    places = ap (λ x. x.places.items) is;
+    turned = λ left answers few.
+        let run : Run = record { steps = left; answers = answers; local = local_of s } in
+        ap (machine P left answers) is
+        ∙ carried P (record s { stack = st }) o below at now left answers
+        ∙ ap (λ x. record { mode = Back x; cases = below; run = run }) carries
+        ∙ sym (catcher-turn left answers ∙ ap (λ σ. return below run (met_by σ r ball found (record { goals = gs; variables = n }) (deeper below 0) (local_of s))) none);
+    goes = λ x is no. some_case _ _ _ was no;
+  }
+
+  -- the ball was caught, and the recovery is run
+  pub quiet-caught : (t new : Progress) (σ : ℕ → Tree) (recovery list : ℕ) (h : Case) → unify c (copied n ball) ≡ Some σ → term t.stack.heap recovery ≡ bind σ r → goals_of t.stack list ≡ bind_goals σ gs →
+      t.stack.heap.count ≡ n + length (variables ball) → cases_of (clauses_for P) t.stack ≡ h ∷ below → t ≡ record s { stack = t.stack } → Recovered P t new recovery list → Quiet P s new
+  quiet-caught t new σ recovery list h some runs goals count now is did = record {
+    used = did.used ∙ ap (λ x. x.used) is;
+    limit = did.limit ∙ ap (λ x. x.limit) is;
+    places = did.places ∙ ap (λ x. x.places.items) is;
+    turned = λ left answers few.
+        let w : Local = local_of s in
+        let run : Run = record { steps = left; answers = answers; local = w } in
+        did.is h below now left answers
+        ∙ ap (λ w. return below (record { steps = left; answers = answers; local = w }) (recovers (runnable (term t.stack.heap recovery)) (deeper below 0) (goals_of t.stack list) t.stack.heap.count w)) (ap (λ x. local_of x) is)
+        ∙ ap₂ (λ u es. return below run (recovers (runnable u) (deeper below 0) es t.stack.heap.count w)) runs goals
+        ∙ ap (λ k. return below run (recovers (runnable (bind σ r)) (deeper below 0) (bind_goals σ gs) k w)) count
+        ∙ sym (catcher-turn left answers ∙ ap (λ σ. return below run (met_by σ r ball found (record { goals = gs; variables = n }) (deeper below 0) w)) some);
+    goes = λ x is no. some_case _ _ _ was no;
+  }

@@ -11,8 +11,8 @@ use Rattle.plevent.specs.declared.request.Reply.TheVariants.{Published}
 use Rattle.plevent.specs.declared.update.Update.{Update}
 use Rattle.plevent.specs.declared.update.Update.TheVariants.{Last}
 use Rattle.plload.specs.Program.{Program, clauses_for}
-use Rattle.plsearch.specs.Types.{Asking, Element, Goal, Look, Await, Place, Case, Choice, Mark, Handle, Local, Move, Run, Asks}
-use Rattle.plsearch.specs.Table.{select, meet, answered, walk_over}
+use Rattle.plsearch.specs.Types.{Asking, Element, Goal, Look, Await, Place, Case, Choice, Mark, Handle, Catch, Local, Move, Run, Asks}
+use Rattle.plsearch.specs.Table.{select, meet, answered, resume, walk_over}
 use Rattle.plsearch.specs.Engine.{left, choice, out, outs, Visit}
 use Rattle.plsearch.specs.Machine.{At, Back, Rest, move, turn, meets}
 use Rattle.plsearch.specs.Weight.{weight, Lighter}
@@ -119,12 +119,12 @@ steps P s new level cell rest m at goal some is moved = record {
 
 -- nothing catches a question
 asks-out : (P : Program) (cases : List Case) (q : Item) (run : Run) → outs (Visit P) 0 cases (Asking q, run) ≡ (Asking q, run)
-unfolding outs out choice
+unfolding outs out choice resume
 asks-out P [] q run = refl
 asks-out P (Choice [] ∷ cases) q run = asks-out P cases q run
 asks-out P (Choice (p ∷ ps) ∷ cases) q run = asks-out P cases q run
 asks-out P (Mark l ∷ cases) q run = asks-out P cases q run
-asks-out P (Handle h ∷ cases) q run = elim h [ ]
+asks-out P (Handle (Catch c r p) ∷ cases) q run = asks-out P cases q run
 
 asks-rest : (P : Program) (cases : List Case) (q : Item) (run : Run) → Rest P (record { mode = Back (Asking q); cases = cases; run = run }) ≡ (Asking q, run)
 unfolding Rest

@@ -1,8 +1,8 @@
 -- Where a search starts.
-use Rattle.std.proofs.Common.{◌≡◌, ℕ, ◌+◌, ◌-◌, List, [], ◌∷◌, length, refl, sym, ap, ap₂, ◌∙◌, subst, arith, map, zero-add, min}
-use Rattle.plterm.specs.Tree.{Tree, Trees, var, int, atom, compound, none, more}
-use Rattle.plterm.specs.Variables.{place, variables, renamed, all_renamed, copied}
-use Rattle.plsubst.specs.Subst.{bind, bind_all, shift}
+use Rattle.std.proofs.Common.{◌≡◌, ℕ, ◌+◌, ◌-◌, List, [], ◌∷◌, length, refl, sym, ap, ap₂, ◌∙◌, subst, arith, map, min}
+use Rattle.plterm.specs.Tree.{Tree}
+use Rattle.plterm.specs.Variables.{variables, copied}
+use Rattle.plsubst.specs.Subst.{bind, shift}
 use Rattle.plheap.specs.Store.{term}
 use Rattle.plload.specs.Program.{Program, clauses_for}
 use Rattle.plsearch.specs.Types.{Goal}
@@ -13,27 +13,15 @@ use Rattle.plsearch.specs.Solving.{Begins}
 use Rattle.plframe.specs.Places.{element, AreIn}
 use Rattle.plframe.specs.State.{State, IsList, Extends, goals_of, cases_of, place_of}
 use Rattle.plframe.proofs.Arena.{list_at-none}
+use Rattle.plframe.proofs.Copying.{shift-copied}
 use Rattle.plsolve.specs.declared.progress.Mode.TheVariants as modes
 use Rattle.plsolve.specs.declared.progress.Progress.{Progress}
 use Rattle.plsolve.proofs.Moves.{machine-at}
 use Rattle.plsolve.specs.Solver.{Starts, StartsGoal, rest_of, machine, empty}
 
-mutual
-  unfolding bind
-
-  pub shift-renamed : (n : ℕ) (f : ℕ → ℕ) (t : Tree) → shift n (renamed (λ v. 0 + f v) t) ≡ renamed (λ v. n + f v) t
-  shift-renamed n f (var v) = ap (λ x. var (n + x)) (zero-add (f v))
-  shift-renamed n f (int i) = refl
-  shift-renamed n f (atom s) = refl
-  shift-renamed n f (compound s ts) = ap (compound s) (shift-all_renamed n f ts)
-
-  pub shift-all_renamed : (n : ℕ) (f : ℕ → ℕ) (ts : Trees) → bind_all (λ x. var (n + x)) (all_renamed (λ v. 0 + f v) ts) ≡ all_renamed (λ v. n + f v) ts
-  shift-all_renamed n f none = refl
-  shift-all_renamed n f (more t ts) = ap₂ more (shift-renamed n f t) (shift-all_renamed n f ts)
-
 pub shift-once : (n : ℕ) (g : Tree) → shift n (once (copied 0 g)) ≡ once (copied n g)
 unfolding bind
-shift-once n g = ap once (shift-renamed n (λ v. place v (variables g)) g)
+shift-once n g = ap once (shift-copied n g)
 
 -- one more goal
 pub starts-more : (old new : State) (list made : ℕ) (g : Tree) (gs : List Tree) → Starts old list gs → StartsGoal old new list made g → Starts new made (g ∷ gs)

@@ -4,7 +4,7 @@ use Rattle.plterm.specs.Tree.{atom}
 use Rattle.plheap.specs.declared.cell.Cell.{Cell}
 use Rattle.plheap.specs.declared.cell.Cell.TheVariants as cells
 use Rattle.plheap.specs.Store.{Store, term, terms}
-use Rattle.plsearch.specs.Table.{Control, True, False, Both, Either, Then, Not, Once, CallWith, Cut, Unify, Write, WriteQuoted, Newline, AddLast, Call, NoGoal}
+use Rattle.plsearch.specs.Table.{Control, True, False, Both, Either, Then, Not, Once, Catching, Throwing, CallWith, Cut, Unify, Write, WriteQuoted, Newline, AddLast, Call, NoGoal}
 use Rattle.plframe.specs.Extended.{IsRun}
 use Rattle.plsolve.specs.declared.control.Control.{Control as Found}
 use Rattle.plsolve.specs.declared.control.Control.TheVariants as found
@@ -18,6 +18,8 @@ shown_control h (found.Then c a) = Then (term h c) (term h a) (atom (codes "fail
 shown_control h (found.ThenElse c a b) = Then (term h c) (term h a) (term h b)
 shown_control h (found.Not a) = Not (term h a)
 shown_control h (found.Once a) = Once (term h a)
+shown_control h (found.Catching g c r) = Catching (term h g) (term h c) (term h r)
+shown_control h (found.Throwing a) = Throwing (term h a)
 shown_control h (found.CallWith a n) = CallWith (term h a) (terms h (suc a) n)
 shown_control h found.Cut = Cut
 shown_control h (found.Unify a b) = Unify (term h a) (term h b)
@@ -38,6 +40,8 @@ IsInside h (found.Then c a) = (c < length h.cells) × (a < length h.cells)
 IsInside h (found.ThenElse c a b) = (c < length h.cells) × (a < length h.cells) × (b < length h.cells)
 IsInside h (found.Not a) = a < length h.cells
 IsInside h (found.Once a) = a < length h.cells
+IsInside h (found.Catching g c r) = (g < length h.cells) × (c < length h.cells) × (r < length h.cells)
+IsInside h (found.Throwing a) = a < length h.cells
 IsInside h (found.CallWith a n) = (a < length h.cells) × IsRun h (record { first = suc a; count = n }) × (n ≤ 1024)
 IsInside h found.Cut = Unit {0}
 IsInside h (found.Unify a b) = (a < length h.cells) × (b < length h.cells)

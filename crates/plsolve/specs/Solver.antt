@@ -4,13 +4,14 @@ use Rattle.plterm.specs.Tree.{Tree, var, int, atom, compound}
 use Rattle.plterm.specs.Variables.{copied, variables}
 use Rattle.plclause.specs.Clause.{Clause}
 use Rattle.plheap.specs.Store.{term}
-use Rattle.plsearch.specs.Table.{Runnable, Runs, Raises}
+use Rattle.plsearch.specs.Table.{Runnable, Runs, Raises, runnable, has, levels, catch_3, recovers}
+use Rattle.plsearch.specs.Errors.{error_term}
 use Rattle.plsearch.specs.Types.{Goal as GoalOf}
 use Rattle.plevent.specs.Search.{Answer, Ending, Search}
 use Rattle.plload.specs.Program.{Program, clauses_for}
-use Rattle.plsearch.specs.Types.{Result, Stop, Fail, CutTo, Throw, Spent, Local, Move}
+use Rattle.plsearch.specs.Types.{Result, Stop, Fail, CutTo, Throw, Spent, Case, Local, Move}
 use Rattle.plsearch.specs.Engine.{deeper}
-use Rattle.plsearch.specs.Machine.{Mode, At, Back, Machine, Rest, move, turn}
+use Rattle.plsearch.specs.Machine.{Mode, At, Back, Machine, Rest, move, return, turn}
 use Rattle.plsearch.specs.Solving.{Goes}
 use Rattle.plsearch.specs.Search.{ending_of, once, start_from}
 use Rattle.plframe.specs.Places.{Statics}
@@ -26,12 +27,11 @@ use Rattle.plsolve.specs.declared.progress.Mode.{Mode as Going}
 use Rattle.plsolve.specs.declared.progress.Mode.TheVariants as modes
 use Rattle.plsolve.specs.declared.progress.Progress.{Progress}
 
--- nothing catches a ball, so the levels of the markers behind it are left out
 abbrev pub result_of : Outcome → Result
 result_of outcomes.Stop = Stop
 result_of outcomes.Fail = Fail
 result_of (outcomes.CutTo l) = CutTo l
-result_of (outcomes.Throw t) = Throw t []
+result_of (outcomes.Throw t ls) = Throw t ls.items
 result_of outcomes.Spent = Spent
 
 abbrev pub mode_of : Going → State → Mode
@@ -134,7 +134,7 @@ abbrev pub marked_result : ℕ → Outcome → Outcome
 marked_result l outcomes.Fail = outcomes.CutTo l
 marked_result l outcomes.Stop = outcomes.Stop
 marked_result l (outcomes.CutTo k) = outcomes.CutTo k
-marked_result l (outcomes.Throw t) = outcomes.Throw t
+marked_result l (outcomes.Throw t ls) = outcomes.Throw t ls
 marked_result l outcomes.Spent = outcomes.Spent
 
 abbrev pub marked : ℕ → Going → Going
@@ -149,12 +149,40 @@ abbrev pub stopped_result : ℕ → Outcome → Outcome
 stopped_result d outcomes.Fail = outcomes.Fail
 stopped_result d outcomes.Stop = outcomes.Stop
 stopped_result d (outcomes.CutTo l) = fail_if (nat_eq l d) l
-stopped_result d (outcomes.Throw t) = outcomes.Throw t
+stopped_result d (outcomes.Throw t ls) = outcomes.Throw t ls
 stopped_result d outcomes.Spent = outcomes.Spent
 
 abbrev pub cut_stopped : ℕ → Going → Going
 cut_stopped d modes.Visit = modes.Visit
 cut_stopped d (modes.Back r) = modes.Back (stopped_result d r)
+
+-- it carries a ball, and the level is among those of the markers behind it
+abbrev pub result_throws : ℕ → Outcome → Bool
+result_throws d outcomes.Fail = false
+result_throws d outcomes.Stop = false
+result_throws d (outcomes.CutTo l) = false
+result_throws d (outcomes.Throw t ls) = has d ls.items
+result_throws d outcomes.Spent = false
+
+abbrev pub throws_to : ℕ → Going → Bool
+throws_to d modes.Visit = false
+throws_to d (modes.Back r) = result_throws d r
+
+-- an error of catch/3 is carried, and the innermost case was closed
+pub record Rethrown (P : Program) (old new : Progress) (e : Tree) (list : ℕ) : Type 0 where
+  pub used : new.used ≡ old.used
+  pub limit : new.limit ≡ old.limit
+  pub places : new.places.items ≡ old.places.items
+  pub is : (h : Case) (below : List Case) → cases_of (clauses_for P) old.stack ≡ h ∷ below → (left : ℕ) (answers : List Answer) →
+      machine P left answers new ≡ record { mode = Back (Throw (copied 0 (error_term e catch_3)) (levels (goals_of old.stack list))); cases = below; run = record { steps = left; answers = answers; local = local_of old } }
+
+-- the recovery was run in place of the innermost case, before a list, or is no goal
+pub record Recovered (P : Program) (old new : Progress) (recovery list : ℕ) : Type 0 where
+  pub used : new.used ≡ old.used
+  pub limit : new.limit ≡ old.limit
+  pub places : new.places.items ≡ old.places.items
+  pub is : (h : Case) (below : List Case) → cases_of (clauses_for P) old.stack ≡ h ∷ below → (left : ℕ) (answers : List Answer) →
+      machine P left answers new ≡ return below (record { steps = left; answers = answers; local = local_of old }) (recovers (runnable (term old.stack.heap recovery)) (deeper below 0) (goals_of old.stack list) old.stack.heap.count (local_of old))
 
 -- a stack with nothing on it
 abbrev pub empty : State

@@ -1,8 +1,8 @@
 //! What a goal is (ISO/IEC 13211-1 7.8).
 
-ghost use Rattle.std.specs.Prelude.{◌≡◌, ◌+◌, ◌<◌, ◌≤◌, ℕ, length, IfOk};
+ghost use Rattle.std.specs.Prelude.{◌≡◌, ◌+◌, ◌^◌, ◌<◌, ◌≤◌, ℕ, length, IfOk};
 ghost use Rattle.plheap.specs.Store.{Store, term};
-ghost use Rattle.plsearch.specs.Table.{control as control_of, nullary as nullary_of, unary as unary_of, binary as binary_of, either as either_of, is_call, Call};
+ghost use Rattle.plsearch.specs.Table.{control as control_of, nullary as nullary_of, unary as unary_of, binary as binary_of, ternary as ternary_of, either as either_of, is_call, Call};
 ghost use Rattle.plsolve.specs.Controls.{shown_control, IsInside, is_then};
 
 use plheap::cell::Cell;
@@ -28,6 +28,10 @@ pub enum Control {
     /// Not provable.
     Not(u32),
     Once(u32),
+    /// catch/3: a goal, a catcher and a recovery.
+    Catching(u32, u32, u32),
+    /// throw/1 of a ball.
+    Throwing(u32),
     /// call/N: the goal, and how many cells behind it are its further arguments.
     CallWith(u32, u16),
     Cut,
@@ -63,6 +67,9 @@ pub fn read_control(heap: &Heap, cell: u32) -> Result<Control, AllocError>
             }
             if further == 1 {
                 return binary(heap, name, first, first + 1);
+            }
+            if further == 2 {
+                return ternary(heap, name, first);
             }
             let name = name.copied()?;
             Ok(Control::Call(Indicator {
@@ -115,6 +122,9 @@ fn unary(heap: &Heap, name: &Name, a: u32) -> Result<Control, AllocError>
     if name.as_str() == "\\+" {
         return Ok(Control::Not(a));
     }
+    if name.as_str() == "throw" {
+        return Ok(Control::Throwing(a));
+    }
     if name.as_str() == "write" {
         return Ok(Control::Write(a));
     }
@@ -148,6 +158,20 @@ fn binary(heap: &Heap, name: &Name, a: u32, b: u32) -> Result<Control, AllocErro
     }
     let name = name.copied()?;
     Ok(Control::Call(Indicator { name, arity: 2 }))
+}
+
+/// A goal of three arguments, of which the cell of the first is given.
+fn ternary(heap: &Heap, name: &Name, a: u32) -> Result<Control, AllocError>
+    requires there { a + 2 < length heap.now.cells }
+    requires few { a + 2 < 2 ^ 32 }
+    ensures is { IfOk result (λ c. shown_control heap.now c ≡ ternary_of name.now (term heap.now a) (term heap.now (a + 1)) (term heap.now (a + 2))) }
+    ensures inside { IfOk result (λ c. IsInside heap.now c) }
+{
+    if name.as_str() == "catch" {
+        return Ok(Control::Catching(a, a + 1, a + 2));
+    }
+    let name = name.copied()?;
+    Ok(Control::Call(Indicator { name, arity: 3 }))
 }
 
 /// `;`/2: with `->`/2 on its left side the two are one construct.

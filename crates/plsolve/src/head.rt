@@ -16,6 +16,8 @@ pub enum Head {
     Commit(u32, u32),
     /// Here the choices down to a level are given up, and the list fails.
     Never(u32, u32),
+    /// Up to here a catcher is active.
+    Until(u32),
     /// The goal of a cell waits for a view.
     Look(u32, u32),
     /// A clause waits until it is published.
@@ -33,6 +35,7 @@ pub fn head_of(stack: &Stack) -> Head
         Item::Goal(level, cell) => Head::Goal(*level, *cell, link.next),
         Item::Commit(level) => Head::Commit(*level, link.next),
         Item::Never(level) => Head::Never(*level, link.next),
+        Item::Until(_) => Head::Until(link.next),
         Item::Look(cell) => Head::Look(*cell, link.next),
         Item::Await(_) => Head::Await(link.next),
     }

@@ -12,6 +12,8 @@ use std::alloc::{AllocError, Global};
 pub enum Predicate {
     Once,
     Not,
+    Catch,
+    Throw,
     /// call/N with N - 1 further arguments.
     CallWith(u16),
     /// assertz/1
@@ -27,6 +29,8 @@ impl Predicate {
         let (name, arity) = match self {
             Predicate::Once => ("once", 1),
             Predicate::Not => ("\\+", 1),
+            Predicate::Catch => ("catch", 3),
+            Predicate::Throw => ("throw", 1),
             Predicate::CallWith(further) => ("call", further + 1),
             Predicate::AddLast => ("assertz", 1),
         };

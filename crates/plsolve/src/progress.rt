@@ -1,6 +1,6 @@
 //! How far a search has come, and how it goes on.
 
-ghost use Rattle.std.specs.Prelude.{◌≡◌, ◌+◌, ◌<◌, ◌≤◌, ◌↔◌, ℕ, List, [], ◌∷◌, ◌++◌, length, IfOk, OnOk, OnErr, IfSome, IfNone, IsNone, IsTrue, fold};
+ghost use Rattle.std.specs.Prelude.{◌≡◌, ◌+◌, ◌-◌, ◌<◌, ◌≤◌, ◌↔◌, ℕ, List, [], ◌∷◌, ◌++◌, length, IfOk, OnOk, OnErr, IfSome, IfNone, IsNone, IsTrue, true, fold};
 ghost use Rattle.plheap.specs.Store.{term};
 ghost use Rattle.plclause.specs.Indicators.{indicator};
 ghost use Rattle.plevent.specs.Alive.{Stamped, before};
@@ -14,14 +14,16 @@ ghost use Rattle.plsearch.specs.Table.{walk_over};
 ghost use Rattle.plsearch.specs.Search.{search_of, next_of};
 ghost use Rattle.plsearch.specs.Solving.{Begins, Goes, TakesOne};
 ghost use Rattle.plframe.specs.Places.{Statics};
-ghost use Rattle.plframe.specs.State.{cases_of, goals_of, HasCall, HasBranch, IsList};
+ghost use Rattle.plframe.specs.State.{cases_of, goals_of, HasCall, HasBranch, HasCatch, IsList};
 ghost use Rattle.plsolve.specs.Heads.{AtGoal};
-ghost use Rattle.plsolve.specs.Solver.{local_of, depth_of, Moved, Stays, rest_of, result_of, Quiet, Settled, WaitsForView, WaitsToPublish, IsOver, Stepped, marked, cut_stopped, empty, Starts, StartsGoal};
+ghost use Rattle.plsolve.specs.Solver.{local_of, depth_of, Moved, Stays, rest_of, result_of, Quiet, Settled, WaitsForView, WaitsToPublish, IsOver, Stepped, throws_to, Recovered, Rethrown, marked, cut_stopped, empty, Starts, StartsGoal};
 ghost use Rattle.plsolve.specs.Says.{Says, IsSlice};
 
 use crate::control::read_control;
 use crate::error;
 use crate::head::{Head, head_of};
+use crate::predicate::Predicate;
+use crate::rows::Ready;
 use crate::solver::Turn;
 use plevent::request::{Reply, Request, ThreadEnd};
 use plevent::update::{Batch, Update};
@@ -45,8 +47,8 @@ pub enum Outcome {
     Fail,
     /// The choices down to a level are given up.
     CutTo(u32),
-    /// A ball was thrown.
-    Throw(Term),
+    /// A ball was thrown, with the levels of the markers behind it.
+    Throw(Term, Vec<u32>),
     /// No step is left.
     Spent,
 }
@@ -319,6 +321,10 @@ impl Progress {
                 self.mode = Mode::Back(Outcome::CutTo(level));
                 Ok(None)
             }
+            Head::Until(rest) => {
+                self.stack.visit(rest);
+                Ok(None)
+            }
             Head::Look(cell, rest) => Ok(Some(Due::Look(cell, rest))),
             Head::Await(rest) => Ok(Some(Due::Await(rest))),
         }
@@ -339,8 +345,12 @@ impl Progress {
             self.mode = Mode::Visit;
             return Ok(None);
         }
+        if self.catches() {
+            return self.catch(program);
+        }
         match self.stack.close() {
             None => Ok(Some(Due::Over)),
+            Some(Closed::Catch) => Ok(None),
             Some(Closed::Mark(level)) => {
                 self.pass_mark(level);
                 Ok(None)
@@ -364,6 +374,83 @@ impl Progress {
             self.mode = Mode::Visit;
         }
         Ok(None)
+    }
+
+    /// The ball that is carried, at the innermost case, which is a catcher that is active.
+    fn catch(&mut self, program: &Program) -> Result<Option<Due>, AllocError>
+        requires catch { HasCatch self.old.stack }
+        requires throws { throws_to (deeper (cases_of (clauses_for program.now) self.old.stack) 0 - 1) self.old.mode ≡ true }
+        ensures on { IfOk result (λ o. IfNone o (Quiet program.now self.old self.new)) }
+        ensures none { IfOk result (λ o. IsNone o) }
+        ensures err { OnErr result (Stays program.now self.old self.new) }
+    {
+        let catcher = self.stack.rewind();
+        let Mode::Back(outcome) = &self.mode else {
+            unreachable!()
+        };
+        let Outcome::Throw(ball, _) = outcome else {
+            unreachable!()
+        };
+        let cell = self.stack.put_copy(self.alloc, ball)?;
+        if self.stack.unify(catcher.catcher, cell)? {
+            self.recover(program, catcher.recovery, catcher.behind.list)?;
+        } else {
+            self.stack.close();
+        }
+        Ok(None)
+    }
+
+    /// Runs a recovery before a list, in place of the innermost case, which is its catcher.
+    fn recover(&mut self, program: &Program, recovery: u32, list: u32) -> Result<(), AllocError>
+        requires back { self.old.mode ≡ Mode.Visit → ⊥ }
+        requires catch { HasCatch self.old.stack }
+        requires recovery { recovery < length self.old.stack.heap.cells }
+        requires list { IsList self.old.stack list }
+        ensures ok { OnOk result (Recovered program.now self.old self.new recovery list) }
+        ensures err { OnErr result (Stays program.now self.old self.new) }
+    {
+        match self.ready(recovery)? {
+            Ready::Raises(error) => self.rethrow(program, error, list),
+            Ready::Runs(goal) => {
+                let level = self.stack.level();
+                let made = self.stack.link(Item::Goal(level, goal), list)?;
+                self.stack.recover(made);
+                self.mode = Mode::Visit;
+                Ok(())
+            }
+        }
+    }
+
+    /// Throws an error of catch/3 before a list, in place of the innermost case.
+    fn rethrow(&mut self, program: &Program, error: Term, list: u32) -> Result<(), AllocError>
+        requires catch { HasCatch self.old.stack }
+        requires list { IsList self.old.stack list }
+        ensures ok { OnOk result (Rethrown program.now self.old self.new error list) }
+        ensures err { OnErr result (self.new ≡ self.old) }
+    {
+        let p = Predicate::Catch.indicator(self.alloc)?;
+        let ball = error::ball(self.alloc, error, &p)?;
+        let levels = self.stack.levels(self.alloc, list)?;
+        self.stack.close();
+        self.mode = Mode::Back(Outcome::Throw(ball, levels));
+        Ok(())
+    }
+
+    /// Whether a ball is carried to the innermost case, and that is a catcher that is active.
+    fn catches(&self) -> bool
+        ensures { (statics : Statics) → IsTrue result ↔ (HasCatch self.now.stack × (throws_to (deeper (cases_of statics self.now.stack) 0 - 1) self.now.mode ≡ true)) }
+    {
+        if !self.stack.is_catch() {
+            return false;
+        }
+        match &self.mode {
+            Mode::Back(Outcome::Throw(_, levels)) => levels.contains(&self.stack.level()),
+            Mode::Visit
+            | Mode::Back(Outcome::Stop)
+            | Mode::Back(Outcome::Fail)
+            | Mode::Back(Outcome::CutTo(_))
+            | Mode::Back(Outcome::Spent) => false,
+        }
     }
 
     fn is_visiting(&self) -> bool
@@ -422,7 +509,7 @@ fn end_of(alloc: Global, outcome: &Outcome) -> Result<ThreadEnd, AllocError>
         Outcome::Stop => Ok(ThreadEnd::True),
         Outcome::Fail | Outcome::CutTo(_) => Ok(ThreadEnd::False),
         Outcome::Spent => Ok(ThreadEnd::Budget),
-        Outcome::Throw(ball) => {
+        Outcome::Throw(ball, _) => {
             let ball = ball.copied(alloc)?;
             Ok(ThreadEnd::Exception(ball))
         }

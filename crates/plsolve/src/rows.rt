@@ -4,14 +4,15 @@
 ghost use Rattle.std.specs.Prelude.{◌≡◌, ◌+◌, ◌<◌, ◌≤◌, ℕ, suc, [], ◌∷◌, ◌++◌, length, codes, IfOk, OnOk, OnErr};
 ghost use Rattle.plheap.specs.Store.{term, terms};
 ghost use Rattle.plterm.specs.Tree.{atom};
-ghost use Rattle.plsearch.specs.Errors.{callable_error};
+ghost use Rattle.plsearch.specs.Errors.{callable_error, error_term};
+ghost use Rattle.plterm.specs.Variables.{copied};
 ghost use Rattle.plwrite.specs.Writing.{written};
 ghost use Rattle.plclause.specs.Clausal.{clausal};
 ghost use Rattle.plclause.specs.Indicators.{indicator};
 ghost use Rattle.plload.specs.Program.{clauses_for};
 ghost use Rattle.plsubst.specs.Unify.{unify};
-ghost use Rattle.plsearch.specs.Types.{Goal, Commit, Never, Go, Choice, Mark};
-ghost use Rattle.plsearch.specs.Table.{run, runnable, Runnable, once_1, not_1, call_with, called, unified, branch, assertz_1, raised, add, add_if, is_static, call, user, row};
+ghost use Rattle.plsearch.specs.Types.{Goal, Commit, Never, Until, Raise, Go, Choice, Mark};
+ghost use Rattle.plsearch.specs.Table.{run, runnable, Runnable, once_1, not_1, catch_3, catching, thrown, call_with, called, unified, branch, assertz_1, raised, add, add_if, is_static, call, user, row};
 ghost use Rattle.plframe.specs.Places.{clauses_in, element, IsItemIn};
 ghost use Rattle.plframe.specs.State.{goals_of, IsList, Extends, IsOpening, opening_cases, IsAround, around_cases};
 ghost use Rattle.plframe.specs.Extended.{IsRun, run_terms};
@@ -83,12 +84,34 @@ impl Progress {
         rest: u32,
         cost: u64,
     ) -> Result<(), AllocError>
-        requires { self.old.used + cost ≤ self.old.limit }
+        requires rest { IsList self.old.stack rest }
+        requires left { self.old.used + cost ≤ self.old.limit }
         ensures ok { OnOk result (Moved program.now self.old self.new (raised error p.now (goals_of self.old.stack rest) (local_of self.old)) cost) }
         ensures err { OnErr result (Stays program.now self.old self.new) }
     {
         let ball = error::ball(self.alloc, error, p)?;
-        self.give(Outcome::Throw(ball), cost);
+        let levels = self.stack.levels(self.alloc, rest)?;
+        self.give(Outcome::Throw(ball, levels), cost);
+        Ok(())
+    }
+
+    /// throw/1.
+    fn throw(&mut self, program: &Program, ball: u32, rest: u32) -> Result<(), AllocError>
+        requires ball { ball < length self.old.stack.heap.cells }
+        requires rest { IsList self.old.stack rest }
+        requires left { self.old.used + 1 ≤ self.old.limit }
+        ensures ok { OnOk result (Moved program.now self.old self.new (thrown (term self.old.stack.heap ball) (goals_of self.old.stack rest) (local_of self.old)) 1) }
+        ensures err { OnErr result (Stays program.now self.old self.new) }
+    {
+        if is_variable(self.stack.heap(), ball) {
+            let p = Predicate::Throw.indicator(self.alloc)?;
+            let error = error::instantiation(self.alloc)?;
+            return self.raise(program, error, &p, rest, 1);
+        }
+        let term = self.stack.heap().take(self.alloc, ball)?;
+        let copy = term.copy(self.alloc, 0)?;
+        let levels = self.stack.levels(self.alloc, rest)?;
+        self.give(Outcome::Throw(copy, levels), 1);
         Ok(())
     }
 
@@ -405,13 +428,36 @@ impl Progress {
     {
         match ready {
             Ready::Raises(error) => {
-                let p = predicate.indicator(self.alloc)?;
-                self.raise(program, error, &p, list, 1)
+                self.raise_in(program, error, predicate, list, Opening::Run(around))
             }
             Ready::Runs(cell) => {
                 self.enter_goal(program, level, cell, list, Opening::Run(around))
             }
         }
+    }
+
+    /// Opens cases, and raises an error of a predicate before a list in them.
+    fn raise_in(
+        &mut self,
+        program: &Program,
+        error: Term,
+        predicate: Predicate,
+        list: u32,
+        opening: Opening,
+    ) -> Result<(), AllocError>
+        requires few { IsFew predicate }
+        requires list { IsList self.old.stack list }
+        requires opening { IsOpening self.old.stack opening }
+        requires left { self.old.used + 1 ≤ self.old.limit }
+        ensures ok { OnOk result (Moved program.now self.old self.new (Go (opening_cases self.old.stack opening) (record { goals = Raise (copied 0 (error_term error (predicate_of predicate))) ∷ goals_of self.old.stack list; variables = self.old.stack.heap.count }) (local_of self.old)) 1) }
+        ensures err { OnErr result (Stays program.now self.old self.new) }
+    {
+        let p = predicate.indicator(self.alloc)?;
+        let ball = error::ball(self.alloc, error, &p)?;
+        let levels = self.stack.levels(self.alloc, list)?;
+        self.stack.open(opening)?;
+        self.give(Outcome::Throw(ball, levels), 1);
+        Ok(())
     }
 
     /// once/1.
@@ -459,6 +505,38 @@ impl Progress {
         )
     }
 
+    /// catch/3 of a goal, a catcher and a recovery.
+    fn catching(
+        &mut self,
+        program: &Program,
+        cells: (u32, u32, u32),
+        rest: u32,
+    ) -> Result<(), AllocError>
+        requires goal { cells.0 < length self.old.stack.heap.cells }
+        requires catcher { cells.1 < length self.old.stack.heap.cells }
+        requires recovery { cells.2 < length self.old.stack.heap.cells }
+        requires rest { IsList self.old.stack rest }
+        requires left { self.old.used + 1 ≤ self.old.limit }
+        ensures ok { OnOk result (Moved program.now self.old self.new (run (runnable (term self.old.stack.heap cells.0)) catch_3 (catching (term self.old.stack.heap cells.1) (term self.old.stack.heap cells.2) (goals_of self.old.stack rest) self.old.stack.heap.count ∷ []) (suc (depth_of program.now self.old)) (Until (depth_of program.now self.old) ∷ goals_of self.old.stack rest) self.old.stack.heap.count (local_of self.old)) 1) }
+        ensures err { OnErr result (Stays program.now self.old self.new) }
+    {
+        let (goal, catcher, recovery) = cells;
+        let depth = self.stack.depth();
+        let Some(inner) = depth.checked_add(1) else {
+            return Err(AllocError);
+        };
+        let behind = self.stack.link(Item::Until(depth), rest)?;
+        let ready = self.ready(goal)?;
+        self.run(
+            program,
+            ready,
+            Predicate::Catch,
+            Around::Catch(catcher, recovery, rest),
+            inner,
+            behind,
+        )
+    }
+
     /// call/N.
     fn call_with(
         &mut self,
@@ -492,7 +570,7 @@ impl Progress {
     }
 
     /// What a term comes to as a goal.
-    fn ready(&mut self, goal: u32) -> Result<Ready, AllocError>
+    pub(crate) fn ready(&mut self, goal: u32) -> Result<Ready, AllocError>
         requires { goal < length self.old.stack.heap.cells }
         ensures ok { IfOk result (λ r. Readies self.new (runnable (term self.old.stack.heap goal)) r) }
         ensures stays { Extends self.old.stack self.new.stack }
@@ -585,6 +663,10 @@ impl Progress {
             }
             Control::Not(goal) => self.not(program, goal, rest),
             Control::Once(goal) => self.once(program, goal, rest),
+            Control::Catching(goal, catcher, recovery) => {
+                self.catching(program, (goal, catcher, recovery), rest)
+            }
+            Control::Throwing(ball) => self.throw(program, ball, rest),
             Control::CallWith(goal, further) => self.call_with(program, goal, further, rest),
             Control::Cut => self.cut(program, level, rest),
             Control::Unify(a, b) => self.unify(program, a, b, rest),

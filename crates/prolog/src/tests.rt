@@ -271,7 +271,7 @@ const FORMS: [(&str, &str, &str, Status); 12] = [
 ];
 
 /// Control constructs: the program, the report and the status.
-const CONTROL: [(&str, &str, Status); 18] = [
+const CONTROL: [(&str, &str, Status); 30] = [
     // The second side of a disjunction is tried where the first fails, and where its solutions are used up.
     (
         ":- ;(fail, write(a)), write(b).",
@@ -367,6 +367,69 @@ const CONTROL: [(&str, &str, Status); 18] = [
         ":- ;(=(X, f(X)), writeq(f(Y, Z, Y))).",
         "% thread 1 main: true\nf(_1,_2,_1)\n",
         Status::Done,
+    ),
+    // A ball is caught where it unifies with an active catcher, and what the goal bound is undone first.
+    (
+        ":- catch(throw(x), Y, write(Y)).",
+        "% thread 1 main: true\nx\n",
+        Status::Done,
+    ),
+    (
+        ":- catch(\\+(throw(x)), x, write(c)).",
+        "% thread 1 main: true\nc\n",
+        Status::Done,
+    ),
+    (
+        ":- catch(catch(throw(a), b, write(no)), X, write(X)).",
+        "% thread 1 main: true\na\n",
+        Status::Done,
+    ),
+    (
+        ":- catch((=(X, b), throw(a)), _, true), ;(->(=(X, c), write(c)), write(b)).",
+        "% thread 1 main: true\nc\n",
+        Status::Done,
+    ),
+    (
+        "t(1). :- catch(t(_), _, write(no)), throw(b).",
+        "% thread 1 main: exception(b)\n",
+        Status::Raised,
+    ),
+    (
+        "t(1). t(_) :- throw(e). :- catch(t(X), e, =(X, 3)), write(X), =(X, 3).",
+        "% thread 1 main: true\n13\n",
+        Status::Done,
+    ),
+    (
+        "t(1). t(2). m :- catch((t(X), !), _, true), write(X), fail. m :- write(b). :- m.",
+        "% thread 1 main: true\n1b\n",
+        Status::Done,
+    ),
+    // The variables of a ball are new.
+    (
+        "t :- throw(f(_)). p(X) :- =(X, a). :- catch(t, E, true), p(_), writeq(E).",
+        "% thread 1 main: true\nf(_1)\n",
+        Status::Done,
+    ),
+    // The errors of built-in predicates are thrown likewise, those of catch/3 itself to its own catcher.
+    (
+        ":- catch(call((fail, 1)), error(E, _), true), writeq(E), nl.",
+        "% thread 1 main: true\ntype_error(callable,(fail,1))\n",
+        Status::Done,
+    ),
+    (
+        ":- catch(1, error(type_error(T, V), /(catch, 3)), true), writeq(f(T, V)).",
+        "% thread 1 main: true\nf(callable,1)\n",
+        Status::Done,
+    ),
+    (
+        ":- catch(catch(throw(a), _, 1), error(E, _), true), writeq(E).",
+        "% thread 1 main: true\ntype_error(callable,1)\n",
+        Status::Done,
+    ),
+    (
+        ":- throw(_).",
+        "% thread 1 main: exception(error(instantiation_error,throw/1))\n",
+        Status::Raised,
     ),
 ];
 

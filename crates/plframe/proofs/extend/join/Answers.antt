@@ -1,4 +1,4 @@
-use Rattle.std.proofs.Common.{◌≡◌, ◌+◌, ◌++◌, ◌∷◌, [], ap, ap₂, sym, ◌∙◌, append_assoc, subst, length, arith}
+use Rattle.std.proofs.Common.{◌≡◌, ◌+◌, ◌++◌, ◌∷◌, [], ap, sym, ◌∙◌, subst, length, arith}
 use Rattle.plterm.specs.declared.node.Node.TheVariants.{Compound}
 use Rattle.plterm.specs.Variables.{AllBelow}
 use Rattle.plterm.specs.Reading.{IsTerm, tree_of}

@@ -1,6 +1,6 @@
-use Rattle.std.proofs.Common.{◌≡◌, ◌-◌, ◌+◌, ◌<◌, ap, sym, ◌∙◌, subst, arith}
+use Rattle.std.proofs.Common.{◌≡◌, ◌-◌, ap, sym, ◌∙◌, subst, arith}
 use Rattle.plterm.specs.Tree.{compound, trees, atom}
-use Rattle.plheap.specs.Store.{term, terms, shown}
+use Rattle.plheap.specs.Store.{term, shown}
 use Rattle.plframe.specs.declared.extend.Run.{Run}
 use Rattle.plframe.specs.Extended.{run_terms, Joined}
 use Rattle.plframe.proofs.Joining.{extends-atom, extends-compound, extends-long}

@@ -1,8 +1,7 @@
-use Rattle.std.proofs.Common.{◌≡◌, ◌<◌, ◌-◌, ap, sym, ◌∙◌, subst, length, arith, refl}
-use Rattle.plheap.specs.Store.{term, shown}
+use Rattle.std.proofs.Common.{ap, sym, ◌∙◌}
+use Rattle.plheap.specs.Store.{term}
 use Rattle.plsearch.specs.Table.{either, Either}
-use Rattle.plsolve.specs.Controls.{is_then}
-use Rattle.plsolve.proofs.Heading.{either-other, either-then}
+use Rattle.plsolve.proofs.Heading.{either-other}
 use Rattle.plsolve.proofs.control.either.Goals as goal
 
 pub returns-clause-is : goal.returns-clause-is

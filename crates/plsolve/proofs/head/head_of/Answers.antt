@@ -1,5 +1,5 @@
 use Rattle.plsolve.specs.Heads.{IsHead}
-use Rattle.plsolve.proofs.Heading.{head-goal, head-look, head-commit, head-never, head-await}
+use Rattle.plsolve.proofs.Heading.{head-goal, head-look, head-commit, head-never, head-until, head-await}
 use Rattle.plsolve.proofs.head.head_of.Goals as goal
 
 pub returns-in_default : goal.returns-in_default
@@ -20,3 +20,6 @@ returns-in-Await c = head-await c.args.stack.now c.in-Some.link.now c.in-Await.f
 
 pub returns-in-Never : goal.returns-in-Never
 returns-in-Never c = head-never c.args.stack.now c.in-Some.link.now c.in-Never.level c.in-Some.ensures.some c.in-Never.is
+
+pub returns-in-Until : goal.returns-in-Until
+returns-in-Until c = head-until c.args.stack.now c.in-Some.link.now _ c.in-Some.ensures.some c.in-Until.is

@@ -1,2 +1,0 @@
-use Rattle.plframe.proofs.Stacks.{inside}
-use Rattle.plframe.proofs.stack.Stack.open.Goals as goal

@@ -1,7 +1,9 @@
-use Rattle.std.proofs.Common.{refl}
+use Rattle.std.proofs.Common.{◌≡◌, ◌-◌, refl, ap, ◌∙◌, arith}
+use Rattle.plframe.specs.State.{cases_of}
+use Rattle.plsearch.specs.Engine.{deeper}
 use Rattle.plload.specs.Program.{clauses_for}
-use Rattle.plsolve.specs.Solver.{Settled}
-use Rattle.plsolve.proofs.Quiets.{quiet-mark, quiet-choice, quiet-retry, over-now, not_both, both_are}
+use Rattle.plsolve.specs.Solver.{Settled, throws_to}
+use Rattle.plsolve.proofs.Quiets.{quiet-mark, quiet-handler, quiet-choice, quiet-retry, over-now, not_both, both_are}
 use Rattle.plsolve.proofs.progress.Progress.back.Goals as goal
 
 pub returns-in-None-clause-due : goal.returns-in-None-clause-due
@@ -24,3 +26,18 @@ pub returns-then-branches-clause-on : goal.returns-then-branches-clause-on
 returns-then-branches-clause-on c =
     let both = both_are c.branches.result c.branches.ensures c.if-branches.true in
     quiet-retry c.args.program.now c.args.self.now c.take_branch.new.self both.0 (c.take_branch.ensures (clauses_for c.args.program.now))
+
+pub returns-in-Some-Catch-clause-on : goal.returns-in-Some-Catch-clause-on
+returns-in-Some-Catch-clause-on c =
+    let s = c.args.self.now in
+    let P = c.args.program.now in
+    let closed = (rw c.in-Some-Catch.field-0-is at c.in-Some-Catch.ensures.some) (clauses_for P) in
+    let deep : deeper (cases_of (clauses_for P) s.stack) 0 - 1 ≡ deeper (cases_of (clauses_for P) c.close.new.self) 0 = omega (arith, ap (λ cs. deeper cs 0) closed.2) in
+    quiet-handler P s c.close.new.self closed.1 c.requires closed.2
+    (λ yes. not_both c.catches.result (c.catches.ensures (clauses_for P)) c.if-catches.false closed.0 (ap (λ d. throws_to d s.mode) deep ∙ yes))
+
+pub catch-requires-clause-catch : goal.catch-requires-clause-catch
+catch-requires-clause-catch c = (both_are c.catches.result (c.catches.ensures (clauses_for c.args.program.now)) c.if-catches.true).0
+
+pub catch-requires-clause-throws : goal.catch-requires-clause-throws
+catch-requires-clause-throws c = (both_are c.catches.result (c.catches.ensures (clauses_for c.args.program.now)) c.if-catches.true).1

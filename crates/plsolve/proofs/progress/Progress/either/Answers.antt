@@ -1,4 +1,4 @@
-use Rattle.std.proofs.Common.{refl, ap, ap₂, ◌∙◌, ◌∷◌, []}
+use Rattle.std.proofs.Common.{refl, ap₂, ◌∷◌, []}
 use Rattle.plsearch.specs.Types.{Goal}
 use Rattle.plsearch.specs.Table.{branch}
 use Rattle.plheap.specs.Store.{term}

@@ -1,4 +1,4 @@
-use Rattle.std.proofs.Common.{◌≡◌, refl, ap, ap₂, sym, ◌∙◌, ◌∷◌}
+use Rattle.std.proofs.Common.{refl, ap, sym, ◌∙◌, ◌∷◌}
 use Rattle.plsearch.specs.Types.{Commit}
 use Rattle.plsearch.specs.Table.{once_1, runnable}
 use Rattle.plheap.specs.Store.{term}

@@ -2,7 +2,7 @@ use Rattle.std.proofs.Common.{refl, arith}
 use Rattle.plsolve.specs.Heads.{IsHead}
 use Rattle.plsolve.specs.Solver.{Settled}
 use Rattle.plsolve.proofs.Heading.{list-opened}
-use Rattle.plsolve.proofs.Quiets.{quiet-stop, quiet-spent, quiet-commit, quiet-never}
+use Rattle.plsolve.proofs.Quiets.{quiet-stop, quiet-spent, quiet-commit, quiet-never, quiet-until}
 use Rattle.plsolve.proofs.progress.Progress.pass.Goals as goal
 
 pub returns-then-self-clause-on : goal.returns-then-self-clause-on
@@ -37,3 +37,11 @@ returns-in-Await-clause-due c = ((c.requires.visits, c.in-Await.ensures.0, c.in-
 pub returns-in-Never-clause-on : goal.returns-in-Never-clause-on
 unfolding IsHead
 returns-in-Never-clause-on c = quiet-never c.args.program.now c.args.self.now c.in-Never.level c.in-Never.field-1 c.requires.visits c.in-Never.ensures
+
+pub returns-in-Until-clause-on : goal.returns-in-Until-clause-on
+unfolding IsHead
+returns-in-Until-clause-on c = rw c.visit-in-Until.ensures (quiet-until c.args.program.now c.args.self.now c.in-Until.ensures.0 c.in-Until.rest c.requires.visits c.in-Until.ensures.1)
+
+pub visit-requires-in-Until : goal.visit-requires-in-Until
+unfolding IsHead
+visit-requires-in-Until c = c.in-Until.ensures.1.behind

@@ -82,3 +82,11 @@ returns-in-Unify-clause-ok c = rw c.in-Unify.is c.unify.ensures.ok
 pub returns-in-WriteQuoted-clause-ok : goal.returns-in-WriteQuoted-clause-ok
 unfolding row
 returns-in-WriteQuoted-clause-ok c = rw c.in-WriteQuoted.is c.write-in-WriteQuoted.ensures.ok
+
+pub returns-in-Catching-clause-ok : goal.returns-in-Catching-clause-ok
+unfolding row
+returns-in-Catching-clause-ok c = rw c.in-Catching.is c.catching.ensures.ok
+
+pub returns-in-Throwing-clause-ok : goal.returns-in-Throwing-clause-ok
+unfolding row
+returns-in-Throwing-clause-ok c = rw c.in-Throwing.is c.throw.ensures.ok

@@ -1,12 +1,10 @@
-use Rattle.std.proofs.Common.{◌≡◌, ◌+◌, refl, suc, ap, ap₂, sym, ◌∙◌, ◌∷◌, [], arith}
+use Rattle.std.proofs.Common.{◌≡◌, refl, suc, ap, ap₂, ◌∙◌, ◌∷◌, [], arith}
 use Rattle.std.specs.Prelude.{codes}
 use Rattle.plterm.specs.Tree.{atom}
 use Rattle.plsubst.specs.Subst.{bind, shift}
 use Rattle.plsearch.specs.Types.{Goal, Commit, Choice}
 use Rattle.plsearch.specs.Table.{branch}
 use Rattle.plheap.specs.Store.{term}
-use Rattle.plframe.specs.State.{goals_of}
-use Rattle.plsolve.specs.Solver.{depth_of}
 use Rattle.plsolve.proofs.Moves.{Grown, grown-goals, grown-depth, grown-stays, moved-grown, go-same, stays-trans, on_ok_map, on_err_map}
 use Rattle.plsolve.proofs.progress.Progress.then.Goals as goal
 
