@@ -149,8 +149,16 @@ fn fixed_procedures(rt: HostRuntime) -> Result<(), Fail> {
     Ok(())
 }
 
-/// Terms as program text, and their texts in the styles Plain, Quoted, Canonical and Listed.
-const STYLES: [(&str, &str, &str, &str, &str); 79] = [
+/// A term as program text, and its texts in the styles Plain, Quoted, Canonical and Listed.
+type StyleRow = (
+    &'static str,
+    &'static str,
+    &'static str,
+    &'static str,
+    &'static str,
+);
+
+const STYLES: [StyleRow; 79] = [
     ("a", "a", "a", "a", "a"),
     ("'B'", "B", "'B'", "'B'", "'B'"),
     (
@@ -359,26 +367,49 @@ fn term_of(alloc: Global, text: &str) -> Result<Term, Fail> {
     }
 }
 
+/// Whether a term is written so in a style.
+fn is_written(
+    alloc: Global,
+    term: &Term,
+    operators: &OpTable,
+    style: Style,
+    wanted: &str,
+) -> Result<bool, Fail> {
+    let text = write_term(alloc, term, operators, style)?;
+    Ok(text.as_slice() == wanted.as_bytes())
+}
+
+/// Whether a text spells the term that is canonically written so.
+fn is_read(alloc: Global, text: &str, operators: &OpTable, canonical: &str) -> Result<bool, Fail> {
+    let term = term_of(alloc, text)?;
+    is_written(alloc, &term, operators, Style::Canonical, canonical)
+}
+
+/// Whether a term is written as its row tells in each style.
+fn is_as_told(alloc: Global, operators: &OpTable, row: &StyleRow) -> Result<bool, Fail> {
+    let (source, plain, quoted, canonical, listed) = *row;
+    let term = term_of(alloc, source)?;
+    Ok(
+        is_written(alloc, &term, operators, Style::Plain, plain)?
+            && is_written(alloc, &term, operators, Style::Quoted, quoted)?
+            && is_written(alloc, &term, operators, Style::Canonical, canonical)?
+            && is_written(alloc, &term, operators, Style::Listed, listed)?,
+    )
+}
+
 // Terms in the four styles; what is written canonical or as it is listed is read back.
 #[test]
 fn styles(rt: HostRuntime) -> Result<(), Fail> {
     let alloc = rt.alloc();
     let operators = OpTable::iso(alloc)?;
-    for (source, plain, quoted, canonical, listed) in STYLES {
-        let term = term_of(alloc, source)?;
-        for (style, wanted) in [
-            (Style::Plain, plain),
-            (Style::Quoted, quoted),
-            (Style::Canonical, canonical),
-            (Style::Listed, listed),
-        ] {
-            let text = write_term(alloc, &term, &operators, style)?;
-            assert!(rt; text.as_slice() == wanted.as_bytes(), "{source}");
-        }
-        for text in [canonical, listed] {
-            let again = write_term(alloc, &term_of(alloc, text)?, &operators, Style::Canonical)?;
-            assert!(rt; again.as_slice() == canonical.as_bytes(), "{source}");
-        }
+    for row in &STYLES {
+        let (source, _, _, canonical, listed) = *row;
+        assert!(rt; is_as_told(alloc, &operators, row)?, "{source}");
+        assert!(rt;
+            is_read(alloc, canonical, &operators, canonical)?,
+            "{source}"
+        );
+        assert!(rt; is_read(alloc, listed, &operators, canonical)?, "{source}");
     }
     Ok(())
 }
