@@ -300,6 +300,9 @@ with_balls g = record {
       ∷ [];
   goals = name (codes "main") ∷ [];
   first = [];
+  settings = record { operators = []; quotes = Codes; unknown = Error };
+  clauses = 3;
+  directives = 1;
 }
 
 numbers_anew : search_of (with_balls (and (catches (name (codes "t")) (var 0) (name (codes "true"))) (and (of (codes "r") (var 1)) (pair (codes "=") (var 0) (of (codes "f") (name (codes "b"))))))) 1000 1000 [] ≡ record { next = Finishes True; used = 11; out = [] }
