@@ -32,17 +32,17 @@ fn main_is_started(rt: HostRuntime) -> Result<(), Fail> {
     let alloc = rt.alloc();
     let mut world = World::open(alloc, &Batch::new(Vec::new(alloc)))?;
     let started = world.step(alloc, 1, 0, &Request::Start)?;
-    let Reply::Started {
-        number,
-        alias,
-        goal,
-    } = started
-    else {
-        return Err("nothing is started".into());
-    };
-    assert_eq!(rt; number, 1);
-    assert!(rt; matches!(alias, Some(name) if name.as_str() == "main"));
-    assert!(rt; goal.is_none());
+    match &started {
+        Reply::Started {
+            number,
+            alias: Some(alias),
+            goal: None,
+        } => {
+            assert_eq!(rt; *number, 1);
+            assert_eq!(rt; alias.as_str(), "main");
+        }
+        _ => return Err("nothing is started as main".into()),
+    }
     Ok(())
 }
 
