@@ -1,5 +1,5 @@
 #!/bin/sh
-# How long it takes to read program texts of 1, 4 and 16 MiB: a row for each kind of text, a column for each size, in
+# How long it takes to read program texts of 1, 4 and 16 MB: a row for each kind of text, a column for each size, in
 # milliseconds. Where reading takes time in proportion to the text, each column is some four times the one before it.
 #
 #     bench/reading.sh
@@ -50,7 +50,7 @@ text() {
 }
 
 "$here/prolog" check /dev/null > /dev/null
-printf '%-10s %8s %8s %8s   ms\n' text '1 MiB' '4 MiB' '16 MiB'
+printf '%-10s %8s %8s %8s   ms\n' text '1 MB' '4 MB' '16 MB'
 for kind in facts quoted operators deep list comment; do
     printf '%-10s' "$kind"
     for bytes in 1000000 4000000 16000000; do
