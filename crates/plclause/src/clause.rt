@@ -51,9 +51,8 @@ impl Clause {
         requires goal { converted goal.now ≡ Some goal.now }
         ensures { IfOk result (λ c. c ≡ clause_from head.now goal.now) }
     {
-        let mut seen = Numbers::new(alloc);
-        let head = head.numbered(alloc, &mut seen)?;
-        let body = goal.numbered(alloc, &mut seen)?;
+        let (head, seen) = head.numbered(alloc, Numbers::new(alloc))?;
+        let (body, seen) = goal.numbered(alloc, seen)?;
         let variables = seen.count();
         let parts = Arc::new(
             alloc,

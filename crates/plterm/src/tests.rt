@@ -53,7 +53,7 @@ fn copies_and_variables(rt: HostRuntime) -> Result<(), Fail> {
     let mut seen = Numbers::new(alloc);
     let place = seen.place_of(3)?;
     assert_eq!(rt; place, 0);
-    let numbered = triple(alloc, 7, 3)?.root().numbered(alloc, &mut seen)?;
+    let (numbered, seen) = triple(alloc, 7, 3)?.root().numbered(alloc, seen)?;
     assert!(rt; numbered.is_same(&triple(alloc, 1, 0)?));
     assert_eq!(rt; seen.count(), 2);
     let order = seen.into_order();

@@ -17,8 +17,8 @@ module _ (c : In_ok-parts) where
   parts : record { head = (arc_value c.in_ok-parts.parts).head; body = (arc_value c.in_ok-parts.parts).body; variables = (arc_value c.in_ok-parts.parts).variables } ≡ clause_from c.args.head.now c.args.goal.now
   parts =
       ap part c.in_ok-parts.ensures.ok
-      ∙ clause_parts_is c.args.head.now c.args.goal.now c.in_ok-head.head c.in_ok-body.body c.numbered.new.seen c.numbered-2.new.seen c.count-variables.result
-      (c.in_ok-head.ensures.seen ∙ ap (λ vs. seen_after vs (spelling c.args.head.now)) c.new-seen.ensures) c.in_ok-body.ensures.seen c.in_ok-head.ensures.tree c.in_ok-body.ensures.tree c.count-variables.ensures
+      ∙ clause_parts_is c.args.head.now c.args.goal.now c.in_ok-head.head c.in_ok-body.body c.in_ok-head.seen c.in_ok-body.seen c.count-variables.result
+      (c.in_ok-head.ensures.seen ∙ ap (λ vs. seen_after vs (spelling c.args.head.now)) c.new.ensures) c.in_ok-body.ensures.seen c.in_ok-head.ensures.tree c.in_ok-body.ensures.tree c.count-variables.ensures
 
 pub invariant_of-result : goal.invariant_of-result
 invariant_of-result c = rw (parts c) (clause_is_sound c.args.head.now c.args.goal.now c.requires.callable c.requires.goal)

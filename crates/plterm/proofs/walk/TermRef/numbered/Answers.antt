@@ -6,7 +6,7 @@ use Rattle.plterm.proofs.walk.TermRef.numbered.Goals as goal
 use Rattle.plterm.proofs.walk.TermRef.numbered.Goals.{In_default}
 
 whole : (c : In_default) → IsWhole c.terms.nodes.items (renamed (λ v. place v c.terms.seen) c.args.self.now)
-whole c = numbering_all _ _ c.args.seen.now _ c.terms.terms c.in_default.ensures.0 c.terms.invariant.nodes c.terms.invariant.seen c.terms.invariant.fits
+whole c = numbering_all _ _ c.args.seen _ c.terms.terms c.in_default.ensures.0 c.terms.invariant.nodes c.terms.invariant.seen c.terms.invariant.fits
 
 pub terms-preserved : goal.terms-preserved
 terms-preserved c =
