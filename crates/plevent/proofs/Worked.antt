@@ -129,3 +129,32 @@ not_over = refl
 pub over : is_over (reading ended).standing ≡ true
 unfolding reading
 over = refl
+
+-- a thread ends the run, and from then on all are stopped
+abbrev halted : List Entry
+halted = started ++ record { worker = 1; thread = 1; act = Act.Halt 44 } ∷ []
+
+pub halt_adds : started ++ adds started 1 1 (Request.HaltRun 44) ≡ halted
+unfolding served reading
+halt_adds = refl
+
+pub halt_is_told : reply_to started 1 (Request.HaltRun 44) ≡ Reply.Done
+unfolding served reading
+halt_is_told = refl
+
+pub halt_ends : is_over (reading halted).standing ≡ true
+unfolding reading
+halt_ends = refl
+
+pub stopped : served Request.Start 0 (reading halted) ≡ (Reply.Stopped, None)
+unfolding served reading
+stopped = refl
+
+pub end_stopped : served (Request.Finish ThreadEnd.True) 1 (reading halted) ≡ (Reply.Stopped, None)
+unfolding served reading
+end_stopped = refl
+
+-- an end of the run is no end that is told
+pub halt_is_asked : served (Request.Finish (ThreadEnd.Halt 44)) 1 (reading started) ≡ (Reply.NotYet (Request.Finish (ThreadEnd.Halt 44)), None)
+unfolding served reading
+halt_is_asked = refl

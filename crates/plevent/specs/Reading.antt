@@ -29,16 +29,26 @@ abbrev pub threads_after : ℕ → ℕ → Act → List Thread → List Thread
 threads_after w t Act.Start ts = changed_first (is_thread t) (λ x. record x { worker = Some w }) ts
 threads_after w t (Act.Batch us) ts = ts
 threads_after w t (Act.End e) ts = changed_first (is_thread t) (λ x. record x { ended = Some e }) ts
+threads_after w t (Act.Halt n) ts = ts
+
+-- the number with which the run was ended, after an act; the first one counts
+abbrev pub halted_after : Act → Option ℕ → Option ℕ
+halted_after Act.Start n = n
+halted_after (Act.Batch us) n = n
+halted_after (Act.End e) n = n
+halted_after (Act.Halt m) None = Some m
+halted_after (Act.Halt m) (Some n) = Some n
 
 -- an entry without a batch counts as one with an empty batch
 abbrev pub updates_of : Act → List Update
 updates_of Act.Start = []
 updates_of (Act.Batch us) = us
 updates_of (Act.End e) = []
+updates_of (Act.Halt n) = []
 
 -- what stands after one more entry
 abbrev pub stand : Standing → Entry → Standing
-stand r e = record { size = suc r.size; threads = threads_after e.worker e.thread e.act r.threads }
+stand r e = record { size = suc r.size; threads = threads_after e.worker e.thread e.act r.threads; halted = halted_after e.act r.halted }
 
 abbrev pub read : Reading → Entry → Reading
 read r e = record { updates = r.updates ++ stamped r.standing.size 0 (updates_of e.act); standing = stand r.standing e }
@@ -49,7 +59,7 @@ main = 109 ∷ 97 ∷ 105 ∷ 110 ∷ []
 
 -- before any entry: main is created, and not started
 abbrev pub blank : Reading
-blank = record { updates = []; standing = record { size = 0; threads = new_thread 1 (Some main) ∷ [] } }
+blank = record { updates = []; standing = record { size = 0; threads = new_thread 1 (Some main) ∷ []; halted = None } }
 
 unfoldable pub reading : List Entry → Reading
 reading entries = fold read blank entries

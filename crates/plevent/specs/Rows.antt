@@ -20,8 +20,13 @@ Row = Reply × Option (ℕ × Act)
 abbrev pub is_settled : Thread → Bool
 is_settled t = is_some t.worker && is_some t.ended
 
+-- a thread has ended the run
+abbrev pub is_halted : Standing → Bool
+is_halted r = is_some r.halted
+
+-- a thread has ended the run, or each was started and has ended
 abbrev pub is_over : Standing → Bool
-is_over r = not (list_any (λ t. not (is_settled t)) r.threads)
+is_over r = is_halted r || not (list_any (λ t. not (is_settled t)) r.threads)
 
 abbrev pub is_new : Thread → Bool
 is_new t = not (is_some t.worker)
@@ -35,20 +40,34 @@ abbrev pub start_row : Standing → Option Thread → Row
 start_row r None = (add_if (is_over r) Reply.RunOver (Reply.NotYet Request.Start), None)
 start_row r (Some x) = (Reply.Started x.number x.alias x.goal, Some (x.number, Act.Start))
 
+-- an end is told; one that ends the run is asked for by HaltRun alone
+abbrev pub finish_row : ThreadEnd → ℕ → Row
+finish_row ThreadEnd.True t = (Reply.Done, Some (t, Act.End ThreadEnd.True))
+finish_row ThreadEnd.False t = (Reply.Done, Some (t, Act.End ThreadEnd.False))
+finish_row (ThreadEnd.Exception b) t = (Reply.Done, Some (t, Act.End (ThreadEnd.Exception b)))
+finish_row ThreadEnd.Budget t = (Reply.Done, Some (t, Act.End ThreadEnd.Budget))
+finish_row (ThreadEnd.Halt n) t = (Reply.NotYet (Request.Finish (ThreadEnd.Halt n)), None)
+
 abbrev pub row : Request → ℕ → Standing → Row
 row Request.Start t r = start_row r (find is_new r.threads)
 row (Request.Publish us) t r = (Reply.Published, Some (t, Act.Batch us))
-row (Request.Finish e) t r = (Reply.Done, Some (t, Act.End e))
+row (Request.Finish e) t r = finish_row e t
+row (Request.HaltRun n) t r = (Reply.Done, Some (t, Act.Halt n))
 
 -- a worker asks it, and no thread
 abbrev pub is_workers : Request → Bool
 is_workers Request.Start = true
 is_workers (Request.Publish us) = false
 is_workers (Request.Finish e) = false
+is_workers (Request.HaltRun n) = false
 
 -- a thread that is not started, or has ended, waits
+abbrev pub served_while : Request → ℕ → Standing → Row
+served_while q t r = add_if (is_workers q || runs t r) (row q t r) (Reply.NotYet q, None)
+
+-- where a thread has ended the run, all stop
 abbrev pub served_in : Request → ℕ → Standing → Row
-served_in q t r = add_if (is_workers q || runs t r) (row q t r) (Reply.NotYet q, None)
+served_in q t r = add_if (is_halted r) (Reply.Stopped, None) (served_while q t r)
 
 unfoldable pub served : Request → ℕ → Reading → Row
 served q t r = served_in q t r.standing

@@ -31,8 +31,15 @@ pub record Ending : Type 0 where
 abbrev pub Search : Type 0
 Search = ℕ → List Answer → Ending
 
--- an end asks to be told
+-- an end asks to be told, unless it is that of the run, which was asked for
+abbrev pub item_of_end : ThreadEnd → Option Item
+item_of_end ThreadEnd.True = Some (Ask (Request.Finish ThreadEnd.True))
+item_of_end ThreadEnd.False = Some (Ask (Request.Finish ThreadEnd.False))
+item_of_end (ThreadEnd.Exception b) = Some (Ask (Request.Finish (ThreadEnd.Exception b)))
+item_of_end ThreadEnd.Budget = Some (Ask (Request.Finish ThreadEnd.Budget))
+item_of_end (ThreadEnd.Halt n) = None
+
 abbrev pub item_of : Next → Option Item
 item_of (Wants q) = Some q
-item_of (Finishes e) = Some (Ask (Request.Finish e))
+item_of (Finishes e) = item_of_end e
 item_of Ceases = None

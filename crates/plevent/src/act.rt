@@ -14,6 +14,8 @@ pub enum Act {
     Batch(Batch),
     /// The thread ends.
     End(ThreadEnd),
+    /// The thread ends the run, with this number as its status.
+    Halt(u8),
 }
 
 /// One entry of the journal. Its place in the journal, from 0, is its time.
@@ -41,6 +43,7 @@ impl Act {
                 let copy = end.copied(alloc)?;
                 return Ok(Act::End(copy));
             }
+            Act::Halt(number) => return Ok(Act::Halt(*number)),
         }
     }
 }

@@ -17,6 +17,8 @@ pub enum ThreadEnd {
     Exception(Term),
     /// It took all of its steps.
     Budget,
+    /// It ended the run, with this number as its status.
+    Halt(u8),
 }
 
 impl ThreadEnd {
@@ -28,6 +30,7 @@ impl ThreadEnd {
             ThreadEnd::True => return Ok(ThreadEnd::True),
             ThreadEnd::False => return Ok(ThreadEnd::False),
             ThreadEnd::Budget => return Ok(ThreadEnd::Budget),
+            ThreadEnd::Halt(number) => return Ok(ThreadEnd::Halt(*number)),
             ThreadEnd::Exception(ball) => {
                 let copy = ball.copied(alloc)?;
                 return Ok(ThreadEnd::Exception(copy));
@@ -43,8 +46,10 @@ pub enum Request {
     Start,
     /// A thread publishes its updates as one batch.
     Publish(Batch),
-    /// A thread has ended.
+    /// A thread has ended, and not by ending the run.
     Finish(ThreadEnd),
+    /// A thread ends the run, with this number as its status.
+    HaltRun(u8),
 }
 
 impl Request {
@@ -62,6 +67,7 @@ impl Request {
                 let copy = end.copied(alloc)?;
                 return Ok(Request::Finish(copy));
             }
+            Request::HaltRun(number) => return Ok(Request::HaltRun(*number)),
         }
     }
 }
@@ -77,6 +83,8 @@ pub enum Reply {
     },
     /// Each thread was started, and has ended.
     RunOver,
+    /// A thread has ended the run.
+    Stopped,
     /// Not now: ask this again.
     NotYet(Request),
     /// The batch stands in the journal.

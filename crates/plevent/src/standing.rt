@@ -5,7 +5,7 @@ ghost use Rattle.plevent.specs.declared.update.Update.{Update};
 ghost use Rattle.std.specs.List.{list_any};
 ghost use Rattle.std.specs.Option.{option_copied, is_some};
 ghost use Rattle.plevent.specs.Reading.{changed_first, is_thread, stand, blank};
-ghost use Rattle.plevent.specs.Rows.{is_new, is_settled, is_over, runs};
+ghost use Rattle.plevent.specs.Rows.{is_new, is_settled, is_halted, is_over, runs};
 ghost use Rattle.plevent.specs.First.{NoneFirst, FirstAt};
 
 use crate::request::ThreadEnd;
@@ -53,6 +53,8 @@ pub struct Standing {
     /// How many entries it has.
     pub size: u64,
     pub threads: Threads,
+    /// The number with which a thread has ended the run, if one has: the first one counts.
+    pub halted: Option<u8>,
 }
 
 /// Whether a thread was not started, or has not ended.
@@ -165,7 +167,11 @@ impl Standing {
             ended: None,
         })?;
         let threads = Threads { rows };
-        Ok(Standing { size: 0, threads })
+        Ok(Standing {
+            size: 0,
+            threads,
+            halted: None,
+        })
     }
 
     /// Whether a thread is started and has not ended.
@@ -175,11 +181,18 @@ impl Standing {
         self.threads.runs(number)
     }
 
-    /// Whether each thread was started and has ended.
+    /// Whether a thread has ended the run.
+    pub fn is_halted(&self) -> bool
+        ensures { result ≡ is_halted self.now }
+    {
+        self.halted.is_some()
+    }
+
+    /// Whether the run is over: a thread has ended it, or each was started and has ended.
     pub fn is_over(&self) -> bool
         ensures { result ≡ is_over self.now }
     {
-        self.threads.are_settled()
+        self.is_halted() || self.threads.are_settled()
     }
 
     /// One more entry: a worker has started a thread.
@@ -205,6 +218,17 @@ impl Standing {
         ensures { (w : ℕ) → self.new ≡ stand self.old (record { worker = w; thread = thread; act = Act.End end }) }
     {
         self.threads.end(thread, end);
+        self.size += 1;
+    }
+
+    /// One more entry: a thread has ended the run.
+    pub fn halt(&mut self, number: u8)
+        requires { self.old.size < 2 ^ 63 }
+        ensures { (w t : ℕ) → self.new ≡ stand self.old (record { worker = w; thread = t; act = Act.Halt number }) }
+    {
+        if self.halted.is_none() {
+            self.halted = Some(number);
+        }
         self.size += 1;
     }
 }
