@@ -1,8 +1,8 @@
 //! The rows of the table of requests: each computes its reply and its act, and changes nothing.
 ghost use Rattle.std.specs.Prelude.{◌≡◌, IfOk, find};
-ghost use Rattle.plevent.specs.Rows.{is_new, is_workers, start_row, row, served_in};
+ghost use Rattle.plevent.specs.Rows.{is_new, is_workers, start_row, finish_row, row, served_while, served_in};
 
-use plevent::{Act, Reply, Request, Standing, Thread};
+use plevent::{Act, Reply, Request, Standing, Thread, ThreadEnd};
 use plterm::name::Name;
 use plterm::term::Term;
 use std::alloc::{AllocError, Global};
@@ -10,7 +10,7 @@ use std::alloc::{AllocError, Global};
 /// A reply, and the act, if any, with the thread that its entry names.
 pub type Row = (Reply, Option<(u32, Act)>);
 
-/// The row of a request of a thread: a thread that is not started, or has ended, is told to wait.
+/// The row of a request of a thread: where a thread has ended the run, all stop.
 pub fn serve(
     standing: &Standing,
     alloc: Global,
@@ -18,6 +18,21 @@ pub fn serve(
     request: &Request,
 ) -> Result<Row, AllocError>
     ensures { IfOk result (λ r. r ≡ served_in request.now thread standing.now) }
+{
+    if standing.is_halted() {
+        return Ok((Reply::Stopped, None));
+    }
+    serve_while(standing, alloc, thread, request)
+}
+
+/// The row while no thread has ended the run: a thread that is not started, or has ended, is told to wait.
+fn serve_while(
+    standing: &Standing,
+    alloc: Global,
+    thread: u32,
+    request: &Request,
+) -> Result<Row, AllocError>
+    ensures { IfOk result (λ r. r ≡ served_while request.now thread standing.now) }
 {
     if is_of_workers(request) || standing.runs(thread) {
         return row_of(standing, alloc, thread, request);
@@ -32,7 +47,7 @@ fn is_of_workers(request: &Request) -> bool
 {
     match request {
         Request::Start => true,
-        Request::Publish(_) | Request::Finish(_) => false,
+        Request::Publish(_) | Request::Finish(_) | Request::HaltRun(_) => false,
     }
 }
 
@@ -50,8 +65,21 @@ fn row_of(
             let copy = batch.copied(alloc)?;
             return Ok((Reply::Published, Some((thread, Act::Batch(copy)))));
         }
-        Request::Finish(end) => {
-            let copy = end.copied(alloc)?;
+        Request::Finish(end) => return finish_of(end, alloc, thread),
+        Request::HaltRun(number) => {
+            return Ok((Reply::Done, Some((thread, Act::Halt(*number)))));
+        }
+    }
+}
+
+/// The row of an end: one that ends the run is asked for by `HaltRun` alone.
+fn finish_of(end: &ThreadEnd, alloc: Global, thread: u32) -> Result<Row, AllocError>
+    ensures { IfOk result (λ r. r ≡ finish_row end.now thread) }
+{
+    let copy = end.copied(alloc)?;
+    match end {
+        ThreadEnd::Halt(_) => return Ok((Reply::NotYet(Request::Finish(copy)), None)),
+        ThreadEnd::True | ThreadEnd::False | ThreadEnd::Exception(_) | ThreadEnd::Budget => {
             return Ok((Reply::Done, Some((thread, Act::End(copy)))));
         }
     }

@@ -86,3 +86,25 @@ fn a_whole_run(rt: HostRuntime) -> Result<(), Fail> {
     }
     Ok(())
 }
+
+// A thread ends the run with 44: one entry more, and from then on all are stopped, and nothing is added.
+#[test]
+fn a_halt_stops_all(rt: HostRuntime) -> Result<(), Fail> {
+    let alloc = rt.alloc();
+    let mut world = begun(alloc)?;
+    let halt = Request::HaltRun(44);
+    assert!(rt; matches!(world.step(alloc, 1, 1, &halt)?, Reply::Done));
+    assert!(rt; world.is_over());
+    let start = world.step(alloc, 2, 0, &Request::Start)?;
+    assert!(rt; matches!(start, Reply::Stopped));
+    let finish = Request::Finish(ThreadEnd::True);
+    assert!(rt; matches!(world.step(alloc, 1, 1, &finish)?, Reply::Stopped));
+    match world.close().as_slice() {
+        [_, _, _, last] => {
+            assert_eq!(rt; (last.worker, last.thread), (1, 1));
+            assert!(rt; matches!(&last.act, Act::Halt(44)));
+        }
+        _ => return Err("another journal".into()),
+    }
+    Ok(())
+}

@@ -80,7 +80,7 @@ impl World {
         self.journal.len() as u64
     }
 
-    /// Whether each thread was started and has ended.
+    /// Whether the run is over: a thread has ended it, or each was started and has ended.
     pub fn is_over(&self) -> bool
         ensures { result ≡ is_over (reading self.now.journal).standing }
     {
@@ -163,6 +163,10 @@ fn change(
         Act::End(end) => {
             let end = end.copied(alloc)?;
             standing.end(thread, end);
+            return Ok(());
+        }
+        Act::Halt(number) => {
+            standing.halt(*number);
             return Ok(());
         }
     }

@@ -5,3 +5,6 @@ returns-in-Batch-clause-standing c = rw c.in-Batch.is (c.publish.ensures c.args.
 
 pub returns-in-End-clause-standing : goal.returns-in-End-clause-standing
 returns-in-End-clause-standing c = rw (c.in-End.is, ← c.in_ok-end-in-End.ensures) (c.end.ensures c.args.worker)
+
+pub returns-in-Halt-clause-standing : goal.returns-in-Halt-clause-standing
+returns-in-Halt-clause-standing c = rw c.in-Halt.is (c.halt.ensures c.args.worker c.args.thread)
