@@ -5,9 +5,9 @@ use Rattle.plevent.specs.declared.act.Act.{Act}
 use Rattle.plevent.specs.declared.act.Entry.{Entry}
 use Rattle.plevent.specs.declared.standing.Thread.{Thread}
 use Rattle.plevent.specs.Alive.{add_if}
-use Rattle.plevent.specs.Reading.{Reading, reading, read, blank, threads_after}
+use Rattle.plevent.specs.Reading.{Reading, reading, read, blank, threads_after, halted_after}
 use Rattle.plhist.specs.declared.status.Status.{Status}
-use Rattle.plhist.specs.Status.{end_of, status_of_end, status_of, status_after}
+use Rattle.plhist.specs.Status.{end_of, status_of_end, status_of_main, status_after}
 use Rattle.plhist.proofs.Alone.{main-alone}
 
 pub after-append : (r : Reading) (xs ys : List Entry) → fold read r (xs ++ ys) ≡ fold read (fold read r xs) ys
@@ -51,6 +51,11 @@ status_row ts w t (Act.Batch us) m alone is = sym (quiet (nat_eq t 1) (status_of
     quiet : (b : Bool) (s : Status) → status_after b (Act.Batch us) s ≡ s
     quiet true s = refl
     quiet false s = refl
+status_row ts w t (Act.Halt n) m alone is = sym (quiet (nat_eq t 1) (status_of_end (end_of 1 ts)))
+  where
+    quiet : (b : Bool) (s : Status) → status_after b (Act.Halt n) s ≡ s
+    quiet true s = refl
+    quiet false s = refl
 status_row ts w t (Act.End e) m alone is =
     rw alone (end_changed (nat_eq m.number t) m e is ∙ ap (λ b. add_if b (status_of_end (Some e)) (status_of_end (end_of 1 (m ∷ [])))) (same_test m.number t is)
     ∙ sym (loud (nat_eq t 1) (status_of_end (end_of 1 (m ∷ [])))))
@@ -59,9 +64,13 @@ status_row ts w t (Act.End e) m alone is =
     loud true s = refl
     loud false s = refl
 
--- one more entry, and the status
-pub status-push : (h : List Entry) (e : Entry) → status_of (h ++ e ∷ []) ≡ status_after (nat_eq e.thread 1) e.act (status_of h)
+-- one more entry, and the status of main's end
+pub status-push : (h : List Entry) (e : Entry) → status_of_main (h ++ e ∷ []) ≡ status_after (nat_eq e.thread 1) e.act (status_of_main h)
 status-push h e =
     let m = main-alone h in
     ap (λ r. status_of_end (end_of 1 r.standing.threads)) (reading-push h e)
     ∙ status_row (reading h).standing.threads e.worker e.thread e.act m.row m.threads m.number
+
+-- and the number with which the run was ended
+pub halted-push : (h : List Entry) (e : Entry) → (reading (h ++ e ∷ [])).standing.halted ≡ halted_after e.act (reading h).standing.halted
+halted-push h e = ap (λ r. r.standing.halted) (reading-push h e)

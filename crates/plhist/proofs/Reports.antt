@@ -1,9 +1,10 @@
 -- A worked report, and the status of the run.
-use Rattle.std.proofs.Common.{◌≡◌, ℕ, List, [], ◌∷◌, refl, codes, lit<}
+use Rattle.std.proofs.Common.{◌≡◌, ℕ, List, [], ◌∷◌, refl, codes, lit<, map}
 use Rattle.std.proofs.lemmas.Fmt.{decimal_digit}
 use Rattle.plterm.specs.Tree.{atom}
 use Rattle.plevent.specs.declared.request.ThreadEnd.{ThreadEnd}
 use Rattle.plevent.specs.declared.act.Act.{Act}
+use Rattle.plevent.specs.declared.act.Entry.{Entry}
 use Rattle.plevent.specs.Reading.{reading}
 use Rattle.plhist.specs.declared.history.RunEnd.{RunEnd}
 use Rattle.plhist.specs.declared.history.History.{History}
@@ -34,3 +35,15 @@ spent = refl
 raised : status_of (ended (ThreadEnd.Exception (atom (codes "x"))) []).journal ≡ Status.Raised
 unfolding reading
 raised = refl
+
+-- the number of the first halt counts, and main's end does not
+abbrev halted : List Act → List Entry
+halted later = opening [] ∷ record { worker = 1; thread = 1; act = Act.Start } ∷ record { worker = 1; thread = 1; act = Act.Halt 44 } ∷ map (λ a. record { worker = 1; thread = 1; act = a }) later
+
+halts : status_of (halted []) ≡ Status.Halted 44
+unfolding reading
+halts = refl
+
+halts_first : status_of (halted (Act.Halt 7 ∷ Act.End ThreadEnd.False ∷ [])) ≡ Status.Halted 44
+unfolding reading
+halts_first = refl

@@ -9,7 +9,7 @@ use Rattle.plevent.specs.declared.act.Act.{Act}
 use Rattle.plevent.specs.declared.act.Entry.{Entry}
 use Rattle.plevent.specs.Reading.{reading}
 use Rattle.plevent.specs.Rows.{served, is_workers, is_over}
-use Rattle.plevent.specs.Search.{View, Ask, Seen, Got, Wants, Finishes, Search}
+use Rattle.plevent.specs.Search.{View, Ask, Answer, Seen, Got, Next, Wants, Finishes, Search}
 use Rattle.plhist.specs.declared.history.Run.{Run}
 use Rattle.plhist.specs.declared.history.RunEnd.{RunEnd}
 use Rattle.plhist.specs.Follows.{own, Taken, answer_at, takes, from_start, asks_of, Follows}
@@ -206,6 +206,7 @@ first_start e due = go due.asked due.thread due.made
     go Request.Start t made = sym (ap named made)
     go (Request.Publish us) t made = absurd (none_is_some (e.thread, e.act) (sym (idle (Request.Publish us) t (nat_eq 1 t) refl refl) ∙ made))
     go (Request.Finish x) t made = absurd (none_is_some (e.thread, e.act) (sym (idle (Request.Finish x) t (nat_eq 1 t) refl refl) ∙ made))
+    go (Request.HaltRun n) t made = absurd (none_is_some (e.thread, e.act) (sym (idle (Request.HaltRun n) t (nat_eq 1 t) refl refl) ∙ made))
 
 -- a start that names another thread is not legal
 starts_seven : Legal [] (opening [] ∷ record { worker = 1; thread = 7; act = Act.Start } ∷ []) → ⊥
@@ -224,6 +225,8 @@ ended (Request.Publish us) t true is = rw is refl
 ended (Request.Publish us) t false is = rw is refl
 ended (Request.Finish e) t true is = rw is refl
 ended (Request.Finish e) t false is = rw is refl
+ended (Request.HaltRun n) t true is = rw is refl
+ended (Request.HaltRun n) t false is = rw is refl
 
 -- so a batch behind it is not legal
 extra_batch : (us : List Update) → Legal [] (opening [] ∷ start ∷ end ∷ batch us ∷ []) → ⊥
@@ -238,3 +241,95 @@ extra_batch us legal =
 goes_on : is_over (reading (opening [] ∷ start ∷ batch erases ∷ [])).standing ≡ false
 unfolding reading
 goes_on = refl
+
+-- a search that ends the run with 44
+abbrev halting : Search
+halting n [] = record { next = Wants (Ask (Request.HaltRun 44)); used = 2; out = 49 ∷ [] }
+halting n (a ∷ more) = record { next = Finishes (ThreadEnd.Halt 44); used = 2; out = 49 ∷ [] }
+
+abbrev halt : ℕ → Entry
+halt n = record { worker = 1; thread = 1; act = Act.Halt n }
+
+abbrev halted : ℕ → List Entry
+halted n = opening [] ∷ start ∷ halt n ∷ []
+
+abbrev halted_run : ℕ → List ℕ → Run
+halted_run n places = record { thread = 1; places = places; steps = 2; «end» = RunEnd.Ended (ThreadEnd.Halt n); output = 49 ∷ [] }
+
+halt_follows : Follows halting 10 (halted 44) (halted_run 44 (2 ∷ []))
+unfolding takes answer_at served reading own
+halt_follows = record {
+  asked = [];
+  halt = 2;
+  places = refl;
+  start = 1;
+  before = from_start 1;
+  items = refl;
+  asks = refl;
+  last = record { answers = Got Reply.Done ∷ []; low = 3; made = (2, Act.Halt 44) ∷ [] };
+  halted = refl;
+  told = refl;
+  ends = refl;
+  entries = refl;
+}
+
+halt_legal : Legal [] (halted 44)
+unfolding served reading
+halt_legal = record {
+  later = start ∷ halt 44 ∷ [];
+  opens = refl;
+  due = (
+    record { asked = Request.Start; thread = 0; may = (omega arith, omega arith); made = refl },
+    (record { asked = Request.HaltRun 44; thread = 1; may = refl; made = refl }, tt),
+  );
+}
+
+halt_over : Over (halted 44)
+unfolding reading
+halt_over = refl
+
+-- behind a halt no request has an act, so that no entry is legal there
+stopped : (n : ℕ) (q : Request) (t : ℕ) → (served q t (reading (halted n))).1 ≡ None
+unfolding served reading
+stopped n q t = refl
+
+behind_halt : (n : ℕ) (e : Entry) → Legal [] (opening [] ∷ start ∷ halt n ∷ e ∷ []) → ⊥
+unfolding tail_of reading
+behind_halt n e legal =
+    let later : legal.later ≡ start ∷ halt n ∷ e ∷ [] = sym (ap tail_of legal.opens) in
+    let all : AllDue (reading (opening [] ∷ [])) (start ∷ halt n ∷ e ∷ []) = subst (AllDue (reading (opening [] ∷ []))) later legal.due in
+    let due : IsDue (reading (halted n)) e = all.1.1.0 in
+    none_is_some (e.thread, e.act) (sym (stopped n due.asked due.thread) ∙ due.made)
+
+-- the number of a request that ends the run
+number_asked : Next → ℕ
+number_asked (Wants (Ask (Request.HaltRun n))) = n
+number_asked next = 0
+
+-- a run that tells of another number than it asked
+told_otherwise : (h : List Entry) (places : List ℕ) → Follows halting 10 h (halted_run 45 places) → ⊥
+unfolding number_asked
+told_otherwise h places f = go f.before.answers f.asks
+  where
+    go : (answers : List Answer) → asks_of halting 10 answers ≡ Wants (Ask (Request.HaltRun 45)) → ⊥
+    go [] is = let same : 44 ≡ 45 = ap number_asked is in absurd (omega (arith, same))
+    go (a ∷ more) is = let same : 0 ≡ 45 = ap number_asked is in absurd (omega (arith, same))
+
+-- a journal that notes another number than was asked
+number_noted : Act → ℕ
+number_noted (Act.Halt n) = n
+number_noted a = 0
+
+noted_otherwise : Follows halting 10 (halted 45) (halted_run 44 (2 ∷ [])) → ⊥
+unfolding takes answer_at served reading own first_place behind_first first_act number_noted
+noted_otherwise f =
+    let h = halted 45 in
+    let split = all_but_last-push f.asked f.halt in
+    let asked : [] ≡ f.asked = ap all_but_last f.places ∙ split.0 in
+    let place : 2 ≡ f.halt = ap last_of f.places ∙ split.1 in
+    let before : from_start 1 ≡ f.before =
+    one _ _ (ap (λ gs. takes (asks_of halting 10) h 1 gs (from_start 1)) asked ∙ ap (λ k. takes (asks_of halting 10) h 1 f.asked (from_start k)) (ap first_place f.entries) ∙ f.items) in
+    let last : record { answers = Got Reply.Done ∷ []; low = 3; made = (2, Act.Halt 44) ∷ [] } ≡ f.last =
+    one _ _ (ap (λ g. answer_at h 1 (Ask (Request.HaltRun 44)) g (from_start 1)) place ∙ ap (answer_at h 1 (Ask (Request.HaltRun 44)) f.halt) before ∙ f.halted) in
+    let same : 44 ≡ 45 = ap (λ l. number_noted (first_act l)) (ap (λ s. s.made) last ∙ sym (ap behind_first f.entries)) in
+    absurd (omega (arith, same))

@@ -8,7 +8,7 @@ use Rattle.plevent.specs.declared.act.Act.{Act}
 use Rattle.plevent.specs.declared.act.Entry.{Entry}
 use Rattle.plevent.specs.Reading.{reading}
 use Rattle.plevent.specs.Rows.{Row, served}
-use Rattle.plevent.specs.Search.{Item, View, Ask, Answer, Seen, Got, Next, Finishes, Search, item_of}
+use Rattle.plevent.specs.Search.{Item, View, Ask, Answer, Seen, Got, Next, Wants, Finishes, Search, item_of}
 use Rattle.plhist.specs.declared.history.Run.{Run}
 use Rattle.plhist.specs.declared.history.RunEnd.{RunEnd}
 
@@ -38,6 +38,7 @@ pub record Taken : Type 0 where
 abbrev pub is_not_yet : Reply → Bool
 is_not_yet (Reply.Started n a g) = false
 is_not_yet Reply.RunOver = false
+is_not_yet Reply.Stopped = false
 is_not_yet (Reply.NotYet q) = true
 is_not_yet Reply.Published = false
 is_not_yet Reply.Done = false
@@ -100,8 +101,30 @@ pub record HasEnded (search : Search) (limit : ℕ) (h : List Entry) (run : Run)
   -- the start, and then what the items make, are all the entries of the thread
   pub entries : own run.thread h ≡ (start, Act.Start) ∷ last.made
 
+-- the thread ended the whole run with number n: HaltRun, the last item, was answered Done
+pub record HasHalted (search : Search) (limit : ℕ) (h : List Entry) (run : Run) (n : ℕ) : Type 0 where
+  -- the places of the items before, and that of HaltRun
+  pub asked : List ℕ
+  pub halt : ℕ
+  pub places : run.places ≡ asked ++ halt ∷ []
+  pub start : ℕ
+  pub before : Taken
+  pub items : takes (asks_of search limit) h run.thread asked (from_start start) ≡ Some before
+  pub asks : asks_of search limit before.answers ≡ Wants (Ask (Request.HaltRun n))
+  pub last : Taken
+  pub halted : answer_at h run.thread (Ask (Request.HaltRun n)) halt before ≡ Some last
+  pub told : last.answers ≡ before.answers ++ Got Reply.Done ∷ []
+  pub ends : search limit last.answers ≡ record { next = Finishes (ThreadEnd.Halt n); used = run.steps; out = run.output }
+  -- the start, and then what the items make, are all the entries of the thread
+  pub entries : own run.thread h ≡ (start, Act.Start) ∷ last.made
+
+-- an end that is told is an item of its own; one that ended the whole run was the last item
 abbrev pub FollowsAs : Search → ℕ → List Entry → Run → RunEnd → Type 0
-FollowsAs search limit h run (RunEnd.Ended e) = HasEnded search limit h run e
+FollowsAs search limit h run (RunEnd.Ended ThreadEnd.True) = HasEnded search limit h run ThreadEnd.True
+FollowsAs search limit h run (RunEnd.Ended ThreadEnd.False) = HasEnded search limit h run ThreadEnd.False
+FollowsAs search limit h run (RunEnd.Ended (ThreadEnd.Exception ball)) = HasEnded search limit h run (ThreadEnd.Exception ball)
+FollowsAs search limit h run (RunEnd.Ended ThreadEnd.Budget) = HasEnded search limit h run ThreadEnd.Budget
+FollowsAs search limit h run (RunEnd.Ended (ThreadEnd.Halt n)) = HasHalted search limit h run n
 
 -- a run follows a search with this limit of steps
 abbrev pub Follows : Search → ℕ → List Entry → Run → Type 0

@@ -19,6 +19,7 @@ abbrev pub MayAsk : Standing → ℕ → ℕ → Request → Type 0
 MayAsk r w t Request.Start = (1 ≤ w) × (w ≤ 16)
 MayAsk r w t (Request.Publish us) = worker_of t r.threads ≡ Some w
 MayAsk r w t (Request.Finish e) = worker_of t r.threads ≡ Some w
+MayAsk r w t (Request.HaltRun n) = worker_of t r.threads ≡ Some w
 
 -- an entry is the act of a request that may be asked
 pub record IsDue (r : Reading) (e : Entry) : Type 0 where
@@ -40,6 +41,6 @@ pub record Legal (first : List Update) (h : List Entry) : Type 0 where
   pub opens : h ≡ opening first ∷ later
   pub due : AllDue (reading (opening first ∷ [])) later
 
--- each thread was started, and has ended
+-- a thread has ended the run, or each was started and has ended
 abbrev pub Over : List Entry → Type 0
 Over h = IsTrue (is_over (reading h).standing)

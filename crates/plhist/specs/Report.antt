@@ -26,6 +26,7 @@ end_text ops ThreadEnd.True = codes "true"
 end_text ops ThreadEnd.False = codes "false"
 end_text ops (ThreadEnd.Exception ball) = codes "exception(" ++ written ops Quoted ball ++ codes ")"
 end_text ops ThreadEnd.Budget = codes "budget"
+end_text ops (ThreadEnd.Halt n) = codes "halt(" ++ decimal n ++ codes ")"
 
 abbrev pub run_end_text : List operators.Entry → RunEnd → List ℕ
 run_end_text ops (RunEnd.Ended e) = end_text ops e

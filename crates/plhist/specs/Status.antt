@@ -13,6 +13,7 @@ number_of Status.Done = 0
 number_of Status.Failed = 1
 number_of Status.Raised = 2
 number_of Status.Spent = 4
+number_of (Status.Halted n) = n
 number_of Status.Usage = 64
 number_of (Status.Refused line column kind) = 65
 number_of Status.ReadFault = 66
@@ -26,6 +27,7 @@ line_of Status.Done = None
 line_of Status.Failed = None
 line_of Status.Raised = None
 line_of Status.Spent = None
+line_of (Status.Halted n) = None
 line_of Status.Usage = Some (codes "usage")
 line_of (Status.Refused line column kind) = None
 line_of Status.ReadFault = Some (codes "cannot read")
@@ -54,14 +56,25 @@ status_of_end (Some ThreadEnd.True) = Status.Done
 status_of_end (Some ThreadEnd.False) = Status.Failed
 status_of_end (Some (ThreadEnd.Exception ball)) = Status.Raised
 status_of_end (Some ThreadEnd.Budget) = Status.Spent
+status_of_end (Some (ThreadEnd.Halt n)) = Status.Halted n
 
--- the status of a run: main's end
+-- main's end
+abbrev pub status_of_main : List Entry → Status
+status_of_main h = status_of_end (end_of 1 (reading h).standing.threads)
+
+-- what counts before main's end: that a thread has ended the run
+abbrev pub status_where : Option ℕ → Status → Status
+status_where None s = s
+status_where (Some n) s = Status.Halted n
+
+-- the status of a run: the number with which a thread has ended it, or else main's end
 abbrev pub status_of : List Entry → Status
-status_of h = status_of_end (end_of 1 (reading h).standing.threads)
+status_of h = status_where (reading h).standing.halted (status_of_main h)
 
--- what an entry makes of the status, where the flag says whether it is main's
+-- what an entry makes of the status of main's end, where the flag says whether it is main's
 abbrev pub status_after : Bool → Act → Status → Status
 status_after true (Act.End e) s = status_of_end (Some e)
 status_after true Act.Start s = s
 status_after true (Act.Batch us) s = s
+status_after true (Act.Halt n) s = s
 status_after false a s = s

@@ -37,6 +37,12 @@ fn push_end(
             text.extend_from_slice(b")")
         }
         ThreadEnd::Budget => text.extend_from_slice(b"budget"),
+        ThreadEnd::Halt(number) => {
+            let mut buffer = Buffer::new();
+            text.extend_from_slice(b"halt(")?;
+            text.extend_from_slice(buffer.format(*number).as_bytes())?;
+            text.extend_from_slice(b")")
+        }
     }
 }
 

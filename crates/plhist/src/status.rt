@@ -1,6 +1,7 @@
 //! What a call of the program came to: its number for the system, and its words.
 ghost use Rattle.std.specs.Prelude.{◌≡◌, ◌++◌, ◌∷◌, [], Some, codes, decimal, nat_eq, IfOk, option_copied};
-ghost use Rattle.plhist.specs.Status.{number_of, line_of, kind_text, refusal_text, status_of, status_of_end, status_after};
+ghost use Rattle.plevent.specs.Reading.{reading, halted_after};
+ghost use Rattle.plhist.specs.Status.{number_of, line_of, kind_text, refusal_text, status_of, status_of_main, status_of_end, status_after};
 
 use crate::history::Journal;
 use itoa::Buffer;
@@ -19,6 +20,8 @@ pub enum Status {
     Raised,
     /// Main took all of its steps.
     Spent,
+    /// A thread ended the run, with this number.
+    Halted(u8),
     /// The words are no command.
     Usage,
     /// The program text is refused at this line and column, both from 1.
@@ -47,6 +50,7 @@ impl Status {
             Status::Failed => 1,
             Status::Raised => 2,
             Status::Spent => 4,
+            Status::Halted(number) => *number,
             Status::Usage => 64,
             Status::Refused { .. } => 65,
             Status::ReadFault => 66,
@@ -113,10 +117,11 @@ fn status_of_end(end: &ThreadEnd) -> Status
         ThreadEnd::False => Status::Failed,
         ThreadEnd::Exception(_) => Status::Raised,
         ThreadEnd::Budget => Status::Spent,
+        ThreadEnd::Halt(number) => Status::Halted(*number),
     }
 }
 
-/// What an entry makes of the status.
+/// What an entry makes of the status of main's end.
 fn status_after(entry: &Entry, before: Status) -> Status
     ensures { result ≡ status_after (nat_eq entry.now.thread 1) entry.now.act before }
 {
@@ -129,14 +134,45 @@ fn status_after(entry: &Entry, before: Status) -> Status
     }
 }
 
-/// The status of a run: how main ended.
-pub fn status_of(journal: &Journal) -> Status
-    ensures { result ≡ status_of journal.now }
+/// How main ended.
+fn status_of_main(entries: &[Entry]) -> Status
+    ensures { result ≡ status_of_main entries.now }
 {
-    let entries = journal.as_slice();
     let mut status = Status::Done;
     for entry in entries {
         status = status_after(entry, status);
     }
     status
+}
+
+/// The number with which the run was ended, after an entry.
+fn halted_after(entry: &Entry, before: Option<u8>) -> Option<u8>
+    ensures { result ≡ halted_after entry.now.act before }
+{
+    match &entry.act {
+        Act::Halt(number) => before.or(Some(*number)),
+        _ => before,
+    }
+}
+
+/// The number with which a thread has ended the run, if one has: the first one counts.
+fn halted_in(entries: &[Entry]) -> Option<u8>
+    ensures { result ≡ (reading entries.now).standing.halted }
+{
+    let mut halted = None;
+    for entry in entries {
+        halted = halted_after(entry, halted);
+    }
+    halted
+}
+
+/// The status of a run: the number with which a thread has ended it, or else how main ended.
+pub fn status_of(journal: &Journal) -> Status
+    ensures { result ≡ status_of journal.now }
+{
+    let entries = journal.as_slice();
+    match halted_in(entries) {
+        Some(number) => Status::Halted(number),
+        None => status_of_main(entries),
+    }
 }

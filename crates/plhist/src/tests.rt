@@ -20,9 +20,20 @@ fn end_of(alloc: Global, word: &str) -> Result<ThreadEnd, AllocError> {
     if word == "budget" {
         return Ok(ThreadEnd::Budget);
     }
+    if word == "halt" {
+        return Ok(ThreadEnd::Halt(44));
+    }
     match Term::atom(alloc, Name::new(alloc, word)?) {
         Ok(ball) => Ok(ThreadEnd::Exception(ball)),
         Err(_) => Err(AllocError),
+    }
+}
+
+/// The entry of an end: one that ends the run is no end that is told.
+fn act_of(end: ThreadEnd) -> Act {
+    match end {
+        ThreadEnd::Halt(number) => Act::Halt(number),
+        _ => Act::End(end),
     }
 }
 
@@ -42,7 +53,7 @@ fn history_of(alloc: Global, word: &str, output: &str) -> Result<History, AllocE
     entries.push(Entry {
         worker: 1,
         thread: 1,
-        act: Act::End(end_of(alloc, word)?),
+        act: act_of(end_of(alloc, word)?),
     })?;
     let mut runs = Vec::new(alloc);
     runs.push(Run {
@@ -69,6 +80,7 @@ fn reports(rt: HostRuntime) -> Result<(), Fail> {
         ("x", "", "% thread 1 main: exception(x)\n", 2),
         ("X", "", "% thread 1 main: exception('X')\n", 2),
         ("budget", "ok\n", "% thread 1 main: budget\nok\n", 4),
+        ("halt", "a", "% thread 1 main: halt(44)\na\n", 44),
     ] {
         let history = history_of(rt.alloc(), word, output)?;
         let report = report_text(rt.alloc(), &history, &ops)?;
