@@ -1,7 +1,7 @@
 //! A listing loads as the program that it lists: the law of loading and listing programs (ISO/IEC 13211-1 6.2, 7.4).
 #![tactic(auto)]
 
-ghost use Rattle.std.specs.Prelude.{◌≡◌, ◌≤◌, ◌<◌, ◌^◌, ℕ, List, length};
+ghost use Rattle.std.specs.Prelude.{◌≤◌, ◌<◌, ◌^◌, ℕ, List, length};
 ghost use Rattle.plload.specs.Program.{Program};
 ghost use Rattle.plload.specs.Loading.{Accepts, Loads, levels};
 ghost use Rattle.plload.specs.Listing.{Lists};
