@@ -96,7 +96,7 @@ module _ (P : Program) (further : List Answer) where
   out-grows k h d (Mark l) e e' lt g = passed (out (Visit P) d (Mark l)) e e' (out-still (Mark l) d) g (λ n m. refl)
   out-grows k h d (Handle c) e e' lt g = passed (out (Visit P) d (Handle c)) e e' (out-still (Handle c) d) g (λ n. returned-grows k h d (resume c d e.0 e.1.local) e.1 lt)
 
-  out-left : (d : ℕ) (c : Case) (e : Ended) → left (out (Visit P) d c e).1 ≤ left e.1
+  pub out-left : (d : ℕ) (c : Case) (e : Ended) → left (out (Visit P) d c e).1 ≤ left e.1
   unfolding Same
   out-left d c e = (out-agree (Visit P) (Visit P) (suc (left e.1)) (itself (suc (left e.1))) d c e (omega arith)).1
 

@@ -12,8 +12,6 @@ use Rattle.plevent.specs.declared.request.Reply.TheVariants.{Published, Done}
 use Rattle.plevent.specs.declared.request.Request.TheVariants.{Publish, HaltRun}
 use Rattle.plevent.specs.declared.request.ThreadEnd.TheVariants.{True, False, Exception, Budget, Halt}
 use Rattle.plevent.specs.declared.update.Update.TheVariants.{Last}
-use Rattle.plclause.specs.Clausal.{clausal}
-use Rattle.plclause.specs.Conversion.{converted}
 use Rattle.plread.specs.declared.quotes.Quotes.TheVariants.{Codes}
 use Rattle.plload.specs.declared.settings.Unknown.TheVariants as unknown
 use Rattle.plload.specs.Program.{Program}
