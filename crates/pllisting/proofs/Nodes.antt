@@ -9,6 +9,7 @@ use Rattle.plread.specs.Texts.{dot, nil, curly, list_term}
 use Rattle.plops.specs.Sane.{comma}
 use Rattle.std.proofs.lemmas.Str.{IsUtf8-from_ascii, is_utf8-from_IsUtf8}
 use Rattle.std.proofs.lemmas.Str.Ascii.{IsAscii-cons, IsAscii-nil}
+use Rattle.plreread.proofs.Limits.{fit_parts}
 use Rattle.plreread.proofs.Numbers.{node_numbers}
 
 -- ---- limits
@@ -51,10 +52,6 @@ nil_name = two_bytes 91 93 (omega arith) (omega arith)
 
 pub curly_name : IsName curly
 curly_name = two_bytes 123 125 (omega arith) (omega arith)
-
-fit_parts : (ms ns : List Node) → AllFit (ms ++ ns) → AllFit ms × AllFit ns
-fit_parts [] ns h = (tt, h)
-fit_parts (m ∷ ms) ns h = let p = fit_parts ms ns h.1 in ((h.0, p.0), p.1)
 
 pub fit_list : (items : Trees) (tail : Tree) → AllFit (spellings items) → AllFit (spelling tail) → AllFit (spelling (list_term items tail))
 fit_list none tail h k = k

@@ -1,5 +1,5 @@
 -- A term whose variables stand in order is its own copy.
-use Rattle.std.proofs.Common.{◌≡◌, ◌==◌, ◌≤◌, ◌+◌, max, min, ℕ, cond, eqb, List, [], ◌∷◌, ◌++◌, length, map, length-append, refl, sym, ap, subst, ◌∙◌, arith}
+use Rattle.std.proofs.Common.{◌≡◌, ◌==◌, ◌≤◌, ◌+◌, max, min, ℕ, suc, cond, eqb, List, [], ◌∷◌, ◌++◌, length, map, length-append, refl, sym, ap, subst, ◌∙◌, arith}
 use Rattle.std.proofs.lemmas.Bool.{cond_both, eqb-true, eqb-false}
 use Rattle.std.proofs.lemmas.Bool.Decides.{nat_tests}
 use Rattle.std.proofs.lemmas.List.Folds.{position_or_len_push}
@@ -10,6 +10,7 @@ use Rattle.plterm.specs.Reading.{spelling, tree_of, tree_of-spelling}
 use Rattle.plterm.specs.Variables.{place, added, seen_after, variables, rename, copied}
 use Rattle.plterm.proofs.Spellings.{spelling-renamed, numbering, numbering_is}
 use Rattle.plreread.proofs.Numbers.{InOrder}
+use Rattle.plreread.proofs.Variants.{next_place, rename_zero, same_tree}
 use Rattle.pllisting.proofs.Nodes.{vars}
 
 -- numbers of which each has its own place
@@ -19,15 +20,15 @@ record Counted (seen : List ℕ) : Type 0 where
 none_counted : Counted []
 none_counted = record { places = λ v. omega arith }
 
-next_place : (v m : ℕ) → cond (eqb (min v m) m) (m + cond (eqb m v) 0 1) (min v m) ≡ min v (m + 1)
-next_place v m = grind (arith, nat_tests)
+grown : (seen : List ℕ) → suc (length seen) ≡ length (seen ++ length seen ∷ [])
+grown seen = omega (arith, length-append seen (length seen ∷ []))
 
 one_more : (seen : List ℕ) → Counted seen → Counted (seen ++ length seen ∷ [])
 one_more seen c = record {
   places = λ v.
       position_or_len_push (λ x. x == v) seen (length seen)
       ∙ ap (λ q. cond (eqb q (length seen)) (length seen + cond (eqb (length seen) v) 0 1) q) (c.places v)
-      ∙ next_place v (length seen) ∙ ap (min v) (sym (length-append seen (length seen ∷ [])));
+      ∙ next_place v (length seen) ∙ ap (min v) (grown seen);
 }
 
 record Grown (seen : List ℕ) (v : ℕ) : Type 0 where
@@ -61,19 +62,6 @@ kept top seen (Var v ∷ ns) c h o =
 kept top seen (Int i ∷ ns) c h o = let k = kept top seen ns c h o in record { same = ap (λ l. Int i ∷ l) k.same; few = k.few }
 kept top seen (Atom s ∷ ns) c h o = let k = kept top seen ns c h o in record { same = ap (λ l. Atom s ∷ l) k.same; few = k.few }
 kept top seen (Compound s k ∷ ns) c h o = let r = kept top seen ns c h o in record { same = ap (λ l. Compound s k ∷ l) r.same; few = r.few }
-
-zero_more : (n : ℕ) → 0 + n ≡ n
-zero_more n = omega arith
-
-rename_zero : (f : ℕ → ℕ) (ns : List Node) → map (rename (λ v. 0 + f v)) ns ≡ map (rename f) ns
-rename_zero f [] = refl
-rename_zero f (Var v ∷ ns) = ap (λ w. Var w ∷ map (rename (λ x. 0 + f x)) ns) (zero_more (f v)) ∙ ap (λ l. Var (f v) ∷ l) (rename_zero f ns)
-rename_zero f (Int i ∷ ns) = ap (λ l. Int i ∷ l) (rename_zero f ns)
-rename_zero f (Atom s ∷ ns) = ap (λ l. Atom s ∷ l) (rename_zero f ns)
-rename_zero f (Compound s k ∷ ns) = ap (λ l. Compound s k ∷ l) (rename_zero f ns)
-
-same_tree : (t u : Tree) → spelling t ≡ spelling u → t ≡ u
-same_tree t u e = sym (tree_of-spelling t) ∙ ap tree_of e ∙ tree_of-spelling u
 
 pub record IsNumbered (top : ℕ) (t : Tree) : Type 0 where
   pub copy : copied 0 t ≡ t
