@@ -1,13 +1,12 @@
 -- A term whose variables stand in order is its own copy.
-use Rattle.std.proofs.Common.{◌≡◌, ◌==◌, ◌≤◌, ◌+◌, max, min, ℕ, suc, cond, eqb, List, [], ◌∷◌, ◌++◌, length, map, length-append, refl, sym, ap, subst, ◌∙◌, arith}
+use Rattle.std.proofs.Common.{◌≡◌, ◌==◌, ◌≤◌, ◌+◌, max, min, ℕ, suc, cond, eqb, List, [], ◌∷◌, ◌++◌, length, length-append, refl, sym, ap, subst, ◌∙◌, arith}
 use Rattle.std.proofs.lemmas.Bool.{cond_both, eqb-true, eqb-false}
-use Rattle.std.proofs.lemmas.Bool.Decides.{nat_tests}
 use Rattle.std.proofs.lemmas.List.Folds.{position_or_len_push}
 use Rattle.plterm.specs.declared.node.Node.{Node}
 use Rattle.plterm.specs.declared.node.Node.TheVariants.{Var, Int, Atom, Compound}
 use Rattle.plterm.specs.Tree.{Tree}
-use Rattle.plterm.specs.Reading.{spelling, tree_of, tree_of-spelling}
-use Rattle.plterm.specs.Variables.{place, added, seen_after, variables, rename, copied}
+use Rattle.plterm.specs.Reading.{spelling}
+use Rattle.plterm.specs.Variables.{place, added, seen_after, variables, copied}
 use Rattle.plterm.proofs.Spellings.{spelling-renamed, numbering, numbering_is}
 use Rattle.plreread.proofs.Numbers.{InOrder}
 use Rattle.plreread.proofs.Variants.{next_place, rename_zero, same_tree}
@@ -20,15 +19,15 @@ record Counted (seen : List ℕ) : Type 0 where
 none_counted : Counted []
 none_counted = record { places = λ v. omega arith }
 
-grown : (seen : List ℕ) → suc (length seen) ≡ length (seen ++ length seen ∷ [])
-grown seen = omega (arith, length-append seen (length seen ∷ []))
+longer-by-one : (seen : List ℕ) → suc (length seen) ≡ length (seen ++ length seen ∷ [])
+longer-by-one seen = omega (arith, length-append seen (length seen ∷ []))
 
 one_more : (seen : List ℕ) → Counted seen → Counted (seen ++ length seen ∷ [])
 one_more seen c = record {
   places = λ v.
       position_or_len_push (λ x. x == v) seen (length seen)
       ∙ ap (λ q. cond (eqb q (length seen)) (length seen + cond (eqb (length seen) v) 0 1) q) (c.places v)
-      ∙ next_place v (length seen) ∙ ap (min v) (grown seen);
+      ∙ next_place v (length seen) ∙ ap (min v) (longer-by-one seen);
 }
 
 record Grown (seen : List ℕ) (v : ℕ) : Type 0 where
