@@ -10,7 +10,7 @@ use Rattle.plsearch.specs.Types.{Goal, Look, Case, Choice, Mark as MarkOf, Handl
 use Rattle.plsearch.specs.Table.{resolve}
 use Rattle.plsearch.specs.Engine.{deeper}
 use Rattle.plframe.specs.declared.frame.Item.{Item}
-use Rattle.plframe.specs.declared.frame.Item.TheVariants.{Goal as GoalAt, Commit as CommitTo, Never as NeverTo, Until as UntilTo, Look as LookAt, Await as AwaitFor}
+use Rattle.plframe.specs.declared.frame.Item.TheVariants.{Goal as GoalAt, Commit as CommitTo, Never as NeverTo, Until as UntilTo, Look as LookAt, Await as AwaitFor, Halt as HaltWith}
 use Rattle.plframe.specs.declared.frame.Link.{Link}
 use Rattle.plframe.specs.declared.frame.Alternatives.{Alternatives}
 use Rattle.plframe.specs.declared.frame.Branch.{Branch}
@@ -27,6 +27,7 @@ in_more n m (NeverTo l) le lt = tt
 in_more n m (UntilTo l) le lt = tt
 in_more n m (LookAt c) le lt = le_trans lt le
 in_more n m (AwaitFor c) le lt = tt
+in_more n m (HaltWith k) le lt = tt
 
 pub are_in-more : (n m : ℕ) (xs : List Item) → n ≤ m → AreIn n xs → AreIn m xs
 are_in-more n m [] le a = tt
@@ -40,6 +41,7 @@ element-stays old new n e (NeverTo l) i = refl
 element-stays old new n e (UntilTo l) i = refl
 element-stays old new n e (LookAt c) i = ap Look (e c i)
 element-stays old new n e (AwaitFor c) i = refl
+element-stays old new n e (HaltWith k) i = refl
 
 pub elements-stay : (old new : Store) (n : ℕ) → ((c : ℕ) → c < n → term new c ≡ term old c) → (xs : List Item) → AreIn n xs → map (element new) xs ≡ map (element old) xs
 elements-stay old new n e [] i = refl

@@ -5,7 +5,7 @@ use Rattle.plheap.specs.Store.{Store}
 use Rattle.plsearch.specs.Types.{Element}
 use Rattle.plsearch.specs.Table.{levels}
 use Rattle.plframe.specs.declared.frame.Item.{Item}
-use Rattle.plframe.specs.declared.frame.Item.TheVariants.{Goal as GoalAt, Commit as CommitTo, Never as NeverTo, Until as UntilTo, Look as LookAt, Await as AwaitFor}
+use Rattle.plframe.specs.declared.frame.Item.TheVariants.{Goal as GoalAt, Commit as CommitTo, Never as NeverTo, Until as UntilTo, Look as LookAt, Await as AwaitFor, Halt as HaltWith}
 use Rattle.plframe.specs.declared.frame.Link.{Link}
 use Rattle.plframe.specs.Places.{element, list_at, link_at, goals_at, IsChain}
 use Rattle.plframe.specs.Levels.{levels_of}
@@ -18,6 +18,7 @@ levels-item h (NeverTo l) es = refl
 levels-item h (UntilTo l) es = refl
 levels-item h (LookAt c) es = refl
 levels-item h (AwaitFor c) es = refl
+levels-item h (HaltWith n) es = refl
 
 -- one link further
 module _ (h : Store) (links : List Link) (chain : IsChain links) (i : ℕ) (l : Link) (some : i ≡ 0 → ⊥) (there : i ≤ length links) (at : l ≡ get_or links (i - 1) l) where

@@ -12,10 +12,10 @@ use Rattle.plevent.specs.declared.request.Request.TheVariants.{Publish}
 use Rattle.plevent.specs.declared.update.Update.TheVariants.{Last}
 use Rattle.plheap.specs.Store.{Store, term}
 use Rattle.plheap.specs.Putting.{over, HasVariables}
-use Rattle.plsearch.specs.Types.{Element, Goal, Commit, Never, Until, Look, Await, Place}
+use Rattle.plsearch.specs.Types.{Element, Goal, Commit, Never, Until, Look, Await, Halt, Place}
 use Rattle.plsearch.specs.Table.{bind_goals, is_true, before_rest, resolve}
 use Rattle.plframe.specs.declared.frame.Item.{Item}
-use Rattle.plframe.specs.declared.frame.Item.TheVariants.{Goal as GoalAt, Commit as CommitTo, Never as NeverTo, Until as UntilTo, Look as LookAt, Await as AwaitFor}
+use Rattle.plframe.specs.declared.frame.Item.TheVariants.{Goal as GoalAt, Commit as CommitTo, Never as NeverTo, Until as UntilTo, Look as LookAt, Await as AwaitFor, Halt as HaltWith}
 use Rattle.plframe.specs.declared.frame.Link.{Link}
 use Rattle.plframe.specs.Places.{element, goals_at, places_left, AreIn}
 
@@ -51,6 +51,7 @@ elements-bind old new σ n e (NeverTo l ∷ xs) i = ap (λ es. Never l ∷ es) (
 elements-bind old new σ n e (UntilTo l ∷ xs) i = ap (λ es. Until l ∷ es) (elements-bind old new σ n e xs i.1)
 elements-bind old new σ n e (LookAt c ∷ xs) i = ap₂ (λ t es. Look t ∷ es) (e c i.0) (elements-bind old new σ n e xs i.1)
 elements-bind old new σ n e (AwaitFor c ∷ xs) i = ap (λ es. Await (Publish (Last c ∷ [])) ∷ es) (elements-bind old new σ n e xs i.1)
+elements-bind old new σ n e (HaltWith k ∷ xs) i = ap (λ es. Halt k ∷ es) (elements-bind old new σ n e xs i.1)
 
 -- the clause fits: its place, by its goals and their variables
 pub resolved : (d n : ℕ) (t : Tree) (rest goals : List Element) (c : Clause) (σ : ℕ → Tree) → unify t (shift n c.head) ≡ Some σ →

@@ -7,11 +7,11 @@ use Rattle.plclause.specs.Clause.{Clause}
 use Rattle.plevent.specs.declared.request.Request.TheVariants.{Publish}
 use Rattle.plevent.specs.declared.update.Update.TheVariants.{Last}
 use Rattle.plheap.specs.Store.{Store, term, cut, IsMark}
-use Rattle.plsearch.specs.Types.{Element, Goal, Commit, Never, Until, Look, Await, Place, Case, Choice, Mark, Handle, Catch}
+use Rattle.plsearch.specs.Types.{Element, Goal, Commit, Never, Until, Look, Await, Halt, Place, Case, Choice, Mark, Handle, Catch}
 use Rattle.plsearch.specs.Table.{resolve}
 use Rattle.plsearch.specs.Engine.{deeper}
 use Rattle.plframe.specs.declared.frame.Item.{Item}
-use Rattle.plframe.specs.declared.frame.Item.TheVariants.{Goal as GoalAt, Commit as CommitTo, Never as NeverTo, Until as UntilTo, Look as LookAt, Await as AwaitFor}
+use Rattle.plframe.specs.declared.frame.Item.TheVariants.{Goal as GoalAt, Commit as CommitTo, Never as NeverTo, Until as UntilTo, Look as LookAt, Await as AwaitFor, Halt as HaltWith}
 use Rattle.plframe.specs.declared.frame.Link.{Link}
 use Rattle.plframe.specs.declared.frame.Source.{Source}
 use Rattle.plframe.specs.declared.frame.Source.TheVariants.{Procedure, Copied}
@@ -39,6 +39,7 @@ element h (NeverTo l) = Never l
 element h (UntilTo l) = Until l
 element h (LookAt c) = Look (term h c)
 element h (AwaitFor c) = Await (Publish (Last c ∷ []))
+element h (HaltWith n) = Halt n
 
 abbrev pub goals_at : Store → List Link → ℕ → List Element
 goals_at h links i = map (element h) (list_at links i)
@@ -106,6 +107,7 @@ IsItemIn n (NeverTo l) = ⊤
 IsItemIn n (UntilTo l) = ⊤
 IsItemIn n (LookAt c) = c < n
 IsItemIn n (AwaitFor c) = ⊤
+IsItemIn n (HaltWith m) = ⊤
 
 abbrev pub AreIn : ℕ → List Item → Type 0
 AreIn n [] = ⊤

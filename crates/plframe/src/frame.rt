@@ -19,6 +19,8 @@ pub enum Item {
     Look(u32),
     /// A clause waits until it is published as the last of its procedure.
     Await(Clause),
+    /// The run is to be ended with a number.
+    Halt(u8),
 }
 
 /// A goal list: its first member, and the number of the list behind it. 0 is the empty list.

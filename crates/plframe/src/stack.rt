@@ -529,7 +529,7 @@ fn push_level(found: &mut Vec<u32>, item: &Item) -> Result<(), AllocError>
         Item::Commit(level) => found.push(*level)?,
         Item::Never(level) => found.push(*level)?,
         Item::Until(level) => found.push(*level)?,
-        Item::Goal(_, _) | Item::Look(_) | Item::Await(_) => {}
+        Item::Goal(_, _) | Item::Look(_) | Item::Await(_) | Item::Halt(_) => {}
     }
     Ok(())
 }

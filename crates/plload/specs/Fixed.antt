@@ -26,11 +26,15 @@ is_running_control p = is_named p (codes "once") 1 || (is_named p (codes "\\+") 
 abbrev pub is_control : Indicator → Bool
 is_control p = is_plain_control p || (is_joining_control p || (is_running_control p || is_named p (codes "throw") 1))
 
--- built-in predicates: =/2, write/1, writeq/1, nl/0 and assertz/1
+-- those that end the run: halt/0 and halt/1
+abbrev pub is_halt : Indicator → Bool
+is_halt p = is_named p (codes "halt") 0 || is_named p (codes "halt") 1
+
+-- built-in predicates: =/2, write/1, writeq/1, nl/0, assertz/1, halt/0 and halt/1
 abbrev pub is_built_in : Indicator → Bool
 is_built_in p =
     is_named p (codes "=") 2
-    || (is_named p (codes "write") 1 || (is_named p (codes "writeq") 1 || (is_named p (codes "nl") 0 || is_named p (codes "assertz") 1)))
+    || (is_named p (codes "write") 1 || (is_named p (codes "writeq") 1 || (is_named p (codes "nl") 0 || (is_named p (codes "assertz") 1 || is_halt p))))
 
 -- static, whatever the program holds
 abbrev pub is_fixed : Indicator → Bool

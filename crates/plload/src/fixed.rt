@@ -1,6 +1,6 @@
 //! Procedures that no program can change or define.
 ghost use Rattle.std.specs.Prelude.{◌≡◌};
-ghost use Rattle.plload.specs.Fixed.{is_built_in, is_call, is_control, is_plain_control, is_joining_control, is_running_control, is_fixed};
+ghost use Rattle.plload.specs.Fixed.{is_built_in, is_call, is_control, is_plain_control, is_joining_control, is_running_control, is_halt, is_fixed};
 
 use plterm::indicator::Indicator;
 
@@ -74,4 +74,13 @@ fn is_built_in(indicator: &Indicator) -> bool
         || (name == "writeq" && arity == 1)
         || (name == "nl" && arity == 0)
         || (name == "assertz" && arity == 1)
+        || is_halt(indicator)
+}
+
+/// Whether it ends the run.
+fn is_halt(indicator: &Indicator) -> bool
+    ensures { result ≡ is_halt indicator.now }
+{
+    let arity = indicator.arity;
+    indicator.name.as_str() == "halt" && (arity == 0 || arity == 1)
 }

@@ -24,7 +24,7 @@ use Rattle.plreread.proofs.Alike.{int_of-renamed}
 
 -- ---- limits
 
-fit_parts : (ms ns : List Node) → nodes.AllFit (ms ++ ns) → nodes.AllFit ms × nodes.AllFit ns
+pub fit_parts : (ms ns : List Node) → nodes.AllFit (ms ++ ns) → nodes.AllFit ms × nodes.AllFit ns
 fit_parts [] ns h = (tt, h)
 fit_parts (m ∷ ms) ns h = let p = fit_parts ms ns h.1 in ((h.0, p.0), p.1)
 

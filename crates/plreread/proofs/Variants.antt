@@ -20,7 +20,7 @@ length-below : (m : ℕ) → length (below m) ≡ m
 length-below zero = refl
 length-below (suc m) = let h = length-below m in omega (arith, length-append (below m) (m ∷ []))
 
-next_place : (v m : ℕ) → cond (eqb (min v m) m) (m + cond (eqb m v) 0 1) (min v m) ≡ min v (suc m)
+pub next_place : (v m : ℕ) → cond (eqb (min v m) m) (m + cond (eqb m v) 0 1) (min v m) ≡ min v (suc m)
 next_place v m = grind (arith, nat_tests)
 
 place-below : (v m : ℕ) → place v (below m) ≡ min v m
@@ -63,14 +63,14 @@ node_numbers-renamed f (Int i ∷ ns) = node_numbers-renamed f ns
 node_numbers-renamed f (Atom s ∷ ns) = node_numbers-renamed f ns
 node_numbers-renamed f (Compound s k ∷ ns) = node_numbers-renamed f ns
 
-rename_zero : (f : ℕ → ℕ) (ns : List Node) → map (rename (λ v. 0 + f v)) ns ≡ map (rename f) ns
+pub rename_zero : (f : ℕ → ℕ) (ns : List Node) → map (rename (λ v. 0 + f v)) ns ≡ map (rename f) ns
 rename_zero f [] = refl
 rename_zero f (Var v ∷ ns) = ap (λ w. Var w ∷ map (rename (λ x. 0 + f x)) ns) (zero_more (f v)) ∙ ap (λ l. Var (f v) ∷ l) (rename_zero f ns)
 rename_zero f (Int i ∷ ns) = ap (λ l. Int i ∷ l) (rename_zero f ns)
 rename_zero f (Atom s ∷ ns) = ap (λ l. Atom s ∷ l) (rename_zero f ns)
 rename_zero f (Compound s k ∷ ns) = ap (λ l. Compound s k ∷ l) (rename_zero f ns)
 
-same_tree : (t u : Tree) → spelling t ≡ spelling u → t ≡ u
+pub same_tree : (t u : Tree) → spelling t ≡ spelling u → t ≡ u
 same_tree t u e = sym (tree_of-spelling t) ∙ ap tree_of e ∙ tree_of-spelling u
 
 pub copied_again : (t : Tree) → IsVariant (copied 0 t) t

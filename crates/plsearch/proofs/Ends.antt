@@ -3,7 +3,7 @@ use Rattle.std.proofs.Common.{◌≡◌, ℕ, zero, suc, ◌+◌, ◌<◌, ◌�
 use Rattle.plevent.specs.Search.{Item, Answer, Finishes}
 use Rattle.plevent.specs.declared.request.ThreadEnd.{ThreadEnd}
 use Rattle.plload.specs.Program.{Program}
-use Rattle.plsearch.specs.Types.{Result, Stop, Fail, CutTo, Throw, Spent, Asking, Ceased, Element, Place, Case, Choice, Mark, Handle, Catch, Return, Keep, Again, Anew, Local, Move, Give, Go, Meeting, Select, Asks, End, Pass, Marked, Run}
+use Rattle.plsearch.specs.Types.{Result, Stop, Fail, CutTo, Throw, Halted, Spent, Asking, Ceased, Element, Place, Case, Choice, Mark, Handle, Catch, Return, Keep, Again, Anew, Local, Move, Give, Go, Meeting, Select, Asks, End, Pass, Marked, Run}
 use Rattle.plsearch.specs.Table.{select, meet, answered, resume}
 use Rattle.plsearch.specs.Engine.{Ended, deeper, choice, returned, out, outs, moved, stepped, asks, met, walk, left, Visit}
 use Rattle.plsearch.specs.Search.{next_of, ending_of, from_start, start_of, search_of}
@@ -19,6 +19,7 @@ NotAsking Stop = Unit {0}
 NotAsking Fail = Unit {0}
 NotAsking (CutTo l) = Unit {0}
 NotAsking (Throw b ls) = Unit {0}
+NotAsking (Halted n) = Unit {0}
 NotAsking Spent = Unit {0}
 NotAsking Ceased = Unit {0}
 
@@ -27,6 +28,7 @@ or_asks Stop = inl tt
 or_asks Fail = inl tt
 or_asks (CutTo l) = inl tt
 or_asks (Throw b ls) = inl tt
+or_asks (Halted n) = inl tt
 or_asks Spent = inl tt
 or_asks (Asking q) = inr (q, refl)
 or_asks Ceased = inl tt
@@ -94,7 +96,7 @@ module _ (P : Program) (further : List Answer) where
   out-grows k h d (Mark l) e e' lt g = passed (out (Visit P) d (Mark l)) e e' (out-still (Mark l) d) g (λ n m. refl)
   out-grows k h d (Handle c) e e' lt g = passed (out (Visit P) d (Handle c)) e e' (out-still (Handle c) d) g (λ n. returned-grows k h d (resume c d e.0 e.1.local) e.1 lt)
 
-  out-left : (d : ℕ) (c : Case) (e : Ended) → left (out (Visit P) d c e).1 ≤ left e.1
+  pub out-left : (d : ℕ) (c : Case) (e : Ended) → left (out (Visit P) d c e).1 ≤ left e.1
   unfolding Same
   out-left d c e = (out-agree (Visit P) (Visit P) (suc (left e.1)) (itself (suc (left e.1))) d c e (omega arith)).1
 
@@ -128,7 +130,7 @@ module _ (P : Program) (further : List Answer) where
       Grows (met P (Visit P) on e es n d run m) (met P (Visit P) on e es n d (with_more run) m)
   unfolding Grows with_more out
   met-grows k h on o e es n d run (Select j t) le = stepped-grows k h (select P j t d es n) d run run.steps le
-  met-grows k h on o e es n d run (Asks q) le = asks-grows k h (λ a. answered e a d es n) q d run run.answers le
+  met-grows k h on o e es n d run (Asks q) le = asks-grows k h (λ a. answered P e a d es n) q d run run.answers le
   met-grows k h on o e es n d run (End r w) le = λ n. refl
   met-grows k h on o e es n d run (Pass w) le = o d (record run { local = w }) le
   met-grows k h on o e es n d run (Marked l w) le =
@@ -158,6 +160,7 @@ ended_asks Stop e is = tt
 ended_asks Fail e is = tt
 ended_asks (CutTo l) e is = tt
 ended_asks (Throw b ls) e is = tt
+ended_asks (Halted n) e is = tt
 ended_asks Spent e is = tt
 ended_asks (Asking q) e is = cc
 ended_asks Ceased e is = tt

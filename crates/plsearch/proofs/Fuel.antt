@@ -82,7 +82,7 @@ met-agree : (P : Program) (f g : Visitor) (k : ℕ) → Agree f g k → (f' g' :
     Same (met P f f' e es n d run m) (met P g g' e es n d run m) (left run)
 unfolding Same out
 met-agree P f g k h f' g' on e es n d run (Select j t) le = stepped-agree f g k h (select P j t d es n) d run run.steps le
-met-agree P f g k h f' g' on e es n d run (Asks q) le = asks-agree f g k h (λ a. answered e a d es n) q d run run.answers le
+met-agree P f g k h f' g' on e es n d run (Asks q) le = asks-agree f g k h (λ a. answered P e a d es n) q d run run.answers le
 met-agree P f g k h f' g' on e es n d run (End r w) le = (refl, le_refl _)
 met-agree P f g k h f' g' on e es n d run (Pass w) le = on d (record run { local = w }) le
 met-agree P f g k h f' g' on e es n d run (Marked l w) le =

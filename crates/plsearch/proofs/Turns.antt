@@ -54,7 +54,7 @@ Rest-meets P cases e es n run (Select k t) = step_keeps (select P k t (deeper ca
         outs (Visit P) 0 cases (stepped (Visit P) row (deeper cases 0) run n) ≡ Rest P (step cases row run n)
     step_keeps row zero = refl
     step_keeps row (suc n) = Rest-move P cases (record run { steps = n }) (row run.local)
-Rest-meets P cases e es n run (Asks q) = ask_keeps (λ a. answered e a (deeper cases 0) es n) run.answers
+Rest-meets P cases e es n run (Asks q) = ask_keeps (λ a. answered P e a (deeper cases 0) es n) run.answers
   where
     ask_keeps : (row : Answer → Local → Move) (xs : List Answer) →
         outs (Visit P) 0 cases (asks (Visit P) row q (deeper cases 0) run xs) ≡ Rest P (ask cases row q run xs)

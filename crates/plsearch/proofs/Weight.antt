@@ -64,7 +64,7 @@ lighter-meets : (P : Program) (cases : List Case) (e : Element) (es : List Eleme
     Lighter (at_goals (record { goals = e ∷ es; variables = n }) cases run) (meets P cases e es n run m)
 unfolding weight
 lighter-meets P cases e es n run (Select k t) = lighter-step cases (select P k t (deeper cases 0) es n) (record { goals = e ∷ es; variables = n }) run
-lighter-meets P cases e es n run (Asks q) = lighter-ask cases (λ a. answered e a (deeper cases 0) es n) q (record { goals = e ∷ es; variables = n }) run
+lighter-meets P cases e es n run (Asks q) = lighter-ask cases (λ a. answered P e a (deeper cases 0) es n) q (record { goals = e ∷ es; variables = n }) run
 lighter-meets P cases e es n run (End r w) = inr (refl, omega arith)
 lighter-meets P cases e es n run (Pass w) = inr (refl, omega arith)
 lighter-meets P cases e es n run (Marked l w) = inr (refl, omega arith)

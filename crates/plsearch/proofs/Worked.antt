@@ -1,5 +1,5 @@
 -- Worked programs.
-use Rattle.std.proofs.Common.{◌≡◌, ℕ, List, [], ◌∷◌, codes, refl, pos, ap, append-nil}
+use Rattle.std.proofs.Common.{◌≡◌, ℕ, List, [], ◌∷◌, codes, refl, pos, negsuc, ap, append-nil}
 use Rattle.plterm.specs.Tree.{Tree, var, int, atom, compound, none, more}
 use Rattle.plsubst.specs.Subst.{bind, occurs}
 use Rattle.plsubst.specs.Unify.{places, differ, unify_in, unify}
@@ -8,14 +8,12 @@ use Rattle.plwrite.specs.Writing.{words, others}
 use Rattle.plops.specs.Tables.{prefix_of, infix_of, postfix_of}
 use Rattle.plevent.specs.Alive.{Stamped, named, living, exists}
 use Rattle.plevent.specs.Search.{View, Ask, Answer, Seen, Got, Wants, Finishes, Ceases, Ending}
-use Rattle.plevent.specs.declared.request.Reply.TheVariants.{Published}
-use Rattle.plevent.specs.declared.request.Request.TheVariants.{Publish}
-use Rattle.plevent.specs.declared.request.ThreadEnd.TheVariants.{True, False, Exception, Budget}
+use Rattle.plevent.specs.declared.request.Reply.TheVariants.{Published, Done}
+use Rattle.plevent.specs.declared.request.Request.TheVariants.{Publish, HaltRun}
+use Rattle.plevent.specs.declared.request.ThreadEnd.TheVariants.{True, False, Exception, Budget, Halt}
 use Rattle.plevent.specs.declared.update.Update.TheVariants.{Last}
-use Rattle.plclause.specs.Clausal.{clausal}
-use Rattle.plclause.specs.Conversion.{converted}
 use Rattle.plread.specs.declared.quotes.Quotes.TheVariants.{Codes}
-use Rattle.plload.specs.declared.settings.Unknown.TheVariants.{Error}
+use Rattle.plload.specs.declared.settings.Unknown.TheVariants as unknown
 use Rattle.plload.specs.Program.{Program}
 use Rattle.plsearch.specs.Errors.{pair}
 use Rattle.plsearch.specs.Table.{raised, row, select, meet, answered, resume}
@@ -44,7 +42,7 @@ with_variables n g = record {
       ∷ [];
   goals = name (codes "main") ∷ [];
   first = [];
-  settings = record { operators = []; quotes = Codes; unknown = Error };
+  settings = record { operators = []; quotes = Codes; unknown = unknown.Error };
   clauses = 3;
   directives = 1;
 }
@@ -132,6 +130,38 @@ no_procedure : search (name (codes "q")) 1000 (Seen 2 [] ∷ []) ≡ record {
 }
 unfolding all
 no_procedure = refl
+
+-- the same where the flag unknown is fail
+fails_unknown : search_of (record (with_goal (name (codes "q"))) { settings = record { operators = []; quotes = Codes; unknown = unknown.Fail } }) 1000 1000 (Seen 2 [] ∷ [])
+    ≡ record { next = Finishes False; used = 3; out = [] }
+unfolding all
+fails_unknown = refl
+
+-- main :- catch(halt(300), X, true): no catcher sees it
+abbrev halts : Tree
+halts = compound (codes "catch") (more (of (codes "halt") (int (pos 300))) (more (var 0) (more (name (codes "true")) none)))
+
+asks_to_halt : search halts 1000 [] ≡ record { next = Wants (Ask (HaltRun 44)); used = 4; out = [] }
+unfolding all
+asks_to_halt = refl
+
+halted : search halts 1000 (Got Done ∷ []) ≡ record { next = Finishes (Halt 44); used = 4; out = [] }
+unfolding all
+halted = refl
+
+-- a number below 0, and none: halt/0 ends the run with 0
+halts_below : (search (of (codes "halt") (int (negsuc 0))) 1000 []).next ≡ Wants (Ask (HaltRun 255))
+unfolding all
+halts_below = refl
+
+halts_0 : (search (name (codes "halt")) 1000 []).next ≡ Wants (Ask (HaltRun 0))
+unfolding all
+halts_0 = refl
+
+-- main :- halt(X).
+halt_unbound : (search (of (codes "halt") (var 0)) 1000 []).next ≡ Finishes (Exception (pair (codes "error") (name (codes "instantiation_error")) (pair (codes "/") (name (codes "halt")) (int (pos 1)))))
+unfolding all
+halt_unbound = refl
 
 abbrev assertz_1 : Tree
 assertz_1 = pair (codes "/") (name (codes "assertz")) (int (pos 1))
@@ -300,7 +330,7 @@ with_balls g = record {
       ∷ [];
   goals = name (codes "main") ∷ [];
   first = [];
-  settings = record { operators = []; quotes = Codes; unknown = Error };
+  settings = record { operators = []; quotes = Codes; unknown = unknown.Error };
   clauses = 3;
   directives = 1;
 }

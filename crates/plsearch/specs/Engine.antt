@@ -74,7 +74,7 @@ asks next row q d run (a ∷ more) = moved next d (row a run.local) (record run 
 -- the first of a list, where `on` visits what is behind it
 abbrev pub met : Program → Visitor → (ℕ → Run → Ended) → Element → List Element → ℕ → ℕ → Run → Meeting → Ended
 met P next on e es n d run (Select k t) = stepped next (select P k t d es n) d run run.steps
-met P next on e es n d run (Asks q) = asks next (λ a. answered e a d es n) q d run run.answers
+met P next on e es n d run (Asks q) = asks next (λ a. answered P e a d es n) q d run run.answers
 met P next on e es n d run (End r w) = (r, record run { local = w })
 met P next on e es n d run (Pass w) = on d (record run { local = w })
 met P next on e es n d run (Marked l w) = out next d (Mark l) (on (suc d) (record run { local = w }))

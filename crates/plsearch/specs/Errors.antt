@@ -16,6 +16,9 @@ instantiation_error = atom (codes "instantiation_error")
 abbrev pub callable_error : Tree → Tree
 callable_error t = pair (codes "type_error") (atom (codes "callable")) t
 
+abbrev pub integer_error : Tree → Tree
+integer_error t = pair (codes "type_error") (atom (codes "integer")) t
+
 abbrev pub procedure_error : Indicator → Tree
 procedure_error p = pair (codes "existence_error") (atom (codes "procedure")) (indicator_term p)
 

@@ -1,11 +1,12 @@
 -- The laws of the search and of its machine.
-use Rattle.std.specs.Prelude.{◌≡◌, ℕ, List, [], ◌++◌}
+use Rattle.std.specs.Prelude.{◌≡◌, ℕ, List, [], ◌∷◌, ◌++◌}
 use Rattle.plevent.specs.Search.{Answer, Finishes}
 use Rattle.plevent.specs.declared.request.ThreadEnd.{ThreadEnd}
 use Rattle.plload.specs.Program.{Program}
-use Rattle.plsearch.specs.Types.{Result, Place, Run}
-use Rattle.plsearch.specs.Engine.{walk, Visit}
-use Rattle.plsearch.specs.Machine.{Machine, Back, Rest, turn}
+use Rattle.plsearch.specs.Types.{Result, Place, Case, Choice, Mark, Run}
+use Rattle.plsearch.specs.Engine.{walk, deeper, Visit}
+use Rattle.plsearch.specs.Machine.{Machine, At, Back, Rest, turn}
+use Rattle.plsearch.specs.Levels.{AreAtMost, emptied}
 use Rattle.plsearch.specs.Weight.{Lighter}
 use Rattle.plsearch.specs.Search.{search_of}
 
@@ -25,3 +26,9 @@ TurnsEnd = (P : Program) (m : Machine) → ((r : Result) → m.mode ≡ Back r �
 abbrev pub EndsIgnoreAnswers : Type 0
 EndsIgnoreAnswers = (P : Program) (limit n : ℕ) (answers further : List Answer) (e : ThreadEnd) →
     (search_of P limit n answers).next ≡ Finishes e → search_of P limit n (answers ++ further) ≡ search_of P limit n answers
+
+-- Where a list is visited behind a cut to the level k, and names no level above it, the choice at that level and all cases that
+-- are open inside of it may be emptied: nothing of them is tried or caught any more.
+abbrev pub CutsEmpty : Type 0
+CutsEmpty = (P : Program) (k : ℕ) (cs below : List Case) (ps : List Place) (p : Place) (run : Run) → deeper below 0 ≡ k → AreAtMost k p.goals →
+    Rest P (record { mode = At p; cases = Mark k ∷ (cs ++ Choice ps ∷ below); run = run }) ≡ Rest P (record { mode = At p; cases = emptied (Mark k ∷ cs) (Choice [] ∷ below); run = run })

@@ -7,3 +7,4 @@ pub mod Weight
 pub mod Search
 pub mod Solving
 pub mod Laws
+pub mod Levels

@@ -40,7 +40,7 @@ ask cases row q run (a ∷ more) = move cases (record run { answers = more }) (r
 
 abbrev pub meets : Program → List Case → Element → List Element → ℕ → Run → Meeting → Machine
 meets P cases e es n run (Select k t) = step cases (select P k t (deeper cases 0) es n) run run.steps
-meets P cases e es n run (Asks q) = ask cases (λ a. answered e a (deeper cases 0) es n) q run run.answers
+meets P cases e es n run (Asks q) = ask cases (λ a. answered P e a (deeper cases 0) es n) q run run.answers
 meets P cases e es n run (End r w) = record { mode = Back r; cases = cases; run = record run { local = w } }
 meets P cases e es n run (Pass w) = record { mode = At (record { goals = es; variables = n }); cases = cases; run = record run { local = w } }
 meets P cases e es n run (Marked l w) = record { mode = At (record { goals = es; variables = n }); cases = Mark l ∷ cases; run = record run { local = w } }

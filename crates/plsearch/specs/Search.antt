@@ -3,9 +3,9 @@ use Rattle.std.specs.Prelude.{ℕ, ◌+◌, ◌-◌, List, [], ◌∷◌, length
 use Rattle.plterm.specs.Tree.{Tree, compound, none, more}
 use Rattle.plterm.specs.Variables.{copied, variables}
 use Rattle.plevent.specs.Search.{Answer, Next, Wants, Finishes, Ceases, Ending, Search}
-use Rattle.plevent.specs.declared.request.ThreadEnd.TheVariants.{True, False, Exception, Budget}
+use Rattle.plevent.specs.declared.request.ThreadEnd.TheVariants.{True, False, Exception, Budget, Halt}
 use Rattle.plload.specs.Program.{Program}
-use Rattle.plsearch.specs.Types.{Result, Stop, Fail, CutTo, Throw, Spent, Asking, Ceased, Goal, Place, Run}
+use Rattle.plsearch.specs.Types.{Result, Stop, Fail, CutTo, Throw, Halted, Spent, Asking, Ceased, Goal, Place, Run}
 use Rattle.plsearch.specs.Engine.{Ended, Visit}
 
 abbrev pub once : Tree → Tree
@@ -31,6 +31,7 @@ next_of Stop = Finishes True
 next_of Fail = Finishes False
 next_of (CutTo l) = Finishes False
 next_of (Throw b ls) = Finishes (Exception b)
+next_of (Halted n) = Finishes (Halt n)
 next_of Spent = Finishes Budget
 next_of (Asking q) = Wants q
 next_of Ceased = Ceases

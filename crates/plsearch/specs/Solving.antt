@@ -1,6 +1,6 @@
 -- What the calls of a resumable search say of it. Limits of steps count from the start of its thread.
 use Rattle.std.specs.Prelude.{◌≡◌, ℕ, ◌≤◌, List, [], ◌∷◌}
-use Rattle.plevent.specs.Search.{Item, Answer, Next, Wants, Finishes, Search}
+use Rattle.plevent.specs.Search.{Item, Answer, Wants, Finishes, Search}
 use Rattle.plevent.specs.declared.request.ThreadEnd.{ThreadEnd}
 
 -- it is at the start of the search
@@ -25,7 +25,3 @@ abbrev pub EndsAt : ℕ → ThreadEnd → Search → ℕ → List ℕ → Type 0
 EndsAt limit e rest used out =
     ((answers : List Answer) → rest used answers ≡ record { next = Finishes e; used = used; out = out })
     × ((answers : List Answer) → rest limit answers ≡ record { next = Finishes e; used = used; out = out })
-
--- the steps and the output so far are those of the search within these steps
-abbrev pub SoFar : Search → ℕ → List ℕ → Type 0
-SoFar rest used out = (next : Next) × (rest used [] ≡ record { next = next; used = used; out = out })

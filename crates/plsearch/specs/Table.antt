@@ -1,5 +1,5 @@
 -- The table of control (ISO/IEC 13211-1 7.7, 7.8): one row for each form of goal, marker, answer and handler. No function here is recursive on goals.
-use Rattle.std.specs.Prelude.{ℕ, suc, ◌+◌, Bool, true, false, ◌&&◌, ◌||◌, ◌==◌, nat_le, List, [], ◌∷◌, ◌++◌, length, map, filter_map, Option, Some, None, option_map, codes, bytes_eq, if◌then◌else◌}
+use Rattle.std.specs.Prelude.{ℕ, suc, ◌+◌, ◌-◌, ◌%◌, ℤ, pos, negsuc, Bool, true, false, ◌&&◌, ◌||◌, ◌==◌, nat_le, List, [], ◌∷◌, ◌++◌, length, map, filter_map, Option, Some, None, option_map, codes, bytes_eq, if◌then◌else◌}
 use Rattle.std.specs.List.{list_any}
 use Rattle.plterm.specs.Tree.{Tree, var, int, atom, compound, none, more, trees, list_of}
 use Rattle.plterm.specs.Variables.{copied, variables}
@@ -13,8 +13,8 @@ use Rattle.plevent.specs.Search.{View, Ask, Answer, Seen, Got}
 use Rattle.plclause.specs.Clause.{Clause}
 use Rattle.plterm.specs.declared.indicator.Indicator.{Indicator}
 use Rattle.plevent.specs.declared.request.Reply.{Reply}
-use Rattle.plevent.specs.declared.request.Reply.TheVariants.{Started, RunOver, NotYet, Published, Done}
-use Rattle.plevent.specs.declared.request.Request.TheVariants.{Publish}
+use Rattle.plevent.specs.declared.request.Reply.TheVariants.{Started, RunOver, Stopped, NotYet, Published, Done}
+use Rattle.plevent.specs.declared.request.Request.TheVariants.{Publish, HaltRun}
 use Rattle.plevent.specs.declared.update.Update.TheVariants.{Last}
 use Rattle.plclause.specs.Clausal.{clausal}
 use Rattle.plclause.specs.Conversion.{converted}
@@ -22,8 +22,10 @@ use Rattle.plclause.specs.declared.form.ClauseForm.{ClauseForm}
 use Rattle.plclause.specs.declared.form.ClauseForm.TheVariants.{NoHead, BadHead, BadBody, IsClause}
 use Rattle.plload.specs.Fixed.{is_fixed}
 use Rattle.plload.specs.Program.{Program, clauses_for}
-use Rattle.plsearch.specs.Types.{Result, Fail, CutTo, Throw, Ceased, Element, Goal, Commit, Never, Until, Raise, Look, Await, Place, Case, Choice, Mark, Handle, Handler, Catch, Local, Move, Give, Go, Meeting, Select, Asks, End, Pass, Marked, Return, Keep, Anew}
-use Rattle.plsearch.specs.Errors.{instantiation_error, callable_error, procedure_error, static_error, arity_error, error_term}
+use Rattle.plload.specs.declared.settings.Unknown.{Unknown}
+use Rattle.plload.specs.declared.settings.Unknown.TheVariants as unknown
+use Rattle.plsearch.specs.Types.{Result, Fail, CutTo, Throw, Halted, Ceased, Element, Goal, Commit, Never, Until, Raise, Look, Await, Halt, Place, Case, Choice, Mark, Handle, Handler, Catch, Local, Move, Give, Go, Meeting, Select, Asks, End, Pass, Marked, Return, Keep, Anew}
+use Rattle.plsearch.specs.Errors.{instantiation_error, callable_error, integer_error, procedure_error, static_error, arity_error, error_term}
 
 -- a goal as the table reads it
 pub data Control : Type 0 where
@@ -42,6 +44,7 @@ pub data Control : Type 0 where
   Write : Tree → Control
   WriteQuoted : Tree → Control
   Newline : Control
+  Halting : Tree → Control
   AddLast : Tree → Control
   Call : Indicator → Control
   NoGoal : Control
@@ -52,7 +55,8 @@ nullary f =
     if bytes_eq f (codes "fail") then False else
     if bytes_eq f (codes "false") then False else
     if bytes_eq f (codes "!") then Cut else
-    if bytes_eq f (codes "nl") then Newline else Call (record { name = f; arity = 0 })
+    if bytes_eq f (codes "nl") then Newline else
+    if bytes_eq f (codes "halt") then Halting (int (pos 0)) else Call (record { name = f; arity = 0 })
 
 abbrev pub unary : List ℕ → Tree → Control
 unary f t =
@@ -61,7 +65,8 @@ unary f t =
     if bytes_eq f (codes "throw") then Throwing t else
     if bytes_eq f (codes "write") then Write t else
     if bytes_eq f (codes "writeq") then WriteQuoted t else
-    if bytes_eq f (codes "assertz") then AddLast t else Call (record { name = f; arity = 1 })
+    if bytes_eq f (codes "assertz") then AddLast t else
+    if bytes_eq f (codes "halt") then Halting t else Call (record { name = f; arity = 1 })
 
 -- `C->T;E` is one construct; without an else E is fail
 abbrev pub either : Tree → Tree → Control
@@ -110,6 +115,7 @@ bind_element σ (Until l) = Until l
 bind_element σ (Raise b) = Raise b
 bind_element σ (Look t) = Look (bind σ t)
 bind_element σ (Await q) = Await q
+bind_element σ (Halt n) = Halt n
 
 abbrev pub bind_goals : (ℕ → Tree) → List Element → List Element
 bind_goals σ = map (bind_element σ)
@@ -151,6 +157,7 @@ levels (Until l ∷ es) = l ∷ levels es
 levels (Raise b ∷ es) = levels es
 levels (Look t ∷ es) = levels es
 levels (Await q ∷ es) = levels es
+levels (Halt n ∷ es) = levels es
 
 -- an error of a predicate is thrown: a copy, its variables numbered from 0, with the levels of the markers of a list
 unfoldable pub raised : Tree → Indicator → List Element → Local → Move
@@ -174,6 +181,9 @@ call_with further = record { name = codes "call"; arity = suc further }
 
 abbrev pub assertz_1 : Indicator
 assertz_1 = record { name = codes "assertz"; arity = 1 }
+
+abbrev pub halt_1 : Indicator
+halt_1 = record { name = codes "halt"; arity = 1 }
 
 -- what running a term as a goal comes to: the goal that it converts to, or an error (7.8.3)
 pub data Runnable : Type 0 where
@@ -258,6 +268,18 @@ add P (BadHead h) rest n w = raised (callable_error h) assertz_1 rest w
 add P (BadBody b) rest n w = raised (callable_error b) assertz_1 rest w
 add P (IsClause c) rest n w = add_if (is_static P (indicator c.head)) c rest n w
 
+-- an integer modulo 256, with the divisor's sign
+abbrev pub modulo_256 : ℤ → ℕ
+modulo_256 (pos n) = n % 256
+modulo_256 (negsuc n) = 255 - n % 256
+
+-- the run is ended with an integer modulo 256 as its status (8.17.2)
+abbrev pub halting : Tree → List Element → ℕ → Local → Move
+halting (var x) rest n w = raised instantiation_error halt_1 rest w
+halting (int i) rest n w = Go [] (record { goals = Halt (modulo_256 i) ∷ rest; variables = n }) w
+halting (atom f) rest n w = raised (integer_error (atom f)) halt_1 rest w
+halting (compound f ts) rest n w = raised (integer_error (compound f ts)) halt_1 rest w
+
 -- a call of a procedure that is not static looks for its clauses in a view
 abbrev pub user : List Clause → ℕ → Tree → List Element → ℕ → Local → Move
 user [] d t rest n w = Go [] (record { goals = Look t ∷ rest; variables = n }) w
@@ -281,6 +303,7 @@ row P (Unify a b) k t d rest n w = unified (unify a b) rest n w
 row P (Write a) k t d rest n w = Go [] (record { goals = rest; variables = n }) (record { out = w.out ++ written P.settings.operators Plain a })
 row P (WriteQuoted a) k t d rest n w = Go [] (record { goals = rest; variables = n }) (record { out = w.out ++ written P.settings.operators Quoted a })
 row P Newline k t d rest n w = Go [] (record { goals = rest; variables = n }) (record { out = w.out ++ 10 ∷ [] })
+row P (Halting i) k t d rest n w = halting i rest n w
 row P (AddLast c) k t d rest n w = add P (clausal c) rest n w
 row P (Call p) k t d rest n w = user (clauses_for P p) d t rest n w
 row P NoGoal k t d rest n w = Give Fail w
@@ -298,33 +321,51 @@ meet (Until l) rest w = Pass w
 meet (Raise b) rest w = End (Throw b (levels rest)) w
 meet (Look t) rest w = Asks View
 meet (Await q) rest w = Asks (Ask q)
+meet (Halt n) rest w = Asks (Ask (HaltRun n))
 
--- the clauses of p in a view; a procedure that does not exist there is an error (7.7.7)
-abbrev pub walk_if : Bool → List Clause → ℕ → Tree → List Element → ℕ → Local → Move
-walk_if false cs d t rest n w = raised (procedure_error (indicator t)) (indicator t) rest w
-walk_if true cs d t rest n w = call d n t rest cs w
+-- a call of a procedure that does not exist is an error, or fails, by the flag unknown (7.7.7, 7.11.2.4)
+abbrev pub missing : Unknown → Tree → List Element → Local → Move
+missing unknown.Error t rest w = raised (procedure_error (indicator t)) (indicator t) rest w
+missing unknown.Fail t rest w = Give Fail w
 
-abbrev pub walk_over : List Stamped → ℕ → Tree → List Element → ℕ → Local → Move
-walk_over us d t rest n w = walk_if (exists us (indicator t)) (clauses_alive us (indicator t)) d t rest n w
+-- the clauses of a goal in a view, if its procedure exists there
+abbrev pub walk_if : Bool → Program → List Clause → ℕ → Tree → List Element → ℕ → Local → Move
+walk_if false P cs d t rest n w = missing P.settings.unknown t rest w
+walk_if true P cs d t rest n w = call d n t rest cs w
+
+abbrev pub walk_over : Program → List Stamped → ℕ → Tree → List Element → ℕ → Local → Move
+walk_over P us d t rest n w = walk_if (exists us (indicator t)) P (clauses_alive us (indicator t)) d t rest n w
 
 abbrev pub replied : Reply → List Element → ℕ → Local → Move
 replied Published rest n w = Go [] (record { goals = rest; variables = n }) w
 replied (Started i a g) rest n w = Give Ceased w
 replied RunOver rest n w = Give Ceased w
+replied Stopped rest n w = Give Ceased w
 replied (NotYet q) rest n w = Give Ceased w
 replied Done rest n w = Give Ceased w
 
+-- the run is ended with the number n
+abbrev pub halted : Reply → ℕ → Local → Move
+halted Done n w = Give (Halted n) w
+halted (Started i a g) n w = Give Ceased w
+halted RunOver n w = Give Ceased w
+halted Stopped n w = Give Ceased w
+halted (NotYet q) n w = Give Ceased w
+halted Published n w = Give Ceased w
+
 -- an element that asked, and its answer
-unfoldable pub answered : Element → Answer → ℕ → List Element → ℕ → Local → Move
-answered (Look t) (Seen g us) d rest n w = walk_over us d t rest n w
-answered (Look t) (Got r) d rest n w = Give Ceased w
-answered (Await q) (Got r) d rest n w = replied r rest n w
-answered (Await q) (Seen g us) d rest n w = Give Ceased w
-answered (Goal k t) a d rest n w = Give Ceased w
-answered (Commit l) a d rest n w = Give Ceased w
-answered (Never l) a d rest n w = Give Ceased w
-answered (Until l) a d rest n w = Give Ceased w
-answered (Raise b) a d rest n w = Give Ceased w
+unfoldable pub answered : Program → Element → Answer → ℕ → List Element → ℕ → Local → Move
+answered P (Look t) (Seen g us) d rest n w = walk_over P us d t rest n w
+answered P (Look t) (Got r) d rest n w = Give Ceased w
+answered P (Await q) (Got r) d rest n w = replied r rest n w
+answered P (Await q) (Seen g us) d rest n w = Give Ceased w
+answered P (Halt i) (Got r) d rest n w = halted r i w
+answered P (Halt i) (Seen g us) d rest n w = Give Ceased w
+answered P (Goal k t) a d rest n w = Give Ceased w
+answered P (Commit l) a d rest n w = Give Ceased w
+answered P (Never l) a d rest n w = Give Ceased w
+answered P (Until l) a d rest n w = Give Ceased w
+answered P (Raise b) a d rest n w = Give Ceased w
 
 abbrev pub has : ℕ → List ℕ → Bool
 has d ls = list_any (λ l. l == d) ls

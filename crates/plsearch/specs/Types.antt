@@ -5,12 +5,13 @@ use Rattle.plevent.specs.Search.{Item, Answer}
 use Rattle.plevent.specs.declared.request.Request.{Request}
 
 -- how a visit ends: its list is done; it has no further solution; the choices down to a level are given up; a ball is thrown,
--- with the levels of the markers behind it; no step is left; no answer is left for what is asked; an answer does not fit what was asked
+-- with the levels of the markers behind it; the run is ended; no step is left; no answer is left for what is asked; an answer does not fit what was asked
 pub data Result : Type 0 where
   Stop : Result
   Fail : Result
   CutTo : ℕ → Result
   Throw : Tree → List ℕ → Result
+  Halted : ℕ → Result
   Spent : Result
   Asking : Item → Result
   Ceased : Result
@@ -18,7 +19,8 @@ pub data Result : Type 0 where
 -- what a goal list holds: goals, each with its cut level; markers, each with the level of the case that put it: Commit, behind which
 -- the choices down to it are given up, Never, where they are given up and the list fails, and Until, up to which a catcher is active;
 -- a ball that is thrown here; and what asks:
--- Look, which waits for the view in which a goal's clauses are looked up, and Await, which waits for the reply to a request
+-- Look, which waits for the view in which a goal's clauses are looked up, Await, which waits for the reply to a request, and Halt,
+-- which asks that the run is ended with a number
 pub data Element : Type 0 where
   Goal : ℕ → Tree → Element
   Commit : ℕ → Element
@@ -27,6 +29,7 @@ pub data Element : Type 0 where
   Raise : Tree → Element
   Look : Tree → Element
   Await : Request → Element
+  Halt : ℕ → Element
 
 -- what is left to do: a goal list, its terms with all that stands for their variables put in, and how many variables are in use
 pub record Place : Type 0 where

@@ -6,7 +6,7 @@
 //! `specs/Search.antt` main's search as the journal sees it.
 #![tactic(auto)]
 
-ghost use Rattle.plsearch.specs.Laws.{VisitsByWalks, TurnsKeepRest, TurnsEnd, EndsIgnoreAnswers};
+ghost use Rattle.plsearch.specs.Laws.{VisitsByWalks, TurnsKeepRest, TurnsEnd, EndsIgnoreAnswers, CutsEmpty};
 
 /// A list of goals is visited by one walk, and what comes behind a step or an answer by the search again.
 #[tactic(auto, using(crate::proofs::Fuel::laws))]
@@ -30,4 +30,10 @@ pub fn turns_end()
 #[tactic(auto, using(crate::proofs::Ends::ends_ignore))]
 pub fn ends_ignore_answers()
     ensures { EndsIgnoreAnswers }
+{}
+
+/// What is behind a cut names no level above it, and so the cases that the cut gives up may be emptied at once.
+#[tactic(auto, using(crate::proofs::Cuts::laws))]
+pub fn cuts_empty()
+    ensures { CutsEmpty }
 {}

@@ -1,0 +1,11 @@
+pub mod Steps
+pub mod Tables
+pub mod Places
+pub mod Nodes
+pub mod Spelled
+pub mod Order
+pub mod Signs
+pub mod Ends
+pub mod Within
+pub mod Again
+pub mod Worked

@@ -1,0 +1,499 @@
+-- Levels of results: a list that names some levels is cut to these alone, and no ball that it throws has others behind it.
+use Rattle.std.proofs.Common.{◌≡◌, ℕ, zero, suc, ◌+◌, ◌<◌, ◌≤◌, Bool, true, false, ◌||◌, List, [], ◌∷◌, ◌++◌, length, Option, Some, None, refl, sym, ap, subst, arith, nat_eq}
+use Rattle.std.proofs.lemmas.Bool.Decides.{nat_tests}
+use Rattle.std.specs.List.{filter_map, cons_option}
+use Rattle.std.specs.Option.{option_map}
+use Rattle.plterm.specs.Tree.{Tree, var, int, atom, compound}
+use Rattle.plterm.specs.Variables.{copied, variables}
+use Rattle.plsubst.specs.Subst.{bind, shift}
+use Rattle.plsubst.specs.Unify.{unify}
+use Rattle.plclause.specs.Clause.{Clause}
+use Rattle.plclause.specs.Indicators.{indicator}
+use Rattle.plclause.specs.Clausal.{clausal}
+use Rattle.plclause.specs.declared.form.ClauseForm.{ClauseForm}
+use Rattle.plclause.specs.declared.form.ClauseForm.TheVariants.{NoHead, BadHead, BadBody, IsClause}
+use Rattle.plterm.specs.declared.indicator.Indicator.{Indicator}
+use Rattle.plevent.specs.declared.request.Reply.{Reply}
+use Rattle.plevent.specs.Alive.{exists, clauses_alive}
+use Rattle.plevent.specs.Search.{Item, Answer, Seen, Got}
+use Rattle.plload.specs.Program.{Program, clauses_for}
+use Rattle.plload.specs.declared.settings.Unknown.{Unknown}
+use Rattle.plload.specs.declared.settings.Unknown.TheVariants as unknown
+use Rattle.plwrite.specs.Writing.{written}
+use Rattle.plwrite.specs.declared.style.Style.TheVariants.{Plain, Quoted}
+use Rattle.plsearch.specs.Errors.{error_term}
+use Rattle.plsearch.specs.Types.{Result, Stop, Fail, CutTo, Throw, Halted, Spent, Asking, Ceased, Element, Goal, Commit, Never, Until, Raise, Look, Await, Halt, Place, Case, Choice, Mark, Handle, Handler, Catch, Return, Keep, Again, Anew, Local, Move, Give, Go, Run}
+use Rattle.plsearch.specs.Table.{Control, True, False, Both, Either, Then, Not, Once, Catching, Throwing, CallWith, Cut, Unify, Write, WriteQuoted, Newline, Halting, AddLast, Call, NoGoal, control, bind_element, bind_goals, is_true, before_rest, resolve, choose, call, raised, Runnable, Runs, Raises, first_of, run, runnable, called, call_with, branch, catching, thrown, halting, levels, has, recovers, met_by, caught, resume, unified, is_static, add_if, add, user, row, select, meet, missing, walk_if, replied, halted, answered}
+use Rattle.plsearch.specs.Engine.{Ended, stop_cut_if, stop_cut, mark, deeper, choice, returned, out, outs, moved, stepped, asks, walk, left, Visit}
+use Rattle.plsearch.proofs.Fuel.{Visit-walk}
+use Rattle.plsearch.proofs.Ends.{Visit-left, out-left}
+
+-- levels, as a test
+abbrev pub Levels : Type 0
+Levels = ℕ → Bool
+
+-- these, and one more
+abbrev pub also : Levels → ℕ → Levels
+also C d l = C l || nat_eq l d
+
+abbrev pub AllIn : Levels → List ℕ → Type 0
+AllIn N [] = Unit {0}
+AllIn N (l ∷ ls) = (N l ≡ true) × AllIn N ls
+
+-- all levels from d on
+abbrev pub Holds : Levels → ℕ → Type 0
+Holds N d = (l : ℕ) → d ≤ l → N l ≡ true
+
+-- a result that cuts to levels of C alone, and has levels of N alone behind its ball
+unfoldable pub Bounded : Levels → Levels → Result → Type 0
+Bounded C N Stop = Unit {0}
+Bounded C N Fail = Unit {0}
+Bounded C N (CutTo l) = C l ≡ true
+Bounded C N (Throw b ls) = AllIn N ls
+Bounded C N (Halted n) = Unit {0}
+Bounded C N Spent = Unit {0}
+Bounded C N (Asking q) = Unit {0}
+Bounded C N Ceased = Unit {0}
+
+unfoldable pub Allows : Levels → Levels → Element → Type 0
+Allows C N (Goal k t) = C k ≡ true
+Allows C N (Commit l) = (C l ≡ true) × (N l ≡ true)
+Allows C N (Never l) = (C l ≡ true) × (N l ≡ true)
+Allows C N (Until l) = N l ≡ true
+Allows C N (Raise b) = Unit {0}
+Allows C N (Look t) = Unit {0}
+Allows C N (Await q) = Unit {0}
+Allows C N (Halt n) = Unit {0}
+
+unfoldable pub AllAllow : Levels → Levels → List Element → Type 0
+AllAllow C N [] = Unit {0}
+AllAllow C N (e ∷ es) = Allows C N e × AllAllow C N es
+
+either-left : (a b : Bool) → a ≡ true → (a || b) ≡ true
+either-left a b h = ap (λ x. x || b) h
+
+either-right : (a b : Bool) → b ≡ true → (a || b) ≡ true
+either-right true b h = refl
+either-right false b h = h
+
+same : (d : ℕ) → nat_eq d d ≡ true
+same d = grind (arith, nat_tests)
+
+pub also-it : (C : Levels) (d : ℕ) → also C d d ≡ true
+also-it C d = either-right (C d) (nat_eq d d) (same d)
+
+pub also-others : (C : Levels) (d l : ℕ) → C l ≡ true → also C d l ≡ true
+also-others C d l h = either-left (C l) (nat_eq l d) h
+
+allows-more : (C N : Levels) (d : ℕ) (e : Element) → Allows C N e → Allows (also C d) N e
+unfolding Allows
+allows-more C N d (Goal k t) h = also-others C d k h
+allows-more C N d (Commit l) h = (also-others C d l h.0, h.1)
+allows-more C N d (Never l) h = (also-others C d l h.0, h.1)
+allows-more C N d (Until l) h = h
+allows-more C N d (Raise b) h = tt
+allows-more C N d (Look t) h = tt
+allows-more C N d (Await q) h = tt
+allows-more C N d (Halt n) h = tt
+
+pub allow-more : (C N : Levels) (d : ℕ) (es : List Element) → AllAllow C N es → AllAllow (also C d) N es
+unfolding AllAllow
+allow-more C N d [] h = tt
+allow-more C N d (e ∷ es) h = (allows-more C N d e h.0, allow-more C N d es h.1)
+
+allows-bound : (C N : Levels) (σ : ℕ → Tree) (e : Element) → Allows C N e → Allows C N (bind_element σ e)
+unfolding Allows
+allows-bound C N σ (Goal k t) h = h
+allows-bound C N σ (Commit l) h = h
+allows-bound C N σ (Never l) h = h
+allows-bound C N σ (Until l) h = h
+allows-bound C N σ (Raise b) h = tt
+allows-bound C N σ (Look t) h = tt
+allows-bound C N σ (Await q) h = tt
+allows-bound C N σ (Halt n) h = tt
+
+allow-bound : (C N : Levels) (σ : ℕ → Tree) (es : List Element) → AllAllow C N es → AllAllow C N (bind_goals σ es)
+unfolding AllAllow
+allow-bound C N σ [] h = tt
+allow-bound C N σ (e ∷ es) h = (allows-bound C N σ e h.0, allow-bound C N σ es h.1)
+
+levels-in : (C N : Levels) (es : List Element) → AllAllow C N es → AllIn N (levels es)
+unfolding AllAllow Allows
+levels-in C N [] h = tt
+levels-in C N (Goal k t ∷ es) h = levels-in C N es h.1
+levels-in C N (Commit l ∷ es) h = (h.0.1, levels-in C N es h.1)
+levels-in C N (Never l ∷ es) h = (h.0.1, levels-in C N es h.1)
+levels-in C N (Until l ∷ es) h = (h.0, levels-in C N es h.1)
+levels-in C N (Raise b ∷ es) h = levels-in C N es h.1
+levels-in C N (Look t ∷ es) h = levels-in C N es h.1
+levels-in C N (Await q ∷ es) h = levels-in C N es h.1
+levels-in C N (Halt n ∷ es) h = levels-in C N es h.1
+
+-- cases that are open at the depth d, of which the results cut to levels of C alone: what they hold, and what may come from inside
+unfoldable pub PlacesAllow : Levels → Levels → List Place → Type 0
+PlacesAllow C N [] = Unit {0}
+PlacesAllow C N (p ∷ ps) = AllAllow C N p.goals × PlacesAllow C N ps
+
+abbrev pub inside : Levels → ℕ → Case → Levels
+inside C d (Choice ps) = also C d
+inside C d (Mark l) = C
+inside C d (Handle h) = C
+
+unfoldable pub CaseAllows : Levels → Levels → ℕ → Case → Type 0
+CaseAllows C N d (Choice ps) = PlacesAllow (also C d) N ps
+CaseAllows C N d (Mark l) = C l ≡ true
+CaseAllows C N d (Handle (Catch c r p)) = AllAllow C N p.goals
+
+abbrev pub within : Levels → ℕ → List Case → Levels
+within C d [] = C
+within C d (c ∷ cs) = inside (within C d cs) (deeper cs d) c
+
+unfoldable pub CasesAllow : Levels → Levels → ℕ → List Case → Type 0
+CasesAllow C N d [] = Unit {0}
+CasesAllow C N d (c ∷ cs) = CaseAllows (within C d cs) N (deeper cs d) c × CasesAllow C N d cs
+
+unfoldable pub MoveAllows : Levels → Levels → ℕ → Move → Type 0
+MoveAllows C N d (Give r w) = Bounded C N r
+MoveAllows C N d (Go cs p w) = CasesAllow C N d cs × AllAllow (within C d cs) N p.goals
+
+-- the table's rows
+module _ (C N : Levels) (d : ℕ) (holds : Holds N d) where
+  abbrev More : Levels
+  More = also C d
+
+  go-on : (es : List Element) (n : ℕ) (w : Local) → AllAllow C N es → MoveAllows C N d (Go [] (record { goals = es; variables = n }) w)
+  unfolding MoveAllows CasesAllow
+  go-on es n w all = (tt, all)
+
+  give-up : (w : Local) → MoveAllows C N d (Give Fail w)
+  unfolding MoveAllows Bounded
+  give-up w = tt
+
+  cease : (w : Local) → MoveAllows C N d (Give Ceased w)
+  unfolding MoveAllows Bounded
+  cease w = tt
+
+  halts : (n : ℕ) (w : Local) → MoveAllows C N d (Give (Halted n) w)
+  unfolding MoveAllows Bounded
+  halts n w = tt
+
+  throws : (b : Tree) (rest : List Element) (w : Local) → AllAllow C N rest → MoveAllows C N d (Give (Throw b (levels rest)) w)
+  unfolding MoveAllows Bounded
+  throws b rest w all = levels-in C N rest all
+
+  raises : (e : Tree) (p : Indicator) (rest : List Element) (w : Local) → AllAllow C N rest → MoveAllows C N d (raised e p rest w)
+  unfolding raised
+  raises e p rest w all = throws (copied 0 (error_term e p)) rest w all
+
+  -- a list is visited in a choice at the level d
+  in-choice : (ps : List Place) (p : Place) (w : Local) → PlacesAllow More N ps → AllAllow More N p.goals → MoveAllows C N d (Go (Choice ps ∷ []) p w)
+  unfolding MoveAllows CasesAllow CaseAllows
+  in-choice ps p w others first = ((others, tt), first)
+
+  chooses : (ps : List Place) (w : Local) → PlacesAllow More N ps → MoveAllows C N d (choose ps w)
+  unfolding PlacesAllow
+  chooses [] w all = give-up w
+  chooses (p ∷ ps) w all = in-choice ps p w all.1 all.0
+
+  body-allowed : (b : Bool) (t : Tree) (es : List Element) → AllAllow More N es → AllAllow More N (before_rest b d t es)
+  unfolding AllAllow Allows
+  body-allowed true t es all = all
+  body-allowed false t es all = (also-it C d, all)
+
+  places-allowed : (n : ℕ) (t : Tree) (rest : List Element) → AllAllow C N rest → (cs : List Clause) → PlacesAllow More N (filter_map (resolve d n t rest) cs)
+  unfolding PlacesAllow
+  places-allowed n t rest all [] = tt
+  places-allowed n t rest all (c ∷ cs) = go (unify t (shift n c.head)) (places-allowed n t rest all cs)
+    where
+      go : (o : Option (ℕ → Tree)) → PlacesAllow More N (filter_map (resolve d n t rest) cs) →
+          PlacesAllow More N (cons_option (option_map (λ σ. record { goals = before_rest (is_true c.body) d (bind σ (shift n c.body)) (bind_goals σ rest); variables = n + c.variables }) o) (filter_map (resolve d n t rest) cs))
+      go None others = others
+      go (Some σ) others = (body-allowed (is_true c.body) (bind σ (shift n c.body)) (bind_goals σ rest) (allow-more C N d (bind_goals σ rest) (allow-bound C N σ rest all)), others)
+
+  calls : (n : ℕ) (t : Tree) (rest : List Element) (cs : List Clause) (w : Local) → AllAllow C N rest → MoveAllows C N d (call d n t rest cs w)
+  calls n t rest cs w all = chooses (filter_map (resolve d n t rest) cs) w (places-allowed n t rest all cs)
+
+  -- a term is run at a level of its own, in a choice there
+  first-allowed : (r : Runnable) (p : Indicator) (D : Levels) (k : ℕ) (rest : List Element) → D k ≡ true → AllAllow D N rest → AllAllow D N (first_of r p k ∷ rest)
+  unfolding AllAllow Allows
+  first-allowed (Runs b) p D k rest is all = (is, all)
+  first-allowed (Raises e) p D k rest is all = (tt, all)
+
+  runs : (r : Runnable) (p : Indicator) (rest : List Element) (n : ℕ) (w : Local) → AllAllow More N rest → MoveAllows C N d (run r p [] d rest n w)
+  unfolding PlacesAllow
+  runs r p rest n w all = in-choice [] (record { goals = first_of r p d ∷ rest; variables = n }) w (nothing-left More) (first-allowed r p More d rest (also-it C d) all)
+    where
+      nothing-left : (D : Levels) → PlacesAllow D N []
+      nothing-left D = tt
+
+  -- a list in a choice inside of a branch at the level d, and in one inside of a catcher
+  in-branch : (list : List Element) (es : List Element) (n : ℕ) (w : Local) → AllAllow C N list → AllAllow (also More (suc d)) N es →
+      MoveAllows C N d (Go (Choice [] ∷ branch list n ∷ []) (record { goals = es; variables = n }) w)
+  unfolding MoveAllows CasesAllow CaseAllows PlacesAllow
+  in-branch list es n w other all = ((tt, ((allow-more C N d list other, tt), tt)), all)
+
+  in-catcher : (c r : Tree) (list : List Element) (es : List Element) (n : ℕ) (w : Local) → AllAllow C N list → AllAllow (also C (suc d)) N es →
+      MoveAllows C N d (Go (Choice [] ∷ catching c r list n ∷ []) (record { goals = es; variables = n }) w)
+  unfolding MoveAllows CasesAllow CaseAllows PlacesAllow
+  in-catcher c r list es n w other all = ((tt, (other, tt)), all)
+
+  thrown-allowed : (b : Tree) (rest : List Element) (w : Local) → AllAllow C N rest → MoveAllows C N d (thrown b rest w)
+  thrown-allowed (var x) rest w all = raises _ _ rest w all
+  thrown-allowed (int i) rest w all = throws (copied 0 (int i)) rest w all
+  thrown-allowed (atom f) rest w all = throws (copied 0 (atom f)) rest w all
+  thrown-allowed (compound f ts) rest w all = throws (copied 0 (compound f ts)) rest w all
+
+  halting-allowed : (t : Tree) (rest : List Element) (n : ℕ) (w : Local) → AllAllow C N rest → MoveAllows C N d (halting t rest n w)
+  unfolding AllAllow Allows
+  halting-allowed (var x) rest n w all = raises _ _ rest w all
+  halting-allowed (int i) rest n w all = go-on _ n w (tt, all)
+  halting-allowed (atom f) rest n w all = raises _ _ rest w all
+  halting-allowed (compound f ts) rest n w all = raises _ _ rest w all
+
+  unified-allowed : (o : Option (ℕ → Tree)) (rest : List Element) (n : ℕ) (w : Local) → AllAllow C N rest → MoveAllows C N d (unified o rest n w)
+  unified-allowed None rest n w all = give-up w
+  unified-allowed (Some σ) rest n w all = go-on (bind_goals σ rest) n w (allow-bound C N σ rest all)
+
+  add-if-allowed : (b : Bool) (c : Clause) (rest : List Element) (n : ℕ) (w : Local) → AllAllow C N rest → MoveAllows C N d (add_if b c rest n w)
+  unfolding AllAllow Allows
+  add-if-allowed true c rest n w all = raises _ _ rest w all
+  add-if-allowed false c rest n w all = go-on _ n w (tt, all)
+
+  add-allowed : (P : Program) (c : ClauseForm) (rest : List Element) (n : ℕ) (w : Local) → AllAllow C N rest → MoveAllows C N d (add P c rest n w)
+  add-allowed P NoHead rest n w all = raises _ _ rest w all
+  add-allowed P (BadHead h) rest n w all = raises _ _ rest w all
+  add-allowed P (BadBody b) rest n w all = raises _ _ rest w all
+  add-allowed P (IsClause c) rest n w all = add-if-allowed (is_static P (indicator c.head)) c rest n w all
+
+  user-allowed : (cs : List Clause) (t : Tree) (rest : List Element) (n : ℕ) (w : Local) → AllAllow C N rest → MoveAllows C N d (user cs d t rest n w)
+  unfolding AllAllow Allows
+  user-allowed [] t rest n w all = go-on _ n w (tt, all)
+  user-allowed (c ∷ cs) t rest n w all = calls n t rest (c ∷ cs) w all
+
+  row-allowed : (P : Program) (c : Control) (k : ℕ) (t : Tree) (rest : List Element) (n : ℕ) (w : Local) → C k ≡ true → AllAllow C N rest → MoveAllows C N d (row P c k t d rest n w)
+  unfolding row AllAllow Allows PlacesAllow MoveAllows CasesAllow CaseAllows
+  row-allowed P True k t rest n w is all = go-on rest n w all
+  row-allowed P False k t rest n w is all = give-up w
+  row-allowed P (Both a b) k t rest n w is all = go-on (Goal k a ∷ Goal k b ∷ rest) n w (is, (is, all))
+  row-allowed P (Either a b) k t rest n w is all =
+      in-choice (record { goals = Goal k b ∷ rest; variables = n } ∷ []) (record { goals = Goal k a ∷ rest; variables = n }) w (one (Goal k b ∷ rest) n (allow-more C N d (Goal k b ∷ rest) (is, all))) (allow-more C N d (Goal k a ∷ rest) (is, all))
+    where
+      one : (es : List Element) (n : ℕ) → AllAllow More N es → PlacesAllow More N (record { goals = es; variables = n } ∷ [])
+      one es n all = (all, tt)
+  row-allowed P (Then c a e) k t rest n w is all =
+      in-branch (Goal k e ∷ rest) (Goal (suc d) c ∷ Commit d ∷ Goal k a ∷ rest) n w (is, all)
+      (also-it More (suc d), ((also-others More (suc d) d (also-it C d), holds d (omega arith)), allow-more More N (suc d) (Goal k a ∷ rest) (allow-more C N d (Goal k a ∷ rest) (is, all))))
+  row-allowed P (Not g) k t rest n w is all =
+      in-branch rest (first_of (runnable g) _ (suc d) ∷ Never d ∷ rest) n w all
+      (first-allowed (runnable g) _ (also More (suc d)) (suc d) (Never d ∷ rest) (also-it More (suc d)) ((also-others More (suc d) d (also-it C d), holds d (omega arith)), allow-more More N (suc d) rest (allow-more C N d rest all)))
+  row-allowed P (Catching g c r) k t rest n w is all =
+      in-catcher c r rest (first_of (runnable g) _ (suc d) ∷ Until d ∷ rest) n w all
+      (first-allowed (runnable g) _ (also C (suc d)) (suc d) (Until d ∷ rest) (also-it C (suc d)) (holds d (omega arith), allow-more C N (suc d) rest all))
+  row-allowed P (Throwing b) k t rest n w is all = thrown-allowed b rest w all
+  row-allowed P (Once g) k t rest n w is all = runs (runnable g) _ (Commit d ∷ rest) n w ((also-it C d, holds d (omega arith)), allow-more C N d rest all)
+  row-allowed P (CallWith g us) k t rest n w is all = runs (called g us) (call_with (length us)) rest n w (allow-more C N d rest all)
+  row-allowed P Cut k t rest n w is all = marks k rest n w is all
+    where
+      marks : (k : ℕ) (rest : List Element) (n : ℕ) (w : Local) → C k ≡ true → AllAllow C N rest → MoveAllows C N d (Go (Mark k ∷ []) (record { goals = rest; variables = n }) w)
+      marks k rest n w is all = ((is, tt), all)
+  row-allowed P (Unify a b) k t rest n w is all = unified-allowed (unify a b) rest n w all
+  row-allowed P (Write a) k t rest n w is all = go-on rest n (record { out = w.out ++ written P.settings.operators Plain a }) all
+  row-allowed P (WriteQuoted a) k t rest n w is all = go-on rest n (record { out = w.out ++ written P.settings.operators Quoted a }) all
+  row-allowed P Newline k t rest n w is all = go-on rest n (record { out = w.out ++ 10 ∷ [] }) all
+  row-allowed P (Halting i) k t rest n w is all = halting-allowed i rest n w all
+  row-allowed P (AddLast c) k t rest n w is all = add-allowed P (clausal c) rest n w all
+  row-allowed P (Call p) k t rest n w is all = user-allowed (clauses_for P p) t rest n w all
+  row-allowed P NoGoal k t rest n w is all = give-up w
+
+  select-allowed : (P : Program) (k : ℕ) (t : Tree) (rest : List Element) (n : ℕ) (w : Local) → C k ≡ true → AllAllow C N rest → MoveAllows C N d (select P k t d rest n w)
+  unfolding select
+  select-allowed P k t rest n w is all = row-allowed P (control t) k t rest n w is all
+
+  missing-allowed : (u : Unknown) (t : Tree) (rest : List Element) (w : Local) → AllAllow C N rest → MoveAllows C N d (missing u t rest w)
+  missing-allowed unknown.Error t rest w all = raises _ _ rest w all
+  missing-allowed unknown.Fail t rest w all = give-up w
+
+  walk-if-allowed : (b : Bool) (P : Program) (cs : List Clause) (t : Tree) (rest : List Element) (n : ℕ) (w : Local) → AllAllow C N rest → MoveAllows C N d (walk_if b P cs d t rest n w)
+  walk-if-allowed false P cs t rest n w all = missing-allowed P.settings.unknown t rest w all
+  walk-if-allowed true P cs t rest n w all = calls n t rest cs w all
+
+  replied-allowed : (r : Reply) (rest : List Element) (n : ℕ) (w : Local) → AllAllow C N rest → MoveAllows C N d (replied r rest n w)
+  replied-allowed Reply.Published rest n w all = go-on rest n w all
+  replied-allowed (Reply.Started i a g) rest n w all = cease w
+  replied-allowed Reply.RunOver rest n w all = cease w
+  replied-allowed Reply.Stopped rest n w all = cease w
+  replied-allowed (Reply.NotYet q) rest n w all = cease w
+  replied-allowed Reply.Done rest n w all = cease w
+
+  halted-allowed : (r : Reply) (n : ℕ) (w : Local) → MoveAllows C N d (halted r n w)
+  halted-allowed Reply.Published n w = cease w
+  halted-allowed (Reply.Started i a g) n w = cease w
+  halted-allowed Reply.RunOver n w = cease w
+  halted-allowed Reply.Stopped n w = cease w
+  halted-allowed (Reply.NotYet q) n w = cease w
+  halted-allowed Reply.Done n w = halts n w
+
+  answered-allowed : (P : Program) (e : Element) (a : Answer) (rest : List Element) (n : ℕ) (w : Local) → AllAllow C N rest → MoveAllows C N d (answered P e a d rest n w)
+  unfolding answered
+  answered-allowed P (Look t) (Seen g us) rest n w all = walk-if-allowed (exists us (indicator t)) P (clauses_alive us (indicator t)) t rest n w all
+  answered-allowed P (Look t) (Got r) rest n w all = cease w
+  answered-allowed P (Await q) (Got r) rest n w all = replied-allowed r rest n w all
+  answered-allowed P (Await q) (Seen g us) rest n w all = cease w
+  answered-allowed P (Halt i) (Got r) rest n w all = halted-allowed r i w
+  answered-allowed P (Halt i) (Seen g us) rest n w all = cease w
+  answered-allowed P (Goal k t) a rest n w all = cease w
+  answered-allowed P (Commit l) a rest n w all = cease w
+  answered-allowed P (Never l) a rest n w all = cease w
+  answered-allowed P (Until l) a rest n w all = cease w
+  answered-allowed P (Raise b) a rest n w all = cease w
+
+-- the search
+holds-deeper : (N : Levels) (d e : ℕ) → d ≤ e → Holds N d → Holds N e
+holds-deeper N d e le holds l le' = holds l (omega arith)
+
+deeper-above : (cs : List Case) (d : ℕ) → d ≤ deeper cs d
+deeper-above [] d = omega arith
+deeper-above (c ∷ cs) d = let up = deeper-above cs d in omega arith
+
+stop-if-bounded : (C N : Levels) (d l : ℕ) (b : Bool) → nat_eq l d ≡ b → also C d l ≡ true → Bounded C N (stop_cut_if b l)
+unfolding Bounded
+stop-if-bounded C N d l true is h = tt
+stop-if-bounded C N d l false is h = only (C l) (nat_eq l d) is h
+  where
+    only : (a b : Bool) → b ≡ false → (a || b) ≡ true → a ≡ true
+    only true b is h = refl
+    only false true is h = sym is
+    only false false is h = h
+
+stop-bounded : (C N : Levels) (d : ℕ) (r : Result) → Bounded (also C d) N r → Bounded C N (stop_cut d r)
+unfolding Bounded
+stop-bounded C N d Stop h = tt
+stop-bounded C N d Fail h = tt
+stop-bounded C N d (CutTo l) h = stop-if-bounded C N d l (nat_eq l d) refl h
+stop-bounded C N d (Throw b ls) h = h
+stop-bounded C N d (Halted n) h = tt
+stop-bounded C N d Spent h = tt
+stop-bounded C N d (Asking q) h = tt
+stop-bounded C N d Ceased h = tt
+
+mark-bounded : (C N : Levels) (l : ℕ) (r : Result) → C l ≡ true → Bounded C N r → Bounded C N (mark l r)
+unfolding Bounded
+mark-bounded C N l Stop is h = tt
+mark-bounded C N l Fail is h = is
+mark-bounded C N l (CutTo m) is h = h
+mark-bounded C N l (Throw b ls) is h = h
+mark-bounded C N l (Halted n) is h = tt
+mark-bounded C N l Spent is h = tt
+mark-bounded C N l (Asking q) is h = tt
+mark-bounded C N l Ceased is h = tt
+
+-- what a handler goes on with
+unfoldable ReturnAllows : Levels → Levels → ℕ → Return → Type 0
+ReturnAllows C N d (Keep r w) = Bounded C N r
+ReturnAllows C N d (Again p w) = AllAllow C N p.goals
+ReturnAllows C N d (Anew p w) = AllAllow (also C d) N p.goals
+
+resume-allowed : (C N : Levels) (d : ℕ) (h : Handler) (r : Result) (w : Local) → CaseAllows C N d (Handle h) → Bounded C N r → ReturnAllows C N d (resume h d r w)
+unfolding resume ReturnAllows CaseAllows Bounded AllAllow Allows
+resume-allowed C N d (Catch c r p) (Throw b ls) w all bounded = met (has d ls)
+  where
+    recovers-allowed : (x : Runnable) (es : List Element) (n : ℕ) → AllAllow C N es → ReturnAllows C N d (recovers x d es n w)
+    recovers-allowed (Runs g) es n all = (also-it C d, allow-more C N d es all)
+    recovers-allowed (Raises e) es n all = levels-in C N es all
+
+    met-allowed : (o : Option (ℕ → Tree)) → ReturnAllows C N d (met_by o r b ls p d w)
+    met-allowed None = bounded
+    met-allowed (Some σ) = recovers-allowed (runnable (bind σ r)) (bind_goals σ p.goals) (p.variables + length (variables b)) (allow-bound C N σ p.goals all)
+
+    met : (x : Bool) → ReturnAllows C N d (caught x c r b ls p d w)
+    met false = bounded
+    met true = met-allowed (unify c (copied p.variables b))
+resume-allowed C N d (Catch c r p) x w all bounded = bounded
+
+module _ (P : Program) where
+  Claim : ℕ → Type 0
+  Claim k = (C N : Levels) (d : ℕ) (p : Place) (run : Run) → left run < k → Holds N d → AllAllow C N p.goals → Bounded C N (Visit P d p run).0
+
+  choice-bounded : (k : ℕ) → Claim k → (C N : Levels) (d : ℕ) → Holds N d → (ps : List Place) (r : Result) (run : Run) → left run < k →
+      PlacesAllow (also C d) N ps → Bounded (also C d) N r → Bounded C N (choice (Visit P) d ps r run).0
+  unfolding choice Claim PlacesAllow
+  choice-bounded k h C N d holds (p ∷ ps) Fail run lt all bounded =
+      let e = Visit P (suc d) p run in
+      choice-bounded k h C N d holds ps e.0 e.1 (omega (arith, Visit-left P (suc d) p run)) all.1 (h (also C d) N (suc d) p run lt (holds-deeper N d (suc d) (omega arith) holds) all.0)
+  choice-bounded k h C N d holds [] Fail run lt all bounded = stop-bounded C N d Fail bounded
+  choice-bounded k h C N d holds ps r run lt all bounded = stop-bounded C N d r bounded
+
+  returned-bounded : (k : ℕ) → Claim k → (C N : Levels) (d : ℕ) → Holds N d → (b : Return) (run : Run) → left run < k →
+      ReturnAllows C N d b → Bounded C N (returned (Visit P) d b run).0
+  unfolding Claim ReturnAllows PlacesAllow
+  returned-bounded k h C N d holds (Keep r w) run lt all = all
+  returned-bounded k h C N d holds (Again p w) run lt all = h C N d p (record run { local = w }) lt holds all
+  returned-bounded k h C N d holds (Anew p w) run lt all =
+      let run' : Run = record run { local = w } in
+      let e = Visit P (suc d) p run' in
+      choice-bounded k h C N d holds [] e.0 e.1 (omega (arith, Visit-left P (suc d) p run')) (none (also C d)) (h (also C d) N (suc d) p run' lt (holds-deeper N d (suc d) (omega arith) holds) all)
+    where
+      none : (D : Levels) → PlacesAllow D N []
+      none D = tt
+
+  out-bounded : (k : ℕ) → Claim k → (C N : Levels) (d : ℕ) → Holds N d → (c : Case) (e : Ended) → left e.1 < k →
+      CaseAllows C N d c → Bounded (inside C d c) N e.0 → Bounded C N (out (Visit P) d c e).0
+  unfolding out CaseAllows
+  out-bounded k h C N d holds (Choice ps) e lt all bounded = choice-bounded k h C N d holds ps e.0 e.1 lt all bounded
+  out-bounded k h C N d holds (Mark l) e lt all bounded = mark-bounded C N l e.0 all bounded
+  out-bounded k h C N d holds (Handle c) e lt all bounded = returned-bounded k h C N d holds (resume c d e.0 e.1.local) e.1 lt (resume-allowed C N d c e.0 e.1.local all bounded)
+
+  outs-bounded : (k : ℕ) → Claim k → (C N : Levels) (d : ℕ) → Holds N d → (cs : List Case) (e : Ended) → left e.1 < k →
+      CasesAllow C N d cs → Bounded (within C d cs) N e.0 → Bounded C N (outs (Visit P) d cs e).0
+  unfolding outs CasesAllow
+  outs-bounded k h C N d holds [] e lt all bounded = bounded
+  outs-bounded k h C N d holds (c ∷ cs) e lt all bounded =
+      outs-bounded k h C N d holds cs (out (Visit P) (deeper cs d) c e) (omega (arith, out-left P [] (deeper cs d) c e)) all.1
+      (out-bounded k h (within C d cs) N (deeper cs d) (holds-deeper N d (deeper cs d) (deeper-above cs d) holds) c e lt all.0 bounded)
+
+  moved-bounded : (k : ℕ) → Claim k → (C N : Levels) (d : ℕ) → Holds N d → (m : Move) (run : Run) → left run < k → MoveAllows C N d m → Bounded C N (moved (Visit P) d m run).0
+  unfolding moved Claim MoveAllows
+  moved-bounded k h C N d holds (Give r w) run lt all = all
+  moved-bounded k h C N d holds (Go cs p w) run lt all =
+      let run' : Run = record run { local = w } in
+      outs-bounded k h C N d holds cs (Visit P (deeper cs d) p run') (omega (arith, Visit-left P (deeper cs d) p run')) all.0
+      (h (within C d cs) N (deeper cs d) p run' lt (holds-deeper N d (deeper cs d) (deeper-above cs d) holds) all.1)
+
+  stepped-bounded : (k : ℕ) → Claim k → (C N : Levels) (d : ℕ) → Holds N d → (row : Local → Move) → ((w : Local) → MoveAllows C N d (row w)) →
+      (run : Run) (n : ℕ) → n + length run.answers ≤ k → Bounded C N (stepped (Visit P) row d (record run { steps = n }) n).0
+  unfolding Bounded
+  stepped-bounded k h C N d holds row all run zero le = tt
+  stepped-bounded k h C N d holds row all run (suc n) le = moved-bounded k h C N d holds (row run.local) (record run { steps = n }) (omega (arith, le)) (all run.local)
+
+  asks-bounded : (k : ℕ) → Claim k → (C N : Levels) (d : ℕ) → Holds N d → (row : Answer → Local → Move) → ((a : Answer) (w : Local) → MoveAllows C N d (row a w)) →
+      (q : Item) (run : Run) (xs : List Answer) → run.steps + length xs ≤ k → Bounded C N (asks (Visit P) row q d (record run { answers = xs }) xs).0
+  unfolding Bounded
+  asks-bounded k h C N d holds row all q run [] le = tt
+  asks-bounded k h C N d holds row all q run (a ∷ xs) le = moved-bounded k h C N d holds (row a run.local) (record run { answers = xs }) (omega (arith, le)) (all a run.local)
+
+  -- what is behind a marker is visited one level further in
+  mark-out : (C N : Levels) (d l : ℕ) (e : Ended) → C l ≡ true → Bounded C N e.0 → Bounded C N (out (Visit P) d (Mark l) e).0
+  unfolding out
+  mark-out C N d l e is bounded = mark-bounded C N l e.0 is bounded
+
+  walk-bounded : (k : ℕ) → Claim k → (C N : Levels) (es : List Element) (n d : ℕ) → Holds N d → (run : Run) → left run ≤ k → AllAllow C N es → Bounded C N (walk P (Visit P) es n d run).0
+  unfolding walk meet AllAllow Allows Bounded
+  walk-bounded k h C N [] n d holds run le all = tt
+  walk-bounded k h C N (Goal j t ∷ es) n d holds run le all = stepped-bounded k h C N d holds (select P j t d es n) (λ w. select-allowed C N d holds P j t es n w all.0 all.1) run run.steps le
+  walk-bounded k h C N (Commit l ∷ es) n d holds run le all = mark-out C N d l (walk P (Visit P) es n (suc d) run) all.0.0 (walk-bounded k h C N es n (suc d) (holds-deeper N d (suc d) (omega arith) holds) run le all.1)
+  walk-bounded k h C N (Never l ∷ es) n d holds run le all = all.0.0
+  walk-bounded k h C N (Until l ∷ es) n d holds run le all = walk-bounded k h C N es n d holds run le all.1
+  walk-bounded k h C N (Raise b ∷ es) n d holds run le all = levels-in C N es all.1
+  walk-bounded k h C N (Look t ∷ es) n d holds run le all = asks-bounded k h C N d holds (λ a. answered P (Look t) a d es n) (λ a w. answered-allowed C N d holds P (Look t) a es n w all.1) _ run run.answers le
+  walk-bounded k h C N (Await q ∷ es) n d holds run le all = asks-bounded k h C N d holds (λ a. answered P (Await q) a d es n) (λ a w. answered-allowed C N d holds P (Await q) a es n w all.1) _ run run.answers le
+  walk-bounded k h C N (Halt i ∷ es) n d holds run le all = asks-bounded k h C N d holds (λ a. answered P (Halt i) a d es n) (λ a w. answered-allowed C N d holds P (Halt i) a es n w all.1) _ run run.answers le
+
+  claims : (k : ℕ) → Claim k
+  unfolding Claim
+  claims zero C N d p run lt holds all = absurd (omega arith)
+  claims (suc k) C N d p run lt holds all =
+      subst (λ e. Bounded C N e.0) (sym (Visit-walk P d p run)) (walk-bounded k (claims k) C N p.goals p.variables d holds run (omega arith) all)
+
+  pub visit-bounded : (C N : Levels) (d : ℕ) (p : Place) (run : Run) → Holds N d → AllAllow C N p.goals → Bounded C N (Visit P d p run).0
+  unfolding Claim
+  visit-bounded C N d p run holds all = claims (suc (left run)) C N d p run (omega arith) holds all
