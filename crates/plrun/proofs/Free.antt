@@ -8,7 +8,7 @@ use Rattle.plevent.specs.declared.act.Entry.{Entry}
 use Rattle.plevent.specs.declared.standing.Thread.{Thread}
 use Rattle.plevent.specs.declared.standing.Standing.{Standing}
 use Rattle.plevent.specs.Alive.{add_if}
-use Rattle.plevent.specs.Reading.{Reading, reading, read, changed_first, is_thread, threads_after}
+use Rattle.plevent.specs.Reading.{Reading, reading, read, changed_first, is_thread, threads_after, halted_after}
 use Rattle.plrun.specs.Going.{Free}
 use Rattle.plhist.proofs.OneMore.{reading-push}
 
@@ -43,25 +43,36 @@ found-number t (x ∷ xs) row is = go (nat_eq x.number t) refl (λ i. found-numb
     go true same next is = grind (arith, eqb-true x.number t same, same, is)
     go false apart next is = grind (arith, apart, next, is)
 
--- another thread's entry changes nothing of a thread
-free_other : (t : ℕ) (r : Standing) (w u : ℕ) (a : Act) (n : ℕ) → nat_eq u t ≡ false → Free t r → Free t (record { size = n; threads = threads_after w u a r.threads })
-free_other t r w u Act.Start n other f = record { row = f.row; found = find-other t u (λ x. record x { worker = Some w }) r.threads (λ x. refl) other ∙ f.found; started = f.started; lives = f.lives }
-free_other t r w u (Act.Batch us) n other f = record { row = f.row; found = f.found; started = f.started; lives = f.lives }
-free_other t r w u (Act.End e) n other f = record { row = f.row; found = find-other t u (λ x. record x { ended = Some e }) r.threads (λ x. refl) other ∙ f.found; started = f.started; lives = f.lives }
+-- acts that do not end the run
+unfoldable pub goes_on : Act → Bool
+goes_on Act.Start = true
+goes_on (Act.Batch us) = true
+goes_on (Act.End e) = true
+goes_on (Act.Halt n) = false
 
-pub free-other : (t : ℕ) (h : List Entry) (e : Entry) → nat_eq e.thread t ≡ false → Free t (reading h).standing → Free t (reading (h ++ e ∷ [])).standing
-free-other t h e other f = subst (λ r. Free t r.standing) (sym (reading-push h e)) (free_other t (reading h).standing e.worker e.thread e.act (suc (reading h).standing.size) other f)
+-- another thread's entry changes nothing of a thread, unless it ends the run
+free_other : (t : ℕ) (r : Standing) (w u : ℕ) (a : Act) (n : ℕ) → nat_eq u t ≡ false → goes_on a ≡ true → Free t r → Free t (record { size = n; threads = threads_after w u a r.threads; halted = halted_after a r.halted })
+unfolding goes_on
+free_other t r w u Act.Start n other on f = record { row = f.row; found = find-other t u (λ x. record x { worker = Some w }) r.threads (λ x. refl) other ∙ f.found; started = f.started; lives = f.lives; goes = f.goes }
+free_other t r w u (Act.Batch us) n other on f = record { row = f.row; found = f.found; started = f.started; lives = f.lives; goes = f.goes }
+free_other t r w u (Act.Halt k) n other on f = absurd (true≢false (sym on))
+free_other t r w u (Act.End e) n other on f = record { row = f.row; found = find-other t u (λ x. record x { ended = Some e }) r.threads (λ x. refl) other ∙ f.found; started = f.started; lives = f.lives; goes = f.goes }
+
+pub free-other : (t : ℕ) (h : List Entry) (e : Entry) → nat_eq e.thread t ≡ false → goes_on e.act ≡ true → Free t (reading h).standing → Free t (reading (h ++ e ∷ [])).standing
+free-other t h e other on f = subst (λ r. Free t r.standing) (sym (reading-push h e)) (free_other t (reading h).standing e.worker e.thread e.act (suc (reading h).standing.size) other on f)
 
 -- acts that leave their thread running
 unfoldable pub is_plain : Act → Bool
 is_plain Act.Start = false
 is_plain (Act.Batch us) = true
 is_plain (Act.End e) = false
+is_plain (Act.Halt n) = false
 
-free_plain : (t : ℕ) (r : Standing) (w u : ℕ) (a : Act) (n : ℕ) → is_plain a ≡ true → Free t r → Free t (record { size = n; threads = threads_after w u a r.threads })
+free_plain : (t : ℕ) (r : Standing) (w u : ℕ) (a : Act) (n : ℕ) → is_plain a ≡ true → Free t r → Free t (record { size = n; threads = threads_after w u a r.threads; halted = halted_after a r.halted })
 unfolding is_plain
 free_plain t r w u Act.Start n is f = absurd (true≢false (sym is))
-free_plain t r w u (Act.Batch us) n is f = record { row = f.row; found = f.found; started = f.started; lives = f.lives }
+free_plain t r w u (Act.Batch us) n is f = record { row = f.row; found = f.found; started = f.started; lives = f.lives; goes = f.goes }
+free_plain t r w u (Act.Halt k) n is f = absurd (true≢false (sym is))
 free_plain t r w u (Act.End e) n is f = absurd (true≢false (sym is))
 
 pub free-plain : (t : ℕ) (h : List Entry) (e : Entry) → is_plain e.act ≡ true → Free t (reading h).standing → Free t (reading (h ++ e ∷ [])).standing

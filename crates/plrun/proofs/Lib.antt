@@ -6,4 +6,5 @@ pub mod Ends
 pub mod Serve
 pub mod Start
 pub mod Paid
+pub mod Halting
 pub mod Turns

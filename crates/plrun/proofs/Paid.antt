@@ -18,14 +18,16 @@ use Rattle.plclause.specs.declared.form.ClauseForm.TheVariants.{NoHead, BadHead,
 use Rattle.plevent.specs.Alive.{Stamped, exists, clauses_alive}
 use Rattle.plevent.specs.Search.{Item, View, Ask, Answer, Seen, Got, Next, Wants, Search}
 use Rattle.plload.specs.Program.{Program, clauses_for}
-use Rattle.plsearch.specs.Types.{Result, Stop, Fail, CutTo, Throw, Spent, Asking, Ceased, Element, Goal, Commit, Never, Until, Raise, Look, Await, Place, Case, Choice, Mark, Handle, Handler, Catch, Return, Keep, Again, Anew, Local, Move, Give, Go, Meeting, Run}
-use Rattle.plsearch.specs.Table.{Control, True, False, Both, Either, Then, Not, Once, Catching, Throwing, CallWith, Cut, Unify, Write, WriteQuoted, Newline, AddLast, Call, NoGoal, control, bind_element, bind_goals, is_true, before_rest, resolve, choose, call, raised, Runnable, Runs, Raises, run, runnable, called, call_with, branch, catching, thrown, catch_3, levels, has, recovers, met_by, caught, resume, unified, is_static, add_if, add, user, row, select, meet, walk_if, walk_over, replied, answered}
+use Rattle.plload.specs.declared.settings.Unknown.{Unknown}
+use Rattle.plload.specs.declared.settings.Unknown.TheVariants as unknown
+use Rattle.plsearch.specs.Types.{Result, Stop, Fail, CutTo, Throw, Halted, Spent, Asking, Ceased, Element, Goal, Commit, Never, Until, Raise, Look, Await, Halt, Place, Case, Choice, Mark, Handle, Handler, Catch, Return, Keep, Again, Anew, Local, Move, Give, Go, Meeting, Run}
+use Rattle.plsearch.specs.Table.{Control, True, False, Both, Either, Then, Not, Once, Catching, Throwing, CallWith, Cut, Unify, Write, WriteQuoted, Newline, Halting, AddLast, Call, NoGoal, control, bind_element, bind_goals, is_true, before_rest, resolve, choose, call, raised, Runnable, Runs, Raises, run, runnable, called, call_with, branch, catching, thrown, catch_3, levels, has, recovers, met_by, caught, resume, unified, is_static, add_if, add, halting, user, row, select, meet, missing, walk_if, walk_over, replied, halted, answered}
 use Rattle.plsearch.specs.Engine.{Ended, Visitor, stop_cut_if, stop_cut, mark, choice, returned, out, deeper, outs, moved, stepped, asks, walk, met, visit_in, Visit, left}
 use Rattle.plsearch.specs.Search.{start_from, start_of, started, from_start, next_of, search_of}
 use Rattle.plrun.specs.Paid.{IsPlain, ItemsCostSteps}
 
 -- elements that ask nothing
-IsQuiet : Element → Type 0
+unfoldable pub IsQuiet : Element → Type 0
 IsQuiet (Goal k t) = Unit {0}
 IsQuiet (Commit l) = Unit {0}
 IsQuiet (Never l) = Unit {0}
@@ -33,23 +35,39 @@ IsQuiet (Until l) = Unit {0}
 IsQuiet (Raise b) = Unit {0}
 IsQuiet (Look t) = ⊥
 IsQuiet (Await q) = ⊥
+IsQuiet (Halt n) = ⊥
 
-AreQuiet : List Element → Type 0
+unfoldable pub AreQuiet : List Element → Type 0
 AreQuiet [] = Unit {0}
 AreQuiet (e ∷ es) = IsQuiet e × AreQuiet es
 
+-- a batch to be published
+unfoldable pub IsBatch : Request → Type 0
+IsBatch Request.Start = ⊥
+IsBatch (Request.Publish us) = Unit {0}
+IsBatch (Request.Finish e) = ⊥
+IsBatch (Request.HaltRun n) = ⊥
+
+batch_plain : (q : Request) → IsBatch q → IsPlain (Ask q)
+unfolding IsBatch
+batch_plain Request.Start never = absurd never
+batch_plain (Request.Publish us) batch = tt
+batch_plain (Request.Finish e) never = absurd never
+batch_plain (Request.HaltRun n) never = absurd never
+
 -- elements that ask nothing but what a thread may ask
-Opens : Element → Type 0
+unfoldable pub Opens : Element → Type 0
 Opens (Goal k t) = Unit {0}
 Opens (Commit l) = Unit {0}
 Opens (Never l) = Unit {0}
 Opens (Until l) = Unit {0}
 Opens (Raise b) = Unit {0}
 Opens (Look t) = Unit {0}
-Opens (Await q) = IsPlain (Ask q)
+Opens (Await q) = IsBatch q
+Opens (Halt n) = Unit {0}
 
 -- a list that still asks at most s items before its next step
-Ready : ℕ → List Element → Type 0
+unfoldable pub Ready : ℕ → List Element → Type 0
 Ready zero es = AreQuiet es
 Ready (suc s) [] = Unit {0}
 Ready (suc s) (e ∷ es) = Opens e × AreQuiet es
@@ -63,6 +81,7 @@ quiet_opens (Until l) q = tt
 quiet_opens (Raise b) q = tt
 quiet_opens (Look t) q = absurd q
 quiet_opens (Await q) never = absurd never
+quiet_opens (Halt n) never = absurd never
 
 ready_more : (es : List Element) → AreQuiet es → Ready 1 es
 unfolding AreQuiet Ready
@@ -75,16 +94,17 @@ record Fits (s : ℕ) (from : Run) (e : Ended) : Type 0 where
   asks : (q : Item) → e.0 ≡ Asking q → (e.1.answers ≡ []) × IsPlain q × (suc (e.1.steps + length from.answers) ≤ from.steps + s)
 
 -- a result that asks nothing
-IsStill : Result → Type 0
+unfoldable pub IsStill : Result → Type 0
 IsStill Stop = Unit {0}
 IsStill Fail = Unit {0}
 IsStill (CutTo l) = Unit {0}
 IsStill (Throw b ls) = Unit {0}
+IsStill (Halted n) = Unit {0}
 IsStill Spent = Unit {0}
 IsStill (Asking q) = ⊥
 IsStill Ceased = Unit {0}
 
-still_never : (r : Result) (q : Item) → IsStill r → r ≡ Asking q → ⊥
+pub still_never : (r : Result) (q : Item) → IsStill r → r ≡ Asking q → ⊥
 unfolding IsStill
 still_never r q still is = subst IsStill is still
 
@@ -102,17 +122,18 @@ fits_more : (from : Run) (e : Ended) → Fits 0 from e → Fits 1 from e
 fits_more from e f = record { paid = omega (arith, f.paid); asks = λ q is. let a = f.asks q is in (a.0, a.1, omega (arith, a.2)) }
 
 -- marks and cuts keep what asks
-mark_asking : (l : ℕ) (r : Result) (q : Item) → mark l r ≡ Asking q → r ≡ Asking q
+pub mark_asking : (l : ℕ) (r : Result) (q : Item) → mark l r ≡ Asking q → r ≡ Asking q
 unfolding IsStill
 mark_asking l Stop q is = is
 mark_asking l Fail q is = absurd (still_never (CutTo l) q tt is)
 mark_asking l (CutTo m) q is = is
 mark_asking l (Throw b ls) q is = is
+mark_asking l (Halted n) q is = is
 mark_asking l Spent q is = is
 mark_asking l (Asking i) q is = is
 mark_asking l Ceased q is = is
 
-cut_asking : (d : ℕ) (r : Result) (q : Item) → stop_cut d r ≡ Asking q → r ≡ Asking q
+pub cut_asking : (d : ℕ) (r : Result) (q : Item) → stop_cut d r ≡ Asking q → r ≡ Asking q
 unfolding IsStill
 cut_asking d Stop q is = is
 cut_asking d Fail q is = is
@@ -122,6 +143,7 @@ cut_asking d (CutTo l) q is = go (nat_eq l d) is
     go true is = absurd (still_never Fail q tt is)
     go false is = is
 cut_asking d (Throw b ls) q is = is
+cut_asking d (Halted n) q is = is
 cut_asking d Spent q is = is
 cut_asking d (Asking i) q is = is
 cut_asking d Ceased q is = is
@@ -134,16 +156,16 @@ Pays : Visitor → Type 0
 Pays next = (d : ℕ) (p : Place) (run : Run) (s : ℕ) → (s ≤ 1) → Ready s p.goals → Fits s run (next d p run)
 
 -- places that ask nothing before their next step
-AllQuiet : List Place → Type 0
+unfoldable pub AllQuiet : List Place → Type 0
 AllQuiet [] = Unit {0}
 AllQuiet (p ∷ ps) = AreQuiet p.goals × AllQuiet ps
 
-CaseIsQuiet : Case → Type 0
+unfoldable pub CaseIsQuiet : Case → Type 0
 CaseIsQuiet (Choice ps) = AllQuiet ps
 CaseIsQuiet (Mark l) = Unit {0}
 CaseIsQuiet (Handle (Catch c r p)) = AreQuiet p.goals
 
-AreQuietCases : List Case → Type 0
+unfoldable pub AreQuietCases : List Case → Type 0
 AreQuietCases [] = Unit {0}
 AreQuietCases (c ∷ cs) = CaseIsQuiet c × AreQuietCases cs
 
@@ -156,6 +178,7 @@ choice_fits next pays (p ∷ ps) quiet d Fail s from to f =
 choice_fits next pays (p ∷ ps) quiet d Stop s from to f = f
 choice_fits next pays (p ∷ ps) quiet d (CutTo l) s from to f = changed_fits s from to (CutTo l) (stop_cut d (CutTo l)) (cut_asking d (CutTo l)) f
 choice_fits next pays (p ∷ ps) quiet d (Throw b ls) s from to f = f
+choice_fits next pays (p ∷ ps) quiet d (Halted n) s from to f = f
 choice_fits next pays (p ∷ ps) quiet d Spent s from to f = f
 choice_fits next pays (p ∷ ps) quiet d (Asking q) s from to f = f
 choice_fits next pays (p ∷ ps) quiet d Ceased s from to f = f
@@ -170,9 +193,10 @@ bind_quiet σ (Until l ∷ es) q = (tt, bind_quiet σ es q.1)
 bind_quiet σ (Raise b ∷ es) q = (tt, bind_quiet σ es q.1)
 bind_quiet σ (Look t ∷ es) q = absurd q.0
 bind_quiet σ (Await r ∷ es) q = absurd q.0
+bind_quiet σ (Halt n ∷ es) q = absurd q.0
 
 -- what a handler makes of a result
-ReturnFits : Result → Return → Type 0
+unfoldable pub ReturnFits : Result → Return → Type 0
 ReturnFits r (Keep x w) = (q : Item) → x ≡ Asking q → r ≡ Asking q
 ReturnFits r (Again p w) = IsStill r × AreQuiet p.goals
 ReturnFits r (Anew p w) = IsStill r × AreQuiet p.goals
@@ -191,7 +215,7 @@ caught_fits true c t ball ls p d w quiet = go (unify c (copied p.variables ball)
     go None = λ q is. is
     go (Some σ) = recovers_fits (runnable (bind σ t)) (Throw ball ls) d (bind_goals σ p.goals) (p.variables + length (variables ball)) w tt (bind_quiet σ p.goals quiet)
 
-resume_fits : (h : Handler) → CaseIsQuiet (Handle h) → (d : ℕ) (r : Result) (w : Local) → ReturnFits r (resume h d r w)
+pub resume_fits : (h : Handler) → CaseIsQuiet (Handle h) → (d : ℕ) (r : Result) (w : Local) → ReturnFits r (resume h d r w)
 unfolding CaseIsQuiet ReturnFits resume
 resume_fits (Catch c t p) quiet d (Throw b ls) w = caught_fits (has d ls) c t b ls p d w quiet
 resume_fits (Catch c t p) quiet d r w = λ q is. is
@@ -216,7 +240,7 @@ outs_fits next pays [] quiet d s from e f = f
 outs_fits next pays (c ∷ cs) quiet d s from e f = outs_fits next pays cs quiet.1 d s from (out next (deeper cs d) c e) (out_fits next pays c quiet.0 (deeper cs d) s from e f)
 
 -- what a row may say: nothing that asks, or a list that asks at most s items before its next step
-MoveFits : ℕ → Move → Type 0
+unfoldable pub MoveFits : ℕ → Move → Type 0
 MoveFits s (Give r w) = IsStill r
 MoveFits s (Go cs p w) = Ready s p.goals × AreQuietCases cs
 
@@ -246,7 +270,7 @@ places_quiet d n t rest quiet (c ∷ cs) = go (unify t (shift n c.head)) (places
     go None all = all
     go (Some σ) all = (body_quiet (is_true c.body) d (bind σ (shift n c.body)) (bind_goals σ rest) (bind_quiet σ rest quiet), all)
 
-ready : (s : ℕ) (es : List Element) → AreQuiet es → Ready s es
+pub ready : (s : ℕ) (es : List Element) → AreQuiet es → Ready s es
 unfolding AreQuiet Ready
 ready zero es q = q
 ready (suc s) [] q = tt
@@ -308,7 +332,7 @@ unified_fits None rest n w quiet = tt
 unified_fits (Some σ) rest n w quiet = go_fits 1 (bind_goals σ rest) n w (bind_quiet σ rest quiet)
 
 add_if_fits : (b : Bool) (c : Clause) (rest : List Element) (n : ℕ) (w : Local) → AreQuiet rest → MoveFits 1 (add_if b c rest n w)
-unfolding MoveFits AreQuietCases Ready Opens
+unfolding MoveFits AreQuietCases Ready Opens IsBatch
 add_if_fits true c rest n w quiet = raised_fits _ _ rest w 1
 add_if_fits false c rest n w quiet = ((tt, quiet), tt)
 
@@ -317,6 +341,13 @@ add_fits P NoHead rest n w quiet = raised_fits _ _ rest w 1
 add_fits P (BadHead h) rest n w quiet = raised_fits _ _ rest w 1
 add_fits P (BadBody b) rest n w quiet = raised_fits _ _ rest w 1
 add_fits P (IsClause c) rest n w quiet = add_if_fits (is_static P (indicator c.head)) c rest n w quiet
+
+halting_fits : (i : Tree) (rest : List Element) (n : ℕ) (w : Local) → AreQuiet rest → MoveFits 1 (halting i rest n w)
+unfolding MoveFits AreQuietCases Ready Opens
+halting_fits (var x) rest n w quiet = raised_fits _ _ rest w 1
+halting_fits (int i) rest n w quiet = ((tt, quiet), tt)
+halting_fits (atom f) rest n w quiet = raised_fits _ _ rest w 1
+halting_fits (compound f ts) rest n w quiet = raised_fits _ _ rest w 1
 
 call_fits : (d n : ℕ) (t : Tree) (rest : List Element) (cs : List Clause) (w : Local) (s : ℕ) → AreQuiet rest → MoveFits s (call d n t rest cs w)
 call_fits d n t rest cs w s quiet = choose_fits (filter_map (resolve d n t rest) cs) w s (places_quiet d n t rest quiet cs)
@@ -348,33 +379,51 @@ row_fits P (Unify a b) k t d rest n w quiet = unified_fits (unify a b) rest n w 
 row_fits P (Write a) k t d rest n w quiet = go_fits 1 rest n _ quiet
 row_fits P (WriteQuoted a) k t d rest n w quiet = go_fits 1 rest n _ quiet
 row_fits P Newline k t d rest n w quiet = go_fits 1 rest n _ quiet
+row_fits P (Halting i) k t d rest n w quiet = halting_fits i rest n w quiet
 row_fits P (AddLast c) k t d rest n w quiet = add_fits P (clausal c) rest n w quiet
 row_fits P (Call p) k t d rest n w quiet = user_fits (clauses_for P p) d t rest n w quiet
 row_fits P NoGoal k t d rest n w quiet = give_fits 1 Fail w tt
 
-walk_over_fits : (b : Bool) (cs : List Clause) (d : ℕ) (t : Tree) (rest : List Element) (n : ℕ) (w : Local) → AreQuiet rest → MoveFits 0 (walk_if b cs d t rest n w)
-walk_over_fits false cs d t rest n w quiet = raised_fits _ _ rest w 0
-walk_over_fits true cs d t rest n w quiet = call_fits d n t rest cs w 0 quiet
+missing_fits : (u : Unknown) (t : Tree) (rest : List Element) (w : Local) → MoveFits 0 (missing u t rest w)
+unfolding IsStill
+missing_fits unknown.Error t rest w = raised_fits _ _ rest w 0
+missing_fits unknown.Fail t rest w = give_fits 0 Fail w tt
+
+walk_over_fits : (b : Bool) (P : Program) (cs : List Clause) (d : ℕ) (t : Tree) (rest : List Element) (n : ℕ) (w : Local) → AreQuiet rest → MoveFits 0 (walk_if b P cs d t rest n w)
+walk_over_fits false P cs d t rest n w quiet = missing_fits P.settings.unknown t rest w
+walk_over_fits true P cs d t rest n w quiet = call_fits d n t rest cs w 0 quiet
 
 replied_fits : (r : Reply) (rest : List Element) (n : ℕ) (w : Local) → AreQuiet rest → MoveFits 0 (replied r rest n w)
 unfolding IsStill
 replied_fits Reply.Published rest n w quiet = go_fits 0 rest n w quiet
 replied_fits (Reply.Started i a g) rest n w quiet = give_fits 0 Ceased w tt
 replied_fits Reply.RunOver rest n w quiet = give_fits 0 Ceased w tt
+replied_fits Reply.Stopped rest n w quiet = give_fits 0 Ceased w tt
 replied_fits (Reply.NotYet q) rest n w quiet = give_fits 0 Ceased w tt
 replied_fits Reply.Done rest n w quiet = give_fits 0 Ceased w tt
 
-answered_fits : (e : Element) (a : Answer) (d : ℕ) (rest : List Element) (n : ℕ) (w : Local) → AreQuiet rest → MoveFits 0 (answered e a d rest n w)
+halted_fits : (r : Reply) (i : ℕ) (w : Local) → MoveFits 0 (halted r i w)
+unfolding IsStill
+halted_fits Reply.Done i w = give_fits 0 (Halted i) w tt
+halted_fits (Reply.Started j a g) i w = give_fits 0 Ceased w tt
+halted_fits Reply.RunOver i w = give_fits 0 Ceased w tt
+halted_fits Reply.Stopped i w = give_fits 0 Ceased w tt
+halted_fits (Reply.NotYet q) i w = give_fits 0 Ceased w tt
+halted_fits Reply.Published i w = give_fits 0 Ceased w tt
+
+pub answered_fits : (P : Program) (e : Element) (a : Answer) (d : ℕ) (rest : List Element) (n : ℕ) (w : Local) → AreQuiet rest → MoveFits 0 (answered P e a d rest n w)
 unfolding answered IsStill
-answered_fits (Look t) (Seen g us) d rest n w quiet = walk_over_fits (exists us (indicator t)) (clauses_alive us (indicator t)) d t rest n w quiet
-answered_fits (Look t) (Got r) d rest n w quiet = give_fits 0 Ceased w tt
-answered_fits (Await q) (Got r) d rest n w quiet = replied_fits r rest n w quiet
-answered_fits (Await q) (Seen g us) d rest n w quiet = give_fits 0 Ceased w tt
-answered_fits (Goal k t) a d rest n w quiet = give_fits 0 Ceased w tt
-answered_fits (Commit l) a d rest n w quiet = give_fits 0 Ceased w tt
-answered_fits (Never l) a d rest n w quiet = give_fits 0 Ceased w tt
-answered_fits (Until l) a d rest n w quiet = give_fits 0 Ceased w tt
-answered_fits (Raise b) a d rest n w quiet = give_fits 0 Ceased w tt
+answered_fits P (Look t) (Seen g us) d rest n w quiet = walk_over_fits (exists us (indicator t)) P (clauses_alive us (indicator t)) d t rest n w quiet
+answered_fits P (Look t) (Got r) d rest n w quiet = give_fits 0 Ceased w tt
+answered_fits P (Await q) (Got r) d rest n w quiet = replied_fits r rest n w quiet
+answered_fits P (Await q) (Seen g us) d rest n w quiet = give_fits 0 Ceased w tt
+answered_fits P (Halt i) (Got r) d rest n w quiet = halted_fits r i w
+answered_fits P (Halt i) (Seen g us) d rest n w quiet = give_fits 0 Ceased w tt
+answered_fits P (Goal k t) a d rest n w quiet = give_fits 0 Ceased w tt
+answered_fits P (Commit l) a d rest n w quiet = give_fits 0 Ceased w tt
+answered_fits P (Never l) a d rest n w quiet = give_fits 0 Ceased w tt
+answered_fits P (Until l) a d rest n w quiet = give_fits 0 Ceased w tt
+answered_fits P (Raise b) a d rest n w quiet = give_fits 0 Ceased w tt
 
 -- a goal takes a step
 stepped_fits : (next : Visitor) → Pays next → (row : Local → Move) → ((w : Local) → MoveFits 1 (row w)) → (d s : ℕ) (run : Run) (steps : ℕ) → run.steps ≡ steps → Fits s run (stepped next row d run steps)
@@ -413,11 +462,11 @@ at_most_one from e zero le f = f
 at_most_one from e (suc zero) le f = fits_more from e f
 at_most_one from e (suc (suc s)) le f = absurd (omega arith)
 
-select_fits : (P : Program) (k : ℕ) (t : Tree) (d : ℕ) (rest : List Element) (n : ℕ) (w : Local) → AreQuiet rest → MoveFits 1 (select P k t d rest n w)
+pub select_fits : (P : Program) (k : ℕ) (t : Tree) (d : ℕ) (rest : List Element) (n : ℕ) (w : Local) → AreQuiet rest → MoveFits 1 (select P k t d rest n w)
 unfolding select
 select_fits P k t d rest n w quiet = row_fits P (control t) k t d rest n w quiet
 
-rest_quiet : (s : ℕ) (e : Element) (es : List Element) → s ≤ 1 → Ready s (e ∷ es) → AreQuiet es
+pub rest_quiet : (s : ℕ) (e : Element) (es : List Element) → s ≤ 1 → Ready s (e ∷ es) → AreQuiet es
 unfolding Ready AreQuiet
 rest_quiet zero e es le r = r.1
 rest_quiet (suc s) e es le r = r.1
@@ -443,28 +492,33 @@ walk_fits P next pays (Until l ∷ es) n d run s le r =
 walk_fits P next pays (Raise b ∷ es) n d run s le r = still_fits s run (record run { local = run.local }) (Throw b (levels es)) tt (omega arith)
 walk_fits P next pays (Look t ∷ es) n d run zero le r = absurd r.0
 walk_fits P next pays (Look t ∷ es) n d run (suc zero) le r =
-    asks_fits next pays (λ a. answered (Look t) a d es n) (λ a w. answered_fits (Look t) a d es n w r.1) View tt d run run.answers refl
+    asks_fits next pays (λ a. answered P (Look t) a d es n) (λ a w. answered_fits P (Look t) a d es n w r.1) View tt d run run.answers refl
 walk_fits P next pays (Look t ∷ es) n d run (suc (suc s)) le r = absurd (omega arith)
 walk_fits P next pays (Await q ∷ es) n d run zero le r = absurd r.0
 walk_fits P next pays (Await q ∷ es) n d run (suc zero) le r =
-    asks_fits next pays (λ a. answered (Await q) a d es n) (λ a w. answered_fits (Await q) a d es n w r.1) (Ask q) r.0 d run run.answers refl
+    asks_fits next pays (λ a. answered P (Await q) a d es n) (λ a w. answered_fits P (Await q) a d es n w r.1) (Ask q) (batch_plain q r.0) d run run.answers refl
 walk_fits P next pays (Await q ∷ es) n d run (suc (suc s)) le r = absurd (omega arith)
+walk_fits P next pays (Halt i ∷ es) n d run zero le r = absurd r.0
+walk_fits P next pays (Halt i ∷ es) n d run (suc zero) le r =
+    asks_fits next pays (λ a. answered P (Halt i) a d es n) (λ a w. answered_fits P (Halt i) a d es n w r.1) (Ask (Request.HaltRun i)) tt d run run.answers refl
+walk_fits P next pays (Halt i ∷ es) n d run (suc (suc s)) le r = absurd (omega arith)
 
 visit_pays : (P : Program) (k : ℕ) → Pays (visit_in P k)
 unfolding visit_in Pays IsStill
 visit_pays P zero d p run s le r = walk_fits P (λ d p run. (Spent, run)) (λ d p run s le r. still_fits s run run Spent tt (omega arith)) p.goals p.variables d run s le r
 visit_pays P (suc k) d p run s le r = walk_fits P (visit_in P k) (visit_pays P k) p.goals p.variables d run s le r
 
-start_quiet : (gs : List Tree) → AreQuiet (start_from gs).goals
+pub start_quiet : (gs : List Tree) → AreQuiet (start_from gs).goals
 unfolding start_from AreQuiet IsQuiet
 start_quiet [] = tt
 start_quiet (g ∷ gs) = (tt, start_quiet gs)
 
-asked_of : (r : Result) (q : Item) → next_of r ≡ Wants q → r ≡ Asking q
+pub asked_of : (r : Result) (q : Item) → next_of r ≡ Wants q → r ≡ Asking q
 asked_of Stop q is = absurd cc
 asked_of Fail q is = absurd cc
 asked_of (CutTo l) q is = absurd cc
 asked_of (Throw b ls) q is = absurd cc
+asked_of (Halted n) q is = absurd cc
 asked_of Spent q is = absurd cc
 asked_of (Asking i) q is = cc
 asked_of Ceased q is = absurd cc

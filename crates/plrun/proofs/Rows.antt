@@ -13,9 +13,10 @@ use Rattle.plevent.specs.declared.standing.Thread.{Thread}
 use Rattle.plevent.specs.declared.standing.Standing.{Standing}
 use Rattle.plevent.specs.Alive.{add_if}
 use Rattle.plevent.specs.Reading.{Reading, reading, is_thread}
-use Rattle.plevent.specs.Rows.{Row, row, served, is_workers, is_new, is_over, start_row, runs, entries_of}
+use Rattle.plevent.specs.Rows.{Row, row, served, served_while, is_workers, is_new, is_over, start_row, runs, entries_of}
 use Rattle.plhist.specs.Legal.{MayAsk, IsDue, worker_of}
 use Rattle.plrun.specs.Going.{Free}
+use Rattle.plrun.specs.Halts.{last_of, act_of}
 
 runs-found : (t : ℕ) (xs : List Thread) (x : Thread) → find (is_thread t) xs ≡ Some x → is_some x.worker ≡ true → is_some x.ended ≡ false →
     list_any (λ x. is_thread t x && is_some x.worker && not (is_some x.ended)) xs ≡ true
@@ -33,7 +34,9 @@ free-runs t r f = runs-found t r.threads f.row f.found (ap is_some f.started) (a
 -- a request of a thread that runs has its row
 pub row-served : (q : Request) (t : ℕ) (r : Reading) → is_workers q ≡ false → Free t r.standing → served q t r ≡ row q t r.standing
 unfolding served
-row-served q t r workers f = ap₂ (λ a b. add_if (a || b) (row q t r.standing) (Reply.NotYet q, None)) workers (free-runs t r.standing f)
+row-served q t r workers f =
+    ap (λ o. add_if (is_some o) (Reply.Stopped, None) (served_while q t r.standing)) f.goes
+    ∙ ap₂ (λ a b. add_if (a || b) (row q t r.standing) (Reply.NotYet q, None)) workers (free-runs t r.standing f)
 
 started-by : (t : ℕ) (r : Standing) → Free t r → worker_of t r.threads ≡ Some 1
 started-by t r f = ap (option_and_then (λ x. x.worker)) f.found ∙ f.started
@@ -41,13 +44,28 @@ started-by t r f = ap (option_and_then (λ x. x.worker)) f.found ∙ f.started
 pub publish-due : (us : List Update) (t : ℕ) (r : Reading) → Free t r.standing → IsDue r (record { worker = 1; thread = t; act = Act.Batch us })
 publish-due us t r f = record { asked = Request.Publish us; thread = t; may = started-by t r.standing f; made = ap (λ x. x.1) (row-served (Request.Publish us) t r refl f) }
 
-pub finish-due : (e : ThreadEnd) (t : ℕ) (r : Reading) → Free t r.standing → IsDue r (record { worker = 1; thread = t; act = Act.End e })
-finish-due e t r f = record { asked = Request.Finish e; thread = t; may = started-by t r.standing f; made = ap (λ x. x.1) (row-served (Request.Finish e) t r refl f) }
+-- the last request of a thread that runs
+pub last-served : (e : ThreadEnd) (t : ℕ) (r : Reading) → Free t r.standing → served (last_of e) t r ≡ (Reply.Done, Some (t, act_of e))
+last-served ThreadEnd.True t r f = row-served (Request.Finish ThreadEnd.True) t r refl f
+last-served ThreadEnd.False t r f = row-served (Request.Finish ThreadEnd.False) t r refl f
+last-served (ThreadEnd.Exception ball) t r f = row-served (Request.Finish (ThreadEnd.Exception ball)) t r refl f
+last-served ThreadEnd.Budget t r f = row-served (Request.Finish ThreadEnd.Budget) t r refl f
+last-served (ThreadEnd.Halt n) t r f = row-served (Request.HaltRun n) t r refl f
+
+last_may : (e : ThreadEnd) (t : ℕ) (r : Standing) → worker_of t r.threads ≡ Some 1 → MayAsk r 1 t (last_of e)
+last_may ThreadEnd.True t r by = by
+last_may ThreadEnd.False t r by = by
+last_may (ThreadEnd.Exception ball) t r by = by
+last_may ThreadEnd.Budget t r by = by
+last_may (ThreadEnd.Halt n) t r by = by
+
+pub last-due : (e : ThreadEnd) (t : ℕ) (r : Reading) → Free t r.standing → IsDue r (record { worker = 1; thread = t; act = act_of e })
+last-due e t r f = record { asked = last_of e; thread = t; may = last_may e t r.standing (started-by t r.standing f); made = ap (λ x. x.1) (last-served e t r f) }
 
 -- Start takes a new thread, if there is one
-pub start-served : (t : ℕ) (r : Reading) → served Request.Start t r ≡ start_row r.standing (find is_new r.standing.threads)
+pub start-served : (t : ℕ) (r : Reading) → r.standing.halted ≡ None → served Request.Start t r ≡ start_row r.standing (find is_new r.standing.threads)
 unfolding served
-start-served t r = refl
+start-served t r goes = ap (λ o. add_if (is_some o) (Reply.Stopped, None) (served_while Request.Start t r.standing)) goes
 
-pub start-due : (t : ℕ) (r : Reading) (x : Thread) → find is_new r.standing.threads ≡ Some x → IsDue r (record { worker = 1; thread = x.number; act = Act.Start })
-start-due t r x is = record { asked = Request.Start; thread = t; may = (omega arith, omega arith); made = ap (λ y. y.1) (start-served t r) ∙ ap (λ o. (start_row r.standing o).1) is }
+pub start-due : (t : ℕ) (r : Reading) (x : Thread) → r.standing.halted ≡ None → find is_new r.standing.threads ≡ Some x → IsDue r (record { worker = 1; thread = x.number; act = Act.Start })
+start-due t r x goes is = record { asked = Request.Start; thread = t; may = (omega arith, omega arith); made = ap (λ y. y.1) (start-served t r goes) ∙ ap (λ o. (start_row r.standing o).1) is }

@@ -12,7 +12,7 @@ use Rattle.plevent.specs.declared.act.Entry.{Entry}
 use Rattle.plevent.specs.declared.standing.Thread.{Thread}
 use Rattle.plevent.specs.declared.standing.Standing.{Standing}
 use Rattle.plevent.specs.Alive.{Stamped, before}
-use Rattle.plevent.specs.Reading.{Reading, reading, is_thread, changed_first}
+use Rattle.plevent.specs.Reading.{Reading, reading, is_thread, changed_first, halted_after}
 use Rattle.plevent.specs.Rows.{served, row, adds, reply_to, entries_of, is_over, is_settled}
 use Rattle.plevent.specs.Search.{View, Ask, Answer, Seen, Got, Search}
 use Rattle.plhist.specs.declared.history.Run.{Run}
@@ -22,16 +22,17 @@ use Rattle.plhist.specs.Legal.{Legal, Over}
 use Rattle.plhist.specs.Main.{MainAlone}
 use Rattle.plhist.specs.Runs.{AllFollow, OneEach}
 use Rattle.plhist.proofs.Alone.{main-alone}
-use Rattle.plhist.proofs.OneMore.{reading-push}
+use Rattle.plhist.proofs.OneMore.{reading-push, halted-push}
 use Rattle.plworld.proofs.Push.{before-is}
 use Rattle.plload.specs.Program.{Program}
 use Rattle.plsearch.specs.Search.{search_of}
 use Rattle.plsearch.specs.Solving.{Goes, TakesOne, StandsAt, EndsAt}
 use Rattle.plrun.specs.Going.{Free, Going, IsRunning}
+use Rattle.plrun.specs.Halts.{HaltsWhenDone, ComesTo, last_of, act_of}
 use Rattle.plrun.specs.Overall.{IsHistory}
 use Rattle.plrun.proofs.Grow.{legal-push}
 use Rattle.plrun.proofs.Free.{is_plain, find-same, found-number}
-use Rattle.plrun.proofs.Rows.{row-served, publish-due, finish-due}
+use Rattle.plrun.proofs.Rows.{row-served, publish-due, last-served, last-due}
 use Rattle.plrun.proofs.Steps.{going-goes, going-view, going-act}
 use Rattle.plrun.proofs.Ends.{ends-done}
 
@@ -66,7 +67,7 @@ published first search limit old new before_used used out h h' t places later g 
       legal = legal-push first h e r.legal (publish-due us t (reading h) r.going.free);
       going = subst (Going search limit new used (h ++ e ∷ []) t) (sym (pushed ∙ ap (λ g. places ++ g ∷ []) now))
           (going-act search limit old new before_used used h t 1 places (Request.Publish us) Reply.Published (Act.Batch us) (λ n le. ap (λ e. e.next) (at n le))
-          (subst (λ x. TakesOne (Got x) old before_used new used) told one) is refl refl r.going);
+          (subst (λ x. TakesOne (Got x) old before_used new used) told one) is refl refl tt r.going);
     })
 
 -- the solver went on
@@ -88,30 +89,68 @@ main-runs t m x is found = go (nat_eq m.number t) refl found
 over-ended : (m : Thread) (e : ThreadEnd) → m.worker ≡ Some 1 → not (list_any (λ t. not (is_settled t)) (record m { ended = Some e } ∷ [])) ≡ true
 over-ended m e is = rw is refl
 
--- main's end
-pub finished : (first : List Update) (search : Search) (limit : ℕ) (rest : Search) (used : ℕ) (out : List ℕ) (h h' : List Entry) (t : ℕ) (places : List ℕ) (g : ℕ) (e : ThreadEnd) (run : Run) →
-    IsRunning first search limit rest used h t places → EndsAt limit e rest used out → g ≡ length h → h' ≡ h ++ adds h 1 t (Request.Finish e) →
-    run ≡ record { thread = t; places = places ++ g ∷ []; steps = used; «end» = RunEnd.Ended e; output = out } →
-    IsHistory first (λ t. search) limit h' (run ∷ [])
-finished first search limit rest used out h h' t places g e run r at now grows made =
-    let is : served (Request.Finish e) t (reading h) ≡ (Reply.Done, Some (t, Act.End e)) = row-served (Request.Finish e) t (reading h) refl r.going.free in
+or_true : (b : Bool) → (b || true) ≡ true
+or_true true = refl
+or_true false = refl
+
+-- main's last entry ends the run
+record Closed (h : List Entry) (t : ℕ) : Type 0 where
+  over : Over h
+  each : t ∷ [] ≡ map (λ x. x.number) (reading h).standing.threads
+
+told_closed : (h : List Entry) (t : ℕ) (e : ThreadEnd) → Free t (reading h).standing → Closed (h ++ record { worker = 1; thread = t; act = Act.End e } ∷ []) t
+told_closed h t e f =
     let x : Entry = record { worker = 1; thread = t; act = Act.End e } in
-    let grown : h' ≡ h ++ x ∷ [] = grows ∙ ap (λ x. h ++ entries_of 1 x.1) is in
     let m = main-alone h in
-    let f = r.going.free in
     let here = main-runs t m.row f.row m.number (ap (find (is_thread t)) (sym m.threads) ∙ f.found) in
-    let ended : (reading (h ++ x ∷ [])).standing.threads ≡ record m.row { ended = Some e } ∷ [] =
-    ap (λ r. r.standing.threads) (reading-push h x) ∙ ap (changed_first (is_thread t) (λ y. record y { ended = Some e })) m.threads ∙ main_ended t m.row e (m.number ∙ sym here.0) in
-    subst (λ l. IsHistory first (λ t. search) limit l (run ∷ [])) (sym grown)
-    (subst (λ y. IsHistory first (λ t. search) limit (h ++ x ∷ []) (y ∷ [])) (sym (made ∙ ap (λ g. record { thread = t; places = places ++ g ∷ []; steps = used; «end» = RunEnd.Ended e; output = out }) now)) (record {
-      legal = legal-push first h x r.legal (finish-due e t (reading h) f);
-      over = ap (λ ts. not (list_any (λ t. not (is_settled t)) ts)) ended ∙ over-ended m.row e (ap (λ y. y.worker) (sym here.1) ∙ f.started);
-      follow = (ends-done search limit rest used h t 1 places e out at is r.going, tt);
+    let later = (reading (h ++ x ∷ [])).standing in
+    let ended : later.threads ≡ record m.row { ended = Some e } ∷ [] =
+    ap (λ r. r.standing.threads) (reading-push h x) ∙ ap (changed_first (is_thread t) (λ y. record y { ended = Some e })) m.threads ∙ main_ended t m.row e (m.number ∙ sym here.0) in record {
+      over = ap (λ ts. is_some later.halted || not (list_any (λ t. not (is_settled t)) ts)) ended
+          ∙ ap (λ b. is_some later.halted || b) (over-ended m.row e (ap (λ y. y.worker) (sym here.1) ∙ f.started))
+          ∙ or_true (is_some later.halted);
       each = ap (λ n. n ∷ []) (here.0 ∙ sym m.number) ∙ ap (map (λ x. x.number)) (sym ended);
-    }))
+    }
   where
     main_ended : (t : ℕ) (m : Thread) (e : ThreadEnd) → m.number ≡ t → changed_first (is_thread t) (λ y. record y { ended = Some e }) (m ∷ []) ≡ record m { ended = Some e } ∷ []
     main_ended t m e is = rw (eq-eqb m.number t is) refl
+
+halt_closed : (h : List Entry) (t n : ℕ) → Free t (reading h).standing → Closed (h ++ record { worker = 1; thread = t; act = Act.Halt n } ∷ []) t
+halt_closed h t n f =
+    let x : Entry = record { worker = 1; thread = t; act = Act.Halt n } in
+    let m = main-alone h in
+    let here = main-runs t m.row f.row m.number (ap (find (is_thread t)) (sym m.threads) ∙ f.found) in
+    let later = (reading (h ++ x ∷ [])).standing in
+    let halted : later.halted ≡ Some n = halted-push h x ∙ ap (halted_after (Act.Halt n)) f.goes in record {
+      over = ap (λ o. is_some o || not (list_any (λ t. not (is_settled t)) later.threads)) halted;
+      each = ap (λ n. n ∷ []) (here.0 ∙ sym m.number) ∙ ap (map (λ x. x.number)) (sym (ap (λ r. r.standing.threads) (reading-push h x) ∙ m.threads));
+    }
+
+last_closed : (h : List Entry) (t : ℕ) (e : ThreadEnd) → Free t (reading h).standing → Closed (h ++ record { worker = 1; thread = t; act = act_of e } ∷ []) t
+last_closed h t ThreadEnd.True f = told_closed h t ThreadEnd.True f
+last_closed h t ThreadEnd.False f = told_closed h t ThreadEnd.False f
+last_closed h t (ThreadEnd.Exception ball) f = told_closed h t (ThreadEnd.Exception ball) f
+last_closed h t ThreadEnd.Budget f = told_closed h t ThreadEnd.Budget f
+last_closed h t (ThreadEnd.Halt n) f = halt_closed h t n f
+
+-- main's end
+pub finished : (first : List Update) (search : Search) (limit : ℕ) (rest : Search) (used : ℕ) (out : List ℕ) (h h' : List Entry) (t : ℕ) (places : List ℕ) (g : ℕ) (e : ThreadEnd) (run : Run) →
+    HaltsWhenDone search → IsRunning first search limit rest used h t places → ComesTo limit e rest used out → g ≡ length h → h' ≡ h ++ adds h 1 t (last_of e) →
+    run ≡ record { thread = t; places = places ++ g ∷ []; steps = used; «end» = RunEnd.Ended e; output = out } →
+    IsHistory first (λ t. search) limit h' (run ∷ [])
+finished first search limit rest used out h h' t places g e run halts r at now grows made =
+    let f = r.going.free in
+    let is : served (last_of e) t (reading h) ≡ (Reply.Done, Some (t, act_of e)) = last-served e t (reading h) f in
+    let x : Entry = record { worker = 1; thread = t; act = act_of e } in
+    let grown : h' ≡ h ++ x ∷ [] = grows ∙ ap (λ x. h ++ entries_of 1 x.1) is in
+    let closed = last_closed h t e f in
+    subst (λ l. IsHistory first (λ t. search) limit l (run ∷ [])) (sym grown)
+    (subst (λ y. IsHistory first (λ t. search) limit (h ++ x ∷ []) (y ∷ [])) (sym (made ∙ ap (λ g. record { thread = t; places = places ++ g ∷ []; steps = used; «end» = RunEnd.Ended e; output = out }) now)) (record {
+      legal = legal-push first h x r.legal (last-due e t (reading h) f);
+      over = closed.over;
+      follow = (ends-done search limit rest used h t 1 places e out halts at is r.going, tt);
+      each = closed.each;
+    }))
 
 -- a run by its parts
 pub same_run : (t : ℕ) (p q : List ℕ) (m n : ℕ) (e : ThreadEnd) (o u : List ℕ) → p ≡ q → m ≡ n → o ≡ u →

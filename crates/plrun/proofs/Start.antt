@@ -12,7 +12,7 @@ use Rattle.plevent.specs.declared.standing.Thread.{Thread}
 use Rattle.plevent.specs.declared.standing.Standing.{Standing}
 use Rattle.plevent.specs.Alive.{add_if}
 use Rattle.plevent.specs.Reading.{Reading, reading, new_thread, main}
-use Rattle.plevent.specs.Rows.{Row, served, start_row, adds, reply_to, entries_of, is_new, is_over, is_settled}
+use Rattle.plevent.specs.Rows.{Row, served, served_while, start_row, adds, reply_to, entries_of, is_new, is_over, is_settled}
 use Rattle.plevent.specs.Search.{Search}
 use Rattle.plhist.specs.declared.history.Run.{Run}
 use Rattle.plhist.specs.Follows.{own, takes, from_start}
@@ -34,6 +34,7 @@ start_entry = record { worker = 1; thread = 1; act = Act.Start }
 number_of : Reply → ℕ
 number_of (Reply.Started n a g) = n
 number_of Reply.RunOver = 0
+number_of Reply.Stopped = 0
 number_of (Reply.NotYet q) = 0
 number_of Reply.Published = 0
 number_of Reply.Done = 0
@@ -41,33 +42,45 @@ number_of Reply.Done = 0
 main_begun : (first : List Update) (search : Search) (limit : ℕ) (rest : Search) (used : ℕ) → Begins search rest used → IsRunning first search limit rest used (opening first ∷ start_entry ∷ []) 1 []
 unfolding takes reading own start_entry
 main_begun first search limit rest used begins = record {
-  legal = record { later = start_entry ∷ []; opens = refl; due = (start-due 0 (reading (opening first ∷ [])) (new_thread 1 (Some main)) refl, tt) };
+  legal = record { later = start_entry ∷ []; opens = refl; due = (start-due 0 (reading (opening first ∷ [])) (new_thread 1 (Some main)) refl refl, tt) };
   going = record {
     start = 1;
     state = from_start 1;
+    common = tt;
     owns = refl;
     items = λ n le. refl;
     rests = λ n answers le. begins.1 n answers;
     within = omega (arith, begins.0);
     low = omega arith;
-    free = record { row = record (new_thread 1 (Some main)) { worker = Some 1 }; found = refl; started = refl; lives = refl };
+    free = record { row = record (new_thread 1 (Some main)) { worker = Some 1 }; found = refl; started = refl; lives = refl; goes = refl };
   };
 }
 
-over_row : (r : Standing) (m : Thread) → r.threads ≡ m ∷ [] → is_over r ≡ true → start_row r (find is_new r.threads) ≡ (Reply.RunOver, None)
-over_row r m alone over = go m.worker refl
+over_row : (r : Standing) (m : Thread) → r.threads ≡ m ∷ [] → r.halted ≡ None → is_over r ≡ true → start_row r (find is_new r.threads) ≡ (Reply.RunOver, None)
+over_row r m alone goes over = go m.worker refl
   where
     go : (w : Option ℕ) → m.worker ≡ w → start_row r (find is_new r.threads) ≡ (Reply.RunOver, None)
-    go None is = absurd (true≢false (sym over ∙ rw alone (rw is refl)))
+    go None is = absurd (true≢false (sym over ∙ rw (goes, alone) (rw is refl)))
     go (Some w) is =
         let none : find is_new r.threads ≡ None = rw alone (rw is refl) in
         ap (start_row r) none ∙ ap (λ b. (add_if b Reply.RunOver (Reply.NotYet Request.Start), None)) over
 
-over_served : (h : List Entry) → Over h → served Request.Start 0 (reading h) ≡ (Reply.RunOver, None)
-over_served h over = let m = main-alone h in start-served 0 (reading h) ∙ over_row (reading h).standing m.row m.threads over
+-- where a run is over, no thread is started
+record Unstarted (h : List Entry) : Type 0 where
+  told : Reply
+  row : served Request.Start 0 (reading h) ≡ (told, None)
+  never : (n : ℕ) (a : Option (List ℕ)) (g : Option Tree) → told ≡ Reply.Started n a g → ⊥
 
-never_started : (n : ℕ) (a : Option (List ℕ)) (g : Option Tree) → Reply.RunOver ≡ Reply.Started n a g → ⊥
-never_started n a g is = cc
+over_served : (h : List Entry) → Over h → Unstarted h
+unfolding served
+over_served h over = go (reading h).standing.halted refl
+  where
+    stopped : (n : ℕ) → (reading h).standing.halted ≡ Some n → served Request.Start 0 (reading h) ≡ (Reply.Stopped, None)
+    stopped n is = ap (λ o. add_if (is_some o) (Reply.Stopped, None) (served_while Request.Start 0 (reading h).standing)) is
+
+    go : (o : Option ℕ) → (reading h).standing.halted ≡ o → Unstarted h
+    go (Some n) is = record { told = Reply.Stopped; row = stopped n is; never = λ n a g same. cc }
+    go None is = let m = main-alone h in record { told = Reply.RunOver; row = start-served 0 (reading h) is ∙ over_row (reading h).standing m.row m.threads is over; never = λ n a g same. cc }
 
 -- Start was answered Started: main runs
 pub begun : (first : List Update) (search : Search) (limit : ℕ) (rest : Search) (used : ℕ) (h h' : List Entry) (reply : Reply) (n : ℕ) (a : Option (List ℕ)) (g : Option Tree) →
@@ -80,7 +93,7 @@ begun first search limit rest used h h' reply n a g (inl opens) tells grows is b
     let grown : h' ≡ opening first ∷ start_entry ∷ [] = grows ∙ ap₂ (λ l x. l ++ entries_of 1 x.1) opens row in
     (subst (λ l. IsRunning first search limit rest used l n []) (sym grown) (subst (λ n. IsRunning first search limit rest used (opening first ∷ start_entry ∷ []) n []) number (main_begun first search limit rest used begins)), opens)
 begun first search limit rest used h h' reply n a g (inr over) tells grows is begins =
-    absurd (never_started n a g (sym (ap (λ x. x.0) (over_served h over)) ∙ sym tells ∙ is))
+    let all = over_served h over in absurd (all.never n a g (sym (ap (λ x. x.0) all.row) ∙ sym tells ∙ is))
 
 -- Start was answered otherwise: the run is over
 pub not_begun : (first : List Update) (h h' : List Entry) (reply : Reply) →
@@ -88,7 +101,7 @@ pub not_begun : (first : List Update) (h h' : List Entry) (reply : Reply) →
     Over h × (h' ≡ h)
 not_begun first h h' reply (inl opens) tells grows never =
     absurd (never 1 (Some main) None (tells ∙ ap (λ x. x.0) (ap (λ l. served Request.Start 0 (reading l)) opens ∙ first_row first)))
-not_begun first h h' reply (inr over) tells grows never = (over, grows ∙ ap (λ x. h ++ entries_of 1 x.1) (over_served h over) ∙ append-nil h)
+not_begun first h h' reply (inr over) tells grows never = (over, grows ∙ ap (λ x. h ++ entries_of 1 x.1) (over_served h over).row ∙ append-nil h)
 
 first_goes_on : (first : List Update) → Over (opening first ∷ []) → ⊥
 unfolding reading

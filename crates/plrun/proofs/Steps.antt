@@ -2,18 +2,20 @@
 use Rattle.std.proofs.Common.{◌≡◌, ℕ, zero, suc, ◌+◌, ◌<◌, ◌≤◌, Bool, true, false, List, [], ◌∷◌, ◌++◌, length, take, Option, Some, None, refl, sym, ap, ◌∙◌, subst, arith, nat_lt, nat_eq, length-append, append_assoc, append-nil, lt-ltb, eq-eqb}
 use Rattle.std.specs.Option.{option_and_then}
 use Rattle.std.proofs.Math.Seq.{take-append_seam}
+use Rattle.plevent.specs.declared.request.ThreadEnd.{ThreadEnd}
 use Rattle.plevent.specs.declared.request.Request.{Request}
 use Rattle.plevent.specs.declared.request.Reply.{Reply}
 use Rattle.plevent.specs.declared.act.Act.{Act}
 use Rattle.plevent.specs.declared.act.Entry.{Entry}
 use Rattle.plevent.specs.Reading.{Reading, reading}
 use Rattle.plevent.specs.Rows.{served}
-use Rattle.plevent.specs.Search.{Item, View, Ask, Answer, Seen, Got, Next, Wants, Search, item_of}
+use Rattle.plevent.specs.Search.{Item, View, Ask, Answer, Seen, Got, Next, Wants, Finishes, Search, item_of}
 use Rattle.plhist.specs.Follows.{own, own_if, Taken, is_not_yet, noted, guarded, not_below, replied, answered, answer_at, item_at, takes, from_start, asks_of}
-use Rattle.plsearch.specs.Solving.{Goes, TakesOne, StandsAt}
+use Rattle.plsearch.specs.Solving.{Goes, TakesOne, StandsAt, EndsAt}
 use Rattle.plrun.specs.Going.{Free, Going}
+use Rattle.plrun.specs.Halts.{IsCommon, AreCommon, HaltsNoSooner, ComesTo}
 use Rattle.plrun.proofs.Grow.{own-push, takes-grow, takes-push}
-use Rattle.plrun.proofs.Free.{free-plain, free-other, is_plain}
+use Rattle.plrun.proofs.Free.{free-plain, free-other, goes_on, is_plain}
 
 -- the solver's own steps
 pub going-goes : (search : Search) (limit : ℕ) (old new : Search) (before used : ℕ) (h : List Entry) (t : ℕ) (places : List ℕ) →
@@ -21,6 +23,7 @@ pub going-goes : (search : Search) (limit : ℕ) (old new : Search) (before used
 going-goes search limit old new before used h t places goes g = record {
   start = g.start;
   state = g.state;
+  common = g.common;
   owns = g.owns;
   items = λ n le. g.items n (omega (arith, le, goes.0));
   rests = λ n answers le. g.rests n answers (omega (arith, le, goes.0)) ∙ goes.2 n answers le;
@@ -29,18 +32,19 @@ going-goes search limit old new before used h t places goes g = record {
   free = g.free;
 }
 
--- another thread's entry
+-- another thread's entry, unless it ends the run
 pub going-other : (search : Search) (limit : ℕ) (ends : Search) (used : ℕ) (h : List Entry) (t : ℕ) (places : List ℕ) (e : Entry) →
-    nat_eq e.thread t ≡ false → Going search limit ends used h t places → Going search limit ends used (h ++ e ∷ []) t places
-going-other search limit ends used h t places e other g = record {
+    nat_eq e.thread t ≡ false → goes_on e.act ≡ true → Going search limit ends used h t places → Going search limit ends used (h ++ e ∷ []) t places
+going-other search limit ends used h t places e other on g = record {
   start = g.start;
   state = g.state;
+  common = g.common;
   owns = own-push t h e ∙ ap (λ b. own t h ++ own_if b (length h) e.act []) other ∙ append-nil (own t h) ∙ g.owns;
   items = λ n le. takes-grow (asks_of search n) h (e ∷ []) t places (from_start g.start) g.state (g.items n le);
   rests = g.rests;
   within = g.within;
   low = omega (arith, g.low, length-append h (e ∷ []));
-  free = free-other t h e other g.free;
+  free = free-other t h e other on g.free;
 }
 
 let_in : (low g : ℕ) → low ≤ g → not_below low g ≡ true
@@ -85,6 +89,10 @@ items-push search n h more t places k g s s' q items asks at =
     ∙ ap (λ o. option_and_then (λ s. Some s) (item_at (h ++ more) t o g s)) asks
     ∙ ap (option_and_then (λ s. Some s)) at
 
+common-push : (xs : List Answer) (a : Answer) → AreCommon xs → IsCommon a → AreCommon (xs ++ a ∷ [])
+common-push [] a all one = (one, tt)
+common-push (x ∷ xs) a all one = (all.0, common-push xs a all.1 one)
+
 -- a view at the journal's length
 pub going-view : (search : Search) (limit : ℕ) (old new : Search) (before used : ℕ) (h : List Entry) (t : ℕ) (places : List ℕ) →
     ((n : ℕ) → before ≤ n → (old n []).next ≡ Wants View) → TakesOne (Seen (length h) (reading h).updates) old before new used →
@@ -94,6 +102,7 @@ going-view search limit old new before used h t places asks one g =
     let after : Taken = record { answers = s.answers ++ Seen (length h) (reading h).updates ∷ []; low = length h; made = s.made } in record {
       start = g.start;
       state = after;
+      common = common-push s.answers (Seen (length h) (reading h).updates) g.common tt;
       owns = g.owns;
       items = λ n le.
           let from : before ≤ n = omega (arith, le, one.0) in
@@ -116,14 +125,15 @@ own-grows h t w x k made is =
 -- a request that makes an entry
 pub going-act : (search : Search) (limit : ℕ) (old new : Search) (before used : ℕ) (h : List Entry) (t w : ℕ) (places : List ℕ) (q : Request) (reply : Reply) (x : Act) →
     ((n : ℕ) → before ≤ n → (old n []).next ≡ Wants (Ask q)) → TakesOne (Got reply) old before new used →
-    served q t (reading h) ≡ (reply, Some (t, x)) → is_not_yet reply ≡ false → is_plain x ≡ true →
+    served q t (reading h) ≡ (reply, Some (t, x)) → is_not_yet reply ≡ false → is_plain x ≡ true → IsCommon (Got reply) →
     Going search limit old before h t places → Going search limit new used (h ++ record { worker = w; thread = t; act = x } ∷ []) t (places ++ length h ∷ [])
-going-act search limit old new before used h t w places q reply x asks one row some plain g =
+going-act search limit old new before used h t w places q reply x asks one row some plain common g =
     let s = g.state in
     let e : Entry = record { worker = w; thread = t; act = x } in
     let after : Taken = record { answers = s.answers ++ Got reply ∷ []; low = suc (length h); made = s.made ++ (length h, x) ∷ [] } in record {
       start = g.start;
       state = after;
+      common = common-push s.answers (Got reply) g.common common;
       owns = own-grows h t w x g.start s.made g.owns;
       items = λ n le.
           let from : before ≤ n = omega (arith, le, one.0) in
@@ -135,3 +145,14 @@ going-act search limit old new before used h t w places q reply x asks one row s
       low = omega (arith, length-append h (e ∷ []));
       free = free-plain t h e plain g.free;
     }
+
+-- a thread that runs comes to an end of its own; to end the run it asks
+pub going-ends : (search : Search) (limit : ℕ) (rest : Search) (used : ℕ) (h : List Entry) (t : ℕ) (places : List ℕ) (e : ThreadEnd) (out : List ℕ) →
+    HaltsNoSooner search → EndsAt limit e rest used out → Going search limit rest used h t places → ComesTo limit e rest used out
+going-ends search limit rest used h t places ThreadEnd.True out sooner says g = says
+going-ends search limit rest used h t places ThreadEnd.False out sooner says g = says
+going-ends search limit rest used h t places (ThreadEnd.Exception ball) out sooner says g = says
+going-ends search limit rest used h t places ThreadEnd.Budget out sooner says g = says
+going-ends search limit rest used h t places (ThreadEnd.Halt n) out sooner says g =
+    let s = g.state in
+    absurd (sooner limit n s.answers g.common (asks-same search rest limit used s.answers (Finishes (ThreadEnd.Halt n)) g.rests g.within (ap (λ e. e.next) (says.1 []))))

@@ -1,4 +1,5 @@
 pub mod Going
+pub mod Halts
 pub mod Overall
 pub mod Paid
 pub mod Threads

@@ -17,7 +17,7 @@ IsThread P h r = let s = r.solver in IsRunning P.first (search_of P s.limit) s.l
 abbrev pub turns_of : Running → ℕ
 turns_of r = let s = r.solver in turns_left s.limit s.used s.places.items
 
--- the run of a thread whose end is told now
+-- the run of a thread whose last request is answered now
 abbrev pub run_now : List Entry → Running → ThreadEnd → Run
 run_now h r e =
     let s = r.solver in record { thread = r.thread; places = s.places.items ++ length h ∷ []; steps = s.used; «end» = RunEnd.Ended e; output = s.out.items }

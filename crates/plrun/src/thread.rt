@@ -3,9 +3,10 @@ ghost use Rattle.std.specs.Prelude.{◌≡◌, ◌<◌, ◌∷◌, [], List, IfO
 ghost use Rattle.plevent.specs.Search.{View, Ask};
 ghost use Rattle.plevent.specs.declared.request.Request.TheVariants.{Publish};
 ghost use Rattle.plevent.specs.declared.update.Update.{Update};
-ghost use Rattle.plsearch.specs.Solving.{StandsAt, EndsAt};
+ghost use Rattle.plsearch.specs.Solving.{StandsAt};
 ghost use Rattle.plsearch.specs.Search.{search_of};
-ghost use Rattle.plsolve.specs.Solver.{rest_of, WaitsForView, WaitsToPublish};
+ghost use Rattle.plsolve.specs.Solver.{rest_of, WaitsForView, WaitsForReply};
+ghost use Rattle.plrun.specs.Halts.{ComesTo, last_of};
 ghost use Rattle.plrun.specs.Threads.{IsThread, turns_of, run_now};
 ghost use Rattle.plrun.specs.Overall.{IsHistory};
 
@@ -37,7 +38,7 @@ fn look(program: &Program, world: &World, running: &mut Running) -> Result<(), A
 {
     running
         .solver
-        .refreshed(program, world.front(), world.store())?;
+        .refreshed(program, program.unknown(), world.front(), world.store())?;
     Ok(())
 }
 
@@ -50,7 +51,7 @@ fn publish(
     request: &Request,
 ) -> Result<(), AllocError>
     requires runs { IsThread program.now world.old.journal running.old }
-    requires waits { WaitsToPublish running.old.solver }
+    requires waits { WaitsForReply running.old.solver request.now }
     requires batch { (us : List Update) × (request.now ≡ Publish us) }
     requires at { StandsAt (Ask request.now) (rest_of program.now running.old.solver) running.old.solver.used running.old.solver.out.items }
     ensures runs { OnOk result (IsThread program.now world.new.journal running.new) }
@@ -61,6 +62,32 @@ fn publish(
     let reply = world.step(alloc, 1, running.thread, request)?;
     running.solver.reply(program, place, reply)?;
     Ok(())
+}
+
+/// Serves a request of a thread: its batch is published; or it has come to the end of the run.
+fn serve(
+    alloc: Global,
+    program: &Program,
+    world: &mut World,
+    running: &mut Running,
+    request: &Request,
+) -> Result<Option<ThreadEnd>, AllocError>
+    requires runs { IsThread program.now world.old.journal running.old }
+    requires waits { WaitsForReply running.old.solver request.now }
+    requires at { StandsAt (Ask request.now) (rest_of program.now running.old.solver) running.old.solver.used running.old.solver.out.items }
+    ensures runs { OnOk result (IsThread program.now world.new.journal running.new) }
+    ensures less { IfOk result (λ o. IfNone o (turns_of running.new < turns_of running.old)) }
+    ensures ended { IfOk result (λ o. IfSome o (λ e. ComesTo running.new.solver.limit e (rest_of program.now running.new.solver) running.new.solver.used running.new.solver.out.items)) }
+    ensures limit { running.new.solver.limit ≡ running.old.solver.limit }
+{
+    match request {
+        Request::Publish(_) => {
+            publish(alloc, program, world, running, request)?;
+            Ok(None)
+        }
+        Request::HaltRun(number) => Ok(Some(ThreadEnd::Halt(*number))),
+        Request::Start | Request::Finish(_) => unreachable!(),
+    }
 }
 
 /// One turn of a thread: a slice of its steps, or an item that it asks; or it has come to this end.
@@ -74,7 +101,7 @@ fn turn(
     requires { IsThread program.now world.old.journal running.old }
     ensures runs { OnOk result (IsThread program.now world.new.journal running.new) }
     ensures less { IfOk result (λ o. IfNone o (turns_of running.new < turns_of running.old)) }
-    ensures ended { IfOk result (λ o. IfSome o (λ e. EndsAt running.new.solver.limit e (rest_of program.now running.new.solver) running.new.solver.used running.new.solver.out.items)) }
+    ensures ended { IfOk result (λ o. IfSome o (λ e. ComesTo running.new.solver.limit e (rest_of program.now running.new.solver) running.new.solver.used running.new.solver.out.items)) }
     ensures limit { running.new.solver.limit ≡ running.old.solver.limit }
 {
     match running.solver.advance(program, SLICE)? {
@@ -83,10 +110,7 @@ fn turn(
             look(program, world, running)?;
             Ok(None)
         }
-        Turn::Ask(request) => {
-            publish(alloc, program, world, running, &request)?;
-            Ok(None)
-        }
+        Turn::Ask(request) => serve(alloc, program, world, running, &request),
         Turn::Ended(end) => Ok(Some(end)),
     }
 }
@@ -112,6 +136,19 @@ fn run_of(
     })
 }
 
+/// The last request of a thread: it tells of its end, or ends the run.
+fn last_of(alloc: Global, end: &ThreadEnd) -> Result<Request, AllocError>
+    ensures { IfOk result (λ q. q ≡ last_of end.now) }
+{
+    match end {
+        ThreadEnd::Halt(number) => return Ok(Request::HaltRun(*number)),
+        ThreadEnd::True | ThreadEnd::False | ThreadEnd::Exception(_) | ThreadEnd::Budget => {
+            let told = end.copied(alloc)?;
+            return Ok(Request::Finish(told));
+        }
+    }
+}
+
 /// Runs a thread to its end, by slices of 256 steps, and tells the world of it.
 pub fn run_thread(
     alloc: Global,
@@ -125,9 +162,9 @@ pub fn run_thread(
     let mut running = running;
     loop {
         if let Some(end) = turn(alloc, program, world, &mut running)? {
-            let told = end.copied(alloc)?;
+            let last = last_of(alloc, &end)?;
             let run = run_of(alloc, world, &running, end)?;
-            world.step(alloc, 1, running.thread, &Request::Finish(told))?;
+            world.step(alloc, 1, running.thread, &last)?;
             return Ok(run);
         }
     }

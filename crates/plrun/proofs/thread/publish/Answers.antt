@@ -4,18 +4,18 @@ use Rattle.plevent.specs.Search.{Ask}
 use Rattle.plevent.specs.declared.request.Request.{Request}
 use Rattle.plsearch.specs.Search.{search_of}
 use Rattle.plsearch.specs.Solving.{StandsAt}
-use Rattle.plsolve.specs.Solver.{rest_of}
+use Rattle.plsolve.specs.Solver.{rest_of, WaitsForReply}
 use Rattle.plrun.proofs.Serve.{published, published-reply, relimit}
 use Rattle.plrun.proofs.Turns.{less-item, places-below}
 use Rattle.plrun.proofs.Paid.{items-cost}
 use Rattle.plrun.proofs.thread.publish.Goals as goal
 
-pub reply-requires-clause-published : goal.reply-requires-clause-published
-reply-requires-clause-published c =
+pub reply-requires-clause-fits : goal.reply-requires-clause-fits
+reply-requires-clause-fits c =
     let h = c.args.world.now.journal in
     let t = c.args.running.now.thread in
     let b = c.requires.batch in
-    c.in_ok-reply.ensures.reply ∙ ap (reply_to h t) b.1 ∙ published-reply h t b.0 c.requires.runs.going.free
+    (Request.Publish b.0, subst (WaitsForReply c.args.running.now.solver) b.1 c.requires.waits, c.in_ok-reply.ensures.reply ∙ ap (reply_to h t) b.1 ∙ published-reply h t b.0 c.requires.runs.going.free)
 
 pub returns-clause-runs : goal.returns-clause-runs
 returns-clause-runs c =
