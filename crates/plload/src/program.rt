@@ -2,7 +2,7 @@
 ghost use Rattle.std.specs.Prelude.{◌≡◌, [], OnOk};
 ghost use Rattle.plload.specs.Program.{clauses_in, clauses_for, with_clause};
 
-use crate::settings::Settings;
+use crate::settings::{Settings, Unknown};
 use indexmap::IndexMap;
 use plclause::clause::Clause;
 use plevent::update::Batch;
@@ -142,6 +142,13 @@ impl Program {
         ensures { result.now ≡ self.now.settings.operators }
     {
         &self.settings.operators
+    }
+
+    /// What a call of a procedure that does not exist comes to: the flag `unknown` at the text's end (ISO/IEC 13211-1 7.11.2.4).
+    pub fn unknown(&self) -> Unknown
+        ensures { result ≡ self.now.settings.unknown }
+    {
+        self.settings.unknown
     }
 
     /// How many clauses the text has.
