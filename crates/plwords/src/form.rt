@@ -11,7 +11,7 @@ pub const MOST_STEPS: u64 = 1_099_511_627_776;
 pub const STEPS: u64 = 1_073_741_824;
 
 /// What a command line asks for.
-#[derive(Clone, Copy, Debug, PartialEq, Eq)]
+#[derive(Drop)]
 pub enum Form<G> {
     /// The report of a run of the program: the most steps that a thread takes, and a goal of main behind those of the program.
     Run { steps: u64, goal: Option<G> },

@@ -10,7 +10,7 @@ use std::alloc::{AllocError, Global};
 use std::marker::Model;
 
 /// A command: its form, where a goal is a text, and the path of its program.
-#[derive(Clone, Copy)]
+#[derive(Drop)]
 pub struct Command<'a> {
     pub form: Form<&'a str>,
     pub path: &'a str,
