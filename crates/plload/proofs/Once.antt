@@ -82,7 +82,7 @@ pub record Same (ts us : List Token) (a b : ℕ) (x y : Option Tree) : Type 0 wh
   pub after : a ≡ b
   pub term : x ≡ y
 
-one_reading : (text : List ℕ) (from : ℕ) (s : Settings) (ts us : List Token) (a b : ℕ) (x y : Option Tree) → Reads text from s ts a x → Reads text from s us b y → Same ts us a b x y
+pub one_reading : (text : List ℕ) (from : ℕ) (s : Settings) (ts us : List Token) (a b : ℕ) (x y : Option Tree) → Reads text from s ts a x → Reads text from s us b y → Same ts us a b x y
 one_reading text from s ts us a b x y h k =
     let same = one_clause text from ts us a b h.clause k.clause in
     record {

@@ -7,5 +7,6 @@ pub mod Tables
 pub mod Program
 pub mod Position
 pub mod Loading
+pub mod Goals
 pub mod Listing
 pub mod Told

@@ -1,5 +1,5 @@
 -- A loaded program as contracts see it.
-use Rattle.std.specs.Prelude.{ℕ, ◌+◌, if◌then◌else◌, Bool, not, List, [], ◌∷◌, ◌++◌, length, map, filter, fold, refl}
+use Rattle.std.specs.Prelude.{ℕ, ◌+◌, if◌then◌else◌, Bool, not, List, [], ◌∷◌, ◌++◌, Option, Some, None, length, map, filter, fold, refl}
 use Rattle.std.specs.List.{list_any}
 use Rattle.std.specs.Coded.{Coded, code_by, coded×, coded_list, coded_ℕ}
 use Rattle.plterm.specs.Tree.{Tree}
@@ -111,3 +111,8 @@ program_of s d = record {
   clauses = length d.clauses;
   directives = d.directives;
 }
+
+-- the program with one more goal of main, behind those of the text
+abbrev pub with_goal : Program → Option Tree → Program
+with_goal program None = program
+with_goal program (Some goal) = record program { goals = program.goals ++ goal ∷ [] }

@@ -5,6 +5,7 @@ mod directive;
 mod draft;
 pub mod error;
 pub mod fixed;
+pub mod goal;
 mod lists;
 pub mod load;
 mod meaning;

@@ -75,7 +75,7 @@ fn first_place(tokens: &[Token]) -> usize
 }
 
 /// The term that a clause's tokens spell, if they do.
-fn read(
+pub(crate) fn read(
     alloc: Global,
     text: &[u8],
     tokens: &[Token],

@@ -1,6 +1,6 @@
 //! Loaded programs.
-ghost use Rattle.std.specs.Prelude.{◌≡◌, [], OnOk};
-ghost use Rattle.plload.specs.Program.{clauses_in, clauses_for, with_clause};
+ghost use Rattle.std.specs.Prelude.{◌≡◌, [], OnOk, IfOk};
+ghost use Rattle.plload.specs.Program.{clauses_in, clauses_for, with_clause, with_goal};
 
 use crate::settings::{Settings, Unknown};
 use indexmap::IndexMap;
@@ -114,6 +114,17 @@ impl Program {
             clauses,
             directives,
         }
+    }
+
+    /// The program with one more goal of main, if there is one, behind those of the text.
+    pub fn with_goal(self, goal: Option<Term>) -> Result<Program, AllocError>
+        ensures { IfOk result (λ p. p ≡ with_goal self goal) }
+    {
+        let mut program = self;
+        if let Some(goal) = goal {
+            program.goals.push(goal)?;
+        }
+        Ok(program)
     }
 
     /// The clauses of a static procedure, in text order; none, if the program does not define it.

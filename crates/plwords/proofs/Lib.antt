@@ -1,0 +1,3 @@
+pub mod App
+mod Numbers
+mod Answered
