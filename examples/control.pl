@@ -1,5 +1,5 @@
 % A search with a cut, an error that is caught, and an end of the run with a status of its own.
-% It writes red, then caught(type_error(callable,1)), and ends with status 3.
+% It writes red, then caught(type_error(callable,(write(never),1))), and ends with status 3.
 colour(green).
 colour(red).
 colour(blue).
