@@ -19,7 +19,7 @@ use Rattle.plframe.specs.declared.frame.Alternatives.{Alternatives}
 use Rattle.plframe.specs.declared.frame.Source.{Source}
 use Rattle.plframe.specs.declared.frame.Closed.{Closed}
 use Rattle.plframe.specs.declared.frame.Closed.TheVariants.{Choice as Fails, Mark as Cuts, Catch as Catches}
-use Rattle.plframe.specs.Places.{Statics, opened, alternatives, places_left, clauses_in, IsCall, place_at, goals_at, cases, depth_of, AreFrames, AreIn, IsItemIn, list_at, IsChain}
+use Rattle.plframe.specs.Places.{Statics, opened, plain, alternatives, places_left, clauses_in, IsCall, place_at, goals_at, cases, depth_of, AreFrames, AreIn, IsItemIn, list_at, IsChain}
 
 -- the frames, the newest last; the list that is visited
 pub record State : Type 0 where
@@ -123,11 +123,11 @@ pub record Begins (s : State) (l : Link) : Type 0 where
   pub within : IsItemIn (length s.heap.cells) l.item
   pub rest : IsList s l.next
 
--- one more choice with nothing left, whatever the others are
-pub record CountsUp (old new : List Frame) : Type 0 where
-  pub cases : (statics : Statics) (h : Store) (links : List Link) → cases statics h links new ≡ Choice [] ∷ cases statics h links old
+-- so many more choices with nothing left, whatever the others are
+pub record CountsUp (n : ℕ) (old new : List Frame) : Type 0 where
+  pub cases : (statics : Statics) (h : Store) (links : List Link) → cases statics h links new ≡ plain n (cases statics h links old)
   pub frames : (h : Store) (links : List Link) → AreFrames h links old → AreFrames h links new
-  pub depth : depth_of new ≡ depth_of old + 1
+  pub depth : depth_of new ≡ depth_of old + n
 
 -- the choice of the further clauses of a call, whatever the other cases are
 pub record OpensRest (statics : Statics) (old new : List Frame) (a : Alternatives) : Type 0 where

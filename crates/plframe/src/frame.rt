@@ -28,6 +28,8 @@ pub enum Item {
 pub struct Link {
     pub item: Item,
     pub next: u32,
+    /// The highest level that the list names.
+    pub top: u32,
 }
 
 /// Where the clauses of a call are found.
