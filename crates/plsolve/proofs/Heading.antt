@@ -8,12 +8,12 @@ use Rattle.plheap.specs.Store.{Store, term, terms, shown, Fits, IsEnd}
 use Rattle.plsolve.specs.Controls.{is_then}
 use Rattle.plsearch.specs.Table.{Either, Then, CallWith, Call, control, control_of, is_call, by_arity, either}
 use Rattle.plclause.specs.Clause.{Clause}
-use Rattle.plframe.specs.declared.frame.Item.TheVariants.{Goal as GoalAt, Commit as CommitTo, Never as NeverTo, Until as UntilTo, Look as LookAt, Await as AwaitFor}
+use Rattle.plframe.specs.declared.frame.Item.TheVariants.{Goal as GoalAt, Commit as CommitTo, Never as NeverTo, Until as UntilTo, Look as LookAt, Await as AwaitFor, Halt as HaltWith}
 use Rattle.plframe.specs.declared.frame.Link.{Link}
 use Rattle.plframe.specs.Places.{list_at, IsItemIn}
 use Rattle.plframe.specs.State.{State, Begins, Opens, IsList}
 use Rattle.plsearch.specs.Types.{Case}
-use Rattle.plsolve.specs.declared.head.Head.TheVariants.{Goal, Commit, Never, Until, Look, Await}
+use Rattle.plsolve.specs.declared.head.Head.TheVariants.{Goal, Commit, Never, Until, Look, Await, Halt}
 use Rattle.plsolve.specs.Heads.{IsHead}
 
 pub head-goal : (s : State) (l : Link) (level cell : ℕ) → Begins s l → l.item ≡ GoalAt level cell → IsHead s (Goal level cell l.next)
@@ -39,6 +39,10 @@ head-until s l level b is = (level, record { items = b.items ∙ ap (λ i. i ∷
 pub head-await : (s : State) (l : Link) (c : Clause) → Begins s l → l.item ≡ AwaitFor c → IsHead s (Await l.next)
 unfolding IsHead
 head-await s l c b is = (c, record { items = b.items ∙ ap (λ i. i ∷ list_at s.links l.next) is; behind = b.rest })
+
+pub head-halt : (s : State) (l : Link) (n : ℕ) → Begins s l → l.item ≡ HaltWith n → IsHead s (Halt n)
+unfolding IsHead
+head-halt s l n b is = (l.next, record { items = b.items ∙ ap (λ i. i ∷ list_at s.links l.next) is })
 
 -- a list stays where cases are opened
 pub list-opened : (s st : State) (more : List Case) (rest : ℕ) → Opens s st more → IsList s rest → IsList st rest

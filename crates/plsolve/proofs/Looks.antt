@@ -7,12 +7,12 @@ use Rattle.plclause.specs.Clause.{Clause}
 use Rattle.plclause.specs.Indicators.{indicator}
 use Rattle.plevent.specs.Alive.{Stamped, before, exists, clauses_of, clauses_alive}
 use Rattle.plload.specs.Program.{Program}
+use Rattle.plload.specs.declared.settings.Unknown.{Unknown}
 use Rattle.plstore.specs.Kept.{Kept, keep, nothing, is_there, walk}
 use Rattle.plstore.specs.Rising.{Rises}
 use Rattle.plstore.proofs.Whole.{walk-is, there-is}
-use Rattle.plsearch.specs.Errors.{procedure_error}
 use Rattle.plsearch.specs.Types.{Element}
-use Rattle.plsearch.specs.Table.{raised, walk_if, walk_over, call}
+use Rattle.plsearch.specs.Table.{missing, walk_if, walk_over, call}
 use Rattle.plsolve.specs.declared.progress.Progress.{Progress}
 use Rattle.plsolve.specs.Solver.{Moved, local_of}
 
@@ -20,12 +20,12 @@ module _ (P : Program) (s new : Progress) (g : ℕ) (us : List Stamped) (store :
   there : (b : Bool) → is_there g p store ≡ b → exists (before g us) (indicator t) ≡ b
   there b e = sym (ap₂ (is_there g) of is ∙ there-is g (indicator t) us) ∙ e
 
-  pub look-none : (e : Tree) → is_there g p store ≡ false → e ≡ procedure_error p → Moved P s new (raised e p es (local_of s)) 0 → Moved P s new (walk_over (before g us) d t es n (local_of s)) 0
-  look-none e absent error m =
-      subst (λ b. Moved P s new (walk_if b (clauses_alive (before g us) (indicator t)) d t es n (local_of s)) 0) (sym (there false absent))
-      (subst (λ q. Moved P s new (raised (procedure_error q) q es (local_of s)) 0) of (subst (λ x. Moved P s new (raised x p es (local_of s)) 0) error m))
+  pub look-none : (unknown : Unknown) → is_there g p store ≡ false → unknown ≡ P.settings.unknown → Moved P s new (missing unknown t es (local_of s)) 0 → Moved P s new (walk_over P (before g us) d t es n (local_of s)) 0
+  look-none unknown absent flag m =
+      subst (λ b. Moved P s new (walk_if b P (clauses_alive (before g us) (indicator t)) d t es n (local_of s)) 0) (sym (there false absent))
+      (subst (λ u. Moved P s new (missing u t es (local_of s)) 0) flag m)
 
-  pub look-some : (cs : List Clause) → is_there g p store ≡ true → cs ≡ clauses_of (walk g p store.records) → Moved P s new (call d n t es cs (local_of s)) 0 → Moved P s new (walk_over (before g us) d t es n (local_of s)) 0
+  pub look-some : (cs : List Clause) → is_there g p store ≡ true → cs ≡ clauses_of (walk g p store.records) → Moved P s new (call d n t es cs (local_of s)) 0 → Moved P s new (walk_over P (before g us) d t es n (local_of s)) 0
   look-some cs present found m =
-      subst (λ b. Moved P s new (walk_if b (clauses_alive (before g us) (indicator t)) d t es n (local_of s)) 0) (sym (there true present))
+      subst (λ b. Moved P s new (walk_if b P (clauses_alive (before g us) (indicator t)) d t es n (local_of s)) 0) (sym (there true present))
       (subst (λ cs. Moved P s new (call d n t es cs (local_of s)) 0) (found ∙ ap clauses_of (ap₂ (λ q k. walk g q k.records) of is ∙ walk-is g (indicator t) us up)) m)

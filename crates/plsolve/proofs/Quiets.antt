@@ -137,6 +137,7 @@ mark-result l outcomes.Fail = refl
 mark-result l outcomes.Stop = refl
 mark-result l (outcomes.CutTo k) = refl
 mark-result l (outcomes.Throw t ls) = refl
+mark-result l (outcomes.Halted n) = refl
 mark-result l outcomes.Spent = refl
 
 pub quiet-mark : (P : Program) (s new : Progress) (st : State) (l : ℕ) → (s.mode ≡ modes.Visit → ⊥) → cases_of (clauses_for P) s.stack ≡ Mark l ∷ cases_of (clauses_for P) st →
@@ -175,6 +176,8 @@ cut-result P d (outcomes.CutTo l) (p ∷ ps) cases run is none = rw is (cuts (na
     cuts false = refl
 cut-result P d (outcomes.Throw t ls) [] cases run is none = refl
 cut-result P d (outcomes.Throw t ls) (p ∷ ps) cases run is none = refl
+cut-result P d (outcomes.Halted n) [] cases run is none = refl
+cut-result P d (outcomes.Halted n) (p ∷ ps) cases run is none = refl
 cut-result P d outcomes.Spent [] cases run is none = refl
 cut-result P d outcomes.Spent (p ∷ ps) cases run is none = refl
 
@@ -230,6 +233,7 @@ keeps (Catch c r p) d (outcomes.Throw t ls) w not = go (has d ls.items) refl
     go : (b : Bool) → has d ls.items ≡ b → caught (has d ls.items) c r t ls.items p d w ≡ Keep (Throw t ls.items) w
     go true e = absurd (not e)
     go false e = rw e refl
+keeps (Catch c r p) d (outcomes.Halted n) w not = refl
 keeps (Catch c r p) d outcomes.Spent w not = refl
 
 pub quiet-handler : (P : Program) (s : Progress) (st : State) (h : Handler) → (s.mode ≡ modes.Visit → ⊥) → cases_of (clauses_for P) s.stack ≡ Handle h ∷ cases_of (clauses_for P) st →

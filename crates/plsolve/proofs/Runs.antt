@@ -1,17 +1,19 @@
 -- What turns, steps and answers say of the whole search.
-use Rattle.std.proofs.Common.{◌≡◌, ℕ, suc, ◌+◌, ◌-◌, ◌<◌, ◌≤◌, inl, inr, List, [], ◌∷◌, ◌++◌, refl, sym, ap, ap₂, ◌∙◌, subst, arith, map, min, le_refl, length, take, length-append}
+use Rattle.std.proofs.Common.{◌≡◌, ℕ, Bool, true, false, suc, ◌+◌, ◌-◌, ◌<◌, ◌≤◌, inl, inr, List, [], ◌∷◌, ◌++◌, refl, sym, ap, ap₂, ◌∙◌, subst, arith, map, min, le_refl, length, take, length-append}
 use Rattle.std.proofs.Math.Seq.{take-append_seam}
 use Rattle.plheap.specs.Store.{term}
 use Rattle.plevent.specs.Search.{Item, View, Ask, Answer, Search, Wants, Finishes, Seen, Got}
 use Rattle.plclause.specs.Clause.{Clause}
 use Rattle.plevent.specs.Alive.{Stamped}
 use Rattle.plevent.specs.declared.request.ThreadEnd.{ThreadEnd}
-use Rattle.plevent.specs.declared.request.Request.TheVariants.{Publish}
-use Rattle.plevent.specs.declared.request.Reply.TheVariants.{Published}
+use Rattle.plevent.specs.declared.request.Request.{Request}
+use Rattle.plevent.specs.declared.request.Request.TheVariants.{Start, Publish, Finish, HaltRun}
+use Rattle.plevent.specs.declared.request.Reply.{Reply}
+use Rattle.plevent.specs.declared.request.Reply.TheVariants.{Published, Done}
 use Rattle.plevent.specs.declared.update.Update.{Update}
 use Rattle.plevent.specs.declared.update.Update.TheVariants.{Last}
 use Rattle.plload.specs.Program.{Program, clauses_for}
-use Rattle.plsearch.specs.Types.{Asking, Element, Goal, Look, Await, Place, Case, Choice, Mark, Handle, Catch, Local, Move, Run, Asks}
+use Rattle.plsearch.specs.Types.{Asking, Element, Goal, Look, Await, Halt, Place, Case, Choice, Mark, Handle, Catch, Local, Move, Run, Asks}
 use Rattle.plsearch.specs.Table.{select, meet, answered, resume, walk_over}
 use Rattle.plsearch.specs.Engine.{left, choice, out, outs, Visit}
 use Rattle.plsearch.specs.Machine.{At, Back, Rest, move, turn, meets}
@@ -20,17 +22,21 @@ use Rattle.plsearch.specs.Search.{ending_of, next_of}
 use Rattle.plsearch.specs.Solving.{Goes, TakesOne, StandsAt, EndsAt}
 use Rattle.plsearch.proofs.Turns.{Rest-turn}
 use Rattle.plsearch.proofs.Weight.{lighter-turn}
-use Rattle.plframe.specs.declared.frame.Item.TheVariants.{Look as LookAt, Await as AwaitFor}
+use Rattle.plframe.specs.declared.frame.Item.{Item as Member}
+use Rattle.plframe.specs.declared.frame.Item.TheVariants.{Goal as GoalAt, Commit as CommitTo, Never as NeverTo, Until as UntilTo, Look as LookAt, Await as AwaitFor, Halt as HaltWith}
 use Rattle.plframe.specs.declared.frame.Link.{Link}
 use Rattle.plframe.specs.Places.{element, list_at, IsItemIn}
 use Rattle.plframe.specs.State.{State, place_of, cases_of, goals_of, Begins}
 use Rattle.plsolve.specs.declared.progress.Outcome.{Outcome}
+use Rattle.plsolve.specs.declared.progress.Outcome.TheVariants as outcomes
 use Rattle.plsolve.specs.declared.progress.Mode.TheVariants as modes
 use Rattle.plsolve.specs.declared.progress.Progress.{Progress}
 use Rattle.plsolve.specs.declared.solver.Turn.TheVariants as turns
 use Rattle.plsolve.specs.Says.{Says}
-use Rattle.plsolve.specs.Heads.{AtGoal, AtLook, AtAwait}
-use Rattle.plsolve.specs.Solver.{result_of, mode_of, local_of, machine, rest_of, depth_of, now, after, Moved, Stays, Quiet, Stepped, WaitsForView}
+use Rattle.plsolve.specs.declared.head.Head.{Head}
+use Rattle.plsolve.specs.declared.head.Head.TheVariants as heads
+use Rattle.plsolve.specs.Heads.{AtGoal, AtLook, AtAwait, AtHalt, IsHead}
+use Rattle.plsolve.specs.Solver.{result_of, mode_of, local_of, machine, rest_of, depth_of, now, after, Moved, Stays, Quiet, Stepped, WaitsForView, WaitsForReply, IsReplyTo, ReplyFits}
 
 -- going on
 pub goes_on : (limit limit' : ℕ) (a b c : Search) (x y z : ℕ) → limit' ≡ limit → Goes limit a x b y → Goes limit' b y c z → Goes limit a x c z
@@ -165,14 +171,14 @@ ends P s e r within at none is = (λ answers. at_n s.used (le_refl _) answers, �
 -- the next answer, at an element that asked
 answer-turn : (P : Program) (s : Progress) (e : Element) (rest : List Element) (q : Item) (a : Answer) → s.mode ≡ modes.Visit → goals_of s.stack s.stack.goals ≡ e ∷ rest →
     ((w : Local) → meet e rest w ≡ Asks q) → (left : ℕ) (answers : List Answer) →
-    turn P (machine P left (a ∷ answers) s) ≡ move (cases_of (clauses_for P) s.stack) (record { steps = left; answers = answers; local = local_of s }) (answered e a (depth_of P s) rest s.stack.heap.count (local_of s))
+    turn P (machine P left (a ∷ answers) s) ≡ move (cases_of (clauses_for P) s.stack) (record { steps = left; answers = answers; local = local_of s }) (answered P e a (depth_of P s) rest s.stack.heap.count (local_of s))
 unfolding turn
 answer-turn P s e rest q a at first asks left answers =
     ap (turn P) (at-place P s (record { goals = e ∷ rest; variables = s.stack.heap.count }) at (goals-are s.stack e rest first) left (a ∷ answers))
     ∙ ap (meets P (cases_of (clauses_for P) s.stack) e rest s.stack.heap.count (record { steps = left; answers = a ∷ answers; local = local_of s })) (asks (local_of s))
 
 pub takes : (P : Program) (s new : Progress) (e : Element) (rest : List Element) (q : Item) (a : Answer) (m : Move) → s.mode ≡ modes.Visit → goals_of s.stack s.stack.goals ≡ e ∷ rest →
-    ((w : Local) → meet e rest w ≡ Asks q) → m ≡ answered e a (depth_of P s) rest s.stack.heap.count (local_of s) → new.used ≡ s.used → new.limit ≡ s.limit →
+    ((w : Local) → meet e rest w ≡ Asks q) → m ≡ answered P e a (depth_of P s) rest s.stack.heap.count (local_of s) → new.used ≡ s.used → new.limit ≡ s.limit →
     ((most left : ℕ) (answers : List Answer) → after P s most left answers m ≡ now P new most left answers) →
     TakesOne a (rest_of P s) s.used (rest_of P new) new.used
 unfolding rest_of
@@ -188,13 +194,13 @@ takes P s new e rest q a m at first asks is used limit ends = (
 )
 
 pub takes-look : (P : Program) (s t new : Progress) (cell rest g : ℕ) (us : List Stamped) → s.mode ≡ modes.Visit → AtLook s.stack cell rest → t ≡ record s { places = t.places } →
-    Moved P t new (walk_over us (depth_of P s) (term s.stack.heap cell) (goals_of s.stack rest) s.stack.heap.count (local_of s)) 0 →
+    Moved P t new (walk_over P us (depth_of P s) (term s.stack.heap cell) (goals_of s.stack rest) s.stack.heap.count (local_of s)) 0 →
     TakesOne (Seen g us) (rest_of P s) s.used (rest_of P new) new.used
 unfolding meet answered
 takes-look P s t new cell rest g us at look is moved =
-    takes P s new (Look (term s.stack.heap cell)) (goals_of s.stack rest) View (Seen g us) (walk_over us (depth_of P s) (term s.stack.heap cell) (goals_of s.stack rest) s.stack.heap.count (local_of s)) at (ap (map (element s.stack.heap)) look.items) (λ w. refl) refl
+    takes P s new (Look (term s.stack.heap cell)) (goals_of s.stack rest) View (Seen g us) (walk_over P us (depth_of P s) (term s.stack.heap cell) (goals_of s.stack rest) s.stack.heap.count (local_of s)) at (ap (map (element s.stack.heap)) look.items) (λ w. refl) refl
     (omega (arith, moved.used, ap (λ x. x.used) is)) (moved.limit ∙ ap (λ x. x.limit) is)
-    (λ most left answers. ap (λ x. after P x most left answers (walk_over us (depth_of P s) (term s.stack.heap cell) (goals_of s.stack rest) s.stack.heap.count (local_of s))) (sym is) ∙ moved.ends most left answers)
+    (λ most left answers. ap (λ x. after P x most left answers (walk_over P us (depth_of P s) (term s.stack.heap cell) (goals_of s.stack rest) s.stack.heap.count (local_of s))) (sym is) ∙ moved.ends most left answers)
 
 pub takes-published : (P : Program) (s new : Progress) (c : Clause) (rest : ℕ) → s.mode ≡ modes.Visit → AtAwait s.stack c rest → new ≡ record s { stack = record s.stack { goals = rest }; places = new.places } →
     TakesOne (Got Published) (rest_of P s) s.used (rest_of P new) new.used
@@ -204,6 +210,87 @@ takes-published P s new c rest at await is =
     (ap (λ x. x.used) is) (ap (λ x. x.limit) is)
     (λ most left answers. ap (λ m. ending_of most (Rest P m)) (sym (ap (machine P left answers) is ∙ at-place P (record s { stack = record s.stack { goals = rest }; places = new.places }) (record { goals = goals_of s.stack rest; variables = s.stack.heap.count }) at refl left answers)))
 
+pub takes-halted : (P : Program) (s new : Progress) (n rest : ℕ) → s.mode ≡ modes.Visit → AtHalt s.stack n rest → new ≡ record s { mode = modes.Back (outcomes.Halted n); places = new.places } →
+    TakesOne (Got Done) (rest_of P s) s.used (rest_of P new) new.used
+unfolding meet answered machine
+takes-halted P s new n rest at halt is =
+    takes P s new (Halt n) (goals_of s.stack rest) (Ask (HaltRun n)) (Got Done) _ at (ap (map (element s.stack.heap)) halt.items) (λ w. refl) refl
+    (ap (λ x. x.used) is) (ap (λ x. x.limit) is)
+    (λ most left answers. ap (λ m. ending_of most (Rest P m)) (sym (ap (machine P left answers) is)))
+
+-- a clause and the end of a run are not both first
+await-or-halt : (s : State) (c : Clause) (n i j : ℕ) → AtAwait s c i → AtHalt s n j → ⊥
+await-or-halt s c n i j await halt = let e : AwaitFor c ∷ list_at s.links i ≡ HaltWith n ∷ list_at s.links j = sym await.items ∙ halt.items in cc
+
+pub replied-await : (P : Program) (s new : Progress) (r : Reply) (c : Clause) (rest : ℕ) → ReplyFits s r → AtAwait s.stack c rest → new ≡ record s { stack = record s.stack { goals = rest }; places = new.places } →
+    TakesOne (Got r) (rest_of P s) s.used (rest_of P new) new.used
+replied-await P s new r c rest fits await is = go fits.0 fits.1 fits.2
+  where
+    go : (q : Request) → WaitsForReply s q → IsReplyTo q r → TakesOne (Got r) (rest_of P s) s.used (rest_of P new) new.used
+    go Start waits given = absurd waits
+    go (Publish us) waits given = subst (λ r. TakesOne (Got r) (rest_of P s) s.used (rest_of P new) new.used) (sym given) (takes-published P s new c rest waits.0 await is)
+    go (Finish e) waits given = absurd waits
+    go (HaltRun n) waits given = absurd (await-or-halt s.stack c n rest waits.1 await waits.2)
+
+pub replied-halt : (P : Program) (s new : Progress) (r : Reply) (n rest : ℕ) → ReplyFits s r → AtHalt s.stack n rest → new ≡ record s { mode = modes.Back (outcomes.Halted n); places = new.places } →
+    TakesOne (Got r) (rest_of P s) s.used (rest_of P new) new.used
+replied-halt P s new r n rest fits halt is = go fits.0 fits.1 fits.2
+  where
+    go : (q : Request) → WaitsForReply s q → IsReplyTo q r → TakesOne (Got r) (rest_of P s) s.used (rest_of P new) new.used
+    go Start waits given = absurd waits
+    go (Publish us) waits given = absurd (await-or-halt s.stack waits.1 n waits.2 rest waits.3 halt)
+    go (Finish e) waits given = absurd waits
+    go (HaltRun m) waits given = subst (λ r. TakesOne (Got r) (rest_of P s) s.used (rest_of P new) new.used) (sym given) (takes-halted P s new n rest waits.0 halt is)
+
+-- what asks a request
+is_asking : Member → Bool
+is_asking (GoalAt k c) = false
+is_asking (CommitTo l) = false
+is_asking (NeverTo l) = false
+is_asking (UntilTo l) = false
+is_asking (LookAt c) = false
+is_asking (AwaitFor c) = true
+is_asking (HaltWith n) = true
+
+unfoldable pub is_ask : Head → Bool
+is_ask heads.Nothing = false
+is_ask (heads.Goal k c r) = false
+is_ask (heads.Commit l r) = false
+is_ask (heads.Never l r) = false
+is_ask (heads.Until r) = false
+is_ask (heads.Look c r) = false
+is_ask (heads.Await r) = true
+is_ask (heads.Halt n) = true
+
+same-first : (s : State) (x y : Member) (xs ys : List Member) → list_at s.links s.goals ≡ x ∷ xs → list_at s.links s.goals ≡ y ∷ ys → x ≡ y
+same-first s x y xs ys a b = let e : x ∷ xs ≡ y ∷ ys = sym a ∙ b in cc
+
+asking-first : (s : State) (x : Member) (xs : List Member) (h : Head) → list_at s.links s.goals ≡ x ∷ xs → is_asking x ≡ true → IsHead s h → is_ask h ≡ true
+unfolding IsHead is_asking is_ask
+asking-first s x xs heads.Nothing first asks at = let e : x ∷ xs ≡ [] = sym first ∙ at in absurd cc
+asking-first s x xs (heads.Goal k c r) first asks at = sym (ap is_asking (same-first s x (GoalAt k c) xs _ first at.items)) ∙ asks
+asking-first s x xs (heads.Commit l r) first asks at = sym (ap is_asking (same-first s x (CommitTo l) xs _ first at.items)) ∙ asks
+asking-first s x xs (heads.Never l r) first asks at = sym (ap is_asking (same-first s x (NeverTo l) xs _ first at.items)) ∙ asks
+asking-first s x xs (heads.Until r) first asks at = sym (ap is_asking (same-first s x (UntilTo at.0) xs _ first at.1.items)) ∙ asks
+asking-first s x xs (heads.Look c r) first asks at = sym (ap is_asking (same-first s x (LookAt c) xs _ first at.items)) ∙ asks
+asking-first s x xs (heads.Await r) first asks at = refl
+asking-first s x xs (heads.Halt n) first asks at = refl
+
+pub asking-head : (s : Progress) (r : Reply) (h : Head) → ReplyFits s r → IsHead s.stack h → is_ask h ≡ true
+unfolding is_asking
+asking-head s r h fits at = go fits.0 fits.1
+  where
+    go : (q : Request) → WaitsForReply s q → is_ask h ≡ true
+    go Start w = absurd w
+    go (Publish us) w = asking-first s.stack (AwaitFor w.1) _ h w.3.items refl at
+    go (Finish e) w = absurd w
+    go (HaltRun n) w = asking-first s.stack (HaltWith n) _ h w.2.items refl at
+
+pub says-halt : (P : Program) (s : Progress) (n : ℕ) → s.used ≤ s.limit → WaitsForReply s (HaltRun n) → Says P s (turns.Ask (HaltRun n))
+unfolding Says turn meet
+says-halt P s n within w =
+    (w, stands P s (Halt n) (goals_of s.stack w.1) (Ask (HaltRun n)) within w.0 (ap (map (element s.stack.heap)) w.2.items) (λ left. refl))
+
 pub stands-await : (P : Program) (s : Progress) (c : Clause) (rest : ℕ) → s.used ≤ s.limit → s.mode ≡ modes.Visit → AtAwait s.stack c rest → StandsAt (Ask (Publish (Last c ∷ []))) (rest_of P s) s.used s.out.items
 unfolding turn meet
 stands-await P s c rest within at await =
@@ -212,7 +299,7 @@ stands-await P s c rest within at await =
 pub says-await : (P : Program) (s : Progress) (c : Clause) (rest : ℕ) (us : List Update) → s.used ≤ s.limit → s.mode ≡ modes.Visit → AtAwait s.stack c rest → us ≡ Last c ∷ [] → Says P s (turns.Ask (Publish us))
 unfolding Says
 says-await P s c rest us within at await is =
-    ((us, refl), (at, c, rest, await), subst (λ us. StandsAt (Ask (Publish us)) (rest_of P s) s.used s.out.items) (sym is) (stands-await P s c rest within at await))
+    ((at, c, rest, await, is), subst (λ us. StandsAt (Ask (Publish us)) (rest_of P s) s.used s.out.items) (sym is) (stands-await P s c rest within at await))
 
 pub says-look : (P : Program) (s : Progress) → s.used ≤ s.limit → WaitsForView s → Says P s turns.Refresh
 unfolding Says

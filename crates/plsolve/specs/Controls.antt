@@ -1,10 +1,10 @@
 -- What a goal is, by the cells of its arguments.
-use Rattle.std.specs.Prelude.{suc, ◌<◌, ◌≤◌, ◌==◌, ◌&&◌, Bool, false, bytes_eq, length, codes}
-use Rattle.plterm.specs.Tree.{atom}
+use Rattle.std.specs.Prelude.{suc, pos, ℤ, Option, Some, None, ◌<◌, ◌≤◌, ◌==◌, ◌&&◌, Bool, false, bytes_eq, length, codes}
+use Rattle.plterm.specs.Tree.{atom, int}
 use Rattle.plheap.specs.declared.cell.Cell.{Cell}
 use Rattle.plheap.specs.declared.cell.Cell.TheVariants as cells
 use Rattle.plheap.specs.Store.{Store, term, terms}
-use Rattle.plsearch.specs.Table.{Control, True, False, Both, Either, Then, Not, Once, Catching, Throwing, CallWith, Cut, Unify, Write, WriteQuoted, Newline, AddLast, Call, NoGoal}
+use Rattle.plsearch.specs.Table.{Control, True, False, Both, Either, Then, Not, Once, Catching, Throwing, CallWith, Cut, Unify, Write, WriteQuoted, Newline, Halting, AddLast, Call, NoGoal}
 use Rattle.plframe.specs.Extended.{IsRun}
 use Rattle.plsolve.specs.declared.control.Control.{Control as Found}
 use Rattle.plsolve.specs.declared.control.Control.TheVariants as found
@@ -27,6 +27,8 @@ shown_control h (found.Write a) = Write (term h a)
 shown_control h (found.WriteQuoted a) = WriteQuoted (term h a)
 shown_control h found.Newline = Newline
 shown_control h (found.AddLast a) = AddLast (term h a)
+shown_control h found.Halt = Halting (int (pos 0))
+shown_control h (found.HaltWith a) = Halting (term h a)
 shown_control h (found.Call p) = Call p
 shown_control h found.NoGoal = NoGoal
 
@@ -49,8 +51,19 @@ IsInside h (found.Write a) = a < length h.cells
 IsInside h (found.WriteQuoted a) = a < length h.cells
 IsInside h found.Newline = Unit {0}
 IsInside h (found.AddLast a) = a < length h.cells
+IsInside h found.Halt = Unit {0}
+IsInside h (found.HaltWith a) = a < length h.cells
 IsInside h (found.Call p) = Unit {0}
 IsInside h found.NoGoal = Unit {0}
+
+-- the integer that a cell holds
+abbrev pub integer_in : Cell → Option ℤ
+integer_in (cells.Free n) = None
+integer_in (cells.Bound j n) = None
+integer_in (cells.Ref j) = None
+integer_in (cells.Int i) = Some i
+integer_in (cells.Atom f) = None
+integer_in (cells.Struct f k) = None
 
 -- a structure of `->`/2
 abbrev pub is_then : Cell → Bool

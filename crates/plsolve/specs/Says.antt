@@ -1,18 +1,14 @@
 -- What a call of a solver that came to a turn says of the search.
-use Rattle.std.specs.Prelude.{◌≡◌, List}
 use Rattle.plevent.specs.Search.{View, Ask}
-use Rattle.plevent.specs.declared.update.Update.{Update}
-use Rattle.plevent.specs.declared.request.Request.TheVariants.{Publish}
 use Rattle.plload.specs.Program.{Program}
 use Rattle.plsearch.specs.Solving.{StandsAt, EndsAt}
 use Rattle.plsolve.specs.declared.progress.Progress.{Progress}
 use Rattle.plsolve.specs.declared.solver.Turn.{Turn}
 use Rattle.plsolve.specs.declared.solver.Turn.TheVariants as turns
-use Rattle.plsolve.specs.Solver.{rest_of, WaitsForView, WaitsToPublish}
+use Rattle.plsolve.specs.Solver.{rest_of, WaitsForView, WaitsForReply}
 
--- the only request is to publish a batch
 unfoldable pub Says : Program → Progress → Turn → Type 0
-Says P s (turns.Ask q) = ((us : List Update) × (q ≡ Publish us)) × WaitsToPublish s × StandsAt (Ask q) (rest_of P s) s.used s.out.items
+Says P s (turns.Ask q) = WaitsForReply s q × StandsAt (Ask q) (rest_of P s) s.used s.out.items
 Says P s turns.Refresh = WaitsForView s × StandsAt View (rest_of P s) s.used s.out.items
 Says P s turns.Slice = Unit {0}
 Says P s (turns.Ended e) = EndsAt s.limit e (rest_of P s) s.used s.out.items

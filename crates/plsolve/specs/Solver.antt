@@ -4,21 +4,28 @@ use Rattle.plterm.specs.Tree.{Tree, var, int, atom, compound}
 use Rattle.plterm.specs.Variables.{copied, variables}
 use Rattle.plclause.specs.Clause.{Clause}
 use Rattle.plheap.specs.Store.{term}
-use Rattle.plsearch.specs.Table.{Runnable, Runs, Raises, runnable, has, levels, catch_3, recovers}
+use Rattle.plsearch.specs.Table.{Runnable, Runs, Raises, runnable, has, levels, catch_3, halt_1, raised, recovers}
 use Rattle.plsearch.specs.Errors.{error_term}
-use Rattle.plsearch.specs.Types.{Goal as GoalOf}
+use Rattle.plsearch.specs.Types.{Goal as GoalOf, Halt as HaltOf, Element, Go}
 use Rattle.plevent.specs.Search.{Answer, Ending, Search}
+use Rattle.plevent.specs.declared.request.Request.{Request}
+use Rattle.plevent.specs.declared.request.Request.TheVariants.{Start, Publish, Finish, HaltRun}
+use Rattle.plevent.specs.declared.request.Reply.{Reply}
+use Rattle.plevent.specs.declared.request.Reply.TheVariants.{Published, Done}
+use Rattle.plevent.specs.declared.update.Update.TheVariants.{Last}
 use Rattle.plload.specs.Program.{Program, clauses_for}
-use Rattle.plsearch.specs.Types.{Result, Stop, Fail, CutTo, Throw, Spent, Case, Local, Move}
+use Rattle.plsearch.specs.Types.{Result, Stop, Fail, CutTo, Throw, Halted, Spent, Case, Local, Move}
 use Rattle.plsearch.specs.Engine.{deeper}
 use Rattle.plsearch.specs.Machine.{Mode, At, Back, Machine, Rest, move, return, turn}
 use Rattle.plsearch.specs.Solving.{Goes}
 use Rattle.plsearch.specs.Search.{ending_of, once, start_from}
 use Rattle.plframe.specs.Places.{Statics}
 use Rattle.plframe.specs.State.{State, place_of, cases_of, goals_of, IsList}
-use Rattle.plsolve.specs.Heads.{AtGoal, AtLook, AtAwait}
+use Rattle.plsolve.specs.Heads.{AtGoal, AtLook, AtAwait, AtHalt}
 use Rattle.plsolve.specs.declared.rows.Ready.{Ready}
 use Rattle.plsolve.specs.declared.rows.Ready.TheVariants as readies
+use Rattle.plsolve.specs.declared.rows.Status.{Status}
+use Rattle.plsolve.specs.declared.rows.Status.TheVariants as statuses
 use Rattle.plsolve.specs.declared.progress.Due.{Due}
 use Rattle.plsolve.specs.declared.progress.Due.TheVariants as dues
 use Rattle.plsolve.specs.declared.progress.Outcome.{Outcome}
@@ -32,6 +39,7 @@ result_of outcomes.Stop = Stop
 result_of outcomes.Fail = Fail
 result_of (outcomes.CutTo l) = CutTo l
 result_of (outcomes.Throw t ls) = Throw t ls.items
+result_of (outcomes.Halted n) = Halted n
 result_of outcomes.Spent = Spent
 
 abbrev pub mode_of : Going → State → Mode
@@ -98,6 +106,11 @@ pub record Readies (s : Progress) (runs : Runnable) (r : Ready) : Type 0 where
   pub is : runs ≡ ready_as s r
   pub within : ReadyWithin s r
 
+-- what the number of halt/1 comes to
+abbrev pub ended_with : Status → List Element → ℕ → Local → Move
+ended_with (statuses.Is k) es n w = Go [] (record { goals = HaltOf k ∷ es; variables = n }) w
+ended_with (statuses.Raises e) es n w = raised e halt_1 es w
+
 -- a turn without a step
 pub record Quiet (P : Program) (old new : Progress) : Type 0 where
   pub used : new.used ≡ old.used
@@ -117,10 +130,29 @@ WaitsForView s = (s.mode ≡ modes.Visit) × (cell : ℕ) × (rest : ℕ) × AtL
 abbrev pub WaitsToPublish : Progress → Type 0
 WaitsToPublish s = (s.mode ≡ modes.Visit) × (c : Clause) × (rest : ℕ) × AtAwait s.stack c rest
 
+-- a request waits for its reply
+abbrev pub WaitsForReply : Progress → Request → Type 0
+WaitsForReply s (Publish us) = (s.mode ≡ modes.Visit) × (c : Clause) × (rest : ℕ) × AtAwait s.stack c rest × (us ≡ Last c ∷ [])
+WaitsForReply s (HaltRun n) = (s.mode ≡ modes.Visit) × (rest : ℕ) × AtHalt s.stack n rest
+WaitsForReply s Start = ⊥
+WaitsForReply s (Finish e) = ⊥
+
+-- the reply that is given for a request
+abbrev pub IsReplyTo : Request → Reply → Type 0
+IsReplyTo (Publish us) r = r ≡ Published
+IsReplyTo (HaltRun n) r = r ≡ Done
+IsReplyTo Start r = ⊥
+IsReplyTo (Finish e) r = ⊥
+
+-- a reply is given for the request that waits
+abbrev pub ReplyFits : Progress → Reply → Type 0
+ReplyFits s r = (q : Request) × WaitsForReply s q × IsReplyTo q r
+
 unfoldable pub Settled : Program → Progress → Due → Type 0
 Settled P s (dues.Goal level cell rest) = (s.mode ≡ modes.Visit) × AtGoal s.stack level cell rest × (s.used + 1 ≤ s.limit)
 Settled P s (dues.Look cell rest) = WaitsForView s
 Settled P s (dues.Await rest) = WaitsToPublish s
+Settled P s (dues.Halt n) = WaitsForReply s (HaltRun n)
 Settled P s dues.Over = IsOver P s
 
 -- a step was taken
@@ -135,6 +167,7 @@ marked_result l outcomes.Fail = outcomes.CutTo l
 marked_result l outcomes.Stop = outcomes.Stop
 marked_result l (outcomes.CutTo k) = outcomes.CutTo k
 marked_result l (outcomes.Throw t ls) = outcomes.Throw t ls
+marked_result l (outcomes.Halted n) = outcomes.Halted n
 marked_result l outcomes.Spent = outcomes.Spent
 
 abbrev pub marked : ℕ → Going → Going
@@ -150,6 +183,7 @@ stopped_result d outcomes.Fail = outcomes.Fail
 stopped_result d outcomes.Stop = outcomes.Stop
 stopped_result d (outcomes.CutTo l) = fail_if (nat_eq l d) l
 stopped_result d (outcomes.Throw t ls) = outcomes.Throw t ls
+stopped_result d (outcomes.Halted n) = outcomes.Halted n
 stopped_result d outcomes.Spent = outcomes.Spent
 
 abbrev pub cut_stopped : ℕ → Going → Going
@@ -162,6 +196,7 @@ result_throws d outcomes.Fail = false
 result_throws d outcomes.Stop = false
 result_throws d (outcomes.CutTo l) = false
 result_throws d (outcomes.Throw t ls) = has d ls.items
+result_throws d (outcomes.Halted n) = false
 result_throws d outcomes.Spent = false
 
 abbrev pub throws_to : ℕ → Going → Bool

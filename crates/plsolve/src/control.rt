@@ -41,6 +41,10 @@ pub enum Control {
     Newline,
     /// assertz/1 of a term.
     AddLast(u32),
+    /// halt/0
+    Halt,
+    /// halt/1 of a number.
+    HaltWith(u32),
     /// A call of a procedure.
     Call(Indicator),
     /// An integer or a variable.
@@ -107,6 +111,9 @@ fn nullary(heap: &Heap, name: &Name) -> Result<Control, AllocError>
     if name.as_str() == "nl" {
         return Ok(Control::Newline);
     }
+    if name.as_str() == "halt" {
+        return Ok(Control::Halt);
+    }
     let name = name.copied()?;
     Ok(Control::Call(Indicator { name, arity: 0 }))
 }
@@ -133,6 +140,9 @@ fn unary(heap: &Heap, name: &Name, a: u32) -> Result<Control, AllocError>
     }
     if name.as_str() == "assertz" {
         return Ok(Control::AddLast(a));
+    }
+    if name.as_str() == "halt" {
+        return Ok(Control::HaltWith(a));
     }
     let name = name.copied()?;
     Ok(Control::Call(Indicator { name, arity: 1 }))

@@ -3,7 +3,7 @@
 ghost use Rattle.std.specs.Prelude.{◌≡◌, IfOk, codes, pos};
 ghost use Rattle.plterm.specs.Tree.{atom, int, compound, none, more};
 ghost use Rattle.plterm.specs.Variables.{copied};
-ghost use Rattle.plsearch.specs.Errors.{pair as pair_of, indicator_term as term_of, instantiation_error, callable_error, procedure_error, static_error, arity_error, error_term};
+ghost use Rattle.plsearch.specs.Errors.{pair as pair_of, indicator_term as term_of, instantiation_error, callable_error, integer_error, procedure_error, static_error, arity_error, error_term};
 
 use plterm::indicator::Indicator;
 use plterm::name::Name;
@@ -75,6 +75,14 @@ pub fn not_callable(alloc: Global, culprit: Term) -> Result<Term, AllocError>
     ensures { IfOk result (λ t. t ≡ callable_error culprit) }
 {
     let kind = atom(alloc, "callable")?;
+    pair(alloc, "type_error", kind, culprit)
+}
+
+/// A term is no integer.
+pub fn not_integer(alloc: Global, culprit: Term) -> Result<Term, AllocError>
+    ensures { IfOk result (λ t. t ≡ integer_error culprit) }
+{
+    let kind = atom(alloc, "integer")?;
     pair(alloc, "type_error", kind, culprit)
 }
 

@@ -22,6 +22,8 @@ pub enum Head {
     Look(u32, u32),
     /// A clause waits until it is published.
     Await(u32),
+    /// The run is to be ended with a number.
+    Halt(u8),
 }
 
 /// The first member of the list that a stack visits.
@@ -38,5 +40,6 @@ pub fn head_of(stack: &Stack) -> Head
         Item::Until(_) => Head::Until(link.next),
         Item::Look(cell) => Head::Look(*cell, link.next),
         Item::Await(_) => Head::Await(link.next),
+        Item::Halt(number) => Head::Halt(*number),
     }
 }

@@ -18,6 +18,8 @@ pub enum Predicate {
     CallWith(u16),
     /// assertz/1
     AddLast,
+    /// halt/1
+    Halt,
 }
 
 impl Predicate {
@@ -33,6 +35,7 @@ impl Predicate {
             Predicate::Throw => ("throw", 1),
             Predicate::CallWith(further) => ("call", further + 1),
             Predicate::AddLast => ("assertz", 1),
+            Predicate::Halt => ("halt", 1),
         };
         let name = Name::new(alloc, name)?;
         Ok(Indicator { name, arity })

@@ -1,22 +1,22 @@
 //! How far a search has come, and how it goes on.
 
 ghost use Rattle.std.specs.Prelude.{◌≡◌, ◌+◌, ◌-◌, ◌<◌, ◌≤◌, ◌↔◌, ℕ, List, [], ◌∷◌, ◌++◌, length, IfOk, OnOk, OnErr, IfSome, IfNone, IsNone, IsTrue, true, fold};
+ghost use Rattle.plterm.specs.Tree.{Tree};
 ghost use Rattle.plheap.specs.Store.{term};
 ghost use Rattle.plclause.specs.Indicators.{indicator};
 ghost use Rattle.plevent.specs.Alive.{Stamped, before};
 ghost use Rattle.plevent.specs.Search.{Seen, Got, Finishes};
-ghost use Rattle.plevent.specs.declared.request.Reply.TheVariants.{Published as IsPublished};
 ghost use Rattle.plload.specs.Program.{clauses_for};
 ghost use Rattle.plstore.specs.Kept.{keep, nothing};
 ghost use Rattle.plstore.specs.Rising.{Rises};
 ghost use Rattle.plsearch.specs.Engine.{deeper};
-ghost use Rattle.plsearch.specs.Table.{walk_over};
+ghost use Rattle.plsearch.specs.Table.{walk_over, missing};
 ghost use Rattle.plsearch.specs.Search.{search_of, next_of};
 ghost use Rattle.plsearch.specs.Solving.{Begins, Goes, TakesOne};
 ghost use Rattle.plframe.specs.Places.{Statics};
 ghost use Rattle.plframe.specs.State.{cases_of, goals_of, HasCall, HasBranch, HasCatch, IsList};
 ghost use Rattle.plsolve.specs.Heads.{AtGoal};
-ghost use Rattle.plsolve.specs.Solver.{local_of, depth_of, Moved, Stays, rest_of, result_of, Quiet, Settled, WaitsForView, WaitsToPublish, IsOver, Stepped, throws_to, Recovered, Rethrown, marked, cut_stopped, empty, Starts, StartsGoal};
+ghost use Rattle.plsolve.specs.Solver.{local_of, depth_of, Moved, Stays, rest_of, result_of, Quiet, Settled, WaitsForView, WaitsToPublish, ReplyFits, IsOver, Stepped, throws_to, Recovered, Rethrown, marked, cut_stopped, empty, Starts, StartsGoal};
 ghost use Rattle.plsolve.specs.Says.{Says, IsSlice};
 
 use crate::control::read_control;
@@ -32,6 +32,7 @@ use plframe::stack::Stack;
 use plheap::cell::Cell;
 use plheap::heap::Heap;
 use plload::program::Program;
+use plload::settings::Unknown;
 use plstore::store::Store;
 use plterm::indicator::Indicator;
 use plterm::name::Name;
@@ -49,6 +50,8 @@ pub enum Outcome {
     CutTo(u32),
     /// A ball was thrown, with the levels of the markers behind it.
     Throw(Term, Vec<u32>),
+    /// The run was ended with a number.
+    Halted(u8),
     /// No step is left.
     Spent,
 }
@@ -85,6 +88,8 @@ pub enum Due {
     Look(u32, u32),
     /// A clause waits until it is published.
     Await(u32),
+    /// The run is to be ended with a number.
+    Halt(u8),
     /// The search has ended.
     Over,
 }
@@ -133,6 +138,7 @@ impl Progress {
                 }
                 Due::Look(_, _) => return Ok(Turn::Refresh),
                 Due::Await(_) => return self.asked(program),
+                Due::Halt(number) => return Ok(Turn::Ask(Request::HaltRun(number))),
                 Due::Over => return self.ended(program),
             }
         }
@@ -140,25 +146,42 @@ impl Progress {
 
     /// The reply to the request that is asked.
     pub fn reply(&mut self, program: &Program, place: u64, reply: Reply) -> Result<(), AllocError>
-        requires waits { WaitsToPublish self.old }
-        requires published { reply ≡ IsPublished }
+        requires fits { ReplyFits self.old reply }
         requires within { self.old.used ≤ self.old.limit }
         ensures ok { OnOk result (TakesOne (Got reply) (rest_of program.now self.old) self.old.used (rest_of program.now self.new) self.new.used) }
         ensures places { OnOk result (self.new.places.items ≡ self.old.places.items ++ place ∷ []) }
         ensures limit { self.new.limit ≡ self.old.limit }
         ensures err { OnErr result (Stays program.now self.old self.new) }
     {
-        let Some(link) = self.stack.first() else {
-            unreachable!()
-        };
-        let rest = link.next;
+        let head = head_of(&self.stack);
         self.places.push(place)?;
-        self.stack.visit(rest);
-        Ok(())
+        match head {
+            Head::Await(rest) => {
+                self.stack.visit(rest);
+                Ok(())
+            }
+            Head::Halt(number) => {
+                self.mode = Mode::Back(Outcome::Halted(number));
+                Ok(())
+            }
+            Head::Nothing
+            | Head::Goal(_, _, _)
+            | Head::Commit(_, _)
+            | Head::Never(_, _)
+            | Head::Until(_)
+            | Head::Look(_, _) => unreachable!(),
+        }
     }
 
-    /// The database after the batches below a place, for the goal that waits for it.
-    pub fn refreshed(&mut self, program: &Program, g: u64, store: &Store) -> Result<(), AllocError>
+    /// The database after the batches below a place, for the goal that waits for it, and the program's flag `unknown`.
+    pub fn refreshed(
+        &mut self,
+        program: &Program,
+        unknown: Unknown,
+        g: u64,
+        store: &Store,
+    ) -> Result<(), AllocError>
+        requires flag { unknown ≡ program.now.settings.unknown }
         requires waits { WaitsForView self.old }
         requires within { self.old.used ≤ self.old.limit }
         ensures ok { OnOk result ((us : List Stamped) → Rises 0 us → store.now ≡ fold keep nothing us → TakesOne (Seen g (before g us)) (rest_of program.now self.old) self.old.used (rest_of program.now self.new) self.new.used) }
@@ -175,7 +198,7 @@ impl Progress {
         let cell = *cell;
         let rest = link.next;
         self.places.push(g)?;
-        match self.look(program, g, store, cell, rest) {
+        match self.look(program, unknown, g, store, cell, rest) {
             Ok(()) => Ok(()),
             Err(e) => {
                 self.places.pop();
@@ -188,15 +211,17 @@ impl Progress {
     fn look(
         &mut self,
         program: &Program,
+        unknown: Unknown,
         g: u64,
         store: &Store,
         cell: u32,
         rest: u32,
     ) -> Result<(), AllocError>
+        requires flag { unknown ≡ program.now.settings.unknown }
         requires cell { cell < length self.old.stack.heap.cells }
         requires rest { IsList self.old.stack rest }
         requires within { self.old.used ≤ self.old.limit }
-        ensures ok { OnOk result ((us : List Stamped) → Rises 0 us → store.now ≡ fold keep nothing us → Moved program.now self.old self.new (walk_over (before g us) (depth_of program.now self.old) (term self.old.stack.heap cell) (goals_of self.old.stack rest) self.old.stack.heap.count (local_of self.old)) 0) }
+        ensures ok { OnOk result ((us : List Stamped) → Rises 0 us → store.now ≡ fold keep nothing us → Moved program.now self.old self.new (walk_over program.now (before g us) (depth_of program.now self.old) (term self.old.stack.heap cell) (goals_of self.old.stack rest) self.old.stack.heap.count (local_of self.old)) 0) }
         ensures kept { OnOk result ((self.new.limit ≡ self.old.limit) × (self.new.places.items ≡ self.old.places.items)) }
         ensures err { OnErr result (Stays program.now self.old self.new) }
     {
@@ -205,8 +230,33 @@ impl Progress {
             let clauses = store.alive_clauses(self.alloc, g, &p)?;
             return self.resolve(program, cell, rest, Source::Copied(clauses), 0);
         }
-        let error = error::no_procedure(self.alloc, &p)?;
-        self.raise(program, error, &p, rest, 0)
+        self.missing(program, unknown, &p, rest)
+    }
+
+    /// A call of a procedure that does not exist: an error or failure, by the flag `unknown`.
+    fn missing(
+        &mut self,
+        program: &Program,
+        unknown: Unknown,
+        p: &Indicator,
+        rest: u32,
+    ) -> Result<(), AllocError>
+        requires rest { IsList self.old.stack rest }
+        requires within { self.old.used ≤ self.old.limit }
+        ensures ok { OnOk result ((t : Tree) → p.now ≡ indicator t → Moved program.now self.old self.new (missing unknown t (goals_of self.old.stack rest) (local_of self.old)) 0) }
+        ensures kept { OnOk result ((self.new.limit ≡ self.old.limit) × (self.new.places.items ≡ self.old.places.items)) }
+        ensures err { OnErr result (Stays program.now self.old self.new) }
+    {
+        match unknown {
+            Unknown::Fail => {
+                self.give(Outcome::Fail, 0);
+                Ok(())
+            }
+            Unknown::Error => {
+                let error = error::no_procedure(self.alloc, p)?;
+                self.raise(program, error, p, rest, 0)
+            }
+        }
     }
 
     /// The request that waits.
@@ -327,6 +377,7 @@ impl Progress {
             }
             Head::Look(cell, rest) => Ok(Some(Due::Look(cell, rest))),
             Head::Await(rest) => Ok(Some(Due::Await(rest))),
+            Head::Halt(number) => Ok(Some(Due::Halt(number))),
         }
     }
 
@@ -449,6 +500,7 @@ impl Progress {
             | Mode::Back(Outcome::Stop)
             | Mode::Back(Outcome::Fail)
             | Mode::Back(Outcome::CutTo(_))
+            | Mode::Back(Outcome::Halted(_))
             | Mode::Back(Outcome::Spent) => false,
         }
     }
@@ -508,6 +560,7 @@ fn end_of(alloc: Global, outcome: &Outcome) -> Result<ThreadEnd, AllocError>
     match outcome {
         Outcome::Stop => Ok(ThreadEnd::True),
         Outcome::Fail | Outcome::CutTo(_) => Ok(ThreadEnd::False),
+        Outcome::Halted(number) => Ok(ThreadEnd::Halt(*number)),
         Outcome::Spent => Ok(ThreadEnd::Budget),
         Outcome::Throw(ball, _) => {
             let ball = ball.copied(alloc)?;

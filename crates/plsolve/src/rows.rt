@@ -1,7 +1,7 @@
 //! The rows of the table of control: what each form of goal makes of a solver (ISO/IEC 13211-1 7.8).
 //!
 //! A row that is refused memory leaves the search where it was.
-ghost use Rattle.std.specs.Prelude.{◌≡◌, ◌+◌, ◌<◌, ◌≤◌, ℕ, suc, [], ◌∷◌, ◌++◌, length, codes, IfOk, OnOk, OnErr};
+ghost use Rattle.std.specs.Prelude.{◌≡◌, ◌+◌, ◌<◌, ◌≤◌, ℕ, suc, List, [], ◌∷◌, ◌++◌, length, codes, IfOk, OnOk, OnErr};
 ghost use Rattle.plheap.specs.Store.{term, terms};
 ghost use Rattle.plterm.specs.Tree.{atom};
 ghost use Rattle.plsearch.specs.Errors.{callable_error, error_term};
@@ -11,14 +11,14 @@ ghost use Rattle.plclause.specs.Clausal.{clausal};
 ghost use Rattle.plclause.specs.Indicators.{indicator};
 ghost use Rattle.plload.specs.Program.{clauses_for};
 ghost use Rattle.plsubst.specs.Unify.{unify};
-ghost use Rattle.plsearch.specs.Types.{Goal, Commit, Never, Until, Raise, Go, Choice, Mark};
-ghost use Rattle.plsearch.specs.Table.{run, runnable, Runnable, once_1, not_1, catch_3, catching, thrown, call_with, called, unified, branch, assertz_1, raised, add, add_if, is_static, call, user, row};
+ghost use Rattle.plsearch.specs.Types.{Element, Local, Goal, Commit, Never, Until, Raise, Go, Choice, Mark};
+ghost use Rattle.plsearch.specs.Table.{run, runnable, Runnable, once_1, not_1, catch_3, catching, thrown, call_with, called, unified, branch, assertz_1, raised, add, add_if, halting, modulo_256, is_static, call, user, row};
 ghost use Rattle.plframe.specs.Places.{clauses_in, element, IsItemIn};
 ghost use Rattle.plframe.specs.State.{goals_of, IsList, Extends, IsOpening, opening_cases, IsAround, around_cases};
 ghost use Rattle.plframe.specs.Extended.{IsRun, run_terms};
-ghost use Rattle.plsolve.specs.Controls.{shown_control, IsInside};
+ghost use Rattle.plsolve.specs.Controls.{shown_control, IsInside, integer_in};
 ghost use Rattle.plsolve.specs.Predicates.{predicate_of, IsFew};
-ghost use Rattle.plsolve.specs.Solver.{local_of, depth_of, Moved, Stays, Readies, ReadyWithin, ready_as, is_var};
+ghost use Rattle.plsolve.specs.Solver.{local_of, depth_of, Moved, Stays, Readies, ReadyWithin, ready_as, is_var, ended_with};
 
 use crate::control::Control;
 use crate::error;
@@ -44,6 +44,15 @@ pub enum Ready {
     /// It is the goal of a cell.
     Runs(u32),
     /// It is none: the error.
+    Raises(Term),
+}
+
+/// What the number of halt/1 comes to.
+#[derive(Drop)]
+pub enum Status {
+    /// The run is ended with this number.
+    Is(u8),
+    /// It is no integer: the error.
     Raises(Term),
 }
 
@@ -364,6 +373,41 @@ impl Progress {
         self.push(program, Item::Await(clause), rest)
     }
 
+    /// halt/1.
+    fn halt_with(&mut self, program: &Program, number: u32, rest: u32) -> Result<(), AllocError>
+        requires number { number < length self.old.stack.heap.cells }
+        requires rest { IsList self.old.stack rest }
+        requires left { self.old.used + 1 ≤ self.old.limit }
+        ensures ok { OnOk result (Moved program.now self.old self.new (halting (term self.old.stack.heap number) (goals_of self.old.stack rest) self.old.stack.heap.count (local_of self.old)) 1) }
+        ensures err { OnErr result (Stays program.now self.old self.new) }
+    {
+        match self.status(number)? {
+            Status::Is(status) => self.push(program, Item::Halt(status), rest),
+            Status::Raises(error) => {
+                let p = Predicate::Halt.indicator(self.alloc)?;
+                self.raise(program, error, &p, rest, 1)
+            }
+        }
+    }
+
+    /// What the number of halt/1 comes to.
+    fn status(&self, cell: u32) -> Result<Status, AllocError>
+        requires { cell < length self.now.stack.heap.cells }
+        ensures { IfOk result (λ s. (es : List Element) (n : ℕ) (w : Local) → halting (term self.now.stack.heap cell) es n w ≡ ended_with s es n w) }
+    {
+        if is_variable(self.stack.heap(), cell) {
+            let error = error::instantiation(self.alloc)?;
+            return Ok(Status::Raises(error));
+        }
+        let (_, node) = self.stack.heap().root(cell);
+        if let Some(number) = integer_in(node) {
+            return Ok(Status::Is(modulo_256(number)));
+        }
+        let culprit = self.stack.heap().take(self.alloc, cell)?;
+        let error = error::not_integer(self.alloc, culprit)?;
+        Ok(Status::Raises(error))
+    }
+
     /// A goal is resolved against clauses.
     pub(crate) fn resolve(
         &mut self,
@@ -674,6 +718,8 @@ impl Progress {
             Control::WriteQuoted(a) => self.write(program, a, Style::Quoted, rest),
             Control::Newline => self.write_bytes(program, b"\n", rest),
             Control::AddLast(clause) => self.add_last(program, clause, rest),
+            Control::Halt => self.push(program, Item::Halt(0), rest),
+            Control::HaltWith(number) => self.halt_with(program, number, rest),
             Control::Call(p) => self.call(program, p, cell, rest),
             Control::NoGoal => {
                 self.give(Outcome::Fail, 1);
@@ -681,6 +727,25 @@ impl Progress {
             }
         }
     }
+}
+
+/// The integer that a cell holds.
+fn integer_in(cell: &Cell) -> Option<i64>
+    ensures { result ≡ integer_in cell.now }
+{
+    match cell {
+        Cell::Int(number) => Some(*number),
+        Cell::Free(_) | Cell::Bound(_, _) | Cell::Ref(_) | Cell::Atom(_) | Cell::Struct(_, _) => {
+            None
+        }
+    }
+}
+
+/// An integer modulo 256, with the divisor's sign.
+fn modulo_256(number: i64) -> u8
+    ensures { result ≡ modulo_256 number }
+{
+    number.rem_euclid(256) as u8
 }
 
 /// Whether the term of a cell is a variable.

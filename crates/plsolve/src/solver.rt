@@ -3,17 +3,17 @@
 ghost use Rattle.std.specs.Prelude.{◌≡◌, ◌+◌, ◌≤◌, List, [], ◌∷◌, ◌++◌, IfOk, OnOk, OnErr, fold};
 ghost use Rattle.plevent.specs.Alive.{Stamped, before};
 ghost use Rattle.plevent.specs.Search.{Seen, Got};
-ghost use Rattle.plevent.specs.declared.request.Reply.TheVariants.{Published as IsPublished};
 ghost use Rattle.plstore.specs.Kept.{keep, nothing};
 ghost use Rattle.plstore.specs.Rising.{Rises};
 ghost use Rattle.plsearch.specs.Search.{search_of};
 ghost use Rattle.plsearch.specs.Solving.{Begins, Goes, TakesOne};
-ghost use Rattle.plsolve.specs.Solver.{Stays, rest_of, WaitsForView, WaitsToPublish};
+ghost use Rattle.plsolve.specs.Solver.{Stays, rest_of, WaitsForView, ReplyFits};
 ghost use Rattle.plsolve.specs.Says.{Says, IsSlice};
 
 use crate::progress::Progress;
 use plevent::request::{Reply, Request, ThreadEnd};
 use plload::program::Program;
+use plload::settings::Unknown;
 use plstore::store::Store;
 use std::alloc::{AllocError, Global};
 use std::marker::Model;
@@ -96,8 +96,7 @@ impl Solver {
 
     /// The reply to the request that is asked. A refused growth leaves the solver as it was.
     pub fn reply(&mut self, program: &Program, place: u64, reply: Reply) -> Result<(), AllocError>
-        requires waits { WaitsToPublish self.old }
-        requires published { reply ≡ IsPublished }
+        requires fits { ReplyFits self.old reply }
         requires within { self.old.used ≤ self.old.limit }
         ensures ok { OnOk result (TakesOne (Got reply) (rest_of program.now self.old) self.old.used (rest_of program.now self.new) self.new.used) }
         ensures places { OnOk result (self.new.places.items ≡ self.old.places.items ++ place ∷ []) }
@@ -107,8 +106,16 @@ impl Solver {
         self.progress.reply(program, place, reply)
     }
 
-    /// The database after the batches below a place, for the goal that waits for it. A refused growth leaves the solver as it was.
-    pub fn refreshed(&mut self, program: &Program, g: u64, store: &Store) -> Result<(), AllocError>
+    /// The database after the batches below a place, for the goal that waits for it, and the program's flag `unknown`.
+    /// A refused growth leaves the solver as it was.
+    pub fn refreshed(
+        &mut self,
+        program: &Program,
+        unknown: Unknown,
+        g: u64,
+        store: &Store,
+    ) -> Result<(), AllocError>
+        requires flag { unknown ≡ program.now.settings.unknown }
         requires waits { WaitsForView self.old }
         requires within { self.old.used ≤ self.old.limit }
         ensures ok { OnOk result ((us : List Stamped) → Rises 0 us → store.now ≡ fold keep nothing us → TakesOne (Seen g (before g us)) (rest_of program.now self.old) self.old.used (rest_of program.now self.new) self.new.used) }
@@ -116,6 +123,6 @@ impl Solver {
         ensures limit { self.new.limit ≡ self.old.limit }
         ensures err { OnErr result (Stays program.now self.old self.new) }
     {
-        self.progress.refreshed(program, g, store)
+        self.progress.refreshed(program, unknown, g, store)
     }
 }

@@ -1,5 +1,5 @@
 use Rattle.plsolve.specs.Heads.{IsHead}
-use Rattle.plsolve.proofs.Heading.{head-goal, head-look, head-commit, head-never, head-until, head-await}
+use Rattle.plsolve.proofs.Heading.{head-goal, head-look, head-commit, head-never, head-until, head-await, head-halt}
 use Rattle.plsolve.proofs.head.head_of.Goals as goal
 
 pub returns-in_default : goal.returns-in_default
@@ -17,6 +17,9 @@ returns-in-Look c = head-look c.args.stack.now c.in-Some.link.now c.in-Look.cell
 
 pub returns-in-Await : goal.returns-in-Await
 returns-in-Await c = head-await c.args.stack.now c.in-Some.link.now c.in-Await.field-0 c.in-Some.ensures.some c.in-Await.is
+
+pub returns-in-Halt : goal.returns-in-Halt
+returns-in-Halt c = head-halt c.args.stack.now c.in-Some.link.now c.in-Halt.number c.in-Some.ensures.some c.in-Halt.is
 
 pub returns-in-Never : goal.returns-in-Never
 returns-in-Never c = head-never c.args.stack.now c.in-Some.link.now c.in-Never.level c.in-Some.ensures.some c.in-Never.is

@@ -23,7 +23,4 @@ returns-clause-ok c =
     let P = c.args.program.now in
     let of = rw c.heap.ensures at c.in_ok-p.ensures in
     let there = rw c.if-exists.false at c.exists.ensures in
-    on_ok_map c.raise.result (λ m us up is. look-none P s c.raise.new.self c.args.g us c.args.store.now is up (depth_of P s) (term s.stack.heap c.args.cell) (goals_of s.stack c.args.rest) s.stack.heap.count c.in_ok-p.p of c.in_ok-error.error (sym there) c.in_ok-error.ensures m) c.raise.ensures.ok
-
-pub returns-clause-kept : goal.returns-clause-kept
-returns-clause-kept c = on_ok_map c.raise.result (λ m. (m.limit, m.places)) c.raise.ensures.ok
+    on_ok_map c.missing.result (λ m us up is. look-none P s c.missing.new.self c.args.g us c.args.store.now is up (depth_of P s) (term s.stack.heap c.args.cell) (goals_of s.stack c.args.rest) s.stack.heap.count c.in_ok-p.p of c.args.unknown (sym there) c.requires.flag (m (term s.stack.heap c.args.cell) of)) c.missing.ensures.ok

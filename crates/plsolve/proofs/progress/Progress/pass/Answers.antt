@@ -34,6 +34,10 @@ pub returns-in-Await-clause-due : goal.returns-in-Await-clause-due
 unfolding IsHead Settled
 returns-in-Await-clause-due c = ((c.requires.visits, c.in-Await.ensures.0, c.in-Await.rest, c.in-Await.ensures.1), refl)
 
+pub returns-in-Halt-clause-due : goal.returns-in-Halt-clause-due
+unfolding IsHead Settled
+returns-in-Halt-clause-due c = ((c.requires.visits, c.in-Halt.ensures.0, c.in-Halt.ensures.1), refl)
+
 pub returns-in-Never-clause-on : goal.returns-in-Never-clause-on
 unfolding IsHead
 returns-in-Never-clause-on c = quiet-never c.args.program.now c.args.self.now c.in-Never.level c.in-Never.field-1 c.requires.visits c.in-Never.ensures

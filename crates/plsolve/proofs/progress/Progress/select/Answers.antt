@@ -47,6 +47,14 @@ pub returns-in-AddLast-clause-ok : goal.returns-in-AddLast-clause-ok
 unfolding row
 returns-in-AddLast-clause-ok c = rw c.in-AddLast.is c.add_last.ensures.ok
 
+pub returns-in-Halt-clause-ok : goal.returns-in-Halt-clause-ok
+unfolding row
+returns-in-Halt-clause-ok c = rw c.in-Halt.is c.push.ensures.ok
+
+pub returns-in-HaltWith-clause-ok : goal.returns-in-HaltWith-clause-ok
+unfolding row
+returns-in-HaltWith-clause-ok c = rw c.in-HaltWith.is c.halt_with.ensures.ok
+
 pub returns-in-Call-clause-ok : goal.returns-in-Call-clause-ok
 unfolding row
 returns-in-Call-clause-ok c = rw c.in-Call.is c.call.ensures.ok
