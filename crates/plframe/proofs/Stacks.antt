@@ -9,7 +9,7 @@ use Rattle.plsubst.specs.Unify.{unify}
 use Rattle.plunify.specs.Unifying.{Unified}
 use Rattle.std.specs.Prelude.{Result as Outcomes}
 use Rattle.std.specs.declared.alloc.AllocError.{AllocError}
-use Rattle.plsearch.specs.Types.{Case, Choice, Mark as MarkOf, Handle, Catch}
+use Rattle.plsearch.specs.Types.{Case, Choice, Handle, Catch}
 use Rattle.plsearch.specs.Table.{resolve, branch, catching, bind_goals}
 use Rattle.plsearch.specs.Engine.{deeper}
 use Rattle.plframe.specs.declared.stack.Stack.TheInside.{Inside}
@@ -446,9 +446,6 @@ module _ (s : State) (d : ℕ) (frame : Frame) (is : IsStack s d) (fits : IsFram
     }
 
 -- what the frames of some cases open
-pub opens-barrier : (s new : State) (l : ℕ) → OpensFrame s new (Barrier l) → Opens s new (MarkOf l ∷ [])
-opens-barrier s new l o = record { cases = o.cases; heap = o.heap; links = o.links; goals = o.goals }
-
 module _ (s new : State) (b : Branch) (list : ℕ) (place : branch_place s.heap s.links b ≡ place_at s.heap s.links list) where
   pub opens-branch : OpensFrame s new (BranchOf b) → Opens s new (branch (goals_of s list) s.heap.count ∷ [])
   opens-branch o = record {

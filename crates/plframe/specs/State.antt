@@ -14,7 +14,7 @@ use Rattle.plframe.specs.declared.frame.Catcher.{Catcher}
 use Rattle.plframe.specs.declared.frame.Around.{Around}
 use Rattle.plframe.specs.declared.frame.Around.TheVariants.{Nothing, Branch as InBranch, Catch as InCatch}
 use Rattle.plframe.specs.declared.frame.Opening.{Opening}
-use Rattle.plframe.specs.declared.frame.Opening.TheVariants.{Barrier as OpenBarrier, Branch as OpenBranch, Run as OpenRun}
+use Rattle.plframe.specs.declared.frame.Opening.TheVariants.{Branch as OpenBranch, Run as OpenRun}
 use Rattle.plframe.specs.declared.frame.Alternatives.{Alternatives}
 use Rattle.plframe.specs.declared.frame.Source.{Source}
 use Rattle.plframe.specs.declared.frame.Closed.{Closed}
@@ -71,7 +71,6 @@ around_cases s (InCatch c r i) = catching (term s.heap c) (term s.heap r) (goals
 
 -- the cases to open, the innermost first
 abbrev pub opening_cases : State → Opening → List Case
-opening_cases s (OpenBarrier l) = Mark l ∷ []
 opening_cases s (OpenBranch i) = branch (goals_of s i) s.heap.count ∷ []
 opening_cases s (OpenRun around) = Choice [] ∷ around_cases s around
 
@@ -81,7 +80,6 @@ IsAround s (InBranch i) = IsList s i
 IsAround s (InCatch c r i) = IsList s i × (c < length s.heap.cells) × (r < length s.heap.cells)
 
 abbrev pub IsOpening : State → Opening → Type 0
-IsOpening s (OpenBarrier l) = Unit {0}
 IsOpening s (OpenBranch i) = IsList s i
 IsOpening s (OpenRun around) = IsAround s around
 

@@ -103,8 +103,6 @@ pub enum Around {
 /// Cases to open.
 #[derive(Clone, Copy)]
 pub enum Opening {
-    /// A mark of a level, behind which Fail is a cut to it.
-    Barrier(u32),
     /// A choice of one list.
     Branch(u32),
     /// A choice with nothing left, for the cut level of a goal, in other cases.

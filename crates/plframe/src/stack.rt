@@ -189,7 +189,6 @@ impl Stack {
         ensures err { OnErr result (self.new ≡ self.old) }
     {
         match opening {
-            Opening::Barrier(level) => self.open_frame(Frame::Barrier(level)),
             Opening::Branch(list) => {
                 let branch = self.branch_of(list);
                 self.open_frame(Frame::Branch(branch))
