@@ -44,13 +44,6 @@ pub head-halt : (s : State) (l : Link) (n : ℕ) → Begins s l → l.item ≡ H
 unfolding IsHead
 head-halt s l n b is = (l.next, record { items = b.items ∙ ap (λ i. i ∷ list_at s.links l.next) is })
 
--- a list stays where cases are opened
-pub list-opened : (s st : State) (more : List Case) (rest : ℕ) → Opens s st more → IsList s rest → IsList st rest
-list-opened s st more rest o l = record {
-  there = subst (λ ls. rest ≤ length ls) (sym o.links) l.there;
-  inside = rw (o.heap, o.links) l.inside;
-}
-
 pub terms-length : (h : Store) (c k : ℕ) → length (terms h c k) ≡ k
 terms-length h c zero = refl
 terms-length h c (suc k) = ap suc (terms-length h (suc c) k)

@@ -66,8 +66,7 @@ quiet_goes P s new within q = (
   (λ le. omega (arith, q.used, le)),
   λ n answers le.
       let few : (min n s.limit - s.used) + s.used ≤ s.limit = omega (arith, within) in
-      ap (ending_of (min n s.limit)) (Rest-turn P (machine P (min n s.limit - s.used) answers s))
-      ∙ ap (λ m. ending_of (min n s.limit) (Rest P m)) (sym (q.turned (min n s.limit - s.used) answers few))
+      ap (ending_of (min n s.limit)) (sym (q.rest (min n s.limit - s.used) answers few))
       ∙ ap₂ (λ l u. ending_of (min n l) (Rest P (machine P (min n l - u) answers new))) (sym q.limit) (sym q.used),
 )
 
@@ -76,12 +75,8 @@ pub load : Program → Progress → ℕ
 load P s = weight (machine P 0 [] s)
 
 pub quiet_lighter : (P : Program) (s new : Progress) → s.used ≤ s.limit → Quiet P s new → load P new < load P s
-unfolding load machine
-quiet_lighter P s new within q = fin (subst (λ m. Lighter (machine P 0 [] s) m) (sym (q.turned 0 [] (omega (arith, within)))) (lighter-turn P (machine P 0 [] s) q.goes))
-  where
-    fin : Lighter (machine P 0 [] s) (machine P 0 [] new) → load P new < load P s
-    fin (inl less) = absurd (omega (arith, less))
-    fin (inr both) = both.1
+unfolding load
+quiet_lighter P s new within q = q.lighter within
 
 -- a list's first, and the others
 goals-are : (s : State) (e : Element) (rest : List Element) → goals_of s s.goals ≡ e ∷ rest → place_of s ≡ record { goals = e ∷ rest; variables = s.heap.count }
