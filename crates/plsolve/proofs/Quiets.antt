@@ -14,7 +14,7 @@ use Rattle.plsearch.specs.Machine.{At, Back, Machine, Rest, return, turn, step}
 use Rattle.plsearch.specs.Weight.{weight, Lighter}
 use Rattle.plsearch.proofs.Turns.{Rest-turn}
 use Rattle.plsearch.proofs.Weight.{lighter-turn}
-use Rattle.plframe.specs.Places.{element, list_at, place_at}
+use Rattle.plframe.specs.Places.{element, list_at}
 use Rattle.plframe.specs.State.{State, place_of, cases_of, goals_of, Retries}
 use Rattle.plframe.specs.Cutting.{Cuts}
 use Rattle.plsolve.specs.declared.progress.Outcome.{Outcome}

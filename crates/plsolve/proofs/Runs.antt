@@ -1,5 +1,5 @@
 -- What turns, steps and answers say of the whole search.
-use Rattle.std.proofs.Common.{◌≡◌, ℕ, Bool, true, false, suc, ◌+◌, ◌-◌, ◌<◌, ◌≤◌, inl, inr, List, [], ◌∷◌, ◌++◌, refl, sym, ap, ap₂, ◌∙◌, subst, arith, map, min, le_refl, length, take, length-append}
+use Rattle.std.proofs.Common.{◌≡◌, ℕ, Bool, true, false, suc, ◌+◌, ◌-◌, ◌<◌, ◌≤◌, List, [], ◌∷◌, ◌++◌, refl, sym, ap, ap₂, ◌∙◌, subst, arith, map, min, le_refl, length, take, length-append}
 use Rattle.std.proofs.Math.Seq.{take-append_seam}
 use Rattle.plheap.specs.Store.{term}
 use Rattle.plevent.specs.Search.{Item, View, Ask, Answer, Search, Wants, Finishes, Seen, Got}
@@ -17,11 +17,10 @@ use Rattle.plsearch.specs.Types.{Asking, Element, Goal, Look, Await, Halt, Place
 use Rattle.plsearch.specs.Table.{select, meet, answered, resume, walk_over}
 use Rattle.plsearch.specs.Engine.{left, choice, out, outs, Visit}
 use Rattle.plsearch.specs.Machine.{At, Back, Rest, move, turn, meets}
-use Rattle.plsearch.specs.Weight.{weight, Lighter}
+use Rattle.plsearch.specs.Weight.{weight}
 use Rattle.plsearch.specs.Search.{ending_of, next_of}
 use Rattle.plsearch.specs.Solving.{Goes, TakesOne, StandsAt, EndsAt}
 use Rattle.plsearch.proofs.Turns.{Rest-turn}
-use Rattle.plsearch.proofs.Weight.{lighter-turn}
 use Rattle.plframe.specs.declared.frame.Item.{Item as Member}
 use Rattle.plframe.specs.declared.frame.Item.TheVariants.{Goal as GoalAt, Commit as CommitTo, Never as NeverTo, Until as UntilTo, Look as LookAt, Await as AwaitFor, Halt as HaltWith}
 use Rattle.plframe.specs.declared.frame.Link.{Link}
