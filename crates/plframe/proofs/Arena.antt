@@ -1,12 +1,16 @@
 -- Goal lists in one growing vector of links.
-use Rattle.std.proofs.Common.{◌≡◌, ℕ, suc, ◌+◌, ◌<◌, ◌≤◌, List, [], ◌∷◌, ◌++◌, length, length-append, take, drop, refl, sym, ap, ◌∙◌, subst, arith, get_or, ◌⊎◌, inl, inr, append-nil, append_assoc, length-take-le, drop-cons}
+use Rattle.std.proofs.Common.{◌≡◌, ℕ, zero, suc, ◌+◌, ◌<◌, ◌≤◌, List, [], ◌∷◌, ◌++◌, length, length-append, take, drop, refl, sym, ap, ◌∙◌, subst, arith, get_or, ◌⊎◌, inl, inr, append-nil, append_assoc, length-take-le, drop-cons}
 use Rattle.std.specs.List.{fold}
 use Rattle.std.proofs.lemmas.List.{get_or_append_left, get_or_push, get_or-take, take-append-drop}
-use Rattle.std.proofs.Math.Nat.{eq-or-lt_of_le}
+use Rattle.std.proofs.Math.Nat.{eq-or-lt_of_le, le-max_left, le-max_right}
 use Rattle.plheap.proofs.Cells.{fold-append}
 use Rattle.plframe.specs.declared.frame.Item.{Item}
 use Rattle.plframe.specs.declared.frame.Link.{Link}
-use Rattle.plframe.specs.Places.{added, lists_of, list_at, link_at, IsChain}
+use Rattle.plframe.specs.Levels.{level_in}
+use Rattle.plframe.specs.Places.{added, lists_of, list_at, link_at, top_at, link_to, IsLink, IsChain}
+
+top_in : Link → ℕ
+top_in l = l.top
 
 fold-length : (start : List (List Item)) (links : List Link) → length (fold added start links) ≡ length start + length links
 fold-length start [] = omega arith
@@ -58,19 +62,40 @@ list_at-first links i chain lt =
     ap (λ ls. list_at ls (suc i)) split
     ∙ list_at-more (take i links ++ l ∷ []) (drop (suc i) links) (suc i) (omega (arith, few, length-append (take i links) (l ∷ [])))
     ∙ list_at-new (take i links) l (suc i) (ap suc (sym few))
-    ∙ ap (λ ls. l.item ∷ ls) (list_at-take links i l.next (chain i lt) (omega arith))
+    ∙ ap (λ ls. l.item ∷ ls) (list_at-take links i l.next (chain i lt).next (omega arith))
+
+-- the highest levels stay where there are more links, or fewer
+pub top_at-more : (xs ys : List Link) (i : ℕ) → i ≤ length xs → top_at (xs ++ ys) i ≡ top_at xs i
+unfolding top_in
+top_at-more xs ys zero le = refl
+top_at-more xs ys (suc i) le = ap top_in (get_or_append_left xs ys (link_at [] 0) i le)
+
+pub top_at-take : (links : List Link) (n i : ℕ) → i ≤ n → top_at (take n links) i ≡ top_at links i
+unfolding top_in
+top_at-take links n zero le = refl
+top_at-take links n (suc i) le = ap top_in (get_or-take n links i (link_at [] 0) le)
 
 pub chain-none : IsChain []
 chain-none i lt = absurd (omega arith)
 
-pub chain-push : (links : List Link) (l : Link) → IsChain links → l.next ≤ length links → IsChain (links ++ l ∷ [])
-chain-push links l chain le i lt = go (eq-or-lt_of_le (omega (arith, lt, length-append links (l ∷ []))))
+pub chain-push : (links : List Link) (item : Item) (rest : ℕ) → IsChain links → rest ≤ length links → IsChain (links ++ link_to links item rest ∷ [])
+chain-push links item rest chain le i lt = go (eq-or-lt_of_le (omega (arith, lt, length-append links (l ∷ []))))
   where
-    go : (i ≡ length links) ⊎ (i < length links) → (link_at (links ++ l ∷ []) i).next ≤ i
-    go (inr h) = subst (λ (x : Link). x.next ≤ i) (sym (get_or_append_left links (l ∷ []) (link_at [] 0) i h)) (chain i h)
-    go (inl e) = subst (λ (x : Link). x.next ≤ i) (sym (get_or_push links l (link_at [] 0) i (sym e))) (omega (arith, e, le))
+    l : Link
+    l = link_to links item rest
+
+    go : (i ≡ length links) ⊎ (i < length links) → IsLink (links ++ l ∷ []) i (link_at (links ++ l ∷ []) i)
+    go (inr h) =
+        let was = chain i h in
+        subst (IsLink (links ++ l ∷ []) i) (sym (get_or_append_left links (l ∷ []) (link_at [] 0) i h))
+        (record { next = was.next; item = was.item; rest = rw (top_at-more links (l ∷ []) (link_at links i).next (omega (arith, was.next, h))) was.rest })
+    go (inl e) =
+        subst (IsLink (links ++ l ∷ []) i) (sym (get_or_push links l (link_at [] 0) i (sym e)))
+        (record { next = omega (arith, e, le); item = le-max_left (level_in item) (top_at links rest); rest = rw (top_at-more links (l ∷ []) rest le) (le-max_right (level_in item) (top_at links rest)) })
 
 pub chain-take : (links : List Link) (n : ℕ) → IsChain links → n ≤ length links → IsChain (take n links)
 chain-take links n chain le i lt =
     let small : i < n = omega (arith, lt, length-take-le n links le) in
-    subst (λ (x : Link). x.next ≤ i) (sym (get_or-take n links i (link_at [] 0) small)) (chain i (omega arith))
+    let was = chain i (omega arith) in
+    subst (IsLink (take n links) i) (sym (get_or-take n links i (link_at [] 0) small))
+    (record { next = was.next; item = was.item; rest = rw (top_at-take links n (link_at links i).next (omega (arith, was.next, small))) was.rest })

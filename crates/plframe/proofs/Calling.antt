@@ -12,7 +12,7 @@ use Rattle.plsearch.specs.Table.{bind_goals, is_true, before_rest}
 use Rattle.plframe.specs.declared.frame.Item.TheVariants.{Goal as GoalAt}
 use Rattle.plframe.specs.declared.frame.Link.{Link}
 use Rattle.plframe.specs.declared.call.Called.{Called}
-use Rattle.plframe.specs.Places.{element, goals_at, list_at, AreIn}
+use Rattle.plframe.specs.Places.{element, goals_at, list_at, link_to, AreIn}
 use Rattle.plframe.specs.Calls.{Longer, IsListIn, IsCalled, Fitted, PutsBody, Resolves}
 use Rattle.plframe.proofs.Arena.{list_at-new}
 use Rattle.plframe.proofs.Frames.{are_in-more, elements-stay}
@@ -61,9 +61,9 @@ puts-none h links call base c is there = record {
 }
 
 module _ (h h1 : Store) (links : List Link) (call : Called) (base bc : ℕ) (c : Clause) (not : is_true c.body ≡ false) (rest : IsListIn h links call.rest) (adds : Adds h h1 bc (bind (over h base) c.body)) (count : h1.count ≡ h.count) where
-  pub puts-one : (new : List Link) (i : ℕ) → new ≡ links ++ record { item = GoalAt call.level bc; next = call.rest } ∷ [] → i ≡ length links + 1 → PutsBody h h1 links new call base i c
+  pub puts-one : (new : List Link) (i : ℕ) → new ≡ links ++ link_to links (GoalAt call.level bc) call.rest ∷ [] → i ≡ length links + 1 → PutsBody h h1 links new call base i c
   puts-one new i e at =
-      let l : Link = record { item = GoalAt call.level bc; next = call.rest } in
+      let l : Link = link_to links (GoalAt call.level bc) call.rest in
       let list : list_at new i ≡ GoalAt call.level bc ∷ list_at links call.rest = ap (λ ls. list_at ls i) e ∙ list_at-new links l i (omega (arith, at)) in
       record {
         goals =

@@ -48,7 +48,7 @@ elements-stay old new n e [] i = refl
 elements-stay old new n e (x ∷ xs) i = ap₂ (λ y ys. y ∷ ys) (element-stays old new n e x i.0) (elements-stay old new n e xs i.1)
 
 -- the number of open cases
-plain-deeper : (n : ℕ) (below : List Case) → deeper (plain n below) 0 ≡ n + deeper below 0
+pub plain-deeper : (n : ℕ) (below : List Case) → deeper (plain n below) 0 ≡ n + deeper below 0
 plain-deeper zero below = omega arith
 plain-deeper (suc n) below = omega (arith, plain-deeper n below)
 

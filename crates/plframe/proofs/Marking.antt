@@ -29,7 +29,7 @@ module _ (h : Store) (links : List Link) (chain : IsChain links) (i : ℕ) (l : 
   link-is = at ∙ get_or_default links (i - 1) l (link_at [] 0) lt
 
   pub next-there : l.next ≤ i - 1
-  next-there = subst (λ (x : Link). x.next ≤ i - 1) (sym link-is) (chain (i - 1) lt)
+  next-there = subst (λ (x : Link). x.next ≤ i - 1) (sym link-is) (chain (i - 1) lt).next
 
   goals-here : goals_at h links i ≡ element h l.item ∷ goals_at h links l.next
   goals-here =

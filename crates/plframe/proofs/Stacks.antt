@@ -9,7 +9,7 @@ use Rattle.plsubst.specs.Unify.{unify}
 use Rattle.plunify.specs.Unifying.{Unified}
 use Rattle.std.specs.Prelude.{Result as Outcomes}
 use Rattle.std.specs.declared.alloc.AllocError.{AllocError}
-use Rattle.plsearch.specs.Types.{Case, Choice, Mark as MarkOf, Handle, Catch}
+use Rattle.plsearch.specs.Types.{Case, Choice, Handle, Catch}
 use Rattle.plsearch.specs.Table.{resolve, branch, catching, bind_goals}
 use Rattle.plsearch.specs.Engine.{deeper}
 use Rattle.plframe.specs.declared.stack.Stack.TheInside.{Inside}
@@ -21,7 +21,8 @@ use Rattle.plframe.specs.declared.frame.Frame.{Frame}
 use Rattle.plframe.specs.declared.frame.Branch.{Branch}
 use Rattle.plframe.specs.declared.frame.Frame.TheVariants.{Plain, Barrier, Call, Branch as BranchOf, Catch as CatchOf}
 use Rattle.plframe.specs.declared.frame.Catcher.{Catcher}
-use Rattle.plframe.specs.Places.{catcher_case, branch_place, place_at, IsSaved, Statics, element, goals_at, list_at, link_at, IsChain, IsItemIn, AreIn, AreFrames, cases, opened, depth_of, size, IsFrame, IsCall, plain, alternatives, places_left, clauses_in}
+use Rattle.plframe.specs.declared.frame.Item.{Item}
+use Rattle.plframe.specs.Places.{link_to, catcher_case, branch_place, place_at, IsSaved, Statics, element, goals_at, list_at, link_at, IsChain, IsItemIn, AreIn, AreFrames, cases, opened, depth_of, size, IsFrame, IsCall, plain, alternatives, places_left, clauses_in}
 use Rattle.plframe.specs.Calls.{IsCalled, FirstFits}
 use Rattle.plframe.specs.State.{State, IsList, IsState, IsStack, Extends, Begins, Opens, OpensFrame, OpensIn, Unifies, CountsUp, OpensRest, Calls, Retries, call_places, IsCallFrame, IsBranchFrame, IsCatchFrame, BeginsWith, HasCall, HasBranch, HasCatch, AtCatch, Recovers, goals_of, cases_of}
 use Rattle.plframe.proofs.Arena.{list_at-more, list_at-new, list_at-first, list_at-none, list_at-take, chain-push, chain-none, chain-take}
@@ -83,24 +84,24 @@ stack-heap s d h k stay is = (
 )
 
 -- a new list
-module _ (s : State) (l : Link) (is : IsState s) (rest : IsList s l.next) (within : IsItemIn (length s.heap.cells) l.item) where
+module _ (s : State) (item : Item) (behind : ℕ) (is : IsState s) (rest : IsList s behind) (within : IsItemIn (length s.heap.cells) item) where
   abbrev linked : State
-  linked = record s { links = s.links ++ l ∷ [] }
+  linked = record s { links = s.links ++ link_to s.links item behind ∷ [] }
 
   stays : (c : ℕ) → c < length s.heap.cells → term s.heap c ≡ term s.heap c
   stays c lt = refl
 
   pub extends-linked : Extends s linked
-  extends-linked = extends-grown s s.heap (l ∷ []) (Keeps-refl s.heap) stays is
+  extends-linked = extends-grown s s.heap (link_to s.links item behind ∷ []) (Keeps-refl s.heap) stays is
 
   pub state-linked : IsState linked
-  state-linked = state-grown s s.heap (l ∷ []) (Keeps-refl s.heap) stays is (chain-push s.links l is.chain rest.there)
+  state-linked = state-grown s s.heap (link_to s.links item behind ∷ []) (Keeps-refl s.heap) stays is (chain-push s.links item behind is.chain rest.there)
 
-  pub list-linked : (i : ℕ) → i ≡ length s.links + 1 → IsList linked i × (goals_of linked i ≡ element s.heap l.item ∷ goals_of s l.next)
+  pub list-linked : (i : ℕ) → i ≡ length s.links + 1 → IsList linked i × (goals_of linked i ≡ element s.heap item ∷ goals_of s behind)
   list-linked i e =
-      let new = list_at-new s.links l i (omega (arith, e)) in (
+      let new = list_at-new s.links (link_to s.links item behind) i (omega (arith, e)) in (
         record {
-          there = omega (arith, e, length-append s.links (l ∷ []));
+          there = omega (arith, e, length-append s.links (link_to s.links item behind ∷ []));
           inside = subst (AreIn (length s.heap.cells)) (sym new) (within, rest.inside);
         },
         ap (map (element s.heap)) new,
@@ -125,7 +126,7 @@ begins s l is some at =
       items = list;
       within = (subst (AreIn (length s.heap.cells)) list is.goals.inside).0;
       rest = record {
-        there = le_trans (subst (λ (x : Link). x.next ≤ i) (sym same) (is.chain i lt)) (omega (arith, lt));
+        there = le_trans (subst (λ (x : Link). x.next ≤ i) (sym same) (is.chain i lt).next) (omega (arith, lt));
         inside = (subst (AreIn (length s.heap.cells)) list is.goals.inside).1;
       };
     }
@@ -145,13 +146,13 @@ opened-state s d frames f e is frame =
     )
 
 -- a count of choices with nothing left
-pub counted : (s : State) (d : ℕ) (frames : List Frame) → CountsUp (reverse s.frames) (reverse frames) → IsStack s d → IsStack (record s { frames = frames }) (d + 1)
+pub counted : (s : State) (d : ℕ) (frames : List Frame) → CountsUp 1 (reverse s.frames) (reverse frames) → IsStack s d → IsStack (record s { frames = frames }) (d + 1)
 counted s d frames c is = (
   record { chain = is.0.chain; frames = c.frames s.heap s.links is.0.frames; goals = record { there = is.0.goals.there; inside = is.0.goals.inside } },
   omega (arith, is.1, c.depth),
 )
 
-pub counted-cases : (statics : Statics) (s : State) (frames : List Frame) → CountsUp (reverse s.frames) (reverse frames) → cases_of statics (record s { frames = frames }) ≡ Choice [] ∷ cases_of statics s
+pub counted-cases : (statics : Statics) (s : State) (frames : List Frame) → CountsUp 1 (reverse s.frames) (reverse frames) → cases_of statics (record s { frames = frames }) ≡ Choice [] ∷ cases_of statics s
 unfolding cases_of
 counted-cases statics s frames c = c.cases statics s.heap s.links
 
@@ -304,7 +305,7 @@ module _ (s : State) (d : ℕ) (is : IsStack s d) (rest : List Frame) (a : Alter
   }
 
 -- a choice with no clause left is one with nothing left
-pub rest-none : (statics : Statics) (old new : List Frame) (a : Alternatives) → length (clauses_in statics a.source) ≤ a.next → CountsUp old new → OpensRest statics old new a
+pub rest-none : (statics : Statics) (old new : List Frame) (a : Alternatives) → length (clauses_in statics a.source) ≤ a.next → CountsUp 1 old new → OpensRest statics old new a
 rest-none statics old new a le c = record {
   cases = λ h links.
       c.cases statics h links
@@ -430,7 +431,7 @@ module _ (s : State) (d : ℕ) (frame : Frame) (is : IsStack s d) (fits : IsFram
   pub framed-opens : OpensFrame s (record s { frames = more }) frame
   framed-opens = record { cases = λ statics. opened-cases statics s more frame e; heap = refl; links = refl; goals = refl }
 
-  module _ (frames : List Frame) (up : CountsUp (reverse more) (reverse frames)) where
+  module _ (frames : List Frame) (up : CountsUp 1 (reverse more) (reverse frames)) where
     pub counted-in-stack : IsStack (record s { frames = frames }) (d + 2)
     counted-in-stack =
         let c = counted (record s { frames = more }) (d + 1) frames up framed-stack in
@@ -445,9 +446,6 @@ module _ (s : State) (d : ℕ) (frame : Frame) (is : IsStack s d) (fits : IsFram
     }
 
 -- what the frames of some cases open
-pub opens-barrier : (s new : State) (l : ℕ) → OpensFrame s new (Barrier l) → Opens s new (MarkOf l ∷ [])
-opens-barrier s new l o = record { cases = o.cases; heap = o.heap; links = o.links; goals = o.goals }
-
 module _ (s new : State) (b : Branch) (list : ℕ) (place : branch_place s.heap s.links b ≡ place_at s.heap s.links list) where
   pub opens-branch : OpensFrame s new (BranchOf b) → Opens s new (branch (goals_of s list) s.heap.count ∷ [])
   opens-branch o = record {
@@ -546,7 +544,7 @@ module _ (s : State) (d : ℕ) (is : IsStack s d) (rest : List Frame) (b : Branc
   saved_list : IsSaved s.heap s.links b (reverse rest)
   saved_list = (popped-frames s d rest (BranchOf b) popped is).0
 
-  module _ (frames : List Frame) (up : CountsUp (reverse rest) (reverse frames)) where
+  module _ (frames : List Frame) (up : CountsUp 1 (reverse rest) (reverse frames)) where
     pub taken-stack : IsStack (record { heap = cut b.mark s.heap; links = take b.links s.links; frames = frames; goals = b.list }) d
     taken-stack =
         let c = counted (cut_back s d is rest (BranchOf b) b popped refl saved_list) (d - 1) frames up (cut-stack s d is rest (BranchOf b) b popped refl saved_list) in
@@ -628,7 +626,7 @@ unfolding cases_of
 same-below statics s list = refl
 
 -- a list is visited in a choice in place of a catcher
-module _ (s : State) (d : ℕ) (is : IsStack s d) (rest : List Frame) (k : Catcher) (popped : s.frames ≡ rest ++ CatchOf k ∷ []) (frames : List Frame) (up : CountsUp (reverse rest) (reverse frames)) (list : ℕ) (l : IsList s list) where
+module _ (s : State) (d : ℕ) (is : IsStack s d) (rest : List Frame) (k : Catcher) (popped : s.frames ≡ rest ++ CatchOf k ∷ []) (frames : List Frame) (up : CountsUp 1 (reverse rest) (reverse frames)) (list : ℕ) (l : IsList s list) where
   without : State
   without = record s { frames = rest; goals = list }
 

@@ -1,5 +1,5 @@
 -- What goal lists and open cases stand for.
-use Rattle.std.specs.Prelude.{◌<◌, ◌≤◌, ℕ, zero, suc, ◌+◌, List, [], ◌∷◌, ◌++◌, length, get_or, map, drop, filter_map}
+use Rattle.std.specs.Prelude.{max, ◌<◌, ◌≤◌, ℕ, zero, suc, ◌+◌, List, [], ◌∷◌, ◌++◌, length, get_or, map, drop, filter_map}
 use Rattle.std.specs.List.{fold}
 use Rattle.std.specs.Bool.{⊤}
 use Rattle.plterm.specs.declared.indicator.Indicator.{Indicator}
@@ -13,6 +13,7 @@ use Rattle.plsearch.specs.Engine.{deeper}
 use Rattle.plframe.specs.declared.frame.Item.{Item}
 use Rattle.plframe.specs.declared.frame.Item.TheVariants.{Goal as GoalAt, Commit as CommitTo, Never as NeverTo, Until as UntilTo, Look as LookAt, Await as AwaitFor, Halt as HaltWith}
 use Rattle.plframe.specs.declared.frame.Link.{Link}
+use Rattle.plframe.specs.Levels.{level_in}
 use Rattle.plframe.specs.declared.frame.Source.{Source}
 use Rattle.plframe.specs.declared.frame.Source.TheVariants.{Procedure, Copied}
 use Rattle.plframe.specs.declared.frame.Alternatives.{Alternatives}
@@ -153,9 +154,23 @@ abbrev pub AreFrames : Store → List Link → List Frame → Type 0
 AreFrames h links [] = ⊤
 AreFrames h links (f ∷ fs) = IsFrame h links f fs × AreFrames h links fs
 
--- each list has its rest among those before it
 abbrev pub link_at : List Link → ℕ → Link
-link_at links i = get_or links i (record { item = CommitTo 0; next = 0 })
+link_at links i = get_or links i (record { item = CommitTo 0; next = 0; top = 0 })
+
+-- the highest level that a list names
+abbrev pub top_at : List Link → ℕ → ℕ
+top_at links zero = 0
+top_at links (suc i) = (link_at links i).top
+
+-- a member before a list
+abbrev pub link_to : List Link → Item → ℕ → Link
+link_to links item rest = record { item = item; next = rest; top = max (level_in item) (top_at links rest) }
+
+-- the rest of a list is among those before it, and the list names no higher level than it says
+pub record IsLink (links : List Link) (i : ℕ) (l : Link) : Type 0 where
+  pub next : l.next ≤ i
+  pub item : level_in l.item ≤ l.top
+  pub rest : top_at links l.next ≤ l.top
 
 abbrev pub IsChain : List Link → Type 0
-IsChain links = (i : ℕ) → i < length links → (link_at links i).next ≤ i
+IsChain links = (i : ℕ) → i < length links → IsLink links i (link_at links i)

@@ -14,12 +14,12 @@ use Rattle.plframe.specs.declared.frame.Catcher.{Catcher}
 use Rattle.plframe.specs.declared.frame.Around.{Around}
 use Rattle.plframe.specs.declared.frame.Around.TheVariants.{Nothing, Branch as InBranch, Catch as InCatch}
 use Rattle.plframe.specs.declared.frame.Opening.{Opening}
-use Rattle.plframe.specs.declared.frame.Opening.TheVariants.{Barrier as OpenBarrier, Branch as OpenBranch, Run as OpenRun}
+use Rattle.plframe.specs.declared.frame.Opening.TheVariants.{Branch as OpenBranch, Run as OpenRun}
 use Rattle.plframe.specs.declared.frame.Alternatives.{Alternatives}
 use Rattle.plframe.specs.declared.frame.Source.{Source}
 use Rattle.plframe.specs.declared.frame.Closed.{Closed}
 use Rattle.plframe.specs.declared.frame.Closed.TheVariants.{Choice as Fails, Mark as Cuts, Catch as Catches}
-use Rattle.plframe.specs.Places.{Statics, opened, alternatives, places_left, clauses_in, IsCall, place_at, goals_at, cases, depth_of, AreFrames, AreIn, IsItemIn, list_at, IsChain}
+use Rattle.plframe.specs.Places.{Statics, opened, plain, alternatives, places_left, clauses_in, IsCall, place_at, goals_at, cases, depth_of, AreFrames, AreIn, IsItemIn, list_at, IsChain}
 
 -- the frames, the newest last; the list that is visited
 pub record State : Type 0 where
@@ -71,7 +71,6 @@ around_cases s (InCatch c r i) = catching (term s.heap c) (term s.heap r) (goals
 
 -- the cases to open, the innermost first
 abbrev pub opening_cases : State → Opening → List Case
-opening_cases s (OpenBarrier l) = Mark l ∷ []
 opening_cases s (OpenBranch i) = branch (goals_of s i) s.heap.count ∷ []
 opening_cases s (OpenRun around) = Choice [] ∷ around_cases s around
 
@@ -81,7 +80,6 @@ IsAround s (InBranch i) = IsList s i
 IsAround s (InCatch c r i) = IsList s i × (c < length s.heap.cells) × (r < length s.heap.cells)
 
 abbrev pub IsOpening : State → Opening → Type 0
-IsOpening s (OpenBarrier l) = Unit {0}
 IsOpening s (OpenBranch i) = IsList s i
 IsOpening s (OpenRun around) = IsAround s around
 
@@ -123,11 +121,11 @@ pub record Begins (s : State) (l : Link) : Type 0 where
   pub within : IsItemIn (length s.heap.cells) l.item
   pub rest : IsList s l.next
 
--- one more choice with nothing left, whatever the others are
-pub record CountsUp (old new : List Frame) : Type 0 where
-  pub cases : (statics : Statics) (h : Store) (links : List Link) → cases statics h links new ≡ Choice [] ∷ cases statics h links old
+-- so many more choices with nothing left, whatever the others are
+pub record CountsUp (n : ℕ) (old new : List Frame) : Type 0 where
+  pub cases : (statics : Statics) (h : Store) (links : List Link) → cases statics h links new ≡ plain n (cases statics h links old)
   pub frames : (h : Store) (links : List Link) → AreFrames h links old → AreFrames h links new
-  pub depth : depth_of new ≡ depth_of old + 1
+  pub depth : depth_of new ≡ depth_of old + n
 
 -- the choice of the further clauses of a call, whatever the other cases are
 pub record OpensRest (statics : Statics) (old new : List Frame) (a : Alternatives) : Type 0 where

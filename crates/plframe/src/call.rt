@@ -12,6 +12,7 @@ ghost use Rattle.plframe.specs.Places.{goals_at, element, IsChain, IsItemIn};
 ghost use Rattle.plframe.specs.Calls.{Longer, IsListIn, IsCalled, Fitted, PutsBody, Resolves, FirstFits, left_of};
 
 use crate::frame::{Item, Link};
+use crate::link::push_link;
 use plclause::clause::Clause;
 use plheap::heap::Heap;
 use plheap::put::Pending;
@@ -56,20 +57,6 @@ fn is_truth(body: &Term) -> bool
         Shape::Atom(name) => name.as_str() == "true",
         Shape::Var(_) | Shape::Int(_) | Shape::Compound(_, _) => false,
     }
-}
-
-/// A new list: a member before a list that is there.
-pub fn push_link(links: &mut Vec<Link>, item: Item, rest: u32) -> Result<u32, AllocError>
-    ensures ok { OnOk result (links.new.items ≡ links.old.items ++ record { item = item; next = rest } ∷ []) }
-    ensures number { IfOk result (λ i. i ≡ length links.old.items + 1) }
-    ensures err { OnErr result (links.new.items ≡ links.old.items) }
-{
-    let number = links.len();
-    if number >= u32::MAX as usize {
-        return Err(AllocError);
-    }
-    links.push(Link { item, next: rest })?;
-    Ok(number as u32 + 1)
 }
 
 /// Unifies a goal with a clause's head: the first cell of the clause's variables.

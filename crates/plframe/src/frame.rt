@@ -28,6 +28,8 @@ pub enum Item {
 pub struct Link {
     pub item: Item,
     pub next: u32,
+    /// The highest level that the list names.
+    pub top: u32,
 }
 
 /// Where the clauses of a call are found.
@@ -101,8 +103,6 @@ pub enum Around {
 /// Cases to open.
 #[derive(Clone, Copy)]
 pub enum Opening {
-    /// A mark of a level, behind which Fail is a cut to it.
-    Barrier(u32),
     /// A choice of one list.
     Branch(u32),
     /// A choice with nothing left, for the cut level of a goal, in other cases.

@@ -2,6 +2,8 @@
 #![tactic(auto)]
 
 pub mod call;
+pub mod cut;
 pub mod extend;
 pub mod frame;
+pub mod link;
 pub mod stack;

@@ -1,6 +1,6 @@
 //! The stack.
 
-ghost use Rattle.std.specs.Prelude.{◌≡◌, ℕ, ◌+◌, ◌<◌, ◌≤◌, List, [], ◌∷◌, ◌++◌, length, map, reverse, IfOk, OnOk, OnErr, IfNone, IfSome, Some, None, true, false, IsTrue, ◌↔◌, vec_len, vec_capacity};
+ghost use Rattle.std.specs.Prelude.{◌≡◌, ℕ, ◌+◌, ◌<◌, ◌≤◌, List, [], ◌∷◌, ◌++◌, length, map, reverse, take, IsSome, IfOk, OnOk, OnErr, IfNone, IfSome, Some, None, true, false, IsTrue, ◌↔◌, vec_len, vec_capacity};
 ghost use Rattle.plterm.specs.Variables.{AllBelow, copied, variables};
 ghost use Rattle.plframe.specs.Levels.{levels_of};
 ghost use Rattle.plsubst.specs.Subst.{shift};
@@ -12,15 +12,19 @@ ghost use Rattle.plgoal.specs.Goal.{IsGoal};
 ghost use Rattle.plload.specs.Program.{clauses_for};
 ghost use Rattle.plsearch.specs.Types.{Choice, Place, Case};
 ghost use Rattle.plsearch.specs.Engine.{deeper};
+ghost use Rattle.plsearch.specs.Levels.{AreAtMost};
 ghost use Rattle.plframe.specs.Places.{Statics, IsItemIn, list_at, depth_of, element, clauses_in, place_at, branch_place, size, IsFrame, IsSaved};
 ghost use Rattle.plframe.specs.State.{place_of, goals_of, cases_of, IsList, Extends, IsOpening, opening_cases, Opens, OpensFrame, OpensIn, Unifies, Begins, CountsUp, OpensRest, HasCall, HasBranch, HasCatch, AtCatch, Recovers, ClosedAs, Calls, Retries, call_places};
+ghost use Rattle.plframe.specs.Cutting.{ChoiceAt, EmptiesFrom, Cuts};
 ghost use Rattle.plframe.specs.Extended.{IsRun, Extends as ExtendsTo};
 
 use crate::call::{Called, Room, first_fit};
+use crate::cut::choice_at;
 use crate::extend::{Extended, Run, with_arguments};
 use crate::frame::{
     Alternatives, Around, Branch, Catcher, Closed, Frame, Item, Link, Opening, Source,
 };
+use crate::link::{push_link, top_of};
 use plclause::clause::Clause;
 use plgoal::goal::goal_of;
 use plheap::heap::Heap;
@@ -105,12 +109,8 @@ impl Stack {
         ensures heap { self.new.heap ≡ self.old.heap }
         ensures err { OnErr result (self.new ≡ self.old) }
     {
-        let number = self.links.len();
-        if number >= u32::MAX as usize {
-            return Err(AllocError);
-        }
-        self.links.push(Link { item, next: rest })?;
-        Ok(number as u32 + 1)
+        let list = push_link(&mut self.links, item, rest)?;
+        Ok(list)
     }
 
     /// Puts a term with variables below a count, which are new: its cell.
@@ -189,7 +189,6 @@ impl Stack {
         ensures err { OnErr result (self.new ≡ self.old) }
     {
         match opening {
-            Opening::Barrier(level) => self.open_frame(Frame::Barrier(level)),
             Opening::Branch(list) => {
                 let branch = self.branch_of(list);
                 self.open_frame(Frame::Branch(branch))
@@ -235,7 +234,7 @@ impl Stack {
             return Err(AllocError);
         }
         self.frames.reserve(1)?;
-        count_up(&mut self.frames);
+        count_up(&mut self.frames, 1);
         self.depth += 1;
         Ok(())
     }
@@ -267,8 +266,51 @@ impl Stack {
         }
         self.frames.reserve(2)?;
         push_frame(&mut self.frames, frame);
-        count_up(&mut self.frames);
+        count_up(&mut self.frames, 1);
         self.depth += 2;
+        Ok(())
+    }
+
+    /// Gives up the choices down to a level, and visits a list.
+    pub fn cut(&mut self, level: u32, list: u32) -> Result<(), AllocError>
+        requires { IsList self.old list }
+        ensures ok { OnOk result (Cuts self.old self.new level list) }
+        ensures err { OnErr result (self.new ≡ self.old) }
+    {
+        match self.given_up(level, list) {
+            Some((at, below)) => self.empty_from(at, below)?,
+            None => self.open_frame(Frame::Barrier(level))?,
+        }
+        self.visit(list);
+        Ok(())
+    }
+
+    /// The frame of the choice at a level, if it may be emptied where a list is visited behind a cut to this level:
+    /// its number, and how many cases are open below it.
+    fn given_up(&self, level: u32, list: u32) -> Option<(usize, u32)>
+        requires { IsList self.now list }
+        ensures most { IsSome result → AreAtMost level (goals_of self.now list) }
+        ensures at { IfSome result (λ r. ChoiceAt self.now.frames level r.0 r.1) }
+    {
+        if top_of(&self.links, list) > level {
+            return None;
+        }
+        choice_at(&self.frames, self.depth, level)
+    }
+
+    /// Empties the cases from the frame of a number on, with so many cases below it, and one case more.
+    fn empty_from(&mut self, at: usize, below: u32) -> Result<(), AllocError>
+        requires at { at < length self.old.frames }
+        requires below { depth_of (reverse (take at self.old.frames)) ≡ below }
+        ensures ok { OnOk result (EmptiesFrom self.old self.new at below) }
+        ensures err { OnErr result (self.new ≡ self.old) }
+    {
+        if self.depth == u32::MAX {
+            return Err(AllocError);
+        }
+        self.frames.truncate(at);
+        count_up(&mut self.frames, self.depth - below + 1);
+        self.depth += 1;
         Ok(())
     }
 
@@ -419,7 +461,7 @@ impl Stack {
         };
         self.heap.undo(branch.mark);
         self.links.truncate(branch.links);
-        count_up(&mut self.frames);
+        count_up(&mut self.frames, 1);
         self.goals = branch.list;
     }
 
@@ -451,7 +493,7 @@ impl Stack {
         let Some(Frame::Catch(_)) = self.frames.pop() else {
             unreachable!()
         };
-        count_up(&mut self.frames);
+        count_up(&mut self.frames, 1);
         self.goals = list;
     }
 
@@ -571,24 +613,25 @@ fn after(further: Alternatives, next: usize) -> Alternatives
     }
 }
 
-/// One more choice with nothing left.
-fn count_up(frames: &mut Vec<Frame>)
+/// So many more choices with nothing left, in place if the newest case is such a one.
+fn count_up(frames: &mut Vec<Frame>, n: u32)
+    requires some { 0 < n }
     requires room { vec_len frames.old < vec_capacity frames.old }
-    ensures { CountsUp (reverse frames.old.items) (reverse frames.new.items) }
+    ensures { CountsUp n (reverse frames.old.items) (reverse frames.new.items) }
 {
     match frames.pop() {
-        Some(Frame::Plain(n)) if n < u32::MAX => match frames.push(Frame::Plain(n + 1)) {
+        Some(Frame::Plain(m)) if m <= u32::MAX - n => match frames.push(Frame::Plain(m + n)) {
             Ok(()) => {}
             Err(_) => unreachable!(),
         },
         Some(frame) => match frames.push(frame) {
-            Ok(()) => match frames.push(Frame::Plain(1)) {
+            Ok(()) => match frames.push(Frame::Plain(n)) {
                 Ok(()) => {}
                 Err(_) => unreachable!(),
             },
             Err(_) => unreachable!(),
         },
-        None => match frames.push(Frame::Plain(1)) {
+        None => match frames.push(Frame::Plain(n)) {
             Ok(()) => {}
             Err(_) => unreachable!(),
         },
@@ -601,7 +644,7 @@ fn open_rest(frames: &mut Vec<Frame>, rest: Alternatives, count: usize)
     ensures { (statics : Statics) → length (clauses_in statics rest.source) ≡ count → OpensRest statics (reverse frames.old.items) (reverse frames.new.items) rest }
 {
     if rest.next >= count {
-        count_up(frames);
+        count_up(frames, 1);
         return;
     }
     match frames.push(Frame::Call(rest)) {

@@ -1,5 +1,5 @@
 -- What stands first in a list, and what a structure's cell shows.
-use Rattle.std.proofs.Common.{◌≡◌, ℕ, zero, suc, ◌≤◌, true, false, List, ◌∷◌, length, refl, sym, ap, ap₂, ◌∙◌, ◌-◌, ◌==◌, ◌&&◌, subst, arith, bytes_eq}
+use Rattle.std.proofs.Common.{◌≡◌, ℕ, zero, suc, ◌≤◌, true, false, List, ◌∷◌, length, refl, ap, ap₂, ◌∙◌, ◌-◌, ◌==◌, ◌&&◌, subst, arith, bytes_eq}
 use Rattle.std.specs.Prelude.{if◌then◌else◌, codes}
 use Rattle.plterm.specs.Tree.{Tree, compound, trees, list_of, list_of-trees}
 use Rattle.plheap.specs.declared.cell.Cell.{Cell}
@@ -11,8 +11,7 @@ use Rattle.plclause.specs.Clause.{Clause}
 use Rattle.plframe.specs.declared.frame.Item.TheVariants.{Goal as GoalAt, Commit as CommitTo, Never as NeverTo, Until as UntilTo, Look as LookAt, Await as AwaitFor, Halt as HaltWith}
 use Rattle.plframe.specs.declared.frame.Link.{Link}
 use Rattle.plframe.specs.Places.{list_at, IsItemIn}
-use Rattle.plframe.specs.State.{State, Begins, Opens, IsList}
-use Rattle.plsearch.specs.Types.{Case}
+use Rattle.plframe.specs.State.{State, Begins}
 use Rattle.plsolve.specs.declared.head.Head.TheVariants.{Goal, Commit, Never, Until, Look, Await, Halt}
 use Rattle.plsolve.specs.Heads.{IsHead}
 
@@ -43,13 +42,6 @@ head-await s l c b is = (c, record { items = b.items ∙ ap (λ i. i ∷ list_at
 pub head-halt : (s : State) (l : Link) (n : ℕ) → Begins s l → l.item ≡ HaltWith n → IsHead s (Halt n)
 unfolding IsHead
 head-halt s l n b is = (l.next, record { items = b.items ∙ ap (λ i. i ∷ list_at s.links l.next) is })
-
--- a list stays where cases are opened
-pub list-opened : (s st : State) (more : List Case) (rest : ℕ) → Opens s st more → IsList s rest → IsList st rest
-list-opened s st more rest o l = record {
-  there = subst (λ ls. rest ≤ length ls) (sym o.links) l.there;
-  inside = rw (o.heap, o.links) l.inside;
-}
 
 pub terms-length : (h : Store) (c k : ℕ) → length (terms h c k) ≡ k
 terms-length h c zero = refl

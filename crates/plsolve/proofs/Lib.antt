@@ -5,3 +5,4 @@ pub mod Heading
 pub mod Starts
 pub mod Looks
 pub mod Catches
+pub mod Cutting

@@ -21,7 +21,7 @@ use Rattle.plframe.specs.State.{State, IsList, place_of, cases_of, goals_of, Ext
 use Rattle.plframe.specs.declared.frame.Around.{Around}
 use Rattle.plframe.specs.declared.frame.Around.TheVariants.{Nothing, Branch as InBranch, Catch as InCatch}
 use Rattle.plframe.specs.declared.frame.Opening.{Opening}
-use Rattle.plframe.specs.declared.frame.Opening.TheVariants.{Barrier as OpenBarrier, Branch as OpenBranch, Run as OpenRun}
+use Rattle.plframe.specs.declared.frame.Opening.TheVariants.{Branch as OpenBranch, Run as OpenRun}
 use Rattle.plframe.proofs.Stacks.{Extends-trans}
 use Rattle.plsolve.specs.declared.progress.Outcome.{Outcome}
 use Rattle.plsolve.specs.declared.progress.Outcome.TheVariants as outcomes
@@ -254,7 +254,6 @@ around-grown s t (InCatch c r i) g is = (
 )
 
 pub opening-grown : (s t : State) (opening : Opening) → Grown s t → IsOpening s opening → (opening_cases t opening ≡ opening_cases s opening) × IsOpening t opening
-opening-grown s t (OpenBarrier l) g is = (refl, tt)
 opening-grown s t (OpenBranch i) g is = (ap₂ (λ gs n. branch gs n ∷ []) (grown-goals s t g i is) g.count, grown-list s t g i is)
 opening-grown s t (OpenRun around) g is = let a = around-grown s t around g is in (ap (λ cs. Choice [] ∷ cs) a.0, a.1)
 

@@ -1,5 +1,5 @@
 -- The turns that take no step.
-use Rattle.std.proofs.Common.{◌≡◌, ℕ, zero, suc, Bool, true, false, List, [], ◌∷◌, refl, sym, ap, ap₂, ◌∙◌, arith, map, nat_eq, IsTrue, ◌↔◌, Some, None, length, ◌+◌}
+use Rattle.std.proofs.Common.{◌≡◌, ℕ, zero, suc, Bool, true, false, List, [], ◌∷◌, refl, sym, ap, ap₂, ◌∙◌, arith, map, nat_eq, IsTrue, ◌↔◌, Some, None, length, ◌+◌, ◌<◌, ◌≤◌, subst, inl, inr}
 use Rattle.plheap.specs.Store.{term}
 use Rattle.plevent.specs.Search.{Answer}
 use Rattle.plload.specs.Program.{Program, clauses_for}
@@ -10,9 +10,13 @@ use Rattle.plsubst.specs.Subst.{bind}
 use Rattle.plsubst.specs.Unify.{unify}
 use Rattle.plsearch.specs.Table.{select, meet, resume, has, catching, caught, met_by, recovers, runnable, bind_goals}
 use Rattle.plsearch.specs.Engine.{deeper, mark, stop_cut_if}
-use Rattle.plsearch.specs.Machine.{At, Back, Machine, return, turn, step}
-use Rattle.plframe.specs.Places.{element, list_at, place_at}
-use Rattle.plframe.specs.State.{State, place_of, cases_of, goals_of, Opens, Retries}
+use Rattle.plsearch.specs.Machine.{At, Back, Machine, Rest, return, turn, step}
+use Rattle.plsearch.specs.Weight.{weight, Lighter}
+use Rattle.plsearch.proofs.Turns.{Rest-turn}
+use Rattle.plsearch.proofs.Weight.{lighter-turn}
+use Rattle.plframe.specs.Places.{element, list_at}
+use Rattle.plframe.specs.State.{State, place_of, cases_of, goals_of, Retries}
+use Rattle.plframe.specs.Cutting.{Cuts}
 use Rattle.plsolve.specs.declared.progress.Outcome.{Outcome}
 use Rattle.plsolve.specs.declared.progress.Outcome.TheVariants as outcomes
 use Rattle.plsolve.specs.declared.progress.Mode.{Mode as Going}
@@ -20,6 +24,7 @@ use Rattle.plsolve.specs.declared.progress.Mode.TheVariants as modes
 use Rattle.plsolve.specs.declared.progress.Progress.{Progress}
 use Rattle.plsolve.specs.Heads.{AtGoal, AtCommit, AtNever, AtUntil}
 use Rattle.plsolve.specs.Solver.{result_of, mode_of, local_of, depth_of, machine, Quiet, Stays, IsOver, marked, marked_result, cut_stopped, stopped_result, fail_if, result_throws, throws_to, Recovered}
+use Rattle.plsolve.proofs.Cutting.{cut-place, cut-rest, cut-weight}
 
 pub at_place : (P : Program) (s : Progress) (p : Place) → s.mode ≡ modes.Visit → place_of s.stack ≡ p → (left : ℕ) (answers : List Answer) →
     machine P left answers s ≡ record { mode = At p; cases = cases_of (clauses_for P) s.stack; run = record { steps = left; answers = answers; local = local_of s } }
@@ -41,15 +46,37 @@ not_back s r at is = let e : At (place_of s.stack) ≡ Back r = ap (λ m. mode_o
 some_case : (c : Case) (cs all : List Case) → all ≡ c ∷ cs → all ≡ [] → ⊥
 some_case c cs all is none = let e : c ∷ cs ≡ [] = sym is ∙ none in cc
 
+-- the machine makes one turn, and had not ended
+record Turned (P : Program) (s new : Progress) : Type 0 where
+  used : new.used ≡ s.used
+  limit : new.limit ≡ s.limit
+  places : new.places.items ≡ s.places.items
+  turned : (left : ℕ) (answers : List Answer) → left + s.used ≤ s.limit → machine P left answers new ≡ turn P (machine P left answers s)
+  goes : (r : Result) → mode_of s.mode s.stack ≡ Back r → cases_of (clauses_for P) s.stack ≡ [] → ⊥
+
+quiet : (P : Program) (s new : Progress) → Turned P s new → Quiet P s new
+unfolding machine
+quiet P s new t = record {
+  used = t.used;
+  limit = t.limit;
+  places = t.places;
+  rest = λ left answers few. ap (Rest P) (t.turned left answers few) ∙ sym (Rest-turn P (machine P left answers s));
+  lighter = λ within. fin (subst (λ m. Lighter (machine P 0 [] s) m) (sym (t.turned 0 [] (omega (arith, within)))) (lighter-turn P (machine P 0 [] s) t.goes));
+}
+  where
+    fin : Lighter (machine P 0 [] s) (machine P 0 [] new) → weight (machine P 0 [] new) < weight (machine P 0 [] s)
+    fin (inl less) = absurd (omega (arith, less))
+    fin (inr both) = both.1
+
 pub quiet-stop : (P : Program) (s : Progress) → s.mode ≡ modes.Visit → list_at s.stack.links s.stack.goals ≡ [] → Quiet P s (record s { mode = modes.Back outcomes.Stop })
 unfolding turn machine
-quiet-stop P s at none = record {
+quiet-stop P s at none = quiet P s _ (record {
   used = refl;
   limit = refl;
   places = refl;
   turned = λ left answers few. sym (ap (turn P) (at_place P s (record { goals = []; variables = s.stack.heap.count }) at (ap (λ xs. record { goals = map (element s.stack.heap) xs; variables = s.stack.heap.count }) none) left answers));
   goes = λ r is no. not_back s r at is;
-}
+})
 
 spent : (P : Program) (cases : List Case) (row : Local → Move) (run : Run) (n : ℕ) → n ≡ 0 → ◌≡◌ {A = Machine} (record { mode = Back Spent; cases = cases; run = run }) (step cases row run n)
 spent P cases row run zero e = refl
@@ -57,7 +84,7 @@ spent P cases row run (suc n) e = absurd (omega (arith, e))
 
 pub quiet-spent : (P : Program) (s : Progress) (level cell rest : ℕ) → s.mode ≡ modes.Visit → AtGoal s.stack level cell rest → s.used ≡ s.limit → Quiet P s (record s { mode = modes.Back outcomes.Spent })
 unfolding turn machine meet
-quiet-spent P s level cell rest at goal all = record {
+quiet-spent P s level cell rest at goal all = quiet P s _ (record {
   used = refl;
   limit = refl;
   places = refl;
@@ -66,25 +93,32 @@ quiet-spent P s level cell rest at goal all = record {
       spent P (cases_of (clauses_for P) s.stack) (select P level (term s.stack.heap cell) (depth_of P s) gs s.stack.heap.count) (record { steps = left; answers = answers; local = local_of s }) left (omega (arith, few, all))
       ∙ sym (ap (turn P) (at_place P s (record { goals = Goal level (term s.stack.heap cell) ∷ gs; variables = s.stack.heap.count }) at (ap (λ xs. record { goals = map (element s.stack.heap) xs; variables = s.stack.heap.count }) goal.items) left answers));
   goes = λ r is no. not_back s r at is;
-}
+})
 
-pub quiet-commit : (P : Program) (s : Progress) (st : State) (level rest : ℕ) → s.mode ≡ modes.Visit → AtCommit s.stack level rest → Opens s.stack st (Mark level ∷ []) → Quiet P s (record s { stack = record st { goals = rest } })
-unfolding turn meet cases_of
-quiet-commit P s st level rest at commit o = record {
+pub quiet-commit : (P : Program) (s : Progress) (st : State) (level rest : ℕ) → s.mode ≡ modes.Visit → AtCommit s.stack level rest → Cuts s.stack st level rest → Quiet P s (record s { stack = st })
+unfolding turn meet weight
+quiet-commit P s st level rest at commit cut = record {
   used = refl;
   limit = refl;
   places = refl;
-  turned = λ left answers few.
-      let gs : List Element = goals_of s.stack rest in
-      at_place P (record s { stack = record st { goals = rest } }) (record { goals = gs; variables = s.stack.heap.count }) at (ap₂ (λ h ls. place_at h ls rest) o.heap o.links) left answers
-      ∙ ap (λ cs. record { mode = At (record { goals = gs; variables = s.stack.heap.count }); cases = cs; run = record { steps = left; answers = answers; local = local_of s } }) (o.cases (clauses_for P))
-      ∙ sym (ap (turn P) (at_place P s (record { goals = Commit level ∷ gs; variables = s.stack.heap.count }) at (ap (λ xs. record { goals = map (element s.stack.heap) xs; variables = s.stack.heap.count }) commit.items) left answers));
-  goes = λ r is no. not_back s r at is;
+  rest = λ left answers few.
+      let run : Run = record { steps = left; answers = answers; local = local_of s } in
+      ap (Rest P) (after left answers)
+      ∙ cut-rest P s.stack st level rest cut run
+      ∙ sym (Rest-turn P (record { mode = At (record { goals = Commit level ∷ goals_of s.stack rest; variables = s.stack.heap.count }); cases = cases_of (clauses_for P) s.stack; run = run }))
+      ∙ sym (ap (Rest P) (here left answers));
+  lighter = λ within. rw (after 0 [], here 0 []) (omega (arith, cut-weight P s.stack st level rest cut));
 }
+  where
+    here : (left : ℕ) (answers : List Answer) → machine P left answers s ≡ record { mode = At (record { goals = Commit level ∷ goals_of s.stack rest; variables = s.stack.heap.count }); cases = cases_of (clauses_for P) s.stack; run = record { steps = left; answers = answers; local = local_of s } }
+    here left answers = at_place P s (record { goals = Commit level ∷ goals_of s.stack rest; variables = s.stack.heap.count }) at (ap (λ xs. record { goals = map (element s.stack.heap) xs; variables = s.stack.heap.count }) commit.items) left answers
+
+    after : (left : ℕ) (answers : List Answer) → machine P left answers (record s { stack = st }) ≡ record { mode = At (record { goals = goals_of s.stack rest; variables = s.stack.heap.count }); cases = cases_of (clauses_for P) st; run = record { steps = left; answers = answers; local = local_of s } }
+    after left answers = at_place P (record s { stack = st }) (record { goals = goals_of s.stack rest; variables = s.stack.heap.count }) at (cut-place P s.stack st level rest cut) left answers
 
 pub quiet-never : (P : Program) (s : Progress) (level rest : ℕ) → s.mode ≡ modes.Visit → AtNever s.stack level rest → Quiet P s (record s { mode = modes.Back (outcomes.CutTo level) })
 unfolding turn meet machine
-quiet-never P s level rest at never = record {
+quiet-never P s level rest at never = quiet P s _ (record {
   used = refl;
   limit = refl;
   places = refl;
@@ -92,11 +126,11 @@ quiet-never P s level rest at never = record {
       let gs : List Element = goals_of s.stack rest in
       sym (ap (turn P) (at_place P s (record { goals = Never level ∷ gs; variables = s.stack.heap.count }) at (ap (λ xs. record { goals = map (element s.stack.heap) xs; variables = s.stack.heap.count }) never.items) left answers));
   goes = λ r is no. not_back s r at is;
-}
+})
 
 pub quiet-until : (P : Program) (s : Progress) (level rest : ℕ) → s.mode ≡ modes.Visit → AtUntil s.stack level rest → Quiet P s (record s { stack = record s.stack { goals = rest } })
 unfolding turn meet cases_of
-quiet-until P s level rest at until = record {
+quiet-until P s level rest at until = quiet P s _ (record {
   used = refl;
   limit = refl;
   places = refl;
@@ -105,11 +139,11 @@ quiet-until P s level rest at until = record {
       at_place P (record s { stack = record s.stack { goals = rest } }) (record { goals = gs; variables = s.stack.heap.count }) at refl left answers
       ∙ sym (ap (turn P) (at_place P s (record { goals = Until level ∷ gs; variables = s.stack.heap.count }) at (ap (λ xs. record { goals = map (element s.stack.heap) xs; variables = s.stack.heap.count }) until.items) left answers));
   goes = λ r is no. not_back s r at is;
-}
+})
 
 pub quiet-retry : (P : Program) (s : Progress) (st : State) → s.mode ≡ modes.Back outcomes.Fail → Retries (clauses_for P) s.stack st → Quiet P s (record s { stack = st; mode = modes.Visit })
 unfolding turn
-quiet-retry P s st at r = record {
+quiet-retry P s st at r = quiet P s _ (record {
   used = refl;
   limit = refl;
   places = refl;
@@ -118,11 +152,11 @@ quiet-retry P s st at r = record {
       ∙ ap (λ cs. record { mode = At (place_of st); cases = cs; run = record { steps = left; answers = answers; local = local_of s } }) r.cases
       ∙ sym (ap (turn P) (carried P s outcomes.Fail (Choice (place_of st ∷ r.others) ∷ r.older) at r.was left answers));
   goes = λ x is no. some_case _ _ _ r.was no;
-}
+})
 
 pub quiet-close : (P : Program) (s : Progress) (st : State) → s.mode ≡ modes.Back outcomes.Fail → cases_of (clauses_for P) s.stack ≡ Choice [] ∷ cases_of (clauses_for P) st → Quiet P s (record s { stack = st })
 unfolding turn
-quiet-close P s st at was = record {
+quiet-close P s st at was = quiet P s _ (record {
   used = refl;
   limit = refl;
   places = refl;
@@ -130,7 +164,7 @@ quiet-close P s st at was = record {
       carried P (record s { stack = st }) outcomes.Fail (cases_of (clauses_for P) st) at refl left answers
       ∙ sym (ap (turn P) (carried P s outcomes.Fail (Choice [] ∷ cases_of (clauses_for P) st) at was left answers));
   goes = λ x is no. some_case _ _ _ was no;
-}
+})
 
 mark-result : (l : ℕ) (r : Outcome) → result_of (marked_result l r) ≡ mark l (result_of r)
 mark-result l outcomes.Fail = refl
@@ -147,7 +181,7 @@ quiet-mark P s new st l back was is = rw is (go s.mode refl)
   where
     go : (m : Going) → s.mode ≡ m → Quiet P s (record s { stack = st; mode = marked l m })
     go modes.Visit e = absurd (back e)
-    go (modes.Back r) e = record {
+    go (modes.Back r) e = quiet P s _ (record {
       used = refl;
       limit = refl;
       places = refl;
@@ -156,7 +190,7 @@ quiet-mark P s new st l back was is = rw is (go s.mode refl)
           ∙ ap (λ x. record { mode = Back x; cases = cases_of (clauses_for P) st; run = record { steps = left; answers = answers; local = local_of s } }) (mark-result l r)
           ∙ sym (ap (turn P) (carried P s r (Mark l ∷ cases_of (clauses_for P) st) e was left answers));
       goes = λ x is no. some_case _ _ _ was no;
-    }
+    })
 
 cut-result : (P : Program) (d : ℕ) (r : Outcome) (ps : List Place) (cases : List Case) (run : Run) → deeper cases 0 ≡ d → (r ≡ outcomes.Fail → ps ≡ []) →
     ◌≡◌ {A = Machine} (record { mode = Back (result_of (stopped_result d r)); cases = cases; run = run }) (turn P (record { mode = Back (result_of r); cases = Choice ps ∷ cases; run = run }))
@@ -187,7 +221,7 @@ quiet-choice P s new st ps back was none is = rw is (go s.mode refl)
   where
     go : (m : Going) → s.mode ≡ m → Quiet P s (record s { stack = st; mode = cut_stopped (deeper (cases_of (clauses_for P) st) 0) m })
     go modes.Visit e = absurd (back e)
-    go (modes.Back r) e = record {
+    go (modes.Back r) e = quiet P s _ (record {
       used = refl;
       limit = refl;
       places = refl;
@@ -197,7 +231,7 @@ quiet-choice P s new st ps back was none is = rw is (go s.mode refl)
           ∙ cut-result P d r ps (cases_of (clauses_for P) st) (record { steps = left; answers = answers; local = local_of s }) refl (λ f. none (e ∙ ap modes.Back f))
           ∙ sym (ap (turn P) (carried P s r (Choice ps ∷ cases_of (clauses_for P) st) e was left answers));
       goes = λ x is no. some_case _ _ _ was no;
-    }
+    })
 
 pub over-now : (P : Program) (s : Progress) → (s.mode ≡ modes.Visit → ⊥) → cases_of (clauses_for P) s.stack ≡ [] → IsOver P s
 over-now P s back none = go s.mode refl
@@ -243,7 +277,7 @@ quiet-handler P s st h back was not = go s.mode refl
   where
     go : (m : Going) → s.mode ≡ m → Quiet P s (record s { stack = st })
     go modes.Visit e = absurd (back e)
-    go (modes.Back r) e = record {
+    go (modes.Back r) e = quiet P s _ (record {
       used = refl;
       limit = refl;
       places = refl;
@@ -253,7 +287,7 @@ quiet-handler P s st h back was not = go s.mode refl
           ∙ sym (ap (turn P) (carried P s r (Handle h ∷ cases_of (clauses_for P) st) e was left answers)
           ∙ ap (return (cases_of (clauses_for P) st) (record { steps = left; answers = answers; local = local_of s })) (keeps h d r (local_of s) (λ yes. not (ap (throws_to d) e ∙ yes))));
       goes = λ x is no. some_case _ _ _ was no;
-    }
+    })
 
 -- the turn of an active catcher
 module _ (P : Program) (s : Progress) (o : Outcome) (ball : Tree) (found : List ℕ) (at : s.mode ≡ modes.Back o) (carries : result_of o ≡ Throw ball found) (c r : Tree) (gs : List Element) (n : ℕ) (below : List Case)
@@ -268,7 +302,7 @@ module _ (P : Program) (s : Progress) (o : Outcome) (ball : Tree) (found : List 
 
   -- the ball is another
   pub quiet-other : (new : Progress) (st : State) → unify c (copied n ball) ≡ None → new ≡ record s { stack = st } → cases_of (clauses_for P) st ≡ below → Quiet P s new
-  quiet-other new st none is now = record {
+  quiet-other new st none is now = quiet P s _ (record {
     used = ap (λ x. x.used) is;
     limit = ap (λ x. x.limit) is;
     places = ap (λ x. x.places.items) is;
@@ -279,12 +313,12 @@ module _ (P : Program) (s : Progress) (o : Outcome) (ball : Tree) (found : List 
         ∙ ap (λ x. record { mode = Back x; cases = below; run = run }) carries
         ∙ sym (catcher-turn left answers ∙ ap (λ σ. return below run (met_by σ r ball found (record { goals = gs; variables = n }) (deeper below 0) (local_of s))) none);
     goes = λ x is no. some_case _ _ _ was no;
-  }
+  })
 
   -- the ball was caught, and the recovery is run
   pub quiet-caught : (t new : Progress) (σ : ℕ → Tree) (recovery list : ℕ) (h : Case) → unify c (copied n ball) ≡ Some σ → term t.stack.heap recovery ≡ bind σ r → goals_of t.stack list ≡ bind_goals σ gs →
       t.stack.heap.count ≡ n + length (variables ball) → cases_of (clauses_for P) t.stack ≡ h ∷ below → t ≡ record s { stack = t.stack } → Recovered P t new recovery list → Quiet P s new
-  quiet-caught t new σ recovery list h some runs goals count now is did = record {
+  quiet-caught t new σ recovery list h some runs goals count now is did = quiet P s _ (record {
     used = did.used ∙ ap (λ x. x.used) is;
     limit = did.limit ∙ ap (λ x. x.limit) is;
     places = did.places ∙ ap (λ x. x.places.items) is;
@@ -297,4 +331,4 @@ module _ (P : Program) (s : Progress) (o : Outcome) (ball : Tree) (found : List 
         ∙ ap (λ k. return below run (recovers (runnable (bind σ r)) (deeper below 0) (bind_goals σ gs) k w)) count
         ∙ sym (catcher-turn left answers ∙ ap (λ σ. return below run (met_by σ r ball found (record { goals = gs; variables = n }) (deeper below 0) w)) some);
     goes = λ x is no. some_case _ _ _ was no;
-  }
+  })

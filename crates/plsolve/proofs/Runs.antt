@@ -1,5 +1,5 @@
 -- What turns, steps and answers say of the whole search.
-use Rattle.std.proofs.Common.{◌≡◌, ℕ, Bool, true, false, suc, ◌+◌, ◌-◌, ◌<◌, ◌≤◌, inl, inr, List, [], ◌∷◌, ◌++◌, refl, sym, ap, ap₂, ◌∙◌, subst, arith, map, min, le_refl, length, take, length-append}
+use Rattle.std.proofs.Common.{◌≡◌, ℕ, Bool, true, false, suc, ◌+◌, ◌-◌, ◌<◌, ◌≤◌, List, [], ◌∷◌, ◌++◌, refl, sym, ap, ap₂, ◌∙◌, subst, arith, map, min, le_refl, length, take, length-append}
 use Rattle.std.proofs.Math.Seq.{take-append_seam}
 use Rattle.plheap.specs.Store.{term}
 use Rattle.plevent.specs.Search.{Item, View, Ask, Answer, Search, Wants, Finishes, Seen, Got}
@@ -17,11 +17,10 @@ use Rattle.plsearch.specs.Types.{Asking, Element, Goal, Look, Await, Halt, Place
 use Rattle.plsearch.specs.Table.{select, meet, answered, resume, walk_over}
 use Rattle.plsearch.specs.Engine.{left, choice, out, outs, Visit}
 use Rattle.plsearch.specs.Machine.{At, Back, Rest, move, turn, meets}
-use Rattle.plsearch.specs.Weight.{weight, Lighter}
+use Rattle.plsearch.specs.Weight.{weight}
 use Rattle.plsearch.specs.Search.{ending_of, next_of}
 use Rattle.plsearch.specs.Solving.{Goes, TakesOne, StandsAt, EndsAt}
 use Rattle.plsearch.proofs.Turns.{Rest-turn}
-use Rattle.plsearch.proofs.Weight.{lighter-turn}
 use Rattle.plframe.specs.declared.frame.Item.{Item as Member}
 use Rattle.plframe.specs.declared.frame.Item.TheVariants.{Goal as GoalAt, Commit as CommitTo, Never as NeverTo, Until as UntilTo, Look as LookAt, Await as AwaitFor, Halt as HaltWith}
 use Rattle.plframe.specs.declared.frame.Link.{Link}
@@ -66,8 +65,7 @@ quiet_goes P s new within q = (
   (λ le. omega (arith, q.used, le)),
   λ n answers le.
       let few : (min n s.limit - s.used) + s.used ≤ s.limit = omega (arith, within) in
-      ap (ending_of (min n s.limit)) (Rest-turn P (machine P (min n s.limit - s.used) answers s))
-      ∙ ap (λ m. ending_of (min n s.limit) (Rest P m)) (sym (q.turned (min n s.limit - s.used) answers few))
+      ap (ending_of (min n s.limit)) (sym (q.rest (min n s.limit - s.used) answers few))
       ∙ ap₂ (λ l u. ending_of (min n l) (Rest P (machine P (min n l - u) answers new))) (sym q.limit) (sym q.used),
 )
 
@@ -76,12 +74,8 @@ pub load : Program → Progress → ℕ
 load P s = weight (machine P 0 [] s)
 
 pub quiet_lighter : (P : Program) (s new : Progress) → s.used ≤ s.limit → Quiet P s new → load P new < load P s
-unfolding load machine
-quiet_lighter P s new within q = fin (subst (λ m. Lighter (machine P 0 [] s) m) (sym (q.turned 0 [] (omega (arith, within)))) (lighter-turn P (machine P 0 [] s) q.goes))
-  where
-    fin : Lighter (machine P 0 [] s) (machine P 0 [] new) → load P new < load P s
-    fin (inl less) = absurd (omega (arith, less))
-    fin (inr both) = both.1
+unfolding load
+quiet_lighter P s new within q = q.lighter within
 
 -- a list's first, and the others
 goals-are : (s : State) (e : Element) (rest : List Element) → goals_of s s.goals ≡ e ∷ rest → place_of s ≡ record { goals = e ∷ rest; variables = s.heap.count }

@@ -16,7 +16,8 @@ use Rattle.plevent.specs.declared.update.Update.TheVariants.{Last}
 use Rattle.plload.specs.Program.{Program, clauses_for}
 use Rattle.plsearch.specs.Types.{Result, Stop, Fail, CutTo, Throw, Halted, Spent, Case, Local, Move}
 use Rattle.plsearch.specs.Engine.{deeper}
-use Rattle.plsearch.specs.Machine.{Mode, At, Back, Machine, Rest, move, return, turn}
+use Rattle.plsearch.specs.Machine.{Mode, At, Back, Machine, Rest, move, return}
+use Rattle.plsearch.specs.Weight.{weight}
 use Rattle.plsearch.specs.Solving.{Goes}
 use Rattle.plsearch.specs.Search.{ending_of, once, start_from}
 use Rattle.plframe.specs.Places.{Statics}
@@ -111,13 +112,13 @@ abbrev pub ended_with : Status → List Element → ℕ → Local → Move
 ended_with (statuses.Is k) es n w = Go [] (record { goals = HaltOf k ∷ es; variables = n }) w
 ended_with (statuses.Raises e) es n w = raised e halt_1 es w
 
--- a turn without a step
+-- without a step or an answer it came to where the same is left of its search, with less before it
 pub record Quiet (P : Program) (old new : Progress) : Type 0 where
   pub used : new.used ≡ old.used
   pub limit : new.limit ≡ old.limit
   pub places : new.places.items ≡ old.places.items
-  pub turned : (left : ℕ) (answers : List Answer) → left + old.used ≤ old.limit → machine P left answers new ≡ turn P (machine P left answers old)
-  pub goes : (r : Result) → mode_of old.mode old.stack ≡ Back r → cases_of (clauses_for P) old.stack ≡ [] → ⊥
+  pub rest : (left : ℕ) (answers : List Answer) → left + old.used ≤ old.limit → Rest P (machine P left answers new) ≡ Rest P (machine P left answers old)
+  pub lighter : old.used ≤ old.limit → weight (machine P 0 [] new) < weight (machine P 0 [] old)
 
 -- it carries a result, and no case is open
 abbrev pub IsOver : Program → Progress → Type 0

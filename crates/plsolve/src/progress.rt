@@ -27,7 +27,7 @@ use crate::rows::Ready;
 use crate::solver::Turn;
 use plevent::request::{Reply, Request, ThreadEnd};
 use plevent::update::{Batch, Update};
-use plframe::frame::{Closed, Item, Opening, Source};
+use plframe::frame::{Closed, Item, Source};
 use plframe::stack::Stack;
 use plheap::cell::Cell;
 use plheap::heap::Heap;
@@ -363,8 +363,7 @@ impl Progress {
                 Ok(Some(Due::Goal(level, cell, rest)))
             }
             Head::Commit(level, rest) => {
-                self.stack.open(Opening::Barrier(level))?;
-                self.stack.visit(rest);
+                self.stack.cut(level, rest)?;
                 Ok(None)
             }
             Head::Never(level, _) => {

@@ -273,7 +273,10 @@ impl Progress {
         ensures ok { OnOk result (Moved program.now self.old self.new (Go (Mark level ∷ []) (record { goals = goals_of self.old.stack rest; variables = self.old.stack.heap.count }) (local_of self.old)) 1) }
         ensures err { OnErr result (Stays program.now self.old self.new) }
     {
-        self.enter(program, rest, Opening::Barrier(level))
+        self.stack.cut(level, rest)?;
+        self.mode = Mode::Visit;
+        self.used += 1;
+        Ok(())
     }
 
     /// =/2.

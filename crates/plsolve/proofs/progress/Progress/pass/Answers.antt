@@ -1,7 +1,6 @@
 use Rattle.std.proofs.Common.{refl, arith}
 use Rattle.plsolve.specs.Heads.{IsHead}
 use Rattle.plsolve.specs.Solver.{Settled}
-use Rattle.plsolve.proofs.Heading.{list-opened}
 use Rattle.plsolve.proofs.Quiets.{quiet-stop, quiet-spent, quiet-commit, quiet-never, quiet-until}
 use Rattle.plsolve.proofs.progress.Progress.pass.Goals as goal
 
@@ -9,9 +8,9 @@ pub returns-then-self-clause-on : goal.returns-then-self-clause-on
 unfolding IsHead
 returns-then-self-clause-on c = quiet-spent c.args.program.now c.args.self.now c.in-Goal.level c.in-Goal.cell c.in-Goal.rest c.requires.visits c.in-Goal.ensures c.if-self.true
 
-pub visit-requires : goal.visit-requires
+pub cut-requires : goal.cut-requires
 unfolding IsHead
-visit-requires c = list-opened c.args.self.now.stack c.open.new.self _ c.in-Commit.rest c.in_ok-open-in-Commit.ensures.ok c.in-Commit.ensures.behind
+cut-requires c = c.in-Commit.ensures.behind
 
 pub returns-in-Nothing-clause-on : goal.returns-in-Nothing-clause-on
 unfolding IsHead
@@ -21,10 +20,9 @@ pub returns-else-self-clause-due : goal.returns-else-self-clause-due
 unfolding IsHead Settled
 returns-else-self-clause-due c = ((c.requires.visits, c.in-Goal.ensures, omega (arith, c.requires.within, c.if-self.false)), refl)
 
-pub returns-in_ok-open-in-Commit-clause-on : goal.returns-in_ok-open-in-Commit-clause-on
+pub returns-in_ok-cut-in-Commit-clause-on : goal.returns-in_ok-cut-in-Commit-clause-on
 unfolding IsHead
-returns-in_ok-open-in-Commit-clause-on c =
-    rw c.visit.ensures (quiet-commit c.args.program.now c.args.self.now c.open.new.self c.in-Commit.level c.in-Commit.rest c.requires.visits c.in-Commit.ensures c.in_ok-open-in-Commit.ensures.ok)
+returns-in_ok-cut-in-Commit-clause-on c = quiet-commit c.args.program.now c.args.self.now c.cut.new.self c.in-Commit.level c.in-Commit.rest c.requires.visits c.in-Commit.ensures c.in_ok-cut-in-Commit.ensures.ok
 
 pub returns-in-Look-clause-due : goal.returns-in-Look-clause-due
 unfolding IsHead Settled
@@ -44,8 +42,8 @@ returns-in-Never-clause-on c = quiet-never c.args.program.now c.args.self.now c.
 
 pub returns-in-Until-clause-on : goal.returns-in-Until-clause-on
 unfolding IsHead
-returns-in-Until-clause-on c = rw c.visit-in-Until.ensures (quiet-until c.args.program.now c.args.self.now c.in-Until.ensures.0 c.in-Until.rest c.requires.visits c.in-Until.ensures.1)
+returns-in-Until-clause-on c = rw c.visit.ensures (quiet-until c.args.program.now c.args.self.now c.in-Until.ensures.0 c.in-Until.rest c.requires.visits c.in-Until.ensures.1)
 
-pub visit-requires-in-Until : goal.visit-requires-in-Until
+pub visit-requires : goal.visit-requires
 unfolding IsHead
-visit-requires-in-Until c = c.in-Until.ensures.1.behind
+visit-requires c = c.in-Until.ensures.1.behind
