@@ -1,16 +1,19 @@
 -- What a call of a solver that came to a turn says of the search.
+use Rattle.std.specs.Prelude.{ℕ}
 use Rattle.plevent.specs.Search.{View, Ask}
 use Rattle.plload.specs.Program.{Program}
 use Rattle.plsearch.specs.Solving.{StandsAt, EndsAt}
 use Rattle.plsolve.specs.declared.progress.Progress.{Progress}
 use Rattle.plsolve.specs.declared.solver.Turn.{Turn}
 use Rattle.plsolve.specs.declared.solver.Turn.TheVariants as turns
-use Rattle.plsolve.specs.Solver.{rest_of, WaitsForView, WaitsForReply}
+use Rattle.plsolve.specs.declared.progress.Due.TheVariants as dues
+use Rattle.plsolve.specs.Solver.{rest_of, Settled, WaitsForView, WaitsForReply}
 
+-- it waits for a reply or for a view, a goal is to be selected with a step that is left, or it has ended
 unfoldable pub Says : Program → Progress → Turn → Type 0
 Says P s (turns.Ask q) = WaitsForReply s q × StandsAt (Ask q) (rest_of P s) s.used s.out.items
 Says P s turns.Refresh = WaitsForView s × StandsAt View (rest_of P s) s.used s.out.items
-Says P s turns.Slice = Unit {0}
+Says P s turns.Slice = (level : ℕ) × (cell : ℕ) × (rest : ℕ) × Settled P s (dues.Goal level cell rest)
 Says P s (turns.Ended e) = EndsAt s.limit e (rest_of P s) s.used s.out.items
 
 abbrev pub IsSlice : Turn → Type 0

@@ -173,15 +173,8 @@ impl Progress {
         }
     }
 
-    /// The database after the batches below a place, for the goal that waits for it, and the program's flag `unknown`.
-    pub fn refreshed(
-        &mut self,
-        program: &Program,
-        unknown: Unknown,
-        g: u64,
-        store: &Store,
-    ) -> Result<(), AllocError>
-        requires flag { unknown ≡ program.now.settings.unknown }
+    /// The database after the batches below a place, for the goal that waits for it.
+    pub fn refreshed(&mut self, program: &Program, g: u64, store: &Store) -> Result<(), AllocError>
         requires waits { WaitsForView self.old }
         requires within { self.old.used ≤ self.old.limit }
         ensures ok { OnOk result ((us : List Stamped) → Rises 0 us → store.now ≡ fold keep nothing us → TakesOne (Seen g (before g us)) (rest_of program.now self.old) self.old.used (rest_of program.now self.new) self.new.used) }
@@ -198,7 +191,7 @@ impl Progress {
         let cell = *cell;
         let rest = link.next;
         self.places.push(g)?;
-        match self.look(program, unknown, g, store, cell, rest) {
+        match self.look(program, g, store, cell, rest) {
             Ok(()) => Ok(()),
             Err(e) => {
                 self.places.pop();
@@ -211,13 +204,11 @@ impl Progress {
     fn look(
         &mut self,
         program: &Program,
-        unknown: Unknown,
         g: u64,
         store: &Store,
         cell: u32,
         rest: u32,
     ) -> Result<(), AllocError>
-        requires flag { unknown ≡ program.now.settings.unknown }
         requires cell { cell < length self.old.stack.heap.cells }
         requires rest { IsList self.old.stack rest }
         requires within { self.old.used ≤ self.old.limit }
@@ -230,7 +221,7 @@ impl Progress {
             let clauses = store.alive_clauses(self.alloc, g, &p)?;
             return self.resolve(program, cell, rest, Source::Copied(clauses), 0);
         }
-        self.missing(program, unknown, &p, rest)
+        self.missing(program, program.unknown(), &p, rest)
     }
 
     /// A call of a procedure that does not exist: an error or failure, by the flag `unknown`.

@@ -13,7 +13,6 @@ ghost use Rattle.plsolve.specs.Says.{Says, IsSlice};
 use crate::progress::Progress;
 use plevent::request::{Reply, Request, ThreadEnd};
 use plload::program::Program;
-use plload::settings::Unknown;
 use plstore::store::Store;
 use std::alloc::{AllocError, Global};
 use std::marker::Model;
@@ -106,16 +105,8 @@ impl Solver {
         self.progress.reply(program, place, reply)
     }
 
-    /// The database after the batches below a place, for the goal that waits for it, and the program's flag `unknown`.
-    /// A refused growth leaves the solver as it was.
-    pub fn refreshed(
-        &mut self,
-        program: &Program,
-        unknown: Unknown,
-        g: u64,
-        store: &Store,
-    ) -> Result<(), AllocError>
-        requires flag { unknown ≡ program.now.settings.unknown }
+    /// The database after the batches below a place, for the goal that waits for it. A refused growth leaves the solver as it was.
+    pub fn refreshed(&mut self, program: &Program, g: u64, store: &Store) -> Result<(), AllocError>
         requires waits { WaitsForView self.old }
         requires within { self.old.used ≤ self.old.limit }
         ensures ok { OnOk result ((us : List Stamped) → Rises 0 us → store.now ≡ fold keep nothing us → TakesOne (Seen g (before g us)) (rest_of program.now self.old) self.old.used (rest_of program.now self.new) self.new.used) }
@@ -123,6 +114,6 @@ impl Solver {
         ensures limit { self.new.limit ≡ self.old.limit }
         ensures err { OnErr result (Stays program.now self.old self.new) }
     {
-        self.progress.refreshed(program, unknown, g, store)
+        self.progress.refreshed(program, g, store)
     }
 }
