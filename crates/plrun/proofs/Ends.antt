@@ -1,5 +1,5 @@
 -- How a thread's run ends, and that it then follows for good.
-use Rattle.std.proofs.Common.{◌≡◌, ℕ, suc, ◌+◌, ◌≤◌, Bool, true, false, List, [], ◌∷◌, ◌++◌, length, Option, Some, None, refl, sym, ap, ◌∙◌, subst, arith, nat_eq, append-nil}
+use Rattle.std.proofs.Common.{◌≡◌, ℕ, suc, false, List, [], ◌∷◌, ◌++◌, length, Some, refl, sym, ap, ◌∙◌, nat_eq, append-nil}
 use Rattle.plevent.specs.declared.request.ThreadEnd.{ThreadEnd}
 use Rattle.plevent.specs.declared.request.Request.{Request}
 use Rattle.plevent.specs.declared.request.Reply.{Reply}
@@ -7,12 +7,12 @@ use Rattle.plevent.specs.declared.act.Act.{Act}
 use Rattle.plevent.specs.declared.act.Entry.{Entry}
 use Rattle.plevent.specs.Reading.{reading}
 use Rattle.plevent.specs.Rows.{served}
-use Rattle.plevent.specs.Search.{Ask, Answer, Got, Wants, Finishes, Ending, Search}
+use Rattle.plevent.specs.Search.{Ask, Got, Wants, Finishes, Ending, Search}
 use Rattle.plhist.specs.declared.history.Run.{Run}
 use Rattle.plhist.specs.declared.history.RunEnd.{RunEnd}
-use Rattle.plhist.specs.Follows.{own, own_if, Taken, replied, answer_at, HasEnded, HasHalted, FollowsAs, Follows, from_start, asks_of}
+use Rattle.plhist.specs.Follows.{own, own_if, replied, HasEnded, HasHalted, FollowsAs, Follows, from_start, asks_of}
 use Rattle.plsearch.specs.Solving.{StandsAt, EndsAt}
-use Rattle.plrun.specs.Going.{Free, Going}
+use Rattle.plrun.specs.Going.{Going}
 use Rattle.plrun.specs.Halts.{HaltsWhenDone, ComesTo, last_of, act_of}
 use Rattle.plrun.proofs.Grow.{own-push, takes-grow, answer-grow}
 use Rattle.plrun.proofs.Steps.{answer-ask, own-grows}

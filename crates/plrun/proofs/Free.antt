@@ -1,14 +1,12 @@
 -- What an entry leaves of a thread's standing.
-use Rattle.std.proofs.Common.{◌≡◌, ℕ, suc, Bool, true, false, ◌||◌, ◌&&◌, not, List, [], ◌∷◌, ◌++◌, Option, Some, None, refl, sym, ap, ◌∙◌, subst, arith, nat_eq, eqb-true, eq-eqb, ne_eqb, true≢false}
-use Rattle.std.specs.List.{find, list_any}
-use Rattle.std.specs.Option.{is_some}
-use Rattle.plevent.specs.declared.request.ThreadEnd.{ThreadEnd}
+use Rattle.std.proofs.Common.{◌≡◌, ℕ, suc, Bool, true, false, List, [], ◌∷◌, ◌++◌, Some, refl, sym, ◌∙◌, subst, arith, nat_eq, eqb-true, true≢false}
+use Rattle.std.specs.List.{find}
 use Rattle.plevent.specs.declared.act.Act.{Act}
 use Rattle.plevent.specs.declared.act.Entry.{Entry}
 use Rattle.plevent.specs.declared.standing.Thread.{Thread}
 use Rattle.plevent.specs.declared.standing.Standing.{Standing}
 use Rattle.plevent.specs.Alive.{add_if}
-use Rattle.plevent.specs.Reading.{Reading, reading, read, changed_first, is_thread, threads_after, halted_after}
+use Rattle.plevent.specs.Reading.{reading, changed_first, is_thread, threads_after, halted_after}
 use Rattle.plrun.specs.Going.{Free}
 use Rattle.plhist.proofs.OneMore.{reading-push}
 

@@ -1,16 +1,14 @@
 -- What stays as the journal grows.
-use Rattle.std.proofs.Common.{◌≡◌, ℕ, zero, suc, ◌+◌, ◌<◌, ◌≤◌, Bool, true, false, List, [], ◌∷◌, ◌++◌, length, take, fold, Option, Some, None, refl, sym, ap, ◌∙◌, subst, arith, nat_lt, nat_eq, length-append, append_assoc, append-nil, lt-ltb, ltb-true}
+use Rattle.std.proofs.Common.{◌≡◌, ℕ, suc, ◌+◌, ◌≤◌, Bool, true, false, List, [], ◌∷◌, ◌++◌, length, fold, Option, Some, None, refl, sym, ap, ◌∙◌, subst, arith, nat_eq, length-append, lt-ltb, ltb-true}
 use Rattle.std.specs.Option.{option_and_then}
 use Rattle.std.proofs.lemmas.List.{take-append-le}
-use Rattle.plevent.specs.declared.request.Request.{Request}
 use Rattle.plevent.specs.declared.act.Act.{Act}
 use Rattle.plevent.specs.declared.act.Entry.{Entry}
 use Rattle.plevent.specs.declared.update.Update.{Update}
-use Rattle.plevent.specs.Reading.{Reading, reading, read, blank}
+use Rattle.plevent.specs.Reading.{Reading, reading, read}
 use Rattle.plevent.specs.Rows.{served}
 use Rattle.plevent.specs.Search.{Item, View, Ask, Answer, Next, item_of}
 use Rattle.plhist.specs.Legal.{IsDue, AllDue, Legal, opening}
-use Rattle.plhist.proofs.OneMore.{reading-push}
 use Rattle.plhist.specs.Follows.{own, own_from, own_if, Taken, guarded, not_below, replied, answered, answer_at, item_at, takes}
 
 due-push : (r : Reading) (es : List Entry) (e : Entry) → AllDue r es → IsDue (fold read r es) e → AllDue r (es ++ e ∷ [])

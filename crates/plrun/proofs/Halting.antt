@@ -1,6 +1,5 @@
 -- How main's search ends the run: once that is done, and no sooner.
-use Rattle.std.proofs.Common.{◌≡◌, ℕ, zero, suc, ◌+◌, ◌<◌, ◌≤◌, Bool, true, false, ◌⊎◌, inl, inr, List, [], ◌∷◌, ◌++◌, length, min, Option, Some, None, refl, sym, ap, ◌∙◌, subst, arith, nat_eq}
-use Rattle.std.specs.List.{filter_map}
+use Rattle.std.proofs.Common.{◌≡◌, ℕ, zero, suc, ◌<◌, ◌≤◌, Bool, true, false, inl, inr, List, [], ◌∷◌, ◌++◌, min, Option, Some, None, refl, sym, ap, ◌∙◌, subst, arith, nat_eq}
 use Rattle.plterm.specs.Tree.{Tree, var, int, atom, compound}
 use Rattle.plterm.specs.declared.indicator.Indicator.{Indicator}
 use Rattle.plsubst.specs.Unify.{unify}
@@ -13,14 +12,13 @@ use Rattle.plevent.specs.declared.request.Request.{Request}
 use Rattle.plevent.specs.declared.request.Reply.{Reply}
 use Rattle.plevent.specs.declared.request.ThreadEnd.{ThreadEnd}
 use Rattle.plevent.specs.Alive.{exists, clauses_alive}
-use Rattle.plevent.specs.Search.{Item, View, Ask, Answer, Seen, Got, Wants, Finishes}
+use Rattle.plevent.specs.Search.{Item, View, Ask, Answer, Seen, Got, Finishes}
 use Rattle.plload.specs.Program.{Program, clauses_for}
 use Rattle.plload.specs.declared.settings.Unknown.{Unknown}
 use Rattle.plload.specs.declared.settings.Unknown.TheVariants as unknown
-use Rattle.plsearch.specs.Errors.{error_term}
-use Rattle.plsearch.specs.Types.{Result, Stop, Fail, CutTo, Throw, Halted, Spent, Asking, Ceased, Element, Goal, Commit, Never, Until, Raise, Look, Await, Halt, Place, Case, Choice, Mark, Handle, Handler, Catch, Return, Keep, Again, Anew, Local, Move, Give, Go, Meeting, Select, Asks, End, Pass, Marked, Run}
-use Rattle.plsearch.specs.Table.{Control, True, False, Both, Either, Then, Not, Once, Catching, Throwing, CallWith, Cut, Unify, Write, WriteQuoted, Newline, Halting, AddLast, Call, NoGoal, control, resolve, choose, call, raised, Runnable, Runs, Raises, thrown, has, recovers, met_by, caught, resume, unified, is_static, add_if, add, halting, user, row, select, meet, missing, walk_if, replied, halted, answered}
-use Rattle.plsearch.specs.Engine.{Ended, stop_cut_if, stop_cut, mark, choice, returned, out, deeper, outs, Visit, left}
+use Rattle.plsearch.specs.Types.{Result, Stop, Fail, CutTo, Throw, Halted, Spent, Asking, Ceased, Element, Goal, Commit, Never, Until, Raise, Look, Await, Halt, Place, Case, Choice, Mark, Handle, Handler, Catch, Return, Keep, Again, Anew, Local, Move, Give, Go, Run}
+use Rattle.plsearch.specs.Table.{Control, True, False, Both, Either, Then, Not, Once, Catching, Throwing, CallWith, Cut, Unify, Write, WriteQuoted, Newline, Halting, AddLast, Call, NoGoal, control, choose, raised, Runnable, Runs, Raises, thrown, has, recovers, met_by, caught, resume, unified, is_static, add_if, add, halting, user, row, select, meet, missing, walk_if, replied, halted, answered}
+use Rattle.plsearch.specs.Engine.{stop_cut_if, stop_cut, mark, choice, out, deeper, outs, Visit, left}
 use Rattle.plsearch.specs.Machine.{Mode, At, Back, Machine, Rest, move, step, ask, meets, visits, backs, turn_in, turn}
 use Rattle.plsearch.specs.Machine as machines
 use Rattle.plsearch.specs.Weight.{weight, Lighter}
@@ -28,7 +26,7 @@ use Rattle.plsearch.specs.Search.{start_of, from_start, next_of, ending_of, sear
 use Rattle.plsearch.proofs.Turns.{Rest-turn}
 use Rattle.plsearch.proofs.Weight.{lighter-turn}
 use Rattle.plrun.specs.Halts.{HaltsWhenDone, HaltsNoSooner, IsCommon, AreCommon}
-use Rattle.plrun.proofs.Paid.{AreQuiet, Opens, Ready, IsBatch, IsStill, still_never, AllQuiet, CaseIsQuiet, AreQuietCases, ReturnFits, resume_fits, MoveFits, select_fits, answered_fits, ready, start_quiet, asked_of, cut_asking, mark_asking}
+use Rattle.plrun.proofs.Paid.{AreQuiet, Opens, Ready, IsBatch, IsStill, still_never, AllQuiet, CaseIsQuiet, AreQuietCases, ReturnFits, resume_fits, MoveFits, select_fits, answered_fits, ready, start_quiet, asked_of}
 
 at_no_back : (p : Place) (r : Result) → At p ≡ Back r → ⊥
 at_no_back p r is = cc

@@ -1,5 +1,5 @@
 -- In main's search each item costs a step.
-use Rattle.std.proofs.Common.{◌≡◌, ℕ, zero, suc, ◌+◌, ◌-◌, ◌≤◌, Bool, true, false, List, [], ◌∷◌, ◌++◌, length, map, min, Option, Some, None, refl, sym, ap, ◌∙◌, subst, arith, nat_eq}
+use Rattle.std.proofs.Common.{◌≡◌, ℕ, zero, suc, ◌+◌, ◌≤◌, Bool, true, false, List, [], ◌∷◌, length, min, Option, Some, None, refl, ap, subst, arith, nat_eq}
 use Rattle.std.specs.List.{filter_map, cons_option}
 use Rattle.std.specs.Option.{option_map}
 use Rattle.plterm.specs.Tree.{Tree, var, int, atom, compound}
@@ -15,15 +15,15 @@ use Rattle.plclause.specs.Indicators.{indicator}
 use Rattle.plclause.specs.Clausal.{clausal}
 use Rattle.plclause.specs.declared.form.ClauseForm.{ClauseForm}
 use Rattle.plclause.specs.declared.form.ClauseForm.TheVariants.{NoHead, BadHead, BadBody, IsClause}
-use Rattle.plevent.specs.Alive.{Stamped, exists, clauses_alive}
-use Rattle.plevent.specs.Search.{Item, View, Ask, Answer, Seen, Got, Next, Wants, Search}
+use Rattle.plevent.specs.Alive.{exists, clauses_alive}
+use Rattle.plevent.specs.Search.{Item, View, Ask, Answer, Seen, Got, Wants}
 use Rattle.plload.specs.Program.{Program, clauses_for}
 use Rattle.plload.specs.declared.settings.Unknown.{Unknown}
 use Rattle.plload.specs.declared.settings.Unknown.TheVariants as unknown
-use Rattle.plsearch.specs.Types.{Result, Stop, Fail, CutTo, Throw, Halted, Spent, Asking, Ceased, Element, Goal, Commit, Never, Until, Raise, Look, Await, Halt, Place, Case, Choice, Mark, Handle, Handler, Catch, Return, Keep, Again, Anew, Local, Move, Give, Go, Meeting, Run}
-use Rattle.plsearch.specs.Table.{Control, True, False, Both, Either, Then, Not, Once, Catching, Throwing, CallWith, Cut, Unify, Write, WriteQuoted, Newline, Halting, AddLast, Call, NoGoal, control, bind_element, bind_goals, is_true, before_rest, resolve, choose, call, raised, Runnable, Runs, Raises, run, runnable, called, call_with, branch, catching, thrown, catch_3, levels, has, recovers, met_by, caught, resume, unified, is_static, add_if, add, halting, user, row, select, meet, missing, walk_if, walk_over, replied, halted, answered}
-use Rattle.plsearch.specs.Engine.{Ended, Visitor, stop_cut_if, stop_cut, mark, choice, returned, out, deeper, outs, moved, stepped, asks, walk, met, visit_in, Visit, left}
-use Rattle.plsearch.specs.Search.{start_from, start_of, started, from_start, next_of, search_of}
+use Rattle.plsearch.specs.Types.{Result, Stop, Fail, CutTo, Throw, Halted, Spent, Asking, Ceased, Element, Goal, Commit, Never, Until, Raise, Look, Await, Halt, Place, Case, Choice, Mark, Handle, Handler, Catch, Return, Keep, Again, Anew, Local, Move, Give, Go, Run}
+use Rattle.plsearch.specs.Table.{Control, True, False, Both, Either, Then, Not, Once, Catching, Throwing, CallWith, Cut, Unify, Write, WriteQuoted, Newline, Halting, AddLast, Call, NoGoal, control, bind_goals, is_true, before_rest, resolve, choose, call, raised, Runnable, Runs, Raises, run, runnable, called, call_with, branch, catching, thrown, catch_3, levels, has, recovers, met_by, caught, resume, unified, is_static, add_if, add, halting, user, row, select, meet, missing, walk_if, replied, halted, answered}
+use Rattle.plsearch.specs.Engine.{Ended, Visitor, stop_cut_if, stop_cut, mark, choice, returned, out, deeper, outs, moved, stepped, asks, walk, visit_in, Visit, left}
+use Rattle.plsearch.specs.Search.{start_from, start_of, from_start, next_of, search_of}
 use Rattle.plrun.specs.Paid.{IsPlain, ItemsCostSteps}
 
 -- elements that ask nothing
@@ -122,7 +122,7 @@ fits_more : (from : Run) (e : Ended) → Fits 0 from e → Fits 1 from e
 fits_more from e f = record { paid = omega (arith, f.paid); asks = λ q is. let a = f.asks q is in (a.0, a.1, omega (arith, a.2)) }
 
 -- marks and cuts keep what asks
-pub mark_asking : (l : ℕ) (r : Result) (q : Item) → mark l r ≡ Asking q → r ≡ Asking q
+mark_asking : (l : ℕ) (r : Result) (q : Item) → mark l r ≡ Asking q → r ≡ Asking q
 unfolding IsStill
 mark_asking l Stop q is = is
 mark_asking l Fail q is = absurd (still_never (CutTo l) q tt is)
@@ -133,7 +133,7 @@ mark_asking l Spent q is = is
 mark_asking l (Asking i) q is = is
 mark_asking l Ceased q is = is
 
-pub cut_asking : (d : ℕ) (r : Result) (q : Item) → stop_cut d r ≡ Asking q → r ≡ Asking q
+cut_asking : (d : ℕ) (r : Result) (q : Item) → stop_cut d r ≡ Asking q → r ≡ Asking q
 unfolding IsStill
 cut_asking d Stop q is = is
 cut_asking d Fail q is = is

@@ -1,19 +1,17 @@
 -- What a running thread's requests come to, and what Start does.
-use Rattle.std.proofs.Common.{◌≡◌, ℕ, suc, ◌≤◌, Bool, true, false, ◌||◌, ◌&&◌, not, List, [], ◌∷◌, ◌++◌, Option, Some, None, refl, sym, ap, ap₂, ◌∙◌, subst, arith, nat_eq, eq-eqb, true≢false}
+use Rattle.std.proofs.Common.{◌≡◌, ℕ, Bool, true, false, ◌||◌, ◌&&◌, not, List, [], ◌∷◌, Some, None, refl, ap, ap₂, ◌∙◌, arith, nat_eq}
 use Rattle.std.specs.List.{find, list_any}
 use Rattle.std.specs.Option.{is_some, option_and_then}
-use Rattle.plterm.specs.Tree.{Tree}
 use Rattle.plevent.specs.declared.request.ThreadEnd.{ThreadEnd}
 use Rattle.plevent.specs.declared.request.Request.{Request}
 use Rattle.plevent.specs.declared.request.Reply.{Reply}
 use Rattle.plevent.specs.declared.update.Update.{Update}
 use Rattle.plevent.specs.declared.act.Act.{Act}
-use Rattle.plevent.specs.declared.act.Entry.{Entry}
 use Rattle.plevent.specs.declared.standing.Thread.{Thread}
 use Rattle.plevent.specs.declared.standing.Standing.{Standing}
 use Rattle.plevent.specs.Alive.{add_if}
-use Rattle.plevent.specs.Reading.{Reading, reading, is_thread}
-use Rattle.plevent.specs.Rows.{Row, row, served, served_while, is_workers, is_new, is_over, start_row, runs, entries_of}
+use Rattle.plevent.specs.Reading.{Reading, is_thread}
+use Rattle.plevent.specs.Rows.{row, served, served_while, is_workers, is_new, start_row, runs}
 use Rattle.plhist.specs.Legal.{MayAsk, IsDue, worker_of}
 use Rattle.plrun.specs.Going.{Free}
 use Rattle.plrun.specs.Halts.{last_of, act_of}

@@ -1,5 +1,5 @@
 -- What a turn of a thread leaves.
-use Rattle.std.proofs.Common.{◌≡◌, ℕ, suc, ◌+◌, ◌<◌, ◌≤◌, Bool, true, false, ◌||◌, ◌&&◌, not, List, [], ◌∷◌, ◌++◌, length, take, append-nil, map, Option, Some, None, refl, sym, ap, ap₂, ◌∙◌, subst, arith, nat_eq, nat_lt, eq-eqb, eqb-true, true≢false}
+use Rattle.std.proofs.Common.{◌≡◌, ℕ, Bool, true, false, ◌||◌, not, List, [], ◌∷◌, ◌++◌, length, take, append-nil, map, Some, refl, sym, ap, ap₂, ◌∙◌, subst, arith, nat_eq, eq-eqb, eqb-true}
 use Rattle.std.specs.List.{find, list_any}
 use Rattle.std.specs.Option.{is_some}
 use Rattle.std.proofs.Math.Seq.{take-append_seam}
@@ -10,28 +10,24 @@ use Rattle.plevent.specs.declared.update.Update.{Update}
 use Rattle.plevent.specs.declared.act.Act.{Act}
 use Rattle.plevent.specs.declared.act.Entry.{Entry}
 use Rattle.plevent.specs.declared.standing.Thread.{Thread}
-use Rattle.plevent.specs.declared.standing.Standing.{Standing}
 use Rattle.plevent.specs.Alive.{Stamped, before}
-use Rattle.plevent.specs.Reading.{Reading, reading, is_thread, changed_first, halted_after}
-use Rattle.plevent.specs.Rows.{served, row, adds, reply_to, entries_of, is_over, is_settled}
-use Rattle.plevent.specs.Search.{View, Ask, Answer, Seen, Got, Search}
+use Rattle.plevent.specs.Reading.{reading, is_thread, changed_first, halted_after}
+use Rattle.plevent.specs.Rows.{served, adds, reply_to, entries_of, is_settled}
+use Rattle.plevent.specs.Search.{View, Ask, Seen, Got, Search}
 use Rattle.plhist.specs.declared.history.Run.{Run}
 use Rattle.plhist.specs.declared.history.RunEnd.{RunEnd}
-use Rattle.plhist.specs.Follows.{is_not_yet, Follows}
-use Rattle.plhist.specs.Legal.{Legal, Over}
-use Rattle.plhist.specs.Main.{MainAlone}
-use Rattle.plhist.specs.Runs.{AllFollow, OneEach}
+use Rattle.plhist.specs.Legal.{Over}
 use Rattle.plhist.proofs.Alone.{main-alone}
 use Rattle.plhist.proofs.OneMore.{reading-push, halted-push}
 use Rattle.plworld.proofs.Push.{before-is}
 use Rattle.plload.specs.Program.{Program}
 use Rattle.plsearch.specs.Search.{search_of}
-use Rattle.plsearch.specs.Solving.{Goes, TakesOne, StandsAt, EndsAt}
+use Rattle.plsearch.specs.Solving.{Goes, TakesOne, StandsAt}
 use Rattle.plrun.specs.Going.{Free, Going, IsRunning}
 use Rattle.plrun.specs.Halts.{HaltsWhenDone, ComesTo, last_of, act_of}
 use Rattle.plrun.specs.Overall.{IsHistory}
 use Rattle.plrun.proofs.Grow.{legal-push}
-use Rattle.plrun.proofs.Free.{is_plain, find-same, found-number}
+use Rattle.plrun.proofs.Free.{is_plain}
 use Rattle.plrun.proofs.Rows.{row-served, publish-due, last-served, last-due}
 use Rattle.plrun.proofs.Steps.{going-goes, going-view, going-act}
 use Rattle.plrun.proofs.Ends.{ends-done}

@@ -1,6 +1,6 @@
 -- What Start comes to, before main runs and when all is over.
-use Rattle.std.proofs.Common.{◌≡◌, ℕ, suc, ◌+◌, ◌≤◌, Bool, true, false, ◌||◌, ◌&&◌, not, List, [], ◌∷◌, ◌++◌, length, Option, Some, None, refl, sym, ap, ap₂, ◌∙◌, subst, arith, nat_eq, append-nil, true≢false, inl, inr, ◌⊎◌}
-use Rattle.std.specs.List.{find, list_any}
+use Rattle.std.proofs.Common.{◌≡◌, ℕ, true, List, [], ◌∷◌, ◌++◌, Option, Some, None, refl, sym, ap, ap₂, ◌∙◌, subst, arith, append-nil, true≢false, inl, inr, ◌⊎◌}
+use Rattle.std.specs.List.{find}
 use Rattle.std.specs.Option.{is_some}
 use Rattle.plterm.specs.Tree.{Tree}
 use Rattle.plevent.specs.declared.request.Request.{Request}
@@ -11,16 +11,15 @@ use Rattle.plevent.specs.declared.act.Entry.{Entry}
 use Rattle.plevent.specs.declared.standing.Thread.{Thread}
 use Rattle.plevent.specs.declared.standing.Standing.{Standing}
 use Rattle.plevent.specs.Alive.{add_if}
-use Rattle.plevent.specs.Reading.{Reading, reading, new_thread, main}
-use Rattle.plevent.specs.Rows.{Row, served, served_while, start_row, adds, reply_to, entries_of, is_new, is_over, is_settled}
+use Rattle.plevent.specs.Reading.{reading, new_thread, main}
+use Rattle.plevent.specs.Rows.{served, served_while, start_row, adds, reply_to, entries_of, is_new, is_over}
 use Rattle.plevent.specs.Search.{Search}
 use Rattle.plhist.specs.declared.history.Run.{Run}
 use Rattle.plhist.specs.Follows.{own, takes, from_start}
-use Rattle.plhist.specs.Legal.{opening, Legal, Over}
-use Rattle.plhist.specs.Main.{MainAlone}
+use Rattle.plhist.specs.Legal.{opening, Over}
 use Rattle.plhist.proofs.Alone.{main-alone}
 use Rattle.plsearch.specs.Solving.{Begins}
-use Rattle.plrun.specs.Going.{Free, Going, IsRunning}
+use Rattle.plrun.specs.Going.{IsRunning}
 use Rattle.plrun.specs.Overall.{IsHistory, Stage, Before, Behind}
 use Rattle.plrun.proofs.Rows.{start-due, start-served}
 

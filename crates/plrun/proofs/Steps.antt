@@ -1,5 +1,5 @@
 -- The invariant of a thread, turn by turn.
-use Rattle.std.proofs.Common.{◌≡◌, ℕ, zero, suc, ◌+◌, ◌<◌, ◌≤◌, Bool, true, false, List, [], ◌∷◌, ◌++◌, length, take, Option, Some, None, refl, sym, ap, ◌∙◌, subst, arith, nat_lt, nat_eq, length-append, append_assoc, append-nil, lt-ltb, eq-eqb}
+use Rattle.std.proofs.Common.{◌≡◌, ℕ, suc, ◌≤◌, true, false, List, [], ◌∷◌, ◌++◌, length, Some, refl, sym, ap, ◌∙◌, subst, arith, nat_eq, length-append, append_assoc, append-nil, lt-ltb, eq-eqb}
 use Rattle.std.specs.Option.{option_and_then}
 use Rattle.std.proofs.Math.Seq.{take-append_seam}
 use Rattle.plevent.specs.declared.request.ThreadEnd.{ThreadEnd}
@@ -7,12 +7,12 @@ use Rattle.plevent.specs.declared.request.Request.{Request}
 use Rattle.plevent.specs.declared.request.Reply.{Reply}
 use Rattle.plevent.specs.declared.act.Act.{Act}
 use Rattle.plevent.specs.declared.act.Entry.{Entry}
-use Rattle.plevent.specs.Reading.{Reading, reading}
+use Rattle.plevent.specs.Reading.{reading}
 use Rattle.plevent.specs.Rows.{served}
 use Rattle.plevent.specs.Search.{Item, View, Ask, Answer, Seen, Got, Next, Wants, Finishes, Search, item_of}
 use Rattle.plhist.specs.Follows.{own, own_if, Taken, is_not_yet, noted, guarded, not_below, replied, answered, answer_at, item_at, takes, from_start, asks_of}
-use Rattle.plsearch.specs.Solving.{Goes, TakesOne, StandsAt, EndsAt}
-use Rattle.plrun.specs.Going.{Free, Going}
+use Rattle.plsearch.specs.Solving.{Goes, TakesOne, EndsAt}
+use Rattle.plrun.specs.Going.{Going}
 use Rattle.plrun.specs.Halts.{IsCommon, AreCommon, HaltsNoSooner, ComesTo}
 use Rattle.plrun.proofs.Grow.{own-push, takes-grow, takes-push}
 use Rattle.plrun.proofs.Free.{free-plain, free-other, goes_on, is_plain}

@@ -1,18 +1,15 @@
 -- Turns come to an end.
-use Rattle.std.proofs.Common.{◌≡◌, ℕ, suc, ◌+◌, ◌-◌, ◌<◌, ◌≤◌, Bool, true, false, List, [], ◌∷◌, ◌++◌, length, Option, Some, None, refl, sym, ap, ◌∙◌, arith, length-append, append-nil}
+use Rattle.std.proofs.Common.{◌≡◌, ℕ, suc, ◌+◌, ◌<◌, ◌≤◌, Bool, true, false, List, [], ◌∷◌, ◌++◌, length, Option, Some, None, refl, sym, ap, ◌∙◌, arith, length-append, append-nil}
 use Rattle.std.specs.Option.{option_and_then}
 use Rattle.plevent.specs.declared.request.Reply.{Reply}
 use Rattle.plevent.specs.declared.act.Act.{Act}
 use Rattle.plevent.specs.declared.act.Entry.{Entry}
 use Rattle.plevent.specs.declared.update.Update.{Update}
-use Rattle.plevent.specs.Reading.{reading}
-use Rattle.plevent.specs.Rows.{Row, served}
-use Rattle.plevent.specs.Search.{Item, View, Ask, Answer, Next, Wants, Search, item_of}
-use Rattle.plhist.specs.Follows.{Taken, is_not_yet, noted, replied, guarded, not_below, answered, answer_at, item_at, takes, from_start, asks_of}
+use Rattle.plevent.specs.Search.{Item, View, Ask, Answer, Next, Search, item_of}
+use Rattle.plhist.specs.Follows.{Taken, noted, guarded, not_below, answered, answer_at, item_at, takes, from_start, asks_of}
 use Rattle.plsearch.specs.Solving.{StandsAt}
-use Rattle.plrun.specs.Going.{Going, IsRunning, turns_left}
+use Rattle.plrun.specs.Going.{IsRunning, turns_left}
 use Rattle.plrun.specs.Paid.{ItemsCostSteps}
-use Rattle.plrun.proofs.Steps.{asks-same}
 
 -- an item is one answer
 some_same : {A : Type 0} (a b : A) → Some a ≡ Some b → a ≡ b

@@ -1,11 +1,11 @@
 -- A thread that runs, between two turns.
-use Rattle.std.specs.Prelude.{◌≡◌, ℕ, ◌+◌, ◌-◌, ◌≤◌, List, [], ◌∷◌, ◌++◌, length, Option, Some, None, find}
+use Rattle.std.specs.Prelude.{◌≡◌, ℕ, ◌+◌, ◌-◌, ◌≤◌, List, ◌∷◌, ◌++◌, length, Some, None, find}
 use Rattle.plevent.specs.declared.update.Update.{Update}
 use Rattle.plevent.specs.declared.act.Act.{Act}
 use Rattle.plevent.specs.declared.act.Entry.{Entry}
 use Rattle.plevent.specs.declared.standing.Thread.{Thread}
 use Rattle.plevent.specs.declared.standing.Standing.{Standing}
-use Rattle.plevent.specs.Reading.{Reading, reading, is_thread}
+use Rattle.plevent.specs.Reading.{reading, is_thread}
 use Rattle.plevent.specs.Search.{Answer, Search}
 use Rattle.plhist.specs.Follows.{own, Taken, takes, from_start, asks_of}
 use Rattle.plhist.specs.Legal.{Legal}

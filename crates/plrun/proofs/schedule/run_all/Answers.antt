@@ -1,8 +1,7 @@
-use Rattle.std.proofs.Common.{◌≡◌, ◌++◌, ◌∷◌, [], length, ap, refl, sym, subst, arith, length-append}
-use Rattle.plevent.specs.Reading.{reading}
+use Rattle.std.proofs.Common.{◌≡◌, ◌∷◌, [], length, ap, subst, arith, length-append}
 use Rattle.plsearch.specs.Search.{search_of}
 use Rattle.plrun.specs.Overall.{IsHistory}
-use Rattle.plrun.proofs.Start.{stage-starts, stage-first, stage-over, stage-run}
+use Rattle.plrun.proofs.Start.{stage-first, stage-over, stage-run}
 use Rattle.plrun.proofs.schedule.run_all.Goals as goal
 
 pub loop-runs-smaller : goal.loop-runs-smaller

@@ -1,4 +1,4 @@
-use Rattle.std.proofs.Common.{◌≡◌, ap, sym, subst}
+use Rattle.std.proofs.Common.{ap, sym, subst}
 use Rattle.plsearch.specs.Search.{search_of}
 use Rattle.plsolve.specs.Solver.{rest_of}
 use Rattle.plrun.specs.Going.{IsRunning}

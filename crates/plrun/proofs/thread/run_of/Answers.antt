@@ -1,4 +1,4 @@
-use Rattle.std.proofs.Common.{◌∙◌, ◌++◌, ◌∷◌, [], ap, ap₂}
+use Rattle.std.proofs.Common.{◌∙◌, ◌++◌, ◌∷◌, [], ap₂}
 use Rattle.plrun.proofs.Serve.{same_run}
 use Rattle.plrun.proofs.thread.run_of.Goals as goal
 
