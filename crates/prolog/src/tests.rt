@@ -8,6 +8,7 @@ use std::sync::Wait;
 use std::test::Fail;
 use std::thread::Threads;
 
+mod deep;
 mod goals;
 
 /// The words of a command line.

@@ -1,55 +1,15 @@
 use super::run;
 use plhist::Status;
+use std::alloc::Global;
+use std::sync::Wait;
 use std::test::Fail;
+use std::thread::Threads;
 
-/// Cuts, conditions, calls, catchers and unification: the program, the report and the status.
-const GOALS: [(&str, &str, Status); 96] = [
-    // What the program says of a run as a whole.
-    (
-        "t(1). t(2). :- initialization((t(X), write(X), call(!), fail ; write(e), nl)).",
-        "% thread 1 main: true\n12e\n",
-        Status::Done,
-    ),
-    (
-        ":- initialization((catch(call((fail, 1)), error(E,_), true), writeq(E), nl)).",
-        "% thread 1 main: true\ntype_error(callable,(fail,1))\n",
-        Status::Done,
-    ),
-    (
-        ":- initialization((fail)).",
-        "% thread 1 main: false\n",
-        Status::Failed,
-    ),
-    (
-        ":- initialization((throw(x))).",
-        "% thread 1 main: exception(x)\n",
-        Status::Raised,
-    ),
-    (
-        ":- dynamic p/1. p(1). :- initialization((p(X), assertz(p(2)), write(X), fail ; true)).",
-        "% thread 1 main: true\n1\n",
-        Status::Done,
-    ),
-    (
-        ":- initialization(((X = f(X) -> write(yes) ; write(no)), nl, writeq(-(1)), nl, writeq(- 1), nl, writeq(-1), nl, writeq(1 - (-1)), nl, writeq(-(1^2)), nl)).",
-        "% thread 1 main: true\nno\n-(1)\n-(1)\n-1\n1- -1\n- 1^2\n",
-        Status::Done,
-    ),
-    (
-        "t :- throw(f(_)). p(X) :- X = a. :- initialization((catch(t,E,true), p(_), writeq(E))).",
-        "% thread 1 main: true\nf(_1)\n",
-        Status::Done,
-    ),
-    (
-        ":- initialization((throw(f(X, Y, X)))).",
-        "% thread 1 main: exception(f(_1,_2,_1))\n",
-        Status::Raised,
-    ),
-    (
-        ":- initialization((write(a), throw('B c'))).",
-        "% thread 1 main: exception('B c')\na\n",
-        Status::Raised,
-    ),
+/// A program, the report and the status.
+type Row = (&'static str, &'static str, Status);
+
+/// Cuts.
+const CUTS: [Row; 25] = [
     // A cut behind a disjunction, in either side of one, and in conjunctions, is that of the clause.
     (
         "t(1). t(2). m :- (t(X) ; X = 3), write(X), !, fail. m :- write(b). :- initialization((m ; write(e))).",
@@ -178,6 +138,10 @@ const GOALS: [(&str, &str, Status); 96] = [
         "% thread 1 main: true\n1e\n",
         Status::Done,
     ),
+];
+
+/// Conditions, the order of solutions, and unification.
+const CONDITIONS: [Row; 23] = [
     // Conditions: run once, undone where they fail; what is behind them keeps its choices; `->` without else fails where the condition does.
     (
         "t(1). t(2). :- initialization(((true -> t(X) ; true), write(X), fail ; true)).",
@@ -265,6 +229,87 @@ const GOALS: [(&str, &str, Status); 96] = [
         "% thread 1 main: true\n1e\n",
         Status::Done,
     ),
+    // Unification with the occurs check.
+    (
+        ":- initialization((f(X, Y) = f(Y, g(X)) -> write(yes) ; write(no))).",
+        "% thread 1 main: true\nno\n",
+        Status::Done,
+    ),
+    (
+        "p(X, [X]). :- initialization((p(L, L) ; write(no))).",
+        "% thread 1 main: true\nno\n",
+        Status::Done,
+    ),
+    (
+        ":- initialization((X = X, f(X, Y) = f(Y, X), writeq(g(X, Y)))).",
+        "% thread 1 main: true\ng(_1,_1)\n",
+        Status::Done,
+    ),
+    (
+        ":- initialization((f(X, b) = f(a, c) ; writeq(X))).",
+        "% thread 1 main: true\n_1\n",
+        Status::Done,
+    ),
+    (
+        ":- initialization((1 = '1' ; f(a) = f(a, b) ; \"ab\" = [97, 98], write(y))).",
+        "% thread 1 main: true\ny\n",
+        Status::Done,
+    ),
+    (
+        ":- initialization((f(X, Y, Z) = f(g(Y, Y), g(Z, Z), a), writeq(X))).",
+        "% thread 1 main: true\ng(g(a,a),g(a,a))\n",
+        Status::Done,
+    ),
+];
+
+/// What a program says of a run as a whole, and calls.
+const CALLS: [Row; 19] = [
+    // What the program says of a run as a whole.
+    (
+        "t(1). t(2). :- initialization((t(X), write(X), call(!), fail ; write(e), nl)).",
+        "% thread 1 main: true\n12e\n",
+        Status::Done,
+    ),
+    (
+        ":- initialization((catch(call((fail, 1)), error(E,_), true), writeq(E), nl)).",
+        "% thread 1 main: true\ntype_error(callable,(fail,1))\n",
+        Status::Done,
+    ),
+    (
+        ":- initialization((fail)).",
+        "% thread 1 main: false\n",
+        Status::Failed,
+    ),
+    (
+        ":- initialization((throw(x))).",
+        "% thread 1 main: exception(x)\n",
+        Status::Raised,
+    ),
+    (
+        ":- dynamic p/1. p(1). :- initialization((p(X), assertz(p(2)), write(X), fail ; true)).",
+        "% thread 1 main: true\n1\n",
+        Status::Done,
+    ),
+    (
+        ":- initialization(((X = f(X) -> write(yes) ; write(no)), nl, writeq(-(1)), nl, writeq(- 1), nl, writeq(-1), nl, writeq(1 - (-1)), nl, writeq(-(1^2)), nl)).",
+        "% thread 1 main: true\nno\n-(1)\n-(1)\n-1\n1- -1\n- 1^2\n",
+        Status::Done,
+    ),
+    (
+        "t :- throw(f(_)). p(X) :- X = a. :- initialization((catch(t,E,true), p(_), writeq(E))).",
+        "% thread 1 main: true\nf(_1)\n",
+        Status::Done,
+    ),
+    (
+        ":- initialization((throw(f(X, Y, X)))).",
+        "% thread 1 main: exception(f(_1,_2,_1))\n",
+        Status::Raised,
+    ),
+    (
+        ":- initialization((write(a), throw('B c'))).",
+        "% thread 1 main: exception('B c')\na\n",
+        Status::Raised,
+    ),
     // Calls: what is converted, and when.
     (
         ":- initialization((call((X = write(a), X)))).",
@@ -316,6 +361,10 @@ const GOALS: [(&str, &str, Status); 96] = [
         "% thread 1 main: true\nfoo2\n",
         Status::Done,
     ),
+];
+
+/// Balls and catchers.
+const CATCHERS: [Row; 29] = [
     // The ball is a copy, made where it is thrown, and what the goal bound is undone before the catcher is met.
     (
         ":- initialization((catch((X = 1, throw(b(X))), b(Y), true), writeq(f(X, Y)))).",
@@ -464,46 +513,43 @@ const GOALS: [(&str, &str, Status); 96] = [
         "% thread 1 main: true\nf(existence_error(procedure,q/1),q/1)\n",
         Status::Done,
     ),
-    // Unification with the occurs check.
-    (
-        ":- initialization((f(X, Y) = f(Y, g(X)) -> write(yes) ; write(no))).",
-        "% thread 1 main: true\nno\n",
-        Status::Done,
-    ),
-    (
-        "p(X, [X]). :- initialization((p(L, L) ; write(no))).",
-        "% thread 1 main: true\nno\n",
-        Status::Done,
-    ),
-    (
-        ":- initialization((X = X, f(X, Y) = f(Y, X), writeq(g(X, Y)))).",
-        "% thread 1 main: true\ng(_1,_1)\n",
-        Status::Done,
-    ),
-    (
-        ":- initialization((f(X, b) = f(a, c) ; writeq(X))).",
-        "% thread 1 main: true\n_1\n",
-        Status::Done,
-    ),
-    (
-        ":- initialization((1 = '1' ; f(a) = f(a, b) ; \"ab\" = [97, 98], write(y))).",
-        "% thread 1 main: true\ny\n",
-        Status::Done,
-    ),
-    (
-        ":- initialization((f(X, Y, Z) = f(g(Y, Y), g(Z, Z), a), writeq(X))).",
-        "% thread 1 main: true\ng(g(a,a),g(a,a))\n",
-        Status::Done,
-    ),
 ];
 
-// Programs of goals and their reports.
-#[test]
-fn goals_by_hand(rt: HostRuntime) -> Result<(), Fail> {
-    for (text, report, status) in GOALS {
-        let (bytes, ended) = run(&rt, rt.alloc(), text.as_bytes())?;
-        assert!(rt; bytes.as_slice() == report.as_bytes(), "{text}");
-        assert!(rt; ended == status, "{text}");
+/// Runs the programs of rows: the first that comes to anything else.
+fn first_wrong<R: Threads + Wait + Sync>(
+    rt: &R,
+    alloc: Global,
+    rows: &[Row],
+) -> Result<Option<&'static str>, Fail> {
+    for (text, report, status) in rows {
+        let (bytes, ended) = run(rt, alloc, text.as_bytes())?;
+        if bytes.as_slice() != report.as_bytes() || ended != *status {
+            return Ok(Some(*text));
+        }
     }
+    Ok(None)
+}
+
+#[test]
+fn rows_of_cuts(rt: HostRuntime) -> Result<(), Fail> {
+    assert_eq!(rt; first_wrong(&rt, rt.alloc(), &CUTS)?, None);
+    Ok(())
+}
+
+#[test]
+fn rows_of_conditions(rt: HostRuntime) -> Result<(), Fail> {
+    assert_eq!(rt; first_wrong(&rt, rt.alloc(), &CONDITIONS)?, None);
+    Ok(())
+}
+
+#[test]
+fn rows_of_calls(rt: HostRuntime) -> Result<(), Fail> {
+    assert_eq!(rt; first_wrong(&rt, rt.alloc(), &CALLS)?, None);
+    Ok(())
+}
+
+#[test]
+fn rows_of_catchers(rt: HostRuntime) -> Result<(), Fail> {
+    assert_eq!(rt; first_wrong(&rt, rt.alloc(), &CATCHERS)?, None);
     Ok(())
 }
