@@ -1,0 +1,5 @@
+% A deterministic loop, which has no end.
+loop :- loop.
+
+:- initialization((write(loop), nl)).
+:- initialization(loop).
