@@ -1,6 +1,7 @@
 -- A text that is one clause as a whole.
-use Rattle.std.proofs.Common.{◌≡◌, ℕ, List, length, Option, Some, None, Result, Ok, Err, IfOk, refl, sym, ap, subst, ◌∙◌}
+use Rattle.std.proofs.Common.{◌≡◌, ◌↔◌, ℕ, true, is_some, List, length, Option, Some, None, Result, Ok, Err, IfOk, refl, sym, ap, subst, ◌∙◌}
 use Rattle.std.specs.declared.alloc.AllocError.{AllocError}
+use Rattle.std.proofs.lemmas.Bool.{false≢true}
 use Rattle.plterm.specs.Tree.{Tree}
 use Rattle.pllex.specs.declared.token.Token.{Token}
 use Rattle.pllex.specs.declared.token.Fault.{Fault}
@@ -9,9 +10,9 @@ use Rattle.pllex.proofs.Clauses.{one_clause, no_fault, not_over}
 use Rattle.plread.specs.Spelling.{signs_of}
 use Rattle.plload.specs.declared.settings.Settings.{Settings}
 use Rattle.plload.specs.Settings.{iso_settings}
-use Rattle.plload.specs.Meaning.{Meaning, Runs, goal_meaning}
-use Rattle.plload.specs.Loading.{Spelled, Reads}
-use Rattle.plload.specs.Goals.{IsWhole, Whole, Runnable, Goal, IsGoal, ended}
+use Rattle.plload.specs.Meaning.{goal_meaning}
+use Rattle.plload.specs.Loading.{Spelled}
+use Rattle.plload.specs.Goals.{IsWhole, Whole, Runnable, Goal, HasGoal, ended}
 use Rattle.plload.proofs.Once.{one_reading}
 
 module _ (text : List ℕ) (s : Settings) where
@@ -60,3 +61,8 @@ module _ (text whole : List ℕ) (s : Settings) (same : whole ≡ ended text) (s
     pub goal_result : (r : Result (Option Tree) AllocError) → IfOk r (Runnable t) → IfOk r (Goal text)
     goal_result (Ok o) h = goal_read o h
     goal_result (Err e) h = tt
+
+-- a text has a goal where one is read
+pub goal_told : (text : List ℕ) (o : Option Tree) → Goal text o → (is_some o ≡ true) ↔ HasGoal text
+goal_told text None none = (λ e. absurd (false≢true e), λ has. absurd (none has.0 has.1))
+goal_told text (Some goal) is = (λ e. (goal, is), λ has. refl)

@@ -1,7 +1,7 @@
 -- Terms that hold others in a row: sequences and lists.
 use Rattle.std.specs.Prelude.{ℕ, List, [], ◌∷◌, ◌++◌, Bool, true, false, if◌then◌else◌, Option, Some, None, is_some, codes, option_map}
 use Rattle.std.specs.Str.{bytes_eq}
-use Rattle.plterm.specs.Tree.{Tree, var, int, atom, compound, Trees, none, more, list_of}
+use Rattle.plterm.specs.Tree.{Tree, var, int, atom, compound, none, more, list_of}
 
 -- the one argument of a compound of a name
 abbrev pub only_if : Bool → Tree → Option Tree

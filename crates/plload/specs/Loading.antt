@@ -1,5 +1,5 @@
 -- A program's text, clause by clause, and what loading it comes to.
-use Rattle.std.specs.Prelude.{◌≡◌, ◌<◌, ◌≤◌, ◌⊎◌, ℕ, List, [], ◌∷◌, Option, Some, None}
+use Rattle.std.specs.Prelude.{◌≡◌, ◌<◌, ◌≤◌, ℕ, List, [], ◌∷◌, Option, Some, None}
 use Rattle.plterm.specs.Tree.{Tree}
 use Rattle.pllex.specs.declared.token.Token.{Token}
 use Rattle.pllex.specs.declared.token.Fault.{Fault}
@@ -15,7 +15,7 @@ use Rattle.plload.specs.declared.settings.Settings.{Settings}
 use Rattle.plload.specs.Meaning.{meaning}
 use Rattle.plload.specs.Settings.{Taken, Takes, Refuses as Judged, taken, iso_settings}
 use Rattle.plload.specs.Position.{line_of, column_of}
-use Rattle.plload.specs.Program.{Program, Draft, empty_draft, with_term, program_of}
+use Rattle.plload.specs.Program.{Program, empty_draft, with_term, program_of}
 
 -- how many levels a clause may leave open
 abbrev pub levels : ℕ

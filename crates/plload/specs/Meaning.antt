@@ -19,7 +19,7 @@ use Rattle.plload.specs.declared.settings.Unknown.TheVariants.{Error, Fail}
 use Rattle.plload.specs.declared.error.RefusalKind.{RefusalKind}
 use Rattle.plload.specs.declared.error.RefusalKind.TheVariants.{NotCallable, StaticRedefined, BadDirective}
 use Rattle.plload.specs.Fixed.{is_fixed, is_named}
-use Rattle.plload.specs.Lists.{only_argument, pair_of, elements, members, is_atom, is_list, each}
+use Rattle.plload.specs.Lists.{only_argument, pair_of, elements, members, is_list, each}
 
 -- a clause of its procedure, a goal of main, names of dynamic procedures, operators of a priority and kind,
 -- a flag's value, nothing, or a refusal

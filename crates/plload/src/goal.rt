@@ -30,10 +30,8 @@ pub fn read_goal(alloc: Global, text: &str) -> Result<Option<Term>, AllocError>
 pub fn is_goal(alloc: Global, text: &str) -> Result<bool, AllocError>
     ensures { IfOk result (λ is. (is ≡ true) ↔ HasGoal text.now) }
 {
-    match read_goal(alloc, text)? {
-        None => Ok(false),
-        Some(_) => Ok(true),
-    }
+    let goal = read_goal(alloc, text)?;
+    Ok(goal.is_some())
 }
 
 /// The text with ` .` behind it.

@@ -1,5 +1,6 @@
 use crate::error::{LoadError, RefusalKind};
 use crate::fixed::is_fixed;
+use crate::goal::is_goal;
 use crate::load::load;
 use pllex::clause::clause_tokens;
 use plops::table::OpTable;
@@ -112,6 +113,27 @@ fn goals_in_order(rt: HostRuntime) -> Result<(), Fail> {
     }
     assert_eq!(rt; names.as_slice(), [2, 1, 0].as_slice());
     assert!(rt; program.first().as_slice().is_empty());
+    Ok(())
+}
+
+// A goal beside the text is one whole clause with its end, callable and convertible.
+#[test]
+fn goals_beside(rt: HostRuntime) -> Result<(), Fail> {
+    let table = [
+        ("a,b", true),
+        ("write(x)", true),
+        ("\\+ a:-b", true),
+        ("a b", false),
+        ("1", false),
+        ("X", false),
+        ("a,1", false),
+        ("", false),
+        ("a. b", false),
+        ("a %", false),
+    ];
+    for (text, is) in table {
+        assert!(rt; is_goal(rt.alloc(), text)? == is, "{text}");
+    }
     Ok(())
 }
 

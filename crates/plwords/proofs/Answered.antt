@@ -1,5 +1,5 @@
 -- What reading the words answers.
-use Rattle.std.proofs.Common.{◌≡◌, sym, subst, List, Option, Some, None, Result, Ok, Err, IfOk, IfErr}
+use Rattle.std.proofs.Common.{◌≡◌, ◌∙◌, sym, subst, List, Option, Some, None, Result, Ok, Err, IfOk, IfErr, ap}
 use Rattle.clap.specs.Words.{Text, matches_of}
 use Rattle.plwords.specs.declared.form.Form.{Form}
 use Rattle.plwords.specs.declared.form.WordsError.{WordsError}
@@ -31,3 +31,11 @@ refuses words same e (Ok c) h = tt
 refuses words same e (Err x) h = λ usage line.
     let read = read_is words line.0 line.1 (subst (λ ws. IsRead ws line.0 line.1) (sym e) line.2) in
     none_is_some (command_in (matches_of prolog_app words)) (line.0, line.1) (h usage read.0) read.1
+
+abbrev form_or : Form Text → Option (Form Text × Text) → Form Text
+form_or form None = form
+form_or form (Some command) = command.0
+
+-- words are read as one form
+pub read_once : (words : List Text) (a b : Form Text) (p q : Text) → IsRead words a p → IsRead words b q → a ≡ b
+read_once words a b p q h k = ap (form_or a) (sym (read_is words a p h).1 ∙ (read_is words b q k).1)

@@ -1,3 +1,3 @@
 pub mod App
 mod Numbers
-mod Answered
+pub mod Answered

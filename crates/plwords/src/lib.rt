@@ -3,4 +3,6 @@
 
 mod arguments;
 pub mod form;
+#[cfg(test)]
+mod tests;
 pub mod words;

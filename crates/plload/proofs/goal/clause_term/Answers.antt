@@ -1,6 +1,3 @@
-use Rattle.std.proofs.Common.{◌≡◌, ◌∙◌, sym, ap, subst, IfOk}
-use Rattle.plread.specs.Spelling.{signs_of}
-use Rattle.plload.specs.Loading.{Spelled}
 use Rattle.plload.proofs.Wholes.{whole_early, whole_result}
 use Rattle.plload.proofs.goal.clause_term.Goals as goal
 
