@@ -51,7 +51,7 @@ fn batches_and_entries(rt: HostRuntime) -> Result<(), Fail> {
             }
             _ => return Err("another batch".into()),
         },
-        Act::Start | Act::End(_) => return Err("another act".into()),
+        Act::Start | Act::End(_) | Act::Halt(_) => return Err("another act".into()),
     }
     Ok(())
 }

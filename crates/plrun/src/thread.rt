@@ -38,7 +38,7 @@ fn look(program: &Program, world: &World, running: &mut Running) -> Result<(), A
 {
     running
         .solver
-        .refreshed(program, program.unknown(), world.front(), world.store())?;
+        .refreshed(program, world.front(), world.store())?;
     Ok(())
 }
 
