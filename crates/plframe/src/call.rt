@@ -1,6 +1,6 @@
 //! Calls of procedures, clause by clause.
 
-ghost use Rattle.std.specs.Prelude.{◌≡◌, ℕ, ◌+◌, ◌<◌, ◌≤◌, List, [], ◌∷◌, ◌++◌, length, drop, IfOk, OnOk, OnErr, IfNone, IfSome, Some, None};
+ghost use Rattle.std.specs.Prelude.{◌≡◌, ◌+◌, ◌<◌, ◌≤◌, List, [], length, drop, IfOk, OnErr, IfNone, IfSome, Some, None};
 ghost use Rattle.plterm.specs.Variables.{AllBelow};
 ghost use Rattle.plsubst.specs.Subst.{shift};
 ghost use Rattle.plsubst.specs.Unify.{unify as unifier_of};
@@ -8,7 +8,7 @@ ghost use Rattle.plheap.specs.Store.{term, Keeps};
 ghost use Rattle.plheap.specs.Putting.{HoldsNothing};
 ghost use Rattle.plunify.specs.Unifying.{HoldsNothing as HoldsNoPair};
 ghost use Rattle.plsearch.specs.Table.{is_true, resolve};
-ghost use Rattle.plframe.specs.Places.{goals_at, element, IsChain, IsItemIn};
+ghost use Rattle.plframe.specs.Places.{goals_at, IsChain};
 ghost use Rattle.plframe.specs.Calls.{Longer, IsListIn, IsCalled, Fitted, PutsBody, Resolves, FirstFits, left_of};
 
 use crate::frame::{Item, Link};
