@@ -7,7 +7,8 @@ use Rattle.plsolve.proofs.progress.Progress.advance.Goals as goal
 
 pub returns-then-left-eq0-clause-says : goal.returns-then-left-eq0-clause-says
 unfolding Says
-returns-then-left-eq0-clause-says c = tt
+returns-then-left-eq0-clause-says c =
+    (c.in-Goal.level, c.in-Goal.cell, c.in-Goal.rest, rw c.in-Goal.is at c.in_ok-level.ensures.due)
 
 pub step-requires-clause-visits : goal.step-requires-clause-visits
 unfolding Settled
