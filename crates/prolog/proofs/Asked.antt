@@ -15,15 +15,15 @@ pub no_goal : (steps : ℕ) (text : List ℕ) → ((goal : Tree) → IsGoal text
 no_goal steps text none form (runs {goal = None} h) = h
 no_goal steps text none form (runs {goal = Some goal} h) = none goal h
 
-module _ (words : List (List ℕ)) (texts : Form (List ℕ)) (path : List ℕ) (read : IsRead words texts path) where
-  pub asks : (r : Result (Form Tree) Status) → IfOk r (Means texts) → IfOk r (λ form. IsOf form words)
-  asks (Ok form) means = (path, (texts, read, means))
+module _ (words : List (List ℕ)) (asked : Form (List ℕ)) (path : List ℕ) (read : IsRead words asked path) where
+  pub asks : (r : Result (Form Tree) Status) → IfOk r (Means asked) → IfOk r (λ form. IsOf form words)
+  asks (Ok form) means = (path, (asked, read, means))
   asks (Err status) means = tt
 
-  never : ((form : Form Tree) → Means texts form → ⊥) → IsCommand words → ⊥
-  never none (form, other, (also, again, means)) = none form (subst (λ t. Means t form) (read_once words also texts other path again read) means)
+  never : ((form : Form Tree) → Means asked form → ⊥) → IsCommand words → ⊥
+  never none (form, other, (also, again, means)) = none form (subst (λ t. Means t form) (read_once words also asked other path again read) means)
 
-  caused : (status : Status) → IsFormCause texts status → IsWordsCause words status
+  caused : (status : Status) → IsFormCause asked status → IsWordsCause words status
   caused Status.Done h = h
   caused Status.Failed h = h
   caused Status.Raised h = h
@@ -35,7 +35,7 @@ module _ (words : List (List ℕ)) (texts : Form (List ℕ)) (path : List ℕ) (
   caused Status.NoMemory h = tt
   caused Status.WriteFault h = h
 
-  pub cause : (r : Result (Form Tree) Status) → IfErr r (IsFormCause texts) → IfErr r (IsWordsCause words)
+  pub cause : (r : Result (Form Tree) Status) → IfErr r (IsFormCause asked) → IfErr r (IsWordsCause words)
   cause (Ok form) h = tt
   cause (Err status) h = caused status h
 
