@@ -1,5 +1,5 @@
 -- What the words ask for, and why they are refused.
-use Rattle.std.proofs.Common.{◌≡◌, ℕ, List, Option, Some, None, Result, Ok, Err, IfOk, IfErr, sym, subst}
+use Rattle.std.proofs.Common.{ℕ, List, Some, None, Result, Ok, Err, IfOk, IfErr, subst}
 use Rattle.plterm.specs.Tree.{Tree}
 use Rattle.plload.specs.Goals.{IsGoal}
 use Rattle.plhist.specs.declared.status.Status.{Status}

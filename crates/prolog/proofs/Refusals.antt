@@ -1,5 +1,5 @@
 -- What an answer says, and which refusals a known text rules out.
-use Rattle.std.proofs.Common.{◌≡◌, ◌+◌, ◌≤◌, ◌<◌, ◌⊎◌, ◌∙◌, ℕ, List, length, Option, Some, None, IfSome, IsNone, [], ◌++◌, inl, inr, refl, ap, sym, subst, append-nil, length-append, arith}
+use Rattle.std.proofs.Common.{◌≡◌, ◌+◌, ◌≤◌, ◌⊎◌, ◌∙◌, ℕ, List, length, Option, Some, None, IfSome, IsNone, ◌++◌, inl, inr, refl, ap, sym, subst, append-nil, length-append, arith}
 use Rattle.std.specs.Io.KnownBytes.{Appends, Consumes, IsAtEnd}
 use Rattle.plio.specs.Causes.{Rose, TookCount}
 use Rattle.plevent.specs.declared.request.ThreadEnd.{ThreadEnd}
@@ -14,7 +14,7 @@ use Rattle.plhist.specs.Status.{status_of_end}
 use Rattle.plterm.specs.Tree.{Tree}
 use Rattle.plwords.specs.declared.form.Form.{Form}
 use Rattle.prolog.specs.Words.{IsCommand, IsOf}
-use Rattle.prolog.specs.Outcome.{text_limit, Gave, HasRun, Makes, ran, checked, listed, refused, Comes, Wrote, IsAnswer, IsUnread, IsAnswerOrMemory, IsShort, IsWordsCause, IsReadCause}
+use Rattle.prolog.specs.Outcome.{text_limit, Gave, HasRun, Makes, ran, checked, listed, refused, Wrote, IsAnswer, IsUnread, IsAnswerOrMemory, IsShort, IsWordsCause, IsReadCause}
 
 -- what was read of a known text to its end is that text
 read_whole : (text read : List ℕ) (now : Option (List ℕ)) → Consumes (Some text) now read → IsAtEnd now → text ≡ read

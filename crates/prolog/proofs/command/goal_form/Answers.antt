@@ -1,4 +1,3 @@
-use Rattle.std.proofs.Common.{◌≡◌}
 use Rattle.plterm.specs.Tree.{Tree}
 use Rattle.plload.specs.Goals.{IsGoal}
 use Rattle.prolog.specs.Words.{runs}

@@ -1,4 +1,4 @@
-use Rattle.std.proofs.Common.{◌≡◌, ◌∙◌, inl, inr, sym, subst}
+use Rattle.std.proofs.Common.{inr, sym, subst}
 use Rattle.plhist.specs.declared.status.Status.{Status}
 use Rattle.prolog.specs.Outcome.{Makes, HasRun, IsWordsCause, IsReadCause}
 use Rattle.prolog.proofs.Refusals.{never_run, answers, has_run, was_written, Finished, not_unread, finished, whole_written, faulted, if_some, is_none, words_refused, words_unread, words_no_answer, words_complete}
