@@ -1,5 +1,5 @@
 -- What an answer says, and which refusals a known text rules out.
-use Rattle.std.proofs.Common.{◌≡◌, ◌+◌, ◌≤◌, ◌<◌, ◌⊎◌, ◌∙◌, ℕ, List, length, Option, Some, None, IfSome, IsNone, [], ◌++◌, inl, inr, refl, ap, sym, subst, append-nil, length-append, arith}
+use Rattle.std.proofs.Common.{◌≡◌, ◌+◌, ◌≤◌, ◌⊎◌, ◌∙◌, ℕ, List, length, Option, Some, None, IfSome, IsNone, ◌++◌, inl, inr, refl, ap, sym, subst, append-nil, length-append, arith}
 use Rattle.std.specs.Io.KnownBytes.{Appends, Consumes, IsAtEnd}
 use Rattle.plio.specs.Causes.{Rose, TookCount}
 use Rattle.plevent.specs.declared.request.ThreadEnd.{ThreadEnd}
@@ -11,8 +11,10 @@ use Rattle.plload.proofs.Once.{one_outcome}
 use Rattle.plhist.specs.declared.history.History.{History}
 use Rattle.plhist.specs.declared.status.Status.{Status}
 use Rattle.plhist.specs.Status.{status_of_end}
-use Rattle.prolog.specs.declared.words.Form.{Form}
-use Rattle.prolog.specs.Outcome.{text_limit, Gave, HasRun, Makes, ran, checked, listed, refused, Comes, Wrote, IsAnswer, IsUnread, IsAnswerOrMemory, IsReadCause}
+use Rattle.plterm.specs.Tree.{Tree}
+use Rattle.plwords.specs.declared.form.Form.{Form}
+use Rattle.prolog.specs.Words.{IsCommand, IsOf}
+use Rattle.prolog.specs.Outcome.{text_limit, Gave, HasRun, Makes, ran, checked, listed, refused, Wrote, IsAnswer, IsUnread, IsAnswerOrMemory, IsShort, IsWordsCause, IsReadCause}
 
 -- what was read of a known text to its end is that text
 read_whole : (text read : List ℕ) (now : Option (List ℕ)) → Consumes (Some text) now read → IsAtEnd now → text ≡ read
@@ -24,9 +26,9 @@ IsAccepted (Accepts p) = Unit {0}
 IsAccepted (Refuses line column kind) = ⊥
 
 -- a text that is refused has no run
-pub never_run : (before now : Option (List ℕ)) (h : History) (text : List ℕ) (line column : ℕ) (kind : RefusalKind) →
-    before ≡ Some text → HasRun before now h → Loads text (Refuses line column kind) → ⊥
-never_run before now h text line column kind known run bad =
+pub never_run : (words : List (List ℕ)) (before now : Option (List ℕ)) (h : History) (text : List ℕ) (line column : ℕ) (kind : RefusalKind) →
+    before ≡ Some text → HasRun words before now h → Loads text (Refuses line column kind) → ⊥
+never_run words before now h text line column kind known run bad =
     let same : text ≡ run.text = read_whole text run.text now (subst (λ b. Consumes b now run.text) known run.gave.0) run.gave.1 in
     let accepted : Loads text (Accepts run.program) = subst (λ t. Loads t (Accepts run.program)) (sym same) run.loaded in
     subst IsAccepted (one_outcome with_term empty_draft program_of text (Accepts run.program) (Refuses line column kind) accepted bad) tt
@@ -39,21 +41,21 @@ end_answers (Some False) = tt
 end_answers (Some (Exception ball)) = tt
 end_answers (Some Budget) = tt
 
-pub answers : (text : List ℕ) (form : Form) (history : Option History) (output : List ℕ) (status : Status) → Makes text form history output status → IsAnswer status
+pub answers : (text : List ℕ) (form : Form Tree) (history : Option History) (output : List ℕ) (status : Status) → Makes text form history output status → IsAnswer status
 answers text form history output status (ran l r) = end_answers _
 answers text form history output status (checked l) = tt
 answers text form history output status (listed l) = tt
 answers text form history output status (refused l) = tt
 
 -- a history comes of a run
-pub has_run : (form : Form) (before now : Option (List ℕ)) (text : List ℕ) (history : Option History) (output : List ℕ) (status : Status) →
-    Gave before now text → Makes text form history output status → (h : History) → history ≡ Some h → HasRun before now h
-has_run form before now text history output status gave (ran {program} {h = k} l r) h e =
+pub has_run : (words : List (List ℕ)) (form : Form Tree) (before now : Option (List ℕ)) (text : List ℕ) (history : Option History) (output : List ℕ) (status : Status) →
+    IsOf form words → Gave before now text → Makes text form history output status → (h : History) → history ≡ Some h → HasRun words before now h
+has_run words form before now text history output status asked gave (ran {steps} {goal} {program} {h = k} l r) h e =
     let same : k ≡ h = cc in
-    subst (HasRun before now) same (record { text = text; gave = gave; program = program; loaded = l; run = r })
-has_run form before now text history output status gave (checked l) h e = absurd cc
-has_run form before now text history output status gave (listed l) h e = absurd cc
-has_run form before now text history output status gave (refused l) h e = absurd cc
+    subst (HasRun words before now) same (record { steps = steps; goal = goal; asked = asked; text = text; gave = gave; program = program; loaded = l; run = r })
+has_run words form before now text history output status asked gave (checked l) h e = absurd cc
+has_run words form before now text history output status asked gave (listed l) h e = absurd cc
+has_run words form before now text history output status asked gave (refused l) h e = absurd cc
 
 -- more than the limit was not taken of a text within it
 too_many : (text taken : List ℕ) (now : Option (List ℕ)) → Consumes (Some text) now taken → length taken ≤ length text
@@ -165,3 +167,34 @@ if_some P (Some x) f = f x refl
 pub is_none : {A : Type 0} (o : Option A) → ((x : A) → o ≡ Some x → ⊥) → IsNone o
 is_none None f = refl
 is_none (Some x) f = absurd (f x refl)
+
+-- words that were refused, or memory gave out
+pub words_refused : (words : List (List ℕ)) (status : Status) → IsWordsCause words status → (status ≡ Status.Usage) ⊎ (status ≡ Status.NoMemory)
+words_refused words Status.Done h = absurd h
+words_refused words Status.Failed h = absurd h
+words_refused words Status.Raised h = absurd h
+words_refused words Status.Spent h = absurd h
+words_refused words Status.Usage h = inl refl
+words_refused words (Status.Refused line column kind) h = absurd h
+words_refused words Status.ReadFault h = absurd h
+words_refused words Status.TooLong h = absurd h
+words_refused words Status.NoMemory h = inr refl
+words_refused words Status.WriteFault h = absurd h
+
+pub words_unread : (words : List (List ℕ)) (status : Status) → IsWordsCause words status → IsShort status → ⊥
+words_unread words status cause short = elim (words_refused words status cause) [
+  | inl e ↦ subst IsShort e short
+  | inr e ↦ subst IsShort e short
+]
+
+pub words_no_answer : (words : List (List ℕ)) (status : Status) → IsWordsCause words status → IsAnswer status → ⊥
+words_no_answer words status cause answer = elim (words_refused words status cause) [
+  | inl e ↦ subst IsAnswer e answer
+  | inr e ↦ subst IsAnswer e answer
+]
+
+pub words_complete : (words : List (List ℕ)) (status : Status) → IsWordsCause words status → IsCommand words → IsAnswerOrMemory status
+words_complete words status cause command = elim (words_refused words status cause) [
+  | inl e ↦ absurd (subst (IsWordsCause words) e cause command)
+  | inr e ↦ inr e
+]

@@ -1,18 +1,17 @@
-//! Runs a Prolog program: `prolog run PROGRAM`.
+//! Runs a Prolog program: `prolog run PROGRAM`, with `--steps` and `--goal`.
 #![tactic(auto)]
 
 mod command;
 #[cfg(test)]
 mod tests;
-mod words;
 
 use command::prolog_command;
 use plhist::Status;
 use plio::{FileSource, NoGate, StdSink};
+use plwords::words::{Words, paths};
 use std::alloc::Global;
 use std::io::ErrorKind;
 use std::process::ExitCode;
-use words::{Words, paths};
 
 /// The words of the command line; or the status of what was in the way.
 fn words_of(rt: &HostRuntime, alloc: Global) -> Result<Words, Status> {

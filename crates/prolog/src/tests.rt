@@ -1,8 +1,8 @@
 use crate::command::{Report, TEXT_LIMIT, prolog_command};
-use crate::words::{Words, paths};
 use plhist::Status;
 use plio::{MemorySink, MemorySource, NoGate};
 use plload::error::RefusalKind;
+use plwords::words::{Words, paths};
 use std::alloc::{AllocError, Global};
 use std::sync::Wait;
 use std::test::Fail;
@@ -20,14 +20,14 @@ fn words_of(alloc: Global, texts: &[&str]) -> Result<Words, AllocError> {
     Ok(words)
 }
 
-/// What a form makes of a text: the output and the status.
-fn of<R: Threads + Wait + Sync>(
+/// What the words make of a text: the output and the status.
+fn told<R: Threads + Wait + Sync>(
     rt: &R,
     alloc: Global,
-    form: &str,
+    texts: &[&str],
     text: &[u8],
 ) -> Result<(Vec<u8>, Status), Fail> {
-    let words = words_of(alloc, &["prolog", form, "P"])?;
+    let words = words_of(alloc, texts)?;
     let mut program = MemorySource::new(Vec::from_slice(alloc, text)?, 4096, Vec::new(alloc));
     let mut second = MemorySource::new(Vec::new(alloc), 1, Vec::new(alloc));
     let mut out = MemorySink::new(alloc, 1_000_000, Vec::new(alloc))?;
@@ -41,6 +41,16 @@ fn of<R: Threads + Wait + Sync>(
         &NoGate,
     );
     Ok((Vec::from_slice(alloc, out.bytes())?, report.status))
+}
+
+/// What a form makes of a text: the output and the status.
+fn of<R: Threads + Wait + Sync>(
+    rt: &R,
+    alloc: Global,
+    form: &str,
+    text: &[u8],
+) -> Result<(Vec<u8>, Status), Fail> {
+    told(rt, alloc, &["prolog", form, "P"], text)
 }
 
 /// Runs a text, and gives the report and the status.
@@ -573,35 +583,98 @@ fn faults(rt: HostRuntime) -> Result<(), Fail> {
     Ok(())
 }
 
-// Words that are no command.
+const VIEW: &str =
+    ":- dynamic p/1. p(1). main :- p(X), write(X), assertz(p(2)). :- initialization(main).";
+
+// Words, a text, and what they make of it.
+#[test]
+fn options(rt: HostRuntime) -> Result<(), Fail> {
+    let cases: [(&[&str], &str, &str, Status); 8] = [
+        (
+            &["prolog", "run", "--steps", "10", "P"],
+            "loop :- loop. :- initialization(loop).",
+            "% thread 1 main: budget\n",
+            Status::Spent,
+        ),
+        (
+            &["prolog", "run", "--steps", "7", "P"],
+            VIEW,
+            "% thread 1 main: true\n1\n",
+            Status::Done,
+        ),
+        (
+            &["prolog", "--steps=6", "run", "P"],
+            VIEW,
+            "% thread 1 main: budget\n1\n",
+            Status::Spent,
+        ),
+        (
+            &["prolog", "run", "--goal", "write(x)", "P"],
+            "",
+            "% thread 1 main: true\nx\n",
+            Status::Done,
+        ),
+        // The goal runs behind those of the text.
+        (
+            &["prolog", "run", "P", "--goal=write(X),=(X,b)"],
+            ":- write(a).",
+            "% thread 1 main: true\na_1\n",
+            Status::Done,
+        ),
+        // It is read under the standard operators, and its terms are written under the program's.
+        (
+            &["prolog", "run", "P", "--goal", "write(===>(a,b))"],
+            ":- op(700, xfx, ===>).",
+            "% thread 1 main: true\na===>b\n",
+            Status::Done,
+        ),
+        (
+            &["prolog", "run", "P", "--goal", "write(a===>b)"],
+            ":- op(700, xfx, ===>).",
+            "",
+            Status::Usage,
+        ),
+        (
+            &["prolog", "run", "--", "-P"],
+            "",
+            "% thread 1 main: true\n",
+            Status::Done,
+        ),
+    ];
+    for (texts, text, output, status) in cases {
+        let (bytes, ended) = told(&rt, rt.alloc(), texts, text.as_bytes())?;
+        assert!(rt; bytes.as_slice() == output.as_bytes(), "{output}");
+        assert!(rt; ended == status, "{output}");
+    }
+    Ok(())
+}
+
+// Words of no form, and goals that are none; the path is there where only the goal is at fault.
 #[test]
 fn usage(rt: HostRuntime) -> Result<(), Fail> {
     let alloc = rt.alloc();
-    let cases: [&[&str]; 5] = [
-        &["prolog"],
-        &["prolog", "run"],
-        &["prolog", "run", "-x"],
-        &["prolog", "go", "P"],
-        &["prolog", "run", "P", "Q"],
+    let cases: [(&[&str], Option<&str>); 12] = [
+        (&["prolog"], None),
+        (&["prolog", "run"], None),
+        (&["prolog", "run", "--x"], None),
+        (&["prolog", "--help"], None),
+        (&["prolog", "run", "P", "Q"], None),
+        (&["prolog", "run", "--workers", "17", "P"], None),
+        (&["prolog", "run", "--steps", "0", "P"], None),
+        (&["prolog", "run", "--steps", "1099511627777", "P"], None),
+        (
+            &["prolog", "run", "--steps", "5", "--steps", "6", "P"],
+            None,
+        ),
+        (&["prolog", "check", "--steps", "5", "P"], None),
+        (&["prolog", "run", "--goal", "a b", "P"], Some("P")),
+        (&["prolog", "run", "--goal", "1", "P"], Some("P")),
     ];
-    for case in cases {
-        let words = words_of(alloc, case)?;
-        let mut program = MemorySource::new(Vec::from_slice(alloc, b"a.")?, 4, Vec::new(alloc));
-        let mut second = MemorySource::new(Vec::new(alloc), 1, Vec::new(alloc));
-        let mut out = MemorySink::new(alloc, 1000, Vec::new(alloc))?;
-        let report = prolog_command(
-            &rt,
-            alloc,
-            &words,
-            &mut program,
-            &mut second,
-            &mut out,
-            &NoGate,
-        );
-        assert!(rt; report.status == Status::Usage && out.bytes().is_empty());
-        assert!(rt; paths(&words)?.0.is_none());
+    for (texts, path) in cases {
+        let (bytes, ended) = told(&rt, alloc, texts, b"a.")?;
+        assert!(rt; ended == Status::Usage && bytes.is_empty());
+        let words = words_of(alloc, texts)?;
+        assert!(rt; paths(&words)? == (path, None));
     }
-    let words = words_of(alloc, &["prolog", "run", "-"])?;
-    assert!(rt; paths(&words)? == (Some("-"), None));
     Ok(())
 }
