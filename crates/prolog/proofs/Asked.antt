@@ -28,6 +28,7 @@ module _ (words : List (List ℕ)) (asked : Form (List ℕ)) (path : List ℕ) (
   caused Status.Failed h = h
   caused Status.Raised h = h
   caused Status.Spent h = h
+  caused (Status.Halted n) h = h
   caused Status.Usage h = never h
   caused (Status.Refused line column kind) h = h
   caused Status.ReadFault h = h

@@ -3,14 +3,14 @@ use Rattle.std.proofs.Common.{◌≡◌, ◌+◌, ◌≤◌, ◌⊎◌, ◌∙�
 use Rattle.std.specs.Io.KnownBytes.{Appends, Consumes, IsAtEnd}
 use Rattle.plio.specs.Causes.{Rose, TookCount}
 use Rattle.plevent.specs.declared.request.ThreadEnd.{ThreadEnd}
-use Rattle.plevent.specs.declared.request.ThreadEnd.TheVariants.{True, False, Exception, Budget}
+use Rattle.plevent.specs.declared.request.ThreadEnd.TheVariants.{True, False, Exception, Budget, Halt}
 use Rattle.plload.specs.Program.{Program, empty_draft, with_term, program_of}
 use Rattle.plload.specs.Loading.{Loads, Outcome, Accepts, Refuses}
 use Rattle.plload.specs.declared.error.RefusalKind.{RefusalKind}
 use Rattle.plload.proofs.Once.{one_outcome}
 use Rattle.plhist.specs.declared.history.History.{History}
 use Rattle.plhist.specs.declared.status.Status.{Status}
-use Rattle.plhist.specs.Status.{status_of_end}
+use Rattle.plhist.specs.Status.{status_of_end, status_where}
 use Rattle.plterm.specs.Tree.{Tree}
 use Rattle.plwords.specs.declared.form.Form.{Form}
 use Rattle.prolog.specs.Words.{IsCommand, IsOf}
@@ -40,9 +40,14 @@ end_answers (Some True) = tt
 end_answers (Some False) = tt
 end_answers (Some (Exception ball)) = tt
 end_answers (Some Budget) = tt
+end_answers (Some (Halt n)) = tt
+
+where_answers : (o : Option ℕ) (s : Status) → IsAnswer s → IsAnswer (status_where o s)
+where_answers None s is = is
+where_answers (Some n) s is = tt
 
 pub answers : (text : List ℕ) (form : Form Tree) (history : Option History) (output : List ℕ) (status : Status) → Makes text form history output status → IsAnswer status
-answers text form history output status (ran l r) = end_answers _
+answers text form history output status (ran l r) = where_answers _ _ (end_answers _)
 answers text form history output status (checked l) = tt
 answers text form history output status (listed l) = tt
 answers text form history output status (refused l) = tt
@@ -73,6 +78,7 @@ was_read before now faults later text Status.Done known short sound h = absurd h
 was_read before now faults later text Status.Failed known short sound h = absurd h
 was_read before now faults later text Status.Raised known short sound h = absurd h
 was_read before now faults later text Status.Spent known short sound h = absurd h
+was_read before now faults later text (Status.Halted n) known short sound h = absurd h
 was_read before now faults later text Status.Usage known short sound h = absurd h
 was_read before now faults later text (Status.Refused line column kind) known short sound h = absurd h
 was_read before now faults later text Status.ReadFault known short sound h = absurd (sound h.0)
@@ -98,6 +104,7 @@ Finished Status.Done = Unit {0}
 Finished Status.Failed = Unit {0}
 Finished Status.Raised = Unit {0}
 Finished Status.Spent = Unit {0}
+Finished (Status.Halted n) = Unit {0}
 Finished Status.Usage = ⊥
 Finished (Status.Refused line column kind) = Unit {0}
 Finished Status.ReadFault = ⊥
@@ -110,6 +117,7 @@ answer_finished Status.Done h = tt
 answer_finished Status.Failed h = tt
 answer_finished Status.Raised h = tt
 answer_finished Status.Spent h = tt
+answer_finished (Status.Halted n) h = tt
 answer_finished Status.Usage h = absurd h
 answer_finished (Status.Refused line column kind) h = tt
 answer_finished Status.ReadFault h = absurd h
@@ -122,6 +130,7 @@ not_unread Status.Done f u = u
 not_unread Status.Failed f u = u
 not_unread Status.Raised f u = u
 not_unread Status.Spent f u = u
+not_unread (Status.Halted n) f u = u
 not_unread Status.Usage f u = f
 not_unread (Status.Refused line column kind) f u = u
 not_unread Status.ReadFault f u = f
@@ -174,6 +183,7 @@ words_refused words Status.Done h = absurd h
 words_refused words Status.Failed h = absurd h
 words_refused words Status.Raised h = absurd h
 words_refused words Status.Spent h = absurd h
+words_refused words (Status.Halted n) h = absurd h
 words_refused words Status.Usage h = inl refl
 words_refused words (Status.Refused line column kind) h = absurd h
 words_refused words Status.ReadFault h = absurd h
