@@ -10,7 +10,9 @@ use Rattle.plload.specs.declared.error.RefusalKind.{RefusalKind}
 use Rattle.plload.proofs.Once.{one_outcome}
 use Rattle.plhist.specs.declared.history.History.{History}
 use Rattle.plhist.specs.declared.status.Status.{Status}
-use Rattle.plhist.specs.Status.{status_of_end, status_where}
+use Rattle.plevent.specs.declared.act.Entry.{Entry}
+use Rattle.plevent.specs.Reading.{reading}
+use Rattle.plhist.specs.Status.{end_of, status_of_end, status_of_main, status_where, status_of}
 use Rattle.plterm.specs.Tree.{Tree}
 use Rattle.plwords.specs.declared.form.Form.{Form}
 use Rattle.prolog.specs.Words.{IsCommand, IsOf}
@@ -46,8 +48,11 @@ where_answers : (o : Option ℕ) (s : Status) → IsAnswer s → IsAnswer (statu
 where_answers None s is = is
 where_answers (Some n) s is = tt
 
+journal_answers : (h : List Entry) → IsAnswer (status_of h)
+journal_answers h = where_answers (reading h).standing.halted (status_of_main h) (end_answers (end_of 1 (reading h).standing.threads))
+
 pub answers : (text : List ℕ) (form : Form Tree) (history : Option History) (output : List ℕ) (status : Status) → Makes text form history output status → IsAnswer status
-answers text form history output status (ran l r) = where_answers _ _ (end_answers _)
+answers text form history output status (ran {h = h} l r) = journal_answers h.journal
 answers text form history output status (checked l) = tt
 answers text form history output status (listed l) = tt
 answers text form history output status (refused l) = tt
