@@ -1,10 +1,12 @@
 -- How a call is resolved against a clause, step by step.
 use Rattle.std.proofs.Common.{◌≡◌, ℕ, ◌+◌, ◌<◌, true, false, List, [], ◌∷◌, ◌++◌, length, length-append, map, refl, sym, ap, ap₂, ◌∙◌, subst, arith, Some, None, le_trans, append-nil}
+use Rattle.plterm.specs.Tree.{Tree, atom}
 use Rattle.plterm.specs.Variables.{AllBelow}
 use Rattle.plsubst.specs.Subst.{bind, shift}
 use Rattle.plsubst.specs.Unify.{unify}
 use Rattle.plclause.specs.Clause.{Clause}
 use Rattle.plheap.specs.Store.{Store, term, Keeps, Adds}
+use Rattle.plheap.proofs.Kept.{Keeps-refl}
 use Rattle.plheap.specs.Putting.{over, HasBlock}
 use Rattle.plunify.specs.Unifying.{Unified}
 use Rattle.plsearch.specs.Types.{Element, Goal}
@@ -93,3 +95,13 @@ resolves h h1 h2 links links' call base list c called below f p =
           ∙ ap (λ n. Some (record { goals = goals_at h2 links' list; variables = n })) (sym (p.count ∙ f.count));
       there = p.there;
     }
+
+-- an atom that is there
+pub adds-there : (h : Store) (c : ℕ) (f : ℕ → Tree) (t : Tree) (s : List ℕ) → c < length h.cells → term h c ≡ atom s → t ≡ atom s → Adds h h c (bind f t)
+unfolding bind
+adds-there h c f t s lt is same = record {
+  within = lt;
+  is = is ∙ ap (bind f) (sym same);
+  terms = λ d le. refl;
+  keeps = Keeps-refl h;
+}

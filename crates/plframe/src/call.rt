@@ -11,6 +11,7 @@ ghost use Rattle.plsearch.specs.Table.{is_true, resolve};
 ghost use Rattle.plframe.specs.Places.{goals_at, IsChain};
 ghost use Rattle.plframe.specs.Calls.{Longer, IsListIn, IsCalled, Fitted, PutsBody, Resolves, FirstFits, left_of};
 
+use crate::atoms::{Atoms, put_shared};
 use crate::frame::{Item, Link};
 use crate::link::push_link;
 use plclause::clause::Clause;
@@ -34,6 +35,7 @@ pub struct Called {
 pub struct Room {
     pub pending: Pending,
     pub scratch: Scratch,
+    pub atoms: Atoms,
 }
 
 impl Room {
@@ -45,6 +47,7 @@ impl Room {
         Room {
             pending: Pending::new(alloc),
             scratch: Scratch::new(alloc),
+            atoms: Atoms::new(),
         }
     }
 }
@@ -75,7 +78,13 @@ fn fit_head(
         return Err(AllocError);
     };
     let base = heap.variables(variables)?;
-    let head = heap.put(&mut room.pending, clause.head(), base)?;
+    let head = put_shared(
+        heap,
+        &mut room.pending,
+        &mut room.atoms,
+        clause.head(),
+        base,
+    )?;
     if unify(heap, &mut room.scratch, goal, head)? {
         Ok(Some(base))
     } else {
@@ -104,7 +113,13 @@ fn put_body(
     if is_truth(clause.body()) {
         return Ok(call.rest);
     }
-    let body = heap.put(&mut room.pending, clause.body(), base)?;
+    let body = put_shared(
+        heap,
+        &mut room.pending,
+        &mut room.atoms,
+        clause.body(),
+        base,
+    )?;
     let list = push_link(links, Item::Goal(call.level, body), call.rest)?;
     Ok(list)
 }

@@ -1,6 +1,8 @@
 //! Goal lists that share their rest, and the open cases of a search, over a heap.
 #![tactic(auto)]
 
+pub mod atoms;
+pub mod back;
 pub mod call;
 pub mod cut;
 pub mod extend;

@@ -15,9 +15,11 @@ ghost use Rattle.plsearch.specs.Engine.{deeper};
 ghost use Rattle.plsearch.specs.Levels.{AreAtMost};
 ghost use Rattle.plframe.specs.Places.{Statics, IsItemIn, list_at, depth_of, element, clauses_in, place_at, branch_place, size, IsFrame, IsSaved};
 ghost use Rattle.plframe.specs.State.{place_of, goals_of, cases_of, IsList, Extends, IsOpening, opening_cases, Opens, OpensFrame, OpensIn, Unifies, Begins, CountsUp, OpensRest, HasCall, HasBranch, HasCatch, AtCatch, Recovers, ClosedAs, Calls, Retries, call_places};
+ghost use Rattle.plframe.specs.Giving.{held, GivesBack};
 ghost use Rattle.plframe.specs.Cutting.{ChoiceAt, EmptiesFrom, Cuts};
 ghost use Rattle.plframe.specs.Extended.{IsRun, Extends as ExtendsTo};
 
+use crate::back::{drop_below, held};
 use crate::call::{Called, Room, first_fit};
 use crate::cut::choice_at;
 use crate::extend::{Extended, Run, with_arguments};
@@ -180,6 +182,47 @@ impl Stack {
         ensures err { OnErr result (self.new ≡ self.old) }
     {
         unify(&mut self.heap, &mut self.room.scratch, a, b)
+    }
+
+    /// Gives back lists that neither the open cases nor the list that is visited hold.
+    #[tactic(auto, using(crate::proofs::Giving::back_refl, crate::proofs::Giving::back_trans))]
+    pub fn give_back(&mut self)
+        ensures { GivesBack self.old self.new }
+    {
+        let Some(floor) = held(&self.frames) else {
+            return;
+        };
+        self.give_back_above(floor);
+        self.give_back_below(floor);
+    }
+
+    /// Gives back the lists behind those that are held.
+    fn give_back_above(&mut self, floor: usize)
+        requires { floor ≡ held (reverse self.old.frames) }
+        ensures { GivesBack self.old self.new }
+    {
+        let visited = self.goals as usize;
+        let keep = if visited < floor { floor } else { visited };
+        if keep < self.links.len() {
+            self.links.truncate(keep);
+        }
+    }
+
+    /// Gives back the list below the last one, if the last one is visited and stands before an older list.
+    fn give_back_below(&mut self, floor: usize)
+        requires { floor ≡ held (reverse self.old.frames) }
+        ensures { GivesBack self.old self.new }
+    {
+        let count = self.links.len();
+        if count < 2 || self.goals as usize != count {
+            return;
+        }
+        let below = count - 2;
+        if floor > below || self.links[count - 1].next as usize > below {
+            return;
+        }
+        drop_below(&mut self.links);
+        self.goals -= 1;
     }
 
     /// Opens cases.

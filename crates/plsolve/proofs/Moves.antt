@@ -18,6 +18,7 @@ use Rattle.plsearch.specs.Search.{ending_of}
 use Rattle.plframe.specs.declared.frame.Source.{Source}
 use Rattle.plframe.specs.Places.{clauses_in, place_at}
 use Rattle.plframe.specs.State.{State, IsList, place_of, cases_of, goals_of, Extends, Opens, IsAround, around_cases, IsOpening, opening_cases, Unifies, Calls, call_places}
+use Rattle.plframe.specs.Giving.{GivesBack}
 use Rattle.plframe.specs.declared.frame.Around.{Around}
 use Rattle.plframe.specs.declared.frame.Around.TheVariants.{Nothing, Branch as InBranch, Catch as InCatch}
 use Rattle.plframe.specs.declared.frame.Opening.{Opening}
@@ -282,3 +283,7 @@ raises-in P s new st more list ball r is o made = record {
       (machine-back P new r all (local_of s) (ap (λ x. x.mode) made) (ap (λ x. cases_of (clauses_for P) x.stack) made ∙ o.cases (clauses_for P)) (ap (λ x. local_of x) made) left answers
       ∙ ap (λ x. record { mode = Back x; cases = all; run = run }) is));
 }
+
+-- goal lists that nothing holds were given back
+pub given_back : (P : Program) (s : Progress) (stack : State) → GivesBack s.stack stack → Stays P s (record s { stack = stack })
+given_back P s stack g = stays-by P s (record s { stack = stack }) refl refl refl refl g.place (g.cases (clauses_for P)) refl

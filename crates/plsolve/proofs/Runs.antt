@@ -344,3 +344,12 @@ pub popped : (xs mid new : List ℕ) (g len : ℕ) → mid ≡ xs ++ g ∷ [] �
 popped xs mid new g len is long was =
     let few : len - 1 ≡ length xs = omega (arith, long, ap length is, length-append xs (g ∷ [])) in
     was ∙ ap₂ take few is ∙ take-append_seam xs (g ∷ [])
+
+-- a step, and then no more than it gave back
+pub steps_on : (P : Program) (s t new : Progress) → Stepped P s t → Stays P t new → Stepped P s new
+steps_on P s t new a b = record {
+  goes = goes_on s.limit t.limit (rest_of P s) (rest_of P t) (rest_of P new) s.used t.used new.used a.limit a.goes (stays_goes P t new b);
+  used = b.used ∙ a.used;
+  limit = b.limit ∙ a.limit;
+  places = b.places ∙ a.places;
+}

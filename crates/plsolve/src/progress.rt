@@ -6,7 +6,7 @@ ghost use Rattle.plheap.specs.Store.{term};
 ghost use Rattle.plclause.specs.Indicators.{indicator};
 ghost use Rattle.plevent.specs.Alive.{Stamped, before};
 ghost use Rattle.plevent.specs.Search.{Seen, Got, Finishes};
-ghost use Rattle.plload.specs.Program.{clauses_for};
+ghost use Rattle.plload.specs.Program.{Program as Given, clauses_for};
 ghost use Rattle.plstore.specs.Kept.{keep, nothing};
 ghost use Rattle.plstore.specs.Rising.{Rises};
 ghost use Rattle.plsearch.specs.Engine.{deeper};
@@ -142,6 +142,13 @@ impl Progress {
                 Due::Over => return self.ended(program),
             }
         }
+    }
+
+    /// Gives back goal lists that nothing holds.
+    fn give_back(&mut self)
+        ensures { (P : Given) → Stays P self.old self.new }
+    {
+        self.stack.give_back();
     }
 
     /// The reply to the request that is asked.
@@ -283,7 +290,7 @@ impl Progress {
         Ok(Turn::Ended(end))
     }
 
-    /// Selects the goal that is due.
+    /// Selects the goal that is due, and gives back the goal lists that nothing holds then.
     fn step(
         &mut self,
         program: &Program,
@@ -298,7 +305,9 @@ impl Progress {
         ensures err { OnErr result (Stays program.now self.old self.new) }
     {
         let control = read_control(self.stack.heap(), cell)?;
-        self.select(program, control, level, cell, rest)
+        self.select(program, control, level, cell, rest)?;
+        self.give_back();
+        Ok(())
     }
 
     /// Quiet turns, up to what is due.
