@@ -16,9 +16,11 @@ use Rattle.plwrite.specs.Words.{last_byte}
 use Rattle.plwrite.specs.Writing.{written, end_text, clause_text}
 use Rattle.plreread.specs.Levels.{levels_of}
 use Rattle.plreread.proofs.Again.{listed_again}
-use Rattle.plload.specs.declared.settings.Settings.{Settings}
-use Rattle.plload.specs.Settings.{Takes, iso_settings}
-use Rattle.plload.specs.Program.{Program, empty_draft, with_term, program_of}
+use Rattle.plprogram.specs.declared.settings.Settings.{Settings}
+use Rattle.plprogram.specs.Settings.{iso_settings}
+use Rattle.plload.specs.Taking.{Takes}
+use Rattle.plprogram.specs.Program.{Program}
+use Rattle.plload.specs.Draft.{empty_draft, with_term, program_of}
 use Rattle.plload.specs.Loading.{levels, judged, Goes, Accepts, Comes, Loads}
 use Rattle.plload.specs.Listing.{with_line, whole_listing, Lists}
 use Rattle.pllisting.specs.Needs.{with_levels, most_levels, Needs}

@@ -16,8 +16,8 @@ use Rattle.pllex.specs.declared.token.Token.{Token}
 use Rattle.pllex.specs.declared.quoted.Quote.TheVariants.{Double}
 use Rattle.pllex.specs.Escapes.{is_scalar}
 use Rattle.pllex.specs.Named.{bytes_of, value_within, value_as, value_of, IsNamedAs, AreNamed}
-use Rattle.plread.specs.declared.quotes.Quotes.{Quotes}
-use Rattle.plread.specs.declared.quotes.Quotes.TheVariants as quotes
+use Rattle.plops.specs.declared.flag.Quotes.{Quotes}
+use Rattle.plops.specs.declared.flag.Quotes.TheVariants as quotes
 use Rattle.plread.specs.Texts.{nil, listed, code_tree, char_tree, text_tree}
 use Rattle.plread.specs.Signs.{Sign}
 use Rattle.plread.specs.Signs as tok

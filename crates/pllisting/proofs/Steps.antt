@@ -5,8 +5,9 @@ use Rattle.pllex.specs.Tokens.{IsOver}
 use Rattle.pllex.proofs.Clauses.{one_clause, not_over}
 use Rattle.plread.specs.Spelling.{signs_of}
 use Rattle.plread.proofs.Unique.{spelled_once}
-use Rattle.plload.specs.declared.settings.Settings.{Settings}
-use Rattle.plload.specs.Settings.{Takes, iso_settings}
+use Rattle.plprogram.specs.declared.settings.Settings.{Settings}
+use Rattle.plprogram.specs.Settings.{iso_settings}
+use Rattle.plload.specs.Taking.{Takes}
 use Rattle.plload.specs.Loading.{levels, Spelled, judged, Goes, Ending, Ends, Fails, Runs, over, stops, goes, Accepts, outcome_of, Comes}
 
 -- from a place on the text has these, one behind the other, and nothing behind them, where these are the settings

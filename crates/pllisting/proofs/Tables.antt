@@ -7,9 +7,9 @@ use Rattle.plops.specs.declared.error.OpError.{OpError}
 use Rattle.plops.specs.Changes.{added, refusal}
 use Rattle.plops.specs.Checks.{IsTable}
 use Rattle.plops.proofs.Kept.{table_added}
-use Rattle.plload.specs.declared.settings.Settings.{Settings}
+use Rattle.plprogram.specs.declared.settings.Settings.{Settings}
 use Rattle.plload.specs.Meaning.{Meaning, Adds, Runs, Declares, Operates, SetsQuotes, SetsUnknown, Passes, Refused, meaning}
-use Rattle.plload.specs.Settings.{unless, declared, Takes, with_operators, taken}
+use Rattle.plload.specs.Taking.{unless, declared, Takes, with_operators, taken}
 use Rattle.plload.specs.Loading.{judged}
 
 -- behind names that are not refused stands a table

@@ -9,7 +9,7 @@ use Rattle.pllex.proofs.Names.{all_named}
 use Rattle.plread.specs.Spelling.{signs_of}
 use Rattle.plreread.specs.Again.{IsWithinLimits}
 use Rattle.plreread.proofs.Numbers.{InOrder}
-use Rattle.plload.specs.declared.settings.Settings.{Settings}
+use Rattle.plprogram.specs.declared.settings.Settings.{Settings}
 use Rattle.plload.specs.Loading.{levels, Reads}
 use Rattle.pllisting.proofs.Nodes.{vars}
 use Rattle.pllisting.proofs.Spelled.{was_spelled}

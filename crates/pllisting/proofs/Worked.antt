@@ -4,7 +4,7 @@ use Rattle.plterm.specs.Tree.{Tree, atom, compound, none, more}
 use Rattle.plops.specs.Tables.{prefix_of, infix_of, postfix_of}
 use Rattle.plops.specs.Given.{iso_table}
 use Rattle.plreread.specs.Levels.{levels_of}
-use Rattle.plload.specs.Settings.{iso_settings}
+use Rattle.plprogram.specs.Settings.{iso_settings}
 use Rattle.pllisting.specs.Needs.{with_levels}
 
 abbrev a : Tree

@@ -5,7 +5,7 @@ use Rattle.plwrite.specs.declared.style.Style.TheVariants.{Listed}
 use Rattle.plwrite.specs.declared.place.Position.TheVariants.{At}
 use Rattle.plwrite.specs.Places.{whole}
 use Rattle.plreread.specs.Levels.{levels_of}
-use Rattle.plload.specs.declared.settings.Settings.{Settings}
+use Rattle.plprogram.specs.declared.settings.Settings.{Settings}
 use Rattle.plload.specs.Loading.{Outcome, Comes}
 
 -- those of a clause, under the operators by which it was read, where they are more

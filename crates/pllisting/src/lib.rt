@@ -2,7 +2,7 @@
 #![tactic(auto)]
 
 ghost use Rattle.std.specs.Prelude.{◌≤◌, ◌<◌, ◌^◌, ℕ, List, length};
-ghost use Rattle.plload.specs.Program.{Program};
+ghost use Rattle.plprogram.specs.Program.{Program};
 ghost use Rattle.plload.specs.Loading.{Accepts, Loads, levels};
 ghost use Rattle.plload.specs.Listing.{Lists};
 ghost use Rattle.pllisting.specs.Needs.{Needs};

@@ -1,4 +1,3 @@
-pub mod Procedures
 pub mod Arguments
 pub mod Each
 pub mod Parts

@@ -6,10 +6,10 @@ use Rattle.pllex.specs.declared.token.Token.{Token}
 use Rattle.pllex.specs.Tokens.{IsClause}
 use Rattle.plload.specs.declared.next.Next.{Next}
 use Rattle.plload.specs.declared.next.Next.TheVariants as nexts
-use Rattle.plload.specs.declared.settings.Settings.{Settings}
-use Rattle.plload.specs.Settings.{Takes, Refuses as Judged}
+use Rattle.plprogram.specs.declared.settings.Settings.{Settings}
+use Rattle.plload.specs.Taking.{Takes, Refuses as Judged}
 use Rattle.plload.specs.Meaning.{Meaning, Adds, Runs as RunsGoal, Declares, Operates, SetsQuotes, SetsUnknown, Passes, Refused}
-use Rattle.plload.specs.Program.{Draft, with_meaning}
+use Rattle.plload.specs.Draft.{Draft, with_meaning}
 use Rattle.plload.specs.declared.error.RefusalKind.{RefusalKind}
 use Rattle.plload.specs.Loading.{IsNext, Follows, Stops, Moves, first_place, unread, refused, judged, Goes, Ending, Fails, Runs, goes, stops}
 

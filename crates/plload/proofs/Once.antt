@@ -11,10 +11,11 @@ use Rattle.plread.specs.Signs.{Sign}
 use Rattle.plread.specs.Spelling.{signs_of}
 use Rattle.plread.proofs.Unique.{spelled_once}
 use Rattle.plload.specs.declared.error.RefusalKind.{RefusalKind}
-use Rattle.plload.specs.declared.settings.Settings.{Settings}
-use Rattle.plload.specs.Settings.{Takes, Refuses as Judged, iso_settings}
+use Rattle.plprogram.specs.declared.settings.Settings.{Settings}
+use Rattle.plprogram.specs.Settings.{iso_settings}
+use Rattle.plload.specs.Taking.{Takes, Refuses as Judged}
 use Rattle.plload.specs.Position.{line_of, column_of}
-use Rattle.plload.specs.Program.{empty_draft, with_term}
+use Rattle.plload.specs.Draft.{empty_draft, with_term}
 use Rattle.plload.specs.Loading.{levels, Spelled, first_place, Reads, judged, Stops, lexical, unread, refused, Goes, Ending, Fails, Runs, over, stops, goes, Outcome, Refuses, outcome_of, Comes, Loads}
 use Rattle.plload.specs.Listing.{with_line, Lists}
 

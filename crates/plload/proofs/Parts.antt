@@ -6,10 +6,11 @@ use Rattle.std.proofs.lemmas.List.Elements.{filter-append}
 use Rattle.plterm.specs.declared.indicator.Indicator.{Indicator}
 use Rattle.plterm.specs.Tree.{Tree}
 use Rattle.plclause.specs.Clause.{Clause}
-use Rattle.plload.specs.declared.settings.Settings.{Settings}
+use Rattle.plprogram.specs.declared.settings.Settings.{Settings}
 use Rattle.plevent.specs.declared.update.Update.{Update}
 use Rattle.plevent.specs.declared.update.Update.TheVariants.{Last}
-use Rattle.plload.specs.Program.{Program, Draft, procedures_of, with_clause, is_dynamic, first_batch, program_of}
+use Rattle.plprogram.specs.Program.{Program, procedures_of, with_clause}
+use Rattle.plload.specs.Draft.{Draft, is_dynamic, first_batch, program_of}
 
 module _ {X : Type 0} (p : X → Bool) where
   pub kept : (xs : List X) (x : X) → p x ≡ true → filter p (xs ++ x ∷ []) ≡ filter p xs ++ x ∷ []

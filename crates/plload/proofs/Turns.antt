@@ -5,9 +5,10 @@ use Rattle.plload.specs.declared.error.RefusalKind.{RefusalKind}
 use Rattle.plload.specs.declared.error.LoadError.{LoadError}
 use Rattle.plload.specs.declared.error.LoadError.TheVariants.{Refused}
 use Rattle.plload.specs.declared.next.Next.TheVariants as nexts
-use Rattle.plload.specs.declared.settings.Settings.{Settings}
+use Rattle.plprogram.specs.declared.settings.Settings.{Settings}
 use Rattle.plload.specs.Meaning.{Meaning, meaning}
-use Rattle.plload.specs.Settings.{Taken, Takes, Refuses as Judged, taken, Answers, iso_settings}
+use Rattle.plprogram.specs.Settings.{iso_settings}
+use Rattle.plload.specs.Taking.{Taken, Takes, Refuses as Judged, taken, Answers}
 use Rattle.plload.specs.Position.{line_of, column_of}
 use Rattle.plload.specs.Loading.{IsNext, Stops, refused, Goes, Ending, Fails, Runs, stops}
 use Rattle.plload.specs.Told.{Tells}

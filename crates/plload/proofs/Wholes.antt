@@ -8,8 +8,8 @@ use Rattle.pllex.specs.declared.token.Fault.{Fault}
 use Rattle.pllex.specs.Tokens.{IsClause, IsFault, IsOver}
 use Rattle.pllex.proofs.Clauses.{one_clause, no_fault, not_over}
 use Rattle.plread.specs.Spelling.{signs_of}
-use Rattle.plload.specs.declared.settings.Settings.{Settings}
-use Rattle.plload.specs.Settings.{iso_settings}
+use Rattle.plprogram.specs.declared.settings.Settings.{Settings}
+use Rattle.plprogram.specs.Settings.{iso_settings}
 use Rattle.plload.specs.Meaning.{goal_meaning}
 use Rattle.plload.specs.Loading.{Spelled}
 use Rattle.plload.specs.Goals.{IsWhole, Whole, Runnable, Goal, HasGoal, ended}

@@ -5,11 +5,11 @@ use Rattle.plterm.specs.declared.indicator.Indicator.{Indicator}
 use Rattle.plclause.specs.Clause.{Clause}
 use Rattle.plload.specs.declared.error.RefusalKind.TheVariants.{NotCallable, StaticRedefined, BadDirective}
 use Rattle.plops.specs.declared.operator.Kind.TheVariants.{Xfx}
-use Rattle.plread.specs.declared.quotes.Quotes.TheVariants.{Atom}
-use Rattle.plload.specs.Fixed.{is_fixed}
+use Rattle.plops.specs.declared.flag.Quotes.TheVariants.{Atom}
+use Rattle.plnames.specs.Fixed.{is_fixed}
 use Rattle.plload.specs.Meaning.{Meaning, Adds, Runs, Declares, Operates, SetsQuotes, Passes, Refused, meaning}
 use Rattle.plload.specs.Position.{line_of, column_of}
-use Rattle.plload.specs.Program.{procedures_of, clauses_in}
+use Rattle.plprogram.specs.Program.{procedures_of, clauses_in}
 
 abbrev one : List ℕ → Tree → Tree
 one name t = compound name (more t none)

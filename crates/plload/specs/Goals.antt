@@ -2,8 +2,8 @@
 use Rattle.std.specs.Prelude.{◌≡◌, ℕ, List, ◌++◌, length, codes, Option, Some, None}
 use Rattle.plterm.specs.Tree.{Tree}
 use Rattle.pllex.specs.declared.token.Token.{Token}
-use Rattle.plload.specs.declared.settings.Settings.{Settings}
-use Rattle.plload.specs.Settings.{iso_settings}
+use Rattle.plprogram.specs.declared.settings.Settings.{Settings}
+use Rattle.plprogram.specs.Settings.{iso_settings}
 use Rattle.plload.specs.Meaning.{Runs, goal_meaning}
 use Rattle.plload.specs.Loading.{Reads}
 

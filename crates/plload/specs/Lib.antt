@@ -1,10 +1,9 @@
-pub mod Fixed
 pub mod Lists
 pub mod Meaning
 pub mod Shown
-pub mod Settings
+pub mod Taking
 pub mod Tables
-pub mod Program
+pub mod Draft
 pub mod Position
 pub mod Loading
 pub mod Goals

@@ -2,7 +2,7 @@
 use Rattle.std.specs.Prelude.{ℕ, List, [], ◌++◌}
 use Rattle.plterm.specs.Tree.{Tree}
 use Rattle.plwrite.specs.Writing.{clause_text}
-use Rattle.plload.specs.declared.settings.Settings.{Settings}
+use Rattle.plprogram.specs.declared.settings.Settings.{Settings}
 use Rattle.plload.specs.Loading.{Outcome, Comes}
 
 abbrev pub with_line : List ℕ → Settings → Tree → List ℕ

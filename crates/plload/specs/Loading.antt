@@ -11,11 +11,13 @@ use Rattle.plload.specs.declared.error.RefusalKind.{RefusalKind}
 use Rattle.plload.specs.declared.error.RefusalKind.TheVariants as kinds
 use Rattle.plload.specs.declared.next.Next.{Next}
 use Rattle.plload.specs.declared.next.Next.TheVariants as nexts
-use Rattle.plload.specs.declared.settings.Settings.{Settings}
+use Rattle.plprogram.specs.declared.settings.Settings.{Settings}
 use Rattle.plload.specs.Meaning.{meaning}
-use Rattle.plload.specs.Settings.{Taken, Takes, Refuses as Judged, taken, iso_settings}
+use Rattle.plprogram.specs.Settings.{iso_settings}
+use Rattle.plload.specs.Taking.{Taken, Takes, Refuses as Judged, taken}
 use Rattle.plload.specs.Position.{line_of, column_of}
-use Rattle.plload.specs.Program.{Program, empty_draft, with_term, program_of}
+use Rattle.plprogram.specs.Program.{Program}
+use Rattle.plload.specs.Draft.{empty_draft, with_term, program_of}
 
 -- how many levels a clause may leave open
 abbrev pub levels : ℕ

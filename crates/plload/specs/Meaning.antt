@@ -12,13 +12,13 @@ use Rattle.plclause.specs.Indicators.{indicator}
 use Rattle.plclause.specs.Clause.{Clause}
 use Rattle.plops.specs.declared.operator.Kind.{Kind}
 use Rattle.plops.specs.declared.operator.Kind.TheVariants.{Xfx, Xfy, Yfx, Fx, Fy, Xf, Yf}
-use Rattle.plread.specs.declared.quotes.Quotes.{Quotes}
-use Rattle.plread.specs.declared.quotes.Quotes.TheVariants.{Codes, Chars, Atom}
-use Rattle.plload.specs.declared.settings.Unknown.{Unknown}
-use Rattle.plload.specs.declared.settings.Unknown.TheVariants.{Error, Fail}
+use Rattle.plops.specs.declared.flag.Quotes.{Quotes}
+use Rattle.plops.specs.declared.flag.Quotes.TheVariants.{Codes, Chars, Atom}
+use Rattle.plprogram.specs.declared.settings.Unknown.{Unknown}
+use Rattle.plprogram.specs.declared.settings.Unknown.TheVariants.{Error, Fail}
 use Rattle.plload.specs.declared.error.RefusalKind.{RefusalKind}
 use Rattle.plload.specs.declared.error.RefusalKind.TheVariants.{NotCallable, StaticRedefined, BadDirective}
-use Rattle.plload.specs.Fixed.{is_fixed, is_named}
+use Rattle.plnames.specs.Fixed.{is_fixed, is_named}
 use Rattle.plload.specs.Lists.{only_argument, pair_of, elements, members, is_list, each}
 
 -- a clause of its procedure, a goal of main, names of dynamic procedures, operators of a priority and kind,

@@ -1,19 +1,19 @@
 //! What a directive does.
 ghost use Rattle.std.specs.Prelude.{◌≡◌, Some, IfOk, option_map, option_copied, is_some, if◌then◌else◌};
 ghost use Rattle.std.specs.List.{list_any};
-ghost use Rattle.plload.specs.Fixed.{is_fixed};
+ghost use Rattle.plnames.specs.Fixed.{is_fixed};
 ghost use Rattle.plload.specs.Lists.{each, elements, members, is_list};
 ghost use Rattle.plload.specs.Meaning.{goal_meaning, directive_meaning, is_directive_name, of_args, of_one, of_two, of_three, dynamic_meaning, passes_if, is_library, flag_meaning, quotes_meaning, unknown_meaning, operator_meaning, kind_of, kind_in, name_of, names_of, number_to, indicators, indicator_of};
 ghost use Rattle.plload.specs.Shown.{shown};
 
 use crate::error::RefusalKind;
-use crate::fixed::is_fixed;
 use crate::lists::{argument_of, elements_of, is_list, members_of, pair_of};
 use crate::meaning::Meaning;
-use crate::settings::Unknown;
 use plclause::convert::convert;
+use plnames::fixed::is_fixed;
+use plops::flag::Quotes;
 use plops::operator::Kind;
-use plread::quotes::Quotes;
+use plprogram::settings::Unknown;
 use plterm::indicator::Indicator;
 use plterm::name::Name;
 use plterm::walk::{Shape, TermRef, Terms};

@@ -2,15 +2,16 @@
 ghost use Rattle.std.specs.Prelude.{◌≡◌, ◌+◌, ◌<◌, ◌^◌, ◌++◌, IfOk, OnOk, fold, map, filter, not};
 ghost use Rattle.plevent.specs.declared.update.Update.TheVariants.{Declare, Last as LastOf};
 ghost use Rattle.plterm.specs.Indicators.{same_indicator};
-ghost use Rattle.plload.specs.Program.{Draft as Drafted, with_meaning, with_name, is_dynamic, program_of, empty_draft, procedures_of, with_clause};
+ghost use Rattle.plprogram.specs.Program.{procedures_of, with_clause};
+ghost use Rattle.plload.specs.Draft.{Draft as Drafted, with_meaning, with_name, is_dynamic, program_of, empty_draft};
 ghost use Rattle.plload.specs.Shown.{shown};
 
 use crate::meaning::Meaning;
-use crate::program::{Procedures, Program};
-use crate::settings::Settings;
 use indexmap::IndexSet;
 use plclause::clause::Clause;
 use plevent::update::{Batch, Update};
+use plprogram::program::{Procedures, Program};
+use plprogram::settings::Settings;
 use plterm::indicator::Indicator;
 use plterm::term::Term;
 use std::alloc::{AllocError, Global};
@@ -27,7 +28,7 @@ pub struct Draft {
 }
 
 impl Model for Draft {
-    ghost use Rattle.plload.specs.Program.{Draft as Drafted, draft_code};
+    ghost use Rattle.plload.specs.Draft.{Draft as Drafted, draft_code};
 
     ghost Value = { Drafted };
 

@@ -7,9 +7,9 @@ ghost use Rattle.plload.specs.Goals.{Whole, Runnable, Goal, HasGoal, ended};
 use crate::directive::goal_of;
 use crate::meaning::Meaning;
 use crate::next::read;
-use crate::settings::Settings;
 use pllex::clause::clause_tokens;
 use pllex::error::{ClauseTokens, LexError};
+use plprogram::settings::Settings;
 use plterm::term::Term;
 use std::alloc::{AllocError, Global};
 

@@ -4,14 +4,12 @@
 mod directive;
 mod draft;
 pub mod error;
-pub mod fixed;
 pub mod goal;
 mod lists;
 pub mod load;
 mod meaning;
 mod next;
 mod position;
-pub mod program;
-pub mod settings;
+mod taking;
 #[cfg(test)]
 mod tests;

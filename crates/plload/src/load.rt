@@ -1,6 +1,6 @@
 //! Loading a program from its text, and listing the text.
 ghost use Rattle.std.specs.Prelude.{◌≡◌, List, ℕ, IfErr, IfOk};
-ghost use Rattle.plload.specs.Program.{Program as Loaded};
+ghost use Rattle.plprogram.specs.Program.{Program as Loaded};
 ghost use Rattle.plload.specs.Position.{line_of, column_of};
 ghost use Rattle.plload.specs.Loading.{Accepts, Loads, Outcome};
 ghost use Rattle.plload.specs.Listing.{Lists};
@@ -11,8 +11,9 @@ use crate::error::{LoadError, RefusalKind};
 use crate::meaning::meaning_of;
 use crate::next::{Next, next_of};
 use crate::position::position_of;
-use crate::program::Program;
-use crate::settings::Settings;
+use crate::taking::take;
+use plprogram::program::Program;
+use plprogram::settings::Settings;
 use plwrite::write::write_clause;
 use std::alloc::Global;
 
@@ -32,7 +33,7 @@ pub fn load(alloc: Global, text: &[u8]) -> Result<Program, LoadError>
             Next::Stops(at, kind) => return Err(refused(text, at, kind)),
             Next::Reads(term, first, after) => {
                 let meaning = meaning_of(alloc, &term)?;
-                if let Some(kind) = settings.take(&meaning)? {
+                if let Some(kind) = take(&mut settings, &meaning)? {
                     return Err(refused(text, first, kind));
                 }
                 draft.add(meaning)?;
@@ -58,7 +59,7 @@ pub fn listing(alloc: Global, text: &[u8]) -> Result<Vec<u8>, LoadError>
             Next::Reads(term, first, after) => {
                 lines.extend_from_slice(&write_clause(alloc, &term, &settings.operators)?)?;
                 let meaning = meaning_of(alloc, &term)?;
-                if let Some(kind) = settings.take(&meaning)? {
+                if let Some(kind) = take(&mut settings, &meaning)? {
                     return Err(refused(text, first, kind));
                 }
                 place = after;

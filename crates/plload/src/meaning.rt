@@ -7,13 +7,13 @@ ghost use Rattle.plload.specs.Shown.{shown};
 
 use crate::directive::{directive_of, goal_of};
 use crate::error::RefusalKind;
-use crate::fixed::is_fixed;
 use crate::lists::argument_of;
-use crate::settings::Unknown;
 use plclause::clause::Clause;
 use plclause::form::{ClauseForm, clause_of};
+use plnames::fixed::is_fixed;
+use plops::flag::Quotes;
 use plops::operator::Kind;
-use plread::quotes::Quotes;
+use plprogram::settings::Unknown;
 use plterm::indicator::Indicator;
 use plterm::name::Name;
 use plterm::term::Term;

@@ -5,10 +5,10 @@ ghost use Rattle.plread.specs.Spelling.{signs_of};
 ghost use Rattle.plload.specs.Loading.{first_place, Follows, IsNext, Moves, Spelled};
 
 use crate::error::RefusalKind;
-use crate::settings::Settings;
 use pllex::clause::clause_tokens;
 use pllex::error::{ClauseTokens, LexError};
 use pllex::token::Token;
+use plprogram::settings::Settings;
 use plread::error::ReadError;
 use plread::read::{ReadTerm, read_clause};
 use plterm::term::Term;

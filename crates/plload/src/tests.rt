@@ -1,10 +1,10 @@
 use crate::error::{LoadError, RefusalKind};
-use crate::fixed::is_fixed;
 use crate::goal::is_goal;
 use crate::load::load;
 use pllex::clause::clause_tokens;
+use plnames::fixed::is_fixed;
+use plops::flag::Quotes;
 use plops::table::OpTable;
-use plread::quotes::Quotes;
 use plread::read::{ReadTerm, read_clause};
 use plterm::indicator::Indicator;
 use plterm::name::Name;

@@ -2,6 +2,7 @@
 #![tactic(auto)]
 
 pub mod error;
+pub mod flag;
 pub mod operator;
 pub mod table;
 #[cfg(test)]

@@ -7,7 +7,7 @@ use Rattle.pllex.specs.declared.token.Kind.TheVariants as kinds
 use Rattle.pllex.specs.Named.{bytes_of, value_of, IsNamedAs, AreNamed}
 use Rattle.plread.specs.declared.token.Token.{Token}
 use Rattle.plread.specs.Signs.{Sign}
-use Rattle.plread.specs.declared.quotes.Quotes.{Quotes}
+use Rattle.plops.specs.declared.flag.Quotes.{Quotes}
 use Rattle.plread.specs.Words.{Lexicon, wider, StartsWith}
 use Rattle.plread.specs.Spelling.{mark, sign, seen_after, is_joined, signs_behind}
 use Rattle.plread.specs.Looks.{sign_view, view}

@@ -7,7 +7,7 @@ use Rattle.plops.specs.declared.operator.Kind.TheVariants.{Xfx, Xfy, Fx}
 use Rattle.plops.specs.declared.table.OpTable.{OpTable}
 use Rattle.plops.specs.Operators.{operator_of}
 use Rattle.plops.specs.Tables.{plain, with_operator, prefix_of, infix_of, postfix_of}
-use Rattle.plread.specs.declared.quotes.Quotes.TheVariants as quotes
+use Rattle.plops.specs.declared.flag.Quotes.TheVariants as quotes
 use Rattle.plread.specs.Signs.{Sign, Name, Variable, Integer, Open, OpenCall, Close, Comma, End}
 use Rattle.plread.specs.Spelling.{signs_of}
 use Rattle.plread.specs.Reading.{start_of, next_of, reads, leaf, bracket, call, before_op, stop, between_op, last, another, Spells, NoStart, Stop}

@@ -3,7 +3,7 @@ use Rattle.std.specs.Prelude.{◌≡◌, ℕ, List, [], ◌∷◌}
 use Rattle.plterm.specs.Tree.{Tree}
 use Rattle.pllex.specs.declared.token.Token.{Token}
 use Rattle.plops.specs.declared.table.OpTable.{OpTable}
-use Rattle.plread.specs.declared.quotes.Quotes.{Quotes}
+use Rattle.plops.specs.declared.flag.Quotes.{Quotes}
 use Rattle.plread.specs.declared.error.ReadError.{ReadError}
 use Rattle.plread.specs.declared.error.ReadError.TheVariants as errors
 use Rattle.plread.specs.Spelling.{signs_of}

@@ -7,7 +7,7 @@ use Rattle.pllex.specs.declared.token.Kind.{Kind}
 use Rattle.pllex.specs.declared.token.Kind.TheVariants as kinds
 use Rattle.pllex.specs.declared.token.Token as lex
 use Rattle.pllex.specs.Named.{bytes_of, value_of}
-use Rattle.plread.specs.declared.quotes.Quotes.{Quotes}
+use Rattle.plops.specs.declared.flag.Quotes.{Quotes}
 use Rattle.plread.specs.Texts.{text_tree}
 use Rattle.plread.specs.Signs.{Sign}
 use Rattle.plread.specs.Signs as signs

@@ -3,8 +3,8 @@ use Rattle.std.specs.Prelude.{ℕ, pos, List, map, length, nat_le, Option, Some,
 use Rattle.std.specs.Str.{chars}
 use Rattle.std.specs.Char.{encode_utf8}
 use Rattle.plterm.specs.Tree.{Tree, Trees, int, atom, compound, none, more, trees}
-use Rattle.plread.specs.declared.quotes.Quotes.{Quotes}
-use Rattle.plread.specs.declared.quotes.Quotes.TheVariants as quotes
+use Rattle.plops.specs.declared.flag.Quotes.{Quotes}
+use Rattle.plops.specs.declared.flag.Quotes.TheVariants as quotes
 
 -- the names of a list's cells, of the empty list, of a term in braces and of the sign of an integer
 abbrev pub dot : List ℕ

@@ -7,12 +7,12 @@ ghost use Rattle.plread.specs.Signs as signs;
 ghost use Rattle.plread.specs.Texts.{text_tree};
 ghost use Rattle.plread.specs.Words.{Lexicon, wider, StartsWith};
 
-use crate::quotes::Quotes;
 use crate::token::Token;
 use crate::variables::Variables;
 use crate::words::Words;
 use pllex::token::{Kind, Token as Spelled};
 use pllex::value::value_of;
+use plops::flag::Quotes;
 use plterm::name::Name;
 use std::alloc::{AllocError, Global};
 use std::str;

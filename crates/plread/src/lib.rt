@@ -7,7 +7,6 @@ pub mod frame;
 pub mod input;
 pub mod lists;
 pub mod looks;
-pub mod quotes;
 pub mod read;
 pub mod reader;
 #[cfg(test)]

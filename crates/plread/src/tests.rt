@@ -1,11 +1,11 @@
 use crate::clause::term_of;
 use crate::error::ReadError;
 use crate::input::Input;
-use crate::quotes::Quotes;
 use crate::read::read_clause;
 use crate::token::Token;
 use crate::words::Words;
 use pllex::clause::clause_tokens;
+use plops::flag::Quotes;
 use plops::table::OpTable;
 use plterm::name::Name;
 use plterm::node::Node;

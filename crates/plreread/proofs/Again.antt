@@ -8,7 +8,7 @@ use Rattle.plops.specs.Sane.{IsSane}
 use Rattle.pllex.specs.declared.token.Token.{Token}
 use Rattle.pllex.specs.Tokens.{ends_here, IsClause}
 use Rattle.pllex.proofs.Clauses.{one_clause}
-use Rattle.plread.specs.declared.quotes.Quotes.{Quotes}
+use Rattle.plops.specs.declared.flag.Quotes.{Quotes}
 use Rattle.plread.specs.Spelling.{signs_of}
 use Rattle.plread.specs.Reading.{Spells}
 use Rattle.plread.proofs.Unique.{spelled_once}

@@ -9,7 +9,7 @@ use Rattle.pllex.specs.declared.token.Kind.{Kind}
 use Rattle.pllex.specs.declared.token.Kind.TheVariants as kinds
 use Rattle.pllex.specs.declared.token.Token.{Token}
 use Rattle.pllex.specs.Named.{bytes_of, value_as, value_of}
-use Rattle.plread.specs.declared.quotes.Quotes.{Quotes}
+use Rattle.plops.specs.declared.flag.Quotes.{Quotes}
 use Rattle.plread.specs.Texts.{nil, curly, text_tree}
 use Rattle.plread.specs.Signs.{Sign}
 use Rattle.plread.specs.Signs as tok

@@ -6,7 +6,7 @@ use Rattle.plterm.specs.Variables.{variables}
 use Rattle.plops.specs.declared.table.OpTable.{OpTable}
 use Rattle.pllex.specs.declared.token.Token.{Token}
 use Rattle.pllex.specs.Tokens.{IsClause}
-use Rattle.plread.specs.declared.quotes.Quotes.{Quotes}
+use Rattle.plops.specs.declared.flag.Quotes.{Quotes}
 use Rattle.plread.specs.Spelling.{signs_of}
 use Rattle.plread.specs.Reading.{Spells}
 

@@ -7,7 +7,7 @@ ghost use Rattle.plterm.specs.Variables.{variables, copied, AllBelow, IsVariant}
 ghost use Rattle.plops.specs.declared.table.OpTable.{OpTable};
 ghost use Rattle.plops.specs.Sane.{IsSane};
 ghost use Rattle.pllex.specs.Tokens.{ends_here};
-ghost use Rattle.plread.specs.declared.quotes.Quotes.{Quotes};
+ghost use Rattle.plops.specs.declared.flag.Quotes.{Quotes};
 ghost use Rattle.plread.specs.Reading.{Spells};
 ghost use Rattle.plwrite.specs.declared.style.Style.{Style};
 ghost use Rattle.plwrite.specs.declared.style.Style.TheVariants.{Listed};

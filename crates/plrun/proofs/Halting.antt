@@ -13,9 +13,9 @@ use Rattle.plevent.specs.declared.request.Reply.{Reply}
 use Rattle.plevent.specs.declared.request.ThreadEnd.{ThreadEnd}
 use Rattle.plevent.specs.Alive.{exists, clauses_alive}
 use Rattle.plevent.specs.Search.{Item, View, Ask, Answer, Seen, Got, Finishes}
-use Rattle.plload.specs.Program.{Program, clauses_for}
-use Rattle.plload.specs.declared.settings.Unknown.{Unknown}
-use Rattle.plload.specs.declared.settings.Unknown.TheVariants as unknown
+use Rattle.plprogram.specs.Program.{Program, clauses_for}
+use Rattle.plprogram.specs.declared.settings.Unknown.{Unknown}
+use Rattle.plprogram.specs.declared.settings.Unknown.TheVariants as unknown
 use Rattle.plsearch.specs.Types.{Result, Stop, Fail, CutTo, Throw, Halted, Spent, Asking, Ceased, Element, Goal, Commit, Never, Until, Raise, Look, Await, Halt, Place, Case, Choice, Mark, Handle, Handler, Catch, Return, Keep, Again, Anew, Local, Move, Give, Go, Run}
 use Rattle.plsearch.specs.Table.{Control, True, False, Both, Either, Then, Not, Once, Catching, Throwing, CallWith, Cut, Unify, Write, WriteQuoted, Newline, Halting, AddLast, Call, NoGoal, control, choose, raised, Runnable, Runs, Raises, thrown, has, recovers, met_by, caught, resume, unified, is_static, add_if, add, halting, user, row, select, meet, missing, walk_if, replied, halted, answered}
 use Rattle.plsearch.specs.Engine.{stop_cut_if, stop_cut, mark, choice, out, deeper, outs, Visit, left}

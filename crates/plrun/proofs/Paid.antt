@@ -17,9 +17,9 @@ use Rattle.plclause.specs.declared.form.ClauseForm.{ClauseForm}
 use Rattle.plclause.specs.declared.form.ClauseForm.TheVariants.{NoHead, BadHead, BadBody, IsClause}
 use Rattle.plevent.specs.Alive.{exists, clauses_alive}
 use Rattle.plevent.specs.Search.{Item, View, Ask, Answer, Seen, Got, Wants}
-use Rattle.plload.specs.Program.{Program, clauses_for}
-use Rattle.plload.specs.declared.settings.Unknown.{Unknown}
-use Rattle.plload.specs.declared.settings.Unknown.TheVariants as unknown
+use Rattle.plprogram.specs.Program.{Program, clauses_for}
+use Rattle.plprogram.specs.declared.settings.Unknown.{Unknown}
+use Rattle.plprogram.specs.declared.settings.Unknown.TheVariants as unknown
 use Rattle.plsearch.specs.Types.{Result, Stop, Fail, CutTo, Throw, Halted, Spent, Asking, Ceased, Element, Goal, Commit, Never, Until, Raise, Look, Await, Halt, Place, Case, Choice, Mark, Handle, Handler, Catch, Return, Keep, Again, Anew, Local, Move, Give, Go, Run}
 use Rattle.plsearch.specs.Table.{Control, True, False, Both, Either, Then, Not, Once, Catching, Throwing, CallWith, Cut, Unify, Write, WriteQuoted, Newline, Halting, AddLast, Call, NoGoal, control, bind_goals, is_true, before_rest, resolve, choose, call, raised, Runnable, Runs, Raises, run, runnable, called, call_with, branch, catching, thrown, catch_3, levels, has, recovers, met_by, caught, resume, unified, is_static, add_if, add, halting, user, row, select, meet, missing, walk_if, replied, halted, answered}
 use Rattle.plsearch.specs.Engine.{Ended, Visitor, stop_cut_if, stop_cut, mark, choice, returned, out, deeper, outs, moved, stepped, asks, walk, visit_in, Visit, left}

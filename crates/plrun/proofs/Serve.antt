@@ -20,7 +20,7 @@ use Rattle.plhist.specs.Legal.{Over}
 use Rattle.plhist.proofs.Alone.{main-alone}
 use Rattle.plhist.proofs.OneMore.{reading-push, halted-push}
 use Rattle.plworld.proofs.Push.{before-is}
-use Rattle.plload.specs.Program.{Program}
+use Rattle.plprogram.specs.Program.{Program}
 use Rattle.plsearch.specs.Search.{search_of}
 use Rattle.plsearch.specs.Solving.{Goes, TakesOne, StandsAt}
 use Rattle.plrun.specs.Going.{Free, Going, IsRunning}

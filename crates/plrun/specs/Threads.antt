@@ -4,7 +4,7 @@ use Rattle.plevent.specs.declared.request.ThreadEnd.{ThreadEnd}
 use Rattle.plhist.specs.declared.history.Run.{Run}
 use Rattle.plhist.specs.declared.history.RunEnd.{RunEnd}
 use Rattle.plevent.specs.declared.act.Entry.{Entry}
-use Rattle.plload.specs.Program.{Program}
+use Rattle.plprogram.specs.Program.{Program}
 use Rattle.plsearch.specs.Search.{search_of}
 use Rattle.plsolve.specs.Solver.{rest_of}
 use Rattle.plrun.specs.declared.thread.Running.{Running}

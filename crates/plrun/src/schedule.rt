@@ -9,7 +9,7 @@ ghost use Rattle.plrun.specs.Overall.{IsHistory};
 use crate::thread::{Running, run_thread};
 use plevent::{Reply, Request};
 use plhist::{History, Journal, Run, Runs};
-use plload::program::Program;
+use plprogram::program::Program;
 use plsolve::solver::Solver;
 use plworld::World;
 use std::alloc::{AllocError, Global};

@@ -12,7 +12,7 @@ ghost use Rattle.plrun.specs.Overall.{IsHistory};
 
 use plevent::{Request, ThreadEnd};
 use plhist::{Output, Places, Run, RunEnd};
-use plload::program::Program;
+use plprogram::program::Program;
 use plsolve::solver::{Solver, Turn};
 use plworld::World;
 use std::alloc::{AllocError, Global};

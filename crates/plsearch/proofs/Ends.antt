@@ -2,7 +2,7 @@
 use Rattle.std.proofs.Common.{◌≡◌, ℕ, zero, suc, ◌+◌, ◌<◌, ◌≤◌, ◌⊎◌, inl, inr, List, [], ◌∷◌, ◌++◌, length, refl, sym, ap, subst, arith, le_refl, min}
 use Rattle.plevent.specs.Search.{Item, Answer, Finishes}
 use Rattle.plevent.specs.declared.request.ThreadEnd.{ThreadEnd}
-use Rattle.plload.specs.Program.{Program}
+use Rattle.plprogram.specs.Program.{Program}
 use Rattle.plsearch.specs.Types.{Result, Stop, Fail, CutTo, Throw, Halted, Spent, Asking, Ceased, Element, Place, Case, Choice, Mark, Handle, Catch, Return, Keep, Again, Anew, Local, Move, Give, Go, Meeting, Select, Asks, End, Pass, Marked, Run}
 use Rattle.plsearch.specs.Table.{select, meet, answered, resume}
 use Rattle.plsearch.specs.Engine.{Ended, deeper, choice, returned, out, outs, moved, stepped, asks, met, walk, left, Visit}

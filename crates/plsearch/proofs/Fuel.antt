@@ -1,7 +1,7 @@
 -- The search is a fixed point: a list is visited by one walk, and what comes behind a step or an answer by the search again.
 use Rattle.std.proofs.Common.{◌≡◌, ℕ, zero, suc, ◌+◌, ◌<◌, ◌≤◌, List, [], ◌∷◌, length, refl, sym, ap, ◌∙◌, subst, arith, le_trans, le_refl}
 use Rattle.plevent.specs.Search.{Item, Answer}
-use Rattle.plload.specs.Program.{Program}
+use Rattle.plprogram.specs.Program.{Program}
 use Rattle.plsearch.specs.Types.{Result, Fail, Spent, Element, Place, Case, Choice, Mark, Handle, Local, Move, Give, Go, Meeting, Select, Asks, End, Pass, Marked, Return, Keep, Again, Anew, Run}
 use Rattle.plsearch.specs.Table.{select, meet, answered, resume}
 use Rattle.plsearch.specs.Engine.{Ended, Visitor, deeper, choice, returned, out, outs, moved, stepped, asks, met, walk, visit_in, left, Visit}

@@ -16,9 +16,9 @@ use Rattle.plterm.specs.declared.indicator.Indicator.{Indicator}
 use Rattle.plevent.specs.declared.request.Reply.{Reply}
 use Rattle.plevent.specs.Alive.{exists, clauses_alive}
 use Rattle.plevent.specs.Search.{Item, Answer, Seen, Got}
-use Rattle.plload.specs.Program.{Program, clauses_for}
-use Rattle.plload.specs.declared.settings.Unknown.{Unknown}
-use Rattle.plload.specs.declared.settings.Unknown.TheVariants as unknown
+use Rattle.plprogram.specs.Program.{Program, clauses_for}
+use Rattle.plprogram.specs.declared.settings.Unknown.{Unknown}
+use Rattle.plprogram.specs.declared.settings.Unknown.TheVariants as unknown
 use Rattle.plwrite.specs.Writing.{written}
 use Rattle.plwrite.specs.declared.style.Style.TheVariants.{Plain, Quoted}
 use Rattle.plsearch.specs.Errors.{error_term}

@@ -1,7 +1,7 @@
 -- Each turn of the machine keeps the rest of the search.
 use Rattle.std.proofs.Common.{◌≡◌, ℕ, zero, suc, List, [], ◌∷◌, ◌++◌, refl, sym, ap, ◌∙◌}
 use Rattle.plevent.specs.Search.{Answer}
-use Rattle.plload.specs.Program.{Program}
+use Rattle.plprogram.specs.Program.{Program}
 use Rattle.plsearch.specs.Types.{Result, Fail, Element, Place, Case, Choice, Mark, Handle, Local, Move, Give, Go, Meeting, Select, Asks, End, Pass, Marked, Return, Keep, Again, Anew, Run}
 use Rattle.plsearch.specs.Table.{select, meet, answered, resume}
 use Rattle.plsearch.specs.Engine.{Ended, Visitor, deeper, choice, returned, out, outs, moved, stepped, asks, met, walk, Visit}

@@ -1,7 +1,7 @@
 -- Each turn takes a step or an answer, or makes the machine lighter: so turns come to an end.
 use Rattle.std.proofs.Common.{◌≡◌, ℕ, zero, suc, ◌+◌, ◌≤◌, inl, inr, List, [], ◌∷◌, length, refl, ap, arith, Bool, true, false, Option, Some, None}
 use Rattle.plevent.specs.Search.{Item, Answer}
-use Rattle.plload.specs.Program.{Program}
+use Rattle.plprogram.specs.Program.{Program}
 use Rattle.std.proofs.lemmas.List.{length-map}
 use Rattle.plterm.specs.Tree.{Tree}
 use Rattle.plterm.specs.Variables.{variables, copied}

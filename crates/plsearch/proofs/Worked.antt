@@ -12,9 +12,9 @@ use Rattle.plevent.specs.declared.request.Reply.TheVariants.{Published, Done}
 use Rattle.plevent.specs.declared.request.Request.TheVariants.{Publish, HaltRun}
 use Rattle.plevent.specs.declared.request.ThreadEnd.TheVariants.{True, False, Exception, Budget, Halt}
 use Rattle.plevent.specs.declared.update.Update.TheVariants.{Last}
-use Rattle.plread.specs.declared.quotes.Quotes.TheVariants.{Codes}
-use Rattle.plload.specs.declared.settings.Unknown.TheVariants as unknown
-use Rattle.plload.specs.Program.{Program}
+use Rattle.plops.specs.declared.flag.Quotes.TheVariants.{Codes}
+use Rattle.plprogram.specs.declared.settings.Unknown.TheVariants as unknown
+use Rattle.plprogram.specs.Program.{Program}
 use Rattle.plsearch.specs.Errors.{pair}
 use Rattle.plsearch.specs.Table.{raised, row, select, meet, answered, resume}
 use Rattle.plsearch.specs.Engine.{choice, out, outs, moved, walk, visit_in, Visit}

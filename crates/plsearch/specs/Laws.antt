@@ -2,7 +2,7 @@
 use Rattle.std.specs.Prelude.{◌≡◌, ℕ, List, [], ◌∷◌, ◌++◌}
 use Rattle.plevent.specs.Search.{Answer, Finishes}
 use Rattle.plevent.specs.declared.request.ThreadEnd.{ThreadEnd}
-use Rattle.plload.specs.Program.{Program}
+use Rattle.plprogram.specs.Program.{Program}
 use Rattle.plsearch.specs.Types.{Result, Place, Case, Choice, Mark, Run}
 use Rattle.plsearch.specs.Engine.{walk, deeper, Visit}
 use Rattle.plsearch.specs.Machine.{Machine, At, Back, Rest, turn}

@@ -1,7 +1,7 @@
 -- A machine that does one row at a time, over a stack of open cases.
 use Rattle.std.specs.Prelude.{ℕ, zero, suc, List, [], ◌∷◌, ◌++◌}
 use Rattle.plevent.specs.Search.{Item, Answer}
-use Rattle.plload.specs.Program.{Program}
+use Rattle.plprogram.specs.Program.{Program}
 use Rattle.plsearch.specs.Types.{Result, Stop, Fail, Spent, Asking, Element, Place, Case, Choice, Mark, Handle, Local, Move, Give, Go, Meeting, Select, Asks, End, Pass, Marked, Return, Keep, Again, Anew, Run}
 use Rattle.plsearch.specs.Table.{select, meet, answered, resume}
 use Rattle.plsearch.specs.Engine.{Ended, stop_cut, mark, deeper, outs, Visit}

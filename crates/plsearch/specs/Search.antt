@@ -4,7 +4,7 @@ use Rattle.plterm.specs.Tree.{Tree, compound, none, more}
 use Rattle.plterm.specs.Variables.{copied, variables}
 use Rattle.plevent.specs.Search.{Answer, Next, Wants, Finishes, Ceases, Ending, Search}
 use Rattle.plevent.specs.declared.request.ThreadEnd.TheVariants.{True, False, Exception, Budget, Halt}
-use Rattle.plload.specs.Program.{Program}
+use Rattle.plprogram.specs.Program.{Program}
 use Rattle.plsearch.specs.Types.{Result, Stop, Fail, CutTo, Throw, Halted, Spent, Asking, Ceased, Goal, Place, Run}
 use Rattle.plsearch.specs.Engine.{Ended, Visit}
 

@@ -20,10 +20,10 @@ use Rattle.plclause.specs.Clausal.{clausal}
 use Rattle.plclause.specs.Conversion.{converted}
 use Rattle.plclause.specs.declared.form.ClauseForm.{ClauseForm}
 use Rattle.plclause.specs.declared.form.ClauseForm.TheVariants.{NoHead, BadHead, BadBody, IsClause}
-use Rattle.plload.specs.Fixed.{is_fixed}
-use Rattle.plload.specs.Program.{Program, clauses_for}
-use Rattle.plload.specs.declared.settings.Unknown.{Unknown}
-use Rattle.plload.specs.declared.settings.Unknown.TheVariants as unknown
+use Rattle.plnames.specs.Fixed.{is_fixed}
+use Rattle.plprogram.specs.Program.{Program, clauses_for}
+use Rattle.plprogram.specs.declared.settings.Unknown.{Unknown}
+use Rattle.plprogram.specs.declared.settings.Unknown.TheVariants as unknown
 use Rattle.plsearch.specs.Types.{Result, Fail, CutTo, Throw, Halted, Ceased, Element, Goal, Commit, Never, Until, Raise, Look, Await, Halt, Place, Case, Choice, Mark, Handle, Handler, Catch, Local, Move, Give, Go, Meeting, Select, Asks, End, Pass, Marked, Return, Keep, Anew}
 use Rattle.plsearch.specs.Errors.{instantiation_error, callable_error, integer_error, procedure_error, static_error, arity_error, error_term}
 

@@ -5,7 +5,7 @@ use Rattle.plterm.specs.Variables.{copied, variables}
 use Rattle.plsubst.specs.Subst.{bind}
 use Rattle.plsubst.specs.Unify.{unify}
 use Rattle.plheap.specs.Store.{term}
-use Rattle.plload.specs.Program.{Program, clauses_for}
+use Rattle.plprogram.specs.Program.{Program, clauses_for}
 use Rattle.plsearch.specs.Types.{Goal, Case, Throw}
 use Rattle.plsearch.specs.Errors.{error_term}
 use Rattle.plsearch.specs.Table.{Runs, Raises, runnable, recovers, levels, has, catch_3, catching, bind_goals}

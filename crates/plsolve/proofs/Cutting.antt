@@ -1,6 +1,6 @@
 -- A cut that empties what it gives up leaves the search as a mark does.
 use Rattle.std.proofs.Common.{◌≡◌, ℕ, ◌+◌, ◌≤◌, ◌⊎◌, inl, inr, List, [], ◌∷◌, ◌++◌, refl, sym, ap, ◌∙◌, arith}
-use Rattle.plload.specs.Program.{Program, clauses_for}
+use Rattle.plprogram.specs.Program.{Program, clauses_for}
 use Rattle.plsearch.specs.Types.{Go, Place, Case, Choice, Mark, Handle, Catch, Run}
 use Rattle.plsearch.specs.Levels.{AreAtMost, emptied}
 use Rattle.plsearch.specs.Machine.{At, Rest}

@@ -6,8 +6,8 @@ use Rattle.plterm.specs.declared.indicator.Indicator.{Indicator}
 use Rattle.plclause.specs.Clause.{Clause}
 use Rattle.plclause.specs.Indicators.{indicator}
 use Rattle.plevent.specs.Alive.{Stamped, before, exists, clauses_of, clauses_alive}
-use Rattle.plload.specs.Program.{Program}
-use Rattle.plload.specs.declared.settings.Unknown.{Unknown}
+use Rattle.plprogram.specs.Program.{Program}
+use Rattle.plprogram.specs.declared.settings.Unknown.{Unknown}
 use Rattle.plstore.specs.Kept.{Kept, keep, nothing, is_there, walk}
 use Rattle.plstore.specs.Rising.{Rises}
 use Rattle.plstore.proofs.Whole.{walk-is, there-is}

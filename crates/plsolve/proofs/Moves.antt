@@ -6,7 +6,7 @@ use Rattle.plterm.specs.Variables.{copied}
 use Rattle.plterm.specs.declared.indicator.Indicator.{Indicator}
 use Rattle.plheap.specs.Store.{term}
 use Rattle.plevent.specs.Search.{Answer}
-use Rattle.plload.specs.Program.{Program, clauses_for}
+use Rattle.plprogram.specs.Program.{Program, clauses_for}
 use Rattle.plsearch.specs.Types.{Throw, Raise, Element, Place, Case, Choice, Local, Move, Give, Go, Run}
 use Rattle.plsearch.specs.Errors.{error_term, instantiation_error}
 use Rattle.plsubst.specs.Unify.{unify}

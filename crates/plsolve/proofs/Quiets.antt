@@ -2,7 +2,7 @@
 use Rattle.std.proofs.Common.{◌≡◌, ℕ, zero, suc, Bool, true, false, List, [], ◌∷◌, refl, sym, ap, ap₂, ◌∙◌, arith, map, nat_eq, IsTrue, ◌↔◌, Some, None, length, ◌+◌, ◌<◌, ◌≤◌, subst, inl, inr}
 use Rattle.plheap.specs.Store.{term}
 use Rattle.plevent.specs.Search.{Answer}
-use Rattle.plload.specs.Program.{Program, clauses_for}
+use Rattle.plprogram.specs.Program.{Program, clauses_for}
 use Rattle.plsearch.specs.Types.{Result, Spent, Throw, Element, Goal, Commit, Never, Until, Handle, Handler, Catch, Keep, Place, Case, Choice, Mark, Local, Move, Run}
 use Rattle.plterm.specs.Tree.{Tree}
 use Rattle.plterm.specs.Variables.{copied, variables}

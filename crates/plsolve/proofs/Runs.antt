@@ -12,7 +12,7 @@ use Rattle.plevent.specs.declared.request.Reply.{Reply}
 use Rattle.plevent.specs.declared.request.Reply.TheVariants.{Published, Done}
 use Rattle.plevent.specs.declared.update.Update.{Update}
 use Rattle.plevent.specs.declared.update.Update.TheVariants.{Last}
-use Rattle.plload.specs.Program.{Program, clauses_for}
+use Rattle.plprogram.specs.Program.{Program, clauses_for}
 use Rattle.plsearch.specs.Types.{Asking, Element, Goal, Look, Await, Halt, Place, Case, Choice, Mark, Handle, Catch, Local, Move, Run, Asks}
 use Rattle.plsearch.specs.Table.{select, meet, answered, resume, walk_over}
 use Rattle.plsearch.specs.Engine.{left, choice, out, outs, Visit}

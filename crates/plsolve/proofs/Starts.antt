@@ -4,7 +4,7 @@ use Rattle.plterm.specs.Tree.{Tree}
 use Rattle.plterm.specs.Variables.{variables, copied}
 use Rattle.plsubst.specs.Subst.{bind, shift}
 use Rattle.plheap.specs.Store.{term}
-use Rattle.plload.specs.Program.{Program, clauses_for}
+use Rattle.plprogram.specs.Program.{Program, clauses_for}
 use Rattle.plsearch.specs.Types.{Goal}
 use Rattle.plsearch.specs.Engine.{outs}
 use Rattle.plsearch.specs.Machine.{Rest}

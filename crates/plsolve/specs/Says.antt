@@ -1,7 +1,7 @@
 -- What a call of a solver that came to a turn says of the search.
 use Rattle.std.specs.Prelude.{ℕ}
 use Rattle.plevent.specs.Search.{View, Ask}
-use Rattle.plload.specs.Program.{Program}
+use Rattle.plprogram.specs.Program.{Program}
 use Rattle.plsearch.specs.Solving.{StandsAt, EndsAt}
 use Rattle.plsolve.specs.declared.progress.Progress.{Progress}
 use Rattle.plsolve.specs.declared.solver.Turn.{Turn}

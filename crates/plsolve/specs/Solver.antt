@@ -13,7 +13,7 @@ use Rattle.plevent.specs.declared.request.Request.TheVariants.{Start, Publish, F
 use Rattle.plevent.specs.declared.request.Reply.{Reply}
 use Rattle.plevent.specs.declared.request.Reply.TheVariants.{Published, Done}
 use Rattle.plevent.specs.declared.update.Update.TheVariants.{Last}
-use Rattle.plload.specs.Program.{Program, clauses_for}
+use Rattle.plprogram.specs.Program.{Program, clauses_for}
 use Rattle.plsearch.specs.Types.{Result, Stop, Fail, CutTo, Throw, Halted, Spent, Case, Local, Move}
 use Rattle.plsearch.specs.Engine.{deeper}
 use Rattle.plsearch.specs.Machine.{Mode, At, Back, Machine, Rest, move, return}

@@ -12,7 +12,7 @@ ghost use Rattle.plsolve.specs.Says.{Says, IsSlice};
 
 use crate::progress::Progress;
 use plevent::request::{Reply, Request, ThreadEnd};
-use plload::program::Program;
+use plprogram::program::Program;
 use plstore::store::Store;
 use std::alloc::{AllocError, Global};
 use std::marker::Model;

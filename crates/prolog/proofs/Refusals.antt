@@ -4,7 +4,8 @@ use Rattle.std.specs.Io.KnownBytes.{Appends, Consumes, IsAtEnd}
 use Rattle.plio.specs.Causes.{Rose, TookCount}
 use Rattle.plevent.specs.declared.request.ThreadEnd.{ThreadEnd}
 use Rattle.plevent.specs.declared.request.ThreadEnd.TheVariants.{True, False, Exception, Budget, Halt}
-use Rattle.plload.specs.Program.{Program, empty_draft, with_term, program_of}
+use Rattle.plprogram.specs.Program.{Program}
+use Rattle.plload.specs.Draft.{empty_draft, with_term, program_of}
 use Rattle.plload.specs.Loading.{Loads, Outcome, Accepts, Refuses}
 use Rattle.plload.specs.declared.error.RefusalKind.{RefusalKind}
 use Rattle.plload.proofs.Once.{one_outcome}

@@ -3,7 +3,7 @@ use Rattle.std.specs.Prelude.{◌≡◌, ◌⊎◌, ◌+◌, ◌++◌, ◌∷◌
 use Rattle.std.specs.Io.KnownBytes.{Appends, Consumes, IsAtEnd}
 use Rattle.plio.specs.Causes.{Rose, TookCount, TookAtMost, AppendsPrefix}
 use Rattle.plops.specs.Given.{iso_table}
-use Rattle.plload.specs.Program.{Program, with_goal}
+use Rattle.plprogram.specs.Program.{Program, with_goal}
 use Rattle.plload.specs.Loading.{Loads, Accepts, Refuses}
 use Rattle.plload.specs.Listing.{Lists}
 use Rattle.plload.specs.declared.error.RefusalKind.{RefusalKind}

@@ -1,5 +1,5 @@
 use Rattle.std.specs.Prelude.{[]}
-use Rattle.plload.specs.Program.{empty_draft, with_term, program_of}
+use Rattle.plload.specs.Draft.{empty_draft, with_term, program_of}
 use Rattle.plload.specs.Listing.{with_line, whole_listing}
 use Rattle.pllisting.proofs.Again.{listed_alike, all_told}
 use Rattle.pllisting.proofs.listing_is_loaded.Goals as goal

@@ -1,5 +1,5 @@
 use Rattle.std.proofs.Common.{◌≡◌, fold}
-use Rattle.plload.specs.Program.{with_name}
+use Rattle.plload.specs.Draft.{with_name}
 use Rattle.plload.proofs.draft.name_all.Given as goal
 
 abbrev pub invariant-loop-indicator : goal.invariant-loop-indicator

@@ -2,7 +2,8 @@ use Rattle.std.proofs.Common.{◌≡◌, ◌∙◌, ◌++◌, ◌∷◌, [], sym
 use Rattle.std.specs.List.{list_any}
 use Rattle.plterm.specs.Indicators.{same_indicator}
 use Rattle.plevent.specs.declared.update.Update.TheVariants.{Last}
-use Rattle.plload.specs.Program.{is_dynamic, with_clause}
+use Rattle.plprogram.specs.Program.{with_clause}
+use Rattle.plload.specs.Draft.{is_dynamic}
 use Rattle.plload.proofs.Parts.{dynamic_procedures, dynamic_first, static_procedures, static_first}
 use Rattle.plload.proofs.draft.part.Goals as goal
 

@@ -1,6 +1,7 @@
 use Rattle.std.proofs.Common.{◌≡◌, ◌++◌, map, filter, not}
 use Rattle.plevent.specs.declared.update.Update.TheVariants.{Last}
-use Rattle.plload.specs.Program.{procedures_of, is_dynamic}
+use Rattle.plprogram.specs.Program.{procedures_of}
+use Rattle.plload.specs.Draft.{is_dynamic}
 use Rattle.plload.proofs.draft.part.Given as goal
 
 abbrev pub invariant-loop-clause : goal.invariant-loop-clause

@@ -1,5 +1,5 @@
 use Rattle.std.proofs.Common.{ℕ, ◌≤◌, ◌-◌, List, [], length}
-use Rattle.plload.specs.Settings.{iso_settings}
+use Rattle.plprogram.specs.Settings.{iso_settings}
 use Rattle.plload.specs.Listing.{with_line}
 use Rattle.plload.specs.Loading.{Ending, Runs}
 use Rattle.plload.proofs.load.listing.Given as goal

@@ -1,6 +1,6 @@
 use Rattle.std.proofs.Common.{◌≡◌, ◌∙◌, ℕ, None, ap, subst, refl, arith}
 use Rattle.plload.specs.Shown.{shown}
-use Rattle.plload.specs.Program.{Draft, empty_draft, with_term, with_meaning}
+use Rattle.plload.specs.Draft.{Draft, empty_draft, with_term, with_meaning}
 use Rattle.plload.specs.Loading.{Ending, Ends, Runs, over, goes, Accepts}
 use Rattle.plload.proofs.Loadings.{counts_once}
 use Rattle.plload.proofs.Turns.{bad, good, told}

@@ -1,6 +1,6 @@
 use Rattle.std.proofs.Common.{◌≤◌, ◌-◌, length}
-use Rattle.plload.specs.Settings.{iso_settings}
-use Rattle.plload.specs.Program.{Draft, empty_draft, with_term}
+use Rattle.plprogram.specs.Settings.{iso_settings}
+use Rattle.plload.specs.Draft.{Draft, empty_draft, with_term}
 use Rattle.plload.specs.Loading.{Ending, Runs}
 use Rattle.plload.proofs.load.load.Given as goal
 

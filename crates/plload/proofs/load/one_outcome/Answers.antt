@@ -1,5 +1,5 @@
 use Rattle.std.proofs.Common.{[]}
-use Rattle.plload.specs.Program.{empty_draft, with_term, program_of}
+use Rattle.plload.specs.Draft.{empty_draft, with_term, program_of}
 use Rattle.plload.specs.Listing.{with_line, whole_listing}
 use Rattle.plload.proofs.Once.{one_outcome}
 use Rattle.plload.proofs.load.one_outcome.Goals as goal

@@ -1,5 +1,5 @@
 use Rattle.std.proofs.Common.{◌≡◌, [], length, ap, sym, arith, refl}
-use Rattle.plload.specs.Program.{clauses_for}
+use Rattle.plprogram.specs.Program.{clauses_for}
 use Rattle.plframe.specs.declared.call.Called.{Called}
 use Rattle.plframe.specs.Places.{Statics, clauses_in}
 use Rattle.plframe.specs.Calls.{IsCalled, FirstFits, left_of}

@@ -1,5 +1,5 @@
 use Rattle.std.proofs.Common.{◌≡◌, ◌++◌, ◌-◌, ◌∷◌, [], length, ap, sym, ◌∙◌, take, drop}
-use Rattle.plload.specs.Program.{clauses_for}
+use Rattle.plprogram.specs.Program.{clauses_for}
 use Rattle.plheap.specs.Store.{cut}
 use Rattle.plframe.specs.declared.call.Called.{Called}
 use Rattle.plframe.specs.declared.frame.Alternatives.{Alternatives}

@@ -1,6 +1,6 @@
 use Rattle.std.proofs.Common.{◌≡◌, ◌∙◌, ◌++◌, map, filter, length, refl, ap, rules}
 use Rattle.plevent.specs.declared.update.Update.TheVariants.{Last}
-use Rattle.plload.specs.Program.{Draft, is_dynamic, program_of}
+use Rattle.plload.specs.Draft.{Draft, is_dynamic, program_of}
 use Rattle.plload.proofs.Parts.{program_is}
 use Rattle.plload.proofs.draft.Draft.finish.Goals as goal
 

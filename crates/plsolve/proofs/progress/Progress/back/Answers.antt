@@ -1,7 +1,7 @@
 use Rattle.std.proofs.Common.{◌≡◌, ◌-◌, refl, ap, ◌∙◌, arith}
 use Rattle.plframe.specs.State.{cases_of}
 use Rattle.plsearch.specs.Engine.{deeper}
-use Rattle.plload.specs.Program.{clauses_for}
+use Rattle.plprogram.specs.Program.{clauses_for}
 use Rattle.plsolve.specs.Solver.{Settled, throws_to}
 use Rattle.plsolve.proofs.Quiets.{quiet-mark, quiet-handler, quiet-choice, quiet-retry, over-now, not_both, both_are}
 use Rattle.plsolve.proofs.progress.Progress.back.Goals as goal

@@ -1,5 +1,5 @@
 use Rattle.std.proofs.Common.{◌≡◌, ◌-◌, true, ap, ◌∙◌, subst, refl}
-use Rattle.plload.specs.Program.{clauses_for}
+use Rattle.plprogram.specs.Program.{clauses_for}
 use Rattle.plsearch.specs.Engine.{deeper}
 use Rattle.plsearch.specs.Table.{has}
 use Rattle.plframe.specs.State.{cases_of}

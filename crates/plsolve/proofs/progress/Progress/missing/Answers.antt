@@ -1,5 +1,5 @@
 use Rattle.std.proofs.Common.{ap}
-use Rattle.plload.specs.Program.{clauses_for}
+use Rattle.plprogram.specs.Program.{clauses_for}
 use Rattle.plframe.specs.State.{cases_of}
 use Rattle.plsolve.specs.Solver.{local_of}
 use Rattle.plsolve.specs.declared.progress.Outcome.TheVariants as outcomes

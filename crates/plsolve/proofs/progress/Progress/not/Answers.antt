@@ -3,7 +3,7 @@ use Rattle.plsearch.specs.Types.{Never}
 use Rattle.plsearch.specs.Table.{not_1, runnable, branch}
 use Rattle.plheap.specs.Store.{term}
 use Rattle.plframe.specs.State.{goals_of}
-use Rattle.plload.specs.Program.{clauses_for}
+use Rattle.plprogram.specs.Program.{clauses_for}
 use Rattle.plsolve.proofs.Moves.{Grown, grown-link, grown-trans, grown-goals, grown-stays, moved-grown, run-same, stays-trans, on_err, on_ok_map, on_err_map}
 use Rattle.plsolve.proofs.progress.Progress.not.Goals as goal
 

@@ -1,6 +1,6 @@
 use Rattle.std.proofs.Common.{ap, ap₂, ◌∙◌, refl}
 use Rattle.plterm.specs.Variables.{copied}
-use Rattle.plload.specs.Program.{clauses_for}
+use Rattle.plprogram.specs.Program.{clauses_for}
 use Rattle.plsearch.specs.Types.{Throw}
 use Rattle.plsearch.specs.Errors.{error_term}
 use Rattle.plsolve.proofs.Catches.{closed-below, rethrows}

@@ -1,4 +1,4 @@
-use Rattle.plload.specs.Program.{clauses_for}
+use Rattle.plprogram.specs.Program.{clauses_for}
 use Rattle.plsolve.proofs.Quiets.{quiet-retry, quiet-close, stays-back}
 use Rattle.plsolve.proofs.Moves.{on_err}
 use Rattle.plsolve.proofs.progress.Progress.retry.Goals as goal

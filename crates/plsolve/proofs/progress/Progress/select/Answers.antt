@@ -1,7 +1,7 @@
 use Rattle.std.proofs.Common.{ap, refl, suc}
 use Rattle.plsolve.proofs.Heading.{terms-length}
 use Rattle.plsearch.specs.Table.{row}
-use Rattle.plload.specs.Program.{clauses_for}
+use Rattle.plprogram.specs.Program.{clauses_for}
 use Rattle.plframe.specs.State.{cases_of}
 use Rattle.plframe.proofs.Stacks.{extends-same}
 use Rattle.plsolve.proofs.Moves.{visits, gives}

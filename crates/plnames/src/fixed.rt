@@ -1,6 +1,6 @@
 //! Procedures that no program can change or define.
 ghost use Rattle.std.specs.Prelude.{◌≡◌};
-ghost use Rattle.plload.specs.Fixed.{is_built_in, is_call, is_control, is_plain_control, is_joining_control, is_running_control, is_halt, is_fixed};
+ghost use Rattle.plnames.specs.Fixed.{is_built_in, is_call, is_control, is_plain_control, is_joining_control, is_running_control, is_halt, is_fixed};
 
 use plterm::indicator::Indicator;
 

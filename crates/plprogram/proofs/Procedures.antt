@@ -6,7 +6,7 @@ use Rattle.indexmap.specs.IndexMap.{insert_entry}
 use Rattle.plterm.specs.Indicators.{same_indicator}
 use Rattle.plterm.specs.declared.indicator.Indicator.{Indicator}
 use Rattle.plclause.specs.Clause.{Clause}
-use Rattle.plload.specs.Program.{clauses_in, with_entry}
+use Rattle.plprogram.specs.Program.{clauses_in, with_entry}
 
 abbrev pub shown : Indicator × Vec Clause Global → Indicator × List Clause
 shown e = (e.0, e.1.items)

@@ -1,20 +1,13 @@
--- What a text changes as it is read: the operators and the flags.
+-- What a clause or a directive of a text changes: the operators and the flags.
 use Rattle.std.specs.Prelude.{◌≡◌, ℕ, List, [], ◌∷◌, Option, Some, None}
 use Rattle.plops.specs.declared.operator.Kind.{Kind}
 use Rattle.plops.specs.declared.table.Entry.{Entry}
 use Rattle.plops.specs.declared.error.OpError.{OpError}
 use Rattle.plops.specs.Changes.{added, refusal}
-use Rattle.plops.specs.Given.{iso_table}
-use Rattle.plread.specs.declared.quotes.Quotes.TheVariants.{Codes}
-use Rattle.plload.specs.declared.settings.Settings.{Settings}
-use Rattle.plload.specs.declared.settings.Unknown.TheVariants.{Error}
+use Rattle.plprogram.specs.declared.settings.Settings.{Settings}
 use Rattle.plload.specs.Meaning.{Meaning, Adds, Runs, Declares, Operates, SetsQuotes, SetsUnknown, Passes, Refused}
 use Rattle.plload.specs.declared.error.RefusalKind.{RefusalKind}
 use Rattle.plload.specs.declared.error.RefusalKind.TheVariants.{BadDirective}
-
--- at the start of a text
-abbrev pub iso_settings : Settings
-iso_settings = record { operators = iso_table; quotes = Codes; unknown = Error }
 
 -- a table that comes where nothing refuses it
 abbrev pub unless : Option OpError → Option (List Entry) → Option (List Entry)

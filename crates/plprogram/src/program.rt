@@ -1,6 +1,6 @@
 //! Loaded programs.
 ghost use Rattle.std.specs.Prelude.{◌≡◌, [], OnOk, IfOk};
-ghost use Rattle.plload.specs.Program.{clauses_in, clauses_for, with_clause, with_goal};
+ghost use Rattle.plprogram.specs.Program.{clauses_in, clauses_for, with_clause, with_goal};
 
 use crate::settings::{Settings, Unknown};
 use indexmap::IndexMap;
@@ -22,7 +22,7 @@ impl Model for Procedures {
     ghost use Rattle.std.specs.Prelude.{List, map};
     ghost use Rattle.plterm.specs.declared.indicator.Indicator.{Indicator};
     ghost use Rattle.plclause.specs.Clause.{Clause};
-    ghost use Rattle.plload.specs.Program.{procedures_code};
+    ghost use Rattle.plprogram.specs.Program.{procedures_code};
 
     ghost Value = { List (Indicator × List Clause) };
 
@@ -33,7 +33,7 @@ impl Model for Procedures {
 
 impl Procedures {
     /// No procedures.
-    pub(crate) fn new(alloc: Global) -> Procedures
+    pub fn new(alloc: Global) -> Procedures
         ensures { result ≡ [] }
     {
         Procedures {
@@ -52,7 +52,7 @@ impl Procedures {
     }
 
     /// Adds a clause, as the last of its procedure. After an `Err` the procedure may be there without the clause.
-    pub(crate) fn add(&mut self, alloc: Global, clause: Clause) -> Result<(), AllocError>
+    pub fn add(&mut self, alloc: Global, clause: Clause) -> Result<(), AllocError>
         ensures { OnOk result (self.new ≡ with_clause self.old clause) }
     {
         let indicator = clause.indicator()?;
@@ -85,7 +85,7 @@ pub struct Program {
 }
 
 impl Model for Program {
-    ghost use Rattle.plload.specs.Program.{Program as Loaded, program_code};
+    ghost use Rattle.plprogram.specs.Program.{Program as Loaded, program_code};
 
     ghost Value = { Loaded };
 
@@ -96,7 +96,7 @@ impl Model for Program {
 
 impl Program {
     /// The program of these parts.
-    pub(crate) fn new(
+    pub fn new(
         procedures: Procedures,
         goals: Vec<Term>,
         first: Batch,

@@ -2,9 +2,9 @@ use Rattle.std.proofs.Common.{◌≡◌, ◌∙◌, ◌∷◌, ◌++◌, [], map
 use Rattle.indexmap.specs.IndexMap.{insert_entry}
 use Rattle.plterm.specs.Indicators.{same_indicator}
 use Rattle.plclause.specs.Indicators.{indicator}
-use Rattle.plload.specs.Program.{with_clause, with_entry}
-use Rattle.plload.proofs.Procedures.{shown, set_entry, insert_new}
-use Rattle.plload.proofs.program.Procedures.add.Goals as goal
+use Rattle.plprogram.specs.Program.{with_clause, with_entry}
+use Rattle.plprogram.proofs.Procedures.{shown, set_entry, insert_new}
+use Rattle.plprogram.proofs.program.Procedures.add.Goals as goal
 
 pub returns-in_ok-push-in-Some : goal.returns-in_ok-push-in-Some
 returns-in_ok-push-in-Some c =

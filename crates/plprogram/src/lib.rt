@@ -1,0 +1,5 @@
+//! A loaded program: its static procedures, the goals of main, the first batch of the journal, and the operators and flags at its end.
+#![tactic(auto)]
+
+pub mod program;
+pub mod settings;
