@@ -1,13 +1,14 @@
+//! Unification on the heap (plunify).
 ghost use Rattle.std.specs.Prelude.{◌≡◌, ◌+◌, ◌<◌, ◌≤◌, ◌∷◌, [], length, IfOk, OnOk};
 ghost use Rattle.plterm.specs.Tree.{atom, compound, none, more};
 ghost use Rattle.plheap.specs.Store.{Keeps};
 
-use crate::unify::{Scratch, unify};
 use plheap::heap::Heap;
 use plheap::put::Pending;
 use plterm::error::TermError;
 use plterm::name::Name;
 use plterm::term::Term;
+use plunify::unify::{Scratch, unify};
 use std::alloc::Global;
 use std::test::Fail;
 

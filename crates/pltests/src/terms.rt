@@ -1,11 +1,12 @@
-use crate::builder::Builder;
-use crate::error::TermError;
-use crate::indicator::Indicator;
-use crate::name::Name;
-use crate::node::Node;
-use crate::numbers::Numbers;
-use crate::term::Term;
-use crate::walk::Shape;
+//! Terms (plterm).
+use plterm::builder::Builder;
+use plterm::error::TermError;
+use plterm::indicator::Indicator;
+use plterm::name::Name;
+use plterm::node::Node;
+use plterm::numbers::Numbers;
+use plterm::term::Term;
+use plterm::walk::Shape;
 use std::alloc::{AllocError, Global};
 use std::test::Fail;
 

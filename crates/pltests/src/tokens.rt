@@ -1,7 +1,8 @@
-use crate::clause::clause_tokens;
-use crate::error::LexError;
-use crate::token::{Fault, Kind, Token};
-use crate::value::{has_value, value_of};
+//! Tokens (pllex).
+use pllex::clause::clause_tokens;
+use pllex::error::LexError;
+use pllex::token::{Fault, Kind, Token};
+use pllex::value::{has_value, value_of};
 use std::alloc::{AllocError, Global};
 use std::test::Fail;
 

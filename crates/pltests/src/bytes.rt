@@ -1,6 +1,9 @@
+//! Sources and sinks (plio).
 ghost use Rattle.std.specs.Prelude.{◌<◌, ◌^◌};
 
-use super::*;
+use plio::{
+    Failed, FileSource, MemorySink, MemorySource, ReadError, Source, StdSink, read_all, write_all,
+};
 use std::alloc::{AllocError, Global};
 use std::test::Fail;
 

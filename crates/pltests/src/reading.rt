@@ -1,12 +1,14 @@
-use crate::clause::term_of;
-use crate::error::ReadError;
-use crate::input::Input;
-use crate::read::read_clause;
-use crate::token::Token;
-use crate::words::Words;
+//! Terms from tokens (plread).
+use crate::made::{atom, one, pair};
 use pllex::clause::clause_tokens;
 use plops::flag::Quotes;
 use plops::table::OpTable;
+use plread::clause::term_of;
+use plread::error::ReadError;
+use plread::input::Input;
+use plread::read::read_clause;
+use plread::token::Token;
+use plread::words::Words;
 use plterm::name::Name;
 use plterm::node::Node;
 use plterm::term::Term;
@@ -32,20 +34,6 @@ fn is_read_as(alloc: Global, text: &[u8], wanted: &Term) -> Result<bool, ReadErr
         Some(term) => Ok(term.is_same(wanted)),
         None => Ok(false),
     }
-}
-
-fn atom(alloc: Global, name: &str) -> Result<Term, Fail> {
-    Ok(Term::atom(alloc, Name::new(alloc, name)?)?)
-}
-
-fn pair(alloc: Global, name: &str, left: Term, right: Term) -> Result<Term, Fail> {
-    let args = Vec::from_array(alloc, [left, right])?;
-    Ok(Term::compound(alloc, Name::new(alloc, name)?, args)?)
-}
-
-fn one(alloc: Global, name: &str, arg: Term) -> Result<Term, Fail> {
-    let args = Vec::from_array(alloc, [arg])?;
-    Ok(Term::compound(alloc, Name::new(alloc, name)?, args)?)
 }
 
 // Facts, functional notation, rules and directives (6.3).

@@ -1,7 +1,8 @@
-use crate::history::{History, Journal, Output, Places, Run, RunEnd, Runs};
-use crate::report::report_text;
-use crate::status::{Status, refusal_text, status_of};
+//! Reports and statuses (plhist).
 use plevent::{Act, Batch, Entry, ThreadEnd};
+use plhist::history::{History, Journal, Output, Places, Run, RunEnd, Runs};
+use plhist::report::report_text;
+use plhist::status::{Status, refusal_text, status_of};
 use plload::error::RefusalKind;
 use plops::table::OpTable;
 use plterm::name::Name;

@@ -1,21 +1,13 @@
-use crate::act::{Act, Entry};
-use crate::request::{Request, ThreadEnd};
-use crate::standing::Standing;
-use crate::update::{Batch, ClauseName, Update};
-use plclause::clause::Clause;
-use plterm::error::TermError;
+//! Updates, requests and journals (plevent).
+use crate::made::clause;
+use plevent::act::{Act, Entry};
+use plevent::request::{Request, ThreadEnd};
+use plevent::standing::Standing;
+use plevent::update::{Batch, ClauseName, Update};
 use plterm::indicator::Indicator;
 use plterm::name::Name;
 use plterm::term::Term;
-use std::alloc::Global;
 use std::test::Fail;
-
-/// The clause `p.`
-fn fact(alloc: Global) -> Result<Clause, TermError> {
-    let head = Term::atom(alloc, Name::new(alloc, "p")?)?;
-    let body = Term::atom(alloc, Name::new(alloc, "true")?)?;
-    Ok(Clause::new(alloc, &head.root(), &body.root())?)
-}
 
 // A batch of each kind of update, and its copy, in an entry.
 #[test]
@@ -24,8 +16,8 @@ fn batches_and_entries(rt: HostRuntime) -> Result<(), Fail> {
     let place = 3;
     let number = 1;
     let mut updates = Vec::new(alloc);
-    updates.push(Update::First(fact(alloc)?))?;
-    updates.push(Update::Last(fact(alloc)?))?;
+    updates.push(Update::First(clause(alloc, "true")?))?;
+    updates.push(Update::Last(clause(alloc, "true")?))?;
     updates.push(Update::Erase(ClauseName { place, number }))?;
     updates.push(Update::EraseOwn(0))?;
     let name = Name::new(alloc, "q")?;

@@ -1,7 +1,8 @@
-use crate::cell::Cell;
-use crate::heap::Heap;
-use crate::put::Pending;
-use crate::take::push_run;
+//! Terms on the heap (plheap).
+use plheap::cell::Cell;
+use plheap::heap::Heap;
+use plheap::put::Pending;
+use plheap::take::push_run;
 use plterm::name::Name;
 use plterm::term::Term;
 use std::test::Fail;

@@ -1,4 +1,5 @@
-use crate::goal::goal_of;
+//! Goals on the heap (plgoal).
+use plgoal::goal::goal_of;
 use plheap::heap::Heap;
 use plheap::put::Pending;
 use plterm::name::Name;

@@ -1,6 +1,7 @@
-use crate::error::OpError;
-use crate::operator::Kind;
-use crate::table::OpTable;
+//! Operators (plops).
+use plops::error::OpError;
+use plops::operator::Kind;
+use plops::table::OpTable;
 use std::test::Fail;
 
 // The operators of the standard's table, and of directives; `<` is before no operand, `a` is no operator.

@@ -1,21 +1,15 @@
-use crate::record::Cursor;
-use crate::store::Store;
-use plclause::clause::Clause;
+//! The clauses of all batches (plstore).
+use crate::made::clause;
 use plevent::{Batch, ClauseName, Update};
-use plterm::error::TermError;
+use plstore::record::Cursor;
+use plstore::store::Store;
 use plterm::indicator::Indicator;
 use plterm::name::Name;
 use plterm::term::Term;
 use std::alloc::{AllocError, Global};
 use std::test::Fail;
 
-/// The clause of p/0 with this atom as its body.
-fn clause(alloc: Global, body: &str) -> Result<Clause, TermError> {
-    let head = Term::atom(alloc, Name::new(alloc, "p")?)?;
-    let body = Term::atom(alloc, Name::new(alloc, body)?)?;
-    Ok(Clause::new(alloc, &head.root(), &body.root())?)
-}
-
+/// The name p with an arity.
 fn indicator(alloc: Global, arity: u16) -> Result<Indicator, AllocError> {
     let name = Name::new(alloc, "p")?;
     Ok(Indicator { name, arity })

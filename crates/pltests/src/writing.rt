@@ -1,23 +1,12 @@
-use crate::style::Style;
-use crate::write::{write_clause, write_term};
+//! The text of terms (plwrite).
+use crate::made::{atom, pair};
 use plops::table::OpTable;
 use plterm::error::TermError;
-use plterm::name::Name;
 use plterm::term::Term;
+use plwrite::style::Style;
+use plwrite::write::{write_clause, write_term};
 use std::alloc::Global;
 use std::test::Fail;
-
-fn atom(alloc: Global, name: &str) -> Result<Term, TermError> {
-    Term::atom(alloc, Name::new(alloc, name)?)
-}
-
-fn of(alloc: Global, name: &str, args: Vec<Term>) -> Result<Term, TermError> {
-    Term::compound(alloc, Name::new(alloc, name)?, args)
-}
-
-fn pair(alloc: Global, name: &str, left: Term, right: Term) -> Result<Term, TermError> {
-    of(alloc, name, vec![in alloc; left, right]?)
-}
 
 /// The clause `a:-b,'X y'`.
 fn clause(alloc: Global) -> Result<Term, TermError> {

@@ -1,33 +1,15 @@
-use crate::form::{ClauseForm, clause_of};
-use plterm::error::TermError;
-use plterm::name::Name;
+//! Clauses (plclause).
+use crate::made::{atom, one, pair};
+use plclause::form::{ClauseForm, clause_of};
 use plterm::term::Term;
-use std::alloc::Global;
 use std::test::Fail;
-
-fn atom(alloc: Global, name: &str) -> Result<Term, TermError> {
-    Term::atom(alloc, Name::new(alloc, name)?)
-}
-
-fn one(alloc: Global, name: &str, argument: Term) -> Result<Term, TermError> {
-    let mut args = Vec::new(alloc);
-    args.push(argument)?;
-    Term::compound(alloc, Name::new(alloc, name)?, args)
-}
-
-fn two(alloc: Global, name: &str, first: Term, second: Term) -> Result<Term, TermError> {
-    let mut args = Vec::new(alloc);
-    args.push(first)?;
-    args.push(second)?;
-    Term::compound(alloc, Name::new(alloc, name)?, args)
-}
 
 // `p(X) :- X` has the body `call(X)`, its variable being 0.
 #[test]
 fn variable_bodies(rt: HostRuntime) -> Result<(), Fail> {
     let alloc = rt.alloc();
     let head = one(alloc, "p", Term::var(alloc, 4)?)?;
-    let term = two(alloc, ":-", head, Term::var(alloc, 4)?)?;
+    let term = pair(alloc, ":-", head, Term::var(alloc, 4)?)?;
     match clause_of(alloc, &term)? {
         ClauseForm::IsClause(clause) => {
             let copy = clause.copied()?;
@@ -53,21 +35,21 @@ fn variable_bodies(rt: HostRuntime) -> Result<(), Fail> {
 #[test]
 fn refusals(rt: HostRuntime) -> Result<(), Fail> {
     let alloc = rt.alloc();
-    let body = two(alloc, ",", atom(alloc, "q")?, Term::int(alloc, 1)?)?;
-    let term = two(alloc, ":-", atom(alloc, "p")?, body)?;
+    let body = pair(alloc, ",", atom(alloc, "q")?, Term::int(alloc, 1)?)?;
+    let term = pair(alloc, ":-", atom(alloc, "p")?, body)?;
     match clause_of(alloc, &term)? {
         ClauseForm::BadBody(found) => {
-            assert!(rt; found.is_same(&two(alloc, ",", atom(alloc, "q")?, Term::int(alloc, 1)?)?));
+            assert!(rt; found.is_same(&pair(alloc, ",", atom(alloc, "q")?, Term::int(alloc, 1)?)?));
         }
         ClauseForm::NoHead | ClauseForm::BadHead(_) | ClauseForm::IsClause(_) => assert!(rt;
             false,
             "a bad body"
         ),
     }
-    let numbered = two(alloc, ":-", Term::int(alloc, 1)?, atom(alloc, "a")?)?;
+    let numbered = pair(alloc, ":-", Term::int(alloc, 1)?, atom(alloc, "a")?)?;
     let found = clause_of(alloc, &numbered)?;
     assert!(rt; matches!(&found, ClauseForm::BadHead(_)));
-    let open = two(alloc, ":-", Term::var(alloc, 0)?, atom(alloc, "a")?)?;
+    let open = pair(alloc, ":-", Term::var(alloc, 0)?, atom(alloc, "a")?)?;
     let found = clause_of(alloc, &open)?;
     assert!(rt; matches!(&found, ClauseForm::NoHead));
     let found = clause_of(alloc, &atom(alloc, "b")?)?;

@@ -1,5 +1,6 @@
-use crate::form::Form;
-use crate::words::{Words, paths};
+//! The words of a command line (plwords).
+use plwords::form::Form;
+use plwords::words::{Words, paths};
 use std::alloc::{AllocError, Global};
 use std::test::Fail;
 
@@ -27,7 +28,7 @@ fn run_of(words: &Words) -> Option<(u64, Option<&str>, &str)> {
 #[test]
 fn runs(rt: HostRuntime) -> Result<(), Fail> {
     let alloc = rt.alloc();
-    let cases: [(&[&str], u64, Option<&str>, &str); 9] = [
+    let cases: [(&[&str], u64, Option<&str>, &str); 11] = [
         (&["prolog", "run", "P"], 1_073_741_824, None, "P"),
         (&["prolog", "--steps=5", "run", "P"], 5, None, "P"),
         (&["prolog", "run", "P", "--steps", "+7"], 7, None, "P"),
@@ -51,6 +52,19 @@ fn runs(rt: HostRuntime) -> Result<(), Fail> {
         ),
         (&["prolog", "run", "--", "-P"], 1_073_741_824, None, "-P"),
         (&["prolog", "run", "-"], 1_073_741_824, None, "-"),
+        // What a goal's text is, others say.
+        (
+            &["prolog", "run", "--goal", "a b", "P"],
+            1_073_741_824,
+            Some("a b"),
+            "P",
+        ),
+        (
+            &["prolog", "run", "--goal", "1", "P"],
+            1_073_741_824,
+            Some("1"),
+            "P",
+        ),
         (
             &["prolog", "run", "P", "--steps", "1099511627776"],
             1_099_511_627_776,

@@ -1,19 +1,17 @@
-use crate::world::World;
-use plclause::clause::Clause;
+//! The journal and its requests (plworld).
+use crate::made::clause;
 use plevent::{Act, Batch, Reply, Request, ThreadEnd, Update};
 use plterm::error::TermError;
 use plterm::indicator::Indicator;
 use plterm::name::Name;
-use plterm::term::Term;
+use plworld::world::World;
 use std::alloc::Global;
 use std::test::Fail;
 
 /// A batch with the clause `p.` behind all others.
 fn batch(alloc: Global) -> Result<Batch, TermError> {
-    let head = Term::atom(alloc, Name::new(alloc, "p")?)?;
-    let body = Term::atom(alloc, Name::new(alloc, "true")?)?;
     let mut updates = Vec::new(alloc);
-    updates.push(Update::Last(Clause::new(alloc, &head.root(), &body.root())?))?;
+    updates.push(Update::Last(clause(alloc, "true")?))?;
     Ok(Batch::new(updates))
 }
 
