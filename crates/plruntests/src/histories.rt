@@ -2,7 +2,7 @@
 use plevent::{Act, Batch, Entry, ThreadEnd};
 use plhist::history::{History, Journal, Output, Places, Run, RunEnd, Runs};
 use plhist::report::report_text;
-use plhist::status::{Status, refusal_text, status_of};
+use plhist::status::{Status, kind_word, refusal_text, status_of};
 use plload::error::RefusalKind;
 use plops::table::OpTable;
 use plterm::name::Name;
@@ -103,4 +103,17 @@ fn tells_a_refusal(rt: HostRuntime) -> Result<(), Fail> {
     assert_eq!(rt; status.number(), 65);
     assert!(rt; status.line().is_none());
     Ok(())
+}
+
+#[test]
+fn kinds_of_refusals(rt: HostRuntime) {
+    for (kind, word) in [
+        (RefusalKind::Lex, "lex"),
+        (RefusalKind::Syntax, "syntax"),
+        (RefusalKind::NotCallable, "not_callable"),
+        (RefusalKind::StaticRedefined, "static_redefined"),
+        (RefusalKind::BadDirective, "bad_directive"),
+    ] {
+        assert_eq!(rt; kind_word(kind), word);
+    }
 }

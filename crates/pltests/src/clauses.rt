@@ -1,5 +1,6 @@
 //! Clauses (plclause).
 use crate::made::{atom, one, pair};
+use plclause::convert::convert;
 use plclause::form::{ClauseForm, clause_of};
 use plterm::term::Term;
 use std::test::Fail;
@@ -54,5 +55,18 @@ fn refusals(rt: HostRuntime) -> Result<(), Fail> {
     assert!(rt; matches!(&found, ClauseForm::NoHead));
     let found = clause_of(alloc, &atom(alloc, "b")?)?;
     assert!(rt; matches!(&found, ClauseForm::IsClause(_)));
+    Ok(())
+}
+
+// `(a ; X)` stands for the goal `(a ; call(X))`, and `(a , 1)` for none (7.6.2).
+#[test]
+fn goals(rt: HostRuntime) -> Result<(), Fail> {
+    let alloc = rt.alloc();
+    let term = pair(alloc, ";", atom(alloc, "a")?, Term::var(alloc, 4)?)?;
+    let goal = convert(alloc, &term.root())?.ok_or("no goal")?;
+    let called = one(alloc, "call", Term::var(alloc, 4)?)?;
+    assert!(rt; goal.is_same(&pair(alloc, ";", atom(alloc, "a")?, called)?));
+    let term = pair(alloc, ",", atom(alloc, "a")?, Term::int(alloc, 1)?)?;
+    assert!(rt; convert(alloc, &term.root())?.is_none());
     Ok(())
 }

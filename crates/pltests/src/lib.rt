@@ -16,6 +16,8 @@ mod names;
 #[cfg(test)]
 mod operators;
 #[cfg(test)]
+mod programs;
+#[cfg(test)]
 mod reading;
 #[cfg(test)]
 mod styles;

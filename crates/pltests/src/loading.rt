@@ -1,7 +1,7 @@
 //! Programs and their refusals (plload).
 use plload::error::{LoadError, RefusalKind};
-use plload::goal::is_goal;
-use plload::load::load;
+use plload::goal::{is_goal, read_goal};
+use plload::load::{listing, load};
 use plterm::indicator::Indicator;
 use plterm::name::Name;
 use std::alloc::Global;
@@ -127,5 +127,26 @@ fn goals_beside(rt: HostRuntime) -> Result<(), Fail> {
     for (text, is) in table {
         assert!(rt; is_goal(rt.alloc(), text)? == is, "{text}");
     }
+    Ok(())
+}
+
+// A goal's text is read as the goal with its variables by first occurrence.
+#[test]
+fn read_goals(rt: HostRuntime) -> Result<(), Fail> {
+    let alloc = rt.alloc();
+    let goal = read_goal(alloc, "p(X, Y, X)")?.ok_or("no goal")?;
+    assert_eq!(rt; goal.variables(alloc)?.as_slice(), [0, 1].as_slice());
+    assert!(rt; read_goal(alloc, "1")?.is_none());
+    Ok(())
+}
+
+// A listing has each clause and each directive in a line of its own.
+#[test]
+fn listings(rt: HostRuntime) -> Result<(), Fail> {
+    let lines = listing(rt.alloc(), b"p(X,Y) :- q(Y,X), \\+ r. :- a.")?;
+    assert_eq!(rt;
+        lines.as_slice(),
+        b"p(_1,_2):-q(_2,_1),\\+r.\n:-a.\n".as_slice()
+    );
     Ok(())
 }

@@ -1,6 +1,6 @@
 //! Operators (plops).
 use plops::error::OpError;
-use plops::operator::Kind;
+use plops::operator::{Kind, Operator};
 use plops::table::OpTable;
 use std::test::Fail;
 
@@ -82,4 +82,25 @@ fn adds(rt: HostRuntime) -> Result<(), Fail> {
     assert_eq!(rt; copy.infix("===>").map_or(0, |op| op.right), 1199);
     assert_eq!(rt; copy.list(rt.alloc())?.len(), 45);
     Ok(())
+}
+
+// An operator is made of its priority and its kind, and tells its kind.
+#[test]
+fn kinds(rt: HostRuntime) {
+    for kind in [
+        Kind::Xfx,
+        Kind::Xfy,
+        Kind::Yfx,
+        Kind::Fx,
+        Kind::Fy,
+        Kind::Xf,
+        Kind::Yf,
+    ] {
+        let told = match Operator::of(700, kind) {
+            Operator::Before(op) => op.kind(),
+            Operator::Between(op) => op.kind(),
+            Operator::Behind(op) => op.kind(),
+        };
+        assert_eq!(rt; told, kind);
+    }
 }

@@ -306,3 +306,23 @@ fn no_forms(rt: HostRuntime) -> Result<(), Fail> {
     }
     Ok(())
 }
+
+// The names of punctuation stand first among the words; a text has a place of its own.
+#[test]
+fn words(rt: HostRuntime) -> Result<(), Fail> {
+    let alloc = rt.alloc();
+    let mut words = Words::new(alloc)?;
+    for (place, name) in [
+        (words.comma(), ","),
+        (words.dot(), "."),
+        (words.nil(), "[]"),
+        (words.curly(), "{}"),
+        (9, ""),
+    ] {
+        assert_eq!(rt; words.text(place), name);
+        assert_eq!(rt; words.name(alloc, place)?.as_str(), name);
+    }
+    let place = words.push_text(String::from_str(alloc, "ab")?)?;
+    assert_eq!(rt; words.quoted(place), "ab");
+    Ok(())
+}

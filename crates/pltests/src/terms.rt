@@ -105,3 +105,15 @@ fn indicators(rt: HostRuntime) -> Result<(), Fail> {
     assert!(rt; !indicator.name.is_same(&other));
     Ok(())
 }
+
+// The node of f/3 has three arguments and a name of one byte; a variable has neither.
+#[test]
+fn nodes(rt: HostRuntime) -> Result<(), Fail> {
+    let alloc = rt.alloc();
+    let node = Node::Compound(Name::new(alloc, "f")?, 3);
+    assert_eq!(rt; (node.arity(), node.name_len()), (3, 1));
+    let node = Node::Var(7);
+    assert_eq!(rt; (node.arity(), node.name_len()), (0, 0));
+    assert_eq!(rt; triple(alloc, 7, 3)?.root().alone().len(), 1);
+    Ok(())
+}

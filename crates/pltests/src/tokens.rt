@@ -1,7 +1,14 @@
 //! Tokens (pllex).
+use pllex::characters::{after_mark, begins_with, is_character, rest_of_character};
 use pllex::clause::clause_tokens;
+use pllex::digits::{is_digit, with_digit};
 use pllex::error::LexError;
-use pllex::token::{Fault, Kind, Token};
+use pllex::escape::{Coded, escape_code};
+use pllex::item::item_at;
+use pllex::layout::{Gap, gap_at};
+use pllex::quoted::{Quote, Quoted, is_control, mark, quoted_end};
+use pllex::runs::{is_layout, is_symbol, run_end};
+use pllex::token::{Base, Class, Fault, Item, Kind, Token};
 use pllex::value::{has_value, value_of};
 use std::alloc::{AllocError, Global};
 use std::test::Fail;
@@ -247,4 +254,60 @@ fn values(rt: HostRuntime) -> Result<(), Fail> {
         }
     }
     Ok(())
+}
+
+// Bytes, whether they are symbol characters (6.5.1), layout (6.5.4), and control characters of a quoted item.
+#[test]
+fn bytes(rt: HostRuntime) {
+    for (b, symbol, layout, control) in [
+        (b'+', true, false, false),
+        (b'\\', true, false, false),
+        (b';', false, false, false),
+        (b'a', false, false, false),
+        (b' ', false, true, false),
+        (b'\n', false, true, false),
+        (7, false, false, true),
+        (127, false, false, true),
+    ] {
+        assert_eq!(rt; is_symbol(b), symbol, "{b}");
+        assert_eq!(rt; is_layout(b), layout, "{b}");
+        assert_eq!(rt; is_control(b), control, "{b}");
+    }
+    assert_eq!(rt; (mark(Quote::Single), mark(Quote::Double)), (b'\'', b'"'));
+}
+
+// Digits of each base, and a number with one more of them, up to a limit.
+#[test]
+fn digits(rt: HostRuntime) {
+    for (base, b, is) in [
+        (Base::Binary, b'1', true),
+        (Base::Binary, b'2', false),
+        (Base::Octal, b'8', false),
+        (Base::Decimal, b'9', true),
+        (Base::Hexadecimal, b'f', true),
+        (Base::Hexadecimal, b'g', false),
+    ] {
+        assert_eq!(rt; is_digit(base, b), is, "{b}");
+    }
+    assert_eq!(rt; with_digit(Base::Decimal, 12, b'3', 123), Some(123));
+    assert_eq!(rt; with_digit(Base::Decimal, 12, b'3', 122), None);
+    assert_eq!(rt; with_digit(Base::Hexadecimal, 1, b'F', 255), Some(31));
+}
+
+// What stands at the start of a text: a mark, a character past ASCII, layout, a run, an item.
+#[test]
+fn starts(rt: HostRuntime) {
+    assert!(rt; begins_with(b"ab", 0, b'a') && !begins_with(b"ab", 0, b'b'));
+    assert_eq!(rt; after_mark(b"\xEF\xBB\xBFa", 0), 3);
+    assert!(rt; is_character(b"\xC3\xA9", 0) && !is_character(b"\xC3", 0));
+    assert_eq!(rt; rest_of_character(b"\xE2\x82\xAC", 0), Some(2));
+    assert!(rt; matches!(gap_at(b" % c\na", 0), Gap::Before(5)));
+    assert!(rt; matches!(gap_at(b" /* a", 0), Gap::Unclosed(1)));
+    assert_eq!(rt; run_end(b"ab_1(", 0, Class::Alphanumeric), 4);
+    assert!(rt; matches!(escape_code(b"x41\\b", 0), Coded::Character('A', 4)));
+    assert!(rt; matches!(quoted_end(b"'a''b'.", 0, Quote::Single), Quoted::Closed(6)));
+    let item = item_at(b"Ab(", 0);
+    assert!(rt;
+        matches!(item, Item::Token(token) if token.kind == Kind::Variable && token.end == 2)
+    );
 }

@@ -42,3 +42,16 @@ fn writes(rt: HostRuntime) -> Result<(), Fail> {
     assert_eq!(rt; line.as_slice(), b"+ .\n".as_slice());
     Ok(())
 }
+
+// `'$VAR'(N)` is a variable as write/1 and writeq/1 write it (7.10.5), and in no other style.
+#[test]
+fn letters(rt: HostRuntime) {
+    for (style, has) in [
+        (Style::Plain, true),
+        (Style::Quoted, true),
+        (Style::Canonical, false),
+        (Style::Listed, false),
+    ] {
+        assert_eq!(rt; style.has_letters(), has, "{style:?}");
+    }
+}
