@@ -4,5 +4,3 @@
 pub mod clause;
 pub mod convert;
 pub mod form;
-#[cfg(test)]
-mod tests;

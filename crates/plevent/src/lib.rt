@@ -5,8 +5,6 @@
 pub mod act;
 pub mod request;
 pub mod standing;
-#[cfg(test)]
-mod tests;
 pub mod update;
 
 pub use act::{Act, Entry};

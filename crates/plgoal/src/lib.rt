@@ -2,5 +2,3 @@
 #![tactic(auto)]
 
 pub mod goal;
-#[cfg(test)]
-mod tests;

@@ -7,5 +7,3 @@ pub mod cell;
 pub mod heap;
 pub mod put;
 pub mod take;
-#[cfg(test)]
-mod tests;

@@ -9,6 +9,3 @@ pub mod status;
 pub use history::{History, Journal, Output, Places, Run, RunEnd, Runs};
 pub use report::report_text;
 pub use status::{Status, kind_word, refusal_text, status_of};
-
-#[cfg(test)]
-mod tests;

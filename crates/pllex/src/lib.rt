@@ -12,7 +12,5 @@ pub mod layout;
 pub mod number;
 pub mod quoted;
 pub mod runs;
-#[cfg(test)]
-mod tests;
 pub mod token;
 pub mod value;

@@ -11,5 +11,3 @@ mod meaning;
 mod next;
 mod position;
 mod taking;
-#[cfg(test)]
-mod tests;

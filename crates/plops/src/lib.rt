@@ -5,5 +5,3 @@ pub mod error;
 pub mod flag;
 pub mod operator;
 pub mod table;
-#[cfg(test)]
-mod tests;

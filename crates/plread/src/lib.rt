@@ -9,8 +9,6 @@ pub mod lists;
 pub mod looks;
 pub mod read;
 pub mod reader;
-#[cfg(test)]
-mod tests;
 pub mod token;
 pub mod variables;
 pub mod words;

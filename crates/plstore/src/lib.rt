@@ -7,8 +7,6 @@ mod plan;
 pub mod record;
 pub mod store;
 mod tables;
-#[cfg(test)]
-mod tests;
 mod walk;
 
 pub use record::{Cursor, Declared, Record};

@@ -1,6 +1,4 @@
 //! Unification on a heap (ISO/IEC 13211-1 7.3), with the occurs check: it binds the unifier that is defined, and without recursion.
 #![tactic(auto)]
 
-#[cfg(test)]
-mod tests;
 pub mod unify;

@@ -3,6 +3,4 @@
 
 mod arguments;
 pub mod form;
-#[cfg(test)]
-mod tests;
 pub mod words;

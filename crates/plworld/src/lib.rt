@@ -4,8 +4,6 @@
 
 pub mod laws;
 pub mod rows;
-#[cfg(test)]
-mod tests;
 pub mod world;
 
 pub use world::World;

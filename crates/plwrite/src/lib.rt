@@ -6,8 +6,6 @@ mod names;
 mod place;
 pub mod style;
 mod task;
-#[cfg(test)]
-mod tests;
 mod text;
 pub mod write;
 mod writer;

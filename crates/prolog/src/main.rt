@@ -1,11 +1,7 @@
 //! Runs a Prolog program: `prolog run PROGRAM`, with `--steps` and `--goal`.
 #![tactic(auto)]
 
-mod command;
-#[cfg(test)]
-mod tests;
-
-use command::prolog_command;
+use plcommand::command::prolog_command;
 use plhist::Status;
 use plio::{FileSource, NoGate, StdSink};
 use plwords::words::{Words, paths};

@@ -1,0 +1,19 @@
+//! Worked programs: words of a command line and a text, and the output and the status that they come to.
+#![tactic(auto)]
+
+#[cfg(test)]
+mod calls;
+#[cfg(test)]
+mod control;
+#[cfg(test)]
+mod deep;
+#[cfg(test)]
+mod ends;
+#[cfg(test)]
+mod faults;
+#[cfg(test)]
+mod forms;
+#[cfg(test)]
+mod programs;
+#[cfg(test)]
+mod row;

@@ -1,0 +1,93 @@
+//! Rows, and what runs them.
+use plcommand::command::{Report, prolog_command};
+use plhist::Status;
+use plio::{MemorySink, MemorySource, NoGate};
+use plwords::words::Words;
+use std::alloc::{AllocError, Global};
+use std::sync::Wait;
+use std::test::Fail;
+use std::thread::Threads;
+
+/// The words of a command line, a text, and what they make of it: the output and the status.
+pub type Row = (&'static [&'static str], &'static str, &'static str, Status);
+
+/// The words that run a program.
+pub const RUN: &[&str] = &["prolog", "run", "P"];
+/// The words that list one.
+pub const LIST: &[&str] = &["prolog", "list", "P"];
+/// The words that count its clauses and directives.
+pub const CHECK: &[&str] = &["prolog", "check", "P"];
+
+/// Runs rows: the place of the first that comes to anything else.
+pub fn first_wrong<R: Threads + Wait + Sync>(
+    rt: &R,
+    alloc: Global,
+    rows: &[Row],
+) -> Result<Option<usize>, Fail> {
+    for (place, (words, text, output, status)) in rows.iter().enumerate() {
+        let (bytes, ended) = told(rt, alloc, words, text.as_bytes())?;
+        if bytes.as_slice() != output.as_bytes() || ended != *status {
+            return Ok(Some(place));
+        }
+    }
+    Ok(None)
+}
+
+/// What the words make of a text: the output and the status.
+pub fn told<R: Threads + Wait + Sync>(
+    rt: &R,
+    alloc: Global,
+    words: &[&str],
+    text: &[u8],
+) -> Result<(Vec<u8>, Status), Fail> {
+    let words = words_of(alloc, words)?;
+    let source = MemorySource::new(Vec::from_slice(alloc, text)?, 4096, Vec::new(alloc));
+    let sink = MemorySink::new(alloc, 1_000_000, Vec::new(alloc))?;
+    let (bytes, report) = called(rt, alloc, &words, source, sink)?;
+    Ok((bytes, report.status))
+}
+
+/// What the words make of what a source gives: what the sink then holds, and the report.
+pub fn called<R: Threads + Wait + Sync>(
+    rt: &R,
+    alloc: Global,
+    words: &Words,
+    source: MemorySource,
+    sink: MemorySink,
+) -> Result<(Vec<u8>, Report), Fail> {
+    let mut program = source;
+    let mut second = MemorySource::new(Vec::new(alloc), 1, Vec::new(alloc));
+    let mut out = sink;
+    let report = prolog_command(
+        rt,
+        alloc,
+        words,
+        &mut program,
+        &mut second,
+        &mut out,
+        &NoGate,
+    );
+    Ok((Vec::from_slice(alloc, out.bytes())?, report))
+}
+
+/// The words of a command line.
+pub fn words_of(alloc: Global, texts: &[&str]) -> Result<Words, AllocError> {
+    let mut words = Words::new(alloc);
+    for text in texts {
+        words.push(text.to_string(alloc)?)?;
+    }
+    Ok(words)
+}
+
+/// A piece of text so many times, behind a text.
+pub fn repeated(
+    alloc: Global,
+    text: &mut Vec<u8>,
+    piece: &str,
+    times: usize,
+) -> Result<(), AllocError> {
+    for _ in 0..times {
+        text.extend_from_slice(piece.as_bytes())?;
+    }
+    Ok(())
+}

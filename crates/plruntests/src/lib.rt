@@ -1,0 +1,23 @@
+//! Tests of the crates of the heap, the database and the run, from the public calls of each.
+#![tactic(auto)]
+
+#[cfg(test)]
+mod events;
+#[cfg(test)]
+mod goals;
+#[cfg(test)]
+mod heaps;
+#[cfg(test)]
+mod histories;
+#[cfg(test)]
+mod made;
+#[cfg(test)]
+mod running;
+#[cfg(test)]
+mod solving;
+#[cfg(test)]
+mod stores;
+#[cfg(test)]
+mod unifying;
+#[cfg(test)]
+mod worlds;

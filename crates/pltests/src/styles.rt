@@ -1,0 +1,275 @@
+//! Terms in each style of writing, and read back (plwrite, plread).
+use pllex::clause::clause_tokens;
+use plops::flag::Quotes;
+use plops::table::OpTable;
+use plread::read::{ReadTerm, read_clause};
+use plterm::term::Term;
+use plwrite::style::Style;
+use plwrite::write::write_term;
+use std::alloc::Global;
+use std::test::Fail;
+
+/// A term as program text, and its texts in the styles Plain, Quoted, Canonical and Listed.
+type StyleRow = (
+    &'static str,
+    &'static str,
+    &'static str,
+    &'static str,
+    &'static str,
+);
+
+const STYLES: [StyleRow; 79] = [
+    ("a", "a", "a", "a", "a"),
+    ("'B'", "B", "'B'", "'B'", "'B'"),
+    (
+        "'hello world'",
+        "hello world",
+        "'hello world'",
+        "'hello world'",
+        "'hello world'",
+    ),
+    ("[]", "[]", "[]", "[]", "[]"),
+    ("{}", "{}", "{}", "{}", "{}"),
+    ("'[]'(x)", "[](x)", "'[]'(x)", "'[]'(x)", "'[]'(x)"),
+    ("'{}'(x)", "{x}", "{x}", "{x}", "{x}"),
+    ("!", "!", "!", "!", "!"),
+    (";", ";", ";", ";", ";"),
+    ("','", ",", "','", "','", "','"),
+    ("'|'", "|", "'|'", "'|'", "'|'"),
+    ("'it''s'", "it's", "'it\\'s'", "'it\\'s'", "'it\\'s'"),
+    ("'a\\\\b'", "a\\b", "'a\\\\b'", "'a\\\\b'", "'a\\\\b'"),
+    ("''", "", "''", "''", "''"),
+    ("'é'", "é", "'é'", "'é'", "'é'"),
+    ("'.'", ".", "'.'", "'.'", "'.'"),
+    ("'/*'", "/*", "'/*'", "'/*'", "'/*'"),
+    ("'a.b'", "a.b", "'a.b'", "'a.b'", "'a.b'"),
+    ("42", "42", "42", "42", "42"),
+    ("-7", "-7", "-7", "-7", "-7"),
+    ("- 7", "-(7)", "-(7)", "-(7)", "-(7)"),
+    ("-(7)", "-(7)", "-(7)", "-(7)", "-(7)"),
+    ("- (7)", "-(7)", "-(7)", "-(7)", "-(7)"),
+    ("-(-(7))", "- -(7)", "- -(7)", "-(-(7))", "- -(7)"),
+    ("0'a", "97", "97", "97", "97"),
+    ("0x1F", "31", "31", "31", "31"),
+    ("\"ab\"", "[97,98]", "[97,98]", "[97,98]", "[97,98]"),
+    ("1 - 2", "1-2", "1-2", "-(1,2)", "1-2"),
+    ("1 - (-2)", "1- -2", "1- -2", "-(1,-2)", "1- -2"),
+    (
+        "a - (b - c)",
+        "a-(b-c)",
+        "a-(b-c)",
+        "-(a,-(b,c))",
+        "a-(b-c)",
+    ),
+    ("a - b - c", "a-b-c", "a-b-c", "-(-(a,b),c)", "a-b-c"),
+    ("a :- b, c", "a:-b,c", "a:-b,c", ":-(a,','(b,c))", "a:-b,c"),
+    (
+        "f((a :- b))",
+        "f((a:-b))",
+        "f((a:-b))",
+        "f(:-(a,b))",
+        "f((a:-b))",
+    ),
+    (
+        "f((a , b))",
+        "f((a,b))",
+        "f((a,b))",
+        "f(','(a,b))",
+        "f((a,b))",
+    ),
+    (
+        "(a , b) :- c",
+        "a,b:-c",
+        "a,b:-c",
+        ":-(','(a,b),c)",
+        "a,b:-c",
+    ),
+    ("[a, b]", "[a,b]", "[a,b]", "[a,b]", "[a,b]"),
+    ("{a, b}", "{a,b}", "{a,b}", "{','(a,b)}", "{a,b}"),
+    (
+        "f(X, Y, X)",
+        "f(_1,_2,_1)",
+        "f(_1,_2,_1)",
+        "f(_1,_2,_1)",
+        "f(_1,_2,_1)",
+    ),
+    ("f(_, _)", "f(_1,_2)", "f(_1,_2)", "f(_1,_2)", "f(_1,_2)"),
+    ("\\+ a", "\\+a", "\\+a", "\\+(a)", "\\+a"),
+    (
+        "\\+ (a , b)",
+        "\\+ (a,b)",
+        "\\+ (a,b)",
+        "\\+(','(a,b))",
+        "\\+ (a,b)",
+    ),
+    ("- - a", "- -a", "- -a", "-(-(a))", "- -a"),
+    ("- a", "-a", "-a", "-(a)", "-a"),
+    ("-(-)", "- (-)", "- (-)", "-(-)", "- (-)"),
+    ("a = \\+", "a=(\\+)", "a=(\\+)", "=(a,\\+)", "a=(\\+)"),
+    ("[(:-)]", "[:-]", "[:-]", "[:-]", "[:-]"),
+    ("f(:-, b)", "f(:-,b)", "f(:-,b)", "f(:-,b)", "f(:-,b)"),
+    (":- a", ":-a", ":-a", ":-(a)", ":-a"),
+    ("?- a", "?-a", "?-a", "?-(a)", "?-a"),
+    ("2 ** 3", "2**3", "2**3", "**(2,3)", "2**3"),
+    ("2 ^ 3 ^ 4", "2^3^4", "2^3^4", "^(2,^(3,4))", "2^3^4"),
+    (
+        "(2 ^ 3) ^ 4",
+        "(2^3)^4",
+        "(2^3)^4",
+        "^(^(2,3),4)",
+        "(2^3)^4",
+    ),
+    ("- (2 ^ 3)", "- 2^3", "- 2^3", "-(^(2,3))", "- 2^3"),
+    ("(- 2) ^ 3", "-(2)^3", "-(2)^3", "^(-(2),3)", "-(2)^3"),
+    ("(- a) ^ 3", "(-a)^3", "(-a)^3", "^(-(a),3)", "(-a)^3"),
+    ("-2 ^ 3", "-2^3", "-2^3", "^(-2,3)", "-2^3"),
+    (
+        "X is Y mod 2",
+        "_1 is _2 mod 2",
+        "_1 is _2 mod 2",
+        "is(_1,mod(_2,2))",
+        "_1 is _2 mod 2",
+    ),
+    ("a -> b ; c", "a->b;c", "a->b;c", ";(->(a,b),c)", "a->b;c"),
+    (
+        "(a ; b) -> c",
+        "(a;b)->c",
+        "(a;b)->c",
+        "->(;(a,b),c)",
+        "(a;b)->c",
+    ),
+    (
+        "dynamic p",
+        "dynamic p",
+        "dynamic p",
+        "dynamic(p)",
+        "dynamic p",
+    ),
+    (
+        "f(dynamic)",
+        "f(dynamic)",
+        "f(dynamic)",
+        "f(dynamic)",
+        "f(dynamic)",
+    ),
+    ("dynamic", "dynamic", "dynamic", "dynamic", "dynamic"),
+    ("\\ a", "\\a", "\\a", "\\(a)", "\\a"),
+    ("\\ \\ a", "\\ \\a", "\\ \\a", "\\(\\(a))", "\\ \\a"),
+    ("1 = 2", "1=2", "1=2", "=(1,2)", "1=2"),
+    ("a \\== b", "a\\==b", "a\\==b", "\\==(a,b)", "a\\==b"),
+    (
+        "f(A, B) =.. C",
+        "f(_1,_2)=.._3",
+        "f(_1,_2)=.._3",
+        "=..(f(_1,_2),_3)",
+        "f(_1,_2)=.._3",
+    ),
+    ("f(- 1)", "f(-(1))", "f(-(1))", "f(-(1))", "f(-(1))"),
+    ("[- a]", "[-a]", "[-a]", "[-(a)]", "[-a]"),
+    ("1 + 2 * 3", "1+2*3", "1+2*3", "+(1,*(2,3))", "1+2*3"),
+    (
+        "(1 + 2) * 3",
+        "(1+2)*3",
+        "(1+2)*3",
+        "*(+(1,2),3)",
+        "(1+2)*3",
+    ),
+    (
+        "'X' is 'Y'",
+        "X is Y",
+        "'X'is 'Y'",
+        "is('X','Y')",
+        "'X'is 'Y'",
+    ),
+    ("'$VAR'(1)", "B", "B", "'$VAR'(1)", "'$VAR'(1)"),
+    ("'$VAR'(27)", "B1", "B1", "'$VAR'(27)", "'$VAR'(27)"),
+    (
+        "'$VAR'(-1)",
+        "$VAR(-1)",
+        "'$VAR'(-1)",
+        "'$VAR'(-1)",
+        "'$VAR'(-1)",
+    ),
+    (
+        "'$VAR'(x)",
+        "$VAR(x)",
+        "'$VAR'(x)",
+        "'$VAR'(x)",
+        "'$VAR'(x)",
+    ),
+    ("[a|X]", "[a|_1]", "[a|_1]", "[a|_1]", "[a|_1]"),
+    ("[a, b|c]", "[a,b|c]", "[a,b|c]", "[a,b|c]", "[a,b|c]"),
+    ("'\\n'", "\n", "'\\n'", "'\\n'", "'\\n'"),
+];
+
+/// The term that a clause's text spells under the standard operators.
+fn term_of(alloc: Global, text: &str) -> Result<Term, Fail> {
+    let mut clause = Vec::from_slice(alloc, text.as_bytes())?;
+    clause.extend_from_slice(b" .")?;
+    let operators = OpTable::iso(alloc)?;
+    match clause_tokens(alloc, &clause, 0) {
+        Ok(Some(found)) => match read_clause(
+            alloc,
+            &clause,
+            &found.tokens,
+            &operators,
+            Quotes::Codes,
+            65536,
+        ) {
+            Ok(read) => {
+                let ReadTerm { term } = read;
+                Ok(term)
+            }
+            Err(error) => Err(error.into()),
+        },
+        Ok(None) => Err("nothing there".into()),
+        Err(error) => Err(error.into()),
+    }
+}
+
+/// Whether a term is written so in a style.
+fn is_written(
+    alloc: Global,
+    term: &Term,
+    operators: &OpTable,
+    style: Style,
+    wanted: &str,
+) -> Result<bool, Fail> {
+    let text = write_term(alloc, term, operators, style)?;
+    Ok(text.as_slice() == wanted.as_bytes())
+}
+
+/// Whether a text spells the term that is canonically written so.
+fn is_read(alloc: Global, text: &str, operators: &OpTable, canonical: &str) -> Result<bool, Fail> {
+    let term = term_of(alloc, text)?;
+    is_written(alloc, &term, operators, Style::Canonical, canonical)
+}
+
+/// Whether a term is written as its row tells in each style.
+fn is_as_told(alloc: Global, operators: &OpTable, row: &StyleRow) -> Result<bool, Fail> {
+    let (source, plain, quoted, canonical, listed) = *row;
+    let term = term_of(alloc, source)?;
+    Ok(
+        is_written(alloc, &term, operators, Style::Plain, plain)?
+            && is_written(alloc, &term, operators, Style::Quoted, quoted)?
+            && is_written(alloc, &term, operators, Style::Canonical, canonical)?
+            && is_written(alloc, &term, operators, Style::Listed, listed)?,
+    )
+}
+
+// Terms in the four styles; what is written canonical or as it is listed is read back.
+#[test]
+fn styles(rt: HostRuntime) -> Result<(), Fail> {
+    let alloc = rt.alloc();
+    let operators = OpTable::iso(alloc)?;
+    for row in &STYLES {
+        let (source, _, _, canonical, listed) = *row;
+        assert!(rt; is_as_told(alloc, &operators, row)?, "{source}");
+        assert!(rt;
+            is_read(alloc, canonical, &operators, canonical)?,
+            "{source}"
+        );
+        assert!(rt; is_read(alloc, listed, &operators, canonical)?, "{source}");
+    }
+    Ok(())
+}

@@ -1,0 +1,119 @@
+//! Terms (plterm).
+use plterm::builder::Builder;
+use plterm::error::TermError;
+use plterm::indicator::Indicator;
+use plterm::name::Name;
+use plterm::node::Node;
+use plterm::numbers::Numbers;
+use plterm::term::Term;
+use plterm::walk::Shape;
+use std::alloc::{AllocError, Global};
+use std::test::Fail;
+
+/// The term f(X, a, Y), where the variables have these numbers.
+fn triple(alloc: Global, x: u64, y: u64) -> Result<Term, TermError> {
+    let mut args = Vec::new(alloc);
+    args.push(Term::var(alloc, x)?)?;
+    args.push(Term::atom(alloc, Name::new(alloc, "a")?)?)?;
+    args.push(Term::var(alloc, y)?)?;
+    Term::compound(alloc, Name::new(alloc, "f")?, args)
+}
+
+/// The same term from its nodes, each compound behind its arguments.
+fn built(alloc: Global, x: u64, y: u64) -> Result<Term, AllocError> {
+    let mut builder = Builder::new(alloc);
+    builder.push(Node::Var(x))?;
+    builder.push(Node::Atom(Name::new(alloc, "a")?))?;
+    builder.push(Node::Var(y))?;
+    builder.push(Node::Compound(Name::new(alloc, "f")?, 3))?;
+    builder.finish(alloc)
+}
+
+// f(V7, a, V3), made by its constructors and from its nodes, is one term; f(V7, a, V7) is another.
+#[test]
+fn terms_made_and_compared(rt: HostRuntime) -> Result<(), Fail> {
+    let alloc = rt.alloc();
+    let term = triple(alloc, 7, 3)?;
+    assert!(rt; term.is_same(&built(alloc, 7, 3)?));
+    assert!(rt; term.is_same(&term.copied(alloc)?));
+    assert!(rt; !term.is_same(&triple(alloc, 7, 7)?));
+    assert!(rt; term.is_variant(alloc, &triple(alloc, 3, 7)?)?);
+    assert!(rt; !term.is_variant(alloc, &triple(alloc, 7, 7)?)?);
+    assert!(rt; !Term::int(alloc, -1)?.is_same(&Term::int(alloc, 1)?));
+    Ok(())
+}
+
+// A copy of f(V7, a, V3) from 10 is f(V10, a, V11), and its variables are 10 and 11.
+#[test]
+fn copies_and_variables(rt: HostRuntime) -> Result<(), Fail> {
+    let alloc = rt.alloc();
+    let copy = triple(alloc, 7, 3)?.copy(alloc, 10)?;
+    assert!(rt; copy.is_same(&triple(alloc, 10, 11)?));
+    let variables = copy.variables(alloc)?;
+    assert_eq!(rt; variables.as_slice(), [10, 11].as_slice());
+    let mut seen = Numbers::new(alloc);
+    let place = seen.place_of(3)?;
+    assert_eq!(rt; place, 0);
+    let (numbered, seen) = triple(alloc, 7, 3)?.root().numbered(alloc, seen)?;
+    assert!(rt; numbered.is_same(&triple(alloc, 1, 0)?));
+    assert_eq!(rt; seen.count(), 2);
+    let order = seen.into_order();
+    assert_eq!(rt; order.as_slice(), [3, 7].as_slice());
+    Ok(())
+}
+
+// The arguments of f(V7, a, V3), and the errors of constructors.
+#[test]
+fn shapes_and_errors(rt: HostRuntime) -> Result<(), Fail> {
+    let alloc = rt.alloc();
+    let term = triple(alloc, 7, 3)?;
+    match term.root().shape() {
+        Shape::Compound(name, mut args) => {
+            assert_eq!(rt; name.as_str(), "f");
+            assert_eq!(rt; args.len(), 3);
+            let _first = args.next_term();
+            let second = args.next_term().ok_or("two arguments")?;
+            assert!(rt;
+                second
+                    .copied(alloc)?
+                    .is_same(&Term::atom(alloc, Name::new(alloc, "a")?)?)
+            );
+            assert!(rt; args.enter().is_some());
+            assert!(rt; args.is_empty());
+        }
+        Shape::Var(_) | Shape::Int(_) | Shape::Atom(_) => assert!(rt; false, "a compound"),
+    }
+    let none = Term::compound(alloc, Name::new(alloc, "f")?, Vec::new(alloc));
+    assert!(rt; matches!(none, Err(TermError::Arity)));
+    let empty = Name::new(alloc, "")?;
+    assert!(rt; empty.is_empty());
+    Ok(())
+}
+
+// p/2 is itself, and neither p/1 nor q/2.
+#[test]
+fn indicators(rt: HostRuntime) -> Result<(), Fail> {
+    let alloc = rt.alloc();
+    let name = Name::new(alloc, "p")?;
+    let indicator = Indicator {
+        name: name.copied()?,
+        arity: 2,
+    };
+    assert!(rt; indicator.is_same(&indicator.copied()?));
+    assert!(rt; !indicator.is_same(&Indicator { name, arity: 1 }));
+    let other = Name::new(alloc, "q")?;
+    assert!(rt; !indicator.name.is_same(&other));
+    Ok(())
+}
+
+// The node of f/3 has three arguments and a name of one byte; a variable has neither.
+#[test]
+fn nodes(rt: HostRuntime) -> Result<(), Fail> {
+    let alloc = rt.alloc();
+    let node = Node::Compound(Name::new(alloc, "f")?, 3);
+    assert_eq!(rt; (node.arity(), node.name_len()), (3, 1));
+    let node = Node::Var(7);
+    assert_eq!(rt; (node.arity(), node.name_len()), (0, 0));
+    assert_eq!(rt; triple(alloc, 7, 3)?.root().alone().len(), 1);
+    Ok(())
+}

@@ -1,0 +1,313 @@
+//! Tokens (pllex).
+use pllex::characters::{after_mark, begins_with, is_character, rest_of_character};
+use pllex::clause::clause_tokens;
+use pllex::digits::{is_digit, with_digit};
+use pllex::error::LexError;
+use pllex::escape::{Coded, escape_code};
+use pllex::item::item_at;
+use pllex::layout::{Gap, gap_at};
+use pllex::quoted::{Quote, Quoted, is_control, mark, quoted_end};
+use pllex::runs::{is_layout, is_symbol, run_end};
+use pllex::token::{Base, Class, Fault, Item, Kind, Token};
+use pllex::value::{has_value, value_of};
+use std::alloc::{AllocError, Global};
+use std::test::Fail;
+
+/// The kinds of the next clause's tokens, or the fault; None where only layout is left.
+fn kinds(alloc: Global, text: &[u8]) -> Result<Option<Vec<Kind>>, LexError> {
+    match clause_tokens(alloc, text, 0)? {
+        None => Ok(None),
+        Some(clause) => {
+            let kinds: Result<Vec<Kind>, AllocError> = clause
+                .tokens
+                .iter()
+                .map(|token| token.kind)
+                .collect(alloc);
+            Ok(Some(kinds?))
+        }
+    }
+}
+
+/// The first token, or the fault.
+fn first(alloc: Global, text: &[u8]) -> Result<Token, LexError> {
+    let none = Token {
+        kind: Kind::End,
+        start: 0,
+        end: 0,
+    };
+    match clause_tokens(alloc, text, 0)? {
+        None => Ok(none),
+        Some(clause) => Ok(clause.tokens.first().map_or(none, |token| *token)),
+    }
+}
+
+// Layout, both comments, names, variables, integers, all punctuation and the end (6.4).
+#[test]
+fn tokens_of_a_clause(rt: HostRuntime) -> Result<(), Fail> {
+    let text =
+        b"\xEF\xBB\xBF% \xC3\xA9\nf(X, _y, 12):- /* \xE2\x82\xAC \xF0\x9F\x98\x80 */!,[b|'c']; {\"d\"}. e";
+    let wanted = [
+        Kind::Name,
+        Kind::Open,
+        Kind::Variable,
+        Kind::Comma,
+        Kind::Variable,
+        Kind::Comma,
+        Kind::Integer(12),
+        Kind::Close,
+        Kind::Name,
+        Kind::Name,
+        Kind::Comma,
+        Kind::OpenSquare,
+        Kind::Name,
+        Kind::Bar,
+        Kind::QuotedName,
+        Kind::CloseSquare,
+        Kind::Name,
+        Kind::OpenCurly,
+        Kind::DoubleQuoted,
+        Kind::CloseCurly,
+        Kind::End,
+    ];
+    let found = kinds(rt.alloc(), text)?;
+    assert!(rt; found.map_or(false, |found| found.as_slice() == wanted.as_slice()));
+    let clause = clause_tokens(rt.alloc(), text, 0)?;
+    assert_eq!(rt; clause.map_or(0, |clause| clause.after), text.len() - 2);
+    Ok(())
+}
+
+// The first token of a text: its kind, and where it ends.
+#[test]
+fn first_tokens(rt: HostRuntime) -> Result<(), Fail> {
+    let cases: [(&[u8], Kind, usize); 36] = [
+        (b"aB_1(.", Kind::Name, 4),
+        (b"\\+a.", Kind::Name, 2),
+        (b";;.", Kind::Name, 1),
+        (b"!!.", Kind::Name, 1),
+        (b"''.", Kind::QuotedName, 2),
+        (b"'a''b'.", Kind::QuotedName, 6),
+        (b"'a\"b'.", Kind::QuotedName, 5),
+        (b"'a\tb'.", Kind::QuotedName, 5),
+        (b"'a\\\nb'.", Kind::QuotedName, 6),
+        (b"'\\x41\\\\101\\'.", Kind::QuotedName, 12),
+        (b"'\xC3\xA9'.", Kind::QuotedName, 4),
+        (b"'a'b.", Kind::QuotedName, 3),
+        (b"\"a'b\".", Kind::DoubleQuoted, 5),
+        (b"\"\"\"\".", Kind::DoubleQuoted, 4),
+        (b"_.", Kind::Variable, 1),
+        (b"Ab9c.", Kind::Variable, 4),
+        (b"007.", Kind::Integer(7), 3),
+        (b"0x1Fg.", Kind::Integer(31), 4),
+        (b"0xg.", Kind::Integer(0), 1),
+        (b"0o178.", Kind::Integer(15), 4),
+        (b"0o8.", Kind::Integer(0), 1),
+        (b"0b102.", Kind::Integer(2), 4),
+        (b"0b2.", Kind::Integer(0), 1),
+        (b"0x1.5.", Kind::Integer(1), 3),
+        (
+            b"0x8000000000000000.",
+            Kind::Integer(9223372036854775808),
+            18,
+        ),
+        (b"0'a.", Kind::Integer(97), 3),
+        (b"0'''.", Kind::Integer(39), 4),
+        (b"0''.", Kind::Integer(39), 3),
+        (b"0'\\n.", Kind::Integer(10), 4),
+        (b"0'\\x41\\.", Kind::Integer(65), 7),
+        (b"0'\\101\\.", Kind::Integer(65), 7),
+        (b"0' .", Kind::Integer(32), 3),
+        (b"0'\".", Kind::Integer(34), 3),
+        (b"0'\xE2\x82\xAC.", Kind::Integer(8364), 5),
+        (
+            b"9223372036854775808.",
+            Kind::Integer(9223372036854775808),
+            19,
+        ),
+        (b"1.a.", Kind::Integer(1), 1),
+    ];
+    for (text, kind, end) in cases.iter() {
+        let token = first(rt.alloc(), text)?;
+        assert_eq!(rt; token.kind, *kind);
+        assert_eq!(rt; token.end, *end);
+    }
+    Ok(())
+}
+
+// Each fault, at its place; of several in one item, the one that is met first.
+#[test]
+fn faults(rt: HostRuntime) -> Result<(), Fail> {
+    let cases: [(&[u8], Fault, usize); 44] = [
+        (b"a `b`.", Fault::BadCharacter, 2),
+        (b"a\x00.", Fault::BadCharacter, 1),
+        (b"\xC3\xA9.", Fault::BadCharacter, 0),
+        (b"a\xFF.", Fault::BadUtf8, 1),
+        (b"% \xC3(\na.", Fault::BadUtf8, 2),
+        (b"% \xE2\x82", Fault::BadUtf8, 2),
+        (b"/* \xED\xA0\x80 */a.", Fault::BadUtf8, 3),
+        (b"/* \xC0\x80 ", Fault::BadUtf8, 3),
+        (b"'a\xFFb'.", Fault::BadUtf8, 2),
+        (b"'\xC3", Fault::BadUtf8, 1),
+        (b"0'\xFF.", Fault::BadUtf8, 2),
+        (b"a 'b.", Fault::OpenQuoted, 2),
+        (b"\"", Fault::OpenQuoted, 0),
+        (b"'a\nb'.", Fault::OpenQuoted, 0),
+        (b"'a\\", Fault::OpenQuoted, 0),
+        (b"'a\\x41", Fault::OpenQuoted, 0),
+        (b"'a\\x\nb'.", Fault::OpenQuoted, 0),
+        (b"'a''", Fault::OpenQuoted, 0),
+        (b"0'", Fault::OpenQuoted, 1),
+        (b"'a\x07'.", Fault::BadCharacter, 2),
+        (b"'a\x7F'.", Fault::BadCharacter, 2),
+        (b"'a\r\n'.", Fault::BadCharacter, 2),
+        (b"0'\n.", Fault::BadCharacter, 2),
+        (b"0'\x01.", Fault::BadCharacter, 2),
+        (b"'a\\qb'.", Fault::BadEscape, 2),
+        (b"'\\x'.", Fault::BadEscape, 1),
+        (b"'\\x\\'.", Fault::BadEscape, 1),
+        (b"'\\x4g\\'.", Fault::BadEscape, 1),
+        (b"'\\18\\'.", Fault::BadEscape, 1),
+        (b"'ab\\xD800\\'.", Fault::BadEscape, 3),
+        (b"'\\x110000\\'.", Fault::BadEscape, 1),
+        (b"'\\x110000", Fault::BadEscape, 1),
+        (b"'a\\\xFF'.", Fault::BadEscape, 2),
+        (b"0'\\q.", Fault::BadEscape, 2),
+        (b"0'\\\n.", Fault::BadEscape, 2),
+        (b"'\\q\x01'.", Fault::BadEscape, 1),
+        (b" /* a", Fault::OpenComment, 1),
+        (b"x(9223372036854775809).", Fault::IntTooBig, 2),
+        (b"x(0x8000000000000001).", Fault::IntTooBig, 2),
+        (b"x(1.5).", Fault::FloatLiteral, 2),
+        (b"9223372036854775809.5.", Fault::FloatLiteral, 0),
+        (b" a b", Fault::NoEnd, 1),
+        (b"a.b", Fault::NoEnd, 0),
+        (b"a, /* . */ % .", Fault::NoEnd, 0),
+    ];
+    for (text, fault, place) in cases.iter() {
+        let found = kinds(rt.alloc(), text).err();
+        assert_eq!(rt; found, Some(LexError::Bad(*fault, *place)));
+    }
+    for text in [b" ".as_slice(), b"", b"% a", b"/**/\n"] {
+        assert!(rt; kinds(rt.alloc(), text)?.is_none());
+    }
+    Ok(())
+}
+
+// A name, and a quoted name's value, have at most 65,535 bytes; a double-quoted item's value has any number.
+#[test]
+fn long_names(rt: HostRuntime) -> Result<(), Fail> {
+    let mut text = vec![in rt.alloc(); b'a'; 65536]?;
+    let found = kinds(rt.alloc(), &text).err();
+    assert_eq!(rt; found, Some(LexError::Bad(Fault::NameTooLong, 0)));
+    text.push(b'\'')?;
+    text.insert(0, b'\'')?;
+    let found = kinds(rt.alloc(), &text).err();
+    assert_eq!(rt; found, Some(LexError::Bad(Fault::NameTooLong, 0)));
+    text.remove(1);
+    text.push(b'.')?;
+    assert!(rt; kinds(rt.alloc(), &text)?.is_some());
+    text[0] = b'"';
+    text[65536] = b'a';
+    text[65537] = b'"';
+    text.push(b'.')?;
+    assert!(rt; kinds(rt.alloc(), &text)?.is_some());
+    text.pop();
+    text.pop();
+    text.pop();
+    text.pop();
+    text[0] = b'a';
+    text.push(b'.')?;
+    assert!(rt; kinds(rt.alloc(), &text)?.is_some());
+    Ok(())
+}
+
+// Escape sequences, doubled quotes and characters past ASCII in values.
+#[test]
+fn values(rt: HostRuntime) -> Result<(), Fail> {
+    let cases: [(&[u8], &str); 14] = [
+        (b"ab_1.", "ab_1"),
+        (b"Xy.", "Xy"),
+        (b"''.", ""),
+        (b"'a''b'.", "a'b"),
+        (b"'a\"\"b'.", "a\"\"b"),
+        (b"\"a\"\"b''\".", "a\"b''"),
+        (b"'\\\\\\'\\\"\\`'.", "\\'\"`"),
+        (b"'\\a\\b\\f\\n\\r\\t\\v'.", "\x07\x08\x0C\n\r\t\x0B"),
+        (b"'\\x41\\b\\101\\'.", "AbA"),
+        (b"'\\xE9\\\\x20ac\\'.", "\u{E9}\u{20AC}"),
+        (b"'\\x1F600\\'.", "\u{1F600}"),
+        (b"'a\\\nb'.", "ab"),
+        (
+            b"'\xC3\xA9\xE2\x82\xAC\xF0\x9F\x98\x80'.",
+            "\u{E9}\u{20AC}\u{1F600}",
+        ),
+        (b"'a\tb'.", "a\tb"),
+    ];
+    for (text, wanted) in cases.iter() {
+        let clause = clause_tokens(rt.alloc(), text, 0)?;
+        let clause = clause.expect(&rt, "a clause");
+        match clause.tokens.first() {
+            Some(token) if has_value(token.kind) => {
+                let value = value_of(rt.alloc(), text, token)?;
+                assert_eq!(rt; value.as_str(), *wanted);
+            }
+            _ => assert!(rt; false),
+        }
+    }
+    Ok(())
+}
+
+// Bytes, whether they are symbol characters (6.5.1), layout (6.5.4), and control characters of a quoted item.
+#[test]
+fn bytes(rt: HostRuntime) {
+    for (b, symbol, layout, control) in [
+        (b'+', true, false, false),
+        (b'\\', true, false, false),
+        (b';', false, false, false),
+        (b'a', false, false, false),
+        (b' ', false, true, false),
+        (b'\n', false, true, false),
+        (7, false, false, true),
+        (127, false, false, true),
+    ] {
+        assert_eq!(rt; is_symbol(b), symbol, "{b}");
+        assert_eq!(rt; is_layout(b), layout, "{b}");
+        assert_eq!(rt; is_control(b), control, "{b}");
+    }
+    assert_eq!(rt; (mark(Quote::Single), mark(Quote::Double)), (b'\'', b'"'));
+}
+
+// Digits of each base, and a number with one more of them, up to a limit.
+#[test]
+fn digits(rt: HostRuntime) {
+    for (base, b, is) in [
+        (Base::Binary, b'1', true),
+        (Base::Binary, b'2', false),
+        (Base::Octal, b'8', false),
+        (Base::Decimal, b'9', true),
+        (Base::Hexadecimal, b'f', true),
+        (Base::Hexadecimal, b'g', false),
+    ] {
+        assert_eq!(rt; is_digit(base, b), is, "{b}");
+    }
+    assert_eq!(rt; with_digit(Base::Decimal, 12, b'3', 123), Some(123));
+    assert_eq!(rt; with_digit(Base::Decimal, 12, b'3', 122), None);
+    assert_eq!(rt; with_digit(Base::Hexadecimal, 1, b'F', 255), Some(31));
+}
+
+// What stands at the start of a text: a mark, a character past ASCII, layout, a run, an item.
+#[test]
+fn starts(rt: HostRuntime) {
+    assert!(rt; begins_with(b"ab", 0, b'a') && !begins_with(b"ab", 0, b'b'));
+    assert_eq!(rt; after_mark(b"\xEF\xBB\xBFa", 0), 3);
+    assert!(rt; is_character(b"\xC3\xA9", 0) && !is_character(b"\xC3", 0));
+    assert_eq!(rt; rest_of_character(b"\xE2\x82\xAC", 0), Some(2));
+    assert!(rt; matches!(gap_at(b" % c\na", 0), Gap::Before(5)));
+    assert!(rt; matches!(gap_at(b" /* a", 0), Gap::Unclosed(1)));
+    assert_eq!(rt; run_end(b"ab_1(", 0, Class::Alphanumeric), 4);
+    assert!(rt; matches!(escape_code(b"x41\\b", 0), Coded::Character('A', 4)));
+    assert!(rt; matches!(quoted_end(b"'a''b'.", 0, Quote::Single), Quoted::Closed(6)));
+    let item = item_at(b"Ab(", 0);
+    assert!(rt;
+        matches!(item, Item::Token(token) if token.kind == Kind::Variable && token.end == 2)
+    );
+}
