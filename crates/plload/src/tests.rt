@@ -2,7 +2,7 @@ use crate::error::{LoadError, RefusalKind};
 use crate::goal::is_goal;
 use crate::load::load;
 use pllex::clause::clause_tokens;
-use plnames::fixed::is_fixed;
+use plnames::table::NameTable;
 use plops::flag::Quotes;
 use plops::table::OpTable;
 use plread::read::{ReadTerm, read_clause};
@@ -141,6 +141,7 @@ fn goals_beside(rt: HostRuntime) -> Result<(), Fail> {
 #[test]
 fn fixed_procedures(rt: HostRuntime) -> Result<(), Fail> {
     let alloc = rt.alloc();
+    let names = NameTable::new(alloc)?;
     let table = [
         ("true", 0, true),
         (",", 2, true),
@@ -166,7 +167,7 @@ fn fixed_procedures(rt: HostRuntime) -> Result<(), Fail> {
             name: Name::new(alloc, name)?,
             arity,
         };
-        assert_eq!(rt; is_fixed(&indicator), wanted, "{name}");
+        assert_eq!(rt; names.is_fixed(&indicator), wanted, "{name}");
     }
     Ok(())
 }
