@@ -2,3 +2,4 @@ pub mod Solution
 pub mod Terms
 pub mod Output
 pub mod Solutions
+pub mod Answers
