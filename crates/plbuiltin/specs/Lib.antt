@@ -1,0 +1,4 @@
+pub mod Solution
+pub mod Terms
+pub mod Output
+pub mod Solutions
