@@ -11,7 +11,6 @@ use Rattle.plsearch.specs.Rows.{resolve}
 use Rattle.plsearch.specs.Engine.{deeper}
 use Rattle.plframe.specs.declared.frame.Item.{Item}
 use Rattle.plframe.specs.declared.frame.Item.TheVariants.{Goal as GoalAt, Marker as MarkerAt, Asking as AskingFor}
-use Rattle.plframe.specs.declared.frame.Question.{Question as Asked}
 use Rattle.plframe.specs.declared.frame.Question.TheVariants.{Look as LookAt, Await as AwaitFor}
 use Rattle.plframe.specs.declared.frame.Link.{Link}
 use Rattle.plframe.specs.declared.frame.Alternatives.{Alternatives}
@@ -26,7 +25,7 @@ in_more : (n m : ℕ) (x : Item) → n ≤ m → IsItemIn n x → IsItemIn m x
 in_more n m (GoalAt k c) le lt = le_trans lt le
 in_more n m (MarkerAt k l) le lt = tt
 in_more n m (AskingFor (LookAt c)) le lt = le_trans lt le
-in_more n m (AskingFor (AwaitFor q next)) le lt = tt
+in_more n m (AskingFor (AwaitFor q next)) le lt = lt
 
 pub are_in-more : (n m : ℕ) (xs : List Item) → n ≤ m → AreIn n xs → AreIn m xs
 are_in-more n m [] le a = tt
