@@ -2,7 +2,7 @@
 
 ghost use Rattle.std.specs.Prelude.{◌≡◌, ◌+◌, ◌^◌, ◌<◌, ◌≤◌, ℕ, length, IfOk};
 ghost use Rattle.plheap.specs.Store.{Store, term};
-ghost use Rattle.plsearch.specs.Table.{control as control_of, nullary as nullary_of, unary as unary_of, binary as binary_of, ternary as ternary_of, either as either_of, is_call, Call};
+ghost use Rattle.plsearch.specs.Forms.{either as either_of, Call};
 ghost use Rattle.plsolve.specs.Controls.{shown_control, IsInside, is_then};
 
 use plheap::cell::Cell;

@@ -2,8 +2,10 @@
 use Rattle.std.specs.Prelude.{ℕ, zero, suc, List, [], ◌∷◌, ◌++◌}
 use Rattle.plevent.specs.Search.{Item, Answer}
 use Rattle.plprogram.specs.Program.{Program}
-use Rattle.plsearch.specs.Types.{Result, Stop, Fail, Spent, Asking, Element, Place, Case, Choice, Mark, Handle, Local, Move, Give, Go, Meeting, Select, Asks, End, Pass, Marked, Return, Keep, Again, Anew, Run}
-use Rattle.plsearch.specs.Table.{select, meet, answered, resume}
+use Rattle.plsearch.specs.Types.{Result, Stop, Fail, Spent, Awaits, Element, Place, Case, Choice, Mark, Handle, Local, Move, Give, Go, Meeting, Select, Asks, End, Pass, Marked, Return, Keep, Again, Anew, Run}
+use Rattle.plsearch.specs.Rows.{select, meet}
+use Rattle.plsearch.specs.Replies.{answered}
+use Rattle.plsearch.specs.Handlers.{resume}
 use Rattle.plsearch.specs.Engine.{Ended, stop_cut, mark, deeper, outs, Visit}
 
 -- it visits a place, or carries a result outward
@@ -35,12 +37,12 @@ step cases row run zero = record { mode = Back Spent; cases = cases; run = run }
 step cases row run (suc n) = move cases (record run { steps = n }) (row run.local)
 
 abbrev pub ask : List Case → (Answer → Local → Move) → Item → Run → List Answer → Machine
-ask cases row q run [] = record { mode = Back (Asking q); cases = cases; run = run }
+ask cases row q run [] = record { mode = Back (Awaits q); cases = cases; run = run }
 ask cases row q run (a ∷ more) = move cases (record run { answers = more }) (row a run.local)
 
 abbrev pub meets : Program → List Case → Element → List Element → ℕ → Run → Meeting → Machine
 meets P cases e es n run (Select k t) = step cases (select P k t (deeper cases 0) es n) run run.steps
-meets P cases e es n run (Asks q) = ask cases (λ a. answered P e a (deeper cases 0) es n) q run run.answers
+meets P cases e es n run (Asks q) = ask cases (λ a. answered e a (deeper cases 0) es n) q run run.answers
 meets P cases e es n run (End r w) = record { mode = Back r; cases = cases; run = record run { local = w } }
 meets P cases e es n run (Pass w) = record { mode = At (record { goals = es; variables = n }); cases = cases; run = record run { local = w } }
 meets P cases e es n run (Marked l w) = record { mode = At (record { goals = es; variables = n }); cases = Mark l ∷ cases; run = record run { local = w } }
@@ -63,7 +65,7 @@ abbrev pub backs : Result → Run → List Case → Machine
 backs r run [] = record { mode = Back r; cases = []; run = run }
 backs r run (Choice ps ∷ cases) = choose cases run ps r
 backs r run (Mark l ∷ cases) = record { mode = Back (mark l r); cases = cases; run = run }
-backs r run (Handle c ∷ cases) = return cases run (resume c (deeper cases 0) r run.local)
+backs r run (Handle h p ∷ cases) = return cases run (resume h p (deeper cases 0) r run.local)
 
 -- one turn
 abbrev pub turn_in : Program → List Case → Run → Mode → Machine

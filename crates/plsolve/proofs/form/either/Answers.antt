@@ -1,6 +1,6 @@
 use Rattle.std.proofs.Common.{ap, sym, ◌∙◌}
 use Rattle.plheap.specs.Store.{term}
-use Rattle.plsearch.specs.Table.{either, Either}
+use Rattle.plsearch.specs.Forms.{either, Either}
 use Rattle.plsolve.proofs.Heading.{either-other}
 use Rattle.plsolve.proofs.control.either.Goals as goal
 

@@ -1,8 +1,8 @@
 -- How much a machine has before it without a step or an answer.
 use Rattle.std.specs.Prelude.{◌≡◌, ℕ, ◌+◌, ◌*◌, ◌<◌, ◌⊎◌, List, [], ◌∷◌, length}
-use Rattle.plsearch.specs.Types.{Place, Case, Choice, Mark, Handle, Handler, Catch}
+use Rattle.plsearch.specs.Types.{Place, Case, Choice, Mark, Handle}
 use Rattle.plsearch.specs.Engine.{left}
-use Rattle.plsearch.specs.Machine.{Mode, At, Back, Machine}
+use Rattle.plsearch.specs.Machines.Machine.{Mode, At, Back, Machine}
 
 abbrev pub place_weight : Place → ℕ
 place_weight p = 2 * length p.goals + 2
@@ -11,13 +11,10 @@ abbrev pub places_weight : List Place → ℕ
 places_weight [] = 1
 places_weight (p ∷ ps) = place_weight p + 1 + places_weight ps
 
-abbrev pub handler_weight : Handler → ℕ
-handler_weight (Catch c r p) = place_weight p + 3
-
 abbrev pub case_weight : Case → ℕ
 case_weight (Choice ps) = places_weight ps
 case_weight (Mark l) = 1
-case_weight (Handle h) = handler_weight h
+case_weight (Handle h p) = place_weight p + 3
 
 abbrev pub cases_weight : List Case → ℕ
 cases_weight [] = 0

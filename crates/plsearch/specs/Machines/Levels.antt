@@ -1,17 +1,13 @@
 -- The levels that a goal list names, and cases that do nothing but keep their levels.
 use Rattle.std.specs.Prelude.{ℕ, ◌≤◌, List, [], ◌∷◌}
-use Rattle.plsearch.specs.Types.{Element, Goal, Commit, Never, Until, Raise, Look, Await, Halt, Case, Choice}
+use Rattle.plsearch.specs.Types.{Element, Goal, Marker, Raise, Asking, Case, Choice}
 
 -- an element names no level above this one
 abbrev pub IsAtMost : ℕ → Element → Type 0
 IsAtMost k (Goal l t) = l ≤ k
-IsAtMost k (Commit l) = l ≤ k
-IsAtMost k (Never l) = l ≤ k
-IsAtMost k (Until l) = l ≤ k
+IsAtMost k (Marker m l) = l ≤ k
 IsAtMost k (Raise b) = Unit {0}
-IsAtMost k (Look t) = Unit {0}
-IsAtMost k (Await q) = Unit {0}
-IsAtMost k (Halt n) = Unit {0}
+IsAtMost k (Asking q) = Unit {0}
 
 abbrev pub AreAtMost : ℕ → List Element → Type 0
 AreAtMost k [] = Unit {0}

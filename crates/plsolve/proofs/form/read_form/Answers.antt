@@ -1,7 +1,7 @@
 use Rattle.std.proofs.Common.{◌≡◌, ◌-◌, ◌+◌, suc, ap, ap₂, sym, ◌∙◌, arith}
 use Rattle.plterm.specs.Tree.{compound, trees}
 use Rattle.plheap.specs.Store.{term, terms}
-use Rattle.plsearch.specs.Table.{control, by_arity, ternary, Call}
+use Rattle.plsearch.specs.Forms.{Call}
 use Rattle.plsolve.proofs.Heading.{control-struct, control-call, control-other, many-control}
 use Rattle.plsolve.proofs.Moves.{if_ok_map}
 use Rattle.plsolve.proofs.control.read_control.Goals as goal

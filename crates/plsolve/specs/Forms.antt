@@ -4,7 +4,7 @@ use Rattle.plterm.specs.Tree.{atom, int}
 use Rattle.plheap.specs.declared.cell.Cell.{Cell}
 use Rattle.plheap.specs.declared.cell.Cell.TheVariants as cells
 use Rattle.plheap.specs.Store.{Store, term, terms}
-use Rattle.plsearch.specs.Table.{Control, True, False, Both, Either, Then, Not, Once, Catching, Throwing, CallWith, Cut, Unify, Write, WriteQuoted, Newline, Halting, AddLast, Call, NoGoal}
+use Rattle.plsearch.specs.Forms.{True, False, Both, Either, Not, Once, Catching, Throwing, CallWith, Cut, Halting, AddLast, Call, NoGoal}
 use Rattle.plframe.specs.Extended.{IsRun}
 use Rattle.plsolve.specs.declared.control.Control.{Control as Found}
 use Rattle.plsolve.specs.declared.control.Control.TheVariants as found
