@@ -26,7 +26,7 @@ use Rattle.plsearch.specs.Lists.{bind_element, bind_goals, levels}
 use Rattle.plsearch.specs.Forms.{Form, True, False, Both, Either, IfThenElse, Not, Once, Catching, Throwing, CallWith, Cut, Halting, AddLast, BuiltIn, Call, NoGoal, form}
 use Rattle.plsearch.specs.Running.{Runnable, Runs, Raises, runnable, called}
 use Rattle.plsearch.specs.Rows.{is_true, before_rest, resolve, choose, call, raised, assertz_1, first_of, run, call_with, branch, catching, go_on, thrown, halting, is_static, add_clause, add, user, solved, taken, offered, offer, row, select, asked, meet}
-use Rattle.plsearch.specs.Replies.{Outcome, Goes, Stops, Misfits, outcome, follows, missing, answered}
+use Rattle.plsearch.specs.Replies.{Outcome, Served, Stops, Misfits, outcome, follows, missing, answered}
 use Rattle.plsearch.specs.Handlers.{has, recovers, met_by, resume}
 use Rattle.plsearch.specs.Engine.{Ended, stop_cut, mark, deeper, choice, returned, out, outs, moved, stepped, asks, walk, left, Visit}
 use Rattle.plsearch.proofs.Fuel.{Visit-walk}
@@ -343,8 +343,8 @@ module _ (C N : Levels) (d : ℕ) (holds : Holds N d) where
   missing-allowed unknown.Fail t rest w all = give-up w
 
   follows-allowed : (o : Outcome) (t : Then) (rest : List Element) (n : ℕ) (w : Local) → AllAllow C N rest → MoveAllows C N d (follows o t rest n w)
-  follows-allowed Goes GoesOn rest n w all = go-on rest n w all
-  follows-allowed Goes (Ends k) rest n w all = halts k w
+  follows-allowed Served GoesOn rest n w all = go-on rest n w all
+  follows-allowed Served (Ends k) rest n w all = halts k w
   follows-allowed Stops t rest n w all = stops w
   follows-allowed Misfits t rest n w all = misfits w
 

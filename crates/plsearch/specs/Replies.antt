@@ -14,21 +14,21 @@ use Rattle.plsearch.specs.Types.{Fail, Halted, Stopped, Unfit, Then, GoesOn, End
 use Rattle.plsearch.specs.Errors.{procedure_error}
 use Rattle.plsearch.specs.Rows.{raised, call, go_on}
 
--- what a reply says of the request that was asked: it is done; the run has stopped; or it is no reply to it
+-- what a reply says of the request that was asked: it was served; the run has stopped; or it is no reply to it
 pub data Outcome : Type 0 where
-  Goes : Outcome
+  Served : Outcome
   Stops : Outcome
   Misfits : Outcome
 
 abbrev pub outcome : Request → Reply → Outcome
-outcome (Publish us) replies.Published = Goes
-outcome (HaltRun n) replies.Done = Goes
+outcome (Publish us) replies.Published = Served
+outcome (HaltRun n) replies.Done = Served
 outcome q replies.Stopped = Stops
 outcome q r = Misfits
 
 abbrev pub follows : Outcome → Then → List Element → ℕ → Local → Move
-follows Goes GoesOn rest n w = go_on rest n w
-follows Goes (Ends k) rest n w = Give (Halted k) w
+follows Served GoesOn rest n w = go_on rest n w
+follows Served (Ends k) rest n w = Give (Halted k) w
 follows Stops next rest n w = Give Stopped w
 follows Misfits next rest n w = Give Unfit w
 
