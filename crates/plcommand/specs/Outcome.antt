@@ -10,7 +10,7 @@ use Rattle.plload.specs.declared.error.RefusalKind.{RefusalKind}
 use Rattle.plsearch.specs.Search.{search_of}
 use Rattle.plhist.specs.declared.history.History.{History}
 use Rattle.plhist.specs.declared.status.Status.{Status}
-use Rattle.plhist.specs.Legal.{Legal, Over}
+use Rattle.plhist.specs.Legal.{Legal, ByOneWorker, Over}
 use Rattle.plhist.specs.Runs.{AllFollow, OneEach}
 use Rattle.plhist.specs.Report.{report_text}
 use Rattle.plhist.specs.Status.{refusal_text, status_of}
@@ -28,10 +28,11 @@ text_limit = 16777216
 abbrev pub Gave : Option (List ℕ) → Option (List ℕ) → List ℕ → Type 0
 Gave before now text = Consumes before now text × IsAtEnd now
 
--- A program, and a history of its run: one legal journal of a run that is over, and for each thread that was created
--- exactly one run, which follows the thread's search of so many steps.
+-- A program, and a history of its run: one legal journal of a run that is over, by worker 1, and for each thread that was
+-- created exactly one run, which follows the thread's search of so many steps.
 pub record IsRunOf (program : Program) (steps : ℕ) (h : History) : Type 0 where
   pub legal : Legal program.first h.journal
+  pub workers : ByOneWorker h.journal
   pub over : Over h.journal
   pub each : OneEach h.journal h.runs
   pub follow : AllFollow (λ thread. search_of program steps) steps h.journal h.runs

@@ -10,7 +10,8 @@ use Rattle.plheap.proofs.Kept.{Keeps-refl}
 use Rattle.plheap.specs.Putting.{over, HasBlock}
 use Rattle.plunify.specs.Unifying.{Unified}
 use Rattle.plsearch.specs.Types.{Element, Goal}
-use Rattle.plsearch.specs.Table.{bind_goals, is_true, before_rest}
+use Rattle.plsearch.specs.Lists.{bind_goals}
+use Rattle.plsearch.specs.Rows.{is_true, before_rest}
 use Rattle.plframe.specs.declared.frame.Item.TheVariants.{Goal as GoalAt}
 use Rattle.plframe.specs.declared.frame.Link.{Link}
 use Rattle.plframe.specs.declared.call.Called.{Called}

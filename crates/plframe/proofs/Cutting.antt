@@ -5,14 +5,14 @@ use Rattle.std.proofs.Math.Seq.{take-suc}
 use Rattle.plheap.specs.Store.{Store}
 use Rattle.plsearch.specs.Types.{Place, Case, Choice, Mark as MarkOf}
 use Rattle.plsearch.specs.Engine.{deeper}
-use Rattle.plsearch.specs.Levels.{IsAtMost, AreAtMost, emptied}
+use Rattle.plsearch.specs.Machines.Levels.{IsAtMost, AreAtMost, emptied}
 use Rattle.plframe.specs.declared.frame.Item.{Item}
-use Rattle.plframe.specs.declared.frame.Item.TheVariants.{Goal as GoalAt, Commit as CommitTo, Never as NeverTo, Until as UntilTo, Look as LookAt, Await as AwaitFor, Halt as HaltWith}
+use Rattle.plframe.specs.declared.frame.Item.TheVariants.{Goal as GoalAt, Marker as MarkerAt, Asking as AskingFor}
 use Rattle.plframe.specs.declared.frame.Link.{Link}
 use Rattle.plframe.specs.declared.frame.Frame.{Frame}
-use Rattle.plframe.specs.declared.frame.Frame.TheVariants.{Plain, Barrier, Call, Branch as BranchOf, Catch as CatchOf}
+use Rattle.plframe.specs.declared.frame.Frame.TheVariants.{Plain, Barrier, Call, Branch as BranchOf, Handle as HandleOf}
 use Rattle.plframe.specs.Levels.{level_in}
-use Rattle.plframe.specs.Places.{Statics, element, goals_at, link_at, top_at, IsChain, plain, alternatives, branch_place, catcher_case, opened, cases, size, depth_of, AreFrames}
+use Rattle.plframe.specs.Places.{Statics, element, goals_at, link_at, top_at, IsChain, plain, alternatives, branch_place, handler_case, opened, cases, size, depth_of, AreFrames}
 use Rattle.plframe.specs.State.{State, IsStack, CountsUp, OpensFrame, goals_of, cases_of}
 use Rattle.plframe.specs.Cutting.{IsChoice, frame_at, ChoiceAt, EmptiesFrom, Empties, Cuts}
 use Rattle.plframe.proofs.Arena.{list_at-first, list_at-none}
@@ -20,12 +20,8 @@ use Rattle.plframe.proofs.Frames.{plain-deeper, depth-cases, reverse-push}
 
 at_most : (h : Store) (k : ℕ) (x : Item) → level_in x ≤ k → IsAtMost k (element h x)
 at_most h k (GoalAt l c) le = le
-at_most h k (CommitTo l) le = le
-at_most h k (NeverTo l) le = le
-at_most h k (UntilTo l) le = le
-at_most h k (LookAt c) le = tt
-at_most h k (AwaitFor c) le = tt
-at_most h k (HaltWith n) le = tt
+at_most h k (MarkerAt m l) le = le
+at_most h k (AskingFor q) le = tt
 
 -- a list names no level above that of its link
 module _ (h : Store) (links : List Link) (k : ℕ) (chain : IsChain links) where
@@ -101,7 +97,7 @@ module _ (statics : Statics) (h : Store) (links : List Link) where
     is = let none : 0 ≡ level - deeper base 0 = omega arith in ap (λ k. Choice (branch_place h links b ∷ []) ∷ plain k base) none;
     count = omega arith;
   }
-  one-splits (CatchOf k) base level choice low high = absurd choice
+  one-splits (HandleOf k) base level choice low high = absurd choice
 
   behind : (c : Case) (all : List Case) (level : ℕ) (low : List Case) → Splits all level low → Splits (c ∷ all) level low
   behind c all level low s = record { inside = c ∷ s.inside; places = s.places; is = ap (λ cs. c ∷ cs) s.is; count = omega (arith, s.count) }
@@ -116,7 +112,7 @@ module _ (statics : Statics) (h : Store) (links : List Link) where
   more-splits (Barrier l) all level low s = behind (MarkOf l) all level low s
   more-splits (Call a) all level low s = behind (Choice (alternatives statics (deeper all 0) h links a)) all level low s
   more-splits (BranchOf b) all level low s = behind (Choice (branch_place h links b ∷ [])) all level low s
-  more-splits (CatchOf k) all level low s = behind (catcher_case h links k) all level low s
+  more-splits (HandleOf k) all level low s = behind (handler_case h links k) all level low s
 
   all-split : (front : List Frame) (f : Frame) (under : List Frame) (level : ℕ) → IsChoice f → deeper (cases statics h links under) 0 ≤ level → level < deeper (cases statics h links under) 0 + size f →
       Splits (cases statics h links (front ++ f ∷ under)) level (plain (level - deeper (cases statics h links under) 0) (cases statics h links under))

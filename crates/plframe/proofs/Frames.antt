@@ -6,28 +6,26 @@ use Rattle.plheap.specs.declared.cell.Cell.{Cell}
 use Rattle.plheap.specs.Store.{Store, term, cut, IsMark, Keeps}
 use Rattle.plheap.proofs.Kept.{IsMark-kept}
 use Rattle.plheap.proofs.Cuts.{cut-cut, IsMark-cut, cut-cells, cut-trail}
-use Rattle.plsearch.specs.Types.{Goal, Look, Case, Choice, Mark as MarkOf, Handle, Catch}
-use Rattle.plsearch.specs.Table.{resolve}
+use Rattle.plsearch.specs.Types.{Look, Goal, Asking, Case, Choice, Mark as MarkOf, Handle}
+use Rattle.plsearch.specs.Rows.{resolve}
 use Rattle.plsearch.specs.Engine.{deeper}
 use Rattle.plframe.specs.declared.frame.Item.{Item}
-use Rattle.plframe.specs.declared.frame.Item.TheVariants.{Goal as GoalAt, Commit as CommitTo, Never as NeverTo, Until as UntilTo, Look as LookAt, Await as AwaitFor, Halt as HaltWith}
+use Rattle.plframe.specs.declared.frame.Item.TheVariants.{Goal as GoalAt, Marker as MarkerAt, Asking as AskingFor}
+use Rattle.plframe.specs.declared.frame.Question.TheVariants.{Look as LookAt, Await as AwaitFor}
 use Rattle.plframe.specs.declared.frame.Link.{Link}
 use Rattle.plframe.specs.declared.frame.Alternatives.{Alternatives}
 use Rattle.plframe.specs.declared.frame.Branch.{Branch}
 use Rattle.plframe.specs.declared.frame.Frame.{Frame}
-use Rattle.plframe.specs.declared.frame.Frame.TheVariants.{Plain, Barrier, Call, Branch as BranchOf, Catch as CatchOf}
-use Rattle.plframe.specs.declared.frame.Catcher.{Catcher}
-use Rattle.plframe.specs.Places.{element, plain, Statics, clauses_in, alternatives, branch_place, catcher_case, cases, depth_of, IsOlder, AreOlder, IsCall, IsSaved, IsFrame, AreFrames, IsItemIn, AreIn}
+use Rattle.plframe.specs.declared.frame.Frame.TheVariants.{Plain, Barrier, Call, Branch as BranchOf, Handle as HandleOf}
+use Rattle.plframe.specs.declared.frame.Handling.{Handling}
+use Rattle.plframe.specs.Places.{element, plain, Statics, clauses_in, alternatives, branch_place, handler_in, handler_case, cases, depth_of, IsOlder, AreOlder, IsCall, IsSaved, IsFrame, AreFrames, IsItemIn, AreIn}
 use Rattle.plframe.proofs.Arena.{list_at-more, list_at-take}
 
 in_more : (n m : ℕ) (x : Item) → n ≤ m → IsItemIn n x → IsItemIn m x
 in_more n m (GoalAt k c) le lt = le_trans lt le
-in_more n m (CommitTo l) le lt = tt
-in_more n m (NeverTo l) le lt = tt
-in_more n m (UntilTo l) le lt = tt
-in_more n m (LookAt c) le lt = le_trans lt le
-in_more n m (AwaitFor c) le lt = tt
-in_more n m (HaltWith k) le lt = tt
+in_more n m (MarkerAt k l) le lt = tt
+in_more n m (AskingFor (LookAt c)) le lt = le_trans lt le
+in_more n m (AskingFor (AwaitFor q next)) le lt = lt
 
 pub are_in-more : (n m : ℕ) (xs : List Item) → n ≤ m → AreIn n xs → AreIn m xs
 are_in-more n m [] le a = tt
@@ -36,12 +34,9 @@ are_in-more n m (x ∷ xs) le a = (in_more n m x le a.0, are_in-more n m xs le a
 -- the list's items, where the terms of its cells stay
 element-stays : (old new : Store) (n : ℕ) → ((c : ℕ) → c < n → term new c ≡ term old c) → (x : Item) → IsItemIn n x → element new x ≡ element old x
 element-stays old new n e (GoalAt k c) i = ap (Goal k) (e c i)
-element-stays old new n e (CommitTo l) i = refl
-element-stays old new n e (NeverTo l) i = refl
-element-stays old new n e (UntilTo l) i = refl
-element-stays old new n e (LookAt c) i = ap Look (e c i)
-element-stays old new n e (AwaitFor c) i = refl
-element-stays old new n e (HaltWith k) i = refl
+element-stays old new n e (MarkerAt m l) i = refl
+element-stays old new n e (AskingFor (LookAt c)) i = ap (λ t. Asking (Look t)) (e c i)
+element-stays old new n e (AskingFor (AwaitFor q next)) i = refl
 
 pub elements-stay : (old new : Store) (n : ℕ) → ((c : ℕ) → c < n → term new c ≡ term old c) → (xs : List Item) → AreIn n xs → map (element new) xs ≡ map (element old) xs
 elements-stay old new n e [] i = refl
@@ -58,7 +53,7 @@ depth-cases statics h links (Plain n ∷ fs) = omega (arith, plain-deeper n (cas
 depth-cases statics h links (Barrier l ∷ fs) = omega (arith, depth-cases statics h links fs)
 depth-cases statics h links (Call a ∷ fs) = omega (arith, depth-cases statics h links fs)
 depth-cases statics h links (BranchOf b ∷ fs) = omega (arith, depth-cases statics h links fs)
-depth-cases statics h links (CatchOf k ∷ fs) = omega (arith, depth-cases statics h links fs)
+depth-cases statics h links (HandleOf k ∷ fs) = omega (arith, depth-cases statics h links fs)
 
 -- the heap grew and was bound, and the lists grew
 module _ (statics : Statics) (old new : Store) (links more : List Link) (k : Keeps old new) where
@@ -72,9 +67,9 @@ module _ (statics : Statics) (old new : Store) (links more : List Link) (k : Kee
       ap₂ (λ h xs. record { goals = map (element h) xs; variables = h.count })
       (k.kept b.mark is.mark.cells is.mark.trail) (list_at-more links more b.list (le_trans is.list is.room))
 
-  catcher-kept : (c : Catcher) (fs : List Frame) → IsSaved old links c.behind fs → catcher_case new (links ++ more) c ≡ catcher_case old links c
-  catcher-kept c fs is =
-      ap₂ (λ h xs. Handle (Catch (term h c.catcher) (term h c.recovery) (record { goals = map (element h) xs; variables = h.count })))
+  handler-kept : (c : Handling) (fs : List Frame) → IsSaved old links c.behind fs → handler_case new (links ++ more) c ≡ handler_case old links c
+  handler-kept c fs is =
+      ap₂ (λ h xs. Handle (handler_in h c.handler) (record { goals = map (element h) xs; variables = h.count }))
       (k.kept c.behind.mark is.mark.cells is.mark.trail) (list_at-more links more c.behind.list (le_trans is.list is.room))
 
   pub cases-kept : (fs : List Frame) → AreFrames old links fs → cases statics new (links ++ more) fs ≡ cases statics old links fs
@@ -85,7 +80,7 @@ module _ (statics : Statics) (old new : Store) (links more : List Link) (k : Kee
       ap (λ cs. Choice (alternatives statics (deeper cs 0) new (links ++ more) x) ∷ cs) (cases-kept fs a.1)
       ∙ ap (λ ps. Choice ps ∷ cases statics old links fs) (left-kept (deeper (cases statics old links fs) 0) x fs a.0)
   cases-kept (BranchOf b ∷ fs) a = ap₂ (λ p cs. Choice (p ∷ []) ∷ cs) (branch-kept b fs a.0) (cases-kept fs a.1)
-  cases-kept (CatchOf c ∷ fs) a = ap₂ (λ x cs. x ∷ cs) (catcher-kept c fs a.0.0) (cases-kept fs a.1)
+  cases-kept (HandleOf c ∷ fs) a = ap₂ (λ x cs. x ∷ cs) (handler-kept c fs a.0.0) (cases-kept fs a.1)
 
 module _ (old new : Store) (links more : List Link) (k : Keeps old new) where
   saved-kept : (b : Branch) (fs : List Frame) (all : length links ≤ length (links ++ more)) → IsSaved old links b fs → IsSaved new (links ++ more) b fs
@@ -109,7 +104,7 @@ module _ (old new : Store) (links more : List Link) (k : Keeps old new) where
     goal = a.goal;
   }
   frame-kept (BranchOf b) fs all a = saved-kept b fs all a
-  frame-kept (CatchOf c) fs all a = (saved-kept c.behind fs all a.0, a.1, a.2)
+  frame-kept (HandleOf c) fs all a = (saved-kept c.behind fs all a.0, a.1)
 
   pub AreFrames-kept : (fs : List Frame) (all : length links ≤ length (links ++ more)) → AreFrames old links fs → AreFrames new (links ++ more) fs
   AreFrames-kept [] all a = tt
@@ -128,9 +123,9 @@ module _ (h : Store) (links : List Link) (m : Mark) (n : ℕ) (mark : IsMark m h
       ap₂ (λ s xs. record { goals = map (element s) xs; variables = s.count })
       (cut-cut b.mark m h o.0 o.1) (list_at-take links n b.list (le_trans is.list o.2) room)
 
-  pub catcher-cut : (c : Catcher) (fs : List Frame) → IsOlder m.cells m.trail n (CatchOf c) → IsSaved h links c.behind fs → catcher_case (cut m h) (take n links) c ≡ catcher_case h links c
-  catcher-cut c fs o is =
-      ap₂ (λ s xs. Handle (Catch (term s c.catcher) (term s c.recovery) (record { goals = map (element s) xs; variables = s.count })))
+  pub handler-cut : (c : Handling) (fs : List Frame) → IsOlder m.cells m.trail n (HandleOf c) → IsSaved h links c.behind fs → handler_case (cut m h) (take n links) c ≡ handler_case h links c
+  handler-cut c fs o is =
+      ap₂ (λ s xs. Handle (handler_in s c.handler) (record { goals = map (element s) xs; variables = s.count }))
       (cut-cut c.behind.mark m h o.0 o.1) (list_at-take links n c.behind.list (le_trans is.list o.2) room)
 
   pub cases-cut : (statics : Statics) (fs : List Frame) → AreOlder m.cells m.trail n fs → AreFrames h links fs → cases statics (cut m h) (take n links) fs ≡ cases statics h links fs
@@ -141,7 +136,7 @@ module _ (h : Store) (links : List Link) (m : Mark) (n : ℕ) (mark : IsMark m h
       ap (λ cs. Choice (alternatives statics (deeper cs 0) (cut m h) (take n links) x) ∷ cs) (cases-cut statics fs o.1 a.1)
       ∙ ap (λ ps. Choice ps ∷ cases statics h links fs) (left-cut statics (deeper (cases statics h links fs) 0) x fs o.0 a.0)
   cases-cut statics (BranchOf b ∷ fs) o a = ap₂ (λ p cs. Choice (p ∷ []) ∷ cs) (branch-cut b fs o.0 a.0) (cases-cut statics fs o.1 a.1)
-  cases-cut statics (CatchOf c ∷ fs) o a = ap₂ (λ x cs. x ∷ cs) (catcher-cut c fs o.0 a.0.0) (cases-cut statics fs o.1 a.1)
+  cases-cut statics (HandleOf c ∷ fs) o a = ap₂ (λ x cs. x ∷ cs) (handler-cut c fs o.0 a.0.0) (cases-cut statics fs o.1 a.1)
 
   saved-cut : (b : Branch) (fs : List Frame) → IsOlder m.cells m.trail n (BranchOf b) → IsSaved h links b fs → IsSaved (cut m h) (take n links) b fs
   saved-cut b fs o a = record {
@@ -164,7 +159,7 @@ module _ (h : Store) (links : List Link) (m : Mark) (n : ℕ) (mark : IsMark m h
     goal = a.goal;
   }
   frame-cut (BranchOf b) fs o a = saved-cut b fs o a
-  frame-cut (CatchOf c) fs o a = (saved-cut c.behind fs o a.0, a.1, a.2)
+  frame-cut (HandleOf c) fs o a = (saved-cut c.behind fs o a.0, a.1)
 
   pub AreFrames-cut : (fs : List Frame) → AreOlder m.cells m.trail n fs → AreFrames h links fs → AreFrames (cut m h) (take n links) fs
   AreFrames-cut [] o a = tt
@@ -177,7 +172,7 @@ module _ (h : Store) (links : List Link) where
   older_one (Barrier l) fs a = tt
   older_one (Call x) fs a = (a.mark.cells, a.mark.trail, a.room)
   older_one (BranchOf b) fs a = (a.mark.cells, a.mark.trail, a.room)
-  older_one (CatchOf c) fs a = (a.0.mark.cells, a.0.mark.trail, a.0.room)
+  older_one (HandleOf c) fs a = (a.0.mark.cells, a.0.mark.trail, a.0.room)
 
   pub older-now : (fs : List Frame) → AreFrames h links fs → AreOlder (length h.cells) (length h.trail) (length links) fs
   older-now [] a = tt

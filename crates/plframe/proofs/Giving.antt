@@ -4,16 +4,16 @@ use Rattle.std.specs.Bool.{⊤}
 use Rattle.std.proofs.lemmas.List.{get_or_append_left, get_or_push, get_or-take, get_or_default}
 use Rattle.std.proofs.Math.Nat.{eq-or-lt_of_le}
 use Rattle.plheap.specs.Store.{Store, term, cut}
-use Rattle.plsearch.specs.Types.{Choice, Mark as MarkOf, Handle, Catch}
-use Rattle.plsearch.specs.Table.{resolve}
+use Rattle.plsearch.specs.Types.{Choice, Mark as MarkOf, Handle}
+use Rattle.plsearch.specs.Rows.{resolve}
 use Rattle.plsearch.specs.Engine.{deeper}
 use Rattle.plframe.specs.declared.frame.Link.{Link}
 use Rattle.plframe.specs.declared.frame.Alternatives.{Alternatives}
 use Rattle.plframe.specs.declared.frame.Branch.{Branch}
 use Rattle.plframe.specs.declared.frame.Frame.{Frame}
-use Rattle.plframe.specs.declared.frame.Frame.TheVariants.{Plain, Barrier, Call, Branch as BranchOf, Catch as CatchOf}
+use Rattle.plframe.specs.declared.frame.Frame.TheVariants.{Plain, Barrier, Call, Branch as BranchOf, Handle as HandleOf}
 use Rattle.plframe.specs.Giving.{held, GivesBack}
-use Rattle.plframe.specs.Places.{element, plain, Statics, clauses_in, alternatives, branch_place, cases, AreOlder, IsCall, IsSaved, AreFrames, AreIn, list_at, link_at, top_at, IsLink, IsChain}
+use Rattle.plframe.specs.Places.{element, plain, Statics, clauses_in, alternatives, branch_place, handler_in, cases, AreOlder, IsCall, IsSaved, AreFrames, AreIn, list_at, link_at, top_at, IsLink, IsChain}
 use Rattle.plframe.specs.State.{State, IsStack, cases_of}
 use Rattle.plframe.proofs.Arena.{list_at-more, list_at-take, list_at-new, list_at-first, top_at-more, top_at-take, chain-take}
 
@@ -24,7 +24,7 @@ AreWithin n (Plain m ∷ fs) = AreWithin n fs
 AreWithin n (Barrier l ∷ fs) = AreWithin n fs
 AreWithin n (Call a ∷ fs) = (a.links ≤ n) × AreWithin n fs
 AreWithin n (BranchOf b ∷ fs) = (b.links ≤ n) × AreWithin n fs
-AreWithin n (CatchOf k ∷ fs) = (k.behind.links ≤ n) × AreWithin n fs
+AreWithin n (HandleOf k ∷ fs) = (k.behind.links ≤ n) × AreWithin n fs
 
 older-within : (c t n : ℕ) (fs : List Frame) → AreOlder c t n fs → AreWithin n fs
 older-within c t n [] o = tt
@@ -32,7 +32,7 @@ older-within c t n (Plain m ∷ fs) o = older-within c t n fs o.1
 older-within c t n (Barrier l ∷ fs) o = older-within c t n fs o.1
 older-within c t n (Call a ∷ fs) o = (o.0.2, older-within c t n fs o.1)
 older-within c t n (BranchOf b ∷ fs) o = (o.0.2, older-within c t n fs o.1)
-older-within c t n (CatchOf k ∷ fs) o = (o.0.2, older-within c t n fs o.1)
+older-within c t n (HandleOf k ∷ fs) o = (o.0.2, older-within c t n fs o.1)
 
 pub held-within : (h : Store) (links : List Link) (fs : List Frame) → AreFrames h links fs → AreWithin (held fs) fs
 held-within h links [] a = tt
@@ -40,7 +40,7 @@ held-within h links (Plain m ∷ fs) a = held-within h links fs a.1
 held-within h links (Barrier l ∷ fs) a = held-within h links fs a.1
 held-within h links (Call x ∷ fs) a = (le_refl _, older-within x.mark.cells x.mark.trail x.links fs a.0.older)
 held-within h links (BranchOf b ∷ fs) a = (le_refl _, older-within b.mark.cells b.mark.trail b.links fs a.0.older)
-held-within h links (CatchOf k ∷ fs) a = (le_refl _, older-within k.behind.mark.cells k.behind.mark.trail k.behind.links fs a.0.0.older)
+held-within h links (HandleOf k ∷ fs) a = (le_refl _, older-within k.behind.mark.cells k.behind.mark.trail k.behind.links fs a.0.0.older)
 
 -- other lists behind the first so many
 module _ (h : Store) (links ls : List Link) (n : ℕ) (room : n ≤ length ls) (same : (i : ℕ) → i ≤ n → list_at ls i ≡ list_at links i) where
@@ -59,8 +59,8 @@ module _ (h : Store) (links ls : List Link) (n : ℕ) (room : n ≤ length ls) (
       ap (λ cs. Choice (alternatives statics (deeper cs 0) h ls x) ∷ cs) (cases-same statics fs o.1 a.1)
       ∙ ap (λ ps. Choice ps ∷ cases statics h links fs) (left-same statics (deeper (cases statics h links fs) 0) x fs o.0 a.0)
   cases-same statics (BranchOf b ∷ fs) o a = ap₂ (λ p cs. Choice (p ∷ []) ∷ cs) (branch-same b fs o.0 a.0) (cases-same statics fs o.1 a.1)
-  cases-same statics (CatchOf k ∷ fs) o a =
-      ap₂ (λ p cs. Handle (Catch (term (cut k.behind.mark h) k.catcher) (term (cut k.behind.mark h) k.recovery) p) ∷ cs) (branch-same k.behind fs o.0 a.0.0) (cases-same statics fs o.1 a.1)
+  cases-same statics (HandleOf k ∷ fs) o a =
+      ap₂ (λ p cs. Handle (handler_in (cut k.behind.mark h) k.handler) p ∷ cs) (branch-same k.behind fs o.0 a.0.0) (cases-same statics fs o.1 a.1)
 
   saved-same : (b : Branch) (fs : List Frame) → b.links ≤ n → IsSaved h links b fs → IsSaved h ls b fs
   saved-same b fs le a = record {
@@ -87,7 +87,7 @@ module _ (h : Store) (links ls : List Link) (n : ℕ) (room : n ≤ length ls) (
     frames-same fs o.1 a.1,
   )
   frames-same (BranchOf b ∷ fs) o a = (saved-same b fs o.0 a.0, frames-same fs o.1 a.1)
-  frames-same (CatchOf k ∷ fs) o a = ((saved-same k.behind fs o.0 a.0.0, a.0.1, a.0.2), frames-same fs o.1 a.1)
+  frames-same (HandleOf k ∷ fs) o a = ((saved-same k.behind fs o.0 a.0.0, a.0.1), frames-same fs o.1 a.1)
 
 -- a stack with other lists behind those that are held
 module _ (s : State) (d : ℕ) (is : IsStack s d) (ls : List Link) (g : ℕ) (chain : IsChain ls) (room : held (reverse s.frames) ≤ length ls)

@@ -13,7 +13,7 @@ use Rattle.std.specs.Prelude.{Result as Outcomes}
 use Rattle.plheap.specs.Store.{Store, term, terms, Adds}
 use Rattle.plheap.specs.Putting.{over}
 use Rattle.plsearch.specs.Errors.{arity_error}
-use Rattle.plsearch.specs.Table.{Runs, Raises, with_arguments, compound_of}
+use Rattle.plsearch.specs.Running.{Runs, Raises, with_arguments, compound_of}
 use Rattle.plframe.specs.declared.extend.Run.{Run}
 use Rattle.plframe.specs.declared.extend.Extended.TheVariants.{Is, TooLong}
 use Rattle.plframe.specs.Extended.{cell_nodes, IsRun, run_terms, Joined, Extends}

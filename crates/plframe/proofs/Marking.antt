@@ -3,9 +3,9 @@ use Rattle.std.proofs.Common.{◌≡◌, ℕ, suc, ◌-◌, ◌<◌, ◌≤◌, 
 use Rattle.std.proofs.lemmas.List.{get_or_default}
 use Rattle.plheap.specs.Store.{Store}
 use Rattle.plsearch.specs.Types.{Element}
-use Rattle.plsearch.specs.Table.{levels}
+use Rattle.plsearch.specs.Lists.{levels}
 use Rattle.plframe.specs.declared.frame.Item.{Item}
-use Rattle.plframe.specs.declared.frame.Item.TheVariants.{Goal as GoalAt, Commit as CommitTo, Never as NeverTo, Until as UntilTo, Look as LookAt, Await as AwaitFor, Halt as HaltWith}
+use Rattle.plframe.specs.declared.frame.Item.TheVariants.{Goal as GoalAt, Marker as MarkerAt, Asking as AskingFor}
 use Rattle.plframe.specs.declared.frame.Link.{Link}
 use Rattle.plframe.specs.Places.{element, list_at, link_at, goals_at, IsChain}
 use Rattle.plframe.specs.Levels.{levels_of}
@@ -13,12 +13,8 @@ use Rattle.plframe.proofs.Arena.{list_at-first, list_at-none}
 
 levels-item : (h : Store) (x : Item) (es : List Element) → levels (element h x ∷ es) ≡ levels_of x ++ levels es
 levels-item h (GoalAt k c) es = refl
-levels-item h (CommitTo l) es = refl
-levels-item h (NeverTo l) es = refl
-levels-item h (UntilTo l) es = refl
-levels-item h (LookAt c) es = refl
-levels-item h (AwaitFor c) es = refl
-levels-item h (HaltWith n) es = refl
+levels-item h (MarkerAt m l) es = refl
+levels-item h (AskingFor q) es = refl
 
 -- one link further
 module _ (h : Store) (links : List Link) (chain : IsChain links) (i : ℕ) (l : Link) (some : i ≡ 0 → ⊥) (there : i ≤ length links) (at : l ≡ get_or links (i - 1) l) where

@@ -8,16 +8,16 @@ use Rattle.plsubst.specs.Subst.{bind, bind_all, shift}
 use Rattle.plsubst.specs.Unify.{unify}
 use Rattle.plsubst.proofs.Unify.{bind-bind}
 use Rattle.plclause.specs.Clause.{Clause}
-use Rattle.plevent.specs.declared.request.Request.TheVariants.{Publish}
-use Rattle.plevent.specs.declared.update.Update.TheVariants.{Last}
 use Rattle.plheap.specs.Store.{Store, term}
 use Rattle.plheap.specs.Putting.{over, HasVariables}
-use Rattle.plsearch.specs.Types.{Element, Goal, Commit, Never, Until, Look, Await, Halt, Place}
-use Rattle.plsearch.specs.Table.{bind_goals, is_true, before_rest, resolve}
+use Rattle.plsearch.specs.Types.{Look, Await, Element, Goal, Marker, Asking, Place}
+use Rattle.plsearch.specs.Lists.{bind_goals}
+use Rattle.plsearch.specs.Rows.{is_true, before_rest, resolve}
 use Rattle.plframe.specs.declared.frame.Item.{Item}
-use Rattle.plframe.specs.declared.frame.Item.TheVariants.{Goal as GoalAt, Commit as CommitTo, Never as NeverTo, Until as UntilTo, Look as LookAt, Await as AwaitFor, Halt as HaltWith}
+use Rattle.plframe.specs.declared.frame.Item.TheVariants.{Goal as GoalAt, Marker as MarkerAt, Asking as AskingFor}
+use Rattle.plframe.specs.declared.frame.Question.TheVariants.{Look as LookAt, Await as AwaitFor}
 use Rattle.plframe.specs.declared.frame.Link.{Link}
-use Rattle.plframe.specs.Places.{element, goals_at, places_left, AreIn}
+use Rattle.plframe.specs.Places.{marker_of, then_of, element, goals_at, places_left, AreIn}
 
 -- substitutions that agree on the variables of a term
 mutual
@@ -46,12 +46,9 @@ over-bound h σ base n v t is below = bind-agree (over h base) (λ x. σ (n + x)
 pub elements-bind : (old new : Store) (σ : ℕ → Tree) (n : ℕ) → ((c : ℕ) → c < n → term new c ≡ bind σ (term old c)) → (xs : List Item) → AreIn n xs → map (element new) xs ≡ bind_goals σ (map (element old) xs)
 elements-bind old new σ n e [] i = refl
 elements-bind old new σ n e (GoalAt k c ∷ xs) i = ap₂ (λ t es. Goal k t ∷ es) (e c i.0) (elements-bind old new σ n e xs i.1)
-elements-bind old new σ n e (CommitTo l ∷ xs) i = ap (λ es. Commit l ∷ es) (elements-bind old new σ n e xs i.1)
-elements-bind old new σ n e (NeverTo l ∷ xs) i = ap (λ es. Never l ∷ es) (elements-bind old new σ n e xs i.1)
-elements-bind old new σ n e (UntilTo l ∷ xs) i = ap (λ es. Until l ∷ es) (elements-bind old new σ n e xs i.1)
-elements-bind old new σ n e (LookAt c ∷ xs) i = ap₂ (λ t es. Look t ∷ es) (e c i.0) (elements-bind old new σ n e xs i.1)
-elements-bind old new σ n e (AwaitFor c ∷ xs) i = ap (λ es. Await (Publish (Last c ∷ [])) ∷ es) (elements-bind old new σ n e xs i.1)
-elements-bind old new σ n e (HaltWith k ∷ xs) i = ap (λ es. Halt k ∷ es) (elements-bind old new σ n e xs i.1)
+elements-bind old new σ n e (MarkerAt m l ∷ xs) i = ap (λ es. Marker (marker_of m) l ∷ es) (elements-bind old new σ n e xs i.1)
+elements-bind old new σ n e (AskingFor (LookAt c) ∷ xs) i = ap₂ (λ t es. Asking (Look t) ∷ es) (e c i.0) (elements-bind old new σ n e xs i.1)
+elements-bind old new σ n e (AskingFor (AwaitFor q next) ∷ xs) i = ap (λ es. Asking (Await q (then_of next)) ∷ es) (elements-bind old new σ n e xs i.1)
 
 -- the clause fits: its place, by its goals and their variables
 pub resolved : (d n : ℕ) (t : Tree) (rest goals : List Element) (c : Clause) (σ : ℕ → Tree) → unify t (shift n c.head) ≡ Some σ →

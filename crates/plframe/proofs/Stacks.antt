@@ -9,8 +9,9 @@ use Rattle.plsubst.specs.Unify.{unify}
 use Rattle.plunify.specs.Unifying.{Unified}
 use Rattle.std.specs.Prelude.{Result as Outcomes}
 use Rattle.std.specs.declared.alloc.AllocError.{AllocError}
-use Rattle.plsearch.specs.Types.{Case, Choice, Handle, Catch}
-use Rattle.plsearch.specs.Table.{resolve, branch, catching, bind_goals}
+use Rattle.plsearch.specs.Types.{Case, Choice, Handle}
+use Rattle.plsearch.specs.Lists.{bind_goals}
+use Rattle.plsearch.specs.Rows.{resolve, branch}
 use Rattle.plsearch.specs.Engine.{deeper}
 use Rattle.plframe.specs.declared.stack.Stack.TheInside.{Inside}
 use Rattle.plframe.specs.declared.call.Called.{Called}
@@ -19,14 +20,14 @@ use Rattle.plframe.specs.declared.frame.Source.{Source}
 use Rattle.plframe.specs.declared.frame.Alternatives.{Alternatives}
 use Rattle.plframe.specs.declared.frame.Frame.{Frame}
 use Rattle.plframe.specs.declared.frame.Branch.{Branch}
-use Rattle.plframe.specs.declared.frame.Frame.TheVariants.{Plain, Barrier, Call, Branch as BranchOf, Catch as CatchOf}
-use Rattle.plframe.specs.declared.frame.Catcher.{Catcher}
+use Rattle.plframe.specs.declared.frame.Frame.TheVariants.{Plain, Barrier, Call, Branch as BranchOf, Handle as HandleOf}
+use Rattle.plframe.specs.declared.frame.Handling.{Handling}
 use Rattle.plframe.specs.declared.frame.Item.{Item}
-use Rattle.plframe.specs.Places.{link_to, catcher_case, branch_place, place_at, IsSaved, Statics, element, goals_at, list_at, link_at, IsChain, IsItemIn, AreIn, AreFrames, cases, opened, depth_of, size, IsFrame, IsCall, plain, alternatives, places_left, clauses_in}
+use Rattle.plframe.specs.Places.{link_to, handler_in, IsHandlerIn, handler_case, branch_place, place_at, IsSaved, Statics, element, goals_at, list_at, link_at, IsChain, IsItemIn, AreIn, AreFrames, cases, opened, depth_of, size, IsFrame, IsCall, plain, alternatives, places_left, clauses_in}
 use Rattle.plframe.specs.Calls.{IsCalled, FirstFits}
-use Rattle.plframe.specs.State.{State, IsList, IsState, IsStack, Extends, Begins, Opens, OpensFrame, OpensIn, Unifies, CountsUp, OpensRest, Calls, Retries, call_places, IsCallFrame, IsBranchFrame, IsCatchFrame, BeginsWith, HasCall, HasBranch, HasCatch, AtCatch, Recovers, goals_of, cases_of}
+use Rattle.plframe.specs.State.{State, IsList, IsState, IsStack, Extends, Begins, Opens, OpensFrame, OpensIn, Unifies, CountsUp, OpensRest, Calls, Retries, call_places, IsCallFrame, IsBranchFrame, IsHandleFrame, BeginsWith, HasCall, HasBranch, HasHandler, AtHandler, Recovers, goals_of, cases_of}
 use Rattle.plframe.proofs.Arena.{list_at-more, list_at-new, list_at-first, list_at-none, list_at-take, chain-push, chain-none, chain-take}
-use Rattle.plframe.proofs.Frames.{are_in-more, elements-stay, cases-kept, AreFrames-kept, cases-cut, AreFrames-cut, left-cut, catcher-cut, frame-cut, depth-cases, reverse-push, plain-more, older-mark, now_cells}
+use Rattle.plframe.proofs.Frames.{are_in-more, elements-stay, cases-kept, AreFrames-kept, cases-cut, AreFrames-cut, left-cut, handler-cut, frame-cut, depth-cases, reverse-push, plain-more, older-mark, now_cells}
 use Rattle.plframe.proofs.Resolving.{elements-bind}
 
 -- the state of a stack's fields
@@ -180,8 +181,8 @@ empty_is (x ∷ xs) e = absurd (omega arith)
 pub has-call : (s : State) (rest : List Frame) (a : Alternatives) → s.frames ≡ rest ++ Call a ∷ [] → HasCall s
 has-call s rest a e = subst (BeginsWith IsCallFrame) (sym (ap reverse e ∙ reverse-push rest (Call a))) tt
 
-pub has-catch : (s : State) (rest : List Frame) (k : Catcher) → s.frames ≡ rest ++ CatchOf k ∷ [] → HasCatch s
-has-catch s rest k e = subst (BeginsWith IsCatchFrame) (sym (ap reverse e ∙ reverse-push rest (CatchOf k))) tt
+pub has-handler : (s : State) (rest : List Frame) (k : Handling) → s.frames ≡ rest ++ HandleOf k ∷ [] → HasHandler s
+has-handler s rest k e = subst (BeginsWith IsHandleFrame) (sym (ap reverse e ∙ reverse-push rest (HandleOf k))) tt
 
 pub has-branch : (s : State) (rest : List Frame) (b : Branch) → s.frames ≡ rest ++ BranchOf b ∷ [] → HasBranch s
 has-branch s rest b e = subst (BeginsWith IsBranchFrame) (sym (ap reverse e ∙ reverse-push rest (BranchOf b))) tt
@@ -560,10 +561,10 @@ module _ (s : State) (d : ℕ) (is : IsStack s d) (rest : List Frame) (b : Branc
       cases = counted-cases statics (cut_back s d is rest (BranchOf b) b popped refl saved_list) frames up ∙ ap (λ cs. Choice [] ∷ cs) (cut-cases s d is rest (BranchOf b) b popped refl saved_list statics);
     }
 
--- the heap goes back to where a catcher was opened
-module _ (s : State) (d : ℕ) (is : IsStack s d) (rest : List Frame) (k : Catcher) (popped : s.frames ≡ rest ++ CatchOf k ∷ []) where
-  catch_frame : IsFrame s.heap s.links (CatchOf k) (reverse rest)
-  catch_frame = (popped-frames s d rest (CatchOf k) popped is).0
+-- the heap goes back to where a handler was opened
+module _ (s : State) (d : ℕ) (is : IsStack s d) (rest : List Frame) (k : Handling) (popped : s.frames ≡ rest ++ HandleOf k ∷ []) where
+  handle_frame : IsFrame s.heap s.links (HandleOf k) (reverse rest)
+  handle_frame = (popped-frames s d rest (HandleOf k) popped is).0
 
   abbrev mark_of : Mark
   mark_of = k.behind.mark
@@ -576,45 +577,44 @@ module _ (s : State) (d : ℕ) (is : IsStack s d) (rest : List Frame) (k : Catch
 
   none-stack : IsStack none_visited (d - 1)
   none-stack =
-      let c = cut-stack s d is rest (CatchOf k) k.behind popped refl catch_frame.0 in (
+      let c = cut-stack s d is rest (HandleOf k) k.behind popped refl handle_frame.0 in (
         record { chain = c.0.chain; frames = c.0.frames; goals = record { there = omega arith; inside = subst (AreIn (length (cut k.behind.mark s.heap).cells)) (sym (list_at-none (take k.behind.links s.links))) tt } },
         c.1,
       )
 
-  frame-then : IsFrame (cut k.behind.mark s.heap) (take k.behind.links s.links) (CatchOf k) (reverse rest)
-  frame-then = frame-cut s.heap s.links k.behind.mark k.behind.links catch_frame.0.mark catch_frame.0.room (CatchOf k) (reverse rest) (le_refl _, le_refl _, le_refl _) catch_frame
+  frame-then : IsFrame (cut k.behind.mark s.heap) (take k.behind.links s.links) (HandleOf k) (reverse rest)
+  frame-then = frame-cut s.heap s.links k.behind.mark k.behind.links handle_frame.0.mark handle_frame.0.room (HandleOf k) (reverse rest) (le_refl _, le_refl _, le_refl _) handle_frame
 
   pub rewound-stack : IsStack (record { heap = cut k.behind.mark s.heap; links = take k.behind.links s.links; frames = s.frames; goals = 0 }) d
   rewound-stack =
-      let o = opened-state none_visited (d - 1) s.frames (CatchOf k) popped none-stack frame-then in
-      (o.0, omega (arith, o.1, cut-depth s d is rest (CatchOf k) k.behind popped refl catch_frame.0))
+      let o = opened-state none_visited (d - 1) s.frames (HandleOf k) popped none-stack frame-then in
+      (o.0, omega (arith, o.1, cut-depth s d is rest (HandleOf k) k.behind popped refl handle_frame.0))
 
-  same-catcher : catcher_case (cut k.behind.mark s.heap) (take k.behind.links s.links) k ≡ catcher_case s.heap s.links k
-  same-catcher = catcher-cut s.heap s.links k.behind.mark k.behind.links catch_frame.0.mark catch_frame.0.room k (reverse rest) (le_refl _, le_refl _, le_refl _) catch_frame.0
+  same-handler : handler_case (cut k.behind.mark s.heap) (take k.behind.links s.links) k ≡ handler_case s.heap s.links k
+  same-handler = handler-cut s.heap s.links k.behind.mark k.behind.links handle_frame.0.mark handle_frame.0.room k (reverse rest) (le_refl _, le_refl _, le_refl _) handle_frame.0
 
   below-then : (statics : Statics) → cases_of statics none_visited ≡ cases_of statics (record s { frames = rest })
   unfolding cases_of
-  below-then statics = cases-cut s.heap s.links k.behind.mark k.behind.links catch_frame.0.mark catch_frame.0.room statics (reverse rest) catch_frame.0.older (popped-frames s d rest (CatchOf k) popped is).1
+  below-then statics = cases-cut s.heap s.links k.behind.mark k.behind.links handle_frame.0.mark handle_frame.0.room statics (reverse rest) handle_frame.0.older (popped-frames s d rest (HandleOf k) popped is).1
 
   pub rewound-cases : (statics : Statics) → cases_of statics (record { heap = cut k.behind.mark s.heap; links = take k.behind.links s.links; frames = s.frames; goals = 0 }) ≡ cases_of statics s
   rewound-cases statics =
-      opened-cases statics none_visited s.frames (CatchOf k) popped
-      ∙ ap₂ (λ x cs. x ∷ cs) same-catcher (below-then statics)
-      ∙ sym (popped-cases statics s rest (CatchOf k) popped)
+      opened-cases statics none_visited s.frames (HandleOf k) popped
+      ∙ ap₂ (λ x cs. x ∷ cs) same-handler (below-then statics)
+      ∙ sym (popped-cases statics s rest (HandleOf k) popped)
 
-  catch-now : cut k.behind.mark (cut k.behind.mark s.heap) ≡ cut k.behind.mark s.heap
-  catch-now = cut-cut k.behind.mark k.behind.mark s.heap (le_refl _) (le_refl _)
+  handle-now : cut k.behind.mark (cut k.behind.mark s.heap) ≡ cut k.behind.mark s.heap
+  handle-now = cut-cut k.behind.mark k.behind.mark s.heap (le_refl _) (le_refl _)
 
-  pub rewound-at : AtCatch (record { heap = cut k.behind.mark s.heap; links = take k.behind.links s.links; frames = s.frames; goals = 0 }) k
+  pub rewound-at : AtHandler (record { heap = cut k.behind.mark s.heap; links = take k.behind.links s.links; frames = s.frames; goals = 0 }) k
   rewound-at = record {
     below = λ statics. cases_of statics none_visited;
     cases = λ statics.
-        opened-cases statics none_visited s.frames (CatchOf k) popped
-        ∙ ap (λ h. Handle (Catch (term h k.catcher) (term h k.recovery) (place_at h (take k.behind.links s.links) k.behind.list)) ∷ cases_of statics none_visited) catch-now;
-    catcher = omega (arith, catch_frame.1, cut-cells k.behind.mark s.heap catch_frame.0.mark.cells);
-    recovery = omega (arith, catch_frame.2, cut-cells k.behind.mark s.heap catch_frame.0.mark.cells);
-    list = let l = cut-list s d is rest (CatchOf k) k.behind popped refl catch_frame.0 in record { there = l.there; inside = l.inside };
-    has = has-catch s rest k popped;
+        opened-cases statics none_visited s.frames (HandleOf k) popped
+        ∙ ap (λ h. Handle (handler_in h k.handler) (place_at h (take k.behind.links s.links) k.behind.list) ∷ cases_of statics none_visited) handle-now;
+    inside = subst (λ n. IsHandlerIn n k.handler) (sym (cut-cells k.behind.mark s.heap handle_frame.0.mark.cells)) handle_frame.1;
+    list = let l = cut-list s d is rest (HandleOf k) k.behind popped refl handle_frame.0 in record { there = l.there; inside = l.inside };
+    has = has-handler s rest k popped;
   }
 
 tail_is : (x y : Case) (xs ys : List Case) → x ∷ xs ≡ y ∷ ys → xs ≡ ys
@@ -625,47 +625,47 @@ same-below : (statics : Statics) (s : State) (list : ℕ) → cases_of statics (
 unfolding cases_of
 same-below statics s list = refl
 
--- a list is visited in a choice in place of a catcher
-module _ (s : State) (d : ℕ) (is : IsStack s d) (rest : List Frame) (k : Catcher) (popped : s.frames ≡ rest ++ CatchOf k ∷ []) (frames : List Frame) (up : CountsUp 1 (reverse rest) (reverse frames)) (list : ℕ) (l : IsList s list) where
+-- a list is visited in a choice in place of a handler
+module _ (s : State) (d : ℕ) (is : IsStack s d) (rest : List Frame) (k : Handling) (popped : s.frames ≡ rest ++ HandleOf k ∷ []) (frames : List Frame) (up : CountsUp 1 (reverse rest) (reverse frames)) (list : ℕ) (l : IsList s list) where
   without : State
   without = record s { frames = rest; goals = list }
 
   pub recovered-stack : IsStack (record s { frames = frames; goals = list }) d
   recovered-stack =
-      let p = popped-frames s d rest (CatchOf k) popped is in
+      let p = popped-frames s d rest (HandleOf k) popped is in
       let c = counted (record s { frames = rest; goals = list }) (depth_of (reverse rest)) frames up (record { chain = is.0.chain; frames = p.1; goals = record { there = l.there; inside = l.inside } }, refl) in
       (c.0, omega (arith, c.1, p.2))
 
   pub recovers : Recovers s (record s { frames = frames; goals = list }) list
   recovers = record {
     cases = λ statics h below was.
-        let split : catcher_case s.heap s.links k ∷ cases_of statics (record s { frames = rest }) ≡ h ∷ below = sym (popped-cases statics s rest (CatchOf k) popped) ∙ was in
+        let split : handler_case s.heap s.links k ∷ cases_of statics (record s { frames = rest }) ≡ h ∷ below = sym (popped-cases statics s rest (HandleOf k) popped) ∙ was in
         counted-cases statics (record s { frames = rest; goals = list }) frames up ∙ ap (λ cs. Choice [] ∷ cs) (same-below statics (record s { frames = rest }) list ∙ tail_is _ _ _ _ split);
     place = refl;
   }
 
--- what the frame of a catcher opens
-module _ (s new : State) (k : Catcher) (now : cut k.behind.mark s.heap ≡ s.heap) where
-  pub opens-in-catch : OpensIn s new (CatchOf k) → Opens s new (Choice [] ∷ catching (term s.heap k.catcher) (term s.heap k.recovery) (goals_of s k.behind.list) s.heap.count ∷ [])
-  opens-in-catch o = record {
-    cases = λ statics. o.cases statics ∙ ap (λ h. Choice [] ∷ Handle (Catch (term h k.catcher) (term h k.recovery) (place_at h s.links k.behind.list)) ∷ cases_of statics s) now;
+-- what the frame of a handler opens
+module _ (s new : State) (k : Handling) (now : cut k.behind.mark s.heap ≡ s.heap) where
+  pub opens-in-handler : OpensIn s new (HandleOf k) → Opens s new (Choice [] ∷ Handle (handler_in s.heap k.handler) (record { goals = goals_of s k.behind.list; variables = s.heap.count }) ∷ [])
+  opens-in-handler o = record {
+    cases = λ statics. o.cases statics ∙ ap (λ h. Choice [] ∷ Handle (handler_in h k.handler) (place_at h s.links k.behind.list) ∷ cases_of statics s) now;
     heap = o.heap;
     links = o.links;
     goals = o.goals;
   }
 
--- a catcher's level
-pub level_is : (s : State) (d : ℕ) → IsStack s d → HasCatch s → (statics : Statics) → deeper (cases_of statics s) 0 ≡ (d - 1) + 1
+-- a handler's level
+pub level_is : (s : State) (d : ℕ) → IsStack s d → HasHandler s → (statics : Statics) → deeper (cases_of statics s) 0 ≡ (d - 1) + 1
 level_is s d is has statics = sym (depth_is statics s d is.1) ∙ go (reverse s.frames) has is.1
   where
-    go : (fs : List Frame) → BeginsWith IsCatchFrame fs → d ≡ depth_of fs → d ≡ (d - 1) + 1
+    go : (fs : List Frame) → BeginsWith IsHandleFrame fs → d ≡ depth_of fs → d ≡ (d - 1) + 1
     go [] has e = absurd has
     go (Plain n ∷ fs) has e = absurd has
     go (Barrier l ∷ fs) has e = absurd has
     go (Call a ∷ fs) has e = absurd has
     go (BranchOf b ∷ fs) has e = absurd has
-    go (CatchOf k ∷ fs) has e = omega (arith, e)
+    go (HandleOf k ∷ fs) has e = omega (arith, e)
 
--- the innermost case stays a catcher
-pub catch-stays : (s t : State) → t.frames ≡ s.frames → HasCatch s → HasCatch t
-catch-stays s t e has = subst (λ fs. BeginsWith IsCatchFrame (reverse fs)) (sym e) has
+-- the innermost case stays a handler
+pub handler-stays : (s t : State) → t.frames ≡ s.frames → HasHandler s → HasHandler t
+handler-stays s t e has = subst (λ fs. BeginsWith IsHandleFrame (reverse fs)) (sym e) has

@@ -7,7 +7,7 @@ use Rattle.plclause.specs.Clause.{Clause}
 use Rattle.plheap.specs.Store.{Store, term, Keeps}
 use Rattle.plheap.specs.Putting.{over}
 use Rattle.plsearch.specs.Types.{Place}
-use Rattle.plsearch.specs.Table.{is_true, before_rest, resolve}
+use Rattle.plsearch.specs.Rows.{is_true, before_rest, resolve}
 use Rattle.plframe.specs.declared.frame.Link.{Link}
 use Rattle.plframe.specs.declared.call.Called.{Called}
 use Rattle.plframe.specs.Places.{goals_at, place_at, places_left, list_at, AreIn, IsChain}

@@ -2,9 +2,9 @@
 use Rattle.std.specs.Prelude.{◌≡◌, ◌<◌, ◌≤◌, ◌+◌, ◌-◌, ◌⊎◌, ℕ, List, [], ◌∷◌, ◌++◌, length, get_or, take, reverse}
 use Rattle.plsearch.specs.Types.{Place, Case, Choice, Mark}
 use Rattle.plsearch.specs.Engine.{deeper}
-use Rattle.plsearch.specs.Levels.{AreAtMost, emptied}
+use Rattle.plsearch.specs.Machines.Levels.{AreAtMost, emptied}
 use Rattle.plframe.specs.declared.frame.Frame.{Frame}
-use Rattle.plframe.specs.declared.frame.Frame.TheVariants.{Plain, Barrier, Call, Branch as BranchOf, Catch as CatchOf}
+use Rattle.plframe.specs.declared.frame.Frame.TheVariants.{Plain, Barrier, Call, Branch as BranchOf, Handle as HandleOf}
 use Rattle.plframe.specs.Places.{Statics, size, depth_of, plain, cases}
 use Rattle.plframe.specs.State.{State, cases_of, goals_of}
 
@@ -13,7 +13,7 @@ IsChoice (Plain n) = Unit {0}
 IsChoice (Barrier l) = ⊥
 IsChoice (Call a) = Unit {0}
 IsChoice (BranchOf b) = Unit {0}
-IsChoice (CatchOf k) = ⊥
+IsChoice (HandleOf k) = ⊥
 
 abbrev pub frame_at : List Frame → ℕ → Frame
 frame_at frames i = get_or frames i (Plain 0)

@@ -5,7 +5,7 @@ use Rattle.plterm.specs.declared.node.Node.{Node}
 use Rattle.plterm.specs.declared.node.Node.TheVariants.{Var}
 use Rattle.plheap.specs.Store.{Store, term, terms}
 use Rattle.plsearch.specs.Errors.{instantiation_error, callable_error, arity_error}
-use Rattle.plsearch.specs.Table.{Runnable, Runs, Raises, with_arguments}
+use Rattle.plsearch.specs.Running.{Runnable, Runs, Raises, with_arguments}
 use Rattle.plframe.specs.declared.extend.Run.{Run}
 use Rattle.plframe.specs.declared.extend.Extended.{Extended}
 use Rattle.plframe.specs.declared.extend.Extended.TheVariants.{Is, Unbound, Number, TooLong}

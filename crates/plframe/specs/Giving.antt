@@ -1,7 +1,7 @@
 -- What open cases hold of the lists.
 use Rattle.std.specs.Prelude.{◌≡◌, ℕ, List, [], ◌∷◌}
 use Rattle.plframe.specs.declared.frame.Frame.{Frame}
-use Rattle.plframe.specs.declared.frame.Frame.TheVariants.{Plain, Barrier, Call, Branch as BranchOf, Catch as CatchOf}
+use Rattle.plframe.specs.declared.frame.Frame.TheVariants.{Plain, Barrier, Call, Branch as BranchOf, Handle as HandleOf}
 use Rattle.plframe.specs.Places.{Statics}
 use Rattle.plframe.specs.State.{State, cases_of, place_of}
 
@@ -12,7 +12,7 @@ held (Plain n ∷ fs) = held fs
 held (Barrier l ∷ fs) = held fs
 held (Call a ∷ fs) = a.links
 held (BranchOf b ∷ fs) = b.links
-held (CatchOf k ∷ fs) = k.behind.links
+held (HandleOf k ∷ fs) = k.behind.links
 
 -- the cases and the visited place stay, and the heap and the frames are as they were
 pub record GivesBack (old new : State) : Type 0 where

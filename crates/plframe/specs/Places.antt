@@ -4,14 +4,20 @@ use Rattle.std.specs.List.{fold}
 use Rattle.std.specs.Bool.{⊤}
 use Rattle.plterm.specs.declared.indicator.Indicator.{Indicator}
 use Rattle.plclause.specs.Clause.{Clause}
-use Rattle.plevent.specs.declared.request.Request.TheVariants.{Publish}
-use Rattle.plevent.specs.declared.update.Update.TheVariants.{Last}
+use Rattle.plevent.specs.declared.request.Request.{Request}
+use Rattle.plevent.specs.declared.request.Request.TheVariants.{Start, Publish, Finish, HaltRun}
 use Rattle.plheap.specs.Store.{Store, term, cut, IsMark}
-use Rattle.plsearch.specs.Types.{Element, Goal, Commit, Never, Until, Look, Await, Halt, Place, Case, Choice, Mark, Handle, Catch}
-use Rattle.plsearch.specs.Table.{resolve}
+use Rattle.plsearch.specs.Types.{Kind, Commit, Never, Until, Then, GoesOn, Ends, Question, Look, Await, Element, Goal, Marker, Asking, Place, Handler, Catch, Case, Choice, Mark, Handle}
+use Rattle.plsearch.specs.Rows.{resolve}
 use Rattle.plsearch.specs.Engine.{deeper}
 use Rattle.plframe.specs.declared.frame.Item.{Item}
-use Rattle.plframe.specs.declared.frame.Item.TheVariants.{Goal as GoalAt, Commit as CommitTo, Never as NeverTo, Until as UntilTo, Look as LookAt, Await as AwaitFor, Halt as HaltWith}
+use Rattle.plframe.specs.declared.frame.Item.TheVariants.{Goal as GoalAt, Marker as MarkerAt, Asking as AskingFor}
+use Rattle.plframe.specs.declared.frame.Question.{Question as Asked}
+use Rattle.plframe.specs.declared.frame.Question.TheVariants.{Look as LookAt, Await as AwaitFor}
+use Rattle.plframe.specs.declared.frame.MarkerKind.{MarkerKind}
+use Rattle.plframe.specs.declared.frame.MarkerKind.TheVariants as markers
+use Rattle.plframe.specs.declared.frame.Then.{Then as Following}
+use Rattle.plframe.specs.declared.frame.Then.TheVariants as thens
 use Rattle.plframe.specs.declared.frame.Link.{Link}
 use Rattle.plframe.specs.Levels.{level_in}
 use Rattle.plframe.specs.declared.frame.Source.{Source}
@@ -19,8 +25,10 @@ use Rattle.plframe.specs.declared.frame.Source.TheVariants.{Procedure, Copied}
 use Rattle.plframe.specs.declared.frame.Alternatives.{Alternatives}
 use Rattle.plframe.specs.declared.frame.Branch.{Branch}
 use Rattle.plframe.specs.declared.frame.Frame.{Frame}
-use Rattle.plframe.specs.declared.frame.Frame.TheVariants.{Plain, Barrier, Call, Branch as BranchOf, Catch as CatchOf}
-use Rattle.plframe.specs.declared.frame.Catcher.{Catcher}
+use Rattle.plframe.specs.declared.frame.Frame.TheVariants.{Plain, Barrier, Call, Branch as BranchOf, Handle as HandleOf}
+use Rattle.plframe.specs.declared.frame.Handler.{Handler as Handles}
+use Rattle.plframe.specs.declared.frame.Handler.TheVariants.{Catch as CatchBy}
+use Rattle.plframe.specs.declared.frame.Handling.{Handling}
 
 -- the lists of all links so far, that of number 0 first
 abbrev pub added : List (List Item) → Link → List (List Item)
@@ -33,14 +41,23 @@ unfoldable pub list_at : List Link → ℕ → List Item
 unfolding lists_of
 list_at links i = get_or (lists_of links) i []
 
+abbrev pub marker_of : MarkerKind → Kind
+marker_of markers.Commit = Commit
+marker_of markers.Never = Never
+marker_of markers.Until = Until
+
+abbrev pub then_of : Following → Then
+then_of thens.GoesOn = GoesOn
+then_of (thens.Ends n) = Ends n
+
+abbrev pub question : Store → Asked → Question
+question h (LookAt c) = Look (term h c)
+question h (AwaitFor q next) = Await q (then_of next)
+
 abbrev pub element : Store → Item → Element
 element h (GoalAt k c) = Goal k (term h c)
-element h (CommitTo l) = Commit l
-element h (NeverTo l) = Never l
-element h (UntilTo l) = Until l
-element h (LookAt c) = Look (term h c)
-element h (AwaitFor c) = Await (Publish (Last c ∷ []))
-element h (HaltWith n) = Halt n
+element h (MarkerAt m l) = Marker (marker_of m) l
+element h (AskingFor q) = Asking (question h q)
 
 abbrev pub goals_at : Store → List Link → ℕ → List Element
 goals_at h links i = map (element h) (list_at links i)
@@ -72,16 +89,20 @@ alternatives statics d h links a = places_left d (cut a.mark h) links a.goal a.r
 abbrev pub branch_place : Store → List Link → Branch → Place
 branch_place h links b = place_at (cut b.mark h) links b.list
 
--- a catcher, likewise
-abbrev pub catcher_case : Store → List Link → Catcher → Case
-catcher_case h links k = Handle (Catch (term (cut k.behind.mark h) k.catcher) (term (cut k.behind.mark h) k.recovery) (branch_place h links k.behind))
+-- what a handler stands for
+abbrev pub handler_in : Store → Handles → Handler
+handler_in h (CatchBy c r) = Catch (term h c) (term h r)
+
+-- a handler, read in the heap as it was at the mark
+abbrev pub handler_case : Store → List Link → Handling → Case
+handler_case h links k = Handle (handler_in (cut k.behind.mark h) k.handler) (branch_place h links k.behind)
 
 abbrev pub opened : Statics → Store → List Link → Frame → List Case → List Case
 opened statics h links (Plain n) below = plain n below
 opened statics h links (Barrier l) below = Mark l ∷ below
 opened statics h links (Call a) below = Choice (alternatives statics (deeper below 0) h links a) ∷ below
 opened statics h links (BranchOf b) below = Choice (branch_place h links b ∷ []) ∷ below
-opened statics h links (CatchOf k) below = catcher_case h links k ∷ below
+opened statics h links (HandleOf k) below = handler_case h links k ∷ below
 
 -- of frames, the newest first
 abbrev pub cases : Statics → Store → List Link → List Frame → List Case
@@ -94,21 +115,28 @@ size (Plain n) = n
 size (Barrier l) = 1
 size (Call a) = 1
 size (BranchOf b) = 1
-size (CatchOf k) = 1
+size (HandleOf k) = 1
 
 abbrev pub depth_of : List Frame → ℕ
 depth_of [] = 0
 depth_of (f ∷ fs) = size f + depth_of fs
 
+-- a goal asks for neither a thread to start nor an end to be told: workers do
+abbrev pub IsAskable : Request → Type 0
+IsAskable Start = ⊥
+IsAskable (Publish us) = ⊤
+IsAskable (Finish e) = ⊥
+IsAskable (HaltRun n) = ⊤
+
 -- the cells of a list stand below a number
+abbrev pub IsAskedIn : ℕ → Asked → Type 0
+IsAskedIn n (LookAt c) = c < n
+IsAskedIn n (AwaitFor q next) = IsAskable q
+
 abbrev pub IsItemIn : ℕ → Item → Type 0
 IsItemIn n (GoalAt k c) = c < n
-IsItemIn n (CommitTo l) = ⊤
-IsItemIn n (NeverTo l) = ⊤
-IsItemIn n (UntilTo l) = ⊤
-IsItemIn n (LookAt c) = c < n
-IsItemIn n (AwaitFor c) = ⊤
-IsItemIn n (HaltWith m) = ⊤
+IsItemIn n (MarkerAt m l) = ⊤
+IsItemIn n (AskingFor q) = IsAskedIn n q
 
 abbrev pub AreIn : ℕ → List Item → Type 0
 AreIn n [] = ⊤
@@ -120,7 +148,7 @@ IsOlder c t k (Plain n) = ⊤
 IsOlder c t k (Barrier l) = ⊤
 IsOlder c t k (Call a) = (a.mark.cells ≤ c) × (a.mark.trail ≤ t) × (a.links ≤ k)
 IsOlder c t k (BranchOf b) = (b.mark.cells ≤ c) × (b.mark.trail ≤ t) × (b.links ≤ k)
-IsOlder c t k (CatchOf x) = (x.behind.mark.cells ≤ c) × (x.behind.mark.trail ≤ t) × (x.behind.links ≤ k)
+IsOlder c t k (HandleOf x) = (x.behind.mark.cells ≤ c) × (x.behind.mark.trail ≤ t) × (x.behind.links ≤ k)
 
 abbrev pub AreOlder : ℕ → ℕ → ℕ → List Frame → Type 0
 AreOlder c t k [] = ⊤
@@ -143,19 +171,23 @@ pub record IsSaved (h : Store) (links : List Link) (b : Branch) (fs : List Frame
   pub older : AreOlder b.mark.cells b.mark.trail b.links fs
   pub inside : AreIn b.mark.cells (list_at links b.list)
 
+-- the cells of a handler stand below a number
+abbrev pub IsHandlerIn : ℕ → Handles → Type 0
+IsHandlerIn n (CatchBy c r) = (c < n) × (r < n)
+
 abbrev pub IsFrame : Store → List Link → Frame → List Frame → Type 0
 IsFrame h links (Plain n) fs = 0 < n
 IsFrame h links (Barrier l) fs = ⊤
 IsFrame h links (Call a) fs = IsCall h links a fs
 IsFrame h links (BranchOf b) fs = IsSaved h links b fs
-IsFrame h links (CatchOf k) fs = IsSaved h links k.behind fs × (k.catcher < k.behind.mark.cells) × (k.recovery < k.behind.mark.cells)
+IsFrame h links (HandleOf k) fs = IsSaved h links k.behind fs × IsHandlerIn k.behind.mark.cells k.handler
 
 abbrev pub AreFrames : Store → List Link → List Frame → Type 0
 AreFrames h links [] = ⊤
 AreFrames h links (f ∷ fs) = IsFrame h links f fs × AreFrames h links fs
 
 abbrev pub link_at : List Link → ℕ → Link
-link_at links i = get_or links i (record { item = CommitTo 0; next = 0; top = 0 })
+link_at links i = get_or links i (record { item = GoalAt 0 0; next = 0; top = 0 })
 
 -- the highest level that a list names
 abbrev pub top_at : List Link → ℕ → ℕ

@@ -5,21 +5,22 @@ use Rattle.plsubst.specs.Subst.{bind}
 use Rattle.plsubst.specs.Unify.{unify}
 use Rattle.plheap.specs.Store.{Store, term}
 use Rattle.plsearch.specs.Types.{Element, Place, Case, Choice, Mark, Handle, Handler}
-use Rattle.plsearch.specs.Table.{branch, catching, bind_goals}
+use Rattle.plsearch.specs.Lists.{bind_goals}
+use Rattle.plsearch.specs.Rows.{branch}
 use Rattle.plsearch.specs.Engine.{deeper}
 use Rattle.plframe.specs.declared.frame.Link.{Link}
 use Rattle.plframe.specs.declared.frame.Frame.{Frame}
-use Rattle.plframe.specs.declared.frame.Frame.TheVariants.{Plain, Barrier, Call, Branch as BranchOf, Catch as CatchOf}
-use Rattle.plframe.specs.declared.frame.Catcher.{Catcher}
+use Rattle.plframe.specs.declared.frame.Frame.TheVariants.{Plain, Barrier, Call, Branch as BranchOf, Handle as HandleOf}
+use Rattle.plframe.specs.declared.frame.Handling.{Handling}
 use Rattle.plframe.specs.declared.frame.Around.{Around}
-use Rattle.plframe.specs.declared.frame.Around.TheVariants.{Nothing, Branch as InBranch, Catch as InCatch}
+use Rattle.plframe.specs.declared.frame.Around.TheVariants.{Nothing, Branch as InBranch, Handle as InHandle}
 use Rattle.plframe.specs.declared.frame.Opening.{Opening}
 use Rattle.plframe.specs.declared.frame.Opening.TheVariants.{Branch as OpenBranch, Run as OpenRun}
 use Rattle.plframe.specs.declared.frame.Alternatives.{Alternatives}
 use Rattle.plframe.specs.declared.frame.Source.{Source}
 use Rattle.plframe.specs.declared.frame.Closed.{Closed}
-use Rattle.plframe.specs.declared.frame.Closed.TheVariants.{Choice as Fails, Mark as Cuts, Catch as Catches}
-use Rattle.plframe.specs.Places.{Statics, opened, plain, alternatives, places_left, clauses_in, IsCall, place_at, goals_at, cases, depth_of, AreFrames, AreIn, IsItemIn, list_at, IsChain}
+use Rattle.plframe.specs.declared.frame.Closed.TheVariants.{Choice as Fails, Mark as Cuts, Handler as Handles}
+use Rattle.plframe.specs.Places.{Statics, opened, plain, alternatives, places_left, clauses_in, IsCall, place_at, goals_at, cases, depth_of, AreFrames, AreIn, IsItemIn, IsHandlerIn, handler_in, list_at, IsChain}
 
 -- the frames, the newest last; the list that is visited
 pub record State : Type 0 where
@@ -67,7 +68,7 @@ pub record Extends (old new : State) : Type 0 where
 abbrev pub around_cases : State → Around → List Case
 around_cases s Nothing = []
 around_cases s (InBranch i) = branch (goals_of s i) s.heap.count ∷ []
-around_cases s (InCatch c r i) = catching (term s.heap c) (term s.heap r) (goals_of s i) s.heap.count ∷ []
+around_cases s (InHandle x i) = Handle (handler_in s.heap x) (record { goals = goals_of s i; variables = s.heap.count }) ∷ []
 
 -- the cases to open, the innermost first
 abbrev pub opening_cases : State → Opening → List Case
@@ -77,7 +78,7 @@ opening_cases s (OpenRun around) = Choice [] ∷ around_cases s around
 abbrev pub IsAround : State → Around → Type 0
 IsAround s Nothing = Unit {0}
 IsAround s (InBranch i) = IsList s i
-IsAround s (InCatch c r i) = IsList s i × (c < length s.heap.cells) × (r < length s.heap.cells)
+IsAround s (InHandle x i) = IsList s i × IsHandlerIn (length s.heap.cells) x
 
 abbrev pub IsOpening : State → Opening → Type 0
 IsOpening s (OpenBranch i) = IsList s i
@@ -139,22 +140,22 @@ IsCallFrame (Plain n) = ⊥
 IsCallFrame (Barrier l) = ⊥
 IsCallFrame (Call a) = Unit {0}
 IsCallFrame (BranchOf b) = ⊥
-IsCallFrame (CatchOf k) = ⊥
+IsCallFrame (HandleOf k) = ⊥
 
 abbrev pub IsBranchFrame : Frame → Type 0
 IsBranchFrame (Plain n) = ⊥
 IsBranchFrame (Barrier l) = ⊥
 IsBranchFrame (Call a) = ⊥
 IsBranchFrame (BranchOf b) = Unit {0}
-IsBranchFrame (CatchOf k) = ⊥
+IsBranchFrame (HandleOf k) = ⊥
 
--- the innermost case is a catcher
-abbrev pub IsCatchFrame : Frame → Type 0
-IsCatchFrame (Plain n) = ⊥
-IsCatchFrame (Barrier l) = ⊥
-IsCatchFrame (Call a) = ⊥
-IsCatchFrame (BranchOf b) = ⊥
-IsCatchFrame (CatchOf k) = Unit {0}
+-- the innermost case is a handler
+abbrev pub IsHandleFrame : Frame → Type 0
+IsHandleFrame (Plain n) = ⊥
+IsHandleFrame (Barrier l) = ⊥
+IsHandleFrame (Call a) = ⊥
+IsHandleFrame (BranchOf b) = ⊥
+IsHandleFrame (HandleOf k) = Unit {0}
 
 abbrev pub BeginsWith : (Frame → Type 0) → List Frame → Type 0
 BeginsWith Is [] = ⊥
@@ -166,14 +167,14 @@ HasCall s = BeginsWith IsCallFrame (reverse s.frames)
 abbrev pub HasBranch : State → Type 0
 HasBranch s = BeginsWith IsBranchFrame (reverse s.frames)
 
-abbrev pub HasCatch : State → Type 0
-HasCatch s = BeginsWith IsCatchFrame (reverse s.frames)
+abbrev pub HasHandler : State → Type 0
+HasHandler s = BeginsWith IsHandleFrame (reverse s.frames)
 
 -- the innermost case was closed
 abbrev pub ClosedAs : Statics → State → State → Closed → Type 0
 ClosedAs statics old new Fails = (ps : List Place) × (cases_of statics old ≡ Choice ps ∷ cases_of statics new) × ((HasCall old → ⊥) → (HasBranch old → ⊥) → ps ≡ [])
 ClosedAs statics old new (Cuts l) = cases_of statics old ≡ Mark l ∷ cases_of statics new
-ClosedAs statics old new Catches = HasCatch old × (h : Handler) × (cases_of statics old ≡ Handle h ∷ cases_of statics new)
+ClosedAs statics old new Handles = HasHandler old × (h : Handler) × (p : Place) × (cases_of statics old ≡ Handle h p ∷ cases_of statics new)
 
 -- the places of a call at the level of the next case
 abbrev pub call_places : Statics → State → ℕ → ℕ → Source → List Place
@@ -192,16 +193,15 @@ pub record Retries (statics : Statics) (old new : State) : Type 0 where
   pub was : cases_of statics old ≡ Choice (place_of new ∷ others) ∷ older
   pub cases : cases_of statics new ≡ Choice others ∷ older
 
--- the innermost case is this catcher, and the heap is that of its opening
-pub record AtCatch (s : State) (k : Catcher) : Type 0 where
+-- the innermost case is this handler, and the heap is that of its opening
+pub record AtHandler (s : State) (k : Handling) : Type 0 where
   pub below : Statics → List Case
-  pub cases : (statics : Statics) → cases_of statics s ≡ catching (term s.heap k.catcher) (term s.heap k.recovery) (goals_of s k.behind.list) s.heap.count ∷ below statics
-  pub catcher : k.catcher < length s.heap.cells
-  pub recovery : k.recovery < length s.heap.cells
+  pub cases : (statics : Statics) → cases_of statics s ≡ Handle (handler_in s.heap k.handler) (record { goals = goals_of s k.behind.list; variables = s.heap.count }) ∷ below statics
+  pub inside : IsHandlerIn (length s.heap.cells) k.handler
   pub list : IsList s k.behind.list
-  pub has : HasCatch s
+  pub has : HasHandler s
 
--- the innermost case was a catcher, and a list is visited in a choice with nothing left in its place
+-- the innermost case was a handler, and a list is visited in a choice with nothing left in its place
 pub record Recovers (old new : State) (list : ℕ) : Type 0 where
   pub cases : (statics : Statics) (h : Case) (below : List Case) → cases_of statics old ≡ h ∷ below → cases_of statics new ≡ Choice [] ∷ below
   pub place : place_of new ≡ record { goals = goals_of old list; variables = old.heap.count }

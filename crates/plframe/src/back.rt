@@ -18,7 +18,7 @@ fn links_of(frame: &Frame) -> Option<usize>
         Frame::Plain(_) | Frame::Barrier(_) => None,
         Frame::Call(further) => Some(further.links),
         Frame::Branch(branch) => Some(branch.links),
-        Frame::Catch(catcher) => Some(catcher.behind.links),
+        Frame::Handle(handling) => Some(handling.behind.links),
     }
 }
 

@@ -7,7 +7,7 @@ ghost use Rattle.plsubst.specs.Unify.{unify as unifier_of};
 ghost use Rattle.plheap.specs.Store.{term, Keeps};
 ghost use Rattle.plheap.specs.Putting.{HoldsNothing};
 ghost use Rattle.plunify.specs.Unifying.{HoldsNothing as HoldsNoPair};
-ghost use Rattle.plsearch.specs.Table.{is_true, resolve};
+ghost use Rattle.plsearch.specs.Rows.{is_true, resolve};
 ghost use Rattle.plframe.specs.Places.{goals_at, IsChain};
 ghost use Rattle.plframe.specs.Calls.{Longer, IsListIn, IsCalled, Fitted, PutsBody, Resolves, FirstFits, left_of};
 

@@ -12,7 +12,7 @@ fn size_of(frame: &Frame) -> u32
 {
     match frame {
         Frame::Plain(n) => *n,
-        Frame::Barrier(_) | Frame::Call(_) | Frame::Branch(_) | Frame::Catch(_) => 1,
+        Frame::Barrier(_) | Frame::Call(_) | Frame::Branch(_) | Frame::Handle(_) => 1,
     }
 }
 
@@ -22,7 +22,7 @@ fn is_choice(frame: &Frame) -> bool
 {
     match frame {
         Frame::Plain(_) | Frame::Call(_) | Frame::Branch(_) => true,
-        Frame::Barrier(_) | Frame::Catch(_) => false,
+        Frame::Barrier(_) | Frame::Handle(_) => false,
     }
 }
 

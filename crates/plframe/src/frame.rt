@@ -1,26 +1,48 @@
 //! The parts of a stack.
 
 use plclause::clause::Clause;
+use plevent::request::Request;
 use plheap::cell::Mark;
 use plterm::indicator::Indicator;
 
-/// A member of a goal list.
+/// What a marker is for.
+#[derive(Clone, Copy)]
+pub enum MarkerKind {
+    /// Behind it the choices down to its level are given up.
+    Commit,
+    /// Here the choices down to its level are given up, and the list fails.
+    Never,
+    /// Up to here the handler of its level is active.
+    Until,
+}
+
+/// What follows once a request is done.
+#[derive(Clone, Copy)]
+pub enum Then {
+    /// The list goes on.
+    GoesOn,
+    /// The run is ended with a number.
+    Ends(u8),
+}
+
+/// What a list asks.
+#[derive(Drop)]
+pub enum Question {
+    /// The view of the database in which the clauses of the goal of a cell are looked up.
+    Look(u32),
+    /// A request.
+    Await(Request, Then),
+}
+
+/// A member of a goal list. A ball is no member: it is carried outward as soon as it is thrown.
 #[derive(Drop)]
 pub enum Item {
     /// A goal: its cut level, and its cell.
     Goal(u32, u32),
-    /// Behind it the choices down to a level are given up.
-    Commit(u32),
-    /// Here the choices down to a level are given up, and the list fails.
-    Never(u32),
-    /// Up to here the catcher of a level is active.
-    Until(u32),
-    /// The goal of a cell waits for a view of the database.
-    Look(u32),
-    /// A clause waits until it is published as the last of its procedure.
-    Await(Clause),
-    /// The run is to be ended with a number.
-    Halt(u8),
+    /// A marker, and its level.
+    Marker(MarkerKind, u32),
+    /// What is asked here.
+    Asking(Question),
 }
 
 /// A goal list: its first member, and the number of the list behind it. 0 is the empty list.
@@ -67,12 +89,18 @@ pub struct Branch {
     pub list: u32,
 }
 
-/// A catcher, with its recovery, before a list: their cells.
+/// What handles the result of a list.
 #[derive(Clone, Copy)]
-pub struct Catcher {
+pub enum Handler {
+    /// A catcher and its recovery, by their cells.
+    Catch(u32, u32),
+}
+
+/// A handler, and the list behind the goal that it is for.
+#[derive(Clone, Copy)]
+pub struct Handling {
     pub behind: Branch,
-    pub catcher: u32,
-    pub recovery: u32,
+    pub handler: Handler,
 }
 
 /// Open cases.
@@ -86,8 +114,8 @@ pub enum Frame {
     Call(Alternatives),
     /// A choice of one list.
     Branch(Branch),
-    /// A catcher.
-    Catch(Catcher),
+    /// A handler.
+    Handle(Handling),
 }
 
 /// The cases that a goal with a cut level of its own runs in, besides the choice of that level.
@@ -96,8 +124,8 @@ pub enum Around {
     Nothing,
     /// A choice of one list.
     Branch(u32),
-    /// A catcher and its recovery, before a list.
-    Catch(u32, u32, u32),
+    /// A handler, before a list.
+    Handle(Handler, u32),
 }
 
 /// Cases to open.
@@ -116,6 +144,6 @@ pub enum Closed {
     Choice,
     /// A mark of a level.
     Mark(u32),
-    /// A catcher.
-    Catch,
+    /// A handler.
+    Handler,
 }

@@ -13,10 +13,8 @@ fn level_in(item: &Item) -> u32
 {
     match item {
         Item::Goal(level, _) => *level,
-        Item::Commit(level) => *level,
-        Item::Never(level) => *level,
-        Item::Until(level) => *level,
-        Item::Look(_) | Item::Await(_) | Item::Halt(_) => 0,
+        Item::Marker(_, level) => *level,
+        Item::Asking(_) => 0,
     }
 }
 

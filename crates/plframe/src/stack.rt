@@ -6,15 +6,15 @@ ghost use Rattle.plframe.specs.Levels.{levels_of};
 ghost use Rattle.plsubst.specs.Subst.{shift};
 ghost use Rattle.plsubst.specs.Unify.{unify as unifier_of};
 ghost use Rattle.plheap.specs.Store.{term, cut};
-ghost use Rattle.plsearch.specs.Table.{levels};
+ghost use Rattle.plsearch.specs.Lists.{levels};
 ghost use Rattle.plclause.specs.Conversion.{converted};
 ghost use Rattle.plgoal.specs.Goal.{IsGoal};
 ghost use Rattle.plprogram.specs.Program.{clauses_for};
 ghost use Rattle.plsearch.specs.Types.{Choice, Place, Case};
 ghost use Rattle.plsearch.specs.Engine.{deeper};
-ghost use Rattle.plsearch.specs.Levels.{AreAtMost};
+ghost use Rattle.plsearch.specs.Machines.Levels.{AreAtMost};
 ghost use Rattle.plframe.specs.Places.{Statics, IsItemIn, list_at, depth_of, element, clauses_in, place_at, branch_place, size, IsFrame, IsSaved};
-ghost use Rattle.plframe.specs.State.{place_of, goals_of, cases_of, IsList, Extends, IsOpening, opening_cases, Opens, OpensFrame, OpensIn, Unifies, Begins, CountsUp, OpensRest, HasCall, HasBranch, HasCatch, AtCatch, Recovers, ClosedAs, Calls, Retries, call_places};
+ghost use Rattle.plframe.specs.State.{place_of, goals_of, cases_of, IsList, Extends, IsOpening, opening_cases, Opens, OpensFrame, OpensIn, Unifies, Begins, CountsUp, OpensRest, HasCall, HasBranch, HasHandler, AtHandler, Recovers, ClosedAs, Calls, Retries, call_places};
 ghost use Rattle.plframe.specs.Giving.{held, GivesBack};
 ghost use Rattle.plframe.specs.Cutting.{ChoiceAt, EmptiesFrom, Cuts};
 ghost use Rattle.plframe.specs.Extended.{IsRun, Extends as ExtendsTo};
@@ -24,7 +24,7 @@ use crate::call::{Called, Room, first_fit};
 use crate::cut::choice_at;
 use crate::extend::{Extended, Run, with_arguments};
 use crate::frame::{
-    Alternatives, Around, Branch, Catcher, Closed, Frame, Item, Link, Opening, Source,
+    Alternatives, Around, Branch, Closed, Frame, Handling, Item, Link, Opening, Source,
 };
 use crate::link::{push_link, top_of};
 use plclause::clause::Clause;
@@ -169,6 +169,7 @@ impl Stack {
         ensures is { IfOk result (λ r. ExtendsTo self.old.heap self.new.heap cell further r) }
         ensures count { self.new.heap.count ≡ self.old.heap.count }
         ensures stays { Extends self.old self.new }
+        ensures err { OnErr result (self.new ≡ self.old) }
     {
         with_arguments(&mut self.heap, &mut self.room.pending, alloc, cell, further)
     }
@@ -241,13 +242,9 @@ impl Stack {
                 let branch = self.branch_of(list);
                 self.open_plain_in(Frame::Branch(branch))
             }
-            Opening::Run(Around::Catch(catcher, recovery, list)) => {
+            Opening::Run(Around::Handle(handler, list)) => {
                 let behind = self.branch_of(list);
-                self.open_plain_in(Frame::Catch(Catcher {
-                    behind,
-                    catcher,
-                    recovery,
-                }))
+                self.open_plain_in(Frame::Handle(Handling { behind, handler }))
             }
         }
     }
@@ -427,16 +424,16 @@ impl Stack {
         matches!(self.frames.last(), Some(Frame::Branch(_)))
     }
 
-    /// Whether the innermost case is a catcher.
-    pub fn is_catch(&self) -> bool
-        ensures { IsTrue result ↔ HasCatch self.now }
+    /// Whether the innermost case is a handler.
+    pub fn is_handler(&self) -> bool
+        ensures { IsTrue result ↔ HasHandler self.now }
     {
-        matches!(self.frames.last(), Some(Frame::Catch(_)))
+        matches!(self.frames.last(), Some(Frame::Handle(_)))
     }
 
-    /// The level of the innermost case, which is a catcher.
+    /// The level of the innermost case, which is a handler.
     pub fn level(&self) -> u32
-        requires { HasCatch self.now }
+        requires { HasHandler self.now }
         ensures { (statics : Statics) → deeper (cases_of statics self.now) 0 ≡ result + 1 }
     {
         self.depth - 1
@@ -477,9 +474,9 @@ impl Stack {
                 self.depth -= 1;
                 Some(Closed::Choice)
             }
-            Some(Frame::Catch(_)) => {
+            Some(Frame::Handle(_)) => {
                 self.depth -= 1;
-                Some(Closed::Catch)
+                Some(Closed::Handler)
             }
             Some(Frame::Plain(n)) => {
                 self.depth -= 1;
@@ -508,32 +505,32 @@ impl Stack {
         self.goals = branch.list;
     }
 
-    /// Goes back to where the innermost case was opened, which is a catcher and stays open: the catcher.
-    pub fn rewind(&mut self) -> Catcher
-        requires { HasCatch self.old }
+    /// Goes back to where the innermost case was opened, which is a handler and stays open: the handler.
+    pub fn rewind(&mut self) -> Handling
+        requires { HasHandler self.old }
         ensures cases { (statics : Statics) → cases_of statics self.new ≡ cases_of statics self.old }
-        ensures at { AtCatch self.new result }
+        ensures at { AtHandler self.new result }
     {
-        let Some(Frame::Catch(catcher)) = self.frames.pop() else {
+        let Some(Frame::Handle(handling)) = self.frames.pop() else {
             unreachable!()
         };
-        self.heap.undo(catcher.behind.mark);
-        self.links.truncate(catcher.behind.links);
+        self.heap.undo(handling.behind.mark);
+        self.links.truncate(handling.behind.links);
         self.goals = 0;
-        match self.frames.push(Frame::Catch(catcher)) {
+        match self.frames.push(Frame::Handle(handling)) {
             Ok(()) => {}
             Err(_) => unreachable!(),
         }
-        catcher
+        handling
     }
 
-    /// Visits a list in a choice with nothing left, in place of the innermost case, which is a catcher.
+    /// Visits a list in a choice with nothing left, in place of the innermost case, which is a handler.
     pub fn recover(&mut self, list: u32)
-        requires catch { HasCatch self.old }
+        requires handler { HasHandler self.old }
         requires list { IsList self.old list }
         ensures { Recovers self.old self.new list }
     {
-        let Some(Frame::Catch(_)) = self.frames.pop() else {
+        let Some(Frame::Handle(_)) = self.frames.pop() else {
             unreachable!()
         };
         count_up(&mut self.frames, 1);
@@ -610,11 +607,8 @@ impl Stack {
 fn push_level(found: &mut Vec<u32>, item: &Item) -> Result<(), AllocError>
     ensures { OnOk result (found.new.items ≡ found.old.items ++ levels_of item.now) }
 {
-    match item {
-        Item::Commit(level) => found.push(*level)?,
-        Item::Never(level) => found.push(*level)?,
-        Item::Until(level) => found.push(*level)?,
-        Item::Goal(_, _) | Item::Look(_) | Item::Await(_) | Item::Halt(_) => {}
+    if let Item::Marker(_, level) = item {
+        found.push(*level)?;
     }
     Ok(())
 }

@@ -9,7 +9,7 @@ use Rattle.plevent.specs.declared.act.Act.{Act}
 use Rattle.plevent.specs.declared.act.Entry.{Entry}
 use Rattle.plevent.specs.Reading.{reading}
 use Rattle.plevent.specs.Rows.{served, is_workers, is_over}
-use Rattle.plevent.specs.Search.{View, Ask, Answer, Seen, Got, Next, Wants, Finishes, Search}
+use Rattle.plevent.specs.Search.{Item, View, Ask, Answer, Seen, Got, Wants, Finishes, Search, item_of}
 use Rattle.plhist.specs.declared.history.Run.{Run}
 use Rattle.plhist.specs.declared.history.RunEnd.{RunEnd}
 use Rattle.plhist.specs.Follows.{own, Taken, answer_at, takes, from_start, asks_of, Follows}
@@ -52,17 +52,20 @@ last = record { answers = Seen 2 [] ∷ Got Reply.Published ∷ Got Reply.Done �
 follows : Follows sought 10 right (run (2 ∷ 2 ∷ 3 ∷ []))
 unfolding takes answer_at served reading own
 follows = record {
-  asked = 2 ∷ 2 ∷ [];
-  finish = 3;
-  places = refl;
-  start = 1;
-  before = before;
-  items = refl;
+  asked = record {
+    earlier = 2 ∷ 2 ∷ [];
+    final = 3;
+    split = refl;
+    start = 1;
+    before = before;
+    items = refl;
+    asks = refl;
+    last = last;
+    finished = refl;
+    told = refl;
+    entries = refl;
+  };
   ends = refl;
-  last = last;
-  finished = refl;
-  told = refl;
-  entries = refl;
 }
 
 legal : Legal [] right
@@ -86,33 +89,34 @@ all_but_last [] = []
 all_but_last (x ∷ []) = []
 all_but_last (x ∷ y ∷ ys) = x ∷ all_but_last (y ∷ ys)
 
-abbrev last_of : List ℕ → ℕ
-last_of [] = 0
-last_of (x ∷ []) = x
-last_of (x ∷ y ∷ ys) = last_of (y ∷ ys)
+abbrev last_place : List ℕ → ℕ
+last_place [] = 0
+last_place (x ∷ []) = x
+last_place (x ∷ y ∷ ys) = last_place (y ∷ ys)
 
-all_but_last-push : (xs : List ℕ) (x : ℕ) → (all_but_last (xs ++ x ∷ []) ≡ xs) × (last_of (xs ++ x ∷ []) ≡ x)
+all_but_last-push : (xs : List ℕ) (x : ℕ) → (all_but_last (xs ++ x ∷ []) ≡ xs) × (last_place (xs ++ x ∷ []) ≡ x)
 all_but_last-push [] x = (refl, refl)
 all_but_last-push (y ∷ []) x = (refl, refl)
 all_but_last-push (y ∷ z ∷ zs) x = let more = all_but_last-push (z ∷ zs) x in (ap (λ l. y ∷ l) more.0, more.1)
 
 unfoldable came : List Entry → List ℕ → ℕ → Option Taken
-came h places k = option_and_then (λ s. answer_at h 1 (Ask (Request.Finish ThreadEnd.True)) (last_of places) s) (takes (asks_of sought 10) h 1 (all_but_last places) (from_start k))
+came h places k = option_and_then (λ s. answer_at h 1 (Ask (Request.Finish ThreadEnd.True)) (last_place places) s) (takes (asks_of sought 10) h 1 (all_but_last places) (from_start k))
 
 -- a run that follows comes to what makes its entries
 follows-came : (h : List Entry) (places : List ℕ) → Follows sought 10 h (run places) → (k : ℕ) × (s : Taken) × (came h places k ≡ Some s) × (own 1 h ≡ (k, Act.Start) ∷ s.made)
 unfolding came
 follows-came h places f =
-    let split = all_but_last-push f.asked f.finish in
-    let asked : all_but_last places ≡ f.asked = ap all_but_last f.places ∙ split.0 in
-    let finish : last_of places ≡ f.finish = ap last_of f.places ∙ split.1 in (
-      f.start,
-      f.last,
-      ap (λ gs. option_and_then (λ s. answer_at h 1 (Ask (Request.Finish ThreadEnd.True)) (last_of places) s) (takes (asks_of sought 10) h 1 gs (from_start f.start))) asked
-          ∙ ap (option_and_then (λ s. answer_at h 1 (Ask (Request.Finish ThreadEnd.True)) (last_of places) s)) f.items
-          ∙ ap (λ g. answer_at h 1 (Ask (Request.Finish ThreadEnd.True)) g f.before) finish
-          ∙ f.finished,
-      f.entries,
+    let a = f.asked in
+    let split = all_but_last-push a.earlier a.final in
+    let earlier : all_but_last places ≡ a.earlier = ap all_but_last a.split ∙ split.0 in
+    let final : last_place places ≡ a.final = ap last_place a.split ∙ split.1 in (
+      a.start,
+      a.last,
+      ap (λ gs. option_and_then (λ s. answer_at h 1 (Ask (Request.Finish ThreadEnd.True)) (last_place places) s) (takes (asks_of sought 10) h 1 gs (from_start a.start))) earlier
+          ∙ ap (option_and_then (λ s. answer_at h 1 (Ask (Request.Finish ThreadEnd.True)) (last_place places) s)) a.items
+          ∙ ap (λ g. answer_at h 1 (Ask (Request.Finish ThreadEnd.True)) g a.before) final
+          ∙ a.finished,
+      a.entries,
     )
 
 -- what came is one, and what the start and the entries are
@@ -183,7 +187,7 @@ something_else =
 -- another thread's run
 stranger : Follows sought 10 (opening [] ∷ start ∷ end ∷ []) (record (run (2 ∷ 2 ∷ 3 ∷ [])) { thread = 2 }) → ⊥
 unfolding own
-stranger f = let entries = f.entries in cc
+stranger f = let entries = f.asked.entries in cc
 
 -- before the first start nobody runs, so that only Start has an act, and it names main
 idle : (q : Request) (t : ℕ) (b : Bool) → nat_eq 1 t ≡ b → (is_workers q ≡ false) → (served q t (reading (opening [] ∷ []))).1 ≡ None
@@ -259,18 +263,20 @@ halted_run n places = record { thread = 1; places = places; steps = 2; «end» =
 halt_follows : Follows halting 10 (halted 44) (halted_run 44 (2 ∷ []))
 unfolding takes answer_at served reading own
 halt_follows = record {
-  asked = [];
-  halt = 2;
-  places = refl;
-  start = 1;
-  before = from_start 1;
-  items = refl;
-  asks = refl;
-  last = record { answers = Got Reply.Done ∷ []; low = 3; made = (2, Act.Halt 44) ∷ [] };
-  halted = refl;
-  told = refl;
+  asked = record {
+    earlier = [];
+    final = 2;
+    split = refl;
+    start = 1;
+    before = from_start 1;
+    items = refl;
+    asks = refl;
+    last = record { answers = Got Reply.Done ∷ []; low = 3; made = (2, Act.Halt 44) ∷ [] };
+    finished = refl;
+    told = refl;
+    entries = refl;
+  };
   ends = refl;
-  entries = refl;
 }
 
 halt_legal : Legal [] (halted 44)
@@ -302,16 +308,16 @@ behind_halt n e legal =
     none_is_some (e.thread, e.act) (sym (stopped n due.asked due.thread) ∙ due.made)
 
 -- the number of a request that ends the run
-number_asked : Next → ℕ
-number_asked (Wants (Ask (Request.HaltRun n))) = n
-number_asked next = 0
+number_asked : Option Item → ℕ
+number_asked (Some (Ask (Request.HaltRun n))) = n
+number_asked item = 0
 
 -- a run that tells of another number than it asked
 told_otherwise : (h : List Entry) (places : List ℕ) → Follows halting 10 h (halted_run 45 places) → ⊥
 unfolding number_asked
-told_otherwise h places f = go f.before.answers f.asks
+told_otherwise h places f = go f.asked.before.answers f.asked.asks
   where
-    go : (answers : List Answer) → asks_of halting 10 answers ≡ Wants (Ask (Request.HaltRun 45)) → ⊥
+    go : (answers : List Answer) → item_of (asks_of halting 10 answers) ≡ Some (Ask (Request.HaltRun 45)) → ⊥
     go [] is = let same : 44 ≡ 45 = ap number_asked is in absurd (omega (arith, same))
     go (a ∷ more) is = let same : 0 ≡ 45 = ap number_asked is in absurd (omega (arith, same))
 
@@ -324,12 +330,13 @@ noted_otherwise : Follows halting 10 (halted 45) (halted_run 44 (2 ∷ [])) → 
 unfolding takes answer_at served reading own first_place behind_first first_act number_noted
 noted_otherwise f =
     let h = halted 45 in
-    let split = all_but_last-push f.asked f.halt in
-    let asked : [] ≡ f.asked = ap all_but_last f.places ∙ split.0 in
-    let place : 2 ≡ f.halt = ap last_of f.places ∙ split.1 in
-    let before : from_start 1 ≡ f.before =
-    one _ _ (ap (λ gs. takes (asks_of halting 10) h 1 gs (from_start 1)) asked ∙ ap (λ k. takes (asks_of halting 10) h 1 f.asked (from_start k)) (ap first_place f.entries) ∙ f.items) in
-    let last : record { answers = Got Reply.Done ∷ []; low = 3; made = (2, Act.Halt 44) ∷ [] } ≡ f.last =
-    one _ _ (ap (λ g. answer_at h 1 (Ask (Request.HaltRun 44)) g (from_start 1)) place ∙ ap (answer_at h 1 (Ask (Request.HaltRun 44)) f.halt) before ∙ f.halted) in
-    let same : 44 ≡ 45 = ap (λ l. number_noted (first_act l)) (ap (λ s. s.made) last ∙ sym (ap behind_first f.entries)) in
+    let a = f.asked in
+    let split = all_but_last-push a.earlier a.final in
+    let earlier : [] ≡ a.earlier = ap all_but_last a.split ∙ split.0 in
+    let place : 2 ≡ a.final = ap last_place a.split ∙ split.1 in
+    let before : from_start 1 ≡ a.before =
+    one _ _ (ap (λ gs. takes (asks_of halting 10) h 1 gs (from_start 1)) earlier ∙ ap (λ k. takes (asks_of halting 10) h 1 a.earlier (from_start k)) (ap first_place a.entries) ∙ a.items) in
+    let last : record { answers = Got Reply.Done ∷ []; low = 3; made = (2, Act.Halt 44) ∷ [] } ≡ a.last =
+    one _ _ (ap (λ g. answer_at h 1 (Ask (Request.HaltRun 44)) g (from_start 1)) place ∙ ap (answer_at h 1 (Ask (Request.HaltRun 44)) a.final) before ∙ a.finished) in
+    let same : 44 ≡ 45 = ap (λ l. number_noted (first_act l)) (ap (λ s. s.made) last ∙ sym (ap behind_first a.entries)) in
     absurd (omega (arith, same))

@@ -8,7 +8,7 @@ use Rattle.plevent.specs.declared.act.Act.{Act}
 use Rattle.plevent.specs.declared.act.Entry.{Entry}
 use Rattle.plevent.specs.Reading.{reading}
 use Rattle.plevent.specs.Rows.{Row, served}
-use Rattle.plevent.specs.Search.{Item, View, Ask, Answer, Seen, Got, Next, Wants, Finishes, Search, item_of}
+use Rattle.plevent.specs.Search.{Item, View, Ask, Answer, Seen, Got, Next, Finishes, Search, item_of}
 use Rattle.plhist.specs.declared.history.Run.{Run}
 use Rattle.plhist.specs.declared.history.RunEnd.{RunEnd}
 
@@ -85,46 +85,35 @@ from_start k = record { answers = []; low = suc k; made = [] }
 abbrev pub asks_of : Search → ℕ → List Answer → Next
 asks_of search n answers = (search n answers).next
 
--- the run came to an end of its own, and Finish, the last item, was answered Done
+-- the last request of a thread that comes to this end: it tells of the end, or it has ended the run
+abbrev pub last_of : ThreadEnd → Request
+last_of (ThreadEnd.Halt n) = Request.HaltRun n
+last_of e = Request.Finish e
+
+-- The items of thread t were answered at the places, in order, the last of them, which is the last request of this end, Done;
+-- and what they make are all the entries of the thread.
+pub record HasAsked (search : Search) (limit : ℕ) (h : List Entry) (t : ℕ) (places : List ℕ) (e : ThreadEnd) : Type 0 where
+  -- the places of the items before the last, and that of the last
+  pub earlier : List ℕ
+  pub final : ℕ
+  pub split : places ≡ earlier ++ final ∷ []
+  pub start : ℕ
+  pub before : Taken
+  pub items : takes (asks_of search limit) h t earlier (from_start start) ≡ Some before
+  pub asks : item_of (asks_of search limit before.answers) ≡ Some (Ask (last_of e))
+  pub last : Taken
+  pub finished : answer_at h t (Ask (last_of e)) final before ≡ Some last
+  pub told : last.answers ≡ before.answers ++ Got Reply.Done ∷ []
+  -- the start, and then what the items make
+  pub entries : own t h ≡ (start, Act.Start) ∷ last.made
+
+-- the thread came to this end: its last item is answered, and with all answers its search has ended so
 pub record HasEnded (search : Search) (limit : ℕ) (h : List Entry) (run : Run) (e : ThreadEnd) : Type 0 where
-  -- the places of the search's items, and that of Finish
-  pub asked : List ℕ
-  pub finish : ℕ
-  pub places : run.places ≡ asked ++ finish ∷ []
-  pub start : ℕ
-  pub before : Taken
-  pub items : takes (asks_of search limit) h run.thread asked (from_start start) ≡ Some before
-  pub ends : search limit before.answers ≡ record { next = Finishes e; used = run.steps; out = run.output }
-  pub last : Taken
-  pub finished : answer_at h run.thread (Ask (Request.Finish e)) finish before ≡ Some last
-  pub told : last.answers ≡ before.answers ++ Got Reply.Done ∷ []
-  -- the start, and then what the items make, are all the entries of the thread
-  pub entries : own run.thread h ≡ (start, Act.Start) ∷ last.made
+  pub asked : HasAsked search limit h run.thread run.places e
+  pub ends : search limit asked.last.answers ≡ record { next = Finishes e; used = run.steps; out = run.output }
 
--- the thread ended the whole run with number n: HaltRun, the last item, was answered Done
-pub record HasHalted (search : Search) (limit : ℕ) (h : List Entry) (run : Run) (n : ℕ) : Type 0 where
-  -- the places of the items before, and that of HaltRun
-  pub asked : List ℕ
-  pub halt : ℕ
-  pub places : run.places ≡ asked ++ halt ∷ []
-  pub start : ℕ
-  pub before : Taken
-  pub items : takes (asks_of search limit) h run.thread asked (from_start start) ≡ Some before
-  pub asks : asks_of search limit before.answers ≡ Wants (Ask (Request.HaltRun n))
-  pub last : Taken
-  pub halted : answer_at h run.thread (Ask (Request.HaltRun n)) halt before ≡ Some last
-  pub told : last.answers ≡ before.answers ++ Got Reply.Done ∷ []
-  pub ends : search limit last.answers ≡ record { next = Finishes (ThreadEnd.Halt n); used = run.steps; out = run.output }
-  -- the start, and then what the items make, are all the entries of the thread
-  pub entries : own run.thread h ≡ (start, Act.Start) ∷ last.made
-
--- an end that is told is an item of its own; one that ended the whole run was the last item
 abbrev pub FollowsAs : Search → ℕ → List Entry → Run → RunEnd → Type 0
-FollowsAs search limit h run (RunEnd.Ended ThreadEnd.True) = HasEnded search limit h run ThreadEnd.True
-FollowsAs search limit h run (RunEnd.Ended ThreadEnd.False) = HasEnded search limit h run ThreadEnd.False
-FollowsAs search limit h run (RunEnd.Ended (ThreadEnd.Exception ball)) = HasEnded search limit h run (ThreadEnd.Exception ball)
-FollowsAs search limit h run (RunEnd.Ended ThreadEnd.Budget) = HasEnded search limit h run ThreadEnd.Budget
-FollowsAs search limit h run (RunEnd.Ended (ThreadEnd.Halt n)) = HasHalted search limit h run n
+FollowsAs search limit h run (RunEnd.Ended e) = HasEnded search limit h run e
 
 -- a run follows a search with this limit of steps
 abbrev pub Follows : Search → ℕ → List Entry → Run → Type 0

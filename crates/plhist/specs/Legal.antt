@@ -1,6 +1,6 @@
 -- A journal is legal: it begins with the first batch, and each later entry is the act of a request
 -- of one who may ask it. A run is over.
-use Rattle.std.specs.Prelude.{◌≡◌, ℕ, ◌≤◌, List, [], ◌∷◌, Option, Some, option_and_then, find, IsTrue}
+use Rattle.std.specs.Prelude.{◌≡◌, ℕ, ◌≤◌, List, [], ◌∷◌, Option, Some, option_and_then, find, IsTrue, All, drop}
 use Rattle.plevent.specs.declared.request.Request.{Request}
 use Rattle.plevent.specs.declared.update.Update.{Update}
 use Rattle.plevent.specs.declared.act.Act.{Act}
@@ -44,3 +44,7 @@ pub record Legal (first : List Update) (h : List Entry) : Type 0 where
 -- a thread has ended the run, or each was started and has ended
 abbrev pub Over : List Entry → Type 0
 Over h = IsTrue (is_over (reading h).standing)
+
+-- worker 1 made each entry behind the first
+abbrev pub ByOneWorker : List Entry → Type 0
+ByOneWorker h = All (λ e. e.worker ≡ 1) (drop 1 h)

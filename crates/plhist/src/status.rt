@@ -1,7 +1,7 @@
 //! What a call of the program came to: its number for the system, and its words.
 ghost use Rattle.std.specs.Prelude.{◌≡◌, ◌++◌, ◌∷◌, [], Some, codes, decimal, nat_eq, IfOk, option_copied};
-ghost use Rattle.plevent.specs.Reading.{reading, halted_after};
-ghost use Rattle.plhist.specs.Status.{number_of, line_of, kind_text, refusal_text, status_of, status_of_main, status_of_end, status_after};
+ghost use Rattle.plevent.specs.Reading.{halted_after};
+ghost use Rattle.plhist.specs.Status.{number_of, line_of, kind_text, refusal_text, status_of, status_of_end, status_after};
 
 use crate::history::Journal;
 use itoa::Buffer;
@@ -134,17 +134,6 @@ fn status_after(entry: &Entry, before: Status) -> Status
     }
 }
 
-/// How main ended.
-fn status_of_main(entries: &[Entry]) -> Status
-    ensures { result ≡ status_of_main entries.now }
-{
-    let mut status = Status::Done;
-    for entry in entries {
-        status = status_after(entry, status);
-    }
-    status
-}
-
 /// The number with which the run was ended, after an entry.
 fn halted_after(entry: &Entry, before: Option<u8>) -> Option<u8>
     ensures { result ≡ halted_after entry.now.act before }
@@ -155,24 +144,19 @@ fn halted_after(entry: &Entry, before: Option<u8>) -> Option<u8>
     }
 }
 
-/// The number with which a thread has ended the run, if one has: the first one counts.
-fn halted_in(entries: &[Entry]) -> Option<u8>
-    ensures { result ≡ (reading entries.now).standing.halted }
-{
-    let mut halted = None;
-    for entry in entries {
-        halted = halted_after(entry, halted);
-    }
-    halted
-}
-
-/// The status of a run: the number with which a thread has ended it, or else how main ended.
+/// The status of a run: the number with which a thread has ended it, the first one counting, or else how main ended.
 pub fn status_of(journal: &Journal) -> Status
     ensures { result ≡ status_of journal.now }
 {
     let entries = journal.as_slice();
-    match halted_in(entries) {
+    let mut halted = None;
+    let mut main = Status::Done;
+    for entry in entries {
+        halted = halted_after(entry, halted);
+        main = status_after(entry, main);
+    }
+    match halted {
         Some(number) => Status::Halted(number),
-        None => status_of_main(entries),
+        None => main,
     }
 }

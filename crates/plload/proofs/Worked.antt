@@ -1,12 +1,13 @@
 -- The definitions on small programs.
-use Rattle.std.proofs.Common.{◌≡◌, ℕ, pos, List, [], ◌∷◌, ◌++◌, true, false, codes, refl}
-use Rattle.plterm.specs.Tree.{Tree, var, int, atom, compound, none, more}
+use Rattle.std.proofs.Common.{◌≡◌, ℕ, ℤ, pos, List, [], ◌∷◌, ◌++◌, true, false, codes, refl}
+use Rattle.plterm.specs.Tree.{Tree, var, int, atom, compound, Trees, none, more}
+use Rattle.plterm.specs.declared.indicator.Indicator.{Indicator}
 use Rattle.plclause.specs.Clause.{Clause}
 use Rattle.plload.specs.declared.error.RefusalKind.TheVariants.{NotCallable, StaticRedefined, BadDirective}
 use Rattle.plops.specs.declared.operator.Kind.TheVariants.{Xfx}
 use Rattle.plops.specs.declared.flag.Quotes.TheVariants.{Atom}
-use Rattle.plnames.specs.Fixed.{is_fixed}
-use Rattle.plload.specs.Meaning.{Adds, Runs, Declares, Operates, SetsQuotes, Passes, Refused, meaning}
+use Rattle.plnames.specs.Names.{rows, is_fixed}
+use Rattle.plload.specs.Meaning.{Meaning, Adds, Runs, Declares, Operates, SetsQuotes, Passes, Refused, meaning}
 use Rattle.plload.specs.Position.{line_of, column_of}
 use Rattle.plprogram.specs.Program.{procedures_of, clauses_in}
 
@@ -21,6 +22,7 @@ fact name = record { head = atom name; body = atom (codes "true"); variables = 0
 
 -- a.
 added : meaning (atom (codes "a")) ≡ Adds (fact (codes "a"))
+unfolding rows
 added = refl
 
 -- 1 :- a.
@@ -33,10 +35,12 @@ bad_body_first = refl
 
 -- true.
 control_head : meaning (atom (codes "true")) ≡ Refused StaticRedefined
+unfolding rows
 control_head = refl
 
 -- -->(a, b).
 grammar_rule : meaning (two (codes "-->") (atom (codes "a")) (atom (codes "b"))) ≡ Refused StaticRedefined
+unfolding rows
 grammar_rule = refl
 
 -- :- initialization(p(V4)).
@@ -71,14 +75,17 @@ abbrev p_1 : Tree
 p_1 = slash (atom (codes "p")) (int (pos 1))
 
 dynamic_one : meaning (one (codes ":-") (one (codes "dynamic") p_1)) ≡ Declares (record { name = codes "p"; arity = 1 } ∷ [])
+unfolding rows
 dynamic_one = refl
 
 -- :- dynamic((p/1, q/0)).
 dynamic_two : meaning (one (codes ":-") (one (codes "dynamic") (two (codes ",") p_1 (slash (atom (codes "q")) (int (pos 0)))))) ≡ Declares (record { name = codes "p"; arity = 1 } ∷ record { name = codes "q"; arity = 0 } ∷ [])
+unfolding rows
 dynamic_two = refl
 
 -- :- dynamic([p/1]).
 dynamic_list : meaning (one (codes ":-") (one (codes "dynamic") (two (codes ".") p_1 (atom (codes "[]"))))) ≡ Declares (record { name = codes "p"; arity = 1 } ∷ [])
+unfolding rows
 dynamic_list = refl
 
 -- :- dynamic([p/1|X]).
@@ -87,6 +94,7 @@ dynamic_partial = refl
 
 -- :- dynamic(write/1).
 dynamic_built_in : meaning (one (codes ":-") (one (codes "dynamic") (slash (atom (codes "write")) (int (pos 1))))) ≡ Refused BadDirective
+unfolding rows
 dynamic_built_in = refl
 
 -- :- dynamic.
@@ -122,9 +130,11 @@ module_directive : meaning (one (codes ":-") (two (codes "module") (atom (codes 
 module_directive = refl
 
 fixed_once : is_fixed (record { name = codes "once"; arity = 1 }) ≡ true
+unfolding rows
 fixed_once = refl
 
 not_fixed : is_fixed (record { name = codes "once"; arity = 2 }) ≡ false
+unfolding rows
 not_fixed = refl
 
 -- the second byte of the third line

@@ -18,7 +18,7 @@ use Rattle.plprogram.specs.declared.settings.Unknown.{Unknown}
 use Rattle.plprogram.specs.declared.settings.Unknown.TheVariants.{Error, Fail}
 use Rattle.plload.specs.declared.error.RefusalKind.{RefusalKind}
 use Rattle.plload.specs.declared.error.RefusalKind.TheVariants.{NotCallable, StaticRedefined, BadDirective}
-use Rattle.plnames.specs.Fixed.{is_fixed, is_named}
+use Rattle.plnames.specs.Names.{is_fixed, is_named}
 use Rattle.plload.specs.Lists.{only_argument, pair_of, elements, members, is_list, each}
 
 -- a clause of its procedure, a goal of main, names of dynamic procedures, operators of a priority and kind,

@@ -1,7 +1,7 @@
 //! What a directive does.
 ghost use Rattle.std.specs.Prelude.{◌≡◌, Some, IfOk, option_map, option_copied, is_some, if◌then◌else◌};
 ghost use Rattle.std.specs.List.{list_any};
-ghost use Rattle.plnames.specs.Fixed.{is_fixed};
+ghost use Rattle.plnames.specs.Names.{is_fixed};
 ghost use Rattle.plload.specs.Lists.{each, elements, members, is_list};
 ghost use Rattle.plload.specs.Meaning.{goal_meaning, directive_meaning, is_directive_name, of_args, of_one, of_two, of_three, dynamic_meaning, passes_if, is_library, flag_meaning, quotes_meaning, unknown_meaning, operator_meaning, kind_of, kind_in, name_of, names_of, number_to, indicators, indicator_of};
 ghost use Rattle.plload.specs.Shown.{shown};
@@ -10,7 +10,7 @@ use crate::error::RefusalKind;
 use crate::lists::{argument_of, elements_of, is_list, members_of, pair_of};
 use crate::meaning::Meaning;
 use plclause::convert::convert;
-use plnames::fixed::is_fixed;
+use plnames::table::NameTable;
 use plops::flag::Quotes;
 use plops::operator::Kind;
 use plprogram::settings::Unknown;
@@ -20,7 +20,11 @@ use plterm::walk::{Shape, TermRef, Terms};
 use std::alloc::{AllocError, Global};
 
 /// What a directive does (ISO/IEC 13211-1 7.4.2); one of a name that no directive has is a goal of main.
-pub fn directive_of(alloc: Global, directive: &TermRef<'_>) -> Result<Meaning, AllocError>
+pub fn directive_of(
+    alloc: Global,
+    names: &NameTable,
+    directive: &TermRef<'_>,
+) -> Result<Meaning, AllocError>
     ensures { IfOk result (λ m. shown m ≡ directive_meaning directive.now) }
 {
     match directive.shape() {
@@ -31,7 +35,7 @@ pub fn directive_of(alloc: Global, directive: &TermRef<'_>) -> Result<Meaning, A
             }
         }
         Shape::Compound(name, args) => {
-            if let Some(meaning) = of_args(alloc, name.as_str(), args)? {
+            if let Some(meaning) = of_args(alloc, names, name.as_str(), args)? {
                 return Ok(meaning);
             }
         }
@@ -67,14 +71,19 @@ fn is_directive_name(name: &str) -> bool
 }
 
 /// What a directive of this name and these arguments does, if it is one.
-fn of_args(alloc: Global, name: &str, mut args: Terms<'_>) -> Result<Option<Meaning>, AllocError>
+fn of_args(
+    alloc: Global,
+    names: &NameTable,
+    name: &str,
+    mut args: Terms<'_>,
+) -> Result<Option<Meaning>, AllocError>
     ensures { IfOk result (λ o. option_map shown o ≡ of_args name.now args.entry) }
 {
     let Some(a) = args.next_term() else {
         return Ok(None);
     };
     let Some(b) = args.next_term() else {
-        return of_one(alloc, name, &a);
+        return of_one(alloc, names, name, &a);
     };
     let Some(c) = args.next_term() else {
         return of_two(name, &a, &b);
@@ -86,7 +95,12 @@ fn of_args(alloc: Global, name: &str, mut args: Terms<'_>) -> Result<Option<Mean
 }
 
 /// A directive of one argument.
-fn of_one(alloc: Global, name: &str, a: &TermRef<'_>) -> Result<Option<Meaning>, AllocError>
+fn of_one(
+    alloc: Global,
+    names: &NameTable,
+    name: &str,
+    a: &TermRef<'_>,
+) -> Result<Option<Meaning>, AllocError>
     ensures { IfOk result (λ o. option_map shown o ≡ of_one name.now a.now) }
 {
     if name == "initialization" {
@@ -94,7 +108,7 @@ fn of_one(alloc: Global, name: &str, a: &TermRef<'_>) -> Result<Option<Meaning>,
         return Ok(Some(meaning));
     }
     if name == "dynamic" {
-        let meaning = dynamic_of(alloc, a)?;
+        let meaning = dynamic_of(alloc, names, a)?;
         return Ok(Some(meaning));
     }
     if name == "discontiguous" || name == "multifile" {
@@ -155,13 +169,13 @@ fn passes_if(good: bool) -> Meaning
 }
 
 /// dynamic/1: its procedures are no control constructs or built-in predicates.
-fn dynamic_of(alloc: Global, term: &TermRef<'_>) -> Result<Meaning, AllocError>
+fn dynamic_of(alloc: Global, names: &NameTable, term: &TermRef<'_>) -> Result<Meaning, AllocError>
     ensures { IfOk result (λ m. shown m ≡ dynamic_meaning (indicators term.now)) }
 {
     match indicators_of(alloc, term)? {
         None => Ok(Meaning::Refused(RefusalKind::BadDirective)),
         Some(indicators) => {
-            if any_fixed(&indicators) {
+            if any_fixed(names, &indicators) {
                 Ok(Meaning::Refused(RefusalKind::BadDirective))
             } else {
                 Ok(Meaning::Declares(indicators))
@@ -171,10 +185,10 @@ fn dynamic_of(alloc: Global, term: &TermRef<'_>) -> Result<Meaning, AllocError>
 }
 
 /// Whether one of the procedures is a control construct or a built-in predicate.
-fn any_fixed(indicators: &[Indicator]) -> bool
+fn any_fixed(names: &NameTable, indicators: &[Indicator]) -> bool
     ensures { result ≡ list_any is_fixed indicators.now }
 {
-    indicators.iter().any(|p| is_fixed(p))
+    indicators.iter().any(|p| names.is_fixed(p))
 }
 
 /// The indicators of a directive: one, a sequence of them, or a list.

@@ -10,7 +10,8 @@ use crate::meaning::Meaning;
 use indexmap::IndexSet;
 use plclause::clause::Clause;
 use plevent::update::{Batch, Update};
-use plprogram::program::{Procedures, Program};
+use plnames::table::NameTable;
+use plprogram::program::{Counts, Procedures, Program};
 use plprogram::settings::Settings;
 use plterm::indicator::Indicator;
 use plterm::term::Term;
@@ -91,7 +92,12 @@ impl Draft {
     }
 
     /// The program, where these are the settings at the text's end.
-    pub fn finish(self, alloc: Global, settings: Settings) -> Result<Program, AllocError>
+    pub fn finish(
+        self,
+        alloc: Global,
+        names: NameTable,
+        settings: Settings,
+    ) -> Result<Program, AllocError>
         ensures { IfOk result (λ p. p ≡ program_of settings self) }
     {
         let Draft {
@@ -101,16 +107,13 @@ impl Draft {
             directives,
         } = self;
         let count = clauses.len() as u64;
-        let mut first = declares(alloc, &declared)?;
-        let procedures = part(alloc, clauses, &declared, &mut first)?;
-        Ok(Program::new(
-            procedures,
-            goals,
-            Batch::new(first),
-            settings,
-            count,
+        let counts = Counts {
+            clauses: count,
             directives,
-        ))
+        };
+        let mut first = declares(alloc, &declared)?;
+        let procedures = part(alloc, names, clauses, &declared, &mut first)?;
+        Ok(Program::new(procedures, goals, Batch::new(first), settings, counts))
     }
 }
 
@@ -141,6 +144,7 @@ fn declares(alloc: Global, declared: &IndexSet<Indicator>) -> Result<Vec<Update>
 /// The static procedures of the clauses; those of dynamic procedures are added to the first batch.
 fn part(
     alloc: Global,
+    names: NameTable,
     clauses: Vec<Clause>,
     declared: &IndexSet<Indicator>,
     first: &mut Vec<Update>,
@@ -148,7 +152,7 @@ fn part(
     ensures procedures { IfOk result (λ ps. ps ≡ procedures_of (filter (λ c. not (is_dynamic declared.now.keys c)) clauses.items)) }
     ensures first { OnOk result (first.new.items ≡ first.old.items ++ map LastOf (filter (is_dynamic declared.now.keys) clauses.items)) }
 {
-    let mut procedures = Procedures::new(alloc);
+    let mut procedures = Procedures::new(alloc, names);
     for clause in clauses {
         if declared.contains(&clause.indicator()?) {
             first.push(Update::Last(clause))?;

@@ -12,6 +12,7 @@ use crate::meaning::meaning_of;
 use crate::next::{Next, next_of};
 use crate::position::position_of;
 use crate::taking::take;
+use plnames::table::NameTable;
 use plprogram::program::Program;
 use plprogram::settings::Settings;
 use plwrite::write::write_clause;
@@ -24,15 +25,16 @@ pub fn load(alloc: Global, text: &[u8]) -> Result<Program, LoadError>
     ensures accepted { IfOk result (λ program. Loads text.now (Accepts program)) }
     ensures refused { IfErr result (Tells text.now) }
 {
+    let names = NameTable::new(alloc)?;
     let mut settings = Settings::iso(alloc)?;
     let mut draft = Draft::new(alloc);
     let mut place = 0;
     'clauses: loop {
         match next_of(alloc, text, place, &settings)? {
-            Next::Over => return Ok(draft.finish(alloc, settings)?),
+            Next::Over => return Ok(draft.finish(alloc, names, settings)?),
             Next::Stops(at, kind) => return Err(refused(text, at, kind)),
             Next::Reads(term, first, after) => {
-                let meaning = meaning_of(alloc, &term)?;
+                let meaning = meaning_of(alloc, &names, &term)?;
                 if let Some(kind) = take(&mut settings, &meaning)? {
                     return Err(refused(text, first, kind));
                 }
@@ -49,6 +51,7 @@ pub fn listing(alloc: Global, text: &[u8]) -> Result<Vec<u8>, LoadError>
     ensures accepted { IfOk result (λ bytes. Lists text.now (Accepts bytes.items)) }
     ensures refused { IfErr result (Tells text.now) }
 {
+    let names = NameTable::new(alloc)?;
     let mut settings = Settings::iso(alloc)?;
     let mut lines = Vec::new(alloc);
     let mut place = 0;
@@ -58,7 +61,7 @@ pub fn listing(alloc: Global, text: &[u8]) -> Result<Vec<u8>, LoadError>
             Next::Stops(at, kind) => return Err(refused(text, at, kind)),
             Next::Reads(term, first, after) => {
                 lines.extend_from_slice(&write_clause(alloc, &term, &settings.operators)?)?;
-                let meaning = meaning_of(alloc, &term)?;
+                let meaning = meaning_of(alloc, &names, &term)?;
                 if let Some(kind) = take(&mut settings, &meaning)? {
                     return Err(refused(text, first, kind));
                 }

@@ -10,7 +10,7 @@ use crate::error::RefusalKind;
 use crate::lists::argument_of;
 use plclause::clause::Clause;
 use plclause::form::{ClauseForm, clause_of};
-use plnames::fixed::is_fixed;
+use plnames::table::NameTable;
 use plops::flag::Quotes;
 use plops::operator::Kind;
 use plprogram::settings::Unknown;
@@ -41,27 +41,27 @@ pub enum Meaning {
 }
 
 /// What the clause that this term spells does.
-pub fn meaning_of(alloc: Global, term: &Term) -> Result<Meaning, AllocError>
+pub fn meaning_of(alloc: Global, names: &NameTable, term: &Term) -> Result<Meaning, AllocError>
     ensures { IfOk result (λ m. shown m ≡ meaning term.now) }
 {
     match argument_of(&term.root(), ":-") {
-        Some(directive) => directive_of(alloc, &directive),
-        None => other_meaning(alloc, term),
+        Some(directive) => directive_of(alloc, names, &directive),
+        None => other_meaning(alloc, names, term),
     }
 }
 
 /// What a goal of main behind `?-` or a clause does.
-fn other_meaning(alloc: Global, term: &Term) -> Result<Meaning, AllocError>
+fn other_meaning(alloc: Global, names: &NameTable, term: &Term) -> Result<Meaning, AllocError>
     ensures { IfOk result (λ m. shown m ≡ clause_or term.now (only_argument (codes "?-") term.now)) }
 {
     match argument_of(&term.root(), "?-") {
         Some(goal) => goal_of(alloc, &goal),
-        None => clause_meaning(alloc, term),
+        None => clause_meaning(alloc, names, term),
     }
 }
 
 /// What a clause does that is no directive.
-fn clause_meaning(alloc: Global, term: &Term) -> Result<Meaning, AllocError>
+fn clause_meaning(alloc: Global, names: &NameTable, term: &Term) -> Result<Meaning, AllocError>
     ensures { IfOk result (λ m. shown m ≡ form_meaning (clausal term.now)) }
 {
     match clause_of(alloc, term)? {
@@ -69,7 +69,7 @@ fn clause_meaning(alloc: Global, term: &Term) -> Result<Meaning, AllocError>
             RefusalKind::NotCallable,
         )),
         ClauseForm::IsClause(clause) => {
-            if is_reserved(&clause.indicator()?) {
+            if is_reserved(names, &clause.indicator()?) {
                 Ok(Meaning::Refused(RefusalKind::StaticRedefined))
             } else {
                 Ok(Meaning::Adds(clause))
@@ -79,8 +79,8 @@ fn clause_meaning(alloc: Global, term: &Term) -> Result<Meaning, AllocError>
 }
 
 /// Whether no program may define the procedure.
-fn is_reserved(indicator: &Indicator) -> bool
+fn is_reserved(names: &NameTable, indicator: &Indicator) -> bool
     ensures { result ≡ is_reserved indicator.now }
 {
-    is_fixed(indicator) || (indicator.name.as_str() == "-->" && indicator.arity == 2)
+    names.is_fixed(indicator) || (indicator.name.as_str() == "-->" && indicator.arity == 2)
 }

@@ -6,15 +6,18 @@ use crate::settings::{Settings, Unknown};
 use indexmap::IndexMap;
 use plclause::clause::Clause;
 use plevent::update::Batch;
+use plnames::table::NameTable;
 use plops::table::OpTable;
 use plterm::indicator::Indicator;
 use plterm::term::Term;
 use std::alloc::{AllocError, Global};
 use std::marker::Model;
 
-/// Static procedures with their clauses, each in text order, by their first clauses.
+/// What each name with an arity is, and the static procedures of a text with their clauses, each in text order, by their
+/// first clauses.
 #[derive(Drop)]
 pub struct Procedures {
+    names: NameTable,
     entries: IndexMap<Indicator, Vec<Clause>>,
 }
 
@@ -32,11 +35,12 @@ impl Model for Procedures {
 }
 
 impl Procedures {
-    /// No procedures.
-    pub fn new(alloc: Global) -> Procedures
+    /// No procedures of a text.
+    pub fn new(alloc: Global, names: NameTable) -> Procedures
         ensures { result ≡ [] }
     {
         Procedures {
+            names,
             entries: IndexMap::new(alloc),
         }
     }
@@ -71,6 +75,13 @@ impl Procedures {
     }
 }
 
+/// How many clauses and directives a text has.
+#[derive(Clone, Copy, Debug, PartialEq, Eq)]
+pub struct Counts {
+    pub clauses: u64,
+    pub directives: u64,
+}
+
 /// A loaded program: its static clauses by procedure, in text order; the goals of main in order, each with variables 0, 1, ..
 /// by first occurrence; the first batch of the journal, which declares the dynamic procedures and holds their clauses; and
 /// the operators and flags at the text's end.
@@ -80,8 +91,7 @@ pub struct Program {
     goals: Vec<Term>,
     first: Batch,
     settings: Settings,
-    clauses: u64,
-    directives: u64,
+    counts: Counts,
 }
 
 impl Model for Program {
@@ -91,7 +101,7 @@ impl Model for Program {
 
     ghost coded = { program_code };
 
-    ghost view = { λ a. record { procedures = a.procedures; goals = a.goals.items; first = a.first; settings = a.settings; clauses = a.clauses; directives = a.directives } };
+    ghost view = { λ a. record { procedures = a.procedures; goals = a.goals.items; first = a.first; settings = a.settings; clauses = a.counts.clauses; directives = a.counts.directives } };
 }
 
 impl Program {
@@ -101,18 +111,16 @@ impl Program {
         goals: Vec<Term>,
         first: Batch,
         settings: Settings,
-        clauses: u64,
-        directives: u64,
+        counts: Counts,
     ) -> Program
-        ensures { result ≡ record { procedures = procedures; goals = goals.items; first = first; settings = settings; clauses = clauses; directives = directives } }
+        ensures { result ≡ record { procedures = procedures; goals = goals.items; first = first; settings = settings; clauses = counts.clauses; directives = counts.directives } }
     {
         Program {
             procedures,
             goals,
             first,
             settings,
-            clauses,
-            directives,
+            counts,
         }
     }
 
@@ -132,6 +140,18 @@ impl Program {
         ensures { result.now ≡ clauses_for self.now indicator.now }
     {
         self.procedures.clauses_of(indicator)
+    }
+
+    /// What each name with an arity is.
+    pub fn names(&self) -> &NameTable {
+        &self.procedures.names
+    }
+
+    /// The settings at the text's end.
+    pub fn settings(&self) -> &Settings
+        ensures { result.now ≡ self.now.settings }
+    {
+        &self.settings
     }
 
     /// The goals of main, in order.
@@ -166,13 +186,13 @@ impl Program {
     pub fn clause_count(&self) -> u64
         ensures { result ≡ self.now.clauses }
     {
-        self.clauses
+        self.counts.clauses
     }
 
     /// How many directives the text has.
     pub fn directive_count(&self) -> u64
         ensures { result ≡ self.now.directives }
     {
-        self.directives
+        self.counts.directives
     }
 }

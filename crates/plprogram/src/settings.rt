@@ -36,4 +36,16 @@ impl Settings {
             unknown: Unknown::Error,
         })
     }
+
+    /// The same settings again.
+    pub fn copied(&self, alloc: Global) -> Result<Settings, AllocError>
+        ensures { IfOk result (λ s. s ≡ self.now) }
+    {
+        let operators = self.operators.copy(alloc)?;
+        Ok(Settings {
+            operators,
+            quotes: self.quotes,
+            unknown: self.unknown,
+        })
+    }
 }

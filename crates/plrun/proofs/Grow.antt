@@ -1,27 +1,42 @@
 -- What stays as the journal grows.
-use Rattle.std.proofs.Common.{◌≡◌, ℕ, suc, ◌+◌, ◌≤◌, Bool, true, false, List, [], ◌∷◌, ◌++◌, length, fold, Option, Some, None, refl, sym, ap, ◌∙◌, subst, arith, nat_eq, length-append, lt-ltb, ltb-true}
+use Rattle.std.proofs.Common.{◌≡◌, ℕ, zero, suc, ◌+◌, ◌≤◌, Bool, true, false, List, [], ◌∷◌, ◌++◌, length, fold, Option, Some, None, refl, sym, ap, ◌∙◌, subst, arith, nat_eq, length-append, lt-ltb, ltb-true}
+use Rattle.std.specs.List.{All}
 use Rattle.std.specs.Option.{option_and_then}
 use Rattle.std.proofs.lemmas.List.{take-append-le}
+use Rattle.std.proofs.lemmas.List.Elements.{All-append}
 use Rattle.plevent.specs.declared.act.Act.{Act}
 use Rattle.plevent.specs.declared.act.Entry.{Entry}
 use Rattle.plevent.specs.declared.update.Update.{Update}
 use Rattle.plevent.specs.Reading.{Reading, reading, read}
 use Rattle.plevent.specs.Rows.{served}
 use Rattle.plevent.specs.Search.{Item, View, Ask, Answer, Next, item_of}
-use Rattle.plhist.specs.Legal.{IsDue, AllDue, Legal, opening}
+use Rattle.plhist.specs.Legal.{IsDue, AllDue, Legal, ByOneWorker, opening}
+use Rattle.plrun.specs.Going.{IsSound}
 use Rattle.plhist.specs.Follows.{own, own_from, own_if, Taken, guarded, not_below, replied, answered, answer_at, item_at, takes}
 
 due-push : (r : Reading) (es : List Entry) (e : Entry) → AllDue r es → IsDue (fold read r es) e → AllDue r (es ++ e ∷ [])
 due-push r [] e all due = (due, tt)
 due-push r (x ∷ xs) e all due = (all.0, due-push (read r x) xs e all.1 due)
 
-pub legal-push : (first : List Update) (h : List Entry) (e : Entry) → Legal first h → IsDue (reading h) e → Legal first (h ++ e ∷ [])
+legal-push : (first : List Update) (h : List Entry) (e : Entry) → Legal first h → IsDue (reading h) e → Legal first (h ++ e ∷ [])
 unfolding reading
 legal-push first h e legal due = record {
   later = legal.later ++ e ∷ [];
   opens = ap (λ l. l ++ e ∷ []) legal.opens;
   due = due-push (reading (opening first ∷ [])) legal.later e legal.due (subst (λ l. IsDue (reading l) e) legal.opens due);
 }
+
+pub one-worker : (e : Entry) → e.worker ≡ 1 → All (λ e. e.worker ≡ 1) (e ∷ [])
+one-worker e one zero d lt = one
+one-worker e one (suc k) d lt = absurd (omega arith)
+
+-- a journal with one more entry that is due, by worker 1
+pub sound-push : (first : List Update) (h : List Entry) (e : Entry) → IsSound first h → IsDue (reading h) e → e.worker ≡ 1 → IsSound first (h ++ e ∷ [])
+sound-push first h e sound due one =
+    let legal = sound.legal in record {
+      legal = legal-push first h e legal due;
+      workers = subst (λ l. ByOneWorker (l ++ e ∷ [])) (sym legal.opens) (All-append (λ e. e.worker ≡ 1) legal.later (e ∷ []) (subst ByOneWorker legal.opens sound.workers) (one-worker e one));
+    }
 
 own_if-append : (b : Bool) (i : ℕ) (a : Act) (xs ys : List (ℕ × Act)) → own_if b i a (xs ++ ys) ≡ own_if b i a xs ++ ys
 own_if-append true i a xs ys = refl

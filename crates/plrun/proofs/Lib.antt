@@ -5,6 +5,4 @@ pub mod Steps
 pub mod Ends
 pub mod Serve
 pub mod Start
-pub mod Paid
 pub mod Halting
-pub mod Turns

@@ -12,9 +12,10 @@ use Rattle.plevent.specs.declared.standing.Standing.{Standing}
 use Rattle.plevent.specs.Alive.{add_if}
 use Rattle.plevent.specs.Reading.{Reading, is_thread}
 use Rattle.plevent.specs.Rows.{row, served, served_while, is_workers, is_new, start_row, runs}
+use Rattle.plhist.specs.Follows.{last_of}
 use Rattle.plhist.specs.Legal.{MayAsk, IsDue, worker_of}
 use Rattle.plrun.specs.Going.{Free}
-use Rattle.plrun.specs.Halts.{last_of, act_of}
+use Rattle.plrun.specs.Halts.{act_of}
 
 runs-found : (t : ℕ) (xs : List Thread) (x : Thread) → find (is_thread t) xs ≡ Some x → is_some x.worker ≡ true → is_some x.ended ≡ false →
     list_any (λ x. is_thread t x && is_some x.worker && not (is_some x.ended)) xs ≡ true

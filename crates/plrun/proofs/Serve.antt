@@ -1,5 +1,5 @@
 -- What a turn of a thread leaves.
-use Rattle.std.proofs.Common.{◌≡◌, ℕ, Bool, true, false, ◌||◌, not, List, [], ◌∷◌, ◌++◌, length, take, append-nil, map, Some, refl, sym, ap, ap₂, ◌∙◌, subst, arith, nat_eq, eq-eqb, eqb-true}
+use Rattle.std.proofs.Common.{◌≡◌, ℕ, ◌≤◌, Bool, true, false, ◌||◌, not, List, [], ◌∷◌, ◌++◌, length, take, append-nil, map, Some, refl, sym, ap, ap₂, ◌∙◌, subst, arith, nat_eq, eq-eqb, eqb-true}
 use Rattle.std.specs.List.{find, list_any}
 use Rattle.std.specs.Option.{is_some}
 use Rattle.std.proofs.Math.Seq.{take-append_seam}
@@ -13,24 +13,25 @@ use Rattle.plevent.specs.declared.standing.Thread.{Thread}
 use Rattle.plevent.specs.Alive.{Stamped, before}
 use Rattle.plevent.specs.Reading.{reading, is_thread, changed_first, halted_after}
 use Rattle.plevent.specs.Rows.{served, adds, reply_to, entries_of, is_settled}
-use Rattle.plevent.specs.Search.{View, Ask, Seen, Got, Search}
+use Rattle.plevent.specs.Search.{Item, View, Ask, Seen, Got, Wants, Finishes, Search, item_of, item_of_end}
 use Rattle.plhist.specs.declared.history.Run.{Run}
 use Rattle.plhist.specs.declared.history.RunEnd.{RunEnd}
-use Rattle.plhist.specs.Legal.{Over}
+use Rattle.plhist.specs.Follows.{last_of}
 use Rattle.plhist.proofs.Alone.{main-alone}
 use Rattle.plhist.proofs.OneMore.{reading-push, halted-push}
 use Rattle.plworld.proofs.Push.{before-is}
 use Rattle.plprogram.specs.Program.{Program}
 use Rattle.plsearch.specs.Search.{search_of}
-use Rattle.plsearch.specs.Solving.{Goes, TakesOne, StandsAt}
-use Rattle.plrun.specs.Going.{Free, Going, IsRunning}
-use Rattle.plrun.specs.Halts.{HaltsWhenDone, ComesTo, last_of, act_of}
+use Rattle.plsearch.specs.Solving.{Goes, TakesOne, StandsAt, EndsAt}
+use Rattle.plsearch.specs.Replies.{outcome, Served}
+use Rattle.plrun.specs.Going.{Free, Going, IsClosed, IsRunning, IsHalted, IsStarted, Runs, Halts}
+use Rattle.plrun.specs.Halts.{HaltsWhenDone, HaltsNoSooner, act_of, told, told_places}
 use Rattle.plrun.specs.Overall.{IsHistory}
-use Rattle.plrun.proofs.Grow.{legal-push}
+use Rattle.plrun.proofs.Grow.{sound-push}
 use Rattle.plrun.proofs.Free.{is_plain}
 use Rattle.plrun.proofs.Rows.{row-served, publish-due, last-served, last-due}
-use Rattle.plrun.proofs.Steps.{going-goes, going-view, going-act}
-use Rattle.plrun.proofs.Ends.{ends-done}
+use Rattle.plrun.proofs.Steps.{asks-same, going-goes, going-view, going-act}
+use Rattle.plrun.proofs.Ends.{asked-last, ended-told}
 
 -- a view at the journal's length sees all its updates
 pub before-length : (h : List Entry) → before (length h) (reading h).updates ≡ (reading h).updates
@@ -42,7 +43,7 @@ pub looked : (first : List Update) (search : Search) (limit : ℕ) (old new : Se
     TakesOne (Seen g (before g us)) old before_used new used → later ≡ places ++ g ∷ [] → IsRunning first search limit new used h t later
 looked first search limit old new before_used used out h t places later g us r at now all one pushed =
     let seen : before g us ≡ (reading h).updates = ap₂ before now all ∙ before-length h in record {
-      legal = r.legal;
+      sound = r.sound;
       going = subst (Going search limit new used h t) (sym (pushed ∙ ap (λ g. places ++ g ∷ []) now))
           (going-view search limit old new before_used used h t places (λ n le. ap (λ e. e.next) (at n le))
           (subst (λ a. TakesOne a old before_used new used) (ap₂ Seen now seen) one) r.going);
@@ -60,7 +61,7 @@ published first search limit old new before_used used out h h' t places later g 
     let grown : h' ≡ h ++ e ∷ [] = grows ∙ ap (λ x. h ++ entries_of 1 x.1) is in
     let told : reply ≡ Reply.Published = tells ∙ ap (λ x. x.0) is in
     subst (λ l. IsRunning first search limit new used l t later) (sym grown) (record {
-      legal = legal-push first h e r.legal (publish-due us t (reading h) r.going.free);
+      sound = sound-push first h e r.sound (publish-due us t (reading h) r.going.free) refl;
       going = subst (Going search limit new used (h ++ e ∷ []) t) (sym (pushed ∙ ap (λ g. places ++ g ∷ []) now))
           (going-act search limit old new before_used used h t 1 places (Request.Publish us) Reply.Published (Act.Batch us) (λ n le. ap (λ e. e.next) (at n le))
           (subst (λ x. TakesOne (Got x) old before_used new used) told one) is refl refl tt r.going);
@@ -70,7 +71,7 @@ published first search limit old new before_used used out h h' t places later g 
 pub went : (first : List Update) (search : Search) (limit : ℕ) (old new : Search) (before_used used : ℕ) (h : List Entry) (t : ℕ) (places later : List ℕ) →
     IsRunning first search limit old before_used h t places → Goes limit old before_used new used → later ≡ places → IsRunning first search limit new used h t later
 went first search limit old new before_used used h t places later r goes same = record {
-  legal = r.legal;
+  sound = r.sound;
   going = subst (Going search limit new used h t) (sym same) (going-goes search limit old new before_used used h t places goes r.going);
 }
 
@@ -89,12 +90,7 @@ or_true : (b : Bool) → (b || true) ≡ true
 or_true true = refl
 or_true false = refl
 
--- main's last entry ends the run
-record Closed (h : List Entry) (t : ℕ) : Type 0 where
-  over : Over h
-  each : t ∷ [] ≡ map (λ x. x.number) (reading h).standing.threads
-
-told_closed : (h : List Entry) (t : ℕ) (e : ThreadEnd) → Free t (reading h).standing → Closed (h ++ record { worker = 1; thread = t; act = Act.End e } ∷ []) t
+told_closed : (h : List Entry) (t : ℕ) (e : ThreadEnd) → Free t (reading h).standing → IsClosed (h ++ record { worker = 1; thread = t; act = Act.End e } ∷ []) t
 told_closed h t e f =
     let x : Entry = record { worker = 1; thread = t; act = Act.End e } in
     let m = main-alone h in
@@ -111,7 +107,7 @@ told_closed h t e f =
     main_ended : (t : ℕ) (m : Thread) (e : ThreadEnd) → m.number ≡ t → changed_first (is_thread t) (λ y. record y { ended = Some e }) (m ∷ []) ≡ record m { ended = Some e } ∷ []
     main_ended t m e is = rw (eq-eqb m.number t is) refl
 
-halt_closed : (h : List Entry) (t n : ℕ) → Free t (reading h).standing → Closed (h ++ record { worker = 1; thread = t; act = Act.Halt n } ∷ []) t
+halt_closed : (h : List Entry) (t n : ℕ) → Free t (reading h).standing → IsClosed (h ++ record { worker = 1; thread = t; act = Act.Halt n } ∷ []) t
 halt_closed h t n f =
     let x : Entry = record { worker = 1; thread = t; act = Act.Halt n } in
     let m = main-alone h in
@@ -122,36 +118,126 @@ halt_closed h t n f =
       each = ap (λ n. n ∷ []) (here.0 ∙ sym m.number) ∙ ap (map (λ x. x.number)) (sym (ap (λ r. r.standing.threads) (reading-push h x) ∙ m.threads));
     }
 
-last_closed : (h : List Entry) (t : ℕ) (e : ThreadEnd) → Free t (reading h).standing → Closed (h ++ record { worker = 1; thread = t; act = act_of e } ∷ []) t
+last_closed : (h : List Entry) (t : ℕ) (e : ThreadEnd) → Free t (reading h).standing → IsClosed (h ++ record { worker = 1; thread = t; act = act_of e } ∷ []) t
 last_closed h t ThreadEnd.True f = told_closed h t ThreadEnd.True f
 last_closed h t ThreadEnd.False f = told_closed h t ThreadEnd.False f
 last_closed h t (ThreadEnd.Exception ball) f = told_closed h t (ThreadEnd.Exception ball) f
 last_closed h t ThreadEnd.Budget f = told_closed h t ThreadEnd.Budget f
 last_closed h t (ThreadEnd.Halt n) f = halt_closed h t n f
 
--- main's end
-pub finished : (first : List Update) (search : Search) (limit : ℕ) (rest : Search) (used : ℕ) (out : List ℕ) (h h' : List Entry) (t : ℕ) (places : List ℕ) (g : ℕ) (e : ThreadEnd) (run : Run) →
-    HaltsWhenDone search → IsRunning first search limit rest used h t places → ComesTo limit e rest used out → g ≡ length h → h' ≡ h ++ adds h 1 t (last_of e) →
-    run ≡ record { thread = t; places = places ++ g ∷ []; steps = used; «end» = RunEnd.Ended e; output = out } →
-    IsHistory first (λ t. search) limit h' (run ∷ [])
-finished first search limit rest used out h h' t places g e run halts r at now grows made =
+-- the request that ends the run
+pub halted : (first : List Update) (search : Search) (limit : ℕ) (old new : Search) (before_used used : ℕ) (out : List ℕ) (h h' : List Entry) (t : ℕ) (places later : List ℕ) (g n : ℕ) (reply : Reply) →
+    HaltsWhenDone search → IsRunning first search limit old before_used h t places → StandsAt (Ask (Request.HaltRun n)) old before_used out → g ≡ length h →
+    reply ≡ reply_to h t (Request.HaltRun n) → h' ≡ h ++ adds h 1 t (Request.HaltRun n) → TakesOne (Got reply) old before_used new used → later ≡ places ++ g ∷ [] →
+    IsHalted first search limit new used h' t later n
+unfolding asked-last
+halted first search limit old new before_used used out h h' t places later g n reply halts r at now tells grows one pushed =
+    let f = r.going.free in
+    let s = r.going.state in
+    let is : served (Request.HaltRun n) t (reading h) ≡ (Reply.Done, Some (t, Act.Halt n)) = last-served (ThreadEnd.Halt n) t (reading h) f in
+    let e : Entry = record { worker = 1; thread = t; act = Act.Halt n } in
+    let grown : h' ≡ h ++ e ∷ [] = grows ∙ ap (λ x. h ++ entries_of 1 x.1) is in
+    let tells_done : reply ≡ Reply.Done = tells ∙ ap (λ x. x.0) is in
+    let done : TakesOne (Got Reply.Done) old before_used new used = subst (λ x. TakesOne (Got x) old before_used new used) tells_done one in
+    let within : used ≤ limit = omega (arith, r.going.within, done.0) in
+    let waits : (old limit []).next ≡ Wants (Ask (Request.HaltRun n)) = ap (λ x. x.next) (at limit r.going.within) in
+    let rests : search limit (s.answers ++ Got Reply.Done ∷ []) ≡ new limit [] = r.going.rests limit (Got Reply.Done ∷ []) r.going.within ∙ done.1 limit [] within in
+    subst (λ l. IsHalted first search limit new used l t later n) (sym grown)
+    (subst (λ p. IsHalted first search limit new used (h ++ e ∷ []) t p n) (sym (pushed ∙ ap (λ g. places ++ g ∷ []) now)) (record {
+      sound = sound-push first h e r.sound (last-due (ThreadEnd.Halt n) t (reading h) f) refl;
+      closed = halt_closed h t n f;
+      asked = asked-last search limit old before_used h t 1 places (ThreadEnd.Halt n) (ap item_of waits) is r.going;
+      rests = rests;
+      ends = sym (ap (λ x. x.next) rests)
+          ∙ halts limit n s.answers r.going.common (asks-same search old limit before_used s.answers (Wants (Ask (Request.HaltRun n))) r.going.rests r.going.within waits);
+      within = within;
+    }))
+
+-- what a thread asks while it goes on
+abbrev pub MayWait : Request → Type 0
+MayWait (Request.Publish us) = Unit {0}
+MayWait (Request.HaltRun n) = Unit {0}
+MayWait q = ⊥
+
+-- a request that a thread asks
+pub served-by : (first : List Update) (search : Search) (limit : ℕ) (old new : Search) (before_used used : ℕ) (out : List ℕ) (h h' : List Entry) (t : ℕ) (places later : List ℕ) (g : ℕ) (q : Request) (reply : Reply) →
+    HaltsWhenDone search → MayWait q → IsRunning first search limit old before_used h t places → StandsAt (Ask q) old before_used out → g ≡ length h →
+    reply ≡ reply_to h t q → h' ≡ h ++ adds h 1 t q → TakesOne (Got reply) old before_used new used → later ≡ places ++ g ∷ [] → IsStarted first search limit new used h' t later
+served-by first search limit old new before_used used out h h' t places later g (Request.Publish us) reply halts may r at now tells grows one pushed =
+    Runs (published first search limit old new before_used used out h h' t places later g us reply r at now tells grows one pushed)
+served-by first search limit old new before_used used out h h' t places later g (Request.HaltRun n) reply halts may r at now tells grows one pushed =
+    Halts n (halted first search limit old new before_used used out h h' t places later g n reply halts r at now tells grows one pushed)
+served-by first search limit old new before_used used out h h' t places later g Request.Start reply halts never r at now tells grows one pushed = absurd never
+served-by first search limit old new before_used used out h h' t places later g (Request.Finish e) reply halts never r at now tells grows one pushed = absurd never
+
+-- a thread that asks has not ended the run
+pub still-runs : (first : List Update) (search : Search) (limit : ℕ) (rest : Search) (used : ℕ) (out : List ℕ) (h : List Entry) (t : ℕ) (places : List ℕ) (q : Item) →
+    StandsAt q rest used out → IsStarted first search limit rest used h t places → IsRunning first search limit rest used h t places
+still-runs first search limit rest used out h t places q at (Runs r) = r
+still-runs first search limit rest used out h t places q at (Halts n x) = absurd (apart q n (sym (ap (λ e. e.next) (at limit x.within)) ∙ x.ends))
+  where
+    apart : (q : Item) (n : ℕ) → Wants q ≡ Finishes (ThreadEnd.Halt n) → ⊥
+    apart q n is = cc
+
+-- the journal with main's last entry
+ended_last : (first : List Update) (search : Search) (limit : ℕ) (rest : Search) (used : ℕ) (out : List ℕ) (h h' : List Entry) (t : ℕ) (places : List ℕ) (e : ThreadEnd) (run : Run) →
+    item_of_end e ≡ Some (Ask (last_of e)) → IsRunning first search limit rest used h t places → EndsAt limit e rest used out → h' ≡ h ++ adds h 1 t (last_of e) →
+    run ≡ record { thread = t; places = places ++ length h ∷ []; steps = used; «end» = RunEnd.Ended e; output = out } → IsHistory first (λ t. search) limit h' (run ∷ [])
+ended_last first search limit rest used out h h' t places e run item r says grows made =
     let f = r.going.free in
     let is : served (last_of e) t (reading h) ≡ (Reply.Done, Some (t, act_of e)) = last-served e t (reading h) f in
     let x : Entry = record { worker = 1; thread = t; act = act_of e } in
     let grown : h' ≡ h ++ x ∷ [] = grows ∙ ap (λ x. h ++ entries_of 1 x.1) is in
     let closed = last_closed h t e f in
+    let sound = sound-push first h x r.sound (last-due e t (reading h) f) refl in
     subst (λ l. IsHistory first (λ t. search) limit l (run ∷ [])) (sym grown)
-    (subst (λ y. IsHistory first (λ t. search) limit (h ++ x ∷ []) (y ∷ [])) (sym (made ∙ ap (λ g. record { thread = t; places = places ++ g ∷ []; steps = used; «end» = RunEnd.Ended e; output = out }) now)) (record {
-      legal = legal-push first h x r.legal (last-due e t (reading h) f);
+    (subst (λ y. IsHistory first (λ t. search) limit (h ++ x ∷ []) (y ∷ [])) (sym made) (record {
+      legal = sound.legal;
+      workers = sound.workers;
       over = closed.over;
-      follow = (ends-done search limit rest used h t 1 places e out halts at is r.going, tt);
+      follow = (ended-told search limit rest used h t 1 places e out item says is r.going, tt);
       each = closed.each;
     }))
 
--- a run by its parts
-pub same_run : (t : ℕ) (p q : List ℕ) (m n : ℕ) (e : ThreadEnd) (o u : List ℕ) → p ≡ q → m ≡ n → o ≡ u →
-    let made : Run = record { thread = t; places = p; steps = m; «end» = RunEnd.Ended e; output = o } in made ≡ record { thread = t; places = q; steps = n; «end» = RunEnd.Ended e; output = u }
-same_run t p q m n e o u places steps output = rw (places, steps, output) refl
+-- a thread that goes on comes to an end of its own, of which it tells
+running_ends : (first : List Update) (search : Search) (limit : ℕ) (rest : Search) (used : ℕ) (out : List ℕ) (h h' : List Entry) (t : ℕ) (places : List ℕ) (e : ThreadEnd) (run : Run) →
+    HaltsNoSooner search → IsRunning first search limit rest used h t places → EndsAt limit e rest used out → h' ≡ told e t h →
+    run ≡ record { thread = t; places = told_places e h places; steps = used; «end» = RunEnd.Ended e; output = out } → IsHistory first (λ t. search) limit h' (run ∷ [])
+running_ends first search limit rest used out h h' t places (ThreadEnd.Halt n) run sooner r says grows made =
+    let g = r.going in
+    absurd (sooner limit n g.state.answers g.common (asks-same search rest limit used g.state.answers (Finishes (ThreadEnd.Halt n)) g.rests g.within (ap (λ e. e.next) (says.1 []))))
+running_ends first search limit rest used out h h' t places ThreadEnd.True run sooner r says grows made = ended_last first search limit rest used out h h' t places ThreadEnd.True run refl r says grows made
+running_ends first search limit rest used out h h' t places ThreadEnd.False run sooner r says grows made = ended_last first search limit rest used out h h' t places ThreadEnd.False run refl r says grows made
+running_ends first search limit rest used out h h' t places (ThreadEnd.Exception b) run sooner r says grows made = ended_last first search limit rest used out h h' t places (ThreadEnd.Exception b) run refl r says grows made
+running_ends first search limit rest used out h h' t places ThreadEnd.Budget run sooner r says grows made = ended_last first search limit rest used out h h' t places ThreadEnd.Budget run refl r says grows made
+
+-- one that has ended the run comes to that end
+halted_ends : (first : List Update) (search : Search) (limit : ℕ) (rest : Search) (used : ℕ) (out : List ℕ) (h h' : List Entry) (t : ℕ) (places : List ℕ) (n : ℕ) (e : ThreadEnd) (run : Run) →
+    e ≡ ThreadEnd.Halt n → IsHalted first search limit rest used h t places n → EndsAt limit e rest used out → h' ≡ told e t h →
+    run ≡ record { thread = t; places = told_places e h places; steps = used; «end» = RunEnd.Ended e; output = out } → IsHistory first (λ t. search) limit h' (run ∷ [])
+halted_ends first search limit rest used out h h' t places n e run same x says grows made =
+    let ended : EndsAt limit (ThreadEnd.Halt n) rest used out = subst (λ e. EndsAt limit e rest used out) same says in
+    let is : run ≡ record { thread = t; places = places; steps = used; «end» = RunEnd.Ended (ThreadEnd.Halt n); output = out } =
+    made ∙ ap (λ e. record { thread = t; places = told_places e h places; steps = used; «end» = RunEnd.Ended e; output = out }) same in
+    subst (λ l. IsHistory first (λ t. search) limit l (run ∷ [])) (sym (grows ∙ ap (λ e. told e t h) same))
+    (subst (λ y. IsHistory first (λ t. search) limit h (y ∷ [])) (sym is) (record {
+      legal = x.sound.legal;
+      workers = x.sound.workers;
+      over = x.closed.over;
+      follow = (record { asked = x.asked; ends = x.rests ∙ ended.1 [] }, tt);
+      each = x.closed.each;
+    }))
+
+-- main's end
+pub finished : (first : List Update) (search : Search) (limit : ℕ) (rest : Search) (used : ℕ) (out : List ℕ) (h h' : List Entry) (t : ℕ) (places : List ℕ) (e : ThreadEnd) (run : Run) →
+    HaltsNoSooner search → IsStarted first search limit rest used h t places → EndsAt limit e rest used out → h' ≡ told e t h →
+    run ≡ record { thread = t; places = told_places e h places; steps = used; «end» = RunEnd.Ended e; output = out } → IsHistory first (λ t. search) limit h' (run ∷ [])
+finished first search limit rest used out h h' t places e run sooner (Runs r) says grows made = running_ends first search limit rest used out h h' t places e run sooner r says grows made
+finished first search limit rest used out h h' t places e run sooner (Halts n x) says grows made =
+    halted_ends first search limit rest used out h h' t places n e run (same_end e n (sym (ap (λ e. e.next) (says.1 [])) ∙ x.ends)) x says grows made
+  where
+    same_end : (e : ThreadEnd) (n : ℕ) → Finishes e ≡ Finishes (ThreadEnd.Halt n) → e ≡ ThreadEnd.Halt n
+    same_end e n is = cc
 
 -- the same for another name of the limit
 pub relimit : (P : Program) (m n : ℕ) (rest : Search) (used : ℕ) (h : List Entry) (t : ℕ) (places : List ℕ) → n ≡ m → IsRunning P.first (search_of P m) m rest used h t places → IsRunning P.first (search_of P n) n rest used h t places
@@ -162,6 +248,39 @@ pub gone : (P : Program) (m n : ℕ) (old new : Search) (before_used used : ℕ)
     IsRunning P.first (search_of P m) m old before_used h t places → Goes m old before_used new used → later ≡ places → n ≡ m → IsRunning P.first (search_of P n) n new used h t later
 gone P m n old new before_used used h t places later r goes same is = relimit P m n new used h t later is (went P.first (search_of P m) m old new before_used used h t places later r goes same)
 
--- the reply to a running thread's batch
-pub published-reply : (h : List Entry) (t : ℕ) (us : List Update) → Free t (reading h).standing → reply_to h t (Request.Publish us) ≡ Reply.Published
-published-reply h t us f = ap (λ x. x.0) (row-served (Request.Publish us) t (reading h) refl f)
+-- the same for another name of the limit
+pub started-same : (P : Program) (m n : ℕ) (rest : Search) (used : ℕ) (h : List Entry) (t : ℕ) (places : List ℕ) → n ≡ m → IsStarted P.first (search_of P m) m rest used h t places → IsStarted P.first (search_of P n) n rest used h t places
+started-same P m n rest used h t places is r = subst (λ k. IsStarted P.first (search_of P k) k rest used h t places) (sym is) r
+
+-- one that has ended the run stays so
+halted_gone : (first : List Update) (search : Search) (limit : ℕ) (old new : Search) (before_used used : ℕ) (h : List Entry) (t : ℕ) (places : List ℕ) (k : ℕ) →
+    IsHalted first search limit old before_used h t places k → Goes limit old before_used new used → IsHalted first search limit new used h t places k
+halted_gone first search limit old new before_used used h t places k x goes =
+    let within : used ≤ limit = goes.1 x.within in
+    let same : old limit [] ≡ new limit [] = goes.2 limit [] within in record {
+      sound = x.sound;
+      closed = x.closed;
+      asked = x.asked;
+      rests = x.rests ∙ same;
+      ends = sym (ap (λ e. e.next) same) ∙ x.ends;
+      within = within;
+    }
+
+-- the solver of a thread that was started went on
+pub started-gone : (P : Program) (m n : ℕ) (old new : Search) (before_used used : ℕ) (h : List Entry) (t : ℕ) (places later : List ℕ) →
+    IsStarted P.first (search_of P m) m old before_used h t places → Goes m old before_used new used → later ≡ places → n ≡ m → IsStarted P.first (search_of P n) n new used h t later
+started-gone P m n old new before_used used h t places later (Runs r) goes same is = Runs (gone P m n old new before_used used h t places later r goes same is)
+started-gone P m n old new before_used used h t places later (Halts k x) goes same is =
+    subst (λ j. IsStarted P.first (search_of P j) j new used h t later) (sym is)
+    (subst (IsStarted P.first (search_of P m) m new used h t) (sym same) (Halts k (halted_gone P.first (search_of P m) m old new before_used used h t places k x goes)))
+
+pub used-within : (first : List Update) (search : Search) (limit : ℕ) (rest : Search) (used : ℕ) (h : List Entry) (t : ℕ) (places : List ℕ) → IsStarted first search limit rest used h t places → used ≤ limit
+used-within first search limit rest used h t places (Runs r) = r.going.within
+used-within first search limit rest used h t places (Halts n x) = x.within
+
+-- the reply to a request of a thread that goes on says that it is done
+pub reply-done : (h : List Entry) (t : ℕ) (q : Request) (r : Reply) → MayWait q → Free t (reading h).standing → r ≡ reply_to h t q → outcome q r ≡ Served
+reply-done h t (Request.Publish us) r may f tells = ap (outcome (Request.Publish us)) (tells ∙ ap (λ x. x.0) (row-served (Request.Publish us) t (reading h) refl f))
+reply-done h t (Request.HaltRun n) r may f tells = ap (outcome (Request.HaltRun n)) (tells ∙ ap (λ x. x.0) (last-served (ThreadEnd.Halt n) t (reading h) f))
+reply-done h t Request.Start r never f tells = absurd never
+reply-done h t (Request.Finish e) r never f tells = absurd never

@@ -21,6 +21,7 @@ use Rattle.plhist.proofs.Alone.{main-alone}
 use Rattle.plsearch.specs.Solving.{Begins}
 use Rattle.plrun.specs.Going.{IsRunning}
 use Rattle.plrun.specs.Overall.{IsHistory, Stage, Before, Behind}
+use Rattle.plrun.proofs.Grow.{one-worker}
 use Rattle.plrun.proofs.Rows.{start-due, start-served}
 
 first_row : (first : List Update) → served Request.Start 0 (reading (opening first ∷ [])) ≡ (Reply.Started 1 (Some main) None, Some (1, Act.Start))
@@ -41,7 +42,10 @@ number_of Reply.Done = 0
 main_begun : (first : List Update) (search : Search) (limit : ℕ) (rest : Search) (used : ℕ) → Begins search rest used → IsRunning first search limit rest used (opening first ∷ start_entry ∷ []) 1 []
 unfolding takes reading own start_entry
 main_begun first search limit rest used begins = record {
-  legal = record { later = start_entry ∷ []; opens = refl; due = (start-due 0 (reading (opening first ∷ [])) (new_thread 1 (Some main)) refl refl, tt) };
+  sound = record {
+    legal = record { later = start_entry ∷ []; opens = refl; due = (start-due 0 (reading (opening first ∷ [])) (new_thread 1 (Some main)) refl refl, tt) };
+    workers = one-worker start_entry refl;
+  };
   going = record {
     start = 1;
     state = from_start 1;

@@ -2,7 +2,6 @@
 use Rattle.std.proofs.Common.{◌≡◌, ℕ, suc, ◌≤◌, true, false, List, [], ◌∷◌, ◌++◌, length, Some, refl, sym, ap, ◌∙◌, subst, arith, nat_eq, length-append, append_assoc, append-nil, lt-ltb, eq-eqb}
 use Rattle.std.specs.Option.{option_and_then}
 use Rattle.std.proofs.Math.Seq.{take-append_seam}
-use Rattle.plevent.specs.declared.request.ThreadEnd.{ThreadEnd}
 use Rattle.plevent.specs.declared.request.Request.{Request}
 use Rattle.plevent.specs.declared.request.Reply.{Reply}
 use Rattle.plevent.specs.declared.act.Act.{Act}
@@ -11,11 +10,11 @@ use Rattle.plevent.specs.Reading.{reading}
 use Rattle.plevent.specs.Rows.{served}
 use Rattle.plevent.specs.Search.{Item, View, Ask, Answer, Seen, Got, Next, Wants, Finishes, Search, item_of}
 use Rattle.plhist.specs.Follows.{own, own_if, Taken, is_not_yet, noted, guarded, not_below, replied, answered, answer_at, item_at, takes, from_start, asks_of}
-use Rattle.plsearch.specs.Solving.{Goes, TakesOne, EndsAt}
+use Rattle.plsearch.specs.Solving.{Goes, TakesOne}
 use Rattle.plrun.specs.Going.{Going}
-use Rattle.plrun.specs.Halts.{IsCommon, AreCommon, HaltsNoSooner, ComesTo}
+use Rattle.plrun.specs.Halts.{IsCommon, AreCommon}
 use Rattle.plrun.proofs.Grow.{own-push, takes-grow, takes-push}
-use Rattle.plrun.proofs.Free.{free-plain, free-other, goes_on, is_plain}
+use Rattle.plrun.proofs.Free.{free-plain, is_plain}
 
 -- the solver's own steps
 pub going-goes : (search : Search) (limit : ℕ) (old new : Search) (before used : ℕ) (h : List Entry) (t : ℕ) (places : List ℕ) →
@@ -30,21 +29,6 @@ going-goes search limit old new before used h t places goes g = record {
   within = goes.1 g.within;
   low = g.low;
   free = g.free;
-}
-
--- another thread's entry, unless it ends the run
-pub going-other : (search : Search) (limit : ℕ) (ends : Search) (used : ℕ) (h : List Entry) (t : ℕ) (places : List ℕ) (e : Entry) →
-    nat_eq e.thread t ≡ false → goes_on e.act ≡ true → Going search limit ends used h t places → Going search limit ends used (h ++ e ∷ []) t places
-going-other search limit ends used h t places e other on g = record {
-  start = g.start;
-  state = g.state;
-  common = g.common;
-  owns = own-push t h e ∙ ap (λ b. own t h ++ own_if b (length h) e.act []) other ∙ append-nil (own t h) ∙ g.owns;
-  items = λ n le. takes-grow (asks_of search n) h (e ∷ []) t places (from_start g.start) g.state (g.items n le);
-  rests = g.rests;
-  within = g.within;
-  low = omega (arith, g.low, length-append h (e ∷ []));
-  free = free-other t h e other on g.free;
 }
 
 let_in : (low g : ℕ) → low ≤ g → not_below low g ≡ true
@@ -145,14 +129,3 @@ going-act search limit old new before used h t w places q reply x asks one row s
       low = omega (arith, length-append h (e ∷ []));
       free = free-plain t h e plain g.free;
     }
-
--- a thread that runs comes to an end of its own; to end the run it asks
-pub going-ends : (search : Search) (limit : ℕ) (rest : Search) (used : ℕ) (h : List Entry) (t : ℕ) (places : List ℕ) (e : ThreadEnd) (out : List ℕ) →
-    HaltsNoSooner search → EndsAt limit e rest used out → Going search limit rest used h t places → ComesTo limit e rest used out
-going-ends search limit rest used h t places ThreadEnd.True out sooner says g = says
-going-ends search limit rest used h t places ThreadEnd.False out sooner says g = says
-going-ends search limit rest used h t places (ThreadEnd.Exception ball) out sooner says g = says
-going-ends search limit rest used h t places ThreadEnd.Budget out sooner says g = says
-going-ends search limit rest used h t places (ThreadEnd.Halt n) out sooner says g =
-    let s = g.state in
-    absurd (sooner limit n s.answers g.common (asks-same search rest limit used s.answers (Finishes (ThreadEnd.Halt n)) g.rests g.within (ap (λ e. e.next) (says.1 []))))

@@ -1,14 +1,15 @@
--- A thread that runs, between two turns.
-use Rattle.std.specs.Prelude.{◌≡◌, ℕ, ◌+◌, ◌-◌, ◌≤◌, List, ◌∷◌, ◌++◌, length, Some, None, find}
+-- A thread that was started, between two turns.
+use Rattle.std.specs.Prelude.{◌≡◌, ℕ, ◌≤◌, List, [], ◌∷◌, ◌++◌, length, map, Some, None, find}
 use Rattle.plevent.specs.declared.update.Update.{Update}
+use Rattle.plevent.specs.declared.request.ThreadEnd.{ThreadEnd}
 use Rattle.plevent.specs.declared.act.Act.{Act}
 use Rattle.plevent.specs.declared.act.Entry.{Entry}
 use Rattle.plevent.specs.declared.standing.Thread.{Thread}
 use Rattle.plevent.specs.declared.standing.Standing.{Standing}
 use Rattle.plevent.specs.Reading.{reading, is_thread}
-use Rattle.plevent.specs.Search.{Answer, Search}
-use Rattle.plhist.specs.Follows.{own, Taken, takes, from_start, asks_of}
-use Rattle.plhist.specs.Legal.{Legal}
+use Rattle.plevent.specs.Search.{Answer, Finishes, Search}
+use Rattle.plhist.specs.Follows.{own, Taken, takes, from_start, asks_of, HasAsked}
+use Rattle.plhist.specs.Legal.{Legal, ByOneWorker, Over}
 use Rattle.plrun.specs.Halts.{AreCommon}
 
 -- worker 1 started it, it has not ended, and no thread has ended the run
@@ -32,11 +33,30 @@ pub record Going (search : Search) (limit : ℕ) (rest : Search) (used : ℕ) (h
   pub low : state.low ≤ length h
   pub free : Free t (reading h).standing
 
--- and the journal is legal
-pub record IsRunning (first : List Update) (search : Search) (limit : ℕ) (rest : Search) (used : ℕ) (h : List Entry) (t : ℕ) (places : List ℕ) : Type 0 where
+-- the journal is legal, and all its later entries are worker 1's
+pub record IsSound (first : List Update) (h : List Entry) : Type 0 where
   pub legal : Legal first h
+  pub workers : ByOneWorker h
+
+-- the run is over, and this was its only thread
+pub record IsClosed (h : List Entry) (t : ℕ) : Type 0 where
+  pub over : Over h
+  pub each : t ∷ [] ≡ map (λ x. x.number) (reading h).standing.threads
+
+-- it goes on
+pub record IsRunning (first : List Update) (search : Search) (limit : ℕ) (rest : Search) (used : ℕ) (h : List Entry) (t : ℕ) (places : List ℕ) : Type 0 where
+  pub sound : IsSound first h
   pub going : Going search limit rest used h t places
 
--- the turns that are left at most: each takes steps, or answers an item, of which there are no more than steps
-abbrev pub turns_left : ℕ → ℕ → List ℕ → ℕ
-turns_left limit used places = (limit - used) + (limit - length places)
+-- it has ended the run with the number n, and its search ends so without a further answer
+pub record IsHalted (first : List Update) (search : Search) (limit : ℕ) (rest : Search) (used : ℕ) (h : List Entry) (t : ℕ) (places : List ℕ) (n : ℕ) : Type 0 where
+  pub sound : IsSound first h
+  pub closed : IsClosed h t
+  pub asked : HasAsked search limit h t places (ThreadEnd.Halt n)
+  pub rests : search limit asked.last.answers ≡ rest limit []
+  pub ends : (rest limit []).next ≡ Finishes (ThreadEnd.Halt n)
+  pub within : used ≤ limit
+
+pub data IsStarted (first : List Update) (search : Search) (limit : ℕ) (rest : Search) (used : ℕ) (h : List Entry) (t : ℕ) (places : List ℕ) : Type 0 where
+  Runs : IsRunning first search limit rest used h t places → IsStarted first search limit rest used h t places
+  Halts : (n : ℕ) → IsHalted first search limit rest used h t places n → IsStarted first search limit rest used h t places

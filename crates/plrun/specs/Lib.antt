@@ -1,5 +1,4 @@
 pub mod Going
 pub mod Halts
 pub mod Overall
-pub mod Paid
 pub mod Threads

@@ -1,7 +1,7 @@
 //! The schedule of a program's threads, by one worker.
 ghost use Rattle.std.specs.Prelude.{◌≡◌, ◌⊎◌, ◌∷◌, [], IfOk, IfSome, IfNone};
 ghost use Rattle.plsearch.specs.Search.{search_of};
-ghost use Rattle.plhist.specs.Legal.{opening, Legal, Over};
+ghost use Rattle.plhist.specs.Legal.{opening, Legal, ByOneWorker, Over};
 ghost use Rattle.plhist.specs.Runs.{AllFollow, OneEach};
 ghost use Rattle.plrun.specs.Threads.{IsThread};
 ghost use Rattle.plrun.specs.Overall.{IsHistory};
@@ -66,6 +66,7 @@ pub fn run_schedule(
     _picks: &[u32],
 ) -> Result<History, AllocError>
     ensures legal { IfOk result (λ history. Legal program.now.first history.journal) }
+    ensures worker { IfOk result (λ history. ByOneWorker history.journal) }
     ensures over { IfOk result (λ history. Over history.journal) }
     ensures follow { IfOk result (λ history. AllFollow (λ thread. search_of program.now steps) steps history.journal history.runs) }
     ensures each { IfOk result (λ history. OneEach history.journal history.runs) }

@@ -1,13 +1,11 @@
 //! One thread's turns.
-ghost use Rattle.std.specs.Prelude.{◌≡◌, ◌<◌, ◌∷◌, [], List, IfOk, OnOk, IfSome, IfNone};
+ghost use Rattle.std.specs.Prelude.{◌≡◌, IfOk, OnOk, IfSome, [], ◌∷◌};
 ghost use Rattle.plevent.specs.Search.{View, Ask};
-ghost use Rattle.plevent.specs.declared.request.Request.TheVariants.{Publish};
-ghost use Rattle.plevent.specs.declared.update.Update.{Update};
-ghost use Rattle.plsearch.specs.Solving.{StandsAt};
+ghost use Rattle.plsearch.specs.Solving.{StandsAt, EndsAt};
 ghost use Rattle.plsearch.specs.Search.{search_of};
 ghost use Rattle.plsolve.specs.Solver.{rest_of, WaitsForView, WaitsForReply};
-ghost use Rattle.plrun.specs.Halts.{ComesTo, last_of};
-ghost use Rattle.plrun.specs.Threads.{IsThread, turns_of, run_now};
+ghost use Rattle.plrun.specs.Halts.{told, told_places};
+ghost use Rattle.plrun.specs.Threads.{GoesOn, IsThread, run_now};
 ghost use Rattle.plrun.specs.Overall.{IsHistory};
 
 use plevent::{Request, ThreadEnd};
@@ -20,7 +18,7 @@ use std::alloc::{AllocError, Global};
 /// The steps of a slice.
 const SLICE: u64 = 256;
 
-/// A thread that was started, and has not ended.
+/// A thread that was started.
 #[derive(Drop)]
 pub struct Running {
     pub thread: u32,
@@ -29,11 +27,10 @@ pub struct Running {
 
 /// Takes the view that the thread asks: the database as it is now.
 fn look(program: &Program, world: &World, running: &mut Running) -> Result<(), AllocError>
-    requires runs { IsThread program.now world.now.journal running.old }
+    requires runs { GoesOn program.now world.now.journal running.old }
     requires waits { WaitsForView running.old.solver }
     requires at { StandsAt View (rest_of program.now running.old.solver) running.old.solver.used running.old.solver.out.items }
-    ensures runs { OnOk result (IsThread program.now world.now.journal running.new) }
-    ensures less { OnOk result (turns_of running.new < turns_of running.old) }
+    ensures runs { OnOk result (GoesOn program.now world.now.journal running.new) }
     ensures limit { running.new.solver.limit ≡ running.old.solver.limit }
 {
     running
@@ -42,52 +39,24 @@ fn look(program: &Program, world: &World, running: &mut Running) -> Result<(), A
     Ok(())
 }
 
-/// Publishes the batch that the thread asks to.
-fn publish(
-    alloc: Global,
-    program: &Program,
-    world: &mut World,
-    running: &mut Running,
-    request: &Request,
-) -> Result<(), AllocError>
-    requires runs { IsThread program.now world.old.journal running.old }
-    requires waits { WaitsForReply running.old.solver request.now }
-    requires batch { (us : List Update) × (request.now ≡ Publish us) }
-    requires at { StandsAt (Ask request.now) (rest_of program.now running.old.solver) running.old.solver.used running.old.solver.out.items }
-    ensures runs { OnOk result (IsThread program.now world.new.journal running.new) }
-    ensures less { OnOk result (turns_of running.new < turns_of running.old) }
-    ensures limit { running.new.solver.limit ≡ running.old.solver.limit }
-{
-    let place = world.front();
-    let reply = world.step(alloc, 1, running.thread, request)?;
-    running.solver.reply(program, place, reply)?;
-    Ok(())
-}
-
-/// Serves a request of a thread: its batch is published; or it has come to the end of the run.
+/// Serves a request of the thread: a batch is published, or the run is ended.
 fn serve(
     alloc: Global,
     program: &Program,
     world: &mut World,
     running: &mut Running,
     request: &Request,
-) -> Result<Option<ThreadEnd>, AllocError>
-    requires runs { IsThread program.now world.old.journal running.old }
+) -> Result<(), AllocError>
+    requires runs { GoesOn program.now world.old.journal running.old }
     requires waits { WaitsForReply running.old.solver request.now }
     requires at { StandsAt (Ask request.now) (rest_of program.now running.old.solver) running.old.solver.used running.old.solver.out.items }
     ensures runs { OnOk result (IsThread program.now world.new.journal running.new) }
-    ensures less { IfOk result (λ o. IfNone o (turns_of running.new < turns_of running.old)) }
-    ensures ended { IfOk result (λ o. IfSome o (λ e. ComesTo running.new.solver.limit e (rest_of program.now running.new.solver) running.new.solver.used running.new.solver.out.items)) }
     ensures limit { running.new.solver.limit ≡ running.old.solver.limit }
 {
-    match request {
-        Request::Publish(_) => {
-            publish(alloc, program, world, running, request)?;
-            Ok(None)
-        }
-        Request::HaltRun(number) => Ok(Some(ThreadEnd::Halt(*number))),
-        Request::Start | Request::Finish(_) => unreachable!(),
-    }
+    let place = world.front();
+    let reply = world.step(alloc, 1, running.thread, request)?;
+    running.solver.reply(program, place, reply)?;
+    Ok(())
 }
 
 /// One turn of a thread: a slice of its steps, or an item that it asks; or it has come to this end.
@@ -100,8 +69,7 @@ fn turn(
 ) -> Result<Option<ThreadEnd>, AllocError>
     requires { IsThread program.now world.old.journal running.old }
     ensures runs { OnOk result (IsThread program.now world.new.journal running.new) }
-    ensures less { IfOk result (λ o. IfNone o (turns_of running.new < turns_of running.old)) }
-    ensures ended { IfOk result (λ o. IfSome o (λ e. ComesTo running.new.solver.limit e (rest_of program.now running.new.solver) running.new.solver.used running.new.solver.out.items)) }
+    ensures ended { IfOk result (λ o. IfSome o (λ e. EndsAt running.new.solver.limit e (rest_of program.now running.new.solver) running.new.solver.used running.new.solver.out.items)) }
     ensures limit { running.new.solver.limit ≡ running.old.solver.limit }
 {
     match running.solver.advance(program, SLICE)? {
@@ -110,23 +78,49 @@ fn turn(
             look(program, world, running)?;
             Ok(None)
         }
-        Turn::Ask(request) => serve(alloc, program, world, running, &request),
+        Turn::Ask(request) => {
+            serve(alloc, program, world, running, &request)?;
+            Ok(None)
+        }
         Turn::Ended(end) => Ok(Some(end)),
     }
 }
 
-/// The run of a thread that comes to this end now.
-fn run_of(
+/// Tells the world of a thread's end, as its last item, at the place that is added. One that has ended the run tells nothing.
+fn tell(
     alloc: Global,
-    world: &World,
+    world: &mut World,
+    thread: u32,
+    end: &ThreadEnd,
+    places: &mut Vec<u64>,
+) -> Result<(), AllocError>
+    ensures journal { OnOk result (world.new.journal ≡ told end.now thread world.old.journal) }
+    ensures places { OnOk result (places.new.items ≡ told_places end.now world.old.journal places.old.items) }
+{
+    match end {
+        ThreadEnd::Halt(_) => Ok(()),
+        ThreadEnd::True | ThreadEnd::False | ThreadEnd::Exception(_) | ThreadEnd::Budget => {
+            let request = Request::Finish(end.copied(alloc)?);
+            places.push(world.front())?;
+            world.step(alloc, 1, thread, &request)?;
+            Ok(())
+        }
+    }
+}
+
+/// The run of a thread that comes to this end, of which the world is told.
+fn finish(
+    alloc: Global,
+    world: &mut World,
     running: &Running,
     end: ThreadEnd,
 ) -> Result<Run, AllocError>
-    ensures { IfOk result (λ run. run ≡ run_now world.now.journal running.now end) }
+    ensures journal { OnOk result (world.new.journal ≡ told end running.now.thread world.old.journal) }
+    ensures run { IfOk result (λ run. run ≡ run_now world.old.journal running.now end) }
 {
     let mut places = Vec::from_slice(alloc, running.solver.places())?;
-    places.push(world.front())?;
     let output = Vec::from_slice(alloc, running.solver.output())?;
+    tell(alloc, world, running.thread, &end, &mut places)?;
     Ok(Run {
         thread: running.thread,
         places: Places::new(places),
@@ -136,20 +130,7 @@ fn run_of(
     })
 }
 
-/// The last request of a thread: it tells of its end, or ends the run.
-fn last_of(alloc: Global, end: &ThreadEnd) -> Result<Request, AllocError>
-    ensures { IfOk result (λ q. q ≡ last_of end.now) }
-{
-    match end {
-        ThreadEnd::Halt(number) => return Ok(Request::HaltRun(*number)),
-        ThreadEnd::True | ThreadEnd::False | ThreadEnd::Exception(_) | ThreadEnd::Budget => {
-            let told = end.copied(alloc)?;
-            return Ok(Request::Finish(told));
-        }
-    }
-}
-
-/// Runs a thread to its end, by slices of 256 steps, and tells the world of it.
+/// Runs a thread to its end, by slices of 256 steps, and tells the world of it. More than 2^64 turns are want of memory.
 pub fn run_thread(
     alloc: Global,
     program: &Program,
@@ -160,12 +141,10 @@ pub fn run_thread(
     ensures { IfOk result (λ run. IsHistory program.now.first (λ t. search_of program.now running.solver.limit) running.solver.limit world.new.journal (run ∷ [])) }
 {
     let mut running = running;
-    loop {
+    'turns: for _ in 0..u64::MAX {
         if let Some(end) = turn(alloc, program, world, &mut running)? {
-            let last = last_of(alloc, &end)?;
-            let run = run_of(alloc, world, &running, end)?;
-            world.step(alloc, 1, running.thread, &last)?;
-            return Ok(run);
+            return finish(alloc, world, &running, end);
         }
     }
+    Err(AllocError)
 }

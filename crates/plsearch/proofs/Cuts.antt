@@ -1,14 +1,14 @@
 -- What stands behind a cut: the cases that it gives up may be emptied.
-use Rattle.std.proofs.Common.{◌≡◌, ℕ, suc, ◌<◌, ◌≤◌, Bool, true, false, ◌||◌, List, [], ◌∷◌, ◌++◌, refl, sym, ap, ◌∙◌, arith, nat_eq}
+use Rattle.std.proofs.Common.{◌≡◌, ℕ, suc, ◌<◌, ◌≤◌, Bool, true, false, ◌||◌, if◌then◌else◌, List, [], ◌∷◌, ◌++◌, refl, sym, ap, ◌∙◌, arith, nat_eq}
 use Rattle.std.specs.Prelude.{nat_le}
 use Rattle.std.proofs.lemmas.Bool.Decides.{nat_tests}
 use Rattle.plprogram.specs.Program.{Program}
-use Rattle.plsearch.specs.Types.{Result, Stop, Fail, CutTo, Throw, Halted, Spent, Asking, Ceased, Element, Goal, Commit, Never, Until, Raise, Look, Await, Halt, Place, Case, Choice, Mark, Handle, Handler, Catch, Run}
-use Rattle.plsearch.specs.Table.{has, resume}
-use Rattle.plsearch.specs.Engine.{stop_cut_if, stop_cut, mark, deeper, choice, returned, out, outs, Visit}
-use Rattle.plsearch.specs.Levels.{IsAtMost, AreAtMost, emptied}
-use Rattle.plsearch.specs.Machine.{At, Rest}
-use Rattle.plsearch.proofs.Levels.{Levels, AllIn, Holds, Bounded, Allows, AllAllow, visit-bounded}
+use Rattle.plsearch.specs.Types.{Result, Stop, Fail, CutTo, Throw, Halted, Spent, Awaits, Stopped, Unfit, Kind, Commit, Never, Until, Element, Goal, Marker, Raise, Asking, Place, Case, Choice, Mark, Handle, Handler, Catch, Run}
+use Rattle.plsearch.specs.Handlers.{has, resume}
+use Rattle.plsearch.specs.Engine.{stop_cut, mark, deeper, choice, returned, out, outs, Visit}
+use Rattle.plsearch.specs.Machines.Levels.{IsAtMost, AreAtMost, emptied}
+use Rattle.plsearch.specs.Machines.Machine.{At, Rest}
+use Rattle.plsearch.proofs.Levels.{Levels, AllIn, Holds, Bounded, GivesUp, Allows, AllAllow, visit-bounded}
 
 -- the levels up to k, and those and the ones from d on
 abbrev low : ℕ → Levels
@@ -26,16 +26,18 @@ is-most l k h = grind (arith, nat_tests)
 in-apart : (a b : Bool) → a ≡ true → (a || b) ≡ true
 in-apart a b h = ap (λ x. x || b) h
 
+gives-up : (k : ℕ) (m : Kind) (l : ℕ) → l ≤ k → GivesUp (low k) m l
+unfolding GivesUp
+gives-up k Commit l h = at-most l k h
+gives-up k Never l h = at-most l k h
+gives-up k Until l h = tt
+
 allowed : (k d : ℕ) (e : Element) → IsAtMost k e → Allows (low k) (apart k d) e
 unfolding Allows
 allowed k d (Goal l t) h = at-most l k h
-allowed k d (Commit l) h = (at-most l k h, in-apart _ _ (at-most l k h))
-allowed k d (Never l) h = (at-most l k h, in-apart _ _ (at-most l k h))
-allowed k d (Until l) h = in-apart _ _ (at-most l k h)
+allowed k d (Marker m l) h = (gives-up k m l h, in-apart _ _ (at-most l k h))
 allowed k d (Raise b) h = tt
-allowed k d (Look t) h = tt
-allowed k d (Await q) h = tt
-allowed k d (Halt n) h = tt
+allowed k d (Asking q) h = tt
 
 all-allowed : (k d : ℕ) (es : List Element) → AreAtMost k es → AllAllow (low k) (apart k d) es
 unfolding AllAllow
@@ -69,8 +71,9 @@ Passes k d (CutTo l) = l ≤ k
 Passes k d (Throw b ls) = AllIn (apart k d) ls
 Passes k d (Halted n) = Unit {0}
 Passes k d Spent = Unit {0}
-Passes k d (Asking q) = Unit {0}
-Passes k d Ceased = Unit {0}
+Passes k d (Awaits q) = Unit {0}
+Passes k d Stopped = Unit {0}
+Passes k d Unfit = Unit {0}
 
 marked-passes : (k d : ℕ) (r : Result) → Bounded (low k) (apart k d) r → Passes k d (mark k r)
 unfolding Passes Bounded
@@ -80,14 +83,15 @@ marked-passes k d (CutTo l) h = is-most l k h
 marked-passes k d (Throw b ls) h = h
 marked-passes k d (Halted n) h = tt
 marked-passes k d Spent h = tt
-marked-passes k d (Asking q) h = tt
-marked-passes k d Ceased h = tt
+marked-passes k d (Awaits q) h = tt
+marked-passes k d Stopped h = tt
+marked-passes k d Unfit h = tt
 
 -- a cut to a level at or below k goes on above it
 cut-goes-on : (l i : ℕ) → l < i → stop_cut i (CutTo l) ≡ CutTo l
 cut-goes-on l i lt = go (nat_eq l i) refl
   where
-    go : (b : Bool) → nat_eq l i ≡ b → stop_cut_if b l ≡ CutTo l
+    go : (b : Bool) → nat_eq l i ≡ b → ◌≡◌ {A = Result} (if b then Fail else CutTo l) (CutTo l)
     go true is = absurd (never is)
       where
         never : nat_eq l i ≡ true → ⊥
@@ -102,8 +106,9 @@ stopped k d i (CutTo l) lt h = cut-goes-on l i (omega arith)
 stopped k d i (Throw b ls) lt h = refl
 stopped k d i (Halted n) lt h = refl
 stopped k d i Spent lt h = refl
-stopped k d i (Asking q) lt h = refl
-stopped k d i Ceased lt h = refl
+stopped k d i (Awaits q) lt h = refl
+stopped k d i Stopped lt h = refl
+stopped k d i Unfit lt h = refl
 
 module _ (P : Program) where
   chosen : (k d i : ℕ) (ps : List Place) (r : Result) (run : Run) → k < i → Passes k d r → choice (Visit P) i ps r run ≡ (r, run)
@@ -112,10 +117,10 @@ module _ (P : Program) where
   chosen k d i (p ∷ ps) Fail run lt h = absurd h
   chosen k d i ps r run lt h = ap (λ r. (r, run)) (stopped k d i r lt h)
 
-  kept : (k d i : ℕ) (h : Handler) (r : Result) (run : Run) → k < i → i < d → Passes k d r → returned (Visit P) i (resume h i r run.local) run ≡ (r, run)
+  kept : (k d i : ℕ) (h : Handler) (p : Place) (r : Result) (run : Run) → k < i → i < d → Passes k d r → returned (Visit P) i (resume h p i r run.local) run ≡ (r, run)
   unfolding resume Passes
-  kept k d i (Catch c x p) (Throw b ls) run lt below h = rw (not-behind k d i lt below ls h) refl
-  kept k d i (Catch c x p) r run lt below h = refl
+  kept k d i (Catch c x) p (Throw b ls) run lt below h = rw (not-behind k d i lt below ls h) refl
+  kept k d i (Catch c x) p r run lt below h = refl
 
   -- a case above k
   out-passes : (k d i : ℕ) (c : Case) (r : Result) (run : Run) → k < i → i < d → Passes k d r → out (Visit P) i c (r, run) ≡ (r, run)
@@ -123,7 +128,7 @@ module _ (P : Program) where
   out-passes k d i (Choice ps) r run lt below h = chosen k d i ps r run lt h
   out-passes k d i (Mark l) Fail run lt below h = absurd h
   out-passes k d i (Mark l) r run lt below h = refl
-  out-passes k d i (Handle x) r run lt below h = kept k d i x r run lt below h
+  out-passes k d i (Handle x p) r run lt below h = kept k d i x p r run lt below h
 
   -- a level of a case that is open above the choice at the level k
   above-base : (k : ℕ) (cs base : List Case) → deeper base 0 ≡ suc k → k < deeper (cs ++ base) 0
@@ -154,8 +159,9 @@ module _ (P : Program) where
   empty-choice k d i (Throw b ls) run lt h = refl
   empty-choice k d i (Halted n) run lt h = refl
   empty-choice k d i Spent run lt h = refl
-  empty-choice k d i (Asking q) run lt h = refl
-  empty-choice k d i Ceased run lt h = refl
+  empty-choice k d i (Awaits q) run lt h = refl
+  empty-choice k d i Stopped run lt h = refl
+  empty-choice k d i Unfit run lt h = refl
 
   emptied-pass : (k d : ℕ) (cs base : List Case) (r : Result) (run : Run) → deeper base 0 ≡ suc k → Bounded (low k) (apart k d) r →
       outs (Visit P) 0 (emptied cs base) (r, run) ≡ outs (Visit P) 0 base (r, run)
@@ -170,7 +176,7 @@ module _ (P : Program) where
   unfolding choice
   given-up k [] Fail run = ap (λ r. (r, run)) (itself (nat_eq k k) refl)
     where
-      itself : (b : Bool) → nat_eq k k ≡ b → stop_cut_if b k ≡ Fail
+      itself : (b : Bool) → nat_eq k k ≡ b → ◌≡◌ {A = Result} (if b then Fail else CutTo k) Fail
       itself true is = refl
       itself false is = absurd (never is)
         where
@@ -178,7 +184,7 @@ module _ (P : Program) where
           never is = grind (arith, nat_tests)
   given-up k (p ∷ ps) Fail run = ap (λ r. (r, run)) (itself (nat_eq k k) refl)
     where
-      itself : (b : Bool) → nat_eq k k ≡ b → stop_cut_if b k ≡ Fail
+      itself : (b : Bool) → nat_eq k k ≡ b → ◌≡◌ {A = Result} (if b then Fail else CutTo k) Fail
       itself true is = refl
       itself false is = absurd (never is)
         where

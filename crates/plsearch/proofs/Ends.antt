@@ -3,8 +3,10 @@ use Rattle.std.proofs.Common.{◌≡◌, ℕ, zero, suc, ◌+◌, ◌<◌, ◌�
 use Rattle.plevent.specs.Search.{Item, Answer, Finishes}
 use Rattle.plevent.specs.declared.request.ThreadEnd.{ThreadEnd}
 use Rattle.plprogram.specs.Program.{Program}
-use Rattle.plsearch.specs.Types.{Result, Stop, Fail, CutTo, Throw, Halted, Spent, Asking, Ceased, Element, Place, Case, Choice, Mark, Handle, Catch, Return, Keep, Again, Anew, Local, Move, Give, Go, Meeting, Select, Asks, End, Pass, Marked, Run}
-use Rattle.plsearch.specs.Table.{select, meet, answered, resume}
+use Rattle.plsearch.specs.Types.{Result, Stop, Fail, CutTo, Throw, Halted, Spent, Awaits, Stopped, Unfit, Element, Place, Case, Choice, Mark, Handle, Catch, Return, Keep, Again, Anew, Local, Move, Give, Go, Meeting, Select, Asks, End, Pass, Marked, Run}
+use Rattle.plsearch.specs.Rows.{select, meet}
+use Rattle.plsearch.specs.Replies.{answered}
+use Rattle.plsearch.specs.Handlers.{resume}
 use Rattle.plsearch.specs.Engine.{Ended, deeper, choice, returned, out, outs, moved, stepped, asks, met, walk, left, Visit}
 use Rattle.plsearch.specs.Search.{next_of, ending_of, from_start, start_of, search_of}
 use Rattle.plsearch.proofs.Fuel.{Agree, Same, out-agree, visit-agree, Visit-walk}
@@ -14,24 +16,26 @@ unfolding Visit Agree
 Visit-left P d p run = (visit-agree P (left run) (left run) (le_refl _) d p run (omega arith)).1
 
 abbrev NotAsking : Result → Type 0
-NotAsking (Asking q) = ⊥
+NotAsking (Awaits q) = ⊥
 NotAsking Stop = Unit {0}
 NotAsking Fail = Unit {0}
 NotAsking (CutTo l) = Unit {0}
 NotAsking (Throw b ls) = Unit {0}
 NotAsking (Halted n) = Unit {0}
 NotAsking Spent = Unit {0}
-NotAsking Ceased = Unit {0}
+NotAsking Stopped = Unit {0}
+NotAsking Unfit = Unit {0}
 
-or_asks : (r : Result) → (NotAsking r) ⊎ ((q : Item) × (r ≡ Asking q))
+or_asks : (r : Result) → (NotAsking r) ⊎ ((q : Item) × (r ≡ Awaits q))
 or_asks Stop = inl tt
 or_asks Fail = inl tt
 or_asks (CutTo l) = inl tt
 or_asks (Throw b ls) = inl tt
 or_asks (Halted n) = inl tt
 or_asks Spent = inl tt
-or_asks (Asking q) = inr (q, refl)
-or_asks Ceased = inl tt
+or_asks (Awaits q) = inr (q, refl)
+or_asks Stopped = inl tt
+or_asks Unfit = inl tt
 
 module _ (P : Program) (further : List Answer) where
   with_more : Run → Run
@@ -48,14 +52,14 @@ module _ (P : Program) (further : List Answer) where
   itself k d p run lt = (refl, Visit-left P d p run)
 
   abbrev Still : (Ended → Ended) → Type 0
-  Still f = (q : Item) (run : Run) → NotAsking (f (Asking q, run)).0 → ⊥
+  Still f = (q : Item) (run : Run) → NotAsking (f (Awaits q, run)).0 → ⊥
 
   -- what becomes of an end grows with it
   passed : (f : Ended → Ended) (e e' : Ended) → Still f → Grows e e' → (NotAsking e.0 → Grows (f e) (f (e.0, with_more e.1))) → Grows (f e) (f e')
   unfolding Grows with_more
   passed f e e' still g on = go (or_asks e.0)
     where
-      go : (NotAsking e.0) ⊎ ((q : Item) × (e.0 ≡ Asking q)) → Grows (f e) (f e')
+      go : (NotAsking e.0) ⊎ ((q : Item) × (e.0 ≡ Awaits q)) → Grows (f e) (f e')
       go (inl n) = subst (λ x. Grows (f e) (f x)) (sym (g n)) (on n)
       go (inr a) = λ n. absurd (still a.0 e.1 (subst (λ r. NotAsking (f (r, e.1)).0) a.1 n))
 
@@ -78,7 +82,7 @@ module _ (P : Program) (further : List Answer) where
   unfolding out resume
   out-still (Choice ps) d q run n = choice-still ps d q run n
   out-still (Mark l) d q run n = n
-  out-still (Handle (Catch c r p)) d q run n = n
+  out-still (Handle (Catch c r) p) d q run n = n
 
   returned-grows : (k : ℕ) → Claim k → (d : ℕ) (b : Return) (run : Run) → left run < k → Grows (returned (Visit P) d b run) (returned (Visit P) d b (with_more run))
   unfolding Grows with_more Claim
@@ -94,7 +98,7 @@ module _ (P : Program) (further : List Answer) where
   unfolding out Grows with_more
   out-grows k h d (Choice ps) e e' lt g = passed (out (Visit P) d (Choice ps)) e e' (out-still (Choice ps) d) g (λ n. choice-grows k h ps d e.0 e.1 lt n)
   out-grows k h d (Mark l) e e' lt g = passed (out (Visit P) d (Mark l)) e e' (out-still (Mark l) d) g (λ n m. refl)
-  out-grows k h d (Handle c) e e' lt g = passed (out (Visit P) d (Handle c)) e e' (out-still (Handle c) d) g (λ n. returned-grows k h d (resume c d e.0 e.1.local) e.1 lt)
+  out-grows k h d (Handle x p) e e' lt g = passed (out (Visit P) d (Handle x p)) e e' (out-still (Handle x p) d) g (λ n. returned-grows k h d (resume x p d e.0 e.1.local) e.1 lt)
 
   pub out-left : (d : ℕ) (c : Case) (e : Ended) → left (out (Visit P) d c e).1 ≤ left e.1
   unfolding Same
@@ -130,7 +134,7 @@ module _ (P : Program) (further : List Answer) where
       Grows (met P (Visit P) on e es n d run m) (met P (Visit P) on e es n d (with_more run) m)
   unfolding Grows with_more out
   met-grows k h on o e es n d run (Select j t) le = stepped-grows k h (select P j t d es n) d run run.steps le
-  met-grows k h on o e es n d run (Asks q) le = asks-grows k h (λ a. answered P e a d es n) q d run run.answers le
+  met-grows k h on o e es n d run (Asks q) le = asks-grows k h (λ a. answered e a d es n) q d run run.answers le
   met-grows k h on o e es n d run (End r w) le = λ n. refl
   met-grows k h on o e es n d run (Pass w) le = o d (record run { local = w }) le
   met-grows k h on o e es n d run (Marked l w) le =
@@ -162,12 +166,13 @@ ended_asks (CutTo l) e is = tt
 ended_asks (Throw b ls) e is = tt
 ended_asks (Halted n) e is = tt
 ended_asks Spent e is = tt
-ended_asks (Asking q) e is = cc
-ended_asks Ceased e is = tt
+ended_asks (Awaits q) e is = cc
+ended_asks Stopped e is = tt
+ended_asks Unfit e is = tt
 
 pub ends_ignore : (P : Program) (limit n : ℕ) (answers further : List Answer) (e : ThreadEnd) →
     (search_of P limit n answers).next ≡ Finishes e → search_of P limit n (answers ++ further) ≡ search_of P limit n answers
 unfolding search_of
 ends_ignore P limit n answers further e is =
     ap (ending_of (min n limit))
-    (visit-grows P further 0 (start_of P) (from_start (min n limit) answers) (ended_asks (Visit P 0 (start_of P) (from_start (min n limit) answers)).0 e is))
+    (visit-grows P further 0 (start_of P) (from_start P (min n limit) answers) (ended_asks (Visit P 0 (start_of P) (from_start P (min n limit) answers)).0 e is))

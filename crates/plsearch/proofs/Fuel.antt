@@ -3,7 +3,9 @@ use Rattle.std.proofs.Common.{◌≡◌, ℕ, zero, suc, ◌+◌, ◌<◌, ◌�
 use Rattle.plevent.specs.Search.{Item, Answer}
 use Rattle.plprogram.specs.Program.{Program}
 use Rattle.plsearch.specs.Types.{Result, Fail, Spent, Element, Place, Case, Choice, Mark, Handle, Local, Move, Give, Go, Meeting, Select, Asks, End, Pass, Marked, Return, Keep, Again, Anew, Run}
-use Rattle.plsearch.specs.Table.{select, meet, answered, resume}
+use Rattle.plsearch.specs.Rows.{select, meet}
+use Rattle.plsearch.specs.Replies.{answered}
+use Rattle.plsearch.specs.Handlers.{resume}
 use Rattle.plsearch.specs.Engine.{Ended, Visitor, deeper, choice, returned, out, outs, moved, stepped, asks, met, walk, visit_in, left, Visit}
 
 -- below k the two visit alike, and no visit makes steps or answers
@@ -40,7 +42,7 @@ pub out-agree : (f g : Visitor) (k : ℕ) → Agree f g k → (d : ℕ) (c : Cas
 unfolding Same out
 out-agree f g k h d (Choice ps) e lt = choice-agree f g k h ps d e.0 e.1 lt
 out-agree f g k h d (Mark l) e lt = (refl, le_refl _)
-out-agree f g k h d (Handle c) e lt = returned-agree f g k h d (resume c d e.0 e.1.local) e.1 lt
+out-agree f g k h d (Handle x p) e lt = returned-agree f g k h d (resume x p d e.0 e.1.local) e.1 lt
 
 pub outs-agree : (f g : Visitor) (k : ℕ) → Agree f g k → (d : ℕ) (cs : List Case) (e : Ended) → left e.1 < k →
     Same (outs f d cs e) (outs g d cs e) (left e.1)
@@ -82,7 +84,7 @@ met-agree : (P : Program) (f g : Visitor) (k : ℕ) → Agree f g k → (f' g' :
     Same (met P f f' e es n d run m) (met P g g' e es n d run m) (left run)
 unfolding Same out
 met-agree P f g k h f' g' on e es n d run (Select j t) le = stepped-agree f g k h (select P j t d es n) d run run.steps le
-met-agree P f g k h f' g' on e es n d run (Asks q) le = asks-agree f g k h (λ a. answered P e a d es n) q d run run.answers le
+met-agree P f g k h f' g' on e es n d run (Asks q) le = asks-agree f g k h (λ a. answered e a d es n) q d run run.answers le
 met-agree P f g k h f' g' on e es n d run (End r w) le = (refl, le_refl _)
 met-agree P f g k h f' g' on e es n d run (Pass w) le = on d (record run { local = w }) le
 met-agree P f g k h f' g' on e es n d run (Marked l w) le =

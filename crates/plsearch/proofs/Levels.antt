@@ -1,5 +1,5 @@
 -- Levels of results: a list that names some levels is cut to these alone, and no ball that it throws has others behind it.
-use Rattle.std.proofs.Common.{◌≡◌, ℕ, zero, suc, ◌+◌, ◌<◌, ◌≤◌, Bool, true, false, ◌||◌, List, [], ◌∷◌, ◌++◌, length, Option, Some, None, refl, sym, ap, subst, arith, nat_eq}
+use Rattle.std.proofs.Common.{◌≡◌, ℕ, zero, suc, ◌+◌, ◌<◌, ◌≤◌, Bool, true, false, ◌||◌, if◌then◌else◌, List, [], ◌∷◌, length, Option, Some, None, refl, sym, ap, subst, arith, nat_eq}
 use Rattle.std.proofs.lemmas.Bool.Decides.{nat_tests}
 use Rattle.std.specs.List.{filter_map, cons_option}
 use Rattle.std.specs.Option.{option_map}
@@ -13,18 +13,22 @@ use Rattle.plclause.specs.Clausal.{clausal}
 use Rattle.plclause.specs.declared.form.ClauseForm.{ClauseForm}
 use Rattle.plclause.specs.declared.form.ClauseForm.TheVariants.{NoHead, BadHead, BadBody, IsClause}
 use Rattle.plterm.specs.declared.indicator.Indicator.{Indicator}
-use Rattle.plevent.specs.declared.request.Reply.{Reply}
 use Rattle.plevent.specs.Alive.{exists, clauses_alive}
 use Rattle.plevent.specs.Search.{Item, Answer, Seen, Got}
 use Rattle.plprogram.specs.Program.{Program, clauses_for}
 use Rattle.plprogram.specs.declared.settings.Unknown.{Unknown}
 use Rattle.plprogram.specs.declared.settings.Unknown.TheVariants as unknown
-use Rattle.plwrite.specs.Writing.{written}
-use Rattle.plwrite.specs.declared.style.Style.TheVariants.{Plain, Quoted}
-use Rattle.plsearch.specs.Errors.{error_term}
-use Rattle.plsearch.specs.Types.{Result, Stop, Fail, CutTo, Throw, Halted, Spent, Asking, Ceased, Element, Goal, Commit, Never, Until, Raise, Look, Await, Halt, Place, Case, Choice, Mark, Handle, Handler, Catch, Return, Keep, Again, Anew, Local, Move, Give, Go, Run}
-use Rattle.plsearch.specs.Table.{Control, True, False, Both, Either, Then, Not, Once, Catching, Throwing, CallWith, Cut, Unify, Write, WriteQuoted, Newline, Halting, AddLast, Call, NoGoal, control, bind_element, bind_goals, is_true, before_rest, resolve, choose, call, raised, Runnable, Runs, Raises, first_of, run, runnable, called, call_with, branch, catching, thrown, halting, levels, has, recovers, met_by, caught, resume, unified, is_static, add_if, add, user, row, select, meet, missing, walk_if, replied, halted, answered}
-use Rattle.plsearch.specs.Engine.{Ended, stop_cut_if, stop_cut, mark, deeper, choice, returned, out, outs, moved, stepped, asks, walk, left, Visit}
+use Rattle.plbuiltin.specs.Solution.{Solution, Solved, Gives, Raises as Refuses}
+use Rattle.plbuiltin.specs.Solutions.{solutions}
+use Rattle.plsearch.specs.Errors.{static_error, error_term}
+use Rattle.plsearch.specs.Types.{Result, Stop, Fail, CutTo, Throw, Halted, Spent, Awaits, Stopped, Unfit, Kind, Commit, Never, Until, Then, GoesOn, Ends, Question, Look, Await, Element, Goal, Marker, Raise, Asking, Place, Case, Choice, Mark, Handle, Handler, Catch, Return, Keep, Again, Anew, Local, Move, Give, Go, Run}
+use Rattle.plsearch.specs.Lists.{bind_element, bind_goals, levels}
+use Rattle.plsearch.specs.Forms.{Form, True, False, Both, Either, IfThenElse, Not, Once, Catching, Throwing, CallWith, Cut, Halting, AddLast, BuiltIn, Call, NoGoal, form}
+use Rattle.plsearch.specs.Running.{Runnable, Runs, Raises, runnable, called}
+use Rattle.plsearch.specs.Rows.{is_true, before_rest, resolve, choose, call, raised, assertz_1, first_of, run, call_with, branch, catching, go_on, thrown, halting, is_static, add_clause, add, user, solved, taken, offered, offer, row, select, asked, meet}
+use Rattle.plsearch.specs.Replies.{Outcome, Served, Stops, Misfits, outcome, follows, missing, answered}
+use Rattle.plsearch.specs.Handlers.{has, recovers, met_by, resume}
+use Rattle.plsearch.specs.Engine.{Ended, stop_cut, mark, deeper, choice, returned, out, outs, moved, stepped, asks, walk, left, Visit}
 use Rattle.plsearch.proofs.Fuel.{Visit-walk}
 use Rattle.plsearch.proofs.Ends.{Visit-left, out-left}
 
@@ -52,18 +56,21 @@ Bounded C N (CutTo l) = C l ≡ true
 Bounded C N (Throw b ls) = AllIn N ls
 Bounded C N (Halted n) = Unit {0}
 Bounded C N Spent = Unit {0}
-Bounded C N (Asking q) = Unit {0}
-Bounded C N Ceased = Unit {0}
+Bounded C N (Awaits q) = Unit {0}
+Bounded C N Stopped = Unit {0}
+Bounded C N Unfit = Unit {0}
+
+-- a marker behind which choices are given up has a level that may be cut to
+unfoldable pub GivesUp : Levels → Kind → ℕ → Type 0
+GivesUp C Commit l = C l ≡ true
+GivesUp C Never l = C l ≡ true
+GivesUp C Until l = Unit {0}
 
 unfoldable pub Allows : Levels → Levels → Element → Type 0
 Allows C N (Goal k t) = C k ≡ true
-Allows C N (Commit l) = (C l ≡ true) × (N l ≡ true)
-Allows C N (Never l) = (C l ≡ true) × (N l ≡ true)
-Allows C N (Until l) = N l ≡ true
+Allows C N (Marker m l) = GivesUp C m l × (N l ≡ true)
 Allows C N (Raise b) = Unit {0}
-Allows C N (Look t) = Unit {0}
-Allows C N (Await q) = Unit {0}
-Allows C N (Halt n) = Unit {0}
+Allows C N (Asking q) = Unit {0}
 
 unfoldable pub AllAllow : Levels → Levels → List Element → Type 0
 AllAllow C N [] = Unit {0}
@@ -85,16 +92,18 @@ also-it C d = either-right (C d) (nat_eq d d) (same d)
 pub also-others : (C : Levels) (d l : ℕ) → C l ≡ true → also C d l ≡ true
 also-others C d l h = either-left (C l) (nat_eq l d) h
 
+gives-up-more : (C : Levels) (d : ℕ) (m : Kind) (l : ℕ) → GivesUp C m l → GivesUp (also C d) m l
+unfolding GivesUp
+gives-up-more C d Commit l h = also-others C d l h
+gives-up-more C d Never l h = also-others C d l h
+gives-up-more C d Until l h = tt
+
 allows-more : (C N : Levels) (d : ℕ) (e : Element) → Allows C N e → Allows (also C d) N e
 unfolding Allows
 allows-more C N d (Goal k t) h = also-others C d k h
-allows-more C N d (Commit l) h = (also-others C d l h.0, h.1)
-allows-more C N d (Never l) h = (also-others C d l h.0, h.1)
-allows-more C N d (Until l) h = h
+allows-more C N d (Marker m l) h = (gives-up-more C d m l h.0, h.1)
 allows-more C N d (Raise b) h = tt
-allows-more C N d (Look t) h = tt
-allows-more C N d (Await q) h = tt
-allows-more C N d (Halt n) h = tt
+allows-more C N d (Asking q) h = tt
 
 pub allow-more : (C N : Levels) (d : ℕ) (es : List Element) → AllAllow C N es → AllAllow (also C d) N es
 unfolding AllAllow
@@ -104,13 +113,9 @@ allow-more C N d (e ∷ es) h = (allows-more C N d e h.0, allow-more C N d es h.
 allows-bound : (C N : Levels) (σ : ℕ → Tree) (e : Element) → Allows C N e → Allows C N (bind_element σ e)
 unfolding Allows
 allows-bound C N σ (Goal k t) h = h
-allows-bound C N σ (Commit l) h = h
-allows-bound C N σ (Never l) h = h
-allows-bound C N σ (Until l) h = h
+allows-bound C N σ (Marker m l) h = h
 allows-bound C N σ (Raise b) h = tt
-allows-bound C N σ (Look t) h = tt
-allows-bound C N σ (Await q) h = tt
-allows-bound C N σ (Halt n) h = tt
+allows-bound C N σ (Asking q) h = tt
 
 allow-bound : (C N : Levels) (σ : ℕ → Tree) (es : List Element) → AllAllow C N es → AllAllow C N (bind_goals σ es)
 unfolding AllAllow
@@ -121,13 +126,9 @@ levels-in : (C N : Levels) (es : List Element) → AllAllow C N es → AllIn N (
 unfolding AllAllow Allows
 levels-in C N [] h = tt
 levels-in C N (Goal k t ∷ es) h = levels-in C N es h.1
-levels-in C N (Commit l ∷ es) h = (h.0.1, levels-in C N es h.1)
-levels-in C N (Never l ∷ es) h = (h.0.1, levels-in C N es h.1)
-levels-in C N (Until l ∷ es) h = (h.0, levels-in C N es h.1)
+levels-in C N (Marker m l ∷ es) h = (h.0.1, levels-in C N es h.1)
 levels-in C N (Raise b ∷ es) h = levels-in C N es h.1
-levels-in C N (Look t ∷ es) h = levels-in C N es h.1
-levels-in C N (Await q ∷ es) h = levels-in C N es h.1
-levels-in C N (Halt n ∷ es) h = levels-in C N es h.1
+levels-in C N (Asking q ∷ es) h = levels-in C N es h.1
 
 -- cases that are open at the depth d, of which the results cut to levels of C alone: what they hold, and what may come from inside
 unfoldable pub PlacesAllow : Levels → Levels → List Place → Type 0
@@ -137,12 +138,12 @@ PlacesAllow C N (p ∷ ps) = AllAllow C N p.goals × PlacesAllow C N ps
 abbrev pub inside : Levels → ℕ → Case → Levels
 inside C d (Choice ps) = also C d
 inside C d (Mark l) = C
-inside C d (Handle h) = C
+inside C d (Handle h p) = C
 
 unfoldable pub CaseAllows : Levels → Levels → ℕ → Case → Type 0
 CaseAllows C N d (Choice ps) = PlacesAllow (also C d) N ps
 CaseAllows C N d (Mark l) = C l ≡ true
-CaseAllows C N d (Handle (Catch c r p)) = AllAllow C N p.goals
+CaseAllows C N d (Handle h p) = AllAllow C N p.goals
 
 abbrev pub within : Levels → ℕ → List Case → Levels
 within C d [] = C
@@ -161,7 +162,7 @@ module _ (C N : Levels) (d : ℕ) (holds : Holds N d) where
   abbrev More : Levels
   More = also C d
 
-  go-on : (es : List Element) (n : ℕ) (w : Local) → AllAllow C N es → MoveAllows C N d (Go [] (record { goals = es; variables = n }) w)
+  go-on : (es : List Element) (n : ℕ) (w : Local) → AllAllow C N es → MoveAllows C N d (go_on es n w)
   unfolding MoveAllows CasesAllow
   go-on es n w all = (tt, all)
 
@@ -169,9 +170,22 @@ module _ (C N : Levels) (d : ℕ) (holds : Holds N d) where
   unfolding MoveAllows Bounded
   give-up w = tt
 
-  cease : (w : Local) → MoveAllows C N d (Give Ceased w)
+  stops : (w : Local) → MoveAllows C N d (Give Stopped w)
   unfolding MoveAllows Bounded
-  cease w = tt
+  stops w = tt
+
+  misfits : (w : Local) → MoveAllows C N d (Give Unfit w)
+  unfolding MoveAllows Bounded
+  misfits w = tt
+
+  -- one of two moves
+  one-of : (b : Bool) (m m' : Move) → MoveAllows C N d m → MoveAllows C N d m' → MoveAllows C N d (if b then m else m')
+  one-of true m m' h h' = h
+  one-of false m m' h h' = h'
+
+  asks-first : (q : Question) (rest : List Element) (n : ℕ) (w : Local) → AllAllow C N rest → MoveAllows C N d (go_on (Asking q ∷ rest) n w)
+  unfolding AllAllow Allows
+  asks-first q rest n w all = go-on (Asking q ∷ rest) n w (tt, all)
 
   halts : (n : ℕ) (w : Local) → MoveAllows C N d (Give (Halted n) w)
   unfolding MoveAllows Bounded
@@ -244,34 +258,52 @@ module _ (C N : Levels) (d : ℕ) (holds : Holds N d) where
   thrown-allowed (compound f ts) rest w all = throws (copied 0 (compound f ts)) rest w all
 
   halting-allowed : (t : Tree) (rest : List Element) (n : ℕ) (w : Local) → AllAllow C N rest → MoveAllows C N d (halting t rest n w)
-  unfolding AllAllow Allows
   halting-allowed (var x) rest n w all = raises _ _ rest w all
-  halting-allowed (int i) rest n w all = go-on _ n w (tt, all)
+  halting-allowed (int i) rest n w all = asks-first _ rest n w all
   halting-allowed (atom f) rest n w all = raises _ _ rest w all
   halting-allowed (compound f ts) rest n w all = raises _ _ rest w all
 
-  unified-allowed : (o : Option (ℕ → Tree)) (rest : List Element) (n : ℕ) (w : Local) → AllAllow C N rest → MoveAllows C N d (unified o rest n w)
-  unified-allowed None rest n w all = give-up w
-  unified-allowed (Some σ) rest n w all = go-on (bind_goals σ rest) n w (allow-bound C N σ rest all)
-
-  add-if-allowed : (b : Bool) (c : Clause) (rest : List Element) (n : ℕ) (w : Local) → AllAllow C N rest → MoveAllows C N d (add_if b c rest n w)
-  unfolding AllAllow Allows
-  add-if-allowed true c rest n w all = raises _ _ rest w all
-  add-if-allowed false c rest n w all = go-on _ n w (tt, all)
+  add-clause-allowed : (P : Program) (c : Clause) (rest : List Element) (n : ℕ) (w : Local) → AllAllow C N rest → MoveAllows C N d (add_clause P c rest n w)
+  add-clause-allowed P c rest n w all =
+      one-of (is_static P (indicator c.head)) (raised (static_error (indicator c.head)) assertz_1 rest w) _ (raises _ _ rest w all) (asks-first _ rest n w all)
 
   add-allowed : (P : Program) (c : ClauseForm) (rest : List Element) (n : ℕ) (w : Local) → AllAllow C N rest → MoveAllows C N d (add P c rest n w)
   add-allowed P NoHead rest n w all = raises _ _ rest w all
   add-allowed P (BadHead h) rest n w all = raises _ _ rest w all
   add-allowed P (BadBody b) rest n w all = raises _ _ rest w all
-  add-allowed P (IsClause c) rest n w all = add-if-allowed (is_static P (indicator c.head)) c rest n w all
+  add-allowed P (IsClause c) rest n w all = add-clause-allowed P c rest n w all
 
   user-allowed : (cs : List Clause) (t : Tree) (rest : List Element) (n : ℕ) (w : Local) → AllAllow C N rest → MoveAllows C N d (user cs d t rest n w)
-  unfolding AllAllow Allows
-  user-allowed [] t rest n w all = go-on _ n w (tt, all)
+  user-allowed [] t rest n w all = asks-first _ rest n w all
   user-allowed (c ∷ cs) t rest n w all = calls n t rest (c ∷ cs) w all
 
-  row-allowed : (P : Program) (c : Control) (k : ℕ) (t : Tree) (rest : List Element) (n : ℕ) (w : Local) → C k ≡ true → AllAllow C N rest → MoveAllows C N d (row P c k t d rest n w)
-  unfolding row AllAllow Allows PlacesAllow MoveAllows CasesAllow CaseAllows
+  -- the solutions of a built-in predicate
+  taken-allowed : (o : Option (ℕ → Tree)) (rest : List Element) (n m : ℕ) (w : Local) → AllAllow C N rest →
+      MoveAllows C N d (taken (option_map (λ σ. record { goals = bind_goals σ rest; variables = n + m }) o) w)
+  taken-allowed None rest n m w all = give-up w
+  taken-allowed (Some σ) rest n m w all = go-on (bind_goals σ rest) (n + m) w (allow-bound C N σ rest all)
+
+  solutions-allowed : (rest : List Element) (n : ℕ) → AllAllow C N rest → (ss : List Solution) → PlacesAllow More N (filter_map (solved rest n) ss)
+  unfolding PlacesAllow
+  solutions-allowed rest n all [] = tt
+  solutions-allowed rest n all (s ∷ ss) = go (unify s.left s.right) (solutions-allowed rest n all ss)
+    where
+      go : (o : Option (ℕ → Tree)) → PlacesAllow More N (filter_map (solved rest n) ss) →
+          PlacesAllow More N (cons_option (option_map (λ σ. record { goals = bind_goals σ rest; variables = n + s.new }) o) (filter_map (solved rest n) ss))
+      go None others = others
+      go (Some σ) others = (allow-more C N d (bind_goals σ rest) (allow-bound C N σ rest all), others)
+
+  offered-allowed : (ss : List Solution) (rest : List Element) (n : ℕ) (w : Local) → AllAllow C N rest → MoveAllows C N d (offered ss rest n w)
+  offered-allowed [] rest n w all = give-up w
+  offered-allowed (s ∷ []) rest n w all = taken-allowed (unify s.left s.right) rest n s.new w all
+  offered-allowed (s ∷ t ∷ ss) rest n w all = chooses (filter_map (solved rest n) (s ∷ t ∷ ss)) w (solutions-allowed rest n all (s ∷ t ∷ ss))
+
+  offer-allowed : (x : Solved) (p : Indicator) (rest : List Element) (n : ℕ) (w : Local) → AllAllow C N rest → MoveAllows C N d (offer x p rest n w)
+  offer-allowed (Refuses e) p rest n w all = raises e p rest w all
+  offer-allowed (Gives ss bytes settings) p rest n w all = offered-allowed ss rest n _ all
+
+  row-allowed : (P : Program) (c : Form) (k : ℕ) (t : Tree) (rest : List Element) (n : ℕ) (w : Local) → C k ≡ true → AllAllow C N rest → MoveAllows C N d (row P c k t d rest n w)
+  unfolding row AllAllow Allows GivesUp PlacesAllow MoveAllows CasesAllow CaseAllows
   row-allowed P True k t rest n w is all = go-on rest n w all
   row-allowed P False k t rest n w is all = give-up w
   row-allowed P (Both a b) k t rest n w is all = go-on (Goal k a ∷ Goal k b ∷ rest) n w (is, (is, all))
@@ -280,72 +312,49 @@ module _ (C N : Levels) (d : ℕ) (holds : Holds N d) where
     where
       one : (es : List Element) (n : ℕ) → AllAllow More N es → PlacesAllow More N (record { goals = es; variables = n } ∷ [])
       one es n all = (all, tt)
-  row-allowed P (Then c a e) k t rest n w is all =
-      in-branch (Goal k e ∷ rest) (Goal (suc d) c ∷ Commit d ∷ Goal k a ∷ rest) n w (is, all)
+  row-allowed P (IfThenElse c a e) k t rest n w is all =
+      in-branch (Goal k e ∷ rest) (Goal (suc d) c ∷ Marker Commit d ∷ Goal k a ∷ rest) n w (is, all)
       (also-it More (suc d), ((also-others More (suc d) d (also-it C d), holds d (omega arith)), allow-more More N (suc d) (Goal k a ∷ rest) (allow-more C N d (Goal k a ∷ rest) (is, all))))
   row-allowed P (Not g) k t rest n w is all =
-      in-branch rest (first_of (runnable g) _ (suc d) ∷ Never d ∷ rest) n w all
-      (first-allowed (runnable g) _ (also More (suc d)) (suc d) (Never d ∷ rest) (also-it More (suc d)) ((also-others More (suc d) d (also-it C d), holds d (omega arith)), allow-more More N (suc d) rest (allow-more C N d rest all)))
+      in-branch rest (first_of (runnable g) _ (suc d) ∷ Marker Never d ∷ rest) n w all
+      (first-allowed (runnable g) _ (also More (suc d)) (suc d) (Marker Never d ∷ rest) (also-it More (suc d)) ((also-others More (suc d) d (also-it C d), holds d (omega arith)), allow-more More N (suc d) rest (allow-more C N d rest all)))
   row-allowed P (Catching g c r) k t rest n w is all =
-      in-catcher c r rest (first_of (runnable g) _ (suc d) ∷ Until d ∷ rest) n w all
-      (first-allowed (runnable g) _ (also C (suc d)) (suc d) (Until d ∷ rest) (also-it C (suc d)) (holds d (omega arith), allow-more C N (suc d) rest all))
+      in-catcher c r rest (first_of (runnable g) _ (suc d) ∷ Marker Until d ∷ rest) n w all
+      (first-allowed (runnable g) _ (also C (suc d)) (suc d) (Marker Until d ∷ rest) (also-it C (suc d)) ((tt, holds d (omega arith)), allow-more C N (suc d) rest all))
   row-allowed P (Throwing b) k t rest n w is all = thrown-allowed b rest w all
-  row-allowed P (Once g) k t rest n w is all = runs (runnable g) _ (Commit d ∷ rest) n w ((also-it C d, holds d (omega arith)), allow-more C N d rest all)
+  row-allowed P (Once g) k t rest n w is all = runs (runnable g) _ (Marker Commit d ∷ rest) n w ((also-it C d, holds d (omega arith)), allow-more C N d rest all)
   row-allowed P (CallWith g us) k t rest n w is all = runs (called g us) (call_with (length us)) rest n w (allow-more C N d rest all)
   row-allowed P Cut k t rest n w is all = marks k rest n w is all
     where
       marks : (k : ℕ) (rest : List Element) (n : ℕ) (w : Local) → C k ≡ true → AllAllow C N rest → MoveAllows C N d (Go (Mark k ∷ []) (record { goals = rest; variables = n }) w)
       marks k rest n w is all = ((is, tt), all)
-  row-allowed P (Unify a b) k t rest n w is all = unified-allowed (unify a b) rest n w all
-  row-allowed P (Write a) k t rest n w is all = go-on rest n (record { out = w.out ++ written P.settings.operators Plain a }) all
-  row-allowed P (WriteQuoted a) k t rest n w is all = go-on rest n (record { out = w.out ++ written P.settings.operators Quoted a }) all
-  row-allowed P Newline k t rest n w is all = go-on rest n (record { out = w.out ++ 10 ∷ [] }) all
   row-allowed P (Halting i) k t rest n w is all = halting-allowed i rest n w all
   row-allowed P (AddLast c) k t rest n w is all = add-allowed P (clausal c) rest n w all
+  row-allowed P (BuiltIn b us) k t rest n w is all = offer-allowed (solutions b us w.settings n) (indicator t) rest n w all
   row-allowed P (Call p) k t rest n w is all = user-allowed (clauses_for P p) t rest n w all
   row-allowed P NoGoal k t rest n w is all = give-up w
 
   select-allowed : (P : Program) (k : ℕ) (t : Tree) (rest : List Element) (n : ℕ) (w : Local) → C k ≡ true → AllAllow C N rest → MoveAllows C N d (select P k t d rest n w)
   unfolding select
-  select-allowed P k t rest n w is all = row-allowed P (control t) k t rest n w is all
+  select-allowed P k t rest n w is all = row-allowed P (form t) k t rest n w is all
 
   missing-allowed : (u : Unknown) (t : Tree) (rest : List Element) (w : Local) → AllAllow C N rest → MoveAllows C N d (missing u t rest w)
   missing-allowed unknown.Error t rest w all = raises _ _ rest w all
   missing-allowed unknown.Fail t rest w all = give-up w
 
-  walk-if-allowed : (b : Bool) (P : Program) (cs : List Clause) (t : Tree) (rest : List Element) (n : ℕ) (w : Local) → AllAllow C N rest → MoveAllows C N d (walk_if b P cs d t rest n w)
-  walk-if-allowed false P cs t rest n w all = missing-allowed P.settings.unknown t rest w all
-  walk-if-allowed true P cs t rest n w all = calls n t rest cs w all
+  follows-allowed : (o : Outcome) (t : Then) (rest : List Element) (n : ℕ) (w : Local) → AllAllow C N rest → MoveAllows C N d (follows o t rest n w)
+  follows-allowed Served GoesOn rest n w all = go-on rest n w all
+  follows-allowed Served (Ends k) rest n w all = halts k w
+  follows-allowed Stops t rest n w all = stops w
+  follows-allowed Misfits t rest n w all = misfits w
 
-  replied-allowed : (r : Reply) (rest : List Element) (n : ℕ) (w : Local) → AllAllow C N rest → MoveAllows C N d (replied r rest n w)
-  replied-allowed Reply.Published rest n w all = go-on rest n w all
-  replied-allowed (Reply.Started i a g) rest n w all = cease w
-  replied-allowed Reply.RunOver rest n w all = cease w
-  replied-allowed Reply.Stopped rest n w all = cease w
-  replied-allowed (Reply.NotYet q) rest n w all = cease w
-  replied-allowed Reply.Done rest n w all = cease w
-
-  halted-allowed : (r : Reply) (n : ℕ) (w : Local) → MoveAllows C N d (halted r n w)
-  halted-allowed Reply.Published n w = cease w
-  halted-allowed (Reply.Started i a g) n w = cease w
-  halted-allowed Reply.RunOver n w = cease w
-  halted-allowed Reply.Stopped n w = cease w
-  halted-allowed (Reply.NotYet q) n w = cease w
-  halted-allowed Reply.Done n w = halts n w
-
-  answered-allowed : (P : Program) (e : Element) (a : Answer) (rest : List Element) (n : ℕ) (w : Local) → AllAllow C N rest → MoveAllows C N d (answered P e a d rest n w)
+  answered-allowed : (q : Question) (a : Answer) (rest : List Element) (n : ℕ) (w : Local) → AllAllow C N rest → MoveAllows C N d (answered (Asking q) a d rest n w)
   unfolding answered
-  answered-allowed P (Look t) (Seen g us) rest n w all = walk-if-allowed (exists us (indicator t)) P (clauses_alive us (indicator t)) t rest n w all
-  answered-allowed P (Look t) (Got r) rest n w all = cease w
-  answered-allowed P (Await q) (Got r) rest n w all = replied-allowed r rest n w all
-  answered-allowed P (Await q) (Seen g us) rest n w all = cease w
-  answered-allowed P (Halt i) (Got r) rest n w all = halted-allowed r i w
-  answered-allowed P (Halt i) (Seen g us) rest n w all = cease w
-  answered-allowed P (Goal k t) a rest n w all = cease w
-  answered-allowed P (Commit l) a rest n w all = cease w
-  answered-allowed P (Never l) a rest n w all = cease w
-  answered-allowed P (Until l) a rest n w all = cease w
-  answered-allowed P (Raise b) a rest n w all = cease w
+  answered-allowed (Look t) (Seen g us) rest n w all =
+      one-of (exists us (indicator t)) (call d n t rest (clauses_alive us (indicator t)) w) _ (calls n t rest (clauses_alive us (indicator t)) w all) (missing-allowed w.settings.unknown t rest w all)
+  answered-allowed (Look t) (Got r) rest n w all = misfits w
+  answered-allowed (Await q t) (Got r) rest n w all = follows-allowed (outcome q r) t rest n w all
+  answered-allowed (Await q t) (Seen g us) rest n w all = misfits w
 
 -- the search
 holds-deeper : (N : Levels) (d e : ℕ) → d ≤ e → Holds N d → Holds N e
@@ -355,7 +364,7 @@ deeper-above : (cs : List Case) (d : ℕ) → d ≤ deeper cs d
 deeper-above [] d = omega arith
 deeper-above (c ∷ cs) d = let up = deeper-above cs d in omega arith
 
-stop-if-bounded : (C N : Levels) (d l : ℕ) (b : Bool) → nat_eq l d ≡ b → also C d l ≡ true → Bounded C N (stop_cut_if b l)
+stop-if-bounded : (C N : Levels) (d l : ℕ) (b : Bool) → nat_eq l d ≡ b → also C d l ≡ true → Bounded C N (if b then Fail else CutTo l)
 unfolding Bounded
 stop-if-bounded C N d l true is h = tt
 stop-if-bounded C N d l false is h = only (C l) (nat_eq l d) is h
@@ -373,8 +382,9 @@ stop-bounded C N d (CutTo l) h = stop-if-bounded C N d l (nat_eq l d) refl h
 stop-bounded C N d (Throw b ls) h = h
 stop-bounded C N d (Halted n) h = tt
 stop-bounded C N d Spent h = tt
-stop-bounded C N d (Asking q) h = tt
-stop-bounded C N d Ceased h = tt
+stop-bounded C N d (Awaits q) h = tt
+stop-bounded C N d Stopped h = tt
+stop-bounded C N d Unfit h = tt
 
 mark-bounded : (C N : Levels) (l : ℕ) (r : Result) → C l ≡ true → Bounded C N r → Bounded C N (mark l r)
 unfolding Bounded
@@ -384,8 +394,9 @@ mark-bounded C N l (CutTo m) is h = h
 mark-bounded C N l (Throw b ls) is h = h
 mark-bounded C N l (Halted n) is h = tt
 mark-bounded C N l Spent is h = tt
-mark-bounded C N l (Asking q) is h = tt
-mark-bounded C N l Ceased is h = tt
+mark-bounded C N l (Awaits q) is h = tt
+mark-bounded C N l Stopped is h = tt
+mark-bounded C N l Unfit is h = tt
 
 -- what a handler goes on with
 unfoldable ReturnAllows : Levels → Levels → ℕ → Return → Type 0
@@ -393,9 +404,9 @@ ReturnAllows C N d (Keep r w) = Bounded C N r
 ReturnAllows C N d (Again p w) = AllAllow C N p.goals
 ReturnAllows C N d (Anew p w) = AllAllow (also C d) N p.goals
 
-resume-allowed : (C N : Levels) (d : ℕ) (h : Handler) (r : Result) (w : Local) → CaseAllows C N d (Handle h) → Bounded C N r → ReturnAllows C N d (resume h d r w)
-unfolding resume ReturnAllows CaseAllows Bounded AllAllow Allows
-resume-allowed C N d (Catch c r p) (Throw b ls) w all bounded = met (has d ls)
+resume-allowed : (C N : Levels) (d : ℕ) (h : Handler) (p : Place) (r : Result) (w : Local) → AllAllow C N p.goals → Bounded C N r → ReturnAllows C N d (resume h p d r w)
+unfolding resume ReturnAllows Bounded AllAllow Allows
+resume-allowed C N d (Catch c r) p (Throw b ls) w all bounded = met (has d ls)
   where
     recovers-allowed : (x : Runnable) (es : List Element) (n : ℕ) → AllAllow C N es → ReturnAllows C N d (recovers x d es n w)
     recovers-allowed (Runs g) es n all = (also-it C d, allow-more C N d es all)
@@ -405,10 +416,10 @@ resume-allowed C N d (Catch c r p) (Throw b ls) w all bounded = met (has d ls)
     met-allowed None = bounded
     met-allowed (Some σ) = recovers-allowed (runnable (bind σ r)) (bind_goals σ p.goals) (p.variables + length (variables b)) (allow-bound C N σ p.goals all)
 
-    met : (x : Bool) → ReturnAllows C N d (caught x c r b ls p d w)
+    met : (x : Bool) → ReturnAllows C N d (if x then met_by (unify c (copied p.variables b)) r b ls p d w else Keep (Throw b ls) w)
     met false = bounded
     met true = met-allowed (unify c (copied p.variables b))
-resume-allowed C N d (Catch c r p) x w all bounded = bounded
+resume-allowed C N d (Catch c r) p x w all bounded = bounded
 
 module _ (P : Program) where
   Claim : ℕ → Type 0
@@ -441,7 +452,7 @@ module _ (P : Program) where
   unfolding out CaseAllows
   out-bounded k h C N d holds (Choice ps) e lt all bounded = choice-bounded k h C N d holds ps e.0 e.1 lt all bounded
   out-bounded k h C N d holds (Mark l) e lt all bounded = mark-bounded C N l e.0 all bounded
-  out-bounded k h C N d holds (Handle c) e lt all bounded = returned-bounded k h C N d holds (resume c d e.0 e.1.local) e.1 lt (resume-allowed C N d c e.0 e.1.local all bounded)
+  out-bounded k h C N d holds (Handle x p) e lt all bounded = returned-bounded k h C N d holds (resume x p d e.0 e.1.local) e.1 lt (resume-allowed C N d x p e.0 e.1.local all bounded)
 
   outs-bounded : (k : ℕ) → Claim k → (C N : Levels) (d : ℕ) → Holds N d → (cs : List Case) (e : Ended) → left e.1 < k →
       CasesAllow C N d cs → Bounded (within C d cs) N e.0 → Bounded C N (outs (Visit P) d cs e).0
@@ -477,16 +488,14 @@ module _ (P : Program) where
   mark-out C N d l e is bounded = mark-bounded C N l e.0 is bounded
 
   walk-bounded : (k : ℕ) → Claim k → (C N : Levels) (es : List Element) (n d : ℕ) → Holds N d → (run : Run) → left run ≤ k → AllAllow C N es → Bounded C N (walk P (Visit P) es n d run).0
-  unfolding walk meet AllAllow Allows Bounded
+  unfolding walk meet AllAllow Allows GivesUp Bounded
   walk-bounded k h C N [] n d holds run le all = tt
   walk-bounded k h C N (Goal j t ∷ es) n d holds run le all = stepped-bounded k h C N d holds (select P j t d es n) (λ w. select-allowed C N d holds P j t es n w all.0 all.1) run run.steps le
-  walk-bounded k h C N (Commit l ∷ es) n d holds run le all = mark-out C N d l (walk P (Visit P) es n (suc d) run) all.0.0 (walk-bounded k h C N es n (suc d) (holds-deeper N d (suc d) (omega arith) holds) run le all.1)
-  walk-bounded k h C N (Never l ∷ es) n d holds run le all = all.0.0
-  walk-bounded k h C N (Until l ∷ es) n d holds run le all = walk-bounded k h C N es n d holds run le all.1
+  walk-bounded k h C N (Marker Commit l ∷ es) n d holds run le all = mark-out C N d l (walk P (Visit P) es n (suc d) run) all.0.0 (walk-bounded k h C N es n (suc d) (holds-deeper N d (suc d) (omega arith) holds) run le all.1)
+  walk-bounded k h C N (Marker Never l ∷ es) n d holds run le all = all.0.0
+  walk-bounded k h C N (Marker Until l ∷ es) n d holds run le all = walk-bounded k h C N es n d holds run le all.1
   walk-bounded k h C N (Raise b ∷ es) n d holds run le all = levels-in C N es all.1
-  walk-bounded k h C N (Look t ∷ es) n d holds run le all = asks-bounded k h C N d holds (λ a. answered P (Look t) a d es n) (λ a w. answered-allowed C N d holds P (Look t) a es n w all.1) _ run run.answers le
-  walk-bounded k h C N (Await q ∷ es) n d holds run le all = asks-bounded k h C N d holds (λ a. answered P (Await q) a d es n) (λ a w. answered-allowed C N d holds P (Await q) a es n w all.1) _ run run.answers le
-  walk-bounded k h C N (Halt i ∷ es) n d holds run le all = asks-bounded k h C N d holds (λ a. answered P (Halt i) a d es n) (λ a w. answered-allowed C N d holds P (Halt i) a es n w all.1) _ run run.answers le
+  walk-bounded k h C N (Asking q ∷ es) n d holds run le all = asks-bounded k h C N d holds (λ a. answered (Asking q) a d es n) (λ a w. answered-allowed C N d holds q a es n w all.1) (asked q) run run.answers le
 
   claims : (k : ℕ) → Claim k
   unfolding Claim

@@ -3,9 +3,11 @@ use Rattle.std.proofs.Common.{◌≡◌, ℕ, zero, suc, List, [], ◌∷◌, �
 use Rattle.plevent.specs.Search.{Answer}
 use Rattle.plprogram.specs.Program.{Program}
 use Rattle.plsearch.specs.Types.{Result, Fail, Element, Place, Case, Choice, Mark, Handle, Local, Move, Give, Go, Meeting, Select, Asks, End, Pass, Marked, Return, Keep, Again, Anew, Run}
-use Rattle.plsearch.specs.Table.{select, meet, answered, resume}
+use Rattle.plsearch.specs.Rows.{select, meet}
+use Rattle.plsearch.specs.Replies.{answered}
+use Rattle.plsearch.specs.Handlers.{resume}
 use Rattle.plsearch.specs.Engine.{Ended, Visitor, deeper, choice, returned, out, outs, moved, stepped, asks, met, walk, Visit}
-use Rattle.plsearch.specs.Machine.{Mode, At, Back, Machine, Rest, move, step, ask, meets, visits, choose, return, backs, turn_in, turn}
+use Rattle.plsearch.specs.Machines.Machine.{Mode, At, Back, Machine, Rest, move, step, ask, meets, visits, choose, return, backs, turn_in, turn}
 use Rattle.plsearch.proofs.Fuel.{Visit-walk}
 
 deeper-append : (cs cases : List Case) → deeper (cs ++ cases) 0 ≡ deeper cs (deeper cases 0)
@@ -43,7 +45,7 @@ unfolding Rest outs out
 Rest-backs P r run [] = refl
 Rest-backs P r run (Choice ps ∷ cases) = Rest-choose P cases run ps r
 Rest-backs P r run (Mark l ∷ cases) = refl
-Rest-backs P r run (Handle c ∷ cases) = Rest-return P cases run (resume c (deeper cases 0) r run.local)
+Rest-backs P r run (Handle h p ∷ cases) = Rest-return P cases run (resume h p (deeper cases 0) r run.local)
 
 Rest-meets : (P : Program) (cases : List Case) (e : Element) (es : List Element) (n : ℕ) (run : Run) (m : Meeting) →
     outs (Visit P) 0 cases (met P (Visit P) (walk P (Visit P) es n) e es n (deeper cases 0) run m) ≡ Rest P (meets P cases e es n run m)
@@ -54,7 +56,7 @@ Rest-meets P cases e es n run (Select k t) = step_keeps (select P k t (deeper ca
         outs (Visit P) 0 cases (stepped (Visit P) row (deeper cases 0) run n) ≡ Rest P (step cases row run n)
     step_keeps row zero = refl
     step_keeps row (suc n) = Rest-move P cases (record run { steps = n }) (row run.local)
-Rest-meets P cases e es n run (Asks q) = ask_keeps (λ a. answered P e a (deeper cases 0) es n) run.answers
+Rest-meets P cases e es n run (Asks q) = ask_keeps (λ a. answered e a (deeper cases 0) es n) run.answers
   where
     ask_keeps : (row : Answer → Local → Move) (xs : List Answer) →
         outs (Visit P) 0 cases (asks (Visit P) row q (deeper cases 0) run xs) ≡ Rest P (ask cases row q run xs)

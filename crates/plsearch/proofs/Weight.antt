@@ -1,5 +1,5 @@
 -- Each turn takes a step or an answer, or makes the machine lighter: so turns come to an end.
-use Rattle.std.proofs.Common.{◌≡◌, ℕ, zero, suc, ◌+◌, ◌≤◌, inl, inr, List, [], ◌∷◌, length, refl, ap, arith, Bool, true, false, Option, Some, None}
+use Rattle.std.proofs.Common.{◌≡◌, ℕ, zero, suc, ◌+◌, ◌≤◌, inl, inr, List, [], ◌∷◌, length, refl, ap, arith, Bool, true, false, if◌then◌else◌, Option, Some, None}
 use Rattle.plevent.specs.Search.{Item, Answer}
 use Rattle.plprogram.specs.Program.{Program}
 use Rattle.std.proofs.lemmas.List.{length-map}
@@ -8,10 +8,14 @@ use Rattle.plterm.specs.Variables.{variables, copied}
 use Rattle.plsubst.specs.Subst.{bind}
 use Rattle.plsubst.specs.Unify.{unify}
 use Rattle.plsearch.specs.Types.{Catch, Throw, Result, Fail, Element, Place, Case, Choice, Mark, Handle, Handler, Local, Move, Give, Go, Meeting, Select, Asks, End, Pass, Marked, Return, Keep, Again, Anew, Run}
-use Rattle.plsearch.specs.Table.{select, meet, answered, resume, has, Runnable, Runs, Raises, runnable, recovers, met_by, caught, bind_element, bind_goals}
+use Rattle.plsearch.specs.Lists.{bind_element, bind_goals}
+use Rattle.plsearch.specs.Running.{Runnable, Runs, Raises, runnable}
+use Rattle.plsearch.specs.Rows.{select, meet}
+use Rattle.plsearch.specs.Replies.{answered}
+use Rattle.plsearch.specs.Handlers.{has, recovers, met_by, resume}
 use Rattle.plsearch.specs.Engine.{left, deeper}
-use Rattle.plsearch.specs.Machine.{Mode, At, Back, Machine, move, step, ask, meets, visits, choose, return, backs, turn_in, turn}
-use Rattle.plsearch.specs.Weight.{place_weight, handler_weight, weight, Lighter}
+use Rattle.plsearch.specs.Machines.Machine.{Mode, At, Back, Machine, move, step, ask, meets, visits, choose, return, backs, turn_in, turn}
+use Rattle.plsearch.specs.Machines.Weight.{place_weight, weight, Lighter}
 
 abbrev return_weight : Return → ℕ
 return_weight (Keep r w) = 1
@@ -19,9 +23,9 @@ return_weight (Again p w) = place_weight p
 return_weight (Anew p w) = place_weight p + 1
 
 -- a handler weighs as much as what it may go on with
-resume-weight : (h : Handler) (d : ℕ) (r : Result) (w : Local) → return_weight (resume h d r w) ≤ handler_weight h
+resume-weight : (h : Handler) (p : Place) (d : ℕ) (r : Result) (w : Local) → return_weight (resume h p d r w) ≤ place_weight p + 3
 unfolding resume
-resume-weight (Catch c r p) d (Throw b ls) w = caught-weight (has d ls)
+resume-weight (Catch c r) p d (Throw b ls) w = go (has d ls)
   where
     recovers-weight : (x : Runnable) (es : List Element) (n : ℕ) → length es ≡ length p.goals → return_weight (recovers x d es n w) ≤ place_weight p + 3
     recovers-weight (Runs g) es n same = omega (arith, same)
@@ -31,10 +35,10 @@ resume-weight (Catch c r p) d (Throw b ls) w = caught-weight (has d ls)
     met-weight None = omega arith
     met-weight (Some σ) = recovers-weight (runnable (bind σ r)) (bind_goals σ p.goals) (p.variables + length (variables b)) (length-map p.goals (bind_element σ))
 
-    caught-weight : (x : Bool) → return_weight (caught x c r b ls p d w) ≤ place_weight p + 3
-    caught-weight false = omega arith
-    caught-weight true = met-weight (unify c (copied p.variables b))
-resume-weight (Catch c r p) d x w = omega arith
+    go : (x : Bool) → return_weight (if x then met_by (unify c (copied p.variables b)) r b ls p d w else Keep (Throw b ls) w) ≤ place_weight p + 3
+    go false = omega arith
+    go true = met-weight (unify c (copied p.variables b))
+resume-weight (Catch c r) p d x w = omega arith
 
 -- the machine at a goal list
 abbrev at_goals : Place → List Case → Run → Machine
@@ -64,7 +68,7 @@ lighter-meets : (P : Program) (cases : List Case) (e : Element) (es : List Eleme
     Lighter (at_goals (record { goals = e ∷ es; variables = n }) cases run) (meets P cases e es n run m)
 unfolding weight
 lighter-meets P cases e es n run (Select k t) = lighter-step cases (select P k t (deeper cases 0) es n) (record { goals = e ∷ es; variables = n }) run
-lighter-meets P cases e es n run (Asks q) = lighter-ask cases (λ a. answered P e a (deeper cases 0) es n) q (record { goals = e ∷ es; variables = n }) run
+lighter-meets P cases e es n run (Asks q) = lighter-ask cases (λ a. answered e a (deeper cases 0) es n) q (record { goals = e ∷ es; variables = n }) run
 lighter-meets P cases e es n run (End r w) = inr (refl, omega arith)
 lighter-meets P cases e es n run (Pass w) = inr (refl, omega arith)
 lighter-meets P cases e es n run (Marked l w) = inr (refl, omega arith)
@@ -76,12 +80,12 @@ lighter-choose cases run [] Fail = inr (refl, omega arith)
 lighter-choose cases run (p ∷ ps) r = inr (refl, omega arith)
 lighter-choose cases run [] r = inr (refl, omega arith)
 
-lighter-return : (cases : List Case) (run : Run) (r : Result) (h : Handler) (b : Return) → return_weight b ≤ handler_weight h →
-    Lighter (record { mode = Back r; cases = Handle h ∷ cases; run = run }) (return cases run b)
+lighter-return : (cases : List Case) (run : Run) (r : Result) (h : Handler) (p : Place) (b : Return) → return_weight b ≤ place_weight p + 3 →
+    Lighter (record { mode = Back r; cases = Handle h p ∷ cases; run = run }) (return cases run b)
 unfolding weight
-lighter-return cases run r h (Keep r' w) le = inr (refl, omega arith)
-lighter-return cases run r h (Again p w) le = inr (refl, omega arith)
-lighter-return cases run r h (Anew p w) le = inr (refl, omega arith)
+lighter-return cases run r h q (Keep r' w) le = inr (refl, omega arith)
+lighter-return cases run r h q (Again p w) le = inr (refl, omega arith)
+lighter-return cases run r h q (Anew p w) le = inr (refl, omega arith)
 
 lighter-mark : (P : Program) (cases : List Case) (run : Run) (r : Result) (l : ℕ) → Lighter (record { mode = Back r; cases = Mark l ∷ cases; run = run }) (backs r run (Mark l ∷ cases))
 unfolding weight
@@ -103,6 +107,6 @@ lighter-turn P m over = go m.mode m.cases refl refl
     go (Back r) [] is of = absurd (over r is of)
     go (Back r) (Choice ps ∷ cases) is of = lighter-choose cases m.run ps r
     go (Back r) (Mark l ∷ cases) is of = lighter-mark P cases m.run r l
-    go (Back r) (Handle h ∷ cases) is of = lighter-return cases m.run r h (resume h (deeper cases 0) r m.run.local) (resume-weight h (deeper cases 0) r m.run.local)
+    go (Back r) (Handle h p ∷ cases) is of = lighter-return cases m.run r h p (resume h p (deeper cases 0) r m.run.local) (resume-weight h p (deeper cases 0) r m.run.local)
 
 pub ruleset laws = (lighter-turn)

@@ -15,14 +15,17 @@ use Rattle.plevent.specs.declared.update.Update.TheVariants.{Last}
 use Rattle.plops.specs.declared.flag.Quotes.TheVariants.{Codes}
 use Rattle.plprogram.specs.declared.settings.Unknown.TheVariants as unknown
 use Rattle.plprogram.specs.Program.{Program}
+use Rattle.plnames.specs.Names.{rows}
 use Rattle.plsearch.specs.Errors.{pair}
-use Rattle.plsearch.specs.Table.{raised, row, select, meet, answered, resume}
+use Rattle.plsearch.specs.Rows.{raised, row, select, meet}
+use Rattle.plsearch.specs.Replies.{answered}
+use Rattle.plsearch.specs.Handlers.{resume}
 use Rattle.plsearch.specs.Engine.{choice, out, outs, moved, walk, visit_in, Visit}
 use Rattle.plsearch.specs.Search.{start_from, start_of, search_of}
 
 -- all that a search computes with
 pub all : ℕ
-unfolding bind occurs places differ unify_in unify living exists words others prefix_of infix_of postfix_of raised row select meet answered resume choice out outs moved walk visit_in Visit start_from start_of search_of
+unfolding rows bind occurs places differ unify_in unify living exists words others prefix_of infix_of postfix_of raised row select meet answered resume choice out outs moved walk visit_in Visit start_from start_of search_of
 all = 0
 
 abbrev name : List ℕ → Tree

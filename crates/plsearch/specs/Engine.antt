@@ -1,9 +1,11 @@
 -- The search, over the table's rows: it is the same whatever rows the table has.
-use Rattle.std.specs.Prelude.{ℕ, zero, suc, ◌+◌, Bool, true, false, List, [], ◌∷◌, length, nat_eq}
+use Rattle.std.specs.Prelude.{ℕ, zero, suc, ◌+◌, if◌then◌else◌, List, [], ◌∷◌, length, nat_eq}
 use Rattle.plevent.specs.Search.{Item, Answer}
 use Rattle.plprogram.specs.Program.{Program}
-use Rattle.plsearch.specs.Types.{Result, Stop, Fail, CutTo, Spent, Asking, Element, Place, Case, Choice, Mark, Handle, Local, Move, Give, Go, Meeting, Select, Asks, End, Pass, Marked, Return, Keep, Again, Anew, Run}
-use Rattle.plsearch.specs.Table.{select, meet, answered, resume}
+use Rattle.plsearch.specs.Types.{Result, Stop, Fail, CutTo, Spent, Awaits, Element, Place, Case, Choice, Mark, Handle, Local, Move, Give, Go, Meeting, Select, Asks, End, Pass, Marked, Return, Keep, Again, Anew, Run}
+use Rattle.plsearch.specs.Rows.{select, meet}
+use Rattle.plsearch.specs.Replies.{answered}
+use Rattle.plsearch.specs.Handlers.{resume}
 
 -- a visit's end, and what the thread then has
 abbrev pub Ended : Type 0
@@ -14,12 +16,8 @@ abbrev pub Visitor : Type 0
 Visitor = ℕ → Place → Run → Ended
 
 -- a cut to the level d ends there
-abbrev pub stop_cut_if : Bool → ℕ → Result
-stop_cut_if true l = Fail
-stop_cut_if false l = CutTo l
-
 abbrev pub stop_cut : ℕ → Result → Result
-stop_cut d (CutTo l) = stop_cut_if (nat_eq l d) l
+stop_cut d (CutTo l) = if nat_eq l d then Fail else CutTo l
 stop_cut d r = r
 
 -- behind a mark Fail is a cut to its level
@@ -43,7 +41,7 @@ unfoldable pub out : Visitor → ℕ → Case → Ended → Ended
 unfolding choice
 out next d (Choice ps) e = choice next d ps e.0 e.1
 out next d (Mark l) e = (mark l e.0, e.1)
-out next d (Handle h) e = returned next d (resume h d e.0 e.1.local) e.1
+out next d (Handle h p) e = returned next d (resume h p d e.0 e.1.local) e.1
 
 -- the depth inside of some cases that are open at the depth d
 abbrev pub deeper : List Case → ℕ → ℕ
@@ -68,13 +66,13 @@ stepped next row d run (suc n) = moved next d (row run.local) (record run { step
 
 -- an item takes an answer
 abbrev pub asks : Visitor → (Answer → Local → Move) → Item → ℕ → Run → List Answer → Ended
-asks next row q d run [] = (Asking q, run)
+asks next row q d run [] = (Awaits q, run)
 asks next row q d run (a ∷ more) = moved next d (row a run.local) (record run { answers = more })
 
 -- the first of a list, where `on` visits what is behind it
 abbrev pub met : Program → Visitor → (ℕ → Run → Ended) → Element → List Element → ℕ → ℕ → Run → Meeting → Ended
 met P next on e es n d run (Select k t) = stepped next (select P k t d es n) d run run.steps
-met P next on e es n d run (Asks q) = asks next (λ a. answered P e a d es n) q d run run.answers
+met P next on e es n d run (Asks q) = asks next (λ a. answered e a d es n) q d run run.answers
 met P next on e es n d run (End r w) = (r, record run { local = w })
 met P next on e es n d run (Pass w) = on d (record run { local = w })
 met P next on e es n d run (Marked l w) = out next d (Mark l) (on (suc d) (record run { local = w }))

@@ -5,9 +5,9 @@ use Rattle.plevent.specs.declared.request.ThreadEnd.{ThreadEnd}
 use Rattle.plprogram.specs.Program.{Program}
 use Rattle.plsearch.specs.Types.{Result, Place, Case, Choice, Mark, Run}
 use Rattle.plsearch.specs.Engine.{walk, deeper, Visit}
-use Rattle.plsearch.specs.Machine.{Machine, At, Back, Rest, turn}
-use Rattle.plsearch.specs.Levels.{AreAtMost, emptied}
-use Rattle.plsearch.specs.Weight.{Lighter}
+use Rattle.plsearch.specs.Machines.Machine.{Machine, At, Back, Rest, turn}
+use Rattle.plsearch.specs.Machines.Levels.{AreAtMost, emptied}
+use Rattle.plsearch.specs.Machines.Weight.{Lighter}
 use Rattle.plsearch.specs.Search.{search_of}
 
 -- a list is visited by one walk, and what comes behind a step or an answer by the search again

@@ -1,10 +1,13 @@
 pub mod Types
 pub mod Errors
-pub mod Table
+pub mod Lists
+pub mod Forms
+pub mod Running
+pub mod Rows
+pub mod Replies
+pub mod Handlers
 pub mod Engine
-pub mod Machine
-pub mod Weight
 pub mod Search
 pub mod Solving
+pub mod Machines
 pub mod Laws
-pub mod Levels

@@ -5,7 +5,7 @@ use Rattle.plterm.specs.Variables.{copied, variables}
 use Rattle.plevent.specs.Search.{Answer, Next, Wants, Finishes, Ceases, Ending, Search}
 use Rattle.plevent.specs.declared.request.ThreadEnd.TheVariants.{True, False, Exception, Budget, Halt}
 use Rattle.plprogram.specs.Program.{Program}
-use Rattle.plsearch.specs.Types.{Result, Stop, Fail, CutTo, Throw, Halted, Spent, Asking, Ceased, Goal, Place, Run}
+use Rattle.plsearch.specs.Types.{Result, Stop, Fail, CutTo, Throw, Halted, Spent, Awaits, Stopped, Unfit, Goal, Place, Run}
 use Rattle.plsearch.specs.Engine.{Ended, Visit}
 
 abbrev pub once : Tree → Tree
@@ -25,7 +25,8 @@ unfoldable pub start_of : Program → Place
 unfolding start_from
 start_of P = start_from P.goals
 
--- at the very outside a cut gives up all choices, as failure does; an answer that does not fit what was asked does not occur in a run
+-- at the very outside a cut gives up all choices, as failure does; a search whose run has stopped goes no further, nor does one after an
+-- answer that does not fit what was asked
 abbrev pub next_of : Result → Next
 next_of Stop = Finishes True
 next_of Fail = Finishes False
@@ -33,18 +34,19 @@ next_of (CutTo l) = Finishes False
 next_of (Throw b ls) = Finishes (Exception b)
 next_of (Halted n) = Finishes (Halt n)
 next_of Spent = Finishes Budget
-next_of (Asking q) = Wants q
-next_of Ceased = Ceases
+next_of (Awaits q) = Wants q
+next_of Stopped = Ceases
+next_of Unfit = Ceases
 
 -- the end of a visit that began with so many steps
 abbrev pub ending_of : ℕ → Ended → Ending
 ending_of steps e = record { next = next_of e.0; used = steps - e.1.steps; out = e.1.local.out }
 
--- so many steps and these answers are left, and nothing was written
-abbrev pub from_start : ℕ → List Answer → Run
-from_start steps answers = record { steps = steps; answers = answers; local = record { out = [] } }
+-- so many steps and these answers are left, nothing was written, and the operators and flags are the program's
+abbrev pub from_start : Program → ℕ → List Answer → Run
+from_start P steps answers = record { steps = steps; answers = answers; local = record { out = []; settings = P.settings } }
 
 -- main's search, which takes no more steps than the limit
 unfoldable pub search_of : Program → ℕ → Search
 unfolding Visit start_of
-search_of P limit n answers = ending_of (min n limit) (Visit P 0 (start_of P) (from_start (min n limit) answers))
+search_of P limit n answers = ending_of (min n limit) (Visit P 0 (start_of P) (from_start P (min n limit) answers))

@@ -3,9 +3,11 @@ use Rattle.std.specs.Prelude.{ℕ, List}
 use Rattle.plterm.specs.Tree.{Tree}
 use Rattle.plevent.specs.Search.{Item, Answer}
 use Rattle.plevent.specs.declared.request.Request.{Request}
+use Rattle.plprogram.specs.declared.settings.Settings.{Settings}
 
 -- how a visit ends: its list is done; it has no further solution; the choices down to a level are given up; a ball is thrown,
--- with the levels of the markers behind it; the run is ended; no step is left; no answer is left for what is asked; an answer does not fit what was asked
+-- with the levels of the markers behind it; the run is ended with a number; no step is left; no answer is left for what is asked;
+-- the run has stopped; an answer does not fit what was asked
 pub data Result : Type 0 where
   Stop : Result
   Fail : Result
@@ -13,43 +15,55 @@ pub data Result : Type 0 where
   Throw : Tree → List ℕ → Result
   Halted : ℕ → Result
   Spent : Result
-  Asking : Item → Result
-  Ceased : Result
+  Awaits : Item → Result
+  Stopped : Result
+  Unfit : Result
 
--- what a goal list holds: goals, each with its cut level; markers, each with the level of the case that put it: Commit, behind which
--- the choices down to it are given up, Never, where they are given up and the list fails, and Until, up to which a catcher is active;
--- a ball that is thrown here; and what asks:
--- Look, which waits for the view in which a goal's clauses are looked up, Await, which waits for the reply to a request, and Halt,
--- which asks that the run is ended with a number
+-- what a marker is for: Commit, behind which the choices down to its level are given up, Never, where they are given up and the list
+-- fails, and Until, up to which the handler of its level is active
+pub data Kind : Type 0 where
+  Commit : Kind
+  Never : Kind
+  Until : Kind
+
+-- what follows once a request is done: the list goes on, or the run is ended with a number
+pub data Then : Type 0 where
+  GoesOn : Then
+  Ends : ℕ → Then
+
+-- what a list asks: the view in which the clauses of a goal are looked up, or a request
+pub data Question : Type 0 where
+  Look : Tree → Question
+  Await : Request → Then → Question
+
+-- what a goal list holds: goals, each with its cut level; markers, each with the level of the case that put it;
+-- a ball that is thrown here; and what is asked here
 pub data Element : Type 0 where
   Goal : ℕ → Tree → Element
-  Commit : ℕ → Element
-  Never : ℕ → Element
-  Until : ℕ → Element
+  Marker : Kind → ℕ → Element
   Raise : Tree → Element
-  Look : Tree → Element
-  Await : Request → Element
-  Halt : ℕ → Element
+  Asking : Question → Element
 
 -- what is left to do: a goal list, its terms with all that stands for their variables put in, and how many variables are in use
 pub record Place : Type 0 where
   pub goals : List Element
   pub variables : ℕ
 
--- what an open case does besides choosing and marking: a catcher and its recovery, with the place behind the goal that it is for
+-- what an open case does besides choosing and marking: a catcher and its recovery
 pub data Handler : Type 0 where
-  Catch : Tree → Tree → Place → Handler
+  Catch : Tree → Tree → Handler
 
--- an open case, outside of the list that is visited now: the places still to try, a mark, behind which Fail is a cut to its level, or a handler.
--- The level of a case is the number of cases that are open outside of it
+-- an open case, outside of the list that is visited now: the places still to try, a mark, behind which Fail is a cut to its level, or a
+-- handler, with the place behind the goal that it is for. The level of a case is the number of cases that are open outside of it
 pub data Case : Type 0 where
   Choice : List Place → Case
   Mark : ℕ → Case
-  Handle : Handler → Case
+  Handle : Handler → Place → Case
 
--- what a thread has besides its steps and answers: its output
+-- what a thread has besides its steps and answers: its output, and its operators and flags
 pub record Local : Type 0 where
   pub out : List ℕ
+  pub settings : Settings
 
 -- what a row of the table says: the result, or cases to open, the innermost first, and the list to visit in them
 pub data Move : Type 0 where

@@ -1,9 +1,10 @@
 //! What a Prolog search is: the depth-first search of a program, defined over the answers that its
 //! thread takes from the journal, and the laws of that definition.
 //!
-//! It has no code. `specs/Table.antt` has a row for each form of goal, `specs/Engine.antt` the
-//! search over these rows, `specs/Machine.antt` the same search one row at a time, and
-//! `specs/Search.antt` main's search as the journal sees it.
+//! It has no code. `specs/Forms.antt` says what a goal is, `specs/Rows.antt` has a row for each form of goal and each element of a
+//! list, `specs/Replies.antt` what an element that asked makes of its answer, and `specs/Handlers.antt` what a handler makes of a
+//! result. `specs/Engine.antt` is the search over these rows, and `specs/Search.antt` main's search as the journal sees it.
+//! `specs/Machines` does the same search one row at a time, for the laws and for proofs.
 #![tactic(auto)]
 
 ghost use Rattle.plsearch.specs.Laws.{VisitsByWalks, TurnsKeepRest, TurnsEnd, EndsIgnoreAnswers, CutsEmpty};

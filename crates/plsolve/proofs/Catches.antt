@@ -8,9 +8,12 @@ use Rattle.plheap.specs.Store.{term}
 use Rattle.plprogram.specs.Program.{Program, clauses_for}
 use Rattle.plsearch.specs.Types.{Goal, Case, Throw}
 use Rattle.plsearch.specs.Errors.{error_term}
-use Rattle.plsearch.specs.Table.{Runs, Raises, runnable, recovers, levels, has, catch_3, catching, bind_goals}
+use Rattle.plsearch.specs.Lists.{levels, bind_goals}
+use Rattle.plsearch.specs.Running.{Runs, Raises, runnable}
+use Rattle.plsearch.specs.Rows.{catch_3, catching}
+use Rattle.plsearch.specs.Handlers.{recovers, has}
 use Rattle.plsearch.specs.Engine.{deeper}
-use Rattle.plsearch.specs.Machine.{At, Back, return}
+use Rattle.plsearch.specs.Machines.Machine.{At, Back, return}
 use Rattle.plframe.specs.declared.frame.Catcher.{Catcher}
 use Rattle.plframe.specs.declared.frame.Closed.{Closed}
 use Rattle.plframe.specs.declared.frame.Closed.TheVariants as closes

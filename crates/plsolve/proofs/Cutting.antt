@@ -2,9 +2,9 @@
 use Rattle.std.proofs.Common.{◌≡◌, ℕ, ◌+◌, ◌≤◌, ◌⊎◌, inl, inr, List, [], ◌∷◌, ◌++◌, refl, sym, ap, ◌∙◌, arith}
 use Rattle.plprogram.specs.Program.{Program, clauses_for}
 use Rattle.plsearch.specs.Types.{Go, Place, Case, Choice, Mark, Handle, Catch, Run}
-use Rattle.plsearch.specs.Levels.{AreAtMost, emptied}
-use Rattle.plsearch.specs.Machine.{At, Rest}
-use Rattle.plsearch.specs.Weight.{case_weight, cases_weight}
+use Rattle.plsearch.specs.Machines.Levels.{AreAtMost, emptied}
+use Rattle.plsearch.specs.Machines.Machine.{At, Rest}
+use Rattle.plsearch.specs.Machines.Weight.{case_weight, cases_weight}
 use Rattle.plsearch.specs.Search.{ending_of}
 use Rattle.plsearch.proofs.Cuts.{cuts-empty}
 use Rattle.plframe.specs.Places.{Statics}

@@ -6,7 +6,7 @@ use Rattle.plheap.specs.declared.cell.Cell.{Cell}
 use Rattle.plheap.specs.declared.cell.Cell.TheVariants as cells
 use Rattle.plheap.specs.Store.{Store, term, terms, shown, Fits, IsEnd}
 use Rattle.plsolve.specs.Controls.{is_then}
-use Rattle.plsearch.specs.Table.{Either, Then, CallWith, Call, control, control_of, is_call, by_arity, either}
+use Rattle.plsearch.specs.Forms.{Either, CallWith, Call, either}
 use Rattle.plclause.specs.Clause.{Clause}
 use Rattle.plframe.specs.declared.frame.Item.TheVariants.{Goal as GoalAt, Commit as CommitTo, Never as NeverTo, Until as UntilTo, Look as LookAt, Await as AwaitFor, Halt as HaltWith}
 use Rattle.plframe.specs.declared.frame.Link.{Link}

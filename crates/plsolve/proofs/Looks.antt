@@ -12,7 +12,8 @@ use Rattle.plstore.specs.Kept.{Kept, keep, nothing, is_there, walk}
 use Rattle.plstore.specs.Rising.{Rises}
 use Rattle.plstore.proofs.Whole.{walk-is, there-is}
 use Rattle.plsearch.specs.Types.{Element}
-use Rattle.plsearch.specs.Table.{missing, walk_if, walk_over, call}
+use Rattle.plsearch.specs.Rows.{call}
+use Rattle.plsearch.specs.Replies.{missing, walk_over}
 use Rattle.plsolve.specs.declared.progress.Progress.{Progress}
 use Rattle.plsolve.specs.Solver.{Moved, local_of}
 

@@ -10,9 +10,11 @@ use Rattle.plprogram.specs.Program.{Program, clauses_for}
 use Rattle.plsearch.specs.Types.{Throw, Raise, Element, Place, Case, Choice, Local, Move, Give, Go, Run}
 use Rattle.plsearch.specs.Errors.{error_term, instantiation_error}
 use Rattle.plsubst.specs.Unify.{unify}
-use Rattle.plsearch.specs.Table.{meet, raised, levels, call, choose, unified, branch, catching, thrown, throw_1, Runnable, run}
+use Rattle.plsearch.specs.Lists.{levels}
+use Rattle.plsearch.specs.Running.{Runnable}
+use Rattle.plsearch.specs.Rows.{meet, raised, call, choose, branch, catching, thrown, throw_1, run}
 use Rattle.plsearch.specs.Engine.{deeper, out}
-use Rattle.plsearch.specs.Machine.{At, Back, Machine, Rest, move, turn}
+use Rattle.plsearch.specs.Machines.Machine.{At, Back, Machine, Rest, move, turn}
 use Rattle.plsearch.proofs.Turns.{Rest-turn}
 use Rattle.plsearch.specs.Search.{ending_of}
 use Rattle.plframe.specs.declared.frame.Source.{Source}

@@ -8,10 +8,13 @@ use Rattle.plterm.specs.Tree.{Tree}
 use Rattle.plterm.specs.Variables.{copied, variables}
 use Rattle.plsubst.specs.Subst.{bind}
 use Rattle.plsubst.specs.Unify.{unify}
-use Rattle.plsearch.specs.Table.{select, meet, resume, has, catching, caught, met_by, recovers, runnable, bind_goals}
+use Rattle.plsearch.specs.Lists.{bind_goals}
+use Rattle.plsearch.specs.Running.{runnable}
+use Rattle.plsearch.specs.Rows.{select, meet, catching}
+use Rattle.plsearch.specs.Handlers.{resume, has, met_by, recovers}
 use Rattle.plsearch.specs.Engine.{deeper, mark, stop_cut_if}
-use Rattle.plsearch.specs.Machine.{At, Back, Machine, Rest, return, turn, step}
-use Rattle.plsearch.specs.Weight.{weight, Lighter}
+use Rattle.plsearch.specs.Machines.Machine.{At, Back, Machine, Rest, return, turn, step}
+use Rattle.plsearch.specs.Machines.Weight.{weight, Lighter}
 use Rattle.plsearch.proofs.Turns.{Rest-turn}
 use Rattle.plsearch.proofs.Weight.{lighter-turn}
 use Rattle.plframe.specs.Places.{element, list_at}

@@ -14,10 +14,12 @@ use Rattle.plevent.specs.declared.update.Update.{Update}
 use Rattle.plevent.specs.declared.update.Update.TheVariants.{Last}
 use Rattle.plprogram.specs.Program.{Program, clauses_for}
 use Rattle.plsearch.specs.Types.{Asking, Element, Goal, Look, Await, Halt, Place, Case, Choice, Mark, Handle, Catch, Local, Move, Run, Asks}
-use Rattle.plsearch.specs.Table.{select, meet, answered, resume, walk_over}
+use Rattle.plsearch.specs.Rows.{select, meet}
+use Rattle.plsearch.specs.Replies.{answered, walk_over}
+use Rattle.plsearch.specs.Handlers.{resume}
 use Rattle.plsearch.specs.Engine.{left, choice, out, outs, Visit}
-use Rattle.plsearch.specs.Machine.{At, Back, Rest, move, turn, meets}
-use Rattle.plsearch.specs.Weight.{weight}
+use Rattle.plsearch.specs.Machines.Machine.{At, Back, Rest, move, turn, meets}
+use Rattle.plsearch.specs.Machines.Weight.{weight}
 use Rattle.plsearch.specs.Search.{ending_of, next_of}
 use Rattle.plsearch.specs.Solving.{Goes, TakesOne, StandsAt, EndsAt}
 use Rattle.plsearch.proofs.Turns.{Rest-turn}

@@ -7,7 +7,7 @@ use Rattle.plheap.specs.Store.{term}
 use Rattle.plprogram.specs.Program.{Program, clauses_for}
 use Rattle.plsearch.specs.Types.{Goal}
 use Rattle.plsearch.specs.Engine.{outs}
-use Rattle.plsearch.specs.Machine.{Rest}
+use Rattle.plsearch.specs.Machines.Machine.{Rest}
 use Rattle.plsearch.specs.Search.{once, start_from, start_of, search_of, ending_of}
 use Rattle.plsearch.specs.Solving.{Begins}
 use Rattle.plframe.specs.Places.{element, AreIn}

@@ -1,7 +1,7 @@
 -- The predicates whose errors a solver raises.
 use Rattle.std.specs.Prelude.{◌≤◌}
 use Rattle.plterm.specs.declared.indicator.Indicator.{Indicator}
-use Rattle.plsearch.specs.Table.{once_1, not_1, catch_3, throw_1, call_with, assertz_1, halt_1}
+use Rattle.plsearch.specs.Rows.{once_1, not_1, catch_3, throw_1, call_with, assertz_1, halt_1}
 use Rattle.plsolve.specs.declared.predicate.Predicate.{Predicate}
 use Rattle.plsolve.specs.declared.predicate.Predicate.TheVariants.{Once, Not, Catch, Throw, CallWith, AddLast, Halt}
 

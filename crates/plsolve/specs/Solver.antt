@@ -4,7 +4,10 @@ use Rattle.plterm.specs.Tree.{Tree, var, int, atom, compound}
 use Rattle.plterm.specs.Variables.{copied, variables}
 use Rattle.plclause.specs.Clause.{Clause}
 use Rattle.plheap.specs.Store.{term}
-use Rattle.plsearch.specs.Table.{Runnable, Runs, Raises, runnable, has, levels, catch_3, halt_1, raised, recovers}
+use Rattle.plsearch.specs.Lists.{levels}
+use Rattle.plsearch.specs.Running.{Runnable, Runs, Raises, runnable}
+use Rattle.plsearch.specs.Rows.{catch_3, halt_1, raised}
+use Rattle.plsearch.specs.Handlers.{has, recovers}
 use Rattle.plsearch.specs.Errors.{error_term}
 use Rattle.plsearch.specs.Types.{Goal as GoalOf, Halt as HaltOf, Element, Go}
 use Rattle.plevent.specs.Search.{Answer, Ending, Search}
@@ -16,8 +19,8 @@ use Rattle.plevent.specs.declared.update.Update.TheVariants.{Last}
 use Rattle.plprogram.specs.Program.{Program, clauses_for}
 use Rattle.plsearch.specs.Types.{Result, Stop, Fail, CutTo, Throw, Halted, Spent, Case, Local, Move}
 use Rattle.plsearch.specs.Engine.{deeper}
-use Rattle.plsearch.specs.Machine.{Mode, At, Back, Machine, Rest, move, return}
-use Rattle.plsearch.specs.Weight.{weight}
+use Rattle.plsearch.specs.Machines.Machine.{Mode, At, Back, Machine, Rest, move, return}
+use Rattle.plsearch.specs.Machines.Weight.{weight}
 use Rattle.plsearch.specs.Solving.{Goes}
 use Rattle.plsearch.specs.Search.{ending_of, once, start_from}
 use Rattle.plframe.specs.Places.{Statics}

@@ -10,7 +10,7 @@ ghost use Rattle.plprogram.specs.Program.{Program as Given, clauses_for};
 ghost use Rattle.plstore.specs.Kept.{keep, nothing};
 ghost use Rattle.plstore.specs.Rising.{Rises};
 ghost use Rattle.plsearch.specs.Engine.{deeper};
-ghost use Rattle.plsearch.specs.Table.{walk_over, missing};
+ghost use Rattle.plsearch.specs.Replies.{walk_over, missing};
 ghost use Rattle.plsearch.specs.Search.{search_of, next_of};
 ghost use Rattle.plsearch.specs.Solving.{Begins, Goes, TakesOne};
 ghost use Rattle.plframe.specs.Places.{Statics};

@@ -1,5 +1,5 @@
 //! What a name with an arity is (plnames).
-use plnames::fixed::is_fixed;
+use plnames::table::NameTable;
 use plterm::indicator::Indicator;
 use plterm::name::Name;
 use std::test::Fail;
@@ -8,6 +8,7 @@ use std::test::Fail;
 #[test]
 fn fixed_procedures(rt: HostRuntime) -> Result<(), Fail> {
     let alloc = rt.alloc();
+    let names = NameTable::new(alloc)?;
     let table = [
         ("true", 0, true),
         (",", 2, true),
@@ -33,7 +34,7 @@ fn fixed_procedures(rt: HostRuntime) -> Result<(), Fail> {
             name: Name::new(alloc, name)?,
             arity,
         };
-        assert_eq!(rt; is_fixed(&indicator), wanted, "{name}");
+        assert_eq!(rt; names.is_fixed(&indicator), wanted, "{name}");
     }
     Ok(())
 }

@@ -9,7 +9,7 @@ pub returns-clause-says : goal.returns-clause-says
 returns-clause-says c =
     let h = c.in_ok-history.history in
     let steps = c.args.steps in
-    let run : IsRunOf c.in_ok-program.program steps h = record { legal = c.in_ok-history.ensures.legal; over = c.in_ok-history.ensures.over; each = c.in_ok-history.ensures.each; follow = c.in_ok-history.ensures.follow } in
+    let run : IsRunOf c.in_ok-program.program steps h = record { legal = c.in_ok-history.ensures.legal; workers = c.in_ok-history.ensures.worker; over = c.in_ok-history.ensures.over; each = c.in_ok-history.ensures.each; follow = c.in_ok-history.ensures.follow } in
     record {
       output = report_text iso_table h;
       makes = subst (Makes c.args.text.now (Run steps c.args.goal) (Some h) (report_text iso_table h)) (sym c.status_of.ensures)

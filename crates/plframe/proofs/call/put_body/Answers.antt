@@ -1,5 +1,5 @@
 use Rattle.std.proofs.Common.{◌≡◌, false, sym, ◌∙◌}
-use Rattle.plsearch.specs.Table.{is_true}
+use Rattle.plsearch.specs.Rows.{is_true}
 use Rattle.plframe.proofs.Calling.{puts-one}
 use Rattle.plframe.proofs.call.put_body.Goals as goal
 

@@ -2,8 +2,8 @@ use Rattle.std.proofs.Common.{ap, ◌∙◌, ◌++◌, ◌∷◌, [], arith, ref
 use Rattle.plframe.specs.Places.{alternatives, branch_place}
 use Rattle.plframe.specs.State.{cases_of}
 use Rattle.plsearch.specs.Engine.{deeper}
-use Rattle.plframe.specs.declared.frame.Frame.TheVariants.{Plain, Barrier, Call, Branch as BranchOf, Catch as CatchOf}
-use Rattle.plframe.proofs.Stacks.{inside, popped-cases, no-cases, empty_is, has-call, has-branch, has-catch, closed-plain, closed-last, popped-frames}
+use Rattle.plframe.specs.declared.frame.Frame.TheVariants.{Plain, Barrier, Call, Branch as BranchOf, Handle as HandleOf}
+use Rattle.plframe.proofs.Stacks.{inside, popped-cases, no-cases, empty_is, has-call, has-branch, has-handler, closed-plain, closed-last, popped-frames}
 use Rattle.plframe.proofs.stack.Stack.close.Goals as goal
 
 pub returns-in-None-clause-none : goal.returns-in-None-clause-none
@@ -46,12 +46,13 @@ returns-clause-some c = λ statics.
     let some = (popped-frames (inside c.self.inside) c.self.inside.depth c.pop.new.self.items (Plain c.in-Some-Plain.n) e c.self.invariant).0 in
     rw (← c.self.view_is) ([], closed-last statics (inside c.self.inside) c.pop.new.self.items c.in-Some-Plain.n e (omega (arith, some, c.if-n-gt1.false)), λ not none. refl)
 
-pub returns-in-Some-Catch-clause-some : goal.returns-in-Some-Catch-clause-some
-returns-in-Some-Catch-clause-some c = λ statics.
-    let e = c.in-Some-Catch.ensures.items ∙ ap (λ f. c.pop.new.self.items ++ f ∷ []) c.in-Some-Catch.field-0-is in
-    let k = c.in-Some-Catch.field-0-0 in
+pub returns-in-Some-Handle-clause-some : goal.returns-in-Some-Handle-clause-some
+returns-in-Some-Handle-clause-some c = λ statics.
+    let e = c.in-Some-Handle.ensures.items ∙ ap (λ f. c.pop.new.self.items ++ f ∷ []) c.in-Some-Handle.field-0-is in
+    let k = c.in-Some-Handle.field-0-0 in
     rw (← c.self.view_is) (
-      has-catch (inside c.self.inside) c.pop.new.self.items k e,
+      has-handler (inside c.self.inside) c.pop.new.self.items k e,
       _,
-      popped-cases statics (inside c.self.inside) c.pop.new.self.items (CatchOf k) e,
+      _,
+      popped-cases statics (inside c.self.inside) c.pop.new.self.items (HandleOf k) e,
     )

@@ -1,5 +1,5 @@
 use Rattle.std.proofs.Common.{◌≡◌, arith, le_trans}
-use Rattle.plsearch.specs.Table.{levels}
+use Rattle.plsearch.specs.Lists.{levels}
 use Rattle.plframe.specs.State.{goals_of}
 use Rattle.plframe.proofs.Stacks.{inside}
 use Rattle.plframe.proofs.Marking.{next-there, found-next, found-all}

@@ -1,5 +1,5 @@
 use Rattle.std.proofs.Common.{◌≡◌, ◌≤◌, ◌++◌, length}
-use Rattle.plsearch.specs.Table.{levels}
+use Rattle.plsearch.specs.Lists.{levels}
 use Rattle.plframe.specs.State.{goals_of}
 use Rattle.plframe.proofs.stack.Stack.levels.Given as goal
 

@@ -1,5 +1,6 @@
 use Rattle.std.proofs.Common.{◌≡◌, ◌+◌, refl, ap, sym, ◌∙◌, suc, arith}
-use Rattle.plsearch.specs.Table.{call_with, called}
+use Rattle.plsearch.specs.Running.{called}
+use Rattle.plsearch.specs.Rows.{call_with}
 use Rattle.plheap.specs.Store.{term, terms}
 use Rattle.plprogram.specs.Program.{clauses_for}
 use Rattle.plsolve.proofs.Moves.{Grown, grown-goals, grown-stays, moved-grown, run-same, stays-trans, on_err, on_ok_map, on_err_map}

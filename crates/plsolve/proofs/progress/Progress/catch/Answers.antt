@@ -1,7 +1,7 @@
 use Rattle.std.proofs.Common.{◌≡◌, ◌-◌, true, ap, ◌∙◌, subst, refl}
 use Rattle.plprogram.specs.Program.{clauses_for}
 use Rattle.plsearch.specs.Engine.{deeper}
-use Rattle.plsearch.specs.Table.{has}
+use Rattle.plsearch.specs.Handlers.{has}
 use Rattle.plframe.specs.State.{cases_of}
 use Rattle.plsolve.specs.declared.progress.Outcome.TheVariants as outcomes
 use Rattle.plsolve.specs.declared.progress.Mode.TheVariants as modes

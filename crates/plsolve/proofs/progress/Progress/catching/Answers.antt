@@ -1,6 +1,7 @@
 use Rattle.std.proofs.Common.{◌≡◌, refl, ap, sym, ◌∙◌, ◌∷◌, suc, arith}
 use Rattle.plsearch.specs.Types.{Until}
-use Rattle.plsearch.specs.Table.{catch_3, runnable}
+use Rattle.plsearch.specs.Running.{runnable}
+use Rattle.plsearch.specs.Rows.{catch_3}
 use Rattle.plheap.specs.Store.{term}
 use Rattle.plframe.specs.State.{goals_of}
 use Rattle.plprogram.specs.Program.{clauses_for}

@@ -1,6 +1,6 @@
 use Rattle.std.proofs.Common.{refl, ap₂, ◌∷◌, []}
 use Rattle.plsearch.specs.Types.{Goal}
-use Rattle.plsearch.specs.Table.{branch}
+use Rattle.plsearch.specs.Rows.{branch}
 use Rattle.plheap.specs.Store.{term}
 use Rattle.plsolve.proofs.Moves.{grown-link, grown-goals, grown-stays, moved-grown, go-same, stays-trans, on_err, on_ok_map, on_err_map}
 use Rattle.plsolve.proofs.progress.Progress.either.Goals as goal

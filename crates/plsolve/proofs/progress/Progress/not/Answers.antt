@@ -1,6 +1,7 @@
 use Rattle.std.proofs.Common.{◌≡◌, refl, ap, ap₂, sym, ◌∙◌, ◌∷◌, [], suc, arith}
 use Rattle.plsearch.specs.Types.{Never}
-use Rattle.plsearch.specs.Table.{not_1, runnable, branch}
+use Rattle.plsearch.specs.Running.{runnable}
+use Rattle.plsearch.specs.Rows.{not_1, branch}
 use Rattle.plheap.specs.Store.{term}
 use Rattle.plframe.specs.State.{goals_of}
 use Rattle.plprogram.specs.Program.{clauses_for}

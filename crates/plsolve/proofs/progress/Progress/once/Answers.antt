@@ -1,6 +1,7 @@
 use Rattle.std.proofs.Common.{refl, ap, sym, ◌∙◌, ◌∷◌}
 use Rattle.plsearch.specs.Types.{Commit}
-use Rattle.plsearch.specs.Table.{once_1, runnable}
+use Rattle.plsearch.specs.Running.{runnable}
+use Rattle.plsearch.specs.Rows.{once_1}
 use Rattle.plheap.specs.Store.{term}
 use Rattle.plframe.specs.State.{goals_of}
 use Rattle.plprogram.specs.Program.{clauses_for}

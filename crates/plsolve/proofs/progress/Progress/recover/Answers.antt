@@ -1,5 +1,5 @@
 use Rattle.std.proofs.Common.{◌≡◌, ap, sym, ◌∙◌, refl, subst}
-use Rattle.plsearch.specs.Table.{runnable, Raises, Runs}
+use Rattle.plsearch.specs.Running.{runnable, Raises, Runs}
 use Rattle.plheap.specs.Store.{term}
 use Rattle.plframe.proofs.Stacks.{catch-stays}
 use Rattle.plsolve.specs.declared.progress.Progress.{Progress}

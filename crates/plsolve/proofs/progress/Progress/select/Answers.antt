@@ -1,6 +1,6 @@
 use Rattle.std.proofs.Common.{ap, refl, suc}
 use Rattle.plsolve.proofs.Heading.{terms-length}
-use Rattle.plsearch.specs.Table.{row}
+use Rattle.plsearch.specs.Rows.{row}
 use Rattle.plprogram.specs.Program.{clauses_for}
 use Rattle.plframe.specs.State.{cases_of}
 use Rattle.plframe.proofs.Stacks.{extends-same}

@@ -1,5 +1,5 @@
 use Rattle.std.proofs.Common.{ap}
-use Rattle.plsearch.specs.Table.{row, select}
+use Rattle.plsearch.specs.Rows.{row, select}
 use Rattle.plsolve.specs.Controls.{shown_control}
 use Rattle.plsolve.specs.Solver.{Stepped, depth_of, local_of}
 use Rattle.plframe.specs.State.{goals_of}

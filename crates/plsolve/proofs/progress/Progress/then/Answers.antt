@@ -3,7 +3,7 @@ use Rattle.std.specs.Prelude.{codes}
 use Rattle.plterm.specs.Tree.{atom}
 use Rattle.plsubst.specs.Subst.{bind, shift}
 use Rattle.plsearch.specs.Types.{Goal, Commit, Choice}
-use Rattle.plsearch.specs.Table.{branch}
+use Rattle.plsearch.specs.Rows.{branch}
 use Rattle.plheap.specs.Store.{term}
 use Rattle.plsolve.proofs.Moves.{Grown, grown-goals, grown-depth, grown-stays, moved-grown, go-same, stays-trans, on_ok_map, on_err_map}
 use Rattle.plsolve.proofs.progress.Progress.then.Goals as goal

@@ -1,6 +1,6 @@
 use Rattle.std.proofs.Common.{◌≡◌, arith, refl, suc, ap, ap₂, ◌∙◌, ◌∷◌, []}
 use Rattle.plsearch.specs.Types.{Goal, Commit, Choice}
-use Rattle.plsearch.specs.Table.{branch}
+use Rattle.plsearch.specs.Rows.{branch}
 use Rattle.plheap.specs.Store.{term}
 use Rattle.plprogram.specs.Program.{clauses_for}
 use Rattle.plsolve.proofs.Moves.{grown-link, grown-trans, grown-goals, grown-list, grown-stays, moved-grown, go-same, stays-trans, on_err, on_ok_map, on_err_map}

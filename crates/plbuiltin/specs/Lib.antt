@@ -1,0 +1,5 @@
+pub mod Solution
+pub mod Terms
+pub mod Output
+pub mod Solutions
+pub mod Answers

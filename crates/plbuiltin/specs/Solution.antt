@@ -1,0 +1,26 @@
+-- What a call of a built-in predicate gives.
+use Rattle.std.specs.Prelude.{ℕ, List, [], ◌∷◌, codes}
+use Rattle.plterm.specs.Tree.{Tree, atom}
+use Rattle.plprogram.specs.declared.settings.Settings.{Settings}
+
+-- a solution: two terms that are unified, and how many variables they have that were not in use
+pub record Solution : Type 0 where
+  pub left : Tree
+  pub right : Tree
+  pub new : ℕ
+
+-- an error term; or the solutions in their order, the bytes that are written, and the settings after it
+pub data Solved : Type 0 where
+  Raises : Tree → Solved
+  Gives : List Solution → List ℕ → Settings → Solved
+
+abbrev pub fails : Settings → Solved
+fails settings = Gives [] [] settings
+
+-- the two terms are unified
+abbrev pub unifies : Tree → Tree → Settings → Solved
+unifies left right settings = Gives (record { left = left; right = right; new = 0 } ∷ []) [] settings
+
+-- it is true once these bytes are written; both sides are one atom
+abbrev pub writes : List ℕ → Settings → Solved
+writes bytes settings = Gives (record { left = atom (codes "true"); right = atom (codes "true"); new = 0 } ∷ []) bytes settings

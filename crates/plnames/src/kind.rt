@@ -1,0 +1,65 @@
+//! Control constructs and built-in predicates.
+
+/// A control construct (ISO/IEC 13211-1 7.8), or a predicate that asks something of the run as a control construct does:
+/// assertz/1 and halt/0, halt/1.
+#[derive(Clone, Copy, Debug, PartialEq, Eq)]
+pub enum Control {
+    /// true/0.
+    True,
+    /// fail/0 and false/0.
+    Fail,
+    /// `,`/2.
+    And,
+    /// `;`/2.
+    Or,
+    /// `->`/2.
+    IfThen,
+    /// !/0.
+    Cut,
+    /// `\+`/1.
+    Not,
+    /// once/1.
+    Once,
+    /// call/1 to call/8.
+    Call,
+    /// catch/3.
+    Catch,
+    /// throw/1.
+    Throw,
+    /// assertz/1.
+    AddLast,
+    /// halt/0 and halt/1.
+    Halt,
+}
+
+/// A built-in predicate on terms (8.2).
+#[derive(Clone, Copy, Debug, PartialEq, Eq)]
+pub enum Terms {
+    /// =/2.
+    Unify,
+}
+
+/// A built-in predicate that writes (8.14).
+#[derive(Clone, Copy, Debug, PartialEq, Eq)]
+pub enum Output {
+    /// write/1.
+    Write,
+    /// writeq/1.
+    WriteQuoted,
+    /// nl/0.
+    Newline,
+}
+
+/// A built-in predicate, by its topic.
+#[derive(Clone, Copy, Debug, PartialEq, Eq)]
+pub enum BuiltIn {
+    Terms(Terms),
+    Output(Output),
+}
+
+/// What a name with an arity is, if it is fixed.
+#[derive(Clone, Copy, Debug, PartialEq, Eq)]
+pub enum Kind {
+    Control(Control),
+    BuiltIn(BuiltIn),
+}

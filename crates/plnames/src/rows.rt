@@ -1,0 +1,37 @@
+//! The table of names.
+
+use crate::kind::{BuiltIn, Control, Kind, Output, Terms};
+
+/// What each name with an arity is. No program can change or define these procedures (ISO/IEC 13211-1 7.5.2).
+pub static ROWS: [(&str, u16, Kind); 26] = [
+    ("true", 0, Kind::Control(Control::True)),
+    ("fail", 0, Kind::Control(Control::Fail)),
+    ("false", 0, Kind::Control(Control::Fail)),
+    ("!", 0, Kind::Control(Control::Cut)),
+    (",", 2, Kind::Control(Control::And)),
+    (";", 2, Kind::Control(Control::Or)),
+    ("->", 2, Kind::Control(Control::IfThen)),
+    ("\\+", 1, Kind::Control(Control::Not)),
+    ("once", 1, Kind::Control(Control::Once)),
+    ("call", 1, Kind::Control(Control::Call)),
+    ("call", 2, Kind::Control(Control::Call)),
+    ("call", 3, Kind::Control(Control::Call)),
+    ("call", 4, Kind::Control(Control::Call)),
+    ("call", 5, Kind::Control(Control::Call)),
+    ("call", 6, Kind::Control(Control::Call)),
+    ("call", 7, Kind::Control(Control::Call)),
+    ("call", 8, Kind::Control(Control::Call)),
+    ("catch", 3, Kind::Control(Control::Catch)),
+    ("throw", 1, Kind::Control(Control::Throw)),
+    ("assertz", 1, Kind::Control(Control::AddLast)),
+    ("halt", 0, Kind::Control(Control::Halt)),
+    ("halt", 1, Kind::Control(Control::Halt)),
+    ("=", 2, Kind::BuiltIn(BuiltIn::Terms(Terms::Unify))),
+    ("write", 1, Kind::BuiltIn(BuiltIn::Output(Output::Write))),
+    (
+        "writeq",
+        1,
+        Kind::BuiltIn(BuiltIn::Output(Output::WriteQuoted)),
+    ),
+    ("nl", 0, Kind::BuiltIn(BuiltIn::Output(Output::Newline))),
+];

@@ -1,0 +1,31 @@
+-- What a handler makes of the result of its list.
+use Rattle.std.specs.Prelude.{ℕ, ◌+◌, ◌==◌, Bool, List, ◌∷◌, length, Option, Some, None, if◌then◌else◌}
+use Rattle.std.specs.List.{list_any}
+use Rattle.plterm.specs.Tree.{Tree}
+use Rattle.plterm.specs.Variables.{copied, variables}
+use Rattle.plsubst.specs.Subst.{bind}
+use Rattle.plsubst.specs.Unify.{unify}
+use Rattle.plsearch.specs.Types.{Result, Throw, Element, Goal, Place, Handler, Catch, Local, Return, Keep, Anew}
+use Rattle.plsearch.specs.Errors.{error_term}
+use Rattle.plsearch.specs.Lists.{bind_goals, levels}
+use Rattle.plsearch.specs.Running.{Runnable, Runs, Raises, runnable}
+use Rattle.plsearch.specs.Rows.{catch_3}
+
+abbrev pub has : ℕ → List ℕ → Bool
+has d ls = list_any (λ l. l == d) ls
+
+-- the recovery is run at a cut level of its own, before the list behind the goal
+abbrev pub recovers : Runnable → ℕ → List Element → ℕ → Local → Return
+recovers (Runs g) d es n w = Anew (record { goals = Goal d g ∷ es; variables = n }) w
+recovers (Raises e) d es n w = Keep (Throw (copied 0 (error_term e catch_3)) (levels es)) w
+
+-- a ball that unifies with the catcher is caught, and another one goes on
+abbrev pub met_by : Option (ℕ → Tree) → Tree → Tree → List ℕ → Place → ℕ → Local → Return
+met_by None r b ls p d w = Keep (Throw b ls) w
+met_by (Some σ) r b ls p d w = recovers (runnable (bind σ r)) d (bind_goals σ p.goals) (p.variables + length (variables b)) w
+
+-- the result of a list, at its handler, of the level d: a catcher is active while its goal runs, and it is unified with a copy of the
+-- ball, whose variables are new, as all was when it was called
+unfoldable pub resume : Handler → Place → ℕ → Result → Local → Return
+resume (Catch c r) p d (Throw b ls) w = if has d ls then met_by (unify c (copied p.variables b)) r b ls p d w else Keep (Throw b ls) w
+resume h p d x w = Keep x w

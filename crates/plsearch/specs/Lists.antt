@@ -1,0 +1,27 @@
+-- Goal lists.
+use Rattle.std.specs.Prelude.{ℕ, List, [], ◌∷◌, map}
+use Rattle.plterm.specs.Tree.{Tree}
+use Rattle.plsubst.specs.Subst.{bind}
+use Rattle.plsearch.specs.Types.{Question, Look, Await, Element, Goal, Marker, Raise, Asking}
+
+abbrev pub bind_question : (ℕ → Tree) → Question → Question
+bind_question σ (Look t) = Look (bind σ t)
+bind_question σ (Await q next) = Await q next
+
+-- an element under a substitution
+abbrev pub bind_element : (ℕ → Tree) → Element → Element
+bind_element σ (Goal k t) = Goal k (bind σ t)
+bind_element σ (Marker m l) = Marker m l
+bind_element σ (Raise b) = Raise b
+bind_element σ (Asking q) = Asking (bind_question σ q)
+
+abbrev pub bind_goals : (ℕ → Tree) → List Element → List Element
+bind_goals σ = map (bind_element σ)
+
+-- the levels of the markers of a list
+abbrev pub levels : List Element → List ℕ
+levels [] = []
+levels (Goal k t ∷ es) = levels es
+levels (Marker m l ∷ es) = l ∷ levels es
+levels (Raise b ∷ es) = levels es
+levels (Asking q ∷ es) = levels es

@@ -1,0 +1,75 @@
+-- What a goal is, by the cells of its arguments.
+use Rattle.std.specs.Prelude.{suc, pos, ℤ, Option, Some, None, ◌<◌, ◌≤◌, ◌==◌, ◌&&◌, Bool, false, bytes_eq, length, codes}
+use Rattle.plterm.specs.Tree.{atom, int}
+use Rattle.plheap.specs.declared.cell.Cell.{Cell}
+use Rattle.plheap.specs.declared.cell.Cell.TheVariants as cells
+use Rattle.plheap.specs.Store.{Store, term, terms}
+use Rattle.plsearch.specs.Forms.{True, False, Both, Either, Not, Once, Catching, Throwing, CallWith, Cut, Halting, AddLast, Call, NoGoal}
+use Rattle.plframe.specs.Extended.{IsRun}
+use Rattle.plsolve.specs.declared.control.Control.{Control as Found}
+use Rattle.plsolve.specs.declared.control.Control.TheVariants as found
+
+abbrev pub shown_control : Store → Found → Control
+shown_control h found.True = True
+shown_control h found.False = False
+shown_control h (found.Both a b) = Both (term h a) (term h b)
+shown_control h (found.Either a b) = Either (term h a) (term h b)
+shown_control h (found.Then c a) = Then (term h c) (term h a) (atom (codes "fail"))
+shown_control h (found.ThenElse c a b) = Then (term h c) (term h a) (term h b)
+shown_control h (found.Not a) = Not (term h a)
+shown_control h (found.Once a) = Once (term h a)
+shown_control h (found.Catching g c r) = Catching (term h g) (term h c) (term h r)
+shown_control h (found.Throwing a) = Throwing (term h a)
+shown_control h (found.CallWith a n) = CallWith (term h a) (terms h (suc a) n)
+shown_control h found.Cut = Cut
+shown_control h (found.Unify a b) = Unify (term h a) (term h b)
+shown_control h (found.Write a) = Write (term h a)
+shown_control h (found.WriteQuoted a) = WriteQuoted (term h a)
+shown_control h found.Newline = Newline
+shown_control h (found.AddLast a) = AddLast (term h a)
+shown_control h found.Halt = Halting (int (pos 0))
+shown_control h (found.HaltWith a) = Halting (term h a)
+shown_control h (found.Call p) = Call p
+shown_control h found.NoGoal = NoGoal
+
+-- the cells are there
+abbrev pub IsInside : Store → Found → Type 0
+IsInside h found.True = Unit {0}
+IsInside h found.False = Unit {0}
+IsInside h (found.Both a b) = (a < length h.cells) × (b < length h.cells)
+IsInside h (found.Either a b) = (a < length h.cells) × (b < length h.cells)
+IsInside h (found.Then c a) = (c < length h.cells) × (a < length h.cells)
+IsInside h (found.ThenElse c a b) = (c < length h.cells) × (a < length h.cells) × (b < length h.cells)
+IsInside h (found.Not a) = a < length h.cells
+IsInside h (found.Once a) = a < length h.cells
+IsInside h (found.Catching g c r) = (g < length h.cells) × (c < length h.cells) × (r < length h.cells)
+IsInside h (found.Throwing a) = a < length h.cells
+IsInside h (found.CallWith a n) = (a < length h.cells) × IsRun h (record { first = suc a; count = n }) × (n ≤ 1024)
+IsInside h found.Cut = Unit {0}
+IsInside h (found.Unify a b) = (a < length h.cells) × (b < length h.cells)
+IsInside h (found.Write a) = a < length h.cells
+IsInside h (found.WriteQuoted a) = a < length h.cells
+IsInside h found.Newline = Unit {0}
+IsInside h (found.AddLast a) = a < length h.cells
+IsInside h found.Halt = Unit {0}
+IsInside h (found.HaltWith a) = a < length h.cells
+IsInside h (found.Call p) = Unit {0}
+IsInside h found.NoGoal = Unit {0}
+
+-- the integer that a cell holds
+abbrev pub integer_in : Cell → Option ℤ
+integer_in (cells.Free n) = None
+integer_in (cells.Bound j n) = None
+integer_in (cells.Ref j) = None
+integer_in (cells.Int i) = Some i
+integer_in (cells.Atom f) = None
+integer_in (cells.Struct f k) = None
+
+-- a structure of `->`/2
+abbrev pub is_then : Cell → Bool
+is_then (cells.Free n) = false
+is_then (cells.Bound j n) = false
+is_then (cells.Ref j) = false
+is_then (cells.Int i) = false
+is_then (cells.Atom f) = false
+is_then (cells.Struct f k) = (k == 2) && bytes_eq f (codes "->")
