@@ -2,6 +2,7 @@ pub mod Digits
 pub mod Fronts
 pub mod Forms
 pub mod Back
+pub mod Needed
 pub mod Says
 pub mod Alike
 pub mod Numbers

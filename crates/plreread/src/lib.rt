@@ -22,10 +22,13 @@ ghost use Rattle.plreread.specs.Told.{Tell};
 ghost use Rattle.plreread.specs.Numbered.{all_numbered};
 ghost use Rattle.plreread.specs.Again.{IsWithinLimits, ReadsAs};
 
-/// The signs that a term is written with spell it, where as many levels may be open as it needs.
+/// The signs that a term is written with spell it where as many levels may be open as it needs, and spell nothing where
+/// fewer may be.
 pub fn written_is_read()
-    ensures { (ops : OpTable) → IsSane ops → (style : Style) → (t : Tree) → IsWhole t →
+    ensures spelled { (ops : OpTable) → IsSane ops → (style : Style) → (t : Tree) → IsWhole t →
         (levels : ℕ) → levels_of ops style (At whole) t ≤ levels → Spells ops levels (clause_signs ops style t) t }
+    ensures needed { (ops : OpTable) → IsSane ops → (style : Style) → (t : Tree) → IsWhole t →
+        (levels : ℕ) (u : Tree) → Spells ops levels (clause_signs ops style t) u → levels_of ops style (At whole) t ≤ levels }
 {}
 
 /// The words of a term, in a style that writes no variable as a letter, are the texts of its signs. Two signs stand
