@@ -11,6 +11,7 @@ use Rattle.pllex.proofs.Clauses.{one_clause}
 use Rattle.plops.specs.declared.flag.Quotes.{Quotes}
 use Rattle.plread.specs.Spelling.{signs_of}
 use Rattle.plread.specs.Reading.{Spells}
+use Rattle.plread.specs.Refusals.{start_of}
 use Rattle.plread.proofs.Unique.{spelled_once}
 use Rattle.plwrite.specs.declared.style.Style.{Style}
 use Rattle.plwrite.specs.declared.style.Style.TheVariants as styles
@@ -20,18 +21,18 @@ use Rattle.plwrite.specs.Places.{whole}
 use Rattle.plwrite.specs.Styles.{has_letters}
 use Rattle.plwrite.specs.Words.{last_byte, text_of}
 use Rattle.plwrite.specs.Writing.{words, written, end_text, clause_text}
-use Rattle.plspacing.specs.Pieces.{QuotesNames}
+use Rattle.plspacing.specs.Pieces.{Piece, QuotesNames}
 use Rattle.plspacing.specs.Tokens.{text, tokens, spaces, ending, end_at}
 use Rattle.plspacing.specs.Read.{Stands}
 use Rattle.plspacing.proofs.Spacing.{clause_read}
 use Rattle.plspacing.proofs.Terms.{fit_renamed, below_more}
 use Rattle.plreread.specs.Written.{clause_signs}
 use Rattle.plreread.specs.Levels.{levels_of}
-use Rattle.plreread.specs.Numbered.{all_numbered}
 use Rattle.plreread.specs.Told.{Tell}
 use Rattle.plreread.specs.Again.{IsWithinLimits, ReadsAs}
 use Rattle.plreread.proofs.Back.{clause_back}
 use Rattle.plreread.proofs.Needed.{clause_needs}
+use Rattle.plreread.proofs.Starts.{tokens_start, end_alone}
 use Rattle.plreread.proofs.Says.{clause_told}
 use Rattle.plreread.proofs.Numbers.{clause_numbered}
 use Rattle.plreread.proofs.Spoken.{spoken}
@@ -43,11 +44,12 @@ quotes_names styles.Quoted e = tt
 quotes_names styles.Canonical e = tt
 quotes_names styles.Listed e = tt
 
--- the signs of a written term are those of the next clause's tokens
+-- the signs of a written term are those of the next clause's tokens, of which the first starts right here
 pub record Signed (ops : OpTable) (style : Style) (quotes : Quotes) (all : List ℕ) (from after : ℕ) (t : Tree) : Type 0 where
   pub tokens : List Token
   pub clause : IsClause all from tokens after
   pub are : signs_of quotes all tokens ≡ clause_signs ops style (copied 0 t)
+  pub first : start_of tokens ≡ from
 
 module _ (ops : OpTable) (sane : IsSane ops) (style : Style) (t : Tree) (limits : IsWithinLimits t) where
   abbrev number : ℕ → ℕ
@@ -79,6 +81,13 @@ module _ (ops : OpTable) (sane : IsSane ops) (style : Style) (plain : has_letter
       clause_told ops style sane plain (copied 1 t) (fit_renamed (λ v. 1 + place v (variables t)) t (is_fit t limits.fits))
       (below_more (1 + length (variables t)) (2 ^ 64) (copied 1 t) (omega (arith, limits.few)) (AllBelow-copied 1 t))
 
+  -- a term has a first word
+  first_start : (quotes : Quotes) (all : List ℕ) (from : ℕ) (is_apart : Bool) (n : ℕ) (pieces : List Piece) → signs_of quotes all (tokens style from pieces ++ end_at is_apart n ∷ []) ≡ clause_signs ops style (copied 0 t) → start_of (tokens style from pieces ++ end_at is_apart n ∷ []) ≡ from
+  first_start quotes all from is_apart n [] e =
+      let spelled = clause_back ops style sane (copied 0 t) (whole_renamed (number ops sane style t limits) t limits.fits) (levels_of ops style (At whole) (copied 0 t)) (omega arith) in
+      absurd (end_alone ops (levels_of ops style (At whole) (copied 0 t)) (copied 0 t) (subst (λ l. Spells ops (levels_of ops style (At whole) (copied 0 t)) l (copied 0 t)) (sym e) spelled))
+  first_start quotes all from is_apart n (p ∷ ps) e = tokens_start style p ps from (end_at is_apart n ∷ [])
+
   -- the text of the term with a full stop behind it
   signed : (quotes : Quotes) (all : List ℕ) (from : ℕ) (is_apart : Bool) (rest : List ℕ) → drop from all ≡ written ops style t ++ ending is_apart rest →
       (is_symbol (last_byte (written ops style t)) ≡ true → is_apart ≡ true) → ends_here rest ≡ true → Signed ops style quotes all from (from + length (written ops style t) + spaces is_apart + 1) t
@@ -89,10 +98,12 @@ module _ (ops : OpTable) (sane : IsSane ops) (style : Style) (plain : has_letter
       let n : ℕ = from + length (text style s.pieces) in
       let r = clause_read style (quotes_names style plain) s.pieces s.fit all from is_apart rest stands in
       let ts : List Token = tokens style from s.pieces ++ end_at is_apart n ∷ [] in
+      let are : signs_of quotes all ts ≡ clause_signs ops style (copied 0 t) = s.says quotes all from [] is_apart n r.are ∙ clause_numbered ops style t limits.few in
       record {
         tokens = ts;
         clause = subst (λ l. IsClause all from ts (from + length l + spaces is_apart + 1)) (sym e) r.clause;
-        are = s.says quotes all from [] is_apart n r.are ∙ clause_numbered ops style t limits.few;
+        are = are;
+        first = first_start quotes all from is_apart n s.pieces are;
       }
 
 line_end : (b : Bool) (bytes rest : List ℕ) → (bytes ++ end_text b) ++ rest ≡ bytes ++ ending b (10 ∷ rest)

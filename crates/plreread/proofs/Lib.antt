@@ -8,6 +8,7 @@ pub mod Alike
 pub mod Numbers
 pub mod Spoken
 pub mod Limits
+pub mod Starts
 pub mod Again
 pub mod Variants
 pub mod Worked

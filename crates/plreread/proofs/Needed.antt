@@ -1,6 +1,6 @@
 -- What is written is read only where as many levels may be open as it needs: what reads a term from before its signs
 -- extends it from behind them.
-use Rattle.std.proofs.Common.{◌≡◌, ◌≤◌, max, Bool, true, false, cond, arith, ℕ, ℤ, pos, negsuc, zero, suc, List, [], ◌∷◌, Option, Some, None, refl, sym, ap, ◌∙◌, subst}
+use Rattle.std.proofs.Common.{◌≡◌, ◌≤◌, max, Bool, true, false, cond, arith, ℕ, ℤ, suc, List, [], ◌∷◌, Option, Some, None, refl, sym, ap, ◌∙◌, subst}
 use Rattle.std.specs.Str.{bytes_eq}
 use Rattle.plterm.specs.Tree.{Tree, Trees, var, int, atom, compound, none, more}
 use Rattle.plops.specs.declared.operator.Prefix.{Prefix}
