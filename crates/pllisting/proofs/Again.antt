@@ -31,11 +31,11 @@ use Rattle.pllisting.proofs.Within.{WasRead, was_read}
 
 -- ---- the lines
 
-abbrev lines_of : List (Settings × Tree) → List ℕ
+abbrev pub lines_of : List (Settings × Tree) → List ℕ
 lines_of [] = []
 lines_of (x ∷ xs) = clause_text x.0.operators x.1 ++ lines_of xs
 
-total_lines : (bytes : List ℕ) (steps : List (Settings × Tree)) → total with_line bytes steps ≡ bytes ++ lines_of steps
+pub total_lines : (bytes : List ℕ) (steps : List (Settings × Tree)) → total with_line bytes steps ≡ bytes ++ lines_of steps
 total_lines bytes [] = sym (append-nil bytes)
 total_lines bytes (x ∷ xs) = total_lines (with_line bytes x.0 x.1) xs ∙ append_assoc bytes (clause_text x.0.operators x.1) (lines_of xs)
 
@@ -58,7 +58,7 @@ line ops t =
 -- ---- one clause
 
 module _ (lines : List ℕ) (from : ℕ) (s new : Settings) (t : Tree) (table : IsTable s.operators) (takes : judged s t ≡ Takes new) (w : WasRead t) (few : levels_of s.operators Listed (At whole) t ≤ levels) where
-  goes_again : (after : ℕ) (rest : List ℕ) → drop from lines ≡ clause_text s.operators t ++ rest → after + 1 ≡ from + length (clause_text s.operators t) → Goes lines from s t after new
+  pub goes_again : (after : ℕ) (rest : List ℕ) → drop from lines ≡ clause_text s.operators t ++ rest → after + 1 ≡ from + length (clause_text s.operators t) → Goes lines from s t after new
   goes_again after rest here e =
       let r = listed_again s.operators (is_sane s.operators table) t w.limits s.quotes levels few lines from after rest here e in
       record {
@@ -67,28 +67,28 @@ module _ (lines : List ℕ) (from : ℕ) (s new : Settings) (t : Tree) (table : 
         takes = takes;
       }
 
-goes_from : (lines : List ℕ) (from other : ℕ) (s new : Settings) (t : Tree) (after : ℕ) → next_item lines other ≡ next_item lines from → Goes lines from s t after new → Goes lines other s t after new
+pub goes_from : (lines : List ℕ) (from other : ℕ) (s new : Settings) (t : Tree) (after : ℕ) → next_item lines other ≡ next_item lines from → Goes lines from s t after new → Goes lines other s t after new
 goes_from lines from other s new t after e g =
     record { tokens = g.tokens; reads = record { clause = clause_from lines from other g.tokens after e g.reads.clause; term = g.reads.term }; takes = g.takes }
 
 -- ---- all of them
 
-more_levels : (most : ℕ) (steps : List (Settings × Tree)) → most ≤ total with_levels most steps
+pub more_levels : (most : ℕ) (steps : List (Settings × Tree)) → most ≤ total with_levels most steps
 more_levels most [] = omega arith
 more_levels most (x ∷ xs) = let h = more_levels (with_levels most x.0 x.1) xs in omega arith
 
 -- where the line's text ends, and what stands there
-record Ended (lines : List ℕ) (from size : ℕ) (rest : List ℕ) : Type 0 where
-  after : ℕ
-  last : after + 1 ≡ from + size
-  onward : next_item lines after ≡ next_item lines (from + size)
-  left : drop (from + size) lines ≡ rest
+pub record Ended (lines : List ℕ) (from size : ℕ) (rest : List ℕ) : Type 0 where
+  pub after : ℕ
+  pub last : after + 1 ≡ from + size
+  pub onward : next_item lines after ≡ next_item lines (from + size)
+  pub left : drop (from + size) lines ≡ rest
 
 some_place : (n : ℕ) → 0 < n → (m : ℕ) × (n ≡ suc m)
 some_place zero h = absurd (omega arith)
 some_place (suc m) h = (m, refl)
 
-ended : (lines : List ℕ) (from : ℕ) (ops : OpTable) (t : Tree) (rest : List ℕ) → drop from lines ≡ clause_text ops t ++ rest → Ended lines from (length (clause_text ops t)) rest
+pub ended : (lines : List ℕ) (from : ℕ) (ops : OpTable) (t : Tree) (rest : List ℕ) → drop from lines ≡ clause_text ops t ++ rest → Ended lines from (length (clause_text ops t)) rest
 ended lines from ops t rest here =
     let l = line ops t in
     let size : length (clause_text ops t) ≡ length l.front + 1 = ap length l.is ∙ length-append l.front (10 ∷ []) in

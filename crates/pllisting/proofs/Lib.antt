@@ -8,4 +8,5 @@ pub mod Signs
 pub mod Ends
 pub mod Within
 pub mod Again
+pub mod Deep
 pub mod Worked

@@ -1,6 +1,6 @@
 -- The levels of small clauses.
 use Rattle.std.proofs.Common.{◌≡◌, ℕ, List, codes, refl}
-use Rattle.plterm.specs.Tree.{Tree, atom, compound, none, more}
+use Rattle.plterm.specs.Tree.{Tree, var, atom, compound, none, more}
 use Rattle.plops.specs.Tables.{prefix_of, infix_of, postfix_of}
 use Rattle.plops.specs.Given.{iso_table}
 use Rattle.plreread.specs.Levels.{levels_of}
@@ -44,3 +44,30 @@ list = refl
 nested : with_levels 1 iso_settings (one (codes "f") (one (codes "f") a)) ≡ 2
 unfolding levels_of prefix_of infix_of postfix_of iso_table
 nested = refl
+
+-- `_1.` and `f(_1,_2).`: a variable needs none
+variable : with_levels 0 iso_settings (var 0) ≡ 0
+unfolding levels_of
+variable = refl
+
+call_of_variables : with_levels 0 iso_settings (two (codes "f") (var 0) (var 1)) ≡ 1
+unfolding levels_of prefix_of infix_of postfix_of iso_table
+call_of_variables = refl
+
+-- `:-initialization(_1).`, `\+ \+_1.`: a prefix operator waits for its operand
+directive : with_levels 0 iso_settings (one (codes ":-") (one (codes "initialization") (var 0))) ≡ 2
+unfolding levels_of prefix_of infix_of postfix_of iso_table
+directive = refl
+
+not_not : with_levels 0 iso_settings (one (codes "\\+") (one (codes "\\+") (var 0))) ≡ 2
+unfolding levels_of prefix_of infix_of postfix_of iso_table
+not_not = refl
+
+-- `{_1,_2}.`, `[{_1}|_2].`
+braces : with_levels 0 iso_settings (one (codes "{}") (two (codes ",") (var 0) (var 1))) ≡ 2
+unfolding levels_of prefix_of infix_of postfix_of iso_table
+braces = refl
+
+braces_in_list : with_levels 0 iso_settings (two (codes ".") (one (codes "{}") (var 0)) (var 1)) ≡ 2
+unfolding levels_of prefix_of infix_of postfix_of iso_table
+braces_in_list = refl

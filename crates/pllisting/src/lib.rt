@@ -5,10 +5,11 @@ ghost use Rattle.std.specs.Prelude.{◌≤◌, ◌<◌, ◌^◌, ℕ, List, leng
 ghost use Rattle.plprogram.specs.Program.{Program};
 ghost use Rattle.plload.specs.Loading.{Accepts, Loads, levels};
 ghost use Rattle.plload.specs.Listing.{Lists};
-ghost use Rattle.pllisting.specs.Needs.{Needs};
+ghost use Rattle.pllisting.specs.Needs.{Needs, IsTooDeep};
 
 /// An accepted text is listed, and its clauses need some number of open levels. Where that is at most the number that may
-/// be open, the listing loads as the text does, to the same program, and lists as itself.
+/// be open, the listing loads as the text does, to the same program, and lists as itself. Where it is more, the listing is
+/// refused as syntax, at a clause that needs more.
 pub fn listing_is_loaded()
     ensures listed { (text : List ℕ) (program : Program) → Loads text (Accepts program) →
         ((lines : List ℕ) × Lists text (Accepts lines)) × ((most : ℕ) × Needs text (Accepts most)) }
@@ -18,4 +19,7 @@ pub fn listing_is_loaded()
     ensures listing { (text lines : List ℕ) (most : ℕ) → length text < 2 ^ 64 →
         Lists text (Accepts lines) → Needs text (Accepts most) → most ≤ levels →
         Lists lines (Accepts lines) }
+    ensures refused { (text lines : List ℕ) (most : ℕ) → length text < 2 ^ 64 →
+        Lists text (Accepts lines) → Needs text (Accepts most) → levels < most →
+        IsTooDeep lines }
 {}

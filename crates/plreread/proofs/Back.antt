@@ -46,25 +46,25 @@ within_right a b room h = omega arith
 
 module _ (ops : OpTable) (style : Style) where
   -- behind a term no sign is taken by it
-  abbrev Calm : Tree → List Sign → Type 0
+  abbrev pub Calm : Tree → List Sign → Type 0
   Calm (var n) rest = Unit {0}
   Calm (int i) rest = Unit {0}
   Calm (atom s) rest = (prefix_of ops s ≡ None) ⊎ (begins ops rest ≡ false)
   Calm (compound s args) rest = OpStops ops (op_of ops style s args) rest
 
-  abbrev Quiet : Tree → List Sign → Type 0
+  abbrev pub Quiet : Tree → List Sign → Type 0
   Quiet t rest = (called rest ≡ None) × (joined rest ≡ None) × Calm t rest
 
-  abbrev OpQuiet : Option Operator → List Sign → Type 0
+  abbrev pub OpQuiet : Option Operator → List Sign → Type 0
   OpQuiet o rest = (called rest ≡ None) × (joined rest ≡ None) × OpStops ops o rest
 
-  abbrev priority_of : Tree → ℕ
+  abbrev pub priority_of : Tree → ℕ
   priority_of (var n) = 0
   priority_of (int i) = 0
   priority_of (atom s) = 0
   priority_of (compound s args) = op_priority (op_of ops style s args)
 
-  abbrev needs : Place → Tree → Bool
+  abbrev pub needs : Place → Tree → Bool
   needs place (var n) = false
   needs place (int i) = false
   needs place (atom s) = is_bracketed_atom ops style place s
@@ -98,19 +98,19 @@ module _ (ops : OpTable) (style : Style) where
   calm_end (atom a) s rest h = inr (begins_end ops s rest h).2
   calm_end (compound f args) s rest h = end_stops ops (op_of ops style f args) s rest h
 
-  quiet_end : (t : Tree) (s : Sign) (rest : List Sign) → Ends s → Quiet t (s ∷ rest)
+  pub quiet_end : (t : Tree) (s : Sign) (rest : List Sign) → Ends s → Quiet t (s ∷ rest)
   quiet_end t s rest h = let b = begins_end ops s rest h in (b.0, b.1, calm_end t s rest h)
 
-  op_quiet_close : (o : Option Operator) (rest : List Sign) → OpQuiet o (tok.Close ∷ rest)
+  pub op_quiet_close : (o : Option Operator) (rest : List Sign) → OpQuiet o (tok.Close ∷ rest)
   op_quiet_close o rest = (refl, refl, end_stops ops o tok.Close rest tt)
 
-  calm_comma : IsSane ops → (t : Tree) (rest : List Sign) → priority_of t ≤ 999 → Calm t (tok.Comma ∷ rest)
+  pub calm_comma : IsSane ops → (t : Tree) (rest : List Sign) → priority_of t ≤ 999 → Calm t (tok.Comma ∷ rest)
   calm_comma s (var n) rest h = tt
   calm_comma s (int i) rest h = tt
   calm_comma s (atom a) rest h = inr refl
   calm_comma s (compound f args) rest h = comma_stops ops s (op_of ops style f args) rest (sane_op ops style f args s) h
 
-  under : (place : Place) (t : Tree) → needs place t ≡ false → priority_of t ≤ place.most
+  pub under : (place : Place) (t : Tree) → needs place t ≡ false → priority_of t ≤ place.most
   under place (var n) e = omega arith
   under place (int i) e = omega arith
   under place (atom a) e = omega arith
@@ -163,11 +163,11 @@ module _ (ops : OpTable) (style : Style) where
 
   -- ---- what a term begins with
 
-  start_curly : (most : ℕ) (ts : List Sign) → curly_start ts ≡ OpensCurly ts → start_of ops most (tok.OpenCurly ∷ ts) ≡ OpensCurly ts
+  pub start_curly : (most : ℕ) (ts : List Sign) → curly_start ts ≡ OpensCurly ts → start_of ops most (tok.OpenCurly ∷ ts) ≡ OpensCurly ts
   unfolding start_of
   start_curly most ts h = h
 
-  start_square : (most : ℕ) (ts : List Sign) → square_start ts ≡ OpensList ts → start_of ops most (tok.OpenSquare ∷ ts) ≡ OpensList ts
+  pub start_square : (most : ℕ) (ts : List Sign) → square_start ts ≡ OpensList ts → start_of ops most (tok.OpenSquare ∷ ts) ≡ OpensList ts
   unfolding start_of
   start_square most ts h = h
 
@@ -206,7 +206,7 @@ module _ (ops : OpTable) (style : Style) where
   opening_pair s a b law (pair.Between op) place o rest = opening_bracketed (needs_brackets place (operators.Between op)) (λ q ws. signs ops style (At (left_of op)) a q (operator_sign s ∷ signs ops style (At (right_of op)) b (Some (operator style s)) ws)) o rest (law (left_of op) o _)
   opening_pair s a b law pair.Functional place o rest = (refl, refl)
 
-  opens : (t : Tree) → Opens_at t
+  pub opens : (t : Tree) → Opens_at t
   unfolding signs
   opens (var n) place o rest = (refl, refl)
   opens (int (pos n)) place o rest = (refl, refl)
@@ -278,7 +278,7 @@ module _ (ops : OpTable) (style : Style) where
       fronts_bracketed n (needs_brackets place (operators.Between op)) (λ q ws. signs ops style (At (left_of op)) a q (operator_sign s ∷ signs ops style (At (right_of op)) b (Some (operator style s)) ws)) rest (λ e. law (left_of op) refl n _)
   fronts_pair s a b law pair.Functional place n rest = (refl, unsigned n, refl)
 
-  fronts : Uses style → (t : Tree) → FrontsAt t
+  pub fronts : Uses style → (t : Tree) → FrontsAt t
   unfolding signs
   fronts uses (var i) place e n rest = (refl, unsigned n, refl)
   fronts uses (int (pos i)) place e n rest = (refl, integer_apart style n i rest, refl)
@@ -297,25 +297,25 @@ module _ (ops : OpTable) (style : Style) where
   -- ---- operands
 
   -- an operand that is followed by nothing that it takes
-  calm_operand : IsSane ops → Uses style → (place : Place) → place.is_operand ≡ true → (t : Tree) → needs place t ≡ false → (rest : List Sign) → Stops ops place.most rest → Calm t rest
+  pub calm_operand : IsSane ops → Uses style → (place : Place) → place.is_operand ≡ true → (t : Tree) → needs place t ≡ false → (rest : List Sign) → Stops ops place.most rest → Calm t rest
   calm_operand s uses place e (var n) h rest k = tt
   calm_operand s uses place e (int i) h rest k = tt
   calm_operand s uses place e (atom a) h rest k = inl (no_prefix (prefix_of ops a) _ (sym (plain_operator ops style uses a) ∙ sym (ap (λ b. b && is_operator ops style a) e) ∙ h))
   calm_operand s uses place e (compound f args) h rest k = lower_stops ops (op_of ops style f args) place.most rest (sane_op ops style f args s) (below_max place (op_of ops style f args) h) k
 
-  calm_left : IsSane ops → Uses style → (n : List ℕ) (op : Infix) → infix_of ops n ≡ Some op → (t : Tree) → needs (left_of op) t ≡ false → (ts : List Sign) → Calm t (operator_sign n ∷ ts)
+  pub calm_left : IsSane ops → Uses style → (n : List ℕ) (op : Infix) → infix_of ops n ≡ Some op → (t : Tree) → needs (left_of op) t ≡ false → (ts : List Sign) → Calm t (operator_sign n ∷ ts)
   calm_left s uses n op e (var m) h ts = tt
   calm_left s uses n op e (int i) h ts = tt
   calm_left s uses n op e (atom m) h ts = inl (no_prefix (prefix_of ops m) _ (sym (plain_operator ops style uses m) ∙ h))
   calm_left s uses n op e (compound m args) h ts = left_stops ops n op (op_of ops style m args) ts s e (sane_op ops style m args s) h
 
-  calm_post : IsSane ops → Uses style → (n : List ℕ) (op : Postfix) → postfix_of ops n ≡ Some op → (t : Tree) → needs (left_of_postfix op) t ≡ false → (ts : List Sign) → Calm t (operator_sign n ∷ ts)
+  pub calm_post : IsSane ops → Uses style → (n : List ℕ) (op : Postfix) → postfix_of ops n ≡ Some op → (t : Tree) → needs (left_of_postfix op) t ≡ false → (ts : List Sign) → Calm t (operator_sign n ∷ ts)
   calm_post s uses n op e (var m) h ts = tt
   calm_post s uses n op e (int i) h ts = tt
   calm_post s uses n op e (atom m) h ts = inl (no_prefix (prefix_of ops m) _ (sym (plain_operator ops style uses m) ∙ h))
   calm_post s uses n op e (compound m args) h ts = post_stops ops n op (op_of ops style m args) ts s e (sane_op ops style m args s) h
 
-  placed_priority : (place : Place) (t : Tree) (b : Bool) → (b ≡ false → priority_of t ≤ place.most) → cond b 0 (priority_of t) ≤ place.most
+  pub placed_priority : (place : Place) (t : Tree) (b : Bool) → (b ≡ false → priority_of t ≤ place.most) → cond b 0 (priority_of t) ≤ place.most
   placed_priority place t true h = omega arith
   placed_priority place t false h = h refl
 
@@ -396,7 +396,7 @@ module _ (ops : OpTable) (style : Style) where
         (subst (λ next. Extends ops (suc room) most next a p (operator_sign s ∷ inside) u q left) (sym taken) (between_op operand.1 x))
 
   -- behind an element stands a sign that ends it
-  abbrev Followed : List Sign → Type 0
+  abbrev pub Followed : List Sign → Type 0
   Followed ts = (called ts ≡ None) × (joined ts ≡ None) × (begins ops ts ≡ false) × Stops ops 999 ts
 
   followed_end : (s : Sign) (ts : List Sign) → Ends s → Followed (s ∷ ts)
@@ -405,7 +405,7 @@ module _ (ops : OpTable) (style : Style) where
   followed_comma : IsSane ops → (ts : List Sign) → Followed (tok.Comma ∷ ts)
   followed_comma w ts = (refl, refl, refl, λ p k. next_comma ops w 999 p ts (omega arith))
 
-  calm_followed : IsSane ops → (t : Tree) (ts : List Sign) → Followed ts → priority_of t ≤ 999 → Calm t ts
+  pub calm_followed : IsSane ops → (t : Tree) (ts : List Sign) → Followed ts → priority_of t ≤ 999 → Calm t ts
   calm_followed w (var n) ts f h = tt
   calm_followed w (int i) ts f h = tt
   calm_followed w (atom s) ts f h = inr f.2
@@ -430,7 +430,7 @@ module _ (ops : OpTable) (style : Style) where
   barred t p b Still body d law still = λ room rest ts x q enough r.
       (none, t, tailed r (law (after marks.Bar) room 999 (tok.CloseSquare ∷ rest) t (cond b 0 p) (tok.CloseSquare ∷ rest) enough (omega arith) (λ e. still rest) (stops_at (next_end ops 999 (cond b 0 p) tok.CloseSquare rest tt))), refl)
 
-  op_quiet_square : (o : Option Operator) (rest : List Sign) → OpQuiet o (tok.CloseSquare ∷ rest)
+  pub op_quiet_square : (o : Option Operator) (rest : List Sign) → OpQuiet o (tok.CloseSquare ∷ rest)
   op_quiet_square o rest = (refl, refl, end_stops ops o tok.CloseSquare rest tt)
 
   alone_tail : IsSane ops → (s : List ℕ) (a : Tree) → AtBack a → (f : Alone) → AloneIs ops style s f → SaneOp (alone_op f) → TailForm (λ ws. alone_signs style Tail s f (λ p q vs. signs ops style p a q vs) None ws) (compound s (more a none)) (alone_levels Tail f (λ p. levels_of ops style p a))
@@ -458,7 +458,7 @@ module _ (ops : OpTable) (style : Style) where
   followed_atom true s rest = followed_end tok.CloseSquare rest tt
   followed_atom false s rest = followed_end tok.Bar _ tt
 
-  followed : IsSane ops → (b : Tree) (rest : List Sign) → Followed (signs ops style Tail b None (tok.CloseSquare ∷ rest))
+  pub followed : IsSane ops → (b : Tree) (rest : List Sign) → Followed (signs ops style Tail b None (tok.CloseSquare ∷ rest))
   unfolding signs
   followed w (var n) rest = followed_end tok.Bar _ tt
   followed w (int i) rest = followed_end tok.Bar _ tt

@@ -2,11 +2,13 @@ pub mod Digits
 pub mod Fronts
 pub mod Forms
 pub mod Back
+pub mod Needed
 pub mod Says
 pub mod Alike
 pub mod Numbers
 pub mod Spoken
 pub mod Limits
+pub mod Starts
 pub mod Again
 pub mod Variants
 pub mod Worked

@@ -1,5 +1,5 @@
--- The signs of small terms, worked.
-use Rattle.std.proofs.Common.{◌≡◌, pos, negsuc, [], ◌∷◌, codes, refl, true, false}
+-- The signs of small terms, and their levels, worked.
+use Rattle.std.proofs.Common.{◌≡◌, ℕ, pos, negsuc, [], ◌∷◌, codes, refl, true, false}
 use Prim.Native.String.{String}
 use Rattle.std.specs.Fmt.{digits}
 use Rattle.plterm.specs.Tree.{Tree, var, int, atom, compound, none, more}
@@ -9,7 +9,10 @@ use Rattle.plops.specs.Operators.{operator_of}
 use Rattle.plops.specs.Tables.{plain, with_operator, prefix_of, infix_of, postfix_of}
 use Rattle.plops.specs.Given.{iso_table}
 use Rattle.plwrite.specs.declared.style.Style.TheVariants.{Canonical, Listed}
+use Rattle.plwrite.specs.declared.place.Position.TheVariants.{At}
+use Rattle.plwrite.specs.Places.{whole}
 use Rattle.plread.specs.Signs.{Sign, Name, Variable, Integer, Open, OpenCall, Close, OpenSquare, CloseSquare, OpenCurly, CloseCurly, Comma, Bar, End}
+use Rattle.plreread.specs.Levels.{levels_of, other_levels}
 use Rattle.plreread.specs.Written.{signs, other_signs, clause_signs}
 use Rattle.plreread.specs.Numbered.{all_numbered}
 
@@ -80,3 +83,72 @@ call_of t u = compound (codes "f") (more t (more u (more t none)))
 variables_again : all_numbered [] (clause_signs table Listed (call_of (var 1) (var 2))) ≡ clause_signs table Listed (call_of (var 0) (var 1))
 unfolding signs other_signs digits
 variables_again = refl
+
+-- ---- levels
+
+abbrev needed : Tree → ℕ
+needed t = levels_of table Listed (At whole) t
+
+-- `_1.`, `a.`
+variable_alone : needed (var 0) ≡ 0
+unfolding levels_of
+variable_alone = refl
+
+atom_alone : needed a ≡ 0
+unfolding levels_of prefix_of infix_of postfix_of iso_table
+atom_alone = refl
+
+-- `f(_1,_2,_1).`
+call_with_variables : needed (call_of (var 0) (var 1)) ≡ 1
+unfolding levels_of other_levels
+call_with_variables = refl
+
+-- `_1:-_2.`: the right operand alone stands behind an open operator
+rule_of_variables : needed (two ":-" (var 0) (var 1)) ≡ 1
+unfolding levels_of prefix_of infix_of postfix_of iso_table
+rule_of_variables = refl
+
+-- `_1-_2-_3.`, and `_1-(_2-_3).` with a bracket inside the outer operand
+to_the_left : needed (two "-" (two "-" (var 0) (var 1)) (var 2)) ≡ 1
+unfolding levels_of prefix_of infix_of postfix_of iso_table
+to_the_left = refl
+
+to_the_right : needed (two "-" (var 0) (two "-" (var 1) (var 2))) ≡ 3
+unfolding levels_of prefix_of infix_of postfix_of iso_table
+to_the_right = refl
+
+-- `(-)-a.`: a bracket around the left operand, which is closed before the operator opens its level
+bracketed_atom : needed (two "-" (atom (codes "-")) a) ≡ 1
+unfolding levels_of prefix_of infix_of postfix_of iso_table
+bracketed_atom = refl
+
+-- `- _1.`, `- - _1.`, `- (_1=_2).`: each prefix operator waits for its operand
+prefix_of_variable : needed (one "-" (var 0)) ≡ 1
+unfolding levels_of prefix_of infix_of postfix_of iso_table
+prefix_of_variable = refl
+
+prefix_twice : needed (one "-" (one "-" (var 0))) ≡ 2
+unfolding levels_of prefix_of infix_of postfix_of iso_table
+prefix_twice = refl
+
+prefix_of_bracket : needed (one "-" (two "=" (var 0) (var 1))) ≡ 3
+unfolding levels_of prefix_of infix_of postfix_of iso_table
+prefix_of_bracket = refl
+
+-- `[_1,_2|_3].`, `[a,[_1]].`
+list_with_tail : needed (two "." (var 0) (two "." (var 1) (var 2))) ≡ 1
+unfolding levels_of
+list_with_tail = refl
+
+list_in_list : needed (two "." a (two "." (two "." (var 0) (atom (codes "[]"))) (atom (codes "[]")))) ≡ 2
+unfolding levels_of prefix_of infix_of postfix_of iso_table
+list_in_list = refl
+
+-- `{_1}.`, `{_1:-_2}.`
+braces_of_variable : needed (one "{}" (var 0)) ≡ 1
+unfolding levels_of
+braces_of_variable = refl
+
+braces_of_rule : needed (one "{}" (two ":-" (var 0) (var 1))) ≡ 2
+unfolding levels_of prefix_of infix_of postfix_of iso_table
+braces_of_rule = refl

@@ -22,10 +22,13 @@ ghost use Rattle.plreread.specs.Told.{Tell};
 ghost use Rattle.plreread.specs.Numbered.{all_numbered};
 ghost use Rattle.plreread.specs.Again.{IsWithinLimits, ReadsAs};
 
-/// The signs that a term is written with spell it, where as many levels may be open as it needs.
+/// The signs that a term is written with spell it where as many levels may be open as it needs, and spell nothing where
+/// fewer may be.
 pub fn written_is_read()
-    ensures { (ops : OpTable) → IsSane ops → (style : Style) → (t : Tree) → IsWhole t →
+    ensures spelled { (ops : OpTable) → IsSane ops → (style : Style) → (t : Tree) → IsWhole t →
         (levels : ℕ) → levels_of ops style (At whole) t ≤ levels → Spells ops levels (clause_signs ops style t) t }
+    ensures needed { (ops : OpTable) → IsSane ops → (style : Style) → (t : Tree) → IsWhole t →
+        (levels : ℕ) (u : Tree) → Spells ops levels (clause_signs ops style t) u → levels_of ops style (At whole) t ≤ levels }
 {}
 
 /// The words of a term, in a style that writes no variable as a letter, are the texts of its signs. Two signs stand
@@ -44,6 +47,7 @@ pub fn variables_are_numbered()
 /// What is written is read back: as a clause that is listed, and in any style that writes no variable as a letter with
 /// ` .` behind it, wherever it stands in a text. Under the same operators it is read as the term with the variables 0, 1,
 /// .. by first occurrence, a variant, whatever the flag double_quotes is, where as many levels may be open as it needs.
+/// Where fewer may be, it is not read.
 pub fn clause_is_read()
     ensures listed { (ops : OpTable) → IsSane ops → (t : Tree) → IsWithinLimits t →
         (quotes : Quotes) (levels : ℕ) → levels_of ops Listed (At whole) t ≤ levels →
@@ -55,6 +59,14 @@ pub fn clause_is_read()
         (text : List ℕ) (from after : ℕ) (rest : List ℕ) →
         drop from text ≡ written ops style t ++ (codes " ." ++ rest) → ends_here rest ≡ true → after ≡ from + length (written ops style t ++ codes " .") →
         ReadsAs ops quotes levels text from after (copied 0 t) }
+    ensures listed_needs { (ops : OpTable) → IsSane ops → (t : Tree) → IsWithinLimits t →
+        (quotes : Quotes) (levels : ℕ) (text : List ℕ) (from after : ℕ) (rest : List ℕ) (u : Tree) →
+        drop from text ≡ clause_text ops t ++ rest →
+        ReadsAs ops quotes levels text from after u → levels_of ops Listed (At whole) t ≤ levels }
+    ensures apart_needs { (ops : OpTable) → IsSane ops → (style : Style) → has_letters style ≡ false → (t : Tree) → IsWithinLimits t →
+        (quotes : Quotes) (levels : ℕ) (text : List ℕ) (from after : ℕ) (rest : List ℕ) (u : Tree) →
+        drop from text ≡ written ops style t ++ (codes " ." ++ rest) → ends_here rest ≡ true →
+        ReadsAs ops quotes levels text from after u → levels_of ops style (At whole) t ≤ levels }
     ensures variant { (t : Tree) → IsVariant (copied 0 t) t }
 {}
 
