@@ -1,0 +1,152 @@
+-- What cells stand for.
+use Rattle.std.specs.Prelude.{false, ◌≡◌, ℕ, ℤ, pos, zero, suc, ◌+◌, ◌<◌, ◌≤◌, ◌⊎◌, Bool, List, [], ◌∷◌, ◌++◌, length, take, drop, get_or, set, map, nat_lt, if◌then◌else◌}
+use Rattle.std.specs.Bool.{⊤}
+use Rattle.plterm.specs.Tree.{Tree, var, int, atom, compound, trees}
+use Rattle.plsubst.specs.Subst.{bind, put, occurs}
+use Rattle.platoms.specs.Names.{Table, IsTable, Extends, atom_at, functor_name, functor_arity}
+use Rattle.plcells.specs.declared.cell.Cell.{Cell}
+use Rattle.plcells.specs.declared.cell.Cell.TheVariants.{Free, Lone, Ref, Int, Wide, Atom, Str, Fun, Ground}
+use Rattle.plcells.specs.declared.cell.Mark.{Mark}
+use Rattle.plcells.specs.declared.cell.Trailed.{Trailed}
+
+-- a heap: its cells; the numbers of its variables and the wide integers, each by its place; the bindings that an undo takes off, in their order; how many cells are older than each mark that is in use; and the names
+pub record Store : Type 0 where
+  pub cells : List Cell
+  pub numbers : List ℕ
+  pub wide : List ℤ
+  pub trail : List Trailed
+  pub boundary : ℕ
+  pub names : Table
+
+-- a cell by its place
+abbrev pub at : List Cell → ℕ → Cell
+at cells i = get_or cells i (Atom 0)
+
+-- the number of a variable, by its place
+abbrev pub number_at : Store → ℕ → ℕ
+number_at h p = get_or h.numbers p 0
+
+abbrev pub wide_at : Store → ℕ → ℤ
+wide_at h p = get_or h.wide p (pos 0)
+
+-- so many trees from one on
+abbrev pub spread : (ℕ → Tree) → ℕ → ℕ → List Tree
+spread w c zero = []
+spread w c (suc k) = w c ∷ spread w (suc c) k
+
+-- what the cell i shows, where w is what the others stand for
+abbrev pub shown_by : Store → (ℕ → Tree) → ℕ → Cell → Tree
+shown_by h w i (Free p) = var (number_at h p)
+shown_by h w i (Lone p) = var (number_at h p)
+shown_by h w i (Ref j) = w j
+shown_by h w i (Int n) = int n
+shown_by h w i (Wide p) = int (wide_at h p)
+shown_by h w i (Atom a) = atom (atom_at h.names a)
+shown_by h w i (Str p) = w p
+shown_by h w i (Fun f) = compound (functor_name h.names f) (trees (spread w (suc i) (functor_arity h.names f)))
+shown_by h w i (Ground f) = compound (functor_name h.names f) (trees (spread w (suc i) (functor_arity h.names f)))
+
+-- a cell read along fewer than so many references
+unfoldable pub term_in : Store → ℕ → ℕ → Tree
+term_in h zero c = var 0
+term_in h (suc n) c = shown_by h (term_in h n) c (at h.cells c)
+
+-- the term of a cell: no chain of references is longer than there are cells
+unfoldable pub term : Store → ℕ → Tree
+unfolding term_in
+term h = term_in h (length h.cells)
+
+-- what the cell i stands for, by what is in it
+abbrev pub shown : Store → ℕ → Cell → Tree
+shown h = shown_by h (term h)
+
+-- the terms of a run of cells
+abbrev pub terms : Store → ℕ → ℕ → List Tree
+terms h = spread (term h)
+
+-- the cell i, which holds this, refers to the cell d
+abbrev pub Refers : Table → ℕ → Cell → ℕ → Type 0
+Refers t i (Free p) d = ⊥
+Refers t i (Lone p) d = ⊥
+Refers t i (Ref j) d = d ≡ j
+Refers t i (Int n) d = ⊥
+Refers t i (Wide p) d = ⊥
+Refers t i (Atom a) d = ⊥
+Refers t i (Str p) d = d ≡ p
+Refers t i (Fun f) d = (i < d) × (d ≤ i + functor_arity t f)
+Refers t i (Ground f) d = (i < d) × (d ≤ i + functor_arity t f)
+
+-- the first cell of a block
+abbrev pub IsHead : Cell → Type 0
+IsHead (Free p) = ⊥
+IsHead (Lone p) = ⊥
+IsHead (Ref j) = ⊥
+IsHead (Int n) = ⊥
+IsHead (Wide p) = ⊥
+IsHead (Atom a) = ⊥
+IsHead (Str p) = ⊥
+IsHead (Fun f) = ⊤
+IsHead (Ground f) = ⊤
+
+-- the first cell of a block without variables
+abbrev pub IsGround : Cell → Type 0
+IsGround (Free p) = ⊥
+IsGround (Lone p) = ⊥
+IsGround (Ref j) = ⊥
+IsGround (Int n) = ⊥
+IsGround (Wide p) = ⊥
+IsGround (Atom a) = ⊥
+IsGround (Str p) = ⊥
+IsGround (Fun f) = ⊥
+IsGround (Ground f) = ⊤
+
+-- a cell in which no variable can stand
+abbrev pub IsSolid : List Cell → Cell → Type 0
+IsSolid cells (Free p) = ⊥
+IsSolid cells (Lone p) = ⊥
+IsSolid cells (Ref j) = ⊥
+IsSolid cells (Int n) = ⊤
+IsSolid cells (Wide p) = ⊤
+IsSolid cells (Atom a) = ⊤
+IsSolid cells (Str p) = IsGround (at cells p)
+IsSolid cells (Fun f) = ⊥
+IsSolid cells (Ground f) = ⊥
+
+-- the arguments of a block lie on the heap, and begin no blocks
+pub record HasArguments (h : Store) (i f : ℕ) : Type 0 where
+  pub functor : f < length h.names.functors
+  pub within : i + functor_arity h.names f < length h.cells
+  pub plain : (d : ℕ) → i < d → d ≤ i + functor_arity h.names f → IsHead (at h.cells d) → ⊥
+
+pub record HasSolid (h : Store) (i f : ℕ) : Type 0 where
+  pub arguments : HasArguments h i f
+  pub solid : (d : ℕ) → i < d → d ≤ i + functor_arity h.names f → IsSolid h.cells (at h.cells d)
+
+-- the cell i of a heap, as callers see it: each unbound variable is Free
+abbrev pub Fits : Store → ℕ → Cell → Type 0
+Fits h i (Free p) = p < length h.numbers
+Fits h i (Lone p) = ⊥
+Fits h i (Ref j) = (j < length h.cells) × (IsHead (at h.cells j) → ⊥)
+Fits h i (Int n) = ⊤
+Fits h i (Wide p) = p < length h.wide
+Fits h i (Atom a) = a < length h.names.atoms
+Fits h i (Str p) = (p < length h.cells) × IsHead (at h.cells p)
+Fits h i (Fun f) = HasArguments h i f
+Fits h i (Ground f) = HasSolid h i f
+
+-- each cell refers only to cells of lower rank
+abbrev pub IsRank : Store → (ℕ → ℕ) → Type 0
+IsRank h rank = (i d : ℕ) → i < length h.cells → Refers h.names i (at h.cells i) d → rank d < rank i
+
+abbrev pub AllBelow : ℕ → List Trailed → Type 0
+AllBelow n [] = ⊤
+AllBelow n (t ∷ ts) = (t.cell < n) × AllBelow n ts
+
+pub record IsHeap (h : Store) : Type 0 where
+  pub fits : (i : ℕ) → i < length h.cells → Fits h i (at h.cells i)
+  pub rank : ℕ → ℕ
+  pub ranked : IsRank h rank
+  pub once : (i j p q : ℕ) → i < length h.cells → j < length h.cells → at h.cells i ≡ Free p → at h.cells j ≡ Free q → number_at h p ≡ number_at h q → i ≡ j
+  pub trailed : AllBelow (length h.cells) h.trail
+  pub bounded : h.boundary ≤ length h.cells
+  pub names : IsTable h.names
