@@ -1,2 +1,4 @@
 pub mod Ranks
 pub mod Terms
+pub mod Occurs
+pub mod Binding

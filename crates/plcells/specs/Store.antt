@@ -1,5 +1,5 @@
 -- What cells stand for.
-use Rattle.std.specs.Prelude.{false, ◌≡◌, ℕ, ℤ, pos, zero, suc, ◌+◌, ◌<◌, ◌≤◌, ◌⊎◌, Bool, List, [], ◌∷◌, ◌++◌, length, take, drop, get_or, set, map, nat_lt, if◌then◌else◌}
+use Rattle.std.specs.Prelude.{false, ◌≡◌, ℕ, ℤ, pos, zero, suc, ◌+◌, ◌<◌, ◌≤◌, ◌⊎◌, Bool, true, List, [], ◌∷◌, ◌++◌, length, take, drop, get_or, set, map, nat_lt, if◌then◌else◌}
 use Rattle.std.specs.Bool.{⊤}
 use Rattle.plterm.specs.Tree.{Tree, var, int, atom, compound, trees}
 use Rattle.plsubst.specs.Subst.{bind, put, occurs}
@@ -150,3 +150,108 @@ pub record IsHeap (h : Store) : Type 0 where
   pub trailed : AllBelow (length h.cells) h.trail
   pub bounded : h.boundary ≤ length h.cells
   pub names : IsTable h.names
+
+-- a cell that can stand as an argument, and for which a variable can stand
+abbrev pub IsValue : Store → Cell → Type 0
+IsValue h (Free p) = ⊥
+IsValue h (Lone p) = ⊥
+IsValue h (Ref j) = (j < length h.cells) × (IsHead (at h.cells j) → ⊥)
+IsValue h (Int n) = ⊤
+IsValue h (Wide p) = p < length h.wide
+IsValue h (Atom a) = a < length h.names.atoms
+IsValue h (Str p) = (p < length h.cells) × IsHead (at h.cells p)
+IsValue h (Fun f) = ⊥
+IsValue h (Ground f) = ⊥
+
+-- what a value stands for
+abbrev pub value : Store → Cell → Tree
+value h = shown h 0
+
+-- a binding is kept for an undo where its cell is older than a mark
+abbrev pub trailed_if : Bool → List Trailed → Trailed → List Trailed
+trailed_if true ts t = ts ++ t ∷ []
+trailed_if false ts t = ts
+
+-- with the variable of the cell x, whose number is at p, bound to a value
+abbrev pub linked : Store → ℕ → ℕ → Cell → Store
+linked h x p v = record {
+  cells = set h.cells x v;
+  numbers = h.numbers;
+  wide = h.wide;
+  trail = trailed_if (nat_lt x h.boundary) h.trail (record { cell = x; place = p });
+  boundary = h.boundary;
+  names = h.names;
+}
+
+-- what a binding of the variable of the cell x asks for
+pub record IsBinding (h : Store) (x p : ℕ) (v : Cell) : Type 0 where
+  pub within : x < length h.cells
+  pub free : at h.cells x ≡ Free p
+  pub fits : IsValue h v
+  pub apart : occurs (number_at h p) (value h v) ≡ false
+
+-- without the bindings of these cells, the last one first
+abbrev pub reset : List Cell → List Trailed → List Cell
+reset cells [] = cells
+reset cells (t ∷ ts) = set (reset cells ts) t.cell (Free t.place)
+
+-- the heap as it was at the mark, with the names that have come since
+unfoldable pub cut : Mark → Store → Store
+cut m h = record {
+  cells = take m.cells (reset h.cells (drop m.trail h.trail));
+  numbers = take m.numbers h.numbers;
+  wide = take m.wide h.wide;
+  trail = take m.trail h.trail;
+  boundary = m.cells;
+  names = h.names;
+}
+
+-- a mark in use: it is not above the boundary
+pub record IsWithin (m : Mark) (h : Store) : Type 0 where
+  pub old : m.cells ≤ h.boundary
+  pub cells : m.cells ≤ length h.cells
+  pub trail : m.trail ≤ length h.trail
+  pub numbers : m.numbers ≤ length h.numbers
+  pub wide : m.wide ≤ length h.wide
+
+-- a mark of this heap that no undo has passed
+pub record IsMark (m : Mark) (h : Store) : Type 0 where
+  pub within : IsWithin m h
+  pub heap : IsHeap (cut m h)
+
+-- with other names
+abbrev pub renamed : Store → Table → Store
+renamed h t = record { cells = h.cells; numbers = h.numbers; wide = h.wide; trail = h.trail; boundary = h.boundary; names = t }
+
+-- every mark in use is kept, and the heap at it
+pub record Keeps (old new : Store) : Type 0 where
+  pub within : (m : Mark) → IsWithin m old → IsWithin m new
+  pub kept : (m : Mark) → IsWithin m old → cut m new ≡ renamed (cut m old) new.names
+  pub names : Extends old.names new.names
+
+-- how many variables are unbound
+abbrev pub one : Cell → ℕ
+one (Free p) = 1
+one (Lone p) = 1
+one (Ref j) = 0
+one (Int n) = 0
+one (Wide p) = 0
+one (Atom a) = 0
+one (Str p) = 0
+one (Fun f) = 0
+one (Ground f) = 0
+
+abbrev pub frees : List Cell → ℕ
+frees [] = 0
+frees (n ∷ ns) = one n + frees ns
+
+-- a binding: what it makes of each cell's term, and that marks are kept
+pub record Binds (old new : Store) (n : ℕ) (t : Tree) : Type 0 where
+  pub terms : (c : ℕ) → c < length old.cells → term new c ≡ bind (put n t) (term old c)
+  pub keeps : Keeps old new
+  pub length : length new.cells ≡ length old.cells
+  pub numbers : new.numbers ≡ old.numbers
+  pub wide : new.wide ≡ old.wide
+  pub names : new.names ≡ old.names
+  pub boundary : new.boundary ≡ old.boundary
+  pub fewer : frees new.cells + 1 ≡ frees old.cells
