@@ -36,7 +36,8 @@ impl Model for Names {
 impl Names {
     /// A table with no names.
     pub fn new(alloc: Global) -> Names
-        ensures { result ≡ record { atoms = []; functors = [] } }
+        ensures empty { result ≡ record { atoms = []; functors = [] } }
+        ensures table { IsTable result }
     {
         Names {
             atoms: IndexSet::new(alloc),
@@ -50,6 +51,7 @@ impl Names {
         ensures is { IfOk result (λ a. HasAtom self.new a name) }
         ensures extends { Extends self.old self.new }
         ensures functors { self.new.functors ≡ self.old.functors }
+        ensures table { IsTable self.new }
         ensures err { OnErr result (self.new ≡ self.old) }
     {
         if self.atoms.len() >= u32::MAX as usize {
@@ -65,6 +67,7 @@ impl Names {
         ensures is { IfOk result (λ f. HasFunctor self.new f functor) }
         ensures extends { Extends self.old self.new }
         ensures atoms { self.new.atoms ≡ self.old.atoms }
+        ensures table { IsTable self.new }
         ensures err { OnErr result (self.new ≡ self.old) }
     {
         if self.functors.len() >= u32::MAX as usize {

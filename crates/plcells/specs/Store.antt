@@ -255,3 +255,51 @@ pub record Binds (old new : Store) (n : ℕ) (t : Tree) : Type 0 where
   pub names : new.names ≡ old.names
   pub boundary : new.boundary ≡ old.boundary
   pub fewer : frees new.cells + 1 ≡ frees old.cells
+
+-- with more cells, numbers and wide integers behind those of the heap
+abbrev pub grown : Store → List Cell → List ℕ → List ℤ → Store
+grown h cs ns ws = record {
+  cells = h.cells ++ cs;
+  numbers = h.numbers ++ ns;
+  wide = h.wide ++ ws;
+  trail = h.trail;
+  boundary = h.boundary;
+  names = h.names;
+}
+
+-- with another boundary
+abbrev pub bounded_by : Store → ℕ → Store
+bounded_by h b = record { cells = h.cells; numbers = h.numbers; wide = h.wide; trail = h.trail; boundary = b; names = h.names }
+
+-- no variable of the heap has the number
+abbrev pub IsFresh : Store → ℕ → Type 0
+IsFresh h n = (i p : ℕ) → i < length h.cells → at h.cells i ≡ Free p → number_at h p ≡ n → ⊥
+
+-- all that was there stands for what it did, and every mark is kept
+pub record Grows (old new : Store) : Type 0 where
+  pub longer : length old.cells ≤ length new.cells
+  pub terms : (c : ℕ) → c < length old.cells → term new c ≡ term old c
+  pub keeps : Keeps old new
+
+-- a value where references end: a variable's is the reference to its cell
+abbrev pub IsVariable : Cell → Type 0
+IsVariable (Free p) = ⊤
+IsVariable (Lone p) = ⊥
+IsVariable (Ref j) = ⊥
+IsVariable (Int n) = ⊥
+IsVariable (Wide p) = ⊥
+IsVariable (Atom a) = ⊥
+IsVariable (Str p) = ⊥
+IsVariable (Fun f) = ⊥
+IsVariable (Ground f) = ⊥
+
+abbrev pub IsEnd : Store → Cell → Type 0
+IsEnd h (Free p) = ⊥
+IsEnd h (Lone p) = ⊥
+IsEnd h (Ref j) = IsVariable (at h.cells j)
+IsEnd h (Int n) = ⊤
+IsEnd h (Wide p) = ⊤
+IsEnd h (Atom a) = ⊤
+IsEnd h (Str p) = ⊤
+IsEnd h (Fun f) = ⊥
+IsEnd h (Ground f) = ⊥

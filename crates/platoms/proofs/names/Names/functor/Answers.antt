@@ -24,3 +24,6 @@ returns-clause-is c =
     let s = c.in_ok-place.ensures.stored in
     let r = get-is c.insert_full.new.self.keys c.in_ok-place.place s.0 (record { name = 0; arity = 0 }) s.1 in
     record { within = r.0; is = r.1 ∙ sym ((same_functor-Decides c.args.functor s.0).0 s.2) }
+
+pub returns-clause-table : goal.returns-clause-table
+returns-clause-table c = invariant_of-self-2 c
