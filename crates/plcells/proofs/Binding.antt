@@ -10,7 +10,7 @@ use Rattle.plcells.specs.declared.cell.Trailed.{Trailed}
 use Rattle.plcells.specs.declared.cell.Cell.TheVariants.{Free, Lone, Ref, Int, Wide, Atom, Str, Fun, Ground}
 use Rattle.plcells.specs.Store.{Store, at, number_at, spread, shown_by, term, shown, Refers, IsHead, IsGround, IsSolid, HasArguments, Fits, IsHeap, AllBelow, IsValue, value, linked, trailed_if, IsBinding}
 use Rattle.plcells.proofs.Terms.{Solves, term-solved, heap-reads, term-at}
-use Rattle.plcells.proofs.Occurs.{bind_put-same, occurs-up}
+use Rattle.plcells.proofs.Absence.{bind_put-same, occurs-up}
 
 -- what a substitution makes of a run
 bind-spread : (σ : ℕ → Tree) (w : ℕ → Tree) (c k : ℕ) → bind_all σ (trees (spread w c k)) ≡ trees (spread (λ d. bind σ (w d)) c k)
@@ -229,6 +229,7 @@ module _ (h : Store) (x p : ℕ) (v : Cell) (is : IsHeap h) (may : IsBinding h x
     once = λ i j a b il jl ei ej same. is.once i j a b (omega (arith, il, len)) (omega (arith, jl, len)) (free_old i a ei) (free_old j b ej) same;
     trailed = subst (λ k. AllBelow k (linked h x p v).trail) (sym len) (below_if (nat_lt x h.boundary) (length h.cells) h.trail (record { cell = x; place = p }) is.trailed may.within);
     bounded = omega (arith, is.bounded, len);
+    few = omega (arith, is.few, len);
     names = is.names;
   }
 

@@ -1,5 +1,5 @@
 -- What a heap holds beside its terms: which variables are lone, and which prefixes are closed.
-use Rattle.std.proofs.Common.{◌≡◌, ℕ, zero, suc, ◌+◌, ◌<◌, ◌≤◌, List, [], ◌∷◌, length, length-take, map, get_or, set, take, drop, refl, sym, ap, ap₂, ◌∙◌, subst, arith, inl, inr}
+use Rattle.std.proofs.Common.{◌≡◌, ℕ, zero, suc, ◌+◌, ◌<◌, ◌≤◌, List, [], ◌∷◌, length, length-take, map, get_or, set, take, drop, refl, sym, ap, ap₂, ◌∙◌, subst, arith, inl, inr, lit<}
 use Rattle.std.proofs.lemmas.Bool.{cases_lt, cases_eq}
 use Rattle.std.proofs.lemmas.List.{get_or-take, map-set, set-get_or, length-set, get_or-set_same, get_or-set_other, length-map, get_or_past}
 use Rattle.plcells.proofs.Values.{at-plain, read-plain}
@@ -25,6 +25,7 @@ inside-empty t is = record {
     once = λ i j p q il jl e f g. absurd (omega arith);
     trailed = tt;
     bounded = omega arith;
+    few = lit< tt;
     names = is;
   };
   lone = λ i d p lt r e. absurd (omega arith);

@@ -188,6 +188,7 @@ IsHeap-bounded h b is le = record {
   once = is.once;
   trailed = is.trailed;
   bounded = le;
+  few = is.few;
   names = is.names;
 }
 

@@ -1,7 +1,8 @@
 pub mod Ranks
 pub mod Terms
-pub mod Occurs
+pub mod Absence
 pub mod Binding
 pub mod Kept
 pub mod Values
 pub mod Inside
+pub mod Searching

@@ -1,5 +1,5 @@
 -- What cells stand for.
-use Rattle.std.specs.Prelude.{false, ◌≡◌, ℕ, ℤ, pos, zero, suc, ◌+◌, ◌<◌, ◌≤◌, ◌⊎◌, Bool, true, List, [], ◌∷◌, ◌++◌, length, take, drop, get_or, set, map, nat_lt, if◌then◌else◌}
+use Rattle.std.specs.Prelude.{false, ◌≡◌, ℕ, ℤ, pos, zero, suc, ◌+◌, ◌^◌, ◌<◌, ◌≤◌, ◌⊎◌, Bool, true, List, [], ◌∷◌, ◌++◌, length, take, drop, get_or, set, map, nat_lt, if◌then◌else◌}
 use Rattle.std.specs.Bool.{⊤}
 use Rattle.plterm.specs.Tree.{Tree, var, int, atom, compound, trees}
 use Rattle.plsubst.specs.Subst.{bind, put, occurs}
@@ -149,6 +149,7 @@ pub record IsHeap (h : Store) : Type 0 where
   pub once : (i j p q : ℕ) → i < length h.cells → j < length h.cells → at h.cells i ≡ Free p → at h.cells j ≡ Free q → number_at h p ≡ number_at h q → i ≡ j
   pub trailed : AllBelow (length h.cells) h.trail
   pub bounded : h.boundary ≤ length h.cells
+  pub few : length h.cells < 2 ^ 32
   pub names : IsTable h.names
 
 -- a cell that can stand as an argument, and for which a variable can stand
@@ -303,3 +304,32 @@ IsEnd h (Atom a) = ⊤
 IsEnd h (Str p) = ⊤
 IsEnd h (Fun f) = ⊥
 IsEnd h (Ground f) = ⊥
+
+-- a block of so many arguments, which are no blocks' first cells, and what its term says of theirs
+pub record HasTerms (h : Store) (p k : ℕ) : Type 0 where
+  pub name : List ℕ
+  pub within : p + k < length h.cells
+  pub plain : (d : ℕ) → p < d → d ≤ p + k → IsHead (at h.cells d) → ⊥
+  pub is : term h p ≡ compound name (trees (terms h (suc p) k))
+  pub few : length h.cells < 2 ^ 32
+
+-- a new variable of the number n, at the cell c
+pub record AddsVariable (old new : Store) (c n : ℕ) : Type 0 where
+  pub place : c ≡ length old.cells
+  pub end : IsEnd new (Ref c)
+  pub is : term new c ≡ var n
+  pub grows : Grows old new
+  pub fresh : (m : ℕ) → IsFresh old m → (m ≡ n → ⊥) → IsFresh new m
+  pub frees : frees new.cells ≡ frees old.cells + 1
+
+-- a new value for a term, with all that was there as it was
+pub record AddsValue (old new : Store) (v : Cell) (t : Tree) : Type 0 where
+  pub fits : IsValue new v
+  pub is : value new v ≡ t
+  pub grows : Grows old new
+  pub fresh : (m : ℕ) → IsFresh old m → IsFresh new m
+  pub frees : frees new.cells ≡ frees old.cells
+
+abbrev pub AreValues : Store → List Cell → Type 0
+AreValues h [] = ⊤
+AreValues h (v ∷ vs) = IsValue h v × AreValues h vs

@@ -1,11 +1,13 @@
 //! The heap.
 
-ghost use Rattle.std.specs.Prelude.{◌≡◌, ℕ, Some, None, ◌+◌, ◌<◌, ◌≤◌, ◌^◌, [], ◌∷◌, length, IfOk, OnOk, OnErr, take, drop, map, get_or};
+ghost use Rattle.std.specs.Prelude.{◌≡◌, ℕ, Some, None, true, false, ◌+◌, ◌<◌, ◌≤◌, ◌^◌, [], ◌∷◌, length, IfOk, OnOk, OnErr, take, drop, map, get_or};
 ghost use Rattle.plterm.specs.Tree.{var};
 ghost use Rattle.platoms.specs.Names.{IsTable};
 ghost use Rattle.plcells.specs.declared.cell.Cell.TheVariants.{Free as FreeCell, Lone as LoneCell, Ref as RefCell};
-ghost use Rattle.plcells.specs.Store.{Store, at, term, shown, value, number_at, Fits, IsHeap, IsHead, IsValue, IsEnd, IsBinding, Binds, IsWithin, IsMark, AllBelow, cut, reset, grown, bounded_by, IsFresh, Grows, trailed_if};
+ghost use Rattle.plcells.specs.Store.{Store, at, term, shown, value, number_at, Fits, IsHeap, IsHead, IsValue, IsEnd, IsBinding, Binds, IsWithin, IsMark, AllBelow, cut, reset, grown, bounded_by, IsFresh, Grows, trailed_if, HasTerms};
+ghost use Rattle.plsubst.specs.Subst.{occurs};
 ghost use Rattle.plcells.specs.Skipping.{plain, AreRising, IsPlaced, IsTarget};
+ghost use Rattle.plcells.specs.Walking.{IsFloor};
 
 use crate::cell::{Cell, Mark, Trailed};
 use platoms::names::Names;
@@ -231,5 +233,47 @@ impl Heap {
         self.wide.truncate(mark.wide);
         drop_above(&mut self.closed, mark.cells);
         self.boundary = mark.cells;
+    }
+
+    /// Whether no cell refers to an unbound variable, as is known of some.
+    pub(crate) fn is_lone(&self, x: u32) -> bool
+        requires { IsEnd self.now (RefCell x) }
+        ensures { result ≡ true → (n c : ℕ) → term self.now x ≡ var n → c < length self.now.cells → (c ≡ x → ⊥) → occurs n (term self.now c) ≡ false }
+    {
+        matches!(self.cells[x as usize], Cell::Lone(_))
+    }
+
+    /// A number so that an unbound variable stands in none of the terms of the cells below.
+    pub(crate) fn floor(&self, x: u32) -> u32
+        requires { IsEnd self.now (RefCell x) }
+        ensures { IsFloor self.now x result }
+    {
+        let mut floor = 0;
+        let mut low = 0;
+        let mut high = self.closed.len();
+        while low < high {
+            let middle = low + (high - low) / 2;
+            let b = self.closed[middle];
+            if b <= x {
+                floor = b;
+                low = middle + 1;
+            } else {
+                high = middle;
+            }
+        }
+        floor
+    }
+
+    /// How many arguments a block has in which variables can stand.
+    pub(crate) fn open_arity(&self, p: u32) -> Option<u16>
+        requires within { p < length self.now.cells }
+        requires head { IsHead (at self.now.cells p) }
+        ensures some { (k : ℕ) → result ≡ Some k → HasTerms self.now p k }
+        ensures none { result ≡ None → (n : ℕ) → occurs n (term self.now p) ≡ false }
+    {
+        match self.cells[p as usize] {
+            Cell::Fun(f) => Some(self.names.functor_of(f).arity),
+            _ => None,
+        }
     }
 }

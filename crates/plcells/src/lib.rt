@@ -5,3 +5,4 @@
 
 pub mod cell;
 pub mod heap;
+pub mod occurs;

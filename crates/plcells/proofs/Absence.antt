@@ -48,7 +48,7 @@ unfolding occurs
 spread-none n w c zero misses = refl
 spread-none n w c (suc k) misses = or-both (occurs n (w c)) (occurs_in n (trees (spread w (suc c) k))) (misses c (omega arith) (omega arith)) (spread-none n w (suc c) k (λ d le lt. misses d (omega arith) (omega arith)))
 
-spread-some : (n : ℕ) (w : ℕ → Tree) (c k d : ℕ) → c ≤ d → d < c + k → occurs n (w d) ≡ true → occurs_in n (trees (spread w c k)) ≡ true
+pub spread-some : (n : ℕ) (w : ℕ → Tree) (c k d : ℕ) → c ≤ d → d < c + k → occurs n (w d) ≡ true → occurs_in n (trees (spread w c k)) ≡ true
 unfolding occurs
 spread-some n w c zero d le lt holds = absurd (omega arith)
 spread-some n w c (suc k) d le lt holds = elim (cases_eq d c) [
