@@ -55,7 +55,7 @@ embedded cells c p e =
     ∙ ap (set (map plain cells) c) (sym (at-plain cells c ∙ ap plain e))
     ∙ set-get_or (map plain cells) c (Atom 0)
 
-plain-value : (h : Store) (v : Cell) → IsValue h v → plain v ≡ v
+pub plain-value : (h : Store) (v : Cell) → IsValue h v → plain v ≡ v
 plain-value h (Free p) f = absurd f
 plain-value h (Lone p) f = absurd f
 plain-value h (Ref j) f = refl
@@ -66,7 +66,7 @@ plain-value h (Str p) f = refl
 plain-value h (Fun g) f = absurd f
 plain-value h (Ground g) f = absurd f
 
-value-lone : (h : Store) (v : Cell) (p : ℕ) → IsValue h v → v ≡ Lone p → ⊥
+pub value-lone : (h : Store) (v : Cell) (p : ℕ) → IsValue h v → v ≡ Lone p → ⊥
 value-lone h (Free q) p f e = absurd f
 value-lone h (Lone q) p f e = absurd f
 value-lone h (Ref j) p f e = grind (arith, e)
@@ -101,7 +101,7 @@ refers-target h i d (Fun g) f r = absurd f
 refers-target h i d (Ground g) f r = absurd f
 
 -- a value refers to a variable by a reference alone
-refers-variable : (h : Store) (d q : ℕ) (v : Cell) → IsValue h v → IsTarget v d → at h.cells d ≡ Free q → v ≡ Ref d
+pub refers-variable : (h : Store) (d q : ℕ) (v : Cell) → IsValue h v → IsTarget v d → at h.cells d ≡ Free q → v ≡ Ref d
 refers-variable h d q (Free p) f t e = absurd f
 refers-variable h d q (Lone p) f t e = absurd f
 refers-variable h d q (Ref j) f t e = ap Ref (sym t)

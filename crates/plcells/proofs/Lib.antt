@@ -6,3 +6,5 @@ pub mod Kept
 pub mod Values
 pub mod Inside
 pub mod Searching
+pub mod Growing
+pub mod Pushing

@@ -1,5 +1,5 @@
 -- What lets the occurs check leave cells out.
-use Rattle.std.specs.Prelude.{◌≡◌, ℕ, ◌<◌, ◌≤◌, List, length, get_or}
+use Rattle.std.specs.Prelude.{◌≡◌, ℕ, ◌<◌, ◌≤◌, ◌⊎◌, List, [], ◌∷◌, ◌++◌, length, get_or}
 use Rattle.std.specs.Bool.{⊤}
 use Rattle.plcells.specs.declared.cell.Cell.{Cell}
 use Rattle.plcells.specs.declared.cell.Cell.TheVariants.{Free, Lone, Ref, Int, Wide, Atom, Str, Fun, Ground}
@@ -62,3 +62,11 @@ IsTarget (Atom a) d = ⊥
 IsTarget (Str p) d = d ≡ p
 IsTarget (Fun f) d = ⊥
 IsTarget (Ground f) d = ⊥
+
+abbrev pub AllPlaced : ℕ → List Cell → Type 0
+AllPlaced n [] = ⊤
+AllPlaced n (v ∷ vs) = IsPlaced n v × AllPlaced n vs
+
+-- nothing was added to the closed prefixes, or the longest that there is
+abbrev pub IsClosing : List ℕ → List ℕ → ℕ → Type 0
+IsClosing old new n = (new ≡ old) ⊎ ((new ≡ old ++ n ∷ []) × ((k : ℕ) → k < length old → get_or old k 0 ≤ n))

@@ -333,3 +333,8 @@ pub record AddsValue (old new : Store) (v : Cell) (t : Tree) : Type 0 where
 abbrev pub AreValues : Store → List Cell → Type 0
 AreValues h [] = ⊤
 AreValues h (v ∷ vs) = IsValue h v × AreValues h vs
+
+-- a functor of so many arguments
+pub record IsFunctorOf (t : Table) (f k : ℕ) : Type 0 where
+  pub within : f < length t.functors
+  pub arity : functor_arity t f ≡ k

@@ -1,12 +1,12 @@
 //! The heap.
 
-ghost use Rattle.std.specs.Prelude.{◌≡◌, ℕ, Some, None, true, false, ◌+◌, ◌<◌, ◌≤◌, ◌^◌, [], ◌∷◌, length, IfOk, OnOk, OnErr, take, drop, map, get_or};
-ghost use Rattle.plterm.specs.Tree.{var};
-ghost use Rattle.platoms.specs.Names.{IsTable};
-ghost use Rattle.plcells.specs.declared.cell.Cell.TheVariants.{Free as FreeCell, Lone as LoneCell, Ref as RefCell};
-ghost use Rattle.plcells.specs.Store.{Store, at, term, shown, value, number_at, Fits, IsHeap, IsHead, IsValue, IsEnd, IsBinding, Binds, IsWithin, IsMark, AllBelow, cut, reset, grown, bounded_by, IsFresh, Grows, trailed_if, HasTerms};
+ghost use Rattle.std.specs.Prelude.{◌≡◌, ℕ, Some, None, true, false, ◌+◌, ◌<◌, ◌≤◌, ◌^◌, [], ◌∷◌, ◌++◌, length, IfOk, OnOk, OnErr, take, drop, map, get_or};
+ghost use Rattle.plterm.specs.Tree.{var, int, compound, trees};
+ghost use Rattle.platoms.specs.Names.{IsTable, functor_name};
+ghost use Rattle.plcells.specs.declared.cell.Cell.TheVariants.{Free as FreeCell, Lone as LoneCell, Ref as RefCell, Fun as FunCell};
+ghost use Rattle.plcells.specs.Store.{Store, at, term, shown, value, number_at, Fits, IsHeap, IsHead, IsValue, IsEnd, IsBinding, Binds, IsWithin, IsMark, AllBelow, cut, reset, grown, bounded_by, IsFresh, Grows, trailed_if, HasTerms, AddsVariable, AddsValue, AreValues, IsFunctorOf};
 ghost use Rattle.plsubst.specs.Subst.{occurs};
-ghost use Rattle.plcells.specs.Skipping.{plain, AreRising, IsPlaced, IsTarget};
+ghost use Rattle.plcells.specs.Skipping.{plain, AreRising, IsPlaced, IsTarget, AllPlaced, IsClosing};
 ghost use Rattle.plcells.specs.Walking.{IsFloor};
 
 use crate::cell::{Cell, Mark, Trailed};
@@ -99,6 +99,67 @@ fn note(trail: &mut Vec<Trailed>, old: bool, bound: Trailed) -> Result<(), Alloc
     if old {
         trail.push(bound)?;
     }
+    Ok(())
+}
+
+/// From now on cells refer to what these values refer to.
+fn embed_all(cells: &mut Vec<Cell>, values: &[Cell])
+    requires { AllPlaced (length cells.old.items) values.now }
+    ensures same { map plain cells.new.items ≡ map plain cells.old.items }
+    ensures was { (d p : ℕ) → at cells.new.items d ≡ LoneCell p → at cells.old.items d ≡ LoneCell p }
+    ensures lone { (d p : ℕ) → at cells.new.items d ≡ LoneCell p → (k : ℕ) → k < length values.now → at values.now k ≡ RefCell d → ⊥ }
+{
+    for v in values {
+        embed(cells, *v);
+    }
+}
+
+/// Puts a block behind the cells.
+fn push_block(cells: &mut Vec<Cell>, f: u32, values: &[Cell]) -> Result<(), AllocError>
+    ensures ok { OnOk result (cells.new.items ≡ cells.old.items ++ FunCell f ∷ values.now) }
+    ensures err { OnErr result (cells.new.items ≡ cells.old.items) }
+{
+    let count = cells.len();
+    cells.push(Cell::Fun(f))?;
+    match cells.extend_from_slice(values) {
+        Ok(()) => Ok(()),
+        Err(e) => {
+            cells.truncate(count);
+            Err(e)
+        }
+    }
+}
+
+/// Puts a lone variable behind the cells, and its number behind the numbers.
+fn push_variable(
+    cells: &mut Vec<Cell>,
+    numbers: &mut Vec<u64>,
+    number: u64,
+) -> Result<(), AllocError>
+    requires { length numbers.old.items < 2 ^ 32 }
+    ensures cells { OnOk result (cells.new.items ≡ cells.old.items ++ LoneCell (length numbers.old.items) ∷ []) }
+    ensures numbers { OnOk result (numbers.new.items ≡ numbers.old.items ++ number ∷ []) }
+    ensures err { OnErr result ((cells.new.items ≡ cells.old.items) × (numbers.new.items ≡ numbers.old.items)) }
+{
+    let place = numbers.len();
+    numbers.push(number)?;
+    if cells.push(Cell::Lone(place as u32)).is_err() {
+        numbers.truncate(place);
+        return Err(AllocError);
+    }
+    Ok(())
+}
+
+/// Notes that the cells so far refer to one another alone, where the last such note is some way below.
+fn close(closed: &mut Vec<u32>, count: u32) -> Result<(), AllocError>
+    requires { AreRising closed.old.items }
+    ensures { IsClosing closed.old.items closed.new.items count }
+{
+    let n = closed.len();
+    if n > 0 && (count < 64 || closed[n - 1] > count - 64) {
+        return Ok(());
+    }
+    closed.push(count)?;
     Ok(())
 }
 
@@ -275,5 +336,53 @@ impl Heap {
             Cell::Fun(f) => Some(self.names.functor_of(f).arity),
             _ => None,
         }
+    }
+
+    /// A new variable, lone as yet, with a number that no variable of the heap has.
+    pub fn variable(&mut self, number: u64) -> Result<u32, AllocError>
+        requires { IsFresh self.old number }
+        ensures ok { IfOk result (λ c. AddsVariable self.old self.new c number) }
+        ensures err { OnErr result (self.new ≡ self.old) }
+    {
+        let place = self.cells.len();
+        if place >= u32::MAX as usize || self.numbers.len() >= u32::MAX as usize {
+            return Err(AllocError);
+        }
+        close(&mut self.closed, place as u32)?;
+        push_variable(&mut self.cells, &mut self.numbers, number)?;
+        Ok(place as u32)
+    }
+
+    /// A new compound of these arguments.
+    pub fn compound(&mut self, f: u32, values: &[Cell]) -> Result<Cell, AllocError>
+        requires functor { IsFunctorOf self.old.names f (length values.now) }
+        requires values { AreValues self.old values.now }
+        ensures ok { IfOk result (λ v. AddsValue self.old self.new v (compound (functor_name self.old.names f) (trees (map (value self.old) values.now)))) }
+        ensures err { OnErr result (self.new ≡ self.old) }
+    {
+        let place = self.cells.len();
+        let room = u32::MAX as usize - values.len();
+        if place >= room {
+            return Err(AllocError);
+        }
+        push_block(&mut self.cells, f, values)?;
+        embed_all(&mut self.cells, values);
+        Ok(Cell::Str(place as u32))
+    }
+
+    /// An integer as a value.
+    pub fn integer(&mut self, number: i64) -> Result<Cell, AllocError>
+        ensures ok { IfOk result (λ v. AddsValue self.old self.new v (int number)) }
+        ensures err { OnErr result (self.new ≡ self.old) }
+    {
+        if number >= i64::from(i32::MIN) && number <= i64::from(i32::MAX) {
+            return Ok(Cell::Int(number as i32));
+        }
+        let place = self.wide.len();
+        if place >= u32::MAX as usize {
+            return Err(AllocError);
+        }
+        self.wide.push(number)?;
+        Ok(Cell::Wide(place as u32))
     }
 }
