@@ -1,4 +1,4 @@
-% Takeuchi's function on Peano numbers, again and again. No number falls below the least of the three but by one.
+% Takeuchi's function on Peano numbers. No number falls below the least of the three but by one.
 tak(X, Y, Z, A) :- le(X, Y), !, A = Z.
 tak(X, Y, Z, A) :-
     X = s(U), Y = s(V), Z = s(W),
@@ -11,11 +11,5 @@ le(s(X), s(Y)) :- le(X, Y).
 seven(s(s(s(s(s(s(s(o)))))))).
 five(s(s(s(s(s(o)))))).
 three(s(s(s(o)))).
-run(A) :- seven(X), five(Y), three(Z), tak(X, Y, Z, A).
 
-% Ten billion times, by failure: each time the memory is given back.
-again :- ten, ten, ten, ten, ten, ten, ten, ten, ten, ten.
-ten. ten. ten. ten. ten. ten. ten. ten. ten. ten.
-
-:- initialization((run(A), write(A), nl)).
-:- initialization((again, run(_), fail)).
+round(A) :- seven(X), five(Y), three(Z), tak(X, Y, Z, A).
