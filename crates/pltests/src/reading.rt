@@ -1,5 +1,5 @@
 //! Terms from tokens (plread).
-use crate::made::{atom, one, pair};
+use crate::made::shape;
 use pllex::clause::clause_tokens;
 use plops::flag::Quotes;
 use plops::table::OpTable;
@@ -10,10 +10,8 @@ use plread::read::read_clause;
 use plread::token::Token;
 use plread::words::Words;
 use plterm::name::Name;
-use plterm::node::Node;
 use plterm::term::Term;
 use std::alloc::{AllocError, Global};
-use std::fmt::Write;
 use std::string::String;
 use std::test::Fail;
 
@@ -29,32 +27,23 @@ fn read(alloc: Global, text: &[u8], levels: u64) -> Result<Option<Term>, ReadErr
     }
 }
 
-fn is_read_as(alloc: Global, text: &[u8], wanted: &Term) -> Result<bool, ReadError> {
-    match read(alloc, text, 65536)? {
-        Some(term) => Ok(term.is_same(wanted)),
-        None => Ok(false),
-    }
-}
-
-// Facts, functional notation, rules and directives (6.3).
+// Facts, functional notation, rules and directives (6.3): the nodes in prefix order.
 #[test]
 fn reads(rt: HostRuntime) -> Result<(), Fail> {
     let alloc = rt.alloc();
-    let goals = pair(alloc, ",", atom(alloc, "b")?, atom(alloc, "c")?)?;
-    let rule = pair(alloc, ":-", atom(alloc, "a")?, goals)?;
-    assert!(rt; is_read_as(alloc, b"a:-b,c.", &rule)?);
-    assert!(rt; is_read_as(alloc, b":-(a,(b,c)) .", &rule)?);
-    let arrow = pair(alloc, "-->", atom(alloc, "a")?, atom(alloc, "b")?)?;
-    assert!(rt; is_read_as(alloc, b"-->(a,b).", &arrow)?);
-    let directive = one(alloc, ":-", atom(alloc, "a")?)?;
-    assert!(rt; is_read_as(alloc, b":-a.", &directive)?);
-    let variables = pair(alloc, "f", Term::var(alloc, 0)?, Term::var(alloc, 1)?)?;
-    let again = pair(alloc, "f", Term::var(alloc, 0)?, Term::var(alloc, 2)?)?;
-    let clause = pair(alloc, ":-", variables, again)?;
-    assert!(rt; is_read_as(alloc, b"f(X,_):-f(X,_).", &clause)?);
-    let greatest = one(alloc, "x", Term::int(alloc, 9223372036854775807)?)?;
-    assert!(rt; is_read_as(alloc, b"x(9223372036854775807).", &greatest)?);
-    assert!(rt; is_read_as(alloc, b"(:-).", &atom(alloc, ":-")?)?);
+    let rows: [(&[u8], &str); 7] = [
+        (b"a:-b,c.", ":-/2 a ,/2 b c"),
+        (b":-(a,(b,c)) .", ":-/2 a ,/2 b c"),
+        (b"-->(a,b).", "-->/2 a b"),
+        (b":-a.", ":-/1 a"),
+        (b"f(X,_):-f(X,_).", ":-/2 f/2 _0 _1 f/2 _0 _2"),
+        (b"x(9223372036854775807).", "x/1 9223372036854775807"),
+        (b"(:-).", ":-"),
+    ];
+    for (text, wanted) in rows.iter() {
+        let term = read(alloc, text, 65536)?.ok_or("no clause")?;
+        assert_eq!(rt; shape(alloc, &term)?.as_str(), *wanted);
+    }
     Ok(())
 }
 
@@ -124,23 +113,6 @@ fn arities(rt: HostRuntime) -> Result<(), Fail> {
     let found = read(alloc, &wide(alloc, 1025)?, 1).err();
     assert_eq!(rt; found, Some(ReadError::Syntax(0)));
     Ok(())
-}
-
-/// The nodes of a term in prefix order, with the arity of each compound.
-fn shape(alloc: Global, term: &Term) -> Result<String, Fail> {
-    let mut made = String::new(alloc);
-    for node in term.nodes().iter().rev() {
-        if !made.is_empty() {
-            made.push(' ')?;
-        }
-        match node {
-            Node::Var(number) => write!(made, "_{}", number)?,
-            Node::Int(value) => write!(made, "{}", value)?,
-            Node::Atom(name) => write!(made, "{}", name.as_str())?,
-            Node::Compound(name, arity) => write!(made, "{}/{}", name.as_str(), arity)?,
-        }
-    }
-    Ok(made)
 }
 
 fn named(alloc: Global, words: &mut Words, text: &str, bare: bool) -> Result<Token, AllocError> {

@@ -21,7 +21,7 @@ returns-in-Some-clause-refused c =
     let next = rw c.in-Reads.is at c.in_ok-next_of.ensures.next in
     let answer = rw c.in-Some.is at c.in_ok-kind-in-Reads.ensures in
     told with_line [] c.args.text.now c.clauses.place c.clauses.settings c.clauses.lines.items c.in-Reads.first c.in-Some.kind c.refused-in-Some.result c.clauses.invariant.ends
-    (bad c.args.text.now c.clauses.place c.clauses.settings c.take.new.self c.in-Reads.term c.in-Reads.first c.in-Reads.after (shown c.in_ok-meaning-in-Reads.meaning) c.in-Some.kind next c.in_ok-meaning-in-Reads.ensures answer)
+    (bad c.args.text.now c.clauses.place c.clauses.settings c.take.new.settings c.in-Reads.term c.in-Reads.first c.in-Reads.after (shown c.in_ok-meaning-in-Reads.meaning) c.in-Some.kind next c.in_ok-meaning-in-Reads.ensures answer)
     c.refused-in-Some.ensures
 
 pub clauses-preserved : goal.clauses-preserved
@@ -34,6 +34,6 @@ clauses-preserved c =
     record {
       within = moves.1;
       ends = λ end rest. c.clauses.invariant.ends end (goes
-          (good c.args.text.now c.clauses.place c.clauses.settings c.take.new.self c.in-Reads.term c.in-Reads.first c.in-Reads.after (shown c.in_ok-meaning-in-Reads.meaning) next c.in_ok-meaning-in-Reads.ensures answer)
-          (subst (λ bs. Runs with_line c.args.text.now c.in-Reads.after c.take.new.self bs end) lines rest));
+          (good c.args.text.now c.clauses.place c.clauses.settings c.take.new.settings c.in-Reads.term c.in-Reads.first c.in-Reads.after (shown c.in_ok-meaning-in-Reads.meaning) next c.in_ok-meaning-in-Reads.ensures answer)
+          (subst (λ bs. Runs with_line c.args.text.now c.in-Reads.after c.take.new.settings bs end) lines rest));
     }

@@ -22,7 +22,7 @@ returns-in-Some-clause-refused c =
     let next = rw c.in-Reads.is at c.in_ok-next_of.ensures.next in
     let answer = rw c.in-Some.is at c.in_ok-kind-in-Reads.ensures in
     told with_term empty_draft c.args.text.now c.clauses.place c.clauses.settings c.clauses.draft c.in-Reads.first c.in-Some.kind c.refused-in-Some.result c.clauses.invariant.ends
-    (bad c.args.text.now c.clauses.place c.clauses.settings c.take.new.self c.in-Reads.term c.in-Reads.first c.in-Reads.after (shown c.in_ok-meaning-in-Reads.meaning) c.in-Some.kind next c.in_ok-meaning-in-Reads.ensures answer)
+    (bad c.args.text.now c.clauses.place c.clauses.settings c.take.new.settings c.in-Reads.term c.in-Reads.first c.in-Reads.after (shown c.in_ok-meaning-in-Reads.meaning) c.in-Some.kind next c.in_ok-meaning-in-Reads.ensures answer)
     c.refused-in-Some.ensures
 
 pub clauses-preserved : goal.clauses-preserved
@@ -36,6 +36,6 @@ clauses-preserved c =
       within = moves.1;
       counted = omega (arith, ap (λ (d : Draft). d.directives) c.in_ok-add-in-Reads.ensures, counts_once c.clauses.draft m, c.clauses.invariant.counted, moves.0);
       ends = λ end rest. c.clauses.invariant.ends end (goes
-          (good c.args.text.now c.clauses.place c.clauses.settings c.take.new.self c.in-Reads.term c.in-Reads.first c.in-Reads.after m next c.in_ok-meaning-in-Reads.ensures answer)
-          (subst (λ d. Runs with_term c.args.text.now c.in-Reads.after c.take.new.self d end) added rest));
+          (good c.args.text.now c.clauses.place c.clauses.settings c.take.new.settings c.in-Reads.term c.in-Reads.first c.in-Reads.after m next c.in_ok-meaning-in-Reads.ensures answer)
+          (subst (λ d. Runs with_term c.args.text.now c.in-Reads.after c.take.new.settings d end) added rest));
     }
