@@ -1,72 +1,64 @@
-//! Clauses (plclause).
-use crate::made::{atom, one, pair};
+//! Clauses, and goals of terms (plclause).
+use crate::made::{shape, term_of};
 use plclause::convert::convert;
 use plclause::form::{ClauseForm, clause_of};
-use plterm::term::Term;
+use std::alloc::Global;
+use std::string::String;
 use std::test::Fail;
 
-// `p(X) :- X` has the body `call(X)`, its variable being 0.
-#[test]
-fn variable_bodies(rt: HostRuntime) -> Result<(), Fail> {
-    let alloc = rt.alloc();
-    let head = one(alloc, "p", Term::var(alloc, 4)?)?;
-    let term = pair(alloc, ":-", head, Term::var(alloc, 4)?)?;
+/// What a term is as a clause, its variables numbered from 4: the head, the body, how many variables, and the
+/// procedure; or why it is none.
+fn form_of(alloc: Global, text: &str) -> Result<String, Fail> {
+    let term = term_of(alloc, text)?.copy(alloc, 4)?;
     match clause_of(alloc, &term)? {
         ClauseForm::IsClause(clause) => {
-            let copy = clause.copied()?;
-            assert!(rt; copy.head().is_same(&one(alloc, "p", Term::var(alloc, 0)?)?));
-            assert!(rt;
-                copy.body()
-                    .is_same(&one(alloc, "call", Term::var(alloc, 0)?)?)
-            );
-            assert_eq!(rt; copy.variables(), 1);
-            let indicator = copy.indicator()?;
-            assert_eq!(rt; indicator.name.as_str(), "p");
-            assert_eq!(rt; indicator.arity, 1);
+            let clause = clause.copied()?;
+            let head = shape(alloc, clause.head())?;
+            let body = shape(alloc, clause.body())?;
+            let of = clause.indicator()?;
+            let variables = clause.variables();
+            let name = of.name.as_str();
+            let arity = of.arity;
+            Ok(format!(in alloc; "{head} <- {body}, {variables} variables, of {name}/{arity}")?)
         }
-        ClauseForm::NoHead | ClauseForm::BadHead(_) | ClauseForm::BadBody(_) => assert!(rt;
-            false,
-            "a clause"
-        ),
-    }
-    Ok(())
-}
-
-// `p :- q, 1` has a bad body, `1 :- a` a bad head, and `X :- a` none. `b` is a fact.
-#[test]
-fn refusals(rt: HostRuntime) -> Result<(), Fail> {
-    let alloc = rt.alloc();
-    let body = pair(alloc, ",", atom(alloc, "q")?, Term::int(alloc, 1)?)?;
-    let term = pair(alloc, ":-", atom(alloc, "p")?, body)?;
-    match clause_of(alloc, &term)? {
+        ClauseForm::NoHead => Ok(String::from_str(alloc, "no head")?),
+        ClauseForm::BadHead(_) => Ok(String::from_str(alloc, "a bad head")?),
         ClauseForm::BadBody(found) => {
-            assert!(rt; found.is_same(&pair(alloc, ",", atom(alloc, "q")?, Term::int(alloc, 1)?)?));
+            let body = shape(alloc, &found)?;
+            Ok(format!(in alloc; "a bad body {body}")?)
         }
-        ClauseForm::NoHead | ClauseForm::BadHead(_) | ClauseForm::IsClause(_) => assert!(rt;
-            false,
-            "a bad body"
-        ),
     }
-    let numbered = pair(alloc, ":-", Term::int(alloc, 1)?, atom(alloc, "a")?)?;
-    let found = clause_of(alloc, &numbered)?;
-    assert!(rt; matches!(&found, ClauseForm::BadHead(_)));
-    let open = pair(alloc, ":-", Term::var(alloc, 0)?, atom(alloc, "a")?)?;
-    let found = clause_of(alloc, &open)?;
-    assert!(rt; matches!(&found, ClauseForm::NoHead));
-    let found = clause_of(alloc, &atom(alloc, "b")?)?;
-    assert!(rt; matches!(&found, ClauseForm::IsClause(_)));
+}
+
+// A variable as a body is called; variables are 0, 1, .. by first occurrence; what is no clause, and why (7.6).
+#[test]
+fn forms(rt: HostRuntime) -> Result<(), Fail> {
+    for (text, wanted) in [
+        ("p(X) :- X", "p/1 _0 <- call/1 _0, 1 variables, of p/1"),
+        ("b", "b <- true, 0 variables, of b/0"),
+        ("p :- q, 1", "a bad body ,/2 q 1"),
+        ("1 :- a", "a bad head"),
+        ("X :- a", "no head"),
+    ] {
+        assert_eq!(rt; form_of(rt.alloc(), text)?.as_str(), wanted);
+    }
     Ok(())
 }
 
-// `(a ; X)` stands for the goal `(a ; call(X))`, and `(a , 1)` for none (7.6.2).
+/// The goal that a term stands for, if it stands for one.
+fn goal_of(alloc: Global, text: &str) -> Result<String, Fail> {
+    let term = term_of(alloc, text)?;
+    match convert(alloc, &term.root())? {
+        Some(goal) => shape(alloc, &goal),
+        None => Ok(String::from_str(alloc, "none")?),
+    }
+}
+
+// A variable is called within control constructs, and a number is no goal (7.6.2).
 #[test]
 fn goals(rt: HostRuntime) -> Result<(), Fail> {
-    let alloc = rt.alloc();
-    let term = pair(alloc, ";", atom(alloc, "a")?, Term::var(alloc, 4)?)?;
-    let goal = convert(alloc, &term.root())?.ok_or("no goal")?;
-    let called = one(alloc, "call", Term::var(alloc, 4)?)?;
-    assert!(rt; goal.is_same(&pair(alloc, ";", atom(alloc, "a")?, called)?));
-    let term = pair(alloc, ",", atom(alloc, "a")?, Term::int(alloc, 1)?)?;
-    assert!(rt; convert(alloc, &term.root())?.is_none());
+    for (text, wanted) in [("a ; X", ";/2 a call/1 _0"), ("a , 1", "none")] {
+        assert_eq!(rt; goal_of(rt.alloc(), text)?.as_str(), wanted);
+    }
     Ok(())
 }

@@ -20,8 +20,6 @@ mod programs;
 #[cfg(test)]
 mod reading;
 #[cfg(test)]
-mod styles;
-#[cfg(test)]
 mod terms;
 #[cfg(test)]
 mod tokens;

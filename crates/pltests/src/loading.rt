@@ -34,56 +34,58 @@ fn programs(rt: HostRuntime) -> Result<(), Fail> {
     Ok(())
 }
 
+/// A text, and the line, the column and the kind of its first refusal.
+const REFUSALS: [(&str, u64, u64, RefusalKind); 23] = [
+    ("a.\nb.\nc :- x,", 3, 1, RefusalKind::Lex),
+    ("a. b('c).", 1, 6, RefusalKind::Lex),
+    (":- op(200, xf, +).", 1, 1, RefusalKind::BadDirective),
+    (":- op(700, xfx, [a, ','])).", 1, 1, RefusalKind::Syntax),
+    (
+        ":- op(700, xfx, [a, ',']).",
+        1,
+        1,
+        RefusalKind::BadDirective,
+    ),
+    (":- dynamic(p).", 1, 1, RefusalKind::BadDirective),
+    (":- dynamic(true/0).", 1, 1, RefusalKind::BadDirective),
+    (":- module(m, []).", 1, 1, RefusalKind::BadDirective),
+    (":- thread_local a/1.", 1, 1, RefusalKind::BadDirective),
+    (
+        ":- set_prolog_flag(max_arity, 1).",
+        1,
+        1,
+        RefusalKind::BadDirective,
+    ),
+    (":- use_module(lists).", 1, 1, RefusalKind::BadDirective),
+    (
+        "a. X ===> b. :- op(700, xfx, ===>).",
+        1,
+        4,
+        RefusalKind::Syntax,
+    ),
+    ("a.\n  b c.", 2, 3, RefusalKind::Syntax),
+    ("1 :- a.", 1, 1, RefusalKind::NotCallable),
+    ("X.", 1, 1, RefusalKind::NotCallable),
+    ("a. p :- q, 1.", 1, 4, RefusalKind::NotCallable),
+    ("true.", 1, 1, RefusalKind::StaticRedefined),
+    ("write(X) :- nl.", 1, 1, RefusalKind::StaticRedefined),
+    ("-->(a, b).", 1, 1, RefusalKind::StaticRedefined),
+    ("a --> b.", 1, 1, RefusalKind::StaticRedefined),
+    (":- initialization.", 1, 1, RefusalKind::BadDirective),
+    (":- X.", 1, 1, RefusalKind::BadDirective),
+    (
+        ":- initialization((a, 1)).",
+        1,
+        1,
+        RefusalKind::BadDirective,
+    ),
+];
+
 // The first clause that is refused, with its line and its column.
 #[test]
 fn refusals(rt: HostRuntime) -> Result<(), Fail> {
     let alloc = rt.alloc();
-    let table = [
-        ("a.\nb.\nc :- x,", 3, 1, RefusalKind::Lex),
-        ("a. b('c).", 1, 6, RefusalKind::Lex),
-        (":- op(200, xf, +).", 1, 1, RefusalKind::BadDirective),
-        (":- op(700, xfx, [a, ','])).", 1, 1, RefusalKind::Syntax),
-        (
-            ":- op(700, xfx, [a, ',']).",
-            1,
-            1,
-            RefusalKind::BadDirective,
-        ),
-        (":- dynamic(p).", 1, 1, RefusalKind::BadDirective),
-        (":- dynamic(true/0).", 1, 1, RefusalKind::BadDirective),
-        (":- module(m, []).", 1, 1, RefusalKind::BadDirective),
-        (":- thread_local a/1.", 1, 1, RefusalKind::BadDirective),
-        (
-            ":- set_prolog_flag(max_arity, 1).",
-            1,
-            1,
-            RefusalKind::BadDirective,
-        ),
-        (":- use_module(lists).", 1, 1, RefusalKind::BadDirective),
-        (
-            "a. X ===> b. :- op(700, xfx, ===>).",
-            1,
-            4,
-            RefusalKind::Syntax,
-        ),
-        ("a.\n  b c.", 2, 3, RefusalKind::Syntax),
-        ("1 :- a.", 1, 1, RefusalKind::NotCallable),
-        ("X.", 1, 1, RefusalKind::NotCallable),
-        ("a. p :- q, 1.", 1, 4, RefusalKind::NotCallable),
-        ("true.", 1, 1, RefusalKind::StaticRedefined),
-        ("write(X) :- nl.", 1, 1, RefusalKind::StaticRedefined),
-        ("-->(a, b).", 1, 1, RefusalKind::StaticRedefined),
-        ("a --> b.", 1, 1, RefusalKind::StaticRedefined),
-        (":- initialization.", 1, 1, RefusalKind::BadDirective),
-        (":- X.", 1, 1, RefusalKind::BadDirective),
-        (
-            ":- initialization((a, 1)).",
-            1,
-            1,
-            RefusalKind::BadDirective,
-        ),
-    ];
-    for (text, line, column, kind) in table {
+    for (text, line, column, kind) in REFUSALS {
         assert_eq!(rt;
             counts(alloc, text, "p", 0),
             refused(line, column, kind),

@@ -4,29 +4,32 @@ use plops::operator::{Kind, Operator};
 use plops::table::OpTable;
 use std::test::Fail;
 
+/// A name, and its priorities as an infix and as a prefix operator; 0 where it is none.
+const OPERATORS: [(&str, u16, u16); 17] = [
+    (":-", 1200, 1200),
+    ("?-", 0, 1200),
+    ("dynamic", 0, 1150),
+    (";", 1100, 0),
+    ("->", 1050, 0),
+    (",", 1000, 0),
+    ("\\+", 0, 900),
+    ("=..", 700, 0),
+    ("is", 700, 0),
+    ("-", 500, 200),
+    ("//", 400, 0),
+    ("mod", 400, 0),
+    ("**", 200, 0),
+    ("^", 200, 0),
+    ("\\", 0, 200),
+    ("<", 700, 0),
+    ("a", 0, 0),
+];
+
 // The operators of the standard's table, and of directives; `<` is before no operand, `a` is no operator.
 #[test]
 fn looks_up(rt: HostRuntime) -> Result<(), Fail> {
     let iso = OpTable::iso(rt.alloc())?;
-    for (name, infix, prefix) in [
-        (":-", 1200, 1200),
-        ("?-", 0, 1200),
-        ("dynamic", 0, 1150),
-        (";", 1100, 0),
-        ("->", 1050, 0),
-        (",", 1000, 0),
-        ("\\+", 0, 900),
-        ("=..", 700, 0),
-        ("is", 700, 0),
-        ("-", 500, 200),
-        ("//", 400, 0),
-        ("mod", 400, 0),
-        ("**", 200, 0),
-        ("^", 200, 0),
-        ("\\", 0, 200),
-        ("<", 700, 0),
-        ("a", 0, 0),
-    ] {
+    for (name, infix, prefix) in OPERATORS {
         assert_eq!(rt;
             iso.infix(name).map_or(0, |op| op.priority),
             infix,

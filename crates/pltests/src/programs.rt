@@ -1,5 +1,5 @@
 //! Loaded programs (plprogram).
-use crate::made::atom;
+use crate::made::term_of;
 use plload::load::load;
 use plprogram::settings::Unknown;
 use std::test::Fail;
@@ -19,10 +19,10 @@ fn parts(rt: HostRuntime) -> Result<(), Fail> {
             .map_or(0, |op| op.priority),
         700
     );
-    let goal = atom(alloc, "q")?;
+    let goal = term_of(alloc, "q")?;
     let program = program.with_goal(Some(goal))?;
     match program.goals() {
-        [_, last] => assert!(rt; last.is_same(&atom(alloc, "q")?)),
+        [_, last] => assert!(rt; last.is_same(&term_of(alloc, "q")?)),
         _ => return Err("two goals".into()),
     }
     Ok(())

@@ -1,5 +1,5 @@
 //! Terms from tokens (plread).
-use crate::made::{atom, one, pair};
+use crate::made::shape;
 use pllex::clause::clause_tokens;
 use plops::flag::Quotes;
 use plops::table::OpTable;
@@ -10,10 +10,8 @@ use plread::read::read_clause;
 use plread::token::Token;
 use plread::words::Words;
 use plterm::name::Name;
-use plterm::node::Node;
 use plterm::term::Term;
 use std::alloc::{AllocError, Global};
-use std::fmt::Write;
 use std::string::String;
 use std::test::Fail;
 
@@ -29,32 +27,23 @@ fn read(alloc: Global, text: &[u8], levels: u64) -> Result<Option<Term>, ReadErr
     }
 }
 
-fn is_read_as(alloc: Global, text: &[u8], wanted: &Term) -> Result<bool, ReadError> {
-    match read(alloc, text, 65536)? {
-        Some(term) => Ok(term.is_same(wanted)),
-        None => Ok(false),
-    }
-}
-
-// Facts, functional notation, rules and directives (6.3).
+// Facts, functional notation, rules and directives (6.3): the nodes in prefix order.
 #[test]
 fn reads(rt: HostRuntime) -> Result<(), Fail> {
     let alloc = rt.alloc();
-    let goals = pair(alloc, ",", atom(alloc, "b")?, atom(alloc, "c")?)?;
-    let rule = pair(alloc, ":-", atom(alloc, "a")?, goals)?;
-    assert!(rt; is_read_as(alloc, b"a:-b,c.", &rule)?);
-    assert!(rt; is_read_as(alloc, b":-(a,(b,c)) .", &rule)?);
-    let arrow = pair(alloc, "-->", atom(alloc, "a")?, atom(alloc, "b")?)?;
-    assert!(rt; is_read_as(alloc, b"-->(a,b).", &arrow)?);
-    let directive = one(alloc, ":-", atom(alloc, "a")?)?;
-    assert!(rt; is_read_as(alloc, b":-a.", &directive)?);
-    let variables = pair(alloc, "f", Term::var(alloc, 0)?, Term::var(alloc, 1)?)?;
-    let again = pair(alloc, "f", Term::var(alloc, 0)?, Term::var(alloc, 2)?)?;
-    let clause = pair(alloc, ":-", variables, again)?;
-    assert!(rt; is_read_as(alloc, b"f(X,_):-f(X,_).", &clause)?);
-    let greatest = one(alloc, "x", Term::int(alloc, 9223372036854775807)?)?;
-    assert!(rt; is_read_as(alloc, b"x(9223372036854775807).", &greatest)?);
-    assert!(rt; is_read_as(alloc, b"(:-).", &atom(alloc, ":-")?)?);
+    let rows: [(&[u8], &str); 7] = [
+        (b"a:-b,c.", ":-/2 a ,/2 b c"),
+        (b":-(a,(b,c)) .", ":-/2 a ,/2 b c"),
+        (b"-->(a,b).", "-->/2 a b"),
+        (b":-a.", ":-/1 a"),
+        (b"f(X,_):-f(X,_).", ":-/2 f/2 _0 _1 f/2 _0 _2"),
+        (b"x(9223372036854775807).", "x/1 9223372036854775807"),
+        (b"(:-).", ":-"),
+    ];
+    for (text, wanted) in rows.iter() {
+        let term = read(alloc, text, 65536)?.ok_or("no clause")?;
+        assert_eq!(rt; shape(alloc, &term)?.as_str(), *wanted);
+    }
     Ok(())
 }
 
@@ -126,23 +115,6 @@ fn arities(rt: HostRuntime) -> Result<(), Fail> {
     Ok(())
 }
 
-/// The nodes of a term in prefix order, with the arity of each compound.
-fn shape(alloc: Global, term: &Term) -> Result<String, Fail> {
-    let mut made = String::new(alloc);
-    for node in term.nodes().iter().rev() {
-        if !made.is_empty() {
-            made.push(' ')?;
-        }
-        match node {
-            Node::Var(number) => write!(made, "_{}", number)?,
-            Node::Int(value) => write!(made, "{}", value)?,
-            Node::Atom(name) => write!(made, "{}", name.as_str())?,
-            Node::Compound(name, arity) => write!(made, "{}/{}", name.as_str(), arity)?,
-        }
-    }
-    Ok(made)
-}
-
 fn named(alloc: Global, words: &mut Words, text: &str, bare: bool) -> Result<Token, AllocError> {
     if text.len() > 65535 {
         return Err(AllocError);
@@ -207,58 +179,60 @@ fn shape_of(alloc: Global, pieces: &str, levels: u64) -> Result<String, Fail> {
     }
 }
 
+/// Pieces, the least number of levels, and the nodes in prefix order.
+const FORMS: [(&str, u64, &str); 41] = [
+    ("a .", 0, "a"),
+    ("'a' .", 0, "a"),
+    ("9223372036854775807 .", 0, "9223372036854775807"),
+    ("- 1 .", 0, "-1"),
+    ("- 0 .", 0, "0"),
+    ("- 9223372036854775808 .", 0, "-9223372036854775808"),
+    ("[ ] .", 0, "[]"),
+    ("{ } .", 0, "{}"),
+    ("\"\" .", 0, "[]"),
+    ("\"aé\" .", 0, "./2 97 ./2 233 []"),
+    ("`é` .", 0, "./2 é []"),
+    ("( a ) .", 1, "a"),
+    ("f ( X , Y , X ) .", 1, "f/3 _0 _1 _0"),
+    ("'[]' ( a ) .", 1, "[]/1 a"),
+    ("- ( 1 ) .", 1, "-/1 1"),
+    ("f ( - ) .", 1, "f/1 -"),
+    ("x ( '-' ) .", 1, "x/1 -"),
+    ("f ( - 1 ) .", 1, "f/1 -1"),
+    ("[ a ] .", 1, "./2 a []"),
+    ("[ a , b ] .", 1, "./2 a ./2 b []"),
+    ("[ a | b ] .", 1, "./2 a b"),
+    ("[ a , b | X ] .", 1, "./2 a ./2 b _0"),
+    ("[ :- | :- ] .", 1, "./2 :- :-"),
+    (
+        "[ [ a ] , [ ] | [ b ] ] .",
+        2,
+        "./2 ./2 a [] ./2 [] ./2 b []",
+    ),
+    ("{ a } .", 1, "{}/1 a"),
+    ("{ a , b } .", 2, "{}/1 ,/2 a b"),
+    ("{ a :- b } .", 2, "{}/1 :-/2 a b"),
+    ("[ ( a :- b ) ] .", 3, "./2 :-/2 a b []"),
+    ("[ { [ a ] } ] .", 3, "./2 {}/1 ./2 a [] []"),
+    (":- a .", 1, ":-/1 a"),
+    (":-  ( a ) .", 2, ":-/1 a"),
+    (":- ( a ) .", 1, ":-/1 a"),
+    (":- [ a ] .", 2, ":-/1 ./2 a []"),
+    (":- \"a\" .", 1, ":-/1 ./2 97 []"),
+    ("a :- b , c .", 2, ":-/2 a ,/2 b c"),
+    ("a ':-' b .", 1, ":-/2 a b"),
+    ("( a ',' b ) .", 2, ",/2 a b"),
+    ("f ( ',' ) .", 1, "f/1 ,"),
+    ("f ( :- , ( a :- b ) ) .", 3, "f/2 :- :-/2 a b"),
+    ("( :- ) .", 1, ":-"),
+    (":- ( a , b ) .", 1, ":-/2 a b"),
+];
+
 // Each form of term, by its nodes in prefix order; the least number of levels; and no term with one level less (6.3).
 #[test]
 fn forms(rt: HostRuntime) -> Result<(), Fail> {
     let alloc = rt.alloc();
-    let rows = [
-        ("a .", 0, "a"),
-        ("'a' .", 0, "a"),
-        ("9223372036854775807 .", 0, "9223372036854775807"),
-        ("- 1 .", 0, "-1"),
-        ("- 0 .", 0, "0"),
-        ("- 9223372036854775808 .", 0, "-9223372036854775808"),
-        ("[ ] .", 0, "[]"),
-        ("{ } .", 0, "{}"),
-        ("\"\" .", 0, "[]"),
-        ("\"aé\" .", 0, "./2 97 ./2 233 []"),
-        ("`é` .", 0, "./2 é []"),
-        ("( a ) .", 1, "a"),
-        ("f ( X , Y , X ) .", 1, "f/3 _0 _1 _0"),
-        ("'[]' ( a ) .", 1, "[]/1 a"),
-        ("- ( 1 ) .", 1, "-/1 1"),
-        ("f ( - ) .", 1, "f/1 -"),
-        ("x ( '-' ) .", 1, "x/1 -"),
-        ("f ( - 1 ) .", 1, "f/1 -1"),
-        ("[ a ] .", 1, "./2 a []"),
-        ("[ a , b ] .", 1, "./2 a ./2 b []"),
-        ("[ a | b ] .", 1, "./2 a b"),
-        ("[ a , b | X ] .", 1, "./2 a ./2 b _0"),
-        ("[ :- | :- ] .", 1, "./2 :- :-"),
-        (
-            "[ [ a ] , [ ] | [ b ] ] .",
-            2,
-            "./2 ./2 a [] ./2 [] ./2 b []",
-        ),
-        ("{ a } .", 1, "{}/1 a"),
-        ("{ a , b } .", 2, "{}/1 ,/2 a b"),
-        ("{ a :- b } .", 2, "{}/1 :-/2 a b"),
-        ("[ ( a :- b ) ] .", 3, "./2 :-/2 a b []"),
-        ("[ { [ a ] } ] .", 3, "./2 {}/1 ./2 a [] []"),
-        (":- a .", 1, ":-/1 a"),
-        (":-  ( a ) .", 2, ":-/1 a"),
-        (":- ( a ) .", 1, ":-/1 a"),
-        (":- [ a ] .", 2, ":-/1 ./2 a []"),
-        (":- \"a\" .", 1, ":-/1 ./2 97 []"),
-        ("a :- b , c .", 2, ":-/2 a ,/2 b c"),
-        ("a ':-' b .", 1, ":-/2 a b"),
-        ("( a ',' b ) .", 2, ",/2 a b"),
-        ("f ( ',' ) .", 1, "f/1 ,"),
-        ("f ( :- , ( a :- b ) ) .", 3, "f/2 :- :-/2 a b"),
-        ("( :- ) .", 1, ":-"),
-        (":- ( a , b ) .", 1, ":-/2 a b"),
-    ];
-    for row in rows.iter() {
+    for row in FORMS.iter() {
         let (pieces, levels, wanted) = row;
         let found = shape_of(alloc, pieces, *levels)?;
         assert_eq!(rt; found.as_str(), *wanted);
@@ -270,37 +244,39 @@ fn forms(rt: HostRuntime) -> Result<(), Fail> {
     Ok(())
 }
 
+/// Pieces that spell no term.
+const NO_FORMS: [&str; 24] = [
+    "9223372036854775808 .",
+    ":- 9223372036854775808 .",
+    "( a | b ) .",
+    "[ | a ] .",
+    "[ a | b | c ] .",
+    "[ a | b , c ] .",
+    "[ a , ] .",
+    "[ a :- b ] .",
+    "[ :- a ] .",
+    "[ a | b :- c ] .",
+    "[ a .",
+    "( a ] .",
+    "{ a .",
+    "{ a ] .",
+    "[ ] ( a ) .",
+    "{ } ( a ) .",
+    "X ( a ) .",
+    "f  ( a ) .",
+    "f ( ) .",
+    "f ( a ',' b ) .",
+    "a b .",
+    "a :- b :- c .",
+    "a . .",
+    ".",
+];
+
 // What spells no term.
 #[test]
 fn no_forms(rt: HostRuntime) -> Result<(), Fail> {
     let alloc = rt.alloc();
-    let rows = [
-        "9223372036854775808 .",
-        ":- 9223372036854775808 .",
-        "( a | b ) .",
-        "[ | a ] .",
-        "[ a | b | c ] .",
-        "[ a | b , c ] .",
-        "[ a , ] .",
-        "[ a :- b ] .",
-        "[ :- a ] .",
-        "[ a | b :- c ] .",
-        "[ a .",
-        "( a ] .",
-        "{ a .",
-        "{ a ] .",
-        "[ ] ( a ) .",
-        "{ } ( a ) .",
-        "X ( a ) .",
-        "f  ( a ) .",
-        "f ( ) .",
-        "f ( a ',' b ) .",
-        "a b .",
-        "a :- b :- c .",
-        "a . .",
-        ".",
-    ];
-    for pieces in rows.iter() {
+    for pieces in NO_FORMS.iter() {
         let found = shape_of(alloc, pieces, 65536)?;
         assert_eq!(rt; found.as_str(), "none");
     }

@@ -76,56 +76,58 @@ fn tokens_of_a_clause(rt: HostRuntime) -> Result<(), Fail> {
     Ok(())
 }
 
+/// A text, the kind of its first token, and where it ends.
+const FIRST_TOKENS: [(&[u8], Kind, usize); 36] = [
+    (b"aB_1(.", Kind::Name, 4),
+    (b"\\+a.", Kind::Name, 2),
+    (b";;.", Kind::Name, 1),
+    (b"!!.", Kind::Name, 1),
+    (b"''.", Kind::QuotedName, 2),
+    (b"'a''b'.", Kind::QuotedName, 6),
+    (b"'a\"b'.", Kind::QuotedName, 5),
+    (b"'a\tb'.", Kind::QuotedName, 5),
+    (b"'a\\\nb'.", Kind::QuotedName, 6),
+    (b"'\\x41\\\\101\\'.", Kind::QuotedName, 12),
+    (b"'\xC3\xA9'.", Kind::QuotedName, 4),
+    (b"'a'b.", Kind::QuotedName, 3),
+    (b"\"a'b\".", Kind::DoubleQuoted, 5),
+    (b"\"\"\"\".", Kind::DoubleQuoted, 4),
+    (b"_.", Kind::Variable, 1),
+    (b"Ab9c.", Kind::Variable, 4),
+    (b"007.", Kind::Integer(7), 3),
+    (b"0x1Fg.", Kind::Integer(31), 4),
+    (b"0xg.", Kind::Integer(0), 1),
+    (b"0o178.", Kind::Integer(15), 4),
+    (b"0o8.", Kind::Integer(0), 1),
+    (b"0b102.", Kind::Integer(2), 4),
+    (b"0b2.", Kind::Integer(0), 1),
+    (b"0x1.5.", Kind::Integer(1), 3),
+    (
+        b"0x8000000000000000.",
+        Kind::Integer(9223372036854775808),
+        18,
+    ),
+    (b"0'a.", Kind::Integer(97), 3),
+    (b"0'''.", Kind::Integer(39), 4),
+    (b"0''.", Kind::Integer(39), 3),
+    (b"0'\\n.", Kind::Integer(10), 4),
+    (b"0'\\x41\\.", Kind::Integer(65), 7),
+    (b"0'\\101\\.", Kind::Integer(65), 7),
+    (b"0' .", Kind::Integer(32), 3),
+    (b"0'\".", Kind::Integer(34), 3),
+    (b"0'\xE2\x82\xAC.", Kind::Integer(8364), 5),
+    (
+        b"9223372036854775808.",
+        Kind::Integer(9223372036854775808),
+        19,
+    ),
+    (b"1.a.", Kind::Integer(1), 1),
+];
+
 // The first token of a text: its kind, and where it ends.
 #[test]
 fn first_tokens(rt: HostRuntime) -> Result<(), Fail> {
-    let cases: [(&[u8], Kind, usize); 36] = [
-        (b"aB_1(.", Kind::Name, 4),
-        (b"\\+a.", Kind::Name, 2),
-        (b";;.", Kind::Name, 1),
-        (b"!!.", Kind::Name, 1),
-        (b"''.", Kind::QuotedName, 2),
-        (b"'a''b'.", Kind::QuotedName, 6),
-        (b"'a\"b'.", Kind::QuotedName, 5),
-        (b"'a\tb'.", Kind::QuotedName, 5),
-        (b"'a\\\nb'.", Kind::QuotedName, 6),
-        (b"'\\x41\\\\101\\'.", Kind::QuotedName, 12),
-        (b"'\xC3\xA9'.", Kind::QuotedName, 4),
-        (b"'a'b.", Kind::QuotedName, 3),
-        (b"\"a'b\".", Kind::DoubleQuoted, 5),
-        (b"\"\"\"\".", Kind::DoubleQuoted, 4),
-        (b"_.", Kind::Variable, 1),
-        (b"Ab9c.", Kind::Variable, 4),
-        (b"007.", Kind::Integer(7), 3),
-        (b"0x1Fg.", Kind::Integer(31), 4),
-        (b"0xg.", Kind::Integer(0), 1),
-        (b"0o178.", Kind::Integer(15), 4),
-        (b"0o8.", Kind::Integer(0), 1),
-        (b"0b102.", Kind::Integer(2), 4),
-        (b"0b2.", Kind::Integer(0), 1),
-        (b"0x1.5.", Kind::Integer(1), 3),
-        (
-            b"0x8000000000000000.",
-            Kind::Integer(9223372036854775808),
-            18,
-        ),
-        (b"0'a.", Kind::Integer(97), 3),
-        (b"0'''.", Kind::Integer(39), 4),
-        (b"0''.", Kind::Integer(39), 3),
-        (b"0'\\n.", Kind::Integer(10), 4),
-        (b"0'\\x41\\.", Kind::Integer(65), 7),
-        (b"0'\\101\\.", Kind::Integer(65), 7),
-        (b"0' .", Kind::Integer(32), 3),
-        (b"0'\".", Kind::Integer(34), 3),
-        (b"0'\xE2\x82\xAC.", Kind::Integer(8364), 5),
-        (
-            b"9223372036854775808.",
-            Kind::Integer(9223372036854775808),
-            19,
-        ),
-        (b"1.a.", Kind::Integer(1), 1),
-    ];
-    for (text, kind, end) in cases.iter() {
+    for (text, kind, end) in FIRST_TOKENS.iter() {
         let token = first(rt.alloc(), text)?;
         assert_eq!(rt; token.kind, *kind);
         assert_eq!(rt; token.end, *end);
@@ -133,56 +135,58 @@ fn first_tokens(rt: HostRuntime) -> Result<(), Fail> {
     Ok(())
 }
 
+/// A text, its first fault, and the place.
+const FAULTS: [(&[u8], Fault, usize); 44] = [
+    (b"a `b`.", Fault::BadCharacter, 2),
+    (b"a\x00.", Fault::BadCharacter, 1),
+    (b"\xC3\xA9.", Fault::BadCharacter, 0),
+    (b"a\xFF.", Fault::BadUtf8, 1),
+    (b"% \xC3(\na.", Fault::BadUtf8, 2),
+    (b"% \xE2\x82", Fault::BadUtf8, 2),
+    (b"/* \xED\xA0\x80 */a.", Fault::BadUtf8, 3),
+    (b"/* \xC0\x80 ", Fault::BadUtf8, 3),
+    (b"'a\xFFb'.", Fault::BadUtf8, 2),
+    (b"'\xC3", Fault::BadUtf8, 1),
+    (b"0'\xFF.", Fault::BadUtf8, 2),
+    (b"a 'b.", Fault::OpenQuoted, 2),
+    (b"\"", Fault::OpenQuoted, 0),
+    (b"'a\nb'.", Fault::OpenQuoted, 0),
+    (b"'a\\", Fault::OpenQuoted, 0),
+    (b"'a\\x41", Fault::OpenQuoted, 0),
+    (b"'a\\x\nb'.", Fault::OpenQuoted, 0),
+    (b"'a''", Fault::OpenQuoted, 0),
+    (b"0'", Fault::OpenQuoted, 1),
+    (b"'a\x07'.", Fault::BadCharacter, 2),
+    (b"'a\x7F'.", Fault::BadCharacter, 2),
+    (b"'a\r\n'.", Fault::BadCharacter, 2),
+    (b"0'\n.", Fault::BadCharacter, 2),
+    (b"0'\x01.", Fault::BadCharacter, 2),
+    (b"'a\\qb'.", Fault::BadEscape, 2),
+    (b"'\\x'.", Fault::BadEscape, 1),
+    (b"'\\x\\'.", Fault::BadEscape, 1),
+    (b"'\\x4g\\'.", Fault::BadEscape, 1),
+    (b"'\\18\\'.", Fault::BadEscape, 1),
+    (b"'ab\\xD800\\'.", Fault::BadEscape, 3),
+    (b"'\\x110000\\'.", Fault::BadEscape, 1),
+    (b"'\\x110000", Fault::BadEscape, 1),
+    (b"'a\\\xFF'.", Fault::BadEscape, 2),
+    (b"0'\\q.", Fault::BadEscape, 2),
+    (b"0'\\\n.", Fault::BadEscape, 2),
+    (b"'\\q\x01'.", Fault::BadEscape, 1),
+    (b" /* a", Fault::OpenComment, 1),
+    (b"x(9223372036854775809).", Fault::IntTooBig, 2),
+    (b"x(0x8000000000000001).", Fault::IntTooBig, 2),
+    (b"x(1.5).", Fault::FloatLiteral, 2),
+    (b"9223372036854775809.5.", Fault::FloatLiteral, 0),
+    (b" a b", Fault::NoEnd, 1),
+    (b"a.b", Fault::NoEnd, 0),
+    (b"a, /* . */ % .", Fault::NoEnd, 0),
+];
+
 // Each fault, at its place; of several in one item, the one that is met first.
 #[test]
 fn faults(rt: HostRuntime) -> Result<(), Fail> {
-    let cases: [(&[u8], Fault, usize); 44] = [
-        (b"a `b`.", Fault::BadCharacter, 2),
-        (b"a\x00.", Fault::BadCharacter, 1),
-        (b"\xC3\xA9.", Fault::BadCharacter, 0),
-        (b"a\xFF.", Fault::BadUtf8, 1),
-        (b"% \xC3(\na.", Fault::BadUtf8, 2),
-        (b"% \xE2\x82", Fault::BadUtf8, 2),
-        (b"/* \xED\xA0\x80 */a.", Fault::BadUtf8, 3),
-        (b"/* \xC0\x80 ", Fault::BadUtf8, 3),
-        (b"'a\xFFb'.", Fault::BadUtf8, 2),
-        (b"'\xC3", Fault::BadUtf8, 1),
-        (b"0'\xFF.", Fault::BadUtf8, 2),
-        (b"a 'b.", Fault::OpenQuoted, 2),
-        (b"\"", Fault::OpenQuoted, 0),
-        (b"'a\nb'.", Fault::OpenQuoted, 0),
-        (b"'a\\", Fault::OpenQuoted, 0),
-        (b"'a\\x41", Fault::OpenQuoted, 0),
-        (b"'a\\x\nb'.", Fault::OpenQuoted, 0),
-        (b"'a''", Fault::OpenQuoted, 0),
-        (b"0'", Fault::OpenQuoted, 1),
-        (b"'a\x07'.", Fault::BadCharacter, 2),
-        (b"'a\x7F'.", Fault::BadCharacter, 2),
-        (b"'a\r\n'.", Fault::BadCharacter, 2),
-        (b"0'\n.", Fault::BadCharacter, 2),
-        (b"0'\x01.", Fault::BadCharacter, 2),
-        (b"'a\\qb'.", Fault::BadEscape, 2),
-        (b"'\\x'.", Fault::BadEscape, 1),
-        (b"'\\x\\'.", Fault::BadEscape, 1),
-        (b"'\\x4g\\'.", Fault::BadEscape, 1),
-        (b"'\\18\\'.", Fault::BadEscape, 1),
-        (b"'ab\\xD800\\'.", Fault::BadEscape, 3),
-        (b"'\\x110000\\'.", Fault::BadEscape, 1),
-        (b"'\\x110000", Fault::BadEscape, 1),
-        (b"'a\\\xFF'.", Fault::BadEscape, 2),
-        (b"0'\\q.", Fault::BadEscape, 2),
-        (b"0'\\\n.", Fault::BadEscape, 2),
-        (b"'\\q\x01'.", Fault::BadEscape, 1),
-        (b" /* a", Fault::OpenComment, 1),
-        (b"x(9223372036854775809).", Fault::IntTooBig, 2),
-        (b"x(0x8000000000000001).", Fault::IntTooBig, 2),
-        (b"x(1.5).", Fault::FloatLiteral, 2),
-        (b"9223372036854775809.5.", Fault::FloatLiteral, 0),
-        (b" a b", Fault::NoEnd, 1),
-        (b"a.b", Fault::NoEnd, 0),
-        (b"a, /* . */ % .", Fault::NoEnd, 0),
-    ];
-    for (text, fault, place) in cases.iter() {
+    for (text, fault, place) in FAULTS.iter() {
         let found = kinds(rt.alloc(), text).err();
         assert_eq!(rt; found, Some(LexError::Bad(*fault, *place)));
     }
@@ -220,29 +224,31 @@ fn long_names(rt: HostRuntime) -> Result<(), Fail> {
     Ok(())
 }
 
+/// A text, and the value of its first token.
+const VALUES: [(&[u8], &str); 14] = [
+    (b"ab_1.", "ab_1"),
+    (b"Xy.", "Xy"),
+    (b"''.", ""),
+    (b"'a''b'.", "a'b"),
+    (b"'a\"\"b'.", "a\"\"b"),
+    (b"\"a\"\"b''\".", "a\"b''"),
+    (b"'\\\\\\'\\\"\\`'.", "\\'\"`"),
+    (b"'\\a\\b\\f\\n\\r\\t\\v'.", "\x07\x08\x0C\n\r\t\x0B"),
+    (b"'\\x41\\b\\101\\'.", "AbA"),
+    (b"'\\xE9\\\\x20ac\\'.", "\u{E9}\u{20AC}"),
+    (b"'\\x1F600\\'.", "\u{1F600}"),
+    (b"'a\\\nb'.", "ab"),
+    (
+        b"'\xC3\xA9\xE2\x82\xAC\xF0\x9F\x98\x80'.",
+        "\u{E9}\u{20AC}\u{1F600}",
+    ),
+    (b"'a\tb'.", "a\tb"),
+];
+
 // Escape sequences, doubled quotes and characters past ASCII in values.
 #[test]
 fn values(rt: HostRuntime) -> Result<(), Fail> {
-    let cases: [(&[u8], &str); 14] = [
-        (b"ab_1.", "ab_1"),
-        (b"Xy.", "Xy"),
-        (b"''.", ""),
-        (b"'a''b'.", "a'b"),
-        (b"'a\"\"b'.", "a\"\"b"),
-        (b"\"a\"\"b''\".", "a\"b''"),
-        (b"'\\\\\\'\\\"\\`'.", "\\'\"`"),
-        (b"'\\a\\b\\f\\n\\r\\t\\v'.", "\x07\x08\x0C\n\r\t\x0B"),
-        (b"'\\x41\\b\\101\\'.", "AbA"),
-        (b"'\\xE9\\\\x20ac\\'.", "\u{E9}\u{20AC}"),
-        (b"'\\x1F600\\'.", "\u{1F600}"),
-        (b"'a\\\nb'.", "ab"),
-        (
-            b"'\xC3\xA9\xE2\x82\xAC\xF0\x9F\x98\x80'.",
-            "\u{E9}\u{20AC}\u{1F600}",
-        ),
-        (b"'a\tb'.", "a\tb"),
-    ];
-    for (text, wanted) in cases.iter() {
+    for (text, wanted) in VALUES.iter() {
         let clause = clause_tokens(rt.alloc(), text, 0)?;
         let clause = clause.expect(&rt, "a clause");
         match clause.tokens.first() {
