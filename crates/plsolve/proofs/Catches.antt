@@ -6,7 +6,7 @@ use Rattle.plsubst.specs.Subst.{bind}
 use Rattle.plsubst.specs.Unify.{unify}
 use Rattle.plheap.specs.Store.{term}
 use Rattle.plprogram.specs.Program.{Program, clauses_for}
-use Rattle.plsearch.specs.Types.{Goal, Case, Throw}
+use Rattle.plsearch.specs.Types.{Goal, Handle, Case, Throw}
 use Rattle.plsearch.specs.Errors.{error_term}
 use Rattle.plsearch.specs.Lists.{levels, bind_goals}
 use Rattle.plsearch.specs.Running.{Runs, Raises, runnable}
@@ -14,12 +14,13 @@ use Rattle.plsearch.specs.Rows.{catch_3, catching}
 use Rattle.plsearch.specs.Handlers.{recovers, has}
 use Rattle.plsearch.specs.Engine.{deeper}
 use Rattle.plsearch.specs.Machines.Machine.{At, Back, return}
-use Rattle.plframe.specs.declared.frame.Catcher.{Catcher}
+use Rattle.plframe.specs.declared.frame.Handling.{Handling}
+use Rattle.plframe.specs.declared.frame.Handler.TheVariants.{Catch as CatchBy}
 use Rattle.plframe.specs.declared.frame.Closed.{Closed}
 use Rattle.plframe.specs.declared.frame.Closed.TheVariants as closes
-use Rattle.plframe.specs.Places.{Statics}
-use Rattle.plframe.specs.State.{State, IsList, HasCatch, AtCatch, Extends, Unifies, Recovers, ClosedAs, cases_of, goals_of, place_of}
-use Rattle.plframe.proofs.Stacks.{catch-stays}
+use Rattle.plframe.specs.Places.{Statics, handler_in, IsHandlerIn}
+use Rattle.plframe.specs.State.{State, IsList, HasHandler, AtHandler, Extends, Unifies, Recovers, ClosedAs, cases_of, goals_of, place_of}
+use Rattle.plframe.proofs.Stacks.{handler-stays}
 use Rattle.plsolve.specs.declared.progress.Outcome.{Outcome}
 use Rattle.plsolve.specs.declared.progress.Mode.TheVariants as modes
 use Rattle.plsolve.specs.declared.progress.Progress.{Progress}
@@ -36,7 +37,7 @@ pub closed-below : (statics : Statics) (s new : State) (h : Case) (below : List 
 closed-below statics s new h below None some none was = let e : h ∷ below ≡ [] = sym was ∙ none statics in absurd cc
 closed-below statics s new h below (Some closes.Choice) some none was = tail_is _ h _ below (sym (some statics).1 ∙ was)
 closed-below statics s new h below (Some (closes.Mark l)) some none was = tail_is _ h _ below (sym (some statics) ∙ was)
-closed-below statics s new h below (Some closes.Catch) some none was = tail_is _ h _ below (sym (some statics).2 ∙ was)
+closed-below statics s new h below (Some closes.Handler) some none was = tail_is _ h _ below (sym (some statics).3 ∙ was)
 
 pub rethrows : (P : Program) (s new : Progress) (st : State) (e : Tree) (list : ℕ) (o : Outcome) → result_of o ≡ Throw (copied 0 (error_term e catch_3)) (levels (goals_of s.stack list)) →
     ((h : Case) (below : List Case) → cases_of (clauses_for P) s.stack ≡ h ∷ below → cases_of (clauses_for P) st ≡ below) → new ≡ record s { stack = st; mode = modes.Back o } → Rethrown P s new e list
@@ -86,41 +87,48 @@ recovered-runs P s t new st last recovery list goal level made g frame l runs at
 }
 
 -- the ball at its catcher
-module _ (P : Program) (s : Progress) (o : Outcome) (ball : Tree) (found : List ℕ) (at : s.mode ≡ modes.Back o) (carries : result_of o ≡ Throw ball found) (st : State) (k : Catcher) (same : (statics : Statics) → cases_of statics st ≡ cases_of statics s.stack) (here : AtCatch st k)
+module _ (P : Program) (s : Progress) (o : Outcome) (ball : Tree) (found : List ℕ) (at : s.mode ≡ modes.Back o) (carries : result_of o ≡ Throw ball found) (st : State) (k : Handling) (x r : ℕ) (by : k.handler ≡ CatchBy x r) (same : (statics : Statics) → cases_of statics st ≡ cases_of statics s.stack) (here : AtHandler st k)
     (active : has (deeper (cases_of (clauses_for P) s.stack) 0 - 1) found ≡ true) (put : State) (grew : Extends st put) (cell : ℕ) (copy : term put.heap cell ≡ copied st.heap.count ball) where
-  cases-are : cases_of (clauses_for P) s.stack ≡ catching (term st.heap k.catcher) (term st.heap k.recovery) (goals_of st k.behind.list) st.heap.count ∷ here.below (clauses_for P)
-  cases-are = sym (same (clauses_for P)) ∙ here.cases (clauses_for P)
+  -- the handler that the frame stands for
+  here-cases : (statics : Statics) → cases_of statics st ≡ catching (term st.heap x) (term st.heap r) (goals_of st k.behind.list) st.heap.count ∷ here.below statics
+  here-cases statics = here.cases statics ∙ ap (λ h. Handle (handler_in st.heap h) (record { goals = goals_of st k.behind.list; variables = st.heap.count }) ∷ here.below statics) by
+
+  here-inside : (x < length st.heap.cells) × (r < length st.heap.cells)
+  here-inside = subst (IsHandlerIn (length st.heap.cells)) by here.inside
+
+  cases-are : cases_of (clauses_for P) s.stack ≡ catching (term st.heap x) (term st.heap r) (goals_of st k.behind.list) st.heap.count ∷ here.below (clauses_for P)
+  cases-are = sym (same (clauses_for P)) ∙ here-cases (clauses_for P)
 
   is-active : has (deeper (here.below (clauses_for P)) 0) found ≡ true
   is-active =
       let d : deeper (cases_of (clauses_for P) s.stack) 0 - 1 ≡ deeper (here.below (clauses_for P)) 0 = omega (arith, ap (λ cs. deeper cs 0) cases-are) in
       subst (λ d. has d found ≡ true) d active
 
-  pub catches-other : (last : State) (new : Progress) → unify (term put.heap k.catcher) (term put.heap cell) ≡ None → ((h : Case) (below : List Case) → cases_of (clauses_for P) put ≡ h ∷ below → cases_of (clauses_for P) last ≡ below) →
+  pub catches-other : (last : State) (new : Progress) → unify (term put.heap x) (term put.heap cell) ≡ None → ((h : Case) (below : List Case) → cases_of (clauses_for P) put ≡ h ∷ below → cases_of (clauses_for P) last ≡ below) →
       new ≡ record s { stack = last } → Quiet P s new
   catches-other last new none closed is =
-      quiet-other P s o ball found at carries (term st.heap k.catcher) (term st.heap k.recovery) (goals_of st k.behind.list) st.heap.count (here.below (clauses_for P)) cases-are is-active new last
-      (ap₂ unify (sym (grew.terms k.catcher here.catcher)) (sym copy) ∙ none) is
-      (closed _ (here.below (clauses_for P)) (grew.cases (clauses_for P) ∙ here.cases (clauses_for P)))
+      quiet-other P s o ball found at carries (term st.heap x) (term st.heap r) (goals_of st k.behind.list) st.heap.count (here.below (clauses_for P)) cases-are is-active new last
+      (ap₂ unify (sym (grew.terms x here-inside.0)) (sym copy) ∙ none) is
+      (closed _ (here.below (clauses_for P)) (grew.cases (clauses_for P) ∙ here-cases (clauses_for P)))
 
-  module _ (count : put.heap.count ≡ st.heap.count + length (variables ball)) (last : State) (u : Unifies put last k.catcher cell) where
-    pub recovery-there : k.recovery < length last.heap.cells
-    recovery-there = omega (arith, here.recovery, grew.cells, u.cells)
+  module _ (count : put.heap.count ≡ st.heap.count + length (variables ball)) (last : State) (u : Unifies put last x cell) where
+    pub recovery-there : r < length last.heap.cells
+    recovery-there = omega (arith, here-inside.1, grew.cells, u.cells)
 
     pub list-there : IsList last k.behind.list
     list-there = (u.lists k.behind.list (grew.lists k.behind.list here.list).0).0
 
-    pub catch-there : HasCatch last
-    catch-there = catch-stays st last (u.frames ∙ grew.frames) here.has
+    pub handler-there : HasHandler last
+    handler-there = handler-stays st last (u.frames ∙ grew.frames) here.has
 
-    pub catches-it : (new : Progress) → Recovered P (record s { stack = last }) new k.recovery k.behind.list → Quiet P s new
+    pub catches-it : (new : Progress) → Recovered P (record s { stack = last }) new r k.behind.list → Quiet P s new
     catches-it new did =
         let list = grew.lists k.behind.list here.list in
-        quiet-caught P s o ball found at carries (term st.heap k.catcher) (term st.heap k.recovery) (goals_of st k.behind.list) st.heap.count (here.below (clauses_for P)) cases-are is-active
-        (record s { stack = last }) new u.unifier k.recovery k.behind.list (catching (term st.heap k.catcher) (term st.heap k.recovery) (goals_of st k.behind.list) st.heap.count)
-        (ap₂ unify (sym (grew.terms k.catcher here.catcher)) (sym copy) ∙ u.is)
-        (u.terms k.recovery ∙ ap (bind u.unifier) (grew.terms k.recovery here.recovery))
+        quiet-caught P s o ball found at carries (term st.heap x) (term st.heap r) (goals_of st k.behind.list) st.heap.count (here.below (clauses_for P)) cases-are is-active
+        (record s { stack = last }) new u.unifier r k.behind.list (catching (term st.heap x) (term st.heap r) (goals_of st k.behind.list) st.heap.count)
+        (ap₂ unify (sym (grew.terms x here-inside.0)) (sym copy) ∙ u.is)
+        (u.terms r ∙ ap (bind u.unifier) (grew.terms r here-inside.1))
         ((u.lists k.behind.list list.0).1 ∙ ap (bind_goals u.unifier) list.1)
         (u.count ∙ count)
-        (u.cases (clauses_for P) ∙ grew.cases (clauses_for P) ∙ here.cases (clauses_for P))
+        (u.cases (clauses_for P) ∙ grew.cases (clauses_for P) ∙ here-cases (clauses_for P))
         refl did

@@ -1,7 +1,7 @@
 -- A cut that empties what it gives up leaves the search as a mark does.
 use Rattle.std.proofs.Common.{◌≡◌, ℕ, ◌+◌, ◌≤◌, ◌⊎◌, inl, inr, List, [], ◌∷◌, ◌++◌, refl, sym, ap, ◌∙◌, arith}
 use Rattle.plprogram.specs.Program.{Program, clauses_for}
-use Rattle.plsearch.specs.Types.{Go, Place, Case, Choice, Mark, Handle, Catch, Run}
+use Rattle.plsearch.specs.Types.{Go, Place, Case, Choice, Mark, Handle, Run}
 use Rattle.plsearch.specs.Machines.Levels.{AreAtMost, emptied}
 use Rattle.plsearch.specs.Machines.Machine.{At, Rest}
 use Rattle.plsearch.specs.Machines.Weight.{case_weight, cases_weight}
@@ -20,7 +20,7 @@ some-weight : (c : Case) → 1 ≤ case_weight c
 some-weight (Choice []) = omega arith
 some-weight (Choice (p ∷ ps)) = omega arith
 some-weight (Mark l) = omega arith
-some-weight (Handle (Catch c r p)) = omega arith
+some-weight (Handle h p) = omega arith
 
 emptied-weight : (cs base base' : List Case) → cases_weight base' ≤ cases_weight base → cases_weight (emptied cs base') ≤ cases_weight (cs ++ base)
 emptied-weight [] base base' le = le

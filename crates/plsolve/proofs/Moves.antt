@@ -1,5 +1,5 @@
 -- What the solver's rows make of its machine.
-use Rattle.std.proofs.Common.{◌≡◌, ℕ, ◌+◌, List, [], ◌∷◌, ◌++◌, refl, sym, ap, ap₂, ◌∙◌, subst, OnErr, OnOk, IfOk, Ok, Err, None, true, false, arith, le_trans}
+use Rattle.std.proofs.Common.{◌≡◌, ℕ, ◌+◌, List, [], ◌∷◌, ◌++◌, refl, sym, ap, ap₂, ◌∙◌, subst, OnErr, OnOk, IfOk, Ok, Err, None, option_map, true, false, arith, le_trans, append-nil}
 use Rattle.std.specs.Prelude.{Result as Outcomes}
 use Rattle.plterm.specs.Tree.{Tree, var, int, atom, compound}
 use Rattle.plterm.specs.Variables.{copied}
@@ -7,12 +7,15 @@ use Rattle.plterm.specs.declared.indicator.Indicator.{Indicator}
 use Rattle.plheap.specs.Store.{term}
 use Rattle.plevent.specs.Search.{Answer}
 use Rattle.plprogram.specs.Program.{Program, clauses_for}
-use Rattle.plsearch.specs.Types.{Throw, Raise, Element, Place, Case, Choice, Local, Move, Give, Go, Run}
+use Rattle.plsearch.specs.Types.{Fail, Throw, Look, Await, Goal, Marker, Raise, Asking, Element, Place, Case, Choice, Local, Move, Give, Go, Run}
 use Rattle.plsearch.specs.Errors.{error_term, instantiation_error}
-use Rattle.plsubst.specs.Unify.{unify}
-use Rattle.plsearch.specs.Lists.{levels}
+use Rattle.plsubst.specs.Unify.{places, differ, unify_in, unify}
+use Rattle.plsubst.proofs.Unify.{bind-var}
+use Rattle.plprogram.specs.declared.settings.Settings.{Settings}
+use Rattle.plbuiltin.specs.Solution.{fails, unifies as unified_to, writes}
+use Rattle.plsearch.specs.Lists.{bind_goals, levels}
 use Rattle.plsearch.specs.Running.{Runnable}
-use Rattle.plsearch.specs.Rows.{meet, raised, call, choose, branch, catching, thrown, throw_1, run}
+use Rattle.plsearch.specs.Rows.{meet, raised, call, choose, branch, thrown, throw_1, run, catching, go_on, solved, taken, offer}
 use Rattle.plsearch.specs.Engine.{deeper, out}
 use Rattle.plsearch.specs.Machines.Machine.{At, Back, Machine, Rest, move, turn}
 use Rattle.plsearch.proofs.Turns.{Rest-turn}
@@ -22,7 +25,8 @@ use Rattle.plframe.specs.Places.{clauses_in, place_at}
 use Rattle.plframe.specs.State.{State, IsList, place_of, cases_of, goals_of, Extends, Opens, IsAround, around_cases, IsOpening, opening_cases, Unifies, Calls, call_places}
 use Rattle.plframe.specs.Giving.{GivesBack}
 use Rattle.plframe.specs.declared.frame.Around.{Around}
-use Rattle.plframe.specs.declared.frame.Around.TheVariants.{Nothing, Branch as InBranch, Catch as InCatch}
+use Rattle.plframe.specs.declared.frame.Around.TheVariants.{Nothing, Branch as InBranch, Handle as InHandle}
+use Rattle.plframe.specs.declared.frame.Handler.TheVariants.{Catch as CatchBy}
 use Rattle.plframe.specs.declared.frame.Opening.{Opening}
 use Rattle.plframe.specs.declared.frame.Opening.TheVariants.{Branch as OpenBranch, Run as OpenRun}
 use Rattle.plframe.proofs.Stacks.{Extends-trans}
@@ -54,14 +58,14 @@ stays_put P s = record { used = refl; limit = refl; places = refl; out = refl; s
 
 -- the same machine, by its parts
 pub stays-by : (P : Program) (s new : Progress) → new.used ≡ s.used → new.limit ≡ s.limit → new.places.items ≡ s.places.items → new.mode ≡ s.mode → place_of new.stack ≡ place_of s.stack →
-    cases_of (clauses_for P) new.stack ≡ cases_of (clauses_for P) s.stack → new.out.items ≡ s.out.items → Stays P s new
+    cases_of (clauses_for P) new.stack ≡ cases_of (clauses_for P) s.stack → new.out.items ≡ s.out.items → new.settings ≡ s.settings → Stays P s new
 unfolding machine
-stays-by P s new used limit places at place cases out = record {
+stays-by P s new used limit places at place cases out settings = record {
   used = used;
   limit = limit;
   places = places;
   out = out;
-  same = λ left answers. rw (at, out, cases) (go s.mode left answers);
+  same = λ left answers. rw (at, out, settings, cases) (go s.mode left answers);
 }
   where
     go : (m : Going) (left : ℕ) (answers : List Answer) →
@@ -69,6 +73,10 @@ stays-by P s new used limit places at place cases out = record {
         (record { mode = mode_of m s.stack; cases = cases_of (clauses_for P) s.stack; run = record { steps = left; answers = answers; local = local_of s } })
     go modes.Visit left answers = ap (λ p. record { mode = At p; cases = cases_of (clauses_for P) s.stack; run = record { steps = left; answers = answers; local = local_of s } }) place
     go (modes.Back r) left answers = refl
+
+-- the same move
+pub moved-as : (P : Program) (s new : Progress) (m m' : Move) → m ≡ m' → Moved P s new m 1 → Moved P s new m' 1
+moved-as P s new m m' same moved = subst (λ m. Moved P s new m 1) same moved
 
 -- a list is visited, in more cases
 pub goes-to : (P : Program) (s new : Progress) (cs : List Case) (p : Place) (w : Local) (cost : ℕ) → new.used ≡ s.used + cost → new.limit ≡ s.limit → new.places.items ≡ s.places.items →
@@ -123,18 +131,18 @@ pub extended : (P : Program) (s : Progress) (stack : State) → Extends s.stack 
 extended P s stack e count =
     stays-by P s (record s { stack = stack }) refl refl refl refl
     (ap₂ (λ gs n. record { goals = gs; variables = n }) e.visited count)
-    (e.cases (clauses_for P)) refl
+    (e.cases (clauses_for P)) refl refl
 
 -- a new list is visited
-pub visits : (P : Program) (s : Progress) (stack : State) (list cost : ℕ) (gs : List Element) (out : List ℕ) (new : Progress) → Extends s.stack stack → stack.heap.count ≡ s.stack.heap.count → goals_of stack list ≡ gs →
-    new.used ≡ s.used + cost → new.limit ≡ s.limit → new.places.items ≡ s.places.items → new.mode ≡ modes.Visit → new.stack ≡ record stack { goals = list } → new.out.items ≡ out →
-    Moved P s new (Go [] (record { goals = gs; variables = s.stack.heap.count }) (record { out = out })) cost
+pub visits : (P : Program) (s : Progress) (stack : State) (list cost : ℕ) (gs : List Element) (w : Local) (new : Progress) → Extends s.stack stack → stack.heap.count ≡ s.stack.heap.count → goals_of stack list ≡ gs →
+    new.used ≡ s.used + cost → new.limit ≡ s.limit → new.places.items ≡ s.places.items → new.mode ≡ modes.Visit → new.stack ≡ record stack { goals = list } → local_of new ≡ w →
+    Moved P s new (go_on gs s.stack.heap.count w) cost
 unfolding cases_of
-visits P s stack list cost gs out new e count goals used limit places at is wrote =
-    goes-to P s new [] (record { goals = gs; variables = s.stack.heap.count }) (record { out = out }) cost used limit places at
+visits P s stack list cost gs w new e count goals used limit places at is wrote =
+    goes-to P s new [] (record { goals = gs; variables = s.stack.heap.count }) w cost used limit places at
     (ap place_of is ∙ ap₂ (λ gs n. record { goals = gs; variables = n }) goals count)
     (ap (cases_of (clauses_for P)) is ∙ e.cases (clauses_for P))
-    (ap (λ o. record { out = o }) wrote)
+    wrote
 
 pub on_err : {A E K : Type 0} (r : Outcomes A E) → K → OnErr r K
 on_err (Ok a) k = tt
@@ -228,32 +236,64 @@ if_ok_map P Q (Err e) f k = tt
 
 -- a unifier was put in
 pub unifies : (P : Program) (s : Progress) (st : State) (a b list : ℕ) (new : Progress) → Unifies s.stack st a b → IsList s.stack list → new ≡ record s { stack = record st { goals = list }; mode = modes.Visit; used = s.used + 1 } →
-    Moved P s new (unified (unify (term s.stack.heap a) (term s.stack.heap b)) (goals_of s.stack list) s.stack.heap.count (local_of s)) 1
+    Moved P s new (taken (solved (goals_of s.stack list) s.stack.heap.count (record { left = term s.stack.heap a; right = term s.stack.heap b; new = 0 })) (local_of s)) 1
 unfolding cases_of
 unifies P s st a b list new u l is =
-    subst (λ σ. Moved P s new (unified σ (goals_of s.stack list) s.stack.heap.count (local_of s)) 1) (sym u.is)
+    let count : st.heap.count ≡ s.stack.heap.count + 0 = omega (arith, u.count) in
+    subst (λ o. Moved P s new (taken (option_map (λ σ. record { goals = bind_goals σ (goals_of s.stack list); variables = s.stack.heap.count + 0 }) o) (local_of s)) 1) (sym u.is)
     (goes-to P s new [] _ (local_of s) 1 (ap (λ x. x.used) is) (ap (λ x. x.limit) is) (ap (λ x. x.places.items) is) (ap (λ x. x.mode) is)
-    (ap (λ x. place_of x.stack) is ∙ ap₂ (λ gs n. record { goals = gs; variables = n }) (u.lists list l).1 u.count)
+    (ap (λ x. place_of x.stack) is ∙ ap₂ (λ gs n. record { goals = gs; variables = n }) (u.lists list l).1 count)
     (ap (λ x. cases_of (clauses_for P) x.stack) is ∙ u.cases (clauses_for P))
     (ap (λ x. local_of x) is))
 
 pub ununified : (P : Program) (s : Progress) (st : State) (a b list : ℕ) (new : Progress) → (unify (term s.stack.heap a) (term s.stack.heap b) ≡ None) × (st ≡ s.stack) → new ≡ record s { stack = st; mode = modes.Back outcomes.Fail; used = s.used + 1 } →
-    Moved P s new (unified (unify (term s.stack.heap a) (term s.stack.heap b)) (goals_of s.stack list) s.stack.heap.count (local_of s)) 1
+    Moved P s new (taken (solved (goals_of s.stack list) s.stack.heap.count (record { left = term s.stack.heap a; right = term s.stack.heap b; new = 0 })) (local_of s)) 1
 ununified P s st a b list new none is =
-    subst (λ σ. Moved P s new (unified σ (goals_of s.stack list) s.stack.heap.count (local_of s)) 1) (sym none.0)
+    subst (λ o. Moved P s new (taken (option_map (λ σ. record { goals = bind_goals σ (goals_of s.stack list); variables = s.stack.heap.count + 0 }) o) (local_of s)) 1) (sym none.0)
     (gives P s new outcomes.Fail (local_of s) 1 (ap (λ x. x.used) is) (ap (λ x. x.limit) is) (ap (λ x. x.places.items) is) (ap (λ x. x.mode) is)
     (ap (λ x. cases_of (clauses_for P) x.stack) is ∙ ap (cases_of (clauses_for P)) none.1)
     (ap (λ x. local_of x) is))
+
+-- a substitution that changes nothing leaves a list as it is
+bind-goals-var : (es : List Element) → bind_goals var es ≡ es
+bind-goals-var [] = refl
+bind-goals-var (Goal k t ∷ es) = ap₂ (λ u us. Goal k u ∷ us) (bind-var t) (bind-goals-var es)
+bind-goals-var (Marker m l ∷ es) = ap (λ us. Marker m l ∷ us) (bind-goals-var es)
+bind-goals-var (Raise b ∷ es) = ap (λ us. Raise b ∷ us) (bind-goals-var es)
+bind-goals-var (Asking (Look t) ∷ es) = ap₂ (λ u us. Asking (Look u) ∷ us) (bind-var t) (bind-goals-var es)
+bind-goals-var (Asking (Await q next) ∷ es) = ap (λ us. Asking (Await q next) ∷ us) (bind-goals-var es)
+
+-- a built-in predicate that is true once it has written
+pub offer-writes : (bytes : List ℕ) (settings : Settings) (p : Indicator) (es : List Element) (n : ℕ) (w : Local) →
+    go_on es n (record { out = w.out ++ bytes; settings = settings }) ≡ offer (writes bytes settings) p es n w
+unfolding unify unify_in differ places
+offer-writes bytes settings p es n w =
+    let same : n ≡ n + 0 = omega arith in
+    ap₂ (λ gs k. go_on gs k (record { out = w.out ++ bytes; settings = settings })) (sym (bind-goals-var es)) same
+
+-- one that is true, and writes nothing
+pub offer-succeeds : (settings : Settings) (p : Indicator) (es : List Element) (n : ℕ) (w : Local) → w.settings ≡ settings → go_on es n w ≡ offer (writes [] settings) p es n w
+offer-succeeds settings p es n w same = ap₂ (λ o x. go_on es n (record { out = o; settings = x })) (sym (append-nil w.out)) same ∙ offer-writes [] settings p es n w
+
+-- one that has no solution
+pub offer-fails : (settings : Settings) (p : Indicator) (es : List Element) (n : ℕ) (w : Local) → w.settings ≡ settings → ◌≡◌ {A = Move} (Give Fail w) (offer (fails settings) p es n w)
+offer-fails settings p es n w same = ap₂ (λ o x. Give Fail (record { out = o; settings = x })) (sym (append-nil w.out)) same
+
+-- and one that unifies two terms
+pub offer-unifies : (a b : Tree) (settings : Settings) (p : Indicator) (es : List Element) (n : ℕ) (w : Local) → w.settings ≡ settings →
+    taken (solved es n (record { left = a; right = b; new = 0 })) w ≡ offer (unified_to a b settings) p es n w
+offer-unifies a b settings p es n w same =
+    ap₂ (λ o s. taken (solved es n (record { left = a; right = b; new = 0 })) (record { out = o; settings = s })) (sym (append-nil w.out)) same
 
 -- the cases that are opened, where lists and cells were added
 pub around-grown : (s t : State) (around : Around) → Grown s t → IsAround s around → (around_cases t around ≡ around_cases s around) × IsAround t around
 around-grown s t Nothing g is = (refl, tt)
 around-grown s t (InBranch i) g is = (ap₂ (λ gs n. branch gs n ∷ []) (grown-goals s t g i is) g.count, grown-list s t g i is)
-around-grown s t (InCatch c r i) g is = (
-  ap (λ u. catching u (term t.heap r) (goals_of t i) t.heap.count ∷ []) (g.extends.terms c is.1)
-      ∙ ap (λ u. catching (term s.heap c) u (goals_of t i) t.heap.count ∷ []) (g.extends.terms r is.2)
+around-grown s t (InHandle (CatchBy c r) i) g is = (
+  ap (λ u. catching u (term t.heap r) (goals_of t i) t.heap.count ∷ []) (g.extends.terms c is.1.0)
+      ∙ ap (λ u. catching (term s.heap c) u (goals_of t i) t.heap.count ∷ []) (g.extends.terms r is.1.1)
       ∙ ap₂ (λ gs n. catching (term s.heap c) (term s.heap r) gs n ∷ []) (grown-goals s t g i is.0) g.count,
-  (grown-list s t g i is.0, le_trans is.1 g.extends.cells, le_trans is.2 g.extends.cells),
+  (grown-list s t g i is.0, (le_trans is.1.0 g.extends.cells, le_trans is.1.1 g.extends.cells)),
 )
 
 pub opening-grown : (s t : State) (opening : Opening) → Grown s t → IsOpening s opening → (opening_cases t opening ≡ opening_cases s opening) × IsOpening t opening
@@ -288,4 +328,4 @@ raises-in P s new st more list ball r is o made = record {
 
 -- goal lists that nothing holds were given back
 pub given_back : (P : Program) (s : Progress) (stack : State) → GivesBack s.stack stack → Stays P s (record s { stack = stack })
-given_back P s stack g = stays-by P s (record s { stack = stack }) refl refl refl refl g.place (g.cases (clauses_for P)) refl
+given_back P s stack g = stays-by P s (record s { stack = stack }) refl refl refl refl g.place (g.cases (clauses_for P)) refl refl

@@ -1,9 +1,9 @@
 -- The turns that take no step.
-use Rattle.std.proofs.Common.{◌≡◌, ℕ, zero, suc, Bool, true, false, List, [], ◌∷◌, refl, sym, ap, ap₂, ◌∙◌, arith, map, nat_eq, IsTrue, ◌↔◌, Some, None, length, ◌+◌, ◌<◌, ◌≤◌, subst, inl, inr}
+use Rattle.std.proofs.Common.{◌≡◌, ℕ, zero, suc, Bool, true, false, if◌then◌else◌, List, [], ◌∷◌, refl, sym, ap, ap₂, ◌∙◌, arith, map, nat_eq, IsTrue, ◌↔◌, Some, None, length, ◌+◌, ◌<◌, ◌≤◌, subst, inl, inr}
 use Rattle.plheap.specs.Store.{term}
 use Rattle.plevent.specs.Search.{Answer}
 use Rattle.plprogram.specs.Program.{Program, clauses_for}
-use Rattle.plsearch.specs.Types.{Result, Spent, Throw, Element, Goal, Commit, Never, Until, Handle, Handler, Catch, Keep, Place, Case, Choice, Mark, Local, Move, Run}
+use Rattle.plsearch.specs.Types.{Result, Fail, CutTo, Spent, Throw, Kind, Commit, Never, Until, Element, Goal, Marker, Handle, Handler, Catch, Keep, Place, Case, Choice, Mark, Local, Move, Run}
 use Rattle.plterm.specs.Tree.{Tree}
 use Rattle.plterm.specs.Variables.{copied, variables}
 use Rattle.plsubst.specs.Subst.{bind}
@@ -12,11 +12,12 @@ use Rattle.plsearch.specs.Lists.{bind_goals}
 use Rattle.plsearch.specs.Running.{runnable}
 use Rattle.plsearch.specs.Rows.{select, meet, catching}
 use Rattle.plsearch.specs.Handlers.{resume, has, met_by, recovers}
-use Rattle.plsearch.specs.Engine.{deeper, mark, stop_cut_if}
+use Rattle.plsearch.specs.Engine.{deeper, mark}
 use Rattle.plsearch.specs.Machines.Machine.{At, Back, Machine, Rest, return, turn, step}
 use Rattle.plsearch.specs.Machines.Weight.{weight, Lighter}
 use Rattle.plsearch.proofs.Turns.{Rest-turn}
 use Rattle.plsearch.proofs.Weight.{lighter-turn}
+use Rattle.plframe.specs.declared.frame.MarkerKind.TheVariants as markers
 use Rattle.plframe.specs.Places.{element, list_at}
 use Rattle.plframe.specs.State.{State, place_of, cases_of, goals_of, Retries}
 use Rattle.plframe.specs.Cutting.{Cuts}
@@ -25,7 +26,7 @@ use Rattle.plsolve.specs.declared.progress.Outcome.TheVariants as outcomes
 use Rattle.plsolve.specs.declared.progress.Mode.{Mode as Going}
 use Rattle.plsolve.specs.declared.progress.Mode.TheVariants as modes
 use Rattle.plsolve.specs.declared.progress.Progress.{Progress}
-use Rattle.plsolve.specs.Heads.{AtGoal, AtCommit, AtNever, AtUntil}
+use Rattle.plsolve.specs.Heads.{AtGoal, AtMarker}
 use Rattle.plsolve.specs.Solver.{result_of, mode_of, local_of, depth_of, machine, Quiet, Stays, IsOver, marked, marked_result, cut_stopped, stopped_result, fail_if, result_throws, throws_to, Recovered}
 use Rattle.plsolve.proofs.Cutting.{cut-place, cut-rest, cut-weight}
 
@@ -98,7 +99,7 @@ quiet-spent P s level cell rest at goal all = quiet P s _ (record {
   goes = λ r is no. not_back s r at is;
 })
 
-pub quiet-commit : (P : Program) (s : Progress) (st : State) (level rest : ℕ) → s.mode ≡ modes.Visit → AtCommit s.stack level rest → Cuts s.stack st level rest → Quiet P s (record s { stack = st })
+pub quiet-commit : (P : Program) (s : Progress) (st : State) (level rest : ℕ) → s.mode ≡ modes.Visit → AtMarker s.stack markers.Commit level rest → Cuts s.stack st level rest → Quiet P s (record s { stack = st })
 unfolding turn meet weight
 quiet-commit P s st level rest at commit cut = record {
   used = refl;
@@ -108,18 +109,18 @@ quiet-commit P s st level rest at commit cut = record {
       let run : Run = record { steps = left; answers = answers; local = local_of s } in
       ap (Rest P) (after left answers)
       ∙ cut-rest P s.stack st level rest cut run
-      ∙ sym (Rest-turn P (record { mode = At (record { goals = Commit level ∷ goals_of s.stack rest; variables = s.stack.heap.count }); cases = cases_of (clauses_for P) s.stack; run = run }))
+      ∙ sym (Rest-turn P (record { mode = At (record { goals = Marker Commit level ∷ goals_of s.stack rest; variables = s.stack.heap.count }); cases = cases_of (clauses_for P) s.stack; run = run }))
       ∙ sym (ap (Rest P) (here left answers));
   lighter = λ within. rw (after 0 [], here 0 []) (omega (arith, cut-weight P s.stack st level rest cut));
 }
   where
-    here : (left : ℕ) (answers : List Answer) → machine P left answers s ≡ record { mode = At (record { goals = Commit level ∷ goals_of s.stack rest; variables = s.stack.heap.count }); cases = cases_of (clauses_for P) s.stack; run = record { steps = left; answers = answers; local = local_of s } }
-    here left answers = at_place P s (record { goals = Commit level ∷ goals_of s.stack rest; variables = s.stack.heap.count }) at (ap (λ xs. record { goals = map (element s.stack.heap) xs; variables = s.stack.heap.count }) commit.items) left answers
+    here : (left : ℕ) (answers : List Answer) → machine P left answers s ≡ record { mode = At (record { goals = Marker Commit level ∷ goals_of s.stack rest; variables = s.stack.heap.count }); cases = cases_of (clauses_for P) s.stack; run = record { steps = left; answers = answers; local = local_of s } }
+    here left answers = at_place P s (record { goals = Marker Commit level ∷ goals_of s.stack rest; variables = s.stack.heap.count }) at (ap (λ xs. record { goals = map (element s.stack.heap) xs; variables = s.stack.heap.count }) commit.items) left answers
 
     after : (left : ℕ) (answers : List Answer) → machine P left answers (record s { stack = st }) ≡ record { mode = At (record { goals = goals_of s.stack rest; variables = s.stack.heap.count }); cases = cases_of (clauses_for P) st; run = record { steps = left; answers = answers; local = local_of s } }
     after left answers = at_place P (record s { stack = st }) (record { goals = goals_of s.stack rest; variables = s.stack.heap.count }) at (cut-place P s.stack st level rest cut) left answers
 
-pub quiet-never : (P : Program) (s : Progress) (level rest : ℕ) → s.mode ≡ modes.Visit → AtNever s.stack level rest → Quiet P s (record s { mode = modes.Back (outcomes.CutTo level) })
+pub quiet-never : (P : Program) (s : Progress) (level rest : ℕ) → s.mode ≡ modes.Visit → AtMarker s.stack markers.Never level rest → Quiet P s (record s { mode = modes.Back (outcomes.CutTo level) })
 unfolding turn meet machine
 quiet-never P s level rest at never = quiet P s _ (record {
   used = refl;
@@ -127,11 +128,11 @@ quiet-never P s level rest at never = quiet P s _ (record {
   places = refl;
   turned = λ left answers few.
       let gs : List Element = goals_of s.stack rest in
-      sym (ap (turn P) (at_place P s (record { goals = Never level ∷ gs; variables = s.stack.heap.count }) at (ap (λ xs. record { goals = map (element s.stack.heap) xs; variables = s.stack.heap.count }) never.items) left answers));
+      sym (ap (turn P) (at_place P s (record { goals = Marker Never level ∷ gs; variables = s.stack.heap.count }) at (ap (λ xs. record { goals = map (element s.stack.heap) xs; variables = s.stack.heap.count }) never.items) left answers));
   goes = λ r is no. not_back s r at is;
 })
 
-pub quiet-until : (P : Program) (s : Progress) (level rest : ℕ) → s.mode ≡ modes.Visit → AtUntil s.stack level rest → Quiet P s (record s { stack = record s.stack { goals = rest } })
+pub quiet-until : (P : Program) (s : Progress) (level rest : ℕ) → s.mode ≡ modes.Visit → AtMarker s.stack markers.Until level rest → Quiet P s (record s { stack = record s.stack { goals = rest } })
 unfolding turn meet cases_of
 quiet-until P s level rest at until = quiet P s _ (record {
   used = refl;
@@ -140,7 +141,7 @@ quiet-until P s level rest at until = quiet P s _ (record {
   turned = λ left answers few.
       let gs : List Element = goals_of s.stack rest in
       at_place P (record s { stack = record s.stack { goals = rest } }) (record { goals = gs; variables = s.stack.heap.count }) at refl left answers
-      ∙ sym (ap (turn P) (at_place P s (record { goals = Until level ∷ gs; variables = s.stack.heap.count }) at (ap (λ xs. record { goals = map (element s.stack.heap) xs; variables = s.stack.heap.count }) until.items) left answers));
+      ∙ sym (ap (turn P) (at_place P s (record { goals = Marker Until level ∷ gs; variables = s.stack.heap.count }) at (ap (λ xs. record { goals = map (element s.stack.heap) xs; variables = s.stack.heap.count }) until.items) left answers));
   goes = λ r is no. not_back s r at is;
 })
 
@@ -203,12 +204,12 @@ cut-result P d outcomes.Stop [] cases run is none = refl
 cut-result P d outcomes.Stop (p ∷ ps) cases run is none = refl
 cut-result P d (outcomes.CutTo l) [] cases run is none = rw is (cuts (nat_eq l d))
   where
-    cuts : (b : Bool) → ◌≡◌ {A = Machine} (record { mode = Back (result_of (fail_if b l)); cases = cases; run = run }) (record { mode = Back (stop_cut_if b l); cases = cases; run = run })
+    cuts : (b : Bool) → ◌≡◌ {A = Machine} (record { mode = Back (result_of (fail_if b l)); cases = cases; run = run }) (record { mode = Back (if b then Fail else CutTo l); cases = cases; run = run })
     cuts true = refl
     cuts false = refl
 cut-result P d (outcomes.CutTo l) (p ∷ ps) cases run is none = rw is (cuts (nat_eq l d))
   where
-    cuts : (b : Bool) → ◌≡◌ {A = Machine} (record { mode = Back (result_of (fail_if b l)); cases = cases; run = run }) (record { mode = Back (stop_cut_if b l); cases = cases; run = run })
+    cuts : (b : Bool) → ◌≡◌ {A = Machine} (record { mode = Back (result_of (fail_if b l)); cases = cases; run = run }) (record { mode = Back (if b then Fail else CutTo l); cases = cases; run = run })
     cuts true = refl
     cuts false = refl
 cut-result P d (outcomes.Throw t ls) [] cases run is none = refl
@@ -259,24 +260,24 @@ not_both b iff is x y = grind (arith, is, iff.1 (x, y))
 pub both_are : {A B : Type 0} (b : Bool) → (IsTrue b ↔ (A × B)) → b ≡ true → A × B
 both_are b iff is = grind (arith, is, iff.0)
 
--- a catcher that is not active passes every result on
-keeps : (h : Handler) (d : ℕ) (r : Outcome) (w : Local) → (result_throws d r ≡ true → ⊥) → resume h d (result_of r) w ≡ Keep (result_of r) w
+-- a handler whose goal no ball comes from passes every result on
+keeps : (h : Handler) (p : Place) (d : ℕ) (r : Outcome) (w : Local) → (result_throws d r ≡ true → ⊥) → resume h p d (result_of r) w ≡ Keep (result_of r) w
 unfolding resume
-keeps (Catch c r p) d outcomes.Fail w not = refl
-keeps (Catch c r p) d outcomes.Stop w not = refl
-keeps (Catch c r p) d (outcomes.CutTo l) w not = refl
-keeps (Catch c r p) d (outcomes.Throw t ls) w not = go (has d ls.items) refl
+keeps (Catch c r) p d outcomes.Fail w not = refl
+keeps (Catch c r) p d outcomes.Stop w not = refl
+keeps (Catch c r) p d (outcomes.CutTo l) w not = refl
+keeps (Catch c r) p d (outcomes.Throw t ls) w not = go (has d ls.items) refl
   where
-    go : (b : Bool) → has d ls.items ≡ b → caught (has d ls.items) c r t ls.items p d w ≡ Keep (Throw t ls.items) w
+    go : (b : Bool) → has d ls.items ≡ b → (if has d ls.items then met_by (unify c (copied p.variables t)) r t ls.items p d w else Keep (Throw t ls.items) w) ≡ Keep (Throw t ls.items) w
     go true e = absurd (not e)
     go false e = rw e refl
-keeps (Catch c r p) d (outcomes.Halted n) w not = refl
-keeps (Catch c r p) d outcomes.Spent w not = refl
+keeps (Catch c r) p d (outcomes.Halted n) w not = refl
+keeps (Catch c r) p d outcomes.Spent w not = refl
 
-pub quiet-handler : (P : Program) (s : Progress) (st : State) (h : Handler) → (s.mode ≡ modes.Visit → ⊥) → cases_of (clauses_for P) s.stack ≡ Handle h ∷ cases_of (clauses_for P) st →
+pub quiet-handler : (P : Program) (s : Progress) (st : State) (h : Handler) (p : Place) → (s.mode ≡ modes.Visit → ⊥) → cases_of (clauses_for P) s.stack ≡ Handle h p ∷ cases_of (clauses_for P) st →
     (throws_to (deeper (cases_of (clauses_for P) st) 0) s.mode ≡ true → ⊥) → Quiet P s (record s { stack = st })
 unfolding turn
-quiet-handler P s st h back was not = go s.mode refl
+quiet-handler P s st h p back was not = go s.mode refl
   where
     go : (m : Going) → s.mode ≡ m → Quiet P s (record s { stack = st })
     go modes.Visit e = absurd (back e)
@@ -287,8 +288,8 @@ quiet-handler P s st h back was not = go s.mode refl
       turned = λ left answers few.
           let d : ℕ = deeper (cases_of (clauses_for P) st) 0 in
           carried P (record s { stack = st }) r (cases_of (clauses_for P) st) e refl left answers
-          ∙ sym (ap (turn P) (carried P s r (Handle h ∷ cases_of (clauses_for P) st) e was left answers)
-          ∙ ap (return (cases_of (clauses_for P) st) (record { steps = left; answers = answers; local = local_of s })) (keeps h d r (local_of s) (λ yes. not (ap (throws_to d) e ∙ yes))));
+          ∙ sym (ap (turn P) (carried P s r (Handle h p ∷ cases_of (clauses_for P) st) e was left answers)
+          ∙ ap (return (cases_of (clauses_for P) st) (record { steps = left; answers = answers; local = local_of s })) (keeps h p d r (local_of s) (λ yes. not (ap (throws_to d) e ∙ yes))));
       goes = λ x is no. some_case _ _ _ was no;
     })
 
@@ -301,7 +302,7 @@ module _ (P : Program) (s : Progress) (o : Outcome) (ball : Tree) (found : List 
   catcher-turn left answers =
       let run : Run = record { steps = left; answers = answers; local = local_of s } in
       ap (turn P) (carried P s o (catching c r gs n ∷ below) at was left answers ∙ ap (λ x. record { mode = Back x; cases = catching c r gs n ∷ below; run = run }) carries)
-      ∙ ap (λ b. return below run (caught b c r ball found (record { goals = gs; variables = n }) (deeper below 0) (local_of s))) active
+      ∙ ap (λ b. return below run (if b then met_by (unify c (copied n ball)) r ball found (record { goals = gs; variables = n }) (deeper below 0) (local_of s) else Keep (Throw ball found) (local_of s))) active
 
   -- the ball is another
   pub quiet-other : (new : Progress) (st : State) → unify c (copied n ball) ≡ None → new ≡ record s { stack = st } → cases_of (clauses_for P) st ≡ below → Quiet P s new

@@ -13,9 +13,9 @@ use Rattle.plevent.specs.declared.request.Reply.TheVariants.{Published, Done}
 use Rattle.plevent.specs.declared.update.Update.{Update}
 use Rattle.plevent.specs.declared.update.Update.TheVariants.{Last}
 use Rattle.plprogram.specs.Program.{Program, clauses_for}
-use Rattle.plsearch.specs.Types.{Asking, Element, Goal, Look, Await, Halt, Place, Case, Choice, Mark, Handle, Catch, Local, Move, Run, Asks}
+use Rattle.plsearch.specs.Types.{Awaits, Halted, GoesOn, Ends, Look, Await, Element, Goal, Asking, Place, Case, Choice, Mark, Handle, Catch, Local, Move, Give, Run, Asks}
 use Rattle.plsearch.specs.Rows.{select, meet}
-use Rattle.plsearch.specs.Replies.{answered, walk_over}
+use Rattle.plsearch.specs.Replies.{Served, outcome, follows, walk_over, answered}
 use Rattle.plsearch.specs.Handlers.{resume}
 use Rattle.plsearch.specs.Engine.{left, choice, out, outs, Visit}
 use Rattle.plsearch.specs.Machines.Machine.{At, Back, Rest, move, turn, meets}
@@ -24,9 +24,12 @@ use Rattle.plsearch.specs.Search.{ending_of, next_of}
 use Rattle.plsearch.specs.Solving.{Goes, TakesOne, StandsAt, EndsAt}
 use Rattle.plsearch.proofs.Turns.{Rest-turn}
 use Rattle.plframe.specs.declared.frame.Item.{Item as Member}
-use Rattle.plframe.specs.declared.frame.Item.TheVariants.{Goal as GoalAt, Commit as CommitTo, Never as NeverTo, Until as UntilTo, Look as LookAt, Await as AwaitFor, Halt as HaltWith}
+use Rattle.plframe.specs.declared.frame.Item.TheVariants.{Goal as GoalAt, Marker as MarkerAt, Asking as AskingFor}
+use Rattle.plframe.specs.declared.frame.Question.TheVariants.{Look as LookAt, Await as AwaitFor}
+use Rattle.plframe.specs.declared.frame.Then.{Then as Following}
+use Rattle.plframe.specs.declared.frame.Then.TheVariants as thens
 use Rattle.plframe.specs.declared.frame.Link.{Link}
-use Rattle.plframe.specs.Places.{element, list_at, IsItemIn}
+use Rattle.plframe.specs.Places.{then_of, element, list_at, IsItemIn}
 use Rattle.plframe.specs.State.{State, place_of, cases_of, goals_of, Begins}
 use Rattle.plsolve.specs.declared.progress.Outcome.{Outcome}
 use Rattle.plsolve.specs.declared.progress.Outcome.TheVariants as outcomes
@@ -36,8 +39,8 @@ use Rattle.plsolve.specs.declared.solver.Turn.TheVariants as turns
 use Rattle.plsolve.specs.Says.{Says}
 use Rattle.plsolve.specs.declared.head.Head.{Head}
 use Rattle.plsolve.specs.declared.head.Head.TheVariants as heads
-use Rattle.plsolve.specs.Heads.{AtGoal, AtLook, AtAwait, AtHalt, IsHead}
-use Rattle.plsolve.specs.Solver.{result_of, mode_of, local_of, machine, rest_of, depth_of, now, after, Moved, Stays, Quiet, Stepped, WaitsForView, WaitsForReply, IsReplyTo, ReplyFits}
+use Rattle.plsolve.specs.Heads.{AtGoal, AtLook, AtAwait, IsHead}
+use Rattle.plsolve.specs.Solver.{result_of, mode_of, local_of, machine, rest_of, depth_of, now, after, Moved, Stays, Quiet, Stepped, WaitsForView, IsAsked, Waits, WaitsForReply, ReplyFits}
 
 -- going on
 pub goes_on : (limit limit' : ℕ) (a b c : Search) (x y z : ℕ) → limit' ≡ limit → Goes limit a x b y → Goes limit' b y c z → Goes limit a x c z
@@ -120,22 +123,22 @@ steps P s new level cell rest m at goal some is moved = record {
 }
 
 -- nothing catches a question
-asks-out : (P : Program) (cases : List Case) (q : Item) (run : Run) → outs (Visit P) 0 cases (Asking q, run) ≡ (Asking q, run)
+asks-out : (P : Program) (cases : List Case) (q : Item) (run : Run) → outs (Visit P) 0 cases (Awaits q, run) ≡ (Awaits q, run)
 unfolding outs out choice resume
 asks-out P [] q run = refl
 asks-out P (Choice [] ∷ cases) q run = asks-out P cases q run
 asks-out P (Choice (p ∷ ps) ∷ cases) q run = asks-out P cases q run
 asks-out P (Mark l ∷ cases) q run = asks-out P cases q run
-asks-out P (Handle (Catch c r p) ∷ cases) q run = asks-out P cases q run
+asks-out P (Handle (Catch c r) p ∷ cases) q run = asks-out P cases q run
 
-asks-rest : (P : Program) (cases : List Case) (q : Item) (run : Run) → Rest P (record { mode = Back (Asking q); cases = cases; run = run }) ≡ (Asking q, run)
+asks-rest : (P : Program) (cases : List Case) (q : Item) (run : Run) → Rest P (record { mode = Back (Awaits q); cases = cases; run = run }) ≡ (Awaits q, run)
 unfolding Rest
 asks-rest P cases q run = asks-out P cases q run
 
 -- an item that is first in the list
 pub stands : (P : Program) (s : Progress) (e : Element) (rest : List Element) (q : Item) → s.used ≤ s.limit → s.mode ≡ modes.Visit → goals_of s.stack s.stack.goals ≡ e ∷ rest →
     ((left : ℕ) → turn P (record { mode = At (record { goals = e ∷ rest; variables = s.stack.heap.count }); cases = cases_of (clauses_for P) s.stack; run = record { steps = left; answers = []; local = local_of s } })
-    ≡ record { mode = Back (Asking q); cases = cases_of (clauses_for P) s.stack; run = record { steps = left; answers = []; local = local_of s } }) →
+    ≡ record { mode = Back (Awaits q); cases = cases_of (clauses_for P) s.stack; run = record { steps = left; answers = []; local = local_of s } }) →
     StandsAt q (rest_of P s) s.used s.out.items
 unfolding rest_of
 stands P s e rest q within at first asks = λ n le.
@@ -150,7 +153,7 @@ stands P s e rest q within at first asks = λ n le.
 pub stands-look : (P : Program) (s : Progress) (cell rest : ℕ) → s.used ≤ s.limit → s.mode ≡ modes.Visit → AtLook s.stack cell rest → StandsAt View (rest_of P s) s.used s.out.items
 unfolding turn meet
 stands-look P s cell rest within at look =
-    stands P s (Look (term s.stack.heap cell)) (goals_of s.stack rest) View within at (ap (map (element s.stack.heap)) look.items) (λ left. refl)
+    stands P s (Asking (Look (term s.stack.heap cell))) (goals_of s.stack rest) View within at (ap (map (element s.stack.heap)) look.items) (λ left. refl)
 
 -- the search has ended
 pub ends : (P : Program) (s : Progress) (e : ThreadEnd) (r : Outcome) → s.used ≤ s.limit → s.mode ≡ modes.Back r → cases_of (clauses_for P) s.stack ≡ [] → next_of (result_of r) ≡ Finishes e →
@@ -167,14 +170,14 @@ ends P s e r within at none is = (λ answers. at_n s.used (le_refl _) answers, �
 -- the next answer, at an element that asked
 answer-turn : (P : Program) (s : Progress) (e : Element) (rest : List Element) (q : Item) (a : Answer) → s.mode ≡ modes.Visit → goals_of s.stack s.stack.goals ≡ e ∷ rest →
     ((w : Local) → meet e rest w ≡ Asks q) → (left : ℕ) (answers : List Answer) →
-    turn P (machine P left (a ∷ answers) s) ≡ move (cases_of (clauses_for P) s.stack) (record { steps = left; answers = answers; local = local_of s }) (answered P e a (depth_of P s) rest s.stack.heap.count (local_of s))
+    turn P (machine P left (a ∷ answers) s) ≡ move (cases_of (clauses_for P) s.stack) (record { steps = left; answers = answers; local = local_of s }) (answered e a (depth_of P s) rest s.stack.heap.count (local_of s))
 unfolding turn
 answer-turn P s e rest q a at first asks left answers =
     ap (turn P) (at-place P s (record { goals = e ∷ rest; variables = s.stack.heap.count }) at (goals-are s.stack e rest first) left (a ∷ answers))
     ∙ ap (meets P (cases_of (clauses_for P) s.stack) e rest s.stack.heap.count (record { steps = left; answers = a ∷ answers; local = local_of s })) (asks (local_of s))
 
 pub takes : (P : Program) (s new : Progress) (e : Element) (rest : List Element) (q : Item) (a : Answer) (m : Move) → s.mode ≡ modes.Visit → goals_of s.stack s.stack.goals ≡ e ∷ rest →
-    ((w : Local) → meet e rest w ≡ Asks q) → m ≡ answered P e a (depth_of P s) rest s.stack.heap.count (local_of s) → new.used ≡ s.used → new.limit ≡ s.limit →
+    ((w : Local) → meet e rest w ≡ Asks q) → m ≡ answered e a (depth_of P s) rest s.stack.heap.count (local_of s) → new.used ≡ s.used → new.limit ≡ s.limit →
     ((most left : ℕ) (answers : List Answer) → after P s most left answers m ≡ now P new most left answers) →
     TakesOne a (rest_of P s) s.used (rest_of P new) new.used
 unfolding rest_of
@@ -190,73 +193,84 @@ takes P s new e rest q a m at first asks is used limit ends = (
 )
 
 pub takes-look : (P : Program) (s t new : Progress) (cell rest g : ℕ) (us : List Stamped) → s.mode ≡ modes.Visit → AtLook s.stack cell rest → t ≡ record s { places = t.places } →
-    Moved P t new (walk_over P us (depth_of P s) (term s.stack.heap cell) (goals_of s.stack rest) s.stack.heap.count (local_of s)) 0 →
+    Moved P t new (walk_over us (depth_of P s) (term s.stack.heap cell) (goals_of s.stack rest) s.stack.heap.count (local_of s)) 0 →
     TakesOne (Seen g us) (rest_of P s) s.used (rest_of P new) new.used
 unfolding meet answered
 takes-look P s t new cell rest g us at look is moved =
-    takes P s new (Look (term s.stack.heap cell)) (goals_of s.stack rest) View (Seen g us) (walk_over P us (depth_of P s) (term s.stack.heap cell) (goals_of s.stack rest) s.stack.heap.count (local_of s)) at (ap (map (element s.stack.heap)) look.items) (λ w. refl) refl
+    takes P s new (Asking (Look (term s.stack.heap cell))) (goals_of s.stack rest) View (Seen g us) (walk_over us (depth_of P s) (term s.stack.heap cell) (goals_of s.stack rest) s.stack.heap.count (local_of s)) at (ap (map (element s.stack.heap)) look.items) (λ w. refl) refl
     (omega (arith, moved.used, ap (λ x. x.used) is)) (moved.limit ∙ ap (λ x. x.limit) is)
-    (λ most left answers. ap (λ x. after P x most left answers (walk_over P us (depth_of P s) (term s.stack.heap cell) (goals_of s.stack rest) s.stack.heap.count (local_of s))) (sym is) ∙ moved.ends most left answers)
+    (λ most left answers. ap (λ x. after P x most left answers (walk_over us (depth_of P s) (term s.stack.heap cell) (goals_of s.stack rest) s.stack.heap.count (local_of s))) (sym is) ∙ moved.ends most left answers)
 
-pub takes-published : (P : Program) (s new : Progress) (c : Clause) (rest : ℕ) → s.mode ≡ modes.Visit → AtAwait s.stack c rest → new ≡ record s { stack = record s.stack { goals = rest }; places = new.places } →
-    TakesOne (Got Published) (rest_of P s) s.used (rest_of P new) new.used
-unfolding meet answered cases_of machine
-takes-published P s new c rest at await is =
-    takes P s new (Await (Publish (Last c ∷ []))) (goals_of s.stack rest) (Ask (Publish (Last c ∷ []))) (Got Published) _ at (ap (map (element s.stack.heap)) await.items) (λ w. refl) refl
-    (ap (λ x. x.used) is) (ap (λ x. x.limit) is)
+-- the request that is first in the list, and its reply
+module _ (P : Program) (s new : Progress) (q : Request) (r : Reply) (next : Following) (rest : ℕ) (at : s.mode ≡ modes.Visit) (await : AtAwait s.stack q next rest) (done : outcome q r ≡ Served) where
+  abbrev first : Element
+  first = Asking (Await q (then_of next))
+
+  abbrev first-is : Move
+  first-is = follows Served (then_of next) (goals_of s.stack rest) s.stack.heap.count (local_of s)
+
+  takes-reply : new.used ≡ s.used → new.limit ≡ s.limit → ((most left : ℕ) (answers : List Answer) → after P s most left answers first-is ≡ now P new most left answers) →
+      TakesOne (Got r) (rest_of P s) s.used (rest_of P new) new.used
+  unfolding meet answered
+  takes-reply used limit ends =
+      takes P s new first (goals_of s.stack rest) (Ask q) (Got r) first-is at (ap (map (element s.stack.heap)) await.items) (λ w. refl)
+      (ap (λ o. follows o (then_of next) (goals_of s.stack rest) s.stack.heap.count (local_of s)) (sym done)) used limit ends
+
+-- the list goes on
+pub replied-goes : (P : Program) (s new : Progress) (q : Request) (r : Reply) (rest : ℕ) → s.mode ≡ modes.Visit → AtAwait s.stack q thens.GoesOn rest → outcome q r ≡ Served →
+    new ≡ record s { stack = record s.stack { goals = rest }; places = new.places } → TakesOne (Got r) (rest_of P s) s.used (rest_of P new) new.used
+unfolding cases_of machine
+replied-goes P s new q r rest at await done is =
+    takes-reply P s new q r thens.GoesOn rest at await done (ap (λ x. x.used) is) (ap (λ x. x.limit) is)
     (λ most left answers. ap (λ m. ending_of most (Rest P m)) (sym (ap (machine P left answers) is ∙ at-place P (record s { stack = record s.stack { goals = rest }; places = new.places }) (record { goals = goals_of s.stack rest; variables = s.stack.heap.count }) at refl left answers)))
 
-pub takes-halted : (P : Program) (s new : Progress) (n rest : ℕ) → s.mode ≡ modes.Visit → AtHalt s.stack n rest → new ≡ record s { mode = modes.Back (outcomes.Halted n); places = new.places } →
-    TakesOne (Got Done) (rest_of P s) s.used (rest_of P new) new.used
-unfolding meet answered machine
-takes-halted P s new n rest at halt is =
-    takes P s new (Halt n) (goals_of s.stack rest) (Ask (HaltRun n)) (Got Done) _ at (ap (map (element s.stack.heap)) halt.items) (λ w. refl) refl
-    (ap (λ x. x.used) is) (ap (λ x. x.limit) is)
+-- the run is ended
+pub replied-ends : (P : Program) (s new : Progress) (q : Request) (r : Reply) (n rest : ℕ) → s.mode ≡ modes.Visit → AtAwait s.stack q (thens.Ends n) rest → outcome q r ≡ Served →
+    new ≡ record s { mode = modes.Back (outcomes.Halted n); places = new.places } → TakesOne (Got r) (rest_of P s) s.used (rest_of P new) new.used
+unfolding machine
+replied-ends P s new q r n rest at await done is =
+    takes-reply P s new q r (thens.Ends n) rest at await done (ap (λ x. x.used) is) (ap (λ x. x.limit) is)
     (λ most left answers. ap (λ m. ending_of most (Rest P m)) (sym (ap (machine P left answers) is)))
 
--- a clause and the end of a run are not both first
-await-or-halt : (s : State) (c : Clause) (n i j : ℕ) → AtAwait s c i → AtHalt s n j → ⊥
-await-or-halt s c n i j await halt = let e : AwaitFor c ∷ list_at s.links i ≡ HaltWith n ∷ list_at s.links j = sym await.items ∙ halt.items in cc
+-- the request that waits, and what follows it
+pub asked-next : (s : Progress) (q : Request) → WaitsForReply s q → (next : Following) × IsAsked s q next
+asked-next s Start waits = absurd waits
+asked-next s (Publish us) waits = (thens.GoesOn, waits)
+asked-next s (Finish e) waits = absurd waits
+asked-next s (HaltRun n) waits = (thens.Ends n, waits)
 
-pub replied-await : (P : Program) (s new : Progress) (r : Reply) (c : Clause) (rest : ℕ) → ReplyFits s r → AtAwait s.stack c rest → new ≡ record s { stack = record s.stack { goals = rest }; places = new.places } →
-    TakesOne (Got r) (rest_of P s) s.used (rest_of P new) new.used
-replied-await P s new r c rest fits await is = go fits.0 fits.1 fits.2
-  where
-    go : (q : Request) → WaitsForReply s q → IsReplyTo q r → TakesOne (Got r) (rest_of P s) s.used (rest_of P new) new.used
-    go Start waits given = absurd waits
-    go (Publish us) waits given = subst (λ r. TakesOne (Got r) (rest_of P s) s.used (rest_of P new) new.used) (sym given) (takes-published P s new c rest waits.0 await is)
-    go (Finish e) waits given = absurd waits
-    go (HaltRun n) waits given = absurd (await-or-halt s.stack c n rest waits.1 await waits.2)
+pub asked-waits : (s : Progress) (q : Request) (next : Following) → IsAsked s q next → WaitsForReply s q
+asked-waits s Start thens.GoesOn asked = absurd asked.2.askable
+asked-waits s Start (thens.Ends m) asked = absurd asked.2.askable
+asked-waits s (Publish us) thens.GoesOn asked = asked
+asked-waits s (Publish us) (thens.Ends m) asked = absurd asked.2.askable
+asked-waits s (Finish e) thens.GoesOn asked = absurd asked.2.askable
+asked-waits s (Finish e) (thens.Ends m) asked = absurd asked.2.askable
+asked-waits s (HaltRun n) thens.GoesOn asked = absurd asked.2.askable
+asked-waits s (HaltRun n) (thens.Ends m) asked = subst (λ m. IsAsked s (HaltRun n) (thens.Ends m)) (sym asked.2.askable) asked
 
-pub replied-halt : (P : Program) (s new : Progress) (r : Reply) (n rest : ℕ) → ReplyFits s r → AtHalt s.stack n rest → new ≡ record s { mode = modes.Back (outcomes.Halted n); places = new.places } →
-    TakesOne (Got r) (rest_of P s) s.used (rest_of P new) new.used
-replied-halt P s new r n rest fits halt is = go fits.0 fits.1 fits.2
-  where
-    go : (q : Request) → WaitsForReply s q → IsReplyTo q r → TakesOne (Got r) (rest_of P s) s.used (rest_of P new) new.used
-    go Start waits given = absurd waits
-    go (Publish us) waits given = absurd (await-or-halt s.stack waits.1 n waits.2 rest waits.3 halt)
-    go (Finish e) waits given = absurd waits
-    go (HaltRun m) waits given = subst (λ r. TakesOne (Got r) (rest_of P s) s.used (rest_of P new) new.used) (sym given) (takes-halted P s new n rest waits.0 halt is)
+-- two requests that are first are one
+same-await : (s : State) (q q' : Request) (next next' : Following) (i j : ℕ) → AtAwait s q next i → AtAwait s q' next' j → q ≡ q'
+same-await s q q' next next' i j a b = let e : AskingFor (AwaitFor q next) ∷ list_at s.links i ≡ AskingFor (AwaitFor q' next') ∷ list_at s.links j = sym a.items ∙ b.items in cc
+
+pub fits-head : (s : Progress) (r : Reply) (q : Request) (next : Following) (rest : ℕ) → ReplyFits s r → AtAwait s.stack q next rest → (s.mode ≡ modes.Visit) × (outcome q r ≡ Served)
+fits-head s r q next rest fits await =
+    let asked = asked-next s fits.0 fits.1 in
+    (asked.1.0, ap (λ q. outcome q r) (same-await s.stack q fits.0 next asked.0 rest asked.1.1 await asked.1.2) ∙ fits.2)
 
 -- what asks a request
 is_asking : Member → Bool
 is_asking (GoalAt k c) = false
-is_asking (CommitTo l) = false
-is_asking (NeverTo l) = false
-is_asking (UntilTo l) = false
-is_asking (LookAt c) = false
-is_asking (AwaitFor c) = true
-is_asking (HaltWith n) = true
+is_asking (MarkerAt m l) = false
+is_asking (AskingFor (LookAt c)) = false
+is_asking (AskingFor (AwaitFor q next)) = true
 
 unfoldable pub is_ask : Head → Bool
 is_ask heads.Nothing = false
 is_ask (heads.Goal k c r) = false
-is_ask (heads.Commit l r) = false
-is_ask (heads.Never l r) = false
-is_ask (heads.Until r) = false
+is_ask (heads.Marker m l r) = false
 is_ask (heads.Look c r) = false
-is_ask (heads.Await r) = true
-is_ask (heads.Halt n) = true
+is_ask (heads.Await next r) = true
 
 same-first : (s : State) (x y : Member) (xs ys : List Member) → list_at s.links s.goals ≡ x ∷ xs → list_at s.links s.goals ≡ y ∷ ys → x ≡ y
 same-first s x y xs ys a b = let e : x ∷ xs ≡ y ∷ ys = sym a ∙ b in cc
@@ -265,37 +279,21 @@ asking-first : (s : State) (x : Member) (xs : List Member) (h : Head) → list_a
 unfolding IsHead is_asking is_ask
 asking-first s x xs heads.Nothing first asks at = let e : x ∷ xs ≡ [] = sym first ∙ at in absurd cc
 asking-first s x xs (heads.Goal k c r) first asks at = sym (ap is_asking (same-first s x (GoalAt k c) xs _ first at.items)) ∙ asks
-asking-first s x xs (heads.Commit l r) first asks at = sym (ap is_asking (same-first s x (CommitTo l) xs _ first at.items)) ∙ asks
-asking-first s x xs (heads.Never l r) first asks at = sym (ap is_asking (same-first s x (NeverTo l) xs _ first at.items)) ∙ asks
-asking-first s x xs (heads.Until r) first asks at = sym (ap is_asking (same-first s x (UntilTo at.0) xs _ first at.1.items)) ∙ asks
-asking-first s x xs (heads.Look c r) first asks at = sym (ap is_asking (same-first s x (LookAt c) xs _ first at.items)) ∙ asks
-asking-first s x xs (heads.Await r) first asks at = refl
-asking-first s x xs (heads.Halt n) first asks at = refl
+asking-first s x xs (heads.Marker m l r) first asks at = sym (ap is_asking (same-first s x (MarkerAt m l) xs _ first at.items)) ∙ asks
+asking-first s x xs (heads.Look c r) first asks at = sym (ap is_asking (same-first s x (AskingFor (LookAt c)) xs _ first at.items)) ∙ asks
+asking-first s x xs (heads.Await next r) first asks at = refl
 
 pub asking-head : (s : Progress) (r : Reply) (h : Head) → ReplyFits s r → IsHead s.stack h → is_ask h ≡ true
 unfolding is_asking
-asking-head s r h fits at = go fits.0 fits.1
-  where
-    go : (q : Request) → WaitsForReply s q → is_ask h ≡ true
-    go Start w = absurd w
-    go (Publish us) w = asking-first s.stack (AwaitFor w.1) _ h w.3.items refl at
-    go (Finish e) w = absurd w
-    go (HaltRun n) w = asking-first s.stack (HaltWith n) _ h w.2.items refl at
+asking-head s r h fits at =
+    let asked = asked-next s fits.0 fits.1 in
+    asking-first s.stack (AskingFor (AwaitFor fits.0 asked.0)) _ h asked.1.2.items refl at
 
-pub says-halt : (P : Program) (s : Progress) (n : ℕ) → s.used ≤ s.limit → WaitsForReply s (HaltRun n) → Says P s (turns.Ask (HaltRun n))
+pub says-asked : (P : Program) (s : Progress) (q p : Request) (next : Following) → s.used ≤ s.limit → IsAsked s q next → p ≡ q → Says P s (turns.Ask p)
 unfolding Says turn meet
-says-halt P s n within w =
-    (w, stands P s (Halt n) (goals_of s.stack w.1) (Ask (HaltRun n)) within w.0 (ap (map (element s.stack.heap)) w.2.items) (λ left. refl))
-
-pub stands-await : (P : Program) (s : Progress) (c : Clause) (rest : ℕ) → s.used ≤ s.limit → s.mode ≡ modes.Visit → AtAwait s.stack c rest → StandsAt (Ask (Publish (Last c ∷ []))) (rest_of P s) s.used s.out.items
-unfolding turn meet
-stands-await P s c rest within at await =
-    stands P s (Await (Publish (Last c ∷ []))) (goals_of s.stack rest) (Ask (Publish (Last c ∷ []))) within at (ap (map (element s.stack.heap)) await.items) (λ left. refl)
-
-pub says-await : (P : Program) (s : Progress) (c : Clause) (rest : ℕ) (us : List Update) → s.used ≤ s.limit → s.mode ≡ modes.Visit → AtAwait s.stack c rest → us ≡ Last c ∷ [] → Says P s (turns.Ask (Publish us))
-unfolding Says
-says-await P s c rest us within at await is =
-    ((at, c, rest, await, is), subst (λ us. StandsAt (Ask (Publish us)) (rest_of P s) s.used s.out.items) (sym is) (stands-await P s c rest within at await))
+says-asked P s q p next within asked same =
+    subst (λ q. WaitsForReply s q × StandsAt (Ask q) (rest_of P s) s.used s.out.items) (sym same)
+    (asked-waits s q next asked, stands P s (Asking (Await q (then_of next))) (goals_of s.stack asked.1) (Ask q) within asked.0 (ap (map (element s.stack.heap)) asked.2.items) (λ left. refl))
 
 pub says-look : (P : Program) (s : Progress) → s.used ≤ s.limit → WaitsForView s → Says P s turns.Refresh
 unfolding Says
@@ -305,30 +303,24 @@ pub says-ended : (P : Program) (s : Progress) (e : ThreadEnd) (r : Outcome) → 
 unfolding Says
 says-ended P s e r within at none is = ends P s e r within at none is
 
--- the first of the list, with the list that stands behind it
-pub first-await : (s : State) (l : Link) (c : Clause) (rest : ℕ) → Begins s l → AtAwait s c rest → AtAwait s c l.next
-first-await s l c rest b await =
-    let both : l.item ∷ list_at s.links l.next ≡ AwaitFor c ∷ list_at s.links rest = sym b.items ∙ await.items in
-    let item : l.item ≡ AwaitFor c = cc in
-    record { items = b.items ∙ ap (λ i. i ∷ list_at s.links l.next) item; behind = b.rest }
-
-pub await-some : (s : State) (c : Clause) (rest : ℕ) → AtAwait s c rest → list_at s.links s.goals ≡ [] → ⊥
-await-some s c rest await none = let e : AwaitFor c ∷ list_at s.links rest ≡ [] = sym await.items ∙ none in cc
+-- the first of the list, which waits
+pub await-some : (s : State) (q : Request) (next : Following) (rest : ℕ) → AtAwait s q next rest → list_at s.links s.goals ≡ [] → ⊥
+await-some s q next rest await none = let e : AskingFor (AwaitFor q next) ∷ list_at s.links rest ≡ [] = sym await.items ∙ none in cc
 
 pub look-some : (s : State) (cell rest : ℕ) → AtLook s cell rest → list_at s.links s.goals ≡ [] → ⊥
-look-some s cell rest look none = let e : LookAt cell ∷ list_at s.links rest ≡ [] = sym look.items ∙ none in cc
+look-some s cell rest look none = let e : AskingFor (LookAt cell) ∷ list_at s.links rest ≡ [] = sym look.items ∙ none in cc
 
-pub first-item : (s : State) (l : Link) (cell rest : ℕ) → Begins s l → AtLook s cell rest → l.item ≡ LookAt cell
-first-item s l cell rest b look = let both : l.item ∷ list_at s.links l.next ≡ LookAt cell ∷ list_at s.links rest = sym b.items ∙ look.items in cc
+pub first-item : (s : State) (l : Link) (cell rest : ℕ) → Begins s l → AtLook s cell rest → l.item ≡ AskingFor (LookAt cell)
+first-item s l cell rest b look = let both : l.item ∷ list_at s.links l.next ≡ AskingFor (LookAt cell) ∷ list_at s.links rest = sym b.items ∙ look.items in cc
 
-pub item-await : (s : State) (l : Link) (c : Clause) (rest : ℕ) → Begins s l → AtAwait s c rest → l.item ≡ AwaitFor c
-item-await s l c rest b await = let both : l.item ∷ list_at s.links l.next ≡ AwaitFor c ∷ list_at s.links rest = sym b.items ∙ await.items in cc
+pub item-await : (s : State) (l : Link) (q : Request) (next : Following) (rest : ℕ) → Begins s l → AtAwait s q next rest → l.item ≡ AskingFor (AwaitFor q next)
+item-await s l q next rest b await = let both : l.item ∷ list_at s.links l.next ≡ AskingFor (AwaitFor q next) ∷ list_at s.links rest = sym b.items ∙ await.items in cc
 
-pub look-at : (s : State) (l : Link) (cell : ℕ) → Begins s l → l.item ≡ LookAt cell → AtLook s cell l.next
+pub look-at : (s : State) (l : Link) (cell : ℕ) → Begins s l → l.item ≡ AskingFor (LookAt cell) → AtLook s cell l.next
 look-at s l cell b is = record { items = b.items ∙ ap (λ i. i ∷ list_at s.links l.next) is; behind = b.rest; there = subst (IsItemIn (length s.heap.cells)) is b.within }
 
-pub await-at : (s : State) (l : Link) (c : Clause) → Begins s l → l.item ≡ AwaitFor c → AtAwait s c l.next
-await-at s l c b is = record { items = b.items ∙ ap (λ i. i ∷ list_at s.links l.next) is; behind = b.rest }
+pub await-at : (s : State) (l : Link) (q : Request) (next : Following) → Begins s l → l.item ≡ AskingFor (AwaitFor q next) → AtAwait s q next l.next
+await-at s l q next b is = record { items = b.items ∙ ap (λ i. i ∷ list_at s.links l.next) is; behind = b.rest; askable = subst (IsItemIn (length s.heap.cells)) is b.within }
 
 -- the same but for the places
 pub stays-places : (P : Program) (s t new : Progress) → t ≡ record s { places = t.places } → Stays P t new → (final : Progress) → final ≡ record new { places = final.places } → final.places.items ≡ s.places.items → Stays P s final

@@ -53,10 +53,10 @@ starts-goal old st new list made cell count g e is grown many l f heap there goa
 }
 
 -- a solver at the start
-pub begins : (P : Program) (s : Progress) (stack : State) (list : ℕ) → Starts stack list P.goals → s.stack ≡ record stack { goals = list } → s.mode ≡ modes.Visit → s.used ≡ 0 → s.out.items ≡ [] →
+pub begins : (P : Program) (s : Progress) (stack : State) (list : ℕ) → Starts stack list P.goals → s.stack ≡ record stack { goals = list } → s.mode ≡ modes.Visit → s.used ≡ 0 → s.out.items ≡ [] → s.settings ≡ P.settings →
     Begins (search_of P s.limit) (rest_of P s) s.used
 unfolding search_of rest_of Rest outs start_of cases_of
-begins P s stack list starts is at used out = (
+begins P s stack list starts is at used out settings = (
   used,
   λ n answers.
       let k : ℕ = min n s.limit in
@@ -64,5 +64,5 @@ begins P s stack list starts is at used out = (
       sym
       (ap (λ u. ending_of k (Rest P (machine P (k - u) answers s))) used
       ∙ ap (λ m. ending_of k (Rest P (machine P m answers s))) all
-      ∙ ap (λ m. ending_of k (Rest P m)) (machine-at P s (start_of P) [] (record { out = [] }) at (ap place_of is ∙ starts.place) (ap (cases_of (clauses_for P)) is ∙ starts.cases (clauses_for P)) (ap (λ o. record { out = o }) out) k answers)),
+      ∙ ap (λ m. ending_of k (Rest P m)) (machine-at P s (start_of P) [] (record { out = []; settings = P.settings }) at (ap place_of is ∙ starts.place) (ap (cases_of (clauses_for P)) is ∙ starts.cases (clauses_for P)) (ap₂ (λ o x. record { out = o; settings = x }) out settings) k answers)),
 )

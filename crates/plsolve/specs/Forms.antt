@@ -4,33 +4,31 @@ use Rattle.plterm.specs.Tree.{atom, int}
 use Rattle.plheap.specs.declared.cell.Cell.{Cell}
 use Rattle.plheap.specs.declared.cell.Cell.TheVariants as cells
 use Rattle.plheap.specs.Store.{Store, term, terms}
-use Rattle.plsearch.specs.Forms.{True, False, Both, Either, Not, Once, Catching, Throwing, CallWith, Cut, Halting, AddLast, Call, NoGoal}
+use Rattle.plbuiltin.specs.Answers.{AreArgs}
+use Rattle.plsearch.specs.Forms.{Form, True, False, Both, Either, IfThenElse, Not, Once, Catching, Throwing, CallWith, Cut, Halting, AddLast, BuiltIn, Call, NoGoal}
 use Rattle.plframe.specs.Extended.{IsRun}
-use Rattle.plsolve.specs.declared.control.Control.{Control as Found}
-use Rattle.plsolve.specs.declared.control.Control.TheVariants as found
+use Rattle.plsolve.specs.declared.form.Form.{Form as Found}
+use Rattle.plsolve.specs.declared.form.Form.TheVariants as found
 
-abbrev pub shown_control : Store → Found → Control
-shown_control h found.True = True
-shown_control h found.False = False
-shown_control h (found.Both a b) = Both (term h a) (term h b)
-shown_control h (found.Either a b) = Either (term h a) (term h b)
-shown_control h (found.Then c a) = Then (term h c) (term h a) (atom (codes "fail"))
-shown_control h (found.ThenElse c a b) = Then (term h c) (term h a) (term h b)
-shown_control h (found.Not a) = Not (term h a)
-shown_control h (found.Once a) = Once (term h a)
-shown_control h (found.Catching g c r) = Catching (term h g) (term h c) (term h r)
-shown_control h (found.Throwing a) = Throwing (term h a)
-shown_control h (found.CallWith a n) = CallWith (term h a) (terms h (suc a) n)
-shown_control h found.Cut = Cut
-shown_control h (found.Unify a b) = Unify (term h a) (term h b)
-shown_control h (found.Write a) = Write (term h a)
-shown_control h (found.WriteQuoted a) = WriteQuoted (term h a)
-shown_control h found.Newline = Newline
-shown_control h (found.AddLast a) = AddLast (term h a)
-shown_control h found.Halt = Halting (int (pos 0))
-shown_control h (found.HaltWith a) = Halting (term h a)
-shown_control h (found.Call p) = Call p
-shown_control h found.NoGoal = NoGoal
+abbrev pub shown_form : Store → Found → Form
+shown_form h found.True = True
+shown_form h found.False = False
+shown_form h (found.Both a b) = Both (term h a) (term h b)
+shown_form h (found.Either a b) = Either (term h a) (term h b)
+shown_form h (found.IfThen c a) = IfThenElse (term h c) (term h a) (atom (codes "fail"))
+shown_form h (found.IfThenElse c a b) = IfThenElse (term h c) (term h a) (term h b)
+shown_form h (found.Not a) = Not (term h a)
+shown_form h (found.Once a) = Once (term h a)
+shown_form h (found.Catching g c r) = Catching (term h g) (term h c) (term h r)
+shown_form h (found.Throwing a) = Throwing (term h a)
+shown_form h (found.CallWith a n) = CallWith (term h a) (terms h (suc a) n)
+shown_form h found.Cut = Cut
+shown_form h found.Halt = Halting (int (pos 0))
+shown_form h (found.HaltWith a) = Halting (term h a)
+shown_form h (found.AddLast a) = AddLast (term h a)
+shown_form h (found.BuiltIn b args) = BuiltIn b (terms h args.first args.count)
+shown_form h (found.Call p) = Call p
+shown_form h found.NoGoal = NoGoal
 
 -- the cells are there
 abbrev pub IsInside : Store → Found → Type 0
@@ -38,21 +36,18 @@ IsInside h found.True = Unit {0}
 IsInside h found.False = Unit {0}
 IsInside h (found.Both a b) = (a < length h.cells) × (b < length h.cells)
 IsInside h (found.Either a b) = (a < length h.cells) × (b < length h.cells)
-IsInside h (found.Then c a) = (c < length h.cells) × (a < length h.cells)
-IsInside h (found.ThenElse c a b) = (c < length h.cells) × (a < length h.cells) × (b < length h.cells)
+IsInside h (found.IfThen c a) = (c < length h.cells) × (a < length h.cells)
+IsInside h (found.IfThenElse c a b) = (c < length h.cells) × (a < length h.cells) × (b < length h.cells)
 IsInside h (found.Not a) = a < length h.cells
 IsInside h (found.Once a) = a < length h.cells
 IsInside h (found.Catching g c r) = (g < length h.cells) × (c < length h.cells) × (r < length h.cells)
 IsInside h (found.Throwing a) = a < length h.cells
 IsInside h (found.CallWith a n) = (a < length h.cells) × IsRun h (record { first = suc a; count = n }) × (n ≤ 1024)
 IsInside h found.Cut = Unit {0}
-IsInside h (found.Unify a b) = (a < length h.cells) × (b < length h.cells)
-IsInside h (found.Write a) = a < length h.cells
-IsInside h (found.WriteQuoted a) = a < length h.cells
-IsInside h found.Newline = Unit {0}
-IsInside h (found.AddLast a) = a < length h.cells
 IsInside h found.Halt = Unit {0}
 IsInside h (found.HaltWith a) = a < length h.cells
+IsInside h (found.AddLast a) = a < length h.cells
+IsInside h (found.BuiltIn b args) = AreArgs h args
 IsInside h (found.Call p) = Unit {0}
 IsInside h found.NoGoal = Unit {0}
 

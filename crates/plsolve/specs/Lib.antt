@@ -1,5 +1,5 @@
 pub mod Heads
-pub mod Controls
+pub mod Forms
 pub mod Predicates
 pub mod Solver
 pub mod Says

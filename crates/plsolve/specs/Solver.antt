@@ -2,34 +2,34 @@
 use Rattle.std.specs.Prelude.{◌≡◌, ℕ, ◌+◌, ◌-◌, ◌<◌, ◌≤◌, Bool, true, false, List, [], ◌∷◌, length, min, nat_eq}
 use Rattle.plterm.specs.Tree.{Tree, var, int, atom, compound}
 use Rattle.plterm.specs.Variables.{copied, variables}
-use Rattle.plclause.specs.Clause.{Clause}
 use Rattle.plheap.specs.Store.{term}
 use Rattle.plsearch.specs.Lists.{levels}
 use Rattle.plsearch.specs.Running.{Runnable, Runs, Raises, runnable}
-use Rattle.plsearch.specs.Rows.{catch_3, halt_1, raised}
+use Rattle.plsearch.specs.Rows.{catch_3, halt_1, raised, go_on}
 use Rattle.plsearch.specs.Handlers.{has, recovers}
 use Rattle.plsearch.specs.Errors.{error_term}
-use Rattle.plsearch.specs.Types.{Goal as GoalOf, Halt as HaltOf, Element, Go}
+use Rattle.plsearch.specs.Types.{Goal as GoalOf, Ends, Await, Asking, Element}
 use Rattle.plevent.specs.Search.{Answer, Ending, Search}
 use Rattle.plevent.specs.declared.request.Request.{Request}
 use Rattle.plevent.specs.declared.request.Request.TheVariants.{Start, Publish, Finish, HaltRun}
 use Rattle.plevent.specs.declared.request.Reply.{Reply}
-use Rattle.plevent.specs.declared.request.Reply.TheVariants.{Published, Done}
-use Rattle.plevent.specs.declared.update.Update.TheVariants.{Last}
 use Rattle.plprogram.specs.Program.{Program, clauses_for}
 use Rattle.plsearch.specs.Types.{Result, Stop, Fail, CutTo, Throw, Halted, Spent, Case, Local, Move}
 use Rattle.plsearch.specs.Engine.{deeper}
 use Rattle.plsearch.specs.Machines.Machine.{Mode, At, Back, Machine, Rest, move, return}
 use Rattle.plsearch.specs.Machines.Weight.{weight}
+use Rattle.plsearch.specs.Replies.{Served, outcome}
 use Rattle.plsearch.specs.Solving.{Goes}
 use Rattle.plsearch.specs.Search.{ending_of, once, start_from}
 use Rattle.plframe.specs.Places.{Statics}
 use Rattle.plframe.specs.State.{State, place_of, cases_of, goals_of, IsList}
-use Rattle.plsolve.specs.Heads.{AtGoal, AtLook, AtAwait, AtHalt}
-use Rattle.plsolve.specs.declared.rows.Ready.{Ready}
-use Rattle.plsolve.specs.declared.rows.Ready.TheVariants as readies
-use Rattle.plsolve.specs.declared.rows.Status.{Status}
-use Rattle.plsolve.specs.declared.rows.Status.TheVariants as statuses
+use Rattle.plframe.specs.declared.frame.Then.{Then}
+use Rattle.plframe.specs.declared.frame.Then.TheVariants as thens
+use Rattle.plsolve.specs.Heads.{AtGoal, AtLook, AtAwait}
+use Rattle.plsolve.specs.declared.running.Ready.{Ready}
+use Rattle.plsolve.specs.declared.running.Ready.TheVariants as readies
+use Rattle.plsolve.specs.declared.asking.Status.{Status}
+use Rattle.plsolve.specs.declared.asking.Status.TheVariants as statuses
 use Rattle.plsolve.specs.declared.progress.Due.{Due}
 use Rattle.plsolve.specs.declared.progress.Due.TheVariants as dues
 use Rattle.plsolve.specs.declared.progress.Outcome.{Outcome}
@@ -51,7 +51,7 @@ mode_of modes.Visit s = At (place_of s)
 mode_of (modes.Back r) s = Back (result_of r)
 
 abbrev pub local_of : Progress → Local
-local_of s = record { out = s.out.items }
+local_of s = record { out = s.out.items; settings = s.settings }
 
 -- the machine that a solver is, with so many steps and these answers left
 unfoldable pub machine : Program → ℕ → List Answer → Progress → Machine
@@ -112,7 +112,7 @@ pub record Readies (s : Progress) (runs : Runnable) (r : Ready) : Type 0 where
 
 -- what the number of halt/1 comes to
 abbrev pub ended_with : Status → List Element → ℕ → Local → Move
-ended_with (statuses.Is k) es n w = Go [] (record { goals = HaltOf k ∷ es; variables = n }) w
+ended_with (statuses.Is k) es n w = go_on (Asking (Await (HaltRun k) (Ends k)) ∷ es) n w
 ended_with (statuses.Raises e) es n w = raised e halt_1 es w
 
 -- without a step or an answer it came to where the same is left of its search, with less before it
@@ -127,26 +127,26 @@ pub record Quiet (P : Program) (old new : Progress) : Type 0 where
 abbrev pub IsOver : Program → Progress → Type 0
 IsOver P s = (r : Outcome) × (s.mode ≡ modes.Back r) × (cases_of (clauses_for P) s.stack ≡ [])
 
--- a goal waits for a view, or a clause until it is published
+-- a goal waits for a view
 abbrev pub WaitsForView : Progress → Type 0
 WaitsForView s = (s.mode ≡ modes.Visit) × (cell : ℕ) × (rest : ℕ) × AtLook s.stack cell rest
 
-abbrev pub WaitsToPublish : Progress → Type 0
-WaitsToPublish s = (s.mode ≡ modes.Visit) × (c : Clause) × (rest : ℕ) × AtAwait s.stack c rest
+-- a request waits for its reply, and for what follows it
+abbrev pub IsAsked : Progress → Request → Then → Type 0
+IsAsked s q next = (s.mode ≡ modes.Visit) × (rest : ℕ) × AtAwait s.stack q next rest
 
--- a request waits for its reply
 abbrev pub WaitsForReply : Progress → Request → Type 0
-WaitsForReply s (Publish us) = (s.mode ≡ modes.Visit) × (c : Clause) × (rest : ℕ) × AtAwait s.stack c rest × (us ≡ Last c ∷ [])
-WaitsForReply s (HaltRun n) = (s.mode ≡ modes.Visit) × (rest : ℕ) × AtHalt s.stack n rest
+WaitsForReply s (Publish us) = IsAsked s (Publish us) thens.GoesOn
+WaitsForReply s (HaltRun n) = IsAsked s (HaltRun n) (thens.Ends n)
 WaitsForReply s Start = ⊥
 WaitsForReply s (Finish e) = ⊥
 
--- the reply that is given for a request
+abbrev pub Waits : Progress → Type 0
+Waits s = (q : Request) × WaitsForReply s q
+
+-- the reply says that the request was served
 abbrev pub IsReplyTo : Request → Reply → Type 0
-IsReplyTo (Publish us) r = r ≡ Published
-IsReplyTo (HaltRun n) r = r ≡ Done
-IsReplyTo Start r = ⊥
-IsReplyTo (Finish e) r = ⊥
+IsReplyTo q r = outcome q r ≡ Served
 
 -- a reply is given for the request that waits
 abbrev pub ReplyFits : Progress → Reply → Type 0
@@ -154,9 +154,8 @@ ReplyFits s r = (q : Request) × WaitsForReply s q × IsReplyTo q r
 
 unfoldable pub Settled : Program → Progress → Due → Type 0
 Settled P s (dues.Goal level cell rest) = (s.mode ≡ modes.Visit) × AtGoal s.stack level cell rest × (s.used + 1 ≤ s.limit)
-Settled P s (dues.Look cell rest) = WaitsForView s
-Settled P s (dues.Await rest) = WaitsToPublish s
-Settled P s (dues.Halt n) = WaitsForReply s (HaltRun n)
+Settled P s dues.Look = WaitsForView s
+Settled P s dues.Await = Waits s
 Settled P s dues.Over = IsOver P s
 
 -- a step was taken

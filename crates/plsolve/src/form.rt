@@ -1,19 +1,23 @@
 //! What a goal is (ISO/IEC 13211-1 7.8).
 
-ghost use Rattle.std.specs.Prelude.{◌≡◌, ◌+◌, ◌^◌, ◌<◌, ◌≤◌, ℕ, length, IfOk};
-ghost use Rattle.plheap.specs.Store.{Store, term};
-ghost use Rattle.plsearch.specs.Forms.{either as either_of, Call};
-ghost use Rattle.plsolve.specs.Controls.{shown_control, IsInside, is_then};
+ghost use Rattle.std.specs.Prelude.{◌≡◌, ◌+◌, ◌^◌, ◌<◌, ◌≤◌, suc, [], ◌∷◌, length, IfOk};
+ghost use Rattle.plheap.specs.Store.{Store, term, terms};
+ghost use Rattle.plbuiltin.specs.Answers.{AreArgs};
+ghost use Rattle.plsearch.specs.Forms.{form as form_of, form_at, construct as construct_of, either as either_of};
+ghost use Rattle.plsolve.specs.Forms.{shown_form, IsInside, is_then};
 
+use plbuiltin::answer::Args;
 use plheap::cell::Cell;
 use plheap::heap::Heap;
+use plnames::kind::{BuiltIn, Control, Kind};
+use plnames::table::NameTable;
 use plterm::indicator::Indicator;
 use plterm::name::Name;
 use std::alloc::AllocError;
 
 /// A goal, by the cells of its arguments.
 #[derive(Drop)]
-pub enum Control {
+pub enum Form {
     True,
     /// fail/0 and false/0.
     False,
@@ -22,9 +26,9 @@ pub enum Control {
     /// A disjunction.
     Either(u32, u32),
     /// A condition and what follows it; nothing else.
-    Then(u32, u32),
+    IfThen(u32, u32),
     /// A condition, what follows it, and what is done where it fails.
-    ThenElse(u32, u32, u32),
+    IfThenElse(u32, u32, u32),
     /// Not provable.
     Not(u32),
     Once(u32),
@@ -35,16 +39,14 @@ pub enum Control {
     /// call/N: the goal, and how many cells behind it are its further arguments.
     CallWith(u32, u16),
     Cut,
-    Unify(u32, u32),
-    Write(u32),
-    WriteQuoted(u32),
-    Newline,
-    /// assertz/1 of a term.
-    AddLast(u32),
     /// halt/0
     Halt,
     /// halt/1 of a number.
     HaltWith(u32),
+    /// assertz/1 of a term.
+    AddLast(u32),
+    /// A built-in predicate and its arguments.
+    BuiltIn(BuiltIn, Args),
     /// A call of a procedure.
     Call(Indicator),
     /// An integer or a variable.
@@ -52,150 +54,186 @@ pub enum Control {
 }
 
 /// What the goal of a cell is.
-pub fn read_control(heap: &Heap, cell: u32) -> Result<Control, AllocError>
+pub fn read_form(names: &NameTable, heap: &Heap, cell: u32) -> Result<Form, AllocError>
     requires { cell < length heap.now.cells }
-    ensures is { IfOk result (λ c. shown_control heap.now c ≡ control_of (term heap.now cell)) }
-    ensures inside { IfOk result (λ c. IsInside heap.now c) }
+    ensures is { IfOk result (λ f. shown_form heap.now f ≡ form_of (term heap.now cell)) }
+    ensures inside { IfOk result (λ f. IsInside heap.now f) }
 {
     let (root, node) = heap.root(cell);
     match node {
-        Cell::Atom(name) => nullary(heap, name),
+        Cell::Atom(name) => form_by(names, heap, name, Args { first: 0, count: 0 }),
         Cell::Struct(name, arity) => {
-            let first = root - u32::from(*arity);
-            let further = *arity - 1;
-            if adds_arguments(name, further) {
-                return Ok(Control::CallWith(first, further));
-            }
-            if further == 0 {
-                return unary(heap, name, first);
-            }
-            if further == 1 {
-                return binary(heap, name, first, first + 1);
-            }
-            if further == 2 {
-                return ternary(heap, name, first);
-            }
+            let count = *arity;
+            let first = root - u32::from(count);
+            form_by(names, heap, name, Args { first, count })
+        }
+        Cell::Free(_) | Cell::Bound(_, _) | Cell::Ref(_) | Cell::Int(_) => Ok(Form::NoGoal),
+    }
+}
+
+/// What a goal of a name and arguments is, by the table of names.
+fn form_by(names: &NameTable, heap: &Heap, name: &Name, args: Args) -> Result<Form, AllocError>
+    requires args { AreArgs heap.now args }
+    requires few { args.count ≤ 1024 }
+    ensures is { IfOk result (λ f. shown_form heap.now f ≡ form_at (record { name = name.now; arity = args.count }) (terms heap.now args.first args.count)) }
+    ensures inside { IfOk result (λ f. IsInside heap.now f) }
+{
+    match names.kind_of(name.as_str(), args.count) {
+        Some(Kind::Control(control)) => Ok(construct(heap, control, args)),
+        Some(Kind::BuiltIn(b)) => Ok(Form::BuiltIn(b, args)),
+        None => {
             let name = name.copied()?;
-            Ok(Control::Call(Indicator {
+            Ok(Form::Call(Indicator {
                 name,
-                arity: *arity,
+                arity: args.count,
             }))
         }
-        Cell::Free(_) | Cell::Bound(_, _) | Cell::Ref(_) | Cell::Int(_) => Ok(Control::NoGoal),
     }
 }
 
-/// Whether a name with a first argument and so many further ones is call/1 to call/8.
-fn adds_arguments(name: &Name, further: u16) -> bool
-    ensures { result ≡ is_call name.now further }
+/// A control construct with its arguments.
+fn construct(heap: &Heap, control: Control, args: Args) -> Form
+    requires args { AreArgs heap.now args }
+    requires few { args.count ≤ 1024 }
+    ensures is { shown_form heap.now result ≡ construct_of control (terms heap.now args.first args.count) }
+    ensures inside { IsInside heap.now result }
 {
-    name.as_str() == "call" && further <= 7
+    let first = args.first;
+    let count = args.count;
+    if count == 0 {
+        return nullary(control);
+    }
+    if count == 1 {
+        return unary(control, first);
+    }
+    if count == 2 {
+        return binary(heap, control, first, first + 1);
+    }
+    if count == 3 {
+        return ternary(control, first, first + 1, first + 2);
+    }
+    many(control, first, count - 1)
 }
 
-fn nullary(heap: &Heap, name: &Name) -> Result<Control, AllocError>
-    ensures is { IfOk result (λ c. shown_control heap.now c ≡ nullary_of name.now) }
-    ensures inside { IfOk result (λ c. IsInside heap.now c) }
+fn nullary(control: Control) -> Form
+    ensures is { (h : Store) → shown_form h result ≡ construct_of control [] }
+    ensures inside { (h : Store) → IsInside h result }
 {
-    if name.as_str() == "true" {
-        return Ok(Control::True);
+    match control {
+        Control::True => Form::True,
+        Control::Fail => Form::False,
+        Control::Cut => Form::Cut,
+        Control::Halt => Form::Halt,
+        Control::And
+        | Control::Or
+        | Control::IfThen
+        | Control::Not
+        | Control::Once
+        | Control::Call
+        | Control::Catch
+        | Control::Throw
+        | Control::AddLast => Form::NoGoal,
     }
-    if name.as_str() == "fail" {
-        return Ok(Control::False);
-    }
-    if name.as_str() == "false" {
-        return Ok(Control::False);
-    }
-    if name.as_str() == "!" {
-        return Ok(Control::Cut);
-    }
-    if name.as_str() == "nl" {
-        return Ok(Control::Newline);
-    }
-    if name.as_str() == "halt" {
-        return Ok(Control::Halt);
-    }
-    let name = name.copied()?;
-    Ok(Control::Call(Indicator { name, arity: 0 }))
 }
 
-fn unary(heap: &Heap, name: &Name, a: u32) -> Result<Control, AllocError>
-    requires { a < length heap.now.cells }
-    ensures is { IfOk result (λ c. shown_control heap.now c ≡ unary_of name.now (term heap.now a)) }
-    ensures inside { IfOk result (λ c. IsInside heap.now c) }
+fn unary(control: Control, a: u32) -> Form
+    requires { a + 1 < 2 ^ 32 }
+    ensures is { (h : Store) → shown_form h result ≡ construct_of control (term h a ∷ []) }
+    ensures inside { (h : Store) → a < length h.cells → IsInside h result }
 {
-    if name.as_str() == "once" {
-        return Ok(Control::Once(a));
+    match control {
+        Control::Not => Form::Not(a),
+        Control::Once => Form::Once(a),
+        Control::Call => Form::CallWith(a, 0),
+        Control::Throw => Form::Throwing(a),
+        Control::AddLast => Form::AddLast(a),
+        Control::Halt => Form::HaltWith(a),
+        Control::True
+        | Control::Fail
+        | Control::Cut
+        | Control::And
+        | Control::Or
+        | Control::IfThen
+        | Control::Catch => Form::NoGoal,
     }
-    if name.as_str() == "\\+" {
-        return Ok(Control::Not(a));
-    }
-    if name.as_str() == "throw" {
-        return Ok(Control::Throwing(a));
-    }
-    if name.as_str() == "write" {
-        return Ok(Control::Write(a));
-    }
-    if name.as_str() == "writeq" {
-        return Ok(Control::WriteQuoted(a));
-    }
-    if name.as_str() == "assertz" {
-        return Ok(Control::AddLast(a));
-    }
-    if name.as_str() == "halt" {
-        return Ok(Control::HaltWith(a));
-    }
-    let name = name.copied()?;
-    Ok(Control::Call(Indicator { name, arity: 1 }))
 }
 
-fn binary(heap: &Heap, name: &Name, a: u32, b: u32) -> Result<Control, AllocError>
-    requires first { a < length heap.now.cells }
-    requires second { b < length heap.now.cells }
-    ensures is { IfOk result (λ c. shown_control heap.now c ≡ binary_of name.now (term heap.now a) (term heap.now b)) }
-    ensures inside { IfOk result (λ c. IsInside heap.now c) }
+/// A construct of two arguments, in cells that stand side by side.
+fn binary(heap: &Heap, control: Control, a: u32, b: u32) -> Form
+    requires next { b ≡ suc a }
+    requires there { b < length heap.now.cells }
+    requires few { b + 1 < 2 ^ 32 }
+    ensures is { shown_form heap.now result ≡ construct_of control (term heap.now a ∷ term heap.now b ∷ []) }
+    ensures inside { IsInside heap.now result }
 {
-    if name.as_str() == "," {
-        return Ok(Control::Both(a, b));
+    match control {
+        Control::And => Form::Both(a, b),
+        Control::Or => either(heap, a, b),
+        Control::IfThen => Form::IfThen(a, b),
+        Control::Call => Form::CallWith(a, 1),
+        Control::True
+        | Control::Fail
+        | Control::Cut
+        | Control::Not
+        | Control::Once
+        | Control::Catch
+        | Control::Throw
+        | Control::AddLast
+        | Control::Halt => Form::NoGoal,
     }
-    if name.as_str() == ";" {
-        return Ok(either(heap, a, b));
-    }
-    if name.as_str() == "->" {
-        return Ok(Control::Then(a, b));
-    }
-    if name.as_str() == "=" {
-        return Ok(Control::Unify(a, b));
-    }
-    let name = name.copied()?;
-    Ok(Control::Call(Indicator { name, arity: 2 }))
 }
 
-/// A goal of three arguments, of which the cell of the first is given.
-fn ternary(heap: &Heap, name: &Name, a: u32) -> Result<Control, AllocError>
-    requires there { a + 2 < length heap.now.cells }
-    requires few { a + 2 < 2 ^ 32 }
-    ensures is { IfOk result (λ c. shown_control heap.now c ≡ ternary_of name.now (term heap.now a) (term heap.now (a + 1)) (term heap.now (a + 2))) }
-    ensures inside { IfOk result (λ c. IsInside heap.now c) }
+/// A construct of three arguments, in cells that stand side by side.
+fn ternary(control: Control, a: u32, b: u32, c: u32) -> Form
+    requires next { b ≡ suc a }
+    requires last { c ≡ suc b }
+    requires few { c + 1 < 2 ^ 32 }
+    ensures is { (h : Store) → shown_form h result ≡ construct_of control (term h a ∷ term h b ∷ term h c ∷ []) }
+    ensures inside { (h : Store) → c < length h.cells → IsInside h result }
 {
-    if name.as_str() == "catch" {
-        return Ok(Control::Catching(a, a + 1, a + 2));
+    match control {
+        Control::Catch => Form::Catching(a, b, c),
+        Control::Call => Form::CallWith(a, 2),
+        Control::True
+        | Control::Fail
+        | Control::Cut
+        | Control::And
+        | Control::Or
+        | Control::IfThen
+        | Control::Not
+        | Control::Once
+        | Control::Throw
+        | Control::AddLast
+        | Control::Halt => Form::NoGoal,
     }
-    let name = name.copied()?;
-    Ok(Control::Call(Indicator { name, arity: 3 }))
+}
+
+/// A construct of a first argument and three further ones or more.
+fn many(control: Control, first: u32, further: u16) -> Form
+    requires some { 3 ≤ further }
+    requires few { further ≤ 1024 }
+    requires room { first + 1 + further < 2 ^ 32 }
+    ensures is { (h : Store) → shown_form h result ≡ construct_of control (terms h first (suc further)) }
+    ensures inside { (h : Store) → first + 1 + further ≤ length h.cells → IsInside h result }
+{
+    if let Control::Call = control {
+        return Form::CallWith(first, further);
+    }
+    Form::NoGoal
 }
 
 /// `;`/2: with `->`/2 on its left side the two are one construct.
-fn either(heap: &Heap, a: u32, b: u32) -> Control
+fn either(heap: &Heap, a: u32, b: u32) -> Form
     requires first { a < length heap.now.cells }
     requires second { b < length heap.now.cells }
-    ensures is { shown_control heap.now result ≡ either_of (term heap.now a) (term heap.now b) }
+    ensures is { shown_form heap.now result ≡ either_of (term heap.now a) (term heap.now b) }
     ensures inside { IsInside heap.now result }
 {
     let (root, node) = heap.root(a);
     if is_then(node) {
-        return Control::ThenElse(root - 2, root - 1, b);
+        return Form::IfThenElse(root - 2, root - 1, b);
     }
-    Control::Either(a, b)
+    Form::Either(a, b)
 }
 
 /// Whether a cell is a structure of `->`/2.

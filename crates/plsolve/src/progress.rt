@@ -14,25 +14,24 @@ ghost use Rattle.plsearch.specs.Replies.{walk_over, missing};
 ghost use Rattle.plsearch.specs.Search.{search_of, next_of};
 ghost use Rattle.plsearch.specs.Solving.{Begins, Goes, TakesOne};
 ghost use Rattle.plframe.specs.Places.{Statics};
-ghost use Rattle.plframe.specs.State.{cases_of, goals_of, HasCall, HasBranch, HasCatch, IsList};
-ghost use Rattle.plsolve.specs.Heads.{AtGoal};
-ghost use Rattle.plsolve.specs.Solver.{local_of, depth_of, Moved, Stays, rest_of, result_of, Quiet, Settled, WaitsForView, WaitsToPublish, ReplyFits, IsOver, Stepped, throws_to, Recovered, Rethrown, marked, cut_stopped, empty, Starts, StartsGoal};
+ghost use Rattle.plframe.specs.State.{cases_of, goals_of, HasCall, HasBranch, HasHandler, IsList};
+ghost use Rattle.plsolve.specs.Heads.{AtGoal, AtMarker};
+ghost use Rattle.plsolve.specs.Solver.{local_of, depth_of, Moved, Stays, rest_of, result_of, Quiet, Settled, WaitsForView, Waits, ReplyFits, IsOver, Stepped, throws_to, Recovered, Rethrown, marked, cut_stopped, empty, Starts, StartsGoal};
 ghost use Rattle.plsolve.specs.Says.{Says, IsSlice};
 
-use crate::control::read_control;
+use crate::form::read_form;
 use crate::error;
 use crate::head::{Head, head_of};
 use crate::predicate::Predicate;
-use crate::rows::Ready;
+use crate::running::Ready;
 use crate::solver::Turn;
 use plevent::request::{Reply, Request, ThreadEnd};
-use plevent::update::{Batch, Update};
-use plframe::frame::{Closed, Item, Source};
+use plframe::frame::{Closed, Handler, Item, MarkerKind, Question, Source, Then};
 use plframe::stack::Stack;
 use plheap::cell::Cell;
 use plheap::heap::Heap;
 use plprogram::program::Program;
-use plprogram::settings::Unknown;
+use plprogram::settings::{Settings, Unknown};
 use plstore::store::Store;
 use plterm::indicator::Indicator;
 use plterm::name::Name;
@@ -75,6 +74,8 @@ pub struct Progress {
     pub limit: u64,
     /// The bytes written.
     pub out: Vec<u8>,
+    /// The operators and flags of the thread.
+    pub settings: Settings,
     /// The places of the answers taken.
     pub places: Vec<u64>,
 }
@@ -84,12 +85,10 @@ pub struct Progress {
 pub enum Due {
     /// The goal of a level and a cell is to be selected, before a list.
     Goal(u32, u32, u32),
-    /// The goal of a cell waits for a view.
-    Look(u32, u32),
-    /// A clause waits until it is published.
-    Await(u32),
-    /// The run is to be ended with a number.
-    Halt(u8),
+    /// A goal waits for a view.
+    Look,
+    /// A request waits for its reply.
+    Await,
     /// The search has ended.
     Over,
 }
@@ -103,6 +102,7 @@ impl Progress {
     {
         let mut stack = Stack::new(alloc);
         let list = start(&mut stack, alloc, program.goals())?;
+        let settings = program.settings().copied(alloc)?;
         stack.visit(list);
         Ok(Progress {
             alloc,
@@ -111,6 +111,7 @@ impl Progress {
             used: 0,
             limit,
             out: Vec::new(alloc),
+            settings,
             places: Vec::new(alloc),
         })
     }
@@ -136,9 +137,8 @@ impl Progress {
                     self.step(program, level, cell, rest)?;
                     left -= 1;
                 }
-                Due::Look(_, _) => return Ok(Turn::Refresh),
-                Due::Await(_) => return self.asked(program),
-                Due::Halt(number) => return Ok(Turn::Ask(Request::HaltRun(number))),
+                Due::Look => return Ok(Turn::Refresh),
+                Due::Await => return self.asked(program),
                 Due::Over => return self.ended(program),
             }
         }
@@ -163,20 +163,19 @@ impl Progress {
         let head = head_of(&self.stack);
         self.places.push(place)?;
         match head {
-            Head::Await(rest) => {
-                self.stack.visit(rest);
-                Ok(())
+            Head::Await(next, rest) => match next {
+                Then::GoesOn => {
+                    self.stack.visit(rest);
+                    Ok(())
+                }
+                Then::Ends(number) => {
+                    self.mode = Mode::Back(Outcome::Halted(number));
+                    Ok(())
+                }
+            },
+            Head::Nothing | Head::Goal(_, _, _) | Head::Marker(_, _, _) | Head::Look(_, _) => {
+                unreachable!()
             }
-            Head::Halt(number) => {
-                self.mode = Mode::Back(Outcome::Halted(number));
-                Ok(())
-            }
-            Head::Nothing
-            | Head::Goal(_, _, _)
-            | Head::Commit(_, _)
-            | Head::Never(_, _)
-            | Head::Until(_)
-            | Head::Look(_, _) => unreachable!(),
         }
     }
 
@@ -192,7 +191,10 @@ impl Progress {
         let Some(link) = self.stack.first() else {
             unreachable!()
         };
-        let Item::Look(cell) = &link.item else {
+        let Item::Asking(question) = &link.item else {
+            unreachable!()
+        };
+        let Question::Look(cell) = question else {
             unreachable!()
         };
         let cell = *cell;
@@ -219,7 +221,7 @@ impl Progress {
         requires cell { cell < length self.old.stack.heap.cells }
         requires rest { IsList self.old.stack rest }
         requires within { self.old.used ≤ self.old.limit }
-        ensures ok { OnOk result ((us : List Stamped) → Rises 0 us → store.now ≡ fold keep nothing us → Moved program.now self.old self.new (walk_over program.now (before g us) (depth_of program.now self.old) (term self.old.stack.heap cell) (goals_of self.old.stack rest) self.old.stack.heap.count (local_of self.old)) 0) }
+        ensures ok { OnOk result ((us : List Stamped) → Rises 0 us → store.now ≡ fold keep nothing us → Moved program.now self.old self.new (walk_over (before g us) (depth_of program.now self.old) (term self.old.stack.heap cell) (goals_of self.old.stack rest) self.old.stack.heap.count (local_of self.old)) 0) }
         ensures kept { OnOk result ((self.new.limit ≡ self.old.limit) × (self.new.places.items ≡ self.old.places.items)) }
         ensures err { OnErr result (Stays program.now self.old self.new) }
     {
@@ -228,24 +230,23 @@ impl Progress {
             let clauses = store.alive_clauses(self.alloc, g, &p)?;
             return self.resolve(program, cell, rest, Source::Copied(clauses), 0);
         }
-        self.missing(program, program.unknown(), &p, rest)
+        self.missing(program, &p, rest)
     }
 
     /// A call of a procedure that does not exist: an error or failure, by the flag `unknown`.
     fn missing(
         &mut self,
         program: &Program,
-        unknown: Unknown,
         p: &Indicator,
         rest: u32,
     ) -> Result<(), AllocError>
         requires rest { IsList self.old.stack rest }
         requires within { self.old.used ≤ self.old.limit }
-        ensures ok { OnOk result ((t : Tree) → p.now ≡ indicator t → Moved program.now self.old self.new (missing unknown t (goals_of self.old.stack rest) (local_of self.old)) 0) }
+        ensures ok { OnOk result ((t : Tree) → p.now ≡ indicator t → Moved program.now self.old self.new (missing self.old.settings.unknown t (goals_of self.old.stack rest) (local_of self.old)) 0) }
         ensures kept { OnOk result ((self.new.limit ≡ self.old.limit) × (self.new.places.items ≡ self.old.places.items)) }
         ensures err { OnErr result (Stays program.now self.old self.new) }
     {
-        match unknown {
+        match self.settings.unknown {
             Unknown::Fail => {
                 self.give(Outcome::Fail, 0);
                 Ok(())
@@ -259,7 +260,7 @@ impl Progress {
 
     /// The request that waits.
     fn asked(&self, program: &Program) -> Result<Turn, AllocError>
-        requires waits { WaitsToPublish self.now }
+        requires waits { Waits self.now }
         requires within { self.now.used ≤ self.now.limit }
         ensures says { IfOk result (λ turn. Says program.now self.now turn) }
         ensures other { IfOk result (λ turn. IsSlice turn → ⊥) }
@@ -267,13 +268,14 @@ impl Progress {
         let Some(link) = self.stack.first() else {
             unreachable!()
         };
-        let Item::Await(clause) = &link.item else {
+        let Item::Asking(question) = &link.item else {
             unreachable!()
         };
-        let clause = clause.copied()?;
-        let mut updates = Vec::new(self.alloc);
-        updates.push(Update::Last(clause))?;
-        Ok(Turn::Ask(Request::Publish(Batch::new(updates))))
+        let Question::Await(request, _) = question else {
+            unreachable!()
+        };
+        let request = request.copied(self.alloc)?;
+        Ok(Turn::Ask(request))
     }
 
     /// The end of the search.
@@ -304,8 +306,8 @@ impl Progress {
         ensures ok { OnOk result (Stepped program.now self.old self.new) }
         ensures err { OnErr result (Stays program.now self.old self.new) }
     {
-        let control = read_control(self.stack.heap(), cell)?;
-        self.select(program, control, level, cell, rest)?;
+        let form = read_form(program.names(), self.stack.heap(), cell)?;
+        self.select(program, form, level, cell, rest)?;
         self.give_back();
         Ok(())
     }
@@ -362,22 +364,34 @@ impl Progress {
                 }
                 Ok(Some(Due::Goal(level, cell, rest)))
             }
-            Head::Commit(level, rest) => {
-                self.stack.cut(level, rest)?;
+            Head::Marker(kind, level, rest) => {
+                self.pass_marker(program, kind, level, rest)?;
                 Ok(None)
             }
-            Head::Never(level, _) => {
-                self.mode = Mode::Back(Outcome::CutTo(level));
-                Ok(None)
-            }
-            Head::Until(rest) => {
-                self.stack.visit(rest);
-                Ok(None)
-            }
-            Head::Look(cell, rest) => Ok(Some(Due::Look(cell, rest))),
-            Head::Await(rest) => Ok(Some(Due::Await(rest))),
-            Head::Halt(number) => Ok(Some(Due::Halt(number))),
+            Head::Look(_, _) => Ok(Some(Due::Look)),
+            Head::Await(_, _) => Ok(Some(Due::Await)),
         }
+    }
+
+    /// One turn at a marker.
+    fn pass_marker(
+        &mut self,
+        program: &Program,
+        kind: MarkerKind,
+        level: u32,
+        rest: u32,
+    ) -> Result<(), AllocError>
+        requires visits { self.old.mode ≡ Mode.Visit }
+        requires marker { AtMarker self.old.stack kind level rest }
+        ensures ok { OnOk result (Quiet program.now self.old self.new) }
+        ensures err { OnErr result (Stays program.now self.old self.new) }
+    {
+        match kind {
+            MarkerKind::Commit => self.stack.cut(level, rest)?,
+            MarkerKind::Never => self.mode = Mode::Back(Outcome::CutTo(level)),
+            MarkerKind::Until => self.stack.visit(rest),
+        }
+        Ok(())
     }
 
     /// One turn with a result.
@@ -400,7 +414,7 @@ impl Progress {
         }
         match self.stack.close() {
             None => Ok(Some(Due::Over)),
-            Some(Closed::Catch) => Ok(None),
+            Some(Closed::Handler) => Ok(None),
             Some(Closed::Mark(level)) => {
                 self.pass_mark(level);
                 Ok(None)
@@ -428,13 +442,13 @@ impl Progress {
 
     /// The ball that is carried, at the innermost case, which is a catcher that is active.
     fn catch(&mut self, program: &Program) -> Result<Option<Due>, AllocError>
-        requires catch { HasCatch self.old.stack }
+        requires catch { HasHandler self.old.stack }
         requires throws { throws_to (deeper (cases_of (clauses_for program.now) self.old.stack) 0 - 1) self.old.mode ≡ true }
         ensures on { IfOk result (λ o. IfNone o (Quiet program.now self.old self.new)) }
         ensures none { IfOk result (λ o. IsNone o) }
         ensures err { OnErr result (Stays program.now self.old self.new) }
     {
-        let catcher = self.stack.rewind();
+        let handling = self.stack.rewind();
         let Mode::Back(outcome) = &self.mode else {
             unreachable!()
         };
@@ -442,8 +456,9 @@ impl Progress {
             unreachable!()
         };
         let cell = self.stack.put_copy(self.alloc, ball)?;
-        if self.stack.unify(catcher.catcher, cell)? {
-            self.recover(program, catcher.recovery, catcher.behind.list)?;
+        let (catcher, recovery) = catcher_of(handling.handler);
+        if self.stack.unify(catcher, cell)? {
+            self.recover(program, recovery, handling.behind.list)?;
         } else {
             self.stack.close();
         }
@@ -453,7 +468,7 @@ impl Progress {
     /// Runs a recovery before a list, in place of the innermost case, which is its catcher.
     fn recover(&mut self, program: &Program, recovery: u32, list: u32) -> Result<(), AllocError>
         requires back { self.old.mode ≡ Mode.Visit → ⊥ }
-        requires catch { HasCatch self.old.stack }
+        requires catch { HasHandler self.old.stack }
         requires recovery { recovery < length self.old.stack.heap.cells }
         requires list { IsList self.old.stack list }
         ensures ok { OnOk result (Recovered program.now self.old self.new recovery list) }
@@ -473,7 +488,7 @@ impl Progress {
 
     /// Throws an error of catch/3 before a list, in place of the innermost case.
     fn rethrow(&mut self, program: &Program, error: Term, list: u32) -> Result<(), AllocError>
-        requires catch { HasCatch self.old.stack }
+        requires catch { HasHandler self.old.stack }
         requires list { IsList self.old.stack list }
         ensures ok { OnOk result (Rethrown program.now self.old self.new error list) }
         ensures err { OnErr result (self.new ≡ self.old) }
@@ -488,9 +503,9 @@ impl Progress {
 
     /// Whether a ball is carried to the innermost case, and that is a catcher that is active.
     fn catches(&self) -> bool
-        ensures { (statics : Statics) → IsTrue result ↔ (HasCatch self.now.stack × (throws_to (deeper (cases_of statics self.now.stack) 0 - 1) self.now.mode ≡ true)) }
+        ensures { (statics : Statics) → IsTrue result ↔ (HasHandler self.now.stack × (throws_to (deeper (cases_of statics self.now.stack) 0 - 1) self.now.mode ≡ true)) }
     {
-        if !self.stack.is_catch() {
+        if !self.stack.is_handler() {
             return false;
         }
         match &self.mode {
@@ -552,6 +567,15 @@ impl Progress {
     }
 }
 
+/// The cells of a catcher and its recovery.
+fn catcher_of(handler: Handler) -> (u32, u32)
+    ensures { handler ≡ Handler.Catch result.0 result.1 }
+{
+    match handler {
+        Handler::Catch(catcher, recovery) => (catcher, recovery),
+    }
+}
+
 /// The end that a result is.
 fn end_of(alloc: Global, outcome: &Outcome) -> Result<ThreadEnd, AllocError>
     ensures { IfOk result (λ e. next_of (result_of outcome.now) ≡ Finishes e) }
@@ -569,7 +593,7 @@ fn end_of(alloc: Global, outcome: &Outcome) -> Result<ThreadEnd, AllocError>
 }
 
 /// The indicator of the goal of a cell.
-fn indicator_of(alloc: Global, heap: &Heap, cell: u32) -> Result<Indicator, AllocError>
+pub(crate) fn indicator_of(alloc: Global, heap: &Heap, cell: u32) -> Result<Indicator, AllocError>
     requires { cell < length heap.now.cells }
     ensures { IfOk result (λ p. p ≡ indicator (term heap.now cell)) }
 {

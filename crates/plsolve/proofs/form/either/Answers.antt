@@ -1,8 +1,8 @@
 use Rattle.std.proofs.Common.{ap, sym, ◌∙◌}
 use Rattle.plheap.specs.Store.{term}
-use Rattle.plsearch.specs.Forms.{either, Either}
+use Rattle.plsearch.specs.Forms.{Either, either}
 use Rattle.plsolve.proofs.Heading.{either-other}
-use Rattle.plsolve.proofs.control.either.Goals as goal
+use Rattle.plsolve.proofs.form.either.Goals as goal
 
 pub returns-clause-is : goal.returns-clause-is
 returns-clause-is c =

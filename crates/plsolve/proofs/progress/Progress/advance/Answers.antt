@@ -2,7 +2,7 @@ use Rattle.std.proofs.Common.{arith, ◌∙◌}
 use Rattle.plsolve.specs.Solver.{rest_of, Settled}
 use Rattle.plsolve.specs.Says.{Says}
 use Rattle.plsolve.proofs.Moves.{if_ok_map}
-use Rattle.plsolve.proofs.Runs.{goes_on, stays_goes, says-look, says-halt}
+use Rattle.plsolve.proofs.Runs.{goes_on, stays_goes, says-look}
 use Rattle.plsolve.proofs.progress.Progress.advance.Goals as goal
 
 pub returns-then-left-eq0-clause-says : goal.returns-then-left-eq0-clause-says
@@ -44,11 +44,6 @@ asked-requires-clause-waits c = rw c.in-Await.is at c.in_ok-level.ensures.due
 
 pub returns-in-Await-clause-slice : goal.returns-in-Await-clause-slice
 returns-in-Await-clause-slice c = if_ok_map _ _ c.asked.result (λ turn not slice. absurd (not slice)) c.asked.ensures.other
-
-pub returns-in-Halt-clause-says : goal.returns-in-Halt-clause-says
-unfolding Settled
-returns-in-Halt-clause-says c =
-    says-halt c.args.program.now c.settle.new.self c.in-Halt.number (omega (arith, c.settle.ensures.used, c.settle.ensures.limit, c.loop-level.invariant.within, c.loop-level.invariant.limit)) (rw c.in-Halt.is at c.in_ok-level.ensures.due)
 
 pub ended-requires-clause-over : goal.ended-requires-clause-over
 unfolding Settled

@@ -1,13 +1,16 @@
-use Rattle.std.proofs.Common.{ap₂, ◌∙◌, ◌++◌, ◌∷◌, []}
-use Rattle.plevent.specs.declared.update.Update.TheVariants.{Last}
-use Rattle.plsolve.proofs.Runs.{says-await, await-at}
+use Rattle.std.proofs.Common.{ap, ◌∙◌}
+use Rattle.plframe.specs.declared.frame.Item.TheVariants.{Asking as AskingFor}
+use Rattle.plsolve.proofs.Runs.{says-asked, asked-next, await-at}
 use Rattle.plsolve.proofs.progress.Progress.asked.Goals as goal
 
 pub returns-clause-says : goal.returns-clause-says
 returns-clause-says c =
     let s = c.args.self.now in
-    says-await c.args.program.now s c.in-Await.clause c.in-Some.link.now.next c.new.result c.requires.within c.requires.waits.0 (await-at s.stack c.in-Some.link.now c.in-Await.clause c.in-Some.ensures.some c.in-Await.is)
-    (c.new.ensures ∙ c.in_ok-push.ensures.items ∙ ap₂ (λ xs y. xs ++ Last y ∷ []) c.new-updates.ensures.items c.in_ok-clause.ensures)
+    let q = c.in-Await.request in
+    let next = c.in-Await.field-1 in
+    let waits = asked-next s c.requires.waits.0 c.requires.waits.1 in
+    let item = c.in-Asking.is ∙ ap AskingFor c.in-Await.is in
+    says-asked c.args.program.now s q c.in_ok-request.request next c.requires.within (waits.1.0, c.in-Some.link.now.next, await-at s.stack c.in-Some.link.now q next c.in-Some.ensures.some item) c.in_ok-request.ensures
 
 pub returns-clause-other : goal.returns-clause-other
 returns-clause-other c = λ not. not

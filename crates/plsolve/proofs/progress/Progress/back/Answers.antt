@@ -27,13 +27,13 @@ returns-then-branches-clause-on c =
     let both = both_are c.branches.result c.branches.ensures c.if-branches.true in
     quiet-retry c.args.program.now c.args.self.now c.take_branch.new.self both.0 (c.take_branch.ensures (clauses_for c.args.program.now))
 
-pub returns-in-Some-Catch-clause-on : goal.returns-in-Some-Catch-clause-on
-returns-in-Some-Catch-clause-on c =
+pub returns-in-Some-Handler-clause-on : goal.returns-in-Some-Handler-clause-on
+returns-in-Some-Handler-clause-on c =
     let s = c.args.self.now in
     let P = c.args.program.now in
-    let closed = (rw c.in-Some-Catch.field-0-is at c.in-Some-Catch.ensures.some) (clauses_for P) in
-    let deep : deeper (cases_of (clauses_for P) s.stack) 0 - 1 ≡ deeper (cases_of (clauses_for P) c.close.new.self) 0 = omega (arith, ap (λ cs. deeper cs 0) closed.2) in
-    quiet-handler P s c.close.new.self closed.1 c.requires closed.2
+    let closed = (rw c.in-Some-Handler.field-0-is at c.in-Some-Handler.ensures.some) (clauses_for P) in
+    let deep : deeper (cases_of (clauses_for P) s.stack) 0 - 1 ≡ deeper (cases_of (clauses_for P) c.close.new.self) 0 = omega (arith, ap (λ cs. deeper cs 0) closed.3) in
+    quiet-handler P s c.close.new.self closed.1 closed.2 c.requires closed.3
     (λ yes. not_both c.catches.result (c.catches.ensures (clauses_for P)) c.if-catches.false closed.0 (ap (λ d. throws_to d s.mode) deep ∙ yes))
 
 pub catch-requires-clause-catch : goal.catch-requires-clause-catch

@@ -4,6 +4,7 @@ use Rattle.plsearch.specs.Rows.{call_with}
 use Rattle.plheap.specs.Store.{term, terms}
 use Rattle.plprogram.specs.Program.{clauses_for}
 use Rattle.plsolve.proofs.Moves.{Grown, grown-goals, grown-stays, moved-grown, run-same, stays-trans, on_err, on_ok_map, on_err_map}
+use Rattle.plsolve.specs.Solver.{local_of}
 use Rattle.plsolve.proofs.progress.Progress.call_with.Goals as goal
 
 pub returns-in_err-ready-clause-err : goal.returns-in_err-ready-clause-err
@@ -21,7 +22,7 @@ returns-clause-ok c =
     let runs = sym c.in_ok-ready.ensures.ok.is ∙ ap (λ a. called (term s.stack.heap c.args.goal) (terms s.stack.heap a c.args.further)) next in
     let goals = grown-goals s.stack c.ready_with.new.self.stack g c.args.rest c.requires.rest in
     on_ok_map c.run.result (moved-grown c.args.program.now s c.ready_with.new.self c.run.new.self _ _ 1 g c.ready_with.ensures.frame
-    (run-same (call_with c.args.further) _ _ _ _ _ _ _ _ _ _ _ _ runs refl depth goals g.count (ap (λ x. record { out = x.out.items }) c.ready_with.ensures.frame))) c.run.ensures.ok
+    (run-same (call_with c.args.further) _ _ _ _ _ _ _ _ _ _ _ _ runs refl depth goals g.count (ap (λ x. local_of x) c.ready_with.ensures.frame))) c.run.ensures.ok
 
 pub returns-clause-err : goal.returns-clause-err
 returns-clause-err c =

@@ -1,12 +1,14 @@
 use Rattle.std.proofs.Common.{◌≡◌, refl, ap, sym, ◌∙◌, ◌∷◌, suc, arith}
-use Rattle.plsearch.specs.Types.{Until}
+use Rattle.plsearch.specs.Types.{Until, Marker}
 use Rattle.plsearch.specs.Running.{runnable}
 use Rattle.plsearch.specs.Rows.{catch_3}
 use Rattle.plheap.specs.Store.{term}
 use Rattle.plframe.specs.State.{goals_of}
 use Rattle.plprogram.specs.Program.{clauses_for}
 use Rattle.plsolve.proofs.Moves.{Grown, around-grown, grown-link, grown-trans, grown-goals, grown-stays, moved-grown, run-same, stays-trans, on_err, on_ok_map, on_err_map}
-use Rattle.plframe.specs.declared.frame.Around.TheVariants.{Catch as InCatch}
+use Rattle.plframe.specs.declared.frame.Around.TheVariants.{Handle as InHandle}
+use Rattle.plframe.specs.declared.frame.Handler.TheVariants.{Catch as CatchBy}
+use Rattle.plsolve.specs.Solver.{local_of}
 use Rattle.plsolve.proofs.progress.Progress.catching.Goals as goal
 
 pub returns-in_err-behind-clause-err : goal.returns-in_err-behind-clause-err
@@ -30,11 +32,11 @@ returns-clause-ok c =
     let depth = c.depth-depth.ensures (clauses_for c.args.program.now) in
     let next : c.in-Some.inner ≡ suc c.depth-depth.result = omega (arith, c.in-Some.ensures.1) in
     let runs = sym c.in_ok-ready.ensures.ok.is ∙ ap (λ h. runnable (term h c.args.cells.0)) c.link.ensures.heap in
-    let goals = grown-goals c.link.new.self c.ready.new.self.stack g1 c.in_ok-behind.behind c.in_ok-behind.ensures.list.0 ∙ c.in_ok-behind.ensures.list.1 ∙ ap (λ d. Until d ∷ goals_of s.stack c.args.rest) depth in
-    let around = (around-grown s.stack c.ready.new.self.stack (InCatch c.args.cells.1 c.args.cells.2 c.args.rest) g2 (c.requires.rest, c.requires.catcher, c.requires.recovery)).0 in
+    let goals = grown-goals c.link.new.self c.ready.new.self.stack g1 c.in_ok-behind.behind c.in_ok-behind.ensures.list.0 ∙ c.in_ok-behind.ensures.list.1 ∙ ap (λ d. Marker Until d ∷ goals_of s.stack c.args.rest) depth in
+    let around = (around-grown s.stack c.ready.new.self.stack (InHandle (CatchBy c.args.cells.1 c.args.cells.2) c.args.rest) g2 (c.requires.rest, (c.requires.catcher, c.requires.recovery))).0 in
     let inner = next ∙ ap suc depth in
     on_ok_map c.run.result (moved-grown c.args.program.now s c.ready.new.self c.run.new.self _ _ 1 g2 c.ready.ensures.frame
-    (run-same catch_3 _ _ _ _ _ _ _ _ _ _ _ _ runs around inner goals g2.count (ap (λ x. record { out = x.out.items }) c.ready.ensures.frame))) c.run.ensures.ok
+    (run-same catch_3 _ _ _ _ _ _ _ _ _ _ _ _ runs around inner goals g2.count (ap (λ x. local_of x) c.ready.ensures.frame))) c.run.ensures.ok
 
 pub returns-clause-err : goal.returns-clause-err
 returns-clause-err c =
@@ -51,4 +53,4 @@ run-requires-clause-around c =
     let s = c.args.self.now in
     let g = grown-link s.stack c.link.new.self c.link.ensures.stays c.link.ensures.heap in
     let g2 = grown-trans s.stack c.link.new.self c.ready.new.self.stack g (record { extends = c.ready.ensures.stays; count = c.ready.ensures.count }) in
-    (around-grown s.stack c.ready.new.self.stack (InCatch c.args.cells.1 c.args.cells.2 c.args.rest) g2 (c.requires.rest, c.requires.catcher, c.requires.recovery)).1
+    (around-grown s.stack c.ready.new.self.stack (InHandle (CatchBy c.args.cells.1 c.args.cells.2) c.args.rest) g2 (c.requires.rest, (c.requires.catcher, c.requires.recovery))).1

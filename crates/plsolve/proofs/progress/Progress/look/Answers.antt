@@ -23,4 +23,4 @@ returns-clause-ok c =
     let P = c.args.program.now in
     let of = rw c.heap.ensures at c.in_ok-p.ensures in
     let there = rw c.if-exists.false at c.exists.ensures in
-    on_ok_map c.missing.result (λ m us up is. look-none P s c.missing.new.self c.args.g us c.args.store.now is up (depth_of P s) (term s.stack.heap c.args.cell) (goals_of s.stack c.args.rest) s.stack.heap.count c.in_ok-p.p of c.unknown.result (sym there) c.unknown.ensures (m (term s.stack.heap c.args.cell) of)) c.missing.ensures.ok
+    on_ok_map c.missing.result (λ m us up is. look-none P s c.missing.new.self c.args.g us c.args.store.now is up (depth_of P s) (term s.stack.heap c.args.cell) (goals_of s.stack c.args.rest) s.stack.heap.count c.in_ok-p.p of (sym there) (m (term s.stack.heap c.args.cell) of)) c.missing.ensures.ok

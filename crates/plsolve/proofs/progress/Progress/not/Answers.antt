@@ -1,11 +1,12 @@
 use Rattle.std.proofs.Common.{◌≡◌, refl, ap, ap₂, sym, ◌∙◌, ◌∷◌, [], suc, arith}
-use Rattle.plsearch.specs.Types.{Never}
+use Rattle.plsearch.specs.Types.{Never, Marker}
 use Rattle.plsearch.specs.Running.{runnable}
 use Rattle.plsearch.specs.Rows.{not_1, branch}
 use Rattle.plheap.specs.Store.{term}
 use Rattle.plframe.specs.State.{goals_of}
 use Rattle.plprogram.specs.Program.{clauses_for}
 use Rattle.plsolve.proofs.Moves.{Grown, grown-link, grown-trans, grown-goals, grown-stays, moved-grown, run-same, stays-trans, on_err, on_ok_map, on_err_map}
+use Rattle.plsolve.specs.Solver.{local_of}
 use Rattle.plsolve.proofs.progress.Progress.not.Goals as goal
 
 pub returns-in_err-behind-clause-err : goal.returns-in_err-behind-clause-err
@@ -29,11 +30,11 @@ returns-clause-ok c =
     let depth = c.depth-depth.ensures (clauses_for c.args.program.now) in
     let next : c.in-Some.inner ≡ suc c.depth-depth.result = omega (arith, c.in-Some.ensures.1) in
     let runs = sym c.in_ok-ready.ensures.ok.is ∙ ap (λ h. runnable (term h c.args.goal)) c.link.ensures.heap in
-    let goals = grown-goals c.link.new.self c.ready.new.self.stack g1 c.in_ok-behind.behind c.in_ok-behind.ensures.list.0 ∙ c.in_ok-behind.ensures.list.1 ∙ ap (λ d. Never d ∷ goals_of s.stack c.args.rest) depth in
+    let goals = grown-goals c.link.new.self c.ready.new.self.stack g1 c.in_ok-behind.behind c.in_ok-behind.ensures.list.0 ∙ c.in_ok-behind.ensures.list.1 ∙ ap (λ d. Marker Never d ∷ goals_of s.stack c.args.rest) depth in
     let around = ap₂ (λ gs n. branch gs n ∷ []) (grown-goals s.stack c.ready.new.self.stack g2 c.args.rest c.requires.rest) g2.count in
     let inner = next ∙ ap suc depth in
     on_ok_map c.run.result (moved-grown c.args.program.now s c.ready.new.self c.run.new.self _ _ 1 g2 c.ready.ensures.frame
-    (run-same not_1 _ _ _ _ _ _ _ _ _ _ _ _ runs around inner goals g2.count (ap (λ x. record { out = x.out.items }) c.ready.ensures.frame))) c.run.ensures.ok
+    (run-same not_1 _ _ _ _ _ _ _ _ _ _ _ _ runs around inner goals g2.count (ap (λ x. local_of x) c.ready.ensures.frame))) c.run.ensures.ok
 
 pub returns-clause-err : goal.returns-clause-err
 returns-clause-err c =

@@ -1,5 +1,6 @@
 use Rattle.std.proofs.Common.{ap}
 use Rattle.plsolve.proofs.Moves.{visits, extended, on_err}
+use Rattle.plsolve.specs.Solver.{local_of}
 use Rattle.plsolve.proofs.progress.Progress.push.Goals as goal
 
 pub returns-in_err-list-clause-err : goal.returns-in_err-list-clause-err
@@ -8,5 +9,5 @@ returns-in_err-list-clause-err c = on_err _ (extended c.args.program.now c.args.
 pub returns-clause-ok : goal.returns-clause-ok
 returns-clause-ok c =
     let s = c.args.self.now in
-    visits c.args.program.now s c.link.new.self c.in_ok-list.list 1 _ s.out.items c.go_on.new.self c.link.ensures.stays (ap (λ h. h.count) c.link.ensures.heap) c.in_ok-list.ensures.list.1
-    (ap (λ x. x.used) c.go_on.ensures) (ap (λ x. x.limit) c.go_on.ensures) (ap (λ x. x.places.items) c.go_on.ensures) (ap (λ x. x.mode) c.go_on.ensures) (ap (λ x. x.stack) c.go_on.ensures) (ap (λ x. x.out.items) c.go_on.ensures)
+    visits c.args.program.now s c.link.new.self c.in_ok-list.list 1 _ (local_of s) c.go_on.new.self c.link.ensures.stays (ap (λ h. h.count) c.link.ensures.heap) c.in_ok-list.ensures.list.1
+    (ap (λ x. x.used) c.go_on.ensures) (ap (λ x. x.limit) c.go_on.ensures) (ap (λ x. x.places.items) c.go_on.ensures) (ap (λ x. x.mode) c.go_on.ensures) (ap (λ x. x.stack) c.go_on.ensures) (ap (λ x. local_of x) c.go_on.ensures)

@@ -1,7 +1,7 @@
 use Rattle.std.proofs.Common.{◌≡◌, ap, sym, ◌∙◌, refl, subst}
 use Rattle.plsearch.specs.Running.{runnable, Raises, Runs}
 use Rattle.plheap.specs.Store.{term}
-use Rattle.plframe.proofs.Stacks.{catch-stays}
+use Rattle.plframe.proofs.Stacks.{handler-stays}
 use Rattle.plsolve.specs.declared.progress.Progress.{Progress}
 use Rattle.plsolve.specs.Solver.{Stays}
 use Rattle.plsolve.proofs.Moves.{Grown, grown-link, grown-trans, grown-stays, on_err, on_ok_map, on_err_map}
@@ -15,13 +15,13 @@ returns-in_err-error-clause-err c =
     on_err _ (grown-stays c.args.program.now s c.ready.new.self g c.ready.ensures.frame)
 
 pub rethrow-requires-clause-catch : goal.rethrow-requires-clause-catch
-rethrow-requires-clause-catch c = catch-stays c.args.self.now.stack c.ready.new.self.stack c.ready.ensures.stays.frames c.requires.catch
+rethrow-requires-clause-catch c = handler-stays c.args.self.now.stack c.ready.new.self.stack c.ready.ensures.stays.frames c.requires.catch
 
 pub level-level-requires : goal.level-level-requires
-level-level-requires c = catch-stays c.args.self.now.stack c.ready.new.self.stack c.ready.ensures.stays.frames c.requires.catch
+level-level-requires c = handler-stays c.args.self.now.stack c.ready.new.self.stack c.ready.ensures.stays.frames c.requires.catch
 
-pub recover-requires-clause-catch : goal.recover-requires-clause-catch
-recover-requires-clause-catch c = catch-stays c.args.self.now.stack c.link.new.self (c.link.ensures.stays.frames ∙ c.ready.ensures.stays.frames) c.requires.catch
+pub recover-requires-clause-handler : goal.recover-requires-clause-handler
+recover-requires-clause-handler c = handler-stays c.args.self.now.stack c.link.new.self (c.link.ensures.stays.frames ∙ c.ready.ensures.stays.frames) c.requires.catch
 
 pub returns-in_err-made-in-Runs-clause-err : goal.returns-in_err-made-in-Runs-clause-err
 returns-in_err-made-in-Runs-clause-err c =

@@ -1,16 +1,17 @@
-use Rattle.std.proofs.Common.{refl, ◌∙◌}
+use Rattle.std.proofs.Common.{refl, ap, ◌∙◌}
+use Rattle.plframe.specs.declared.frame.Item.TheVariants.{Asking as AskingFor}
 use Rattle.plevent.specs.Alive.{before}
 use Rattle.plsolve.proofs.Moves.{stays-by, on_err}
 use Rattle.plsolve.proofs.Runs.{takes-look, look-at, stays-places, popped}
 use Rattle.plsolve.proofs.progress.Progress.refreshed.Goals as goal
 
 pub returns-in_err-push-clause-err : goal.returns-in_err-push-clause-err
-returns-in_err-push-clause-err c = on_err _ (stays-by c.args.program.now c.args.self.now _ refl refl c.in_err-push.ensures.items refl refl refl refl)
+returns-in_err-push-clause-err c = on_err _ (stays-by c.args.program.now c.args.self.now _ refl refl c.in_err-push.ensures.items refl refl refl refl refl)
 
 pub returns-in-Ok-clause-ok : goal.returns-in-Ok-clause-ok
 returns-in-Ok-clause-ok c = λ us up is.
     let s = c.args.self.now in
-    takes-look c.args.program.now s (record s { places = c.push.new.self }) c.look.new.self c.in-Look.cell c.in-Some.link.now.next c.args.g (before c.args.g us) c.requires.waits.0 (look-at s.stack c.in-Some.link.now c.in-Look.cell c.in-Some.ensures.some c.in-Look.is) refl (c.in-Ok.ensures.ok us up is)
+    takes-look c.args.program.now s (record s { places = c.push.new.self }) c.look.new.self c.in-Look.cell c.in-Some.link.now.next c.args.g (before c.args.g us) c.requires.waits.0 (look-at s.stack c.in-Some.link.now c.in-Look.cell c.in-Some.ensures.some (c.in-Asking.is ∙ ap AskingFor c.in-Look.is)) refl (c.in-Ok.ensures.ok us up is)
 
 pub returns-in-Ok-clause-places : goal.returns-in-Ok-clause-places
 returns-in-Ok-clause-places c = c.in-Ok.ensures.kept.1 ∙ c.in_ok-push.ensures.items

@@ -13,19 +13,19 @@ pub returns-in-True-clause-ok : goal.returns-in-True-clause-ok
 unfolding row
 returns-in-True-clause-ok c =
     let s = c.args.self.now in
-    rw c.in-True.is (visits c.args.program.now s s.stack c.args.rest 1 _ s.out.items c.go_on.new.self (extends-same s.stack) refl refl (ap (λ x. x.used) c.go_on.ensures) (ap (λ x. x.limit) c.go_on.ensures) (ap (λ x. x.places.items) c.go_on.ensures) (ap (λ x. x.mode) c.go_on.ensures) (ap (λ x. x.stack) c.go_on.ensures) (ap (λ x. x.out.items) c.go_on.ensures))
+    rw c.in-True.is (visits c.args.program.now s s.stack c.args.rest 1 _ (local_of s) c.go_on.new.self (extends-same s.stack) refl refl (ap (λ x. x.used) c.go_on.ensures) (ap (λ x. x.limit) c.go_on.ensures) (ap (λ x. x.places.items) c.go_on.ensures) (ap (λ x. x.mode) c.go_on.ensures) (ap (λ x. x.stack) c.go_on.ensures) (ap (λ x. local_of x) c.go_on.ensures))
 
 pub returns-in-False-clause-ok : goal.returns-in-False-clause-ok
 unfolding row
 returns-in-False-clause-ok c =
     let s = c.args.self.now in
-    rw c.in-False.is (gives c.args.program.now s c.give.new.self outcomes.Fail (local_of s) 1 (ap (λ x. x.used) c.give.ensures) (ap (λ x. x.limit) c.give.ensures) (ap (λ x. x.places.items) c.give.ensures) (ap (λ x. x.mode) c.give.ensures) (ap (λ x. cases_of (clauses_for c.args.program.now) x.stack) c.give.ensures) (ap (λ x. record { out = x.out.items }) c.give.ensures))
+    rw c.in-False.is (gives c.args.program.now s c.give.new.self outcomes.Fail (local_of s) 1 (ap (λ x. x.used) c.give.ensures) (ap (λ x. x.limit) c.give.ensures) (ap (λ x. x.places.items) c.give.ensures) (ap (λ x. x.mode) c.give.ensures) (ap (λ x. cases_of (clauses_for c.args.program.now) x.stack) c.give.ensures) (ap (λ x. local_of x) c.give.ensures))
 
 pub returns-in-NoGoal-clause-ok : goal.returns-in-NoGoal-clause-ok
 unfolding row
 returns-in-NoGoal-clause-ok c =
     let s = c.args.self.now in
-    rw c.in-NoGoal.is (gives c.args.program.now s c.give-in-NoGoal.new.self outcomes.Fail (local_of s) 1 (ap (λ x. x.used) c.give-in-NoGoal.ensures) (ap (λ x. x.limit) c.give-in-NoGoal.ensures) (ap (λ x. x.places.items) c.give-in-NoGoal.ensures) (ap (λ x. x.mode) c.give-in-NoGoal.ensures) (ap (λ x. cases_of (clauses_for c.args.program.now) x.stack) c.give-in-NoGoal.ensures) (ap (λ x. record { out = x.out.items }) c.give-in-NoGoal.ensures))
+    rw c.in-NoGoal.is (gives c.args.program.now s c.give-in-NoGoal.new.self outcomes.Fail (local_of s) 1 (ap (λ x. x.used) c.give-in-NoGoal.ensures) (ap (λ x. x.limit) c.give-in-NoGoal.ensures) (ap (λ x. x.places.items) c.give-in-NoGoal.ensures) (ap (λ x. x.mode) c.give-in-NoGoal.ensures) (ap (λ x. cases_of (clauses_for c.args.program.now) x.stack) c.give-in-NoGoal.ensures) (ap (λ x. local_of x) c.give-in-NoGoal.ensures))
 
 pub returns-in-Both-clause-ok : goal.returns-in-Both-clause-ok
 unfolding row
@@ -35,21 +35,13 @@ pub returns-in-Once-clause-ok : goal.returns-in-Once-clause-ok
 unfolding row
 returns-in-Once-clause-ok c = rw c.in-Once.is c.once.ensures.ok
 
-pub returns-in-Write-clause-ok : goal.returns-in-Write-clause-ok
-unfolding row
-returns-in-Write-clause-ok c = rw c.in-Write.is c.write.ensures.ok
-
-pub returns-in-Newline-clause-ok : goal.returns-in-Newline-clause-ok
-unfolding row
-returns-in-Newline-clause-ok c = rw c.in-Newline.is c.write_bytes.ensures.ok
-
 pub returns-in-AddLast-clause-ok : goal.returns-in-AddLast-clause-ok
 unfolding row
 returns-in-AddLast-clause-ok c = rw c.in-AddLast.is c.add_last.ensures.ok
 
 pub returns-in-Halt-clause-ok : goal.returns-in-Halt-clause-ok
 unfolding row
-returns-in-Halt-clause-ok c = rw c.in-Halt.is c.push.ensures.ok
+returns-in-Halt-clause-ok c = rw c.in-Halt.is c.halt.ensures.ok
 
 pub returns-in-HaltWith-clause-ok : goal.returns-in-HaltWith-clause-ok
 unfolding row
@@ -63,13 +55,13 @@ pub returns-in-Either-clause-ok : goal.returns-in-Either-clause-ok
 unfolding row
 returns-in-Either-clause-ok c = rw c.in-Either.is c.either.ensures.ok
 
-pub returns-in-Then-clause-ok : goal.returns-in-Then-clause-ok
+pub returns-in-IfThen-clause-ok : goal.returns-in-IfThen-clause-ok
 unfolding row
-returns-in-Then-clause-ok c = rw c.in-Then.is c.then.ensures.ok
+returns-in-IfThen-clause-ok c = rw c.in-IfThen.is c.then.ensures.ok
 
-pub returns-in-ThenElse-clause-ok : goal.returns-in-ThenElse-clause-ok
+pub returns-in-IfThenElse-clause-ok : goal.returns-in-IfThenElse-clause-ok
 unfolding row
-returns-in-ThenElse-clause-ok c = rw c.in-ThenElse.is c.then_else.ensures.ok
+returns-in-IfThenElse-clause-ok c = rw c.in-IfThenElse.is c.then_else.ensures.ok
 
 pub returns-in-Not-clause-ok : goal.returns-in-Not-clause-ok
 unfolding row
@@ -83,14 +75,6 @@ pub returns-in-Cut-clause-ok : goal.returns-in-Cut-clause-ok
 unfolding row
 returns-in-Cut-clause-ok c = rw c.in-Cut.is c.cut.ensures.ok
 
-pub returns-in-Unify-clause-ok : goal.returns-in-Unify-clause-ok
-unfolding row
-returns-in-Unify-clause-ok c = rw c.in-Unify.is c.unify.ensures.ok
-
-pub returns-in-WriteQuoted-clause-ok : goal.returns-in-WriteQuoted-clause-ok
-unfolding row
-returns-in-WriteQuoted-clause-ok c = rw c.in-WriteQuoted.is c.write-in-WriteQuoted.ensures.ok
-
 pub returns-in-Catching-clause-ok : goal.returns-in-Catching-clause-ok
 unfolding row
 returns-in-Catching-clause-ok c = rw c.in-Catching.is c.catching.ensures.ok
@@ -98,3 +82,7 @@ returns-in-Catching-clause-ok c = rw c.in-Catching.is c.catching.ensures.ok
 pub returns-in-Throwing-clause-ok : goal.returns-in-Throwing-clause-ok
 unfolding row
 returns-in-Throwing-clause-ok c = rw c.in-Throwing.is c.throw.ensures.ok
+
+pub returns-in-BuiltIn-clause-ok : goal.returns-in-BuiltIn-clause-ok
+unfolding row
+returns-in-BuiltIn-clause-ok c = rw c.in-BuiltIn.is c.built_in.ensures.ok

@@ -2,7 +2,7 @@ use Rattle.std.proofs.Common.{◌≡◌, refl, suc, ap, ap₂, ◌∙◌, ◌∷
 use Rattle.std.specs.Prelude.{codes}
 use Rattle.plterm.specs.Tree.{atom}
 use Rattle.plsubst.specs.Subst.{bind, shift}
-use Rattle.plsearch.specs.Types.{Goal, Commit, Choice}
+use Rattle.plsearch.specs.Types.{Goal, Commit, Marker, Choice}
 use Rattle.plsearch.specs.Rows.{branch}
 use Rattle.plheap.specs.Store.{term}
 use Rattle.plsolve.proofs.Moves.{Grown, grown-goals, grown-depth, grown-stays, moved-grown, go-same, stays-trans, on_ok_map, on_err_map}
@@ -23,7 +23,7 @@ returns-clause-ok c =
     on_ok_map c.then_else.result (moved-grown P s _ c.then_else.new.self _ _ 1 g refl
     (go-same _ _ _ _ _ _ _
     (ap₂ (λ gs n. Choice [] ∷ branch gs n ∷ []) (ap₂ (λ u gs. Goal c.args.level u ∷ gs) fail rest) g.count)
-    (ap₂ (λ e gs. e ∷ gs) (ap₂ (λ d u. Goal (suc d) u) depth condition) (ap₂ (λ d gs. Commit d ∷ gs) depth (ap₂ (λ u gs. Goal c.args.level u ∷ gs) following rest)))
+    (ap₂ (λ e gs. e ∷ gs) (ap₂ (λ d u. Goal (suc d) u) depth condition) (ap₂ (λ d gs. Marker Commit d ∷ gs) depth (ap₂ (λ u gs. Goal c.args.level u ∷ gs) following rest)))
     g.count)) c.then_else.ensures.ok
 
 pub returns-clause-err : goal.returns-clause-err

@@ -1,5 +1,5 @@
 use Rattle.std.proofs.Common.{◌≡◌, arith, refl, suc, ap, ap₂, ◌∙◌, ◌∷◌, []}
-use Rattle.plsearch.specs.Types.{Goal, Commit, Choice}
+use Rattle.plsearch.specs.Types.{Goal, Commit, Marker, Choice}
 use Rattle.plsearch.specs.Rows.{branch}
 use Rattle.plheap.specs.Store.{term}
 use Rattle.plprogram.specs.Program.{clauses_for}
@@ -45,7 +45,7 @@ returns-clause-ok c =
     let heap = c.link-3.ensures.heap ∙ c.link-2.ensures.heap ∙ c.link.ensures.heap in
     let other = grown-goals c.link.new.self c.link-3.new.self g23 c.in_ok-failing.failing c.in_ok-failing.ensures.list.0 ∙ c.in_ok-failing.ensures.list.1 in
     let following = c.in_ok-following.ensures.list.1 ∙ ap₂ (λ h gs. Goal c.args.level (term h c.args.goals.1) ∷ gs) c.link.ensures.heap (grown-goals s.stack c.link.new.self g1 c.args.rest c.requires.rest) in
-    let behind = c.in_ok-behind.ensures.list.1 ∙ ap₂ (λ d gs. Commit d ∷ gs) depth following in
+    let behind = c.in_ok-behind.ensures.list.1 ∙ ap₂ (λ d gs. Marker Commit d ∷ gs) depth following in
     let first = ap₂ (λ k h. Goal k (term h c.args.goals.0)) (next ∙ ap suc depth) heap in
     on_ok_map c.enter_goal.result (moved-grown c.args.program.now s _ c.enter_goal.new.self _ _ 1 g refl
     (go-same _ _ _ _ _ _ _
