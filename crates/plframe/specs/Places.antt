@@ -1,11 +1,11 @@
 -- What goal lists and open cases stand for.
-use Rattle.std.specs.Prelude.{max, ◌<◌, ◌≤◌, ℕ, zero, suc, ◌+◌, List, [], ◌∷◌, ◌++◌, length, get_or, map, drop, filter_map}
+use Rattle.std.specs.Prelude.{◌≡◌, max, ◌<◌, ◌≤◌, ℕ, zero, suc, ◌+◌, List, [], ◌∷◌, ◌++◌, length, get_or, map, drop, filter_map}
 use Rattle.std.specs.List.{fold}
 use Rattle.std.specs.Bool.{⊤}
 use Rattle.plterm.specs.declared.indicator.Indicator.{Indicator}
 use Rattle.plclause.specs.Clause.{Clause}
 use Rattle.plevent.specs.declared.request.Request.{Request}
-use Rattle.plevent.specs.declared.request.Request.TheVariants.{Start, Publish, Finish, HaltRun}
+use Rattle.plevent.specs.declared.request.Request.TheVariants.{Publish, HaltRun}
 use Rattle.plheap.specs.Store.{Store, term, cut, IsMark}
 use Rattle.plsearch.specs.Types.{Kind, Commit, Never, Until, Then, GoesOn, Ends, Question, Look, Await, Element, Goal, Marker, Asking, Place, Handler, Catch, Case, Choice, Mark, Handle}
 use Rattle.plsearch.specs.Rows.{resolve}
@@ -121,17 +121,16 @@ abbrev pub depth_of : List Frame → ℕ
 depth_of [] = 0
 depth_of (f ∷ fs) = size f + depth_of fs
 
--- a goal asks for neither a thread to start nor an end to be told: workers do
-abbrev pub IsAskable : Request → Type 0
-IsAskable Start = ⊥
-IsAskable (Publish us) = ⊤
-IsAskable (Finish e) = ⊥
-IsAskable (HaltRun n) = ⊤
+-- what follows each request that a goal asks; it asks for neither a thread to start nor an end to be told
+abbrev pub IsAskable : Request → Following → Type 0
+IsAskable (Publish us) thens.GoesOn = ⊤
+IsAskable (HaltRun n) (thens.Ends m) = n ≡ m
+IsAskable q next = ⊥
 
 -- the cells of a list stand below a number
 abbrev pub IsAskedIn : ℕ → Asked → Type 0
 IsAskedIn n (LookAt c) = c < n
-IsAskedIn n (AwaitFor q next) = IsAskable q
+IsAskedIn n (AwaitFor q next) = IsAskable q next
 
 abbrev pub IsItemIn : ℕ → Item → Type 0
 IsItemIn n (GoalAt k c) = c < n
