@@ -379,7 +379,7 @@ fn term_of(alloc: Global, text: &str) -> Result<Term, Fail> {
             65536,
         ) {
             Ok(read) => {
-                let ReadTerm { term } = read;
+                let ReadTerm { term, .. } = read;
                 Ok(term)
             }
             Err(error) => Err(error.into()),
