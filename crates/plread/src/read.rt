@@ -2,10 +2,13 @@
 ghost use Rattle.std.specs.Prelude.{◌≡◌, ℕ, List, map, IfOk, IfErr};
 ghost use Rattle.pllex.specs.Named.{AreNamed};
 ghost use Rattle.plterm.specs.Tree.{Tree};
+ghost use Rattle.pllex.specs.declared.token.Token as lex;
+ghost use Rattle.plops.specs.declared.flag.Quotes as flags;
 ghost use Rattle.plops.specs.declared.table.OpTable.{OpTable};
 ghost use Rattle.plread.specs.Signs.{Sign};
 ghost use Rattle.plread.specs.Spelling.{signs_of, variable_names};
 ghost use Rattle.plread.specs.Reading.{Spells};
+ghost use Rattle.plread.specs.Named.{NamesStand};
 ghost use Rattle.plread.specs.Refusals.{start_of, Refuses};
 
 use crate::clause::term_of;
@@ -70,4 +73,10 @@ fn start_of(tokens: &[Token]) -> usize
 pub fn one_term()
     ensures { (ops : OpTable) (levels : ℕ) (signs : List Sign) (t u : Tree) →
         Spells ops levels signs t → Spells ops levels signs u → t ≡ u }
+{}
+
+/// The names that are read with a term tell its variables: each variable of the clause has its name at its number.
+pub fn names_stand()
+    ensures { (quotes : flags.Quotes) (text : List ℕ) (tokens : List lex.Token) →
+        NamesStand text (variable_names text tokens) tokens (signs_of quotes text tokens) }
 {}
