@@ -1,10 +1,12 @@
 -- Marks: what a new cell and a binding keep, and what an undo gives.
-use Rattle.std.proofs.Common.{◌≡◌, ℕ, zero, suc, ◌<◌, ◌≤◌, List, [], ◌∷◌, ◌++◌, length, length-append, take, drop, set, refl, sym, ap, ap₂, ◌∙◌, subst, arith, le_refl, le_trans}
-use Rattle.std.proofs.lemmas.List.{get_or_append_left, length-set, get_or-set_same, set-append_left, set-set, set-get_or, take-append-le, drop-append-le, take_all, drop_all}
+use Rattle.std.proofs.Common.{◌≡◌, Bool, true, false, nat_lt, ℕ, zero, suc, ◌<◌, ◌≤◌, List, [], ◌∷◌, ◌++◌, length, length-append, take, drop, set, refl, sym, ap, ap₂, ◌∙◌, subst, arith, le_refl, le_trans}
+use Rattle.std.proofs.Math.Seq.{take-set-lt, set_out}
+use Rattle.std.proofs.lemmas.Bool.{ltb-true, ltb-false}
+use Rattle.std.proofs.lemmas.List.{get_or-take, take-set-le, length-take, take-take, take-append-drop, get_or_append_left, length-set, get_or-set_same, set-append_left, set-set, set-get_or, take-append-le, drop-append-le, take_all, drop_all}
 use Rattle.plheap.specs.declared.cell.Cell.{Cell}
 use Rattle.plheap.specs.declared.cell.Cell.TheVariants.{Free, Bound, Atom}
 use Rattle.plheap.specs.declared.cell.Mark.{Mark}
-use Rattle.plheap.specs.Store.{Store, at, IsTrail, IsHeap, pushed, linked, freed, reset, cut, IsMark, Keeps, IsBelow}
+use Rattle.plheap.specs.Store.{Store, at, IsTrail, IsHeap, pushed, linked, freed, reset, cut, IsMark, IsOlder, Keeps, IsBelow}
 
 pub below-trail : (cells : List Cell) (xs : List ℕ) → IsTrail cells xs → IsBelow (length cells) xs
 below-trail cells [] t = tt
@@ -105,3 +107,44 @@ undo_trail trail rest x keep e le = sym (take-append-le keep rest (x ∷ []) le)
 pub undone : (m : Mark) (h : Store) (kept cells : List Cell) (trail : List ℕ) → kept ≡ reset h.cells (drop m.trail h.trail) → cells ≡ take m.cells kept → trail ≡ take m.trail h.trail → cut m h ≡ record { cells = cells; trail = trail; count = m.count }
 unfolding cut
 undone m h kept cells trail k c t = ap₂ (λ cs xs. record { cells = cs; trail = xs; count = m.count }) (ap (take m.cells) (sym k) ∙ sym c) (sym t)
+
+-- ---- a mark that is older than another
+
+reset-both : (cells : List Cell) (xs ys : List ℕ) → reset cells (xs ++ ys) ≡ reset (reset cells ys) xs
+reset-both cells [] ys = refl
+reset-both cells (x ∷ xs) ys = ap (λ cs. set cs x (freed (at cs x))) (reset-both cells xs ys)
+
+-- one cell less bound, in the first so many and beside them
+reset_in : (n : ℕ) (cells front : List Cell) (x : ℕ) (b : Bool) → nat_lt x n ≡ b → take n cells ≡ front → take n (set cells x (freed (at cells x))) ≡ set front x (freed (at front x))
+reset_in n cells front x true e same =
+    let lt : x < n = ltb-true x n e in
+    take-set-lt n cells x (freed (at cells x)) lt ∙ ap (λ c. set (take n cells) x (freed c)) (sym (get_or-take n cells x (Atom []) lt)) ∙ ap (λ cs. set cs x (freed (at cs x))) same
+reset_in n cells front x false e same =
+    let ge : n ≤ x = ltb-false x n e in
+    let short : length front ≤ x = omega (arith, ge, ap length same, length-take n cells) in
+    take-set-le n cells x (freed (at cells x)) ge ∙ same ∙ sym (set_out front x (freed (at front x)) short)
+
+take-reset : (n : ℕ) (cells : List Cell) (xs : List ℕ) → take n (reset cells xs) ≡ reset (take n cells) xs
+take-reset n cells [] = refl
+take-reset n cells (x ∷ xs) = reset_in n (reset cells xs) (reset (take n cells) xs) x (nat_lt x n) refl (take-reset n cells xs)
+
+pub cut-cut : (m other : Mark) (h : Store) → IsOlder m other → other.trail ≤ length h.trail → cut m (cut other h) ≡ cut m h
+unfolding cut
+cut-cut m other h older within =
+    let front : List ℕ = take other.trail h.trail in
+    let behind : List ℕ = drop other.trail h.trail in
+    let both : drop m.trail h.trail ≡ drop m.trail front ++ behind =
+    ap (drop m.trail) (sym (take-append-drop other.trail h.trail)) ∙ drop-append-le m.trail front behind (omega (arith, older.1, within, length-take other.trail h.trail)) in
+    ap₂ (λ cs tr. record { cells = cs; trail = tr; count = m.count })
+        (ap (take m.cells) (sym (take-reset other.cells (reset h.cells behind) (drop m.trail front)))
+        ∙ take-take m.cells other.cells (reset (reset h.cells behind) (drop m.trail front)) older.0
+        ∙ ap (take m.cells) (sym (reset-both h.cells (drop m.trail front) behind) ∙ ap (reset h.cells) (sym both)))
+        (take-take m.trail other.trail h.trail older.1)
+
+pub IsMark-older : (m other : Mark) (h : Store) → IsOlder m other → IsMark m h → IsMark other h → IsMark m (cut other h)
+unfolding cut
+IsMark-older m other h older is was = record {
+  cells = omega (arith, older.0, was.cells, length-take other.cells (reset h.cells (drop other.trail h.trail)), reset-length h.cells (drop other.trail h.trail));
+  trail = omega (arith, older.1, was.trail, length-take other.trail h.trail);
+  heap = subst IsHeap (sym (cut-cut m other h older was.trail)) is.heap;
+}

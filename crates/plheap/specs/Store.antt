@@ -154,6 +154,10 @@ pub record IsMark (m : Mark) (h : Store) : Type 0 where
   pub trail : m.trail ≤ length h.trail
   pub heap : IsHeap (cut m h)
 
+-- a mark that was there at another
+abbrev pub IsOlder : Mark → Mark → Type 0
+IsOlder m other = (m.cells ≤ other.cells) × (m.trail ≤ other.trail)
+
 -- every mark that there was is kept, and the heap at it
 pub record Keeps (old new : Store) : Type 0 where
   pub cells : length old.cells ≤ length new.cells

@@ -2,7 +2,8 @@
 
 ghost use Rattle.std.specs.Prelude.{◌≡◌, ℕ, ◌+◌, ◌<◌, ◌≤◌, [], ◌∷◌, length, IfOk, OnOk, OnErr, take, drop, map, reverse};
 ghost use Rattle.plterm.specs.Tree.{var, int, atom, compound, trees};
-ghost use Rattle.plheap.specs.Store.{IsMark, IsNext, IsBinding, IsBelow, Binds, Adds, AreLinks, link_term, Follows, Keeps, at, cut, term, shown, Fits, IsHeap, IsEnd, pushed, reset};
+ghost use Rattle.plheap.specs.declared.cell.Mark.{Mark};
+ghost use Rattle.plheap.specs.Store.{Store, IsMark, IsOlder, IsNext, IsBinding, IsBelow, Binds, Adds, AreLinks, link_term, Follows, Keeps, at, cut, term, shown, Fits, IsHeap, IsEnd, pushed, reset};
 
 use crate::cell::{Cell, Mark};
 use plterm::name::Name;
@@ -163,3 +164,12 @@ impl Heap {
         self.count = mark.count;
     }
 }
+
+/// What stays a mark: one that is older than the mark undone to, with the heap as it was there; and one of a heap whose marks
+/// are kept. Marks that are kept and kept again are kept.
+pub fn marks_stay()
+    ensures undone { (m other : Mark) (heap : Store) → IsOlder m other → IsMark m heap → IsMark other heap →
+        IsMark m (cut other heap) × (cut m (cut other heap) ≡ cut m heap) }
+    ensures kept { (m : Mark) (old new : Store) → Keeps old new → IsMark m old → IsMark m new }
+    ensures through { (a b c : Store) → Keeps a b → Keeps b c → Keeps a c }
+{}

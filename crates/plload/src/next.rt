@@ -93,7 +93,7 @@ pub(crate) fn read(
         LEVELS,
     ) {
         Ok(read) => {
-            let ReadTerm { term } = read;
+            let ReadTerm { term, .. } = read;
             Ok(Some(term))
         }
         Err(ReadError::Syntax(_)) => Ok(None),

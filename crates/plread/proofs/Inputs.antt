@@ -9,7 +9,7 @@ use Rattle.plread.specs.declared.token.Token.{Token}
 use Rattle.plread.specs.Signs.{Sign}
 use Rattle.plops.specs.declared.flag.Quotes.{Quotes}
 use Rattle.plread.specs.Words.{Lexicon, wider, StartsWith}
-use Rattle.plread.specs.Spelling.{mark, sign, seen_after, is_joined, signs_behind}
+use Rattle.plread.specs.Spelling.{mark, sign, seen_after, is_joined, signs_behind, seen_behind}
 use Rattle.plread.specs.Looks.{sign_view, view}
 
 pub named_at : (text : List ℕ) (ts : List lex.Token) (i : ℕ) (d : lex.Token) → AreNamed text ts → i < length ts → IsNamedAs (get_or ts i d).kind text (get_or ts i d)
@@ -54,6 +54,14 @@ module _ (quotes : Quotes) (text : List ℕ) (words new : Lexicon) (seen next : 
       ∙ ap (λ w. view w made ++ signs_behind quotes text seen last (token ∷ rest)) wide
       ∙ ap (λ f. view (wider words (wider behind more)) made ++ signs_behind quotes text seen last f) (sym is_front)
       ∙ so_far (wider behind more)
+
+-- the names seen with one more
+pub one_seen : (text : List ℕ) (seen next : List (List ℕ)) (token : lex.Token) (front rest : List lex.Token) (all : List (List ℕ)) → front ≡ token ∷ rest → seen_behind text seen front ≡ all → next ≡ seen_after token.kind seen (bytes_of text token) → seen_behind text next rest ≡ all
+one_seen text seen next token front rest all is_front so_far is_next = ap (λ s. seen_behind text s rest) is_next ∙ ap (seen_behind text seen) (sym is_front) ∙ so_far
+
+-- and behind the last token
+pub all_seen : (text : List ℕ) (seen all : List (List ℕ)) (ts : List lex.Token) (i : ℕ) → length ts ≤ i → seen_behind text seen (drop i ts) ≡ all → seen ≡ all
+all_seen text seen all ts i h so_far = ap (seen_behind text seen) (sym (drop_of_length-le ts h)) ∙ so_far
 
 pub front_at : (ts : List lex.Token) (i : ℕ) (d : lex.Token) → i < length ts → drop i ts ≡ get_or ts i d ∷ drop (i + 1) ts
 front_at ts i d h = rw add-one (drop-cons ts i d h)

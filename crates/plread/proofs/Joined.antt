@@ -1,5 +1,5 @@
 -- Lists made of the latest terms.
-use Rattle.std.proofs.Common.{◌≡◌, ◌<◌, ◌≤◌, ◌+◌, arith, ℕ, zero, suc, List, [], ◌∷◌, ◌++◌, length, map, drop, get_or, refl, sym, ap, ◌∙◌, length-drop, drop-cons}
+use Rattle.std.proofs.Common.{◌≡◌, ◌<◌, ◌≤◌, ◌+◌, arith, ℕ, zero, suc, List, [], ◌∷◌, ◌++◌, length, map, drop, get_or, refl, sym, ap, ◌∙◌, drop-cons}
 use Rattle.std.proofs.lemmas.List.{map-append, length-map}
 use Rattle.plterm.specs.declared.node.Node.TheVariants as nodes
 use Rattle.plterm.specs.Tree.{Tree, Trees, var, atom, none, more, trees}

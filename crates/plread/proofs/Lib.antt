@@ -7,3 +7,4 @@ pub mod Numbered
 pub mod Inputs
 pub mod Rows
 pub mod Worked
+pub mod Named

@@ -1,15 +1,16 @@
 -- What small clauses spell, derived form by form.
-use Rattle.std.proofs.Common.{◌≡◌, pos, [], ◌∷◌, codes, refl, arith, true, false}
+use Rattle.std.proofs.Common.{◌≡◌, pos, List, [], ◌∷◌, codes, refl, arith, true, false}
 use Prim.Native.String.{String}
 use Rattle.plterm.specs.Tree.{Tree, int, atom, compound, none, more}
 use Rattle.pllex.specs.declared.token.Kind.TheVariants as kinds
+use Rattle.pllex.specs.declared.token.Token.{Token}
 use Rattle.plops.specs.declared.operator.Kind.TheVariants.{Xfx, Xfy, Fx}
 use Rattle.plops.specs.declared.table.OpTable.{OpTable}
 use Rattle.plops.specs.Operators.{operator_of}
 use Rattle.plops.specs.Tables.{plain, with_operator, prefix_of, infix_of, postfix_of}
 use Rattle.plops.specs.declared.flag.Quotes.TheVariants as quotes
 use Rattle.plread.specs.Signs.{Sign, Name, Variable, Integer, Open, OpenCall, Close, Comma, End}
-use Rattle.plread.specs.Spelling.{signs_of}
+use Rattle.plread.specs.Spelling.{signs_of, variable_names}
 use Rattle.plread.specs.Reading.{start_of, next_of, reads, leaf, bracket, call, before_op, stop, between_op, last, another, Spells, NoStart, Stop}
 
 -- two of the operators of program text
@@ -31,14 +32,20 @@ b = atom (codes "b")
 abbrev c : Tree
 c = atom (codes "c")
 
--- `f(X, _, X)`: a bracket directly behind a token is a call's, a name has the number of its first occurrence, and
--- `_` is always new
-numbers : signs_of quotes.Codes (codes "f(X,_,X) (") (
+-- the tokens of `f(X,_,X) (`
+abbrev spelled : List Token
+spelled =
     (record { kind = kinds.Name; start = 0; end = 1 }) ∷ (record { kind = kinds.Open; start = 1; end = 2 }) ∷ (record { kind = kinds.Variable; start = 2; end = 3 })
     ∷ (record { kind = kinds.Comma; start = 3; end = 4 }) ∷ (record { kind = kinds.Variable; start = 4; end = 5 }) ∷ (record { kind = kinds.Comma; start = 5; end = 6 })
-    ∷ (record { kind = kinds.Variable; start = 6; end = 7 }) ∷ (record { kind = kinds.Close; start = 7; end = 8 }) ∷ (record { kind = kinds.Open; start = 9; end = 10 }) ∷ [])
-    ≡ named "f" ∷ OpenCall ∷ Variable 0 ∷ Comma ∷ Variable 1 ∷ Comma ∷ Variable 0 ∷ Close ∷ Open ∷ []
+    ∷ (record { kind = kinds.Variable; start = 6; end = 7 }) ∷ (record { kind = kinds.Close; start = 7; end = 8 }) ∷ (record { kind = kinds.Open; start = 9; end = 10 }) ∷ []
+
+-- a bracket directly behind a token is a call's, a name has the number of its first occurrence, and `_` is always new
+numbers : signs_of quotes.Codes (codes "f(X,_,X) (") spelled ≡ named "f" ∷ OpenCall ∷ Variable 0 ∷ Comma ∷ Variable 1 ∷ Comma ∷ Variable 0 ∷ Close ∷ Open ∷ []
 numbers = refl
+
+-- the names stand at their numbers
+names : variable_names (codes "f(X,_,X) (") spelled ≡ codes "X" ∷ codes "_" ∷ []
+names = refl
 
 -- `a.`
 fact : Spells few 0 (named "a" ∷ End ∷ []) a

@@ -10,3 +10,4 @@ pub mod Views
 pub mod Answers
 pub mod Numbering
 pub mod Refusals
+pub mod Named

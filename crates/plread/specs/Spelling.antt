@@ -60,6 +60,15 @@ signs_behind quotes text seen last (t ∷ ts) =
     sign quotes t.kind (bytes_of text t) (value_of text t) seen (is_joined last t.start)
     ∷ signs_behind quotes text (seen_after t.kind seen (bytes_of text t)) (Some t.end) ts
 
+-- the names of the variables seen behind these tokens
+abbrev pub seen_behind : List ℕ → List (List ℕ) → List lex.Token → List (List ℕ)
+seen_behind text seen [] = seen
+seen_behind text seen (t ∷ ts) = seen_behind text (seen_after t.kind seen (bytes_of text t)) ts
+
+-- the names of a clause's variables, in the order of their numbers: an anonymous variable has its own
+abbrev pub variable_names : List ℕ → List lex.Token → List (List ℕ)
+variable_names text ts = seen_behind text [] ts
+
 -- the signs of a clause's tokens
 abbrev pub signs_of : Quotes → List ℕ → List lex.Token → List Sign
 signs_of quotes text ts = signs_behind quotes text [] None ts

@@ -1,7 +1,7 @@
 //! The tokens of a clause as the reader takes them.
-ghost use Rattle.std.specs.Prelude.{◌≡◌, ◌≤◌, ◌++◌, ℕ, List, length, string_bytes, IfOk, OnOk};
+ghost use Rattle.std.specs.Prelude.{◌≡◌, ◌≤◌, ◌++◌, ℕ, List, length, map, string_bytes, IfOk, OnOk};
 ghost use Rattle.pllex.specs.Named.{bytes_of, value_of, IsWord, IsNamedAs, AreNamed};
-ghost use Rattle.plread.specs.Spelling.{mark, sign, seen_after, is_joined, signs_of};
+ghost use Rattle.plread.specs.Spelling.{mark, sign, seen_after, is_joined, signs_of, variable_names};
 ghost use Rattle.plread.specs.Looks.{sign_view, view};
 ghost use Rattle.plread.specs.Signs as signs;
 ghost use Rattle.plread.specs.Texts.{text_tree};
@@ -18,11 +18,12 @@ use std::alloc::{AllocError, Global};
 use std::str;
 use std::string::String;
 
-/// The words and the tokens of a clause.
+/// The words and the tokens of a clause, and the names of its variables in the order of their numbers.
 #[derive(Drop)]
-pub struct Input {
+pub struct Input<'a> {
     pub words: Words,
     pub tokens: Vec<Token>,
+    pub names: Vec<&'a str>,
 }
 
 fn bytes_of<'a>(text: &'a [u8], token: Spelled) -> &'a str
@@ -146,16 +147,19 @@ fn sign_of<'a>(
     }
 }
 
-/// The words and the tokens of a clause of a text, in time linear in them.
-pub fn input_of(
+/// The words and the tokens of a clause of a text, and the names of its variables, which are parts of the text. The time is
+/// linear in the tokens and their bytes.
+pub fn input_of<'a>(
     alloc: Global,
-    text: &[u8],
+    text: &'a [u8],
     quotes: Quotes,
     tokens: &[Spelled],
-) -> Result<Input, AllocError>
+) -> Result<Input<'a>, AllocError>
     requires { AreNamed text.now tokens.now }
-    ensures { IfOk result (λ input.
+    ensures signs { IfOk result (λ input.
         view input.words input.tokens.items ≡ signs_of quotes text.now tokens.now) }
+    ensures names { IfOk result (λ input.
+        map (λ name. name.now) input.names.items ≡ variable_names text.now tokens.now) }
 {
     let mut words = Words::new(alloc)?;
     let mut variables = Variables::new(alloc);
@@ -178,5 +182,6 @@ pub fn input_of(
     Ok(Input {
         words,
         tokens: made,
+        names: variables.into_names(),
     })
 }

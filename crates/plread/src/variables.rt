@@ -1,5 +1,5 @@
 //! The numbers of a clause's variables.
-ghost use Rattle.std.specs.Prelude.{◌≡◌, [], IfOk, OnOk};
+ghost use Rattle.std.specs.Prelude.{◌≡◌, [], map, IfOk, OnOk};
 ghost use Rattle.plread.specs.Spelling.{number_of, seen_with};
 
 use std::alloc::{AllocError, Global};
@@ -35,6 +35,14 @@ impl<'a> Variables<'a> {
             order: Vec::new(alloc),
             places: HashMap::new(alloc),
         }
+    }
+
+    /// The names, in the order of their numbers.
+    pub fn into_names(self) -> Vec<&'a str>
+        ensures { map (λ name. name.now) result.items ≡ self.entry }
+    {
+        let Variables { order, .. } = self;
+        order
     }
 
     /// The number of a variable by its name.

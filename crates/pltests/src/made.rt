@@ -25,7 +25,7 @@ pub fn term_of(alloc: Global, text: &str) -> Result<Term, Fail> {
             65536,
         ) {
             Ok(read) => {
-                let ReadTerm { term } = read;
+                let ReadTerm { term, .. } = read;
                 Ok(term)
             }
             Err(error) => Err(error.into()),

@@ -1,0 +1,8 @@
+use Rattle.plio.proofs.Turns.{few_turns, as_many_calls}
+use Rattle.plio.proofs.whole.memory_turns.Goals as goal
+
+pub returns-clause-few : goal.returns-clause-few
+returns-clause-few c = λ limit turns n old new h. few_turns limit old turns n new h
+
+pub returns-clause-calls : goal.returns-clause-calls
+returns-clause-calls c = λ limit turns n old new small h. as_many_calls limit old small turns n new h
