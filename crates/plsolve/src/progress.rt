@@ -19,8 +19,8 @@ ghost use Rattle.plsolve.specs.Heads.{AtGoal, AtMarker};
 ghost use Rattle.plsolve.specs.Solver.{local_of, depth_of, Moved, Stays, rest_of, result_of, Quiet, Settled, WaitsForView, Waits, ReplyFits, IsOver, Stepped, throws_to, Recovered, Rethrown, marked, cut_stopped, empty, Starts, StartsGoal};
 ghost use Rattle.plsolve.specs.Says.{Says, IsSlice};
 
-use crate::form::read_form;
 use crate::error;
+use crate::form::read_form;
 use crate::head::{Head, head_of};
 use crate::predicate::Predicate;
 use crate::running::Ready;
@@ -234,12 +234,7 @@ impl Progress {
     }
 
     /// A call of a procedure that does not exist: an error or failure, by the flag `unknown`.
-    fn missing(
-        &mut self,
-        program: &Program,
-        p: &Indicator,
-        rest: u32,
-    ) -> Result<(), AllocError>
+    fn missing(&mut self, program: &Program, p: &Indicator, rest: u32) -> Result<(), AllocError>
         requires rest { IsList self.old.stack rest }
         requires within { self.old.used ≤ self.old.limit }
         ensures ok { OnOk result ((t : Tree) → p.now ≡ indicator t → Moved program.now self.old self.new (missing self.old.settings.unknown t (goals_of self.old.stack rest) (local_of self.old)) 0) }
