@@ -1,5 +1,5 @@
 -- What an answer over the cells of a heap means.
-use Rattle.std.specs.Prelude.{ℕ, [], ◌+◌, ◌^◌, ◌<◌, ◌≤◌, length}
+use Rattle.std.specs.Prelude.{[], ◌+◌, ◌^◌, ◌<◌, ◌≤◌, length}
 use Rattle.plheap.specs.Store.{Store, term}
 use Rattle.plprogram.specs.declared.settings.Settings.{Settings}
 use Rattle.plbuiltin.specs.declared.answer.Args.{Args}

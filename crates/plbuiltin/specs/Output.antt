@@ -1,5 +1,5 @@
 -- Built-in predicates that write (ISO/IEC 13211-1 8.12, 8.14).
-use Rattle.std.specs.Prelude.{ℕ, List, [], ◌∷◌}
+use Rattle.std.specs.Prelude.{List, [], ◌∷◌}
 use Rattle.plterm.specs.Tree.{Tree}
 use Rattle.plwrite.specs.Writing.{written}
 use Rattle.plwrite.specs.declared.style.Style.{Style}

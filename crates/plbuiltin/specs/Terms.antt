@@ -1,5 +1,5 @@
 -- Built-in predicates on terms (ISO/IEC 13211-1 8.2).
-use Rattle.std.specs.Prelude.{ℕ, List, [], ◌∷◌}
+use Rattle.std.specs.Prelude.{List, [], ◌∷◌}
 use Rattle.plterm.specs.Tree.{Tree}
 use Rattle.plnames.specs.declared.kind.Terms.{Terms}
 use Rattle.plnames.specs.declared.kind.Terms.TheVariants.{Unify}

@@ -1,5 +1,5 @@
 -- The rows as the entries of a map.
-use Rattle.std.proofs.Common.{◌≡◌, ◌<◌, ◌+◌, ℕ, Bool, true, false, cond, ◌==◌, ◌&&◌, ◌++◌, List, [], ◌∷◌, Option, Some, fold, map, take, length, get_or, if◌then◌else◌, refl, sym, ap, ◌∙◌, Bor}
+use Rattle.std.proofs.Common.{◌≡◌, ◌<◌, ◌+◌, ℕ, Bool, true, false, cond, ◌==◌, ◌&&◌, List, [], ◌∷◌, Option, Some, fold, map, take, length, get_or, refl, sym, ap, ◌∙◌, Bor}
 use Rattle.std.proofs.lemmas.List.{map_more}
 use Rattle.std.proofs.lemmas.List.Sums.{fold-append}
 use Rattle.std.specs.Map.{lookup}

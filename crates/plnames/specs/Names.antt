@@ -16,7 +16,7 @@ pub record Row : Type 0 where
 
 -- the rows of the table
 unfoldable pub rows : List Row
-rows = map (λ row. record { name = row.0.now; arity = row.1; kind = row.2 }) ROWS
+rows = map (λ row. record { name = row.0.now; arity = row.1; kind = row.2 }) ROWS.now
 
 -- the kind of the first row of that name and arity, if there is one
 abbrev pub kind_in : List Row → List ℕ → ℕ → Option Kind

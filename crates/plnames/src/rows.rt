@@ -3,7 +3,7 @@
 use crate::kind::{BuiltIn, Control, Kind, Output, Terms};
 
 /// What each name with an arity is. No program can change or define these procedures (ISO/IEC 13211-1 7.5.2).
-pub static ROWS: [(&str, u16, Kind); 26] = [
+pub static ROWS: &[(&str, u16, Kind)] = &[
     ("true", 0, Kind::Control(Control::True)),
     ("fail", 0, Kind::Control(Control::Fail)),
     ("false", 0, Kind::Control(Control::Fail)),

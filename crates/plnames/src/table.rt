@@ -19,7 +19,7 @@ pub struct NameTable {
 impl NameTable {
     /// The table of all rows.
     pub fn new(alloc: Global) -> Result<NameTable, AllocError> {
-        let kinds = by_name(alloc, &ROWS)?;
+        let kinds = by_name(alloc, ROWS)?;
         Ok(NameTable { kinds })
     }
 

@@ -1,5 +1,4 @@
-use Rattle.std.proofs.Common.{◌∙◌, ap, ◌≡◌}
-use Rattle.std.specs.Option.{option_copied}
+use Rattle.std.proofs.Common.{◌∙◌, ap}
 use Rattle.plnames.specs.Names.{kind_in}
 use Rattle.plnames.proofs.Entries.{kind_found}
 use Rattle.plnames.proofs.table.NameTable.kind_of.Goals as goal

@@ -1,7 +1,6 @@
 use Rattle.std.proofs.Common.{◌≡◌, ◌∙◌, ◌∷◌, ◌++◌, [], map, sym, ap}
 use Rattle.indexmap.specs.IndexMap.{insert_entry}
 use Rattle.plterm.specs.Indicators.{same_indicator}
-use Rattle.plclause.specs.Indicators.{indicator}
 use Rattle.plprogram.specs.Program.{with_clause, with_entry}
 use Rattle.plprogram.proofs.Procedures.{shown, set_entry, insert_new}
 use Rattle.plprogram.proofs.program.Procedures.add.Goals as goal
