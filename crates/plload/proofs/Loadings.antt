@@ -1,17 +1,14 @@
 -- What is next, from what a clause comes to.
-use Rattle.std.proofs.Common.{◌≡◌, ℕ, ◌+◌, ◌<◌, ◌≤◌, List, length, Result, Ok, Err, IfOk, refl, sym, subst, arith}
+use Rattle.std.proofs.Common.{ℕ, ◌+◌, ◌<◌, ◌≤◌, List, length, Result, Ok, Err, IfOk, sym, subst, arith}
 use Rattle.std.specs.declared.alloc.AllocError.{AllocError}
-use Rattle.plterm.specs.Tree.{Tree}
 use Rattle.pllex.specs.declared.token.Token.{Token}
 use Rattle.pllex.specs.Tokens.{IsClause}
 use Rattle.plload.specs.declared.next.Next.{Next}
 use Rattle.plload.specs.declared.next.Next.TheVariants as nexts
 use Rattle.plprogram.specs.declared.settings.Settings.{Settings}
-use Rattle.plload.specs.Taking.{Takes, Refuses as Judged}
 use Rattle.plload.specs.Meaning.{Meaning, Adds, Runs as RunsGoal, Declares, Operates, SetsQuotes, SetsUnknown, Passes, Refused}
 use Rattle.plload.specs.Draft.{Draft, with_meaning}
-use Rattle.plload.specs.declared.error.RefusalKind.{RefusalKind}
-use Rattle.plload.specs.Loading.{IsNext, Follows, Stops, Moves, first_place, unread, refused, judged, Goes, Ending, Fails, Runs, goes, stops}
+use Rattle.plload.specs.Loading.{IsNext, Follows, Stops, Moves, first_place, unread}
 
 pub next_follows : (text : List ℕ) (from : ℕ) (s : Settings) (ts : List Token) (after : ℕ) (next : Next) → IsClause text from ts after → Follows text s ts after next → IsNext text from s next
 next_follows text from s ts after nexts.Over h f = absurd f

@@ -1,5 +1,5 @@
 -- A turn of reading a text: where it is refused, and where it goes on.
-use Rattle.std.proofs.Common.{◌≡◌, ℕ, List, Option, Some, None, sym, ap, subst, ◌∙◌}
+use Rattle.std.proofs.Common.{◌≡◌, ℕ, List, Some, None, sym, ap, subst, ◌∙◌}
 use Rattle.plterm.specs.Tree.{Tree}
 use Rattle.plload.specs.declared.error.RefusalKind.{RefusalKind}
 use Rattle.plload.specs.declared.error.LoadError.{LoadError}

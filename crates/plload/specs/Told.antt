@@ -1,10 +1,8 @@
 -- What an error of loading tells.
 use Rattle.std.specs.Prelude.{ℕ, List}
-use Rattle.plterm.specs.Tree.{Tree}
 use Rattle.plload.specs.declared.error.LoadError.{LoadError}
 use Rattle.plload.specs.declared.error.LoadError.TheVariants.{Refused, NoMemory}
-use Rattle.plprogram.specs.declared.settings.Settings.{Settings}
-use Rattle.plload.specs.Loading.{Loads, Refuses, Comes}
+use Rattle.plload.specs.Loading.{Loads, Refuses}
 use Rattle.plload.specs.Listing.{Lists}
 
 abbrev pub Tells : List ℕ → LoadError → Type 0

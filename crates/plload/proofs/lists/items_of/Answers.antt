@@ -1,5 +1,5 @@
-use Rattle.std.proofs.Common.{◌≡◌, ◌∙◌, ◌++◌, ◌∷◌, [], sym, ap, append_assoc, Some}
-use Rattle.plload.specs.Lists.{items, pair_of}
+use Rattle.std.proofs.Common.{◌∙◌, ◌++◌, ◌∷◌, [], sym, ap, append_assoc}
+use Rattle.plload.specs.Lists.{items}
 use Rattle.plload.proofs.Arguments.{along}
 use Rattle.plload.proofs.lists.items_of.Goals as goal
 

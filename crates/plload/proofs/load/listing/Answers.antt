@@ -1,7 +1,7 @@
 use Rattle.std.proofs.Common.{◌≡◌, ◌∙◌, ◌++◌, ℕ, List, [], ap, subst, refl}
 use Rattle.plload.specs.Shown.{shown}
 use Rattle.plload.specs.Listing.{with_line}
-use Rattle.plload.specs.Loading.{Ending, Ends, Runs, over, goes, Accepts}
+use Rattle.plload.specs.Loading.{Ending, Ends, Runs, over, goes}
 use Rattle.plload.proofs.Turns.{bad, good, told}
 use Rattle.plload.proofs.load.listing.Goals as goal
 

@@ -1,4 +1,4 @@
-use Rattle.std.proofs.Common.{◌≡◌, ◌∙◌, ℕ, None, ap, subst, refl, arith}
+use Rattle.std.proofs.Common.{◌≡◌, ◌∙◌, ap, subst, arith}
 use Rattle.plload.specs.Shown.{shown}
 use Rattle.plload.specs.Draft.{Draft, empty_draft, with_term, with_meaning}
 use Rattle.plload.specs.Loading.{Ending, Ends, Runs, over, goes, Accepts}
