@@ -1,13 +1,12 @@
 -- The definitions on small programs.
-use Rattle.std.proofs.Common.{◌≡◌, ℕ, ℤ, pos, List, [], ◌∷◌, ◌++◌, true, false, codes, refl}
-use Rattle.plterm.specs.Tree.{Tree, var, int, atom, compound, Trees, none, more}
-use Rattle.plterm.specs.declared.indicator.Indicator.{Indicator}
+use Rattle.std.proofs.Common.{◌≡◌, ℕ, pos, List, [], ◌∷◌, ◌++◌, true, false, codes, refl}
+use Rattle.plterm.specs.Tree.{Tree, var, int, atom, compound, none, more}
 use Rattle.plclause.specs.Clause.{Clause}
 use Rattle.plload.specs.declared.error.RefusalKind.TheVariants.{NotCallable, StaticRedefined, BadDirective}
 use Rattle.plops.specs.declared.operator.Kind.TheVariants.{Xfx}
 use Rattle.plops.specs.declared.flag.Quotes.TheVariants.{Atom}
 use Rattle.plnames.specs.Names.{rows, is_fixed}
-use Rattle.plload.specs.Meaning.{Meaning, Adds, Runs, Declares, Operates, SetsQuotes, Passes, Refused, meaning}
+use Rattle.plload.specs.Meaning.{Adds, Runs, Declares, Operates, SetsQuotes, Passes, Refused, meaning}
 use Rattle.plload.specs.Position.{line_of, column_of}
 use Rattle.plprogram.specs.Program.{procedures_of, clauses_in}
 

@@ -1,6 +1,6 @@
 -- What stands first in a list, and what a structure's cell shows.
 use Rattle.std.proofs.Common.{◌≡◌, ℕ, zero, suc, ◌≤◌, true, false, List, [], ◌∷◌, length, refl, sym, ap, ap₂, ◌∙◌, ◌-◌, ◌==◌, ◌&&◌, subst, arith, bytes_eq}
-use Rattle.std.specs.Prelude.{if◌then◌else◌, codes}
+use Rattle.std.specs.Prelude.{codes}
 use Rattle.plterm.specs.Tree.{Tree, compound, trees, list_of, list_of-trees}
 use Rattle.plheap.specs.declared.cell.Cell.{Cell}
 use Rattle.plheap.specs.declared.cell.Cell.TheVariants as cells

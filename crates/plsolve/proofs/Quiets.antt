@@ -3,7 +3,7 @@ use Rattle.std.proofs.Common.{◌≡◌, ℕ, zero, suc, Bool, true, false, if�
 use Rattle.plheap.specs.Store.{term}
 use Rattle.plevent.specs.Search.{Answer}
 use Rattle.plprogram.specs.Program.{Program, clauses_for}
-use Rattle.plsearch.specs.Types.{Result, Fail, CutTo, Spent, Throw, Kind, Commit, Never, Until, Element, Goal, Marker, Handle, Handler, Catch, Keep, Place, Case, Choice, Mark, Local, Move, Run}
+use Rattle.plsearch.specs.Types.{Result, Fail, CutTo, Spent, Throw, Commit, Never, Until, Element, Goal, Marker, Handle, Handler, Catch, Keep, Place, Case, Choice, Mark, Local, Move, Run}
 use Rattle.plterm.specs.Tree.{Tree}
 use Rattle.plterm.specs.Variables.{copied, variables}
 use Rattle.plsubst.specs.Subst.{bind}

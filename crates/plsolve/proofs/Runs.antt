@@ -3,17 +3,13 @@ use Rattle.std.proofs.Common.{◌≡◌, ℕ, Bool, true, false, suc, ◌+◌, �
 use Rattle.std.proofs.Math.Seq.{take-append_seam}
 use Rattle.plheap.specs.Store.{term}
 use Rattle.plevent.specs.Search.{Item, View, Ask, Answer, Search, Wants, Finishes, Seen, Got}
-use Rattle.plclause.specs.Clause.{Clause}
 use Rattle.plevent.specs.Alive.{Stamped}
 use Rattle.plevent.specs.declared.request.ThreadEnd.{ThreadEnd}
 use Rattle.plevent.specs.declared.request.Request.{Request}
 use Rattle.plevent.specs.declared.request.Request.TheVariants.{Start, Publish, Finish, HaltRun}
 use Rattle.plevent.specs.declared.request.Reply.{Reply}
-use Rattle.plevent.specs.declared.request.Reply.TheVariants.{Published, Done}
-use Rattle.plevent.specs.declared.update.Update.{Update}
-use Rattle.plevent.specs.declared.update.Update.TheVariants.{Last}
 use Rattle.plprogram.specs.Program.{Program, clauses_for}
-use Rattle.plsearch.specs.Types.{Awaits, Halted, GoesOn, Ends, Look, Await, Element, Goal, Asking, Place, Case, Choice, Mark, Handle, Catch, Local, Move, Give, Run, Asks}
+use Rattle.plsearch.specs.Types.{Awaits, Look, Await, Element, Goal, Asking, Place, Case, Choice, Mark, Handle, Catch, Local, Move, Run, Asks}
 use Rattle.plsearch.specs.Rows.{select, meet}
 use Rattle.plsearch.specs.Replies.{Served, outcome, follows, walk_over, answered}
 use Rattle.plsearch.specs.Handlers.{resume}
@@ -40,7 +36,7 @@ use Rattle.plsolve.specs.Says.{Says}
 use Rattle.plsolve.specs.declared.head.Head.{Head}
 use Rattle.plsolve.specs.declared.head.Head.TheVariants as heads
 use Rattle.plsolve.specs.Heads.{AtGoal, AtLook, AtAwait, IsHead}
-use Rattle.plsolve.specs.Solver.{result_of, mode_of, local_of, machine, rest_of, depth_of, now, after, Moved, Stays, Quiet, Stepped, WaitsForView, IsAsked, Waits, WaitsForReply, ReplyFits}
+use Rattle.plsolve.specs.Solver.{result_of, mode_of, local_of, machine, rest_of, depth_of, now, after, Moved, Stays, Quiet, Stepped, WaitsForView, IsAsked, WaitsForReply, ReplyFits}
 
 -- going on
 pub goes_on : (limit limit' : ℕ) (a b c : Search) (x y z : ℕ) → limit' ≡ limit → Goes limit a x b y → Goes limit' b y c z → Goes limit a x c z

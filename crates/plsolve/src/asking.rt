@@ -44,7 +44,12 @@ fn is_static_procedure(program: &Program, p: &Indicator) -> bool
 
 impl Progress {
     /// assertz/1.
-    pub(crate) fn add_last(&mut self, program: &Program, c: u32, rest: u32) -> Result<(), AllocError>
+    pub(crate) fn add_last(
+        &mut self,
+        program: &Program,
+        c: u32,
+        rest: u32,
+    ) -> Result<(), AllocError>
         requires a { c < length self.old.stack.heap.cells }
         requires rest { IsList self.old.stack rest }
         requires left { self.old.used + 1 ≤ self.old.limit }
@@ -96,7 +101,12 @@ impl Progress {
     }
 
     /// The end of the run, with a number as its status.
-    pub(crate) fn halt(&mut self, program: &Program, status: u8, rest: u32) -> Result<(), AllocError>
+    pub(crate) fn halt(
+        &mut self,
+        program: &Program,
+        status: u8,
+        rest: u32,
+    ) -> Result<(), AllocError>
         requires rest { IsList self.old.stack rest }
         requires left { self.old.used + 1 ≤ self.old.limit }
         ensures ok { OnOk result (Moved program.now self.old self.new (go_on (Asking (Await (HaltRun status) (Ends status)) ∷ goals_of self.old.stack rest) self.old.stack.heap.count (local_of self.old)) 1) }
@@ -107,7 +117,12 @@ impl Progress {
     }
 
     /// halt/1.
-    pub(crate) fn halt_with(&mut self, program: &Program, number: u32, rest: u32) -> Result<(), AllocError>
+    pub(crate) fn halt_with(
+        &mut self,
+        program: &Program,
+        number: u32,
+        rest: u32,
+    ) -> Result<(), AllocError>
         requires number { number < length self.old.stack.heap.cells }
         requires rest { IsList self.old.stack rest }
         requires left { self.old.used + 1 ≤ self.old.limit }

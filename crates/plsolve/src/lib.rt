@@ -1,6 +1,7 @@
 //! The depth-first search of a thread, which can stop and go on.
 #![tactic(auto)]
 
+mod answers;
 mod asking;
 mod built_in;
 mod error;
@@ -11,3 +12,4 @@ mod progress;
 mod rows;
 mod running;
 pub mod solver;
+mod turns;

@@ -66,7 +66,12 @@ impl Progress {
     }
 
     /// A member before a list.
-    pub(crate) fn push(&mut self, program: &Program, item: Item, rest: u32) -> Result<(), AllocError>
+    pub(crate) fn push(
+        &mut self,
+        program: &Program,
+        item: Item,
+        rest: u32,
+    ) -> Result<(), AllocError>
         requires inside { IsItemIn (length self.old.stack.heap.cells) item }
         requires rest { IsList self.old.stack rest }
         requires left { self.old.used + 1 ≤ self.old.limit }
@@ -79,7 +84,12 @@ impl Progress {
     }
 
     /// Opens cases, and visits a list in them.
-    pub(crate) fn enter(&mut self, program: &Program, list: u32, opening: Opening) -> Result<(), AllocError>
+    pub(crate) fn enter(
+        &mut self,
+        program: &Program,
+        list: u32,
+        opening: Opening,
+    ) -> Result<(), AllocError>
         requires list { IsList self.old.stack list }
         requires opening { IsOpening self.old.stack opening }
         requires left { self.old.used + 1 ≤ self.old.limit }
@@ -176,7 +186,9 @@ impl Progress {
         };
         let failing = self.stack.link(Item::Goal(level, other), rest)?;
         let following = self.stack.link(Item::Goal(level, then), rest)?;
-        let behind = self.stack.link(Item::Marker(MarkerKind::Commit, depth), following)?;
+        let behind = self
+            .stack
+            .link(Item::Marker(MarkerKind::Commit, depth), following)?;
         self.enter_goal(
             program,
             inner,
@@ -221,7 +233,12 @@ impl Progress {
     }
 
     /// throw/1.
-    pub(crate) fn throw(&mut self, program: &Program, ball: u32, rest: u32) -> Result<(), AllocError>
+    pub(crate) fn throw(
+        &mut self,
+        program: &Program,
+        ball: u32,
+        rest: u32,
+    ) -> Result<(), AllocError>
         requires ball { ball < length self.old.stack.heap.cells }
         requires rest { IsList self.old.stack rest }
         requires left { self.old.used + 1 ≤ self.old.limit }

@@ -94,7 +94,9 @@ impl Progress {
         ensures err { OnErr result (Stays program.now self.old self.new) }
     {
         let depth = self.stack.depth();
-        let behind = self.stack.link(Item::Marker(MarkerKind::Commit, depth), rest)?;
+        let behind = self
+            .stack
+            .link(Item::Marker(MarkerKind::Commit, depth), rest)?;
         let ready = self.ready(goal)?;
         self.run(
             program,
@@ -118,7 +120,9 @@ impl Progress {
         let Some(inner) = depth.checked_add(1) else {
             return Err(AllocError);
         };
-        let behind = self.stack.link(Item::Marker(MarkerKind::Never, depth), rest)?;
+        let behind = self
+            .stack
+            .link(Item::Marker(MarkerKind::Never, depth), rest)?;
         let ready = self.ready(goal)?;
         self.run(
             program,
@@ -150,7 +154,9 @@ impl Progress {
         let Some(inner) = depth.checked_add(1) else {
             return Err(AllocError);
         };
-        let behind = self.stack.link(Item::Marker(MarkerKind::Until, depth), rest)?;
+        let behind = self
+            .stack
+            .link(Item::Marker(MarkerKind::Until, depth), rest)?;
         let ready = self.ready(goal)?;
         self.run(
             program,

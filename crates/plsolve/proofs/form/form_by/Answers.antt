@@ -1,4 +1,4 @@
-use Rattle.std.proofs.Common.{◌≡◌, Some, ap, sym, ◌∙◌}
+use Rattle.std.proofs.Common.{Some, ap, sym, ◌∙◌}
 use Rattle.plheap.specs.Store.{terms}
 use Rattle.plnames.specs.Names.{kind_of}
 use Rattle.plsearch.specs.Forms.{form_by}

@@ -1,4 +1,4 @@
-use Rattle.std.proofs.Common.{◌≡◌, ◌∷◌, refl, sym, ap, ◌∙◌, subst}
+use Rattle.std.proofs.Common.{refl, sym, ap, ◌∙◌}
 use Rattle.plclause.specs.Indicators.{indicator}
 use Rattle.plheap.specs.Store.{term, terms}
 use Rattle.plprogram.specs.Program.{clauses_for}
@@ -9,8 +9,8 @@ use Rattle.plsearch.specs.Rows.{offer}
 use Rattle.plframe.specs.State.{cases_of, goals_of}
 use Rattle.plframe.proofs.Stacks.{extends-same}
 use Rattle.plsolve.specs.declared.progress.Outcome.TheVariants as outcomes
-use Rattle.plsolve.specs.Solver.{local_of, Moved}
-use Rattle.plsolve.proofs.Moves.{visits, gives, moved-as, offer-writes, offer-succeeds, offer-fails, offer-unifies, on_ok_map}
+use Rattle.plsolve.specs.Solver.{local_of}
+use Rattle.plsolve.proofs.Moves.{visits, gives, moved-as, offer-writes, offer-succeeds, offer-fails, on_ok_map}
 use Rattle.plsolve.proofs.progress.Progress.built_in.Goals as goal
 
 pub returns-in-Fails-clause-ok : goal.returns-in-Fails-clause-ok
