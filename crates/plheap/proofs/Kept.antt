@@ -136,10 +136,10 @@ cut-cut m other h older within =
     let both : drop m.trail h.trail ≡ drop m.trail front ++ behind =
     ap (drop m.trail) (sym (take-append-drop other.trail h.trail)) ∙ drop-append-le m.trail front behind (omega (arith, older.1, within, length-take other.trail h.trail)) in
     ap₂ (λ cs tr. record { cells = cs; trail = tr; count = m.count })
-        (ap (take m.cells) (sym (take-reset other.cells (reset h.cells behind) (drop m.trail front)))
-        ∙ take-take m.cells other.cells (reset (reset h.cells behind) (drop m.trail front)) older.0
-        ∙ ap (take m.cells) (sym (reset-both h.cells (drop m.trail front) behind) ∙ ap (reset h.cells) (sym both)))
-        (take-take m.trail other.trail h.trail older.1)
+    (ap (take m.cells) (sym (take-reset other.cells (reset h.cells behind) (drop m.trail front)))
+    ∙ take-take m.cells other.cells (reset (reset h.cells behind) (drop m.trail front)) older.0
+    ∙ ap (take m.cells) (sym (reset-both h.cells (drop m.trail front) behind) ∙ ap (reset h.cells) (sym both)))
+    (take-take m.trail other.trail h.trail older.1)
 
 pub IsMark-older : (m other : Mark) (h : Store) → IsOlder m other → IsMark m h → IsMark other h → IsMark m (cut other h)
 unfolding cut
