@@ -7,7 +7,7 @@ use Rattle.plsubst.specs.Subst.{occurs, occurs_in}
 use Rattle.platoms.specs.Names.{functor_arity, functor_name}
 use Rattle.plcells.specs.declared.cell.Cell.{Cell}
 use Rattle.plcells.specs.declared.cell.Cell.TheVariants.{Free, Lone, Ref, Int, Wide, Atom, Str, Fun, Ground}
-use Rattle.plcells.specs.Store.{Store, at, number_at, spread, term, terms, shown, value, Refers, IsHead, IsGround, IsSolid, Fits, IsHeap, IsValue, IsEnd, IsVariable, HasTerms, HasArguments}
+use Rattle.plcells.specs.Store.{Store, at, number_at, spread, term, terms, shown, value, Refers, IsHead, IsGround, IsSolid, Fits, IsHeap, IsValue, IsEnd, IsVariable, HasTerms, HasArguments, HasSolid, IsBlock}
 use Rattle.plcells.specs.Skipping.{plain, AreLone, IsClosed, IsInside}
 use Rattle.plcells.specs.Walking.{weight, weights, weigh, occurs_any, AreBlocks, IsFloor}
 use Rattle.plcells.proofs.Terms.{term-at}
@@ -278,3 +278,15 @@ pub empty-none : (n : ℕ) (h : Store) (cs : List ℕ) → length cs ≡ 0 → o
 unfolding occurs
 empty-none n h [] e = refl
 empty-none n h (c ∷ cs) e = absurd (omega (arith, e))
+
+pub block-at : (h : Store) (p f : ℕ) (m : Cell) → IsHeap h → p < length h.cells → at h.cells p ≡ plain m → (m ≡ Fun f) ⊎ (m ≡ Ground f) → IsBlock h p f (functor_arity h.names f)
+block-at h p f m is lt e which = elim which [
+  | inl g ↦
+      let here = e ∙ ap plain g in
+      let a : HasArguments h p f = subst (Fits h p) here (is.fits p lt) in
+      record { functor = a.functor; arity = refl; within = a.within; plain = a.plain; is = term-at h p is lt ∙ ap (shown h p) here; few = is.few }
+  | inr g ↦
+      let here = e ∙ ap plain g in
+      let a : HasSolid h p f = subst (Fits h p) here (is.fits p lt) in
+      record { functor = a.arguments.functor; arity = refl; within = a.arguments.within; plain = a.arguments.plain; is = term-at h p is lt ∙ ap (shown h p) here; few = is.few }
+]

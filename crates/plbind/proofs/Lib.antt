@@ -1,0 +1,3 @@
+mod Work
+mod Verdicts
+mod Progressing
