@@ -184,24 +184,6 @@ module _ (h : Store) (is : IsHeap h) where
   kind-says (Fun p) w fv fw ev ew = absurd fv
   kind-says (Ground p) w fv fw ev ew = absurd fv
 
-  -- a younger variable and an older one
-  pub near-older : (x y m n : ℕ) → IsEnd h (Ref x) → IsValue h (Ref y) → term h x ≡ var m → term h y ≡ var n → n < m → HasNear h (term h x) (term h y) x (Ref y)
-  unfolding bind
-  near-older x y m n ex fy tx ty lt =
-      let differs : nat_eq m n ≡ false = grind (arith, lt) in
-      record {
-        number = m;
-        near = record {
-          end = ex;
-          numbered = tx;
-          fits = fy;
-          apart = subst (NotSelf m) (sym ty) differs;
-          younger = λ u e. let same : n ≡ u = var-variable (sym ty ∙ e) in omega (arith, same, lt);
-        };
-        to = λ τ e. sym (ap (bind τ) tx) ∙ e;
-        back = λ τ e. ap (bind τ) tx ∙ e;
-      }
-
   -- two blocks of one functor
   pub blocks-args : (p q f k l : ℕ) → IsBlock h p f k → IsBlock h q f l → HasArgs h (term h p) (term h q) p q k
   unfolding bind weight
@@ -229,3 +211,26 @@ module _ (h : Store) (is : IsHeap h) where
           is.names.atom_once ((functor_at h.names f).name) ((functor_at h.names g).name) ((is.names.functors f bp.functor).name) ((is.names.functors g bq.functor).name) (compound-name d) in
       let same : functor_at h.names f ≡ functor_at h.names g = ap₂ (λ n j. let x : Functor = record { name = n; arity = j } in x) name (bp.arity ∙ arity ∙ sym bq.arity) in
       ne (is.names.functor_once f g bp.functor bq.functor same)
+
+-- a younger variable and an older one
+pub near-older : (h : Store) (x y m n : ℕ) → IsEnd h (Ref x) → IsValue h (Ref y) → term h x ≡ var m → term h y ≡ var n → n < m → HasNear h (term h x) (term h y) x (Ref y)
+unfolding bind
+near-older h x y m n ex fy tx ty lt =
+    let differs : nat_eq m n ≡ false = grind (arith, lt) in
+    record {
+      number = m;
+      near = record {
+        end = ex;
+        numbered = tx;
+        fits = fy;
+        apart = subst (NotSelf m) (sym ty) differs;
+        younger = λ u e. let same : n ≡ u = var-variable (sym ty ∙ e) in omega (arith, same, lt);
+      };
+      to = λ τ e. sym (ap (bind τ) tx) ∙ e;
+      back = λ τ e. ap (bind τ) tx ∙ e;
+    }
+
+pub near-younger : (h : Store) (x y m n : ℕ) → IsEnd h (Ref y) → IsValue h (Ref x) → term h x ≡ var m → term h y ≡ var n → m < n → HasNear h (term h x) (term h y) y (Ref x)
+near-younger h x y m n ey fx tx ty lt =
+    let near = near-older h y x n m ey fx ty tx lt in
+    record { number = near.number; near = near.near; to = λ τ e. near.to τ (sym e); back = λ τ e. sym (near.back τ e) }

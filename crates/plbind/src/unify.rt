@@ -1,11 +1,11 @@
 //! Unification with a list of pairs that are left.
 
-ghost use Rattle.std.specs.Prelude.{◌≡◌, ℕ, ◌+◌, ◌^◌, ◌<◌, ◌≤◌, length, IfOk, OnOk, OnErr, ◌++◌, None, true, false};
+ghost use Rattle.std.specs.Prelude.{◌≡◌, ◌↔◌, IsTrue, ℕ, ◌+◌, ◌^◌, ◌<◌, ◌≤◌, length, IfOk, OnOk, OnErr, ◌++◌, None, true, false};
 ghost use Rattle.plterm.specs.Tree.{Tree};
 ghost use Rattle.plsubst.specs.Unify.{unify as unify_terms};
 ghost use Rattle.plbind.specs.Unifying.{kind_of, pairs, IsInside, Leaves, Says, Stands, Answers, Bindings, Unified, IsNear, HoldsNothing};
-ghost use Rattle.plcells.specs.declared.cell.Cell.TheVariants.{Ref as RefCell, Str as StrCell};
-ghost use Rattle.plcells.specs.Store.{term, value, IsValue, IsEnd, Keeps};
+ghost use Rattle.plcells.specs.declared.cell.Cell.TheVariants.{Ref as RefCell, Str as StrCell, Atom as AtomCell};
+ghost use Rattle.plcells.specs.Store.{term, value, IsValue, IsEnd, IsInteger, Keeps};
 
 use plcells::cell::Cell;
 use plcells::heap::Heap;
@@ -34,21 +34,66 @@ pub enum Verdict {
     Args(u32, u32, u16),
 }
 
-/// What two values are, where references end.
-fn sort(a: Cell, b: Cell) -> Kind
-    ensures { result ≡ kind_of a b }
+/// A variable and another value.
+fn beside(x: u32, v: Cell) -> Kind
+    ensures { result ≡ kind_of (RefCell x) v }
 {
-    match (a, b) {
-        (Cell::Ref(x), Cell::Ref(y)) => Kind::Variables(x, y),
-        (Cell::Ref(x), _) => Kind::Binding(x, b),
-        (_, Cell::Ref(y)) => Kind::Binding(y, a),
-        (Cell::Str(p), Cell::Str(q)) => Kind::Blocks(p, q),
-        (Cell::Atom(f), Cell::Atom(g)) => if f == g {
+    if let Cell::Ref(y) = v {
+        Kind::Variables(x, y)
+    } else {
+        Kind::Binding(x, v)
+    }
+}
+
+/// An atom and what is no variable.
+fn beside_atom(f: u32, v: Cell) -> Kind
+    requires { (j : ℕ) → v ≡ RefCell j → ⊥ }
+    ensures { result ≡ kind_of (AtomCell f) v }
+{
+    match v {
+        Cell::Atom(g) => if f == g {
             Kind::Same
         } else {
             Kind::Clash
         },
-        (Cell::Int(_) | Cell::Wide(_), Cell::Int(_) | Cell::Wide(_)) => Kind::Integers,
+        _ => Kind::Clash,
+    }
+}
+
+/// A compound and what is no variable.
+fn beside_block(p: u32, v: Cell) -> Kind
+    requires { (j : ℕ) → v ≡ RefCell j → ⊥ }
+    ensures { result ≡ kind_of (StrCell p) v }
+{
+    match v {
+        Cell::Str(q) => Kind::Blocks(p, q),
+        _ => Kind::Clash,
+    }
+}
+
+/// Whether a value is an integer.
+fn is_integer(v: Cell) -> bool
+    ensures { IsTrue result ↔ IsInteger v }
+{
+    matches!(v, Cell::Int(_) | Cell::Wide(_))
+}
+
+/// What two values are, where references end.
+fn sort(a: Cell, b: Cell) -> Kind
+    ensures { result ≡ kind_of a b }
+{
+    if let Cell::Ref(x) = a {
+        return beside(x, b);
+    }
+    if let Cell::Ref(y) = b {
+        return Kind::Binding(y, a);
+    }
+    if is_integer(a) && is_integer(b) {
+        return Kind::Integers;
+    }
+    match a {
+        Cell::Str(p) => beside_block(p, b),
+        Cell::Atom(f) => beside_atom(f, b),
         _ => Kind::Clash,
     }
 }

@@ -235,7 +235,8 @@ impl Heap {
     /// The number of an unbound variable.
     pub fn number(&self, c: u32) -> u64
         requires { IsEnd self.now (RefCell c) }
-        ensures { term self.now c ≡ var result }
+        ensures is { term self.now c ≡ var result }
+        ensures heap { IsHeap self.now }
     {
         match place_of(self.cells[c as usize]) {
             Some(place) => self.numbers[place as usize],
