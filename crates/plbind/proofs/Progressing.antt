@@ -1,5 +1,6 @@
 -- How a unification comes on.
-use Rattle.std.proofs.Common.{◌≡◌, ℕ, ◌<◌, ◌≤◌, Bool, true, false, List, [], ◌∷◌, length, refl, sym, ap, ◌∙◌, subst, arith, le_refl, le_trans, None, nat_eq, eqb-true}
+use Rattle.std.proofs.Common.{◌≡◌, ℕ, ◌<◌, ◌≤◌, Bool, true, false, List, [], ◌∷◌, length, refl, sym, ap, ◌∙◌, subst, arith, le_refl, le_trans, None, Ok, Err, Result, nat_eq, eqb-true}
+use Rattle.std.specs.Prelude.{IfOk, OnErr}
 use Rattle.plterm.specs.Tree.{Tree, var, int, atom, compound}
 use Rattle.plsubst.specs.Subst.{bind, put, put_if, occurs}
 use Rattle.plsubst.specs.Unify.{unify, IsMostGeneral, BindsYounger}
@@ -7,10 +8,10 @@ use Rattle.plsubst.proofs.Unify.{bind-bind, bind-var, put-unifies}
 use Rattle.plsubst.proofs.UnifyFinds.{holds_itself}
 use Rattle.plsubst.proofs.UnifyUnique.{unify-is, unify-none, var-variable, int≢var, atom≢var, compound≢var}
 use Rattle.plcells.specs.declared.cell.Cell.{Cell}
-use Rattle.plcells.specs.Store.{Store, term, value, Binds}
+use Rattle.plcells.specs.Store.{Store, term, value, Binds, Keeps}
 use Rattle.plcells.proofs.Absence.{bind_put-same}
 use Rattle.plcells.proofs.Kept.{Keeps-refl, Keeps-trans}
-use Rattle.plbind.specs.Unifying.{Unifies, IsInside, IsPlain, HasLeft, HasNear, Stands, Substitutes, Progress, Unified}
+use Rattle.plbind.specs.Unifying.{Unifies, IsInside, IsPlain, HasLeft, HasNear, IsNear, Stands, Substitutes, Progress, Unified, Bindings, Answers}
 
 younger-var : BindsYounger var
 younger-var w z e = subst (λ v. v ≤ w) (var-variable e) (le_refl w)
@@ -183,3 +184,47 @@ near-unified h new s t x v n apart bound = record {
       where
         le_of : (w u : ℕ) → var w ≡ var u → u ≤ w
         le_of w u f = let same : w ≡ u = var-variable f in omega (arith, same)
+
+pub if-ok : {E : Type 0} (P Q : Bool → Type 0) (r : Result Bool E) → ((b : Bool) → P b → Q b) → IfOk r P → IfOk r Q
+if-ok P Q (Ok b) f p = f b p
+if-ok P Q (Err e) f p = tt
+
+-- a variable was bound, or not
+unified_by : (h new : Store) (s t : Tree) (x : ℕ) (v : Cell) → (n : HasNear h s t x v) → (b : Bool) → Bindings h new v n.number b → b ≡ true → Unified h new s t
+unfolding Bindings
+unified_by h new s t x v n true r e = near-unified h new s t x v n r.0 r.1
+unified_by h new s t x v n false r e = absurd (grind (arith, e))
+
+never_by : (h new : Store) (s t : Tree) (x : ℕ) (v : Cell) → (n : HasNear h s t x v) → (b : Bool) → Bindings h new v n.number b → b ≡ false → unify s t ≡ None
+unfolding Bindings
+never_by h new s t x v n true r e = absurd (grind (arith, e))
+never_by h new s t x v n false r e = near-circular h s t x v n r.0
+
+kept_by : (h new : Store) (v : Cell) (n : ℕ) (b : Bool) → Bindings h new v n b → Keeps h new
+unfolding Bindings
+kept_by h new v n true r = r.1.keeps
+kept_by h new v n false r = subst (Keeps h) (sym r.1) (Keeps-refl h)
+
+module _ {E : Type 0} (h new : Store) (s t : Tree) (x : ℕ) (v : Cell) (near : HasNear h s t x v) where
+  pub bound-yes : (r : Result Bool E) → IfOk r (λ b. (n : ℕ) → IsNear h x v n → Bindings h new v n b) → IfOk r (λ b. b ≡ true → Unified h new s t)
+  bound-yes (Ok b) f = unified_by h new s t x v near b (f near.number near.near)
+  bound-yes (Err e) f = tt
+
+  pub bound-no : (r : Result Bool E) → IfOk r (λ b. (n : ℕ) → IsNear h x v n → Bindings h new v n b) → IfOk r (λ b. b ≡ false → unify s t ≡ None)
+  bound-no (Ok b) f = never_by h new s t x v near b (f near.number near.near)
+  bound-no (Err e) f = tt
+
+  pub bound-keeps : (r : Result Bool E) → IfOk r (λ b. (n : ℕ) → IsNear h x v n → Bindings h new v n b) → OnErr r (new ≡ h) → Keeps h new
+  bound-keeps (Ok b) f g = kept_by h new v near.number b (f near.number near.near)
+  bound-keeps (Err e) f g = subst (Keeps h) (sym g) (Keeps-refl h)
+
+module _ {E : Type 0} (h new : Store) (s t : Tree) where
+  pub solved-yes : (r : Result Bool E) → IfOk r (λ b. Answers h new s t b) → IfOk r (λ b. b ≡ true → Unified h new s t)
+  unfolding Answers
+  solved-yes (Ok b) f = λ e. subst (Answers h new s t) e f
+  solved-yes (Err e) f = tt
+
+  pub solved-no : (r : Result Bool E) → IfOk r (λ b. Answers h new s t b) → IfOk r (λ b. b ≡ false → unify s t ≡ None)
+  unfolding Answers
+  solved-no (Ok b) f = λ e. subst (Answers h new s t) e f
+  solved-no (Err e) f = tt

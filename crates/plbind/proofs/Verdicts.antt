@@ -234,3 +234,14 @@ pub near-younger : (h : Store) (x y m n : ℕ) → IsEnd h (Ref y) → IsValue h
 near-younger h x y m n ey fx tx ty lt =
     let near = near-older h y x n m ey fx ty tx lt in
     record { number = near.number; near = near.near; to = λ τ e. near.to τ (sym e); back = λ τ e. sym (near.back τ e) }
+
+pub says-along : (h : Store) (s t s1 t1 : Tree) (r : Verdict) → s ≡ s1 → t ≡ t1 → Says h s t r → Says h s1 t1 r
+says-along h s t s1 t1 r es et says = subst (λ u. Says h u t1 r) es (subst (λ u. Says h s u r) et says)
+
+-- two integers
+pub integers-same : (s t : Tree) (i j : ℤ) → s ≡ int i → t ≡ int j → i ≡ j → (τ : ℕ → Tree) → bind τ s ≡ bind τ t
+integers-same s t i j es et e τ = ap (bind τ) (es ∙ ap int e ∙ sym et)
+
+pub integers-clash : (s t : Tree) (i j : ℤ) → s ≡ int i → t ≡ int j → (i ≡ j → ⊥) → (τ : ℕ → Tree) → bind τ s ≡ bind τ t → ⊥
+unfolding bind
+integers-clash s t i j es et ne τ e = ne (int-number (sym (ap (bind τ) es) ∙ e ∙ ap (bind τ) et))

@@ -147,6 +147,13 @@ fn judge_blocks(heap: &Heap, p: u32, q: u32) -> Verdict
     }
 }
 
+/// Whether two integers are the same.
+fn same_integers(i: i64, j: i64) -> bool
+    ensures { IsTrue result ↔ (i ≡ j) }
+{
+    i == j
+}
+
 /// What two values come to.
 fn compare(heap: &Heap, a: Cell, b: Cell) -> Verdict
     requires left { IsValue heap.now a }
@@ -159,7 +166,7 @@ fn compare(heap: &Heap, a: Cell, b: Cell) -> Verdict
         Kind::Variables(x, y) => judge_variables(heap, x, y),
         Kind::Binding(x, t) => Verdict::Binds(x, t),
         Kind::Blocks(p, q) => judge_blocks(heap, p, q),
-        Kind::Integers => if heap.integer_of(v) == heap.integer_of(w) {
+        Kind::Integers => if same_integers(heap.integer_of(v), heap.integer_of(w)) {
             Verdict::Same
         } else {
             Verdict::Clash

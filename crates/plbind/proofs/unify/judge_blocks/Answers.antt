@@ -13,11 +13,11 @@ pub returns-then-f-g : goal.returns-then-f-g
 unfolding Says
 returns-then-f-g c =
     let h = c.args.heap.now in
-    let q = subst (λ f. IsBlock h c.args.q f c.block.result.1) (sym c.if-f-g.true) c.block.ensures.block in
-    blocks-args h c.block-f.ensures.heap c.args.p c.args.q c.block-f.result.0 c.block-f.result.1 c.block.result.1 c.block-f.ensures.block q
+    let q = subst (λ f. IsBlock h c.args.q f c.block-g.result.1) (sym c.if-f-g.true) c.block-g.ensures.block in
+    blocks-args h c.block-f.ensures.heap c.args.p c.args.q c.block-f.result.0 c.block-f.result.1 c.block-g.result.1 c.block-f.ensures.block q
 
 pub returns-else-f-g : goal.returns-else-f-g
 unfolding Says
 returns-else-f-g c =
     let h = c.args.heap.now in
-    blocks-clash h c.block-f.ensures.heap c.args.p c.args.q c.block-f.result.0 c.block.result.0 c.block-f.result.1 c.block.result.1 c.block-f.ensures.block c.block.ensures.block (λ e. c.if-f-g.false e)
+    blocks-clash h c.block-f.ensures.heap c.args.p c.args.q c.block-f.result.0 c.block-g.result.0 c.block-f.result.1 c.block-g.result.1 c.block-f.ensures.block c.block-g.ensures.block (λ e. c.if-f-g.false e)

@@ -13,8 +13,14 @@ returns-then-x-y c = λ τ. ap (λ d. bind τ (term c.args.heap.now d)) c.if-x-y
 
 pub returns-then-number : goal.returns-then-number
 unfolding Says
-returns-then-number c = let a = c.if-number.true in ?
+returns-then-number c =
+    near-younger c.args.heap.now c.args.x c.args.y c.number.result c.number-2.result c.requires.right c.requires.fits.0 c.number.ensures.is c.number-2.ensures.is c.if-number.true
 
 pub returns-else-number : goal.returns-else-number
 unfolding Says
-returns-else-number c = let a = c.if-number.false in ?
+returns-else-number c =
+    let h = c.args.heap.now in
+    let differ : c.number.result ≡ c.number-2.result → ⊥ = λ e.
+        c.if-x-y.false (number-once h c.number.ensures.heap c.args.x c.args.y c.number.result c.requires.left c.requires.right c.number.ensures.is (c.number-2.ensures.is ∙ ap var (sym e))) in
+    let less : c.number-2.result < c.number.result = omega (arith, c.if-number.false, differ) in
+    near-older h c.args.x c.args.y c.number.result c.number-2.result c.requires.left c.requires.fits.1 c.number.ensures.is c.number-2.ensures.is less
