@@ -11,7 +11,7 @@ use Rattle.plcells.specs.declared.cell.Cell.{Cell}
 use Rattle.plcells.specs.Store.{Store, term, value, Binds, Keeps}
 use Rattle.plcells.proofs.Absence.{bind_put-same}
 use Rattle.plcells.proofs.Kept.{Keeps-refl, Keeps-trans}
-use Rattle.plbind.specs.Unifying.{Unifies, IsInside, IsPlain, HasLeft, HasNear, IsNear, Stands, Substitutes, Progress, Unified, Bindings, Answers}
+use Rattle.plbind.specs.Unifying.{Unifies, IsInside, IsPlain, HasLeft, HasNear, IsNear, Stands, Substitutes, Progress, Unified, Bindings, Answers, KeepsAll}
 
 younger-var : BindsYounger var
 younger-var w z e = subst (λ v. v ≤ w) (var-variable e) (le_refl w)
@@ -185,6 +185,12 @@ near-unified h new s t x v n apart bound = record {
         le_of : (w u : ℕ) → var w ≡ var u → u ≤ w
         le_of w u f = let same : w ≡ u = var-variable f in omega (arith, same)
 
+pub KeepsAll-refl : (h : Store) → KeepsAll h h
+KeepsAll-refl h = record { keeps = Keeps-refl h; names = refl }
+
+pub KeepsAll-bound : (old h new : Store) (n : ℕ) (t : Tree) → KeepsAll old h → Binds h new n t → KeepsAll old new
+KeepsAll-bound old h new n t k bound = record { keeps = Keeps-trans old h new k.keeps bound.keeps; names = bound.names ∙ k.names }
+
 pub if-ok : {E : Type 0} (P Q : Bool → Type 0) (r : Result Bool E) → ((b : Bool) → P b → Q b) → IfOk r P → IfOk r Q
 if-ok P Q (Ok b) f p = f b p
 if-ok P Q (Err e) f p = tt
@@ -200,10 +206,10 @@ unfolding Bindings
 never_by h new s t x v n true r e = absurd (grind (arith, e))
 never_by h new s t x v n false r e = near-circular h s t x v n r.0
 
-kept_by : (h new : Store) (v : Cell) (n : ℕ) (b : Bool) → Bindings h new v n b → Keeps h new
+kept_by : (h new : Store) (v : Cell) (n : ℕ) (b : Bool) → Bindings h new v n b → KeepsAll h new
 unfolding Bindings
-kept_by h new v n true r = r.1.keeps
-kept_by h new v n false r = subst (Keeps h) (sym r.1) (Keeps-refl h)
+kept_by h new v n true r = record { keeps = r.1.keeps; names = r.1.names }
+kept_by h new v n false r = subst (KeepsAll h) (sym r.1) (KeepsAll-refl h)
 
 module _ {E : Type 0} (h new : Store) (s t : Tree) (x : ℕ) (v : Cell) (near : HasNear h s t x v) where
   pub bound-yes : (r : Result Bool E) → IfOk r (λ b. (n : ℕ) → IsNear h x v n → Bindings h new v n b) → IfOk r (λ b. b ≡ true → Unified h new s t)
@@ -214,9 +220,9 @@ module _ {E : Type 0} (h new : Store) (s t : Tree) (x : ℕ) (v : Cell) (near : 
   bound-no (Ok b) f = never_by h new s t x v near b (f near.number near.near)
   bound-no (Err e) f = tt
 
-  pub bound-keeps : (r : Result Bool E) → IfOk r (λ b. (n : ℕ) → IsNear h x v n → Bindings h new v n b) → OnErr r (new ≡ h) → Keeps h new
+  pub bound-keeps : (r : Result Bool E) → IfOk r (λ b. (n : ℕ) → IsNear h x v n → Bindings h new v n b) → OnErr r (new ≡ h) → KeepsAll h new
   bound-keeps (Ok b) f g = kept_by h new v near.number b (f near.number near.near)
-  bound-keeps (Err e) f g = subst (Keeps h) (sym g) (Keeps-refl h)
+  bound-keeps (Err e) f g = subst (KeepsAll h) (sym g) (KeepsAll-refl h)
 
 module _ {E : Type 0} (h new : Store) (s t : Tree) where
   pub solved-yes : (r : Result Bool E) → IfOk r (λ b. Answers h new s t b) → IfOk r (λ b. b ≡ true → Unified h new s t)

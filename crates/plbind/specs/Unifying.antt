@@ -126,6 +126,11 @@ pub record Stands (h : Store) (work : List (ℕ × ℕ)) (s t : Tree) : Type 0 w
   pub to : (τ : ℕ → Tree) → bind τ s ≡ bind τ t → Unifies τ h work
   pub back : (τ : ℕ → Tree) → Unifies τ h work → bind τ s ≡ bind τ t
 
+-- every mark in use is kept, and the names are those that there were
+pub record KeepsAll (old new : Store) : Type 0 where
+  pub keeps : Keeps old new
+  pub names : new.names ≡ old.names
+
 -- what stays as it was, and how values change
 pub record Substitutes (old new : Store) (σ : ℕ → Tree) : Type 0 where
   pub terms : (c : ℕ) → c < length old.cells → term new c ≡ bind σ (term old c)

@@ -3,9 +3,9 @@
 ghost use Rattle.std.specs.Prelude.{◌≡◌, ◌↔◌, IsTrue, ℕ, ◌+◌, ◌^◌, ◌<◌, ◌≤◌, length, IfOk, OnOk, OnErr, ◌++◌, None, true, false};
 ghost use Rattle.plterm.specs.Tree.{Tree};
 ghost use Rattle.plsubst.specs.Unify.{unify as unify_terms};
-ghost use Rattle.plbind.specs.Unifying.{kind_of, pairs, IsInside, Leaves, Says, Stands, Answers, Bindings, Unified, IsNear, HoldsNothing};
+ghost use Rattle.plbind.specs.Unifying.{kind_of, pairs, IsInside, Leaves, Says, Stands, Answers, Bindings, Unified, IsNear, HoldsNothing, KeepsAll};
 ghost use Rattle.plcells.specs.declared.cell.Cell.TheVariants.{Ref as RefCell, Str as StrCell, Atom as AtomCell};
-ghost use Rattle.plcells.specs.Store.{term, value, IsValue, IsEnd, IsInteger, Keeps};
+ghost use Rattle.plcells.specs.Store.{term, value, IsValue, IsEnd, IsInteger};
 
 use plcells::cell::Cell;
 use plcells::heap::Heap;
@@ -229,7 +229,7 @@ impl Scratch {
 fn solve(heap: &mut Heap, scratch: &mut Scratch) -> Result<bool, AllocError>
     requires { IsInside heap.old scratch.old.work.items }
     ensures answers { IfOk result (λ r. (s t : Tree) → Stands heap.old scratch.old.work.items s t → Answers heap.old heap.new s t r) }
-    ensures keeps { Keeps heap.old heap.new }
+    ensures keeps { KeepsAll heap.old heap.new }
 {
     loop {
         match descend(heap, &mut scratch.work)? {
@@ -246,13 +246,18 @@ fn solve(heap: &mut Heap, scratch: &mut Scratch) -> Result<bool, AllocError>
 }
 
 /// Binds a most general unifier of two values, the younger of two variables to the older. Where the answer is no or memory
-/// gives out some variables may be bound; an undo to any mark in use takes the bindings off.
-pub fn unify(heap: &mut Heap, scratch: &mut Scratch, a: Cell, b: Cell) -> Result<bool, AllocError>
+/// gives out some variables may be bound; an undo to a mark in use takes the bindings off.
+pub fn unify_in_choice(
+    heap: &mut Heap,
+    scratch: &mut Scratch,
+    a: Cell,
+    b: Cell,
+) -> Result<bool, AllocError>
     requires left { IsValue heap.old a }
     requires right { IsValue heap.old b }
     ensures yes { IfOk result (λ r. r ≡ true → Unified heap.old heap.new (value heap.old a) (value heap.old b)) }
     ensures no { IfOk result (λ r. r ≡ false → unify_terms (value heap.old a) (value heap.old b) ≡ None) }
-    ensures keeps { Keeps heap.old heap.new }
+    ensures keeps { KeepsAll heap.old heap.new }
 {
     match compare(heap, a, b) {
         Verdict::Same => Ok(true),
@@ -262,6 +267,35 @@ pub fn unify(heap: &mut Heap, scratch: &mut Scratch, a: Cell, b: Cell) -> Result
             scratch.work.clear();
             push_pairs(&mut scratch.work, p + 1, q + 1, k)?;
             solve(heap, scratch)
+        }
+    }
+}
+
+/// Binds a most general unifier of two values, the younger of two variables to the older. Where the answer is no or memory
+/// gives out the heap is as it was. Every binding is noted for an undo, also where no mark in use asks for it.
+pub fn unify(heap: &mut Heap, scratch: &mut Scratch, a: Cell, b: Cell) -> Result<bool, AllocError>
+    requires left { IsValue heap.old a }
+    requires right { IsValue heap.old b }
+    ensures yes { IfOk result (λ r. r ≡ true → Unified heap.old heap.new (value heap.old a) (value heap.old b)) }
+    ensures no { IfOk result (λ r. r ≡ false → (unify_terms (value heap.old a) (value heap.old b) ≡ None) × (heap.new ≡ heap.old)) }
+    ensures err { OnErr result (heap.new ≡ heap.old) }
+{
+    let boundary = heap.boundary();
+    let mark = heap.mark();
+    match unify_in_choice(heap, scratch, a, b) {
+        Ok(true) => {
+            heap.forget(boundary);
+            Ok(true)
+        }
+        Ok(false) => {
+            heap.undo(mark);
+            heap.forget(boundary);
+            Ok(false)
+        }
+        Err(e) => {
+            heap.undo(mark);
+            heap.forget(boundary);
+            Err(e)
         }
     }
 }

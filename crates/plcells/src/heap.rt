@@ -200,6 +200,21 @@ impl Heap {
         self.cells.len()
     }
 
+    /// How many cells are old: a mark in use is not above.
+    pub fn boundary(&self) -> usize
+        ensures is { result ≡ self.now.boundary }
+        ensures within { result ≤ length self.now.cells }
+    {
+        self.boundary
+    }
+
+    /// The names.
+    pub fn names(&self) -> &Names
+        ensures { result.now ≡ self.now.names }
+    {
+        &self.names
+    }
+
     /// A cell as a value: a variable's is the reference to it.
     pub fn argument(&self, c: u32) -> Cell
         requires within { c < length self.now.cells }

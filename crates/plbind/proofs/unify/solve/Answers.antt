@@ -1,16 +1,15 @@
 use Rattle.std.proofs.Common.{◌<◌, sym, subst, arith}
 use Rattle.plterm.specs.Tree.{Tree}
-use Rattle.plcells.specs.Store.{Keeps, frees}
-use Rattle.plcells.proofs.Kept.{Keeps-refl, Keeps-trans}
-use Rattle.plbind.specs.Unifying.{Answers, Leaves, Bindings, IsInside, HasLeft, Stands}
-use Rattle.plbind.proofs.Progressing.{started, came_on, unified, never-unified, circular, inside-bound}
+use Rattle.plcells.specs.Store.{frees, value}
+use Rattle.plbind.specs.Unifying.{Answers, Leaves, Bindings, IsInside, HasLeft, Stands, KeepsAll}
+use Rattle.plbind.proofs.Progressing.{started, came_on, unified, never-unified, circular, inside-bound, KeepsAll-refl, KeepsAll-bound}
 use Rattle.plbind.proofs.unify.solve.Goals as goal
 
 pub loop-x-init : goal.loop-x-init
 loop-x-init c = record {
   inside = c.requires;
   progress = λ s t stands. started c.args.heap.now s t c.args.scratch.now.work.items stands;
-  keeps = Keeps-refl c.args.heap.now;
+  keeps = KeepsAll-refl c.args.heap.now;
 }
 
 pub returns-in-Same-clause-answers : goal.returns-in-Same-clause-answers
@@ -42,7 +41,7 @@ returns-then-not-branch-clause-keeps c =
     let l = c.loop-x in
     let left : HasLeft l.heap l.scratch.work.items c.descend.new.work.items c.in-Binds.x c.in-Binds.v = subst (Leaves l.heap l.scratch.work.items c.descend.new.work.items) c.in-Binds.is c.in_ok-descend.ensures.leaves in
     let said = subst (Bindings l.heap c.bind_apart.new.heap c.in-Binds.v left.number) c.if-not-branch.true (c.in_ok-bind_apart-in-Binds.ensures.ok left.number left.near) in
-    subst (Keeps c.args.heap.now) (sym said.1) l.invariant.keeps
+    subst (KeepsAll c.args.heap.now) (sym said.1) l.invariant.keeps
 
 pub loop-x-smaller : goal.loop-x-smaller
 unfolding Leaves Bindings
@@ -62,7 +61,7 @@ loop-x-preserved c =
     record {
       inside = inside-bound l.heap c.bind_apart.new.heap c.in-Binds.x left.number c.in-Binds.v said.1 c.descend.new.work.items c.in_ok-descend.ensures.inside;
       progress = λ s t stands. came_on c.args.heap.now l.heap c.bind_apart.new.heap s t l.scratch.work.items c.descend.new.work.items c.in-Binds.x c.in-Binds.v (l.invariant.progress s t stands) left c.in_ok-descend.ensures.inside said.0 said.1;
-      keeps = Keeps-trans c.args.heap.now l.heap c.bind_apart.new.heap l.invariant.keeps said.1.keeps;
+      keeps = KeepsAll-bound c.args.heap.now l.heap c.bind_apart.new.heap left.number (value l.heap c.in-Binds.v) l.invariant.keeps said.1;
     }
 
 pub returns-in-Clash-clause-answers : goal.returns-in-Clash-clause-answers

@@ -1,11 +1,10 @@
 use Rattle.std.proofs.Common.{◌≡◌, ◌∙◌, ◌+◌, ◌++◌, Bool, true, false, ap, subst, sym, arith}
 use Rattle.plterm.specs.Tree.{Tree}
 use Rattle.plcells.specs.Store.{value}
-use Rattle.plcells.proofs.Kept.{Keeps-refl}
 use Rattle.plbind.specs.Unifying.{Says, IsInside, Stands, Answers, pairs}
 use Rattle.plbind.proofs.Work.{args-inside, args-stand}
-use Rattle.plbind.proofs.Progressing.{same-unified, clash-never, if-ok, bound-yes, bound-no, bound-keeps, solved-yes, solved-no}
-use Rattle.plbind.proofs.unify.unify.Goals as goal
+use Rattle.plbind.proofs.Progressing.{same-unified, clash-never, if-ok, bound-yes, bound-no, bound-keeps, solved-yes, solved-no, KeepsAll-refl}
+use Rattle.plbind.proofs.unify.unify_in_choice.Goals as goal
 
 pub bind_apart-requires : goal.bind_apart-requires
 unfolding Says
@@ -28,7 +27,7 @@ unfolding Says
 push_pairs-requires-clause-right c = omega (arith, c.in-Args.ensures.right, c.in-Args.ensures.few)
 
 pub returns-in_err-push_pairs-in-Args-clause-keeps : goal.returns-in_err-push_pairs-in-Args-clause-keeps
-returns-in_err-push_pairs-in-Args-clause-keeps c = Keeps-refl c.args.heap.now
+returns-in_err-push_pairs-in-Args-clause-keeps c = KeepsAll-refl c.args.heap.now
 
 pub solve-requires : goal.solve-requires
 unfolding Says
@@ -44,14 +43,14 @@ unfolding Says
 returns-in-Same-clause-yes c = λ e. same-unified c.args.heap.now (value c.args.heap.now c.args.a) (value c.args.heap.now c.args.b) c.in-Same.ensures
 
 pub returns-in-Same-clause-keeps : goal.returns-in-Same-clause-keeps
-returns-in-Same-clause-keeps c = Keeps-refl c.args.heap.now
+returns-in-Same-clause-keeps c = KeepsAll-refl c.args.heap.now
 
 pub returns-in-Clash-clause-no : goal.returns-in-Clash-clause-no
 unfolding Says
 returns-in-Clash-clause-no c = λ e. clash-never (value c.args.heap.now c.args.a) (value c.args.heap.now c.args.b) c.in-Clash.ensures
 
 pub returns-in-Clash-clause-keeps : goal.returns-in-Clash-clause-keeps
-returns-in-Clash-clause-keeps c = Keeps-refl c.args.heap.now
+returns-in-Clash-clause-keeps c = KeepsAll-refl c.args.heap.now
 
 pub returns-in-Binds-clause-yes : goal.returns-in-Binds-clause-yes
 unfolding Says
