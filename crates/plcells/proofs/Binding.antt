@@ -109,7 +109,7 @@ module _ (h : Store) (x p : ℕ) (v : Cell) (is : IsHeap h) (may : IsBinding h x
   head_still : (j : ℕ) → IsHead (at h.cells j) → IsHead (at (linked h x p v).cells j)
   head_still j head = subst IsHead (sym (at-other j (head_ne j head))) head
 
-  plain_still : (j : ℕ) → (IsHead (at h.cells j) → ⊥) → IsHead (at (linked h x p v).cells j) → ⊥
+  pub plain_still : (j : ℕ) → (IsHead (at h.cells j) → ⊥) → IsHead (at (linked h x p v).cells j) → ⊥
   plain_still j plain head = elim (cases_eq j x) [
     | inl e ↦ value_head h v may.fits (subst IsHead (ap (at (linked h x p v).cells) e ∙ at-bound) head)
     | inr ne ↦ plain (subst IsHead (at-other j ne) head)
@@ -277,3 +277,15 @@ module _ (h : Store) (x p : ℕ) (v : Cell) (is : IsHeap h) (may : IsBinding h x
 
   pub term-linked : (c : ℕ) → c < length h.cells → term (linked h x p v) c ≡ bind (put (number_at h p) (value h v)) (term h c)
   term-linked c lt = term-solved (linked h x p v) (length (linked h x p v).cells) (IsHeap-linked.rank) (heap-reads (linked h x p v) IsHeap-linked) (le_refl _) bound solves c (omega (arith, lt, len))
+
+  pub value-linked : (m : Cell) → IsValue h m → IsValue (linked h x p v) m × (value (linked h x p v) m ≡ bind (put (number_at h p) (value h v)) (value h m))
+  unfolding bind
+  value-linked (Free q) f = absurd f
+  value-linked (Lone q) f = absurd f
+  value-linked (Ref j) f = ((omega (arith, f.0, len), plain_still j f.1), term-linked j f.0)
+  value-linked (Int k) f = (tt, refl)
+  value-linked (Wide q) f = (f, refl)
+  value-linked (Atom a) f = (f, refl)
+  value-linked (Str q) f = ((omega (arith, f.0, len), head_still q f.1), term-linked q f.0)
+  value-linked (Fun g) f = absurd f
+  value-linked (Ground g) f = absurd f

@@ -9,7 +9,7 @@ use Rattle.plcells.specs.declared.cell.Cell.TheVariants.{Free, Lone, Ref, Int, W
 use Rattle.plcells.specs.declared.cell.Mark.{Mark}
 use Rattle.plcells.specs.declared.cell.Trailed.{Trailed}
 use Rattle.plcells.specs.Store.{Store, at, number_at, trailed_if, linked, IsBinding, reset, cut, IsWithin, IsMark, renamed, Keeps, one, frees, Binds, IsHeap, grown, bounded_by, IsValue, value, AllBelow, HasArguments, Fits}
-use Rattle.plcells.proofs.Binding.{term-linked}
+use Rattle.plcells.proofs.Binding.{term-linked, value-linked, plain_still}
 
 pub take_set : (n : ℕ) (xs : List Cell) (i : ℕ) (v : Cell) → take n (set xs i v) ≡ set (take n xs) i v
 take_set zero xs i v = refl
@@ -126,6 +126,8 @@ Binds-linked h x p v is may = record {
   wide = refl;
   names = refl;
   boundary = refl;
+  values = λ m f. value-linked h x p v is may m f;
+  plain = λ c apart. plain_still h x p v is may c apart;
   fewer = frees-set h.cells x p v may.within may.free (one-value h v may.fits);
 }
 

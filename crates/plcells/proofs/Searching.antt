@@ -7,7 +7,7 @@ use Rattle.plsubst.specs.Subst.{occurs, occurs_in}
 use Rattle.platoms.specs.Names.{functor_arity, functor_name}
 use Rattle.plcells.specs.declared.cell.Cell.{Cell}
 use Rattle.plcells.specs.declared.cell.Cell.TheVariants.{Free, Lone, Ref, Int, Wide, Atom, Str, Fun, Ground}
-use Rattle.plcells.specs.Store.{Store, at, number_at, spread, term, terms, shown, value, Refers, IsHead, IsGround, IsSolid, Fits, IsHeap, IsValue, IsEnd, IsVariable, HasTerms, HasArguments}
+use Rattle.plcells.specs.Store.{Store, at, number_at, spread, term, terms, shown, value, Refers, IsHead, IsGround, IsSolid, Fits, IsHeap, IsValue, IsEnd, IsVariable, HasTerms, HasArguments, HasSolid, IsBlock, IsBinding}
 use Rattle.plcells.specs.Skipping.{plain, AreLone, IsClosed, IsInside}
 use Rattle.plcells.specs.Walking.{weight, weights, weigh, occurs_any, AreBlocks, IsFloor}
 use Rattle.plcells.proofs.Terms.{term-at}
@@ -278,3 +278,32 @@ pub empty-none : (n : ℕ) (h : Store) (cs : List ℕ) → length cs ≡ 0 → o
 unfolding occurs
 empty-none n h [] e = refl
 empty-none n h (c ∷ cs) e = absurd (omega (arith, e))
+
+pub block-at : (h : Store) (p f : ℕ) (m : Cell) → IsHeap h → p < length h.cells → at h.cells p ≡ plain m → (m ≡ Fun f) ⊎ (m ≡ Ground f) → IsBlock h p f (functor_arity h.names f)
+block-at h p f m is lt e which = elim which [
+  | inl g ↦
+      let here = e ∙ ap plain g in
+      let a : HasArguments h p f = subst (Fits h p) here (is.fits p lt) in
+      record { functor = a.functor; arity = refl; within = a.within; plain = a.plain; is = term-at h p is lt ∙ ap (shown h p) here; few = is.few }
+  | inr g ↦
+      let here = e ∙ ap plain g in
+      let a : HasSolid h p f = subst (Fits h p) here (is.fits p lt) in
+      record { functor = a.arguments.functor; arity = refl; within = a.arguments.within; plain = a.arguments.plain; is = term-at h p is lt ∙ ap (shown h p) here; few = is.few }
+]
+
+-- a number is one cell's
+pub number-once : (h : Store) → IsHeap h → (x y n : ℕ) → IsEnd h (Ref x) → IsEnd h (Ref y) → term h x ≡ var n → term h y ≡ var n → x ≡ y
+number-once h is x y n ex ey tx ty =
+    let q = variable-place (at h.cells y) ey in
+    let lt = variable-within h.cells y ey in
+    let f : var (number_at h q.0) ≡ var n = sym (term-at h y is lt ∙ ap (shown h y) q.1) ∙ ty in
+    sym (alone h is x n ex tx y q.0 lt q.1 (var-number (number_at h q.0) n f))
+
+-- what a binding asks for
+pub binding-of : (h : Store) → IsHeap h → (x n : ℕ) (v : Cell) → IsEnd h (Ref x) → term h x ≡ var n → IsValue h v → occurs n (value h v) ≡ false → (p : ℕ) × IsBinding h x p v × (number_at h p ≡ n)
+binding-of h is x n v ex tx fits apart =
+    let q = variable-place (at h.cells x) ex in
+    let lt = variable-within h.cells x ex in
+    let f : var (number_at h q.0) ≡ var n = sym (term-at h x is lt ∙ ap (shown h x) q.1) ∙ tx in
+    let same = var-number (number_at h q.0) n f in
+    (q.0, record { within = lt; free = q.1; fits = fits; apart = ap (λ k. occurs k (value h v)) same ∙ apart }, same)

@@ -255,6 +255,8 @@ pub record Binds (old new : Store) (n : ℕ) (t : Tree) : Type 0 where
   pub wide : new.wide ≡ old.wide
   pub names : new.names ≡ old.names
   pub boundary : new.boundary ≡ old.boundary
+  pub values : (v : Cell) → IsValue old v → IsValue new v × (value new v ≡ bind (put n t) (value old v))
+  pub plain : (c : ℕ) → (IsHead (at old.cells c) → ⊥) → IsHead (at new.cells c) → ⊥
   pub fewer : frees new.cells + 1 ≡ frees old.cells
 
 -- with more cells, numbers and wide integers behind those of the heap
@@ -338,3 +340,23 @@ AreValues h (v ∷ vs) = IsValue h v × AreValues h vs
 pub record IsFunctorOf (t : Table) (f k : ℕ) : Type 0 where
   pub within : f < length t.functors
   pub arity : functor_arity t f ≡ k
+
+-- the block of a compound
+pub record IsBlock (h : Store) (p f k : ℕ) : Type 0 where
+  pub functor : f < length h.names.functors
+  pub arity : functor_arity h.names f ≡ k
+  pub within : p + k < length h.cells
+  pub plain : (d : ℕ) → p < d → d ≤ p + k → IsHead (at h.cells d) → ⊥
+  pub is : term h p ≡ compound (functor_name h.names f) (trees (terms h (suc p) k))
+  pub few : length h.cells < 2 ^ 32
+
+abbrev pub IsInteger : Cell → Type 0
+IsInteger (Free p) = ⊥
+IsInteger (Lone p) = ⊥
+IsInteger (Ref j) = ⊥
+IsInteger (Int n) = ⊤
+IsInteger (Wide p) = ⊤
+IsInteger (Atom a) = ⊥
+IsInteger (Str p) = ⊥
+IsInteger (Fun f) = ⊥
+IsInteger (Ground f) = ⊥

@@ -4,7 +4,7 @@ ghost use Rattle.std.specs.Prelude.{◌≡◌, ℕ, Some, None, true, false, ◌
 ghost use Rattle.plterm.specs.Tree.{var, int, compound, trees};
 ghost use Rattle.platoms.specs.Names.{IsTable, functor_name};
 ghost use Rattle.plcells.specs.declared.cell.Cell.TheVariants.{Free as FreeCell, Lone as LoneCell, Ref as RefCell, Fun as FunCell};
-ghost use Rattle.plcells.specs.Store.{Store, at, term, shown, value, number_at, Fits, IsHeap, IsHead, IsValue, IsEnd, IsBinding, Binds, IsWithin, IsMark, AllBelow, cut, reset, grown, bounded_by, IsFresh, Grows, trailed_if, HasTerms, AddsVariable, AddsValue, AreValues, IsFunctorOf};
+ghost use Rattle.plcells.specs.Store.{Store, at, term, shown, value, number_at, Fits, IsHeap, IsHead, IsValue, IsEnd, IsBinding, Binds, IsWithin, IsMark, AllBelow, cut, reset, grown, bounded_by, IsFresh, Grows, trailed_if, HasTerms, AddsVariable, AddsValue, AreValues, IsFunctorOf, IsBlock, IsInteger};
 ghost use Rattle.plsubst.specs.Subst.{occurs};
 ghost use Rattle.plcells.specs.Skipping.{plain, AreRising, IsPlaced, IsTarget, AllPlaced, IsClosing};
 ghost use Rattle.plcells.specs.Walking.{IsFloor};
@@ -200,6 +200,21 @@ impl Heap {
         self.cells.len()
     }
 
+    /// How many cells are old: a mark in use is not above.
+    pub fn boundary(&self) -> usize
+        ensures is { result ≡ self.now.boundary }
+        ensures within { result ≤ length self.now.cells }
+    {
+        self.boundary
+    }
+
+    /// The names.
+    pub fn names(&self) -> &Names
+        ensures { result.now ≡ self.now.names }
+    {
+        &self.names
+    }
+
     /// A cell as a value: a variable's is the reference to it.
     pub fn argument(&self, c: u32) -> Cell
         requires within { c < length self.now.cells }
@@ -235,7 +250,8 @@ impl Heap {
     /// The number of an unbound variable.
     pub fn number(&self, c: u32) -> u64
         requires { IsEnd self.now (RefCell c) }
-        ensures { term self.now c ≡ var result }
+        ensures is { term self.now c ≡ var result }
+        ensures heap { IsHeap self.now }
     {
         match place_of(self.cells[c as usize]) {
             Some(place) => self.numbers[place as usize],
@@ -384,5 +400,32 @@ impl Heap {
         }
         self.wide.push(number)?;
         Ok(Cell::Wide(place as u32))
+    }
+
+    /// The functor of a block by its number, and how many arguments it has.
+    pub fn block(&self, p: u32) -> (u32, u16)
+        requires within { p < length self.now.cells }
+        requires head { IsHead (at self.now.cells p) }
+        ensures block { IsBlock self.now p result.0 result.1 }
+        ensures heap { IsHeap self.now }
+    {
+        match self.cells[p as usize] {
+            Cell::Fun(f) => (f, self.names.functor_of(f).arity),
+            Cell::Ground(f) => (f, self.names.functor_of(f).arity),
+            _ => unreachable!(),
+        }
+    }
+
+    /// The integer that a value is.
+    pub fn integer_of(&self, v: Cell) -> i64
+        requires fits { IsValue self.now v }
+        requires integer { IsInteger v }
+        ensures { value self.now v ≡ int result }
+    {
+        match v {
+            Cell::Int(number) => i64::from(number),
+            Cell::Wide(p) => self.wide[p as usize],
+            _ => unreachable!(),
+        }
     }
 }

@@ -4,7 +4,7 @@ ghost use Rattle.std.specs.Prelude.{◌≡◌, ℕ, ◌+◌, ◌<◌, ◌≤◌,
 ghost use Rattle.plterm.specs.Tree.{var};
 ghost use Rattle.plsubst.specs.Subst.{occurs};
 ghost use Rattle.plcells.specs.declared.cell.Cell.TheVariants.{Ref as RefCell};
-ghost use Rattle.plcells.specs.Store.{at, term, value, IsHead, IsValue, IsEnd};
+ghost use Rattle.plcells.specs.Store.{at, term, value, IsHeap, IsHead, IsValue, IsEnd};
 ghost use Rattle.plcells.specs.Walking.{weight, weigh, occurs_any, AreBlocks, IsFloor};
 
 use crate::cell::Cell;
@@ -69,7 +69,8 @@ impl Heap {
     pub fn occurs(&self, stack: &mut Vec<u32>, x: u32, v: Cell) -> Result<bool, AllocError>
         requires variable { IsEnd self.now (RefCell x) }
         requires fits { IsValue self.now v }
-        ensures { IfOk result (λ r. (n : ℕ) → term self.now x ≡ var n → r ≡ occurs n (value self.now v)) }
+        ensures is { IfOk result (λ r. (n : ℕ) → term self.now x ≡ var n → r ≡ occurs n (value self.now v)) }
+        ensures heap { OnOk result (IsHeap self.now) }
     {
         match self.root(v) {
             Cell::Ref(c) => Ok(c == x),

@@ -14,8 +14,8 @@ unreachable-requires c =
     let p = variable-place _ v in
     c.place_of.ensures.none c.in-None.is p.0 (sym here ∙ p.1)
 
-pub returns : goal.returns
-returns c =
+pub returns-clause-is : goal.returns-clause-is
+returns-clause-is c =
     let v = rw (← c.self.view_is) at c.requires in
     rw (← c.self.view_is) (
     let within = variable-within (map plain c.self.inside.cells.items) c.args.c v in

@@ -1,0 +1,4 @@
+mod Work
+mod Verdicts
+mod Progressing
+mod Giving

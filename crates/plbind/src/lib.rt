@@ -1,0 +1,4 @@
+//! Unification on the heap of the machine.
+#![tactic(auto)]
+
+pub mod unify;
