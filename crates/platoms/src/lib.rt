@@ -4,5 +4,3 @@
 #![tactic(auto)]
 
 pub mod names;
-#[cfg(test)]
-mod tests;

@@ -14,6 +14,8 @@ mod made;
 #[cfg(test)]
 mod names;
 #[cfg(test)]
+mod numbers;
+#[cfg(test)]
 mod operators;
 #[cfg(test)]
 mod programs;

@@ -1,4 +1,5 @@
-use crate::names::{Functor, Names};
+//! Names by number (platoms).
+use platoms::names::{Functor, Names};
 use plterm::name::Name;
 use std::test::Fail;
 
@@ -11,7 +12,10 @@ fn names_by_number(rt: HostRuntime) -> Result<(), Fail> {
     let second = names.atom(Name::new(alloc, "b")?)?;
     let again = names.atom(Name::new(alloc, "a")?)?;
     assert_eq!(rt; (first, second, again), (0, 1, 0));
-    let functor = Functor { name: second, arity: 2 };
+    let functor = Functor {
+        name: second,
+        arity: 2,
+    };
     let number = names.functor(functor)?;
     assert_eq!(rt; number, 0);
     assert!(rt; names.functor_of(number) == functor);
