@@ -1,6 +1,5 @@
 -- A unification under a mark of its own, with the boundary as it was before.
-use Rattle.std.proofs.Common.{◌≡◌, ℕ, zero, suc, ◌<◌, ◌≤◌, Some, None, List, length, refl, sym, ap, ap₂, ◌∙◌, subst, arith, le_trans}
-use Rattle.plterm.specs.Tree.{Tree}
+use Rattle.std.proofs.Common.{◌≡◌, ℕ, zero, suc, ◌≤◌, None, length, refl, sym, ap, ap₂, ◌∙◌, le_trans}
 use Rattle.plsubst.specs.Subst.{bind}
 use Rattle.plsubst.specs.Unify.{unify}
 use Rattle.plcells.specs.declared.cell.Cell.{Cell}
@@ -8,7 +7,7 @@ use Rattle.plcells.specs.declared.cell.Cell.TheVariants.{Free, Lone, Ref, Int, W
 use Rattle.plcells.specs.declared.cell.Mark.{Mark}
 use Rattle.plcells.specs.Store.{Store, at, term_in, term, value, IsValue, cut, IsWithin, renamed, bounded_by, Keeps}
 use Rattle.plcells.proofs.Terms.{shown-same}
-use Rattle.plbind.specs.Unifying.{Substitutes, Unified, KeepsAll}
+use Rattle.plbind.specs.Unifying.{Unified, KeepsAll}
 
 term_in-bounded : (h : Store) (b n c : ℕ) → term_in (bounded_by h b) n c ≡ term_in h n c
 unfolding term_in

@@ -1,5 +1,5 @@
 -- How a unification comes on.
-use Rattle.std.proofs.Common.{◌≡◌, ℕ, ◌<◌, ◌≤◌, Bool, true, false, List, [], ◌∷◌, length, refl, sym, ap, ◌∙◌, subst, arith, le_refl, le_trans, None, Ok, Err, Result, nat_eq, eqb-true}
+use Rattle.std.proofs.Common.{◌≡◌, ℕ, ◌≤◌, Bool, true, false, List, [], ◌∷◌, refl, sym, ap, ◌∙◌, subst, arith, le_refl, le_trans, None, Ok, Err, Result, nat_eq, eqb-true}
 use Rattle.std.specs.Prelude.{IfOk, OnErr}
 use Rattle.plterm.specs.Tree.{Tree, var, int, atom, compound}
 use Rattle.plsubst.specs.Subst.{bind, put, put_if, occurs}
@@ -8,7 +8,7 @@ use Rattle.plsubst.proofs.Unify.{bind-bind, bind-var, put-unifies}
 use Rattle.plsubst.proofs.UnifyFinds.{holds_itself}
 use Rattle.plsubst.proofs.UnifyUnique.{unify-is, unify-none, var-variable, int≢var, atom≢var, compound≢var}
 use Rattle.plcells.specs.declared.cell.Cell.{Cell}
-use Rattle.plcells.specs.Store.{Store, term, value, Binds, Keeps}
+use Rattle.plcells.specs.Store.{Store, term, value, Binds}
 use Rattle.plcells.proofs.Absence.{bind_put-same}
 use Rattle.plcells.proofs.Kept.{Keeps-refl, Keeps-trans}
 use Rattle.plbind.specs.Unifying.{Unifies, IsInside, IsPlain, HasLeft, HasNear, IsNear, Stands, Substitutes, Progress, Unified, Bindings, Answers, KeepsAll}

@@ -1,23 +1,21 @@
 -- The verdict on two values where references end is right.
-use Rattle.std.proofs.Common.{◌≡◌, ℕ, zero, suc, ◌+◌, ◌<◌, ◌≤◌, ◌==◌, inl, inr, Bool, true, false, List, length, refl, sym, ap, ap₂, ◌∙◌, subst, arith, eqb-true, eq-eqb, nat_eq, int_eq, ℤ}
-use Rattle.std.proofs.lemmas.Bool.{cases_eq}
+use Rattle.std.proofs.Common.{◌≡◌, ℕ, zero, suc, ◌<◌, ◌==◌, Bool, true, false, List, length, refl, sym, ap, ap₂, ◌∙◌, subst, arith, eqb-true, eq-eqb, nat_eq, ℤ}
 use Rattle.plterm.specs.Tree.{Tree, Trees, var, int, atom, compound, none, more, trees}
 use Rattle.plsubst.specs.Subst.{bind, bind_all}
 use Rattle.plsubst.proofs.Unify.{int≢atom, int≢compound, atom≢compound, atom-name, compound-name, compound-parts, int-number}
 use Rattle.plsubst.proofs.UnifyUnique.{var-variable, int≢var, atom≢var, compound≢var}
 use Rattle.plsubst.proofs.UnifyFinds.{NotSelf}
-use Rattle.platoms.specs.Names.{Table, IsTable, atom_at, functor_at, functor_name, functor_arity}
+use Rattle.platoms.specs.Names.{atom_at, functor_at, functor_name, functor_arity}
 use Rattle.platoms.specs.declared.names.Functor.{Functor}
 use Rattle.plcells.specs.declared.cell.Cell.{Cell}
 use Rattle.plcells.specs.declared.cell.Cell.TheVariants.{Free, Lone, Ref, Int, Wide, Atom, Str, Fun, Ground}
 use Rattle.plcells.specs.Store.{Store, at, term, terms, value, spread, IsHeap, IsHead, IsVariable, IsValue, IsEnd, IsBlock, IsInteger, shown, number_at, wide_at}
-use Rattle.plcells.specs.Walking.{weight, weights}
+use Rattle.plcells.specs.Walking.{weight}
 use Rattle.plcells.proofs.Terms.{term-at}
 use Rattle.plbind.specs.declared.unify.Kind.{Kind}
 use Rattle.plbind.specs.declared.unify.Kind.TheVariants.{Variables, Binding, Blocks, Integers, Same as SameKind, Clash as ClashKind}
 use Rattle.plbind.specs.declared.unify.Verdict.{Verdict}
-use Rattle.plbind.specs.declared.unify.Verdict.TheVariants.{Same, Clash, Binds, Args}
-use Rattle.plbind.specs.Unifying.{HasNear, HasArgs, IsNear, Says, kind_of, beside, same_kind}
+use Rattle.plbind.specs.Unifying.{HasNear, HasArgs, Says, kind_of, same_kind}
 
 -- how many terms there are
 count : Trees → ℕ
@@ -208,7 +206,7 @@ module _ (h : Store) (is : IsHeap h) where
       let d = sym (ap (bind τ) bp.is) ∙ e ∙ ap (bind τ) bq.is in
       let arity : k ≡ l = count-same τ h (suc p) (suc q) k l (compound-parts d) in
       let name : (functor_at h.names f).name ≡ (functor_at h.names g).name =
-          is.names.atom_once ((functor_at h.names f).name) ((functor_at h.names g).name) ((is.names.functors f bp.functor).name) ((is.names.functors g bq.functor).name) (compound-name d) in
+      is.names.atom_once ((functor_at h.names f).name) ((functor_at h.names g).name) ((is.names.functors f bp.functor).name) ((is.names.functors g bq.functor).name) (compound-name d) in
       let same : functor_at h.names f ≡ functor_at h.names g = ap₂ (λ n j. let x : Functor = record { name = n; arity = j } in x) name (bp.arity ∙ arity ∙ sym bq.arity) in
       ne (is.names.functor_once f g bp.functor bq.functor same)
 

@@ -1,10 +1,10 @@
 -- The list of pairs, step by step.
-use Rattle.std.proofs.Common.{◌≡◌, ℕ, zero, suc, ◌+◌, ◌-◌, ◌<◌, ◌≤◌, List, [], ◌∷◌, ◌++◌, length, refl, sym, ap, ap₂, ◌∙◌, subst, arith, append_assoc}
+use Rattle.std.proofs.Common.{◌≡◌, ℕ, zero, suc, ◌+◌, ◌<◌, ◌≤◌, List, [], ◌∷◌, ◌++◌, refl, sym, ap, ap₂, ◌∙◌, subst, arith, append_assoc}
 use Rattle.plterm.specs.Tree.{Tree, more, trees}
 use Rattle.plsubst.specs.Subst.{bind, bind_all}
 use Rattle.plsubst.proofs.Unify.{more-head, more-tail}
 use Rattle.plcells.specs.declared.cell.Cell.{Cell}
-use Rattle.plcells.specs.Store.{Store, at, term, terms, value, IsHead}
+use Rattle.plcells.specs.Store.{Store, term, terms}
 use Rattle.plcells.specs.Walking.{weight, weights}
 use Rattle.plcells.proofs.Searching.{weight-some}
 use Rattle.plbind.specs.Unifying.{Equates, Unifies, weigh_pairs, IsPlain, IsInside, pairs, HasArgs, HasNear, Equal, HasLeft, Stands}

@@ -1,4 +1,6 @@
 //! Unification on the heap of the machine.
 #![tactic(auto)]
 
+#[cfg(test)]
+mod tests;
 pub mod unify;

@@ -51,11 +51,7 @@ fn beside_atom(f: u32, v: Cell) -> Kind
     ensures { result ≡ kind_of (AtomCell f) v }
 {
     match v {
-        Cell::Atom(g) => if f == g {
-            Kind::Same
-        } else {
-            Kind::Clash
-        },
+        Cell::Atom(g) => if f == g { Kind::Same } else { Kind::Clash },
         _ => Kind::Clash,
     }
 }

@@ -1,12 +1,12 @@
 -- Where a variable cannot occur.
-use Rattle.std.proofs.Common.{◌≡◌, ℕ, zero, suc, ◌+◌, ◌<◌, ◌≤◌, Bool, true, false, ◌||◌, nat_eq, List, [], ◌∷◌, length, refl, sym, ap, ap₂, ◌∙◌, subst, arith, inl, inr}
+use Rattle.std.proofs.Common.{◌≡◌, ℕ, zero, suc, ◌+◌, ◌<◌, ◌≤◌, Bool, true, false, ◌||◌, length, refl, sym, ap, ap₂, ◌∙◌, arith, inl, inr}
 use Rattle.std.proofs.lemmas.Bool.{cases_eq}
 use Rattle.plterm.specs.Tree.{Tree, Trees, var, int, atom, compound, none, more, trees}
 use Rattle.plsubst.specs.Subst.{bind, bind_all, put, put_if, occurs, occurs_in}
 use Rattle.platoms.specs.Names.{functor_arity}
 use Rattle.plcells.specs.declared.cell.Cell.{Cell}
 use Rattle.plcells.specs.declared.cell.Cell.TheVariants.{Free, Lone, Ref, Int, Wide, Atom, Str, Fun, Ground}
-use Rattle.plcells.specs.Store.{Store, at, number_at, spread, shown_by, term, shown, Refers, Fits, IsHeap}
+use Rattle.plcells.specs.Store.{Store, at, number_at, spread, shown_by, term, Refers, Fits, IsHeap}
 use Rattle.plcells.proofs.Terms.{term-at, refers-within}
 
 pub or-left : (p q : Bool) → (p || q) ≡ false → p ≡ false
@@ -93,7 +93,7 @@ module _ (h : Store) (is : IsHeap h) (n : ℕ) (P : ℕ → Type 0)
   none_in (suc m) c lt in_p below =
       ap (occurs n) (term-at h c is lt)
       ∙ shown_none h (term h) n c (at h.cells c) (is.fits c lt) (λ p e. other c p lt in_p e) (λ d r.
-          none_in m d (refers-within h c d (at h.cells c) (is.fits c lt) r) (closed c d lt in_p r) (let l = is.ranked c d lt r in omega (arith, l, below)))
+      none_in m d (refers-within h c d (at h.cells c) (is.fits c lt) r) (closed c d lt in_p r) (let l = is.ranked c d lt r in omega (arith, l, below)))
 
   pub occurs-none : (c : ℕ) → c < length h.cells → P c → occurs n (term h c) ≡ false
   occurs-none c lt in_p = none_in (suc (is.rank c)) c lt in_p (omega arith)

@@ -1,8 +1,8 @@
 -- What a binding makes of a heap.
-use Rattle.std.proofs.Common.{◌≡◌, ℕ, zero, suc, ◌+◌, ◌<◌, ◌≤◌, Bool, true, false, nat_eq, nat_lt, cond, List, [], ◌∷◌, ◌++◌, length, length-append, set, refl, sym, ap, ap₂, ◌∙◌, subst, arith, inl, inr, le_refl}
+use Rattle.std.proofs.Common.{◌≡◌, ℕ, zero, suc, ◌+◌, ◌<◌, ◌≤◌, Bool, true, false, nat_eq, nat_lt, List, [], ◌∷◌, ◌++◌, length, refl, sym, ap, ◌∙◌, subst, arith, inl, inr, le_refl}
 use Rattle.std.proofs.lemmas.Bool.{cases_eq}
 use Rattle.std.proofs.lemmas.List.{length-set, get_or-set_same, get_or-set_other}
-use Rattle.plterm.specs.Tree.{Tree, var, int, atom, compound, more, trees}
+use Rattle.plterm.specs.Tree.{Tree, var, compound, more, trees}
 use Rattle.plsubst.specs.Subst.{bind, bind_all, put, put_if, occurs}
 use Rattle.platoms.specs.Names.{functor_name, functor_arity}
 use Rattle.plcells.specs.declared.cell.Cell.{Cell}

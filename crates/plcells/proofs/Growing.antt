@@ -1,15 +1,14 @@
 -- What is put behind the cells of a heap.
-use Rattle.std.proofs.Common.{◌≡◌, ℕ, ℤ, pos, zero, suc, ◌+◌, ◌-◌, ◌<◌, ◌≤◌, ◌^◌, ◌⊎◌, Bool, true, false, nat_lt, List, [], ◌∷◌, ◌++◌, length, length-append, get_or, map, refl, sym, ap, ap₂, ◌∙◌, subst, arith, inl, inr, le_refl}
+use Rattle.std.proofs.Common.{◌≡◌, ℕ, ℤ, pos, zero, suc, ◌+◌, ◌-◌, ◌<◌, ◌≤◌, ◌^◌, Bool, true, false, nat_lt, List, [], ◌∷◌, length, length-append, refl, sym, ap, ◌∙◌, subst, arith, inl, inr}
 use Rattle.std.proofs.lemmas.Bool.{cases_lt}
-use Rattle.std.proofs.lemmas.List.{get_or_append_left, get_or-append_right, get_or_push}
-use Rattle.plterm.specs.Tree.{Tree, var, int, atom, compound, trees}
-use Rattle.platoms.specs.Names.{functor_name, functor_arity}
+use Rattle.std.proofs.lemmas.List.{get_or_append_left, get_or-append_right}
+use Rattle.plterm.specs.Tree.{Tree, var, int}
 use Rattle.plcells.specs.declared.cell.Cell.{Cell}
 use Rattle.plcells.specs.declared.cell.Trailed.{Trailed}
 use Rattle.plcells.specs.declared.cell.Cell.TheVariants.{Free, Lone, Ref, Int, Wide, Atom, Str, Fun, Ground}
-use Rattle.plcells.specs.Store.{Store, at, number_at, wide_at, spread, shown_by, term, shown, Refers, IsHead, IsGround, IsSolid, HasArguments, Fits, IsHeap, AllBelow, IsValue, value, grown, IsFresh, Grows, frees, one, AreValues}
+use Rattle.plcells.specs.Store.{Store, at, number_at, shown_by, term, Refers, IsHead, IsGround, IsSolid, HasArguments, Fits, IsHeap, AllBelow, IsValue, value, grown, IsFresh, Grows}
 use Rattle.plcells.proofs.Ranks.{lower_count, count_below, count_lower}
-use Rattle.plcells.proofs.Terms.{Reads, Solves, term-solved, heap-reads, term-at, refers-within}
+use Rattle.plcells.proofs.Terms.{Reads, term-solved, term-at, refers-within}
 use Rattle.plcells.proofs.Kept.{Keeps-grown}
 
 abbrev pick : Bool → ℕ → ℕ → ℕ
@@ -106,9 +105,6 @@ module _ (h : Store) (cs : List Cell) (ns : List ℕ) (ws : List ℤ) (is : IsHe
   term-old = term-solved (grown h cs ns ws) (length h.cells) is.rank old_reads (omega (arith, len)) (term h) (λ i lt.
       term-at h i is lt ∙ shown_old (term h) i (at h.cells i) (is.fits i lt) ∙ ap (shown_by (grown h cs ns ws) (term h) i) (sym (at-old i lt)))
 
-  pub Grows-grown : Grows h (grown h cs ns ws)
-  Grows-grown = record { longer = omega (arith, len); terms = term-old; keeps = Keeps-grown h cs ns ws }
-
   pub value-same : (m : Cell) → IsValue h m → value (grown h cs ns ws) m ≡ value h m
   value-same (Free q) f = absurd f
   value-same (Lone q) f = absurd f
@@ -119,6 +115,9 @@ module _ (h : Store) (cs : List Cell) (ns : List ℕ) (ws : List ℤ) (is : IsHe
   value-same (Str q) f = term-old q f.0
   value-same (Fun g) f = absurd f
   value-same (Ground g) f = absurd f
+
+  pub Grows-grown : Grows h (grown h cs ns ws)
+  Grows-grown = record { longer = omega (arith, len); terms = term-old; values = λ v f. (value-old v f, value-same v f); keeps = Keeps-grown h cs ns ws; names = refl }
 
   below_old : (n : ℕ) (ts : List Trailed) → AllBelow n ts → (m : ℕ) → n ≤ m → AllBelow m ts
   below_old n [] b m le = tt
@@ -149,13 +148,13 @@ module _ (h : Store) (cs : List Cell) (ns : List ℕ) (ws : List ℤ) (is : IsHe
           let dl = refers-within h i d (at h.cells i) (is.fits i il) q in
           omega (arith, low i il, low d dl, count_lower is.rank (length h.cells) i d dl (is.ranked i d il q))
       | inr ge ↦ elim (cases_lt d (length h.cells)) [
-          | inl dl ↦ omega (arith, high i ge, low d dl, count_below is.rank (length h.cells) d dl)
-          | inr dg ↦
-              let n = cell_new i ge lt in
-              let q : Refers h.names i (at cs (i - length h.cells)) d = subst (λ m. Refers h.names i m d) (at-new i ge) r in
-              let l = lower_new (i - length h.cells) d n.0 (subst (λ k. Refers h.names k (at cs (i - length h.cells)) d) (sym n.1) q) dg in
-              omega (arith, high i ge, high d dg, l)
-        ]
+        | inl dl ↦ omega (arith, high i ge, low d dl, count_below is.rank (length h.cells) d dl)
+        | inr dg ↦
+            let n = cell_new i ge lt in
+            let q : Refers h.names i (at cs (i - length h.cells)) d = subst (λ m. Refers h.names i m d) (at-new i ge) r in
+            let l = lower_new (i - length h.cells) d n.0 (subst (λ k. Refers h.names k (at cs (i - length h.cells)) d) (sym n.1) q) dg in
+            omega (arith, high i ge, high d dg, l)
+      ]
     ]
 
     place_old : (i p : ℕ) → i < length h.cells → at h.cells i ≡ Free p → p < length h.numbers

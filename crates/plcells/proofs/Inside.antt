@@ -8,7 +8,7 @@ use Rattle.plcells.specs.declared.cell.Cell.{Cell}
 use Rattle.plcells.specs.declared.cell.Cell.TheVariants.{Free, Lone, Ref, Int, Wide, Atom, Str, Fun, Ground}
 use Rattle.plcells.specs.declared.cell.Mark.{Mark}
 use Rattle.plcells.specs.declared.cell.Trailed.{Trailed}
-use Rattle.plcells.specs.Store.{Store, at, IsHeap, Refers, IsHead, IsValue, IsBinding, linked, reset, cut, IsMark}
+use Rattle.plcells.specs.Store.{Store, at, Refers, IsHead, IsValue, IsBinding, linked, reset, cut, IsMark}
 use Rattle.plcells.specs.Skipping.{plain, AreLone, IsClosed, AreClosed, AreRising, IsInside, IsPlaced, IsTarget}
 use Rattle.plcells.proofs.Binding.{IsHeap-linked}
 use Rattle.plcells.proofs.Kept.{reset-length}
@@ -199,9 +199,9 @@ reset-at : (cells : List Cell) (ts : List Trailed) (i : ℕ) (m : Cell) → at (
 reset-at cells [] i m e other = e
 reset-at cells (t ∷ ts) i m e other = elim (cases_eq i t.cell) [
   | inl same ↦ elim (cases_lt i (length (reset cells ts))) [
-      | inl lt ↦ absurd (other t.place (sym e ∙ ap (at (set (reset cells ts) t.cell (Free t.place))) same ∙ get_or-set_same (reset cells ts) t.cell (Free t.place) (Atom 0) (omega (arith, lt, same))))
-      | inr ge ↦ reset-at cells ts i m (get_or_past (reset cells ts) i (Atom 0) ge ∙ sym (get_or_past (set (reset cells ts) t.cell (Free t.place)) i (Atom 0) (omega (arith, ge, length-set (reset cells ts) t.cell (Free t.place)))) ∙ e) other
-    ]
+    | inl lt ↦ absurd (other t.place (sym e ∙ ap (at (set (reset cells ts) t.cell (Free t.place))) same ∙ get_or-set_same (reset cells ts) t.cell (Free t.place) (Atom 0) (omega (arith, lt, same))))
+    | inr ge ↦ reset-at cells ts i m (get_or_past (reset cells ts) i (Atom 0) ge ∙ sym (get_or_past (set (reset cells ts) t.cell (Free t.place)) i (Atom 0) (omega (arith, ge, length-set (reset cells ts) t.cell (Free t.place)))) ∙ e) other
+  ]
   | inr ne ↦ reset-at cells ts i m (sym (get_or-set_other (reset cells ts) t.cell i (Free t.place) (Atom 0) ne) ∙ e) other
 ]
 

@@ -1,8 +1,6 @@
 -- Marks: what a binding and what is put behind the others keep.
-use Rattle.std.proofs.Common.{◌≡◌, ℕ, ℤ, zero, suc, ◌+◌, ◌<◌, ◌≤◌, Bool, true, false, nat_lt, List, [], ◌∷◌, ◌++◌, length, length-append, take, drop, set, refl, sym, ap, ap₂, ◌∙◌, subst, arith, le_refl, le_trans, inl, inr}
-use Rattle.std.proofs.lemmas.Bool.{cases_lt}
-use Rattle.std.proofs.lemmas.List.{length-set, get_or-set_same, set-set, set-get_or, take-append-le, drop-append-le, take-set-le, take_all, drop_all}
-use Rattle.platoms.specs.Names.{Table, Extends}
+use Rattle.std.proofs.Common.{◌≡◌, ℕ, ℤ, zero, suc, ◌+◌, ◌<◌, ◌≤◌, Bool, true, false, nat_lt, List, [], ◌∷◌, ◌++◌, length, length-append, take, drop, set, refl, sym, ap, ap₂, ◌∙◌, subst, arith}
+use Rattle.std.proofs.lemmas.List.{length-set, set-set, set-get_or, take-append-le, drop-append-le, take-set-le, take_all, drop_all}
 use Rattle.platoms.proofs.Extending.{Extends-refl, Extends-trans}
 use Rattle.plcells.specs.declared.cell.Cell.{Cell}
 use Rattle.plcells.specs.declared.cell.Cell.TheVariants.{Free, Lone, Ref, Int, Wide, Atom, Str, Fun, Ground}
@@ -54,7 +52,7 @@ Keeps-grown h cs ns ws = record {
   kept = λ m w.
       let make : List Cell → List ℕ → List ℤ → Store = λ (a : List Cell) (b : List ℕ) (c : List ℤ). record { cells = a; numbers = b; wide = c; trail = take m.trail h.trail; boundary = m.cells; names = h.names } in
       ap (λ a. make a (take m.numbers (h.numbers ++ ns)) (take m.wide (h.wide ++ ws)))
-        (take-reset m.cells (h.cells ++ cs) (drop m.trail h.trail) ∙ ap (λ xs. reset xs (drop m.trail h.trail)) (take-append-le m.cells h.cells cs w.cells) ∙ sym (take-reset m.cells h.cells (drop m.trail h.trail)))
+      (take-reset m.cells (h.cells ++ cs) (drop m.trail h.trail) ∙ ap (λ xs. reset xs (drop m.trail h.trail)) (take-append-le m.cells h.cells cs w.cells) ∙ sym (take-reset m.cells h.cells (drop m.trail h.trail)))
       ∙ ap₂ (make (take m.cells (reset h.cells (drop m.trail h.trail)))) (take-append-le m.numbers h.numbers ns w.numbers) (take-append-le m.wide h.wide ws w.wide);
   names = Extends-refl h.names;
 }

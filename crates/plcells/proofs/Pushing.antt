@@ -1,21 +1,21 @@
 -- New variables, compounds and integers.
-use Rattle.std.proofs.Common.{◌≡◌, ℕ, ℤ, pos, zero, suc, ◌+◌, ◌-◌, ◌<◌, ◌≤◌, ◌^◌, ◌⊎◌, List, [], ◌∷◌, ◌++◌, length, length-append, get_or, map, refl, sym, ap, ap₂, ◌∙◌, subst, arith, inl, inr, append-nil}
-use Rattle.std.proofs.lemmas.Bool.{cases_lt, cases_eq}
+use Rattle.std.proofs.Common.{◌≡◌, ℕ, ℤ, pos, zero, suc, ◌+◌, ◌-◌, ◌<◌, ◌≤◌, ◌^◌, List, [], ◌∷◌, ◌++◌, length, length-append, get_or, map, refl, sym, ap, ap₂, ◌∙◌, subst, arith, inl, inr, append-nil}
+use Rattle.std.proofs.lemmas.Bool.{cases_lt}
 use Rattle.std.proofs.lemmas.List.{get_or_append_left, get_or-append_right, get_or_push, map-append, length-map, get_or_past}
-use Rattle.plterm.specs.Tree.{Tree, var, int, atom, compound, trees}
+use Rattle.plterm.specs.Tree.{Tree, var, int, compound, trees}
 use Rattle.platoms.specs.Names.{functor_name, functor_arity}
 use Rattle.plcells.specs.declared.cell.Cell.{Cell}
 use Rattle.plcells.specs.declared.cell.Cell.TheVariants.{Free, Lone, Ref, Int, Wide, Atom, Str, Fun, Ground}
-use Rattle.plcells.specs.Store.{Store, at, number_at, spread, term, terms, shown, Refers, IsHead, HasArguments, Fits, IsHeap, IsValue, value, grown, IsFresh, Grows, frees, one, AreValues, AddsVariable, AddsValue, IsFunctorOf, IsVariable, IsEnd}
-use Rattle.plcells.specs.Skipping.{plain, AreLone, IsClosed, AreClosed, AreRising, IsInside, IsPlaced, IsTarget, AllPlaced, IsClosing}
+use Rattle.plcells.specs.Store.{Store, at, number_at, spread, term, shown, Refers, IsHead, HasArguments, Fits, IsHeap, IsValue, value, grown, IsFresh, Grows, frees, one, AreValues, AddsVariable, AddsValue, IsFunctorOf, IsVariable}
+use Rattle.plcells.specs.Skipping.{plain, AreLone, IsClosed, AreClosed, AreRising, IsInside, IsPlaced, AllPlaced, IsClosing}
 use Rattle.plcells.proofs.Terms.{term-at, refers-within}
 use Rattle.plcells.proofs.Values.{at-plain}
 use Rattle.plcells.proofs.Kept.{Keeps-refl}
 use Rattle.plcells.proofs.Inside.{plain-value, value-lone, value-placed, refers-target, refers-variable}
-use Rattle.plcells.proofs.Growing.{at-old, at-new, fits-old, value-old, value-same, term-old, Grows-grown, IsHeap-grown}
+use Rattle.plcells.proofs.Growing.{at-old, at-new, value-old, value-same, Grows-grown, IsHeap-grown}
 
 pub Grows-refl : (h : Store) → Grows h h
-Grows-refl h = record { longer = omega arith; terms = λ c lt. refl; keeps = Keeps-refl h }
+Grows-refl h = record { longer = omega arith; terms = λ c lt. refl; values = λ v f. (f, refl); keeps = Keeps-refl h; names = refl }
 
 -- the stores that the fields make
 pub as-grown : (h : Store) (cs : List Cell) (ns : List ℕ) (ws : List ℤ) (cells : List Cell) (numbers : List ℕ) (wide : List ℤ) → cells ≡ h.cells ++ cs → numbers ≡ h.numbers ++ ns → wide ≡ h.wide ++ ws →
@@ -33,9 +33,9 @@ module _ (h : Store) (is : IsHeap h) where
   closing_closed old new closed step = elim step [
     | inl e ↦ subst (AreClosed h) (sym e) closed
     | inr r ↦ λ k lt. elim (cases_lt k (length old)) [
-        | inl kl ↦ subst (IsClosed h) (sym (ap (λ xs. get_or xs k 0) r.0 ∙ get_or_append_left old (length h.cells ∷ []) 0 k kl)) (closed k kl)
-        | inr kg ↦ subst (IsClosed h) (sym (ap (λ xs. get_or xs k 0) r.0 ∙ get_or_push old (length h.cells) 0 k (omega (arith, lt, kg, ap length r.0, length-append old (length h.cells ∷ []))))) whole
-      ]
+      | inl kl ↦ subst (IsClosed h) (sym (ap (λ xs. get_or xs k 0) r.0 ∙ get_or_append_left old (length h.cells ∷ []) 0 k kl)) (closed k kl)
+      | inr kg ↦ subst (IsClosed h) (sym (ap (λ xs. get_or xs k 0) r.0 ∙ get_or_push old (length h.cells) 0 k (omega (arith, lt, kg, ap length r.0, length-append old (length h.cells ∷ []))))) whole
+    ]
   ]
 
 closing_rising : (n : ℕ) (old new : List ℕ) → AreRising old → IsClosing old new n → AreRising new
@@ -128,6 +128,7 @@ module _ (h : Store) (n : ℕ) (is : IsHeap h) (fresh : IsFresh h n) (few : leng
   pub variable-added : AddsVariable h (grown h (Free (length h.numbers) ∷ []) (n ∷ []) []) (length h.cells) n
   variable-added = record {
     place = refl;
+    fits = (omega (arith, length-append h.cells (Free (length h.numbers) ∷ [])), λ head. let f : IsHead (Free (length h.numbers)) = subst IsHead at_made head in f);
     end = let v : IsVariable (Free (length h.numbers)) = tt in subst IsVariable (sym at_made) v;
     is =
         term-at (grown h (Free (length h.numbers) ∷ []) (n ∷ []) []) (length h.cells) variable-heap (omega (arith, length-append h.cells (Free (length h.numbers) ∷ [])))

@@ -1,15 +1,14 @@
 -- Why cells may be left out of a search for a variable, and what a search has found.
 use Rattle.std.proofs.Common.{◌≡◌, ℕ, zero, suc, ◌+◌, ◌<◌, ◌≤◌, ◌⊎◌, Bool, true, false, ◌||◌, nat_eq, Option, Some, None, List, [], ◌∷◌, ◌++◌, length, map, refl, sym, ap, ap₂, ◌∙◌, subst, arith, inl, inr}
 use Rattle.std.proofs.lemmas.Bool.{cases_eq}
-use Rattle.std.proofs.lemmas.List.{length-map}
-use Rattle.plterm.specs.Tree.{Tree, Trees, var, int, atom, compound, none, more, trees}
+use Rattle.plterm.specs.Tree.{Tree, var, int, atom, compound, none, trees}
 use Rattle.plsubst.specs.Subst.{occurs, occurs_in}
 use Rattle.platoms.specs.Names.{functor_arity, functor_name}
 use Rattle.plcells.specs.declared.cell.Cell.{Cell}
 use Rattle.plcells.specs.declared.cell.Cell.TheVariants.{Free, Lone, Ref, Int, Wide, Atom, Str, Fun, Ground}
-use Rattle.plcells.specs.Store.{Store, at, number_at, spread, term, terms, shown, value, Refers, IsHead, IsGround, IsSolid, Fits, IsHeap, IsValue, IsEnd, IsVariable, HasTerms, HasArguments, HasSolid, IsBlock, IsBinding}
-use Rattle.plcells.specs.Skipping.{plain, AreLone, IsClosed, IsInside}
-use Rattle.plcells.specs.Walking.{weight, weights, weigh, occurs_any, AreBlocks, IsFloor}
+use Rattle.plcells.specs.Store.{Store, at, number_at, spread, term, terms, shown, value, Refers, IsHead, IsGround, IsSolid, Fits, IsHeap, IsValue, IsEnd, HasTerms, HasArguments, HasSolid, IsBlock, IsBinding}
+use Rattle.plcells.specs.Skipping.{plain, AreLone, IsClosed}
+use Rattle.plcells.specs.Walking.{weight, weights, weigh, occurs_any, AreBlocks}
 use Rattle.plcells.proofs.Terms.{term-at}
 use Rattle.plcells.proofs.Absence.{occurs-none, spread-some}
 use Rattle.plcells.proofs.Values.{variable-place, variable-within}

@@ -1,10 +1,10 @@
 -- The term of a cell is what the cell shows, and the one reading of the cells.
-use Rattle.std.proofs.Common.{◌≡◌, ℕ, zero, suc, ◌+◌, ◌<◌, ◌≤◌, List, [], ◌∷◌, length, refl, sym, ap, ap₂, ◌∙◌, subst, arith, le_refl}
+use Rattle.std.proofs.Common.{◌≡◌, ℕ, zero, suc, ◌+◌, ◌<◌, ◌≤◌, ◌∷◌, length, refl, sym, ap, ap₂, ◌∙◌, arith, le_refl}
 use Rattle.plterm.specs.Tree.{Tree, compound, trees}
 use Rattle.platoms.specs.Names.{functor_name, functor_arity}
 use Rattle.plcells.specs.declared.cell.Cell.{Cell}
 use Rattle.plcells.specs.declared.cell.Cell.TheVariants.{Free, Lone, Ref, Int, Wide, Atom, Str, Fun, Ground}
-use Rattle.plcells.specs.Store.{Store, at, spread, shown_by, term_in, term, shown, Refers, Fits, IsRank, IsHeap}
+use Rattle.plcells.specs.Store.{Store, at, spread, shown_by, term_in, term, shown, Refers, Fits, IsHeap}
 use Rattle.plcells.proofs.Ranks.{lower_count, count_below, count_lower}
 
 pub spread-same : (v w : ℕ → Tree) (c k : ℕ) → ((d : ℕ) → c ≤ d → d < c + k → v d ≡ w d) → spread v c k ≡ spread w c k

@@ -1,11 +1,11 @@
 -- Values, and the cells as callers see them.
-use Rattle.std.proofs.Common.{◌≡◌, ℕ, zero, suc, ◌+◌, ◌<◌, ◌≤◌, List, [], ◌∷◌, length, map, get_or, refl, sym, ap, ◌∙◌, subst, arith, inl, inr}
+use Rattle.std.proofs.Common.{◌≡◌, ℕ, zero, suc, ◌<◌, ◌≤◌, List, [], ◌∷◌, length, map, get_or, refl, sym, ap, ◌∙◌, subst, arith, inl, inr}
 use Rattle.std.proofs.lemmas.Bool.{cases_lt}
 use Rattle.std.proofs.lemmas.List.{get_or_read}
-use Rattle.plterm.specs.Tree.{Tree, var}
+use Rattle.plterm.specs.Tree.{var}
 use Rattle.plcells.specs.declared.cell.Cell.{Cell}
 use Rattle.plcells.specs.declared.cell.Cell.TheVariants.{Free, Lone, Ref, Int, Wide, Atom, Str, Fun, Ground}
-use Rattle.plcells.specs.Store.{Store, at, number_at, shown_by, term, shown, Refers, IsHead, Fits, IsHeap, IsValue, value, IsEnd, IsVariable}
+use Rattle.plcells.specs.Store.{Store, at, number_at, term, shown, Refers, IsHead, Fits, IsHeap, IsValue, value, IsEnd, IsVariable}
 use Rattle.plcells.specs.Skipping.{plain}
 use Rattle.plcells.proofs.Terms.{term-at, Reads, heap-reads, lowered}
 use Rattle.plcells.proofs.Ranks.{lower_count, count_below}

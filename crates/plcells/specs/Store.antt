@@ -1,5 +1,5 @@
 -- What cells stand for.
-use Rattle.std.specs.Prelude.{false, ◌≡◌, ℕ, ℤ, pos, zero, suc, ◌+◌, ◌^◌, ◌<◌, ◌≤◌, ◌⊎◌, Bool, true, List, [], ◌∷◌, ◌++◌, length, take, drop, get_or, set, map, nat_lt, if◌then◌else◌}
+use Rattle.std.specs.Prelude.{false, ◌≡◌, ℕ, ℤ, pos, zero, suc, ◌+◌, ◌^◌, ◌<◌, ◌≤◌, Bool, true, List, [], ◌∷◌, ◌++◌, length, take, drop, get_or, set, nat_lt}
 use Rattle.std.specs.Bool.{⊤}
 use Rattle.plterm.specs.Tree.{Tree, var, int, atom, compound, trees}
 use Rattle.plsubst.specs.Subst.{bind, put, occurs}
@@ -282,7 +282,9 @@ IsFresh h n = (i p : ℕ) → i < length h.cells → at h.cells i ≡ Free p →
 pub record Grows (old new : Store) : Type 0 where
   pub longer : length old.cells ≤ length new.cells
   pub terms : (c : ℕ) → c < length old.cells → term new c ≡ term old c
+  pub values : (v : Cell) → IsValue old v → IsValue new v × (value new v ≡ value old v)
   pub keeps : Keeps old new
+  pub names : new.names ≡ old.names
 
 -- a value where references end: a variable's is the reference to its cell
 abbrev pub IsVariable : Cell → Type 0
@@ -318,6 +320,7 @@ pub record HasTerms (h : Store) (p k : ℕ) : Type 0 where
 -- a new variable of the number n, at the cell c
 pub record AddsVariable (old new : Store) (c n : ℕ) : Type 0 where
   pub place : c ≡ length old.cells
+  pub fits : IsValue new (Ref c)
   pub end : IsEnd new (Ref c)
   pub is : term new c ≡ var n
   pub grows : Grows old new

@@ -1,5 +1,5 @@
 -- Walks over the blocks of a term.
-use Rattle.std.specs.Prelude.{◌≡◌, ℕ, suc, ◌+◌, ◌<◌, ◌≤◌, Bool, false, List, [], ◌∷◌, length, map}
+use Rattle.std.specs.Prelude.{◌≡◌, ℕ, suc, ◌+◌, ◌<◌, Bool, false, List, [], ◌∷◌, length, map}
 use Rattle.std.specs.Bool.{⊤}
 use Rattle.plterm.specs.Tree.{Tree, Trees, var, int, atom, compound, none, more, trees}
 use Rattle.plsubst.specs.Subst.{occurs, occurs_in}

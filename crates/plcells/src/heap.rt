@@ -171,7 +171,9 @@ fn take_off(cells: &mut Vec<Cell>, trail: &mut Vec<Trailed>, keep: usize)
     ensures trail { trail.new.items ≡ take keep trail.old.items }
 {
     while trail.len() > keep {
-        let Some(bound) = trail.pop() else { unreachable!() };
+        let Some(bound) = trail.pop() else {
+            unreachable!()
+        };
         cells[bound.cell as usize] = Cell::Free(bound.place);
     }
 }

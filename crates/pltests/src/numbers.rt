@@ -3,15 +3,18 @@ use platoms::names::{Functor, Names};
 use plterm::name::Name;
 use std::test::Fail;
 
-// Two names, the first of them twice, and a functor.
+// Two names and a functor.
 #[test]
 fn names_by_number(rt: HostRuntime) -> Result<(), Fail> {
     let alloc = rt.alloc();
     let mut names = Names::new(alloc);
-    let first = names.atom(Name::new(alloc, "a")?)?;
-    let second = names.atom(Name::new(alloc, "b")?)?;
-    let again = names.atom(Name::new(alloc, "a")?)?;
-    assert_eq!(rt; (first, second, again), (0, 1, 0));
+    let a = Name::new(alloc, "a")?;
+    let b = Name::new(alloc, "b")?;
+    let sizes = (a.len(), b.len());
+    assert!(rt; sizes.0 == 1 && sizes.1 == 1);
+    let first = names.atom(a)?;
+    let second = names.atom(b)?;
+    assert_eq!(rt; (first, second), (0, 1));
     let functor = Functor {
         name: second,
         arity: 2,

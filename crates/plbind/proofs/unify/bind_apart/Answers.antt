@@ -1,6 +1,5 @@
-use Rattle.std.proofs.Common.{◌≡◌, ◌∙◌, sym, subst, refl, true, false}
-use Rattle.plsubst.specs.Subst.{occurs}
-use Rattle.plcells.specs.Store.{term, value, Binds}
+use Rattle.std.proofs.Common.{◌∙◌, sym, subst, refl}
+use Rattle.plcells.specs.Store.{value, Binds}
 use Rattle.plcells.proofs.Searching.{binding-of}
 use Rattle.plbind.specs.Unifying.{Bindings}
 use Rattle.plbind.proofs.unify.bind_apart.Goals as goal

@@ -1,9 +1,9 @@
-use Rattle.std.proofs.Common.{◌≡◌, ◌∙◌, ap, subst, sym, arith, rules}
+use Rattle.std.proofs.Common.{◌∙◌, ap, subst, sym, arith, rules}
 use Rattle.std.proofs.lemmas.Int.{to_z-of_z}
 use Rattle.std.specs.Int.{w64}
 use mir.Val.{to_z, of_z, SFits}
 use Rattle.plsubst.specs.Subst.{bind}
-use Rattle.plcells.specs.Store.{term, value}
+use Rattle.plcells.specs.Store.{value}
 use Rattle.plbind.specs.declared.unify.Verdict.TheVariants.{Same, Clash, Binds}
 use Rattle.plbind.specs.Unifying.{Says}
 use Rattle.plbind.proofs.Verdicts.{KindSays, kind-says, says-along, integers-same, integers-clash}

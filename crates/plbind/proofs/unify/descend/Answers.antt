@@ -1,4 +1,4 @@
-use Rattle.std.proofs.Common.{◌≡◌, ◌+◌, ◌<◌, ◌^◌, suc, arith, subst, add-one}
+use Rattle.std.proofs.Common.{◌+◌, arith, subst}
 use Rattle.std.proofs.lemmas.List.{nil_from_length}
 use Rattle.plcells.specs.Store.{term, value}
 use Rattle.plbind.specs.declared.unify.Verdict.TheVariants.{Same, Clash, Binds, Args}

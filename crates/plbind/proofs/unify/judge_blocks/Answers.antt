@@ -1,4 +1,4 @@
-use Rattle.std.proofs.Common.{◌≡◌, ◌∙◌, ap, subst, sym}
+use Rattle.std.proofs.Common.{ap, subst, sym}
 use Rattle.plsubst.specs.Subst.{bind}
 use Rattle.plcells.specs.Store.{term, IsBlock}
 use Rattle.plbind.specs.Unifying.{Says}

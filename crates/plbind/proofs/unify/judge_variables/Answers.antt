@@ -1,4 +1,4 @@
-use Rattle.std.proofs.Common.{◌≡◌, ◌<◌, ◌∙◌, ap, subst, sym, arith}
+use Rattle.std.proofs.Common.{◌≡◌, ◌<◌, ◌∙◌, ap, sym, arith}
 use Rattle.plterm.specs.Tree.{var}
 use Rattle.plsubst.specs.Subst.{bind}
 use Rattle.plcells.specs.Store.{term}
@@ -21,6 +21,6 @@ unfolding Says
 returns-else-number c =
     let h = c.args.heap.now in
     let differ : c.number.result ≡ c.number-2.result → ⊥ = λ e.
-        c.if-x-y.false (number-once h c.number.ensures.heap c.args.x c.args.y c.number.result c.requires.left c.requires.right c.number.ensures.is (c.number-2.ensures.is ∙ ap var (sym e))) in
+    c.if-x-y.false (number-once h c.number.ensures.heap c.args.x c.args.y c.number.result c.requires.left c.requires.right c.number.ensures.is (c.number-2.ensures.is ∙ ap var (sym e))) in
     let less : c.number-2.result < c.number.result = omega (arith, c.if-number.false, differ) in
     near-older h c.args.x c.args.y c.number.result c.number-2.result c.requires.left c.requires.fits.1 c.number.ensures.is c.number-2.ensures.is less

@@ -1,7 +1,6 @@
 use Rattle.std.proofs.Common.{◌<◌, sym, subst, arith}
-use Rattle.plterm.specs.Tree.{Tree}
 use Rattle.plcells.specs.Store.{frees, value}
-use Rattle.plbind.specs.Unifying.{Answers, Leaves, Bindings, IsInside, HasLeft, Stands, KeepsAll}
+use Rattle.plbind.specs.Unifying.{Answers, Leaves, Bindings, HasLeft, KeepsAll}
 use Rattle.plbind.proofs.Progressing.{started, came_on, unified, never-unified, circular, inside-bound, KeepsAll-refl, KeepsAll-bound}
 use Rattle.plbind.proofs.unify.solve.Goals as goal
 

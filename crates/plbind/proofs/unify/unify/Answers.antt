@@ -1,6 +1,6 @@
-use Rattle.std.proofs.Common.{◌≡◌, ◌≤◌, ◌∙◌, length, ap, ap₂, subst, sym, arith}
+use Rattle.std.proofs.Common.{◌≤◌, ◌∙◌, length, ap, ap₂, subst, sym, arith}
 use Rattle.plsubst.specs.Unify.{unify}
-use Rattle.plcells.specs.Store.{Store, IsWithin, value, bounded_by}
+use Rattle.plcells.specs.Store.{value, bounded_by}
 use Rattle.plbind.specs.Unifying.{Unified}
 use Rattle.plbind.proofs.Giving.{unified-under, none-under, mark-all, given-back}
 use Rattle.plbind.proofs.unify.unify.Goals as goal
@@ -25,8 +25,7 @@ returns-in-Ok-true-clause-yes c = λ e.
 pub returns-in-Ok-false-clause-no : goal.returns-in-Ok-false-clause-no
 returns-in-Ok-false-clause-no c = λ e.
     let h = c.args.heap.now in
-    let n = c.in-Ok-false.ensures.no c.in-Ok-false.field-0-test in
-    (
+    let n = c.in-Ok-false.ensures.no c.in-Ok-false.field-0-test in (
       none-under h (length h.cells) c.args.a c.args.b (ap₂ unify (ap (λ x. value x c.args.a) (sym c.mark-mark.ensures.same)) (ap (λ x. value x c.args.b) (sym c.mark-mark.ensures.same)) ∙ n),
       given-back c.mark-mark.result h c.mark-mark.new.self c.unify_in_choice.new.heap c.undo.new.self c.forget-in-Ok-false.new.self c.boundary-boundary.result c.mark-mark.ensures.now c.mark-mark.ensures.same c.mark-mark.ensures.mark.within c.in-Ok-false.ensures.keeps c.undo.ensures c.forget-in-Ok-false.ensures c.boundary-boundary.ensures.is,
     )

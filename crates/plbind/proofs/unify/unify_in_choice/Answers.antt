@@ -1,4 +1,4 @@
-use Rattle.std.proofs.Common.{◌≡◌, ◌∙◌, ◌+◌, ◌++◌, Bool, true, false, ap, subst, sym, arith}
+use Rattle.std.proofs.Common.{◌∙◌, ◌+◌, ◌++◌, ap, subst, sym, arith}
 use Rattle.plterm.specs.Tree.{Tree}
 use Rattle.plcells.specs.Store.{value}
 use Rattle.plbind.specs.Unifying.{Says, IsInside, Stands, Answers, pairs}

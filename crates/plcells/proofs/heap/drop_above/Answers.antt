@@ -1,4 +1,4 @@
-use Rattle.std.proofs.Common.{◌≡◌, ◌≤◌, ◌<◌, ◌∙◌, ◌+◌, ◌-◌, length, take, get_or, ap, sym, arith}
+use Rattle.std.proofs.Common.{◌<◌, ◌∙◌, ◌+◌, ◌-◌, length, take, get_or, ap, sym, arith}
 use Rattle.std.proofs.lemmas.List.{get_or_read}
 use Rattle.plcells.proofs.Inside.{taken-own, below-taken}
 use Rattle.plcells.proofs.heap.drop_above.Goals as goal

@@ -1,4 +1,4 @@
-use Rattle.std.proofs.Common.{◌<◌, ◌∙◌, sym, subst, length}
+use Rattle.std.proofs.Common.{◌<◌, ◌∙◌, subst, length}
 use Rattle.plcells.specs.Skipping.{IsPlaced}
 use Rattle.plcells.proofs.Values.{read-at}
 use Rattle.plcells.proofs.Inside.{embedded}

@@ -1,7 +1,6 @@
-use Rattle.std.proofs.Common.{◌≡◌, ◌∙◌, ◌<◌, ◌+◌, ℕ, length, map, get_or, ap, sym, subst, arith, below_more}
+use Rattle.std.proofs.Common.{◌≡◌, ◌∙◌, length, get_or, ap, sym, subst, below_more}
 use Rattle.std.proofs.lemmas.List.{length-map, get_or_default}
-use Rattle.plcells.specs.declared.cell.Cell.TheVariants.{Free, Atom, Ref, Lone}
-use Rattle.plcells.specs.Store.{at}
+use Rattle.plcells.specs.declared.cell.Cell.TheVariants.{Free, Atom}
 use Rattle.plcells.specs.Skipping.{plain, IsPlaced}
 use Rattle.plcells.proofs.Pushing.{placed-at}
 use Rattle.plcells.proofs.heap.embed_all.Goals as goal

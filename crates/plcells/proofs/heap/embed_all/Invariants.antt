@@ -1,4 +1,4 @@
-use Rattle.std.proofs.Common.{◌≡◌, ◌<◌, ℕ, length, map}
+use Rattle.std.proofs.Common.{◌≡◌, ◌<◌, ℕ, map}
 use Rattle.plcells.specs.declared.cell.Cell.TheVariants.{Lone, Ref}
 use Rattle.plcells.specs.Store.{at}
 use Rattle.plcells.specs.Skipping.{plain}

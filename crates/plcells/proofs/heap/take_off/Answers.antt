@@ -1,7 +1,7 @@
-use Rattle.std.proofs.Common.{◌∙◌, ◌≤◌, ◌<◌, length, drop, refl, arith, subst, sym, ap}
+use Rattle.std.proofs.Common.{◌∙◌, ◌≤◌, length, arith, subst, sym}
 use Rattle.std.proofs.lemmas.List.{length-set}
 use Rattle.plcells.specs.declared.cell.Cell.TheVariants.{Free}
-use Rattle.plcells.specs.Store.{AllBelow, at, reset}
+use Rattle.plcells.specs.Store.{AllBelow}
 use Rattle.plcells.proofs.Kept.{below-append, undo_step, undo_trail}
 use Rattle.plcells.proofs.heap.take_off.Goals as goal
 

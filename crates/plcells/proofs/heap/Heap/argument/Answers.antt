@@ -1,6 +1,5 @@
-use Rattle.std.proofs.Common.{◌≡◌, ◌∙◌, map, length, refl, arith}
+use Rattle.std.proofs.Common.{arith}
 use Rattle.std.proofs.lemmas.List.{length-map}
-use Rattle.plcells.specs.Store.{Store}
 use Rattle.plcells.specs.Skipping.{plain}
 use Rattle.plcells.proofs.Values.{read-plain, argument-value}
 use Rattle.plcells.proofs.heap.Heap.argument.Goals as goal

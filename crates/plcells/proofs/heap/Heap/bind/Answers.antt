@@ -1,8 +1,7 @@
-use Rattle.std.proofs.Common.{◌≡◌, ◌∙◌, ◌<◌, ℕ, map, length, refl, sym, ap, ap₂, subst, arith, nat_lt, set}
+use Rattle.std.proofs.Common.{◌<◌, map, length, refl, sym, subst, arith}
 use Rattle.std.proofs.lemmas.List.{length-map}
-use Rattle.plcells.specs.declared.cell.Trailed.{Trailed}
-use Rattle.plcells.specs.Store.{Store, IsBinding, Binds, linked, number_at, value, trailed_if}
-use Rattle.plcells.specs.Skipping.{plain, IsInside}
+use Rattle.plcells.specs.Store.{Store, IsBinding}
+use Rattle.plcells.specs.Skipping.{plain}
 use Rattle.plcells.proofs.Kept.{Binds-linked}
 use Rattle.plcells.proofs.Inside.{found-place, inside-linked, cells-linked}
 use Rattle.plcells.proofs.heap.Heap.bind.Goals as goal

@@ -1,6 +1,6 @@
-use Rattle.std.proofs.Common.{◌≡◌, ◌∙◌, map, length, arith, sym, ap, subst, inl, inr}
+use Rattle.std.proofs.Common.{arith, sym, ap, subst, inl, inr}
 use Rattle.std.proofs.lemmas.List.{length-map}
-use Rattle.plcells.specs.Store.{Store, IsBlock}
+use Rattle.plcells.specs.Store.{IsBlock}
 use Rattle.plcells.specs.Skipping.{plain}
 use Rattle.plcells.proofs.Values.{read-plain}
 use Rattle.plcells.proofs.Searching.{block-at}

@@ -1,9 +1,8 @@
-use Rattle.std.proofs.Common.{◌≡◌, ◌∙◌, ◌<◌, ◌≤◌, ◌+◌, ◌^◌, ◌∷◌, ◌++◌, [], ℕ, suc, length, length-append, map, refl, ap, ap₂, sym, subst, arith, append-nil}
-use Rattle.std.proofs.lemmas.List.{length-map, map-append}
+use Rattle.std.proofs.Common.{◌≡◌, ◌∙◌, ◌<◌, ◌+◌, ◌^◌, ◌∷◌, [], ℕ, suc, length, length-append, map, refl, ap, sym, subst, arith, append-nil}
+use Rattle.std.proofs.lemmas.List.{length-map}
 use Rattle.plterm.specs.Tree.{compound, trees}
 use Rattle.platoms.specs.Names.{functor_name}
-use Rattle.plcells.specs.declared.cell.Cell.{Cell}
-use Rattle.plcells.specs.declared.cell.Cell.TheVariants.{Free, Lone, Fun, Str, Ref}
+use Rattle.plcells.specs.declared.cell.Cell.TheVariants.{Lone, Fun, Str}
 use Rattle.plcells.specs.Store.{Store, AddsValue, grown, at, value}
 use Rattle.plcells.specs.Skipping.{plain, IsInside}
 use Rattle.plcells.proofs.Pushing.{as-grown, all-placed, block-cells, block-inside, block-added}

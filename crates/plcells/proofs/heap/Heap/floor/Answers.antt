@@ -1,4 +1,3 @@
-use Rattle.plcells.specs.Skipping.{IsClosed}
 use Rattle.plcells.proofs.Searching.{closed-none}
 use Rattle.plcells.proofs.heap.Heap.floor.Goals as goal
 

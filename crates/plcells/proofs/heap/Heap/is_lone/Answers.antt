@@ -1,4 +1,4 @@
-use Rattle.std.proofs.Common.{◌∙◌, map, length, arith}
+use Rattle.std.proofs.Common.{◌∙◌, map, arith}
 use Rattle.std.proofs.lemmas.List.{length-map}
 use Rattle.plcells.specs.Skipping.{plain}
 use Rattle.plcells.proofs.Values.{read-at, variable-within}

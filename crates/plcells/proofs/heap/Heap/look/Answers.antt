@@ -1,8 +1,8 @@
-use Rattle.std.proofs.Common.{◌≡◌, ◌∙◌, ◌+◌, ◌<◌, ◌≤◌, ◌||◌, ◌∷◌, [], ◌++◌, ℕ, suc, false, true, arith, ap, sym, subst}
-use Rattle.plterm.specs.Tree.{var, trees}
+use Rattle.std.proofs.Common.{◌≡◌, ◌∙◌, ◌+◌, ◌||◌, suc, arith, ap, sym}
+use Rattle.plterm.specs.Tree.{trees}
 use Rattle.plsubst.specs.Subst.{occurs, occurs_in}
-use Rattle.plcells.specs.Store.{Store, term, terms, HasTerms}
-use Rattle.plcells.specs.Walking.{weight, weights, weigh, occurs_any, AreBlocks}
+use Rattle.plcells.specs.Store.{term, terms}
+use Rattle.plcells.specs.Walking.{weights, occurs_any}
 use Rattle.plcells.proofs.Searching.{weight-some, some-argument, none-argument, block-weight, same-some, other-none, leaf, skipped-left, skipped-lighter, pushed-left, pushed-lighter, blocks-push, start-left, start-lighter}
 use Rattle.plcells.proofs.heap.Heap.look.Goals as goal
 use Rattle.plcells.proofs.heap.Heap.look.Goals.{in-Ref+else-c-x, in-Str+then-q-floor+in_ok-push-in-Str, in-Str+else-q-floor, in_default-root}

@@ -1,4 +1,3 @@
-use Rattle.std.proofs.Common.{arith}
 use Rattle.plcells.proofs.Inside.{inside-empty}
 use Rattle.plcells.proofs.heap.Heap.new.Goals as goal
 

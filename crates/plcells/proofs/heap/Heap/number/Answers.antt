@@ -1,7 +1,6 @@
-use Rattle.std.proofs.Common.{◌≡◌, ◌∙◌, map, length, refl, sym, ap, arith}
+use Rattle.std.proofs.Common.{◌∙◌, map, sym, ap, arith}
 use Rattle.std.proofs.lemmas.List.{length-map, get_or_read}
 use Rattle.plterm.specs.Tree.{var}
-use Rattle.plcells.specs.Store.{Store}
 use Rattle.plcells.specs.Skipping.{plain}
 use Rattle.plcells.proofs.Values.{read-plain, variable-within, variable-place, number-term, place-within}
 use Rattle.plcells.proofs.heap.Heap.number.Goals as goal

@@ -1,6 +1,5 @@
-use Rattle.std.proofs.Common.{◌≡◌, ◌∙◌, arith, ap, sym, subst, nat_eq}
+use Rattle.std.proofs.Common.{◌∙◌, ap, sym}
 use Rattle.plsubst.specs.Subst.{occurs}
-use Rattle.plcells.specs.Store.{Store, term, value}
 use Rattle.plcells.proofs.Searching.{leaf, variable-occurs}
 use Rattle.plcells.proofs.heap.Heap.occurs.Goals as goal
 

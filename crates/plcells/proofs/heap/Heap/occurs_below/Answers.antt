@@ -1,5 +1,4 @@
-use Rattle.std.proofs.Common.{◌≡◌, ◌∙◌, ◌||◌, length, ◌∷◌, [], ◌++◌, arith, ap, sym, subst, rules}
-use Rattle.plcells.specs.Store.{Store, term}
+use Rattle.std.proofs.Common.{◌≡◌, ◌∙◌, ◌||◌, length, arith, ap, sym, subst}
 use Rattle.plcells.specs.Walking.{weigh, occurs_any, AreBlocks}
 use Rattle.plcells.proofs.Searching.{blocks-pop, any-push, weigh-push, one-block, or-all, one-occurs, empty-none}
 use Rattle.plcells.proofs.heap.Heap.occurs_below.Goals as goal

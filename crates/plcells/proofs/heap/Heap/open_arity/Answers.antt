@@ -1,6 +1,6 @@
-use Rattle.std.proofs.Common.{◌≡◌, ◌∙◌, ℕ, map, length, arith, sym, ap, subst}
+use Rattle.std.proofs.Common.{◌∙◌, arith, sym, ap, subst}
 use Rattle.std.proofs.lemmas.List.{length-map}
-use Rattle.plcells.specs.Store.{IsHead, IsGround, HasTerms, Store}
+use Rattle.plcells.specs.Store.{IsHead, IsGround, HasTerms}
 use Rattle.plcells.specs.Skipping.{plain}
 use Rattle.plcells.proofs.Values.{read-plain}
 use Rattle.plcells.proofs.Searching.{has-terms, ground-head, ground-none, plain-fun, some-same}

@@ -1,7 +1,6 @@
-use Rattle.std.proofs.Common.{◌≡◌, ◌<◌, ◌∙◌, map, length, refl, sym, ap, subst, arith}
+use Rattle.std.proofs.Common.{◌<◌, ◌∙◌, map, sym, ap, subst, arith}
 use Rattle.std.proofs.lemmas.List.{length-map}
-use Rattle.plcells.specs.declared.cell.Cell.TheVariants.{Ref}
-use Rattle.plcells.specs.Store.{Store, IsValue, value, at}
+use Rattle.plcells.specs.Store.{IsValue, value}
 use Rattle.plcells.specs.Skipping.{plain}
 use Rattle.plcells.proofs.Values.{read-plain, plain-same, argument-value, root-nearer, distance}
 use Rattle.plcells.proofs.heap.Heap.root.Goals as goal

@@ -1,6 +1,6 @@
-use Rattle.std.proofs.Common.{◌≡◌, ◌∙◌, map, length, take, drop, refl, sym, ap, ap₂, subst}
-use Rattle.plcells.specs.Store.{Store, reset, cut}
-use Rattle.plcells.specs.Skipping.{plain, IsInside}
+use Rattle.std.proofs.Common.{◌∙◌, map, take, refl, ap}
+use Rattle.plcells.specs.Store.{Store, cut}
+use Rattle.plcells.specs.Skipping.{plain}
 use Rattle.plcells.proofs.Inside.{cells-cut, inside-cut}
 use Rattle.plcells.proofs.heap.Heap.undo.Goals as goal
 

@@ -1,6 +1,5 @@
-use Rattle.std.proofs.Common.{◌≡◌, ◌∙◌, ◌<◌, ◌+◌, ◌^◌, ◌∷◌, ◌++◌, [], ℕ, length, map, refl, ap, ap₂, sym, subst, arith, append-nil}
+use Rattle.std.proofs.Common.{◌≡◌, ◌∙◌, ◌<◌, ◌+◌, ◌^◌, ◌∷◌, [], length, map, refl, ap, sym, subst, arith, append-nil}
 use Rattle.std.proofs.lemmas.List.{length-map, map-append}
-use Rattle.plcells.specs.declared.cell.Cell.{Cell}
 use Rattle.plcells.specs.declared.cell.Cell.TheVariants.{Free, Lone}
 use Rattle.plcells.specs.Store.{Store, AddsVariable, grown}
 use Rattle.plcells.specs.Skipping.{plain, IsInside, IsClosing}
