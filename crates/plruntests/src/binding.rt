@@ -1,5 +1,6 @@
-use crate::unify::{Scratch, unify};
+//! Unification on the heap of the machine (plbind).
 use platoms::names::Names;
+use plbind::unify::{Scratch, unify};
 use plcells::cell::Cell;
 use plcells::heap::Heap;
 use std::test::Fail;
