@@ -1,5 +1,7 @@
 -- The turns that take no step.
 use Rattle.std.proofs.Common.{◌≡◌, ℕ, zero, suc, Bool, true, false, if◌then◌else◌, List, [], ◌∷◌, refl, sym, ap, ap₂, ◌∙◌, arith, map, nat_eq, IsTrue, ◌↔◌, Some, None, length, ◌+◌, ◌<◌, ◌≤◌, subst, inl, inr}
+use Rattle.std.proofs.lemmas.Bool.{eqb-true}
+use Rattle.std.proofs.lemmas.Bool.Decides.{nat_tests}
 use Rattle.plheap.specs.Store.{term}
 use Rattle.plevent.specs.Search.{Answer}
 use Rattle.plprogram.specs.Program.{Program, clauses_for}
@@ -12,7 +14,7 @@ use Rattle.plsearch.specs.Lists.{bind_goals}
 use Rattle.plsearch.specs.Running.{runnable}
 use Rattle.plsearch.specs.Rows.{select, meet, catching}
 use Rattle.plsearch.specs.Handlers.{resume, has, met_by, recovers}
-use Rattle.plsearch.specs.Engine.{deeper, mark}
+use Rattle.plsearch.specs.Engine.{deeper, mark, stop_cut}
 use Rattle.plsearch.specs.Machines.Machine.{At, Back, Machine, Rest, return, turn, step}
 use Rattle.plsearch.specs.Machines.Weight.{weight, Lighter}
 use Rattle.plsearch.proofs.Turns.{Rest-turn}
@@ -27,7 +29,7 @@ use Rattle.plsolve.specs.declared.progress.Mode.{Mode as Going}
 use Rattle.plsolve.specs.declared.progress.Mode.TheVariants as modes
 use Rattle.plsolve.specs.declared.progress.Progress.{Progress}
 use Rattle.plsolve.specs.Heads.{AtGoal, AtMarker}
-use Rattle.plsolve.specs.Solver.{result_of, mode_of, local_of, depth_of, machine, Quiet, Stays, IsOver, marked, marked_result, cut_stopped, stopped_result, fail_if, result_throws, throws_to, Recovered}
+use Rattle.plsolve.specs.Solver.{result_of, mode_of, local_of, depth_of, machine, Quiet, Stays, IsOver, Becomes, result_throws, throws_to, Recovered}
 use Rattle.plsolve.proofs.Cutting.{cut-place, cut-rest, cut-weight}
 
 pub at_place : (P : Program) (s : Progress) (p : Place) → s.mode ≡ modes.Visit → place_of s.stack ≡ p → (left : ℕ) (answers : List Answer) →
@@ -170,48 +172,104 @@ quiet-close P s st at was = quiet P s _ (record {
   goes = λ x is no. some_case _ _ _ was no;
 })
 
-mark-result : (l : ℕ) (r : Outcome) → result_of (marked_result l r) ≡ mark l (result_of r)
-mark-result l outcomes.Fail = refl
-mark-result l outcomes.Stop = refl
-mark-result l (outcomes.CutTo k) = refl
-mark-result l (outcomes.Throw t ls) = refl
-mark-result l (outcomes.Halted n) = refl
-mark-result l outcomes.Spent = refl
+-- what a result becomes behind a mark
+pub becomes-cut : (s : Progress) (l : ℕ) → s.mode ≡ modes.Back outcomes.Fail → Becomes s (record s { mode = modes.Back (outcomes.CutTo l) }) (mark l)
+becomes-cut s l fails = record {
+  frame = refl;
+  is = λ r e.
+      let same : r ≡ outcomes.Fail = carries_one (sym e ∙ fails) in
+      (outcomes.CutTo l, refl, ap (λ r. mark l (result_of r)) (sym same));
+}
+  where
+    carries_one : {r q : Outcome} → modes.Back r ≡ modes.Back q → r ≡ q
+    carries_one e = cc
+
+pub becomes-marked : (s : Progress) (l : ℕ) → (s.mode ≡ modes.Back outcomes.Fail → ⊥) → Becomes s s (mark l)
+becomes-marked s l not = record { frame = refl; is = λ r e. (r, e, go r (λ f. not (e ∙ ap modes.Back f))) }
+  where
+    go : (r : Outcome) → (r ≡ outcomes.Fail → ⊥) → result_of r ≡ mark l (result_of r)
+    go outcomes.Fail other = absurd (other refl)
+    go outcomes.Stop other = refl
+    go (outcomes.CutTo k) other = refl
+    go (outcomes.Throw t ls) other = refl
+    go (outcomes.Halted n) other = refl
+    go outcomes.Spent other = refl
+
+-- and at a choice
+pub becomes-stopped : (s : Progress) (l d : ℕ) → s.mode ≡ modes.Back (outcomes.CutTo l) → l ≡ d → Becomes s (record s { mode = modes.Back outcomes.Fail }) (stop_cut d)
+becomes-stopped s l d cuts at = record {
+  frame = refl;
+  is = λ r e.
+      let same : r ≡ outcomes.CutTo l = carries_one (sym e ∙ cuts) in
+      (outcomes.Fail, refl, stops (nat_eq l d) (grind (arith, nat_tests, at)) ∙ ap (λ r. stop_cut d (result_of r)) (sym same));
+}
+  where
+    carries_one : {r q : Outcome} → modes.Back r ≡ modes.Back q → r ≡ q
+    carries_one e = cc
+
+    stops : (b : Bool) → b ≡ true → ◌≡◌ {A = Result} Fail (if b then Fail else CutTo l)
+    stops true e = refl
+    stops false e = absurd (grind (arith, e))
+
+pub becomes-uncut : (s : Progress) (d : ℕ) → ((l : ℕ) → s.mode ≡ modes.Back (outcomes.CutTo l) → ⊥) → Becomes s s (stop_cut d)
+becomes-uncut s d not = record { frame = refl; is = λ r e. (r, e, go r (λ l c. not l (e ∙ ap modes.Back c))) }
+  where
+    go : (r : Outcome) → ((l : ℕ) → r ≡ outcomes.CutTo l → ⊥) → result_of r ≡ stop_cut d (result_of r)
+    go outcomes.Fail other = refl
+    go outcomes.Stop other = refl
+    go (outcomes.CutTo l) other = absurd (other l refl)
+    go (outcomes.Throw t ls) other = refl
+    go (outcomes.Halted n) other = refl
+    go outcomes.Spent other = refl
+
+pub becomes-further : (s : Progress) (l d : ℕ) → s.mode ≡ modes.Back (outcomes.CutTo l) → (l ≡ d → ⊥) → Becomes s s (stop_cut d)
+becomes-further s l d cuts apart = record {
+  frame = refl;
+  is = λ r e.
+      let same : r ≡ outcomes.CutTo l = carries_one (sym e ∙ cuts) in
+      (r, e, ap result_of same ∙ goes (nat_eq l d) (differs (nat_eq l d) refl) ∙ ap (λ r. stop_cut d (result_of r)) (sym same));
+}
+  where
+    carries_one : {r q : Outcome} → modes.Back r ≡ modes.Back q → r ≡ q
+    carries_one e = cc
+
+    differs : (b : Bool) → nat_eq l d ≡ b → nat_eq l d ≡ false
+    differs true e = absurd (apart (eqb-true l d e))
+    differs false e = e
+
+    goes : (b : Bool) → b ≡ false → ◌≡◌ {A = Result} (CutTo l) (if b then Fail else CutTo l)
+    goes true e = absurd (grind (arith, e))
+    goes false e = refl
 
 pub quiet-mark : (P : Program) (s new : Progress) (st : State) (l : ℕ) → (s.mode ≡ modes.Visit → ⊥) → cases_of (clauses_for P) s.stack ≡ Mark l ∷ cases_of (clauses_for P) st →
-    new ≡ record s { stack = st; mode = marked l s.mode } → Quiet P s new
+    Becomes (record s { stack = st }) new (mark l) → Quiet P s new
 unfolding turn
-quiet-mark P s new st l back was is = rw is (go s.mode refl)
+quiet-mark P s new st l back was b = go s.mode refl
   where
-    go : (m : Going) → s.mode ≡ m → Quiet P s (record s { stack = st; mode = marked l m })
+    go : (m : Going) → s.mode ≡ m → Quiet P s new
     go modes.Visit e = absurd (back e)
-    go (modes.Back r) e = quiet P s _ (record {
-      used = refl;
-      limit = refl;
-      places = refl;
-      turned = λ left answers few.
-          carried P (record s { stack = st; mode = modes.Back (marked_result l r) }) (marked_result l r) (cases_of (clauses_for P) st) refl refl left answers
-          ∙ ap (λ x. record { mode = Back x; cases = cases_of (clauses_for P) st; run = record { steps = left; answers = answers; local = local_of s } }) (mark-result l r)
-          ∙ sym (ap (turn P) (carried P s r (Mark l ∷ cases_of (clauses_for P) st) e was left answers));
-      goes = λ x is no. some_case _ _ _ was no;
-    })
+    go (modes.Back r) e =
+        let made = b.is r e in
+        let is : new ≡ record s { stack = st; mode = modes.Back made.0 } = b.frame ∙ ap (λ m. record s { stack = st; mode = m }) made.1 in
+        subst (Quiet P s) (sym is) (quiet P s _ (record {
+          used = refl;
+          limit = refl;
+          places = refl;
+          turned = λ left answers few.
+              carried P (record s { stack = st; mode = modes.Back made.0 }) made.0 (cases_of (clauses_for P) st) refl refl left answers
+              ∙ ap (λ x. record { mode = Back x; cases = cases_of (clauses_for P) st; run = record { steps = left; answers = answers; local = local_of s } }) made.2
+              ∙ sym (ap (turn P) (carried P s r (Mark l ∷ cases_of (clauses_for P) st) e was left answers));
+          goes = λ x is no. some_case _ _ _ was no;
+        }))
 
 cut-result : (P : Program) (d : ℕ) (r : Outcome) (ps : List Place) (cases : List Case) (run : Run) → deeper cases 0 ≡ d → (r ≡ outcomes.Fail → ps ≡ []) →
-    ◌≡◌ {A = Machine} (record { mode = Back (result_of (stopped_result d r)); cases = cases; run = run }) (turn P (record { mode = Back (result_of r); cases = Choice ps ∷ cases; run = run }))
+    ◌≡◌ {A = Machine} (record { mode = Back (stop_cut d (result_of r)); cases = cases; run = run }) (turn P (record { mode = Back (result_of r); cases = Choice ps ∷ cases; run = run }))
 unfolding turn
 cut-result P d outcomes.Fail ps cases run is none = rw (none refl) refl
 cut-result P d outcomes.Stop [] cases run is none = refl
 cut-result P d outcomes.Stop (p ∷ ps) cases run is none = refl
-cut-result P d (outcomes.CutTo l) [] cases run is none = rw is (cuts (nat_eq l d))
-  where
-    cuts : (b : Bool) → ◌≡◌ {A = Machine} (record { mode = Back (result_of (fail_if b l)); cases = cases; run = run }) (record { mode = Back (if b then Fail else CutTo l); cases = cases; run = run })
-    cuts true = refl
-    cuts false = refl
-cut-result P d (outcomes.CutTo l) (p ∷ ps) cases run is none = rw is (cuts (nat_eq l d))
-  where
-    cuts : (b : Bool) → ◌≡◌ {A = Machine} (record { mode = Back (result_of (fail_if b l)); cases = cases; run = run }) (record { mode = Back (if b then Fail else CutTo l); cases = cases; run = run })
-    cuts true = refl
-    cuts false = refl
+cut-result P d (outcomes.CutTo l) [] cases run is none = rw is refl
+cut-result P d (outcomes.CutTo l) (p ∷ ps) cases run is none = rw is refl
 cut-result P d (outcomes.Throw t ls) [] cases run is none = refl
 cut-result P d (outcomes.Throw t ls) (p ∷ ps) cases run is none = refl
 cut-result P d (outcomes.Halted n) [] cases run is none = refl
@@ -220,22 +278,26 @@ cut-result P d outcomes.Spent [] cases run is none = refl
 cut-result P d outcomes.Spent (p ∷ ps) cases run is none = refl
 
 pub quiet-choice : (P : Program) (s new : Progress) (st : State) (ps : List Place) → (s.mode ≡ modes.Visit → ⊥) → cases_of (clauses_for P) s.stack ≡ Choice ps ∷ cases_of (clauses_for P) st →
-    (s.mode ≡ modes.Back outcomes.Fail → ps ≡ []) → new ≡ record s { stack = st; mode = cut_stopped (deeper (cases_of (clauses_for P) st) 0) s.mode } → Quiet P s new
-quiet-choice P s new st ps back was none is = rw is (go s.mode refl)
+    (s.mode ≡ modes.Back outcomes.Fail → ps ≡ []) → Becomes (record s { stack = st }) new (stop_cut (deeper (cases_of (clauses_for P) st) 0)) → Quiet P s new
+quiet-choice P s new st ps back was none b = go s.mode refl
   where
-    go : (m : Going) → s.mode ≡ m → Quiet P s (record s { stack = st; mode = cut_stopped (deeper (cases_of (clauses_for P) st) 0) m })
+    go : (m : Going) → s.mode ≡ m → Quiet P s new
     go modes.Visit e = absurd (back e)
-    go (modes.Back r) e = quiet P s _ (record {
-      used = refl;
-      limit = refl;
-      places = refl;
-      turned = λ left answers few.
-          let d : ℕ = deeper (cases_of (clauses_for P) st) 0 in
-          carried P (record s { stack = st; mode = modes.Back (stopped_result d r) }) (stopped_result d r) (cases_of (clauses_for P) st) refl refl left answers
-          ∙ cut-result P d r ps (cases_of (clauses_for P) st) (record { steps = left; answers = answers; local = local_of s }) refl (λ f. none (e ∙ ap modes.Back f))
-          ∙ sym (ap (turn P) (carried P s r (Choice ps ∷ cases_of (clauses_for P) st) e was left answers));
-      goes = λ x is no. some_case _ _ _ was no;
-    })
+    go (modes.Back r) e =
+        let made = b.is r e in
+        let is : new ≡ record s { stack = st; mode = modes.Back made.0 } = b.frame ∙ ap (λ m. record s { stack = st; mode = m }) made.1 in
+        subst (Quiet P s) (sym is) (quiet P s _ (record {
+          used = refl;
+          limit = refl;
+          places = refl;
+          turned = λ left answers few.
+              let d : ℕ = deeper (cases_of (clauses_for P) st) 0 in
+              carried P (record s { stack = st; mode = modes.Back made.0 }) made.0 (cases_of (clauses_for P) st) refl refl left answers
+              ∙ ap (λ x. record { mode = Back x; cases = cases_of (clauses_for P) st; run = record { steps = left; answers = answers; local = local_of s } }) made.2
+              ∙ cut-result P d r ps (cases_of (clauses_for P) st) (record { steps = left; answers = answers; local = local_of s }) refl (λ f. none (e ∙ ap modes.Back f))
+              ∙ sym (ap (turn P) (carried P s r (Choice ps ∷ cases_of (clauses_for P) st) e was left answers));
+          goes = λ x is no. some_case _ _ _ was no;
+        }))
 
 pub over-now : (P : Program) (s : Progress) → (s.mode ≡ modes.Visit → ⊥) → cases_of (clauses_for P) s.stack ≡ [] → IsOver P s
 over-now P s back none = go s.mode refl
@@ -253,6 +315,12 @@ stays-back P s st r at same = record {
   out = refl;
   same = λ left answers. carried P (record s { stack = st }) r (cases_of (clauses_for P) s.stack) at same left answers ∙ sym (carried P s r (cases_of (clauses_for P) s.stack) at refl left answers);
 }
+
+pub holds : {A : Type 0} (b : Bool) → (IsTrue b ↔ A) → b ≡ true → A
+holds b iff is = grind (arith, is, iff.0)
+
+pub holds_not : {A : Type 0} (b : Bool) → (IsTrue b ↔ A) → b ≡ false → A → ⊥
+holds_not b iff is x = grind (arith, is, iff.1 x)
 
 pub not_both : {A B : Type 0} (b : Bool) → (IsTrue b ↔ (A × B)) → b ≡ false → A → B → ⊥
 not_both b iff is x y = grind (arith, is, iff.1 (x, y))

@@ -165,33 +165,10 @@ pub record Stepped (P : Program) (old new : Progress) : Type 0 where
   pub limit : new.limit ≡ old.limit
   pub places : new.places.items ≡ old.places.items
 
-abbrev pub marked_result : ℕ → Outcome → Outcome
-marked_result l outcomes.Fail = outcomes.CutTo l
-marked_result l outcomes.Stop = outcomes.Stop
-marked_result l (outcomes.CutTo k) = outcomes.CutTo k
-marked_result l (outcomes.Throw t ls) = outcomes.Throw t ls
-marked_result l (outcomes.Halted n) = outcomes.Halted n
-marked_result l outcomes.Spent = outcomes.Spent
-
-abbrev pub marked : ℕ → Going → Going
-marked l modes.Visit = modes.Visit
-marked l (modes.Back r) = modes.Back (marked_result l r)
-
-abbrev pub fail_if : Bool → ℕ → Outcome
-fail_if true l = outcomes.Fail
-fail_if false l = outcomes.CutTo l
-
-abbrev pub stopped_result : ℕ → Outcome → Outcome
-stopped_result d outcomes.Fail = outcomes.Fail
-stopped_result d outcomes.Stop = outcomes.Stop
-stopped_result d (outcomes.CutTo l) = fail_if (nat_eq l d) l
-stopped_result d (outcomes.Throw t ls) = outcomes.Throw t ls
-stopped_result d (outcomes.Halted n) = outcomes.Halted n
-stopped_result d outcomes.Spent = outcomes.Spent
-
-abbrev pub cut_stopped : ℕ → Going → Going
-cut_stopped d modes.Visit = modes.Visit
-cut_stopped d (modes.Back r) = modes.Back (stopped_result d r)
+-- the result that is carried becomes another
+pub record Becomes (old new : Progress) (f : Result → Result) : Type 0 where
+  pub frame : new ≡ record old { mode = new.mode }
+  pub is : (r : Outcome) → old.mode ≡ modes.Back r → (made : Outcome) × (new.mode ≡ modes.Back made) × (result_of made ≡ f (result_of r))
 
 -- it carries a ball, and the level is among those of the markers behind it
 abbrev pub result_throws : ℕ → Outcome → Bool

@@ -1,12 +1,12 @@
 //! The turns of a search that take no step: markers are passed, and results go outward.
 
-ghost use Rattle.std.specs.Prelude.{◌≡◌, ◌-◌, ◌<◌, ◌≤◌, ◌↔◌, length, IfOk, OnOk, OnErr, IfSome, IfNone, IsNone, IsTrue, true};
+ghost use Rattle.std.specs.Prelude.{◌≡◌, ◌-◌, ◌<◌, ◌≤◌, ◌↔◌, ℕ, length, IfOk, OnOk, OnErr, IfSome, IfNone, IsNone, IsTrue, true};
 ghost use Rattle.plprogram.specs.Program.{clauses_for};
-ghost use Rattle.plsearch.specs.Engine.{deeper};
+ghost use Rattle.plsearch.specs.Engine.{stop_cut, mark, deeper};
 ghost use Rattle.plframe.specs.Places.{Statics};
 ghost use Rattle.plframe.specs.State.{cases_of, HasCall, HasBranch, HasHandler, IsList};
 ghost use Rattle.plsolve.specs.Heads.{AtMarker};
-ghost use Rattle.plsolve.specs.Solver.{Stays, Quiet, Settled, throws_to, Recovered, Rethrown, marked, cut_stopped};
+ghost use Rattle.plsolve.specs.Solver.{Stays, Quiet, Settled, throws_to, Recovered, Rethrown, Becomes};
 
 use crate::error;
 use crate::head::{Head, head_of};
@@ -234,24 +234,45 @@ impl Progress {
         self.fails() && self.stack.is_branch()
     }
 
+    /// The level that the choices are given up to, if that is the result that is carried.
+    fn cut_level(&self) -> Option<u32>
+        ensures some { IfSome result (λ level. self.now.mode ≡ Mode.Back (Outcome.CutTo level)) }
+        ensures none { IfNone result ((level : ℕ) → self.now.mode ≡ Mode.Back (Outcome.CutTo level) → ⊥) }
+    {
+        let Mode::Back(outcome) = &self.mode else {
+            return None;
+        };
+        match outcome {
+            Outcome::CutTo(level) => Some(*level),
+            Outcome::Stop
+            | Outcome::Fail
+            | Outcome::Throw(_, _)
+            | Outcome::Halted(_)
+            | Outcome::Spent => None,
+        }
+    }
+
     /// Behind a mark Fail is a cut to its level.
     fn pass_mark(&mut self, level: u32)
-        ensures { self.new ≡ record self.old { mode = marked level self.old.mode } }
+        ensures { Becomes self.old self.new (mark level) }
     {
         if self.fails() {
             self.mode = Mode::Back(Outcome::CutTo(level));
+            return;
         }
     }
 
     /// A cut to the level of a choice ends there.
     fn stop_cut(&mut self)
-        ensures { (statics : Statics) → self.new ≡ record self.old { mode = cut_stopped (deeper (cases_of statics self.old.stack) 0) self.old.mode } }
+        ensures { (statics : Statics) → Becomes self.old self.new (stop_cut (deeper (cases_of statics self.old.stack) 0)) }
     {
         let depth = self.stack.depth();
-        if let Mode::Back(Outcome::CutTo(level)) = &self.mode {
-            if *level == depth {
-                self.mode = Mode::Back(Outcome::Fail);
-            }
+        let Some(level) = self.cut_level() else {
+            return;
+        };
+        if level == depth {
+            self.mode = Mode::Back(Outcome::Fail);
+            return;
         }
     }
 }
