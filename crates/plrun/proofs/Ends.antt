@@ -5,8 +5,7 @@ use Rattle.plevent.specs.declared.request.Reply.{Reply}
 use Rattle.plevent.specs.declared.act.Entry.{Entry}
 use Rattle.plevent.specs.Reading.{reading}
 use Rattle.plevent.specs.Rows.{served}
-use Rattle.plevent.specs.Search.{Ask, Got, Finishes, Search, item_of, item_of_end}
-use Rattle.plhist.specs.declared.history.Run.{Run}
+use Rattle.plevent.specs.Search.{Ask, Got, Search, item_of, item_of_end}
 use Rattle.plhist.specs.declared.history.RunEnd.{RunEnd}
 use Rattle.plhist.specs.Follows.{replied, HasAsked, HasEnded, from_start, asks_of, last_of}
 use Rattle.plsearch.specs.Solving.{EndsAt}

@@ -1,9 +1,9 @@
 -- How main's search ends the run: once that is done, and no sooner.
-use Rattle.std.proofs.Common.{◌≡◌, ℕ, zero, suc, ◌+◌, ◌<◌, ◌≤◌, Bool, true, false, inl, inr, List, [], ◌∷◌, ◌++◌, min, length, Option, Some, None, refl, sym, ap, ◌∙◌, subst, arith, nat_eq, if◌then◌else◌}
+use Rattle.std.proofs.Common.{◌≡◌, ℕ, zero, suc, ◌+◌, ◌<◌, Bool, true, false, inl, inr, List, [], ◌∷◌, ◌++◌, min, length, Option, Some, None, refl, sym, ap, ◌∙◌, subst, arith, nat_eq, if◌then◌else◌}
 use Rattle.std.specs.List.{filter_map, cons_option}
 use Rattle.std.specs.Option.{option_map}
 use Rattle.plterm.specs.Tree.{Tree, var, int, atom, compound}
-use Rattle.plterm.specs.Variables.{copied, variables}
+use Rattle.plterm.specs.Variables.{copied}
 use Rattle.plterm.specs.declared.indicator.Indicator.{Indicator}
 use Rattle.plsubst.specs.Subst.{bind, shift}
 use Rattle.plsubst.specs.Unify.{unify}
@@ -24,8 +24,8 @@ use Rattle.plprogram.specs.declared.settings.Unknown.TheVariants as unknown
 use Rattle.plbuiltin.specs.Solution.{Solution, Solved, Gives, Raises as Refuses}
 use Rattle.plbuiltin.specs.Solutions.{solutions}
 use Rattle.plsearch.specs.Types.{Result, Stop, Fail, CutTo, Throw, Halted, Spent, Awaits, Stopped, Unfit, Commit, Never, Until, Then, GoesOn, Ends, Question, Look, Await, Element, Goal, Marker, Raise, Asking, Place, Case, Choice, Mark, Handle, Handler, Catch, Return, Keep, Again, Anew, Local, Move, Give, Go, Run}
-use Rattle.plsearch.specs.Errors.{static_error, error_term}
-use Rattle.plsearch.specs.Lists.{bind_element, bind_goals, levels}
+use Rattle.plsearch.specs.Errors.{static_error}
+use Rattle.plsearch.specs.Lists.{bind_element, bind_goals}
 use Rattle.plsearch.specs.Forms.{Form, True, False, Both, Either, IfThenElse, Not, Once, Catching, Throwing, CallWith, Cut, Halting, AddLast, BuiltIn, Call, NoGoal, form}
 use Rattle.plsearch.specs.Running.{Runnable, Runs, Raises, runnable, called}
 use Rattle.plsearch.specs.Rows.{is_true, before_rest, resolve, choose, call, raised, asked, once_1, not_1, catch_3, call_with, assertz_1, first_of, run, thrown, catching, branch, go_on, is_static, add, halting, user, solved, taken, offered, offer, row, select, meet}
@@ -35,7 +35,7 @@ use Rattle.plsearch.specs.Engine.{stop_cut, mark, choice, out, deeper, outs, Vis
 use Rattle.plsearch.specs.Machines.Machine.{Mode, At, Back, Machine, Rest, move, step, ask, visits, backs, turn_in, turn}
 use Rattle.plsearch.specs.Machines.Machine as machines
 use Rattle.plsearch.specs.Machines.Weight.{weight, Lighter}
-use Rattle.plsearch.specs.Search.{start_from, start_of, from_start, next_of, ending_of, search_of}
+use Rattle.plsearch.specs.Search.{start_from, start_of, from_start, next_of, search_of}
 use Rattle.plsearch.proofs.Turns.{Rest-turn}
 use Rattle.plsearch.proofs.Weight.{lighter-turn}
 use Rattle.plrun.specs.Halts.{HaltsWhenDone, HaltsNoSooner, IsCommon, AreCommon}

@@ -1,4 +1,4 @@
-use Rattle.std.proofs.Common.{◌≡◌, ◌∙◌, ◌∷◌, [], Result, Ok, Err, OnOk, IfOk, subst}
+use Rattle.std.proofs.Common.{◌∙◌, ◌∷◌, [], Result, Ok, Err, OnOk, IfOk, subst}
 use Rattle.plsearch.specs.Search.{search_of}
 use Rattle.plsolve.specs.Solver.{rest_of}
 use Rattle.plrun.specs.Overall.{IsHistory}

@@ -1,5 +1,4 @@
-use Rattle.std.proofs.Common.{◌∙◌, ap, refl}
-use Rattle.plevent.specs.Rows.{adds}
+use Rattle.std.proofs.Common.{ap}
 use Rattle.plevent.specs.declared.request.Request.{Request}
 use Rattle.plsearch.specs.Search.{search_of}
 use Rattle.plsolve.specs.declared.progress.Progress.{Progress}
