@@ -1,5 +1,5 @@
 -- A name that is looked up, and put behind the others where it is new.
-use Rattle.std.proofs.Common.{◌≡◌, ℕ, zero, suc, ◌+◌, ◌<◌, ◌≤◌, ◌==◌, eqb-true, eq-eqb, ap₂, Bool, true, false, ◌&&◌, ◌||◌, List, [], ◌∷◌, ◌++◌, length, length-append, get_or, Option, Some, None, refl, sym, ap, ◌∙◌, subst, arith, inl, inr, if◌then◌else◌, cond}
+use Rattle.std.proofs.Common.{◌≡◌, ℕ, zero, suc, ◌<◌, ◌≤◌, ◌==◌, eqb-true, eq-eqb, ap₂, Bool, true, false, ◌&&◌, ◌||◌, List, [], ◌∷◌, ◌++◌, length, length-append, get_or, Some, refl, sym, ap, ◌∙◌, subst, arith, inl, inr, if◌then◌else◌}
 use Rattle.std.specs.Bool.{Decides}
 use Rattle.std.specs.List.{list_any, slice_get}
 use Rattle.std.proofs.lemmas.Bool.{cases_lt}
@@ -31,13 +31,13 @@ module _ {X : Type 0} (eq : X → X → Bool) (decides : (x y : X) → Decides (
   once-push : (xs : List X) (x : X) → Once xs → ((i : ℕ) → i < length xs → get_or xs i d ≡ x → ⊥) → Once (xs ++ x ∷ [])
   once-push xs x once new i j il jl e = elim (cases_lt i (length xs)) [
     | inl io ↦ elim (cases_lt j (length xs)) [
-        | inl jo ↦ once i j io jo (sym (old i io) ∙ e ∙ old j jo)
-        | inr jn ↦ absurd (new i io (sym (old i io) ∙ e ∙ last j (omega (arith, jl, length-append xs (x ∷ [])))))
-      ]
+      | inl jo ↦ once i j io jo (sym (old i io) ∙ e ∙ old j jo)
+      | inr jn ↦ absurd (new i io (sym (old i io) ∙ e ∙ last j (omega (arith, jl, length-append xs (x ∷ [])))))
+    ]
     | inr in_new ↦ elim (cases_lt j (length xs)) [
-        | inl jo ↦ absurd (new j jo (sym (old j jo) ∙ sym e ∙ last i (omega (arith, il, length-append xs (x ∷ [])))))
-        | inr jn ↦ omega (arith, il, jl, length-append xs (x ∷ []))
-      ]
+      | inl jo ↦ absurd (new j jo (sym (old j jo) ∙ sym e ∙ last i (omega (arith, il, length-append xs (x ∷ [])))))
+      | inr jn ↦ omega (arith, il, jl, length-append xs (x ∷ []))
+    ]
   ]
     where
       old : (k : ℕ) → k < length xs → get_or (xs ++ x ∷ []) k d ≡ get_or xs k d
@@ -80,7 +80,7 @@ both_true false q e f = e
 pub same_functor-Decides : (a b : Functor) → Decides (same_functor a b) (a ≡ b)
 same_functor-Decides a b = (
   λ e.
-    let p = both (a.name == b.name) (a.arity == b.arity) e in
-    ap₂ (λ n k. let f : Functor = record { name = n; arity = k } in f) (eqb-true a.name b.name p.0) (eqb-true a.arity b.arity p.1),
+      let p = both (a.name == b.name) (a.arity == b.arity) e in
+      ap₂ (λ n k. let f : Functor = record { name = n; arity = k } in f) (eqb-true a.name b.name p.0) (eqb-true a.arity b.arity p.1),
   λ e. both_true (a.name == b.name) (a.arity == b.arity) (eq-eqb a.name b.name (ap (λ f. f.name) e)) (eq-eqb a.arity b.arity (ap (λ f. f.arity) e)),
 )
