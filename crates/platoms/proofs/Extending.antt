@@ -1,5 +1,5 @@
 -- What stays when a table of names grows.
-use Rattle.std.proofs.Common.{◌≡◌, ℕ, ◌<◌, ◌≤◌, length, length-take, take, refl, sym, ap, ◌∙◌, arith}
+use Rattle.std.proofs.Common.{◌≡◌, ℕ, ◌<◌, ◌≤◌, length, length-take, take, sym, ap, ◌∙◌, arith}
 use Rattle.std.proofs.lemmas.List.{get_or-take, take_all, take-take}
 use Rattle.platoms.specs.Names.{Table, Extends, atom_at, functor_at}
 

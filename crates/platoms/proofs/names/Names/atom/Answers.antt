@@ -1,7 +1,6 @@
-use Rattle.std.proofs.Common.{◌≡◌, ◌≤◌, ◌∙◌, [], length, bytes_eq, rules, sym, arith}
+use Rattle.std.proofs.Common.{◌∙◌, [], bytes_eq, sym, arith}
 use Rattle.std.proofs.lemmas.Slice.Eq.{bytes_eq-Decides}
 use Rattle.plterm.specs.Reading.{IsName}
-use Rattle.platoms.specs.Names.{IsFunctor, functor_at}
 use Rattle.platoms.proofs.Tables.{get-is, insert_once, insert_all_fit, insert_longer}
 use Rattle.platoms.proofs.names.Names.atom.Goals as goal
 

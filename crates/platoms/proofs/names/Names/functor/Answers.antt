@@ -1,6 +1,6 @@
-use Rattle.std.proofs.Common.{◌≡◌, ◌≤◌, ◌∙◌, length, rules, sym, arith}
-use Rattle.platoms.specs.Names.{Table, IsFunctor, functor_at}
-use Rattle.platoms.proofs.Tables.{get-is, insert_once, insert_all_fit, insert_longer, same_functor, same_functor-Decides}
+use Rattle.std.proofs.Common.{◌∙◌, sym}
+use Rattle.platoms.specs.Names.{Table, IsFunctor}
+use Rattle.platoms.proofs.Tables.{get-is, insert_once, insert_all_fit, same_functor, same_functor-Decides}
 use Rattle.platoms.proofs.names.Names.functor.Goals as goal
 
 pub invariant_of-self-2 : goal.invariant_of-self-2
