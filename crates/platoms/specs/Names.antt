@@ -1,0 +1,48 @@
+-- Names by number.
+use Rattle.std.specs.Prelude.{◌≡◌, ℕ, ◌<◌, ◌≤◌, List, [], length, take, get_or}
+use Rattle.plterm.specs.Reading.{IsName}
+use Rattle.platoms.specs.declared.names.Functor.{Functor}
+
+-- the names of atoms and the functors, each at its number
+pub record Table : Type 0 where
+  pub atoms : List (List ℕ)
+  pub functors : List Functor
+
+abbrev pub atom_at : Table → ℕ → List ℕ
+atom_at t a = get_or t.atoms a []
+
+abbrev pub functor_at : Table → ℕ → Functor
+functor_at t f = get_or t.functors f (record { name = 0; arity = 0 })
+
+-- the name of a functor
+abbrev pub functor_name : Table → ℕ → List ℕ
+functor_name t f = atom_at t ((functor_at t f).name)
+
+abbrev pub functor_arity : Table → ℕ → ℕ
+functor_arity t f = (functor_at t f).arity
+
+-- a functor of the table's names, with 1 to 1,024 arguments
+pub record IsFunctor (t : Table) (k : Functor) : Type 0 where
+  pub name : k.name < length t.atoms
+  pub some : 0 < k.arity
+  pub most : k.arity ≤ 1024
+
+-- each number has a name of its own
+pub record IsTable (t : Table) : Type 0 where
+  pub atoms : (a : ℕ) → a < length t.atoms → IsName (atom_at t a)
+  pub functors : (f : ℕ) → f < length t.functors → IsFunctor t (functor_at t f)
+  pub atom_once : (a b : ℕ) → a < length t.atoms → b < length t.atoms → atom_at t a ≡ atom_at t b → a ≡ b
+  pub functor_once : (f g : ℕ) → f < length t.functors → g < length t.functors → functor_at t f ≡ functor_at t g → f ≡ g
+
+-- all numbers of the old table stand for what they did
+pub record Extends (old new : Table) : Type 0 where
+  pub atoms : take (length old.atoms) new.atoms ≡ old.atoms
+  pub functors : take (length old.functors) new.functors ≡ old.functors
+
+pub record HasAtom (t : Table) (a : ℕ) (name : List ℕ) : Type 0 where
+  pub within : a < length t.atoms
+  pub is : atom_at t a ≡ name
+
+pub record HasFunctor (t : Table) (f : ℕ) (k : Functor) : Type 0 where
+  pub within : f < length t.functors
+  pub is : functor_at t f ≡ k

@@ -1,0 +1,8 @@
+//! Names by number.
+//!
+//! A table gives each name of an atom a number, and each name with an arity another, in the order in which they were first asked for. Numbers stay as they are, whatever comes behind them.
+#![tactic(auto)]
+
+pub mod names;
+#[cfg(test)]
+mod tests;

@@ -1,0 +1,104 @@
+//! The table of names.
+
+ghost use Rattle.std.specs.Prelude.{◌≡◌, ◌<◌, ◌≤◌, [], length, IfOk, OnOk, OnErr};
+ghost use Rattle.plterm.specs.Reading.{IsName};
+ghost use Rattle.platoms.specs.Names.{Table, IsTable, IsFunctor, Extends, HasAtom, HasFunctor, atom_at, functor_at};
+
+use indexmap::IndexSet;
+use plterm::name::Name;
+use std::alloc::{AllocError, Global};
+use std::marker::Model;
+
+/// A name by its number, and how many arguments a compound of it has.
+#[derive(Clone, Copy, Drop, PartialEq, Eq, Hash)]
+pub struct Functor {
+    pub name: u32,
+    pub arity: u16,
+}
+
+/// The names of atoms and the functors of compounds, by number. A table holds fewer than 2^32 of each.
+#[derive(Drop)]
+pub struct Names {
+    atoms: IndexSet<Name>,
+    functors: IndexSet<Functor>,
+}
+
+impl Model for Names {
+    ghost use Rattle.platoms.specs.Names.{Table, IsTable};
+
+    ghost Value = { Table };
+
+    ghost view = { λ a. record { atoms = a.atoms.keys; functors = a.functors.keys } };
+
+    ghost invariant = { λ a. IsTable (record { atoms = a.atoms.keys; functors = a.functors.keys }) };
+}
+
+impl Names {
+    /// A table with no names.
+    pub fn new(alloc: Global) -> Names
+        ensures empty { result ≡ record { atoms = []; functors = [] } }
+        ensures table { IsTable result }
+    {
+        Names {
+            atoms: IndexSet::new(alloc),
+            functors: IndexSet::new(alloc),
+        }
+    }
+
+    /// The number of a name, which is a new one where the table does not have it. A full table takes no call.
+    pub fn atom(&mut self, name: Name) -> Result<u32, AllocError>
+        requires { IsName name }
+        ensures is { IfOk result (λ a. HasAtom self.new a name) }
+        ensures extends { Extends self.old self.new }
+        ensures functors { self.new.functors ≡ self.old.functors }
+        ensures table { IsTable self.new }
+        ensures err { OnErr result (self.new ≡ self.old) }
+    {
+        if self.atoms.len() >= u32::MAX as usize {
+            return Err(AllocError);
+        }
+        let (place, _) = self.atoms.insert_full(name)?;
+        Ok(place as u32)
+    }
+
+    /// The number of a functor, which is a new one where the table does not have it. A full table takes no call.
+    pub fn functor(&mut self, functor: Functor) -> Result<u32, AllocError>
+        requires { IsFunctor self.old functor }
+        ensures is { IfOk result (λ f. HasFunctor self.new f functor) }
+        ensures extends { Extends self.old self.new }
+        ensures atoms { self.new.atoms ≡ self.old.atoms }
+        ensures table { IsTable self.new }
+        ensures err { OnErr result (self.new ≡ self.old) }
+    {
+        if self.functors.len() >= u32::MAX as usize {
+            return Err(AllocError);
+        }
+        let (place, _) = self.functors.insert_full(functor)?;
+        Ok(place as u32)
+    }
+
+    /// The name with a number.
+    pub fn atom_name(&self, a: u32) -> &Name
+        requires { a < length self.now.atoms }
+        ensures is { result.now ≡ atom_at self.now a }
+        ensures table { IsTable self.now }
+    {
+        let Some(name) = self.atoms.get_index(a as usize) else {
+            unreachable!()
+        };
+        name
+    }
+
+    /// The functor with a number.
+    pub fn functor_of(&self, f: u32) -> Functor
+        requires { f < length self.now.functors }
+        ensures is { result ≡ functor_at self.now f }
+        ensures fits { IsFunctor self.now result }
+        ensures table { IsTable self.now }
+    {
+        let Some(functor) = self.functors.get_index(f as usize) else {
+            unreachable!()
+        };
+        *functor
+    }
+}
