@@ -1,0 +1,5 @@
+//! Clauses in the form that the machine runs.
+#![tactic(auto)]
+
+pub mod lay;
+pub mod node;
