@@ -4,7 +4,7 @@ use Rattle.plterm.specs.Tree.{Tree}
 use Rattle.platoms.specs.Names.{Table, IsTable}
 use Rattle.plcode.specs.declared.node.Node.{Node}
 use Rattle.plcode.specs.declared.node.Node.TheVariants.{Var, Int, Atom, Fun, Sub}
-use Rattle.plcode.specs.Nodes.{Value, tree, value, values, AllNamed, IsSound, Rests}
+use Rattle.plcode.specs.Nodes.{Value, tree, value, values, row, AllNamed, IsSound, Rests}
 
 -- where the first block of the last compound begins
 abbrev pub lower : Option ℕ → Node → Option ℕ
@@ -29,6 +29,11 @@ abbrev pub EachRests : List Value → List Node → Type 0
 EachRests vs [] = Unit {0}
 EachRests vs (n ∷ ns) = Rests vs n × EachRests vs ns
 
+-- nodes whose names are a table's, each behind what it rests on
+pub record IsLaid (t : Table) (nodes : List Node) : Type 0 where
+  pub table : IsTable t
+  pub sound : IsSound t nodes
+
 -- the nodes of some terms wait, the first on top, behind those laid down
 pub record Waits (t : Table) (nodes waiting : List Node) (ts : List Tree) : Type 0 where
   pub table : IsTable t
@@ -41,3 +46,8 @@ pub record Waits (t : Table) (nodes waiting : List Node) (ts : List Tree) : Type
 pub record Grows (old new : List Node) : Type 0 where
   pub added : List Node
   pub nodes : new ≡ old ++ added
+
+-- a row of k terms, all of it there
+pub record IsRow (t : Table) (nodes : List Node) (at k : ℕ) (ts : List Tree) : Type 0 where
+  pub within : at + k ≤ length nodes
+  pub terms : row t nodes at k ≡ ts

@@ -1,15 +1,16 @@
 //! Laying the nodes of terms down.
-ghost use Rattle.std.specs.Prelude.{◌≡◌, ◌≤◌, ◌∷◌, ◌++◌, length, take, drop, reverse, IfOk, OnOk, List};
+ghost use Rattle.std.specs.Prelude.{◌≡◌, ◌≤◌, [], ◌∷◌, ◌++◌, length, take, drop, reverse, IfOk, OnOk, List};
 ghost use Rattle.plterm.specs.Tree.{Tree};
-ghost use Rattle.plterm.specs.Reading.{arity, read, Fits};
+ghost use Rattle.plterm.specs.Reading.{arity, read, reading, Fits, IsForest};
 ghost use Rattle.platoms.specs.Names.{Extends};
 ghost use Rattle.plcode.specs.declared.node.Node.TheVariants.{Fun, Sub};
-ghost use Rattle.plcode.specs.Laying.{from_or, lower as lower_of, lowest, Grows, Waits};
+ghost use Rattle.plcode.specs.Laying.{from_or, lower as lower_of, lowest, Grows, IsLaid, IsRow, Waits};
 
 use crate::node::Node;
 use platoms::names::{Functor, Names};
 use plterm::node::Node as TermNode;
-use std::alloc::AllocError;
+use plterm::walk::Terms;
+use std::alloc::{AllocError, Global};
 
 /// Where the first block of the last compound begins, if a node follows others.
 fn lower(low: Option<u32>, node: Node) -> Option<u32>
@@ -101,4 +102,53 @@ fn put_node(
             Ok(())
         }
     }
+}
+
+/// Lays terms down by their nodes, those of the last term first. Their own nodes wait, that of the first term on top.
+fn put_all(
+    nodes: &mut Vec<Node>,
+    waiting: &mut Vec<Node>,
+    names: &mut Names,
+    terms: Vec<TermNode>,
+) -> Result<(), AllocError>
+    requires forest { IsForest terms.items }
+    requires laid { IsLaid names.old nodes.old.items }
+    requires none { waiting.old.items ≡ [] }
+    ensures names { Extends names.old names.new }
+    ensures grows { OnOk result (Grows nodes.old.items nodes.new.items) }
+    ensures waits { OnOk result (Waits names.new nodes.new.items (reverse waiting.new.items) (reading terms.items)) }
+{
+    let mut terms = terms;
+    while let Some(node) = terms.pop() {
+        put_node(nodes, waiting, names, node)?;
+    }
+    Ok(())
+}
+
+/// Lays terms down behind the nodes, so many as are asked for, which are taken off; says where the row of their own nodes begins.
+/// For want of memory, or of numbers, what was laid down stays, and no row is there.
+pub fn lay(
+    alloc: Global,
+    nodes: &mut Vec<Node>,
+    names: &mut Names,
+    terms: &mut Terms<'_>,
+    count: u16,
+) -> Result<u32, AllocError>
+    requires room { count ≤ length terms.old }
+    requires laid { IsLaid names.old nodes.old.items }
+    ensures rest { OnOk result (terms.new ≡ drop count terms.old) }
+    ensures row { IfOk result (λ at. IsRow names.new nodes.new.items at count (take count terms.old)) }
+    ensures laid { OnOk result (IsLaid names.new nodes.new.items) }
+    ensures grows { OnOk result (Grows nodes.old.items nodes.new.items) }
+    ensures names { Extends names.old names.new }
+{
+    let mut spelled = Vec::new(alloc);
+    terms.copy_nodes(count as usize, &mut spelled)?;
+    let mut waiting = Vec::new(alloc);
+    put_all(nodes, &mut waiting, names, spelled)?;
+    let Ok(at) = u32::try_from(nodes.len()) else {
+        return Err(AllocError);
+    };
+    put_row(nodes, &mut waiting, count)?;
+    Ok(at)
 }
