@@ -36,9 +36,9 @@ over-map : (t : Table) (vs : List Value) (w : List Node) → map tree (map (valu
 over-map t vs [] = refl
 over-map t vs (n ∷ w) = ap (λ us. tree (value t vs n) ∷ us) (over-map t vs w)
 
--- the arguments of a block are the topmost terms
-arguments : (t : Table) (vs : List Value) (w : List Node) (ts : List Tree) (k : ℕ) → over t vs w ≡ ts → map tree (take k (map (value t vs) (take k w))) ≡ take k ts
-arguments t vs w ts k h =
+-- a row of the topmost nodes stands for the topmost terms
+pub row_terms : (t : Table) (vs : List Value) (w : List Node) (ts : List Tree) (k : ℕ) → over t vs w ≡ ts → map tree (take k (map (value t vs) (take k w))) ≡ take k ts
+row_terms t vs w ts k h =
     ap (map tree) (take_all k (map (value t vs) (take k w)) (omega (arith, length-map (take k w) (value t vs), length-take k w)))
     ∙ over-map t vs (take k w)
     ∙ sym (take-map (λ n. tree (value t vs n)) k w)
@@ -76,6 +76,6 @@ module _ (t : Table) (nodes w : List Node) (ts : List Tree) (f k from : ℕ) (h 
         rest = subst P (sym grown) (subst Q (sym root) whole, EachRests-more old more (drop k w) (EachRests-drop old k w h.rest));
         terms = ap (λ vs. over t vs (Sub from (length nodes) ∷ drop k w)) grown
             ∙ ap (λ vs. block vs ∷ over t (old ++ more) (drop k w)) root
-            ∙ ap (λ us. compound (functor_name t f) (trees us) ∷ over t (old ++ more) (drop k w)) (arguments t old w ts k h.terms)
+            ∙ ap (λ us. compound (functor_name t f) (trees us) ∷ over t (old ++ more) (drop k w)) (row_terms t old w ts k h.terms)
             ∙ ap (λ us. compound (functor_name t f) (trees (take k ts)) ∷ us) (over-more t old more (drop k w) (EachRests-drop old k w h.rest) ∙ sym (drop-map (λ n. tree (value t old n)) k w) ∙ ap (drop k) h.terms);
       }

@@ -119,7 +119,7 @@ fn put_all(
     ensures waits { OnOk result (Waits names.new nodes.new.items (reverse waiting.new.items) (reading terms.items)) }
 {
     let mut terms = terms;
-    while let Some(node) = terms.pop() {
+    'terms: while let Some(node) = terms.pop() {
         put_node(nodes, waiting, names, node)?;
     }
     Ok(())
