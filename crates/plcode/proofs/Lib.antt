@@ -2,3 +2,4 @@ pub mod Rows
 pub mod Values
 pub mod Waiting
 pub mod Placing
+pub mod Segments

@@ -1,2 +1,4 @@
 pub mod Nodes
 pub mod Laying
+pub mod Steps
+pub mod Bodies

@@ -1,5 +1,8 @@
 //! Clauses in the form that the machine runs.
 #![tactic(auto)]
 
+pub mod body;
+pub mod code;
 pub mod lay;
 pub mod node;
+pub mod op;

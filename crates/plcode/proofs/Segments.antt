@@ -1,0 +1,2 @@
+-- Steps for goals.
+use Rattle.plcode.specs.Bodies.{Made}
