@@ -1,14 +1,14 @@
 -- What nodes stand for behind more of them, and under a table that has grown.
-use Rattle.std.proofs.Common.{◌≡◌, ℕ, zero, suc, ◌+◌, ◌≤◌, ◌<◌, List, [], ◌∷◌, ◌++◌, length, map, take, drop, fold, refl, subst, ap, ◌∙◌, sym, arith, append_assoc, append-nil, length-append}
-use Rattle.std.proofs.lemmas.List.{take-append-le}
+use Rattle.std.proofs.Common.{◌≡◌, ℕ, zero, suc, ◌+◌, ◌≤◌, ◌<◌, List, [], ◌∷◌, ◌++◌, length, map, take, drop, fold, refl, subst, ap, ◌∙◌, sym, arith, append_assoc, append-nil, length-append, length-drop}
+use Rattle.std.proofs.lemmas.List.{take-append-le, drop-append-le}
 use Rattle.std.proofs.lemmas.Grind.{fold-append}
 use Rattle.plterm.specs.Tree.{Tree, var, int, atom, compound, trees}
 use Rattle.platoms.specs.Names.{Table, Extends, IsTable, atom_at, functor_name, functor_arity, functor_at}
 use Rattle.platoms.proofs.Extending.{atoms_more, functors_more, atom_same, functor_same}
 use Rattle.plcode.specs.declared.node.Node.{Node}
 use Rattle.plcode.specs.declared.node.Node.TheVariants.{Var, Int, Atom, Fun, Sub}
-use Rattle.plcode.specs.Nodes.{Value, Whole, Head, tree, block, value, with_node, values, IsBlock, Rests, IsNamed, AllNamed, AllRest, IsSound}
-use Rattle.plcode.specs.Laying.{over, EachRests}
+use Rattle.plcode.specs.Nodes.{Value, Whole, Head, tree, block, value, with_node, values, IsBlock, Rests, IsNamed, AllNamed, AllRest, IsSound, row}
+use Rattle.plcode.specs.Laying.{over, EachRests, Grows, IsLaid, IsRow}
 
 pub block-more : (xs ys : List Value) → IsBlock xs → block (xs ++ ys) ≡ block xs
 block-more [] ys h = absurd h
@@ -128,7 +128,7 @@ module _ (s t : Table) (more : Extends s t) where
   AllNamed-names (n ∷ ns) h = (IsNamed-names n h.0, AllNamed-names ns h.1)
 
   module _ (table : IsTable s) where
-    functor_name-names : (f : ℕ) → f < length s.functors → functor_name t f ≡ functor_name s f
+    pub functor_name-names : (f : ℕ) → f < length s.functors → functor_name t f ≡ functor_name s f
     functor_name-names f lt =
         ap (λ g. atom_at t g.name) (functor_same s t more f lt) ∙ atom_same s t more ((functor_at s f).name) ((table.functors f lt).name)
 
@@ -161,3 +161,31 @@ module _ (s t : Table) (more : Extends s t) where
     over-names vs [] h = refl
     over-names vs (n ∷ ns) h =
         ap (λ v. tree v ∷ over t vs ns) (value-names vs n h.0) ∙ ap (λ us. tree (value s vs n) ∷ us) (over-names vs ns h.1)
+
+-- ---- rows stay
+fold_prefix : (t : Table) (vs : List Value) (ns : List Node) → (ws : List Value) × (fold (with_node t) vs ns ≡ vs ++ ws)
+fold_prefix t vs [] = ([], sym (append-nil vs))
+fold_prefix t vs (n ∷ ns) =
+    let p = fold_prefix t (with_node t vs n) ns in
+    (value t vs n ∷ p.0, p.1 ∙ append_assoc vs (value t vs n ∷ []) p.0)
+
+values_prefix : (t : Table) (ms ns : List Node) → (ws : List Value) × (values t (ms ++ ns) ≡ values t ms ++ ws)
+unfolding values
+values_prefix t ms ns = let p = fold_prefix t (values t ms) ns in (p.0, fold-append (with_node t) [] ms ns ∙ p.1)
+
+pub IsRow-more : (s t : Table) (old new : List Node) (at k : ℕ) (ts : List Tree) → IsLaid s old → Extends s t → Grows old new → IsRow s old at k ts → IsRow t new at k ts
+unfolding row
+IsRow-more s t old new at k ts laid more grows r =
+    let p = values_prefix t old grows.added in
+    let same : values t old ≡ values s old = values-names s t more laid.table old laid.sound.named in
+    let len = length-values s old in
+    let at_room : at ≤ length (values s old) = omega (arith, r.within) in
+    let room : k ≤ length (drop at (values s old)) = omega (arith, r.within, length-drop at (values s old)) in
+    record {
+      within = omega (arith, r.within, ap length grows.nodes, length-append old grows.added);
+      terms = ap (λ ns. map tree (take k (drop at (values t ns)))) grows.nodes
+          ∙ ap (λ vs. map tree (take k (drop at vs))) (p.1 ∙ ap (λ vs. vs ++ p.0) same)
+          ∙ ap (λ vs. map tree (take k vs)) (drop-append-le at (values s old) p.0 at_room)
+          ∙ ap (map tree) (take-append-le k (drop at (values s old)) p.0 room)
+          ∙ r.terms;
+    }

@@ -1,5 +1,5 @@
 -- Compiling a body: its goals in prefix order, and then their steps from the last to the first.
-use Rattle.std.specs.Prelude.{◌≡◌, ℕ, ◌+◌, ◌<◌, ◌≤◌, Bool, true, false, List, [], ◌∷◌, ◌++◌, length, take, drop, codes}
+use Rattle.std.specs.Prelude.{◌≡◌, ℕ, ◌+◌, ◌<◌, ◌≤◌, List, [], ◌∷◌, ◌++◌, length, take, drop, Option, Some, None, codes}
 use Rattle.plterm.specs.Tree.{Tree, atom}
 use Rattle.plsearch.specs.Forms.{Form, Both, Either, IfThenElse, form, either, arguments}
 use Rattle.plcode.specs.declared.op.Op.{Op}
@@ -8,6 +8,7 @@ use Rattle.plcode.specs.declared.op.Step.{Step}
 use Rattle.plcode.specs.declared.body.Piece.{Piece}
 use Rattle.plcode.specs.declared.body.Piece.TheVariants.{And, Or, IfThen, Single}
 use Rattle.plcode.specs.declared.body.Part.{Part}
+use Rattle.plcode.specs.declared.body.Arrow.{Arrow}
 use Rattle.plcode.specs.Laying.{IsLaid}
 use Rattle.plcode.specs.Steps.{Text, Extended, Does, Stands}
 
@@ -45,6 +46,10 @@ abbrev pub charged : ℕ → List Step → List Step
 charged n [] = []
 charged n (s ∷ ss) = record { op = s.op; conjunctions = s.conjunctions + n } ∷ ss
 
+-- a step alone
+abbrev pub step : Op → List Step
+step op = record { op = op; conjunctions = 0 } ∷ []
+
 -- steps stand at a place
 pub record Stretch (c : Text) (place : ℕ) (steps : List Step) : Type 0 where
   pub before : List Step
@@ -62,21 +67,19 @@ Segment c g steps =
 abbrev pub Begins : Text → ℕ → Tree → Type 0
 Begins c place g = (d : Text) → Extended c d → Stands d place 0 (g ∷ [])
 
--- the one step of an `->` without an else
-pub record Arrow (c : Text) (g : Tree) (steps : List Step) : Type 0 where
-  pub condition : ℕ
-  pub then : ℕ
-  pub otherwise : ℕ
+-- the step of an `->` without an else, and what the other branch will make of it
+pub record Awaits (c : Text) (g : Tree) (arrow : Arrow) (len : ℕ) : Type 0 where
+  pub one : len ≡ 1
   pub first : Tree
   pub second : Tree
-  pub one : steps ≡ record { op = ops.IfThenElse condition then otherwise; conjunctions = 0 } ∷ []
-  pub begins : Begins c condition first
-  pub then_begins : Begins c then second
+  pub condition_begins : Begins c arrow.condition first
+  pub then_begins : Begins c arrow.then second
   pub with_else : (b : Tree) → either g b ≡ IfThenElse first second b
 
-abbrev pub Known : Text → Tree → Bool → List Step → Type 0
-Known c g true steps = Arrow c g steps
-Known c g false steps = IsBranch g
+-- whether the part is an `->` to which `;` may give an else
+abbrev pub Known : Text → Tree → Option Arrow → ℕ → Type 0
+Known c g (Some arrow) len = Awaits c g arrow len
+Known c g None len = IsBranch g
 
 -- the parts of the steps made, the first part on top, are for goals
 abbrev pub Made : Text → List Part → List Step → List Tree → Type 0
@@ -84,12 +87,30 @@ Made c [] steps [] = Unit {0}
 Made c [] steps (g ∷ gs) = ⊥
 Made c (p ∷ ps) steps [] = ⊥
 Made c (p ∷ ps) steps (g ∷ gs) =
-    (0 < p.len) × (p.len ≤ length steps) × Known c g p.is_arrow (take p.len steps) × Segment c g (take p.len steps) × Made c ps (drop p.len steps) gs
+    (0 < p.len) × (p.len ≤ length steps) × Known c g p.arrow p.len × Segment c g (take p.len steps) × Made c ps (drop p.len steps) gs
 
 -- the sequence of fail/0 stands first
 abbrev pub HasFail : Text → Type 0
-HasFail c = Stretch c 0 (record { op = ops.Fail; conjunctions = 0 } ∷ record { op = ops.Proceed; conjunctions = 0 } ∷ [])
+HasFail c = Stretch c 0 (step ops.Fail ++ step ops.Proceed)
 
 pub record IsCode (c : Text) : Type 0 where
   pub laid : IsLaid c.names c.nodes
   pub fails : HasFail c
+
+-- there are two parts at least, and steps for both
+abbrev pub HasTwo : List Part → ℕ → Type 0
+HasTwo [] n = ⊥
+HasTwo (p ∷ []) n = ⊥
+HasTwo (p ∷ q ∷ ps) n = (0 < p.len) × (p.len + q.len ≤ n)
+
+-- two sequences begin for the goals of two parts, which are taken off
+pub record Branches (a b : Tree) (gs : List Tree) (d : Text) (left right : ℕ) (parts : List Part) (made : List Step) : Type 0 where
+  pub left_begins : Begins d left a
+  pub right_begins : Begins d right b
+  pub rest : Made d parts made gs
+
+-- the two topmost parts as one
+abbrev pub joined : List Part → List Part
+joined [] = []
+joined (p ∷ []) = p ∷ []
+joined (p ∷ q ∷ ps) = record { len = p.len + q.len; arrow = None } ∷ ps
