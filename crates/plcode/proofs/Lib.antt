@@ -3,3 +3,4 @@ pub mod Values
 pub mod Waiting
 pub mod Placing
 pub mod Segments
+pub mod Folds

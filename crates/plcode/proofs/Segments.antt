@@ -1,6 +1,6 @@
 -- Steps for goals, wherever they stand.
 use Rattle.std.proofs.Common.{◌≡◌, ℕ, zero, suc, ◌+◌, ◌<◌, ◌≤◌, ℤ, Option, Some, None, List, [], ◌∷◌, ◌++◌, length, take, drop, refl, subst, ap, ◌∙◌, sym, arith, append_assoc, append-nil, length-append, length-take, length-drop, codes}
-use Rattle.std.proofs.Math.Seq.{drop-append_seam}
+use Rattle.std.proofs.Math.Seq.{drop-append_seam, take-add}
 use Rattle.std.proofs.lemmas.List.{drop-drop}
 use Rattle.plterm.specs.Tree.{Tree, atom}
 use Rattle.plterm.specs.declared.indicator.Indicator.{Indicator}
@@ -14,9 +14,11 @@ use Rattle.plcode.specs.declared.op.Op.TheVariants as ops
 use Rattle.plcode.specs.declared.op.Step.{Step}
 use Rattle.plcode.specs.declared.body.Part.{Part}
 use Rattle.plcode.specs.declared.body.Arrow.{Arrow}
+use Rattle.plcode.specs.declared.body.Piece.{Piece}
+use Rattle.plcode.specs.declared.body.Piece.TheVariants.{And, Or, IfThen, Single}
 use Rattle.plcode.specs.Laying.{IsLaid}
 use Rattle.plcode.specs.Steps.{Text, Extended, Args, IsProcedure, Ends, Calls, Does, At, Stands, ends, conjunction, goal as single, either as branches, if_then_else}
-use Rattle.plcode.specs.Bodies.{charged, step, joined, Stretch, Segment, Begins, Awaits, Known, Made, Branches, IsBranch, HasFail}
+use Rattle.plcode.specs.Bodies.{arrow_of, charged, step, joined, HasTwo, Holds, Means, Ready, Splits, Leads, Stretch, Segment, Begins, Awaits, Known, Made, Branches, IsBranch, HasFail}
 use Rattle.plcode.proofs.Placing.{Grows-refl, Grows-trans}
 use Rattle.plcode.proofs.Values.{IsRow-more, functor_name-names}
 
@@ -247,28 +249,13 @@ module _ (names : Table) (nodes : List Node) (s0 s1 s2 : List Step) (p q : Part)
 
 -- ---- two parts are joined
 
-no_steps : List Step
-no_steps = []
-
-take_none : (k : ℕ) → take k no_steps ≡ []
-unfolding no_steps
-take_none zero = refl
-take_none (suc k) = refl
-
-take_more : (m n : ℕ) (xs : List Step) → take (m + n) xs ≡ take m xs ++ take n (drop m xs)
-unfolding no_steps
-take_more zero n xs = let e : 0 + n ≡ n = omega arith in ap (λ k. take k xs) e
-take_more (suc m) n [] = take_none (suc m + n) ∙ sym (take_none n)
-take_more (suc m) n (x ∷ xs) =
-    let e : suc m + n ≡ suc (m + n) = omega arith in ap (λ k. take k (x ∷ xs)) e ∙ ap (λ ss. x ∷ ss) (take_more m n xs)
-
 take-charged : (m n : ℕ) (xs : List Step) → 0 < m → m ≤ length xs → take (m + n) (charged 1 xs) ≡ charged 1 (take m xs) ++ take n (drop m xs)
 take-charged zero n xs some room = absurd (omega arith)
 take-charged (suc m) n [] some room = absurd (omega arith)
 take-charged (suc m) n (x ∷ xs) some room =
     let e : suc m + n ≡ suc (m + n) = omega arith in
     let y : Step = record { op = x.op; conjunctions = x.conjunctions + 1 } in
-    ap (λ k. take k (y ∷ xs)) e ∙ ap (λ ss. y ∷ ss) (take_more m n xs)
+    ap (λ k. take k (y ∷ xs)) e ∙ ap (λ ss. y ∷ ss) (take-add m n xs)
 
 drop-charged : (m n : ℕ) (xs : List Step) → 0 < m → m ≤ length xs → drop (m + n) (charged 1 xs) ≡ drop n (drop m xs)
 drop-charged zero n xs some room = absurd (omega arith)
@@ -299,3 +286,50 @@ made_joined c (p ∷ q ∷ ps) xs g a b rest is branch h =
 pub made_one : (c : Text) (arrow : Option Arrow) (op : Op) (ps : List Part) (xs : List Step) (g : Tree) (rest : List Tree)
     → Known c g arrow 1 → Segment c g (step op) → Made c ps xs rest → Made c (record { len = 1; arrow = arrow } ∷ ps) (record { op = op; conjunctions = 0 } ∷ xs) (g ∷ rest)
 made_one c arrow op ps xs g rest known segment h = (omega arith, omega arith, known, segment, h)
+
+-- ---- `;` and `->`
+
+pub either_put : (d : Text) (l r : ℕ) (g a b : Tree) (rest : List Tree) (ps : List Part) (zs : List Step) → IsBranch g → form g ≡ either a b → IsBranch a
+    → Branches a b rest d l r ps zs → Made d (record { len = 1; arrow = None } ∷ ps) (record { op = ops.Or l r; conjunctions = 0 } ∷ zs) (g ∷ rest)
+either_put d l r g a b rest ps zs branch is plain h =
+    made_one d None (ops.Or l r) ps zs g rest branch (segment_either d l r g a b (is ∙ plain b) h.left_begins h.right_begins) h.rest
+
+-- the topmost part is no `->`
+pub made_branch : (c : Text) (ps : List Part) (xs : List Step) (a : Tree) (gs : List Tree) → arrow_of ps ≡ None → Made c ps xs (a ∷ gs) → IsBranch a
+made_branch c [] xs a gs none h = absurd h
+made_branch c (p ∷ ps) xs a gs none h =
+    let P : Option Arrow → Type 0 = λ o. Known c a o p.len in
+    subst P none h.2
+
+pub arrow_put : (d : Text) (l r : ℕ) (g : Tree) (rest gs : List Tree) (ps : List Part) (zs : List Step) → IsLaid d.names d.nodes → HasFail d
+    → (h : Holds (λ i a. IfThenElse i a (atom (codes "fail"))) g rest gs) → ((b : Tree) → either g b ≡ IfThenElse h.first h.second b)
+    → Branches h.first h.second rest d l r ps zs
+    → Made d (record { len = 1; arrow = Some (record { condition = l; then = r }) } ∷ ps) (record { op = ops.IfThenElse l r 0; conjunctions = 0 } ∷ zs) (g ∷ rest)
+arrow_put d l r g rest gs ps zs laid fails h with_else b =
+    made_one d (Some (record { condition = l; then = r })) (ops.IfThenElse l r 0) ps zs g rest
+    (record { one = refl; first = h.first; second = h.second; condition_begins = b.left_begins; then_begins = b.right_begins; with_else = with_else })
+    (segment_else d l r 0 g h.first h.second (atom (codes "fail")) h.form_is b.left_begins b.right_begins (begins_fail d laid fails)) b.rest
+
+module _ (names : Table) (nodes : List Node) (s0 s1 : List Step) (arrow : Arrow) (p q : Part) (ps : List Part) (xs ys zs : List Step) (e : ℕ)
+    (top : p.arrow ≡ Some arrow) (popped : ys ≡ drop 1 xs)
+    (put : s1 ≡ s0 ++ (take q.len ys ++ step ops.Proceed)) (at : e ≡ length s0) (behind : zs ≡ drop q.len ys)
+    where
+  abbrev steps_of : List Step → Text
+  steps_of ss = record { names = names; nodes = nodes; steps = ss }
+
+  pub else_put : (g a b : Tree) (rest : List Tree) → IsBranch g → form g ≡ either a b → Made (steps_of s0) (p ∷ q ∷ ps) xs (a ∷ b ∷ rest)
+      → Made (steps_of s1) (record { len = 1; arrow = None } ∷ ps) (record { op = ops.IfThenElse arrow.condition arrow.then e; conjunctions = 0 } ∷ zs) (g ∷ rest)
+  else_put g a b rest branch is h =
+      let P : Option Arrow → Type 0 = λ o. Known (steps_of s0) a o p.len in
+      let waits : Awaits (steps_of s0) a arrow p.len = subst P top h.2 in
+      let Q : List Step → Type 0 = λ v. Made (steps_of s0) (q ∷ ps) v (b ∷ rest) in
+      let rest_is : drop p.len xs ≡ ys = ap (λ n. drop n xs) waits.one ∙ sym popped in
+      let next = subst Q rest_is h.4 in
+      let R : List Step → Type 0 = λ v. Made (steps_of s1) ps v rest in
+      let more = put_extends names nodes s0 s1 (take q.len ys ++ step ops.Proceed) put in
+      made_one (steps_of s1) None (ops.IfThenElse arrow.condition arrow.then e) ps zs g rest branch
+      (segment_else (steps_of s1) arrow.condition arrow.then e g waits.first waits.second b (is ∙ waits.with_else b)
+      (Begins-more (steps_of s0) (steps_of s1) arrow.condition waits.first more waits.condition_begins)
+      (Begins-more (steps_of s0) (steps_of s1) arrow.then waits.second more waits.then_begins)
+      (begins_there (steps_of s0) (steps_of s1) b e (take q.len ys) next.3 more (put_there names nodes s0 s1 (take q.len ys ++ step ops.Proceed) e put at)))
+      (subst R (sym behind) (Made-more (steps_of s0) (steps_of s1) ps (drop q.len ys) rest more next.4))

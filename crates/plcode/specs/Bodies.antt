@@ -37,9 +37,9 @@ pub record Splits (c : Text) (p : Piece) (old new : List Tree) : Type 0 where
   pub means : Means c p goal rest new
 
 -- pieces, each for the first goal of what is left, lead from some goals to others
-pub data Leads (c : Text) : List Piece → List Tree → List Tree → Type 0 where
-  there : (gs : List Tree) → Leads c [] gs gs
-  onward : (p : Piece) (ps : List Piece) (gs hs ks : List Tree) → Splits c p gs hs → Leads c ps hs ks → Leads c (p ∷ ps) gs ks
+abbrev pub Leads : Text → List Piece → List Tree → List Tree → Type 0
+Leads c [] gs ks = gs ≡ ks
+Leads c (p ∷ ps) gs ks = (hs : List Tree) × Splits c p gs hs × Leads c ps hs ks
 
 -- steps with more conjunctions before the first
 abbrev pub charged : ℕ → List Step → List Step
@@ -114,3 +114,21 @@ abbrev pub joined : List Part → List Part
 joined [] = []
 joined (p ∷ []) = p ∷ []
 joined (p ∷ q ∷ ps) = record { len = p.len + q.len; arrow = None } ∷ ps
+
+-- the `->` that is the topmost part
+abbrev pub arrow_of : List Part → Option Arrow
+arrow_of [] = None
+arrow_of (p ∷ ps) = p.arrow
+
+-- a control construct finds the parts of its goals
+abbrev pub Ready : Piece → List Part → ℕ → Type 0
+Ready And ps n = HasTwo ps n
+Ready Or ps n = HasTwo ps n
+Ready IfThen ps n = HasTwo ps n
+Ready (Single op) ps n = Unit {0}
+
+-- the parts made are for goals to which the pieces that are left lead
+pub record Folding (c : Text) (g : Tree) (left : List Piece) (ps : List Part) (made : List Step) : Type 0 where
+  pub goals : List Tree
+  pub leads : Leads c left (g ∷ []) goals
+  pub parts : Made c ps made goals

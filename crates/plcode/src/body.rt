@@ -1,9 +1,11 @@
 //! Bodies as sequences of steps, without recursion: a body's goals are met in prefix order, and their steps are made from the last to the first.
-ghost use Rattle.std.specs.Prelude.{◌≡◌, ◌≤◌, [], ◌∷◌, ◌++◌, List, length, take, drop, reverse, IfOk, OnOk};
+ghost use Rattle.std.specs.Prelude.{◌≡◌, ◌≤◌, [], ◌∷◌, ◌++◌, List, length, take, drop, reverse, IfOk, OnOk, Some};
 ghost use Rattle.plterm.specs.Tree.{Tree};
+ghost use Rattle.plsearch.specs.Forms.{either};
 ghost use Rattle.plcode.specs.declared.op.Op.TheVariants as ops;
+ghost use Rattle.plcode.specs.declared.body.Piece.TheVariants.{IfThen};
 ghost use Rattle.plcode.specs.Steps.{text, Extended};
-ghost use Rattle.plcode.specs.Bodies.{charged, joined, step, Branches, HasTwo, IsCode, Made, Splits};
+ghost use Rattle.plcode.specs.Bodies.{arrow_of, charged, joined, step, Begins, Branches, HasTwo, Holds, IsBranch, IsCode, Leads, Made, Ready, Splits};
 
 use crate::code::Code;
 use crate::op::{Op, Step};
@@ -131,4 +133,145 @@ fn join(parts: &mut Vec<Part>, made: &mut Vec<Step>) -> Result<(), AllocError>
         arrow: None,
     })?;
     Ok(())
+}
+
+/// The `->` that is the topmost part, if it is one.
+fn top_arrow(parts: &[Part]) -> Option<Arrow>
+    ensures { result ≡ arrow_of (reverse parts.now) }
+{
+    match parts {
+        [.., part] => part.arrow,
+        [] => None,
+    }
+}
+
+/// Gives the `->` of the topmost part the sequence of the next one as its else.
+fn put_else(
+    code: &mut Code,
+    parts: &mut Vec<Part>,
+    made: &mut Vec<Step>,
+    arrow: Arrow,
+) -> Result<(), AllocError>
+    requires two { HasTwo (reverse parts.old.items) (length made.old.items) }
+    requires top { arrow_of (reverse parts.old.items) ≡ Some arrow }
+    requires code { IsCode (text code.old) }
+    ensures extended { OnOk result (Extended (text code.old) (text code.new)) }
+    ensures code { OnOk result (IsCode (text code.new)) }
+    ensures goal { OnOk result ((g : Tree) → (rest gs : List Tree) → IsBranch g → Holds either g rest gs → Made (text code.old) (reverse parts.old.items) (reverse made.old.items) gs → Made (text code.new) (reverse parts.new.items) (reverse made.new.items) (g ∷ rest)) }
+{
+    let Some(_) = parts.pop() else {
+        unreachable!()
+    };
+    let Some(right) = parts.pop() else {
+        unreachable!()
+    };
+    let Some(_) = made.pop() else {
+        unreachable!()
+    };
+    let otherwise = put_sequence(&mut code.steps, made, right.len)?;
+    let op = Op::IfThenElse(arrow.condition, arrow.then, otherwise);
+    push_part(parts, made, op, None)?;
+    Ok(())
+}
+
+/// Makes one part of the two topmost, for `;`.
+fn put_either(
+    code: &mut Code,
+    parts: &mut Vec<Part>,
+    made: &mut Vec<Step>,
+) -> Result<(), AllocError>
+    requires two { HasTwo (reverse parts.old.items) (length made.old.items) }
+    requires code { IsCode (text code.old) }
+    ensures extended { OnOk result (Extended (text code.old) (text code.new)) }
+    ensures code { OnOk result (IsCode (text code.new)) }
+    ensures goal { OnOk result ((g : Tree) → (rest gs : List Tree) → IsBranch g → Holds either g rest gs → Made (text code.old) (reverse parts.old.items) (reverse made.old.items) gs → Made (text code.new) (reverse parts.new.items) (reverse made.new.items) (g ∷ rest)) }
+{
+    match top_arrow(parts) {
+        Some(arrow) => {
+            put_else(code, parts, made, arrow)?;
+            Ok(())
+        }
+        None => {
+            let (left, right) = put_branches(code, parts, made)?;
+            push_part(parts, made, Op::Or(left, right), None)?;
+            Ok(())
+        }
+    }
+}
+
+/// Makes one part of the two topmost, for an `->` to which `;` may give an else.
+fn put_arrow(
+    code: &mut Code,
+    parts: &mut Vec<Part>,
+    made: &mut Vec<Step>,
+) -> Result<(), AllocError>
+    requires two { HasTwo (reverse parts.old.items) (length made.old.items) }
+    requires code { IsCode (text code.old) }
+    ensures extended { OnOk result (Extended (text code.old) (text code.new)) }
+    ensures code { OnOk result (IsCode (text code.new)) }
+    ensures goal { OnOk result ((gs hs : List Tree) → Splits (text code.old) IfThen gs hs → Made (text code.old) (reverse parts.old.items) (reverse made.old.items) hs → Made (text code.new) (reverse parts.new.items) (reverse made.new.items) gs) }
+{
+    let (condition, then) = put_branches(code, parts, made)?;
+    let arrow = Arrow { condition, then };
+    push_part(
+        parts,
+        made,
+        Op::IfThenElse(condition, then, FAIL),
+        Some(arrow),
+    )?;
+    Ok(())
+}
+
+/// Makes the part of the goal that a piece is for.
+fn put_piece(
+    code: &mut Code,
+    parts: &mut Vec<Part>,
+    made: &mut Vec<Step>,
+    piece: Piece,
+) -> Result<(), AllocError>
+    requires ready { Ready piece (reverse parts.old.items) (length made.old.items) }
+    requires code { IsCode (text code.old) }
+    ensures extended { OnOk result (Extended (text code.old) (text code.new)) }
+    ensures code { OnOk result (IsCode (text code.new)) }
+    ensures goal { OnOk result ((gs hs : List Tree) → Splits (text code.old) piece gs hs → Made (text code.old) (reverse parts.old.items) (reverse made.old.items) hs → Made (text code.new) (reverse parts.new.items) (reverse made.new.items) gs) }
+{
+    match piece {
+        Piece::And => {
+            join(parts, made)?;
+            Ok(())
+        }
+        Piece::Or => {
+            put_either(code, parts, made)?;
+            Ok(())
+        }
+        Piece::IfThen => {
+            put_arrow(code, parts, made)?;
+            Ok(())
+        }
+        Piece::Single(op) => {
+            push_part(parts, made, op, None)?;
+            Ok(())
+        }
+    }
+}
+
+/// Makes the sequence of a body of its pieces; says where it begins.
+fn put_body(alloc: Global, code: &mut Code, pieces: Vec<Piece>) -> Result<u32, AllocError>
+    requires code { IsCode (text code.old) }
+    requires spelled { (g : Tree) × Leads (text code.old) pieces.items (g ∷ []) [] }
+    ensures extended { OnOk result (Extended (text code.old) (text code.new)) }
+    ensures code { OnOk result (IsCode (text code.new)) }
+    ensures begins { IfOk result (λ at. (g : Tree) → Leads (text code.old) pieces.items (g ∷ []) [] → Begins (text code.new) at g) }
+{
+    let mut pieces = pieces;
+    let mut parts = Vec::new(alloc);
+    let mut made = Vec::new(alloc);
+    'pieces: while let Some(piece) = pieces.pop() {
+        put_piece(code, &mut parts, &mut made, piece)?;
+    }
+    let Some(whole) = parts.pop() else {
+        unreachable!()
+    };
+    let at = put_sequence(&mut code.steps, &mut made, whole.len)?;
+    Ok(at)
 }
