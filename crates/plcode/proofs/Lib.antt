@@ -4,3 +4,4 @@ pub mod Waiting
 pub mod Placing
 pub mod Segments
 pub mod Folds
+pub mod Goals

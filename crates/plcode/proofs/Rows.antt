@@ -1,5 +1,6 @@
 -- Rows taken from the top of a stack.
-use Rattle.std.proofs.Common.{◌≡◌, ℕ, zero, suc, ◌+◌, ◌<◌, List, [], ◌∷◌, ◌++◌, length, take, drop, fold, refl, ap, ◌∙◌, sym, add-one}
+use Rattle.std.proofs.Common.{◌≡◌, ℕ, zero, suc, ◌+◌, ◌<◌, List, [], ◌∷◌, ◌++◌, length, take, drop, fold, refl, ap, ◌∙◌, sym, add-one, arith, ◌-◌, length-append, length-take}
+use Rattle.std.proofs.lemmas.List.{nil_from_length}
 use Rattle.std.proofs.lemmas.Grind.{fold-append}
 
 take_suc : {A : Type 0} (i : ℕ) (s r : List A) (x : A) → drop i s ≡ x ∷ r → take (suc i) s ≡ take i s ++ x ∷ []
@@ -23,3 +24,8 @@ drop-next {A} i s r x h = ap (λ k. drop k s) (add-one i) ∙ drop_suc i s r x h
 
 pub fold-next : {A B : Type 0} (f : B → A → B) (b : B) (i : ℕ) (s r : List A) (x : A) → drop i s ≡ x ∷ r → fold f b (take (i + 1) s) ≡ f (fold f b (take i s)) x
 fold-next f b i s r x h = ap (fold f b) (take-next i s r x h) ∙ fold-append f b (take i s) (x ∷ [])
+
+-- a stack that gave nothing was empty
+pub popped_none : {A : Type 0} (old new : List A) (n : ℕ) → old ≡ new ++ [] → new ≡ take (n - 1) old → n ≡ length old → old ≡ []
+popped_none {A} old new n same rest len =
+    nil_from_length old (omega (arith, ap length same, length-append new [], ap length rest, length-take (n - 1) old))

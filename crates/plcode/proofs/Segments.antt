@@ -89,7 +89,7 @@ charged-join n (x ∷ xs) ys some =
 -- ---- what a step does stays
 
 module _ (c d : Text) (laid : IsLaid c.names c.nodes) (more : Extended c d) where
-  Args-more : (at : ℕ) (ts : List Tree) → Args c at ts → Args d at ts
+  pub Args-more : (at : ℕ) (ts : List Tree) → Args c at ts → Args d at ts
   Args-more at ts h = IsRow-more c.names d.names c.nodes d.nodes at (length ts) ts laid more.names more.nodes h
 
   IsProcedure-more : (f : ℕ) (p : Indicator) → IsProcedure c f p → IsProcedure d f p
@@ -215,11 +215,11 @@ begins_fail c laid h = begins_there c c (atom (codes "fail")) 0 (step ops.Fail) 
 -- ---- two sequences are put
 
 -- only steps were put behind the code
-put_extends : (names : Table) (nodes : List Node) (old new more : List Step) → new ≡ old ++ more
+pub put_extends : (names : Table) (nodes : List Node) (old new more : List Step) → new ≡ old ++ more
     → Extended (record { names = names; nodes = nodes; steps = old }) (record { names = names; nodes = nodes; steps = new })
 put_extends names nodes old new more is = record { names = Extends-refl names; nodes = Grows-refl nodes; more = more; steps = is }
 
-put_there : (names : Table) (nodes : List Node) (old new more : List Step) (place : ℕ) → new ≡ old ++ more → place ≡ length old
+pub put_there : (names : Table) (nodes : List Node) (old new more : List Step) (place : ℕ) → new ≡ old ++ more → place ≡ length old
     → Stretch (record { names = names; nodes = nodes; steps = new }) place more
 put_there names nodes old new more place is at =
     record { before = old; after = []; is = is ∙ ap (λ ss. old ++ ss) (sym (append-nil more)); place_is = sym at }

@@ -2,3 +2,4 @@ pub mod Nodes
 pub mod Laying
 pub mod Steps
 pub mod Bodies
+pub mod Goals

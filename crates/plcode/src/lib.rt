@@ -3,6 +3,7 @@
 
 pub mod body;
 pub mod code;
+pub mod goal;
 pub mod lay;
 pub mod node;
 pub mod op;

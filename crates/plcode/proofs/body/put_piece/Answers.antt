@@ -1,7 +1,7 @@
 use Rattle.std.proofs.Common.{◌≡◌, ◌∷◌, List, None, reverse, subst, sym}
 use Rattle.plterm.specs.Tree.{Tree}
 use Rattle.plcode.specs.declared.body.Piece.{Piece}
-use Rattle.plcode.specs.declared.body.Piece.TheVariants.{And, IfThen, Single}
+use Rattle.plcode.specs.declared.body.Piece.TheVariants.{And, Or, IfThen, Single}
 use Rattle.plcode.specs.Steps.{text}
 use Rattle.plcode.specs.Bodies.{Made, Splits}
 use Rattle.plcode.proofs.Segments.{made_joined, made_one, segment_goal}
@@ -40,4 +40,8 @@ returns-in_ok-push_part-in-Single-clause-goal c gs hs split h =
     (made_one t None c.in-Single.op ps xs s.goal s.rest s.means.0 (segment_goal t c.in-Single.op s.goal c.requires.code.laid s.means.1) (subst P s.means.2 h)))
 
 pub returns-in_ok-put_either-in-Or-clause-goal : goal.returns-in_ok-put_either-in-Or-clause-goal
-returns-in_ok-put_either-in-Or-clause-goal c gs hs split h = ?
+returns-in_ok-put_either-in-Or-clause-goal c gs hs split h =
+    let S : Piece → Type 0 = λ p. Splits (text c.args.code.now) p gs hs in
+    let s : Splits (text c.args.code.now) Or gs hs = subst S c.in-Or.is split in
+    let Q : List Tree → Type 0 = Made (text c.put_either.new.code) (reverse c.put_either.new.parts.items) (reverse c.put_either.new.made.items) in
+    subst Q (sym s.before) (c.in_ok-put_either-in-Or.ensures.goal s.goal s.rest hs s.means.0 s.means.1 h)
