@@ -1,5 +1,5 @@
 -- What the steps of goals do.
-use Rattle.std.proofs.Common.{◌≡◌, ◌==◌, ℕ, zero, suc, ◌+◌, ◌<◌, ◌≤◌, ℤ, pos, Bool, true, false, Option, Some, None, List, [], ◌∷◌, ◌++◌, length, take, drop, refl, subst, ap, ◌∙◌, sym, arith, inl, inr, codes, if◌then◌else◌, ◌&&◌, bytes_eq, append-nil, length-append}
+use Rattle.std.proofs.Common.{◌≡◌, ◌==◌, ℕ, zero, suc, ◌+◌, ◌<◌, ◌≤◌, ℤ, pos, Bool, true, false, Option, Some, None, List, [], ◌∷◌, ◌++◌, length, take, drop, refl, subst, ap, ◌∙◌, sym, arith, inl, inr, codes, if◌then◌else◌, ◌&&◌, bytes_eq, append-nil, length-append, length-take}
 use Rattle.std.specs.List.{list_all, flat_map}
 use Rattle.std.proofs.lemmas.Bool.{eqb-true}
 use Rattle.std.proofs.lemmas.List.{take-append-drop}
@@ -23,8 +23,9 @@ use Rattle.platoms.specs.declared.names.Functor.{Functor}
 use Rattle.platoms.proofs.Extending.{atom_same}
 use Rattle.plcode.specs.declared.body.Piece.{Piece}
 use Rattle.plcode.specs.declared.body.Piece.TheVariants.{And, Or, IfThen, Single}
+use Rattle.plcode.specs.Nodes.{row}
 use Rattle.plcode.specs.Laying.{IsLaid}
-use Rattle.plcode.specs.Steps.{Text, Extended, Args, IsProcedure, Does}
+use Rattle.plcode.specs.Steps.{Text, Extended, Args, IsProcedure, Calls, Does}
 use Rattle.plcode.specs.Bodies.{IsBranch, IsCode, Means, Splits}
 use Rattle.plcode.proofs.Placing.{Grows-refl}
 use Rattle.plcode.proofs.Values.{IsSound-names}
@@ -242,3 +243,40 @@ pub spelled_less : (k : ℕ) (ts : List Tree) → length (flat_map spelling (dro
 spelled_less k ts =
     omega (arith, ap (λ us. length (flat_map spelling us)) (take-append-drop k ts), ap length (flat_map-append spelling (take k ts) (drop k ts)),
     length-append (flat_map spelling (take k ts)) (flat_map spelling (drop k ts)))
+
+pub called : (c : Text) (code : IsCode c) (t : Table) → Extends c.names t → IsTable t → (f at k : ℕ) (p : Indicator) (us : List Tree) → (k ≡ 0 → ⊥) → k ≡ length us
+    → IsProcedure (record { names = t; nodes = c.nodes; steps = c.steps }) f p → Args c at us
+    → Calls (record { names = t; nodes = c.nodes; steps = c.steps }) (ops.Call f at) p us
+called c code t grown table f at k p [] some len h args = absurd (some len)
+called c code t grown table f at k p (u ∷ us) some len h args =
+    (f, (at, refl, h, Args-more c (record { names = t; nodes = c.nodes; steps = c.steps }) code.laid (names_extended c code t grown table) at (u ∷ us) args))
+
+pub control_goal : (c : Text) (k : Control) (at n : ℕ) (us : List Tree) → n ≡ length us → Args c at us → (n ≡ 2 → holder k ≡ None) → Does c (control_op k at n) (construct k us) us
+control_goal c k at n us len h plain =
+    let P : ℕ → Type 0 = λ m. (m ≡ 2 → holder k ≡ None) → Does c (control_op k at m) (construct k us) us in
+    subst P (sym len) (λ plain. control_does c k at us h (plain_of k us plain)) plain
+
+-- a goal whose arguments were laid down
+pub split_laid : (d : Text) (op : Op) (s : List ℕ) (k : ℕ) (ts new : List Tree) (kind : Option Kind) → kind ≡ kind_of s k → k ≤ length ts → new ≡ drop k ts
+    → (k ≡ 2 → holder_of kind ≡ None) → Does d op (form_by kind (record { name = s; arity = k }) (take k ts)) (take k ts) → Splits d (Single op) (read (Compound s k) ts) new
+split_laid d op s k ts new kind is room rest plain does =
+    let us = take k ts in
+    let len : k ≡ length us = omega (arith, length-take k ts) in
+    let P : Option Kind → Type 0 = λ o. Does d op (form_by o (record { name = s; arity = k }) us) us in
+    let Q : ℕ → Type 0 = λ n. Does d op (form_by (kind_of s n) (record { name = s; arity = n }) us) us in
+    let R : List Tree → Type 0 = λ v. Splits d (Single op) (compound s (trees us) ∷ drop k ts) v in
+    subst R (sym rest)
+    (split_one d op s us (drop k ts) (λ two. let k2 : k ≡ 2 = len ∙ two in ap (λ n. holder_of (kind_of s n)) (sym k2) ∙ ap holder_of (sym is) ∙ plain k2) (subst Q len (subst P is does)))
+
+pub plain_from : (kind : Option Kind) (k : ℕ) → None ≡ piece_for kind k → k ≡ 2 → holder_of kind ≡ None
+plain_from kind k e two = let P : ℕ → Type 0 = λ n. None ≡ piece_for kind n in sym (subst P two e)
+
+pub no_args : (c : Text) → Args c 0 []
+unfolding row
+no_args c = record { within = omega arith; terms = refl }
+
+pub split_named : (d : Text) (op : Op) (s : List ℕ) (ts : List Tree) (kind : Option Kind) → kind ≡ kind_of s 0
+    → Does d op (form_by kind (record { name = s; arity = 0 }) []) [] → Splits d (Single op) (atom s ∷ ts) ts
+split_named d op s ts kind is does =
+    let P : Option Kind → Type 0 = λ o. Does d op (form_by o (record { name = s; arity = 0 }) []) [] in
+    split_atom d op s ts (subst P is does)

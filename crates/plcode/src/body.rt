@@ -8,7 +8,10 @@ ghost use Rattle.plcode.specs.Steps.{text, Extended};
 ghost use Rattle.plcode.specs.Bodies.{arrow_of, charged, joined, step, Begins, Branches, HasTwo, Holds, IsBranch, IsCode, Leads, Made, Ready, Splits};
 
 use crate::code::Code;
+use crate::goal::piece_of;
 use crate::op::{Op, Step};
+use plnames::table::NameTable;
+use plterm::walk::TermRef;
 use std::alloc::{AllocError, Global};
 
 /// Where the sequence of fail/0 begins.
@@ -273,5 +276,43 @@ fn put_body(alloc: Global, code: &mut Code, pieces: Vec<Piece>) -> Result<u32, A
         unreachable!()
     };
     let at = put_sequence(&mut code.steps, &mut made, whole.len)?;
+    Ok(at)
+}
+
+/// The pieces of a body, in prefix order.
+fn pieces_of(
+    alloc: Global,
+    code: &mut Code,
+    kinds: &NameTable,
+    body: &TermRef<'_>,
+) -> Result<Vec<Piece>, AllocError>
+    requires code { IsCode (text code.old) }
+    ensures extended { OnOk result (Extended (text code.old) (text code.new)) }
+    ensures code { OnOk result (IsCode (text code.new)) }
+    ensures leads { IfOk result (λ pieces. Leads (text code.new) pieces.items (body.now ∷ []) []) }
+{
+    let mut pieces = Vec::new(alloc);
+    let mut goals = body.alone();
+    'goals: while let Some(node) = goals.enter() {
+        let piece = piece_of(alloc, code, kinds, node, &mut goals)?;
+        pieces.push(piece)?;
+    }
+    Ok(pieces)
+}
+
+/// Compiles a body, in time linear in its nodes; says where its sequence begins. After an `Err` what was put stays, and nothing leads to it.
+pub fn compile_body(
+    alloc: Global,
+    code: &mut Code,
+    kinds: &NameTable,
+    body: &TermRef<'_>,
+) -> Result<u32, AllocError>
+    requires code { IsCode (text code.old) }
+    ensures extended { OnOk result (Extended (text code.old) (text code.new)) }
+    ensures code { OnOk result (IsCode (text code.new)) }
+    ensures begins { IfOk result (λ at. Begins (text code.new) at body.now) }
+{
+    let pieces = pieces_of(alloc, code, kinds, body)?;
+    let at = put_body(alloc, code, pieces)?;
     Ok(at)
 }

@@ -118,3 +118,41 @@ fn goal_op(
         }
     }
 }
+
+/// The piece of the first goal, whose node was taken off; what is not a control construct of goals has its arguments laid down.
+pub(crate) fn piece_of(
+    alloc: Global,
+    code: &mut Code,
+    kinds: &NameTable,
+    node: &TermNode,
+    goals: &mut Terms<'_>,
+) -> Result<Piece, AllocError>
+    requires room { arity node.now ≤ length goals.old }
+    requires fits { Fits node.now }
+    requires code { IsCode (text code.old) }
+    ensures extended { OnOk result (Extended (text code.old) (text code.new)) }
+    ensures code { OnOk result (IsCode (text code.new)) }
+    ensures splits { IfOk result (λ p. Splits (text code.new) p (read node.now goals.old) goals.new) }
+    ensures less { OnOk result (length (flat_map spelling goals.new) ≤ length (flat_map spelling goals.old)) }
+{
+    match node {
+        TermNode::Var(_) => Ok(Piece::Single(Op::Fail)),
+        TermNode::Int(_) => Ok(Piece::Single(Op::Fail)),
+        TermNode::Atom(name) => {
+            let kind = kinds.kind_of(name.as_str(), 0);
+            let op = goal_op(code, kind, name, 0, 0)?;
+            Ok(Piece::Single(op))
+        }
+        TermNode::Compound(name, count) => {
+            let kind = kinds.kind_of(name.as_str(), *count);
+            match control_piece(kind, *count) {
+                Some(piece) => Ok(piece),
+                None => {
+                    let at = lay(alloc, &mut code.nodes, &mut code.names, goals, *count)?;
+                    let op = goal_op(code, kind, name, at, *count)?;
+                    Ok(Piece::Single(op))
+                }
+            }
+        }
+    }
+}
