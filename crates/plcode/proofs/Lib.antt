@@ -5,3 +5,4 @@ pub mod Placing
 pub mod Segments
 pub mod Folds
 pub mod Goals
+pub mod Worked

@@ -2,6 +2,7 @@
 #![tactic(auto)]
 
 pub mod body;
+pub mod clause;
 pub mod code;
 pub mod goal;
 pub mod lay;
