@@ -6,3 +6,4 @@ pub mod Segments
 pub mod Folds
 pub mod Goals
 pub mod Worked
+pub mod Keys

@@ -3,3 +3,4 @@ pub mod Laying
 pub mod Steps
 pub mod Bodies
 pub mod Goals
+pub mod Keys
