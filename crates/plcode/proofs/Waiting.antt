@@ -1,0 +1,81 @@
+-- Nodes that wait on a stack for the compound that they are arguments of.
+use Rattle.std.proofs.Common.{◌≡◌, ℕ, ◌+◌, ◌≤◌, List, [], ◌∷◌, ◌++◌, length, map, take, drop, refl, subst, ap, ◌∙◌, sym, arith, length-take}
+use Rattle.std.proofs.lemmas.List.{length-map, take_all, take-map, drop-map}
+use Rattle.std.proofs.Math.Seq.{drop-append_seam}
+use Rattle.plterm.specs.Tree.{Tree, compound, trees}
+use Rattle.platoms.specs.Names.{Table, Extends, IsTable, functor_name}
+use Rattle.plcode.specs.declared.node.Node.{Node}
+use Rattle.plcode.specs.declared.node.Node.TheVariants.{Fun, Sub}
+use Rattle.plcode.specs.Nodes.{Value, Whole, Head, tree, block, value, values, IsBlock, IsNamed, Rests}
+use Rattle.plcode.specs.Laying.{over, EachRests, Waits}
+use Rattle.plcode.proofs.Values.{values-append, values-names, length-values, over-more, over-names, EachRests-more, EachRests-take, EachRests-drop, AllNamed-take, AllNamed-drop, AllNamed-names, IsSound-row, IsSound-names}
+
+pub Waits-names : (s t : Table) (nodes w : List Node) (ts : List Tree) → Extends s t → IsTable t → Waits s nodes w ts → Waits t nodes w ts
+Waits-names s t nodes w ts more table h =
+    let e : values t nodes ≡ values s nodes = values-names s t more h.table nodes h.sound.named in
+    let P : List Value → Type 0 = λ vs. EachRests vs w in
+    record {
+      table = table;
+      sound = IsSound-names s t more h.table nodes h.sound;
+      named = AllNamed-names s t more w h.named;
+      rest = subst P (sym e) h.rest;
+      terms = ap (λ vs. over t vs w) e ∙ over-names s t more h.table (values s nodes) w h.named ∙ h.terms;
+    }
+
+pub Waits-leaf : (t : Table) (nodes w : List Node) (ts : List Tree) (n : Node) (u : Tree)
+    → Waits t nodes w ts → IsNamed t n → Rests (values t nodes) n → tree (value t (values t nodes) n) ≡ u → Waits t nodes (n ∷ w) (u ∷ ts)
+Waits-leaf t nodes w ts n u h named rests is = record {
+  table = h.table;
+  sound = h.sound;
+  named = (named, h.named);
+  rest = (rests, h.rest);
+  terms = ap (λ v. v ∷ over t (values t nodes) w) is ∙ ap (λ us. u ∷ us) h.terms;
+}
+
+over-map : (t : Table) (vs : List Value) (w : List Node) → map tree (map (value t vs) w) ≡ over t vs w
+over-map t vs [] = refl
+over-map t vs (n ∷ w) = ap (λ us. tree (value t vs n) ∷ us) (over-map t vs w)
+
+-- a row of the topmost nodes stands for the topmost terms
+pub row_terms : (t : Table) (vs : List Value) (w : List Node) (ts : List Tree) (k : ℕ) → over t vs w ≡ ts → map tree (take k (map (value t vs) (take k w))) ≡ take k ts
+row_terms t vs w ts k h =
+    ap (map tree) (take_all k (map (value t vs) (take k w)) (omega (arith, length-map (take k w) (value t vs), length-take k w)))
+    ∙ over-map t vs (take k w)
+    ∙ sym (take-map (λ n. tree (value t vs n)) k w)
+    ∙ ap (take k) h
+
+module _ (t : Table) (nodes w : List Node) (ts : List Tree) (f k from : ℕ) (h : Waits t nodes w ts) (room : k ≤ length w) (named : IsNamed t (Fun f k)) where
+  old : List Value
+  old = values t nodes
+
+  more : List Value
+  unfolding old
+  more = Head (functor_name t f) k ∷ map (value t old) (take k w)
+
+  grown : values t (nodes ++ Fun f k ∷ take k w) ≡ old ++ more
+  unfolding old more
+  grown = values-append t nodes (Fun f k ∷ take k w) (tt, EachRests-take old k w h.rest)
+
+  root : drop (length nodes) (old ++ more) ≡ more
+  unfolding old
+  root = ap (λ n. drop n (old ++ more)) (sym (length-values t nodes)) ∙ drop-append_seam old more
+
+  whole : IsBlock more
+  unfolding old more
+  whole = omega (arith, length-map (take k w) (value t old), length-take k w, room)
+
+  pub Waits-block : Waits t (nodes ++ Fun f k ∷ take k w) (Sub from (length nodes) ∷ drop k w) (compound (functor_name t f) (trees (take k ts)) ∷ drop k ts)
+  unfolding old more
+  Waits-block =
+      let P : List Value → Type 0 = λ vs. EachRests vs (Sub from (length nodes) ∷ drop k w) in
+      let Q : List Value → Type 0 = IsBlock in
+      record {
+        table = h.table;
+        sound = IsSound-row t nodes (Fun f k ∷ take k w) h.sound (named, AllNamed-take t k w h.named) (tt, EachRests-take old k w h.rest);
+        named = (tt, AllNamed-drop t k w h.named);
+        rest = subst P (sym grown) (subst Q (sym root) whole, EachRests-more old more (drop k w) (EachRests-drop old k w h.rest));
+        terms = ap (λ vs. over t vs (Sub from (length nodes) ∷ drop k w)) grown
+            ∙ ap (λ vs. block vs ∷ over t (old ++ more) (drop k w)) root
+            ∙ ap (λ us. compound (functor_name t f) (trees us) ∷ over t (old ++ more) (drop k w)) (row_terms t old w ts k h.terms)
+            ∙ ap (λ us. compound (functor_name t f) (trees (take k ts)) ∷ us) (over-more t old more (drop k w) (EachRests-drop old k w h.rest) ∙ sym (drop-map (λ n. tree (value t old n)) k w) ∙ ap (drop k) h.terms);
+      }

@@ -1,0 +1,33 @@
+use Rattle.std.proofs.Common.{◌≡◌, ◌∙◌, [], ℕ, List, length, take, subst, ap, sym, arith}
+use Rattle.std.proofs.lemmas.List.{take_all}
+use Rattle.plterm.specs.Tree.{Tree, list_of-trees}
+use Rattle.plsearch.specs.Forms.{arguments}
+use Rattle.plcode.specs.Laying.{IsRow}
+use Rattle.plcode.specs.Steps.{text, Args}
+use Rattle.plcode.proofs.Goals.{no_args}
+use Rattle.plcode.proofs.clause.lay_arguments.Goals as goal
+
+pub returns-in_ok-at-in-Compound-clause-row : goal.returns-in_ok-at-in-Compound-clause-row
+returns-in_ok-at-in-Compound-clause-row c =
+    let ts = c.in-Compound.args in
+    let at = c.in_ok-at-in-Compound.at in
+    let is : arguments c.args.head.now ≡ ts = sym (ap arguments c.in-Compound.ensures.shown) ∙ list_of-trees ts in
+    let P : List Tree → Type 0 = λ v. IsRow c.lay.new.names c.lay.new.nodes.items at (length v) v in
+    let Q : ℕ → Type 0 = λ n. IsRow c.lay.new.names c.lay.new.nodes.items at n (take n ts) in
+    let R : List Tree → Type 0 = IsRow c.lay.new.names c.lay.new.nodes.items at (length ts) in
+    subst P (sym is) (subst R (take_all (length ts) ts (omega arith)) (subst Q c.len-count.ensures c.in_ok-at-in-Compound.ensures.row))
+
+pub returns-in-Var-clause-row : goal.returns-in-Var-clause-row
+returns-in-Var-clause-row c =
+    let P : List Tree → Type 0 = Args (text c.args.code.now) 0 in
+    subst P (ap arguments c.in-Var.ensures.shown) (no_args (text c.args.code.now))
+
+pub returns-in-Int-clause-row : goal.returns-in-Int-clause-row
+returns-in-Int-clause-row c =
+    let P : List Tree → Type 0 = Args (text c.args.code.now) 0 in
+    subst P (ap arguments c.in-Int.ensures.shown) (no_args (text c.args.code.now))
+
+pub returns-in-Atom-clause-row : goal.returns-in-Atom-clause-row
+returns-in-Atom-clause-row c =
+    let P : List Tree → Type 0 = Args (text c.args.code.now) 0 in
+    subst P (ap arguments c.in-Atom.ensures.shown) (no_args (text c.args.code.now))

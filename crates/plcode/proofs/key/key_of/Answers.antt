@@ -1,0 +1,31 @@
+use Rattle.std.proofs.Common.{◌≡◌, ◌∙◌, List, ℕ, length, ap, sym}
+use Rattle.plterm.specs.Tree.{compound, trees, list_of-trees}
+use Rattle.platoms.specs.Names.{atom_at, functor_name}
+use Rattle.platoms.proofs.Extending.{atom_same, Extends-trans}
+use Rattle.plcode.specs.Steps.{text}
+use Rattle.plcode.proofs.Goals.{names_code}
+use Rattle.plcode.proofs.key.key_of.Goals as goal
+
+pub returns-in_ok-atom-in-Atom-clause-code : goal.returns-in_ok-atom-in-Atom-clause-code
+returns-in_ok-atom-in-Atom-clause-code c = names_code (text c.args.code.now) c.requires.code c.atom.new.self c.atom.ensures.extends c.atom.ensures.table
+
+pub returns-in_ok-functor-in-Compound-clause-code : goal.returns-in_ok-functor-in-Compound-clause-code
+returns-in_ok-functor-in-Compound-clause-code c =
+    names_code (text c.args.code.now) c.requires.code c.functor.new.self
+    (Extends-trans c.args.code.now.names c.atom-in-Compound.new.self c.functor.new.self c.atom-in-Compound.ensures.extends c.functor.ensures.extends) c.functor.ensures.table
+
+pub returns-in_ok-functor-in-Compound-clause-key : goal.returns-in_ok-functor-in-Compound-clause-key
+returns-in_ok-functor-in-Compound-clause-key c =
+    let named = c.in_ok-name-in-Compound.ensures.is in
+    let is = c.in_ok-functor-in-Compound.ensures.is in
+    let s = c.atom-in-Compound.new.self in
+    let t = c.functor.new.self in
+    let ts = c.in-Compound.args in
+    let name : functor_name t c.in_ok-functor-in-Compound.functor ≡ c.in-Compound.name.now =
+        ap (λ g. atom_at t g.name) is.is ∙ atom_same s t c.functor.ensures.extends c.in_ok-name-in-Compound.name named.within ∙ named.is ∙ c.in_ok-copied-in-Compound.ensures in
+    record {
+      within = is.within;
+      args = trees ts;
+      is = sym c.in-Compound.ensures.shown ∙ ap (λ (n : List ℕ). compound n (trees ts)) (sym name);
+      arity = ap (λ g. g.arity) is.is ∙ c.len-arity.ensures ∙ sym (ap length (list_of-trees ts));
+    }

@@ -1,0 +1,6 @@
+pub mod Nodes
+pub mod Laying
+pub mod Steps
+pub mod Bodies
+pub mod Goals
+pub mod Keys

@@ -1,0 +1,83 @@
+//! Compiled clauses.
+ghost use Rattle.std.specs.Prelude.{◌≡◌, IfOk, OnOk};
+ghost use Rattle.plsearch.specs.Forms.{arguments};
+ghost use Rattle.plsearch.specs.Rows.{is_true as is_true_of};
+ghost use Rattle.plcode.specs.Steps.{text, Args, Extended};
+ghost use Rattle.plcode.specs.Bodies.{Begins, IsCode};
+
+use crate::body::compile_body;
+use crate::code::Code;
+use crate::lay::lay;
+use plclause::clause::Clause;
+use plnames::table::NameTable;
+use plterm::walk::{Shape, TermRef};
+use std::alloc::{AllocError, Global};
+
+/// A compiled clause: where the row of its head's arguments and the sequence of its body begin, how many variables it has, and
+/// whether its body is the atom true, which is no goal.
+#[derive(Clone, Copy, Debug, PartialEq, Eq)]
+pub struct ClauseCode {
+    pub head: u32,
+    pub body: u32,
+    pub variables: u32,
+    pub is_fact: bool,
+}
+
+/// Lays the arguments of a head down in a row; says where it begins.
+fn lay_arguments(alloc: Global, code: &mut Code, head: &TermRef<'_>) -> Result<u32, AllocError>
+    requires code { IsCode (text code.old) }
+    ensures extended { OnOk result (Extended (text code.old) (text code.new)) }
+    ensures code { OnOk result (IsCode (text code.new)) }
+    ensures row { IfOk result (λ at. Args (text code.new) at (arguments head.now)) }
+{
+    match head.shape() {
+        Shape::Compound(_, mut args) => {
+            let count = args.len() as u16;
+            let at = lay(alloc, &mut code.nodes, &mut code.names, &mut args, count)?;
+            Ok(at)
+        }
+        Shape::Var(_) => Ok(0),
+        Shape::Int(_) => Ok(0),
+        Shape::Atom(_) => Ok(0),
+    }
+}
+
+/// Whether a body is the atom true.
+fn is_true(body: &TermRef<'_>) -> bool
+    ensures { result ≡ is_true_of body.now }
+{
+    match body.shape() {
+        Shape::Atom(name) => name.as_str() == "true",
+        Shape::Var(_) | Shape::Int(_) | Shape::Compound(_, _) => false,
+    }
+}
+
+/// Compiles a clause, in time linear in its nodes. After an `Err` what was put stays, and nothing leads to it.
+pub fn compile_clause(
+    alloc: Global,
+    code: &mut Code,
+    kinds: &NameTable,
+    clause: &Clause,
+) -> Result<ClauseCode, AllocError>
+    requires code { IsCode (text code.old) }
+    ensures extended { OnOk result (Extended (text code.old) (text code.new)) }
+    ensures code { OnOk result (IsCode (text code.new)) }
+    ensures head { IfOk result (λ c. Args (text code.new) c.head (arguments clause.now.head)) }
+    ensures body { IfOk result (λ c. Begins (text code.new) c.body clause.now.body) }
+    ensures variables { IfOk result (λ c. c.variables ≡ clause.now.variables) }
+    ensures fact { IfOk result (λ c. c.is_fact ≡ is_true_of clause.now.body) }
+{
+    let Ok(variables) = u32::try_from(clause.variables()) else {
+        return Err(AllocError);
+    };
+    let head = lay_arguments(alloc, code, &clause.head().root())?;
+    let root = clause.body().root();
+    let body = compile_body(alloc, code, kinds, &root)?;
+    let is_fact = is_true(&root);
+    Ok(ClauseCode {
+        head,
+        body,
+        variables,
+        is_fact,
+    })
+}

@@ -1,0 +1,69 @@
+//! The keys of first arguments, by which clauses are passed over.
+ghost use Rattle.std.specs.Prelude.{IfOk, OnOk};
+ghost use Rattle.plsearch.specs.Forms.{arguments};
+ghost use Rattle.plcode.specs.Steps.{text, Extended};
+ghost use Rattle.plcode.specs.Bodies.{IsCode};
+ghost use Rattle.plcode.specs.Keys.{IsFirstKey, IsKey, KeysPart};
+
+use crate::code::Code;
+use platoms::names::Functor;
+use plterm::walk::{Shape, TermRef};
+use std::alloc::AllocError;
+
+/// What a first argument is: an integer, an atom or a compound by its number, or anything, as a variable is.
+#[derive(Clone, Copy, Debug, PartialEq, Eq)]
+pub enum Key {
+    Any,
+    Int(i64),
+    Atom(u32),
+    Fun(u32),
+}
+
+/// Terms whose keys differ do not unify, unless one key is that of anything.
+pub fn keys_part()
+    ensures { KeysPart }
+{}
+
+/// The key of a term.
+pub fn key_of(code: &mut Code, term: &TermRef<'_>) -> Result<Key, AllocError>
+    requires code { IsCode (text code.old) }
+    ensures extended { OnOk result (Extended (text code.old) (text code.new)) }
+    ensures code { OnOk result (IsCode (text code.new)) }
+    ensures key { IfOk result (λ k. IsKey code.new.names k term.now) }
+{
+    match term.shape() {
+        Shape::Var(_) => Ok(Key::Any),
+        Shape::Int(value) => Ok(Key::Int(value)),
+        Shape::Atom(name) => {
+            let atom = code.names.atom(name.copied()?)?;
+            Ok(Key::Atom(atom))
+        }
+        Shape::Compound(name, args) => {
+            let name = code.names.atom(name.copied()?)?;
+            let arity = args.len() as u16;
+            let functor = code.names.functor(Functor { name, arity })?;
+            Ok(Key::Fun(functor))
+        }
+    }
+}
+
+/// The key of a head's first argument; that of anything, if it has none.
+pub fn head_key(code: &mut Code, head: &TermRef<'_>) -> Result<Key, AllocError>
+    requires code { IsCode (text code.old) }
+    ensures extended { OnOk result (Extended (text code.old) (text code.new)) }
+    ensures code { OnOk result (IsCode (text code.new)) }
+    ensures key { IfOk result (λ k. IsFirstKey code.new.names k (arguments head.now)) }
+{
+    match head.shape() {
+        Shape::Compound(_, mut args) => match args.next_term() {
+            Some(first) => {
+                let key = key_of(code, &first)?;
+                Ok(key)
+            }
+            None => Ok(Key::Any),
+        },
+        Shape::Var(_) => Ok(Key::Any),
+        Shape::Int(_) => Ok(Key::Any),
+        Shape::Atom(_) => Ok(Key::Any),
+    }
+}

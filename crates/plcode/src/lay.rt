@@ -1,0 +1,154 @@
+//! Laying the nodes of terms down.
+ghost use Rattle.std.specs.Prelude.{◌≡◌, ◌≤◌, [], ◌∷◌, ◌++◌, length, take, drop, reverse, IfOk, OnOk, List};
+ghost use Rattle.plterm.specs.Tree.{Tree};
+ghost use Rattle.plterm.specs.Reading.{arity, read, reading, Fits, IsForest};
+ghost use Rattle.platoms.specs.Names.{Extends};
+ghost use Rattle.plcode.specs.declared.node.Node.TheVariants.{Fun, Sub};
+ghost use Rattle.plcode.specs.Laying.{from_or, lower as lower_of, lowest, Grows, IsLaid, IsRow, Waits};
+
+use crate::node::Node;
+use platoms::names::{Functor, Names};
+use plterm::node::Node as TermNode;
+use plterm::walk::Terms;
+use std::alloc::{AllocError, Global};
+
+/// Where the first block of the last compound begins, if a node follows others.
+fn lower(low: Option<u32>, node: Node) -> Option<u32>
+    ensures { result ≡ lower_of low node }
+{
+    match node {
+        Node::Sub(from, _) => Some(from),
+        Node::Var(_) | Node::Int(_) | Node::Atom(_) | Node::Fun(_, _) => low,
+    }
+}
+
+/// Moves the topmost nodes of a stack, so many as are asked for, behind the others; the topmost one comes first. Says where the
+/// first block of the last compound among them begins.
+fn put_row(
+    nodes: &mut Vec<Node>,
+    waiting: &mut Vec<Node>,
+    count: u16,
+) -> Result<Option<u32>, AllocError>
+    requires { count ≤ length waiting.old.items }
+    ensures nodes { OnOk result (nodes.new.items ≡ nodes.old.items ++ take count (reverse waiting.old.items)) }
+    ensures waiting { OnOk result (reverse waiting.new.items ≡ drop count (reverse waiting.old.items)) }
+    ensures lowest { IfOk result (λ low. low ≡ lowest (take count (reverse waiting.old.items))) }
+{
+    let mut low = None;
+    for _ in 0..count {
+        let Some(node) = waiting.pop() else {
+            unreachable!()
+        };
+        low = lower(low, node);
+        nodes.push(node)?;
+    }
+    Ok(low)
+}
+
+/// Lays a block down, whose arguments are the topmost nodes of a stack; the compound takes their place.
+fn put_block(
+    nodes: &mut Vec<Node>,
+    waiting: &mut Vec<Node>,
+    functor: u32,
+    count: u16,
+) -> Result<(), AllocError>
+    requires { count ≤ length waiting.old.items }
+    ensures nodes { OnOk result (nodes.new.items ≡ nodes.old.items ++ Fun functor count ∷ take count (reverse waiting.old.items)) }
+    ensures waiting { OnOk result (reverse waiting.new.items ≡ Sub (from_or (length nodes.old.items) (lowest (take count (reverse waiting.old.items)))) (length nodes.old.items) ∷ drop count (reverse waiting.old.items)) }
+{
+    let Ok(root) = u32::try_from(nodes.len()) else {
+        return Err(AllocError);
+    };
+    nodes.push(Node::Fun(functor, count))?;
+    let low = put_row(nodes, waiting, count)?;
+    waiting.push(Node::Sub(low.unwrap_or(root), root))?;
+    Ok(())
+}
+
+/// Lays a term down whose arguments are the topmost nodes of a stack; its own node takes their place.
+fn put_node(
+    nodes: &mut Vec<Node>,
+    waiting: &mut Vec<Node>,
+    names: &mut Names,
+    node: TermNode,
+) -> Result<(), AllocError>
+    requires room { arity node ≤ length waiting.old.items }
+    requires fits { Fits node }
+    ensures names { Extends names.old names.new }
+    ensures grows { OnOk result (Grows nodes.old.items nodes.new.items) }
+    ensures waits { OnOk result ((ts : List Tree) → Waits names.old nodes.old.items (reverse waiting.old.items) ts → Waits names.new nodes.new.items (reverse waiting.new.items) (read node ts)) }
+{
+    match node {
+        TermNode::Var(variable) => {
+            let Ok(slot) = u32::try_from(variable) else {
+                return Err(AllocError);
+            };
+            waiting.push(Node::Var(slot))?;
+            Ok(())
+        }
+        TermNode::Int(number) => {
+            waiting.push(Node::Int(number))?;
+            Ok(())
+        }
+        TermNode::Atom(name) => {
+            let atom = names.atom(name)?;
+            waiting.push(Node::Atom(atom))?;
+            Ok(())
+        }
+        TermNode::Compound(name, arity) => {
+            let name = names.atom(name)?;
+            let functor = names.functor(Functor { name, arity })?;
+            put_block(nodes, waiting, functor, arity)?;
+            Ok(())
+        }
+    }
+}
+
+/// Lays terms down by their nodes, those of the last term first. Their own nodes wait, that of the first term on top.
+fn put_all(
+    nodes: &mut Vec<Node>,
+    waiting: &mut Vec<Node>,
+    names: &mut Names,
+    terms: Vec<TermNode>,
+) -> Result<(), AllocError>
+    requires forest { IsForest terms.items }
+    requires laid { IsLaid names.old nodes.old.items }
+    requires none { waiting.old.items ≡ [] }
+    ensures names { Extends names.old names.new }
+    ensures grows { OnOk result (Grows nodes.old.items nodes.new.items) }
+    ensures waits { OnOk result (Waits names.new nodes.new.items (reverse waiting.new.items) (reading terms.items)) }
+{
+    let mut terms = terms;
+    'terms: while let Some(node) = terms.pop() {
+        put_node(nodes, waiting, names, node)?;
+    }
+    Ok(())
+}
+
+/// Lays terms down behind the nodes, so many as are asked for, which are taken off; says where the row of their own nodes begins.
+/// For want of memory, or of numbers, what was laid down stays, and no row is there.
+pub fn lay(
+    alloc: Global,
+    nodes: &mut Vec<Node>,
+    names: &mut Names,
+    terms: &mut Terms<'_>,
+    count: u16,
+) -> Result<u32, AllocError>
+    requires room { count ≤ length terms.old }
+    requires laid { IsLaid names.old nodes.old.items }
+    ensures rest { OnOk result (terms.new ≡ drop count terms.old) }
+    ensures row { IfOk result (λ at. IsRow names.new nodes.new.items at count (take count terms.old)) }
+    ensures laid { OnOk result (IsLaid names.new nodes.new.items) }
+    ensures grows { OnOk result (Grows nodes.old.items nodes.new.items) }
+    ensures names { Extends names.old names.new }
+{
+    let mut spelled = Vec::new(alloc);
+    terms.copy_nodes(count as usize, &mut spelled)?;
+    let mut waiting = Vec::new(alloc);
+    put_all(nodes, &mut waiting, names, spelled)?;
+    let Ok(at) = u32::try_from(nodes.len()) else {
+        return Err(AllocError);
+    };
+    put_row(nodes, &mut waiting, count)?;
+    Ok(at)
+}

@@ -1,0 +1,11 @@
+//! Clauses in the form that the machine runs.
+#![tactic(auto)]
+
+pub mod body;
+pub mod clause;
+pub mod code;
+pub mod goal;
+pub mod key;
+pub mod lay;
+pub mod node;
+pub mod op;
