@@ -166,19 +166,22 @@ two_kinds : (c : Text) (p : Piece) (s : List ℕ) (kind : Option Kind) (a b : Tr
     → Means c p (compound s (trees (a ∷ b ∷ []))) rest (a ∷ b ∷ rest)
 two_kinds c p s (Some (kinds.Control controls.And)) a b rest k h =
     let e : And ≡ p = cc in
-    subst (λ q. Means c q (compound s (trees (a ∷ b ∷ []))) rest (a ∷ b ∷ rest)) e
-    (branch_of s (a ∷ b ∷ []) (λ _ i. let n = sym k ∙ i in cc),
-    record { first = a; second = b; form_is = ap (λ o. form_by o (record { name = s; arity = 2 }) (a ∷ b ∷ [])) k; next = refl })
+    subst (λ q. Means c q (compound s (trees (a ∷ b ∷ []))) rest (a ∷ b ∷ rest)) e (
+      branch_of s (a ∷ b ∷ []) (λ _ i. let n = sym k ∙ i in cc),
+      record { first = a; second = b; form_is = ap (λ o. form_by o (record { name = s; arity = 2 }) (a ∷ b ∷ [])) k; next = refl },
+    )
 two_kinds c p s (Some (kinds.Control controls.Or)) a b rest k h =
     let e : Or ≡ p = cc in
-    subst (λ q. Means c q (compound s (trees (a ∷ b ∷ []))) rest (a ∷ b ∷ rest)) e
-    (branch_of s (a ∷ b ∷ []) (λ _ i. let n = sym k ∙ i in cc),
-    record { first = a; second = b; form_is = ap (λ o. form_by o (record { name = s; arity = 2 }) (a ∷ b ∷ [])) k; next = refl })
+    subst (λ q. Means c q (compound s (trees (a ∷ b ∷ []))) rest (a ∷ b ∷ rest)) e (
+      branch_of s (a ∷ b ∷ []) (λ _ i. let n = sym k ∙ i in cc),
+      record { first = a; second = b; form_is = ap (λ o. form_by o (record { name = s; arity = 2 }) (a ∷ b ∷ [])) k; next = refl },
+    )
 two_kinds c p s (Some (kinds.Control controls.IfThen)) a b rest k h =
     let e : IfThen ≡ p = cc in
-    subst (λ q. Means c q (compound s (trees (a ∷ b ∷ []))) rest (a ∷ b ∷ rest)) e
-    (record { first = a; second = b; form_is = ap (λ o. form_by o (record { name = s; arity = 2 }) (a ∷ b ∷ [])) k; next = refl },
-    λ e. ap (λ n. either (compound n (trees (a ∷ b ∷ []))) e) (arrow_named s 2 k))
+    subst (λ q. Means c q (compound s (trees (a ∷ b ∷ []))) rest (a ∷ b ∷ rest)) e (
+      record { first = a; second = b; form_is = ap (λ o. form_by o (record { name = s; arity = 2 }) (a ∷ b ∷ [])) k; next = refl },
+      λ e. ap (λ n. either (compound n (trees (a ∷ b ∷ []))) e) (arrow_named s 2 k),
+    )
 two_kinds c p s kind a b rest k h = absurd (cc)
 
 -- a control construct of two goals, by its node
@@ -211,7 +214,7 @@ split_one c op s us rest plain does =
       means = (
         branch_of s us (λ two e. let n = sym (ap holder_of e) ∙ plain two in cc),
         subst Q (sym (list_of-trees us)) (subst P (sym (form_compound s us)) does),
-        refl
+        refl,
       );
     }
 
@@ -241,8 +244,12 @@ module _ (c : Text) (code : IsCode c) (t : Table) (more : Extends c.names t) (ta
 
 pub spelled_less : (k : ℕ) (ts : List Tree) → length (flat_map spelling (drop k ts)) ≤ length (flat_map spelling ts)
 spelled_less k ts =
-    omega (arith, ap (λ us. length (flat_map spelling us)) (take-append-drop k ts), ap length (flat_map-append spelling (take k ts) (drop k ts)),
-    length-append (flat_map spelling (take k ts)) (flat_map spelling (drop k ts)))
+    omega (
+      arith,
+      ap (λ us. length (flat_map spelling us)) (take-append-drop k ts),
+      ap length (flat_map-append spelling (take k ts) (drop k ts)),
+      length-append (flat_map spelling (take k ts)) (flat_map spelling (drop k ts)),
+    )
 
 pub called : (c : Text) (code : IsCode c) (t : Table) → Extends c.names t → IsTable t → (f at k : ℕ) (p : Indicator) (us : List Tree) → (k ≡ 0 → ⊥) → k ≡ length us
     → IsProcedure (record { names = t; nodes = c.nodes; steps = c.steps }) f p → Args c at us

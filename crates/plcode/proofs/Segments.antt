@@ -204,7 +204,7 @@ Made-more c d (p ∷ ps) xs (g ∷ gs) more h = (
   h.1,
   Known-more c d g p.arrow p.len more h.2,
   Segment-more c d g (take p.len xs) more h.3,
-  Made-more c d ps (drop p.len xs) gs more h.4
+  Made-more c d ps (drop p.len xs) gs more h.4,
 )
 
 -- fail/0
@@ -227,25 +227,25 @@ put_there names nodes old new more place is at =
 module _ (names : Table) (nodes : List Node) (s0 s1 s2 : List Step) (p q : Part) (ps : List Part) (xs ys zs : List Step) (l r : ℕ)
     (left_put : s1 ≡ s0 ++ (take p.len xs ++ step ops.Proceed)) (left_at : l ≡ length s0) (left_rest : ys ≡ drop p.len xs)
     (right_put : s2 ≡ s1 ++ (take q.len ys ++ step ops.Proceed)) (right_at : r ≡ length s1) (right_rest : zs ≡ drop q.len ys)
-    where
-  abbrev with_steps : List Step → Text
-  with_steps ss = record { names = names; nodes = nodes; steps = ss }
+  where
+    abbrev with_steps : List Step → Text
+    with_steps ss = record { names = names; nodes = nodes; steps = ss }
 
-  pub branches_put : (a b : Tree) (gs : List Tree) → Made (with_steps s0) (p ∷ q ∷ ps) xs (a ∷ b ∷ gs) → Branches a b gs (with_steps s2) l r ps zs
-  branches_put a b gs h =
-      let P : List Step → Type 0 = λ v. Made (with_steps s0) (q ∷ ps) v (b ∷ gs) in
-      let Q : List Step → Type 0 = λ v. Made (with_steps s2) ps v gs in
-      let behind = subst P (sym left_rest) h.4 in
-      let first = put_extends names nodes s0 s1 (take p.len xs ++ step ops.Proceed) left_put in
-      let second = put_extends names nodes s1 s2 (take q.len ys ++ step ops.Proceed) right_put in
-      let both = Extended-trans (with_steps s0) (with_steps s1) (with_steps s2) first second in
-      record {
-        left_begins = Begins-more (with_steps s1) (with_steps s2) l a second
-            (begins_there (with_steps s0) (with_steps s1) a l (take p.len xs) h.3 first (put_there names nodes s0 s1 (take p.len xs ++ step ops.Proceed) l left_put left_at));
-        right_begins = begins_there (with_steps s1) (with_steps s2) b r (take q.len ys) (Segment-more (with_steps s0) (with_steps s1) b (take q.len ys) first behind.3) second
-            (put_there names nodes s1 s2 (take q.len ys ++ step ops.Proceed) r right_put right_at);
-        rest = subst Q (sym right_rest) (Made-more (with_steps s0) (with_steps s2) ps (drop q.len ys) gs both behind.4);
-      }
+    pub branches_put : (a b : Tree) (gs : List Tree) → Made (with_steps s0) (p ∷ q ∷ ps) xs (a ∷ b ∷ gs) → Branches a b gs (with_steps s2) l r ps zs
+    branches_put a b gs h =
+        let P : List Step → Type 0 = λ v. Made (with_steps s0) (q ∷ ps) v (b ∷ gs) in
+        let Q : List Step → Type 0 = λ v. Made (with_steps s2) ps v gs in
+        let behind = subst P (sym left_rest) h.4 in
+        let first = put_extends names nodes s0 s1 (take p.len xs ++ step ops.Proceed) left_put in
+        let second = put_extends names nodes s1 s2 (take q.len ys ++ step ops.Proceed) right_put in
+        let both = Extended-trans (with_steps s0) (with_steps s1) (with_steps s2) first second in
+        record {
+          left_begins = Begins-more (with_steps s1) (with_steps s2) l a second
+              (begins_there (with_steps s0) (with_steps s1) a l (take p.len xs) h.3 first (put_there names nodes s0 s1 (take p.len xs ++ step ops.Proceed) l left_put left_at));
+          right_begins = begins_there (with_steps s1) (with_steps s2) b r (take q.len ys) (Segment-more (with_steps s0) (with_steps s1) b (take q.len ys) first behind.3) second
+              (put_there names nodes s1 s2 (take q.len ys ++ step ops.Proceed) r right_put right_at);
+          rest = subst Q (sym right_rest) (Made-more (with_steps s0) (with_steps s2) ps (drop q.len ys) gs both behind.4);
+        }
 
 -- ---- two parts are joined
 
@@ -272,14 +272,13 @@ made_joined c (p ∷ []) xs g a b rest is branch h = absurd h.4
 made_joined c (p ∷ q ∷ ps) xs g a b rest is branch h =
     let behind = h.4 in
     let P : List Step → Type 0 = Segment c g in
-    let Q : List Step → Type 0 = λ v. Made c ps v rest in
-    (
+    let Q : List Step → Type 0 = λ v. Made c ps v rest in (
       omega (arith, h.0),
       omega (arith, h.1, behind.1, length-charged 1 xs, length-drop p.len xs),
       branch,
       subst P (sym (take-charged p.len q.len xs h.0 h.1))
-      (segment_join c g a b (take p.len xs) (take q.len (drop p.len xs)) is (omega (arith, h.0, h.1, length-take p.len xs)) h.3 behind.3),
-      subst Q (sym (drop-charged p.len q.len xs h.0 h.1)) behind.4
+          (segment_join c g a b (take p.len xs) (take q.len (drop p.len xs)) is (omega (arith, h.0, h.1, length-take p.len xs)) h.3 behind.3),
+      subst Q (sym (drop-charged p.len q.len xs h.0 h.1)) behind.4,
     )
 
 -- ---- one part more
@@ -313,23 +312,23 @@ arrow_put d l r g rest gs ps zs laid fails h with_else b =
 module _ (names : Table) (nodes : List Node) (s0 s1 : List Step) (arrow : Arrow) (p q : Part) (ps : List Part) (xs ys zs : List Step) (e : ℕ)
     (top : p.arrow ≡ Some arrow) (popped : ys ≡ drop 1 xs)
     (put : s1 ≡ s0 ++ (take q.len ys ++ step ops.Proceed)) (at : e ≡ length s0) (behind : zs ≡ drop q.len ys)
-    where
-  abbrev steps_of : List Step → Text
-  steps_of ss = record { names = names; nodes = nodes; steps = ss }
+  where
+    abbrev steps_of : List Step → Text
+    steps_of ss = record { names = names; nodes = nodes; steps = ss }
 
-  pub else_put : (g a b : Tree) (rest : List Tree) → IsBranch g → form g ≡ either a b → Made (steps_of s0) (p ∷ q ∷ ps) xs (a ∷ b ∷ rest)
-      → Made (steps_of s1) (record { len = 1; arrow = None } ∷ ps) (record { op = ops.IfThenElse arrow.condition arrow.then e; conjunctions = 0 } ∷ zs) (g ∷ rest)
-  else_put g a b rest branch is h =
-      let P : Option Arrow → Type 0 = λ o. Known (steps_of s0) a o p.len in
-      let waits : Awaits (steps_of s0) a arrow p.len = subst P top h.2 in
-      let Q : List Step → Type 0 = λ v. Made (steps_of s0) (q ∷ ps) v (b ∷ rest) in
-      let rest_is : drop p.len xs ≡ ys = ap (λ n. drop n xs) waits.one ∙ sym popped in
-      let next = subst Q rest_is h.4 in
-      let R : List Step → Type 0 = λ v. Made (steps_of s1) ps v rest in
-      let more = put_extends names nodes s0 s1 (take q.len ys ++ step ops.Proceed) put in
-      made_one (steps_of s1) None (ops.IfThenElse arrow.condition arrow.then e) ps zs g rest branch
-      (segment_else (steps_of s1) arrow.condition arrow.then e g waits.first waits.second b (is ∙ waits.with_else b)
-      (Begins-more (steps_of s0) (steps_of s1) arrow.condition waits.first more waits.condition_begins)
-      (Begins-more (steps_of s0) (steps_of s1) arrow.then waits.second more waits.then_begins)
-      (begins_there (steps_of s0) (steps_of s1) b e (take q.len ys) next.3 more (put_there names nodes s0 s1 (take q.len ys ++ step ops.Proceed) e put at)))
-      (subst R (sym behind) (Made-more (steps_of s0) (steps_of s1) ps (drop q.len ys) rest more next.4))
+    pub else_put : (g a b : Tree) (rest : List Tree) → IsBranch g → form g ≡ either a b → Made (steps_of s0) (p ∷ q ∷ ps) xs (a ∷ b ∷ rest)
+        → Made (steps_of s1) (record { len = 1; arrow = None } ∷ ps) (record { op = ops.IfThenElse arrow.condition arrow.then e; conjunctions = 0 } ∷ zs) (g ∷ rest)
+    else_put g a b rest branch is h =
+        let P : Option Arrow → Type 0 = λ o. Known (steps_of s0) a o p.len in
+        let waits : Awaits (steps_of s0) a arrow p.len = subst P top h.2 in
+        let Q : List Step → Type 0 = λ v. Made (steps_of s0) (q ∷ ps) v (b ∷ rest) in
+        let rest_is : drop p.len xs ≡ ys = ap (λ n. drop n xs) waits.one ∙ sym popped in
+        let next = subst Q rest_is h.4 in
+        let R : List Step → Type 0 = λ v. Made (steps_of s1) ps v rest in
+        let more = put_extends names nodes s0 s1 (take q.len ys ++ step ops.Proceed) put in
+        made_one (steps_of s1) None (ops.IfThenElse arrow.condition arrow.then e) ps zs g rest branch
+        (segment_else (steps_of s1) arrow.condition arrow.then e g waits.first waits.second b (is ∙ waits.with_else b)
+        (Begins-more (steps_of s0) (steps_of s1) arrow.condition waits.first more waits.condition_begins)
+        (Begins-more (steps_of s0) (steps_of s1) arrow.then waits.second more waits.then_begins)
+        (begins_there (steps_of s0) (steps_of s1) b e (take q.len ys) next.3 more (put_there names nodes s0 s1 (take q.len ys ++ step ops.Proceed) e put at)))
+        (subst R (sym behind) (Made-more (steps_of s0) (steps_of s1) ps (drop q.len ys) rest more next.4))

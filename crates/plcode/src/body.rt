@@ -42,11 +42,7 @@ pub struct Part {
 
 /// Moves the topmost steps, so many as are asked for, behind those of the code, the topmost one first, and ends the sequence; says
 /// where it begins.
-fn put_sequence(
-    code: &mut Vec<Step>,
-    made: &mut Vec<Step>,
-    count: usize,
-) -> Result<u32, AllocError>
+fn put_sequence(code: &mut Vec<Step>, made: &mut Vec<Step>, count: usize) -> Result<u32, AllocError>
     requires { count ≤ length made.old.items }
     ensures place { IfOk result (λ at. at ≡ length code.old.items) }
     ensures code { OnOk result (code.new.items ≡ code.old.items ++ (take count (reverse made.old.items) ++ step ops.Proceed)) }
@@ -162,15 +158,11 @@ fn put_else(
     ensures code { OnOk result (IsCode (text code.new)) }
     ensures goal { OnOk result ((g : Tree) → (rest gs : List Tree) → IsBranch g → Holds either g rest gs → Made (text code.old) (reverse parts.old.items) (reverse made.old.items) gs → Made (text code.new) (reverse parts.new.items) (reverse made.new.items) (g ∷ rest)) }
 {
-    let Some(_) = parts.pop() else {
-        unreachable!()
-    };
+    let Some(_) = parts.pop() else { unreachable!() };
     let Some(right) = parts.pop() else {
         unreachable!()
     };
-    let Some(_) = made.pop() else {
-        unreachable!()
-    };
+    let Some(_) = made.pop() else { unreachable!() };
     let otherwise = put_sequence(&mut code.steps, made, right.len)?;
     let op = Op::IfThenElse(arrow.condition, arrow.then, otherwise);
     push_part(parts, made, op, None)?;
@@ -203,11 +195,7 @@ fn put_either(
 }
 
 /// Makes one part of the two topmost, for an `->` to which `;` may give an else.
-fn put_arrow(
-    code: &mut Code,
-    parts: &mut Vec<Part>,
-    made: &mut Vec<Step>,
-) -> Result<(), AllocError>
+fn put_arrow(code: &mut Code, parts: &mut Vec<Part>, made: &mut Vec<Step>) -> Result<(), AllocError>
     requires two { HasTwo (reverse parts.old.items) (length made.old.items) }
     requires code { IsCode (text code.old) }
     ensures extended { OnOk result (Extended (text code.old) (text code.new)) }

@@ -32,7 +32,7 @@ returns-in_ok-put_block-in-Compound-clause-waits c ts h =
     let k = c.in-Compound.arity in
     let from = from_or (length old) (lowest (take k w)) in
     let name : functor_name t f ≡ c.in-Compound.name =
-        ap (λ g. atom_at t g.name) is.is ∙ atom_same s t c.functor.ensures.extends c.in_ok-name-in-Compound.name named.within ∙ named.is in
+    ap (λ g. atom_at t g.name) is.is ∙ atom_same s t c.functor.ensures.extends c.in_ok-name-in-Compound.name named.within ∙ named.is in
     let room : k ≤ length w = omega (arith, rw c.in-Compound.is at c.requires.room, length-reverse c.args.waiting.now.items) in
     let P : List ℕ → Type 0 = λ name. Waits t (old ++ Fun f k ∷ take k w) (Sub from (length old) ∷ drop k w) (compound name (trees (take k ts)) ∷ drop k ts) in
     rw (c.in_ok-put_block-in-Compound.ensures.nodes, c.in_ok-put_block-in-Compound.ensures.waiting, c.in-Compound.is)

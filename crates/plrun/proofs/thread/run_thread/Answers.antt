@@ -19,6 +19,6 @@ returns-in-Some c =
     let later = c.finish.new.world.journal in
     if_both c.finish.result c.finish.ensures.journal c.finish.ensures.run
     (λ run grows made.
-      subst (λ n. IsHistory P.first (λ t. search_of P n) n later (run ∷ [])) (c.in_ok-end.ensures.limit ∙ c.turns.invariant.limit)
-      (finished P.first (search_of P s.limit) s.limit (rest_of P s) s.used s.out.items h later r.thread s.places.items c.in-Some.«end» run
-      (halts-no-sooner P s.limit) c.in_ok-end.ensures.runs (rw c.in-Some.is at c.in_ok-end.ensures.ended) grows made))
+    subst (λ n. IsHistory P.first (λ t. search_of P n) n later (run ∷ [])) (c.in_ok-end.ensures.limit ∙ c.turns.invariant.limit)
+    (finished P.first (search_of P s.limit) s.limit (rest_of P s) s.used s.out.items h later r.thread s.places.items c.in-Some.«end» run
+    (halts-no-sooner P s.limit) c.in_ok-end.ensures.runs (rw c.in-Some.is at c.in_ok-end.ensures.ended) grows made))
