@@ -2,8 +2,6 @@
 #![tactic(auto)]
 
 #[cfg(test)]
-mod binding;
-#[cfg(test)]
 mod events;
 #[cfg(test)]
 mod goals;
