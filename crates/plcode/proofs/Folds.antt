@@ -1,5 +1,5 @@
 -- The pieces of a body, from the last to the first.
-use Rattle.std.proofs.Common.{◌≡◌, ℕ, ◌+◌, ◌<◌, ◌≤◌, List, [], ◌∷◌, ◌++◌, length, take, drop, refl, subst, ap, ◌∙◌, sym, arith, length-drop}
+use Rattle.std.proofs.Common.{◌≡◌, ℕ, ◌≤◌, List, [], ◌∷◌, ◌++◌, length, take, refl, subst, sym, arith, length-drop}
 use Rattle.plterm.specs.Tree.{Tree}
 use Rattle.plsearch.specs.Forms.{form, arguments}
 use Rattle.plcode.specs.declared.op.Op.TheVariants as ops

@@ -1,30 +1,27 @@
 -- What the steps of goals do.
-use Rattle.std.proofs.Common.{◌≡◌, ◌==◌, ℕ, zero, suc, ◌+◌, ◌<◌, ◌≤◌, ℤ, pos, Bool, true, false, Option, Some, None, List, [], ◌∷◌, ◌++◌, length, take, drop, refl, subst, ap, ◌∙◌, sym, arith, inl, inr, codes, if◌then◌else◌, ◌&&◌, bytes_eq, append-nil, length-append, length-take}
+use Rattle.std.proofs.Common.{◌≡◌, ◌==◌, ℕ, ◌≤◌, ℤ, Bool, true, false, Option, Some, None, List, [], ◌∷◌, length, take, drop, refl, subst, ap, ◌∙◌, sym, arith, inl, inr, codes, if◌then◌else◌, ◌&&◌, bytes_eq, append-nil, length-append, length-take}
 use Rattle.std.specs.List.{list_all, flat_map}
 use Rattle.std.proofs.lemmas.Bool.{eqb-true}
 use Rattle.std.proofs.lemmas.List.{take-append-drop}
 use Rattle.std.proofs.lemmas.List.Concat.{flat_map-append}
 use Rattle.std.proofs.lemmas.Bool.Decides.{eqb_tells}
 use Rattle.std.proofs.lemmas.Slice.Eq.{bytes_eq-Decides}
-use Rattle.plterm.specs.Tree.{Tree, var, int, atom, compound, Trees, none, more, trees, list_of, list_of-trees}
+use Rattle.plterm.specs.Tree.{Tree, var, int, atom, compound, trees, list_of-trees}
 use Rattle.plterm.specs.declared.indicator.Indicator.{Indicator}
 use Rattle.plnames.specs.Names.{rows, kind_of, kind_in, Row}
 use Rattle.plnames.specs.declared.kind.Kind.{Kind}
 use Rattle.plnames.specs.declared.kind.Kind.TheVariants as kinds
 use Rattle.plnames.specs.declared.kind.Control.{Control}
 use Rattle.plnames.specs.declared.kind.Control.TheVariants as controls
-use Rattle.plsearch.specs.Forms.{Form, Both, Either, IfThenElse, form, form_by, construct, either, arguments}
+use Rattle.plsearch.specs.Forms.{Form, Either, IfThenElse, form, form_by, construct, either}
 use Rattle.plcode.specs.declared.op.Op.{Op}
 use Rattle.plcode.specs.declared.op.Op.TheVariants as ops
 use Rattle.plterm.specs.Reading.{read, spelling}
 use Rattle.plterm.specs.declared.node.Node.TheVariants.{Compound}
-use Rattle.platoms.specs.Names.{Table, Extends, IsTable, HasAtom, HasFunctor, functor_name, functor_arity, atom_at}
-use Rattle.platoms.specs.declared.names.Functor.{Functor}
-use Rattle.platoms.proofs.Extending.{atom_same}
+use Rattle.platoms.specs.Names.{Table, Extends, IsTable}
 use Rattle.plcode.specs.declared.body.Piece.{Piece}
 use Rattle.plcode.specs.declared.body.Piece.TheVariants.{And, Or, IfThen, Single}
 use Rattle.plcode.specs.Nodes.{row}
-use Rattle.plcode.specs.Laying.{IsLaid}
 use Rattle.plcode.specs.Steps.{Text, Extended, Args, IsProcedure, Calls, Does}
 use Rattle.plcode.specs.Bodies.{IsBranch, IsCode, Means, Splits}
 use Rattle.plcode.proofs.Placing.{Grows-refl}

@@ -1,12 +1,11 @@
 -- Keys that differ part terms.
-use Rattle.std.proofs.Common.{◌≡◌, ℕ, ℤ, ◌<◌, List, [], ◌∷◌, length, refl, subst, ap, ◌∙◌, sym, arith}
-use Rattle.plterm.specs.Tree.{Tree, var, int, atom, compound, Trees, none, more, list_of}
+use Rattle.std.proofs.Common.{◌≡◌, ℕ, ℤ, List, length, refl, ap, ◌∙◌, sym, arith}
+use Rattle.plterm.specs.Tree.{Tree, int, atom, compound, Trees, none, more, list_of}
 use Rattle.plsubst.specs.Subst.{bind, bind_all}
-use Rattle.platoms.specs.Names.{Table, IsTable, atom_at, functor_at, functor_name, functor_arity}
+use Rattle.platoms.specs.Names.{atom_at, functor_at, functor_name, functor_arity}
 use Rattle.platoms.specs.declared.names.Functor.{Functor}
-use Rattle.plcode.specs.declared.key.Key.{Key}
 use Rattle.plcode.specs.declared.key.Key.TheVariants.{Any, Int, Atom, Fun}
-use Rattle.plcode.specs.Keys.{IsAtom, IsCompound, IsKey, Differ, KeysPart}
+use Rattle.plcode.specs.Keys.{KeysPart}
 
 length-bind_all : (σ : ℕ → Tree) (ts : Trees) → length (list_of (bind_all σ ts)) ≡ length (list_of ts)
 unfolding bind

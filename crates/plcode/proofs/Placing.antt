@@ -1,5 +1,5 @@
 -- The steps of laying terms down.
-use Rattle.std.proofs.Common.{◌≡◌, ℕ, ◌+◌, ◌≤◌, List, [], ◌∷◌, ◌++◌, length, map, take, drop, refl, subst, ap, ◌∙◌, sym, arith, append_assoc, append-nil, length-append, length-take}
+use Rattle.std.proofs.Common.{◌≡◌, ℕ, ◌≤◌, List, [], ◌∷◌, ◌++◌, length, map, take, drop, refl, subst, ap, ◌∙◌, sym, arith, append_assoc, append-nil, length-append, length-take}
 use Rattle.std.proofs.lemmas.List.{length-map, take_all}
 use Rattle.std.proofs.Math.Seq.{drop-append_seam}
 use Rattle.std.specs.List.{flat_map}

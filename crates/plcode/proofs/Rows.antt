@@ -1,5 +1,5 @@
 -- Rows taken from the top of a stack.
-use Rattle.std.proofs.Common.{◌≡◌, ℕ, zero, suc, ◌+◌, ◌<◌, List, [], ◌∷◌, ◌++◌, length, take, drop, fold, refl, ap, ◌∙◌, sym, add-one, arith, ◌-◌, length-append, length-take}
+use Rattle.std.proofs.Common.{◌≡◌, ℕ, zero, suc, ◌+◌, List, [], ◌∷◌, ◌++◌, length, take, drop, fold, ap, ◌∙◌, add-one, arith, ◌-◌, length-append, length-take}
 use Rattle.std.proofs.lemmas.List.{nil_from_length}
 use Rattle.std.proofs.lemmas.Grind.{fold-append}
 

@@ -1,10 +1,10 @@
 -- Steps for goals, wherever they stand.
-use Rattle.std.proofs.Common.{◌≡◌, ℕ, zero, suc, ◌+◌, ◌<◌, ◌≤◌, ℤ, Option, Some, None, List, [], ◌∷◌, ◌++◌, length, take, drop, refl, subst, ap, ◌∙◌, sym, arith, append_assoc, append-nil, length-append, length-take, length-drop, codes}
+use Rattle.std.proofs.Common.{◌≡◌, ℕ, zero, suc, ◌+◌, ◌<◌, ◌≤◌, Option, Some, None, List, [], ◌∷◌, ◌++◌, length, take, drop, refl, subst, ap, ◌∙◌, sym, arith, append_assoc, append-nil, length-append, length-take, length-drop, codes}
 use Rattle.std.proofs.Math.Seq.{drop-append_seam, take-add}
 use Rattle.std.proofs.lemmas.List.{drop-drop}
 use Rattle.plterm.specs.Tree.{Tree, atom}
 use Rattle.plterm.specs.declared.indicator.Indicator.{Indicator}
-use Rattle.platoms.specs.Names.{Table, functor_name}
+use Rattle.platoms.specs.Names.{Table, IsTable}
 use Rattle.platoms.proofs.Extending.{Extends-refl, Extends-trans, atoms_more, functors_more, atom_same, functor_same}
 use Rattle.plnames.specs.Names.{rows}
 use Rattle.plsearch.specs.Forms.{Form, True, False, Both, Either, IfThenElse, Not, Once, Catching, Throwing, CallWith, Cut, Halting, AddLast, BuiltIn, Call, NoGoal, form, either, arguments}
@@ -14,11 +14,10 @@ use Rattle.plcode.specs.declared.op.Op.TheVariants as ops
 use Rattle.plcode.specs.declared.op.Step.{Step}
 use Rattle.plcode.specs.declared.body.Part.{Part}
 use Rattle.plcode.specs.declared.body.Arrow.{Arrow}
-use Rattle.plcode.specs.declared.body.Piece.{Piece}
-use Rattle.plcode.specs.declared.body.Piece.TheVariants.{And, Or, IfThen, Single}
+use Rattle.plcode.specs.Nodes.{IsSound}
 use Rattle.plcode.specs.Laying.{IsLaid}
 use Rattle.plcode.specs.Steps.{Text, Extended, Args, IsProcedure, Ends, Calls, Does, At, Stands, ends, conjunction, goal as single, either as branches, if_then_else}
-use Rattle.plcode.specs.Bodies.{arrow_of, charged, step, joined, HasTwo, Holds, Means, Ready, Splits, Leads, Stretch, Segment, Begins, Awaits, Known, Made, Branches, IsBranch, HasFail}
+use Rattle.plcode.specs.Bodies.{arrow_of, charged, step, joined, Holds, Stretch, Segment, Begins, Awaits, Known, Made, Branches, IsBranch, HasFail, IsCode}
 use Rattle.plcode.proofs.Placing.{Grows-refl, Grows-trans}
 use Rattle.plcode.proofs.Values.{IsRow-more, functor_name-names}
 
@@ -332,3 +331,12 @@ module _ (names : Table) (nodes : List Node) (s0 s1 : List Step) (arrow : Arrow)
         (Begins-more (steps_of s0) (steps_of s1) arrow.then waits.second more waits.then_begins)
         (begins_there (steps_of s0) (steps_of s1) b e (take q.len ys) next.3 more (put_there names nodes s0 s1 (take q.len ys ++ step ops.Proceed) e put at)))
         (subst R (sym behind) (Made-more (steps_of s0) (steps_of s1) ps (drop q.len ys) rest more next.4))
+
+-- the code of no clauses
+pub code_none : (c : Text) → IsTable c.names → c.nodes ≡ [] → c.steps ≡ step ops.Fail ++ step ops.Proceed → IsCode c
+code_none c table none is =
+    let P : List Node → Type 0 = IsSound c.names in
+    record {
+      laid = record { table = table; sound = subst P (sym none) (record { named = tt; rest = tt }) };
+      fails = record { before = []; after = []; is = is; place_is = refl };
+    }

@@ -2,8 +2,8 @@
 use Rattle.std.proofs.Common.{◌≡◌, ℕ, zero, suc, ◌+◌, ◌≤◌, ◌<◌, List, [], ◌∷◌, ◌++◌, length, map, take, drop, fold, refl, subst, ap, ◌∙◌, sym, arith, append_assoc, append-nil, length-append, length-drop}
 use Rattle.std.proofs.lemmas.List.{take-append-le, drop-append-le}
 use Rattle.std.proofs.lemmas.Grind.{fold-append}
-use Rattle.plterm.specs.Tree.{Tree, var, int, atom, compound, trees}
-use Rattle.platoms.specs.Names.{Table, Extends, IsTable, atom_at, functor_name, functor_arity, functor_at}
+use Rattle.plterm.specs.Tree.{Tree, atom, compound, trees}
+use Rattle.platoms.specs.Names.{Table, Extends, IsTable, atom_at, functor_name, functor_at}
 use Rattle.platoms.proofs.Extending.{atoms_more, functors_more, atom_same, functor_same}
 use Rattle.plcode.specs.declared.node.Node.{Node}
 use Rattle.plcode.specs.declared.node.Node.TheVariants.{Var, Int, Atom, Fun, Sub}

@@ -1,12 +1,12 @@
 -- Nodes that wait on a stack for the compound that they are arguments of.
-use Rattle.std.proofs.Common.{◌≡◌, ℕ, ◌+◌, ◌≤◌, List, [], ◌∷◌, ◌++◌, length, map, take, drop, refl, subst, ap, ◌∙◌, sym, arith, length-take}
+use Rattle.std.proofs.Common.{◌≡◌, ℕ, ◌≤◌, List, [], ◌∷◌, ◌++◌, length, map, take, drop, refl, subst, ap, ◌∙◌, sym, arith, length-take}
 use Rattle.std.proofs.lemmas.List.{length-map, take_all, take-map, drop-map}
 use Rattle.std.proofs.Math.Seq.{drop-append_seam}
 use Rattle.plterm.specs.Tree.{Tree, compound, trees}
 use Rattle.platoms.specs.Names.{Table, Extends, IsTable, functor_name}
 use Rattle.plcode.specs.declared.node.Node.{Node}
 use Rattle.plcode.specs.declared.node.Node.TheVariants.{Fun, Sub}
-use Rattle.plcode.specs.Nodes.{Value, Whole, Head, tree, block, value, values, IsBlock, IsNamed, Rests}
+use Rattle.plcode.specs.Nodes.{Value, Head, tree, block, value, values, IsBlock, IsNamed, Rests}
 use Rattle.plcode.specs.Laying.{over, EachRests, Waits}
 use Rattle.plcode.proofs.Values.{values-append, values-names, length-values, over-more, over-names, EachRests-more, EachRests-take, EachRests-drop, AllNamed-take, AllNamed-drop, AllNamed-names, IsSound-row, IsSound-names}
 

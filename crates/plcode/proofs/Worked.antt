@@ -1,8 +1,7 @@
 -- Small texts, read by the definitions.
-use Rattle.std.proofs.Common.{◌≡◌, [], ◌∷◌, List, pos, codes, refl}
-use Rattle.plterm.specs.Tree.{Tree, var, int, atom, compound, none, more}
+use Rattle.std.proofs.Common.{◌≡◌, [], ◌∷◌, pos, codes, refl}
+use Rattle.plterm.specs.Tree.{var, int, atom, compound, none, more}
 use Rattle.platoms.specs.Names.{Table}
-use Rattle.plcode.specs.declared.node.Node.{Node}
 use Rattle.plcode.specs.declared.node.Node.TheVariants.{Var, Int, Atom, Fun, Sub}
 use Rattle.plcode.specs.Nodes.{values, row}
 use Rattle.plcode.specs.Bodies.{charged}

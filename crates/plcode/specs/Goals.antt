@@ -1,12 +1,9 @@
 -- The piece that a goal's node comes to, by what its name is.
-use Rattle.std.specs.Prelude.{◌≡◌, ◌==◌, ℕ, Bool, List, length, Option, Some, None, if◌then◌else◌}
-use Rattle.plterm.specs.Tree.{Tree}
-use Rattle.plterm.specs.declared.indicator.Indicator.{Indicator}
+use Rattle.std.specs.Prelude.{◌==◌, ℕ, Bool, Option, Some, None, if◌then◌else◌}
 use Rattle.plnames.specs.declared.kind.Kind.{Kind}
 use Rattle.plnames.specs.declared.kind.Kind.TheVariants as kinds
 use Rattle.plnames.specs.declared.kind.Control.{Control}
 use Rattle.plnames.specs.declared.kind.Control.TheVariants as controls
-use Rattle.plnames.specs.declared.kind.BuiltIn.{BuiltIn}
 use Rattle.plcode.specs.declared.op.Op.{Op}
 use Rattle.plcode.specs.declared.op.Op.TheVariants as ops
 use Rattle.plcode.specs.declared.body.Piece.{Piece}

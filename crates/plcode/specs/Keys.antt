@@ -1,6 +1,6 @@
 -- The keys of first arguments: a filter before unification.
 use Rattle.std.specs.Prelude.{◌≡◌, ◌<◌, ℕ, List, [], ◌∷◌, length}
-use Rattle.plterm.specs.Tree.{Tree, var, int, atom, compound, Trees, list_of}
+use Rattle.plterm.specs.Tree.{Tree, int, atom, compound, Trees, list_of}
 use Rattle.plsubst.specs.Subst.{bind}
 use Rattle.platoms.specs.Names.{Table, IsTable, atom_at, functor_name, functor_arity}
 use Rattle.plcode.specs.declared.key.Key.{Key}

@@ -1,5 +1,5 @@
 -- Laying terms down, a node at a time.
-use Rattle.std.specs.Prelude.{◌≡◌, ℕ, ◌≤◌, ◌+◌, List, [], ◌∷◌, ◌++◌, length, map, take, drop, fold, Option, Some, None}
+use Rattle.std.specs.Prelude.{◌≡◌, ℕ, ◌≤◌, ◌+◌, List, [], ◌∷◌, ◌++◌, length, map, fold, Option, Some, None}
 use Rattle.plterm.specs.Tree.{Tree}
 use Rattle.platoms.specs.Names.{Table, IsTable}
 use Rattle.plcode.specs.declared.node.Node.{Node}

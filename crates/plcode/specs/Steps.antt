@@ -1,15 +1,15 @@
 -- Steps, and the goals that they are for.
-use Rattle.std.specs.Prelude.{◌≡◌, ℕ, suc, ◌+◌, ◌<◌, ℤ, pos, List, [], ◌∷◌, ◌++◌, length, take, drop}
-use Rattle.plterm.specs.Tree.{Tree, int, atom, compound}
+use Rattle.std.specs.Prelude.{◌≡◌, ℕ, suc, ◌<◌, pos, List, [], ◌∷◌, ◌++◌, length, take, drop}
+use Rattle.plterm.specs.Tree.{Tree, int}
 use Rattle.plterm.specs.declared.indicator.Indicator.{Indicator}
-use Rattle.platoms.specs.Names.{Table, Extends, HasAtom, HasFunctor, atom_at, functor_name, functor_arity}
+use Rattle.platoms.specs.Names.{Table, Extends, HasAtom, functor_name, functor_arity}
 use Rattle.plsearch.specs.Forms.{Form, True, False, Both, Either, IfThenElse, Not, Once, Catching, Throwing, CallWith, Cut, Halting, AddLast, BuiltIn, Call, NoGoal, form, arguments}
 use Rattle.plcode.specs.declared.node.Node.{Node}
 use Rattle.plcode.specs.declared.op.Op.{Op}
 use Rattle.plcode.specs.declared.op.Op.TheVariants as ops
 use Rattle.plcode.specs.declared.op.Step.{Step}
 use Rattle.plcode.specs.declared.code.Code.{Code}
-use Rattle.plcode.specs.Laying.{Grows, IsLaid, IsRow}
+use Rattle.plcode.specs.Laying.{Grows, IsRow}
 
 -- names, nodes and steps
 pub record Text : Type 0 where

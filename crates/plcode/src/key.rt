@@ -62,8 +62,6 @@ pub fn head_key(code: &mut Code, head: &TermRef<'_>) -> Result<Key, AllocError>
             }
             None => Ok(Key::Any),
         },
-        Shape::Var(_) => Ok(Key::Any),
-        Shape::Int(_) => Ok(Key::Any),
-        Shape::Atom(_) => Ok(Key::Any),
+        Shape::Var(_) | Shape::Int(_) | Shape::Atom(_) => Ok(Key::Any),
     }
 }

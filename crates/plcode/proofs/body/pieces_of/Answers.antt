@@ -1,4 +1,4 @@
-use Rattle.std.proofs.Common.{◌≡◌, ◌∙◌, ◌∷◌, [], List, subst, ap, sym, length}
+use Rattle.std.proofs.Common.{◌∷◌, [], List, subst, sym}
 use Rattle.plterm.specs.Tree.{Tree}
 use Rattle.plcode.specs.Steps.{text}
 use Rattle.plcode.specs.Bodies.{Leads, Splits}

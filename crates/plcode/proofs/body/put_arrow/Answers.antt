@@ -1,4 +1,4 @@
-use Rattle.std.proofs.Common.{◌≡◌, ◌∷◌, [], List, reverse, subst, sym}
+use Rattle.std.proofs.Common.{List, reverse, subst, sym}
 use Rattle.plterm.specs.Tree.{Tree}
 use Rattle.plcode.specs.Steps.{text}
 use Rattle.plcode.specs.Bodies.{Made}

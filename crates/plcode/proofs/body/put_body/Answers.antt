@@ -1,9 +1,6 @@
-use Rattle.std.proofs.Common.{◌≡◌, ◌∙◌, ◌∷◌, ◌++◌, [], List, length, reverse, take, subst, ap, sym, arith, append-nil}
+use Rattle.std.proofs.Common.{◌≡◌, ◌∙◌, ◌∷◌, ◌++◌, [], reverse, take, ap, arith}
 use Rattle.std.proofs.lemmas.List.{reverse-append, length-reverse}
-use Rattle.plterm.specs.Tree.{Tree}
 use Rattle.plcode.specs.declared.op.Op.TheVariants as ops
-use Rattle.plcode.specs.declared.body.Part.{Part}
-use Rattle.plcode.specs.declared.body.Piece.{Piece}
 use Rattle.plcode.specs.Steps.{text}
 use Rattle.plcode.specs.Bodies.{step}
 use Rattle.plcode.proofs.Folds.{fold_ready, fold_next, fold_end}

@@ -1,7 +1,7 @@
-use Rattle.std.proofs.Common.{◌≡◌, ◌∷◌, List, None, reverse, subst, sym}
+use Rattle.std.proofs.Common.{List, None, reverse, subst, sym}
 use Rattle.plterm.specs.Tree.{Tree}
 use Rattle.plcode.specs.declared.body.Piece.{Piece}
-use Rattle.plcode.specs.declared.body.Piece.TheVariants.{And, Or, IfThen, Single}
+use Rattle.plcode.specs.declared.body.Piece.TheVariants.{And, Or, Single}
 use Rattle.plcode.specs.Steps.{text}
 use Rattle.plcode.specs.Bodies.{Made, Splits}
 use Rattle.plcode.proofs.Segments.{made_joined, made_one, segment_goal}

@@ -1,4 +1,4 @@
-use Rattle.std.proofs.Common.{◌≡◌, ◌∙◌, [], ℕ, List, length, take, subst, ap, sym, arith}
+use Rattle.std.proofs.Common.{◌≡◌, ◌∙◌, ℕ, List, length, take, subst, ap, sym, arith}
 use Rattle.std.proofs.lemmas.List.{take_all}
 use Rattle.plterm.specs.Tree.{Tree, list_of-trees}
 use Rattle.plsearch.specs.Forms.{arguments}

@@ -1,8 +1,8 @@
-use Rattle.std.proofs.Common.{◌≡◌, ◌∙◌, ap}
-use Rattle.platoms.specs.Names.{atom_at, functor_name}
+use Rattle.std.proofs.Common.{◌∙◌, ap}
+use Rattle.platoms.specs.Names.{atom_at}
 use Rattle.platoms.proofs.Extending.{atom_same, Extends-trans}
 use Rattle.plcode.specs.Steps.{text}
-use Rattle.plcode.proofs.Goals.{called, names_code, names_extended}
+use Rattle.plcode.proofs.Goals.{called, names_code}
 use Rattle.plcode.proofs.goal.call_op.Goals as goal
 
 pub returns-then-count-eq0-clause-code : goal.returns-then-count-eq0-clause-code

@@ -1,7 +1,4 @@
-use Rattle.std.proofs.Common.{◌≡◌, ◌≤◌, ◌∙◌, ◌∷◌, [], ℕ, List, length, take, subst, ap, sym, arith, length-take}
-use Rattle.std.specs.List.{flat_map}
-use Rattle.plterm.specs.Tree.{Tree}
-use Rattle.plterm.specs.Reading.{read, spelling}
+use Rattle.std.proofs.Common.{◌≡◌, ◌≤◌, ◌∙◌, [], ℕ, List, length, take, subst, ap, sym, arith, length-take}
 use Rattle.plnames.specs.Names.{kind_of}
 use Rattle.plcode.specs.Laying.{IsRow}
 use Rattle.plcode.specs.Steps.{text}

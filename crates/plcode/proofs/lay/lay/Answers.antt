@@ -1,8 +1,7 @@
-use Rattle.std.proofs.Common.{◌≡◌, ◌≤◌, ◌∙◌, ◌++◌, ℕ, length, take, reverse, sym, arith, subst, List, length-take}
+use Rattle.std.proofs.Common.{◌≡◌, ◌++◌, ℕ, length, take, reverse, sym, arith, subst, List, length-take}
 use Rattle.std.proofs.lemmas.List.{length-reverse}
 use Rattle.plterm.specs.Tree.{Tree}
-use Rattle.plcode.specs.declared.node.Node.{Node}
-use Rattle.plcode.specs.Laying.{IsLaid, IsRow, Waits}
+use Rattle.plcode.specs.Laying.{IsRow, Waits}
 use Rattle.plcode.proofs.Placing.{spelled_forest, spelled_reading, row_laid, row_all, waits_length}
 use Rattle.plcode.proofs.lay.lay.Goals as goal
 use Rattle.plcode.proofs.lay.lay.Goals.{In_ok-put_all, In_ok-put_row}

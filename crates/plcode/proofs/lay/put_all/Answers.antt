@@ -1,8 +1,8 @@
-use Rattle.std.proofs.Common.{◌≡◌, ◌∙◌, ◌∷◌, ◌++◌, [], length, reverse, ap, sym, arith, subst, List}
+use Rattle.std.proofs.Common.{reverse, ap, sym, arith, subst, List}
 use Rattle.std.proofs.lemmas.List.{length-reverse}
 use Rattle.plterm.specs.Reading.{reading}
 use Rattle.plcode.specs.declared.node.Node.{Node}
-use Rattle.plcode.proofs.Placing.{Placing, placing_none, placing_fits, placing_room, placing_next, placing_end}
+use Rattle.plcode.proofs.Placing.{Placing, placing_none, placing_fits, placing_room, placing_next}
 use Rattle.plcode.proofs.lay.put_all.Goals as goal
 
 pub terms-init : goal.terms-init

@@ -1,7 +1,6 @@
-use Rattle.std.proofs.Common.{◌≡◌, ◌≤◌, ◌∙◌, ◌∷◌, [], ◌++◌, ℕ, List, length, take, drop, reverse, subst, ap, sym, arith}
+use Rattle.std.proofs.Common.{◌≡◌, ◌≤◌, ◌∙◌, ◌∷◌, [], ◌++◌, ℕ, List, length, take, drop, reverse, subst, ap, arith}
 use Rattle.std.proofs.lemmas.List.{reverse-append, length-reverse}
-use Rattle.plterm.specs.Tree.{Tree, atom, compound, trees}
-use Rattle.plterm.specs.Reading.{arity, read}
+use Rattle.plterm.specs.Tree.{atom, compound, trees}
 use Rattle.platoms.specs.Names.{atom_at, functor_name}
 use Rattle.platoms.proofs.Extending.{atom_same}
 use Rattle.plcode.specs.declared.node.Node.TheVariants.{Atom, Fun, Sub}
