@@ -8,3 +8,4 @@ pub mod Inside
 pub mod Searching
 pub mod Growing
 pub mod Pushing
+pub mod Renaming

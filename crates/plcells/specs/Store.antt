@@ -286,6 +286,13 @@ pub record Grows (old new : Store) : Type 0 where
   pub keeps : Keeps old new
   pub names : new.names ≡ old.names
 
+-- the same, and there may be more names
+pub record Preserves (old new : Store) : Type 0 where
+  pub longer : length old.cells ≤ length new.cells
+  pub terms : (c : ℕ) → c < length old.cells → term new c ≡ term old c
+  pub values : (v : Cell) → IsValue old v → IsValue new v × (value new v ≡ value old v)
+  pub keeps : Keeps old new
+
 -- a value where references end: a variable's is the reference to its cell
 abbrev pub IsVariable : Cell → Type 0
 IsVariable (Free p) = ⊤

@@ -2,15 +2,17 @@
 
 ghost use Rattle.std.specs.Prelude.{◌≡◌, ℕ, Some, None, true, false, ◌+◌, ◌<◌, ◌≤◌, ◌^◌, [], ◌∷◌, ◌++◌, length, IfOk, OnOk, OnErr, take, drop, map, get_or};
 ghost use Rattle.plterm.specs.Tree.{var, int, compound, trees};
-ghost use Rattle.platoms.specs.Names.{IsTable, functor_name};
+ghost use Rattle.plterm.specs.Reading.{IsName};
+ghost use Rattle.platoms.specs.Names.{IsTable, IsFunctor, HasAtom, HasFunctor, functor_name};
 ghost use Rattle.plcells.specs.declared.cell.Cell.TheVariants.{Free as FreeCell, Lone as LoneCell, Ref as RefCell, Fun as FunCell};
-ghost use Rattle.plcells.specs.Store.{Store, at, term, shown, value, number_at, Fits, IsHeap, IsHead, IsValue, IsEnd, IsBinding, Binds, IsWithin, IsMark, AllBelow, cut, reset, grown, bounded_by, IsFresh, Grows, trailed_if, HasTerms, AddsVariable, AddsValue, AreValues, IsFunctorOf, IsBlock, IsInteger};
+ghost use Rattle.plcells.specs.Store.{Store, at, term, shown, value, number_at, Fits, IsHeap, IsHead, IsValue, IsEnd, IsBinding, Binds, IsWithin, IsMark, AllBelow, cut, reset, grown, bounded_by, IsFresh, Grows, Preserves, renamed, trailed_if, HasTerms, AddsVariable, AddsValue, AreValues, IsFunctorOf, IsBlock, IsInteger};
 ghost use Rattle.plsubst.specs.Subst.{occurs};
 ghost use Rattle.plcells.specs.Skipping.{plain, AreRising, IsPlaced, IsTarget, AllPlaced, IsClosing};
 ghost use Rattle.plcells.specs.Walking.{IsFloor};
 
 use crate::cell::{Cell, Mark, Trailed};
-use platoms::names::Names;
+use platoms::names::{Functor, Names};
+use plterm::name::Name;
 use std::alloc::{AllocError, Global};
 use std::marker::Model;
 
@@ -215,6 +217,28 @@ impl Heap {
         ensures { result.now ≡ self.now.names }
     {
         &self.names
+    }
+
+    /// The number of a name, which is a new one where the names do not have it. A full table takes no call.
+    pub fn atom(&mut self, name: Name) -> Result<u32, AllocError>
+        requires { IsName name }
+        ensures is { IfOk result (λ a. HasAtom self.new.names a name) }
+        ensures same { self.new ≡ renamed self.old self.new.names }
+        ensures preserves { Preserves self.old self.new }
+        ensures err { OnErr result (self.new ≡ self.old) }
+    {
+        self.names.atom(name)
+    }
+
+    /// The number of a functor, which is a new one where the names do not have it. A full table takes no call.
+    pub fn functor(&mut self, functor: Functor) -> Result<u32, AllocError>
+        requires { IsFunctor self.old.names functor }
+        ensures is { IfOk result (λ f. HasFunctor self.new.names f functor) }
+        ensures same { self.new ≡ renamed self.old self.new.names }
+        ensures preserves { Preserves self.old self.new }
+        ensures err { OnErr result (self.new ≡ self.old) }
+    {
+        self.names.functor(functor)
     }
 
     /// A cell as a value: a variable's is the reference to it.
