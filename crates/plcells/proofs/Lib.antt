@@ -9,3 +9,4 @@ pub mod Searching
 pub mod Growing
 pub mod Pushing
 pub mod Renaming
+pub mod Taking
