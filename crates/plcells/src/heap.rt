@@ -351,9 +351,16 @@ impl Heap {
         requires { IsEnd self.now (RefCell x) }
         ensures { IsFloor self.now x result }
     {
+        let count = self.closed.len();
+        if count > 0 {
+            let last = self.closed[count - 1];
+            if last <= x {
+                return last;
+            }
+        }
         let mut floor = 0;
         let mut low = 0;
-        let mut high = self.closed.len();
+        let mut high = count;
         while low < high {
             let middle = low + (high - low) / 2;
             let b = self.closed[middle];
@@ -390,9 +397,16 @@ impl Heap {
         if place >= u32::MAX as usize || self.numbers.len() >= u32::MAX as usize {
             return Err(AllocError);
         }
-        close(&mut self.closed, place as u32)?;
         push_variable(&mut self.cells, &mut self.numbers, number)?;
         Ok(place as u32)
+    }
+
+    /// Notes for the occurs check that the cells so far refer to one another alone, where the last such note is some way below. The terms stay as they are.
+    pub fn note_closed(&mut self) -> Result<(), AllocError>
+        ensures { self.new ≡ self.old }
+    {
+        let count = self.cells.len();
+        close(&mut self.closed, count as u32)
     }
 
     /// A new compound of these arguments.
