@@ -10,3 +10,4 @@ pub mod Growing
 pub mod Pushing
 pub mod Renaming
 pub mod Taking
+pub mod Blocks

@@ -9,7 +9,7 @@ use Rattle.plcells.specs.declared.cell.Cell.TheVariants.{Free, Lone, Ref, Int, W
 use Rattle.plcells.specs.Store.{Store, at, number_at, spread, term, shown, Refers, IsHead, HasArguments, Fits, IsHeap, IsValue, value, grown, IsFresh, Grows, frees, one, AreValues, AddsVariable, AddsValue, IsFunctorOf, IsVariable}
 use Rattle.plcells.specs.Skipping.{plain, AreLone, IsClosed, AreClosed, AreRising, IsInside, IsPlaced, AllPlaced, IsClosing}
 use Rattle.plcells.proofs.Terms.{term-at, refers-within}
-use Rattle.plcells.proofs.Values.{at-plain}
+use Rattle.plcells.proofs.Values.{at-plain, value-shown, value-head, value-free, value-fits}
 use Rattle.plcells.proofs.Kept.{Keeps-refl}
 use Rattle.plcells.proofs.Inside.{plain-value, value-lone, value-placed, refers-target, refers-variable}
 use Rattle.plcells.proofs.Growing.{at-old, at-new, value-old, value-same, Grows-grown, IsHeap-grown}
@@ -87,7 +87,7 @@ module _ (h : Store) (cs : List Cell) (ns : List ℕ) (ws : List ℤ) (cells : L
   old_refers : (i d p : ℕ) → i < length h.cells → Refers h.names i (at (grown h cs ns ws).cells i) d → at cells d ≡ Lone p → ⊥
   old_refers i d p lt r e = inside.lone i d p lt (subst (λ m. Refers h.names i m d) (at-old h cs ns ws inside.heap i lt) r) e
 
-frees-append : (xs ys : List Cell) → frees (xs ++ ys) ≡ frees xs + frees ys
+pub frees-append : (xs ys : List Cell) → frees (xs ++ ys) ≡ frees xs + frees ys
 frees-append [] ys = omega arith
 frees-append (x ∷ xs) ys = omega (arith, frees-append xs ys)
 
@@ -182,7 +182,7 @@ values-plain : (h : Store) (vs : List Cell) → AreValues h vs → map plain vs 
 values-plain h [] are = refl
 values-plain h (v ∷ vs) are = ap₂ (λ x xs. x ∷ xs) (plain-value h v are.0) (values-plain h vs are.1)
 
-value-frees : (h : Store) (v : Cell) → IsValue h v → one v ≡ 0
+pub value-frees : (h : Store) (v : Cell) → IsValue h v → one v ≡ 0
 value-frees h (Free p) f = absurd f
 value-frees h (Lone p) f = absurd f
 value-frees h (Ref j) f = refl
@@ -193,45 +193,9 @@ value-frees h (Str p) f = refl
 value-frees h (Fun f) g = absurd g
 value-frees h (Ground f) g = absurd g
 
-values-frees : (h : Store) (vs : List Cell) → AreValues h vs → frees vs ≡ 0
+pub values-frees : (h : Store) (vs : List Cell) → AreValues h vs → frees vs ≡ 0
 values-frees h [] are = refl
 values-frees h (v ∷ vs) are = omega (arith, value-frees h v are.0, values-frees h vs are.1)
-
-value-fits : (h : Store) (i : ℕ) (m : Cell) → IsValue h m → Fits h i m
-value-fits h i (Free q) f = absurd f
-value-fits h i (Lone q) f = absurd f
-value-fits h i (Ref j) f = f
-value-fits h i (Int k) f = f
-value-fits h i (Wide q) f = f
-value-fits h i (Atom a) f = f
-value-fits h i (Str q) f = f
-value-fits h i (Fun g) f = absurd f
-value-fits h i (Ground g) f = absurd f
-
-value-plain-cell : (h : Store) (v : Cell) → IsValue h v → IsHead v → ⊥
-value-plain-cell h (Free p) f head = head
-value-plain-cell h (Lone p) f head = head
-value-plain-cell h (Ref j) f head = head
-value-plain-cell h (Int n) f head = head
-value-plain-cell h (Wide p) f head = head
-value-plain-cell h (Atom a) f head = head
-value-plain-cell h (Str p) f head = head
-value-plain-cell h (Fun g) f head = f
-value-plain-cell h (Ground g) f head = f
-
-value-no-free : (h : Store) (v : Cell) (p : ℕ) → IsValue h v → v ≡ Free p → ⊥
-value-no-free h v p f e = let g : IsValue h (Free p) = subst (IsValue h) e f in g
-
-value-shown : (h : Store) (i : ℕ) (m : Cell) → IsValue h m → shown h i m ≡ value h m
-value-shown h i (Free p) f = absurd f
-value-shown h i (Lone p) f = absurd f
-value-shown h i (Ref j) f = refl
-value-shown h i (Int n) f = refl
-value-shown h i (Wide p) f = refl
-value-shown h i (Atom a) f = refl
-value-shown h i (Str p) f = refl
-value-shown h i (Fun g) f = absurd f
-value-shown h i (Ground g) f = absurd f
 
 -- a compound
 module _ (h : Store) (f : ℕ) (vs : List Cell) (is : IsHeap h) (functor : IsFunctorOf h.names f (length vs)) (are : AreValues h vs) (few : length h.cells + suc (length vs) < 2 ^ 32) where
@@ -258,7 +222,7 @@ module _ (h : Store) (f : ℕ) (vs : List Cell) (is : IsHeap h) (functor : IsFun
     within = omega (arith, block_len, functor.arity);
     plain = λ d lt le head.
         let k = behind d lt le in
-        value-plain-cell h (at vs k.0) (value-at-list h vs k.0 are k.2) (subst IsHead (at_argument k.0 d k.1) head);
+        value-head h (at vs k.0) (value-at-list h vs k.0 are k.2) (subst IsHead (at_argument k.0 d k.1) head);
   }
 
   block_fits : (j : ℕ) → j < suc (length vs) → Fits (grown h (Fun f ∷ vs) [] []) (length h.cells + j) (at (Fun f ∷ vs) j)
@@ -281,7 +245,7 @@ module _ (h : Store) (f : ℕ) (vs : List Cell) (is : IsHeap h) (functor : IsFun
 
   block_free : (j p : ℕ) → j < suc (length vs) → at (Fun f ∷ vs) j ≡ Free p → ⊥
   block_free zero p lt e = grind (arith, e)
-  block_free (suc j) p lt e = value-no-free h (at vs j) p (value-at-list h vs j are (omega arith)) e
+  block_free (suc j) p lt e = value-free h (at vs j) p (value-at-list h vs j are (omega arith)) e
 
   pub block-heap : IsHeap (grown h (Fun f ∷ vs) [] [])
   block-heap = IsHeap-grown h (Fun f ∷ vs) [] [] is head_high block_fits block_lower
