@@ -3,9 +3,9 @@ use Rattle.std.proofs.Common.{◌≡◌, ℕ, zero, suc, ◌+◌, ◌-◌, ◌<�
 use Rattle.std.proofs.lemmas.Bool.{cases_lt}
 use Rattle.std.proofs.lemmas.List.{get_or_append_left, get_or-append_right, map-append, length-map, get_or_past, take_more}
 use Rattle.plterm.specs.Tree.{Tree, var, compound, trees}
-use Rattle.platoms.specs.Names.{Table, functor_name, functor_arity}
+use Rattle.platoms.specs.Names.{functor_name, functor_arity}
 use Rattle.plcells.specs.declared.cell.Cell.{Cell}
-use Rattle.plcells.specs.declared.cell.Cell.TheVariants.{Free, Lone, Ref, Int, Wide, Atom, Str, Fun, Ground}
+use Rattle.plcells.specs.declared.cell.Cell.TheVariants.{Free, Lone, Ref, Atom, Fun, Ground}
 use Rattle.plcells.specs.Store.{Store, at, number_at, spread, term, shown, Refers, IsHead, IsSolid, HasArguments, Fits, IsHeap, IsValue, value, grown, IsFresh, frees, one, AreDistinct, AddsBlock, IsFunctorOf}
 use Rattle.plcells.specs.declared.cell.Argument.{Argument}
 use Rattle.plcells.specs.declared.cell.Argument.TheVariants.{Value, Variable}

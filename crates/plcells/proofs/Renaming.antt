@@ -1,5 +1,5 @@
 -- A heap whose table of names has grown.
-use Rattle.std.proofs.Common.{◌≡◌, ℕ, suc, ◌+◌, ◌<◌, ◌≤◌, List, length, refl, sym, ap, ap₂, ◌∙◌, subst, arith, le_refl}
+use Rattle.std.proofs.Common.{◌≡◌, ℕ, suc, ◌<◌, List, length, refl, sym, ap, ap₂, ◌∙◌, arith, le_refl}
 use Rattle.plterm.specs.Tree.{Tree, atom, compound, trees}
 use Rattle.platoms.specs.Names.{Table, IsTable, Extends, atom_at, functor_at, functor_name, functor_arity}
 use Rattle.platoms.proofs.Extending.{atoms_more, functors_more, atom_same, functor_same}

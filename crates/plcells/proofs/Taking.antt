@@ -1,5 +1,5 @@
 -- What is out and what is left on the stack, together, while the nodes of a term are taken.
-use Rattle.std.proofs.Common.{◌≡◌, ℕ, zero, suc, ◌+◌, ◌<◌, ◌≤◌, List, [], ◌∷◌, ◌++◌, length, length-append, length-drop, take, drop, map, reverse, refl, sym, ap, ap₂, ◌∙◌, subst, arith, append_assoc, append-nil}
+use Rattle.std.proofs.Common.{◌≡◌, ℕ, zero, suc, ◌+◌, ◌<◌, ◌≤◌, List, [], ◌∷◌, ◌++◌, length, length-append, length-drop, map, reverse, refl, sym, ap, ap₂, ◌∙◌, subst, arith, append_assoc, append-nil}
 use Rattle.std.proofs.lemmas.List.{reverse-append, map-append, take_at, drop_at}
 use Rattle.plterm.specs.Tree.{Tree, compound, trees}
 use Rattle.plterm.specs.declared.node.Node.{Node}
@@ -87,8 +87,8 @@ module _ (h : Store) (before after : List Node) (left now : List ℕ) (t : Tree)
       ap (λ ns. reading (ns ++ rest)) is.nodes
       ∙ ap reading (append_assoc before (is.node ∷ []) rest)
       ∙ l (is.node ∷ rest) ts
-        (ap (read is.node) (e ∙ ap (λ us. us ++ ts) (ap (left_terms h) is.stack ∙ left-run h left is.count is.first) ∙ append_assoc (terms h is.first is.count) (left_terms h left) ts)
-        ∙ is.reads (left_terms h left ++ ts))
+      (ap (read is.node) (e ∙ ap (λ us. us ++ ts) (ap (left_terms h) is.stack ∙ left-run h left is.count is.first) ∙ append_assoc (terms h is.first is.count) (left_terms h left) ts)
+      ∙ is.reads (left_terms h left ++ ts))
 
   now_length : length now ≡ length left + is.count
   now_length = ap length is.stack ∙ length-append left (run is.first is.count) ∙ ap (λ k. length left + k) (run-length is.count is.first)

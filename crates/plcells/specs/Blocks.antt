@@ -1,5 +1,5 @@
 -- The arguments of new blocks.
-use Rattle.std.specs.Prelude.{◌≡◌, ℕ, zero, suc, ◌<◌, List, [], ◌∷◌, length, get_or}
+use Rattle.std.specs.Prelude.{ℕ, suc, List, [], ◌∷◌}
 use Rattle.std.specs.Bool.{⊤}
 use Rattle.plterm.specs.Tree.{Tree, var}
 use Rattle.plcells.specs.declared.cell.Cell.{Cell}

@@ -187,7 +187,11 @@ fn head_of(f: u32, ground: bool) -> Cell
     ensures ground { ground ≡ true → result ≡ GroundCell f }
     ensures open { ground ≡ false → result ≡ FunCell f }
 {
-    if ground { Cell::Ground(f) } else { Cell::Fun(f) }
+    if ground {
+        Cell::Ground(f)
+    } else {
+        Cell::Fun(f)
+    }
 }
 
 /// From now on cells refer to what these arguments refer to.
@@ -499,12 +503,7 @@ impl Heap {
     }
 
     /// A new block of these arguments: its first cell. In a ground one no variable can stand, now and later.
-    pub fn build(
-        &mut self,
-        f: u32,
-        ground: bool,
-        arguments: &[Argument],
-    ) -> Result<u32, AllocError>
+    pub fn build(&mut self, f: u32, ground: bool, arguments: &[Argument]) -> Result<u32, AllocError>
         requires functor { IsFunctorOf self.old.names f (length arguments.now) }
         requires parts { AreParts self.old arguments.now }
         requires numbers { AreDistinct (numbers_of arguments.now) }

@@ -1,7 +1,6 @@
-use Rattle.std.proofs.Common.{◌≡◌, ◌∙◌, length, map, ap, sym, subst, arith, refl, inl, inr}
+use Rattle.std.proofs.Common.{◌≡◌, ◌∙◌, length, ap, sym, subst, arith, refl, inl, inr}
 use Rattle.std.proofs.lemmas.List.{length-map, take_all}
 use Rattle.plcells.specs.declared.cell.Cell.TheVariants.{Ref}
-use Rattle.plcells.specs.declared.cell.Argument.TheVariants.{Value}
 use Rattle.plcells.specs.Store.{at}
 use Rattle.plcells.specs.Blocks.{cells_of}
 use Rattle.plcells.specs.Skipping.{plain, IsPlaced}

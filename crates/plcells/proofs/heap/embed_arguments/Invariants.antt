@@ -1,4 +1,4 @@
-use Rattle.std.proofs.Common.{◌≡◌, ◌<◌, ℕ, map, take}
+use Rattle.std.proofs.Common.{◌≡◌, ℕ, map, take}
 use Rattle.plcells.specs.declared.cell.Cell.TheVariants.{Lone, Ref}
 use Rattle.plcells.specs.Store.{at}
 use Rattle.plcells.specs.Blocks.{cells_of}

@@ -1,7 +1,7 @@
 use Rattle.std.proofs.Common.{◌∙◌, ◌∷◌, ◌<◌, length, refl, sym, ap, subst, arith, rules, w64}
 use Rattle.std.proofs.lemmas.Int.{to_z-of_z}
 use Rattle.plterm.specs.Tree.{atom, int}
-use Rattle.plterm.specs.declared.node.Node.TheVariants.{Var, Int, Atom}
+use Rattle.plterm.specs.declared.node.Node.TheVariants.{Var, Atom}
 use Rattle.plterm.specs.Reading.{IsName}
 use Rattle.platoms.specs.Names.{atom_at, functor_at}
 use Rattle.plcells.specs.Store.{IsValue, value}
@@ -31,8 +31,8 @@ returns-in_ok-push_run-in-Str c =
     let f = c.block-f.result.0 in
     let name = c.in_ok-name-in-Str.name in
     let e =
-        c.in_ok-name-in-Str.ensures ∙ c.atom_name-in-Str.ensures.is ∙ ap (λ t. atom_at t c.functor_of-functor.result.name) c.names-in-Str-2.ensures
-        ∙ ap (λ k. atom_at h.names k.name) (c.functor_of-functor.ensures.is ∙ ap (λ t. functor_at t f) c.names-in-Str.ensures) in
+    c.in_ok-name-in-Str.ensures ∙ c.atom_name-in-Str.ensures.is ∙ ap (λ t. atom_at t c.functor_of-functor.result.name) c.names-in-Str-2.ensures
+    ∙ ap (λ k. atom_at h.names k.name) (c.functor_of-functor.ensures.is ∙ ap (λ t. functor_at t f) c.names-in-Str.ensures) in
     subst (IsTaken h _ _ _ _) (ap (value h) (sym c.in-Str.is) ∙ c.root.ensures.same)
     (taken-block h _ _ _ _ name c.in-Str.p f c.block-f.result.1 _ c.root.ensures.heap c.block-f.ensures.block e (omega arith) c.in_ok-push-in-Str.ensures.items c.in_ok-push_run-in-Str.ensures)
 
