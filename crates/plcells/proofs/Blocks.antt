@@ -5,8 +5,8 @@ use Rattle.std.proofs.lemmas.List.{get_or_append_left, get_or-append_right, map-
 use Rattle.plterm.specs.Tree.{Tree, var, compound, trees}
 use Rattle.platoms.specs.Names.{functor_name, functor_arity}
 use Rattle.plcells.specs.declared.cell.Cell.{Cell}
-use Rattle.plcells.specs.declared.cell.Cell.TheVariants.{Free, Lone, Ref, Atom, Fun, Ground}
-use Rattle.plcells.specs.Store.{Store, at, number_at, spread, term, shown, Refers, IsHead, IsSolid, HasArguments, Fits, IsHeap, IsValue, value, grown, IsFresh, frees, one, AreDistinct, AddsBlock, IsFunctorOf}
+use Rattle.plcells.specs.declared.cell.Cell.TheVariants.{Free, Lone, Ref, Atom, Str, Fun, Ground}
+use Rattle.plcells.specs.Store.{Store, at, number_at, spread, term, shown, Refers, IsHead, IsSolid, HasArguments, Fits, IsHeap, IsValue, value, grown, IsFresh, frees, one, AreDistinct, AddsBlock, IsFunctorOf, AreValues, AddsValue}
 use Rattle.plcells.specs.declared.cell.Argument.{Argument}
 use Rattle.plcells.specs.declared.cell.Argument.TheVariants.{Value, Variable}
 use Rattle.plcells.specs.Blocks.{cells_of, numbers_of, stands_for, AreParts, AreSolid}
@@ -15,7 +15,7 @@ use Rattle.plcells.proofs.Terms.{term-at, refers-within}
 use Rattle.plcells.proofs.Values.{at-plain, value-shown, value-fits, value-head, value-free, plain-same}
 use Rattle.plcells.proofs.Inside.{value-lone, refers-target, refers-variable, value-placed}
 use Rattle.plcells.proofs.Growing.{at-old, at-new, value-old, value-same, solid-old, Grows-grown, IsHeap-grown}
-use Rattle.plcells.proofs.Pushing.{inside-grown, frees-append, value-frees}
+use Rattle.plcells.proofs.Pushing.{inside-grown, frees-append, value-frees, value-at-list, values-frees}
 
 -- an argument's cell: a value, or a new variable, whose number stands among the new ones
 abbrev pub IsPart : Store → List ℕ → Cell → Tree → Type 0
@@ -238,6 +238,35 @@ module _ (h : Store) (f : ℕ) (m : Cell) (cs : List Cell) (ns : List ℕ) (ts :
       | inl il ↦ inside.lone i d p il (subst (λ n. Refers h.names i n d) (at-old h (m ∷ cs) ns [] is i il) r) (was_old d p e)
       | inr ig ↦ block_refers (i - length h.cells) i d p (omega (arith, lt, ig, new_len)) (omega (arith, ig)) (subst (λ n. Refers h.names i n d) (at-new h (m ∷ cs) ns [] is i ig) r) e
     ])
+
+-- a compound of values
+values_parts : (h : Store) (vs : List Cell) → AreValues h vs → (k : ℕ) → k < length vs → IsPart h [] (at vs k) (get_or (map (value h) vs) k (var 0))
+values_parts h [] are k lt = absurd (omega arith)
+values_parts h (v ∷ vs) are zero lt = inl (are.0, refl)
+values_parts h (v ∷ vs) are (suc k) lt = values_parts h vs are.1 k (omega arith)
+
+module _ (h : Store) (f : ℕ) (vs : List Cell) (is : IsHeap h) (functor : IsFunctorOf h.names f (length vs)) (are : AreValues h vs) (few : length h.cells + suc (length vs) < 2 ^ 32) where
+  values_apart : (j k i : ℕ) → j < length vs → k < length vs → at vs j ≡ Free (length h.numbers + i) → at vs k ≡ Free (length h.numbers + i) → j ≡ k
+  values_apart j k i jl kl e g = absurd (value-free h (at vs j) (length h.numbers + i) (value-at-list h vs j are jl) e)
+
+  pub compound-added : AddsValue h (grown h (Fun f ∷ vs) [] []) (Str (length h.cells)) (compound (functor_name h.names f) (trees (map (value h) vs)))
+  compound-added =
+      let a = block-added h f (Fun f) vs [] (map (value h) vs) is functor (inl refl) (length-map vs (value h)) (values_parts h vs are) values_apart (λ i lt. absurd (omega (arith, lt))) (λ j k jl kl e. absurd (omega (arith, jl))) (values-frees h vs are) few in
+      record { fits = a.fits; is = a.is; grows = a.grows; fresh = λ m free. a.fresh m free (λ k lt. absurd (omega (arith, lt))); frees = omega (arith, a.frees) }
+
+  module _ (cells after : List Cell) (closed : List ℕ) (same : h.cells ≡ map plain cells) (inside : IsInside h cells closed)
+      (same_after : map plain after ≡ map plain (cells ++ Fun f ∷ vs))
+      (was : (d p : ℕ) → at after d ≡ Lone p → at (cells ++ Fun f ∷ vs) d ≡ Lone p)
+      (alone : (d p : ℕ) → at after d ≡ Lone p → (k : ℕ) → k < length vs → at vs k ≡ Ref d → ⊥) where
+    pub compound-cells : map plain after ≡ h.cells ++ Fun f ∷ vs
+    compound-cells =
+        block-cells h f (Fun f) vs [] (map (value h) vs) is functor (inl refl) (length-map vs (value h)) (values_parts h vs are) values_apart (λ i lt. absurd (omega (arith, lt))) (λ j k jl kl e. absurd (omega (arith, jl))) (values-frees h vs are) few
+        cells after closed same inside same_after was alone
+
+    pub compound-inside : IsInside (grown h (Fun f ∷ vs) [] []) after closed
+    compound-inside =
+        block-inside h f (Fun f) vs [] (map (value h) vs) is functor (inl refl) (length-map vs (value h)) (values_parts h vs are) values_apart (λ i lt. absurd (omega (arith, lt))) (λ j k jl kl e. absurd (omega (arith, jl))) (values-frees h vs are) few
+        cells after closed same inside same_after was alone
 
 -- arguments one behind another
 pub cells-append : (n : ℕ) (xs bs : List Argument) → cells_of n (xs ++ bs) ≡ cells_of n xs ++ cells_of (n + length (numbers_of xs)) bs
