@@ -10,6 +10,7 @@ use Rattle.plcells.specs.declared.cell.Trailed.{Trailed}
 use Rattle.plcells.specs.declared.cell.Cell.TheVariants.{Free, Lone, Ref, Int, Wide, Atom, Str, Fun, Ground}
 use Rattle.plcells.specs.Store.{Store, at, number_at, spread, shown_by, term, shown, Refers, IsHead, IsGround, IsSolid, HasArguments, Fits, IsHeap, AllBelow, IsValue, value, linked, trailed_if, IsBinding}
 use Rattle.plcells.proofs.Terms.{Solves, term-solved, heap-reads, term-at}
+use Rattle.plcells.proofs.Values.{value-head, value-free, value-fits}
 use Rattle.plcells.proofs.Absence.{bind_put-same, occurs-up}
 
 -- what a substitution makes of a run
@@ -46,28 +47,6 @@ target_rank rank (Ground f) = 0
 abbrev raised : Bool → ℕ → ℕ → ℕ
 raised true k r = r + k
 raised false k r = r
-
-value_head : (h : Store) (v : Cell) → IsValue h v → IsHead v → ⊥
-value_head h (Free p) is head = absurd head
-value_head h (Lone p) is head = absurd head
-value_head h (Ref j) is head = absurd head
-value_head h (Int n) is head = absurd head
-value_head h (Wide p) is head = absurd head
-value_head h (Atom a) is head = absurd head
-value_head h (Str p) is head = absurd head
-value_head h (Fun f) is head = absurd is
-value_head h (Ground f) is head = absurd is
-
-value_free : (h : Store) (v : Cell) (p : ℕ) → IsValue h v → v ≡ Free p → ⊥
-value_free h (Free q) p is e = absurd is
-value_free h (Lone q) p is e = absurd is
-value_free h (Ref j) p is e = grind (arith, e)
-value_free h (Int n) p is e = grind (arith, e)
-value_free h (Wide q) p is e = grind (arith, e)
-value_free h (Atom a) p is e = grind (arith, e)
-value_free h (Str q) p is e = grind (arith, e)
-value_free h (Fun f) p is e = absurd is
-value_free h (Ground f) p is e = absurd is
 
 below_more : (n : ℕ) (ts : List Trailed) (t : Trailed) → AllBelow n ts → t.cell < n → AllBelow n (ts ++ t ∷ [])
 below_more n [] t b lt = (lt, tt)
@@ -111,7 +90,7 @@ module _ (h : Store) (x p : ℕ) (v : Cell) (is : IsHeap h) (may : IsBinding h x
 
   pub plain_still : (j : ℕ) → (IsHead (at h.cells j) → ⊥) → IsHead (at (linked h x p v).cells j) → ⊥
   plain_still j plain head = elim (cases_eq j x) [
-    | inl e ↦ value_head h v may.fits (subst IsHead (ap (at (linked h x p v).cells) e ∙ at-bound) head)
+    | inl e ↦ value-head h v may.fits (subst IsHead (ap (at (linked h x p v).cells) e ∙ at-bound) head)
     | inr ne ↦ plain (subst IsHead (at-other j ne) head)
   ]
 
@@ -143,20 +122,9 @@ module _ (h : Store) (x p : ℕ) (v : Cell) (is : IsHeap h) (may : IsBinding h x
   fits_still i (Fun g) f = arguments_still i g f
   fits_still i (Ground g) f = record { arguments = arguments_still i g f.arguments; solid = λ d lt le. solid_still d (f.solid d lt le) }
 
-  fits_value : (i : ℕ) (m : Cell) → IsValue h m → Fits h i m
-  fits_value i (Free q) f = absurd f
-  fits_value i (Lone q) f = absurd f
-  fits_value i (Ref j) f = f
-  fits_value i (Int k) f = f
-  fits_value i (Wide q) f = f
-  fits_value i (Atom a) f = f
-  fits_value i (Str q) f = f
-  fits_value i (Fun g) f = absurd f
-  fits_value i (Ground g) f = absurd f
-
   fits_linked : (i : ℕ) → i < length (linked h x p v).cells → Fits (linked h x p v) i (at (linked h x p v).cells i)
   fits_linked i lt = elim (cases_eq i x) [
-    | inl e ↦ subst (Fits (linked h x p v) i) (sym (ap (at (linked h x p v).cells) e ∙ at-bound)) (fits_still i v (fits_value i v may.fits))
+    | inl e ↦ subst (Fits (linked h x p v) i) (sym (ap (at (linked h x p v).cells) e ∙ at-bound)) (fits_still i v (value-fits h i v may.fits))
     | inr ne ↦ subst (Fits (linked h x p v) i) (sym (at-other i ne)) (fits_still i (at h.cells i) (is.fits i (omega (arith, lt, len))))
   ]
 
@@ -217,7 +185,7 @@ module _ (h : Store) (x p : ℕ) (v : Cell) (is : IsHeap h) (may : IsBinding h x
 
   free_old : (i q : ℕ) → at (linked h x p v).cells i ≡ Free q → at h.cells i ≡ Free q
   free_old i q e = elim (cases_eq i x) [
-    | inl same ↦ absurd (value_free h v q may.fits (sym at-bound ∙ ap (at (linked h x p v).cells) (sym same) ∙ e))
+    | inl same ↦ absurd (value-free h v q may.fits (sym at-bound ∙ ap (at (linked h x p v).cells) (sym same) ∙ e))
     | inr ne ↦ sym (at-other i ne) ∙ e
   ]
 

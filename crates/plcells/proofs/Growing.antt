@@ -39,16 +39,16 @@ module _ (h : Store) (cs : List Cell) (ns : List ℕ) (ws : List ℤ) (is : IsHe
   ground_within (c ∷ cells) zero g = omega arith
   ground_within (c ∷ cells) (suc j) g = let r = ground_within cells j g in omega (arith, r)
 
-  solid_old : (m : Cell) → IsSolid h.cells m → IsSolid (grown h cs ns ws).cells m
-  solid_old (Free q) s = absurd s
-  solid_old (Lone q) s = absurd s
-  solid_old (Ref j) s = absurd s
-  solid_old (Int k) s = tt
-  solid_old (Wide q) s = tt
-  solid_old (Atom a) s = tt
-  solid_old (Str q) s = subst IsGround (sym (at-old q (ground_within h.cells q s))) s
-  solid_old (Fun f) s = absurd s
-  solid_old (Ground f) s = absurd s
+  pub solid-old : (m : Cell) → IsSolid h.cells m → IsSolid (grown h cs ns ws).cells m
+  solid-old (Free q) s = absurd s
+  solid-old (Lone q) s = absurd s
+  solid-old (Ref j) s = absurd s
+  solid-old (Int k) s = tt
+  solid-old (Wide q) s = tt
+  solid-old (Atom a) s = tt
+  solid-old (Str q) s = subst IsGround (sym (at-old q (ground_within h.cells q s))) s
+  solid-old (Fun f) s = absurd s
+  solid-old (Ground f) s = absurd s
 
   arguments_old : (i f : ℕ) → HasArguments h i f → HasArguments (grown h cs ns ws) i f
   arguments_old i f a = record { functor = a.functor; within = omega (arith, a.within, len); plain = λ d lt le. plain_old d (omega (arith, a.within, le)) (a.plain d lt le) }
@@ -64,7 +64,7 @@ module _ (h : Store) (cs : List Cell) (ns : List ℕ) (ws : List ℤ) (is : IsHe
   fits-old i (Fun g) f = arguments_old i g f
   fits-old i (Ground g) f = record {
     arguments = arguments_old i g f.arguments;
-    solid = λ d lt le. subst (IsSolid (grown h cs ns ws).cells) (sym (at-old d (let w = f.arguments.within in omega (arith, w, le)))) (solid_old (at h.cells d) (f.solid d lt le));
+    solid = λ d lt le. subst (IsSolid (grown h cs ns ws).cells) (sym (at-old d (let w = f.arguments.within in omega (arith, w, le)))) (solid-old (at h.cells d) (f.solid d lt le));
   }
 
   pub value-old : (m : Cell) → IsValue h m → IsValue (grown h cs ns ws) m

@@ -8,3 +8,6 @@ pub mod Inside
 pub mod Searching
 pub mod Growing
 pub mod Pushing
+pub mod Renaming
+pub mod Taking
+pub mod Blocks

@@ -1,18 +1,16 @@
--- New variables, compounds and integers.
-use Rattle.std.proofs.Common.{◌≡◌, ℕ, ℤ, pos, zero, suc, ◌+◌, ◌-◌, ◌<◌, ◌≤◌, ◌^◌, List, [], ◌∷◌, ◌++◌, length, length-append, get_or, map, refl, sym, ap, ap₂, ◌∙◌, subst, arith, inl, inr, append-nil}
+-- New variables and integers.
+use Rattle.std.proofs.Common.{◌≡◌, ℕ, ℤ, pos, zero, suc, ◌+◌, ◌<◌, ◌≤◌, ◌^◌, List, [], ◌∷◌, ◌++◌, length, length-append, get_or, map, refl, sym, ap, ap₂, ◌∙◌, subst, arith, inl, inr, append-nil}
 use Rattle.std.proofs.lemmas.Bool.{cases_lt}
-use Rattle.std.proofs.lemmas.List.{get_or_append_left, get_or-append_right, get_or_push, map-append, length-map, get_or_past}
-use Rattle.plterm.specs.Tree.{Tree, var, int, compound, trees}
-use Rattle.platoms.specs.Names.{functor_name, functor_arity}
+use Rattle.std.proofs.lemmas.List.{get_or_append_left, get_or_push, length-map}
+use Rattle.plterm.specs.Tree.{var, int}
 use Rattle.plcells.specs.declared.cell.Cell.{Cell}
 use Rattle.plcells.specs.declared.cell.Cell.TheVariants.{Free, Lone, Ref, Int, Wide, Atom, Str, Fun, Ground}
-use Rattle.plcells.specs.Store.{Store, at, number_at, spread, term, shown, Refers, IsHead, HasArguments, Fits, IsHeap, IsValue, value, grown, IsFresh, Grows, frees, one, AreValues, AddsVariable, AddsValue, IsFunctorOf, IsVariable}
+use Rattle.plcells.specs.Store.{Store, at, number_at, shown, Refers, IsHead, Fits, IsHeap, IsValue, grown, IsFresh, Grows, frees, one, AreValues, AddsVariable, AddsValue, IsVariable}
 use Rattle.plcells.specs.Skipping.{plain, AreLone, IsClosed, AreClosed, AreRising, IsInside, IsPlaced, AllPlaced, IsClosing}
 use Rattle.plcells.proofs.Terms.{term-at, refers-within}
-use Rattle.plcells.proofs.Values.{at-plain}
 use Rattle.plcells.proofs.Kept.{Keeps-refl}
-use Rattle.plcells.proofs.Inside.{plain-value, value-lone, value-placed, refers-target, refers-variable}
-use Rattle.plcells.proofs.Growing.{at-old, at-new, value-old, value-same, Grows-grown, IsHeap-grown}
+use Rattle.plcells.proofs.Inside.{value-placed}
+use Rattle.plcells.proofs.Growing.{at-old, Grows-grown, IsHeap-grown}
 
 pub Grows-refl : (h : Store) → Grows h h
 Grows-refl h = record { longer = omega arith; terms = λ c lt. refl; values = λ v f. (f, refl); keeps = Keeps-refl h; names = refl }
@@ -87,7 +85,7 @@ module _ (h : Store) (cs : List Cell) (ns : List ℕ) (ws : List ℤ) (cells : L
   old_refers : (i d p : ℕ) → i < length h.cells → Refers h.names i (at (grown h cs ns ws).cells i) d → at cells d ≡ Lone p → ⊥
   old_refers i d p lt r e = inside.lone i d p lt (subst (λ m. Refers h.names i m d) (at-old h cs ns ws inside.heap i lt) r) e
 
-frees-append : (xs ys : List Cell) → frees (xs ++ ys) ≡ frees xs + frees ys
+pub frees-append : (xs ys : List Cell) → frees (xs ++ ys) ≡ frees xs + frees ys
 frees-append [] ys = omega arith
 frees-append (x ∷ xs) ys = omega (arith, frees-append xs ys)
 
@@ -178,11 +176,7 @@ placed-at n [] k are lt = absurd (omega arith)
 placed-at n (v ∷ vs) zero are lt = are.0
 placed-at n (v ∷ vs) (suc k) are lt = placed-at n vs k are.1 (omega arith)
 
-values-plain : (h : Store) (vs : List Cell) → AreValues h vs → map plain vs ≡ vs
-values-plain h [] are = refl
-values-plain h (v ∷ vs) are = ap₂ (λ x xs. x ∷ xs) (plain-value h v are.0) (values-plain h vs are.1)
-
-value-frees : (h : Store) (v : Cell) → IsValue h v → one v ≡ 0
+pub value-frees : (h : Store) (v : Cell) → IsValue h v → one v ≡ 0
 value-frees h (Free p) f = absurd f
 value-frees h (Lone p) f = absurd f
 value-frees h (Ref j) f = refl
@@ -193,173 +187,9 @@ value-frees h (Str p) f = refl
 value-frees h (Fun f) g = absurd g
 value-frees h (Ground f) g = absurd g
 
-values-frees : (h : Store) (vs : List Cell) → AreValues h vs → frees vs ≡ 0
+pub values-frees : (h : Store) (vs : List Cell) → AreValues h vs → frees vs ≡ 0
 values-frees h [] are = refl
 values-frees h (v ∷ vs) are = omega (arith, value-frees h v are.0, values-frees h vs are.1)
-
-value-fits : (h : Store) (i : ℕ) (m : Cell) → IsValue h m → Fits h i m
-value-fits h i (Free q) f = absurd f
-value-fits h i (Lone q) f = absurd f
-value-fits h i (Ref j) f = f
-value-fits h i (Int k) f = f
-value-fits h i (Wide q) f = f
-value-fits h i (Atom a) f = f
-value-fits h i (Str q) f = f
-value-fits h i (Fun g) f = absurd f
-value-fits h i (Ground g) f = absurd f
-
-value-plain-cell : (h : Store) (v : Cell) → IsValue h v → IsHead v → ⊥
-value-plain-cell h (Free p) f head = head
-value-plain-cell h (Lone p) f head = head
-value-plain-cell h (Ref j) f head = head
-value-plain-cell h (Int n) f head = head
-value-plain-cell h (Wide p) f head = head
-value-plain-cell h (Atom a) f head = head
-value-plain-cell h (Str p) f head = head
-value-plain-cell h (Fun g) f head = f
-value-plain-cell h (Ground g) f head = f
-
-value-no-free : (h : Store) (v : Cell) (p : ℕ) → IsValue h v → v ≡ Free p → ⊥
-value-no-free h v p f e = let g : IsValue h (Free p) = subst (IsValue h) e f in g
-
-value-shown : (h : Store) (i : ℕ) (m : Cell) → IsValue h m → shown h i m ≡ value h m
-value-shown h i (Free p) f = absurd f
-value-shown h i (Lone p) f = absurd f
-value-shown h i (Ref j) f = refl
-value-shown h i (Int n) f = refl
-value-shown h i (Wide p) f = refl
-value-shown h i (Atom a) f = refl
-value-shown h i (Str p) f = refl
-value-shown h i (Fun g) f = absurd f
-value-shown h i (Ground g) f = absurd f
-
--- a compound
-module _ (h : Store) (f : ℕ) (vs : List Cell) (is : IsHeap h) (functor : IsFunctorOf h.names f (length vs)) (are : AreValues h vs) (few : length h.cells + suc (length vs) < 2 ^ 32) where
-  abbrev block : Store
-  block = grown h (Fun f ∷ vs) [] []
-
-  block_len : length (grown h (Fun f ∷ vs) [] []).cells ≡ length h.cells + suc (length vs)
-  block_len = length-append h.cells (Fun f ∷ vs)
-
-  at_head : at (grown h (Fun f ∷ vs) [] []).cells (length h.cells) ≡ Fun f
-  at_head = at-new h (Fun f ∷ vs) [] [] is (length h.cells) (omega arith) ∙ (let e : length h.cells - length h.cells ≡ 0 = omega arith in ap (at (Fun f ∷ vs)) e)
-
-  at_argument : (k d : ℕ) → d ≡ suc (length h.cells + k) → at (grown h (Fun f ∷ vs) [] []).cells d ≡ at vs k
-  at_argument k d e =
-      let s : d - length h.cells ≡ suc k = omega (arith, e) in
-      at-new h (Fun f ∷ vs) [] [] is d (omega (arith, e)) ∙ ap (at (Fun f ∷ vs)) s
-
-  behind : (d : ℕ) → length h.cells < d → d ≤ length h.cells + functor_arity h.names f → (k : ℕ) × (d ≡ suc (length h.cells + k)) × (k < length vs)
-  behind d lt le = (d - suc (length h.cells), omega (arith, lt), omega (arith, lt, le, functor.arity))
-
-  block_arguments : HasArguments (grown h (Fun f ∷ vs) [] []) (length h.cells) f
-  block_arguments = record {
-    functor = functor.within;
-    within = omega (arith, block_len, functor.arity);
-    plain = λ d lt le head.
-        let k = behind d lt le in
-        value-plain-cell h (at vs k.0) (value-at-list h vs k.0 are k.2) (subst IsHead (at_argument k.0 d k.1) head);
-  }
-
-  block_fits : (j : ℕ) → j < suc (length vs) → Fits (grown h (Fun f ∷ vs) [] []) (length h.cells + j) (at (Fun f ∷ vs) j)
-  block_fits zero lt = let e : length h.cells + 0 ≡ length h.cells = omega arith in subst (λ i. HasArguments (grown h (Fun f ∷ vs) [] []) i f) (sym e) block_arguments
-  block_fits (suc j) lt = value-fits (grown h (Fun f ∷ vs) [] []) (length h.cells + suc j) (at vs j) (value-old h (Fun f ∷ vs) [] [] is (at vs j) (value-at-list h vs j are (omega arith)))
-
-  abbrev head_high : ℕ → ℕ
-  head_high zero = 1
-  head_high (suc j) = 0
-
-  value_within : (m : Cell) (i d : ℕ) → IsValue h m → Refers h.names i m d → d < length h.cells
-  value_within m i d v r = refers-within h i d m (value-fits h i m v) r
-
-  block_lower : (j d : ℕ) → j < suc (length vs) → Refers h.names (length h.cells + j) (at (Fun f ∷ vs) j) d → length h.cells ≤ d → head_high (d - length h.cells) < head_high j
-  block_lower zero d lt r ge =
-      let k = behind d (omega (arith, r.0)) (omega (arith, r.1)) in
-      let s : d - length h.cells ≡ suc k.0 = omega (arith, k.1) in
-      omega (arith, ap head_high s)
-  block_lower (suc j) d lt r ge = let w = value_within (at vs j) (length h.cells + suc j) d (value-at-list h vs j are (omega arith)) r in absurd (omega (arith, w, ge))
-
-  block_free : (j p : ℕ) → j < suc (length vs) → at (Fun f ∷ vs) j ≡ Free p → ⊥
-  block_free zero p lt e = grind (arith, e)
-  block_free (suc j) p lt e = value-no-free h (at vs j) p (value-at-list h vs j are (omega arith)) e
-
-  pub block-heap : IsHeap (grown h (Fun f ∷ vs) [] [])
-  block-heap = IsHeap-grown h (Fun f ∷ vs) [] [] is head_high block_fits block_lower
-      (λ j p lt e. absurd (block_free j p lt e))
-      (λ j k p q jl kl ej ek same. absurd (block_free j p jl ej))
-      few
-
-  spread_values : (us : List Cell) (w : ℕ → Tree) (c : ℕ) → ((k : ℕ) → k < length us → w (c + k) ≡ value h (at us k)) → spread w c (length us) ≡ map (value h) us
-  spread_values [] w c each = refl
-  spread_values (u ∷ us) w c each =
-      ap₂ (λ t ts. t ∷ ts) (ap w (omega arith) ∙ each 0 (omega arith))
-      (spread_values us w (suc c) (λ k lt. ap w (omega arith) ∙ each (suc k) (omega arith)))
-
-  argument_term : (k : ℕ) → k < length vs → term (grown h (Fun f ∷ vs) [] []) (suc (length h.cells) + k) ≡ value h (at vs k)
-  argument_term k lt =
-      let d : ℕ = suc (length h.cells) + k in
-      let v = value-at-list h vs k are lt in
-      let here = at_argument k (suc (length h.cells) + k) (omega arith) in
-      term-at (grown h (Fun f ∷ vs) [] []) (suc (length h.cells) + k) block-heap (omega (arith, block_len))
-      ∙ ap (shown (grown h (Fun f ∷ vs) [] []) (suc (length h.cells) + k)) here
-      ∙ value-shown (grown h (Fun f ∷ vs) [] []) (suc (length h.cells) + k) (at vs k) (value-old h (Fun f ∷ vs) [] [] is (at vs k) v)
-      ∙ value-same h (Fun f ∷ vs) [] [] is (at vs k) v
-
-  pub block-added : AddsValue h (grown h (Fun f ∷ vs) [] []) (Str (length h.cells)) (compound (functor_name h.names f) (trees (map (value h) vs)))
-  block-added = record {
-    fits = (omega (arith, block_len), let g : IsHead (Fun f) = tt in subst IsHead (sym at_head) g);
-    is =
-        term-at (grown h (Fun f ∷ vs) [] []) (length h.cells) block-heap (omega (arith, block_len))
-        ∙ ap (shown (grown h (Fun f ∷ vs) [] []) (length h.cells)) at_head
-        ∙ ap (λ k. compound (functor_name h.names f) (trees (spread (term (grown h (Fun f ∷ vs) [] [])) (suc (length h.cells)) k))) functor.arity
-        ∙ ap (λ ts. compound (functor_name h.names f) (trees ts)) (spread_values vs (term (grown h (Fun f ∷ vs) [] [])) (suc (length h.cells)) argument_term);
-    grows = Grows-grown h (Fun f ∷ vs) [] [] is;
-    fresh = λ m none i p lt e same. elim (cases_lt i (length h.cells)) [
-      | inl il ↦ none i p il (sym (at-old h (Fun f ∷ vs) [] [] is i il) ∙ e) (ap (λ xs. get_or xs p 0) (sym (append-nil h.numbers)) ∙ same)
-      | inr ig ↦ block_free (i - length h.cells) p (omega (arith, lt, ig, block_len)) (sym (at-new h (Fun f ∷ vs) [] [] is i ig) ∙ e)
-    ];
-    frees = frees-append h.cells (Fun f ∷ vs) ∙ omega (arith, values-frees h vs are);
-  }
-
-  module _ (cells after : List Cell) (closed : List ℕ) (same : h.cells ≡ map plain cells) (inside : IsInside h cells closed)
-      (same_after : map plain after ≡ map plain (cells ++ Fun f ∷ vs))
-      (was : (d p : ℕ) → at after d ≡ Lone p → at (cells ++ Fun f ∷ vs) d ≡ Lone p)
-      (alone : (d p : ℕ) → at after d ≡ Lone p → (k : ℕ) → k < length vs → at vs k ≡ Ref d → ⊥) where
-    cells_len : length h.cells ≡ length cells
-    cells_len = ap length same ∙ length-map cells plain
-
-    pub block-cells : map plain after ≡ h.cells ++ Fun f ∷ vs
-    block-cells = same_after ∙ map-append plain cells (Fun f ∷ vs) ∙ ap₂ (λ xs ys. xs ++ Fun f ∷ ys) (sym same) (values-plain h vs are)
-
-    block_lone : (j p : ℕ) → at (Fun f ∷ vs) j ≡ Lone p → ⊥
-    block_lone zero p e = grind (arith, e)
-    block_lone (suc j) p e = elim (cases_lt j (length vs)) [
-      | inl lt ↦ value-lone h (at vs j) p (value-at-list h vs j are lt) e
-      | inr ge ↦ let z = sym (get_or_past vs j (Atom 0) ge) ∙ e in grind (arith, z)
-    ]
-
-    was_old : (d p : ℕ) → at after d ≡ Lone p → at cells d ≡ Lone p
-    was_old d p e = elim (cases_lt d (length cells)) [
-      | inl dl ↦ sym (get_or_append_left cells (Fun f ∷ vs) (Atom 0) d dl) ∙ was d p e
-      | inr dg ↦ absurd (block_lone (d - length cells) p (sym (get_or-append_right cells (Fun f ∷ vs) (length cells) d (Atom 0) refl dg) ∙ was d p e))
-    ]
-
-    seen_old : (d p : ℕ) → at cells d ≡ Lone p → at h.cells d ≡ Free p
-    seen_old d p e = ap (λ xs. at xs d) same ∙ at-plain cells d ∙ ap plain e
-
-    block_refers : (j i d p : ℕ) → j < suc (length vs) → i ≡ length h.cells + j → Refers h.names i (at (Fun f ∷ vs) j) d → at after d ≡ Lone p → ⊥
-    block_refers zero i d p lt ie r e =
-        let dl : d < length cells = elim (cases_lt d (length cells)) [ inl dl ↦ dl | inr dg ↦ absurd (let z = sym (get_or_past cells d (Atom 0) dg) ∙ was_old d p e in grind (arith, z)) ] in
-        omega (arith, r.0, ie, dl, cells_len)
-    block_refers (suc j) i d p lt ie r e =
-        let v = value-at-list h vs j are (omega arith) in
-        alone d p e j (omega arith) (refers-variable h d p (at vs j) v (refers-target h i d (at vs j) v r) (seen_old d p (was_old d p e)))
-
-    pub block-inside : IsInside (grown h (Fun f ∷ vs) [] []) after closed
-    block-inside = inside-grown h (Fun f ∷ vs) [] [] cells closed inside block-heap after (λ i d p lt r e. elim (cases_lt i (length h.cells)) [
-      | inl il ↦ inside.lone i d p il (subst (λ m. Refers h.names i m d) (at-old h (Fun f ∷ vs) [] [] is i il) r) (was_old d p e)
-      | inr ig ↦ block_refers (i - length h.cells) i d p (omega (arith, lt, ig, block_len)) (omega (arith, ig)) (subst (λ m. Refers h.names i m d) (at-new h (Fun f ∷ vs) [] [] is i ig) r) e
-    ])
 
 -- an integer
 pub small-added : (h : Store) (i : ℤ) → AddsValue h h (Int i) (int i)

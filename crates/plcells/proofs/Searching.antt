@@ -1,13 +1,14 @@
 -- Why cells may be left out of a search for a variable, and what a search has found.
-use Rattle.std.proofs.Common.{◌≡◌, ℕ, zero, suc, ◌+◌, ◌<◌, ◌≤◌, ◌⊎◌, Bool, true, false, ◌||◌, nat_eq, Option, Some, None, List, [], ◌∷◌, ◌++◌, length, map, refl, sym, ap, ap₂, ◌∙◌, subst, arith, inl, inr}
+use Rattle.std.proofs.Common.{◌≡◌, ℕ, zero, suc, ◌+◌, ◌<◌, ◌≤◌, ◌⊎◌, Bool, true, false, ◌||◌, nat_eq, Option, Some, None, List, [], ◌∷◌, ◌++◌, length, map, get_or, refl, sym, ap, ap₂, ◌∙◌, subst, arith, inl, inr}
 use Rattle.std.proofs.lemmas.Bool.{cases_eq}
+use Rattle.std.proofs.lemmas.List.{get_or_read}
 use Rattle.plterm.specs.Tree.{Tree, var, int, atom, compound, none, trees}
 use Rattle.plsubst.specs.Subst.{occurs, occurs_in}
 use Rattle.platoms.specs.Names.{functor_arity, functor_name}
 use Rattle.plcells.specs.declared.cell.Cell.{Cell}
 use Rattle.plcells.specs.declared.cell.Cell.TheVariants.{Free, Lone, Ref, Int, Wide, Atom, Str, Fun, Ground}
 use Rattle.plcells.specs.Store.{Store, at, number_at, spread, term, terms, shown, value, Refers, IsHead, IsGround, IsSolid, Fits, IsHeap, IsValue, IsEnd, HasTerms, HasArguments, HasSolid, IsBlock, IsBinding}
-use Rattle.plcells.specs.Skipping.{plain, AreLone, IsClosed}
+use Rattle.plcells.specs.Skipping.{plain, AreLone, IsClosed, AreClosed}
 use Rattle.plcells.specs.Walking.{weight, weights, weigh, occurs_any, AreBlocks}
 use Rattle.plcells.proofs.Terms.{term-at}
 use Rattle.plcells.proofs.Absence.{occurs-none, spread-some}
@@ -306,3 +307,7 @@ binding-of h is x n v ex tx fits apart =
     let f : var (number_at h q.0) ≡ var n = sym (term-at h x is lt ∙ ap (shown h x) q.1) ∙ tx in
     let same = var-number (number_at h q.0) n f in
     (q.0, record { within = lt; free = q.1; fits = fits; apart = ap (λ k. occurs k (value h v)) same ∙ apart }, same)
+
+-- a closed prefix that was read
+pub closed-read : (h : Store) (closed : List ℕ) (k b : ℕ) → AreClosed h closed → k < length closed → b ≡ get_or closed k b → IsClosed h b
+closed-read h closed k b are lt e = subst (IsClosed h) (sym (get_or_read closed k b lt e 0)) (are k lt)

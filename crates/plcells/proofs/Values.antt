@@ -57,6 +57,34 @@ value-shown h i (Str p) f = refl
 value-shown h i (Fun g) f = absurd f
 value-shown h i (Ground g) f = absurd f
 
+-- a value begins no block
+pub value-head : (h : Store) (v : Cell) → IsValue h v → IsHead v → ⊥
+value-head h (Free p) f head = head
+value-head h (Lone p) f head = head
+value-head h (Ref j) f head = head
+value-head h (Int n) f head = head
+value-head h (Wide p) f head = head
+value-head h (Atom a) f head = head
+value-head h (Str p) f head = head
+value-head h (Fun g) f head = f
+value-head h (Ground g) f head = f
+
+-- and is no variable's cell
+pub value-free : (h : Store) (v : Cell) (p : ℕ) → IsValue h v → v ≡ Free p → ⊥
+value-free h v p f e = let g : IsValue h (Free p) = subst (IsValue h) e f in g
+
+-- but can stand as an argument
+pub value-fits : (h : Store) (i : ℕ) (m : Cell) → IsValue h m → Fits h i m
+value-fits h i (Free q) f = absurd f
+value-fits h i (Lone q) f = absurd f
+value-fits h i (Ref j) f = f
+value-fits h i (Int k) f = f
+value-fits h i (Wide q) f = f
+value-fits h i (Atom a) f = f
+value-fits h i (Str q) f = f
+value-fits h i (Fun g) f = absurd f
+value-fits h i (Ground g) f = absurd f
+
 pub end-at : (h : Store) (m : Cell) → IsValue h m → ((j : ℕ) → m ≡ Ref j → ⊥) → IsEnd h m
 end-at h (Free p) f ref = absurd f
 end-at h (Lone p) f ref = absurd f

@@ -286,6 +286,13 @@ pub record Grows (old new : Store) : Type 0 where
   pub keeps : Keeps old new
   pub names : new.names ≡ old.names
 
+-- the same, and there may be more names
+pub record Preserves (old new : Store) : Type 0 where
+  pub longer : length old.cells ≤ length new.cells
+  pub terms : (c : ℕ) → c < length old.cells → term new c ≡ term old c
+  pub values : (v : Cell) → IsValue old v → IsValue new v × (value new v ≡ value old v)
+  pub keeps : Keeps old new
+
 -- a value where references end: a variable's is the reference to its cell
 abbrev pub IsVariable : Cell → Type 0
 IsVariable (Free p) = ⊤
@@ -363,3 +370,17 @@ IsInteger (Atom a) = ⊥
 IsInteger (Str p) = ⊥
 IsInteger (Fun f) = ⊥
 IsInteger (Ground f) = ⊥
+
+-- no two of these numbers are the same
+abbrev pub AreDistinct : List ℕ → Type 0
+AreDistinct ns = (j k : ℕ) → j < length ns → k < length ns → get_or ns j 0 ≡ get_or ns k 0 → j ≡ k
+
+-- a new block at the cell p, whose arguments are these, and new variables of these numbers among them
+pub record AddsBlock (old new : Store) (p : ℕ) (name : List ℕ) (ts : List Tree) (ns : List ℕ) : Type 0 where
+  pub place : p ≡ length old.cells
+  pub fits : IsValue new (Str p)
+  pub is : term new p ≡ compound name (trees ts)
+  pub arguments : (k : ℕ) → k < length ts → IsValue new (Ref (suc p + k)) × (term new (suc p + k) ≡ get_or ts k (var 0))
+  pub grows : Grows old new
+  pub fresh : (m : ℕ) → IsFresh old m → ((k : ℕ) → k < length ns → get_or ns k 0 ≡ m → ⊥) → IsFresh new m
+  pub frees : frees new.cells ≡ frees old.cells + length ns

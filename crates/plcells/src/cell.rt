@@ -23,6 +23,15 @@ pub enum Cell {
     Ground(u32),
 }
 
+/// An argument of a new block.
+#[derive(Clone, Copy)]
+pub enum Argument {
+    /// A value.
+    Value(Cell),
+    /// A new variable of this number, which stands in the block.
+    Variable(u64),
+}
+
 /// A variable that was bound: its cell, and the place of its number.
 #[derive(Clone, Copy)]
 pub struct Trailed {

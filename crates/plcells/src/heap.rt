@@ -2,15 +2,18 @@
 
 ghost use Rattle.std.specs.Prelude.{◌≡◌, ℕ, Some, None, true, false, ◌+◌, ◌<◌, ◌≤◌, ◌^◌, [], ◌∷◌, ◌++◌, length, IfOk, OnOk, OnErr, take, drop, map, get_or};
 ghost use Rattle.plterm.specs.Tree.{var, int, compound, trees};
-ghost use Rattle.platoms.specs.Names.{IsTable, functor_name};
-ghost use Rattle.plcells.specs.declared.cell.Cell.TheVariants.{Free as FreeCell, Lone as LoneCell, Ref as RefCell, Fun as FunCell};
-ghost use Rattle.plcells.specs.Store.{Store, at, term, shown, value, number_at, Fits, IsHeap, IsHead, IsValue, IsEnd, IsBinding, Binds, IsWithin, IsMark, AllBelow, cut, reset, grown, bounded_by, IsFresh, Grows, trailed_if, HasTerms, AddsVariable, AddsValue, AreValues, IsFunctorOf, IsBlock, IsInteger};
+ghost use Rattle.plterm.specs.Reading.{IsName};
+ghost use Rattle.platoms.specs.Names.{IsTable, IsFunctor, HasAtom, HasFunctor, functor_name};
+ghost use Rattle.plcells.specs.declared.cell.Cell.TheVariants.{Free as FreeCell, Lone as LoneCell, Ref as RefCell, Fun as FunCell, Ground as GroundCell};
+ghost use Rattle.plcells.specs.Store.{Store, at, term, shown, value, number_at, Fits, IsHeap, IsHead, IsValue, IsEnd, IsBinding, Binds, IsWithin, IsMark, AllBelow, cut, reset, grown, bounded_by, IsFresh, Grows, Preserves, renamed, trailed_if, HasTerms, AddsVariable, AddsValue, AreValues, IsFunctorOf, IsBlock, IsInteger, IsGround, AreDistinct, AddsBlock};
+ghost use Rattle.plcells.specs.Blocks.{cells_of, numbers_of, stands_for, AreParts, AreSolid};
 ghost use Rattle.plsubst.specs.Subst.{occurs};
 ghost use Rattle.plcells.specs.Skipping.{plain, AreRising, IsPlaced, IsTarget, AllPlaced, IsClosing};
 ghost use Rattle.plcells.specs.Walking.{IsFloor};
 
-use crate::cell::{Cell, Mark, Trailed};
-use platoms::names::Names;
+use crate::cell::{Argument, Cell, Mark, Trailed};
+use platoms::names::{Functor, Names};
+use plterm::name::Name;
 use std::alloc::{AllocError, Global};
 use std::marker::Model;
 
@@ -130,6 +133,81 @@ fn push_block(cells: &mut Vec<Cell>, f: u32, values: &[Cell]) -> Result<(), Allo
     }
 }
 
+/// Puts the cells of a block's arguments behind the others, and the numbers of its new variables behind the numbers.
+fn push_arguments(
+    cells: &mut Vec<Cell>,
+    numbers: &mut Vec<u64>,
+    arguments: &[Argument],
+) -> Result<(), AllocError>
+    requires { length numbers.old.items + length arguments.now < 2 ^ 32 }
+    ensures cells { OnOk result (cells.new.items ≡ cells.old.items ++ cells_of (length numbers.old.items) arguments.now) }
+    ensures numbers { OnOk result (numbers.new.items ≡ numbers.old.items ++ numbers_of arguments.now) }
+    ensures kept { (take (length cells.old.items) cells.new.items ≡ cells.old.items) × (take (length numbers.old.items) numbers.new.items ≡ numbers.old.items) }
+{
+    for a in arguments {
+        match a {
+            Argument::Value(v) => cells.push(*v)?,
+            Argument::Variable(number) => {
+                let place = numbers.len();
+                numbers.push(*number)?;
+                cells.push(Cell::Free(place as u32))?;
+            }
+        }
+    }
+    Ok(())
+}
+
+/// Puts a block behind the cells, and the numbers of its new variables behind the numbers.
+fn push_parts(
+    cells: &mut Vec<Cell>,
+    numbers: &mut Vec<u64>,
+    head: Cell,
+    arguments: &[Argument],
+) -> Result<(), AllocError>
+    requires { length numbers.old.items + length arguments.now < 2 ^ 32 }
+    ensures cells { OnOk result (cells.new.items ≡ cells.old.items ++ head ∷ cells_of (length numbers.old.items) arguments.now) }
+    ensures numbers { OnOk result (numbers.new.items ≡ numbers.old.items ++ numbers_of arguments.now) }
+    ensures err { OnErr result ((cells.new.items ≡ cells.old.items) × (numbers.new.items ≡ numbers.old.items)) }
+{
+    let place = cells.len();
+    let count = numbers.len();
+    cells.push(head)?;
+    match push_arguments(cells, numbers, arguments) {
+        Ok(()) => Ok(()),
+        Err(e) => {
+            cells.truncate(place);
+            numbers.truncate(count);
+            Err(e)
+        }
+    }
+}
+
+/// The head of a block.
+fn head_of(f: u32, ground: bool) -> Cell
+    ensures ground { ground ≡ true → result ≡ GroundCell f }
+    ensures open { ground ≡ false → result ≡ FunCell f }
+{
+    if ground {
+        Cell::Ground(f)
+    } else {
+        Cell::Fun(f)
+    }
+}
+
+/// From now on cells refer to what these arguments refer to.
+fn embed_arguments(cells: &mut Vec<Cell>, arguments: &[Argument])
+    requires { AllPlaced (length cells.old.items) (cells_of 0 arguments.now) }
+    ensures same { map plain cells.new.items ≡ map plain cells.old.items }
+    ensures was { (d p : ℕ) → at cells.new.items d ≡ LoneCell p → at cells.old.items d ≡ LoneCell p }
+    ensures lone { (d p : ℕ) → at cells.new.items d ≡ LoneCell p → (n k : ℕ) → at (cells_of n arguments.now) k ≡ RefCell d → ⊥ }
+{
+    for a in arguments {
+        if let Argument::Value(v) = a {
+            embed(cells, *v);
+        }
+    }
+}
+
 /// Puts a lone variable behind the cells, and its number behind the numbers.
 fn push_variable(
     cells: &mut Vec<Cell>,
@@ -215,6 +293,28 @@ impl Heap {
         ensures { result.now ≡ self.now.names }
     {
         &self.names
+    }
+
+    /// The number of a name, which is a new one where the names do not have it. A full table takes no call.
+    pub fn atom(&mut self, name: Name) -> Result<u32, AllocError>
+        requires { IsName name }
+        ensures is { IfOk result (λ a. HasAtom self.new.names a name) }
+        ensures same { self.new ≡ renamed self.old self.new.names }
+        ensures preserves { Preserves self.old self.new }
+        ensures err { OnErr result (self.new ≡ self.old) }
+    {
+        self.names.atom(name)
+    }
+
+    /// The number of a functor, which is a new one where the names do not have it. A full table takes no call.
+    pub fn functor(&mut self, functor: Functor) -> Result<u32, AllocError>
+        requires { IsFunctor self.old.names functor }
+        ensures is { IfOk result (λ f. HasFunctor self.new.names f functor) }
+        ensures same { self.new ≡ renamed self.old self.new.names }
+        ensures preserves { Preserves self.old self.new }
+        ensures err { OnErr result (self.new ≡ self.old) }
+    {
+        self.names.functor(functor)
     }
 
     /// A cell as a value: a variable's is the reference to it.
@@ -327,9 +427,16 @@ impl Heap {
         requires { IsEnd self.now (RefCell x) }
         ensures { IsFloor self.now x result }
     {
+        let count = self.closed.len();
+        if count > 0 {
+            let last = self.closed[count - 1];
+            if last <= x {
+                return last;
+            }
+        }
         let mut floor = 0;
         let mut low = 0;
-        let mut high = self.closed.len();
+        let mut high = count;
         while low < high {
             let middle = low + (high - low) / 2;
             let b = self.closed[middle];
@@ -366,9 +473,16 @@ impl Heap {
         if place >= u32::MAX as usize || self.numbers.len() >= u32::MAX as usize {
             return Err(AllocError);
         }
-        close(&mut self.closed, place as u32)?;
         push_variable(&mut self.cells, &mut self.numbers, number)?;
         Ok(place as u32)
+    }
+
+    /// Notes for the occurs check that the cells so far refer to one another alone, where the last such note is some way below. The terms stay as they are.
+    pub fn note_closed(&mut self) -> Result<(), AllocError>
+        ensures { self.new ≡ self.old }
+    {
+        let count = self.cells.len();
+        close(&mut self.closed, count as u32)
     }
 
     /// A new compound of these arguments.
@@ -386,6 +500,27 @@ impl Heap {
         push_block(&mut self.cells, f, values)?;
         embed_all(&mut self.cells, values);
         Ok(Cell::Str(place as u32))
+    }
+
+    /// A new block of these arguments: its first cell. In a ground one no variable can stand, now and later.
+    pub fn build(&mut self, f: u32, ground: bool, arguments: &[Argument]) -> Result<u32, AllocError>
+        requires functor { IsFunctorOf self.old.names f (length arguments.now) }
+        requires parts { AreParts self.old arguments.now }
+        requires numbers { AreDistinct (numbers_of arguments.now) }
+        requires solid { ground ≡ true → AreSolid self.old arguments.now }
+        ensures ok { IfOk result (λ p. AddsBlock self.old self.new p (functor_name self.old.names f) (map (stands_for self.old) arguments.now) (numbers_of arguments.now)) }
+        ensures ground { IfOk result (λ p. ground ≡ true → IsGround (at self.new.cells p)) }
+        ensures err { OnErr result (self.new ≡ self.old) }
+    {
+        let place = self.cells.len();
+        let room = u32::MAX as usize - arguments.len();
+        if place >= room || self.numbers.len() >= room {
+            return Err(AllocError);
+        }
+        let head = head_of(f, ground);
+        push_parts(&mut self.cells, &mut self.numbers, head, arguments)?;
+        embed_arguments(&mut self.cells, arguments);
+        Ok(place as u32)
     }
 
     /// An integer as a value.

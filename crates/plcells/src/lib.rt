@@ -6,3 +6,4 @@
 pub mod cell;
 pub mod heap;
 pub mod occurs;
+pub mod take;

@@ -5,7 +5,8 @@ use Rattle.platoms.specs.Names.{functor_name}
 use Rattle.plcells.specs.declared.cell.Cell.TheVariants.{Lone, Fun, Str}
 use Rattle.plcells.specs.Store.{Store, AddsValue, grown, at, value}
 use Rattle.plcells.specs.Skipping.{plain, IsInside}
-use Rattle.plcells.proofs.Pushing.{as-grown, all-placed, block-cells, block-inside, block-added}
+use Rattle.plcells.proofs.Pushing.{as-grown, all-placed}
+use Rattle.plcells.proofs.Blocks.{compound-cells, compound-inside, compound-added}
 use Rattle.plcells.proofs.heap.Heap.compound.Goals as goal
 
 pub embed_all-requires : goal.embed_all-requires
@@ -31,8 +32,8 @@ invariant_of-self-2 c =
     let e = c.embed_all.ensures in
     let same_after = e.same ∙ ap (map plain) pushed in
     let was = λ (d p : ℕ) (x : at after d ≡ Lone p). ap (λ cs. at cs d) (sym pushed) ∙ e.was d p x in
-    let cells = block-cells h f vs c.self.invariant.heap functor are few s.cells.items after s.closed.items refl c.self.invariant same_after was e.lone in
-    let inside = block-inside h f vs c.self.invariant.heap functor are few s.cells.items after s.closed.items refl c.self.invariant same_after was e.lone in
+    let cells = compound-cells h f vs c.self.invariant.heap functor are few s.cells.items after s.closed.items refl c.self.invariant same_after was e.lone in
+    let inside = compound-inside h f vs c.self.invariant.heap functor are few s.cells.items after s.closed.items refl c.self.invariant same_after was e.lone in
     subst (λ st. IsInside st after s.closed.items) (sym (as-grown h (Fun f ∷ vs) [] [] (map plain after) s.numbers.items s.wide.items cells (sym (append-nil s.numbers.items)) (sym (append-nil s.wide.items)))) inside
 
 pub returns-clause-ok : goal.returns-clause-ok
@@ -51,8 +52,8 @@ returns-clause-ok c =
     let e = c.embed_all.ensures in
     let same_after = e.same ∙ ap (map plain) pushed in
     let was = λ (d p : ℕ) (x : at after d ≡ Lone p). ap (λ cs. at cs d) (sym pushed) ∙ e.was d p x in
-    let cells = block-cells h f vs c.self.invariant.heap functor are few s.cells.items after s.closed.items refl c.self.invariant same_after was e.lone in
-    let made = block-added h f vs c.self.invariant.heap functor are few in
+    let cells = compound-cells h f vs c.self.invariant.heap functor are few s.cells.items after s.closed.items refl c.self.invariant same_after was e.lone in
+    let made = compound-added h f vs c.self.invariant.heap functor are few in
     let t = compound (functor_name s.names f) (trees (map (value h) vs)) in
     subst (λ st. AddsValue h st (Str c.len-place.result) t) (sym (as-grown h (Fun f ∷ vs) [] [] (map plain after) s.numbers.items s.wide.items cells (sym (append-nil s.numbers.items)) (sym (append-nil s.wide.items))))
     (subst (λ x. AddsValue h (grown h (Fun f ∷ vs) [] []) (Str x) t) (sym place) made))

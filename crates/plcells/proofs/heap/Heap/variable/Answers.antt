@@ -2,18 +2,9 @@ use Rattle.std.proofs.Common.{◌≡◌, ◌∙◌, ◌<◌, ◌+◌, ◌^◌, �
 use Rattle.std.proofs.lemmas.List.{length-map, map-append}
 use Rattle.plcells.specs.declared.cell.Cell.TheVariants.{Free, Lone}
 use Rattle.plcells.specs.Store.{Store, AddsVariable, grown}
-use Rattle.plcells.specs.Skipping.{plain, IsInside, IsClosing}
-use Rattle.plcells.proofs.Pushing.{as-grown, inside-closing, variable-inside, variable-added}
+use Rattle.plcells.specs.Skipping.{plain, IsInside}
+use Rattle.plcells.proofs.Pushing.{as-grown, variable-inside, variable-added}
 use Rattle.plcells.proofs.heap.Heap.variable.Goals as goal
-
-pub invariant_of-self-in_err-push_variable : goal.invariant_of-self-in_err-push_variable
-invariant_of-self-in_err-push_variable c =
-    let r = c.in_err-push_variable.ensures.err in
-    let s = c.self.inside in
-    let h : Store = record { cells = map plain s.cells.items; numbers = s.numbers.items; wide = s.wide.items; trail = s.trail.items; boundary = s.boundary; names = s.names } in
-    let place : c.len-place.result ≡ length (map plain s.cells.items) = omega (arith, c.len-place.ensures, s.cells.ok.0, length-map s.cells.items plain) in
-    let inside = inside-closing h s.cells.items s.closed.items c.close.new.closed.items c.self.invariant (subst (IsClosing s.closed.items c.close.new.closed.items) place c.in_ok-close.ensures) in
-    rw (r.0, r.1) inside
 
 pub invariant_of-self-2 : goal.invariant_of-self-2
 invariant_of-self-2 c =
@@ -23,12 +14,11 @@ invariant_of-self-2 c =
     let h : Store = record { cells = map plain s.cells.items; numbers = s.numbers.items; wide = s.wide.items; trail = s.trail.items; boundary = s.boundary; names = s.names } in
     let n = c.args.number in
     let place : c.len-place.result ≡ length (map plain s.cells.items) = omega (arith, c.len-place.ensures, s.cells.ok.0, length-map s.cells.items plain) in
-    let inside = inside-closing h s.cells.items s.closed.items c.close.new.closed.items c.self.invariant (subst (IsClosing s.closed.items c.close.new.closed.items) place c.in_ok-close.ensures) in
     let few : length (map plain s.cells.items) + 1 < 2 ^ 32 = omega (arith, place, c.if-place.false) in
-    let made = variable-inside h n c.self.invariant.heap fresh few s.cells.items c.close.new.closed.items refl inside in
+    let made = variable-inside h n c.self.invariant.heap fresh few s.cells.items s.closed.items refl c.self.invariant in
     let same = as-grown h (Free (length s.numbers.items) ∷ []) (n ∷ []) [] (map plain c.push_variable.new.cells.items) c.push_variable.new.numbers.items s.wide.items (ap (map plain) r.cells ∙ map-append plain s.cells.items (Lone (length s.numbers.items) ∷ [])) r.numbers (sym (append-nil s.wide.items)) in
-    subst (λ st. IsInside st c.push_variable.new.cells.items c.close.new.closed.items) (sym same)
-    (subst (λ cs. IsInside (grown h (Free (length s.numbers.items) ∷ []) (n ∷ []) []) cs c.close.new.closed.items) (sym r.cells) made)
+    subst (λ st. IsInside st c.push_variable.new.cells.items s.closed.items) (sym same)
+    (subst (λ cs. IsInside (grown h (Free (length s.numbers.items) ∷ []) (n ∷ []) []) cs s.closed.items) (sym r.cells) made)
 
 pub returns-clause-ok : goal.returns-clause-ok
 returns-clause-ok c =
