@@ -7,3 +7,4 @@ pub mod Folds
 pub mod Goals
 pub mod Worked
 pub mod Keys
+pub mod Clauses

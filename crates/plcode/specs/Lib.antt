@@ -4,3 +4,4 @@ pub mod Steps
 pub mod Bodies
 pub mod Goals
 pub mod Keys
+pub mod Clauses
