@@ -8,3 +8,4 @@ pub mod Goals
 pub mod Worked
 pub mod Keys
 pub mod Clauses
+pub mod Runs

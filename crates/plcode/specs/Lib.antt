@@ -5,3 +5,4 @@ pub mod Bodies
 pub mod Goals
 pub mod Keys
 pub mod Clauses
+pub mod Index

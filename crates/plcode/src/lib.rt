@@ -5,6 +5,7 @@ pub mod body;
 pub mod clause;
 pub mod code;
 pub mod goal;
+pub mod index;
 pub mod key;
 pub mod lay;
 pub mod node;
