@@ -1,5 +1,6 @@
--- What the code of a clause is.
-use Rattle.std.specs.Prelude.{◌≡◌}
+-- What the code of a clause is, and of procedures.
+use Rattle.std.specs.Prelude.{◌≡◌, List, [], ◌∷◌}
+use Rattle.plterm.specs.declared.indicator.Indicator.{Indicator}
 use Rattle.plclause.specs.Clause.{Clause}
 use Rattle.plsearch.specs.Forms.{arguments}
 use Rattle.plsearch.specs.Rows.{is_true}
@@ -15,3 +16,17 @@ pub record IsCodeOf (c : Text) (k : ClauseCode) (clause : Clause) : Type 0 where
   pub body : Begins c k.body clause.body
   pub variables : k.variables ≡ clause.variables
   pub fact : k.is_fact ≡ is_true clause.body
+
+-- the code of clauses, in their order
+abbrev pub AreCodeOf : Text → List ClauseCode → List Clause → Type 0
+AreCodeOf c [] [] = Unit {0}
+AreCodeOf c [] (x ∷ xs) = ⊥
+AreCodeOf c (k ∷ ks) [] = ⊥
+AreCodeOf c (k ∷ ks) (x ∷ xs) = IsCodeOf c k x × AreCodeOf c ks xs
+
+-- the code of procedures, in their order
+abbrev pub AreProcedures : Text → List (List ClauseCode) → List (Indicator × List Clause) → Type 0
+AreProcedures c [] [] = Unit {0}
+AreProcedures c [] (e ∷ es) = ⊥
+AreProcedures c (ks ∷ kss) [] = ⊥
+AreProcedures c (ks ∷ kss) (e ∷ es) = AreCodeOf c ks e.1 × AreProcedures c kss es

@@ -4,6 +4,7 @@
 pub mod body;
 pub mod clause;
 pub mod code;
+pub mod compile;
 pub mod goal;
 pub mod index;
 pub mod key;
