@@ -9,3 +9,4 @@ pub mod Worked
 pub mod Keys
 pub mod Clauses
 pub mod Runs
+pub mod Marks

@@ -6,3 +6,4 @@ pub mod Goals
 pub mod Keys
 pub mod Clauses
 pub mod Index
+pub mod Marks

@@ -11,7 +11,7 @@ use plterm::walk::{Shape, TermRef};
 use std::alloc::AllocError;
 
 /// What a first argument is: an integer, an atom or a compound by its number, or anything, as a variable is.
-#[derive(Clone, Copy, Debug, Drop, PartialEq, Eq, Hash)]
+#[derive(Clone, Copy, Debug, PartialEq, Eq, Hash)]
 pub enum Key {
     Any,
     Int(i64),

@@ -1,4 +1,4 @@
-use Rattle.std.proofs.Common.{◌≡◌, ◌∙◌, ◌+◌, List, [], ◌∷◌, ◌++◌, take, sym, ap, subst}
+use Rattle.std.proofs.Common.{◌∙◌, ◌+◌, List, [], ◌∷◌, ◌++◌, take, sym, ap, subst}
 use Rattle.std.proofs.lemmas.List.{take_more}
 use Rattle.plcode.specs.declared.clause.ClauseCode.{ClauseCode}
 use Rattle.plcode.specs.Steps.{text}
