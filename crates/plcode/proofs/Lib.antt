@@ -7,3 +7,6 @@ pub mod Folds
 pub mod Goals
 pub mod Worked
 pub mod Keys
+pub mod Clauses
+pub mod Runs
+pub mod Marks

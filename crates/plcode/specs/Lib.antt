@@ -4,3 +4,6 @@ pub mod Steps
 pub mod Bodies
 pub mod Goals
 pub mod Keys
+pub mod Clauses
+pub mod Index
+pub mod Marks

@@ -3,21 +3,24 @@ ghost use Rattle.std.specs.Prelude.{◌≡◌, IfOk, OnOk};
 ghost use Rattle.plsearch.specs.Forms.{arguments};
 ghost use Rattle.plsearch.specs.Rows.{is_true as is_true_of};
 ghost use Rattle.plcode.specs.Steps.{text, Args, Extended};
-ghost use Rattle.plcode.specs.Bodies.{Begins, IsCode};
+ghost use Rattle.plcode.specs.Bodies.{IsCode};
+ghost use Rattle.plcode.specs.Clauses.{IsCodeOf};
 
 use crate::body::compile_body;
 use crate::code::Code;
+use crate::key::{Key, head_key};
 use crate::lay::lay;
 use plclause::clause::Clause;
 use plnames::table::NameTable;
 use plterm::walk::{Shape, TermRef};
 use std::alloc::{AllocError, Global};
 
-/// A compiled clause: where the row of its head's arguments and the sequence of its body begin, how many variables it has, and
-/// whether its body is the atom true, which is no goal.
+/// A compiled clause: where the row of its head's arguments and the sequence of its body begin, the key of the first of those
+/// arguments, how many variables it has, and whether its body is the atom true, which is no goal.
 #[derive(Clone, Copy, Debug, PartialEq, Eq)]
 pub struct ClauseCode {
     pub head: u32,
+    pub key: Key,
     pub body: u32,
     pub variables: u32,
     pub is_fact: bool,
@@ -62,20 +65,20 @@ pub fn compile_clause(
     requires code { IsCode (text code.old) }
     ensures extended { OnOk result (Extended (text code.old) (text code.new)) }
     ensures code { OnOk result (IsCode (text code.new)) }
-    ensures head { IfOk result (λ c. Args (text code.new) c.head (arguments clause.now.head)) }
-    ensures body { IfOk result (λ c. Begins (text code.new) c.body clause.now.body) }
-    ensures variables { IfOk result (λ c. c.variables ≡ clause.now.variables) }
-    ensures fact { IfOk result (λ c. c.is_fact ≡ is_true_of clause.now.body) }
+    ensures clause { IfOk result (λ c. IsCodeOf (text code.new) c clause.now) }
 {
     let Ok(variables) = u32::try_from(clause.variables()) else {
         return Err(AllocError);
     };
-    let head = lay_arguments(alloc, code, &clause.head().root())?;
+    let given = clause.head().root();
+    let key = head_key(code, &given)?;
+    let head = lay_arguments(alloc, code, &given)?;
     let root = clause.body().root();
     let body = compile_body(alloc, code, kinds, &root)?;
     let is_fact = is_true(&root);
     Ok(ClauseCode {
         head,
+        key,
         body,
         variables,
         is_fact,

@@ -1,9 +1,9 @@
 //! The keys of first arguments, by which clauses are passed over.
-ghost use Rattle.std.specs.Prelude.{IfOk, OnOk};
+ghost use Rattle.std.specs.Prelude.{◌≡◌, IfOk, OnOk};
 ghost use Rattle.plsearch.specs.Forms.{arguments};
 ghost use Rattle.plcode.specs.Steps.{text, Extended};
 ghost use Rattle.plcode.specs.Bodies.{IsCode};
-ghost use Rattle.plcode.specs.Keys.{IsFirstKey, IsKey, KeysPart};
+ghost use Rattle.plcode.specs.Keys.{admits as admits_key, HeadsPart, IsFirstKey, IsKey, KeysPart};
 
 use crate::code::Code;
 use platoms::names::Functor;
@@ -11,7 +11,7 @@ use plterm::walk::{Shape, TermRef};
 use std::alloc::AllocError;
 
 /// What a first argument is: an integer, an atom or a compound by its number, or anything, as a variable is.
-#[derive(Clone, Copy, Debug, PartialEq, Eq)]
+#[derive(Clone, Copy, Debug, PartialEq, Eq, Hash)]
 pub enum Key {
     Any,
     Int(i64),
@@ -23,6 +23,26 @@ pub enum Key {
 pub fn keys_part()
     ensures { KeysPart }
 {}
+
+/// A goal does not unify with a head whose key its own does not admit, so that a clause that is passed over has no solution there.
+pub fn heads_part()
+    ensures { HeadsPart }
+{}
+
+impl Key {
+    /// Whether a clause of the key `clause` may be for a goal of this one: where one of them is that of anything, or they are one.
+    pub fn admits(self, clause: Key) -> bool
+        ensures { result ≡ admits_key self clause }
+    {
+        match (self, clause) {
+            (Key::Any, _) | (_, Key::Any) => true,
+            (Key::Int(goal), Key::Int(head)) => goal == head,
+            (Key::Atom(goal), Key::Atom(head)) => goal == head,
+            (Key::Fun(goal), Key::Fun(head)) => goal == head,
+            (Key::Int(_) | Key::Atom(_) | Key::Fun(_), _) => false,
+        }
+    }
+}
 
 /// The key of a term.
 pub fn key_of(code: &mut Code, term: &TermRef<'_>) -> Result<Key, AllocError>

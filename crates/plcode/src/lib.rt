@@ -4,7 +4,9 @@
 pub mod body;
 pub mod clause;
 pub mod code;
+pub mod compile;
 pub mod goal;
+pub mod index;
 pub mod key;
 pub mod lay;
 pub mod node;

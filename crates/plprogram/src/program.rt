@@ -1,5 +1,5 @@
 //! Loaded programs.
-ghost use Rattle.std.specs.Prelude.{◌≡◌, [], OnOk, IfOk};
+ghost use Rattle.std.specs.Prelude.{◌≡◌, ◌<◌, [], Some, length, slice_get, OnOk, IfOk};
 ghost use Rattle.plprogram.specs.Program.{clauses_in, clauses_for, with_clause, with_goal};
 
 use crate::settings::{Settings, Unknown};
@@ -53,6 +53,24 @@ impl Procedures {
             Some(clauses) => clauses.as_slice(),
             None => &[],
         }
+    }
+
+    /// How many procedures there are.
+    fn count(&self) -> usize
+        ensures { result ≡ length self.now }
+    {
+        self.entries.len()
+    }
+
+    /// The procedure at a place, with its clauses in text order.
+    fn at(&self, index: usize) -> (&Indicator, &[Clause])
+        requires { index < length self.now }
+        ensures { slice_get self.now index ≡ Some (result.0.now, result.1.now) }
+    {
+        let Some((indicator, clauses)) = self.entries.get_index(index) else {
+            unreachable!()
+        };
+        (indicator, clauses.as_slice())
     }
 
     /// Adds a clause, as the last of its procedure. After an `Err` the procedure may be there without the clause.
@@ -140,6 +158,21 @@ impl Program {
         ensures { result.now ≡ clauses_for self.now indicator.now }
     {
         self.procedures.clauses_of(indicator)
+    }
+
+    /// How many static procedures the program has.
+    pub fn procedure_count(&self) -> usize
+        ensures { result ≡ length self.now.procedures }
+    {
+        self.procedures.count()
+    }
+
+    /// The static procedure at a place, by their first clauses, with its clauses in text order.
+    pub fn procedure_at(&self, index: usize) -> (&Indicator, &[Clause])
+        requires { index < length self.now.procedures }
+        ensures { slice_get self.now.procedures index ≡ Some (result.0.now, result.1.now) }
+    {
+        self.procedures.at(index)
     }
 
     /// What each name with an arity is.

@@ -1,14 +1,36 @@
-use Rattle.std.proofs.Common.{◌∙◌, List, subst, ap}
+use Rattle.std.proofs.Common.{rules, ◌∙◌, List, subst, ap}
 use Rattle.plterm.specs.Tree.{Tree}
 use Rattle.plsearch.specs.Forms.{arguments}
+use Rattle.plsearch.specs.Rows.{is_true}
 use Rattle.plcode.specs.Steps.{text, Args}
-use Rattle.plcode.proofs.Segments.{Args-more}
+use Rattle.plcode.specs.Bodies.{Begins}
+use Rattle.plcode.specs.Keys.{IsFirstKey}
+use Rattle.plcode.proofs.Segments.{Args-more, Extended-trans}
+use Rattle.plcode.proofs.Keys.{IsFirstKey-more}
 use Rattle.plcode.proofs.clause.compile_clause.Goals as goal
 
-pub returns-clause-head : goal.returns-clause-head
-returns-clause-head c =
-    let e = c.in_ok-head.ensures in
-    let at = c.in_ok-head.head in
-    let P : List Tree → Type 0 = Args (text c.compile_body.new.code) at in
-    subst P (ap arguments (c.root.ensures ∙ c.head.ensures.value))
-    (Args-more (text c.lay_arguments.new.code) (text c.compile_body.new.code) e.code.laid c.in_ok-body.ensures.extended at (arguments c.root.result) e.row)
+pub returns-clause-extended : goal.returns-clause-extended
+returns-clause-extended c =
+    let keyed = text c.head_key.new.code in
+    let laid = text c.lay_arguments.new.code in
+    let compiled = text c.compile_body.new.code in
+    Extended-trans (text c.args.code.now) keyed compiled c.in_ok-key.ensures.extended
+    (Extended-trans keyed laid compiled c.in_ok-head.ensures.extended c.in_ok-body.ensures.extended)
+
+pub returns-clause-clause : goal.returns-clause-clause
+returns-clause-clause c =
+    let keyed = text c.head_key.new.code in
+    let laid = text c.lay_arguments.new.code in
+    let compiled = text c.compile_body.new.code in
+    let more = Extended-trans keyed laid compiled c.in_ok-head.ensures.extended c.in_ok-body.ensures.extended in
+    let head = c.root-given.ensures ∙ c.head.ensures.value in
+    let body = c.root-root.ensures ∙ c.body.ensures.value in
+    let RowIs : List Tree → Type 0 = Args compiled c.in_ok-head.head in
+    let KeyIs : List Tree → Type 0 = IsFirstKey compiled.names c.in_ok-key.key in
+    record {
+      head = subst RowIs (ap arguments head) (Args-more laid compiled c.in_ok-head.ensures.code.laid c.in_ok-body.ensures.extended c.in_ok-head.head (arguments c.root-given.result) c.in_ok-head.ensures.row);
+      key = subst KeyIs (ap arguments head) (IsFirstKey-more keyed.names compiled.names c.in_ok-key.ensures.code.laid.table more.names c.in_ok-key.key (arguments c.root-given.result) c.in_ok-key.ensures.key);
+      body = subst (Begins compiled c.in_ok-body.body) body c.in_ok-body.ensures.begins;
+      variables = search rules;
+      fact = c.is_true-is_fact.ensures ∙ ap is_true body;
+    }
