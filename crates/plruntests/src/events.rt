@@ -88,16 +88,3 @@ fn main_from_start_to_end(rt: HostRuntime) -> Result<(), Fail> {
     assert_eq!(rt; standing.size, 3);
     Ok(())
 }
-
-// Main ends the run with 44: it is over, though main has not ended.
-#[test]
-fn a_halted_run(rt: HostRuntime) -> Result<(), Fail> {
-    let mut standing = Standing::blank(rt.alloc())?;
-    standing.start(1, 1);
-    assert!(rt; !standing.is_halted() && !standing.is_over());
-    standing.halt(44);
-    assert!(rt; standing.is_halted() && standing.is_over());
-    assert!(rt; !standing.threads.are_settled());
-    assert_eq!(rt; standing.size, 2);
-    Ok(())
-}

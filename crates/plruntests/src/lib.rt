@@ -12,10 +12,6 @@ mod histories;
 #[cfg(test)]
 mod made;
 #[cfg(test)]
-mod running;
-#[cfg(test)]
-mod solving;
-#[cfg(test)]
 mod stores;
 #[cfg(test)]
 mod unifying;

@@ -1,10 +1,9 @@
 //! The journal and its requests (plworld).
 use crate::made::clause;
-use plevent::{Act, Batch, Reply, Request, Standing, ThreadEnd, Update};
+use plevent::{Act, Batch, Reply, Request, ThreadEnd, Update};
 use plterm::error::TermError;
 use plterm::indicator::Indicator;
 use plterm::name::Name;
-use plworld::rows::serve;
 use plworld::world::World;
 use std::alloc::Global;
 use std::test::Fail;
@@ -106,16 +105,5 @@ fn a_halt_stops_all(rt: HostRuntime) -> Result<(), Fail> {
         }
         _ => return Err("another journal".into()),
     }
-    Ok(())
-}
-
-// The row of a start: main is started, and an entry of it is added.
-#[test]
-fn the_row_of_a_start(rt: HostRuntime) -> Result<(), Fail> {
-    let alloc = rt.alloc();
-    let standing = Standing::blank(alloc)?;
-    let (reply, act) = serve(&standing, alloc, 0, &Request::Start)?;
-    assert!(rt; matches!(reply, Reply::Started { number: 1, .. }));
-    assert!(rt; matches!(act, Some((1, Act::Start))));
     Ok(())
 }
