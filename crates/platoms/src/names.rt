@@ -33,6 +33,31 @@ impl Model for Names {
     ghost invariant = { λ a. IsTable (record { atoms = a.atoms.keys; functors = a.functors.keys }) };
 }
 
+/// The same names in the same order, in time linear in them.
+fn copied_atoms(alloc: Global, atoms: &IndexSet<Name>) -> Result<IndexSet<Name>, AllocError>
+    ensures { IfOk result (λ copy. copy.keys ≡ atoms.now.keys) }
+{
+    let mut copy = IndexSet::new(alloc);
+    for name in atoms.as_slice() {
+        copy.insert(name.copied()?)?;
+    }
+    Ok(copy)
+}
+
+/// The same functors in the same order, in time linear in them.
+fn copied_functors(
+    alloc: Global,
+    functors: &IndexSet<Functor>,
+) -> Result<IndexSet<Functor>, AllocError>
+    ensures { IfOk result (λ copy. copy.keys ≡ functors.now.keys) }
+{
+    let mut copy = IndexSet::new(alloc);
+    for functor in functors.as_slice() {
+        copy.insert(*functor)?;
+    }
+    Ok(copy)
+}
+
 impl Names {
     /// A table with no names.
     pub fn new(alloc: Global) -> Names
@@ -43,6 +68,16 @@ impl Names {
             atoms: IndexSet::new(alloc),
             functors: IndexSet::new(alloc),
         }
+    }
+
+    /// The same table again, in time linear in its names. What one of the two gains later the other does not have.
+    pub fn copied(&self, alloc: Global) -> Result<Names, AllocError>
+        ensures is { IfOk result (λ names. names ≡ self.now) }
+        ensures table { IfOk result (λ names. IsTable names) }
+    {
+        let atoms = copied_atoms(alloc, &self.atoms)?;
+        let functors = copied_functors(alloc, &self.functors)?;
+        Ok(Names { atoms, functors })
     }
 
     /// The number of a name, which is a new one where the table does not have it. A full table takes no call.

@@ -53,6 +53,8 @@ module _ (h new : Store) (b : ℕ) (le : h.boundary ≤ b) where
       values = λ v f.
           let r = u.made.values v f in
           (r.0, value-bounded new h.boundary v ∙ r.1 ∙ ap (bind u.unifier) (value-bounded h b v));
+      fresh = u.made.fresh;
+      apart = u.made.apart;
       keeps = kept_under u.made.keeps;
       length = u.made.length;
       names = u.made.names;

@@ -8,7 +8,7 @@ use Rattle.plsubst.proofs.Unify.{bind-bind, bind-var, put-unifies}
 use Rattle.plsubst.proofs.UnifyFinds.{holds_itself}
 use Rattle.plsubst.proofs.UnifyUnique.{unify-is, unify-none, var-variable, int≢var, atom≢var, compound≢var}
 use Rattle.plcells.specs.declared.cell.Cell.{Cell}
-use Rattle.plcells.specs.Store.{Store, term, value, Binds}
+use Rattle.plcells.specs.Store.{Store, term, value, IsFresh, Binds}
 use Rattle.plcells.proofs.Absence.{bind_put-same}
 use Rattle.plcells.proofs.Kept.{Keeps-refl, Keeps-trans}
 use Rattle.plbind.specs.Unifying.{Unifies, IsInside, IsPlain, HasLeft, HasNear, IsNear, Stands, Substitutes, Progress, Unified, Bindings, Answers, KeepsAll}
@@ -20,6 +20,8 @@ substitutes-var : (h : Store) → Substitutes h h var
 substitutes-var h = record {
   terms = λ c lt. sym (bind-var (term h c));
   values = λ v f. (f, sym (bind-var (value h v)));
+  fresh = λ m f. f;
+  apart = λ m f. refl;
   keeps = Keeps-refl h;
   length = refl;
   names = refl;
@@ -49,6 +51,14 @@ put_younger n t y (var v) w z sy e = go (nat_eq n v) refl e
     go : (q : Bool) → nat_eq n v ≡ q → put_if q v t ≡ var z → z ≤ w
     go true is e = let same : n ≡ v = eqb-true n v is in le_trans (subst (λ k. z ≤ k) same (y z e)) (sy v refl)
     go false is e = sy z e
+
+-- a binding does nothing to a variable that is not on the heap
+put-apart : (h new : Store) (n : ℕ) (t : Tree) → Binds h new n t → (m : ℕ) → IsFresh h m → bind (put n t) (var m) ≡ var m
+unfolding bind
+put-apart h new n t bound m fresh = ap (λ b. put_if b m t) (other n m (λ e. bound.stood (subst (IsFresh h) (sym e) fresh)))
+  where
+    other : (a b : ℕ) → (a ≡ b → ⊥) → nat_eq a b ≡ false
+    other a b ne = grind (arith, ne)
 
 module _ (h new : Store) (x n : ℕ) (v : Cell) (bound : Binds h new n (value h v)) where
   inside_still : (ps : List (ℕ × ℕ)) → IsInside h ps → IsInside new ps
@@ -98,6 +108,8 @@ module _ (old h new : Store) (s t : Tree) (work rest : List (ℕ × ℕ)) (x : �
         let first = p.made.values w f in
         let second = bound.values w first.0 in
         (second.0, second.1 ∙ ap (bind (put l.number (value h v))) first.1 ∙ bind-bind (put l.number (value h v)) p.put_for (value old w));
+    fresh = λ m f. bound.fresh m (p.made.fresh m f);
+    apart = λ m f. ap (bind (put l.number (value h v))) (p.made.apart m f) ∙ put-apart h new l.number (value h v) bound m (p.made.fresh m f);
     keeps = Keeps-trans old h new p.made.keeps bound.keeps;
     length = bound.length ∙ p.made.length;
     names = bound.names ∙ p.made.names;
@@ -161,6 +173,8 @@ near-unified h new s t x v n apart bound = record {
   made = record {
     terms = bound.terms;
     values = bound.values;
+    fresh = bound.fresh;
+    apart = λ m f. sym (bind-at m) ∙ put-apart h new n.number (value h v) bound m f;
     keeps = bound.keeps;
     length = bound.length;
     names = bound.names;
@@ -176,6 +190,9 @@ near-unified h new s t x v n apart bound = record {
     equal : bind (put n.number (value h v)) s ≡ bind (put n.number (value h v)) t
     equal = n.back (put n.number (value h v)) (unfolding_put ∙ sym (bind_put-same n.number (value h v) (value h v) apart))
 
+    bind-at : (m : ℕ) → bind (put n.number (value h v)) (var m) ≡ put n.number (value h v) m
+    bind-at m = unfold bind in refl
+
     put_var : (τ : ℕ → Tree) → τ n.number ≡ bind τ (value h v) → (y : ℕ) → bind τ (put n.number (value h v) y) ≡ τ y
     put_var τ e y = unfold bind in put-unifies τ n.number (value h v) (var y) e
 
@@ -186,10 +203,15 @@ near-unified h new s t x v n apart bound = record {
         le_of w u f = let same : w ≡ u = var-variable f in omega (arith, same)
 
 pub KeepsAll-refl : (h : Store) → KeepsAll h h
-KeepsAll-refl h = record { keeps = Keeps-refl h; names = refl }
+KeepsAll-refl h = record { keeps = Keeps-refl h; values = λ v f. f; fresh = λ m f. f; names = refl }
 
 pub KeepsAll-bound : (old h new : Store) (n : ℕ) (t : Tree) → KeepsAll old h → Binds h new n t → KeepsAll old new
-KeepsAll-bound old h new n t k bound = record { keeps = Keeps-trans old h new k.keeps bound.keeps; names = bound.names ∙ k.names }
+KeepsAll-bound old h new n t k bound = record {
+  keeps = Keeps-trans old h new k.keeps bound.keeps;
+  values = λ v f. (bound.values v (k.values v f)).0;
+  fresh = λ m f. bound.fresh m (k.fresh m f);
+  names = bound.names ∙ k.names;
+}
 
 pub if-ok : {E : Type 0} (P Q : Bool → Type 0) (r : Result Bool E) → ((b : Bool) → P b → Q b) → IfOk r P → IfOk r Q
 if-ok P Q (Ok b) f p = f b p
@@ -208,7 +230,7 @@ never_by h new s t x v n false r e = near-circular h s t x v n r.0
 
 kept_by : (h new : Store) (v : Cell) (n : ℕ) (b : Bool) → Bindings h new v n b → KeepsAll h new
 unfolding Bindings
-kept_by h new v n true r = record { keeps = r.1.keeps; names = r.1.names }
+kept_by h new v n true r = KeepsAll-bound h h new n (value h v) (KeepsAll-refl h) r.1
 kept_by h new v n false r = subst (KeepsAll h) (sym r.1) (KeepsAll-refl h)
 
 module _ {E : Type 0} (h new : Store) (s t : Tree) (x : ℕ) (v : Cell) (near : HasNear h s t x v) where

@@ -7,7 +7,7 @@ use Rattle.plsubst.specs.Unify.{unify, BindsYounger}
 use Rattle.plsubst.proofs.UnifyFinds.{NotSelf}
 use Rattle.plcells.specs.declared.cell.Cell.{Cell}
 use Rattle.plcells.specs.declared.cell.Cell.TheVariants.{Free, Lone, Ref, Int, Wide, Atom, Str, Fun, Ground}
-use Rattle.plcells.specs.Store.{Store, at, term, terms, value, IsHead, IsValue, IsEnd, Keeps, Binds as BindsTo}
+use Rattle.plcells.specs.Store.{Store, at, term, terms, value, IsHead, IsValue, IsEnd, IsFresh, Keeps, Binds as BindsTo}
 use Rattle.plcells.specs.Walking.{weight, weights}
 use Rattle.plbind.specs.declared.unify.Scratch.{Scratch}
 use Rattle.plbind.specs.declared.unify.Kind.{Kind}
@@ -126,15 +126,19 @@ pub record Stands (h : Store) (work : List (ℕ × ℕ)) (s t : Tree) : Type 0 w
   pub to : (τ : ℕ → Tree) → bind τ s ≡ bind τ t → Unifies τ h work
   pub back : (τ : ℕ → Tree) → Unifies τ h work → bind τ s ≡ bind τ t
 
--- every mark in use is kept, and the names are those that there were
+-- every mark in use is kept, values stay values, no variable is new, and the names are those that there were
 pub record KeepsAll (old new : Store) : Type 0 where
   pub keeps : Keeps old new
+  pub values : (v : Cell) → IsValue old v → IsValue new v
+  pub fresh : (m : ℕ) → IsFresh old m → IsFresh new m
   pub names : new.names ≡ old.names
 
--- what stays as it was, and how values change
+-- what stays as it was, and how values change: nothing is put for a variable that is not on the heap
 pub record Substitutes (old new : Store) (σ : ℕ → Tree) : Type 0 where
   pub terms : (c : ℕ) → c < length old.cells → term new c ≡ bind σ (term old c)
   pub values : (v : Cell) → IsValue old v → IsValue new v × (value new v ≡ bind σ (value old v))
+  pub fresh : (m : ℕ) → IsFresh old m → IsFresh new m
+  pub apart : (m : ℕ) → IsFresh old m → σ m ≡ var m
   pub keeps : Keeps old new
   pub length : length new.cells ≡ length old.cells
   pub names : new.names ≡ old.names

@@ -183,7 +183,7 @@ module _ (h : Store) (x p : ℕ) (v : Cell) (is : IsHeap h) (may : IsBinding h x
         raised_lt (occurs (number_at h p) (term h d)) (occurs (number_at h p) (term h i)) (suc (target_rank is.rank v)) (is.rank d) (is.rank i) (occurs-up h (number_at h p) i d is il q) (is.ranked i d il q)
   ]
 
-  free_old : (i q : ℕ) → at (linked h x p v).cells i ≡ Free q → at h.cells i ≡ Free q
+  pub free_old : (i q : ℕ) → at (linked h x p v).cells i ≡ Free q → at h.cells i ≡ Free q
   free_old i q e = elim (cases_eq i x) [
     | inl same ↦ absurd (value-free h v q may.fits (sym at-bound ∙ ap (at (linked h x p v).cells) (sym same) ∙ e))
     | inr ne ↦ sym (at-other i ne) ∙ e

@@ -172,6 +172,7 @@ module _ (h : Store) (f : ℕ) (m : Cell) (cs : List Cell) (ns : List ℕ) (ts :
         let kl : k < length cs = omega (arith, lt, len) in
         ((omega (arith, new_len, kl), λ g. part_plain k kl (subst IsHead (at_argument k (suc (length h.cells) + k) (omega arith)) g)), argument_is k kl);
     grows = Grows-grown h (m ∷ cs) ns [] is;
+    length = omega (arith, new_len, len);
     fresh = λ n none other i p lt e same. elim (cases_lt i (length h.cells)) [
       | inl il ↦
           let g = sym (at-old h (m ∷ cs) ns [] is i il) ∙ e in

@@ -6,8 +6,8 @@ use Rattle.plcells.specs.declared.cell.Cell.{Cell}
 use Rattle.plcells.specs.declared.cell.Cell.TheVariants.{Free, Lone, Ref, Int, Wide, Atom, Str, Fun, Ground}
 use Rattle.plcells.specs.declared.cell.Mark.{Mark}
 use Rattle.plcells.specs.declared.cell.Trailed.{Trailed}
-use Rattle.plcells.specs.Store.{Store, at, number_at, trailed_if, linked, IsBinding, reset, cut, IsWithin, IsMark, renamed, Keeps, one, frees, Binds, IsHeap, grown, bounded_by, IsValue, value, AllBelow, HasArguments, Fits}
-use Rattle.plcells.proofs.Binding.{term-linked, value-linked, plain_still}
+use Rattle.plcells.specs.Store.{Store, at, number_at, trailed_if, linked, IsBinding, reset, cut, IsWithin, IsMark, renamed, Keeps, one, frees, Binds, IsHeap, grown, bounded_by, noted_by, IsValue, value, AllBelow, HasArguments, Fits}
+use Rattle.plcells.proofs.Binding.{term-linked, value-linked, plain_still, free_old}
 
 pub take_set : (n : ℕ) (xs : List Cell) (i : ℕ) (v : Cell) → take n (set xs i v) ≡ set (take n xs) i v
 take_set zero xs i v = refl
@@ -127,6 +127,8 @@ Binds-linked h x p v is may = record {
   values = λ m f. value-linked h x p v is may m f;
   plain = λ c apart. plain_still h x p v is may c apart;
   fewer = frees-set h.cells x p v may.within may.free (one-value h v may.fits);
+  fresh = λ m f i q lt e same. f i q (omega (arith, lt, length-set h.cells x v)) (free_old h x p v is may i q e) same;
+  stood = λ f. f x p may.within may.free refl;
 }
 
 -- the heap at its own mark is itself, with its cells below the boundary
@@ -165,32 +167,33 @@ undo_step cells trail rest t keep e le =
 pub undo_trail : (trail rest : List Trailed) (t : Trailed) (keep : ℕ) → trail ≡ rest ++ t ∷ [] → keep ≤ length rest → take keep rest ≡ take keep trail
 undo_trail trail rest t keep e le = sym (take-append-le keep rest (t ∷ []) le) ∙ ap (take keep) (sym e)
 
--- with another boundary
-arguments-bounded : (h : Store) (b i f : ℕ) → HasArguments h i f → HasArguments (bounded_by h b) i f
-arguments-bounded h b i f a = record { functor = a.functor; within = a.within; plain = a.plain }
+-- with other bindings to take off, and another boundary
+module _ (h : Store) (ts : List Trailed) (b : ℕ) where
+  arguments-noted : (i f : ℕ) → HasArguments h i f → HasArguments (noted_by h ts b) i f
+  arguments-noted i f a = record { functor = a.functor; within = a.within; plain = a.plain }
 
-fits-bounded : (h : Store) (b i : ℕ) (m : Cell) → Fits h i m → Fits (bounded_by h b) i m
-fits-bounded h b i (Free p) f = f
-fits-bounded h b i (Lone p) f = f
-fits-bounded h b i (Ref j) f = f
-fits-bounded h b i (Int n) f = f
-fits-bounded h b i (Wide p) f = f
-fits-bounded h b i (Atom a) f = f
-fits-bounded h b i (Str p) f = f
-fits-bounded h b i (Fun g) f = arguments-bounded h b i g f
-fits-bounded h b i (Ground g) f = record { arguments = arguments-bounded h b i g f.arguments; solid = f.solid }
+  fits-noted : (i : ℕ) (m : Cell) → Fits h i m → Fits (noted_by h ts b) i m
+  fits-noted i (Free p) f = f
+  fits-noted i (Lone p) f = f
+  fits-noted i (Ref j) f = f
+  fits-noted i (Int n) f = f
+  fits-noted i (Wide p) f = f
+  fits-noted i (Atom a) f = f
+  fits-noted i (Str p) f = f
+  fits-noted i (Fun g) f = arguments-noted i g f
+  fits-noted i (Ground g) f = record { arguments = arguments-noted i g f.arguments; solid = f.solid }
 
-pub IsHeap-bounded : (h : Store) (b : ℕ) → IsHeap h → b ≤ length h.cells → IsHeap (bounded_by h b)
-IsHeap-bounded h b is le = record {
-  fits = λ i lt. fits-bounded h b i (at h.cells i) (is.fits i lt);
-  rank = is.rank;
-  ranked = is.ranked;
-  once = is.once;
-  trailed = is.trailed;
-  bounded = le;
-  few = is.few;
-  names = is.names;
-}
+  pub IsHeap-noted : IsHeap h → AllBelow (length h.cells) ts → b ≤ length h.cells → IsHeap (noted_by h ts b)
+  IsHeap-noted is below le = record {
+    fits = λ i lt. fits-noted i (at h.cells i) (is.fits i lt);
+    rank = is.rank;
+    ranked = is.ranked;
+    once = is.once;
+    trailed = below;
+    bounded = le;
+    few = is.few;
+    names = is.names;
+  }
 
 pub mark-now : (m : Mark) (h : Store) → m.cells ≡ length h.cells → m.trail ≡ length h.trail → m.numbers ≡ length h.numbers → m.wide ≡ length h.wide → h.boundary ≡ length h.cells → cut m h ≡ h
 mark-now m h c t n w b = cut-now m h c t n w ∙ ap (bounded_by h) (sym b)
@@ -198,5 +201,5 @@ mark-now m h c t n w b = cut-now m h c t n w ∙ ap (bounded_by h) (sym b)
 pub mark-is : (m : Mark) (h : Store) (old : ℕ) → IsHeap (bounded_by h old) → m.cells ≡ length h.cells → m.trail ≡ length h.trail → m.numbers ≡ length h.numbers → m.wide ≡ length h.wide → h.boundary ≡ length h.cells → IsMark m h
 mark-is m h old is c t n w b = record {
   within = record { old = omega (arith, c, b); cells = omega (arith, c); trail = omega (arith, t); numbers = omega (arith, n); wide = omega (arith, w) };
-  heap = subst IsHeap (sym (mark-now m h c t n w b)) (IsHeap-bounded (bounded_by h old) h.boundary is (omega (arith, b)));
+  heap = subst IsHeap (sym (mark-now m h c t n w b)) (IsHeap-noted (bounded_by h old) h.trail h.boundary is is.trailed (omega (arith, b)));
 }

@@ -11,3 +11,9 @@ pub mod Pushing
 pub mod Renaming
 pub mod Taking
 pub mod Blocks
+pub mod Committing
+pub mod Given
+pub mod Nodes
+pub mod Putting
+pub mod Marking
+pub mod Cuts

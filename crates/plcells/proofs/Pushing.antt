@@ -133,6 +133,7 @@ module _ (h : Store) (n : ℕ) (is : IsHeap h) (fresh : IsFresh h n) (few : leng
         ∙ ap (shown (grown h (Free (length h.numbers) ∷ []) (n ∷ []) []) (length h.cells)) at_made
         ∙ ap var number_made;
     grows = Grows-grown h (Free (length h.numbers) ∷ []) (n ∷ []) [] is;
+    length = omega (arith, length-append h.cells (Free (length h.numbers) ∷ []));
     fresh = λ m none other i p lt e same. elim (cases_lt i (length h.cells)) [
       | inl il ↦
           let f = sym (at-old h (Free (length h.numbers) ∷ []) (n ∷ []) [] is i il) ∙ e in

@@ -230,6 +230,12 @@ pub record Keeps (old new : Store) : Type 0 where
   pub kept : (m : Mark) → IsWithin m old → cut m new ≡ renamed (cut m old) new.names
   pub names : Extends old.names new.names
 
+-- a mark of a heap whose marks this one keeps
+pub record IsKept (m : Mark) (new : Store) : Type 0 where
+  pub old : Store
+  pub mark : IsMark m old
+  pub keeps : Keeps old new
+
 -- how many variables are unbound
 abbrev pub one : Cell → ℕ
 one (Free p) = 1
@@ -246,6 +252,10 @@ abbrev pub frees : List Cell → ℕ
 frees [] = 0
 frees (n ∷ ns) = one n + frees ns
 
+-- no variable of the heap has the number
+abbrev pub IsFresh : Store → ℕ → Type 0
+IsFresh h n = (i p : ℕ) → i < length h.cells → at h.cells i ≡ Free p → number_at h p ≡ n → ⊥
+
 -- a binding: what it makes of each cell's term, and that marks are kept
 pub record Binds (old new : Store) (n : ℕ) (t : Tree) : Type 0 where
   pub terms : (c : ℕ) → c < length old.cells → term new c ≡ bind (put n t) (term old c)
@@ -258,6 +268,8 @@ pub record Binds (old new : Store) (n : ℕ) (t : Tree) : Type 0 where
   pub values : (v : Cell) → IsValue old v → IsValue new v × (value new v ≡ bind (put n t) (value old v))
   pub plain : (c : ℕ) → (IsHead (at old.cells c) → ⊥) → IsHead (at new.cells c) → ⊥
   pub fewer : frees new.cells + 1 ≡ frees old.cells
+  pub fresh : (m : ℕ) → IsFresh old m → IsFresh new m
+  pub stood : IsFresh old n → ⊥
 
 -- with more cells, numbers and wide integers behind those of the heap
 abbrev pub grown : Store → List Cell → List ℕ → List ℤ → Store
@@ -270,13 +282,13 @@ grown h cs ns ws = record {
   names = h.names;
 }
 
+-- with other bindings to take off, and another boundary
+abbrev pub noted_by : Store → List Trailed → ℕ → Store
+noted_by h ts b = record { cells = h.cells; numbers = h.numbers; wide = h.wide; trail = ts; boundary = b; names = h.names }
+
 -- with another boundary
 abbrev pub bounded_by : Store → ℕ → Store
 bounded_by h b = record { cells = h.cells; numbers = h.numbers; wide = h.wide; trail = h.trail; boundary = b; names = h.names }
-
--- no variable of the heap has the number
-abbrev pub IsFresh : Store → ℕ → Type 0
-IsFresh h n = (i p : ℕ) → i < length h.cells → at h.cells i ≡ Free p → number_at h p ≡ n → ⊥
 
 -- all that was there stands for what it did, and every mark is kept
 pub record Grows (old new : Store) : Type 0 where
@@ -333,6 +345,7 @@ pub record AddsVariable (old new : Store) (c n : ℕ) : Type 0 where
   pub grows : Grows old new
   pub fresh : (m : ℕ) → IsFresh old m → (m ≡ n → ⊥) → IsFresh new m
   pub frees : frees new.cells ≡ frees old.cells + 1
+  pub length : length new.cells ≡ suc (length old.cells)
 
 -- a new value for a term, with all that was there as it was
 pub record AddsValue (old new : Store) (v : Cell) (t : Tree) : Type 0 where
@@ -384,3 +397,4 @@ pub record AddsBlock (old new : Store) (p : ℕ) (name : List ℕ) (ts : List Tr
   pub grows : Grows old new
   pub fresh : (m : ℕ) → IsFresh old m → ((k : ℕ) → k < length ns → get_or ns k 0 ≡ m → ⊥) → IsFresh new m
   pub frees : frees new.cells ≡ frees old.cells + length ns
+  pub length : length new.cells ≡ suc (length old.cells + length ts)

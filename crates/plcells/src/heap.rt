@@ -1,15 +1,17 @@
 //! The heap.
 
-ghost use Rattle.std.specs.Prelude.{◌≡◌, ℕ, Some, None, true, false, ◌+◌, ◌<◌, ◌≤◌, ◌^◌, [], ◌∷◌, ◌++◌, length, IfOk, OnOk, OnErr, take, drop, map, get_or};
+ghost use Rattle.std.specs.Prelude.{◌≡◌, ◌↔◌, IsTrue, ℕ, Some, None, true, false, suc, ◌+◌, ◌<◌, ◌≤◌, ◌^◌, [], ◌∷◌, ◌++◌, length, IfOk, OnOk, OnErr, take, drop, map, get_or};
 ghost use Rattle.plterm.specs.Tree.{var, int, compound, trees};
 ghost use Rattle.plterm.specs.Reading.{IsName};
 ghost use Rattle.platoms.specs.Names.{IsTable, IsFunctor, HasAtom, HasFunctor, functor_name};
 ghost use Rattle.plcells.specs.declared.cell.Cell.TheVariants.{Free as FreeCell, Lone as LoneCell, Ref as RefCell, Fun as FunCell, Ground as GroundCell};
-ghost use Rattle.plcells.specs.Store.{Store, at, term, shown, value, number_at, Fits, IsHeap, IsHead, IsValue, IsEnd, IsBinding, Binds, IsWithin, IsMark, AllBelow, cut, reset, grown, bounded_by, IsFresh, Grows, Preserves, renamed, trailed_if, HasTerms, AddsVariable, AddsValue, AreValues, IsFunctorOf, IsBlock, IsInteger, IsGround, AreDistinct, AddsBlock};
+ghost use Rattle.plcells.specs.Store.{Store, at, term, shown, value, number_at, Fits, IsHeap, IsHead, IsValue, IsEnd, IsBinding, Binds, IsWithin, IsMark, IsKept, AllBelow, cut, reset, grown, bounded_by, IsFresh, Grows, Preserves, renamed, trailed_if, HasTerms, AddsVariable, AddsValue, AreValues, IsFunctorOf, IsBlock, IsInteger, IsGround, IsSolid, AreDistinct, AddsBlock};
 ghost use Rattle.plcells.specs.Blocks.{cells_of, numbers_of, stands_for, AreParts, AreSolid};
 ghost use Rattle.plsubst.specs.Subst.{occurs};
 ghost use Rattle.plcells.specs.Skipping.{plain, AreRising, IsPlaced, IsTarget, AllPlaced, IsClosing};
 ghost use Rattle.plcells.specs.Walking.{IsFloor};
+ghost use Rattle.plcells.specs.Committing.{older, Commits};
+ghost use Rattle.plcells.specs.Putting.{IsFunctorNamed, AreGiven};
 
 use crate::cell::{Argument, Cell, Mark, Trailed};
 use platoms::names::{Functor, Names};
@@ -256,6 +258,31 @@ fn take_off(cells: &mut Vec<Cell>, trail: &mut Vec<Trailed>, keep: usize)
     }
 }
 
+/// Moves the bindings of cells below a number to the front, in their order: how many there are.
+fn move_older(trail: &mut [Trailed], cells: usize) -> usize
+    ensures moved { take result trail.new ≡ older cells trail.old }
+    ensures within { result ≤ length trail.old }
+{
+    let mut kept: usize = 0;
+    for i in 0..trail.len() {
+        let bound = trail[i];
+        if (bound.cell as usize) < cells {
+            trail[kept] = bound;
+            kept += 1;
+        }
+    }
+    kept
+}
+
+/// Leaves of the bindings from a place on only those of cells below a number.
+fn leave_older(trail: &mut Vec<Trailed>, from: usize, cells: usize)
+    requires { from ≤ length trail.old.items }
+    ensures { trail.new.items ≡ take from trail.old.items ++ older cells (drop from trail.old.items) }
+{
+    let kept = move_older(&mut trail[from..], cells);
+    trail.truncate(from + kept);
+}
+
 impl Heap {
     /// An empty heap, with these names.
     pub fn new(alloc: Global, names: Names) -> Heap
@@ -284,6 +311,7 @@ impl Heap {
     pub fn boundary(&self) -> usize
         ensures is { result ≡ self.now.boundary }
         ensures within { result ≤ length self.now.cells }
+        ensures heap { IsHeap self.now }
     {
         self.boundary
     }
@@ -315,6 +343,20 @@ impl Heap {
         ensures err { OnErr result (self.new ≡ self.old) }
     {
         self.names.functor(functor)
+    }
+
+    /// The number of the functor of a name and so many arguments, which is a new one where the names do not have it. After an `Err` there may be more names, and nothing else.
+    pub fn functor_named(&mut self, name: &Name, arity: u16) -> Result<u32, AllocError>
+        requires name { IsName name.now }
+        requires some { 0 < arity }
+        requires most { arity ≤ 1024 }
+        ensures is { IfOk result (λ f. IsFunctorNamed self.new.names f name.now arity) }
+        ensures same { self.new ≡ renamed self.old self.new.names }
+        ensures preserves { Preserves self.old self.new }
+    {
+        let name = name.copied()?;
+        let name = self.atom(name)?;
+        self.functor(Functor { name, arity })
     }
 
     /// A cell as a value: a variable's is the reference to it.
@@ -401,17 +443,37 @@ impl Heap {
         self.boundary = cells;
     }
 
-    /// The heap as it was at the mark.
-    pub fn undo(&mut self, mark: Mark)
-        requires { IsMark mark self.old }
-        ensures { self.new ≡ cut mark self.old }
+    /// A choice is given up: only so many cells are old from now on, and of the bindings noted from a place on only those of such cells stay noted. Marks up to there stay in use.
+    pub fn commit(&mut self, trail: usize, cells: usize)
+        requires old { cells ≤ self.old.boundary }
+        requires noted { trail ≤ length self.old.trail }
+        ensures { Commits self.old self.new trail cells }
+    {
+        leave_older(&mut self.trail, trail, cells);
+        self.boundary = cells;
+    }
+
+    /// The heap as it was at a mark that is kept, where so many cells are old.
+    pub fn cut_back(&mut self, mark: Mark, boundary: usize)
+        requires kept { IsKept mark self.old }
+        requires old { boundary ≤ mark.cells }
+        ensures cut { self.new ≡ bounded_by (cut mark self.old) boundary }
+        ensures heap { IsHeap self.new }
     {
         take_off(&mut self.cells, &mut self.trail, mark.trail);
         self.cells.truncate(mark.cells);
         self.numbers.truncate(mark.numbers);
         self.wide.truncate(mark.wide);
         drop_above(&mut self.closed, mark.cells);
-        self.boundary = mark.cells;
+        self.boundary = boundary;
+    }
+
+    /// The heap as it was at the mark.
+    pub fn undo(&mut self, mark: Mark)
+        requires { IsMark mark self.old }
+        ensures { self.new ≡ cut mark self.old }
+    {
+        self.cut_back(mark, mark.cells);
     }
 
     /// Whether no cell refers to an unbound variable, as is known of some.
@@ -448,6 +510,33 @@ impl Heap {
             }
         }
         floor
+    }
+
+    /// Whether no variable can stand in a value's cell.
+    fn is_solid(&self, v: Cell) -> bool
+        requires { IsValue self.now v }
+        ensures { IsTrue result ↔ IsSolid self.now.cells v }
+    {
+        match v {
+            Cell::Int(_) | Cell::Wide(_) | Cell::Atom(_) => true,
+            Cell::Str(p) => matches!(self.cells[p as usize], Cell::Ground(_)),
+            _ => false,
+        }
+    }
+
+    /// Whether no variable can stand in the cells of these values.
+    pub(crate) fn are_solid(&self, arguments: &[Argument]) -> bool
+        requires { AreGiven self.now arguments.now }
+        ensures { IsTrue result ↔ AreSolid self.now arguments.now }
+    {
+        for a in arguments {
+            if let Argument::Value(v) = a {
+                if !self.is_solid(*v) {
+                    return false;
+                }
+            }
+        }
+        true
     }
 
     /// How many arguments a block has in which variables can stand.
@@ -490,6 +579,7 @@ impl Heap {
         requires functor { IsFunctorOf self.old.names f (length values.now) }
         requires values { AreValues self.old values.now }
         ensures ok { IfOk result (λ v. AddsValue self.old self.new v (compound (functor_name self.old.names f) (trees (map (value self.old) values.now)))) }
+        ensures length { OnOk result (length self.new.cells ≡ suc (length self.old.cells + length values.now)) }
         ensures err { OnErr result (self.new ≡ self.old) }
     {
         let place = self.cells.len();
@@ -526,6 +616,7 @@ impl Heap {
     /// An integer as a value.
     pub fn integer(&mut self, number: i64) -> Result<Cell, AllocError>
         ensures ok { IfOk result (λ v. AddsValue self.old self.new v (int number)) }
+        ensures cells { self.new.cells ≡ self.old.cells }
         ensures err { OnErr result (self.new ≡ self.old) }
     {
         if number >= i64::from(i32::MIN) && number <= i64::from(i32::MAX) {

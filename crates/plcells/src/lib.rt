@@ -6,4 +6,5 @@
 pub mod cell;
 pub mod heap;
 pub mod occurs;
+pub mod put;
 pub mod take;

@@ -1,7 +1,6 @@
 -- The pieces of a body, from the last to the first.
-use Rattle.std.proofs.Common.{◌≡◌, ℕ, ◌≤◌, List, [], ◌∷◌, ◌++◌, length, take, refl, subst, sym, arith, length-drop}
+use Rattle.std.proofs.Common.{◌≡◌, ℕ, ◌≤◌, List, [], ◌∷◌, ◌++◌, ◌+◌, length, take, reverse, refl, subst, sym, arith, length-drop, length-take, codes}
 use Rattle.plterm.specs.Tree.{Tree}
-use Rattle.plsearch.specs.Forms.{form, arguments}
 use Rattle.plcode.specs.declared.op.Op.TheVariants as ops
 use Rattle.plcode.specs.declared.op.Step.{Step}
 use Rattle.plcode.specs.declared.body.Part.{Part}
@@ -9,8 +8,9 @@ use Rattle.plcode.specs.declared.body.Piece.{Piece}
 use Rattle.plcode.specs.declared.body.Piece.TheVariants.{And, Or, IfThen, Single}
 use Rattle.plcode.specs.Laying.{IsLaid}
 use Rattle.plcode.specs.Steps.{Text, Extended}
-use Rattle.plcode.specs.Bodies.{step, HasTwo, Made, Means, Splits, Leads, Ready, Folding, Begins, Stretch}
-use Rattle.plcode.proofs.Segments.{Does-more, begins_there}
+use Rattle.plcode.specs.Bodies.{step, AreForTwo, HasTwo, Holds, IsCode, IsNext, Made, Means, Splits, Leads, Ready, Folding, Begins}
+use Rattle.plcode.proofs.Stays.{IsPlain-more}
+use Rattle.plcode.proofs.Pushing.{with_steps, sequence_code, sequence_begins, sequence_extended}
 
 -- ---- more code
 
@@ -18,7 +18,7 @@ Means-more : (c d : Text) (p : Piece) (g : Tree) (rest new : List Tree) → IsLa
 Means-more c d And g rest new laid more h = h
 Means-more c d Or g rest new laid more h = h
 Means-more c d IfThen g rest new laid more h = h
-Means-more c d (Single op) g rest new laid more h = (h.0, Does-more c d laid more op (form g) (arguments g) h.1, h.2)
+Means-more c d (Single op at) g rest new laid more h = record { no_arrow = h.no_arrow; plain = IsPlain-more c d laid more op at g h.plain; next = h.next }
 
 pub Splits-more : (c d : Text) (p : Piece) (gs hs : List Tree) → IsLaid c.names c.nodes → Extended c d → Splits c p gs hs → Splits d p gs hs
 Splits-more c d p gs hs laid more h =
@@ -58,10 +58,21 @@ two_of : (c : Text) (ps : List Part) (xs : List Step) (a b : Tree) (rest hs : Li
 two_of c ps xs a b rest hs e h = let P : List Tree → Type 0 = Made c ps xs in two c ps xs a b rest (subst P e h)
 
 ready : (c : Text) (p : Piece) (g : Tree) (rest hs : List Tree) (ps : List Part) (xs : List Step) → Means c p g rest hs → Made c ps xs hs → Ready p ps (length xs)
-ready c And g rest hs ps xs m h = let w = m.1 in two_of c ps xs w.first w.second rest hs w.next h
-ready c Or g rest hs ps xs m h = let w = m.1 in two_of c ps xs w.first w.second rest hs w.next h
-ready c IfThen g rest hs ps xs m h = let w = m.0 in two_of c ps xs w.first w.second rest hs w.next h
-ready c (Single op) g rest hs ps xs m h = tt
+ready c And g rest hs ps xs m h = let w = m in two_of c ps xs w.first w.second rest hs w.next h
+ready c Or g rest hs ps xs m h = let w = m in two_of c ps xs w.first w.second rest hs w.next h
+ready c IfThen g rest hs ps xs m h = let w = m in two_of c ps xs w.first w.second rest hs w.next h
+ready c (Single op at) g rest hs ps xs m h = tt
+
+-- a control construct finds the parts of its two goals
+two_held : (c : Text) (name : List ℕ) (g : Tree) (rest hs : List Tree) (ps : List Part) (xs : List Step) → Holds name g rest hs → Made c ps xs hs → AreForTwo c ps xs
+two_held c name g rest hs ps xs holds h =
+    let P : List Tree → Type 0 = Made c ps xs in record { first = holds.first; second = holds.second; rest = rest; made = subst P holds.next h }
+
+pub two_either : (c : Text) (ps : List Part) (xs : List Step) → IsNext c Or ps xs → AreForTwo c ps xs
+two_either c ps xs n = let s = n.splits in two_held c (codes ";") s.goal s.rest n.after ps xs s.means n.made
+
+pub two_arrow : (c : Text) (ps : List Part) (xs : List Step) → IsNext c IfThen ps xs → AreForTwo c ps xs
+two_arrow c ps xs n = let s = n.splits in two_held c (codes "->") s.goal s.rest n.after ps xs s.means n.made
 
 -- ---- a loop over the pieces
 
@@ -74,6 +85,9 @@ module _ (c : Text) (g : Tree) (old left : List Piece) (p : Piece) (ps : List Pa
 
   pub fold_ready : Ready p ps (length xs)
   fold_ready = let s = last in ready c p s.splits.goal s.splits.rest h.goals ps xs s.splits.means h.parts
+
+  pub fold_next_is : IsNext c p ps xs
+  fold_next_is = let s = last in record { goals = s.between; after = h.goals; splits = s.splits; made = h.parts }
 
   pub fold_next : (d : Text) (ps' : List Part) (xs' : List Step) → IsLaid c.names c.nodes → Extended c d
       → ((gs hs : List Tree) → Splits c p gs hs → Made c ps xs hs → Made d ps' xs' gs) → Folding d g left ps' xs'
@@ -93,9 +107,20 @@ fold_some c g left ps xs none empty h = let P : List Part → Type 0 = λ v. Mad
 pub fold_room : (c : Text) (g : Tree) (left : List Piece) (p : Part) (qs ps : List Part) (xs : List Step) → left ≡ [] → qs ≡ p ∷ ps → Folding c g left qs xs → p.len ≤ length xs
 fold_room c g left p qs ps xs none is h = let P : List Part → Type 0 = λ v. Made c v xs (g ∷ []) in let m = subst P is (fold_whole c g left qs xs none h) in m.1
 
-pub fold_end : (c d : Text) (g : Tree) (left : List Piece) (p : Part) (qs ps : List Part) (xs : List Step) (place : ℕ) → left ≡ [] → qs ≡ p ∷ ps → Folding c g left qs xs
-    → Extended c d → Stretch d place (take p.len xs ++ step ops.Proceed) → Begins d place g
-fold_end c d g left p qs ps xs place none is h more at =
-    let P : List Part → Type 0 = λ v. Made c v xs (g ∷ []) in
-    let m = subst P is (fold_whole c g left qs xs none h) in
-    begins_there c d g place (take p.len xs) m.3 more at
+module _ (c : Text) (code : IsCode c) (g : Tree) (left : List Piece) (p : Part) (qs ps : List Part) (xs ss : List Step) (place : ℕ) (none : left ≡ []) (is : qs ≡ p ∷ ps) (h : Folding c g left qs xs)
+    (put : ss ≡ c.steps ++ (step ops.Proceed 0 ++ reverse (take p.len xs))) (at : place ≡ length c.steps + p.len)
+  where
+    made : Made c (p ∷ ps) xs (g ∷ [])
+    made = let P : List Part → Type 0 = λ v. Made c v xs (g ∷ []) in subst P is (fold_whole c g left qs xs none h)
+
+    end_at : place ≡ length c.steps + length (take p.len xs)
+    end_at = let m = made in omega (arith, at, m.1, length-take p.len xs)
+
+    pub fold_code : IsCode (with_steps c ss)
+    fold_code = let m = made in sequence_code c code g (take p.len xs) ss place m.3 put end_at
+
+    pub fold_extended : Extended c (with_steps c ss)
+    fold_extended = let m = made in sequence_extended c code g (take p.len xs) ss place m.3 put end_at
+
+    pub fold_begins : Begins (with_steps c ss) place g
+    fold_begins = let m = made in sequence_begins c code g (take p.len xs) ss place m.3 put end_at

@@ -1,19 +1,21 @@
 -- The steps of laying terms down.
-use Rattle.std.proofs.Common.{◌≡◌, ℕ, ◌≤◌, List, [], ◌∷◌, ◌++◌, length, map, take, drop, refl, subst, ap, ◌∙◌, sym, arith, append_assoc, append-nil, length-append, length-take}
+use Rattle.std.proofs.Common.{◌≡◌, ℕ, suc, ◌^◌, ◌<◌, ◌≤◌, List, [], ◌∷◌, ◌++◌, length, map, take, drop, refl, subst, ap, ◌∙◌, sym, arith, append_assoc, append-nil, length-append, length-take}
 use Rattle.std.proofs.lemmas.List.{length-map, take_all}
 use Rattle.std.proofs.Math.Seq.{drop-append_seam}
 use Rattle.std.specs.List.{flat_map}
-use Rattle.plterm.specs.Tree.{Tree}
+use Rattle.plterm.specs.Tree.{Tree, compound, trees}
 use Rattle.plterm.specs.Reading.{arity, read, reading, spelling, Fits, AllFit, IsForest, reading-spelling}
 use Rattle.plterm.proofs.Forests.{IsForest-spelling}
 use Rattle.plterm.specs.declared.node.Node.{Node as TermNode}
-use Rattle.platoms.specs.Names.{Table, Extends}
+use Rattle.platoms.specs.Names.{Table, Extends, functor_name}
 use Rattle.platoms.proofs.Extending.{Extends-refl, Extends-trans}
 use Rattle.plcode.specs.declared.node.Node.{Node}
-use Rattle.plcode.specs.Nodes.{tree, value, values, row}
-use Rattle.plcode.specs.Laying.{Grows, IsLaid, IsRow, Waits}
-use Rattle.plcode.proofs.Values.{values-append, length-values, EachRests-take, AllNamed-take, IsSound-row}
-use Rattle.plcode.proofs.Waiting.{row_terms}
+use Rattle.plcode.specs.declared.node.Node.TheVariants.{Var, Int, Atom, Fun, Sub}
+use Rattle.plcode.specs.Nodes.{Value, tree, value, values, row, IsNamed}
+use Rattle.plcode.specs.Laying.{lowest, Grows, IsLaid, IsLeaf, IsRow, Waits}
+use Rattle.plcode.proofs.Values.{values-append, length-values, EachRests-take, AllNamed-take, IsRow-more, IsSound-row}
+use Rattle.plcode.proofs.Packing.{ArePacked-row, IsChain-take, chain_row, row_whole}
+use Rattle.plcode.proofs.Waiting.{row_terms, block_arguments, Waits-block, Waits-leaf}
 
 pub Grows-refl : (ns : List Node) → Grows ns ns
 Grows-refl ns = record { added = []; nodes = sym (append-nil ns) }
@@ -32,13 +34,16 @@ pub record Placing (s t : Table) (start nodes w : List Node) (whole left : List 
   pub grows : Grows start nodes
   pub waits : Waits t nodes w (reading done)
 
+pub Waits-none : (t : Table) (nodes : List Node) → IsLaid t nodes → Waits t nodes [] []
+Waits-none t nodes h = record { laid = h; named = tt; rest = tt; chain = tt; terms = refl }
+
 pub placing_none : (t : Table) (nodes : List Node) (whole : List TermNode) → IsLaid t nodes → Placing t t nodes nodes [] whole whole
 placing_none t nodes whole h = record {
   done = [];
   split = sym (append-nil whole);
   names = Extends-refl t;
   grows = Grows-refl nodes;
-  waits = record { table = h.table; sound = h.sound; named = tt; rest = tt; terms = refl };
+  waits = Waits-none t nodes h;
 }
 
 -- what is behind in a forest is one
@@ -93,10 +98,12 @@ reading-terms [] = refl
 reading-terms (t ∷ ts) = reading-spelling t (flat_map spelling ts) ∙ ap (λ us. t ∷ us) (reading-terms ts)
 
 module _ (t : Table) (nodes w : List Node) (us : List Tree) (k : ℕ) (h : Waits t nodes w us) (room : k ≤ length w) where
-  pub row_laid : IsLaid t (nodes ++ take k w)
-  row_laid = record {
-    table = h.table;
-    sound = IsSound-row t nodes (take k w) h.sound (AllNamed-take t k w h.named) (EachRests-take (values t nodes) k w h.rest);
+  pub row_laid : length (nodes ++ take k w) < 2 ^ 32 → IsLaid t (nodes ++ take k w)
+  row_laid few = record {
+    table = h.laid.table;
+    sound = IsSound-row t nodes (take k w) h.laid.sound (AllNamed-take t k w h.named) (EachRests-take (values t nodes) k w h.rest);
+    packed = ArePacked-row nodes (take k w) h.laid.packed (chain_row nodes (length nodes) (take k w) (IsChain-take nodes (length nodes) k w h.chain));
+    few = few;
   }
 
   pub row_there : IsRow t (nodes ++ take k w) (length nodes) k (take k us)
@@ -110,6 +117,7 @@ module _ (t : Table) (nodes w : List Node) (us : List Tree) (k : ℕ) (h : Waits
             ∙ ap (λ n. map tree (take k (drop n (old ++ more)))) (sym (length-values t nodes))
             ∙ ap (λ vs. map tree (take k vs)) (drop-append_seam old more)
             ∙ row_terms t old w us k h.terms;
+        whole = λ j le lt. row_whole nodes (take k w) (IsChain-take nodes (length nodes) k w h.chain) j le;
       }
 
 -- the nodes that terms spell are a forest that reads as the terms
@@ -133,3 +141,54 @@ pub row_all : (t : Table) (nodes w : List Node) (us : List Tree) (k : ℕ) → W
 row_all t nodes w us k h e =
     let P : List Tree → Type 0 = IsRow t (nodes ++ take k w) (length nodes) k in
     subst P (take_all k us (omega arith)) (row_there t nodes w us k h (omega (arith, waits_length t nodes w us h)))
+
+leaf_same : (t : Table) (vs : List Value) (n : Node) → IsLeaf n → tree (value t vs n) ≡ tree (value t [] n)
+leaf_same t vs (Var s) h = refl
+leaf_same t vs (Int i) h = refl
+leaf_same t vs (Atom a) h = refl
+leaf_same t vs (Fun f k) h = absurd h
+leaf_same t vs (Sub from root) h = absurd h
+
+-- ---- a compound alone, whose arguments waited
+
+module _ (t : Table) (nodes w : List Node) (us : List Tree) (f k : ℕ) (h : Waits t nodes w us) (room : k ≤ length w) (named : IsNamed t (Fun f k))
+    (few : length ((nodes ++ Fun f k ∷ take k w) ++ Sub (lowest (length nodes) (take k w)) (length nodes) ∷ []) < 2 ^ 32) where
+  abbrev block : List Node
+  block = nodes ++ Fun f k ∷ take k w
+
+  abbrev closed : List Node
+  closed = block ++ Sub (lowest (length nodes) (take k w)) (length nodes) ∷ []
+
+  abbrev own : Tree
+  own = compound (functor_name t f) (trees (take k us))
+
+  block_few : length block < 2 ^ 32
+  block_few = omega (arith, few, length-append block (Sub (lowest (length nodes) (take k w)) (length nodes) ∷ []))
+
+  waits_own : Waits t block (Sub (lowest (length nodes) (take k w)) (length nodes) ∷ drop k w) (own ∷ drop k us)
+  waits_own = Waits-block t nodes w us f k h room named block_few
+
+  pub compound_laid : IsLaid t closed
+  compound_laid = row_laid t block (Sub (lowest (length nodes) (take k w)) (length nodes) ∷ drop k w) (own ∷ drop k us) 1 waits_own (omega arith) few
+
+  pub compound_there : IsRow t closed (length block) 1 (own ∷ [])
+  compound_there = row_there t block (Sub (lowest (length nodes) (take k w)) (length nodes) ∷ drop k w) (own ∷ drop k us) 1 waits_own (omega arith)
+
+  pub arguments_there : IsRow t closed (suc (length nodes)) k (take k us)
+  arguments_there =
+      IsRow-more t t block closed (suc (length nodes)) k (take k us) waits_own.laid (Extends-refl t)
+      (record { added = Sub (lowest (length nodes) (take k w)) (length nodes) ∷ []; nodes = refl }) (block_arguments t nodes w us f k h room named block_few)
+
+-- a node alone
+module _ (t : Table) (nodes : List Node) (n : Node) (laid : IsLaid t nodes) (named : IsNamed t n) (leaf : IsLeaf n) where
+  leaf_tree : (vs : List Value) → tree (value t vs n) ≡ tree (value t [] n)
+  leaf_tree vs = leaf_same t vs n leaf
+
+  leaf_waits : Waits t nodes (n ∷ []) (tree (value t [] n) ∷ [])
+  leaf_waits = Waits-leaf t nodes [] [] n (tree (value t [] n)) (Waits-none t nodes laid) named leaf (leaf_tree (values t nodes))
+
+  pub leaf_laid : length (nodes ++ n ∷ []) < 2 ^ 32 → IsLaid t (nodes ++ n ∷ [])
+  leaf_laid few = row_laid t nodes (n ∷ []) (tree (value t [] n) ∷ []) 1 leaf_waits (omega arith) few
+
+  pub leaf_there : IsRow t (nodes ++ n ∷ []) (length nodes) 1 (tree (value t [] n) ∷ [])
+  leaf_there = row_there t nodes (n ∷ []) (tree (value t [] n) ∷ []) 1 leaf_waits (omega arith)

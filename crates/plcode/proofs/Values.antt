@@ -2,12 +2,14 @@
 use Rattle.std.proofs.Common.{◌≡◌, ℕ, zero, suc, ◌+◌, ◌≤◌, ◌<◌, List, [], ◌∷◌, ◌++◌, length, map, take, drop, fold, refl, subst, ap, ◌∙◌, sym, arith, append_assoc, append-nil, length-append, length-drop}
 use Rattle.std.proofs.lemmas.List.{take-append-le, drop-append-le}
 use Rattle.std.proofs.lemmas.Grind.{fold-append}
+use Rattle.std.proofs.Math.ListN.{get_or-append}
 use Rattle.plterm.specs.Tree.{Tree, atom, compound, trees}
 use Rattle.platoms.specs.Names.{Table, Extends, IsTable, atom_at, functor_name, functor_at}
 use Rattle.platoms.proofs.Extending.{atoms_more, functors_more, atom_same, functor_same}
 use Rattle.plcode.specs.declared.node.Node.{Node}
 use Rattle.plcode.specs.declared.node.Node.TheVariants.{Var, Int, Atom, Fun, Sub}
 use Rattle.plcode.specs.Nodes.{Value, Whole, Head, tree, block, value, with_node, values, IsBlock, Rests, IsNamed, AllNamed, AllRest, IsSound, row}
+use Rattle.plcode.specs.Packed.{node_at, IsArgument}
 use Rattle.plcode.specs.Laying.{over, EachRests, Grows, IsLaid, IsRow}
 
 pub block-more : (xs ys : List Value) → IsBlock xs → block (xs ++ ys) ≡ block xs
@@ -188,4 +190,5 @@ IsRow-more s t old new at k ts laid more grows r =
           ∙ ap (λ vs. map tree (take k vs)) (drop-append-le at (values s old) p.0 at_room)
           ∙ ap (map tree) (take-append-le k (drop at (values s old)) p.0 room)
           ∙ r.terms;
+      whole = λ j le lt. subst (IsArgument 0 j) (sym (ap (λ (ns : List Node). node_at ns j) grows.nodes ∙ get_or-append old grows.added (Var 0) j (omega (arith, r.within)))) (r.whole j le lt);
     }

@@ -1,7 +1,9 @@
 -- What the code of a clause is, and of procedures.
-use Rattle.std.specs.Prelude.{◌≡◌, List, [], ◌∷◌}
+use Rattle.std.specs.Prelude.{◌≡◌, ℕ, List, [], ◌∷◌}
+use Rattle.plterm.specs.Tree.{Tree, atom}
 use Rattle.plterm.specs.declared.indicator.Indicator.{Indicator}
 use Rattle.plclause.specs.Clause.{Clause}
+use Rattle.plclause.specs.Soundness.{IsSound}
 use Rattle.plsearch.specs.Forms.{arguments}
 use Rattle.plsearch.specs.Rows.{is_true}
 use Rattle.plcode.specs.declared.clause.ClauseCode.{ClauseCode}
@@ -9,8 +11,14 @@ use Rattle.plcode.specs.Steps.{Text, Args}
 use Rattle.plcode.specs.Bodies.{Begins}
 use Rattle.plcode.specs.Keys.{IsFirstKey}
 
--- the code of a clause: its head's arguments and the key of the first, its body, and how many variables it has
+-- a head without arguments is an atom: a compound has one at least
+abbrev pub IsProper : Tree → Type 0
+IsProper head = arguments head ≡ [] → (s : List ℕ) × (head ≡ atom s)
+
+-- the code of a clause, which is sound: its head's arguments and the key of the first, its body, and how many variables it has
 pub record IsCodeOf (c : Text) (k : ClauseCode) (clause : Clause) : Type 0 where
+  pub sound : IsSound clause
+  pub proper : IsProper clause.head
   pub head : Args c k.head (arguments clause.head)
   pub key : IsFirstKey c.names k.key (arguments clause.head)
   pub body : Begins c k.body clause.body

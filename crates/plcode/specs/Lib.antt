@@ -1,4 +1,5 @@
 pub mod Nodes
+pub mod Packed
 pub mod Laying
 pub mod Steps
 pub mod Bodies
@@ -6,4 +7,4 @@ pub mod Goals
 pub mod Keys
 pub mod Clauses
 pub mod Index
-pub mod Marks
+pub mod Callees

@@ -1,6 +1,7 @@
 -- Steps, and the goals that they are for.
-use Rattle.std.specs.Prelude.{◌≡◌, ℕ, suc, ◌<◌, pos, List, [], ◌∷◌, ◌++◌, length, take, drop}
-use Rattle.plterm.specs.Tree.{Tree, int}
+use Rattle.std.specs.Prelude.{◌≡◌, ℕ, zero, suc, ◌<◌, ◌-◌, pos, Bool, true, false, if◌then◌else◌, List, [], ◌∷◌, ◌++◌, length, take, fold, get_or, codes}
+use Rattle.plterm.specs.Tree.{Tree, int, atom, compound, none, more}
+use Rattle.plterm.specs.Reading.{first}
 use Rattle.plterm.specs.declared.indicator.Indicator.{Indicator}
 use Rattle.platoms.specs.Names.{Table, Extends, HasAtom, functor_name, functor_arity}
 use Rattle.plsearch.specs.Forms.{Form, True, False, Both, Either, IfThenElse, Not, Once, Catching, Throwing, CallWith, Cut, Halting, AddLast, BuiltIn, Call, NoGoal, form, arguments}
@@ -8,7 +9,9 @@ use Rattle.plcode.specs.declared.node.Node.{Node}
 use Rattle.plcode.specs.declared.op.Op.{Op}
 use Rattle.plcode.specs.declared.op.Op.TheVariants as ops
 use Rattle.plcode.specs.declared.op.Step.{Step}
+use Rattle.plcode.specs.declared.draft.Draft.{Draft}
 use Rattle.plcode.specs.declared.code.Code.{Code}
+use Rattle.plcode.specs.Nodes.{row}
 use Rattle.plcode.specs.Laying.{Grows, IsRow}
 
 -- names, nodes and steps
@@ -17,8 +20,16 @@ pub record Text : Type 0 where
   pub nodes : List Node
   pub steps : List Step
 
-abbrev pub text : Code → Text
+abbrev pub text : Draft → Text
 text c = record { names = c.names; nodes = c.nodes.items; steps = c.steps.items }
+
+-- code with the names of a table
+abbrev pub text_of : Table → Code → Text
+text_of t c = record { names = t; nodes = c.nodes.items; steps = c.steps.items }
+
+-- the same nodes and steps with the names of another table
+abbrev pub renamed : Table → Text → Text
+renamed t c = record { names = t; nodes = c.nodes; steps = c.steps }
 
 -- more names, nodes and steps, behind those that stand
 pub record Extended (a b : Text) : Type 0 where
@@ -32,10 +43,10 @@ abbrev pub Args : Text → ℕ → List Tree → Type 0
 Args c at ts = IsRow c.names c.nodes at (length ts) ts
 
 -- the procedure with a functor's number
-pub record IsProcedure (c : Text) (f : ℕ) (p : Indicator) : Type 0 where
-  pub within : f < length c.names.functors
-  pub name : functor_name c.names f ≡ p.name
-  pub arity : functor_arity c.names f ≡ p.arity
+pub record IsProcedure (t : Table) (f : ℕ) (p : Indicator) : Type 0 where
+  pub within : f < length t.functors
+  pub name : functor_name t f ≡ p.name
+  pub arity : functor_arity t f ≡ p.arity
 
 -- halt/0 ends the run as halt(0) does
 abbrev pub Ends : Text → Op → Tree → List Tree → Type 0
@@ -45,13 +56,13 @@ Ends c op i (u ∷ us) = (at : ℕ) × (op ≡ ops.HaltWith at) × Args c at (i 
 -- an atom or a compound is called by the number of its name or functor
 abbrev pub Calls : Text → Op → Indicator → List Tree → Type 0
 Calls c op p [] = (a : ℕ) × (op ≡ ops.CallAtom a) × HasAtom c.names a p.name
-Calls c op p (u ∷ us) = (f : ℕ) × ((at : ℕ) × (op ≡ ops.Call f at) × IsProcedure c f p × Args c at (u ∷ us))
+Calls c op p (u ∷ us) = (f : ℕ) × ((at : ℕ) × (op ≡ ops.Call f at) × IsProcedure c.names f p × Args c at (u ∷ us))
 
 -- what a step does for a goal that is no control construct of goals: the goal's form, and its arguments
 abbrev pub Does : Text → Op → Form → List Tree → Type 0
 Does c op True us = op ≡ ops.True
 Does c op False us = op ≡ ops.Fail
-Does c op NoGoal us = op ≡ ops.Fail
+Does c op NoGoal us = op ≡ ops.NoGoal
 Does c op Cut us = op ≡ ops.Cut
 Does c op (Both a b) us = ⊥
 Does c op (Either a b) us = ⊥
@@ -66,19 +77,129 @@ Does c op (AddLast k) us = (at : ℕ) × (op ≡ ops.AddLast at) × Args c at (k
 Does c op (BuiltIn b vs) us = (at : ℕ) × (op ≡ ops.BuiltIn b at) × Args c at vs
 Does c op (Call p) us = Calls c op p us
 
--- the step at a place
-abbrev pub At : Text → ℕ → Op → ℕ → Type 0
-At c place op conjunctions = take 1 (drop place c.steps) ≡ record { op = op; conjunctions = conjunctions } ∷ []
+-- ---- the goals of a place
 
--- From a place on, with so many conjunctions still to be selected, the steps are for a list of goals. A conjunction has no step of its
--- own: it is counted on the first step of its first goal. Each branch is a sequence of its own.
-pub data Stands (c : Text) : ℕ → ℕ → List Tree → Type 0 where
-  ends : (place : ℕ) → At c place ops.Proceed 0 → Stands c place 0 []
-  conjunction : (place owed : ℕ) (g a b : Tree) (rest : List Tree) → form g ≡ Both a b
-      → Stands c place (suc owed) (a ∷ b ∷ rest) → Stands c place owed (g ∷ rest)
-  either : (place owed l r : ℕ) (g a b : Tree) (rest : List Tree) → form g ≡ Either a b → At c place (ops.Or l r) owed
-      → Stands c l 0 (a ∷ []) → Stands c r 0 (b ∷ []) → Stands c (suc place) 0 rest → Stands c place owed (g ∷ rest)
-  if_then_else : (place owed i l r : ℕ) (g t a b : Tree) (rest : List Tree) → form g ≡ IfThenElse t a b → At c place (ops.IfThenElse i l r) owed
-      → Stands c i 0 (t ∷ []) → Stands c l 0 (a ∷ []) → Stands c r 0 (b ∷ []) → Stands c (suc place) 0 rest → Stands c place owed (g ∷ rest)
-  goal : (place owed : ℕ) (op : Op) (g : Tree) (rest : List Tree) → Does c op (form g) (arguments g) → At c place op owed
-      → Stands c (suc place) 0 rest → Stands c place owed (g ∷ rest)
+-- two trees under a name
+abbrev pub of_two : List ℕ → Tree → Tree → Tree
+of_two s a b = compound s (more a (more b none))
+
+-- the end of a sequence
+abbrev pub ends : Op → Bool
+ends ops.Proceed = true
+ends op = false
+
+-- the first two goals as one conjunction
+abbrev pub paired : List Tree → List Tree
+paired [] = []
+paired (a ∷ []) = a ∷ []
+paired (a ∷ b ∷ rest) = of_two (codes ",") a b ∷ rest
+
+-- goals of which the first are so many conjunctions, one in the other
+abbrev pub joined : ℕ → List Tree → List Tree
+joined zero gs = gs
+joined (suc n) gs = paired (joined n gs)
+
+-- the goal of a branch, by what the lower places are for
+abbrev pub branch : List (List Tree) → ℕ → Tree
+branch below l = first (get_or below l [])
+
+-- the goal of a step, by what the lower places are for: a control construct of its branches, or the term at its node
+abbrev pub goal : Table → List Node → List (List Tree) → Op → ℕ → Tree
+goal t nodes below (ops.Or l r) at = of_two (codes ";") (branch below l) (branch below r)
+goal t nodes below (ops.IfThen i a) at = of_two (codes "->") (branch below i) (branch below a)
+goal t nodes below (ops.IfThenElse i a b) at = of_two (codes ";") (of_two (codes "->") (branch below i) (branch below a)) (branch below b)
+goal t nodes below op at = first (row t nodes at 1)
+
+-- the goals of the place behind
+abbrev pub behind : List (List Tree) → List Tree
+behind below = get_or below (length below - 1) []
+
+-- the goals of a step, of which so many conjunctions are selected
+abbrev pub meaning : Table → List Node → List (List Tree) → Step → ℕ → List Tree
+meaning t nodes below s owed = if ends s.op then [] else joined (s.conjunctions - owed) (goal t nodes below s.op s.goal ∷ behind below)
+
+abbrev pub with_meaning : Table → List Node → List (List Tree) → Step → List (List Tree)
+with_meaning t nodes below s = below ++ meaning t nodes below s 0 ∷ []
+
+-- what each place is for, from the lowest
+unfoldable pub meanings : Table → List Node → List Step → List (List Tree)
+meanings t nodes steps = fold (with_meaning t nodes) [] steps
+
+abbrev pub step_at : Text → ℕ → Step
+step_at c place = get_or c.steps place (record { op = ops.Proceed; conjunctions = 0; goal = 0 })
+
+-- the goals from a place on, with so many conjunctions of its step selected
+unfoldable pub goals_from : Text → ℕ → ℕ → List Tree
+goals_from c place owed = meaning c.names c.nodes (meanings c.names c.nodes (take place c.steps)) (step_at c place) owed
+
+-- ---- what is known at a place
+
+-- a sequence for one goal begins at a place, below another
+pub record IsBranch (c : Text) (below place : ℕ) (g : Tree) : Type 0 where
+  pub within : place < below
+  pub goals : goals_from c place 0 ≡ g ∷ []
+
+-- the place of fail/0
+abbrev pub FAIL : ℕ
+FAIL = 1
+
+-- the goal of a step at a place by its op
+pub record IsEither (c : Text) (place l r : ℕ) (g : Tree) : Type 0 where
+  pub left : Tree
+  pub right : Tree
+  pub is : g ≡ of_two (codes ";") left right
+  pub form_is : form g ≡ Either left right
+  pub left_begins : IsBranch c place l left
+  pub right_begins : IsBranch c place r right
+
+pub record IsIfThen (c : Text) (place i l : ℕ) (g : Tree) : Type 0 where
+  pub condition : Tree
+  pub success : Tree
+  pub is : g ≡ of_two (codes "->") condition success
+  pub form_is : form g ≡ IfThenElse condition success (atom (codes "fail"))
+  pub condition_begins : IsBranch c place i condition
+  pub success_begins : IsBranch c place l success
+  pub failure_begins : IsBranch c place FAIL (atom (codes "fail"))
+
+pub record IsIfThenElse (c : Text) (place i l r : ℕ) (g : Tree) : Type 0 where
+  pub condition : Tree
+  pub success : Tree
+  pub failure : Tree
+  pub is : g ≡ of_two (codes ";") (of_two (codes "->") condition success) failure
+  pub form_is : form g ≡ IfThenElse condition success failure
+  pub condition_begins : IsBranch c place i condition
+  pub success_begins : IsBranch c place l success
+  pub failure_begins : IsBranch c place r failure
+
+pub record IsPlain (c : Text) (op : Op) (at : ℕ) (g : Tree) : Type 0 where
+  pub does : Does c op (form g) (arguments g)
+  pub node : Args c at (g ∷ [])
+
+abbrev pub IsFor : Text → ℕ → Op → ℕ → Tree → Type 0
+IsFor c place ops.Proceed at g = ⊥
+IsFor c place (ops.Or l r) at g = IsEither c place l r g
+IsFor c place (ops.IfThen i l) at g = IsIfThen c place i l g
+IsFor c place (ops.IfThenElse i l r) at g = IsIfThenElse c place i l r g
+IsFor c place op at g = IsPlain c op at g
+
+-- the first goal is a conjunction, and what its selection leads to
+pub record Selects (c : Text) (place owed : ℕ) : Type 0 where
+  pub left : Tree
+  pub right : Tree
+  pub rest : List Tree
+  pub goals : goals_from c place owed ≡ of_two (codes ",") left right ∷ rest
+  pub form_is : form (of_two (codes ",") left right) ≡ Both left right
+  pub next : goals_from c place (suc owed) ≡ left ∷ right ∷ rest
+
+-- a step with a goal: behind its conjunctions come its own goal, and what the place behind is for
+pub record Runs (c : Text) (place : ℕ) (s : Step) : Type 0 where
+  pub some : 0 < place
+  pub selects : (owed : ℕ) → owed < s.conjunctions → Selects c place owed
+  pub goal : Tree
+  pub goals : goals_from c place s.conjunctions ≡ goal ∷ goals_from c (place - 1) 0
+  pub is : IsFor c place s.op s.goal goal
+
+-- what a step at a place says of the goals from there on
+pub record Meets (c : Text) (place : ℕ) (s : Step) : Type 0 where
+  pub none : ends s.op ≡ true → goals_from c place 0 ≡ []
+  pub runs : ends s.op ≡ false → Runs c place s

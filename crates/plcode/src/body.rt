@@ -1,29 +1,24 @@
 //! Bodies as sequences of steps, without recursion: a body's goals are met in prefix order, and their steps are made from the last to the first.
-ghost use Rattle.std.specs.Prelude.{◌≡◌, ◌≤◌, [], ◌∷◌, ◌++◌, List, length, take, drop, reverse, IfOk, OnOk, Some};
+ghost use Rattle.std.specs.Prelude.{◌≡◌, ◌≤◌, [], ◌∷◌, ◌+◌, ◌++◌, List, codes, length, take, drop, reverse, IfOk, OnOk, Some};
 ghost use Rattle.plterm.specs.Tree.{Tree};
-ghost use Rattle.plsearch.specs.Forms.{either};
 ghost use Rattle.plcode.specs.declared.op.Op.TheVariants as ops;
-ghost use Rattle.plcode.specs.declared.body.Piece.TheVariants.{IfThen};
 ghost use Rattle.plcode.specs.Steps.{text, Extended};
-ghost use Rattle.plcode.specs.Bodies.{arrow_of, charged, joined, step, Begins, Branches, HasTwo, Holds, IsBranch, IsCode, Leads, Made, Ready, Splits};
+ghost use Rattle.plcode.specs.Bodies.{arrow_of, charged, AreForTwo, merged, step, Begins, Branches, HasTwo, Holds, IsCode, IsNext, Leads, Made, Ready, Splits};
 
-use crate::code::Code;
+use crate::draft::Draft;
 use crate::goal::piece_of;
 use crate::op::{Op, Step};
 use plnames::table::NameTable;
 use plterm::walk::TermRef;
 use std::alloc::{AllocError, Global};
 
-/// Where the sequence of fail/0 begins.
-const FAIL: u32 = 0;
-
-/// What a goal's node comes to: a control construct whose two goals follow, or a goal with its step.
+/// What a goal's node comes to: a control construct whose two goals follow, or a goal with its step and the node where it was laid.
 #[derive(Clone, Copy, Debug, PartialEq, Eq)]
 pub enum Piece {
     And,
     Or,
     IfThen,
-    Single(Op),
+    Single(Op, u32),
 }
 
 /// Where the condition of an `->` begins, and what follows it.
@@ -40,27 +35,27 @@ pub struct Part {
     pub arrow: Option<Arrow>,
 }
 
-/// Moves the topmost steps, so many as are asked for, behind those of the code, the topmost one first, and ends the sequence; says
-/// where it begins.
+/// Ends a sequence behind the steps of the code, and moves the topmost steps there, so many as are asked for, as they stand; says where
+/// the sequence begins.
 fn put_sequence(code: &mut Vec<Step>, made: &mut Vec<Step>, count: usize) -> Result<u32, AllocError>
     requires { count ≤ length made.old.items }
-    ensures place { IfOk result (λ at. at ≡ length code.old.items) }
-    ensures code { OnOk result (code.new.items ≡ code.old.items ++ (take count (reverse made.old.items) ++ step ops.Proceed)) }
+    ensures place { IfOk result (λ at. at ≡ length code.old.items + count) }
+    ensures code { OnOk result (code.new.items ≡ code.old.items ++ (step ops.Proceed 0 ++ reverse (take count (reverse made.old.items)))) }
     ensures made { OnOk result (reverse made.new.items ≡ drop count (reverse made.old.items)) }
 {
-    let Ok(at) = u32::try_from(code.len()) else {
-        return Err(AllocError);
-    };
-    for _ in 0..count {
-        let Some(step) = made.pop() else {
-            unreachable!()
-        };
-        code.push(step)?;
-    }
+    let from = made.len() - count;
     code.push(Step {
         op: Op::Proceed,
         conjunctions: 0,
+        goal: 0,
     })?;
+    for place in from..made.len() {
+        code.push(made[place])?;
+    }
+    made.truncate(from);
+    let Ok(at) = u32::try_from(code.len() - 1) else {
+        return Err(AllocError);
+    };
     Ok(at)
 }
 
@@ -69,14 +64,16 @@ fn push_part(
     parts: &mut Vec<Part>,
     made: &mut Vec<Step>,
     op: Op,
+    goal: u32,
     arrow: Option<Arrow>,
 ) -> Result<(), AllocError>
     ensures parts { OnOk result (reverse parts.new.items ≡ record { len = 1; arrow = arrow } ∷ reverse parts.old.items) }
-    ensures made { OnOk result (reverse made.new.items ≡ record { op = op; conjunctions = 0 } ∷ reverse made.old.items) }
+    ensures made { OnOk result (reverse made.new.items ≡ record { op = op; conjunctions = 0; goal = goal } ∷ reverse made.old.items) }
 {
     made.push(Step {
         op,
         conjunctions: 0,
+        goal,
     })?;
     parts.push(Part { len: 1, arrow })?;
     Ok(())
@@ -84,11 +81,12 @@ fn push_part(
 
 /// Takes the two topmost parts off, and makes a sequence of each; says where they begin.
 fn put_branches(
-    code: &mut Code,
+    code: &mut Draft,
     parts: &mut Vec<Part>,
     made: &mut Vec<Step>,
 ) -> Result<(u32, u32), AllocError>
     requires two { HasTwo (reverse parts.old.items) (length made.old.items) }
+    requires made { AreForTwo (text code.old) (reverse parts.old.items) (reverse made.old.items) }
     requires code { IsCode (text code.old) }
     ensures extended { OnOk result (Extended (text code.old) (text code.new)) }
     ensures code { OnOk result (IsCode (text code.new)) }
@@ -108,7 +106,7 @@ fn put_branches(
 /// Makes one part of the two topmost, for a conjunction, which is counted on its first step.
 fn join(parts: &mut Vec<Part>, made: &mut Vec<Step>) -> Result<(), AllocError>
     requires { HasTwo (reverse parts.old.items) (length made.old.items) }
-    ensures parts { OnOk result (reverse parts.new.items ≡ joined (reverse parts.old.items)) }
+    ensures parts { OnOk result (reverse parts.new.items ≡ merged (reverse parts.old.items)) }
     ensures made { OnOk result (reverse made.new.items ≡ charged 1 (reverse made.old.items)) }
 {
     let Some(first) = parts.pop() else {
@@ -126,6 +124,7 @@ fn join(parts: &mut Vec<Part>, made: &mut Vec<Step>) -> Result<(), AllocError>
     made.push(Step {
         op: step.op,
         conjunctions,
+        goal: step.goal,
     })?;
     parts.push(Part {
         len: first.len + second.len,
@@ -146,17 +145,18 @@ fn top_arrow(parts: &[Part]) -> Option<Arrow>
 
 /// Gives the `->` of the topmost part the sequence of the next one as its else.
 fn put_else(
-    code: &mut Code,
+    code: &mut Draft,
     parts: &mut Vec<Part>,
     made: &mut Vec<Step>,
     arrow: Arrow,
 ) -> Result<(), AllocError>
     requires two { HasTwo (reverse parts.old.items) (length made.old.items) }
+    requires made { AreForTwo (text code.old) (reverse parts.old.items) (reverse made.old.items) }
     requires top { arrow_of (reverse parts.old.items) ≡ Some arrow }
     requires code { IsCode (text code.old) }
     ensures extended { OnOk result (Extended (text code.old) (text code.new)) }
     ensures code { OnOk result (IsCode (text code.new)) }
-    ensures goal { OnOk result ((g : Tree) → (rest gs : List Tree) → IsBranch g → Holds either g rest gs → Made (text code.old) (reverse parts.old.items) (reverse made.old.items) gs → Made (text code.new) (reverse parts.new.items) (reverse made.new.items) (g ∷ rest)) }
+    ensures goal { OnOk result ((g : Tree) → (rest gs : List Tree) → Holds (codes ";") g rest gs → Made (text code.old) (reverse parts.old.items) (reverse made.old.items) gs → Made (text code.new) (reverse parts.new.items) (reverse made.new.items) (g ∷ rest)) }
 {
     let Some(_) = parts.pop() else { unreachable!() };
     let Some(right) = parts.pop() else {
@@ -165,21 +165,22 @@ fn put_else(
     let Some(_) = made.pop() else { unreachable!() };
     let otherwise = put_sequence(&mut code.steps, made, right.len)?;
     let op = Op::IfThenElse(arrow.condition, arrow.then, otherwise);
-    push_part(parts, made, op, None)?;
+    push_part(parts, made, op, 0, None)?;
     Ok(())
 }
 
 /// Makes one part of the two topmost, for `;`.
 fn put_either(
-    code: &mut Code,
+    code: &mut Draft,
     parts: &mut Vec<Part>,
     made: &mut Vec<Step>,
 ) -> Result<(), AllocError>
     requires two { HasTwo (reverse parts.old.items) (length made.old.items) }
+    requires made { AreForTwo (text code.old) (reverse parts.old.items) (reverse made.old.items) }
     requires code { IsCode (text code.old) }
     ensures extended { OnOk result (Extended (text code.old) (text code.new)) }
     ensures code { OnOk result (IsCode (text code.new)) }
-    ensures goal { OnOk result ((g : Tree) → (rest gs : List Tree) → IsBranch g → Holds either g rest gs → Made (text code.old) (reverse parts.old.items) (reverse made.old.items) gs → Made (text code.new) (reverse parts.new.items) (reverse made.new.items) (g ∷ rest)) }
+    ensures goal { OnOk result ((g : Tree) → (rest gs : List Tree) → Holds (codes ";") g rest gs → Made (text code.old) (reverse parts.old.items) (reverse made.old.items) gs → Made (text code.new) (reverse parts.new.items) (reverse made.new.items) (g ∷ rest)) }
 {
     match top_arrow(parts) {
         Some(arrow) => {
@@ -188,39 +189,40 @@ fn put_either(
         }
         None => {
             let (left, right) = put_branches(code, parts, made)?;
-            push_part(parts, made, Op::Or(left, right), None)?;
+            push_part(parts, made, Op::Or(left, right), 0, None)?;
             Ok(())
         }
     }
 }
 
 /// Makes one part of the two topmost, for an `->` to which `;` may give an else.
-fn put_arrow(code: &mut Code, parts: &mut Vec<Part>, made: &mut Vec<Step>) -> Result<(), AllocError>
+fn put_arrow(
+    code: &mut Draft,
+    parts: &mut Vec<Part>,
+    made: &mut Vec<Step>,
+) -> Result<(), AllocError>
     requires two { HasTwo (reverse parts.old.items) (length made.old.items) }
+    requires made { AreForTwo (text code.old) (reverse parts.old.items) (reverse made.old.items) }
     requires code { IsCode (text code.old) }
     ensures extended { OnOk result (Extended (text code.old) (text code.new)) }
     ensures code { OnOk result (IsCode (text code.new)) }
-    ensures goal { OnOk result ((gs hs : List Tree) → Splits (text code.old) IfThen gs hs → Made (text code.old) (reverse parts.old.items) (reverse made.old.items) hs → Made (text code.new) (reverse parts.new.items) (reverse made.new.items) gs) }
+    ensures goal { OnOk result ((g : Tree) → (rest gs : List Tree) → Holds (codes "->") g rest gs → Made (text code.old) (reverse parts.old.items) (reverse made.old.items) gs → Made (text code.new) (reverse parts.new.items) (reverse made.new.items) (g ∷ rest)) }
 {
     let (condition, then) = put_branches(code, parts, made)?;
     let arrow = Arrow { condition, then };
-    push_part(
-        parts,
-        made,
-        Op::IfThenElse(condition, then, FAIL),
-        Some(arrow),
-    )?;
+    push_part(parts, made, Op::IfThen(condition, then), 0, Some(arrow))?;
     Ok(())
 }
 
 /// Makes the part of the goal that a piece is for.
 fn put_piece(
-    code: &mut Code,
+    code: &mut Draft,
     parts: &mut Vec<Part>,
     made: &mut Vec<Step>,
     piece: Piece,
 ) -> Result<(), AllocError>
     requires ready { Ready piece (reverse parts.old.items) (length made.old.items) }
+    requires next { IsNext (text code.old) piece (reverse parts.old.items) (reverse made.old.items) }
     requires code { IsCode (text code.old) }
     ensures extended { OnOk result (Extended (text code.old) (text code.new)) }
     ensures code { OnOk result (IsCode (text code.new)) }
@@ -239,15 +241,15 @@ fn put_piece(
             put_arrow(code, parts, made)?;
             Ok(())
         }
-        Piece::Single(op) => {
-            push_part(parts, made, op, None)?;
+        Piece::Single(op, node) => {
+            push_part(parts, made, op, node, None)?;
             Ok(())
         }
     }
 }
 
 /// Makes the sequence of a body of its pieces; says where it begins.
-fn put_body(alloc: Global, code: &mut Code, pieces: Vec<Piece>) -> Result<u32, AllocError>
+fn put_body(alloc: Global, code: &mut Draft, pieces: Vec<Piece>) -> Result<u32, AllocError>
     requires code { IsCode (text code.old) }
     requires spelled { (g : Tree) × Leads (text code.old) pieces.items (g ∷ []) [] }
     ensures extended { OnOk result (Extended (text code.old) (text code.new)) }
@@ -270,7 +272,7 @@ fn put_body(alloc: Global, code: &mut Code, pieces: Vec<Piece>) -> Result<u32, A
 /// The pieces of a body, in prefix order.
 fn pieces_of(
     alloc: Global,
-    code: &mut Code,
+    code: &mut Draft,
     kinds: &NameTable,
     body: &TermRef<'_>,
 ) -> Result<Vec<Piece>, AllocError>
@@ -291,7 +293,7 @@ fn pieces_of(
 /// Compiles a body, in time linear in its nodes; says where its sequence begins. After an `Err` what was put stays, and nothing leads to it.
 pub fn compile_body(
     alloc: Global,
-    code: &mut Code,
+    code: &mut Draft,
     kinds: &NameTable,
     body: &TermRef<'_>,
 ) -> Result<u32, AllocError>

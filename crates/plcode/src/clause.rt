@@ -1,13 +1,14 @@
 //! Compiled clauses.
 ghost use Rattle.std.specs.Prelude.{◌≡◌, IfOk, OnOk};
+ghost use Rattle.plclause.specs.Soundness.{IsCallable};
 ghost use Rattle.plsearch.specs.Forms.{arguments};
 ghost use Rattle.plsearch.specs.Rows.{is_true as is_true_of};
 ghost use Rattle.plcode.specs.Steps.{text, Args, Extended};
 ghost use Rattle.plcode.specs.Bodies.{IsCode};
-ghost use Rattle.plcode.specs.Clauses.{IsCodeOf};
+ghost use Rattle.plcode.specs.Clauses.{IsCodeOf, IsProper};
 
 use crate::body::compile_body;
-use crate::code::Code;
+use crate::draft::Draft;
 use crate::key::{Key, head_key};
 use crate::lay::lay;
 use plclause::clause::Clause;
@@ -26,12 +27,14 @@ pub struct ClauseCode {
     pub is_fact: bool,
 }
 
-/// Lays the arguments of a head down in a row; says where it begins.
-fn lay_arguments(alloc: Global, code: &mut Code, head: &TermRef<'_>) -> Result<u32, AllocError>
+/// Lays the arguments of a head, an atom or a compound, down in a row; says where it begins.
+fn lay_arguments(alloc: Global, code: &mut Draft, head: &TermRef<'_>) -> Result<u32, AllocError>
     requires code { IsCode (text code.old) }
+    requires callable { IsCallable head.now }
     ensures extended { OnOk result (Extended (text code.old) (text code.new)) }
     ensures code { OnOk result (IsCode (text code.new)) }
     ensures row { IfOk result (λ at. Args (text code.new) at (arguments head.now)) }
+    ensures proper { OnOk result (IsProper head.now) }
 {
     match head.shape() {
         Shape::Compound(_, mut args) => {
@@ -39,9 +42,8 @@ fn lay_arguments(alloc: Global, code: &mut Code, head: &TermRef<'_>) -> Result<u
             let at = lay(alloc, &mut code.nodes, &mut code.names, &mut args, count)?;
             Ok(at)
         }
-        Shape::Var(_) => Ok(0),
-        Shape::Int(_) => Ok(0),
         Shape::Atom(_) => Ok(0),
+        Shape::Var(_) | Shape::Int(_) => unreachable!(),
     }
 }
 
@@ -58,7 +60,7 @@ fn is_true(body: &TermRef<'_>) -> bool
 /// Compiles a clause, in time linear in its nodes. After an `Err` what was put stays, and nothing leads to it.
 pub fn compile_clause(
     alloc: Global,
-    code: &mut Code,
+    code: &mut Draft,
     kinds: &NameTable,
     clause: &Clause,
 ) -> Result<ClauseCode, AllocError>

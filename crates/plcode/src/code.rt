@@ -1,69 +1,47 @@
 //! The nodes and steps of clauses.
-ghost use Rattle.std.specs.Prelude.{◌≡◌, IfOk};
-ghost use Rattle.plcode.specs.Steps.{text, Extended, Text};
+ghost use Rattle.std.specs.Prelude.{◌≡◌, ◌<◌, length};
+ghost use Rattle.platoms.specs.Names.{Table};
+ghost use Rattle.plcode.specs.Steps.{step_at, text, text_of, Meets};
 ghost use Rattle.plcode.specs.Bodies.{IsCode};
-ghost use Rattle.plcode.specs.Marks.{cut_at, IsBack, IsMark};
 
+use crate::draft::Draft;
 use crate::node::Node;
-use crate::op::{Op, Step};
+use crate::op::Step;
 use platoms::names::Names;
-use std::alloc::{AllocError, Global};
 
-/// The names, nodes and steps of clauses. They grow, and what stands in them stays as it is, until it is cut off behind a mark.
+/// The nodes and steps of clauses, whose names are in a table beside them.
 #[derive(Drop)]
 pub struct Code {
-    pub names: Names,
-    pub nodes: Vec<Node>,
-    pub steps: Vec<Step>,
-}
-
-/// How many nodes and steps there are: what comes behind them can be cut off.
-#[derive(Clone, Copy, Debug, PartialEq, Eq)]
-pub struct Mark {
-    pub nodes: usize,
-    pub steps: usize,
+    nodes: Vec<Node>,
+    steps: Vec<Step>,
 }
 
 impl Code {
-    /// The code of no clauses. It has the sequence of fail/0 alone, which is the else of each `->` that has none.
-    pub fn new(alloc: Global) -> Result<Code, AllocError>
-        ensures { IfOk result (λ c. IsCode (text c)) }
+    /// The code of a draft, and its names.
+    pub fn of(draft: Draft) -> (Code, Names)
+        ensures { text_of result.1 result.0 ≡ text draft }
     {
-        let mut steps = Vec::new(alloc);
-        steps.push(Step {
-            op: Op::Fail,
-            conjunctions: 0,
-        })?;
-        steps.push(Step {
-            op: Op::Proceed,
-            conjunctions: 0,
-        })?;
-        let names = Names::new(alloc);
-        let nodes = Vec::new(alloc);
-        Ok(Code {
+        let Draft {
             names,
             nodes,
             steps,
-        })
+        } = draft;
+        (Code { nodes, steps }, names)
     }
 
-    /// The mark of what stands now.
-    pub fn mark(&self) -> Mark
-        ensures { IsMark (text self.now) result }
+    /// The step at a place; the one behind it stands at the place before.
+    pub fn step(&self, place: u32) -> Step
+        requires { place < length self.now.steps.items }
+        ensures is { (t : Table) → result ≡ step_at (text_of t self.now) place }
+        ensures meets { (t : Table) → IsCode (text_of t self.now) → Meets (text_of t self.now) place result }
     {
-        Mark {
-            nodes: self.nodes.len(),
-            steps: self.steps.len(),
-        }
+        self.steps[place as usize]
     }
 
-    /// Cuts off the nodes and steps behind a mark; the names stay. What stood when the mark was made stands again.
-    pub fn cut_back(&mut self, mark: Mark)
-        requires code { IsCode (text self.old) }
-        ensures cut { text self.new ≡ cut_at mark (text self.old) }
-        ensures back { (a : Text) → IsCode a → IsMark a mark → Extended a (text self.old) → IsBack a (text self.new) }
+    /// The nodes.
+    pub fn nodes(&self) -> &[Node]
+        ensures { result.now ≡ self.now.nodes.items }
     {
-        self.nodes.truncate(mark.nodes);
-        self.steps.truncate(mark.steps);
+        self.nodes.as_slice()
     }
 }

@@ -5,7 +5,7 @@ ghost use Rattle.plcode.specs.Bodies.{IsCode};
 ghost use Rattle.plcode.specs.Clauses.{AreCodeOf, AreProcedures};
 
 use crate::clause::{ClauseCode, compile_clause};
-use crate::code::Code;
+use crate::draft::Draft;
 use crate::index::Procedure;
 use plclause::clause::Clause;
 use plnames::table::NameTable;
@@ -15,7 +15,7 @@ use std::alloc::{AllocError, Global};
 /// Compiles clauses, in their order. After an `Err` what was put stays, and nothing leads to it.
 fn compile_clauses(
     alloc: Global,
-    code: &mut Code,
+    code: &mut Draft,
     kinds: &NameTable,
     clauses: &[Clause],
 ) -> Result<Vec<ClauseCode>, AllocError>
@@ -36,7 +36,7 @@ fn compile_clauses(
 /// was put stays, and nothing leads to it.
 pub fn compile_procedures(
     alloc: Global,
-    code: &mut Code,
+    code: &mut Draft,
     program: &Program,
 ) -> Result<Vec<Procedure>, AllocError>
     requires code { IsCode (text code.old) }
@@ -52,23 +52,4 @@ pub fn compile_procedures(
         made.push(procedure)?;
     }
     Ok(made)
-}
-
-/// The code of a program: its static procedures, in their order, and what their clauses stand in.
-#[derive(Drop)]
-pub struct ProgramCode {
-    pub code: Code,
-    pub procedures: Vec<Procedure>,
-}
-
-impl ProgramCode {
-    /// Compiles a program.
-    pub fn new(alloc: Global, program: &Program) -> Result<ProgramCode, AllocError>
-        ensures code { IfOk result (λ made. IsCode (text made.code)) }
-        ensures procedures { IfOk result (λ made. AreProcedures (text made.code) made.procedures.items program.now.procedures) }
-    {
-        let mut code = Code::new(alloc)?;
-        let procedures = compile_procedures(alloc, &mut code, program)?;
-        Ok(ProgramCode { code, procedures })
-    }
 }

@@ -1,8 +1,8 @@
 //! The clauses of a procedure, found by the keys of their first arguments.
-ghost use Rattle.std.specs.Prelude.{◌≡◌, ◌≤◌, ◌∷◌, ◌++◌, [], List, length, IfOk, OnOk};
+ghost use Rattle.std.specs.Prelude.{◌≡◌, ◌≤◌, ◌⊎◌, ◌∷◌, ◌++◌, [], List, length, IfOk, OnOk};
 ghost use Rattle.plcode.specs.declared.clause.ClauseCode.{ClauseCode as OfClause};
 ghost use Rattle.plcode.specs.declared.key.Key.TheVariants.{Any};
-ghost use Rattle.plcode.specs.Index.{candidates, run_of, HasRuns, IsIndex, IsNext};
+ghost use Rattle.plcode.specs.Index.{places_in as places_in_of, HasPlaces, IsFirstFrom, IsIndex, IsNext, IsRising, NotAfter};
 
 use crate::clause::ClauseCode;
 use crate::key::Key;
@@ -13,8 +13,8 @@ use std::marker::Model;
 /// So many clauses are scanned rather than found by a key.
 const SCANNED: usize = 7;
 
-/// The place of the first clause, from a place on, that a goal of a key may be for.
-pub fn next_candidate(clauses: &[ClauseCode], key: Key, from: usize) -> Option<usize>
+/// The place of the first clause, from a place on, that a goal of a key may be for: the keys are looked at one by one.
+fn next_candidate(clauses: &[ClauseCode], key: Key, from: usize) -> Option<usize>
     requires { from ≤ length clauses.now }
     ensures { IsNext key clauses.now from result }
 {
@@ -26,61 +26,97 @@ pub fn next_candidate(clauses: &[ClauseCode], key: Key, from: usize) -> Option<u
     None
 }
 
-/// Adds a clause, as the last of those of its key.
-fn add_to_run(
+/// Adds the place of a clause, as the last of those of its key.
+fn add_place(
     alloc: Global,
-    runs: &mut IndexMap<Key, Vec<ClauseCode>>,
-    clause: ClauseCode,
+    places: &mut IndexMap<Key, Vec<usize>>,
+    key: Key,
+    place: usize,
 ) -> Result<(), AllocError>
-    ensures { OnOk result ((cs : List OfClause) → (clause.key ≡ Any → ⊥) → HasRuns runs.old cs → HasRuns runs.new (cs ++ clause ∷ [])) }
+    ensures { OnOk result ((cs : List OfClause) (c : OfClause) → c.key ≡ key → length cs ≡ place → HasPlaces places.old cs → HasPlaces places.new (cs ++ c ∷ [])) }
 {
-    match runs.get_mut(&clause.key) {
+    match places.get_mut(&key) {
         Some(run) => {
-            run.push(clause)?;
+            run.push(place)?;
             Ok(())
         }
         None => {
             let mut first = Vec::new(alloc);
-            first.push(clause)?;
-            runs.insert(clause.key, first)?;
+            first.push(place)?;
+            places.insert(key, first)?;
             Ok(())
         }
     }
 }
 
-/// The clauses of each key; none, if one of the clauses has a variable as its first argument, or no argument.
-fn runs_of(
-    alloc: Global,
-    clauses: &[ClauseCode],
-) -> Result<Option<IndexMap<Key, Vec<ClauseCode>>>, AllocError>
-    ensures { IfOk result (λ runs. IsIndex runs clauses.now) }
+/// The places of the clauses of each key, in their order, in time linear in the clauses.
+fn places_of(alloc: Global, clauses: &[ClauseCode]) -> Result<IndexMap<Key, Vec<usize>>, AllocError>
+    ensures { IfOk result (λ places. HasPlaces places clauses.now) }
 {
-    let mut runs = IndexMap::new(alloc);
-    for clause in clauses {
-        if clause.key == Key::Any {
-            return Ok(None);
-        }
-        add_to_run(alloc, &mut runs, *clause)?;
+    let mut places = IndexMap::new(alloc);
+    for (place, clause) in clauses.iter().enumerate() {
+        add_place(alloc, &mut places, clause.key, place)?;
     }
-    Ok(Some(runs))
+    Ok(places)
 }
 
-/// The clauses of a key.
-fn run_in(runs: &IndexMap<Key, Vec<ClauseCode>>, key: Key) -> &[ClauseCode]
-    ensures { result.now ≡ run_of runs.now key }
+/// The places of the clauses of a key.
+fn places_in(places: &IndexMap<Key, Vec<usize>>, key: Key) -> &[usize]
+    ensures { result.now ≡ places_in_of places.now key }
 {
-    match runs.get(&key) {
+    match places.get(&key) {
         Some(run) => run.as_slice(),
         None => &[],
     }
 }
 
-/// The clauses of a procedure, in text order. Where there are more than seven, and none has a variable as its first argument, those
-/// of one key are found by it. In all others the keys are scanned.
+/// The first of rising places, from a place on, by a binary search.
+fn first_from(places: &[usize], from: usize) -> Option<usize>
+    requires { IsRising places.now }
+    ensures { IsFirstFrom places.now from result }
+{
+    match places.binary_search(&from) {
+        Ok(_) => Some(from),
+        Err(next) => {
+            if next < places.len() {
+                Some(places[next])
+            } else {
+                None
+            }
+        }
+    }
+}
+
+/// The earlier of two places.
+fn earlier(one: Option<usize>, other: Option<usize>) -> Option<usize>
+    ensures one_of { (result ≡ one) ⊎ (result ≡ other) }
+    ensures before_one { NotAfter result one }
+    ensures before_other { NotAfter result other }
+{
+    match (one, other) {
+        (Some(a), Some(b)) if b < a => Some(b),
+        (None, _) => other,
+        (Some(_), _) => one,
+    }
+}
+
+/// The place of the first clause, from a place on, that a goal of a key may be for, by the places of the keys: one of this key, or
+/// one with a variable as its first argument.
+fn next_place(places: &IndexMap<Key, Vec<usize>>, key: Key, from: usize) -> Option<usize>
+    requires some { key ≡ Any → ⊥ }
+    requires index { (cs : List OfClause) × HasPlaces places.now cs }
+    ensures { (cs : List OfClause) → HasPlaces places.now cs → IsNext key cs from result }
+{
+    let own = first_from(places_in(places, key), from);
+    let open = first_from(places_in(places, Key::Any), from);
+    earlier(own, open)
+}
+
+/// The clauses of a procedure, in text order. Where there are more than seven, those that a goal may be for are found by their keys.
 #[derive(Drop)]
 pub struct Procedure {
     clauses: Vec<ClauseCode>,
-    runs: Option<IndexMap<Key, Vec<ClauseCode>>>,
+    places: Option<IndexMap<Key, Vec<usize>>>,
 }
 
 impl Model for Procedure {
@@ -96,7 +132,7 @@ impl Model for Procedure {
 
     ghost view = { λ a. a.clauses.items };
 
-    ghost invariant = { λ a. IsIndex a.runs a.clauses.items };
+    ghost invariant = { λ a. IsIndex a.places a.clauses.items };
 }
 
 impl Procedure {
@@ -104,21 +140,29 @@ impl Procedure {
     pub fn new(alloc: Global, clauses: Vec<ClauseCode>) -> Result<Procedure, AllocError>
         ensures { IfOk result (λ p. p ≡ clauses.items) }
     {
-        let runs = if clauses.len() > SCANNED {
-            runs_of(alloc, clauses.as_slice())?
+        let places = if clauses.len() > SCANNED {
+            Some(places_of(alloc, clauses.as_slice())?)
         } else {
             None
         };
-        Ok(Procedure { clauses, runs })
+        Ok(Procedure { clauses, places })
     }
 
-    /// Some of the clauses, in their order, among them all that a goal of a key may be for.
-    pub fn run(&self, key: Key) -> &[ClauseCode]
-        ensures { candidates key result.now ≡ candidates key self.now }
+    /// The clauses, in text order.
+    pub fn clauses(&self) -> &[ClauseCode]
+        ensures { result.now ≡ self.now }
     {
-        match &self.runs {
-            Some(runs) if key != Key::Any => run_in(runs, key),
-            _ => self.clauses.as_slice(),
+        self.clauses.as_slice()
+    }
+
+    /// The place of the first clause, from a place on, that a goal of a key may be for.
+    pub fn next(&self, key: Key, from: usize) -> Option<usize>
+        requires { from ≤ length self.now }
+        ensures { IsNext key self.now from result }
+    {
+        match &self.places {
+            Some(places) if key != Key::Any => next_place(places, key, from),
+            _ => next_candidate(self.clauses.as_slice(), key, from),
         }
     }
 }

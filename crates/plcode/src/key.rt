@@ -5,7 +5,7 @@ ghost use Rattle.plcode.specs.Steps.{text, Extended};
 ghost use Rattle.plcode.specs.Bodies.{IsCode};
 ghost use Rattle.plcode.specs.Keys.{admits as admits_key, HeadsPart, IsFirstKey, IsKey, KeysPart};
 
-use crate::code::Code;
+use crate::draft::Draft;
 use platoms::names::Functor;
 use plterm::walk::{Shape, TermRef};
 use std::alloc::AllocError;
@@ -45,7 +45,7 @@ impl Key {
 }
 
 /// The key of a term.
-pub fn key_of(code: &mut Code, term: &TermRef<'_>) -> Result<Key, AllocError>
+pub fn key_of(code: &mut Draft, term: &TermRef<'_>) -> Result<Key, AllocError>
     requires code { IsCode (text code.old) }
     ensures extended { OnOk result (Extended (text code.old) (text code.new)) }
     ensures code { OnOk result (IsCode (text code.new)) }
@@ -68,7 +68,7 @@ pub fn key_of(code: &mut Code, term: &TermRef<'_>) -> Result<Key, AllocError>
 }
 
 /// The key of a head's first argument; that of anything, if it has none.
-pub fn head_key(code: &mut Code, head: &TermRef<'_>) -> Result<Key, AllocError>
+pub fn head_key(code: &mut Draft, head: &TermRef<'_>) -> Result<Key, AllocError>
     requires code { IsCode (text code.old) }
     ensures extended { OnOk result (Extended (text code.old) (text code.new)) }
     ensures code { OnOk result (IsCode (text code.new)) }

@@ -1,10 +1,11 @@
 //! Laying the nodes of terms down.
-ghost use Rattle.std.specs.Prelude.{◌≡◌, ◌≤◌, [], ◌∷◌, ◌++◌, length, take, drop, reverse, IfOk, OnOk, List};
-ghost use Rattle.plterm.specs.Tree.{Tree};
+ghost use Rattle.std.specs.Prelude.{◌≡◌, suc, ◌+◌, ◌^◌, ◌<◌, ◌≤◌, [], ◌∷◌, ◌++◌, length, take, drop, reverse, IfOk, OnOk, List};
+ghost use Rattle.plterm.specs.Tree.{Tree, compound, trees};
 ghost use Rattle.plterm.specs.Reading.{arity, read, reading, Fits, IsForest};
-ghost use Rattle.platoms.specs.Names.{Extends};
+ghost use Rattle.platoms.specs.Names.{atom_at, Extends, HasFunctor, IsFunctor};
 ghost use Rattle.plcode.specs.declared.node.Node.TheVariants.{Fun, Sub};
-ghost use Rattle.plcode.specs.Laying.{from_or, lower as lower_of, lowest, Grows, IsLaid, IsRow, Waits};
+ghost use Rattle.plcode.specs.Nodes.{tree, value, IsNamed};
+ghost use Rattle.plcode.specs.Laying.{lower as lower_of, lowest, Grows, IsLaid, IsLeaf, IsRow, Waits};
 
 use crate::node::Node;
 use platoms::names::{Functor, Names};
@@ -13,28 +14,40 @@ use plterm::walk::Terms;
 use std::alloc::{AllocError, Global};
 
 /// Where the first block of the last compound begins, if a node follows others.
-fn lower(low: Option<u32>, node: Node) -> Option<u32>
+fn lower(low: u32, node: Node) -> u32
     ensures { result ≡ lower_of low node }
 {
     match node {
-        Node::Sub(from, _) => Some(from),
+        Node::Sub(from, _) => from,
         Node::Var(_) | Node::Int(_) | Node::Atom(_) | Node::Fun(_, _) => low,
     }
 }
 
+/// Refuses nodes that are too many for places of 32 bits.
+fn few(nodes: &[Node]) -> Result<(), AllocError>
+    ensures { OnOk result (length nodes.now < 2 ^ 32) }
+{
+    if nodes.len() > u32::MAX as usize {
+        return Err(AllocError);
+    }
+    Ok(())
+}
+
 /// Moves the topmost nodes of a stack, so many as are asked for, behind the others; the topmost one comes first. Says where the
-/// first block of the last compound among them begins.
+/// first block of the last compound among them begins; where there is none, it is `end`. Refuses to pass the places of 32 bits.
 fn put_row(
     nodes: &mut Vec<Node>,
     waiting: &mut Vec<Node>,
     count: u16,
-) -> Result<Option<u32>, AllocError>
+    end: u32,
+) -> Result<u32, AllocError>
     requires { count ≤ length waiting.old.items }
     ensures nodes { OnOk result (nodes.new.items ≡ nodes.old.items ++ take count (reverse waiting.old.items)) }
+    ensures few { OnOk result (length nodes.new.items < 2 ^ 32) }
     ensures waiting { OnOk result (reverse waiting.new.items ≡ drop count (reverse waiting.old.items)) }
-    ensures lowest { IfOk result (λ low. low ≡ lowest (take count (reverse waiting.old.items))) }
+    ensures lowest { IfOk result (λ low. low ≡ lowest end (take count (reverse waiting.old.items))) }
 {
-    let mut low = None;
+    let mut low = end;
     for _ in 0..count {
         let Some(node) = waiting.pop() else {
             unreachable!()
@@ -42,27 +55,30 @@ fn put_row(
         low = lower(low, node);
         nodes.push(node)?;
     }
+    few(nodes.as_slice())?;
     Ok(low)
 }
 
-/// Lays a block down, whose arguments are the topmost nodes of a stack; the compound takes their place.
+/// Lays a block down, whose arguments are the topmost nodes of a stack; the compound takes their place. Says where the block stands.
 fn put_block(
     nodes: &mut Vec<Node>,
     waiting: &mut Vec<Node>,
     functor: u32,
     count: u16,
-) -> Result<(), AllocError>
+) -> Result<u32, AllocError>
     requires { count ≤ length waiting.old.items }
+    ensures root { IfOk result (λ root. root ≡ length nodes.old.items) }
     ensures nodes { OnOk result (nodes.new.items ≡ nodes.old.items ++ Fun functor count ∷ take count (reverse waiting.old.items)) }
-    ensures waiting { OnOk result (reverse waiting.new.items ≡ Sub (from_or (length nodes.old.items) (lowest (take count (reverse waiting.old.items)))) (length nodes.old.items) ∷ drop count (reverse waiting.old.items)) }
+    ensures few { OnOk result (length nodes.new.items < 2 ^ 32) }
+    ensures waiting { OnOk result (reverse waiting.new.items ≡ Sub (lowest (length nodes.old.items) (take count (reverse waiting.old.items))) (length nodes.old.items) ∷ drop count (reverse waiting.old.items)) }
 {
     let Ok(root) = u32::try_from(nodes.len()) else {
         return Err(AllocError);
     };
     nodes.push(Node::Fun(functor, count))?;
-    let low = put_row(nodes, waiting, count)?;
-    waiting.push(Node::Sub(low.unwrap_or(root), root))?;
-    Ok(())
+    let from = put_row(nodes, waiting, count, root)?;
+    waiting.push(Node::Sub(from, root))?;
+    Ok(root)
 }
 
 /// Lays a term down whose arguments are the topmost nodes of a stack; its own node takes their place.
@@ -125,6 +141,29 @@ fn put_all(
     Ok(())
 }
 
+/// Lays terms down, so many as are asked for, which are taken off; their own nodes wait, that of the first term on top.
+fn stacked(
+    alloc: Global,
+    nodes: &mut Vec<Node>,
+    names: &mut Names,
+    terms: &mut Terms<'_>,
+    count: u16,
+) -> Result<Vec<Node>, AllocError>
+    requires room { count ≤ length terms.old }
+    requires laid { IsLaid names.old nodes.old.items }
+    ensures rest { OnOk result (terms.new ≡ drop count terms.old) }
+    ensures waits { IfOk result (λ w. Waits names.new nodes.new.items (reverse w.items) (take count terms.old)) }
+    ensures count { IfOk result (λ w. length w.items ≡ count) }
+    ensures grows { OnOk result (Grows nodes.old.items nodes.new.items) }
+    ensures names { Extends names.old names.new }
+{
+    let mut spelled = Vec::new(alloc);
+    terms.copy_nodes(count as usize, &mut spelled)?;
+    let mut waiting = Vec::new(alloc);
+    put_all(nodes, &mut waiting, names, spelled)?;
+    Ok(waiting)
+}
+
 /// Lays terms down behind the nodes, so many as are asked for, which are taken off; says where the row of their own nodes begins.
 /// For want of memory, or of numbers, what was laid down stays, and no row is there.
 pub fn lay(
@@ -142,13 +181,87 @@ pub fn lay(
     ensures grows { OnOk result (Grows nodes.old.items nodes.new.items) }
     ensures names { Extends names.old names.new }
 {
-    let mut spelled = Vec::new(alloc);
-    terms.copy_nodes(count as usize, &mut spelled)?;
-    let mut waiting = Vec::new(alloc);
-    put_all(nodes, &mut waiting, names, spelled)?;
+    let mut waiting = stacked(alloc, nodes, names, terms, count)?;
     let Ok(at) = u32::try_from(nodes.len()) else {
         return Err(AllocError);
     };
-    put_row(nodes, &mut waiting, count)?;
+    put_row(nodes, &mut waiting, count, at)?;
     Ok(at)
+}
+
+/// Lays a node down that stands for a term alone; says where.
+pub fn lay_leaf(nodes: &mut Vec<Node>, names: &Names, node: Node) -> Result<u32, AllocError>
+    requires laid { IsLaid names.now nodes.old.items }
+    requires named { IsNamed names.now node }
+    requires leaf { IsLeaf node }
+    ensures row { IfOk result (λ at. IsRow names.now nodes.new.items at 1 (tree (value names.now [] node) ∷ [])) }
+    ensures laid { OnOk result (IsLaid names.now nodes.new.items) }
+    ensures grows { OnOk result (Grows nodes.old.items nodes.new.items) }
+{
+    let Ok(at) = u32::try_from(nodes.len()) else {
+        return Err(AllocError);
+    };
+    nodes.push(node)?;
+    few(nodes.as_slice())?;
+    Ok(at)
+}
+
+/// A compound that was laid down: the number of its functor, where the row of its arguments begins, and where its own node stands.
+#[derive(Clone, Copy, Debug, PartialEq, Eq)]
+pub struct Laid {
+    pub functor: u32,
+    pub row: u32,
+    pub node: u32,
+}
+
+/// Lays a compound down by its functor, whose arguments wait on a stack, and no other nodes.
+fn close(
+    nodes: &mut Vec<Node>,
+    waiting: &mut Vec<Node>,
+    functor: u32,
+    count: u16,
+) -> Result<Laid, AllocError>
+    requires { count ≡ length waiting.old.items }
+    ensures functor { IfOk result (λ laid. laid.functor ≡ functor) }
+    ensures row { IfOk result (λ laid. laid.row ≡ suc (length nodes.old.items)) }
+    ensures node { IfOk result (λ laid. laid.node ≡ suc (length nodes.old.items) + count) }
+    ensures nodes { OnOk result (nodes.new.items ≡ (nodes.old.items ++ Fun functor count ∷ take count (reverse waiting.old.items)) ++ Sub (lowest (length nodes.old.items) (take count (reverse waiting.old.items))) (length nodes.old.items) ∷ []) }
+    ensures few { OnOk result (length nodes.new.items < 2 ^ 32) }
+{
+    let root = put_block(nodes, waiting, functor, count)?;
+    let Ok(node) = u32::try_from(nodes.len()) else {
+        return Err(AllocError);
+    };
+    put_row(nodes, waiting, 1, node)?;
+    Ok(Laid {
+        functor,
+        row: root + 1,
+        node,
+    })
+}
+
+/// Lays a compound down by its functor, whose arguments are taken off the terms: their blocks, its own, and its node. For want of
+/// memory, or of numbers, what was laid down stays, and no node is there.
+pub fn lay_compound(
+    alloc: Global,
+    nodes: &mut Vec<Node>,
+    names: &mut Names,
+    terms: &mut Terms<'_>,
+    functor: Functor,
+) -> Result<Laid, AllocError>
+    requires room { functor.arity ≤ length terms.old }
+    requires laid { IsLaid names.old nodes.old.items }
+    requires functor { IsFunctor names.old functor }
+    ensures rest { OnOk result (terms.new ≡ drop functor.arity terms.old) }
+    ensures functor { IfOk result (λ laid. HasFunctor names.new laid.functor functor) }
+    ensures row { IfOk result (λ laid. IsRow names.new nodes.new.items laid.row functor.arity (take functor.arity terms.old)) }
+    ensures node { IfOk result (λ laid. IsRow names.new nodes.new.items laid.node 1 (compound (atom_at names.new functor.name) (trees (take functor.arity terms.old)) ∷ [])) }
+    ensures laid { OnOk result (IsLaid names.new nodes.new.items) }
+    ensures grows { OnOk result (Grows nodes.old.items nodes.new.items) }
+    ensures names { Extends names.old names.new }
+{
+    let number = names.functor(functor)?;
+    let mut waiting = stacked(alloc, nodes, names, terms, functor.arity)?;
+    let laid = close(nodes, &mut waiting, number, functor.arity)?;
+    Ok(laid)
 }

@@ -4,7 +4,7 @@ use Rattle.plcode.specs.Steps.{text}
 use Rattle.plcode.specs.Bodies.{Leads, Splits}
 use Rattle.plcode.specs.declared.body.Piece.{Piece}
 use Rattle.plcode.proofs.Folds.{Leads-more, Leads-push}
-use Rattle.plcode.proofs.Segments.{Extended-trans}
+use Rattle.plcode.proofs.Stays.{Extended-trans}
 use Rattle.plcode.proofs.body.pieces_of.Goals as goal
 
 pub goals-preserved : goal.goals-preserved

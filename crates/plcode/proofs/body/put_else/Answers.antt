@@ -1,25 +1,58 @@
-use Rattle.std.proofs.Common.{◌≡◌, ◌∙◌, ◌∷◌, [], List, drop, reverse, subst, ap, sym}
+use Rattle.std.proofs.Common.{◌≡◌, ◌∙◌, ◌∷◌, [], List, Some, drop, reverse, refl, subst, ap, sym, codes}
 use Rattle.std.proofs.lemmas.List.{reverse-append}
 use Rattle.plterm.specs.Tree.{Tree}
 use Rattle.plcode.specs.declared.body.Part.{Part}
 use Rattle.plcode.specs.declared.op.Step.{Step}
-use Rattle.plcode.specs.Steps.{text}
+use Rattle.plcode.specs.Steps.{text, of_two}
 use Rattle.plcode.specs.Bodies.{arrow_of, Made}
-use Rattle.plcode.proofs.Segments.{else_put}
+use Rattle.plcode.proofs.Segments.{else_put, else_code, else_extended}
 use Rattle.plcode.proofs.body.put_else.Goals as goal
 
+module _ (c : goal.In_ok-push_part) where
+  abbrev ps : List Part
+  ps = reverse c.pop-2.new.self.items
+
+  first : reverse c.args.parts.now.items ≡ c.in-Some.field-0 ∷ reverse c.pop.new.self.items
+  first = ap reverse c.in-Some.ensures.items ∙ reverse-append c.pop.new.self.items (c.in-Some.field-0 ∷ [])
+
+  second : reverse c.pop.new.self.items ≡ c.in-Some-pop.right ∷ ps
+  second = ap reverse c.in-Some-pop.ensures.items ∙ reverse-append c.pop-2.new.self.items (c.in-Some-pop.right ∷ [])
+
+  popped : reverse c.pop-3.new.self.items ≡ drop 1 (reverse c.args.made.now.items)
+  popped =
+      let s = c.in-Some-pop-2.field-0 in
+      sym (ap (λ (v : List Step). drop 1 v) (ap reverse c.in-Some-pop-2.ensures.items ∙ reverse-append c.pop-3.new.self.items (s ∷ [])))
+
+  top : c.in-Some.field-0.arrow ≡ Some c.args.arrow
+  top = sym (ap arrow_of first) ∙ c.requires.top
+
+  parted : (a b : Tree) (rest : List Tree) → Made (text c.args.code.now) (reverse c.args.parts.now.items) (reverse c.args.made.now.items) (a ∷ b ∷ rest)
+      → Made (text c.args.code.now) (c.in-Some.field-0 ∷ c.in-Some-pop.right ∷ ps) (reverse c.args.made.now.items) (a ∷ b ∷ rest)
+  parted a b rest h =
+      let P : List Part → Type 0 = λ v. Made (text c.args.code.now) v (reverse c.args.made.now.items) (a ∷ b ∷ rest) in
+      subst P (first ∙ ap (λ (v : List Part). c.in-Some.field-0 ∷ v) second) h
+
 pub returns-clause-goal : goal.returns-clause-goal
-returns-clause-goal c g rest gs branch holds h =
-    let p = c.in-Some.field-0 in
-    let q = c.in-Some-pop.right in
-    let ps = reverse c.pop-2.new.self.items in
-    let first : reverse c.args.parts.now.items ≡ p ∷ reverse c.pop.new.self.items = ap reverse c.in-Some.ensures.items ∙ reverse-append c.pop.new.self.items (p ∷ []) in
-    let second : reverse c.pop.new.self.items ≡ q ∷ ps = ap reverse c.in-Some-pop.ensures.items ∙ reverse-append c.pop-2.new.self.items (q ∷ []) in
-    let s = c.in-Some-pop-2.field-0 in
-    let step : reverse c.args.made.now.items ≡ s ∷ reverse c.pop-3.new.self.items = ap reverse c.in-Some-pop-2.ensures.items ∙ reverse-append c.pop-3.new.self.items (s ∷ []) in
+returns-clause-goal c g rest gs holds h =
     let P : List Tree → Type 0 = Made (text c.args.code.now) (reverse c.args.parts.now.items) (reverse c.args.made.now.items) in
-    let Q : List Part → Type 0 = λ v. Made (text c.args.code.now) v (reverse c.args.made.now.items) (holds.first ∷ holds.second ∷ rest) in
     let e = c.in_ok-otherwise.ensures in
     rw (c.in_ok-push_part.ensures.parts, c.in_ok-push_part.ensures.made)
-    (else_put _ _ _ _ c.args.arrow p q ps _ _ _ c.in_ok-otherwise.otherwise (sym (ap arrow_of first) ∙ c.requires.top) (sym (ap (λ (v : List Step). drop 1 v) step)) e.code e.place e.made
-    g holds.first holds.second rest branch holds.form_is (subst Q (first ∙ ap (λ (v : List Part). p ∷ v) second) (subst P holds.next h)))
+    (else_put (text c.args.code.now) c.requires.code c.put_sequence.new.code.items c.args.arrow c.in-Some.field-0 c.in-Some-pop.right (ps c) (reverse c.args.made.now.items)
+    (reverse c.pop-3.new.self.items) _ c.in_ok-otherwise.otherwise (top c) (popped c) e.code e.place e.made g holds.first holds.second rest holds.is
+    (parted c holds.first holds.second rest (subst P holds.next h)))
+
+pub returns-clause-code : goal.returns-clause-code
+returns-clause-code c =
+    let e = c.in_ok-otherwise.ensures in
+    let m = c.requires.made in
+    else_code (text c.args.code.now) c.requires.code c.put_sequence.new.code.items c.args.arrow c.in-Some.field-0 c.in-Some-pop.right (ps c) (reverse c.args.made.now.items)
+    (reverse c.pop-3.new.self.items) _ c.in_ok-otherwise.otherwise (top c) (popped c) e.code e.place e.made (of_two (codes ";") m.first m.second) m.first m.second m.rest refl
+    (parted c m.first m.second m.rest m.made)
+
+pub returns-clause-extended : goal.returns-clause-extended
+returns-clause-extended c =
+    let e = c.in_ok-otherwise.ensures in
+    let m = c.requires.made in
+    else_extended (text c.args.code.now) c.requires.code c.put_sequence.new.code.items c.args.arrow c.in-Some.field-0 c.in-Some-pop.right (ps c) (reverse c.args.made.now.items)
+    (reverse c.pop-3.new.self.items) _ c.in_ok-otherwise.otherwise (top c) (popped c) e.code e.place e.made (of_two (codes ";") m.first m.second) m.first m.second m.rest refl
+    (parted c m.first m.second m.rest m.made)

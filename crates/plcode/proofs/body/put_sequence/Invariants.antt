@@ -1,10 +1,10 @@
-use Rattle.std.proofs.Common.{◌≡◌, ◌≤◌, ◌++◌, length, take, drop, reverse}
+use Rattle.std.proofs.Common.{◌≡◌, ◌≤◌, ◌-◌, ◌++◌, drop, take}
+use Rattle.plcode.specs.declared.op.Op.TheVariants as ops
+use Rattle.plcode.specs.Bodies.{step}
 use Rattle.plcode.proofs.body.put_sequence.Given as goal
 
-abbrev pub invariant-loop : goal.invariant-loop
-invariant-loop l = record {
-  room : l.count ≤ length (reverse l.initial.made.items);
-  place : l.at ≡ length l.initial.code.items;
-  code : l.code.items ≡ l.initial.code.items ++ take l.counter (reverse l.initial.made.items);
-  made : reverse l.made.items ≡ drop l.counter (reverse l.initial.made.items);
+abbrev pub invariant-loop-place : goal.invariant-loop-place
+invariant-loop-place l = record {
+  from : l.from ≤ l.place;
+  code : l.code.items ≡ l.fn.code.items ++ (step ops.Proceed 0 ++ take (l.place - l.from) (drop l.from l.made.items));
 }

@@ -1,13 +1,18 @@
-use Rattle.std.proofs.Common.{rules, ◌∙◌, List, subst, ap}
+use Rattle.std.proofs.Common.{rules, ◌∙◌, List, subst, ap, sym}
 use Rattle.plterm.specs.Tree.{Tree}
+use Rattle.plclause.specs.Soundness.{IsCallable}
 use Rattle.plsearch.specs.Forms.{arguments}
 use Rattle.plsearch.specs.Rows.{is_true}
 use Rattle.plcode.specs.Steps.{text, Args}
 use Rattle.plcode.specs.Bodies.{Begins}
 use Rattle.plcode.specs.Keys.{IsFirstKey}
-use Rattle.plcode.proofs.Segments.{Args-more, Extended-trans}
+use Rattle.plcode.specs.Clauses.{IsProper}
+use Rattle.plcode.proofs.Stays.{Args-more, Extended-trans}
 use Rattle.plcode.proofs.Keys.{IsFirstKey-more}
 use Rattle.plcode.proofs.clause.compile_clause.Goals as goal
+
+pub lay_arguments-requires-clause-callable : goal.lay_arguments-requires-clause-callable
+lay_arguments-requires-clause-callable c = subst IsCallable (sym (c.root-given.ensures ∙ c.head.ensures.value)) c.head.ensures.callable
 
 pub returns-clause-extended : goal.returns-clause-extended
 returns-clause-extended c =
@@ -28,6 +33,14 @@ returns-clause-clause c =
     let RowIs : List Tree → Type 0 = Args compiled c.in_ok-head.head in
     let KeyIs : List Tree → Type 0 = IsFirstKey compiled.names c.in_ok-key.key in
     record {
+      sound = record {
+        callable = c.head.ensures.callable;
+        converted_body = c.body.ensures.goal;
+        head_below = c.head.ensures.below;
+        body_below = c.body.ensures.below;
+        numbered = c.head.ensures.numbered;
+      };
+      proper = subst IsProper head c.in_ok-head.ensures.proper;
       head = subst RowIs (ap arguments head) (Args-more laid compiled c.in_ok-head.ensures.code.laid c.in_ok-body.ensures.extended c.in_ok-head.head (arguments c.root-given.result) c.in_ok-head.ensures.row);
       key = subst KeyIs (ap arguments head) (IsFirstKey-more keyed.names compiled.names c.in_ok-key.ensures.code.laid.table more.names c.in_ok-key.key (arguments c.root-given.result) c.in_ok-key.ensures.key);
       body = subst (Begins compiled c.in_ok-body.body) body c.in_ok-body.ensures.begins;

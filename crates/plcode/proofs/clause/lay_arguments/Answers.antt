@@ -5,6 +5,7 @@ use Rattle.plsearch.specs.Forms.{arguments}
 use Rattle.plcode.specs.Laying.{IsRow}
 use Rattle.plcode.specs.Steps.{text, Args}
 use Rattle.plcode.proofs.Goals.{no_args}
+use Rattle.plcode.proofs.Stays.{relaid_code}
 use Rattle.plcode.proofs.clause.lay_arguments.Goals as goal
 
 pub returns-in_ok-at-in-Compound-clause-row : goal.returns-in_ok-at-in-Compound-clause-row
@@ -17,17 +18,21 @@ returns-in_ok-at-in-Compound-clause-row c =
     let R : List Tree → Type 0 = IsRow c.lay.new.names c.lay.new.nodes.items at (length ts) in
     subst P (sym is) (subst R (take_all (length ts) ts (omega arith)) (subst Q c.len-count.ensures c.in_ok-at-in-Compound.ensures.row))
 
-pub returns-in-Var-clause-row : goal.returns-in-Var-clause-row
-returns-in-Var-clause-row c =
-    let P : List Tree → Type 0 = Args (text c.args.code.now) 0 in
-    subst P (ap arguments c.in-Var.ensures.shown) (no_args (text c.args.code.now))
-
-pub returns-in-Int-clause-row : goal.returns-in-Int-clause-row
-returns-in-Int-clause-row c =
-    let P : List Tree → Type 0 = Args (text c.args.code.now) 0 in
-    subst P (ap arguments c.in-Int.ensures.shown) (no_args (text c.args.code.now))
-
 pub returns-in-Atom-clause-row : goal.returns-in-Atom-clause-row
 returns-in-Atom-clause-row c =
     let P : List Tree → Type 0 = Args (text c.args.code.now) 0 in
     subst P (ap arguments c.in-Atom.ensures.shown) (no_args (text c.args.code.now))
+
+pub returns-in_ok-at-in-Compound-clause-code : goal.returns-in_ok-at-in-Compound-clause-code
+returns-in_ok-at-in-Compound-clause-code c =
+    let e = c.in_ok-at-in-Compound.ensures in
+    relaid_code (text c.args.code.now) c.lay.new.names c.lay.new.nodes.items e.names e.grows c.requires.code e.laid
+
+pub returns-in_ok-at-in-Compound-clause-proper : goal.returns-in_ok-at-in-Compound-clause-proper
+returns-in_ok-at-in-Compound-clause-proper c none =
+    let ts = c.in-Compound.args in
+    let is : arguments c.args.head.now ≡ ts = sym (ap arguments c.in-Compound.ensures.shown) ∙ list_of-trees ts in
+    absurd (omega (arith, c.in-Compound.ensures.bounds.1, ap length (sym is ∙ none)))
+
+pub returns-in-Atom-clause-proper : goal.returns-in-Atom-clause-proper
+returns-in-Atom-clause-proper c none = (c.in-Atom.field-0.now, sym c.in-Atom.ensures.shown)

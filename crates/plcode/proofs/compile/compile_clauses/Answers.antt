@@ -3,7 +3,7 @@ use Rattle.std.proofs.lemmas.List.{take_more}
 use Rattle.plcode.specs.declared.clause.ClauseCode.{ClauseCode}
 use Rattle.plcode.specs.Steps.{text}
 use Rattle.plcode.specs.Clauses.{AreCodeOf}
-use Rattle.plcode.proofs.Segments.{Extended-trans}
+use Rattle.plcode.proofs.Stays.{Extended-trans}
 use Rattle.plcode.proofs.Clauses.{AreCodeOf-more, AreCodeOf-put}
 use Rattle.plcode.proofs.compile.compile_clauses.Goals as goal
 

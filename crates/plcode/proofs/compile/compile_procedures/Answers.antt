@@ -6,7 +6,7 @@ use Rattle.plclause.specs.Clause.{Clause}
 use Rattle.plcode.specs.declared.clause.ClauseCode.{ClauseCode}
 use Rattle.plcode.specs.Steps.{text}
 use Rattle.plcode.specs.Clauses.{AreCodeOf, AreProcedures}
-use Rattle.plcode.proofs.Segments.{Extended-trans}
+use Rattle.plcode.proofs.Stays.{Extended-trans}
 use Rattle.plcode.proofs.Clauses.{AreProcedures-more, AreProcedures-put}
 use Rattle.plcode.proofs.compile.compile_procedures.Goals as goal
 

@@ -3,16 +3,16 @@ use Rattle.plterm.specs.Tree.{compound, trees, list_of-trees}
 use Rattle.platoms.specs.Names.{atom_at, functor_name}
 use Rattle.platoms.proofs.Extending.{atom_same, Extends-trans}
 use Rattle.plcode.specs.Steps.{text}
-use Rattle.plcode.proofs.Goals.{names_code}
+use Rattle.plcode.proofs.Stays.{names_code}
 use Rattle.plcode.proofs.key.key_of.Goals as goal
 
 pub returns-in_ok-atom-in-Atom-clause-code : goal.returns-in_ok-atom-in-Atom-clause-code
-returns-in_ok-atom-in-Atom-clause-code c = names_code (text c.args.code.now) c.requires.code c.atom.new.self c.atom.ensures.extends c.atom.ensures.table
+returns-in_ok-atom-in-Atom-clause-code c = names_code (text c.args.code.now) c.atom.new.self c.atom.ensures.extends c.requires.code c.atom.ensures.table
 
 pub returns-in_ok-functor-in-Compound-clause-code : goal.returns-in_ok-functor-in-Compound-clause-code
 returns-in_ok-functor-in-Compound-clause-code c =
-    names_code (text c.args.code.now) c.requires.code c.functor.new.self
-    (Extends-trans c.args.code.now.names c.atom-in-Compound.new.self c.functor.new.self c.atom-in-Compound.ensures.extends c.functor.ensures.extends) c.functor.ensures.table
+    names_code (text c.args.code.now) c.functor.new.self
+    (Extends-trans c.args.code.now.names c.atom-in-Compound.new.self c.functor.new.self c.atom-in-Compound.ensures.extends c.functor.ensures.extends) c.requires.code c.functor.ensures.table
 
 pub returns-in_ok-functor-in-Compound-clause-key : goal.returns-in_ok-functor-in-Compound-clause-key
 returns-in_ok-functor-in-Compound-clause-key c =

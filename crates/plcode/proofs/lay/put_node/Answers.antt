@@ -1,10 +1,11 @@
-use Rattle.std.proofs.Common.{◌≡◌, ◌≤◌, ◌∙◌, ◌∷◌, [], ◌++◌, ℕ, List, length, take, drop, reverse, subst, ap, arith}
+use Rattle.std.proofs.Common.{◌≡◌, ◌<◌, ◌^◌, ◌≤◌, ◌∙◌, ◌∷◌, [], ◌++◌, ℕ, List, length, take, drop, reverse, subst, ap, arith}
 use Rattle.std.proofs.lemmas.List.{reverse-append, length-reverse}
 use Rattle.plterm.specs.Tree.{atom, compound, trees}
 use Rattle.platoms.specs.Names.{atom_at, functor_name}
 use Rattle.platoms.proofs.Extending.{atom_same}
+use Rattle.plcode.specs.declared.node.Node.{Node}
 use Rattle.plcode.specs.declared.node.Node.TheVariants.{Atom, Fun, Sub}
-use Rattle.plcode.specs.Laying.{from_or, lowest, Waits}
+use Rattle.plcode.specs.Laying.{lowest, Waits}
 use Rattle.plcode.proofs.Waiting.{Waits-names, Waits-leaf, Waits-block}
 use Rattle.plcode.proofs.lay.put_node.Goals as goal
 
@@ -29,13 +30,15 @@ returns-in_ok-put_block-in-Compound-clause-waits c ts h =
     let w = reverse c.args.waiting.now.items in
     let f = c.in_ok-functor-in-Compound.functor in
     let k = c.in-Compound.arity in
-    let from = from_or (length old) (lowest (take k w)) in
+    let from = lowest (length old) (take k w) in
     let name : functor_name t f ≡ c.in-Compound.name =
     ap (λ g. atom_at t g.name) is.is ∙ atom_same s t c.functor.ensures.extends c.in_ok-name-in-Compound.name named.within ∙ named.is in
     let room : k ≤ length w = omega (arith, rw c.in-Compound.is at c.requires.room, length-reverse c.args.waiting.now.items) in
+    let Few : List Node → Type 0 = λ ns. length ns < 2 ^ 32 in
+    let few = subst Few c.in_ok-put_block-in-Compound.ensures.nodes c.in_ok-put_block-in-Compound.ensures.few in
     let P : List ℕ → Type 0 = λ name. Waits t (old ++ Fun f k ∷ take k w) (Sub from (length old) ∷ drop k w) (compound name (trees (take k ts)) ∷ drop k ts) in
     rw (c.in_ok-put_block-in-Compound.ensures.nodes, c.in_ok-put_block-in-Compound.ensures.waiting, c.in-Compound.is)
     (subst P name
-    (Waits-block t old w ts f k from
+    (Waits-block t old w ts f k
     (Waits-names s t old w ts c.functor.ensures.extends c.functor.ensures.table
-    (Waits-names c.args.names.now s old w ts c.atom-in-Compound.ensures.extends c.atom-in-Compound.ensures.table h)) room (is.within, ap (λ g. g.arity) is.is)))
+    (Waits-names c.args.names.now s old w ts c.atom-in-Compound.ensures.extends c.atom-in-Compound.ensures.table h)) room (is.within, ap (λ g. g.arity) is.is) few))

@@ -1,4 +1,4 @@
-use Rattle.std.proofs.Common.{◌≡◌, ◌∙◌, ◌∷◌, [], ◌++◌, None, List, take, drop, reverse, ap, sym, append_assoc}
+use Rattle.std.proofs.Common.{◌≡◌, ◌∙◌, ◌∷◌, [], ◌++◌, List, take, drop, reverse, ap, sym, append_assoc}
 use Rattle.std.proofs.lemmas.List.{reverse-append}
 use Rattle.plcode.specs.declared.node.Node.{Node}
 use Rattle.plcode.specs.Laying.{lower}
@@ -20,5 +20,5 @@ loop-preserved c =
           ∙ append_assoc c.args.nodes.now.items (take c.loop.counter s) (n ∷ [])
           ∙ ap (λ (ns : List Node). c.args.nodes.now.items ++ ns) (sym (take-next c.loop.counter s left n next));
       waiting = sym (drop-next c.loop.counter s left n next);
-      low = c.lower-low.ensures ∙ ap (λ low. lower low n) i.low ∙ sym (fold-next lower None c.loop.counter s left n next);
+      low = c.lower-low.ensures ∙ ap (λ low. lower low n) i.low ∙ sym (fold-next lower c.args.end c.loop.counter s left n next);
     }

@@ -7,5 +7,5 @@ invariant-loop l = record {
   room : l.count ≤ length (reverse l.initial.waiting.items);
   nodes : l.nodes.items ≡ l.initial.nodes.items ++ take l.counter (reverse l.initial.waiting.items);
   waiting : reverse l.waiting.items ≡ drop l.counter (reverse l.initial.waiting.items);
-  low : l.low ≡ lowest (take l.counter (reverse l.initial.waiting.items));
+  low : l.low ≡ lowest l.end (take l.counter (reverse l.initial.waiting.items));
 }

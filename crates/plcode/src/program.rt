@@ -1,0 +1,185 @@
+//! The code of a program.
+ghost use Rattle.std.specs.Prelude.{◌≡◌, ◌<◌, ◌++◌, [], List, length, map, get_or, IfOk, OnOk};
+ghost use Rattle.plterm.specs.declared.indicator.Indicator.{Indicator as OfIndicator};
+ghost use Rattle.plnames.specs.Entries.{row_of};
+ghost use Rattle.platoms.specs.Names.{IsTable, Extends};
+ghost use Rattle.plcode.specs.declared.callee.Callee.{Callee as OfCallee};
+ghost use Rattle.plcode.specs.declared.callee.Number.TheVariants.{Atom, Functor};
+ghost use Rattle.plcode.specs.Laying.{IsLaid};
+ghost use Rattle.plcode.specs.Steps.{goals_from, step_at, Meets};
+ghost use Rattle.plcode.specs.Bodies.{IsCode};
+ghost use Rattle.plcode.specs.Callees.{callee_at, of_clauses, of_kind, row_callee, statics, AreEntries, IsProgramCode};
+
+use crate::callee::{Callee, Callees, Entry, Number, number_of};
+use crate::code::Code;
+use crate::compile::compile_procedures;
+use crate::draft::Draft;
+use crate::index::Procedure;
+use crate::node::Node;
+use crate::op::Step;
+use platoms::names::Names;
+use plclause::clause::Clause;
+use plnames::kind::Kind;
+use plnames::rows::ROWS;
+use plprogram::program::Program;
+use plterm::name::Name;
+use std::alloc::{AllocError, Global};
+use std::marker::Model;
+
+/// What a kind is called as.
+fn kind_callee(kind: Kind) -> Callee
+    ensures { result ≡ of_kind kind }
+{
+    match kind {
+        Kind::Control(control) => Callee::Control(control),
+        Kind::BuiltIn(predicate) => Callee::BuiltIn(predicate),
+    }
+}
+
+/// What the procedure at a place is called as.
+fn procedure_callee(place: u32, clauses: &[Clause]) -> Callee
+    ensures { result ≡ of_clauses place clauses.now }
+{
+    match clauses {
+        [] => Callee::Unknown,
+        [_, ..] => Callee::Static(place),
+    }
+}
+
+/// The entries of rows of the table of names, whose names get their numbers.
+fn row_entries(
+    alloc: Global,
+    names: &mut Names,
+    rows: &[(&'static str, u16, Kind)],
+) -> Result<Vec<Entry>, AllocError>
+    requires { IsTable names.old }
+    ensures entries { IfOk result (λ entries. AreEntries names.new (map row_callee (map row_of rows.now)) entries.items) }
+    ensures extends { OnOk result (Extends names.old names.new) }
+    ensures table { OnOk result (IsTable names.new) }
+{
+    let mut entries = Vec::new(alloc);
+    for &(name, arity, kind) in rows {
+        let number = number_of(names, Name::new(alloc, name)?, arity)?;
+        entries.push(Entry {
+            number,
+            callee: kind_callee(kind),
+        })?;
+    }
+    Ok(entries)
+}
+
+/// Adds the entries of a program's procedures, whose names get their numbers.
+fn add_procedures(
+    names: &mut Names,
+    entries: &mut Vec<Entry>,
+    program: &Program,
+) -> Result<(), AllocError>
+    requires { IsTable names.old }
+    ensures entries { OnOk result ((ws : List (OfIndicator × OfCallee)) → AreEntries names.old ws entries.old.items → AreEntries names.new (ws ++ statics 0 program.now.procedures) entries.new.items) }
+    ensures extends { OnOk result (Extends names.old names.new) }
+    ensures table { OnOk result (IsTable names.new) }
+{
+    for index in 0..program.procedure_count() {
+        let (indicator, clauses) = program.procedure_at(index);
+        let Ok(place) = u32::try_from(index) else {
+            return Err(AllocError);
+        };
+        let number = number_of(names, indicator.name.copied()?, indicator.arity)?;
+        entries.push(Entry {
+            number,
+            callee: procedure_callee(place, clauses),
+        })?;
+    }
+    Ok(())
+}
+
+/// The code of a program: the names, nodes and steps of its clauses, its static procedures, in their order, and what is called by
+/// each number, also of names that a table gives later.
+#[derive(Drop)]
+pub struct ProgramCode {
+    names: Names,
+    code: Code,
+    procedures: Vec<Procedure>,
+    callees: Callees,
+}
+
+impl Model for ProgramCode {
+    ghost use Rattle.plcode.specs.Steps.{text_of};
+    ghost use Rattle.plcode.specs.Bodies.{IsCode};
+    ghost use Rattle.plcode.specs.Callees.{Compiled};
+
+    ghost Value = { Compiled };
+
+    ghost view = { λ a. record { text = text_of a.names a.code; procedures = a.procedures.items; callees = a.callees } };
+
+    ghost invariant = { λ a. IsCode (text_of a.names a.code) };
+}
+
+impl ProgramCode {
+    /// Compiles a program, in time linear in the nodes of its clauses.
+    pub fn new(alloc: Global, program: &Program) -> Result<ProgramCode, AllocError>
+        ensures code { IfOk result (λ made. IsProgramCode program.now made) }
+        ensures end { IfOk result (λ made. goals_from made.text 0 0 ≡ []) }
+    {
+        let mut draft = Draft::new(alloc)?;
+        let procedures = compile_procedures(alloc, &mut draft, program)?;
+        let (code, mut names) = Code::of(draft);
+        let mut entries = row_entries(alloc, &mut names, ROWS)?;
+        add_procedures(&mut names, &mut entries, program)?;
+        let callees = Callees::of(alloc, entries)?;
+        Ok(ProgramCode {
+            names,
+            code,
+            procedures,
+            callees,
+        })
+    }
+
+    /// The names that the program is compiled with. More may come in a copy of them.
+    pub fn names(&self) -> &Names
+        ensures is { result.now ≡ self.now.text.names }
+        ensures table { IsTable result.now }
+    {
+        &self.names
+    }
+
+    /// What the atom with a number is called as.
+    pub fn callee_of_atom(&self, atom: u32) -> Callee
+        ensures { result ≡ callee_at self.now.callees (Atom atom) }
+    {
+        self.callees.at(Number::Atom(atom))
+    }
+
+    /// What a compound with a functor of a number is called as.
+    pub fn callee_of_functor(&self, functor: u32) -> Callee
+        ensures { result ≡ callee_at self.now.callees (Functor functor) }
+    {
+        self.callees.at(Number::Functor(functor))
+    }
+
+    /// The procedure of the program's text at a place.
+    pub fn procedure(&self, place: u32) -> &Procedure
+        requires { place < length self.now.procedures }
+        ensures { result.now ≡ get_or self.now.procedures place [] }
+    {
+        &self.procedures[place as usize]
+    }
+
+    /// The step at a place; the one behind it stands at the place before.
+    pub fn step(&self, place: u32) -> Step
+        requires { place < length self.now.text.steps }
+        ensures is { result ≡ step_at self.now.text place }
+        ensures meets { Meets self.now.text place result }
+        ensures code { IsCode self.now.text }
+    {
+        self.code.step(place)
+    }
+
+    /// The nodes.
+    pub fn nodes(&self) -> &[Node]
+        ensures is { result.now ≡ self.now.text.nodes }
+        ensures laid { IsLaid self.now.text.names self.now.text.nodes }
+    {
+        self.code.nodes()
+    }
+}
