@@ -1,0 +1,16 @@
+mod Freeing
+pub mod Keeping
+mod Changing
+mod Committing
+mod Unified
+pub mod Putting
+mod Terms
+mod Gathering
+mod Nodes
+mod Parts
+mod Building
+mod Packing
+mod Rows
+pub mod Cuts
+pub mod Renaming
+pub mod Bounding

@@ -1,0 +1,5 @@
+pub mod Env
+pub mod Changes
+pub mod Rows
+pub mod Blocks
+pub mod Marks

@@ -1,0 +1,9 @@
+pub mod Trees
+pub mod Clashes
+pub mod Slots
+pub mod Listing
+pub mod Solving
+pub mod Rows
+pub mod Verdicts
+pub mod Steps
+pub mod Heads

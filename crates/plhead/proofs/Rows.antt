@@ -1,0 +1,138 @@
+-- Rows of equations: the arguments of two compounds, and those of a head.
+use Rattle.std.proofs.Common.{◌≡◌, ℕ, zero, suc, ◌+◌, ◌<◌, ◌≤◌, List, [], ◌∷◌, ◌++◌, length, map, refl, sym, ap, ◌∙◌, subst, arith, inl, inr}
+use Rattle.std.proofs.lemmas.Bool.{cases_eq}
+use Rattle.std.proofs.lemmas.List.{length-map}
+use Rattle.plterm.specs.Tree.{Tree, compound, more, trees}
+use Rattle.plterm.specs.Variables.{AllBelow, EachBelow}
+use Rattle.plsubst.specs.Subst.{bind, bind_all}
+use Rattle.plsubst.proofs.Unify.{compound-parts}
+use Rattle.plsubst.proofs.UnifyUnique.{unify-is}
+use Rattle.plcells.specs.declared.cell.Cell.{Cell}
+use Rattle.plcells.specs.Store.{term, value, spread, AreValues}
+use Rattle.plcells.specs.Walking.{weight}
+use Rattle.plcode.specs.declared.node.Node.{Node}
+use Rattle.plcode.specs.Packed.{node_at, IsArgument}
+use Rattle.plenv.specs.Env.{Env, over}
+use Rattle.plenv.specs.Changes.{Unifies}
+use Rattle.plenv.specs.Rows.{AllBelowEach, CoversAll}
+use Rattle.plhead.specs.Equations.{Terms, Solves, left, right, IsEquation, AreEquations, pairs, Pushes, weigh}
+use Rattle.plhead.specs.Fitting.{HasArgs, Progress, Stands, UnifiesAll}
+use Rattle.plhead.proofs.Trees.{length-spread}
+use Rattle.plhead.proofs.Listing.{solves-left, solves-right, solves-both, pairs-solved, solved-pairs, equations-both, pairs-equations, split-lighter}
+use Rattle.plhead.proofs.Solving.{apart, join, unifier-general, unifier-younger}
+
+bind_all-trees : (σ : ℕ → Tree) (ts : List Tree) → bind_all σ (trees ts) ≡ trees (map (bind σ) ts)
+unfolding bind
+bind_all-trees σ [] = refl
+bind_all-trees σ (t ∷ ts) = ap (more (bind σ t)) (bind_all-trees σ ts)
+
+below-row : (n : ℕ) (w : ℕ → Tree) (k i j : ℕ) → EachBelow n (trees (spread w i k)) → i ≤ j → j < i + k → AllBelow n (w j)
+below-row n w zero i j b low lt = absurd (omega arith)
+below-row n w (suc k) i j b low lt = elim (cases_eq j i) [
+  | inl e ↦ subst (λ d. AllBelow n (w d)) (sym e) b.0
+  | inr ne ↦ below-row n w k (suc i) j b.1 (omega arith) (omega arith)
+]
+
+below-each : (n : ℕ) (ts : List Tree) → AllBelowEach n ts → EachBelow n (trees ts)
+below-each n [] b = tt
+below-each n (t ∷ ts) b = (b.0, below-each n ts b.1)
+
+-- the arguments of the equation on top
+module _ (e : Env) (base : ℕ) (w : Terms) (nodes : List Node) (i c k at : ℕ) (v : Cell) (args : HasArgs e.heap nodes w (w at) (value e.heap v) i c k)
+    (rest now : List (ℕ × Cell)) (pushed : Pushes e.heap rest now i c k) where
+  count : length pushed.values ≡ k
+  count = sym (length-map pushed.values (value e.heap)) ∙ ap length pushed.are ∙ length-spread (term e.heap) k c
+
+  left_row : w at ≡ compound args.name (trees (spread w i (length pushed.values)))
+  left_row = args.left_is ∙ ap (λ j. compound args.name (trees (spread w i j))) (sym count)
+
+  right_row : value e.heap v ≡ compound args.name (trees (map (value e.heap) pushed.values))
+  right_row = args.right_is ∙ ap (λ ts. compound args.name (trees ts)) (sym pushed.are)
+
+  left_bound : (τ : ℕ → Tree) → bind τ (left e base w (at, v)) ≡ compound args.name (bind_all τ (trees (map (bind (over e base)) (spread w i (length pushed.values)))))
+  unfolding bind
+  left_bound τ = ap (λ t. bind τ (bind (over e base) t)) left_row ∙ ap (λ ts. compound args.name (bind_all τ ts)) (bind_all-trees (over e base) (spread w i (length pushed.values)))
+
+  right_bound : (τ : ℕ → Tree) → bind τ (right e (at, v)) ≡ compound args.name (bind_all τ (trees (map (value e.heap) pushed.values)))
+  unfolding bind
+  right_bound τ = ap (bind τ) right_row
+
+  args-to : (τ : ℕ → Tree) → bind τ (left e base w (at, v)) ≡ bind τ (right e (at, v)) → Solves τ e base w (pairs i pushed.values)
+  args-to τ q = pairs-solved τ e base w pushed.values i (compound-parts (sym (left_bound τ) ∙ q ∙ right_bound τ))
+
+  args-back : (τ : ℕ → Tree) → Solves τ e base w (pairs i pushed.values) → bind τ (left e base w (at, v)) ≡ bind τ (right e (at, v))
+  args-back τ s = left_bound τ ∙ ap (compound args.name) (solved-pairs τ e base w pushed.values i s) ∙ sym (right_bound τ)
+
+  pub split-equations : IsEquation e base nodes w (at, v) → AreEquations e base nodes w rest → AreEquations e base nodes w now
+  split-equations top all =
+      let below : EachBelow top.covers.width (trees (spread w i (length pushed.values))) = subst (AllBelow top.covers.width) left_row top.covers.below in
+      subst (AreEquations e base nodes w) (sym pushed.items)
+      (equations-both e base nodes w rest (pairs i pushed.values) all
+      (pairs-equations e base nodes w pushed.values i pushed.fit (λ j low lt. (
+        omega (arith, args.nodes_within, count, lt),
+        args.whole j low (omega (arith, lt, count)),
+        record { width = top.covers.width; below = below-row top.covers.width w (length pushed.values) i j below low lt; within = top.covers.within },
+      ))))
+
+  pub split-weight : (work : List (ℕ × Cell)) → work ≡ rest ++ (at, v) ∷ [] → weigh w now < weigh w work
+  unfolding weight
+  split-weight work taken = split-lighter w work rest now at i v pushed.values taken pushed.items (ap weight left_row)
+
+  pub split-on : (old : Env) (s t : Tree) (work : List (ℕ × Cell)) → work ≡ rest ++ (at, v) ∷ [] → AreEquations e base nodes w rest → Progress old e base w s t work → Progress old e base w s t now
+  split-on old s t work taken all come = record {
+    put_for = come.put_for;
+    made = come.made;
+    forced = come.forced;
+    left = λ τ q.
+        let a = apart old e e base w nodes s t work rest (at, v) taken all come τ (come.left τ q) in
+        subst (Solves τ e base w) (sym pushed.items) (solves-both τ e base w rest (pairs i pushed.values) a.0 (args-to τ a.1));
+    enough = λ τ u.
+        let both = subst (Solves τ e base w) pushed.items u in
+        let top = args-back τ (solves-right τ e base w rest (pairs i pushed.values) both) in
+        come.enough τ (join old e e base w nodes s t work rest (at, v) taken all come τ (solves-left τ e base w rest (pairs i pushed.values) both) top);
+    younger = come.younger;
+  }
+
+-- a compound's arguments alone
+pub args-stand : (e : Env) (base : ℕ) (w : Terms) (nodes : List Node) (i c k at : ℕ) (v : Cell) → HasArgs e.heap nodes w (w at) (value e.heap v) i c k
+    → (now : List (ℕ × Cell)) → Pushes e.heap [] now i c k → Stands e base w now (left e base w (at, v)) (right e (at, v))
+args-stand e base w nodes i c k at v args now pushed = record {
+  to = λ τ q. subst (Solves τ e base w) (sym pushed.items) (args-to e base w nodes i c k at v args [] now pushed τ q);
+  back = λ τ s. args-back e base w nodes i c k at v args [] now pushed τ (subst (Solves τ e base w) pushed.items s);
+}
+
+-- ---- a head's arguments against values
+module _ (e : Env) (base : ℕ) (w : Terms) (nodes : List Node) (at k : ℕ) (values : List Cell) (us : List Tree) (is : us ≡ spread w at k) (count : length values ≡ k) where
+  row_is : map (bind (over e base)) (spread w at (length values)) ≡ map (bind (over e base)) us
+  row_is = ap (λ j. map (bind (over e base)) (spread w at j)) count ∙ ap (map (bind (over e base))) (sym is)
+
+  pub row-equations : AreValues e.heap values → at + k ≤ length nodes → ((j : ℕ) → at ≤ j → j < at + k → IsArgument 0 j (node_at nodes j)) → CoversAll e base us → AreEquations e base nodes w (pairs at values)
+  row-equations fit within whole covers =
+      let below : EachBelow covers.width (trees (spread w at k)) = subst (λ ts. EachBelow covers.width (trees ts)) is (below-each covers.width us covers.below) in
+      pairs-equations e base nodes w values at fit (λ j low lt. (
+        omega (arith, within, count, lt),
+        whole j low (omega (arith, lt, count)),
+        record { width = covers.width; below = below-row covers.width w k at j below low (omega (arith, lt, count)); within = covers.within },
+      ))
+
+  pub row-stands : (f : List ℕ) → Stands e base w (pairs at values) (compound f (trees (map (value e.heap) values))) (compound f (trees (map (bind (over e base)) us)))
+  unfolding bind
+  row-stands f = record {
+    to = λ τ q. pairs-solved τ e base w values at (ap (λ ts. bind_all τ (trees ts)) row_is ∙ sym (compound-parts q));
+    back = λ τ s. ap (compound f) (sym (sym (ap (λ ts. bind_all τ (trees ts)) row_is) ∙ solved-pairs τ e base w values at s));
+  }
+
+-- the unifier of rows under one name is that under any
+pub unifies-all : (old new : Env) (ts us : List Tree) (f : List ℕ) → Unifies old new (compound f (trees ts)) (compound f (trees us)) → UnifiesAll old new ts us
+unfolding bind
+unifies-all old new ts us f u =
+    let general = unifier-general (compound f (trees ts)) (compound f (trees us)) u.unifier u.is in
+    let younger = unifier-younger (compound f (trees ts)) (compound f (trees us)) u.unifier u.is in
+    record {
+      unifier = u.unifier;
+      is = λ g. unify-is (compound g (trees ts)) (compound g (trees us)) u.unifier (
+        ap (compound g) (compound-parts general.0),
+        λ τ q y. general.1 τ (ap (compound f) (compound-parts q)) y,
+      ) younger;
+      made = u.made;
+    }

@@ -1,0 +1,102 @@
+-- What stays of goal lists where values and slots change.
+use Rattle.std.proofs.Common.{◌≡◌, ℕ, ◌+◌, ◌<◌, ◌≤◌, List, [], ◌∷◌, ◌++◌, length, refl, sym, ap, ap₂, ◌∙◌, arith, map, le_trans}
+use Rattle.plterm.specs.Tree.{Tree, Trees, var, int, atom, compound, none, more}
+use Rattle.plterm.specs.Variables.{AllBelow, EachBelow}
+use Rattle.plsubst.specs.Subst.{bind, bind_all}
+use Rattle.plsubst.proofs.Unify.{bind-bind}
+use Rattle.plsearch.specs.Types.{Goal}
+use Rattle.plsearch.specs.Lists.{bind_element, bind_goals}
+use Rattle.plenv.specs.Env.{Env, over}
+use Rattle.plenv.specs.Changes.{Substitutes}
+use Rattle.plenv.specs.Rows.{AllBelowEach}
+use Rattle.pllinks.specs.declared.item.Run.{Run}
+use Rattle.pllinks.specs.declared.item.Item.{Item}
+use Rattle.pllinks.specs.declared.item.Item.TheVariants as items
+use Rattle.pllinks.specs.Lists.{Goals, goal_of, run_goals, elements, all_elements, IsItem, AreItems}
+use Rattle.pllinks.specs.Changing.{Agrees, ListsAgree, ListsSubstitute}
+
+-- substitutions that agree on the variables of a term
+mutual
+  unfolding bind
+
+  pub bind-agree : (σ τ : ℕ → Tree) (n : ℕ) (t : Tree) → ((x : ℕ) → x < n → σ x ≡ τ x) → AllBelow n t → bind σ t ≡ bind τ t
+  bind-agree σ τ n (var x) e b = e x b
+  bind-agree σ τ n (int i) e b = refl
+  bind-agree σ τ n (atom f) e b = refl
+  bind-agree σ τ n (compound f ts) e b = ap (compound f) (bind_all-agree σ τ n ts e b)
+
+  bind_all-agree : (σ τ : ℕ → Tree) (n : ℕ) (ts : Trees) → ((x : ℕ) → x < n → σ x ≡ τ x) → EachBelow n ts → bind_all σ ts ≡ bind_all τ ts
+  bind_all-agree σ τ n none e b = refl
+  bind_all-agree σ τ n (more t ts) e b = ap₂ more (bind-agree σ τ n t e b.0) (bind_all-agree σ τ n ts e b.1)
+
+-- items ask for no fewer slots than these
+pub items-more : (code : Goals) (e : Env) (n m : ℕ) (xs : List Item) → n ≤ m → AreItems code e.heap n xs → AreItems code e.heap m xs
+items-more code e n m [] le a = tt
+items-more code e n m (items.Run r ∷ xs) le a = ((a.0.0, le_trans a.0.1 le), items-more code e n m xs le a.1)
+items-more code e n m (items.Goal k v ∷ xs) le a = (a.0, items-more code e n m xs le a.1)
+items-more code e n m (items.Marker k l ∷ xs) le a = (tt, items-more code e n m xs le a.1)
+
+module _ (code : Goals) (n : ℕ) (old new : Env) (same : Agrees n old new) where
+  run-agrees : (r : Run) (width : ℕ) (ts : List Tree) → AllBelowEach width ts → r.base + width ≤ n → map (goal_of new r) ts ≡ map (goal_of old r) ts
+  run-agrees r width [] b le = refl
+  run-agrees r width (t ∷ ts) b le =
+      ap₂ (λ x xs. Goal r.level x ∷ xs)
+      (bind-agree (over new r.base) (over old r.base) width t (λ x lt. same.variables (r.base + x) (omega (arith, lt, le))) b.0)
+      (run-agrees r width ts b.1 le)
+
+  item-agrees : (x : Item) → IsItem code old.heap n x → elements code new x ≡ elements code old x
+  item-agrees (items.Run r) i = run-agrees r i.0.width (run_goals code r) i.0.below (le_trans i.0.within i.1)
+  item-agrees (items.Goal k v) i = ap (λ t. Goal k t ∷ []) (same.values v i).1
+  item-agrees (items.Marker k l) i = refl
+
+  item-stays : (x : Item) → IsItem code old.heap n x → IsItem code new.heap n x
+  item-stays (items.Run r) i = i
+  item-stays (items.Goal k v) i = (same.values v i).0
+  item-stays (items.Marker k l) i = tt
+
+  pub items-agree : (xs : List Item) → AreItems code old.heap n xs → AreItems code new.heap n xs × (all_elements code new xs ≡ all_elements code old xs)
+  unfolding all_elements
+  items-agree [] a = (tt, refl)
+  items-agree (x ∷ xs) a =
+      let r = items-agree xs a.1 in
+      ((item-stays x a.0, r.0), ap₂ (λ p q. p ++ q) (item-agrees x a.0) r.1)
+
+pub lists_agree : ListsAgree
+lists_agree code n old new xs same a = items-agree code n old new same xs a
+
+map-append : {A B : Type 0} (f : A → B) (xs ys : List A) → map f (xs ++ ys) ≡ map f xs ++ map f ys
+map-append f [] ys = refl
+map-append f (x ∷ xs) ys = ap (λ zs. f x ∷ zs) (map-append f xs ys)
+
+module _ (code : Goals) (old new : Env) (σ : ℕ → Tree) (made : Substitutes old new σ) where
+  goal-bound : (r : Run) (width : ℕ) (t : Tree) → AllBelow width t → r.base + width ≤ length old.slots → bind (over new r.base) t ≡ bind σ (bind (over old r.base) t)
+  goal-bound r width t b le =
+      bind-agree (over new r.base) (λ x. bind σ (over old r.base x)) width t (λ x lt. made.variables (r.base + x) (omega (arith, lt, le))) b
+      ∙ sym (bind-bind σ (over old r.base) t)
+
+  run-bound : (r : Run) (width : ℕ) (ts : List Tree) → AllBelowEach width ts → r.base + width ≤ length old.slots → map (goal_of new r) ts ≡ map (bind_element σ) (map (goal_of old r) ts)
+  run-bound r width [] b le = refl
+  run-bound r width (t ∷ ts) b le = ap₂ (λ x xs. Goal r.level x ∷ xs) (goal-bound r width t b.0 le) (run-bound r width ts b.1 le)
+
+  item-bound : (x : Item) → IsItem code old.heap (length old.slots) x → elements code new x ≡ map (bind_element σ) (elements code old x)
+  item-bound (items.Run r) i = run-bound r i.0.width (run_goals code r) i.0.below (le_trans i.0.within i.1)
+  item-bound (items.Goal k v) i = ap (λ t. Goal k t ∷ []) (made.values v i).1
+  item-bound (items.Marker k l) i = refl
+
+  item-kept : (x : Item) → IsItem code old.heap (length old.slots) x → IsItem code new.heap (length new.slots) x
+  item-kept (items.Run r) i = (i.0, omega (arith, i.1, made.slots))
+  item-kept (items.Goal k v) i = (made.values v i).0
+  item-kept (items.Marker k l) i = tt
+
+  pub items-bound : (xs : List Item) → AreItems code old.heap (length old.slots) xs
+      → AreItems code new.heap (length new.slots) xs × (all_elements code new xs ≡ bind_goals σ (all_elements code old xs))
+  unfolding all_elements
+  items-bound [] a = (tt, refl)
+  items-bound (x ∷ xs) a =
+      let r = items-bound xs a.1 in (
+        (item-kept x a.0, r.0),
+        ap₂ (λ p q. p ++ q) (item-bound x a.0) r.1 ∙ sym (map-append (bind_element σ) (elements code old x) (all_elements code old xs)),
+      )
+
+pub lists_substitute : ListsSubstitute
+lists_substitute code old new σ xs made a = items-bound code old new σ made xs a

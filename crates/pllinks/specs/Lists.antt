@@ -1,0 +1,56 @@
+-- What goal lists stand for.
+use Rattle.std.specs.Prelude.{ℕ, ◌+◌, ◌≤◌, List, [], ◌∷◌, map}
+use Rattle.std.specs.List.{flat_map}
+use Rattle.plterm.specs.Tree.{Tree}
+use Rattle.plsubst.specs.Subst.{bind}
+use Rattle.plcells.specs.Store.{Store, IsValue, value}
+use Rattle.plsearch.specs.Types.{Kind, Commit, Never, Until, Element, Goal, Marker}
+use Rattle.plenv.specs.Env.{Env, over}
+use Rattle.plenv.specs.Rows.{AllBelowEach}
+use Rattle.pllinks.specs.declared.item.MarkerKind.{MarkerKind}
+use Rattle.pllinks.specs.declared.item.MarkerKind.TheVariants as markers
+use Rattle.pllinks.specs.declared.item.Run.{Run}
+use Rattle.pllinks.specs.declared.item.Item.{Item}
+use Rattle.pllinks.specs.declared.item.Item.TheVariants as items
+
+-- the goals from a position of the code on, where so many conjunctions of the first have been selected
+abbrev pub Goals : Type 0
+Goals = ℕ → ℕ → List Tree
+
+abbrev pub marker_of : MarkerKind → Kind
+marker_of markers.Commit = Commit
+marker_of markers.Never = Never
+marker_of markers.Until = Until
+
+-- the goals of a run of compiled goals
+abbrev pub run_goals : Goals → Run → List Tree
+run_goals code r = code r.position r.owed
+
+-- a goal of a clause whose slots begin at a place, at a level
+abbrev pub goal_of : Env → Run → Tree → Element
+goal_of e r t = Goal r.level (bind (over e r.base) t)
+
+abbrev pub elements : Goals → Env → Item → List Element
+elements code e (items.Run r) = map (goal_of e r) (run_goals code r)
+elements code e (items.Goal k v) = Goal k (value e.heap v) ∷ []
+elements code e (items.Marker m l) = Marker (marker_of m) l ∷ []
+
+-- what a goal list stands for, by its items
+unfoldable pub all_elements : Goals → Env → List Item → List Element
+all_elements code e = flat_map (elements code e)
+
+-- the variables of a run's goals have their slots before `end`
+pub record IsRun (code : Goals) (r : Run) : Type 0 where
+  pub width : ℕ
+  pub below : AllBelowEach width (run_goals code r)
+  pub within : r.base + width ≤ r.«end»
+
+-- an item whose slots stand below n, and whose value is one of the heap
+abbrev pub IsItem : Goals → Store → ℕ → Item → Type 0
+IsItem code h n (items.Run r) = IsRun code r × (r.«end» ≤ n)
+IsItem code h n (items.Goal k v) = IsValue h v
+IsItem code h n (items.Marker m l) = Unit {0}
+
+abbrev pub AreItems : Goals → Store → ℕ → List Item → Type 0
+AreItems code h n [] = Unit {0}
+AreItems code h n (x ∷ xs) = IsItem code h n x × AreItems code h n xs

@@ -1,0 +1,63 @@
+//! What goal lists are made of.
+ghost use Rattle.std.specs.Prelude.{◌≡◌, ◌↔◌, IsTrue};
+ghost use Rattle.pllinks.specs.Links.{done, IsDone};
+
+use plcells::cell::Cell;
+
+/// What a marker is for.
+#[derive(Clone, Copy, Debug, PartialEq, Eq)]
+pub enum MarkerKind {
+    /// Behind it the choices down to its level are given up.
+    Commit,
+    /// Here the choices down to its level are given up, and the list fails.
+    Never,
+    /// Up to here the handler of its level is active.
+    Until,
+}
+
+/// Goals of a clause, from a position of its code on.
+#[derive(Clone, Copy)]
+pub struct Run {
+    pub position: u32,
+    /// How many conjunctions of the first goal have been selected.
+    pub owed: u32,
+    /// Where the clause's slots begin.
+    pub base: u32,
+    /// Where they end.
+    pub end: u32,
+    /// Its cut level.
+    pub level: u64,
+}
+
+impl Run {
+    /// No goals: those behind the last one of a clause, whose code begins with an end.
+    pub fn done() -> Run
+        ensures { result ≡ done }
+    {
+        Run {
+            position: 0,
+            owed: 0,
+            base: 0,
+            end: 0,
+            level: 0,
+        }
+    }
+
+    /// Whether these are the goals behind the last one.
+    pub fn is_done(self) -> bool
+        ensures { IsTrue result ↔ IsDone self }
+    {
+        self.position == 0 && self.owed == 0
+    }
+}
+
+/// A part of a goal list.
+#[derive(Clone, Copy)]
+pub enum Item {
+    /// Goals of a clause.
+    Run(Run),
+    /// A goal that is a term: its cut level, and its value.
+    Goal(u64, Cell),
+    /// A marker, and its level.
+    Marker(MarkerKind, u64),
+}

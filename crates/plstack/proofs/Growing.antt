@@ -1,0 +1,142 @@
+-- A stack whose environment and links grow.
+use Rattle.std.specs.Prelude.{Result as Outcomes}
+use Rattle.std.specs.declared.alloc.AllocError.{AllocError}
+use Rattle.std.proofs.Common.{◌≡◌, ℕ, ◌≤◌, List, [], ◌++◌, length, length-append, refl, sym, ap, ap₂, ◌∙◌, subst, arith, reverse, append-nil, le_trans, Bool, true, false, None, Ok, Err, IfOk, OnErr}
+use Rattle.plterm.specs.Tree.{Tree}
+use Rattle.plsubst.specs.Unify.{unify}
+use Rattle.platoms.specs.Names.{IsTable}
+use Rattle.platoms.proofs.Extending.{Extends-trans as extends-names}
+use Rattle.plsearch.specs.Lists.{bind_goals}
+use Rattle.plenv.specs.Env.{Env, IsEnv}
+use Rattle.plenv.specs.Changes.{Keeps, PutsTerm, Stays, Extends as ExtendsEnv, Unifies as UnifiesEnv}
+use Rattle.plcells.specs.declared.cell.Cell.{Cell}
+use Rattle.plcells.specs.Store.{value}
+use Rattle.pllinks.specs.declared.link.Link.{Link}
+use Rattle.pllinks.specs.declared.link.Continuation.{Continuation}
+use Rattle.pllinks.specs.Lists.{Goals, AreItems, all_elements}
+use Rattle.pllinks.specs.Links.{items_of, IsChain}
+use Rattle.pllinks.specs.Changing.{Agrees}
+use Rattle.pllinks.proofs.Changing.{items-agree, items-bound, items-more as wider-items}
+use Rattle.plstack.specs.declared.frame.Frame.{Frame}
+use Rattle.plstack.specs.Places.{Statics, cases}
+use Rattle.plstack.specs.Frames.{AreFrames}
+use Rattle.plstack.specs.State.{State, goals_in, goals_of, cases_of, IsList, IsState, IsStack, Extends, Unifies}
+use Rattle.plstack.proofs.Frames.{items-more, cases-kept, AreFrames-kept}
+
+-- the values that cases keep are as they were
+module _ (code : Goals) (old new : Env) (links ls more : List Link) (saved : List Cell) (is : ls ≡ links ++ more) (k : Keeps old new) (table : IsTable new.heap.names) where
+  pub cases-grown : (statics : Statics) (fs : List Frame) → AreFrames code old links saved fs → cases statics code new ls saved fs ≡ cases statics code old links saved fs
+  cases-grown statics fs a =
+      ap₂ (λ ks vs. cases statics code new ks vs fs) is (sym (append-nil saved)) ∙ cases-kept code old new links more saved [] k table statics fs a
+
+  pub frames-grown : (fs : List Frame) → AreFrames code old links saved fs → AreFrames code new ls saved fs
+  frames-grown fs a =
+      subst (λ vs. AreFrames code new ls vs fs) (append-nil saved)
+      (subst (λ ks. AreFrames code new ks (saved ++ []) fs) (sym is) (AreFrames-kept code old new links more saved [] k table fs a))
+
+-- all values and slots stand for what they did
+module _ (s : State) (e : Env) (ls more : List Link) (links : ls ≡ s.links ++ more) (x : ExtendsEnv s.env e) (env : IsEnv e) where
+  abbrev pub grown : State
+  grown = record { code = s.code; env = e; links = ls; saved = s.saved; frames = s.frames; goals = s.goals }
+
+  wider : length s.links ≤ length ls
+  wider = rw links (omega (arith, length-append s.links more))
+
+  agrees : Agrees (length s.env.slots) s.env e
+  agrees = record { values = x.values; variables = x.variables }
+
+  pub list-grown : (l : Continuation) → IsList s l → IsList grown l × (goals_of grown l ≡ goals_of s l)
+  list-grown l is =
+      let same : items_of ls l ≡ items_of s.links l = ap (λ ks. items_of ks l) links ∙ items-more s.links more l is.there in
+      let r = items-agree (goals_in s) (length s.env.slots) s.env e agrees (items_of s.links l) is.items in (
+        record {
+          there = le_trans is.there wider;
+          items = subst (AreItems (goals_in s) e.heap (length e.slots)) (sym same) (wider-items (goals_in s) e (length s.env.slots) (length e.slots) (items_of s.links l) x.slots r.0);
+        },
+        ap (all_elements (goals_in s) e) same ∙ r.1,
+      )
+
+  pub state-grown : IsState s → IsChain ls → IsState grown
+  state-grown is chain = record {
+    env = env;
+    names = extends-names s.code.names s.env.heap.names e.heap.names is.names x.keeps.names;
+    none = is.none;
+    chain = chain;
+    frames = frames-grown (goals_in s) s.env e s.links ls more s.saved links x.keeps env.heap.names (reverse s.frames) is.frames;
+    goals = (list-grown s.goals is.goals).0;
+  }
+
+  pub extends-grown : IsState s → Extends s grown
+  unfolding cases_of
+  extends-grown is = record {
+    code = refl;
+    frames = refl;
+    goals = refl;
+    visited = (list-grown s.goals is.goals).1;
+    cases = λ statics. cases-grown (goals_in s) s.env e s.links ls more s.saved links x.keeps env.heap.names statics (reverse s.frames) is.frames;
+    lists = list-grown;
+    values = x.values;
+  }
+
+-- the environment alone grew
+module _ (s : State) (d : ℕ) (e : Env) (x : ExtendsEnv s.env e) (env : IsEnv e) (is : IsStack s d) where
+  pub stack-env : IsStack (record s { env = e }) d
+  stack-env = (state-grown s e s.links [] (sym (append-nil s.links)) x env is.0 is.0.chain, is.1)
+
+  pub extends-env : Extends s (record s { env = e })
+  extends-env = extends-grown s e s.links [] (sym (append-nil s.links)) x env is.0
+
+-- two values were unified
+module _ (s : State) (d : ℕ) (e : Env) (a b : Cell) (u : UnifiesEnv s.env e (value s.env.heap a) (value s.env.heap b)) (env : IsEnv e) (is : IsStack s d) where
+  list-unified : (l : Continuation) → IsList s l → IsList (record s { env = e }) l × (goals_of (record s { env = e }) l ≡ bind_goals u.unifier (goals_of s l))
+  list-unified l i = let r = items-bound (goals_in s) s.env e u.unifier u.made (items_of s.links l) i.items in (record { there = i.there; items = r.0 }, r.1)
+
+  pub unified-stack : IsStack (record s { env = e }) d
+  unified-stack = (
+    record {
+      env = env;
+      names = extends-names s.code.names s.env.heap.names e.heap.names is.0.names u.made.keeps.names;
+      none = is.0.none;
+      chain = is.0.chain;
+      frames = frames-grown (goals_in s) s.env e s.links s.links [] s.saved (sym (append-nil s.links)) u.made.keeps env.heap.names (reverse s.frames) is.0.frames;
+      goals = (list-unified s.goals is.0.goals).0;
+    },
+    is.1,
+  )
+
+  pub unifies : Unifies s (record s { env = e }) a b
+  unfolding cases_of
+  unifies = record {
+    unifier = u.unifier;
+    is = u.is;
+    values = u.made.values;
+    lists = list-unified;
+    cases = λ statics. cases-grown (goals_in s) s.env e s.links s.links [] s.saved (sym (append-nil s.links)) u.made.keeps env.heap.names statics (reverse s.frames) is.0.frames;
+    count = u.made.count;
+    code = refl;
+    goals = refl;
+  }
+
+pub extends_same : (s : State) → Extends s s
+extends_same s = record { code = refl; frames = refl; goals = refl; visited = refl; cases = λ statics. refl; lists = λ l i. (i, refl); values = λ v f. (f, refl) }
+
+-- whatever a unification answers, the stack stays one
+module _ (s : State) (d : ℕ) (e : Env) (a b : Cell) (env : IsEnv e) (is : IsStack s d) where
+  pub unify-stack : (r : Outcomes Bool AllocError) → IfOk r (λ fits. fits ≡ true → UnifiesEnv s.env e (value s.env.heap a) (value s.env.heap b)) →
+      IfOk r (λ fits. fits ≡ false → (unify (value s.env.heap a) (value s.env.heap b) ≡ None) × (e ≡ s.env)) → OnErr r (e ≡ s.env) → IsStack (record s { env = e }) d
+  unify-stack (Ok true) fits not err = unified-stack s d e a b (fits refl) env is
+  unify-stack (Ok false) fits not err = rw (not refl).1 is
+  unify-stack (Err x) fits not err = rw err is
+
+  pub unify-unifies : (r : Outcomes Bool AllocError) → IfOk r (λ fits. fits ≡ true → UnifiesEnv s.env e (value s.env.heap a) (value s.env.heap b)) → IfOk r (λ fits. fits ≡ true → Unifies s (record s { env = e }) a b)
+  unify-unifies (Ok answer) fits = λ so. unifies s d e a b (fits so) env is
+  unify-unifies (Err x) fits = tt
+
+-- whatever came of putting a term
+pub put-extends : (old new : Env) (t : Tree) (n : ℕ) (r : Outcomes Cell AllocError) → IfOk r (λ v. PutsTerm old new v t n) → OnErr r (Stays old new) → ExtendsEnv old new
+put-extends old new t n (Ok v) ok err = ok.extends
+put-extends old new t n (Err x) ok err = err.extends
+
+pub if_ok : {A E : Type 0} (P Q : A → Type 0) (r : Outcomes A E) → ((a : A) → P a → Q a) → IfOk r P → IfOk r Q
+if_ok P Q (Ok a) f k = f a k
+if_ok P Q (Err e) f k = tt

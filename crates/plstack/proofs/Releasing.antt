@@ -1,0 +1,144 @@
+-- Slots that nothing asks for may go.
+use Rattle.std.proofs.Common.{◌≡◌, ℕ, zero, suc, ◌<◌, ◌≤◌, max, List, [], ◌∷◌, length, take, reverse, refl, sym, ap, ap₂, subst, arith, le_trans, le_refl}
+use Rattle.std.proofs.lemmas.List.{get_or-take}
+use Rattle.std.proofs.Math.Nat.{le-max_left, le-max_right}
+use Rattle.plcells.specs.declared.cell.Cell.{Cell}
+use Rattle.plcells.specs.Store.{Store}
+use Rattle.plsearch.specs.Types.{Mark as MarkOf}
+use Rattle.plsearch.specs.Engine.{deeper}
+use Rattle.plenv.specs.declared.slot.Slot.TheVariants.{Free}
+use Rattle.plenv.specs.Env.{Env, IsEnv, slot_term}
+use Rattle.plenv.specs.Changes.{released}
+use Rattle.plenv.proofs.Bounding.{cut-released, IsMark-released}
+use Rattle.pllinks.specs.declared.item.Item.{Item}
+use Rattle.pllinks.specs.declared.item.Item.TheVariants as items
+use Rattle.pllinks.specs.declared.link.Link.{Link}
+use Rattle.pllinks.specs.declared.link.Continuation.{Continuation}
+use Rattle.pllinks.specs.Lists.{Goals, AreItems}
+use Rattle.pllinks.specs.Links.{list_at, items_of, link_at, slots_at, slots_in, IsChain}
+use Rattle.pllinks.specs.Changing.{Agrees}
+use Rattle.pllinks.proofs.Arena.{list_at-first, list_at-none}
+use Rattle.pllinks.proofs.Changing.{items-agree}
+use Rattle.plstack.specs.declared.frame.Point.{Point}
+use Rattle.plstack.specs.declared.frame.Resume.{Resume}
+use Rattle.plstack.specs.declared.frame.Frame.{Frame}
+use Rattle.plstack.specs.declared.frame.Frame.TheVariants.{Plain, Barrier, Open}
+use Rattle.plstack.specs.Places.{Statics, kept_values, case_of, plain, cases}
+use Rattle.plstack.specs.Frames.{IsResume, IsOpen, AreFrames}
+use Rattle.plstack.specs.State.{State, IsStack, goals_in, cases_of}
+use Rattle.plstack.specs.Giving.{GivesBack}
+
+-- items that ask for no more than the first n slots
+abbrev AskFor : ℕ → List Item → Type 0
+AskFor n [] = Unit {0}
+AskFor n (x ∷ xs) = (slots_in x ≤ n) × AskFor n xs
+
+ask-more : (n m : ℕ) (xs : List Item) → n ≤ m → AskFor n xs → AskFor m xs
+ask-more n m [] le a = tt
+ask-more n m (x ∷ xs) le a = (le_trans a.0 le, ask-more n m xs le a.1)
+
+-- a list asks for no more slots than its link says
+module _ (links : List Link) (n : ℕ) (chain : IsChain links) where
+  ask-of : (fuel i : ℕ) → i ≤ fuel → i ≤ length links → slots_at links i ≤ n → AskFor n (list_at links i)
+  ask-of fuel zero few le most = subst (AskFor n) (sym (list_at-none links)) tt
+  ask-of zero (suc i) few le most = absurd (omega arith)
+  ask-of (suc fuel) (suc i) few le most =
+      let l = chain i (omega arith) in
+      subst (AskFor n) (sym (list_at-first links i chain (omega arith)))
+      (le_trans l.own most, ask-of fuel (link_at links i).next (omega (arith, l.next)) (omega (arith, l.next)) (le_trans l.rest_slots most))
+
+list-asks : (links : List Link) (l : Continuation) → IsChain links → l.rest ≤ length links → AskFor (max l.run.«end» (slots_at links l.rest)) (items_of links l)
+list-asks links l chain le = (
+  le-max_left l.run.«end» (slots_at links l.rest),
+  ask-of links (max l.run.«end» (slots_at links l.rest)) chain l.rest l.rest (le_refl _) le (le-max_right l.run.«end» (slots_at links l.rest)),
+)
+
+-- they are there still
+items-within : (code : Goals) (h : Store) (n m k : ℕ) (xs : List Item) → ((i : ℕ) → i ≤ n → i ≤ m → i ≤ k) → AskFor m xs → AreItems code h n xs → AreItems code h k xs
+items-within code h n m k [] le a is = tt
+items-within code h n m k (items.Run r ∷ xs) le a is = ((is.0.0, le r.«end» is.0.1 a.0), items-within code h n m k xs le a.1 is.1)
+items-within code h n m k (items.Goal l v ∷ xs) le a is = (is.0, items-within code h n m k xs le a.1 is.1)
+items-within code h n m k (items.Marker x l ∷ xs) le a is = (tt, items-within code h n m k xs le a.1 is.1)
+
+taken-within : {A : Type 0} (i n : ℕ) (xs : List A) → i ≤ n → i ≤ length xs → i ≤ length (take n xs)
+taken-within zero n xs le lt = omega arith
+taken-within (suc i) zero xs le lt = absurd (omega arith)
+taken-within (suc i) (suc n) [] le lt = absurd (omega arith)
+taken-within (suc i) (suc n) (x ∷ xs) le lt = let r = taken-within i n xs (omega arith) (omega arith) in omega (arith, r)
+
+taken-below : {A : Type 0} (i n : ℕ) (xs : List A) → i < length (take n xs) → i < n
+taken-below i zero xs lt = absurd (omega arith)
+taken-below i (suc n) [] lt = absurd (omega arith)
+taken-below zero (suc n) (x ∷ xs) lt = omega arith
+taken-below (suc i) (suc n) (x ∷ xs) lt = let r = taken-below i n xs (omega arith) in omega (arith, r)
+
+module _ (code : Goals) (e : Env) (base : ℕ) (links : List Link) (saved : List Cell) where
+  cases-released : (statics : Statics) (fs : List Frame) → AreFrames code e links saved fs → cases statics code (released base e) links saved fs ≡ cases statics code e links saved fs
+  cases-released statics [] a = refl
+  cases-released statics (Plain i ∷ fs) a = ap (plain i) (cases-released statics fs a.1)
+  cases-released statics (Barrier l ∷ fs) a = ap (λ cs. MarkOf l ∷ cs) (cases-released statics fs a.1)
+  cases-released statics (Open p r ∷ fs) a =
+      ap₂ (λ x cs. case_of statics code (deeper cs 0) x (items_of links p.list) (kept_values saved p r) r ∷ cs) (cut-released base p.marks.env e a.0.mark) (cases-released statics fs a.1)
+
+  open-released : (p : Point) (r : Resume) (fs : List Frame) → IsOpen code e links saved p r fs → IsOpen code (released base e) links saved p r fs
+  open-released p r fs is = record {
+    mark = IsMark-released base p.marks.env e is.mark;
+    links_room = is.links_room;
+    list = is.list;
+    saved_room = is.saved_room;
+    older = is.older;
+    items = subst (λ (x : Env). AreItems code x.heap (length x.slots) (items_of links p.list)) (sym (cut-released base p.marks.env e is.mark)) is.items;
+    resume = subst (λ (x : Env). IsResume x.heap (kept_values saved p r) r) (sym (cut-released base p.marks.env e is.mark)) is.resume;
+  }
+
+  frames-released : (fs : List Frame) → AreFrames code e links saved fs → AreFrames code (released base e) links saved fs
+  frames-released [] a = tt
+  frames-released (Plain i ∷ fs) a = (a.0, frames-released fs a.1)
+  frames-released (Barrier l ∷ fs) a = (tt, frames-released fs a.1)
+  frames-released (Open p r ∷ fs) a = (open-released p r fs a.0, frames-released fs a.1)
+
+-- the visited list asks for no more
+module _ (s : State) (d : ℕ) (is : IsStack s d) (base : ℕ) (base_is : base ≡ max s.goals.run.«end» (slots_at s.links s.goals.rest)) (env : IsEnv (released base s.env)) where
+  abbrev after : State
+  after = record s { env = released base s.env }
+
+  abbrev left : ℕ
+  left = length (take (max base s.env.boundary) s.env.slots)
+
+  asked : AskFor base (items_of s.links s.goals)
+  asked = subst (λ n. AskFor n (items_of s.links s.goals)) (sym base_is) (list-asks s.links s.goals is.0.chain is.0.goals.there)
+
+  enough : (i : ℕ) → i ≤ length s.env.slots → i ≤ base → i ≤ left
+  enough i le lt = taken-within i (max base s.env.boundary) s.env.slots (le_trans lt (le-max_left base s.env.boundary)) le
+
+  items-left : AreItems (goals_in s) s.env.heap left (items_of s.links s.goals)
+  items-left = items-within (goals_in s) s.env.heap (length s.env.slots) base left (items_of s.links s.goals) enough asked is.0.goals.items
+
+  agrees : Agrees left s.env (released base s.env)
+  agrees = record {
+    values = λ v f. (f, refl);
+    variables = λ i lt. ap (slot_term s.env.heap) (get_or-take (max base s.env.boundary) s.env.slots i (Free 0) (taken-below i (max base s.env.boundary) s.env.slots lt));
+  }
+
+  pub released-stack : IsStack (record s { env = released base s.env }) d
+  released-stack = (
+    record {
+      env = env;
+      names = is.0.names;
+      none = is.0.none;
+      chain = is.0.chain;
+      frames = frames-released (goals_in s) s.env base s.links s.saved (reverse s.frames) is.0.frames;
+      goals = record { there = is.0.goals.there; items = items-left };
+    },
+    is.1,
+  )
+
+  pub released-back : GivesBack s (record s { env = released base s.env })
+  unfolding cases_of
+  released-back = record {
+    cases = λ statics. cases-released (goals_in s) s.env base s.links s.saved statics (reverse s.frames) is.0.frames;
+    place = ap (λ es. record { goals = es; variables = s.env.count }) (items-agree (goals_in s) left s.env (released base s.env) agrees (items_of s.links s.goals) items-left).1;
+    heap = refl;
+    frames = refl;
+    code = refl;
+  }

@@ -1,0 +1,66 @@
+-- What a case stands for where the table of names has grown.
+use Rattle.std.proofs.Common.{◌≡◌, ℕ, ◌<◌, List, [], ◌∷◌, length, map, drop, filter_map, refl, ap, ap₂, arith}
+use Rattle.plterm.specs.Tree.{Tree, atom, compound, trees}
+use Rattle.platoms.specs.Names.{Table, IsTable, Extends}
+use Rattle.platoms.proofs.Extending.{atoms_more, atom_same}
+use Rattle.plclause.specs.Clause.{Clause}
+use Rattle.plclause.specs.Indicators.{indicator}
+use Rattle.plcells.specs.declared.cell.Cell.{Cell}
+use Rattle.plcells.specs.Store.{AreValues, value, renamed as renamed_heap, Preserves}
+use Rattle.plcells.proofs.Renaming.{Preserves-renamed}
+use Rattle.plsearch.specs.Types.{Element, Choice, Handle, Catch}
+use Rattle.plsearch.specs.Rows.{resolve}
+use Rattle.plenv.specs.declared.slot.Slot.{Slot}
+use Rattle.plenv.specs.declared.slot.Slot.TheVariants.{Free, Set}
+use Rattle.plenv.specs.Env.{Env, IsEnv, IsSlot, slot_at, slot_term, renamed}
+use Rattle.pllinks.specs.declared.item.Item.{Item}
+use Rattle.pllinks.specs.Lists.{Goals, all_elements, AreItems}
+use Rattle.pllinks.specs.Changing.{Agrees}
+use Rattle.pllinks.proofs.Changing.{items-agree}
+use Rattle.plstack.specs.declared.frame.Resume.{Resume}
+use Rattle.plstack.specs.declared.frame.Resume.TheVariants as resumes
+use Rattle.plstack.specs.Places.{Statics, called, places_left, case_of}
+use Rattle.plstack.specs.Frames.{IsResume}
+
+module _ (e : Env) (t : Table) (is : IsEnv e) (table : IsTable t) (more : Extends e.heap.names t) where
+  pub stays : Preserves e.heap (renamed_heap e.heap t)
+  stays = Preserves-renamed e.heap t is.heap table more
+
+  slot-renamed : (s : Slot) → IsSlot e s → slot_term (renamed_heap e.heap t) s ≡ slot_term e.heap s
+  slot-renamed (Free n) f = refl
+  slot-renamed (Set v) f = (stays.values v f).1
+
+  pub agrees-renamed : Agrees (length e.slots) e (renamed e t)
+  agrees-renamed = record { values = stays.values; variables = λ i lt. slot-renamed (slot_at e.slots i) (is.slots.fit i lt) }
+
+  pub values-renamed : (vs : List Cell) → AreValues e.heap vs → AreValues (renamed_heap e.heap t) vs × (map (value (renamed_heap e.heap t)) vs ≡ map (value e.heap) vs)
+  values-renamed [] a = (tt, refl)
+  values-renamed (v ∷ vs) a =
+      let r = values-renamed vs a.1 in
+      let s = stays.values v a.0 in
+      ((s.0, r.0), ap₂ (λ x xs. x ∷ xs) s.1 r.1)
+
+  pub called-renamed : (n : ℕ) (vs : List Cell) → AreValues e.heap vs → n < length e.heap.names.atoms → called (renamed_heap e.heap t) n vs ≡ called e.heap n vs
+  called-renamed n [] a lt = ap atom (atom_same e.heap.names t more n lt)
+  called-renamed n (v ∷ vs) a lt = ap₂ (λ f ts. compound f (trees ts)) (atom_same e.heap.names t more n lt) (values-renamed (v ∷ vs) a).1
+
+  pub resume-renamed : (vs : List Cell) (r : Resume) → IsResume e.heap vs r → IsResume (renamed_heap e.heap t) vs r
+  resume-renamed vs (resumes.Clauses c) i = ((values-renamed vs i.0).0, omega (arith, i.1, atoms_more e.heap.names t more))
+  resume-renamed vs (resumes.Copies c) i = (stays.values c.goal i).0
+  resume-renamed vs resumes.List i = tt
+  resume-renamed vs (resumes.Catch c) i = ((stays.values c.catcher i.0).0, (stays.values c.recovery i.1).0)
+
+  module _ (statics : Statics) (code : Goals) (d : ℕ) (xs : List Item) (items : AreItems code e.heap (length e.slots) xs) where
+    goals-renamed : all_elements code (renamed e t) xs ≡ all_elements code e xs
+    goals-renamed = (items-agree code (length e.slots) e (renamed e t) agrees-renamed xs items).1
+
+    left-renamed : (g g' : Tree) (cs : Tree → List Clause) → g ≡ g' → places_left d (renamed e t) g (all_elements code (renamed e t) xs) (cs g) ≡ places_left d e g' (all_elements code e xs) (cs g')
+    left-renamed g g' cs same = ap₂ (λ (x : Tree) (es : List Element). filter_map (resolve d e.count x es) (cs x)) same goals-renamed
+
+    pub case-renamed : (vs : List Cell) (r : Resume) → IsResume e.heap vs r → case_of statics code d (renamed e t) xs vs r ≡ case_of statics code d e xs vs r
+    case-renamed vs (resumes.Clauses c) i = ap Choice (left-renamed _ _ (λ g. drop c.next (statics (indicator g))) (called-renamed c.name vs i.0 i.1))
+    case-renamed vs (resumes.Copies c) i = ap Choice (left-renamed _ _ (λ g. drop c.next c.clauses.items) (stays.values c.goal i).1)
+    case-renamed vs resumes.List i = ap (λ es. Choice (record { goals = es; variables = e.count } ∷ [])) goals-renamed
+    case-renamed vs (resumes.Catch c) i =
+        ap₂ (λ h es. Handle h (record { goals = es; variables = e.count }))
+        (ap₂ Catch (stays.values c.catcher i.0).1 (stays.values c.recovery i.1).1) goals-renamed

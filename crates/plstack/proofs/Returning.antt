@@ -1,0 +1,223 @@
+-- A stack that comes back to where its newest case was opened.
+use Rattle.std.proofs.Common.{◌≡◌, ℕ, suc, ◌-◌, ◌≤◌, List, [], ◌∷◌, ◌++◌, length, take, refl, sym, ap, ap₂, ◌∙◌, subst, arith, reverse, le_refl, length-take-le}
+use Rattle.platoms.specs.Names.{Extends as ExtendsNames}
+use Rattle.plcells.specs.Store.{value}
+use Rattle.plsearch.specs.Types.{Case, Choice, Handle, Catch}
+use Rattle.plenv.specs.Env.{Env, IsEnv, IsWithin, cut}
+use Rattle.plenv.specs.Marks.{IsOlder as IsEnvOlder}
+use Rattle.plenv.proofs.Cuts.{cut-cut, cut-names, IsMark-cut}
+use Rattle.pllinks.specs.declared.link.Continuation.{Continuation}
+use Rattle.pllinks.specs.Lists.{AreItems, all_elements}
+use Rattle.pllinks.specs.Links.{items_of, alone}
+use Rattle.pllinks.proofs.Arena.{chain-take}
+use Rattle.plstack.specs.declared.frame.Point.{Point}
+use Rattle.plstack.specs.declared.frame.Resume.{Resume}
+use Rattle.plstack.specs.declared.frame.Resume.TheVariants as resumes
+use Rattle.plstack.specs.declared.frame.Catcher.{Catcher}
+use Rattle.plstack.specs.declared.frame.Frame.{Frame}
+use Rattle.plstack.specs.declared.frame.Frame.TheVariants.{Open}
+use Rattle.plstack.specs.Places.{Statics, case_of, depth_of}
+use Rattle.plstack.specs.Frames.{IsOpen, AreOlder, IsResume, AreFrames}
+use Rattle.plstack.specs.State.{State, IsStack, goals_in, goals_of, cases_of, IsList, CountsUp, Retries, AtHandler, Recovers, IsHandler}
+use Rattle.plstack.specs.Cutting.{Settles}
+use Rattle.plstack.proofs.Frames.{items-take, cases-cut, AreFrames-cut}
+use Rattle.plstack.proofs.Lists.{empty-list}
+use Rattle.plstack.proofs.Stacks.{with-frames, opened-cases, opened-state, counted, counted-cases, popped-cases, popped-frames, has-last}
+
+-- marks are not older than themselves
+pub older-same : (p : Point) → IsEnvOlder p.marks.env p.marks.env
+older-same p = record {
+  heap = record { cells = le_refl _; trail = le_refl _; numbers = le_refl _; wide = le_refl _ };
+  slots = le_refl _;
+  noted = le_refl _;
+}
+
+-- the newest case comes back to something
+module _ (s : State) (d : ℕ) (is : IsStack s d) (rest : List Frame) (p : Point) (r : Resume) (popped : s.frames ≡ rest ++ Open p r ∷ []) where
+  pub at-frame : IsOpen (goals_in s) s.env s.links s.saved p r (reverse rest)
+  at-frame = (popped-frames s d rest (Open p r) popped is).0
+
+  -- the stack as it was, without that case
+  abbrev pub back : State
+  back = record { code = s.code; env = cut p.marks.env s.env; links = take p.marks.links s.links; saved = take p.marks.saved s.saved; frames = rest; goals = alone 0 }
+
+  pub back-depth : d ≡ suc (depth_of (reverse rest))
+  back-depth = omega (arith, (popped-frames s d rest (Open p r) popped is).2)
+
+  back-env : IsEnv (cut p.marks.env s.env)
+  back-env = at-frame.mark.env
+
+  back-names : ExtendsNames s.code.names (cut p.marks.env s.env).heap.names
+  back-names = subst (ExtendsNames s.code.names) (sym (cut-names p.marks.env s.env)) is.0.names
+
+  saved-room : p.marks.saved ≤ length s.saved
+  saved-room = omega (arith, at-frame.saved_room)
+
+  back-frames : AreFrames (goals_in s) (cut p.marks.env s.env) (take p.marks.links s.links) (take p.marks.saved s.saved) (reverse rest)
+  back-frames = AreFrames-cut (goals_in s) s.env s.links s.saved p.marks at-frame.mark at-frame.links_room saved-room (reverse rest) at-frame.older (popped-frames s d rest (Open p r) popped is).1
+
+  pub back-stack : IsStack back (d - 1)
+  back-stack = (
+    record {
+      env = back-env;
+      names = back-names;
+      none = is.0.none;
+      chain = chain-take s.links p.marks.links is.0.chain at-frame.links_room;
+      frames = back-frames;
+      goals = empty-list (goals_in s) is.0.none (cut p.marks.env s.env) (take p.marks.links s.links);
+    },
+    omega (arith, back-depth),
+  )
+
+  pub back-cases : (statics : Statics) → cases_of statics back ≡ cases_of statics (record s { frames = rest })
+  unfolding cases_of
+  back-cases statics = cases-cut (goals_in s) s.env s.links s.saved p.marks at-frame.mark at-frame.links_room saved-room statics (reverse rest) at-frame.older (popped-frames s d rest (Open p r) popped is).1
+
+  pub same-items : items_of (take p.marks.links s.links) p.list ≡ items_of s.links p.list
+  same-items = items-take s.links p.marks.links p.list at-frame.list at-frame.links_room
+
+  pub back-list : IsList back p.list
+  back-list = record {
+    there = omega (arith, at-frame.list, length-take-le p.marks.links s.links at-frame.links_room);
+    items = subst (AreItems (goals_in s) (cut p.marks.env s.env).heap (length (cut p.marks.env s.env).slots)) (sym same-items) at-frame.items;
+  }
+
+  pub back-goals : goals_of back p.list ≡ all_elements (goals_in s) (cut p.marks.env s.env) (items_of s.links p.list)
+  back-goals = ap (all_elements (goals_in s) (cut p.marks.env s.env)) same-items
+
+-- another list is visited
+pub visiting : (s : State) (d : ℕ) (l : Continuation) → IsStack s d → IsList s l → IsStack (record s { goals = l }) d
+visiting s d l is i = (record { env = is.0.env; names = is.0.names; none = is.0.none; chain = is.0.chain; frames = is.0.frames; goals = record { there = i.there; items = i.items } }, is.1)
+
+pub same-cases : (statics : Statics) (s : State) (l : Continuation) → cases_of statics (record s { goals = l }) ≡ cases_of statics s
+unfolding cases_of
+same-cases statics s l = refl
+
+-- the list of a choice is visited
+module _ (s : State) (d : ℕ) (is : IsStack s d) (rest : List Frame) (p : Point) (popped : s.frames ≡ rest ++ Open p resumes.List ∷ []) (frames : List Frame) (up : CountsUp 1 (reverse rest) (reverse frames)) where
+  abbrev was : State
+  was = back s d is rest p resumes.List popped
+
+  abbrev taken-state : State
+  taken-state = record { code = s.code; env = cut p.marks.env s.env; links = take p.marks.links s.links; saved = take p.marks.saved s.saved; frames = frames; goals = p.list }
+
+  pub taken-stack : IsStack taken-state d
+  taken-stack =
+      let v = visiting was (d - 1) p.list (back-stack s d is rest p resumes.List popped) (back-list s d is rest p resumes.List popped) in
+      let c = counted 1 (record was { goals = p.list }) (d - 1) frames up v in
+      (c.0, omega (arith, c.1, back-depth s d is rest p resumes.List popped))
+
+  pub taken : (statics : Statics) → Retries statics s taken-state
+  taken statics = record {
+    others = [];
+    older = cases_of statics (record s { frames = rest });
+    was =
+        popped-cases statics s rest (Open p resumes.List) popped
+        ∙ ap (λ gs. Choice (record { goals = gs; variables = (cut p.marks.env s.env).count } ∷ []) ∷ cases_of statics (record s { frames = rest })) (sym (back-goals s d is rest p resumes.List popped));
+    cases =
+        counted-cases 1 statics (record was { goals = p.list }) frames up
+        ∙ ap (λ cs. Choice [] ∷ cs) (same-cases statics was p.list ∙ back-cases s d is rest p resumes.List popped statics);
+  }
+
+-- all is as it was where a handler was opened, which stays open
+module _ (s : State) (d : ℕ) (is : IsStack s d) (rest : List Frame) (p : Point) (c : Catcher) (popped : s.frames ≡ rest ++ Open p (resumes.Catch c) ∷ []) where
+  abbrev none-visited : State
+  none-visited = back s d is rest p (resumes.Catch c) popped
+
+  abbrev rewound : State
+  rewound = record { code = s.code; env = cut p.marks.env s.env; links = take p.marks.links s.links; saved = take p.marks.saved s.saved; frames = s.frames; goals = alone 0 }
+
+  the-frame : IsOpen (goals_in s) s.env s.links s.saved p (resumes.Catch c) (reverse rest)
+  the-frame = at-frame s d is rest p (resumes.Catch c) popped
+
+  now : cut p.marks.env (cut p.marks.env s.env) ≡ cut p.marks.env s.env
+  now = cut-cut p.marks.env p.marks.env s.env (older-same p)
+
+  frame-then : IsOpen (goals_in s) (cut p.marks.env s.env) (take p.marks.links s.links) (take p.marks.saved s.saved) p (resumes.Catch c) (reverse rest)
+  frame-then = record {
+    mark = IsMark-cut p.marks.env p.marks.env s.env the-frame.mark the-frame.mark (older-same p);
+    links_room = omega (arith, length-take-le p.marks.links s.links the-frame.links_room);
+    list = the-frame.list;
+    saved_room = omega (arith, the-frame.saved_room, length-take-le p.marks.saved s.saved (saved-room s d is rest p (resumes.Catch c) popped));
+    older = the-frame.older;
+    items = subst (λ (x : Env). AreItems (goals_in s) x.heap (length x.slots) (items_of (take p.marks.links s.links) p.list)) (sym now) (back-list s d is rest p (resumes.Catch c) popped).items;
+    resume = subst (λ (x : Env). IsResume x.heap [] (resumes.Catch c)) (sym now) the-frame.resume;
+  }
+
+  pub rewound-stack : IsStack rewound d
+  rewound-stack =
+      let o = opened-state none-visited (d - 1) s.frames (Open p (resumes.Catch c)) popped (back-stack s d is rest p (resumes.Catch c) popped) frame-then in
+      (o.0, omega (arith, o.1, back-depth s d is rest p (resumes.Catch c) popped))
+
+  rewound-open : (statics : Statics) → cases_of statics rewound ≡
+      Handle (Catch (value (cut p.marks.env s.env).heap c.catcher) (value (cut p.marks.env s.env).heap c.recovery)) (record { goals = goals_of none-visited p.list; variables = (cut p.marks.env s.env).count }) ∷ cases_of statics none-visited
+  rewound-open statics =
+      opened-cases statics none-visited s.frames (Open p (resumes.Catch c)) popped
+      ∙ ap (λ x. case_of statics (goals_in s) 0 x (items_of (take p.marks.links s.links) p.list) [] (resumes.Catch c) ∷ cases_of statics none-visited) now
+
+  pub rewound-cases : (statics : Statics) → cases_of statics rewound ≡ cases_of statics s
+  rewound-cases statics =
+      rewound-open statics
+      ∙ ap₂ (λ gs cs. Handle (Catch (value (cut p.marks.env s.env).heap c.catcher) (value (cut p.marks.env s.env).heap c.recovery)) (record { goals = gs; variables = (cut p.marks.env s.env).count }) ∷ cs)
+      (back-goals s d is rest p (resumes.Catch c) popped) (back-cases s d is rest p (resumes.Catch c) popped statics)
+      ∙ sym (popped-cases statics s rest (Open p (resumes.Catch c)) popped)
+
+  pub rewound-at : AtHandler rewound c p.list
+  rewound-at = record {
+    below = λ statics. cases_of statics none-visited;
+    cases = rewound-open;
+    catcher = the-frame.resume.0;
+    recovery = the-frame.resume.1;
+    list_there = let l = back-list s d is rest p (resumes.Catch c) popped in record { there = l.there; items = l.items };
+    has = has-last IsHandler s.frames rest (Open p (resumes.Catch c)) popped tt;
+  }
+
+tail_is : (x y : Case) (xs ys : List Case) → x ∷ xs ≡ y ∷ ys → xs ≡ ys
+tail_is x y xs ys e = cc
+
+-- a list is visited in a choice in place of a handler
+module _ (s : State) (d : ℕ) (is : IsStack s d) (rest : List Frame) (p : Point) (c : Catcher) (popped : s.frames ≡ rest ++ Open p (resumes.Catch c) ∷ []) (frames : List Frame) (up : CountsUp 1 (reverse rest) (reverse frames))
+    (list : Continuation) (l : IsList s list) where
+  abbrev without : State
+  without = record { code = s.code; env = s.env; links = s.links; saved = s.saved; frames = rest; goals = list }
+
+  pub recovered-stack : IsStack (record s { frames = frames; goals = list }) d
+  recovered-stack =
+      let q = popped-frames s d rest (Open p (resumes.Catch c)) popped is in
+      let v = visiting (record s { frames = rest }) (depth_of (reverse rest)) list (with-frames s rest is.0 q.1, refl) (record { there = l.there; items = l.items }) in
+      let u = counted 1 without (depth_of (reverse rest)) frames up v in
+      (u.0, omega (arith, u.1, q.2))
+
+  pub recovers : Recovers s (record s { frames = frames; goals = list }) list
+  recovers = record {
+    cases = λ statics h below was.
+        let split = sym (popped-cases statics s rest (Open p (resumes.Catch c)) popped) ∙ was in
+        counted-cases 1 statics without frames up ∙ ap (λ cs. Choice [] ∷ cs) (same-cases statics (record s { frames = rest }) list ∙ tail_is _ _ _ _ split);
+    place = refl;
+  }
+
+-- so they are where less is old
+pub retries_settled : (statics : Statics) (s mid new : State) → Retries statics s mid → Settles mid new → Retries statics s new
+retries_settled statics s mid new r y = record {
+  others = r.others;
+  older = r.older;
+  was = r.was ∙ ap (λ p. Choice (p ∷ r.others) ∷ r.older) (sym y.place);
+  cases = y.cases statics ∙ r.cases;
+}
+
+pub recovers_settled : (s mid new : State) (list : Continuation) → Recovers s mid list → Settles mid new → Recovers s new list
+recovers_settled s mid new list r y = record {
+  cases = λ statics h below was. y.cases statics ∙ r.cases statics h below was;
+  place = y.place ∙ r.place;
+}
+
+-- the marks of a case that was taken off
+module _ (s : State) (d : ℕ) (is : IsStack s d) (rest : List Frame) (p : Point) (r : Resume) (popped : s.frames ≡ rest ++ Open p r ∷ []) where
+  pub within-now : IsWithin p.marks.env s.env
+  within-now = (at-frame s d is rest p r popped).mark.within
+
+  pub within-then : IsWithin p.marks.env (cut p.marks.env s.env)
+  within-then = (IsMark-cut p.marks.env p.marks.env s.env (at-frame s d is rest p r popped).mark (at-frame s d is rest p r popped).mark (older-same p)).within
+
+  pub older-then : (frames : List Frame) → CountsUp 1 (reverse rest) (reverse frames) → AreOlder p.marks (reverse frames)
+  older-then frames up = up.older p.marks (at-frame s d is rest p r popped).older

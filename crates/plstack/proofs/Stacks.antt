@@ -1,0 +1,151 @@
+-- Frames that are put on a stack and taken off.
+use Rattle.std.proofs.Common.{◌≡◌, ℕ, zero, suc, ◌+◌, ◌-◌, ◌<◌, List, [], ◌∷◌, ◌++◌, length, refl, sym, ap, ◌∙◌, subst, arith, reverse}
+use Rattle.platoms.specs.Names.{Extends as ExtendsNames}
+use Rattle.plcode.specs.Steps.{Text, goals_from}
+use Rattle.plsearch.specs.Types.{Case, Choice}
+use Rattle.plsearch.specs.Engine.{deeper}
+use Rattle.plenv.specs.Env.{Env, IsEnv}
+use Rattle.pllinks.specs.Links.{alone}
+use Rattle.pllinks.proofs.Arena.{chain-none}
+use Rattle.plstack.specs.declared.stack.Stack.TheInside.{Inside}
+use Rattle.plstack.specs.declared.frame.Frame.{Frame}
+use Rattle.plstack.specs.declared.frame.Frame.TheVariants.{Plain, Barrier, Open}
+use Rattle.plstack.specs.Places.{Statics, plain, opened, cases, size, depth_of}
+use Rattle.plstack.specs.Frames.{IsFrame, AreFrames}
+use Rattle.plstack.specs.State.{State, IsState, IsStack, CountsUp, goals_in, cases_of, HasHandler, IsHandler, BeginsWith}
+use Rattle.plstack.proofs.Lists.{empty-list}
+use Rattle.plstack.proofs.Frames.{depth-cases, reverse-push, plain-more}
+
+pub depth_is : (statics : Statics) (s : State) (d : ℕ) → d ≡ depth_of (reverse s.frames) → d ≡ deeper (cases_of statics s) 0
+unfolding cases_of
+depth_is statics s d e = e ∙ sym (depth-cases statics (goals_in s) s.env s.links s.saved (reverse s.frames))
+
+-- the state of a stack's fields
+abbrev pub inside : Inside → State
+inside a = record { code = a.code.text; env = a.env; links = a.links.items; saved = a.saved.items; frames = a.frames.items; goals = a.goals }
+
+-- a stack with nothing on it
+pub empty-stack : (code : Text) (e : Env) → IsEnv e → ExtendsNames code.names e.heap.names → goals_from code 0 0 ≡ [] → IsStack (record { code = code; env = e; links = []; saved = []; frames = []; goals = alone 0 }) 0
+empty-stack code e env names none = (
+  record {
+    env = env;
+    names = names;
+    none = none;
+    chain = chain-none;
+    frames = tt;
+    goals = empty-list (goals_from code) none e [];
+  },
+  refl,
+)
+
+-- a handler's level
+pub level_is : (s : State) (d : ℕ) → IsStack s d → HasHandler s → (statics : Statics) → deeper (cases_of statics s) 0 ≡ (d - 1) + 1
+level_is s d is has statics = sym (depth_is statics s d is.1) ∙ go (reverse s.frames) has is.1
+  where
+    go : (fs : List Frame) → BeginsWith IsHandler fs → d ≡ depth_of fs → d ≡ (d - 1) + 1
+    go [] has e = absurd has
+    go (Plain n ∷ fs) has e = absurd has
+    go (Barrier l ∷ fs) has e = absurd has
+    go (Open p r ∷ fs) has e = omega (arith, e)
+
+-- a new frame
+pub opened-cases : (statics : Statics) (s : State) (frames : List Frame) (f : Frame) → frames ≡ s.frames ++ f ∷ [] →
+    cases_of statics (record s { frames = frames }) ≡ opened statics (goals_in s) s.env s.links s.saved f (cases_of statics s)
+unfolding cases_of
+opened-cases statics s frames f e = ap (λ fs. cases statics (goals_in s) s.env s.links s.saved (reverse fs)) e ∙ ap (cases statics (goals_in s) s.env s.links s.saved) (reverse-push s.frames f)
+
+-- other frames
+pub with-frames : (s : State) (frames : List Frame) → IsState s → AreFrames (goals_in s) s.env s.links s.saved (reverse frames) → IsState (record s { frames = frames })
+with-frames s frames is a = record { env = is.env; names = is.names; none = is.none; chain = is.chain; frames = a; goals = record { there = is.goals.there; items = is.goals.items } }
+
+pub opened-state : (s : State) (d : ℕ) (frames : List Frame) (f : Frame) → frames ≡ s.frames ++ f ∷ [] → IsStack s d → IsFrame (goals_in s) s.env s.links s.saved f (reverse s.frames) →
+    IsStack (record s { frames = frames }) (size f + d)
+opened-state s d frames f e is frame =
+    let same : reverse frames ≡ f ∷ reverse s.frames = ap reverse e ∙ reverse-push s.frames f in
+    (with-frames s frames is.0 (subst (AreFrames (goals_in s) s.env s.links s.saved) (sym same) (frame, is.0.frames)), omega (arith, is.1, ap depth_of same))
+
+-- a count of choices with nothing left
+pub counted : (n : ℕ) (s : State) (d : ℕ) (frames : List Frame) → CountsUp n (reverse s.frames) (reverse frames) → IsStack s d → IsStack (record s { frames = frames }) (d + n)
+counted n s d frames c is = (with-frames s frames is.0 (c.frames (goals_in s) s.env s.links s.saved is.0.frames), omega (arith, is.1, c.depth))
+
+pub counted-cases : (n : ℕ) (statics : Statics) (s : State) (frames : List Frame) → CountsUp n (reverse s.frames) (reverse frames) → cases_of statics (record s { frames = frames }) ≡ plain n (cases_of statics s)
+unfolding cases_of
+counted-cases n statics s frames c = c.cases statics (goals_in s) s.env s.links s.saved
+
+-- a frame that was taken off
+pub popped-cases : (statics : Statics) (s : State) (rest : List Frame) (f : Frame) → s.frames ≡ rest ++ f ∷ [] →
+    cases_of statics s ≡ opened statics (goals_in s) s.env s.links s.saved f (cases_of statics (record s { frames = rest }))
+unfolding cases_of
+popped-cases statics s rest f e = ap (cases statics (goals_in s) s.env s.links s.saved) (ap reverse e ∙ reverse-push rest f)
+
+pub no-cases : (statics : Statics) (s : State) → s.frames ≡ [] → cases_of statics s ≡ []
+unfolding cases_of
+no-cases statics s e = ap (λ fs. cases statics (goals_in s) s.env s.links s.saved (reverse fs)) e
+
+pub popped-frames : (s : State) (d : ℕ) (rest : List Frame) (f : Frame) → s.frames ≡ rest ++ f ∷ [] → IsStack s d →
+    IsFrame (goals_in s) s.env s.links s.saved f (reverse rest) × AreFrames (goals_in s) s.env s.links s.saved (reverse rest) × (d ≡ size f + depth_of (reverse rest))
+popped-frames s d rest f e is =
+    let same : reverse s.frames ≡ f ∷ reverse rest = ap reverse e ∙ reverse-push rest f in
+    let frames = subst (AreFrames (goals_in s) s.env s.links s.saved) same is.0.frames in
+    (frames.0, frames.1, is.1 ∙ ap depth_of same)
+
+pub popped-stack : (s : State) (d : ℕ) (rest : List Frame) (f : Frame) → s.frames ≡ rest ++ f ∷ [] → IsStack s d → IsStack (record s { frames = rest }) (d - size f)
+popped-stack s d rest f e is =
+    let p = popped-frames s d rest f e is in
+    (with-frames s rest is.0 p.1, omega (arith, p.2))
+
+pub empty_is : (xs : List Frame) → length xs ≡ 0 → xs ≡ []
+empty_is [] e = refl
+empty_is (x ∷ xs) e = absurd (omega arith)
+
+-- what the newest frame is
+pub has-last : (Is : Frame → Type 0) (frames rest : List Frame) (f : Frame) → frames ≡ rest ++ f ∷ [] → Is f → BeginsWith Is (reverse frames)
+has-last Is frames rest f e i = subst (BeginsWith Is) (sym (ap reverse e ∙ reverse-push rest f)) i
+
+-- closing a choice of so many
+pub closed-plain : (statics : Statics) (s : State) (rest frames : List Frame) (n : ℕ) → s.frames ≡ rest ++ Plain n ∷ [] → 1 < n → frames ≡ rest ++ Plain (n - 1) ∷ [] →
+    cases_of statics s ≡ Choice [] ∷ cases_of statics (record s { frames = frames })
+closed-plain statics s rest frames n e lt e' =
+    popped-cases statics s rest (Plain n) e
+    ∙ plain-more (n - 1) n (cases_of statics (record s { frames = rest })) (omega (arith, lt))
+    ∙ ap (λ cs. Choice [] ∷ cs) (sym (popped-cases statics (record s { frames = frames }) rest (Plain (n - 1)) e'))
+
+pub closed-last : (statics : Statics) (s : State) (rest : List Frame) (n : ℕ) → s.frames ≡ rest ++ Plain n ∷ [] → n ≡ 1 →
+    cases_of statics s ≡ Choice [] ∷ cases_of statics (record s { frames = rest })
+closed-last statics s rest n e one = popped-cases statics s rest (Plain n) e ∙ ap (λ i. plain i (cases_of statics (record s { frames = rest }))) one
+
+-- a smaller choice in place of one
+pub smaller-stack : (s : State) (d : ℕ) (rest frames : List Frame) (n : ℕ) → s.frames ≡ rest ++ Plain n ∷ [] → 1 < n → frames ≡ rest ++ Plain (n - 1) ∷ [] → IsStack s d → IsStack (record s { frames = frames }) (d - 1)
+smaller-stack s d rest frames n e lt e' is =
+    let p = popped-stack s d rest (Plain n) e is in
+    let q = popped-frames s d rest (Plain n) e is in
+    let o = opened-state (record s { frames = rest }) (d - n) frames (Plain (n - 1)) e' p (omega (arith, lt)) in
+    (o.0, omega (arith, o.1, q.2, lt))
+
+-- so many more in the newest frame
+pub plain-plus : (m n : ℕ) (below : List Case) → plain m (plain n below) ≡ plain (m + n) below
+plain-plus zero n below = ap (λ i. plain i below) (omega arith)
+plain-plus (suc m) n below =
+    let e : suc (m + n) ≡ suc m + n = omega arith in
+    ap (λ cs. Choice [] ∷ cs) (plain-plus m n below) ∙ ap (λ i. plain i below) e
+
+pub counts-in-place : (rest old new : List Frame) (m n : ℕ) → old ≡ rest ++ Plain m ∷ [] → new ≡ rest ++ Plain (m + n) ∷ [] → CountsUp n (reverse old) (reverse new)
+counts-in-place rest old new m n was is =
+    let before : reverse old ≡ Plain m ∷ reverse rest = ap reverse was ∙ reverse-push rest (Plain m) in
+    let after : reverse new ≡ Plain (m + n) ∷ reverse rest = ap reverse is ∙ reverse-push rest (Plain (m + n)) in
+    rw (before, after) (record {
+      cases = λ statics code e links saved. ap (λ k. plain k (cases statics code e links saved (reverse rest))) (omega arith) ∙ sym (plain-plus n m (cases statics code e links saved (reverse rest)));
+      frames = λ code e links saved a. (omega (arith, a.0), a.1);
+      older = λ m o. o;
+      depth = omega arith;
+    })
+
+pub counts-new : (old new : List Frame) (n : ℕ) → 0 < n → new ≡ old ++ Plain n ∷ [] → CountsUp n (reverse old) (reverse new)
+counts-new old new n some is =
+    let after : reverse new ≡ Plain n ∷ reverse old = ap reverse is ∙ reverse-push old (Plain n) in
+    rw after (record {
+      cases = λ statics code e links saved. refl;
+      frames = λ code e links saved a. (some, a);
+      older = λ m o. o;
+      depth = omega arith;
+    })

@@ -1,0 +1,51 @@
+-- What a call of a dynamic procedure makes of a stack.
+use Rattle.std.specs.Prelude.{◌≡◌, ℕ, ◌+◌, ◌<◌, List, ◌∷◌, ◌++◌, length, drop}
+use Rattle.plclause.specs.Clause.{Clause}
+use Rattle.plcells.specs.declared.cell.Cell.{Cell}
+use Rattle.plcells.specs.Store.{value}
+use Rattle.plsearch.specs.Types.{Place, Choice}
+use Rattle.plsearch.specs.Engine.{deeper}
+use Rattle.plenv.specs.Env.{Env, IsEnv, cut}
+use Rattle.plenv.specs.Changes.{Keeps as KeepsEnv}
+use Rattle.pllinks.specs.declared.link.Link.{Link}
+use Rattle.pllinks.specs.declared.link.Continuation.{Continuation}
+use Rattle.pllinks.specs.Lists.{Goals}
+use Rattle.pllinks.specs.Links.{items_of, IsChain}
+use Rattle.plstack.specs.declared.frame.Point.{Point}
+use Rattle.plstack.specs.declared.frame.Resume.{Resume}
+use Rattle.plstack.specs.declared.frame.Frame.{Frame}
+use Rattle.plstack.specs.Places.{Statics, places_left, kept_values, case_of, cases, depth_of}
+use Rattle.plstack.specs.Frames.{IsOpen, AreFrames}
+use Rattle.plstack.specs.State.{State, goals_of, place_of, cases_of, IsList}
+
+-- what is left of a call at a level, of a goal before a list, by some clauses
+abbrev pub left_of : State → ℕ → Cell → Continuation → List Clause → List Place
+left_of s d goal rest cs = places_left d s.env (value s.env.heap goal) (goals_of s rest) cs
+
+-- more links, and an environment that keeps each mark
+pub record Goes (old new : State) : Type 0 where
+  pub keeps : KeepsEnv old.env new.env
+  pub env : IsEnv new.env
+  pub more : List Link
+  pub links : new.links ≡ old.links ++ more
+  pub chain : IsChain new.links
+
+-- the first of some clauses, from a number on, that fits a call is number i, and its list is visited
+pub record FirstFits (old new : State) (d : ℕ) (goal : Cell) (rest : Continuation) (cs : List Clause) (from i : ℕ) : Type 0 where
+  pub places : left_of old d goal rest (drop from cs) ≡ place_of new ∷ left_of old d goal rest (drop (i + 1) cs)
+  pub within : i < length cs
+  pub there : IsList new new.goals
+  pub goes : Goes old new
+
+-- the choice of what a case has left, whatever the other cases are
+pub record OpensRest (statics : Statics) (old new : List Frame) (p : Point) (r : Resume) : Type 0 where
+  pub cases : (code : Goals) (e : Env) (links : List Link) (saved : List Cell) → cases statics code e links saved new ≡
+      case_of statics code (deeper (cases statics code e links saved old) 0) (cut p.marks.env e) (items_of links p.list) (kept_values saved p r) r ∷ cases statics code e links saved old
+  pub frames : (code : Goals) (e : Env) (links : List Link) (saved : List Cell) → AreFrames code e links saved old → IsOpen code e links saved p r old → AreFrames code e links saved new
+  pub depth : depth_of new ≡ depth_of old + 1
+
+-- a call visits its first place, in a choice of the others
+pub record Calls (statics : Statics) (old new : State) (goal : Cell) (rest : Continuation) (cs : List Clause) : Type 0 where
+  pub others : List Place
+  pub places : left_of old (deeper (cases_of statics old) 0) goal rest cs ≡ place_of new ∷ others
+  pub cases : cases_of statics new ≡ Choice others ∷ cases_of statics old

@@ -1,0 +1,83 @@
+-- What a cut gives up.
+use Rattle.std.specs.Prelude.{◌≡◌, ◌<◌, ◌≤◌, ◌+◌, ◌-◌, ◌⊎◌, ℕ, List, [], ◌∷◌, ◌++◌, length, get_or, take, reverse}
+use Rattle.plsearch.specs.Types.{Place, Case, Choice, Mark}
+use Rattle.plsearch.specs.Engine.{deeper}
+use Rattle.plsearch.specs.Machines.Levels.{AreAtMost, emptied}
+use Rattle.plenv.specs.Env.{IsWithin}
+use Rattle.pllinks.specs.declared.link.Continuation.{Continuation}
+use Rattle.plstack.specs.declared.frame.Marks.{Marks}
+use Rattle.plstack.specs.declared.frame.Resume.{Resume}
+use Rattle.plstack.specs.declared.frame.Resume.TheVariants as resumes
+use Rattle.plstack.specs.declared.frame.Frame.{Frame}
+use Rattle.plstack.specs.declared.frame.Frame.TheVariants.{Plain, Barrier, Open}
+use Rattle.plstack.specs.Places.{Statics, size, depth_of, plain, cases}
+use Rattle.plstack.specs.Frames.{AreOlder}
+use Rattle.plstack.specs.State.{State, place_of, goals_in, goals_of, cases_of}
+use Rattle.plstack.specs.Opening.{Keeps}
+
+-- the case is a choice, and no handler
+abbrev pub IsChosen : Resume → Type 0
+IsChosen (resumes.Clauses c) = Unit {0}
+IsChosen (resumes.Copies c) = Unit {0}
+IsChosen resumes.List = Unit {0}
+IsChosen (resumes.Catch c) = ⊥
+
+abbrev pub IsChoice : Frame → Type 0
+IsChoice (Plain n) = Unit {0}
+IsChoice (Barrier l) = ⊥
+IsChoice (Open p r) = IsChosen r
+
+abbrev pub frame_at : List Frame → ℕ → Frame
+frame_at frames i = get_or frames i (Plain 0)
+
+-- the case at a level is a choice, and in the frame of this number, with so many cases below it; the newest frame is the last
+pub record ChoiceAt (frames : List Frame) (level i below : ℕ) : Type 0 where
+  pub there : i < length frames
+  pub choice : IsChoice (frame_at frames i)
+  pub depth : depth_of (reverse (take i frames)) ≡ below
+  pub low : below ≤ level
+  pub high : level < below + size (frame_at frames i)
+
+-- the cases from the frame of a number on are emptied, with so many cases below it, and there is one case more
+pub record EmptiesFrom (old new : State) (i below : ℕ) : Type 0 where
+  pub cases : (statics : Statics) → cases_of statics new ≡ plain (depth_of (reverse old.frames) - below + 1) (cases statics (goals_in old) old.env old.links old.saved (reverse (take i old.frames)))
+  pub same : new ≡ record old { frames = new.frames }
+  pub older : (m : Marks) → AreOlder m (reverse (take i old.frames)) → AreOlder m (reverse new.frames)
+
+-- the marks of a case from the frame of a number on: the frames below that one are not newer
+pub record IsGivenUp (s : State) (i : ℕ) (m : Marks) : Type 0 where
+  pub within : IsWithin m.env s.env
+  pub older : AreOlder m (reverse (take i s.frames))
+
+-- the choice at the level and all cases inside of it are emptied, and so is the mark
+pub record Empties (statics : Statics) (old new : State) (level : ℕ) : Type 0 where
+  pub inside : List Case
+  pub places : List Place
+  pub below : List Case
+  pub was : cases_of statics old ≡ inside ++ Choice places ∷ below
+  pub at : deeper below 0 ≡ level
+  pub cases : cases_of statics new ≡ emptied (Mark level ∷ inside) (Choice [] ∷ below)
+
+-- so they are, and all stands for what it did
+pub record GivesUp (old new : State) (i below : ℕ) : Type 0 where
+  pub cases : (statics : Statics) → cases_of statics new ≡ plain (depth_of (reverse old.frames) - below + 1) (cases statics (goals_in old) old.env old.links old.saved (reverse (take i old.frames)))
+  pub keeps : Keeps old new
+  pub goals : new.goals ≡ old.goals
+
+-- what a cut to a level makes of the cases: a mark of the level, or where the list to be visited names no level above this one, all that
+-- the mark gives up is emptied
+abbrev pub CutsCases : State → State → ℕ → Continuation → Type 0
+CutsCases old new level list = ((statics : Statics) → cases_of statics new ≡ Mark level ∷ cases_of statics old) ⊎ (AreAtMost level (goals_of old list) × ((statics : Statics) → Empties statics old new level))
+
+-- a list is visited behind a cut to the level
+pub record Cuts (old new : State) (level : ℕ) (list : Continuation) : Type 0 where
+  pub cases : CutsCases old new level list
+  pub keeps : Keeps old new
+  pub goals : new.goals ≡ list
+
+-- no more than this is old any more, where a choice is given up: all stands for what it did
+pub record Settles (old new : State) : Type 0 where
+  pub cases : (statics : Statics) → cases_of statics new ≡ cases_of statics old
+  pub keeps : Keeps old new
+  pub place : place_of new ≡ place_of old
+  pub goals : new.goals ≡ old.goals

@@ -1,0 +1,55 @@
+-- What a stack knows of its frames.
+use Rattle.std.specs.Prelude.{◌+◌, ◌<◌, ◌≤◌, List, [], ◌∷◌, length}
+use Rattle.std.specs.Bool.{⊤}
+use Rattle.plcells.specs.declared.cell.Cell.{Cell}
+use Rattle.plcells.specs.Store.{Store, IsValue, AreValues}
+use Rattle.plenv.specs.Env.{Env, cut, IsMark}
+use Rattle.plenv.specs.Marks.{IsOlder as IsEnvOlder}
+use Rattle.pllinks.specs.declared.link.Link.{Link}
+use Rattle.pllinks.specs.Lists.{Goals, AreItems}
+use Rattle.pllinks.specs.Links.{items_of}
+use Rattle.plstack.specs.declared.frame.Marks.{Marks}
+use Rattle.plstack.specs.declared.frame.Point.{Point}
+use Rattle.plstack.specs.declared.frame.Resume.{Resume}
+use Rattle.plstack.specs.declared.frame.Resume.TheVariants as resumes
+use Rattle.plstack.specs.declared.frame.Frame.{Frame}
+use Rattle.plstack.specs.declared.frame.Frame.TheVariants.{Plain, Barrier, Open}
+use Rattle.plstack.specs.Places.{kept, kept_values}
+
+-- a frame that is not newer than these marks, and keeps no values behind them
+pub record IsOlder (m : Marks) (p : Point) (r : Resume) : Type 0 where
+  pub env : IsEnvOlder p.marks.env m.env
+  pub links : p.marks.links ≤ m.links
+  pub saved : p.marks.saved + kept r ≤ m.saved
+
+abbrev pub AreOlder : Marks → List Frame → Type 0
+AreOlder m [] = ⊤
+AreOlder m (Plain n ∷ fs) = AreOlder m fs
+AreOlder m (Barrier l ∷ fs) = AreOlder m fs
+AreOlder m (Open p r ∷ fs) = IsOlder m p r × AreOlder m fs
+
+-- the values of a case are those of the heap that it comes back to
+abbrev pub IsResume : Store → List Cell → Resume → Type 0
+IsResume h vs (resumes.Clauses c) = AreValues h vs × (c.name < length h.names.atoms)
+IsResume h vs (resumes.Copies c) = IsValue h c.goal
+IsResume h vs resumes.List = ⊤
+IsResume h vs (resumes.Catch c) = IsValue h c.catcher × IsValue h c.recovery
+
+-- a choice point or handler: it reads what it comes back to at its marks, and the frames behind it are older
+pub record IsOpen (code : Goals) (e : Env) (links : List Link) (saved : List Cell) (p : Point) (r : Resume) (fs : List Frame) : Type 0 where
+  pub mark : IsMark p.marks.env e
+  pub links_room : p.marks.links ≤ length links
+  pub list : p.list.rest ≤ p.marks.links
+  pub saved_room : p.marks.saved + kept r ≤ length saved
+  pub older : AreOlder p.marks fs
+  pub items : AreItems code (cut p.marks.env e).heap (length (cut p.marks.env e).slots) (items_of links p.list)
+  pub resume : IsResume (cut p.marks.env e).heap (kept_values saved p r) r
+
+abbrev pub IsFrame : Goals → Env → List Link → List Cell → Frame → List Frame → Type 0
+IsFrame code e links saved (Plain n) fs = 0 < n
+IsFrame code e links saved (Barrier l) fs = ⊤
+IsFrame code e links saved (Open p r) fs = IsOpen code e links saved p r fs
+
+abbrev pub AreFrames : Goals → Env → List Link → List Cell → List Frame → Type 0
+AreFrames code e links saved [] = ⊤
+AreFrames code e links saved (f ∷ fs) = IsFrame code e links saved f fs × AreFrames code e links saved fs

@@ -1,0 +1,11 @@
+pub mod Places
+pub mod Frames
+pub mod State
+pub mod Opening
+pub mod Levels
+pub mod Cutting
+pub mod Holding
+pub mod Giving
+pub mod Fits
+pub mod Attempts
+pub mod Calls

@@ -1,0 +1,74 @@
+-- Cases that are opened and closed.
+use Rattle.std.specs.Prelude.{◌≡◌, List, [], ◌∷◌}
+use Rattle.plcells.specs.declared.cell.Cell.{Cell}
+use Rattle.plcells.specs.Store.{IsValue, value}
+use Rattle.plsearch.specs.Types.{Place, Handler, Catch, Case, Choice, Mark, Handle}
+use Rattle.plsearch.specs.Rows.{branch}
+use Rattle.plsearch.specs.Engine.{deeper}
+use Rattle.pllinks.specs.declared.link.Continuation.{Continuation}
+use Rattle.pllinks.specs.Links.{items_of}
+use Rattle.plstack.specs.declared.frame.Resume.{Resume}
+use Rattle.plstack.specs.declared.frame.Resume.TheVariants as resumes
+use Rattle.plstack.specs.declared.frame.Handling.{Handling}
+use Rattle.plstack.specs.declared.frame.Around.{Around}
+use Rattle.plstack.specs.declared.frame.Around.TheVariants as arounds
+use Rattle.plstack.specs.declared.frame.Closed.{Closed}
+use Rattle.plstack.specs.declared.frame.Closed.TheVariants as closings
+use Rattle.plstack.specs.Places.{Statics, case_of}
+use Rattle.plstack.specs.State.{State, goals_in, goals_of, place_at, cases_of, IsList, HasClauses, HasCopies, HasBranch, HasHandler}
+
+-- values and lists stand for what they did, whatever cases are open
+pub record Keeps (old new : State) : Type 0 where
+  pub values : (v : Cell) → IsValue old.env.heap v → IsValue new.env.heap v × (value new.env.heap v ≡ value old.env.heap v)
+  pub lists : (l : Continuation) → IsList old l → IsList new l × (goals_of new l ≡ goals_of old l)
+  pub count : new.env.count ≡ old.env.count
+  pub code : new.code ≡ old.code
+
+-- a choice of one list
+abbrev pub branch_of : State → Continuation → Case
+branch_of s l = branch (goals_of s l) s.env.count
+
+-- what a handler stands for
+abbrev pub handler_of : State → Handling → Case
+handler_of s h = Handle (Catch (value s.env.heap h.catcher.catcher) (value s.env.heap h.catcher.recovery)) (place_at s h.list)
+
+pub record IsHandling (s : State) (h : Handling) : Type 0 where
+  pub catcher : IsValue s.env.heap h.catcher.catcher
+  pub recovery : IsValue s.env.heap h.catcher.recovery
+  pub list : IsList s h.list
+
+-- the cases that a goal with a cut level of its own runs in
+abbrev pub around_cases : State → Around → List Case
+around_cases s arounds.Nothing = []
+around_cases s (arounds.Branch l) = branch_of s l ∷ []
+around_cases s (arounds.Handle h) = handler_of s h ∷ []
+
+abbrev pub IsAround : State → Around → Type 0
+IsAround s arounds.Nothing = Unit {0}
+IsAround s (arounds.Branch l) = IsList s l
+IsAround s (arounds.Handle h) = IsHandling s h
+
+-- the case that comes back to a list, and all else as it was
+pub record OpensFrame (old new : State) (l : Continuation) (r : Resume) : Type 0 where
+  pub cases : (statics : Statics) → cases_of statics new ≡ case_of statics (goals_in new) (deeper (cases_of statics old) 0) new.env (items_of new.links l) [] r ∷ cases_of statics old
+  pub keeps : Keeps old new
+  pub goals : new.goals ≡ old.goals
+
+-- and in it a choice with nothing left
+pub record OpensIn (old new : State) (l : Continuation) (r : Resume) : Type 0 where
+  pub cases : (statics : Statics) → cases_of statics new ≡ Choice [] ∷ case_of statics (goals_in new) (deeper (cases_of statics old) 0) new.env (items_of new.links l) [] r ∷ cases_of statics old
+  pub keeps : Keeps old new
+  pub goals : new.goals ≡ old.goals
+
+-- what is closed with a case that does this
+abbrev pub closing : Resume → Closed
+closing (resumes.Clauses c) = closings.Choice
+closing (resumes.Copies c) = closings.Choice
+closing resumes.List = closings.Choice
+closing (resumes.Catch c) = closings.Handler
+
+-- the innermost case was closed
+abbrev pub ClosedAs : Statics → State → State → Closed → Type 0
+ClosedAs statics old new closings.Choice = (ps : List Place) × (cases_of statics old ≡ Choice ps ∷ cases_of statics new) × ((HasClauses old → ⊥) → (HasCopies old → ⊥) → (HasBranch old → ⊥) → ps ≡ [])
+ClosedAs statics old new (closings.Mark l) = cases_of statics old ≡ Mark l ∷ cases_of statics new
+ClosedAs statics old new closings.Handler = HasHandler old × (h : Handler) × (p : Place) × (cases_of statics old ≡ Handle h p ∷ cases_of statics new)

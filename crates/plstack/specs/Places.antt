@@ -1,0 +1,83 @@
+-- What open cases stand for.
+use Rattle.std.specs.Prelude.{ℕ, zero, suc, ◌+◌, List, [], ◌∷◌, map, take, drop, filter_map}
+use Rattle.plterm.specs.Tree.{Tree, atom, compound, trees}
+use Rattle.plterm.specs.declared.indicator.Indicator.{Indicator}
+use Rattle.plclause.specs.Clause.{Clause}
+use Rattle.plclause.specs.Indicators.{indicator}
+use Rattle.platoms.specs.Names.{atom_at}
+use Rattle.plcells.specs.declared.cell.Cell.{Cell}
+use Rattle.plcells.specs.Store.{Store, value}
+use Rattle.plsearch.specs.Types.{Element, Place, Catch, Case, Choice, Mark, Handle}
+use Rattle.plsearch.specs.Rows.{resolve}
+use Rattle.plsearch.specs.Engine.{deeper}
+use Rattle.plenv.specs.Env.{Env, cut}
+use Rattle.pllinks.specs.declared.item.Item.{Item}
+use Rattle.pllinks.specs.declared.link.Link.{Link}
+use Rattle.pllinks.specs.Lists.{Goals, all_elements}
+use Rattle.pllinks.specs.Links.{items_of}
+use Rattle.plstack.specs.declared.frame.Point.{Point}
+use Rattle.plstack.specs.declared.frame.Resume.{Resume}
+use Rattle.plstack.specs.declared.frame.Resume.TheVariants as resumes
+use Rattle.plstack.specs.declared.frame.Frame.{Frame}
+use Rattle.plstack.specs.declared.frame.Frame.TheVariants.{Plain, Barrier, Open}
+
+-- the clauses of the program's procedures
+abbrev pub Statics : Type 0
+Statics = Indicator → List Clause
+
+-- the place of a list, by its items
+abbrev pub place_of_items : Goals → Env → List Item → Place
+place_of_items code e xs = record { goals = all_elements code e xs; variables = e.count }
+
+-- a goal by the number of its name, and the values of its arguments
+abbrev pub called : Store → ℕ → List Cell → Tree
+called h a [] = atom (atom_at h.names a)
+called h a (v ∷ vs) = compound (atom_at h.names a) (trees (map (value h) (v ∷ vs)))
+
+-- what is left of a call at the level d: of a goal, before a list, by some clauses
+abbrev pub places_left : ℕ → Env → Tree → List Element → List Clause → List Place
+places_left d e t rest cs = filter_map (resolve d e.count t rest) cs
+
+-- how many values a case keeps
+abbrev pub kept : Resume → ℕ
+kept (resumes.Clauses c) = c.count
+kept (resumes.Copies c) = 0
+kept resumes.List = 0
+kept (resumes.Catch c) = 0
+
+-- the values that a case keeps
+abbrev pub kept_values : List Cell → Point → Resume → List Cell
+kept_values saved p r = take (kept r) (drop p.marks.saved saved)
+
+-- the case at the level d, of the environment that it comes back to, by the items of its list and the values that it keeps
+abbrev pub case_of : Statics → Goals → ℕ → Env → List Item → List Cell → Resume → Case
+case_of statics code d e xs vs (resumes.Clauses c) = Choice (places_left d e (called e.heap c.name vs) (all_elements code e xs) (drop c.next (statics (indicator (called e.heap c.name vs)))))
+case_of statics code d e xs vs (resumes.Copies c) = Choice (places_left d e (value e.heap c.goal) (all_elements code e xs) (drop c.next c.clauses.items))
+case_of statics code d e xs vs resumes.List = Choice (place_of_items code e xs ∷ [])
+case_of statics code d e xs vs (resumes.Catch c) = Handle (Catch (value e.heap c.catcher) (value e.heap c.recovery)) (place_of_items code e xs)
+
+abbrev pub plain : ℕ → List Case → List Case
+plain zero below = below
+plain (suc n) below = Choice [] ∷ plain n below
+
+-- the cases of a frame, over those below it
+abbrev pub opened : Statics → Goals → Env → List Link → List Cell → Frame → List Case → List Case
+opened statics code e links saved (Plain n) below = plain n below
+opened statics code e links saved (Barrier l) below = Mark l ∷ below
+opened statics code e links saved (Open p r) below =
+    case_of statics code (deeper below 0) (cut p.marks.env e) (items_of links p.list) (kept_values saved p r) r ∷ below
+
+-- of frames, the newest first
+abbrev pub cases : Statics → Goals → Env → List Link → List Cell → List Frame → List Case
+cases statics code e links saved [] = []
+cases statics code e links saved (f ∷ fs) = opened statics code e links saved f (cases statics code e links saved fs)
+
+-- how many cases they are
+abbrev pub size : Frame → ℕ
+size (Plain n) = n
+size (Barrier l) = 1
+size (Open p r) = 1
+
+abbrev pub depth_of : List Frame → ℕ
+depth_of [] = 0
+depth_of (f ∷ fs) = size f + depth_of fs

@@ -1,0 +1,167 @@
+-- A stack's state, and what it stands for.
+use Rattle.std.specs.Prelude.{◌≡◌, ℕ, ◌+◌, List, [], ◌∷◌, ◌++◌, reverse, Some}
+use Rattle.plterm.specs.Tree.{Tree}
+use Rattle.plsubst.specs.Subst.{bind}
+use Rattle.plsubst.specs.Unify.{unify}
+use Rattle.platoms.specs.Names.{Extends as ExtendsNames}
+use Rattle.plcells.specs.declared.cell.Cell.{Cell}
+use Rattle.plcells.specs.Store.{IsValue, value}
+use Rattle.plsearch.specs.Types.{Element, Place, Case, Choice, Handle, Catch}
+use Rattle.plsearch.specs.Lists.{bind_goals}
+use Rattle.plcode.specs.Steps.{Text, goals_from}
+use Rattle.plenv.specs.Env.{Env, IsEnv}
+use Rattle.pllinks.specs.declared.link.Link.{Link}
+use Rattle.pllinks.specs.declared.link.Continuation.{Continuation}
+use Rattle.pllinks.specs.Lists.{Goals}
+use Rattle.pllinks.specs.Links.{goals_of as list_goals, IsList as IsListIn, IsChain}
+use Rattle.plstack.specs.declared.frame.Catcher.{Catcher}
+use Rattle.plstack.specs.declared.frame.Marks.{Marks}
+use Rattle.plstack.specs.declared.frame.Resume.TheVariants as resumes
+use Rattle.plstack.specs.declared.frame.Frame.{Frame}
+use Rattle.plstack.specs.declared.frame.Frame.TheVariants.{Open}
+use Rattle.plstack.specs.Places.{Statics, plain, cases, depth_of}
+use Rattle.plstack.specs.Frames.{AreOlder, AreFrames}
+
+-- the program's code, with the names that it was compiled with; the environment; the links; the values that open cases keep; the frames,
+-- the newest last; and the list that is visited
+pub record State : Type 0 where
+  pub code : Text
+  pub env : Env
+  pub links : List Link
+  pub saved : List Cell
+  pub frames : List Frame
+  pub goals : Continuation
+
+-- the goals from a position of the code on
+abbrev pub goals_in : State → Goals
+goals_in s = goals_from s.code
+
+-- the goals of a list
+abbrev pub goals_of : State → Continuation → List Element
+goals_of s l = list_goals (goals_in s) s.env s.links l
+
+-- a list as a place
+abbrev pub place_at : State → Continuation → Place
+place_at s l = record { goals = goals_of s l; variables = s.env.count }
+
+abbrev pub place_of : State → Place
+place_of s = place_at s s.goals
+
+-- the open cases, the innermost first
+unfoldable pub cases_of : Statics → State → List Case
+cases_of statics s = cases statics (goals_in s) s.env s.links s.saved (reverse s.frames)
+
+-- a list that is there, with its slots and values
+abbrev pub IsList : State → Continuation → Type 0
+IsList s l = IsListIn (goals_in s) s.env s.links l
+
+pub record IsState (s : State) : Type 0 where
+  pub env : IsEnv s.env
+  pub names : ExtendsNames s.code.names s.env.heap.names
+  pub none : goals_in s 0 0 ≡ []
+  pub chain : IsChain s.links
+  pub frames : AreFrames (goals_in s) s.env s.links s.saved (reverse s.frames)
+  pub goals : IsList s s.goals
+
+-- what a stack keeps, with how many cases are open
+abbrev pub IsStack : State → ℕ → Type 0
+IsStack s depth = IsState s × (depth ≡ depth_of (reverse s.frames))
+
+-- the cases, the lists and the values stay, and there may be more of them
+pub record Extends (old new : State) : Type 0 where
+  pub code : new.code ≡ old.code
+  pub frames : new.frames ≡ old.frames
+  pub goals : new.goals ≡ old.goals
+  pub visited : goals_of new new.goals ≡ goals_of old old.goals
+  pub cases : (statics : Statics) → cases_of statics new ≡ cases_of statics old
+  pub lists : (l : Continuation) → IsList old l → IsList new l × (goals_of new l ≡ goals_of old l)
+  pub values : (v : Cell) → IsValue old.env.heap v → IsValue new.env.heap v × (value new.env.heap v ≡ value old.env.heap v)
+
+-- a list for these goals, and all else as it was
+pub record AddsList (old new : State) (l : Continuation) (es : List Element) : Type 0 where
+  pub there : IsList new l
+  pub is : goals_of new l ≡ es
+  pub stays : Extends old new
+  pub env : new.env ≡ old.env
+  pub saved : new.saved ≡ old.saved
+
+-- more cases, and all else as it was
+pub record Opens (old new : State) (more : List Case) : Type 0 where
+  pub cases : (statics : Statics) → cases_of statics new ≡ more ++ cases_of statics old
+  pub values : (v : Cell) → IsValue old.env.heap v → IsValue new.env.heap v × (value new.env.heap v ≡ value old.env.heap v)
+  pub lists : (l : Continuation) → IsList old l → IsList new l × (goals_of new l ≡ goals_of old l)
+  pub count : new.env.count ≡ old.env.count
+  pub code : new.code ≡ old.code
+  pub goals : new.goals ≡ old.goals
+
+-- the most general unifier was put into all values and lists
+pub record Unifies (old new : State) (a b : Cell) : Type 0 where
+  pub unifier : ℕ → Tree
+  pub is : unify (value old.env.heap a) (value old.env.heap b) ≡ Some unifier
+  pub values : (v : Cell) → IsValue old.env.heap v → IsValue new.env.heap v × (value new.env.heap v ≡ bind unifier (value old.env.heap v))
+  pub lists : (l : Continuation) → IsList old l → IsList new l × (goals_of new l ≡ bind_goals unifier (goals_of old l))
+  pub cases : (statics : Statics) → cases_of statics new ≡ cases_of statics old
+  pub count : new.env.count ≡ old.env.count
+  pub code : new.code ≡ old.code
+  pub goals : new.goals ≡ old.goals
+
+-- so many more choices with nothing left, whatever the others are
+pub record CountsUp (n : ℕ) (old new : List Frame) : Type 0 where
+  pub cases : (statics : Statics) (code : Goals) (e : Env) (links : List Link) (saved : List Cell) → cases statics code e links saved new ≡ plain n (cases statics code e links saved old)
+  pub frames : (code : Goals) (e : Env) (links : List Link) (saved : List Cell) → AreFrames code e links saved old → AreFrames code e links saved new
+  pub older : (m : Marks) → AreOlder m old → AreOlder m new
+  pub depth : depth_of new ≡ depth_of old + n
+
+-- what the innermost case is: a choice of the further clauses of a static or of a dynamic procedure, a choice of a list, or a handler
+abbrev pub IsClauses : Frame → Type 0
+IsClauses (Open p (resumes.Clauses c)) = Unit {0}
+IsClauses f = ⊥
+
+abbrev pub IsCopies : Frame → Type 0
+IsCopies (Open p (resumes.Copies c)) = Unit {0}
+IsCopies f = ⊥
+
+abbrev pub IsBranch : Frame → Type 0
+IsBranch (Open p resumes.List) = Unit {0}
+IsBranch f = ⊥
+
+abbrev pub IsHandler : Frame → Type 0
+IsHandler (Open p (resumes.Catch c)) = Unit {0}
+IsHandler f = ⊥
+
+abbrev pub BeginsWith : (Frame → Type 0) → List Frame → Type 0
+BeginsWith Is [] = ⊥
+BeginsWith Is (f ∷ fs) = Is f
+
+abbrev pub HasClauses : State → Type 0
+HasClauses s = BeginsWith IsClauses (reverse s.frames)
+
+abbrev pub HasCopies : State → Type 0
+HasCopies s = BeginsWith IsCopies (reverse s.frames)
+
+abbrev pub HasBranch : State → Type 0
+HasBranch s = BeginsWith IsBranch (reverse s.frames)
+
+abbrev pub HasHandler : State → Type 0
+HasHandler s = BeginsWith IsHandler (reverse s.frames)
+
+-- the next place of the innermost choice is visited
+pub record Retries (statics : Statics) (old new : State) : Type 0 where
+  pub others : List Place
+  pub older : List Case
+  pub was : cases_of statics old ≡ Choice (place_of new ∷ others) ∷ older
+  pub cases : cases_of statics new ≡ Choice others ∷ older
+
+-- the innermost case is this handler, and all is as it was at its opening
+pub record AtHandler (s : State) (c : Catcher) (list : Continuation) : Type 0 where
+  pub below : Statics → List Case
+  pub cases : (statics : Statics) → cases_of statics s ≡ Handle (Catch (value s.env.heap c.catcher) (value s.env.heap c.recovery)) (place_at s list) ∷ below statics
+  pub catcher : IsValue s.env.heap c.catcher
+  pub recovery : IsValue s.env.heap c.recovery
+  pub list_there : IsList s list
+  pub has : HasHandler s
+
+-- the innermost case was a handler, and a list is visited in a choice with nothing left in its place
+pub record Recovers (old new : State) (list : Continuation) : Type 0 where
+  pub cases : (statics : Statics) (h : Case) (below : List Case) → cases_of statics old ≡ h ∷ below → cases_of statics new ≡ Choice [] ∷ below
+  pub place : place_of new ≡ place_at old list

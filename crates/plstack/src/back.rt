@@ -1,0 +1,90 @@
+//! Coming back to open cases.
+ghost use Rattle.std.specs.Prelude.{◌≡◌, reverse};
+ghost use Rattle.plenv.specs.Env.{IsWithin};
+ghost use Rattle.plstack.specs.Places.{Statics};
+ghost use Rattle.plstack.specs.Frames.{AreOlder};
+ghost use Rattle.plstack.specs.State.{cases_of, AtHandler, HasBranch, HasHandler, IsList, Recovers, Retries};
+
+use crate::frame::{Frame, Handling, Marks, Resume};
+use crate::open::count_up;
+use crate::stack::Stack;
+use pllinks::link::Continuation;
+
+impl Stack {
+    /// Comes back to the innermost choice, which has one list to be tried: visits it.
+    pub fn take_branch(&mut self)
+        requires { HasBranch self.old }
+        ensures { (statics : Statics) → Retries statics self.old self.new }
+    {
+        let marks = self.come_back();
+        self.settle(marks);
+    }
+
+    /// Visits the list of the innermost choice: its marks.
+    fn come_back(&mut self) -> Marks
+        requires { HasBranch self.old }
+        ensures retries { (statics : Statics) → Retries statics self.old self.new }
+        ensures within { IsWithin result.env self.new.env }
+        ensures older { AreOlder result (reverse self.new.frames) }
+    {
+        let Some(Frame::Open(point, Resume::List)) = self.frames.pop() else {
+            unreachable!()
+        };
+        self.env.undo(point.marks.env);
+        self.links.truncate(point.marks.links);
+        self.saved.truncate(point.marks.saved);
+        count_up(&mut self.frames, 1);
+        self.goals = point.list;
+        point.marks
+    }
+
+    /// Goes back to where the innermost case was opened, which is a handler and stays open: the handler, and the list behind its goal.
+    pub fn rewind(&mut self) -> Handling
+        requires { HasHandler self.old }
+        ensures cases { (statics : Statics) → cases_of statics self.new ≡ cases_of statics self.old }
+        ensures at { AtHandler self.new result.catcher result.list }
+    {
+        let Some(Frame::Open(point, Resume::Catch(catcher))) = self.frames.pop() else {
+            unreachable!()
+        };
+        self.env.undo(point.marks.env);
+        self.links.truncate(point.marks.links);
+        self.saved.truncate(point.marks.saved);
+        self.goals = Continuation::alone(0);
+        match self.frames.push(Frame::Open(point, Resume::Catch(catcher))) {
+            Ok(()) => {}
+            Err(_) => unreachable!(),
+        }
+        Handling {
+            catcher,
+            list: point.list,
+        }
+    }
+
+    /// Visits a list in a choice with nothing left, in place of the innermost case, which is a handler.
+    #[tactic(auto, using(crate::proofs::Returning::recovers_settled))]
+    pub fn recover(&mut self, list: Continuation)
+        requires handler { HasHandler self.old }
+        requires list { IsList self.old list }
+        ensures { Recovers self.old self.new list }
+    {
+        let marks = self.leave_handler(list);
+        self.settle(marks);
+    }
+
+    /// Puts a choice with nothing left in the place of the innermost case, which is a handler, and visits a list: the handler's marks.
+    fn leave_handler(&mut self, list: Continuation) -> Marks
+        requires handler { HasHandler self.old }
+        requires list { IsList self.old list }
+        ensures recovers { Recovers self.old self.new list }
+        ensures within { IsWithin result.env self.new.env }
+        ensures older { AreOlder result (reverse self.new.frames) }
+    {
+        let Some(Frame::Open(point, Resume::Catch(_))) = self.frames.pop() else {
+            unreachable!()
+        };
+        count_up(&mut self.frames, 1);
+        self.goals = list;
+        point.marks
+    }
+}

@@ -1,0 +1,100 @@
+//! Open cases.
+
+use plcells::cell::Cell;
+use plclause::clause::Clause;
+use plenv::slot::Mark;
+use pllinks::link::Continuation;
+
+/// How much there was: of the environment, of links, and of values that are kept for calls.
+#[derive(Clone, Copy)]
+pub struct Marks {
+    pub env: Mark,
+    pub links: usize,
+    pub saved: usize,
+}
+
+/// What a case comes back to: how much there was when it was opened, and the list behind its goal.
+#[derive(Clone, Copy)]
+pub struct Point {
+    pub marks: Marks,
+    pub list: Continuation,
+}
+
+/// A call of a static procedure: the number of its name, how many arguments are kept from the mark on, the procedure's number, and that of
+/// the first clause that was not tried.
+#[derive(Clone, Copy)]
+pub struct Clauses {
+    pub name: u32,
+    pub count: u16,
+    pub procedure: u32,
+    pub next: usize,
+}
+
+/// A call of a dynamic procedure: its goal, the clauses that were alive when it was called, and the number of the first one that was not
+/// tried.
+#[derive(Drop)]
+pub struct Copies {
+    pub goal: Cell,
+    pub clauses: Vec<Clause>,
+    pub next: usize,
+}
+
+/// A catcher and its recovery.
+#[derive(Clone, Copy)]
+pub struct Catcher {
+    pub catcher: Cell,
+    pub recovery: Cell,
+}
+
+/// What an open case does with what it comes back to.
+#[derive(Drop)]
+pub enum Resume {
+    /// The further clauses of a static procedure are tried.
+    Clauses(Clauses),
+    /// The further clauses of a dynamic procedure are tried.
+    Copies(Copies),
+    /// The list is visited.
+    List,
+    /// A ball may be caught.
+    Catch(Catcher),
+}
+
+/// Open cases.
+#[derive(Drop)]
+pub enum Frame {
+    /// So many choices with nothing left to try.
+    Plain(u64),
+    /// Behind it Fail is a cut to a level.
+    Barrier(u64),
+    /// A choice point or a handler.
+    Open(Point, Resume),
+}
+
+/// A handler, and the list behind the goal that it is for.
+#[derive(Clone, Copy)]
+pub struct Handling {
+    pub catcher: Catcher,
+    pub list: Continuation,
+}
+
+/// The cases that a goal with a cut level of its own runs in, besides the choice of that level.
+#[derive(Clone, Copy)]
+pub enum Around {
+    /// No further case.
+    Nothing,
+    /// A choice of one list.
+    Branch(Continuation),
+    /// A handler.
+    Handle(Handling),
+}
+
+/// A case that was closed.
+#[derive(Clone, Copy)]
+pub enum Closed {
+    /// A choice.
+    Choice,
+    /// A mark of a level.
+    Mark(u64),
+    /// A handler.
+    Handler,
+}

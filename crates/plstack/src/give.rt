@@ -1,0 +1,76 @@
+//! Goal lists and slots that nothing holds.
+ghost use Rattle.std.specs.Prelude.{◌≡◌, ◌≤◌, ◌-◌, [], ◌∷◌, ◌++◌, length, reverse, take};
+ghost use Rattle.pllinks.specs.Links.{link_at};
+ghost use Rattle.plstack.specs.Holding.{held};
+ghost use Rattle.plstack.specs.Giving.{GivesBack};
+
+use crate::hold::held_in;
+use crate::stack::Stack;
+use pllinks::link::{Link, slots_of};
+
+impl Stack {
+    /// Gives back lists and slots that neither the open cases nor the list that is visited hold.
+    #[tactic(auto, using(crate::proofs::Giving::back_refl, crate::proofs::Giving::back_trans))]
+    pub fn give_back(&mut self)
+        ensures { GivesBack self.old self.new }
+    {
+        let Some(left) = held_in(&self.frames) else {
+            return;
+        };
+        self.give_back_above(left.marks.links);
+        self.give_back_below(left.marks.links);
+        self.give_back_slots();
+    }
+
+    /// Gives back the lists behind those that are held.
+    fn give_back_above(&mut self, floor: usize)
+        requires { floor ≡ (held (reverse self.old.frames)).marks.links }
+        ensures { GivesBack self.old self.new }
+    {
+        let visited = self.goals.rest as usize;
+        let keep = if visited < floor { floor } else { visited };
+        if keep < self.links.len() {
+            self.links.truncate(keep);
+        }
+    }
+
+    /// Gives back the list below the last one, if the last one is visited and stands before an older list.
+    fn give_back_below(&mut self, floor: usize)
+        requires { floor ≡ (held (reverse self.old.frames)).marks.links }
+        ensures { GivesBack self.old self.new }
+    {
+        let count = self.links.len();
+        if count < 2 || self.goals.rest as usize != count {
+            return;
+        }
+        let below = count - 2;
+        if floor > below || self.links[count - 1].next as usize > below {
+            return;
+        }
+        drop_below(&mut self.links);
+        self.goals.rest -= 1;
+    }
+
+    /// Gives back the slots that the visited list does not ask for.
+    fn give_back_slots(&mut self)
+        ensures { GivesBack self.old self.new }
+    {
+        let asked = slots_of(&self.links, self.goals.rest);
+        self.env.release(self.goals.run.end.max(asked));
+        let _ = self.env.heap();
+    }
+}
+
+/// Gives back the list below the last one, whose place the last one takes.
+fn drop_below(links: &mut Vec<Link>)
+    requires { 2 ≤ length links.old.items }
+    ensures { links.new.items ≡ take (length links.old.items - 2) links.old.items ++ link_at links.old.items (length links.old.items - 1) ∷ [] }
+{
+    if let Some(last) = links.pop() {
+        links.truncate(links.len() - 1);
+        match links.push(last) {
+            Ok(()) => {}
+            Err(_) => unreachable!(),
+        }
+    }
+}

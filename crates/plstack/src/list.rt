@@ -1,0 +1,87 @@
+//! Goal lists of a stack.
+ghost use Rattle.std.specs.Prelude.{◌≡◌, ◌++◌, length, IfOk, OnErr, OnOk};
+ghost use Rattle.plsearch.specs.Lists.{levels};
+ghost use Rattle.pllinks.specs.Lists.{elements, IsItem, IsRun};
+ghost use Rattle.pllinks.specs.Links.{alone};
+ghost use Rattle.pllinks.specs.declared.item.Item.TheVariants.{Run as RunOf};
+ghost use Rattle.plstack.specs.State.{goals_in, goals_of, IsList, AddsList};
+ghost use Rattle.plstack.specs.Levels.{levels_of};
+
+use crate::stack::Stack;
+use pllinks::item::{Item, Run};
+use pllinks::link::{Continuation, number_of, push_link};
+use std::alloc::{AllocError, Global};
+
+impl Stack {
+    /// The number of a list of the same goals: where no goals of a clause are left that of the rest, and else a new list's.
+    pub fn number_of(&mut self, list: Continuation) -> Result<u32, AllocError>
+        requires { IsList self.old list }
+        ensures ok { IfOk result (λ n. AddsList self.old self.new (alone n) (goals_of self.old list)) }
+        ensures err { OnErr result (self.new ≡ self.old) }
+    {
+        let number = number_of(&mut self.links, list)?;
+        Ok(number)
+    }
+
+    /// A new list: an item before a list that is there.
+    pub fn link(&mut self, item: Item, rest: Continuation) -> Result<Continuation, AllocError>
+        requires inside { IsItem (goals_in self.old) self.old.env.heap (length self.old.env.slots) item }
+        requires rest { IsList self.old rest }
+        ensures ok { IfOk result (λ l. AddsList self.old self.new l (elements (goals_in self.old) self.old.env item ++ goals_of self.old rest)) }
+        ensures err { OnErr result (self.new ≡ self.old) }
+    {
+        let count = self.links.len();
+        let behind = number_of(&mut self.links, rest)?;
+        match push_link(&mut self.links, item, behind) {
+            Ok(number) => Ok(Continuation::alone(number)),
+            Err(e) => {
+                self.links.truncate(count);
+                Err(e)
+            }
+        }
+    }
+
+    /// A new list: goals of a clause before a list that is there.
+    pub fn before(&mut self, run: Run, rest: Continuation) -> Result<Continuation, AllocError>
+        requires inside { IsItem (goals_in self.old) self.old.env.heap (length self.old.env.slots) (RunOf run) }
+        requires rest { IsList self.old rest }
+        ensures ok { IfOk result (λ l. AddsList self.old self.new l (elements (goals_in self.old) self.old.env (RunOf run) ++ goals_of self.old rest)) }
+        ensures err { OnErr result (self.new ≡ self.old) }
+    {
+        let behind = number_of(&mut self.links, rest)?;
+        Ok(Continuation { run, rest: behind })
+    }
+
+    /// Visits a list that is there.
+    pub fn visit(&mut self, list: Continuation)
+        requires { IsList self.old list }
+        ensures { self.new ≡ record self.old { goals = list } }
+    {
+        self.goals = list;
+    }
+
+    /// The levels of the markers of a list.
+    pub fn levels(&self, alloc: Global, list: Continuation) -> Result<Vec<u64>, AllocError>
+        requires { IsList self.now list }
+        ensures { IfOk result (λ found. found.items ≡ levels (goals_of self.now list)) }
+    {
+        let mut found = Vec::new(alloc);
+        let mut at = list.rest;
+        while at > 0 {
+            let link = self.links[at as usize - 1];
+            push_level(&mut found, link.item)?;
+            at = link.next;
+        }
+        Ok(found)
+    }
+}
+
+/// One more level, if the item is a marker.
+fn push_level(found: &mut Vec<u64>, item: Item) -> Result<(), AllocError>
+    ensures { OnOk result (found.new.items ≡ found.old.items ++ levels_of item) }
+{
+    if let Item::Marker(_, level) = item {
+        found.push(level)?;
+    }
+    Ok(())
+}

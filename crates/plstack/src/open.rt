@@ -1,0 +1,176 @@
+//! Cases that are opened and closed.
+ghost use Rattle.std.specs.Prelude.{◌≡◌, ◌+◌, ◌<◌, [], ◌∷◌, ◌++◌, reverse, IfNone, IfSome, OnErr, OnOk, vec_capacity, vec_len};
+ghost use Rattle.plsearch.specs.Types.{Choice};
+ghost use Rattle.plstack.specs.Places.{Statics, kept};
+ghost use Rattle.plstack.specs.Frames.{IsResume};
+ghost use Rattle.plstack.specs.State.{cases_of, CountsUp, IsList, Opens};
+ghost use Rattle.plstack.specs.Opening.{around_cases, branch_of, closing, ClosedAs, IsAround, OpensFrame, OpensIn};
+
+use crate::frame::{Around, Closed, Frame, Marks, Point, Resume};
+use crate::stack::Stack;
+use pllinks::link::Continuation;
+use std::alloc::AllocError;
+
+impl Stack {
+    /// Opens a choice with nothing left to try, in place if the newest case is such a one.
+    pub fn open_plain(&mut self) -> Result<(), AllocError>
+        ensures ok { OnOk result (Opens self.old self.new (Choice [] ∷ [])) }
+        ensures err { OnErr result (self.new ≡ self.old) }
+    {
+        if self.depth == u64::MAX {
+            return Err(AllocError);
+        }
+        self.frames.reserve(1)?;
+        count_up(&mut self.frames, 1);
+        self.depth += 1;
+        Ok(())
+    }
+
+    /// Opens a choice of one list.
+    #[tactic(auto, using(crate::proofs::Opening::opens_branch))]
+    pub fn open_branch(&mut self, list: Continuation) -> Result<(), AllocError>
+        requires { IsList self.old list }
+        ensures ok { OnOk result (Opens self.old self.new (branch_of self.old list ∷ [])) }
+        ensures err { OnErr result (self.new ≡ self.old) }
+    {
+        self.open_frame(list, Resume::List)
+    }
+
+    /// Opens a choice with nothing left to try, for the cut level of a goal, in other cases.
+    #[tactic(auto, using(crate::proofs::Opening::opens_in_branch, crate::proofs::Opening::opens_in_handler))]
+    pub fn open_run(&mut self, around: Around) -> Result<(), AllocError>
+        requires { IsAround self.old around }
+        ensures ok { OnOk result (Opens self.old self.new (Choice [] ∷ around_cases self.old around)) }
+        ensures err { OnErr result (self.new ≡ self.old) }
+    {
+        match around {
+            Around::Nothing => self.open_plain(),
+            Around::Branch(list) => self.open_plain_in(list, Resume::List),
+            Around::Handle(handling) => {
+                self.open_plain_in(handling.list, Resume::Catch(handling.catcher))
+            }
+        }
+    }
+
+    /// Opens a case that comes back to a list.
+    fn open_frame(&mut self, list: Continuation, resume: Resume) -> Result<(), AllocError>
+        requires list { IsList self.old list }
+        requires resume { IsResume self.old.env.heap [] resume }
+        requires none { kept resume ≡ 0 }
+        ensures ok { OnOk result (OpensFrame self.old self.new list resume) }
+        ensures err { OnErr result (self.new ≡ self.old) }
+    {
+        if self.depth == u64::MAX {
+            return Err(AllocError);
+        }
+        self.frames.reserve(1)?;
+        let marks = Marks {
+            env: self.env.mark(),
+            links: self.links.len(),
+            saved: self.saved.len(),
+        };
+        match self.frames.push(Frame::Open(Point { marks, list }, resume)) {
+            Ok(()) => {}
+            Err(_) => unreachable!(),
+        }
+        self.depth += 1;
+        Ok(())
+    }
+
+    /// Opens a case that comes back to a list, and in it a choice with nothing left to try.
+    fn open_plain_in(&mut self, list: Continuation, resume: Resume) -> Result<(), AllocError>
+        requires list { IsList self.old list }
+        requires resume { IsResume self.old.env.heap [] resume }
+        requires none { kept resume ≡ 0 }
+        ensures ok { OnOk result (OpensIn self.old self.new list resume) }
+        ensures err { OnErr result (self.new ≡ self.old) }
+    {
+        if self.depth >= u64::MAX - 1 {
+            return Err(AllocError);
+        }
+        self.frames.reserve(2)?;
+        let marks = Marks {
+            env: self.env.mark(),
+            links: self.links.len(),
+            saved: self.saved.len(),
+        };
+        push_frame(&mut self.frames, Frame::Open(Point { marks, list }, resume));
+        count_up(&mut self.frames, 1);
+        self.depth += 2;
+        Ok(())
+    }
+
+    /// Closes the innermost case, if one is open.
+    pub fn close(&mut self) -> Option<Closed>
+        ensures some { IfSome result (λ c. (statics : Statics) → ClosedAs statics self.old self.new c) }
+        ensures none { IfNone result ((statics : Statics) → cases_of statics self.old ≡ []) }
+        ensures same { IfNone result (self.new ≡ self.old) }
+    {
+        let Some(frame) = self.frames.pop() else {
+            return None;
+        };
+        self.depth -= 1;
+        match frame {
+            Frame::Barrier(level) => Some(Closed::Mark(level)),
+            Frame::Open(_, resume) => Some(closed_as(resume)),
+            Frame::Plain(n) => {
+                if n > 1 {
+                    match self.frames.push(Frame::Plain(n - 1)) {
+                        Ok(()) => return Some(Closed::Choice),
+                        Err(_) => unreachable!(),
+                    }
+                }
+                Some(Closed::Choice)
+            }
+        }
+    }
+}
+
+/// What is closed with a case that does this.
+fn closed_as(resume: Resume) -> Closed
+    ensures { result ≡ closing resume }
+{
+    match resume {
+        Resume::Clauses(_) => Closed::Choice,
+        Resume::Copies(_) => Closed::Choice,
+        Resume::List => Closed::Choice,
+        Resume::Catch(_) => Closed::Handler,
+    }
+}
+
+/// One more frame, and room for another.
+fn push_frame(frames: &mut Vec<Frame>, frame: Frame)
+    requires room { vec_len frames.old + 1 < vec_capacity frames.old }
+    ensures is { frames.new.items ≡ frames.old.items ++ frame ∷ [] }
+    ensures room { vec_len frames.new < vec_capacity frames.new }
+{
+    match frames.push(frame) {
+        Ok(()) => {}
+        Err(_) => unreachable!(),
+    }
+}
+
+/// So many more choices with nothing left, in place if the newest case is such a one.
+pub(crate) fn count_up(frames: &mut Vec<Frame>, n: u64)
+    requires some { 0 < n }
+    requires room { vec_len frames.old < vec_capacity frames.old }
+    ensures { CountsUp n (reverse frames.old.items) (reverse frames.new.items) }
+{
+    match frames.pop() {
+        Some(Frame::Plain(m)) if m <= u64::MAX - n => match frames.push(Frame::Plain(m + n)) {
+            Ok(()) => {}
+            Err(_) => unreachable!(),
+        },
+        Some(frame) => match frames.push(frame) {
+            Ok(()) => match frames.push(Frame::Plain(n)) {
+                Ok(()) => {}
+                Err(_) => unreachable!(),
+            },
+            Err(_) => unreachable!(),
+        },
+        None => match frames.push(Frame::Plain(n)) {
+            Ok(()) => {}
+            Err(_) => unreachable!(),
+        },
+    }
+}

@@ -1,0 +1,121 @@
+//! The stack.
+ghost use Rattle.std.specs.Prelude.{◌≡◌, ◌+◌, ◌↔◌, [], IsTrue};
+ghost use Rattle.platoms.specs.Names.{Extends as ExtendsNames};
+ghost use Rattle.plcode.specs.Steps.{goals_from};
+ghost use Rattle.plsearch.specs.Engine.{deeper};
+ghost use Rattle.pllinks.specs.Links.{alone};
+ghost use Rattle.plstack.specs.Places.{Statics};
+ghost use Rattle.plstack.specs.State.{cases_of, HasBranch, HasClauses, HasCopies, HasHandler};
+
+use crate::frame::{Frame, Resume};
+use plcells::cell::Cell;
+use plcode::program::ProgramCode;
+use plenv::env::Environment;
+use pllinks::link::{Continuation, Link};
+use std::alloc::Global;
+use std::marker::Model;
+
+/// The program's code, an environment, the goal lists over it, the values that open cases keep, the open cases of a search, and the list
+/// that is visited.
+#[derive(Drop)]
+pub struct Stack {
+    pub(crate) code: ProgramCode,
+    pub(crate) env: Environment,
+    pub(crate) links: Vec<Link>,
+    pub(crate) saved: Vec<Cell>,
+    pub(crate) frames: Vec<Frame>,
+    pub(crate) goals: Continuation,
+    pub(crate) depth: u64,
+}
+
+impl Model for Stack {
+    ghost use Rattle.std.specs.Coded.{codes};
+    ghost use Rattle.plterm.specs.Reading.{tree_code};
+    ghost use Rattle.plstack.specs.State.{State, IsStack};
+
+    ghost Value = { State };
+
+    ghost coded = { Prim.hlevel (codes, tree_code) };
+
+    ghost view = { λ a. record { code = a.code.text; env = a.env; links = a.links.items; saved = a.saved.items; frames = a.frames.items; goals = a.goals } };
+
+    ghost invariant = { λ a. IsStack (record { code = a.code.text; env = a.env; links = a.links.items; saved = a.saved.items; frames = a.frames.items; goals = a.goals }) a.depth };
+}
+
+impl Stack {
+    /// A stack with nothing on it, of a program's code, over an environment with the names of the code.
+    pub fn new(alloc: Global, code: ProgramCode, env: Environment) -> Stack
+        requires names { ExtendsNames code.text.names env.heap.names }
+        requires none { goals_from code.text 0 0 ≡ [] }
+        ensures { result ≡ record { code = code.text; env = env; links = []; saved = []; frames = []; goals = alone 0 } }
+    {
+        let _ = env.heap();
+        Stack {
+            code,
+            env,
+            links: Vec::new(alloc),
+            saved: Vec::new(alloc),
+            frames: Vec::new(alloc),
+            goals: Continuation::alone(0),
+            depth: 0,
+        }
+    }
+
+    /// The program's code.
+    pub fn code(&self) -> &ProgramCode
+        ensures { result.now.text ≡ self.now.code }
+    {
+        &self.code
+    }
+
+    /// The environment.
+    pub fn env(&self) -> &Environment
+        ensures { result.now ≡ self.now.env }
+    {
+        &self.env
+    }
+
+    /// How many cases are open.
+    #[tactic(auto, using(crate::proofs::Stacks::depth_is))]
+    pub fn depth(&self) -> u64
+        ensures { (statics : Statics) → result ≡ deeper (cases_of statics self.now) 0 }
+    {
+        self.depth
+    }
+
+    /// The level of the innermost case, which is a handler.
+    pub fn level(&self) -> u64
+        requires { HasHandler self.now }
+        ensures { (statics : Statics) → deeper (cases_of statics self.now) 0 ≡ result + 1 }
+    {
+        self.depth - 1
+    }
+
+    /// Whether the innermost case is a choice of further clauses of a static procedure.
+    pub fn is_clauses(&self) -> bool
+        ensures { IsTrue result ↔ HasClauses self.now }
+    {
+        matches!(self.frames.last(), Some(Frame::Open(_, Resume::Clauses(_))))
+    }
+
+    /// Whether the innermost case is a choice of further clauses of a dynamic procedure.
+    pub fn is_copies(&self) -> bool
+        ensures { IsTrue result ↔ HasCopies self.now }
+    {
+        matches!(self.frames.last(), Some(Frame::Open(_, Resume::Copies(_))))
+    }
+
+    /// Whether the innermost case is a choice of a list that is to be tried.
+    pub fn is_branch(&self) -> bool
+        ensures { IsTrue result ↔ HasBranch self.now }
+    {
+        matches!(self.frames.last(), Some(Frame::Open(_, Resume::List)))
+    }
+
+    /// Whether the innermost case is a handler.
+    pub fn is_handler(&self) -> bool
+        ensures { IsTrue result ↔ HasHandler self.now }
+    {
+        matches!(self.frames.last(), Some(Frame::Open(_, Resume::Catch(_))))
+    }
+}

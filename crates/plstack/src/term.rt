@@ -1,0 +1,44 @@
+//! Terms of a stack.
+ghost use Rattle.std.specs.Prelude.{◌≡◌, ◌+◌, length, true, false, None, IfOk, OnOk, OnErr};
+ghost use Rattle.plterm.specs.Variables.{copied, variables};
+ghost use Rattle.plsubst.specs.Unify.{unify as unifier_of};
+ghost use Rattle.plcells.specs.Store.{IsValue, value};
+ghost use Rattle.plstack.specs.State.{Extends, Unifies};
+
+use crate::stack::Stack;
+use plcells::cell::Cell;
+use plterm::term::Term;
+use std::alloc::{AllocError, Global};
+
+impl Stack {
+    /// Unifies two values: whether they have a unifier. Where they have none, or memory gives out, all is as it was.
+    pub fn unify(&mut self, a: Cell, b: Cell) -> Result<bool, AllocError>
+        requires left { IsValue self.old.env.heap a }
+        requires right { IsValue self.old.env.heap b }
+        ensures yes { IfOk result (λ fits. fits ≡ true → Unifies self.old self.new a b) }
+        ensures no { IfOk result (λ fits. fits ≡ false → (unifier_of (value self.old.env.heap a) (value self.old.env.heap b) ≡ None) × (self.new ≡ self.old)) }
+        ensures err { OnErr result (self.new ≡ self.old) }
+    {
+        let fits = self.env.unify(a, b);
+        let _ = self.env.heap();
+        fits
+    }
+
+    /// Puts a copy of a term, its variables new: its value. After an `Err` all stands for what it did.
+    pub fn put_copy(&mut self, alloc: Global, given: &Term) -> Result<Cell, AllocError>
+        ensures value { IfOk result (λ v. IsValue self.new.env.heap v) }
+        ensures is { IfOk result (λ v. value self.new.env.heap v ≡ copied self.old.env.count given.now) }
+        ensures count { OnOk result (self.new.env.count ≡ self.old.env.count + length (variables given.now)) }
+        ensures same_count { OnErr result (self.new.env.count ≡ self.old.env.count) }
+        ensures stays { Extends self.old self.new }
+    {
+        let copy = given.copy(alloc, 0)?;
+        let variables = given.variables(alloc)?;
+        let Ok(count) = u32::try_from(variables.len()) else {
+            return Err(AllocError);
+        };
+        let put = self.env.put_term(alloc, &copy, count);
+        let _ = self.env.heap();
+        put
+    }
+}
