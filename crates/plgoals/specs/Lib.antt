@@ -1,0 +1,4 @@
+pub mod Goals
+pub mod Extended
+pub mod Callables
+pub mod Forms

@@ -1,0 +1,19 @@
+//! What calls of built-in predicates come to.
+
+use plcells::cell::Cell;
+use plterm::term::Term;
+
+/// What a call of a built-in predicate comes to.
+#[derive(Drop)]
+pub enum Answer {
+    /// This error is raised.
+    Raises(Term),
+    /// It has no solution.
+    Fails,
+    /// It is true.
+    Succeeds,
+    /// It is true where the terms of two values are unified.
+    Unifies(Cell, Cell),
+    /// It is true once these bytes are written.
+    Writes(Vec<u8>),
+}

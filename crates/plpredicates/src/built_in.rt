@@ -1,0 +1,33 @@
+//! The built-in predicates, by topic.
+ghost use Rattle.std.specs.Prelude.{◌≡◌, ℕ, IfOk, map};
+ghost use Rattle.plcells.specs.Store.{value, AreValues};
+ghost use Rattle.plbuiltin.specs.Solutions.{solutions};
+ghost use Rattle.plpredicates.specs.Answers.{IsThere, meant};
+
+use crate::answer::Answer;
+use crate::output::output_answer;
+use crate::terms::terms_answer;
+use plcells::cell::Cell;
+use plcells::heap::Heap;
+use plnames::kind::BuiltIn;
+use plprogram::settings::Settings;
+use std::alloc::{AllocError, Global};
+
+/// What a call of a built-in predicate comes to, for the terms of the values of its arguments, under a thread's settings. The heap
+/// and the settings stay as they are: the caller carries the answer out.
+pub fn answers(
+    alloc: Global,
+    heap: &Heap,
+    settings: &Settings,
+    b: BuiltIn,
+    args: &[Cell],
+) -> Result<Answer, AllocError>
+    requires args { AreValues heap.now args.now }
+    ensures is { IfOk result (λ answer. (n : ℕ) → meant heap.now settings.now answer ≡ solutions b (map (value heap.now) args.now) settings.now n) }
+    ensures there { IfOk result (IsThere heap.now) }
+{
+    match b {
+        BuiltIn::Terms(b) => Ok(terms_answer(b, args)),
+        BuiltIn::Output(b) => output_answer(alloc, heap, settings, b, args),
+    }
+}

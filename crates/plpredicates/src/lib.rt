@@ -1,0 +1,9 @@
+//! The built-in predicates over the values of the machine's heap: a file for each topic.
+//!
+//! What each gives stands in the crate of their definitions. A further one is a row of the table of names, a clause of its topic's definition, and a function here.
+#![tactic(auto)]
+
+pub mod answer;
+pub mod built_in;
+mod output;
+mod terms;
