@@ -18,6 +18,7 @@ IsCodeOf-more c d code more k clause h = record {
   head = Args-more c d code.laid more k.head (arguments clause.head) h.head;
   key = IsFirstKey-more c.names d.names code.laid.table more.names k.key (arguments clause.head) h.key;
   body = Begins-more c d k.body clause.body code more h.body;
+  arity = h.arity;
   variables = h.variables;
   fact = h.fact;
 }

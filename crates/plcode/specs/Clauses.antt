@@ -1,5 +1,5 @@
 -- What the code of a clause is, and of procedures.
-use Rattle.std.specs.Prelude.{◌≡◌, ℕ, List, [], ◌∷◌}
+use Rattle.std.specs.Prelude.{◌≡◌, ℕ, List, [], ◌∷◌, length}
 use Rattle.plterm.specs.Tree.{Tree, atom}
 use Rattle.plterm.specs.declared.indicator.Indicator.{Indicator}
 use Rattle.plclause.specs.Clause.{Clause}
@@ -20,6 +20,7 @@ pub record IsCodeOf (c : Text) (k : ClauseCode) (clause : Clause) : Type 0 where
   pub sound : IsSound clause
   pub proper : IsProper clause.head
   pub head : Args c k.head (arguments clause.head)
+  pub arity : k.arity ≡ length (arguments clause.head)
   pub key : IsFirstKey c.names k.key (arguments clause.head)
   pub body : Begins c k.body clause.body
   pub variables : k.variables ≡ clause.variables

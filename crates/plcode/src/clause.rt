@@ -1,5 +1,5 @@
 //! Compiled clauses.
-ghost use Rattle.std.specs.Prelude.{◌≡◌, IfOk, OnOk};
+ghost use Rattle.std.specs.Prelude.{◌≡◌, length, IfOk, OnOk};
 ghost use Rattle.plclause.specs.Soundness.{IsCallable};
 ghost use Rattle.plsearch.specs.Forms.{arguments};
 ghost use Rattle.plsearch.specs.Rows.{is_true as is_true_of};
@@ -16,11 +16,12 @@ use plnames::table::NameTable;
 use plterm::walk::{Shape, TermRef};
 use std::alloc::{AllocError, Global};
 
-/// A compiled clause: where the row of its head's arguments and the sequence of its body begin, the key of the first of those
-/// arguments, how many variables it has, and whether its body is the atom true, which is no goal.
+/// A compiled clause: where the row of its head's arguments begins and how many they are, the key of the first of them, where the
+/// sequence of its body begins, how many variables it has, and whether its body is the atom true, which is no goal.
 #[derive(Clone, Copy, Debug, PartialEq, Eq)]
 pub struct ClauseCode {
     pub head: u32,
+    pub arity: u16,
     pub key: Key,
     pub body: u32,
     pub variables: u32,
@@ -44,6 +45,16 @@ fn lay_arguments(alloc: Global, code: &mut Draft, head: &TermRef<'_>) -> Result<
         }
         Shape::Atom(_) => Ok(0),
         Shape::Var(_) | Shape::Int(_) => unreachable!(),
+    }
+}
+
+/// How many arguments a head has.
+fn arity_of(head: &TermRef<'_>) -> u16
+    ensures { result ≡ length (arguments head.now) }
+{
+    match head.shape() {
+        Shape::Compound(_, args) => args.len() as u16,
+        Shape::Var(_) | Shape::Int(_) | Shape::Atom(_) => 0,
     }
 }
 
@@ -75,11 +86,13 @@ pub fn compile_clause(
     let given = clause.head().root();
     let key = head_key(code, &given)?;
     let head = lay_arguments(alloc, code, &given)?;
+    let arity = arity_of(&given);
     let root = clause.body().root();
     let body = compile_body(alloc, code, kinds, &root)?;
     let is_fact = is_true(&root);
     Ok(ClauseCode {
         head,
+        arity,
         key,
         body,
         variables,

@@ -1,5 +1,5 @@
 //! The code of a program.
-ghost use Rattle.std.specs.Prelude.{◌≡◌, ◌<◌, ◌++◌, [], List, length, map, get_or, IfOk, OnOk};
+ghost use Rattle.std.specs.Prelude.{◌≡◌, ◌<◌, ◌≤◌, ◌++◌, [], List, length, map, get_or, IfOk, IfSome, IfNone, OnOk};
 ghost use Rattle.plterm.specs.declared.indicator.Indicator.{Indicator as OfIndicator};
 ghost use Rattle.plnames.specs.Entries.{row_of};
 ghost use Rattle.platoms.specs.Names.{IsTable, Extends};
@@ -157,12 +157,12 @@ impl ProgramCode {
         self.callees.at(Number::Functor(functor))
     }
 
-    /// The procedure of the program's text at a place.
-    pub fn procedure(&self, place: u32) -> &Procedure
-        requires { place < length self.now.procedures }
-        ensures { result.now ≡ get_or self.now.procedures place [] }
+    /// The procedure of the program's text at a place, if there is one.
+    pub fn procedure(&self, place: u32) -> Option<&Procedure>
+        ensures some { IfSome result (λ p. (place < length self.now.procedures) × (p.now ≡ get_or self.now.procedures place [])) }
+        ensures none { IfNone result (length self.now.procedures ≤ place) }
     {
-        &self.procedures[place as usize]
+        self.procedures.get(place as usize)
     }
 
     /// The step at a place; the one behind it stands at the place before.

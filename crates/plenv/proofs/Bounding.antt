@@ -1,5 +1,5 @@
 -- An environment of which more is old, and the mark of all that is there.
-use Rattle.std.proofs.Common.{◌≡◌, ℕ, ◌≤◌, max, length, take, drop, subst, refl, sym, ap, ◌∙◌, arith, le_trans, le_refl}
+use Rattle.std.proofs.Common.{◌≡◌, ℕ, ◌≤◌, ◌<◌, max, length, take, drop, subst, refl, sym, ap, ◌∙◌, arith, le_trans, le_refl}
 use Rattle.std.proofs.lemmas.List.{take-take}
 use Rattle.std.proofs.Math.Nat.{le-max_right}
 use Rattle.platoms.proofs.Extending.{Extends-refl}
@@ -9,16 +9,20 @@ use Rattle.plcells.proofs.Committing.{value-noted}
 use Rattle.plenv.specs.declared.slot.Slot.{Slot}
 use Rattle.plenv.specs.declared.slot.Slot.TheVariants.{Free, Set}
 use Rattle.plenv.specs.declared.slot.Mark.{Mark}
-use Rattle.plenv.specs.Env.{Env, IsEnv, IsSlot, slot_at, slot_term, freed, cut, IsWithin, IsMark}
+use Rattle.plenv.specs.Env.{Env, IsEnv, IsSlot, slot_at, slot_term, variable, freed, cut, IsWithin, IsMark}
 use Rattle.plenv.specs.Changes.{bounded, released, Keeps, Extends}
 use Rattle.plenv.specs.Marks.{IsOlder}
 use Rattle.plenv.proofs.Cuts.{take-freed, cut-heap, cut-boundary, cut-noted}
 
-module _ (e : Env) (is : IsEnv e) (cells slots : ℕ) (more_cells : e.heap.boundary ≤ cells) (more_slots : e.boundary ≤ slots) where
-  slot-bounded : (s : Slot) → IsSlot e s → slot_term (bounded cells slots e).heap s ≡ slot_term e.heap s
-  slot-bounded (Free n) f = refl
-  slot-bounded (Set v) f = (value-noted e.heap e.heap.trail cells v f).1
+slot-bounded : (e : Env) (cells slots : ℕ) (s : Slot) → IsSlot e s → slot_term (bounded cells slots e).heap s ≡ slot_term e.heap s
+slot-bounded e cells slots (Free n) f = refl
+slot-bounded e cells slots (Set v) f = (value-noted e.heap e.heap.trail cells v f).1
 
+module _ (e : Env) (is : IsEnv e) (cells slots : ℕ) where
+  pub variable-bounded : (i : ℕ) → i < length e.slots → variable (bounded cells slots e) i ≡ variable e i
+  variable-bounded i lt = slot-bounded e cells slots (slot_at e.slots i) (is.slots.fit i lt)
+
+module _ (e : Env) (is : IsEnv e) (cells slots : ℕ) (more_cells : e.heap.boundary ≤ cells) (more_slots : e.boundary ≤ slots) where
   keeps-bounded : Keeps e (bounded cells slots e)
   unfolding cut cut_heap
   keeps-bounded = record {
@@ -35,7 +39,7 @@ module _ (e : Env) (is : IsEnv e) (cells slots : ℕ) (more_cells : e.heap.bound
   extends-bounded = record {
     values = λ v f. value-noted e.heap e.heap.trail cells v f;
     slots = le_refl _;
-    variables = λ i lt. slot-bounded (slot_at e.slots i) (is.slots.fit i lt);
+    variables = variable-bounded e is cells slots;
     count = le_refl _;
     keeps = keeps-bounded;
   }

@@ -4,7 +4,7 @@ mod Changing
 mod Committing
 mod Unified
 pub mod Putting
-mod Terms
+pub mod Terms
 mod Gathering
 mod Nodes
 mod Parts
@@ -14,3 +14,4 @@ mod Rows
 pub mod Cuts
 pub mod Renaming
 pub mod Bounding
+mod Marking

@@ -1,5 +1,7 @@
 -- Terms from outside, with new variables.
-use Rattle.std.proofs.Common.{◌≡◌, ℕ, ◌+◌, ◌<◌, ◌≤◌, List, [], ◌∷◌, ◌++◌, length, length-append, refl, sym, ap, ◌∙◌, arith, inl, inr}
+use Rattle.std.specs.Prelude.{Result as Outcomes, Ok, Err, IfOk, OnErr}
+use Rattle.std.specs.declared.alloc.AllocError.{AllocError}
+use Rattle.std.proofs.Common.{◌≡◌, ℕ, ◌+◌, ◌<◌, ◌≤◌, List, [], ◌∷◌, ◌++◌, length, length-append, refl, sym, ap, ◌∙◌, subst, arith, inl, inr}
 use Rattle.std.proofs.lemmas.Bool.{cases_lt}
 use Rattle.std.proofs.lemmas.List.{get_or_append_left, get_or_push}
 use Rattle.plterm.specs.Tree.{Tree, var}
@@ -7,22 +9,21 @@ use Rattle.plterm.specs.Variables.{AllBelow}
 use Rattle.plsubst.specs.Subst.{bind, shift}
 use Rattle.plcells.specs.declared.cell.Cell.{Cell}
 use Rattle.plcells.specs.declared.cell.Cell.TheVariants.{Ref, Atom}
-use Rattle.plcells.specs.Store.{Store, at, AreValues, IsValue, IsFresh, value, bounded_by, AddsVariable}
+use Rattle.plcells.specs.Store.{Store, at, AreValues, IsValue, IsFresh, value, bounded_by, renamed, AddsVariable, Preserves as PreservesHeap}
 use Rattle.plcells.specs.Putting.{standing, PutsTerm as PutsGiven}
 use Rattle.plcells.proofs.Given.{value-in}
 use Rattle.plcells.proofs.Nodes.{bind-agree}
 use Rattle.plcells.proofs.Putting.{Preserves-refl, Preserves-trans}
 use Rattle.plcells.proofs.Committing.{value-noted}
 use Rattle.plcells.proofs.Marking.{preserves-under}
-use Rattle.plenv.specs.declared.slot.Slot.{Slot}
-use Rattle.plenv.specs.declared.slot.Slot.TheVariants.{Free, Set}
-use Rattle.plenv.specs.Env.{Env, slot_at, IsSlot, AreSlots}
-use Rattle.plenv.specs.Changes.{AddsVariables, AddsTerm, IsNewAt, PutsTerm}
+use Rattle.plenv.specs.Env.{Env, AreSlots}
+use Rattle.plenv.specs.Changes.{AddsVariables, Puts, PutsTerm, PutsVariables, Stays}
+use Rattle.plenv.proofs.Changing.{slots-over}
 use Rattle.plenv.proofs.Keeping.{over_heap}
-use Rattle.plenv.proofs.Putting.{extends-grown}
+use Rattle.plenv.proofs.Putting.{Extends-trans, Puts-stays, extends-grown, stays-grown}
 
 pub no_variables : (h : Store) (n : ℕ) → AddsVariables h h [] n 0
-no_variables h n = record { count = refl; fit = tt; are = λ x lt. absurd (omega arith); preserves = Preserves-refl h; fresh = λ m f apart. f }
+no_variables h n = record { count = refl; fit = tt; are = λ x lt. absurd (omega arith); preserves = Preserves-refl h; names = refl; fresh = λ m f apart. f }
 
 all_still : (old new : Store) (vs : List Cell) → ((v : Cell) → IsValue old v → IsValue new v) → AreValues old vs → AreValues new vs
 all_still old new [] still are = tt
@@ -53,42 +54,65 @@ module _ (old h new : Store) (vs : List Cell) (n k c : ℕ) (has : AddsVariables
     fit = all_pushed new vs (Ref c) (all_still h new vs (λ v f. (adds.grows.values v f).0) has.fit) adds.fits;
     are = are_more;
     preserves = Preserves-trans old h new has.preserves (record { longer = adds.grows.longer; terms = adds.grows.terms; values = adds.grows.values; keeps = adds.grows.keeps });
+    names = adds.grows.names ∙ has.names;
     fresh = λ m f apart. adds.fresh m (has.fresh m f (λ le lt. apart le (omega (arith, lt)))) (λ same. apart (omega (arith, same)) (omega (arith, same)));
   }
 
-pub next_fresh : (old h : Store) (vs : List Cell) (n k : ℕ) → AddsVariables old h vs n k → ((m : ℕ) → n ≤ m → IsFresh old m) → IsFresh h (n + k)
-next_fresh old h vs n k has fresh = has.fresh (n + k) (fresh (n + k) (omega arith)) (λ le lt. omega (arith, lt))
-
--- the term over these variables
-pub put_over : (old h new : Store) (vs : List Cell) (n k : ℕ) (v : Cell) (t : Tree) → AddsVariables old h vs n k → AllBelow k t → PutsGiven h new v (bind (standing h vs) t) → AddsTerm old new v (shift n t) n k
-put_over old h new vs n k v t has below puts = record {
-  fits = puts.fits;
-  is = puts.is ∙ bind-agree k (standing h vs) (λ x. var (n + x)) has.are t below;
-  preserves = Preserves-trans old h new has.preserves puts.adds.preserves;
-  fresh = λ m f apart. puts.adds.fresh m (has.fresh m f apart);
+-- with the heap's boundary as it was
+pub variables-under : (h new : Store) (b : ℕ) (vs : List Cell) (n k : ℕ) → h.boundary ≤ b → AddsVariables (bounded_by h b) new vs n k → AddsVariables h (bounded_by new h.boundary) vs n k
+variables-under h new b vs n k le adds = record {
+  count = adds.count;
+  fit = all_still new (bounded_by new h.boundary) vs (λ v f. (value-noted new new.trail h.boundary v f).0) adds.fit;
+  are = λ x lt. (value-noted new new.trail h.boundary (at vs x) (value-in new vs x (Atom 0) (at vs x) adds.fit (omega (arith, lt, adds.count)) refl)).1 ∙ adds.are x lt;
+  preserves = preserves-under h new b le adds.preserves;
+  names = adds.names;
+  fresh = adds.fresh;
 }
 
 -- ---- in an environment
-module _ (e : Env) (h : Store) (k : ℕ) (values : (v : Cell) → IsValue e.heap v → IsValue h v) (fresh : IsNewAt e.heap h e.count k) where
-  slot_beside : (s : Slot) → IsSlot e s → IsSlot (over_heap e h (e.count + k)) s
-  slot_beside (Free n) f = (fresh n f.0 (λ le lt. omega (arith, f.1, le)), omega (arith, f.1))
-  slot_beside (Set v) f = values v f
+pub puts-variables : (e : Env) (h : Store) (vs : List Cell) (k : ℕ) → AreSlots e → AddsVariables e.heap h vs e.count k → PutsVariables e (over_heap e h (e.count + k)) vs k
+puts-variables e h vs k is adds = record {
+  many = adds.count;
+  fit = adds.fit;
+  are = adds.are;
+  extends = extends-grown e h (e.count + k) (omega arith) adds.preserves.values adds.preserves.keeps is;
+  slots = refl;
+  count = refl;
+}
 
-  pub slots-term : AreSlots e → AreSlots (over_heap e h (e.count + k))
-  slots-term is = record {
-    fit = λ i lt. slot_beside (slot_at e.slots i) (is.fit i lt);
-    once = is.once;
-    low = λ n le. fresh n (is.low n (omega (arith, le))) (λ low lt. omega (arith, lt, le));
-    bounded = is.bounded;
-    few = is.few;
-  }
+-- a term over values that are there
+module _ (e : Env) (h : Store) (t : Tree) (is : AreSlots e) (preserves : PreservesHeap e.heap h) where
+  pub puts-given : (v : Cell) → PutsGiven e.heap h v t → Puts e (over_heap e h e.count) v t
+  puts-given v puts =
+      let s = stays-grown e h preserves.values preserves.keeps is in
+      record { fits = puts.fits; is = puts.is; extends = s.extends; slots = s.slots; count = s.count }
 
-pub puts-term : (e : Env) (h : Store) (v : Cell) (t : Tree) (k : ℕ) → AreSlots e → AddsTerm e.heap h v t e.count k → PutsTerm e (over_heap e h (e.count + k)) v t k
-puts-term e h v t k is adds =
-    record { fits = adds.fits; is = adds.is; extends = extends-grown e h (e.count + k) (omega arith) adds.preserves.values adds.preserves.keeps is; slots = refl; count = refl }
+  pub slots-given : (r : Outcomes Cell AllocError) → IfOk r (λ v. PutsGiven e.heap h v t) → OnErr r (h ≡ renamed e.heap h.names) → AreSlots (over_heap e h e.count)
+  slots-given (Ok v) ok err = slots-over e h (λ w f. (preserves.values w f).0) ok.adds.fresh is
+  slots-given (Err x) ok err = slots-over e h (λ w f. (preserves.values w f).0) (λ n f. subst (λ s. IsFresh s n) (sym err) f) is
 
--- with the heap's boundary as it was
-pub term-under : (h new : Store) (b : ℕ) (v : Cell) (t : Tree) (n k : ℕ) → h.boundary ≤ b → AddsTerm (bounded_by h b) new v t n k → AddsTerm h (bounded_by new h.boundary) v t n k
-term-under h new b v t n k le adds =
-    let s = value-noted new new.trail h.boundary v adds.fits in
-    record { fits = s.0; is = s.1 ∙ adds.is; preserves = preserves-under h new b le adds.preserves; fresh = adds.fresh }
+-- the term over new variables
+pub puts-new : (old mid new : Env) (vs : List Cell) (k : ℕ) (v : Cell) (t : Tree) → PutsVariables old mid vs k → AllBelow k t → Puts mid new v (bind (standing mid.heap vs) t) → PutsTerm old new v (shift old.count t) k
+puts-new old mid new vs k v t has below puts = record {
+  fits = puts.fits;
+  is = puts.is ∙ bind-agree k (standing mid.heap vs) (λ x. var (old.count + x)) has.are t below;
+  extends = Extends-trans old mid new has.extends puts.extends;
+  slots = puts.slots ∙ has.slots;
+  count = puts.count ∙ has.count;
+}
+
+-- whatever came of it
+pub put-stays : (old new : Env) (t : Tree) (r : Outcomes Cell AllocError) → IfOk r (λ v. Puts old new v t) → OnErr r (Stays old new) → Stays old new
+put-stays old new t (Ok v) ok err = Puts-stays old new v t ok
+put-stays old new t (Err x) ok err = err
+
+-- new variables stay the same behind what is put after them
+pub variables-stay : (old mid new : Env) (vs : List Cell) (k : ℕ) → PutsVariables old mid vs k → Stays mid new → PutsVariables old new vs k
+variables-stay old mid new vs k has stays = record {
+  many = has.many;
+  fit = all_still mid.heap new.heap vs (λ v f. (stays.extends.values v f).0) has.fit;
+  are = λ x lt. (stays.extends.values (at vs x) (value-in mid.heap vs x (Atom 0) (at vs x) has.fit (omega (arith, lt, has.many)) refl)).1 ∙ has.are x lt;
+  extends = Extends-trans old mid new has.extends stays.extends;
+  slots = stays.slots ∙ has.slots;
+  count = stays.count ∙ has.count;
+}

@@ -81,6 +81,15 @@ pub record Stays (old new : Env) : Type 0 where
   pub slots : length new.slots ≡ length old.slots
   pub count : new.count ≡ old.count
 
+-- so many new variables were put, with the numbers from the count on
+pub record PutsVariables (old new : Env) (vs : List Cell) (new_variables : ℕ) : Type 0 where
+  pub many : length vs ≡ new_variables
+  pub fit : AreValues new.heap vs
+  pub are : (x : ℕ) → x < new_variables → value new.heap (at vs x) ≡ var (old.count + x)
+  pub extends : Extends old new
+  pub slots : length new.slots ≡ length old.slots
+  pub count : new.count ≡ old.count + new_variables
+
 -- a term from outside was put, with so many new variables
 pub record PutsTerm (old new : Env) (v : Cell) (t : Tree) (new_variables : ℕ) : Type 0 where
   pub fits : IsValue new.heap v
@@ -103,13 +112,7 @@ pub record AddsVariables (old new : Store) (vs : List Cell) (n k : ℕ) : Type 0
   pub fit : AreValues new vs
   pub are : (x : ℕ) → x < k → value new (at vs x) ≡ var (n + x)
   pub preserves : PreservesHeap old new
-  pub fresh : IsNewAt old new n k
-
--- a value for a term with k new variables, with the numbers from n on
-pub record AddsTerm (old new : Store) (v : Cell) (t : Tree) (n k : ℕ) : Type 0 where
-  pub fits : IsValue new v
-  pub is : value new v ≡ t
-  pub preserves : PreservesHeap old new
+  pub names : new.names ≡ old.names
   pub fresh : IsNewAt old new n k
 
 -- only so many cells and slots are old

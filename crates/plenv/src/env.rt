@@ -1,13 +1,14 @@
 //! The heap and the slots of clauses.
 ghost use Rattle.std.specs.Prelude.{◌≡◌, ℕ, ◌+◌, ◌<◌, ◌≤◌, ◌^◌, [], ◌++◌, length, take, drop, None, true, false, IfOk, OnOk, OnErr};
 ghost use Rattle.plterm.specs.Variables.{AllBelow};
-ghost use Rattle.plsubst.specs.Subst.{put, shift};
+ghost use Rattle.plsubst.specs.Subst.{bind, put, shift};
 ghost use Rattle.plsubst.specs.Unify.{unify as unifier_of};
 ghost use Rattle.platoms.specs.Names.{IsTable};
-ghost use Rattle.plcells.specs.Store.{value, IsFresh, IsHeap, IsValue, Keeps as KeepsHeap};
+ghost use Rattle.plcells.specs.Store.{value, AreValues, IsFresh, IsHeap, IsValue, Keeps as KeepsHeap};
+ghost use Rattle.plcells.specs.Putting.{standing};
 ghost use Rattle.plenv.specs.declared.slot.Slot.TheVariants.{Free as FreeSlot};
 ghost use Rattle.plenv.specs.Env.{cut, free_from, freed, noted_if, slot_at, IsEnv, IsMark, IsSlot, IsWithin};
-ghost use Rattle.plenv.specs.Changes.{bounded, older, released, AddsTerm, AddsVariables, Commits, Enters, Keeps, PutsTerm, Stays, Substitutes, Unifies};
+ghost use Rattle.plenv.specs.Changes.{bounded, older, released, AddsVariables, Commits, Enters, Keeps, Puts, PutsTerm, PutsVariables, Stays, Substitutes, Unifies};
 
 use crate::slot::{Mark, Noted, Slot};
 use platoms::names::Names;
@@ -123,6 +124,7 @@ fn push_variables(
     requires fresh { (n : ℕ) → number ≤ n → IsFresh heap.old n }
     ensures ok { OnOk result (AddsVariables heap.old heap.new values.new.items number count) }
     ensures keeps { KeepsHeap heap.old heap.new }
+    ensures names { heap.new.names ≡ heap.old.names }
 {
     for x in 0..count {
         let c = heap.variable(number + u64::from(x))?;
@@ -131,23 +133,31 @@ fn push_variables(
     Ok(())
 }
 
-/// Puts a term on the heap whose variables, below a count, are new, with numbers from one on: its value.
-fn put_new(
+/// New variables on the heap, with numbers from one on: their values. After an `Err` all is as it was.
+fn new_variables(
     heap: &mut Heap,
     alloc: Global,
-    term: &Term,
     number: u64,
     count: u32,
-) -> Result<Cell, AllocError>
-    requires below { AllBelow count term.now }
+) -> Result<Vec<Cell>, AllocError>
     requires room { number + count < 2 ^ 64 }
     requires fresh { (n : ℕ) → number ≤ n → IsFresh heap.old n }
-    ensures ok { IfOk result (λ v. AddsTerm heap.old heap.new v (shift number term.now) number count) }
-    ensures keeps { KeepsHeap heap.old heap.new }
+    ensures ok { IfOk result (λ vs. AddsVariables heap.old heap.new vs.items number count) }
+    ensures err { OnErr result (heap.new ≡ heap.old) }
 {
+    let boundary = heap.boundary();
+    let mark = heap.mark();
     let mut values = Vec::new(alloc);
-    push_variables(heap, &mut values, number, count)?;
-    heap.put(alloc, term, &values)
+    match push_variables(heap, &mut values, number, count) {
+        Ok(()) => {
+            heap.forget(boundary);
+            Ok(values)
+        }
+        Err(e) => {
+            heap.cut_back(mark, boundary);
+            Err(e)
+        }
+    }
 }
 
 impl Environment {
@@ -328,25 +338,74 @@ impl Environment {
         self.count = mark.count;
     }
 
+    /// Only so many cells and slots are old from now on: no mark of more is in use.
+    fn forget(&mut self, cells: usize, slots: usize)
+        requires cells { cells ≤ self.old.heap.boundary }
+        requires slots { slots ≤ self.old.boundary }
+        ensures { self.new ≡ bounded cells slots self.old }
+    {
+        self.heap.forget(cells);
+        self.boundary = slots;
+    }
+
+    /// Puts new variables, with the numbers from the count on: their values, in that order. After an `Err` all is as it was.
+    pub fn new_values(&mut self, alloc: Global, count: u32) -> Result<Vec<Cell>, AllocError>
+        ensures ok { IfOk result (λ vs. PutsVariables self.old self.new vs.items count) }
+        ensures names { self.new.heap.names ≡ self.old.heap.names }
+        ensures err { OnErr result (self.new ≡ self.old) }
+    {
+        let Some(next) = self.count.checked_add(u64::from(count)) else {
+            return Err(AllocError);
+        };
+        let values = new_variables(&mut self.heap, alloc, self.count, count)?;
+        self.count = next;
+        Ok(values)
+    }
+
+    /// Puts a term, whose variable x is what value number x stands for: its value.
+    pub fn put_over(
+        &mut self,
+        alloc: Global,
+        term: &Term,
+        values: &[Cell],
+    ) -> Result<Cell, AllocError>
+        requires below { AllBelow (length values.now) term.now }
+        requires values { AreValues self.old.heap values.now }
+        ensures ok { IfOk result (λ v. Puts self.old self.new v (bind (standing self.old.heap values.now) term.now)) }
+        ensures err { OnErr result (Stays self.old self.new) }
+    {
+        self.heap.put(alloc, term, values)
+    }
+
+    /// Puts a term with variables below a count, which are new. After an `Err` the variables may stay.
+    fn put_new(&mut self, alloc: Global, term: &Term, count: u32) -> Result<Cell, AllocError>
+        requires { AllBelow count term.now }
+        ensures ok { IfOk result (λ v. PutsTerm self.old self.new v (shift self.old.count term.now) count) }
+        ensures keeps { Keeps self.old self.new }
+    {
+        let values = self.new_values(alloc, count)?;
+        self.put_over(alloc, term, &values)
+    }
+
     /// Puts a term with variables below a count, which are new.
     pub fn put_term(&mut self, alloc: Global, term: &Term, count: u32) -> Result<Cell, AllocError>
         requires { AllBelow count term.now }
         ensures ok { IfOk result (λ v. PutsTerm self.old self.new v (shift self.old.count term.now) count) }
         ensures err { OnErr result (Stays self.old self.new) }
     {
-        let Some(next) = self.count.checked_add(u64::from(count)) else {
-            return Err(AllocError);
-        };
-        let boundary = self.heap.boundary();
-        let mark = self.heap.mark();
-        match put_new(&mut self.heap, alloc, term, self.count, count) {
+        let cells = self.heap.boundary();
+        let slots = self.boundary;
+        let mark = self.mark();
+        let put = self.put_new(alloc, term, count);
+        let _ = self.heap();
+        match put {
             Ok(v) => {
-                self.heap.forget(boundary);
-                self.count = next;
+                self.forget(cells, slots);
                 Ok(v)
             }
             Err(e) => {
-                self.heap.cut_back(mark, boundary);
+                self.undo(mark);
+                self.forget(cells, slots);
                 Err(e)
             }
         }

@@ -76,7 +76,7 @@ module _ (s : State) (d : ℕ) (is : IsStack s d) (m : Marks) (mark : IsMark m.e
     opened-stack = (
       record {
         env = goes.env;
-        names = extends-names s.code.names s.env.heap.names e.heap.names is.0.names goes.keeps.names;
+        names = extends-names s.code.text.names s.env.heap.names e.heap.names is.0.names goes.keeps.names;
         none = is.0.none;
         chain = goes.chain;
         frames = opens.frames (goals_in s) e ls s.saved (frames-grown (goals_in s) s.env e s.links ls goes.more s.saved goes.links goes.keeps goes.env.heap.names (reverse s.frames) is.0.frames) open-then;

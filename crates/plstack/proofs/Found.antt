@@ -43,14 +43,14 @@ module _ (e now : Env) (vs : List Cell) (key : Key) (nodes : List Node) (ks : Li
   abbrev k : ClauseCode
   k = slice_index_or ks place d
 
-  module _ (c : Text) (n : ℕ) (xs : List Clause) (a : IsAttempt c e n vs key nodes ks xs) where
-    pub found : Both c (called e.heap n vs) ks xs place
-    found = both-at c (called e.heap n vs) ks xs place a.own high
+  module _ (c : Text) (n : List ℕ) (xs : List Clause) (a : IsAttempt c e n vs key nodes ks xs) where
+    pub found : Both c n ks xs place
+    found = both-at c n ks xs place a.own high
 
     pub found-tried : IsTried c now n vs nodes k found.clause
     found-tried =
         subst (λ m. IsTried c m n vs nodes k found.clause) (sym s.back)
-        (tried-then c e n vs key nodes ks xs a is now.heap.names table s.keeps.names k found.clause (subst (λ y. IsOwn c (called e.heap n vs) y found.clause) (sym (index-at ks place d found.code found.code_at high)) found.own))
+        (tried-then c e n vs key nodes ks xs a is now.heap.names table s.keeps.names k found.clause (subst (λ y. IsOwn c n y found.clause) (sym (index-at ks place d found.code found.code_at high)) found.own))
 
     -- all before it are passed over
     before : (l : ℕ) (es : List Element) → filter_map (resolve l e.count (called e.heap n vs) es) (drop start xs) ≡ filter_map (resolve l e.count (called e.heap n vs) es) (drop place xs)
@@ -60,7 +60,7 @@ module _ (e now : Env) (vs : List Cell) (key : Key) (nodes : List Node) (ks : Li
     found-fits new base f = record {
       clause = found.clause;
       is = found.clause_at;
-      within = omega (arith, high, own-length c (called e.heap n vs) ks xs a.own);
+      within = omega (arith, high, own-length c n ks xs a.own);
       fitted = fitted-then c e n vs key nodes ks xs a is now.heap.names table s.keeps.names new base found.clause
           (subst (λ (m : Env). Fitted m new (called m.heap n vs) base found.clause) s.back f);
       before = before;
@@ -75,7 +75,7 @@ module _ (e now : Env) (vs : List Cell) (key : Key) (nodes : List Node) (ks : Li
     found-passed u l es =
         let next : suc place ≡ place + 1 = omega arith in
         before l es
-        ∙ first-passed l e.count (called e.heap n vs) es xs place (omega (arith, high, own-length c (called e.heap n vs) ks xs a.own))
+        ∙ first-passed l e.count (called e.heap n vs) es xs place (omega (arith, high, own-length c n ks xs a.own))
         (λ x at. subst (λ (y : Clause). unify (called e.heap n vs) (shift e.count y.head) ≡ None) (ap (λ ys. slice_index_or ys 0 x) (sym found.clause_at ∙ at)) (found-unfit u))
         ∙ ap (λ i. filter_map (resolve l e.count (called e.heap n vs) es) (drop i xs)) next
 
@@ -87,7 +87,7 @@ module _ (e now : Env) (vs : List Cell) (key : Key) (nodes : List Node) (ks : Li
     undone-is : undone ≡ renamed e after.heap.names
     undone-is = back ∙ all-kept.kept mark marks.within ∙ ap (λ m. renamed m after.heap.names) at
 
-    pub sought-on : ((c : Text) (n : ℕ) (x : Clause) → IsTried c now n vs nodes k x → unify (called now.heap n vs) (shift now.count x.head) ≡ None) → Sought e undone vs key nodes ks start (place + 1)
+    pub sought-on : ((c : Text) (n : List ℕ) (x : Clause) → IsTried c now n vs nodes k x → unify (called now.heap n vs) (shift now.count x.head) ≡ None) → Sought e undone vs key nodes ks start (place + 1)
     sought-on unfit = record {
       back = undone-is ∙ ap (renamed e) (sym (ap (λ (m : Env). m.heap.names) undone-is));
       keeps = subst (Keeps e) (sym undone-is) (renamed-kept e after.heap.names all-kept.names);
@@ -98,8 +98,8 @@ module _ (e now : Env) (vs : List Cell) (key : Key) (nodes : List Node) (ks : Li
 
 -- no clause is left that could fit
 pub found-none : (e now : Env) (vs : List Cell) (key : Key) (nodes : List Node) (ks : List ClauseCode) (start from : ℕ) → Sought e now vs key nodes ks start from → IsEnv e → NoneAdmitted key ks from (length ks) →
-    (c : Text) (n : ℕ) (xs : List Clause) → IsAttempt c e n vs key nodes ks xs → FindsNone e (called e.heap n vs) xs start
+    (c : Text) (n : List ℕ) (xs : List Clause) → IsAttempt c e n vs key nodes ks xs → FindsNone e (called e.heap n vs) xs start
 found-none e now vs key nodes ks start from s is none c n xs a l es =
     s.passed_by c n xs a l es
     ∙ up-to c e n vs key nodes ks xs a is from (length ks) none s.within (omega arith) l es
-    ∙ ap (filter_map (resolve l e.count (called e.heap n vs) es)) (drop_all (length ks) xs (omega (arith, own-length c (called e.heap n vs) ks xs a.own)))
+    ∙ ap (filter_map (resolve l e.count (called e.heap n vs) es)) (drop_all (length ks) xs (omega (arith, own-length c n ks xs a.own)))

@@ -59,7 +59,7 @@ module _ (s : State) (e : Env) (ls more : List Link) (links : ls ≡ s.links ++ 
   pub state-grown : IsState s → IsChain ls → IsState grown
   state-grown is chain = record {
     env = env;
-    names = extends-names s.code.names s.env.heap.names e.heap.names is.names x.keeps.names;
+    names = extends-names s.code.text.names s.env.heap.names e.heap.names is.names x.keeps.names;
     none = is.none;
     chain = chain;
     frames = frames-grown (goals_in s) s.env e s.links ls more s.saved links x.keeps env.heap.names (reverse s.frames) is.frames;
@@ -95,7 +95,7 @@ module _ (s : State) (d : ℕ) (e : Env) (a b : Cell) (u : UnifiesEnv s.env e (v
   unified-stack = (
     record {
       env = env;
-      names = extends-names s.code.names s.env.heap.names e.heap.names is.0.names u.made.keeps.names;
+      names = extends-names s.code.text.names s.env.heap.names e.heap.names is.0.names u.made.keeps.names;
       none = is.0.none;
       chain = is.0.chain;
       frames = frames-grown (goals_in s) s.env e s.links s.links [] s.saved (sym (append-nil s.links)) u.made.keeps env.heap.names (reverse s.frames) is.0.frames;

@@ -69,7 +69,7 @@ module _ (s : State) (d : ℕ) (is : IsStack s d) (e : Env) (m : Marks) (mark : 
     point = record { marks = m; list = l }
 
     resume-now : (q : Resume) → IsResume s.env.heap [] q → IsResume e.heap [] q
-    resume-now (resumes.Clauses c) a = (tt, rw same a.1)
+    resume-now (resumes.Clauses c) a = tt
     resume-now (resumes.Copies c) a = (extends-now.values c.goal a).0
     resume-now resumes.List a = tt
     resume-now (resumes.Catch c) a = ((extends-now.values c.catcher a.0).0, (extends-now.values c.recovery a.1).0)

@@ -1,10 +1,8 @@
 -- What a case stands for where the table of names has grown.
-use Rattle.std.proofs.Common.{◌≡◌, ℕ, ◌<◌, List, [], ◌∷◌, length, map, drop, filter_map, refl, ap, ap₂, arith}
-use Rattle.plterm.specs.Tree.{Tree, atom, compound, trees}
+use Rattle.std.proofs.Common.{◌≡◌, ℕ, List, [], ◌∷◌, length, map, drop, filter_map, refl, ap, ap₂}
+use Rattle.plterm.specs.Tree.{Tree, compound, trees}
 use Rattle.platoms.specs.Names.{Table, IsTable, Extends}
-use Rattle.platoms.proofs.Extending.{atoms_more, atom_same}
 use Rattle.plclause.specs.Clause.{Clause}
-use Rattle.plclause.specs.Indicators.{indicator}
 use Rattle.plcells.specs.declared.cell.Cell.{Cell}
 use Rattle.plcells.specs.Store.{AreValues, value, renamed as renamed_heap, Preserves}
 use Rattle.plcells.proofs.Renaming.{Preserves-renamed}
@@ -40,12 +38,12 @@ module _ (e : Env) (t : Table) (is : IsEnv e) (table : IsTable t) (more : Extend
       let s = stays.values v a.0 in
       ((s.0, r.0), ap₂ (λ x xs. x ∷ xs) s.1 r.1)
 
-  pub called-renamed : (n : ℕ) (vs : List Cell) → AreValues e.heap vs → n < length e.heap.names.atoms → called (renamed_heap e.heap t) n vs ≡ called e.heap n vs
-  called-renamed n [] a lt = ap atom (atom_same e.heap.names t more n lt)
-  called-renamed n (v ∷ vs) a lt = ap₂ (λ f ts. compound f (trees ts)) (atom_same e.heap.names t more n lt) (values-renamed (v ∷ vs) a).1
+  pub called-renamed : (name : List ℕ) (vs : List Cell) → AreValues e.heap vs → called (renamed_heap e.heap t) name vs ≡ called e.heap name vs
+  called-renamed name [] a = refl
+  called-renamed name (v ∷ vs) a = ap (λ ts. compound name (trees ts)) (values-renamed (v ∷ vs) a).1
 
   pub resume-renamed : (vs : List Cell) (r : Resume) → IsResume e.heap vs r → IsResume (renamed_heap e.heap t) vs r
-  resume-renamed vs (resumes.Clauses c) i = ((values-renamed vs i.0).0, omega (arith, i.1, atoms_more e.heap.names t more))
+  resume-renamed vs (resumes.Clauses c) i = (values-renamed vs i).0
   resume-renamed vs (resumes.Copies c) i = (stays.values c.goal i).0
   resume-renamed vs resumes.List i = tt
   resume-renamed vs (resumes.Catch c) i = ((stays.values c.catcher i.0).0, (stays.values c.recovery i.1).0)
@@ -58,7 +56,7 @@ module _ (e : Env) (t : Table) (is : IsEnv e) (table : IsTable t) (more : Extend
     left-renamed g g' cs same = ap₂ (λ (x : Tree) (es : List Element). filter_map (resolve d e.count x es) (cs x)) same goals-renamed
 
     pub case-renamed : (vs : List Cell) (r : Resume) → IsResume e.heap vs r → case_of statics code d (renamed e t) xs vs r ≡ case_of statics code d e xs vs r
-    case-renamed vs (resumes.Clauses c) i = ap Choice (left-renamed _ _ (λ g. drop c.next (statics (indicator g))) (called-renamed c.name vs i.0 i.1))
+    case-renamed vs (resumes.Clauses c) i = ap Choice (left-renamed _ _ (λ g. drop c.next (statics c.procedure).clauses) (called-renamed (statics c.procedure).name vs i))
     case-renamed vs (resumes.Copies c) i = ap Choice (left-renamed _ _ (λ g. drop c.next c.clauses.items) (stays.values c.goal i).1)
     case-renamed vs resumes.List i = ap (λ es. Choice (record { goals = es; variables = e.count } ∷ [])) goals-renamed
     case-renamed vs (resumes.Catch c) i =

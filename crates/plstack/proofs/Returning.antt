@@ -47,8 +47,8 @@ module _ (s : State) (d : ℕ) (is : IsStack s d) (rest : List Frame) (p : Point
   back-env : IsEnv (cut p.marks.env s.env)
   back-env = at-frame.mark.env
 
-  back-names : ExtendsNames s.code.names (cut p.marks.env s.env).heap.names
-  back-names = subst (ExtendsNames s.code.names) (sym (cut-names p.marks.env s.env)) is.0.names
+  back-names : ExtendsNames s.code.text.names (cut p.marks.env s.env).heap.names
+  back-names = subst (ExtendsNames s.code.text.names) (sym (cut-names p.marks.env s.env)) is.0.names
 
   saved-room : p.marks.saved ≤ length s.saved
   saved-room = omega (arith, at-frame.saved_room)

@@ -155,7 +155,7 @@ module _ (s : State) (d : ℕ) (is : IsStack s d) (since : Marks) (older : AreOl
     settled-stack = (
       record {
         env = env;
-        names = subst (ExtendsNames s.code.names) (sym made.names) is.0.names;
+        names = subst (ExtendsNames s.code.text.names) (sym made.names) is.0.names;
         none = is.0.none;
         chain = is.0.chain;
         frames = frames-settled (goals_in s) s.env e s.links s.saved since marks.env.heap.cells marks.env.slots count made room.saved (reverse s.frames) older within is.0.frames;

@@ -1,7 +1,8 @@
 -- Frames that are put on a stack and taken off.
 use Rattle.std.proofs.Common.{◌≡◌, ℕ, zero, suc, ◌+◌, ◌-◌, ◌<◌, List, [], ◌∷◌, ◌++◌, length, refl, sym, ap, ◌∙◌, subst, arith, reverse}
 use Rattle.platoms.specs.Names.{Extends as ExtendsNames}
-use Rattle.plcode.specs.Steps.{Text, goals_from}
+use Rattle.plcode.specs.Steps.{goals_from}
+use Rattle.plcode.specs.Callees.{Compiled}
 use Rattle.plsearch.specs.Types.{Case, Choice}
 use Rattle.plsearch.specs.Engine.{deeper}
 use Rattle.plenv.specs.Env.{Env, IsEnv}
@@ -22,10 +23,10 @@ depth_is statics s d e = e ∙ sym (depth-cases statics (goals_in s) s.env s.lin
 
 -- the state of a stack's fields
 abbrev pub inside : Inside → State
-inside a = record { code = a.code.text; env = a.env; links = a.links.items; saved = a.saved.items; frames = a.frames.items; goals = a.goals }
+inside a = record { code = a.code; env = a.env; links = a.links.items; saved = a.saved.items; frames = a.frames.items; goals = a.goals }
 
 -- a stack with nothing on it
-pub empty-stack : (code : Text) (e : Env) → IsEnv e → ExtendsNames code.names e.heap.names → goals_from code 0 0 ≡ [] → IsStack (record { code = code; env = e; links = []; saved = []; frames = []; goals = alone 0 }) 0
+pub empty-stack : (code : Compiled) (e : Env) → IsEnv e → ExtendsNames code.text.names e.heap.names → goals_from code.text 0 0 ≡ [] → IsStack (record { code = code; env = e; links = []; saved = []; frames = []; goals = alone 0 }) 0
 empty-stack code e env names none = (
   record {
     env = env;
@@ -33,7 +34,7 @@ empty-stack code e env names none = (
     none = none;
     chain = chain-none;
     frames = tt;
-    goals = empty-list (goals_from code) none e [];
+    goals = empty-list (goals_from code.text) none e [];
   },
   refl,
 )

@@ -1,7 +1,6 @@
 -- A clause that is tried.
-use Rattle.std.proofs.Common.{◌≡◌, ℕ, ◌+◌, ◌<◌, ◌≤◌, List, [], ◌∷◌, length, map, refl, sym, ap, ap₂, ◌∙◌, subst, arith, None}
-use Rattle.std.proofs.lemmas.List.{length-map}
-use Rattle.plterm.specs.Tree.{Tree, compound, trees, list_of-trees}
+use Rattle.std.proofs.Common.{◌≡◌, ℕ, ◌+◌, ◌<◌, ◌≤◌, List, length, map, sym, ap, ap₂, ◌∙◌, subst, arith, None}
+use Rattle.plterm.specs.Tree.{Tree, compound, trees}
 use Rattle.plsubst.specs.Subst.{bind, shift}
 use Rattle.plsubst.specs.Unify.{unify}
 use Rattle.platoms.specs.Names.{IsTable}
@@ -26,22 +25,18 @@ use Rattle.plhead.specs.Fitting.{UnifiesAll, NotUnifiable}
 use Rattle.plstack.specs.Places.{called}
 use Rattle.plstack.specs.Fits.{Fitted}
 use Rattle.plstack.specs.Attempts.{IsTried}
-use Rattle.plstack.proofs.Fitting.{arguments-below, new-terms, head-arity, head-unifies, head-fails, arity_of}
+use Rattle.plstack.proofs.Fitting.{arguments-below, new-terms, same-indicator, head-unifies, head-fails}
 
-module _ (c : Text) (e : Env) (name : ℕ) (vs : List Cell) (nodes : List Node) (k : ClauseCode) (x : Clause) (tried : IsTried c e name vs nodes k x) (table : IsTable e.heap.names) where
+module _ (c : Text) (e : Env) (name : List ℕ) (vs : List Cell) (nodes : List Node) (k : ClauseCode) (x : Clause) (tried : IsTried c e name vs nodes k x) (many : k.arity ≡ length vs) (table : IsTable e.heap.names) where
   abbrev args : List Tree
   args = arguments x.head
 
   -- the head has as many arguments as the goal
-  pub as-many : length args ≡ length vs
-  as-many =
-      sym (head-arity x.head tried.own.code.sound.callable)
-      ∙ ap arity_of tried.own.own
-      ∙ goal-arity vs
-    where
-      goal-arity : (ws : List Cell) → arity_of (indicator (called e.heap name ws)) ≡ length ws
-      goal-arity [] = refl
-      goal-arity (w ∷ ws) = ap length (list_of-trees (map (value e.heap) (w ∷ ws))) ∙ length-map (w ∷ ws) (value e.heap)
+  as-many : length args ≡ length vs
+  as-many = sym tried.own.code.arity ∙ many
+
+  own : indicator x.head ≡ indicator (called e.heap name vs)
+  own = same-indicator e.heap name x.head vs tried.own.code.sound.callable tried.own.named as-many
 
   pub laid : IsLaid e.heap.names nodes
   laid = subst (IsLaid e.heap.names) (sym tried.nodes_are) (IsLaid-names c.names e.heap.names c.nodes tried.names table tried.laid)
@@ -84,7 +79,7 @@ module _ (c : Text) (e : Env) (name : ℕ) (vs : List Cell) (nodes : List Node) 
       unfolding bind
       fitted u = record {
         unifier = u.unifier;
-        is = head-unifies e.heap e.count name x.head vs tried.own.code.sound.callable tried.own.code.proper tried.own.own u.unifier
+        is = head-unifies e.heap e.count name x.head vs tried.own.code.sound.callable tried.own.code.proper own u.unifier
             (λ f. ap₂ (λ ts us. unify (compound f (trees ts)) (compound f (trees us))) (sym goals) (sym heads) ∙ u.is f);
         values = λ v is. let made = u.made.values v (subst (λ (h : Store). IsValue h v) (sym entered.heap) is) in
             (made.0, made.1 ∙ ap (λ (h : Store). bind u.unifier (value h v)) entered.heap);
@@ -99,5 +94,5 @@ module _ (c : Text) (e : Env) (name : ℕ) (vs : List Cell) (nodes : List Node) 
 
       pub unfit : NotUnifiable (map (value mid.heap) vs) (map (bind (over mid base)) (row_at mid.heap.names nodes (record { at = k.head; count = length vs }))) →
           unify (called e.heap name vs) (shift e.count x.head) ≡ None
-      unfit u = head-fails e.heap e.count name x.head vs tried.own.code.sound.callable tried.own.code.proper tried.own.own
+      unfit u = head-fails e.heap e.count name x.head vs tried.own.code.sound.callable tried.own.code.proper own
           (λ f. ap₂ (λ ts us. unify (compound f (trees ts)) (compound f (trees us))) (sym goals) (sym heads) ∙ u f)

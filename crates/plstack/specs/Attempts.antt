@@ -1,5 +1,5 @@
 -- A call of a static procedure whose clauses are to be tried.
-use Rattle.std.specs.Prelude.{◌≡◌, ℕ, ◌<◌, ◌≤◌, List, length, map}
+use Rattle.std.specs.Prelude.{◌≡◌, ℕ, ◌≤◌, List, length, map}
 use Rattle.platoms.specs.Names.{Extends as ExtendsNames}
 use Rattle.plclause.specs.Clause.{Clause}
 use Rattle.plcells.specs.declared.cell.Cell.{Cell}
@@ -11,26 +11,23 @@ use Rattle.plcode.specs.Keys.{IsFirstKey}
 use Rattle.plcode.specs.Laying.{IsLaid}
 use Rattle.plcode.specs.Steps.{Text}
 use Rattle.plenv.specs.Env.{Env}
-use Rattle.plstack.specs.Places.{called}
 use Rattle.plstack.specs.Fits.{IsOwn, AreOwn}
 
--- the goal of a name and of values is one of a procedure, whose clauses have this code
-pub record IsAttempt (c : Text) (e : Env) (name : ℕ) (values : List Cell) (key : Key) (nodes : List Node) (ks : List ClauseCode) (xs : List Clause) : Type 0 where
+-- a goal of a name and of values, and clauses for the name with their code
+pub record IsAttempt (c : Text) (e : Env) (name : List ℕ) (values : List Cell) (key : Key) (nodes : List Node) (ks : List ClauseCode) (xs : List Clause) : Type 0 where
   pub laid : IsLaid c.names c.nodes
   pub nodes_are : nodes ≡ c.nodes
   pub names : ExtendsNames c.names e.heap.names
-  pub named : name < length e.heap.names.atoms
   pub fit : AreValues e.heap values
   pub few : length values ≤ 1024
   pub key_is : IsFirstKey e.heap.names key (map (value e.heap) values)
-  pub own : AreOwn c (called e.heap name values) ks xs
+  pub own : AreOwn c name ks xs
 
 -- a clause of it that is tried
-pub record IsTried (c : Text) (e : Env) (name : ℕ) (values : List Cell) (nodes : List Node) (k : ClauseCode) (x : Clause) : Type 0 where
+pub record IsTried (c : Text) (e : Env) (name : List ℕ) (values : List Cell) (nodes : List Node) (k : ClauseCode) (x : Clause) : Type 0 where
   pub laid : IsLaid c.names c.nodes
   pub nodes_are : nodes ≡ c.nodes
   pub names : ExtendsNames c.names e.heap.names
-  pub named : name < length e.heap.names.atoms
   pub fit : AreValues e.heap values
   pub few : length values ≤ 1024
-  pub own : IsOwn c (called e.heap name values) k x
+  pub own : IsOwn c name k x

@@ -15,16 +15,16 @@ use Rattle.plcode.specs.Clauses.{IsCodeOf}
 use Rattle.plenv.specs.Env.{Env, variable}
 use Rattle.plstack.specs.declared.fit.Found.{Found}
 
--- the code of a clause of a goal's procedure
-pub record IsOwn (c : Text) (t : Tree) (k : ClauseCode) (x : Clause) : Type 0 where
+-- the code of a clause for a name
+pub record IsOwn (c : Text) (name : List ℕ) (k : ClauseCode) (x : Clause) : Type 0 where
   pub code : IsCodeOf c k x
-  pub own : indicator x.head ≡ indicator t
+  pub named : (indicator x.head).name ≡ name
 
-abbrev pub AreOwn : Text → Tree → List ClauseCode → List Clause → Type 0
-AreOwn c t [] [] = Unit {0}
-AreOwn c t [] (x ∷ xs) = ⊥
-AreOwn c t (k ∷ ks) [] = ⊥
-AreOwn c t (k ∷ ks) (x ∷ xs) = IsOwn c t k x × AreOwn c t ks xs
+abbrev pub AreOwn : Text → List ℕ → List ClauseCode → List Clause → Type 0
+AreOwn c name [] [] = Unit {0}
+AreOwn c name [] (x ∷ xs) = ⊥
+AreOwn c name (k ∷ ks) [] = ⊥
+AreOwn c name (k ∷ ks) (x ∷ xs) = IsOwn c name k x × AreOwn c name ks xs
 
 -- a clause's head was unified with a goal, its variables new and in slots of their own
 pub record Fitted (old new : Env) (t : Tree) (base : ℕ) (x : Clause) : Type 0 where

@@ -30,7 +30,7 @@ AreOlder m (Open p r ∷ fs) = IsOlder m p r × AreOlder m fs
 
 -- the values of a case are those of the heap that it comes back to
 abbrev pub IsResume : Store → List Cell → Resume → Type 0
-IsResume h vs (resumes.Clauses c) = AreValues h vs × (c.name < length h.names.atoms)
+IsResume h vs (resumes.Clauses c) = AreValues h vs
 IsResume h vs (resumes.Copies c) = IsValue h c.goal
 IsResume h vs resumes.List = ⊤
 IsResume h vs (resumes.Catch c) = IsValue h c.catcher × IsValue h c.recovery

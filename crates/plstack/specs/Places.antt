@@ -1,10 +1,7 @@
 -- What open cases stand for.
 use Rattle.std.specs.Prelude.{ℕ, zero, suc, ◌+◌, List, [], ◌∷◌, map, take, drop, filter_map}
 use Rattle.plterm.specs.Tree.{Tree, atom, compound, trees}
-use Rattle.plterm.specs.declared.indicator.Indicator.{Indicator}
 use Rattle.plclause.specs.Clause.{Clause}
-use Rattle.plclause.specs.Indicators.{indicator}
-use Rattle.platoms.specs.Names.{atom_at}
 use Rattle.plcells.specs.declared.cell.Cell.{Cell}
 use Rattle.plcells.specs.Store.{Store, value}
 use Rattle.plsearch.specs.Types.{Element, Place, Catch, Case, Choice, Mark, Handle}
@@ -21,18 +18,23 @@ use Rattle.plstack.specs.declared.frame.Resume.TheVariants as resumes
 use Rattle.plstack.specs.declared.frame.Frame.{Frame}
 use Rattle.plstack.specs.declared.frame.Frame.TheVariants.{Plain, Barrier, Open}
 
--- the clauses of the program's procedures
+-- a procedure of the program's text: its name, and its clauses
+pub record Static : Type 0 where
+  pub name : List ℕ
+  pub clauses : List Clause
+
+-- the procedures by their places
 abbrev pub Statics : Type 0
-Statics = Indicator → List Clause
+Statics = ℕ → Static
 
 -- the place of a list, by its items
 abbrev pub place_of_items : Goals → Env → List Item → Place
 place_of_items code e xs = record { goals = all_elements code e xs; variables = e.count }
 
--- a goal by the number of its name, and the values of its arguments
-abbrev pub called : Store → ℕ → List Cell → Tree
-called h a [] = atom (atom_at h.names a)
-called h a (v ∷ vs) = compound (atom_at h.names a) (trees (map (value h) (v ∷ vs)))
+-- a goal by its name, and the values of its arguments
+abbrev pub called : Store → List ℕ → List Cell → Tree
+called h name [] = atom name
+called h name (v ∷ vs) = compound name (trees (map (value h) (v ∷ vs)))
 
 -- what is left of a call at the level d: of a goal, before a list, by some clauses
 abbrev pub places_left : ℕ → Env → Tree → List Element → List Clause → List Place
@@ -51,7 +53,7 @@ kept_values saved p r = take (kept r) (drop p.marks.saved saved)
 
 -- the case at the level d, of the environment that it comes back to, by the items of its list and the values that it keeps
 abbrev pub case_of : Statics → Goals → ℕ → Env → List Item → List Cell → Resume → Case
-case_of statics code d e xs vs (resumes.Clauses c) = Choice (places_left d e (called e.heap c.name vs) (all_elements code e xs) (drop c.next (statics (indicator (called e.heap c.name vs)))))
+case_of statics code d e xs vs (resumes.Clauses c) = Choice (places_left d e (called e.heap (statics c.procedure).name vs) (all_elements code e xs) (drop c.next (statics c.procedure).clauses))
 case_of statics code d e xs vs (resumes.Copies c) = Choice (places_left d e (value e.heap c.goal) (all_elements code e xs) (drop c.next c.clauses.items))
 case_of statics code d e xs vs resumes.List = Choice (place_of_items code e xs ∷ [])
 case_of statics code d e xs vs (resumes.Catch c) = Handle (Catch (value e.heap c.catcher) (value e.heap c.recovery)) (place_of_items code e xs)

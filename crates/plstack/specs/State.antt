@@ -8,7 +8,8 @@ use Rattle.plcells.specs.declared.cell.Cell.{Cell}
 use Rattle.plcells.specs.Store.{IsValue, value}
 use Rattle.plsearch.specs.Types.{Element, Place, Case, Choice, Handle, Catch}
 use Rattle.plsearch.specs.Lists.{bind_goals}
-use Rattle.plcode.specs.Steps.{Text, goals_from}
+use Rattle.plcode.specs.Steps.{goals_from}
+use Rattle.plcode.specs.Callees.{Compiled}
 use Rattle.plenv.specs.Env.{Env, IsEnv}
 use Rattle.pllinks.specs.declared.link.Link.{Link}
 use Rattle.pllinks.specs.declared.link.Continuation.{Continuation}
@@ -25,7 +26,7 @@ use Rattle.plstack.specs.Frames.{AreOlder, AreFrames}
 -- the program's code, with the names that it was compiled with; the environment; the links; the values that open cases keep; the frames,
 -- the newest last; and the list that is visited
 pub record State : Type 0 where
-  pub code : Text
+  pub code : Compiled
   pub env : Env
   pub links : List Link
   pub saved : List Cell
@@ -34,7 +35,7 @@ pub record State : Type 0 where
 
 -- the goals from a position of the code on
 abbrev pub goals_in : State → Goals
-goals_in s = goals_from s.code
+goals_in s = goals_from s.code.text
 
 -- the goals of a list
 abbrev pub goals_of : State → Continuation → List Element
@@ -57,7 +58,7 @@ IsList s l = IsListIn (goals_in s) s.env s.links l
 
 pub record IsState (s : State) : Type 0 where
   pub env : IsEnv s.env
-  pub names : ExtendsNames s.code.names s.env.heap.names
+  pub names : ExtendsNames s.code.text.names s.env.heap.names
   pub none : goals_in s 0 0 ≡ []
   pub chain : IsChain s.links
   pub frames : AreFrames (goals_in s) s.env s.links s.saved (reverse s.frames)

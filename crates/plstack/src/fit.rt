@@ -51,11 +51,14 @@ fn try_clause(
     call: &Attempt<'_>,
     clause: ClauseCode,
 ) -> Result<Option<u32>, AllocError>
-    requires { (c : Text) × (n : ℕ) × (x : Clause) × IsTried c env.old n call.now.values.now call.now.nodes.now clause x }
-    ensures some { IfOk result (λ o. IfSome o (λ base. (c : Text) (n : ℕ) (x : Clause) → IsTried c env.old n call.now.values.now call.now.nodes.now clause x → Fitted env.old env.new (called env.old.heap n call.now.values.now) base x)) }
-    ensures none { IfOk result (λ o. IfNone o ((c : Text) (n : ℕ) (x : Clause) → IsTried c env.old n call.now.values.now call.now.nodes.now clause x → unify (called env.old.heap n call.now.values.now) (shift env.old.count x.head) ≡ None)) }
+    requires { (c : Text) × (n : List ℕ) × (x : Clause) × IsTried c env.old n call.now.values.now call.now.nodes.now clause x }
+    ensures some { IfOk result (λ o. IfSome o (λ base. (c : Text) (n : List ℕ) (x : Clause) → IsTried c env.old n call.now.values.now call.now.nodes.now clause x → Fitted env.old env.new (called env.old.heap n call.now.values.now) base x)) }
+    ensures none { IfOk result (λ o. IfNone o ((c : Text) (n : List ℕ) (x : Clause) → IsTried c env.old n call.now.values.now call.now.nodes.now clause x → unify (called env.old.heap n call.now.values.now) (shift env.old.count x.head) ≡ None)) }
     ensures keeps { Keeps env.old env.new }
 {
+    if usize::from(clause.arity) != call.values.len() {
+        return Ok(None);
+    }
     let _ = env.heap();
     let base = env.enter(clause.variables)?;
     let row = Row {
@@ -77,12 +80,12 @@ pub fn first_fit(
     call: &Attempt<'_>,
     from: usize,
 ) -> Result<Option<Found>, AllocError>
-    requires attempt { (c : Text) × (n : ℕ) × (xs : List Clause) × IsAttempt c env.old n call.now.values.now call.now.key call.now.nodes.now call.now.procedure.now xs }
+    requires attempt { (c : Text) × (n : List ℕ) × (xs : List Clause) × IsAttempt c env.old n call.now.values.now call.now.key call.now.nodes.now call.now.procedure.now xs }
     requires within { from ≤ length call.now.procedure.now }
     requires mark { IsMark call.now.mark env.old }
     requires now { cut call.now.mark env.old ≡ env.old }
-    ensures some { IfOk result (λ o. IfSome o (λ found. (c : Text) (n : ℕ) (xs : List Clause) → IsAttempt c env.old n call.now.values.now call.now.key call.now.nodes.now call.now.procedure.now xs → Finds env.old env.new (called env.old.heap n call.now.values.now) xs from found)) }
-    ensures none { IfOk result (λ o. IfNone o ((c : Text) (n : ℕ) (xs : List Clause) → IsAttempt c env.old n call.now.values.now call.now.key call.now.nodes.now call.now.procedure.now xs → FindsNone env.old (called env.old.heap n call.now.values.now) xs from)) }
+    ensures some { IfOk result (λ o. IfSome o (λ found. (c : Text) (n : List ℕ) (xs : List Clause) → IsAttempt c env.old n call.now.values.now call.now.key call.now.nodes.now call.now.procedure.now xs → Finds env.old env.new (called env.old.heap n call.now.values.now) xs from found)) }
+    ensures none { IfOk result (λ o. IfNone o ((c : Text) (n : List ℕ) (xs : List Clause) → IsAttempt c env.old n call.now.values.now call.now.key call.now.nodes.now call.now.procedure.now xs → FindsNone env.old (called env.old.heap n call.now.values.now) xs from)) }
     ensures same { IfOk result (λ o. IfNone o (env.new ≡ renamed env.old env.new.heap.names)) }
     ensures keeps { Keeps env.old env.new }
 {

@@ -20,13 +20,12 @@ pub struct Point {
     pub list: Continuation,
 }
 
-/// A call of a static procedure: the number of its name, how many arguments are kept from the mark on, the procedure's number, and that of
-/// the first clause that was not tried.
+/// A call of a static procedure: its place, how many arguments are kept from the mark on, and the number of the first clause that was not
+/// tried.
 #[derive(Clone, Copy)]
 pub struct Clauses {
-    pub name: u32,
-    pub count: u16,
     pub procedure: u32,
+    pub count: u16,
     pub next: usize,
 }
 

@@ -37,9 +37,9 @@ impl Model for Stack {
 
     ghost coded = { Prim.hlevel (codes, tree_code) };
 
-    ghost view = { λ a. record { code = a.code.text; env = a.env; links = a.links.items; saved = a.saved.items; frames = a.frames.items; goals = a.goals } };
+    ghost view = { λ a. record { code = a.code; env = a.env; links = a.links.items; saved = a.saved.items; frames = a.frames.items; goals = a.goals } };
 
-    ghost invariant = { λ a. IsStack (record { code = a.code.text; env = a.env; links = a.links.items; saved = a.saved.items; frames = a.frames.items; goals = a.goals }) a.depth };
+    ghost invariant = { λ a. IsStack (record { code = a.code; env = a.env; links = a.links.items; saved = a.saved.items; frames = a.frames.items; goals = a.goals }) a.depth };
 }
 
 impl Stack {
@@ -47,7 +47,7 @@ impl Stack {
     pub fn new(alloc: Global, code: ProgramCode, env: Environment) -> Stack
         requires names { ExtendsNames code.text.names env.heap.names }
         requires none { goals_from code.text 0 0 ≡ [] }
-        ensures { result ≡ record { code = code.text; env = env; links = []; saved = []; frames = []; goals = alone 0 } }
+        ensures { result ≡ record { code = code; env = env; links = []; saved = []; frames = []; goals = alone 0 } }
     {
         let _ = env.heap();
         Stack {
@@ -63,7 +63,7 @@ impl Stack {
 
     /// The program's code.
     pub fn code(&self) -> &ProgramCode
-        ensures { result.now.text ≡ self.now.code }
+        ensures { result.now ≡ self.now.code }
     {
         &self.code
     }

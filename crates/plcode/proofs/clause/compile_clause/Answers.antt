@@ -1,4 +1,4 @@
-use Rattle.std.proofs.Common.{rules, ◌∙◌, List, subst, ap, sym}
+use Rattle.std.proofs.Common.{rules, ◌∙◌, List, length, subst, ap, sym}
 use Rattle.plterm.specs.Tree.{Tree}
 use Rattle.plclause.specs.Soundness.{IsCallable}
 use Rattle.plsearch.specs.Forms.{arguments}
@@ -44,6 +44,7 @@ returns-clause-clause c =
       head = subst RowIs (ap arguments head) (Args-more laid compiled c.in_ok-head.ensures.code.laid c.in_ok-body.ensures.extended c.in_ok-head.head (arguments c.root-given.result) c.in_ok-head.ensures.row);
       key = subst KeyIs (ap arguments head) (IsFirstKey-more keyed.names compiled.names c.in_ok-key.ensures.code.laid.table more.names c.in_ok-key.key (arguments c.root-given.result) c.in_ok-key.ensures.key);
       body = subst (Begins compiled c.in_ok-body.body) body c.in_ok-body.ensures.begins;
+      arity = c.arity_of-arity.ensures ∙ ap (λ t. length (arguments t)) head;
       variables = search rules;
       fact = c.is_true-is_fact.ensures ∙ ap is_true body;
     }

@@ -8,7 +8,7 @@ use Rattle.plstack.proofs.Found.{found, found-tried, found-fits, sought-on, foun
 use Rattle.plstack.proofs.fit.first_fit.Goals as goal
 
 abbrev nothing : ClauseCode
-nothing = record { head = 0; key = Any; body = 0; variables = 0; is_fact = false }
+nothing = record { head = 0; arity = 0; key = Any; body = 0; variables = 0; is_fact = false }
 
 pub clauses-init : goal.clauses-init
 clauses-init c = sought-first _ _ _ _ _ _ c.requires.within

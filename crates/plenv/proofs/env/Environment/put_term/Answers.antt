@@ -1,73 +1,52 @@
-use Rattle.std.proofs.Common.{◌≡◌, ◌≤◌, ◌+◌, ◌∙◌, length, ap, subst, arith}
-use Rattle.platoms.specs.Names.{IsTable, Extends}
+use Rattle.std.proofs.Common.{◌≡◌, ◌≤◌, ◌∙◌, length, ap, ap₂, sym, refl, subst, arith}
 use Rattle.plsubst.specs.Subst.{shift}
-use Rattle.plcells.specs.Store.{bounded_by, renamed}
-use Rattle.plcells.proofs.Marking.{mark-cells, given-back}
-use Rattle.plcells.proofs.Renaming.{Preserves-renamed}
-use Rattle.plenv.specs.Env.{Env}
-use Rattle.plenv.specs.Changes.{AddsTerm}
-use Rattle.plenv.proofs.Changing.{slots-over}
-use Rattle.plenv.proofs.Putting.{Stays-refl, stays-grown}
-use Rattle.plenv.proofs.Terms.{slots-term, puts-term, term-under}
+use Rattle.plenv.specs.Env.{Env, IsEnv, cut}
+use Rattle.plenv.specs.Changes.{bounded, PutsTerm}
+use Rattle.plenv.proofs.Marking.{mark-cells, mark-slots, term-under, back-stays}
+use Rattle.plenv.proofs.Renaming.{IsMark-kept}
 use Rattle.plenv.proofs.env.Environment.put_term.Goals as goal
 
-pub returns-in_default-clause-err : goal.returns-in_default-clause-err
-returns-in_default-clause-err c = Stays-refl c.args.self.now
+pub forget-requires-clause-cells : goal.forget-requires-clause-cells
+forget-requires-clause-cells c =
+    let m = c.mark-mark.ensures in
+    let e : Env = c.args.self.now in
+    let w = c.in-Ok.ensures.keeps.within c.mark-mark.result m.mark.within in
+    let old : c.boundary-cells.result ≤ length e.heap.cells = rw (← c.self.view_is) (c.boundary-cells.ensures.within) in
+    omega (arith, old, w.heap.old, mark-cells c.mark-mark.result e c.mark-mark.new.self m.now m.same)
 
-pub forget-requires : goal.forget-requires
-forget-requires c =
-    let w = c.in-Ok.ensures.keeps.within c.mark-mark.result c.mark-mark.ensures.mark.within in
-    let s = c.self.inside in
-    omega (arith, w.old, mark-cells c.mark-mark.result s.heap c.mark-mark.new.self c.mark-mark.ensures.now c.mark-mark.ensures.same, c.boundary-boundary.ensures.within)
+pub forget-requires-clause-slots : goal.forget-requires-clause-slots
+forget-requires-clause-slots c =
+    let m = c.mark-mark.ensures in
+    let e : Env = c.args.self.now in
+    let w = c.in-Ok.ensures.keeps.within c.mark-mark.result m.mark.within in
+    let old : c.self.inside.boundary ≤ length e.slots = rw (← c.self.view_is) c.self.invariant.bounded in
+    omega (arith, old, w.old, mark-slots c.mark-mark.result e c.mark-mark.new.self m.now m.same)
 
-pub cut_back-requires-clause-old : goal.cut_back-requires-clause-old
-cut_back-requires-clause-old c =
-    let s = c.self.inside in
-    omega (arith, mark-cells c.mark-mark.result s.heap c.mark-mark.new.self c.mark-mark.ensures.now c.mark-mark.ensures.same, c.boundary-boundary.ensures.within)
-
-pub invariant_of-self : goal.invariant_of-self
-invariant_of-self c =
-    let s = c.self.inside in
-    let e : Env = record { heap = s.heap; slots = s.slots.items; noted = s.noted.items; boundary = s.boundary; count = s.count } in
-    let next : c.in-Some.next ≡ s.count + c.args.count = c.in-Some.ensures.1 ∙ ap (λ w. s.count + w) c.from.ensures in
-    let b = length s.heap.cells in
-    let t = shift s.count c.args.term.now in
-    let new = c.put_new.new.heap in
-    let marked = subst (λ h. AddsTerm h new c.in-Ok.v t s.count c.args.count) c.mark-mark.ensures.same c.in-Ok.ensures.ok in
-    let le : s.heap.boundary ≤ b = omega (arith, c.boundary-boundary.ensures.within, c.boundary-boundary.ensures.is) in
-    let adds = term-under s.heap new b c.in-Ok.v t s.count c.args.count le marked in
-    rw (c.forget.ensures, c.boundary-boundary.ensures.is, next) (slots-term e (bounded_by new s.heap.boundary) c.args.count (λ v f. (adds.preserves.values v f).0) adds.fresh c.self.invariant)
+pub undo-requires : goal.undo-requires
+undo-requires c = IsMark-kept c.mark-mark.result c.mark-mark.new.self c.put_new-put.new.self c.in-Err.ensures.keeps c.heap.ensures.env.heap.names c.mark-mark.ensures.mark
 
 pub returns-in-Ok-clause-ok : goal.returns-in-Ok-clause-ok
-returns-in-Ok-clause-ok c = rw (← c.self.view_is) (
-    let s = c.self.inside in
-    let e : Env = record { heap = s.heap; slots = s.slots.items; noted = s.noted.items; boundary = s.boundary; count = s.count } in
-    let next : c.in-Some.next ≡ s.count + c.args.count = c.in-Some.ensures.1 ∙ ap (λ w. s.count + w) c.from.ensures in
-    let b = length s.heap.cells in
-    let t = shift s.count c.args.term.now in
-    let new = c.put_new.new.heap in
-    let marked = subst (λ h. AddsTerm h new c.in-Ok.v t s.count c.args.count) c.mark-mark.ensures.same c.in-Ok.ensures.ok in
-    let le : s.heap.boundary ≤ b = omega (arith, c.boundary-boundary.ensures.within, c.boundary-boundary.ensures.is) in
-    rw (c.forget.ensures, c.boundary-boundary.ensures.is, next) (puts-term e (bounded_by new s.heap.boundary) c.in-Ok.v t c.args.count c.self.invariant (term-under s.heap new b c.in-Ok.v t s.count c.args.count le marked)))
-
-pub invariant_of-self-in-Err : goal.invariant_of-self-in-Err
-invariant_of-self-in-Err c =
-    let s = c.self.inside in
-    let e : Env = record { heap = s.heap; slots = s.slots.items; noted = s.noted.items; boundary = s.boundary; count = s.count } in
+returns-in-Ok-clause-ok c =
+    let e : Env = c.args.self.now in
+    let new : Env = c.put_new-put.new.self in
     let m = c.mark-mark.ensures in
-    let t = c.put_new.new.heap.names in
-    let back = given-back c.mark-mark.result s.heap c.mark-mark.new.self m.now m.same c.put_new.new.heap c.cut_back.new.self _ m.mark c.in-Err.ensures.keeps c.cut_back.ensures.cut c.boundary-boundary.ensures.is in
-    let table : IsTable t = subst IsTable (ap (λ x. x.names) back) c.cut_back.ensures.heap.names in
-    let same = Preserves-renamed s.heap t c.boundary-boundary.ensures.heap table (subst (λ h. Extends h.names t) m.same c.in-Err.ensures.keeps.names) in
-    rw back (slots-over e (renamed s.heap t) (λ v f. (same.values v f).0) (λ n f. f) c.self.invariant)
+    let is : IsEnv e = rw (← c.self.view_is) (record { heap = c.boundary-cells.ensures.heap; slots = c.self.invariant }) in
+    let cells : c.boundary-cells.result ≡ e.heap.boundary = rw (← c.self.view_is) c.boundary-cells.ensures.is in
+    let slots : c.self.inside.boundary ≡ e.boundary = rw (← c.self.view_is) refl in
+    let same_count : c.mark-mark.new.self.count ≡ e.count = ap (λ x. x.count) m.same in
+    let t = shift e.count c.args.term.now in
+    let puts = subst (λ n. PutsTerm c.mark-mark.new.self new c.in-Ok.v (shift n c.args.term.now) c.args.count) same_count c.in-Ok.ensures.ok in
+    let marked = subst (λ x. PutsTerm x new c.in-Ok.v t c.args.count) m.same puts in
+    subst (λ x. PutsTerm e x c.in-Ok.v t c.args.count) (sym (c.forget.ensures ∙ ap₂ (λ i j. bounded i j new) cells slots))
+    (term-under e new (length e.heap.cells) (length e.slots) is.heap.bounded is.slots.bounded c.in-Ok.v t c.args.count is c.heap.ensures.env marked)
 
 pub returns-in-Err-clause-err : goal.returns-in-Err-clause-err
-returns-in-Err-clause-err c = rw (← c.self.view_is) (
-    let s = c.self.inside in
-    let e : Env = record { heap = s.heap; slots = s.slots.items; noted = s.noted.items; boundary = s.boundary; count = s.count } in
+returns-in-Err-clause-err c =
+    let e : Env = c.args.self.now in
+    let new : Env = c.put_new-put.new.self in
     let m = c.mark-mark.ensures in
-    let t = c.put_new.new.heap.names in
-    let back = given-back c.mark-mark.result s.heap c.mark-mark.new.self m.now m.same c.put_new.new.heap c.cut_back.new.self _ m.mark c.in-Err.ensures.keeps c.cut_back.ensures.cut c.boundary-boundary.ensures.is in
-    let table : IsTable t = subst IsTable (ap (λ x. x.names) back) c.cut_back.ensures.heap.names in
-    let same = Preserves-renamed s.heap t c.boundary-boundary.ensures.heap table (subst (λ h. Extends h.names t) m.same c.in-Err.ensures.keeps.names) in
-    rw back (stays-grown e (renamed s.heap t) same.values same.keeps c.self.invariant))
+    let is : IsEnv e = rw (← c.self.view_is) (record { heap = c.boundary-cells.ensures.heap; slots = c.self.invariant }) in
+    let cells : c.boundary-cells.result ≡ e.heap.boundary = rw (← c.self.view_is) c.boundary-cells.ensures.is in
+    let slots : c.self.inside.boundary ≡ e.boundary = rw (← c.self.view_is) refl in
+    let back = c.forget-in-Err.ensures ∙ ap (bounded c.boundary-cells.result c.self.inside.boundary) c.undo.ensures ∙ ap₂ (λ i j. bounded i j (cut c.mark-mark.result new)) cells slots in
+    back-stays c.mark-mark.result e c.mark-mark.new.self m.now m.same new c.forget-in-Err.new.self is c.heap.ensures.env.heap.names c.in-Err.ensures.keeps m.mark.within back
