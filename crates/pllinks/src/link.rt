@@ -1,6 +1,6 @@
 //! Links: goal lists that share their rest.
 ghost use Rattle.std.specs.Prelude.{◌≡◌, ◌+◌, ◌≤◌, max, [], ◌∷◌, ◌++◌, length, IfOk, OnOk, OnErr};
-ghost use Rattle.pllinks.specs.Links.{Numbers, alone, level_in, slots_in, top_at, slots_at, link_to, list_at};
+ghost use Rattle.pllinks.specs.Links.{IsDone, Numbers, alone, level_in, slots_in, top_at, slots_at, link_to, list_at};
 
 use crate::item::{Item, Run};
 use std::alloc::AllocError;
@@ -120,6 +120,8 @@ pub fn push_link(links: &mut Vec<Link>, item: Item, rest: u32) -> Result<u32, Al
 pub fn number_of(links: &mut Vec<Link>, list: Continuation) -> Result<u32, AllocError>
     requires { list.rest ≤ length links.old.items }
     ensures ok { IfOk result (λ n. Numbers links.old.items links.new.items list n) }
+    ensures rest { IsDone list.run → IfOk result (λ n. n ≡ list.rest) }
+    ensures same { IsDone list.run → links.new.items ≡ links.old.items }
     ensures err { OnErr result (links.new.items ≡ links.old.items) }
 {
     if list.run.is_done() {

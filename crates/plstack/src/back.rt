@@ -14,7 +14,8 @@ impl Stack {
     /// Comes back to the innermost choice, which has one list to be tried: visits it.
     pub fn take_branch(&mut self)
         requires { HasBranch self.old }
-        ensures { (statics : Statics) → Retries statics self.old self.new }
+        ensures retries { (statics : Statics) → Retries statics self.old self.new }
+        ensures code { self.new.code ≡ self.old.code }
     {
         let marks = self.come_back();
         self.settle(marks);
@@ -24,6 +25,7 @@ impl Stack {
     fn come_back(&mut self) -> Marks
         requires { HasBranch self.old }
         ensures retries { (statics : Statics) → Retries statics self.old self.new }
+        ensures code { self.new.code ≡ self.old.code }
         ensures within { IsWithin result.env self.new.env }
         ensures older { AreOlder result (reverse self.new.frames) }
     {
@@ -43,6 +45,7 @@ impl Stack {
         requires { HasHandler self.old }
         ensures cases { (statics : Statics) → cases_of statics self.new ≡ cases_of statics self.old }
         ensures at { AtHandler self.new result.catcher result.list }
+        ensures code { self.new.code ≡ self.old.code }
     {
         let Some(Frame::Open(point, Resume::Catch(catcher))) = self.frames.pop() else {
             unreachable!()
@@ -66,7 +69,8 @@ impl Stack {
     pub fn recover(&mut self, list: Continuation)
         requires handler { HasHandler self.old }
         requires list { IsList self.old list }
-        ensures { Recovers self.old self.new list }
+        ensures recovers { Recovers self.old self.new list }
+        ensures code { self.new.code ≡ self.old.code }
     {
         let marks = self.leave_handler(list);
         self.settle(marks);
@@ -77,6 +81,7 @@ impl Stack {
         requires handler { HasHandler self.old }
         requires list { IsList self.old list }
         ensures recovers { Recovers self.old self.new list }
+        ensures code { self.new.code ≡ self.old.code }
         ensures within { IsWithin result.env self.new.env }
         ensures older { AreOlder result (reverse self.new.frames) }
     {

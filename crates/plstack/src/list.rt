@@ -2,7 +2,7 @@
 ghost use Rattle.std.specs.Prelude.{◌≡◌, ◌++◌, length, IfOk, OnErr, OnOk};
 ghost use Rattle.plsearch.specs.Lists.{levels};
 ghost use Rattle.pllinks.specs.Lists.{elements, IsItem, IsRun};
-ghost use Rattle.pllinks.specs.Links.{alone};
+ghost use Rattle.pllinks.specs.Links.{alone, IsDone};
 ghost use Rattle.pllinks.specs.declared.item.Item.TheVariants.{Run as RunOf};
 ghost use Rattle.plstack.specs.State.{goals_in, goals_of, IsList, AddsList};
 ghost use Rattle.plstack.specs.Levels.{levels_of};
@@ -17,6 +17,8 @@ impl Stack {
     pub fn number_of(&mut self, list: Continuation) -> Result<u32, AllocError>
         requires { IsList self.old list }
         ensures ok { IfOk result (λ n. AddsList self.old self.new (alone n) (goals_of self.old list)) }
+        ensures rest { IsDone list.run → IfOk result (λ n. n ≡ list.rest) }
+        ensures same { IsDone list.run → self.new ≡ self.old }
         ensures err { OnErr result (self.new ≡ self.old) }
     {
         let number = number_of(&mut self.links, list)?;

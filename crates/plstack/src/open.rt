@@ -105,6 +105,7 @@ impl Stack {
         ensures some { IfSome result (λ c. (statics : Statics) → ClosedAs statics self.old self.new c) }
         ensures none { IfNone result ((statics : Statics) → cases_of statics self.old ≡ []) }
         ensures same { IfNone result (self.new ≡ self.old) }
+        ensures code { self.new.code ≡ self.old.code }
     {
         let Some(frame) = self.frames.pop() else {
             return None;

@@ -1,5 +1,5 @@
 use Rattle.plstack.proofs.Returning.{retries_settled}
 use Rattle.plstack.proofs.stack.Stack.take_branch.Goals as goal
 
-pub returns : goal.returns
-returns c = λ statics. retries_settled statics c.args.self.now c.come_back-marks.new.self c.settle.new.self (c.come_back-marks.ensures.retries statics) c.settle.ensures
+pub returns-clause-retries : goal.returns-clause-retries
+returns-clause-retries c = λ statics. retries_settled statics c.args.self.now c.come_back-marks.new.self c.settle.new.self (c.come_back-marks.ensures.retries statics) c.settle.ensures
