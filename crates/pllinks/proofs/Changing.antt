@@ -1,12 +1,14 @@
 -- What stays of goal lists where values and slots change.
-use Rattle.std.proofs.Common.{◌≡◌, ℕ, ◌+◌, ◌<◌, ◌≤◌, List, [], ◌∷◌, ◌++◌, length, refl, sym, ap, ap₂, ◌∙◌, arith, map, le_trans}
+use Rattle.std.proofs.Common.{◌≡◌, ℕ, ◌+◌, ◌<◌, ◌≤◌, List, [], ◌∷◌, ◌++◌, length, refl, sym, ap, ap₂, ◌∙◌, subst, arith, map, le_trans}
 use Rattle.plterm.specs.Tree.{Tree, Trees, var, int, atom, compound, none, more}
 use Rattle.plterm.specs.Variables.{AllBelow, EachBelow}
 use Rattle.plsubst.specs.Subst.{bind, bind_all}
 use Rattle.plsubst.proofs.Unify.{bind-bind}
 use Rattle.plsearch.specs.Types.{Goal}
 use Rattle.plsearch.specs.Lists.{bind_element, bind_goals}
-use Rattle.plenv.specs.Env.{Env, over}
+use Rattle.plcells.specs.declared.cell.Cell.{Cell}
+use Rattle.plcells.specs.Store.{IsValue, value}
+use Rattle.plenv.specs.Env.{Env, over, variable}
 use Rattle.plenv.specs.Changes.{Substitutes}
 use Rattle.plenv.specs.Rows.{AllBelowEach}
 use Rattle.pllinks.specs.declared.item.Run.{Run}
@@ -68,35 +70,45 @@ map-append : {A B : Type 0} (f : A → B) (xs ys : List A) → map f (xs ++ ys) 
 map-append f [] ys = refl
 map-append f (x ∷ xs) ys = ap (λ zs. f x ∷ zs) (map-append f xs ys)
 
-module _ (code : Goals) (old new : Env) (σ : ℕ → Tree) (made : Substitutes old new σ) where
-  goal-bound : (r : Run) (width : ℕ) (t : Tree) → AllBelow width t → r.base + width ≤ length old.slots → bind (over new r.base) t ≡ bind σ (bind (over old r.base) t)
+-- what is put for variables, in each value and in the first n slots
+pub record Bound (n : ℕ) (old new : Env) (σ : ℕ → Tree) : Type 0 where
+  pub values : (v : Cell) → IsValue old.heap v → IsValue new.heap v × (value new.heap v ≡ bind σ (value old.heap v))
+  pub variables : (i : ℕ) → i < n → variable new i ≡ bind σ (variable old i)
+
+module _ (code : Goals) (n : ℕ) (old new : Env) (σ : ℕ → Tree) (made : Bound n old new σ) where
+  goal-bound : (r : Run) (width : ℕ) (t : Tree) → AllBelow width t → r.base + width ≤ n → bind (over new r.base) t ≡ bind σ (bind (over old r.base) t)
   goal-bound r width t b le =
       bind-agree (over new r.base) (λ x. bind σ (over old r.base x)) width t (λ x lt. made.variables (r.base + x) (omega (arith, lt, le))) b
       ∙ sym (bind-bind σ (over old r.base) t)
 
-  run-bound : (r : Run) (width : ℕ) (ts : List Tree) → AllBelowEach width ts → r.base + width ≤ length old.slots → map (goal_of new r) ts ≡ map (bind_element σ) (map (goal_of old r) ts)
+  run-bound : (r : Run) (width : ℕ) (ts : List Tree) → AllBelowEach width ts → r.base + width ≤ n → map (goal_of new r) ts ≡ map (bind_element σ) (map (goal_of old r) ts)
   run-bound r width [] b le = refl
   run-bound r width (t ∷ ts) b le = ap₂ (λ x xs. Goal r.level x ∷ xs) (goal-bound r width t b.0 le) (run-bound r width ts b.1 le)
 
-  item-bound : (x : Item) → IsItem code old.heap (length old.slots) x → elements code new x ≡ map (bind_element σ) (elements code old x)
+  item-bound : (x : Item) → IsItem code old.heap n x → elements code new x ≡ map (bind_element σ) (elements code old x)
   item-bound (items.Run r) i = run-bound r i.0.width (run_goals code r) i.0.below (le_trans i.0.within i.1)
   item-bound (items.Goal k v) i = ap (λ t. Goal k t ∷ []) (made.values v i).1
   item-bound (items.Marker k l) i = refl
 
-  item-kept : (x : Item) → IsItem code old.heap (length old.slots) x → IsItem code new.heap (length new.slots) x
-  item-kept (items.Run r) i = (i.0, omega (arith, i.1, made.slots))
+  item-kept : (x : Item) → IsItem code old.heap n x → IsItem code new.heap n x
+  item-kept (items.Run r) i = i
   item-kept (items.Goal k v) i = (made.values v i).0
   item-kept (items.Marker k l) i = tt
 
-  pub items-bound : (xs : List Item) → AreItems code old.heap (length old.slots) xs
-      → AreItems code new.heap (length new.slots) xs × (all_elements code new xs ≡ bind_goals σ (all_elements code old xs))
+  pub items-put : (xs : List Item) → AreItems code old.heap n xs → AreItems code new.heap n xs × (all_elements code new xs ≡ bind_goals σ (all_elements code old xs))
   unfolding all_elements
-  items-bound [] a = (tt, refl)
-  items-bound (x ∷ xs) a =
-      let r = items-bound xs a.1 in (
+  items-put [] a = (tt, refl)
+  items-put (x ∷ xs) a =
+      let r = items-put xs a.1 in (
         (item-kept x a.0, r.0),
         ap₂ (λ p q. p ++ q) (item-bound x a.0) r.1 ∙ sym (map-append (bind_element σ) (elements code old x) (all_elements code old xs)),
       )
+
+pub items-bound : (code : Goals) (old new : Env) (σ : ℕ → Tree) → Substitutes old new σ → (xs : List Item) → AreItems code old.heap (length old.slots) xs
+    → AreItems code new.heap (length new.slots) xs × (all_elements code new xs ≡ bind_goals σ (all_elements code old xs))
+items-bound code old new σ made xs a =
+    let r = items-put code (length old.slots) old new σ (record { values = made.values; variables = made.variables }) xs a in
+    (subst (λ n. AreItems code new.heap n xs) (sym made.slots) r.0, r.1)
 
 pub lists_substitute : ListsSubstitute
 lists_substitute code old new σ xs made a = items-bound code old new σ made xs a

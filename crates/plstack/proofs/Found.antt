@@ -24,7 +24,7 @@ use Rattle.plstack.specs.Attempts.{IsAttempt, IsTried}
 use Rattle.plstack.proofs.Searching.{Both, both-at, own-length, first-passed, up-to, tried-then, fitted-then, unfit-then, Sought}
 
 -- more names keep every mark
-renamed-kept : (e : Env) (t : Table) → Extends e.heap.names t → Keeps e (renamed e t)
+pub renamed-kept : (e : Env) (t : Table) → Extends e.heap.names t → Keeps e (renamed e t)
 unfolding cut cut_heap
 renamed-kept e t more = record {
   within = λ p w. record { heap = record { old = w.heap.old; cells = w.heap.cells; trail = w.heap.trail; numbers = w.heap.numbers; wide = w.heap.wide }; old = w.old; noted = w.noted };
@@ -33,7 +33,7 @@ renamed-kept e t more = record {
 }
 
 -- the code at a place
-index-at : (ks : List ClauseCode) (i : ℕ) (d k : ClauseCode) → take 1 (drop i ks) ≡ k ∷ [] → i < length ks → slice_index_or ks i d ≡ k
+pub index-at : (ks : List ClauseCode) (i : ℕ) (d k : ClauseCode) → take 1 (drop i ks) ≡ k ∷ [] → i < length ks → slice_index_or ks i d ≡ k
 index-at [] i d k e lt = absurd (omega arith)
 index-at (x ∷ ks) zero d k e lt = ap (λ ys. slice_index_or ys 0 x) e
 index-at (x ∷ ks) (suc i) d k e lt = index-at ks i d k e (omega arith)

@@ -16,3 +16,6 @@ pub mod Trying
 pub mod Searching
 pub mod Found
 pub mod Calling
+pub mod Rewinding
+pub mod Hitting
+pub mod Going

@@ -9,3 +9,4 @@ pub mod Giving
 pub mod Fits
 pub mod Attempts
 pub mod Calls
+pub mod StaticCalls

@@ -43,6 +43,14 @@ pub struct Found {
     pub base: u32,
 }
 
+/// A clause that fits a call: its code, where its slots begin, and the number of the next clause that may fit, if there is one.
+#[derive(Clone, Copy)]
+pub struct Hit {
+    pub clause: ClauseCode,
+    pub base: u32,
+    pub next: Option<usize>,
+}
+
 /// Unifies a clause's head with the goal, its variables new: where its slots begin, if it fits. Where it does not, or memory gives out, an undo
 /// to a mark in use gives back what was changed.
 fn try_clause(

@@ -1,0 +1,109 @@
+-- What is left of a call behind a clause, and the clause's body before the rest.
+use Rattle.std.proofs.Common.{◌≡◌, ℕ, ◌+◌, ◌-◌, ◌≤◌, List, [], ◌∷◌, ◌++◌, length, map, refl, sym, ap, ◌∙◌, subst, arith, reverse, Option, Some, None}
+use Rattle.plsubst.specs.Subst.{bind}
+use Rattle.plclause.specs.Clause.{Clause}
+use Rattle.plsearch.specs.Types.{Goal}
+use Rattle.plcode.specs.Clauses.{IsCodeOf}
+use Rattle.plenv.specs.Env.{over}
+use Rattle.plenv.specs.Rows.{AllBelowEach}
+use Rattle.pllinks.specs.declared.item.Run.{Run}
+use Rattle.pllinks.specs.declared.item.Item.TheVariants as items
+use Rattle.pllinks.specs.declared.link.Continuation.{Continuation}
+use Rattle.pllinks.specs.Lists.{goal_of, run_goals, all_elements, IsItem}
+use Rattle.pllinks.specs.Links.{alone, done, list_at}
+use Rattle.plstack.specs.declared.frame.Point.{Point}
+use Rattle.plstack.specs.declared.frame.Clauses.{Clauses}
+use Rattle.plstack.specs.declared.frame.Resume.TheVariants as resumes
+use Rattle.plstack.specs.declared.frame.Frame.{Frame}
+use Rattle.plstack.specs.declared.frame.Frame.TheVariants.{Open}
+use Rattle.plstack.specs.declared.fit.Hit.{Hit}
+use Rattle.plstack.specs.Places.{Statics}
+use Rattle.plstack.specs.Frames.{AreOlder, IsOpen}
+use Rattle.plstack.specs.State.{State, IsStack, goals_in, goals_of, place_of, cases_of, IsList, CountsUp}
+use Rattle.plstack.specs.Cutting.{Settles}
+use Rattle.plstack.specs.StaticCalls.{IsCalling, GoesOn}
+use Rattle.plstack.proofs.Frames.{reverse-push}
+use Rattle.plstack.proofs.Stacks.{opened-cases, opened-state, counted, counted-cases, popped-cases, popped-stack}
+use Rattle.plstack.proofs.Returning.{at-frame, back-depth}
+use Rattle.plstack.proofs.Lists.{first-elements, done-elements}
+
+head_is : (x y : Frame) (xs ys : List Frame) → x ∷ xs ≡ y ∷ ys → x ≡ y
+head_is x y xs ys e = cc
+
+-- the newest frame, which is a call, was taken off
+module _ (s : State) (d : ℕ) (is : IsStack s d) (p : Point) (c : Clauses) (calling : IsCalling s p c) (rest : List Frame) (f : Frame) (taken : s.frames ≡ rest ++ f ∷ []) where
+  popped : s.frames ≡ rest ++ Open p (resumes.Clauses c) ∷ []
+  popped = taken ∙ ap (λ g. rest ++ g ∷ [])
+      (head_is f (Open p (resumes.Clauses c)) (reverse rest) (reverse calling.rest)
+      (sym (ap reverse taken ∙ reverse-push rest f) ∙ ap reverse calling.top ∙ reverse-push calling.rest (Open p (resumes.Clauses c))))
+
+  the-call : IsOpen (goals_in s) s.env s.links s.saved p (resumes.Clauses c) (reverse rest)
+  the-call = at-frame s d is rest p (resumes.Clauses c) popped
+
+  below-stack : IsStack (record s { frames = rest }) (d - 1)
+  below-stack = popped-stack s d rest (Open p (resumes.Clauses c)) popped is
+
+  -- the clauses from a number on are left
+  module _ (next : ℕ) (frames : List Frame) (pushed : frames ≡ rest ++ Open p (resumes.Clauses (record { procedure = c.procedure; count = c.count; next = next })) ∷ []) where
+    abbrev c' : Clauses
+    c' = record { procedure = c.procedure; count = c.count; next = next }
+
+    frame : IsOpen (goals_in s) s.env s.links s.saved p (resumes.Clauses c') (reverse rest)
+    frame = record { mark = the-call.mark; links_room = the-call.links_room; list = the-call.list; saved_room = the-call.saved_room; older = the-call.older; items = the-call.items; resume = the-call.resume }
+
+    pub replaced-stack : IsStack (record s { frames = frames }) d
+    replaced-stack =
+        let o = opened-state (record s { frames = rest }) (d - 1) frames (Open p (resumes.Clauses c')) pushed below-stack frame in
+        (o.0, omega (arith, o.1, back-depth s d is rest p (resumes.Clauses c) popped))
+
+    pub replaced : (statics : Statics) → GoesOn statics s (record s { frames = frames }) p c (Some next)
+    replaced statics = record {
+      below = cases_of statics (record s { frames = rest });
+      was = popped-cases statics s rest (Open p (resumes.Clauses c)) popped;
+      cases = opened-cases statics (record s { frames = rest }) frames (Open p (resumes.Clauses c')) pushed;
+    }
+
+  -- no clause is left
+  module _ (frames : List Frame) (up : CountsUp 1 (reverse rest) (reverse frames)) where
+    pub emptied-stack : IsStack (record s { frames = frames }) d
+    emptied-stack =
+        let u = counted 1 (record s { frames = rest }) (d - 1) frames up below-stack in
+        (u.0, omega (arith, u.1, back-depth s d is rest p (resumes.Clauses c) popped))
+
+    pub emptied : (statics : Statics) → GoesOn statics s (record s { frames = frames }) p c None
+    emptied statics = record {
+      below = cases_of statics (record s { frames = rest });
+      was = popped-cases statics s rest (Open p (resumes.Clauses c)) popped;
+      cases = counted-cases 1 statics (record s { frames = rest }) frames up;
+    }
+
+    pub emptied-older : AreOlder p.marks (reverse frames)
+    emptied-older = up.older p.marks the-call.older
+
+pub goes_settled : (statics : Statics) (s mid new : State) (p : Point) (c : Clauses) (next : Option ℕ) → GoesOn statics s mid p c next → Settles mid new → GoesOn statics s new p c next
+goes_settled statics s mid new p c next g y = record { below = g.below; was = g.was; cases = y.cases statics ∙ g.cases }
+
+pub place-framed : (s new : State) → new ≡ record s { frames = new.frames } → place_of new ≡ place_of s
+place-framed s new e = ap (λ (x : State). place_of x) e
+
+-- a clause's body before a list with a number
+module _ (s : State) (d : ℕ) (is : IsStack s d) (hit : Hit) (x : Clause) (code : IsCodeOf s.code.text hit.clause x) (slots : hit.base + hit.clause.variables ≤ length s.env.slots)
+    (rest : Continuation) (behind : ℕ) (there : IsList s (alone behind)) (same : goals_of s (alone behind) ≡ goals_of s rest) (level : ℕ) where
+  abbrev run : Run
+  run = record { position = hit.clause.body; owed = 0; base = hit.base; «end» = hit.base + hit.clause.variables; level = level }
+
+  own-goals : run_goals (goals_in s) run ≡ x.body ∷ []
+  own-goals = code.body.goals
+
+  own-item : IsItem (goals_in s) s.env.heap (length s.env.slots) (items.Run run)
+  own-item = (record { width = x.variables; below = subst (AllBelowEach x.variables) (sym own-goals) (code.sound.body_below, tt); within = omega (arith, code.variables) }, slots)
+
+  pub body-there : IsList s (record { run = record { position = hit.clause.body; owed = 0; base = hit.base; «end» = hit.base + hit.clause.variables; level = level }; rest = behind })
+  body-there = record { there = there.there; items = (own-item, there.items.1) }
+
+  pub body-goals : goals_of s (record { run = record { position = hit.clause.body; owed = 0; base = hit.base; «end» = hit.base + hit.clause.variables; level = level }; rest = behind })
+      ≡ Goal level (bind (over s.env hit.base) x.body) ∷ goals_of s rest
+  body-goals =
+      first-elements s (items.Run run) (list_at s.links behind)
+      ∙ ap (λ ts. map (goal_of s.env run) ts ++ all_elements (goals_in s) s.env (list_at s.links behind)) own-goals
+      ∙ ap (λ es. Goal level (bind (over s.env hit.base) x.body) ∷ es) (sym (done-elements s is.0 done (refl, refl) (list_at s.links behind)) ∙ same)

@@ -1,0 +1,74 @@
+-- Calls of static procedures.
+use Rattle.std.specs.Prelude.{◌≡◌, ℕ, ◌+◌, ◌<◌, ◌≤◌, Option, Some, None, List, [], ◌∷◌, ◌++◌, length, drop, get_or}
+use Rattle.plterm.specs.Tree.{Tree}
+use Rattle.plsubst.specs.Subst.{bind}
+use Rattle.plclause.specs.Clause.{Clause}
+use Rattle.plsearch.specs.Types.{Place, Case, Choice}
+use Rattle.plsearch.specs.Lists.{bind_goals}
+use Rattle.plsearch.specs.Rows.{before_rest, is_true}
+use Rattle.plsearch.specs.Engine.{deeper}
+use Rattle.plcode.specs.Callees.{Compiled}
+use Rattle.plcode.specs.Clauses.{IsCodeOf}
+use Rattle.plenv.specs.Env.{cut, over}
+use Rattle.pllinks.specs.declared.link.Continuation.{Continuation}
+use Rattle.pllinks.specs.Lists.{all_elements}
+use Rattle.pllinks.specs.Links.{items_of}
+use Rattle.plstack.specs.declared.frame.Point.{Point}
+use Rattle.plstack.specs.declared.frame.Clauses.{Clauses}
+use Rattle.plstack.specs.declared.frame.Resume.TheVariants as resumes
+use Rattle.plstack.specs.declared.frame.Frame.{Frame}
+use Rattle.plstack.specs.declared.frame.Frame.TheVariants.{Open}
+use Rattle.plstack.specs.declared.fit.Hit.{Hit}
+use Rattle.plstack.specs.Places.{Statics, called, places_left, kept_values}
+use Rattle.plstack.specs.Fits.{AreOwn}
+use Rattle.plstack.specs.State.{State, goals_in, goals_of, cases_of, IsList}
+
+-- the procedures of a program's code, by their places
+pub record AreStatics (m : Compiled) (statics : Statics) : Type 0 where
+  pub own : (i : ℕ) → i < length m.procedures → AreOwn m.text (statics i).name (get_or m.procedures i []) (statics i).clauses
+  pub none : (i : ℕ) → length m.procedures ≤ i → (statics i).clauses ≡ []
+
+-- the innermost case is this call
+pub record IsCalling (s : State) (p : Point) (c : Clauses) : Type 0 where
+  pub rest : List Frame
+  pub top : s.frames ≡ rest ++ Open p (resumes.Clauses c) ∷ []
+
+-- and the environment is that at its opening
+pub record AtCall (s : State) (p : Point) (c : Clauses) : Type 0 where
+  pub calling : IsCalling s p c
+  pub now : cut p.marks.env s.env ≡ s.env
+  pub list : IsList s p.list
+
+-- the goal of a call, as things were at its opening
+abbrev pub goal_at : Statics → State → Point → Clauses → Tree
+goal_at statics s p c = called (cut p.marks.env s.env).heap (statics c.procedure).name (kept_values s.saved p (resumes.Clauses c))
+
+-- what a call has left by some clauses, as a case of the level d
+abbrev pub further : Statics → State → ℕ → Point → Clauses → List Clause → List Place
+further statics s d p c cs = places_left d (cut p.marks.env s.env) (goal_at statics s p c) (all_elements (goals_in s) (cut p.marks.env s.env) (items_of s.links p.list)) cs
+
+-- the clauses from a number on, if there is one
+abbrev pub onward : Option ℕ → List Clause → List Clause
+onward None cs = []
+onward (Some i) cs = drop i cs
+
+-- a clause of the innermost call fits, the first that is left: it has slots of its own, and the places left are that of its body and those
+-- of the clauses behind it
+pub record Hits (statics : Statics) (old new : State) (p : Point) (c : Clauses) (hit : Hit) : Type 0 where
+  pub clause : Clause
+  pub code : IsCodeOf old.code.text hit.clause clause
+  pub slots : hit.base + hit.clause.variables ≤ length new.env.slots
+  pub left : (d : ℕ) → further statics new d p c (drop c.next (statics c.procedure).clauses)
+      ≡ record { goals = before_rest (is_true clause.body) d (bind (over new.env hit.base) clause.body) (goals_of new p.list); variables = new.env.count }
+      ∷ further statics new d p c (onward hit.next (statics c.procedure).clauses)
+
+-- what was put for variables is in each list
+pub record Binds (old new : State) (hit : Hit) : Type 0 where
+  pub unifier : ℕ → Tree
+  pub lists : (l : Continuation) → IsList old l → IsList new l × (goals_of new l ≡ bind_goals unifier (goals_of old l))
+
+-- of the innermost case, a call, the clauses from a number on are left
+pub record GoesOn (statics : Statics) (old new : State) (p : Point) (c : Clauses) (next : Option ℕ) : Type 0 where
+  pub below : List Case
+  pub was : cases_of statics old ≡ Choice (further statics old (deeper below 0) p c (drop c.next (statics c.procedure).clauses)) ∷ below
+  pub cases : cases_of statics new ≡ Choice (further statics old (deeper below 0) p c (onward next (statics c.procedure).clauses)) ∷ below
