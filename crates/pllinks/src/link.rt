@@ -1,5 +1,5 @@
 //! Links: goal lists that share their rest.
-ghost use Rattle.std.specs.Prelude.{◌≡◌, ◌+◌, ◌≤◌, max, [], ◌∷◌, ◌++◌, length, IfOk, OnOk, OnErr};
+ghost use Rattle.std.specs.Prelude.{◌≡◌, ◌+◌, ◌≤◌, [], ◌∷◌, ◌++◌, length, IfOk, OnOk, OnErr};
 ghost use Rattle.pllinks.specs.Links.{IsDone, Numbers, alone, level_in, slots_in, top_at, slots_at, link_to, list_at};
 
 use crate::item::{Item, Run};
@@ -79,20 +79,6 @@ pub fn slots_of(links: &[Link], list: u32) -> u32
     links[list as usize - 1].slots
 }
 
-/// The higher one of two levels.
-fn higher(a: u64, b: u64) -> u64
-    ensures { result ≡ max a b }
-{
-    if a < b { b } else { a }
-}
-
-/// The greater one of two counts of slots.
-fn greater(a: u32, b: u32) -> u32
-    ensures { result ≡ max a b }
-{
-    if a < b { b } else { a }
-}
-
 /// A new list: an item before a list that is there. It gives the list's number.
 pub fn push_link(links: &mut Vec<Link>, item: Item, rest: u32) -> Result<u32, AllocError>
     requires { rest ≤ length links.old.items }
@@ -104,8 +90,8 @@ pub fn push_link(links: &mut Vec<Link>, item: Item, rest: u32) -> Result<u32, Al
     if number >= u32::MAX as usize {
         return Err(AllocError);
     }
-    let top = higher(level_of(item), top_of(links, rest));
-    let slots = greater(slots_for(item), slots_of(links, rest));
+    let top = level_of(item).max(top_of(links, rest));
+    let slots = slots_for(item).max(slots_of(links, rest));
     links.push(Link {
         item,
         next: rest,

@@ -27,8 +27,7 @@ impl Stack {
         requires { floor ≡ (held (reverse self.old.frames)).marks.links }
         ensures { GivesBack self.old self.new }
     {
-        let visited = self.goals.rest as usize;
-        let keep = if visited < floor { floor } else { visited };
+        let keep = (self.goals.rest as usize).max(floor);
         if keep < self.links.len() {
             self.links.truncate(keep);
         }
