@@ -11,6 +11,7 @@ use crate::callable::read_arguments;
 use platoms::names::Functor;
 use plcells::cell::Cell;
 use plcells::heap::Heap;
+use plterm::term::ARITY;
 use std::alloc::{AllocError, Global};
 
 /// What a term with further arguments is.
@@ -25,9 +26,6 @@ pub enum Extended {
     /// There would be more than 1,024 arguments.
     TooLong,
 }
-
-/// The most arguments of a compound.
-const MOST: usize = 1024;
 
 /// The first arguments of a block, so many as it has.
 fn arguments(heap: &Heap, alloc: Global, p: u32, count: u16) -> Result<Vec<Cell>, AllocError>
@@ -86,7 +84,7 @@ pub fn with_arguments(
         }
         Cell::Str(p) => {
             let (f, count) = heap.block(p);
-            if count as usize + further.len() > MOST {
+            if count as usize + further.len() > ARITY {
                 return Ok(Extended::TooLong);
             }
             let name = heap.names().functor_of(f).name;

@@ -7,17 +7,17 @@ use Rattle.plgoals.proofs.Shapes.{end-variable}
 use Rattle.plgoals.proofs.Joining.{arguments-length, extends-compound, extends-long, extends-variable}
 use Rattle.plgoals.proofs.extend.with_arguments.Goals as goal
 
-pub returns-then-count-further-gt-MOST-clause-is : goal.returns-then-count-further-gt-MOST-clause-is
-returns-then-count-further-gt-MOST-clause-is c =
+pub returns-then-count-further-gt-ARITY-clause-is : goal.returns-then-count-further-gt-ARITY-clause-is
+returns-then-count-further-gt-ARITY-clause-is c =
     let h = c.args.heap.now in
     let is = sym c.in-Str.ensures.same ∙ c.block-f.ensures.block.is in
-    extends-long h h c.args.v _ c.in-Str.p c.block-f.result.1 c.args.further.now is (omega (arith, c.if-count-further-gt-MOST.true))
+    extends-long h h c.args.v _ c.in-Str.p c.block-f.result.1 c.args.further.now is (omega (arith, c.if-count-further-gt-ARITY.true))
 
-pub returns-then-count-further-gt-MOST-clause-adds : goal.returns-then-count-further-gt-MOST-clause-adds
-returns-then-count-further-gt-MOST-clause-adds c = adds-none c.args.heap.now
+pub returns-then-count-further-gt-ARITY-clause-adds : goal.returns-then-count-further-gt-ARITY-clause-adds
+returns-then-count-further-gt-ARITY-clause-adds c = adds-none c.args.heap.now
 
-pub returns-then-count-further-gt-MOST-clause-preserves : goal.returns-then-count-further-gt-MOST-clause-preserves
-returns-then-count-further-gt-MOST-clause-preserves c = Preserves-refl c.args.heap.now
+pub returns-then-count-further-gt-ARITY-clause-preserves : goal.returns-then-count-further-gt-ARITY-clause-preserves
+returns-then-count-further-gt-ARITY-clause-preserves c = Preserves-refl c.args.heap.now
 
 pub returns-in_err-own-in-Str-clause-preserves : goal.returns-in_err-own-in-Str-clause-preserves
 returns-in_err-own-in-Str-clause-preserves c = Preserves-refl c.args.heap.now
@@ -44,7 +44,7 @@ returns-in-Ref-clause-is c =
 pub join-requires-in-Str-clause-few : goal.join-requires-in-Str-clause-few
 join-requires-in-Str-clause-few c =
     let h = c.args.heap.now in
-    omega (arith, arguments-length h c.in-Str.p c.block-f.result.1 c.in_ok-own-in-Str.own.items c.in_ok-own-in-Str.ensures, c.if-count-further-gt-MOST.false)
+    omega (arith, arguments-length h c.in-Str.p c.block-f.result.1 c.in_ok-own-in-Str.own.items c.in_ok-own-in-Str.ensures, c.if-count-further-gt-ARITY.false)
 
 pub returns-in_ok-made-in-Str-clause-is : goal.returns-in_ok-made-in-Str-clause-is
 returns-in_ok-made-in-Str-clause-is c =
@@ -54,4 +54,4 @@ returns-in_ok-made-in-Str-clause-is c =
     let p = c.in-Str.p in
     let named : atom_at h.names c.functor_of-name.result.name ≡ functor_name h.names f = ap (λ x. atom_at h.names x.name) (c.functor_of-name.ensures.is ∙ ap (λ t. functor_at t f) c.names.ensures) in
     let is = sym c.in-Str.ensures.same ∙ c.block-f.ensures.block.is ∙ ap (λ s. compound s (trees (terms h (suc p) k))) (sym named) in
-    extends-compound h c.join-in-Str.new.heap c.args.v _ p k c.args.further.now is c.in_ok-made-in-Str.made c.in_ok-own-in-Str.own.items c.in_ok-own-in-Str.ensures (omega (arith, c.if-count-further-gt-MOST.false)) c.in_ok-made-in-Str.ensures.ok
+    extends-compound h c.join-in-Str.new.heap c.args.v _ p k c.args.further.now is c.in_ok-made-in-Str.made c.in_ok-own-in-Str.own.items c.in_ok-own-in-Str.ensures (omega (arith, c.if-count-further-gt-ARITY.false)) c.in_ok-made-in-Str.ensures.ok
