@@ -6,7 +6,7 @@ ghost use Rattle.plstack.specs.Frames.{AreOlder};
 ghost use Rattle.plstack.specs.State.{cases_of, AtHandler, HasBranch, HasHandler, IsList, Recovers, Retries};
 
 use crate::frame::{Frame, Handling, Marks, Resume};
-use crate::open::count_up;
+use crate::open::{count_up, push_frame};
 use crate::stack::Stack;
 use pllinks::link::Continuation;
 
@@ -54,10 +54,7 @@ impl Stack {
         self.links.truncate(point.marks.links);
         self.saved.truncate(point.marks.saved);
         self.goals = Continuation::alone(0);
-        match self.frames.push(Frame::Open(point, Resume::Catch(catcher))) {
-            Ok(()) => {}
-            Err(_) => unreachable!(),
-        }
+        push_frame(&mut self.frames, Frame::Open(point, Resume::Catch(catcher)));
         Handling {
             catcher,
             list: point.list,

@@ -1,5 +1,5 @@
 //! Cases that are opened and closed.
-ghost use Rattle.std.specs.Prelude.{◌≡◌, ◌+◌, ◌<◌, [], ◌∷◌, ◌++◌, reverse, IfNone, IfSome, OnErr, OnOk, vec_capacity, vec_len};
+ghost use Rattle.std.specs.Prelude.{◌≡◌, ◌+◌, ◌<◌, ◌≤◌, [], ◌∷◌, ◌++◌, reverse, IfNone, IfSome, OnErr, OnOk, vec_capacity, vec_len};
 ghost use Rattle.plsearch.specs.Types.{Choice};
 ghost use Rattle.plstack.specs.Places.{Statics, kept};
 ghost use Rattle.plstack.specs.Frames.{IsResume};
@@ -69,10 +69,7 @@ impl Stack {
             links: self.links.len(),
             saved: self.saved.len(),
         };
-        match self.frames.push(Frame::Open(Point { marks, list }, resume)) {
-            Ok(()) => {}
-            Err(_) => unreachable!(),
-        }
+        push_frame(&mut self.frames, Frame::Open(Point { marks, list }, resume));
         self.depth += 1;
         Ok(())
     }
@@ -116,10 +113,7 @@ impl Stack {
             Frame::Open(_, resume) => Some(closed_as(resume)),
             Frame::Plain(n) => {
                 if n > 1 {
-                    match self.frames.push(Frame::Plain(n - 1)) {
-                        Ok(()) => return Some(Closed::Choice),
-                        Err(_) => unreachable!(),
-                    }
+                    push_frame(&mut self.frames, Frame::Plain(n - 1));
                 }
                 Some(Closed::Choice)
             }
@@ -139,11 +133,12 @@ fn closed_as(resume: Resume) -> Closed
     }
 }
 
-/// One more frame, and room for another.
-fn push_frame(frames: &mut Vec<Frame>, frame: Frame)
-    requires room { vec_len frames.old + 1 < vec_capacity frames.old }
+/// One more frame, where there is room for it.
+pub(crate) fn push_frame(frames: &mut Vec<Frame>, frame: Frame)
+    requires room { vec_len frames.old < vec_capacity frames.old }
     ensures is { frames.new.items ≡ frames.old.items ++ frame ∷ [] }
-    ensures room { vec_len frames.new < vec_capacity frames.new }
+    ensures len { vec_len frames.new ≡ vec_len frames.old + 1 }
+    ensures capacity { vec_capacity frames.old ≤ vec_capacity frames.new }
 {
     match frames.push(frame) {
         Ok(()) => {}
@@ -158,20 +153,11 @@ pub(crate) fn count_up(frames: &mut Vec<Frame>, n: u64)
     ensures { CountsUp n (reverse frames.old.items) (reverse frames.new.items) }
 {
     match frames.pop() {
-        Some(Frame::Plain(m)) if m <= u64::MAX - n => match frames.push(Frame::Plain(m + n)) {
-            Ok(()) => {}
-            Err(_) => unreachable!(),
-        },
-        Some(frame) => match frames.push(frame) {
-            Ok(()) => match frames.push(Frame::Plain(n)) {
-                Ok(()) => {}
-                Err(_) => unreachable!(),
-            },
-            Err(_) => unreachable!(),
-        },
-        None => match frames.push(Frame::Plain(n)) {
-            Ok(()) => {}
-            Err(_) => unreachable!(),
-        },
+        Some(Frame::Plain(m)) if m <= u64::MAX - n => push_frame(frames, Frame::Plain(m + n)),
+        Some(frame) => {
+            push_frame(frames, frame);
+            push_frame(frames, Frame::Plain(n));
+        }
+        None => push_frame(frames, Frame::Plain(n)),
     }
 }

@@ -18,10 +18,10 @@ returns-in-Open-clause-some c = λ statics.
     let e = c.in-Some.ensures.items ∙ ap (λ f. c.pop.new.self.items ++ f ∷ []) c.in-Open.is in
     rw (← c.self.view_is, c.closed_as.ensures) (closed-open statics (inside c.self.inside) c.pop.new.self.items _ c.in-Open.resume e)
 
-pub returns-in-Ok-clause-some : goal.returns-in-Ok-clause-some
-returns-in-Ok-clause-some c = λ statics.
+pub returns-then-n-gt1-clause-some : goal.returns-then-n-gt1-clause-some
+returns-then-n-gt1-clause-some c = λ statics.
     let e = c.in-Some.ensures.items ∙ ap (λ f. c.pop.new.self.items ++ f ∷ []) c.in-Plain.is in
-    rw (← c.self.view_is) ([], closed-plain statics (inside c.self.inside) c.pop.new.self.items c.push.new.self.items c.in-Plain.n e c.if-n-gt1.true c.in-Ok.ensures.items, λ not n m. refl)
+    rw (← c.self.view_is) ([], closed-plain statics (inside c.self.inside) c.pop.new.self.items c.push_frame.new.frames.items c.in-Plain.n e c.if-n-gt1.true c.push_frame.ensures.is, λ not n m. refl)
 
 pub returns-else-n-gt1-clause-some : goal.returns-else-n-gt1-clause-some
 returns-else-n-gt1-clause-some c = λ statics.

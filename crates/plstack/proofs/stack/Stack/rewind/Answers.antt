@@ -14,7 +14,7 @@ invariant_of-self c =
     let p : Point = c.in-Some-Open-default-Catch.point in
     let k : Catcher = c.in-Some-Open-default-Catch.catcher in
     let popped : s.frames ≡ c.pop.new.self.items ++ Open p (resumes.Catch k) ∷ [] = c.in-Some-Open-default-Catch.ensures.items ∙ ap (λ f. c.pop.new.self.items ++ f ∷ []) (c.in-Some-Open-default-Catch.field-0-is ∙ ap (Open p) c.in-Some-Open-default-Catch.field-0-1-is) in
-    let back : c.push.new.self.items ≡ s.frames = c.in-Ok.ensures.items ∙ sym popped in
+    let back : c.push_frame.new.frames.items ≡ s.frames = c.push_frame.ensures.is ∙ sym popped in
     rw (c.undo.ensures, c.truncate.ensures.items, c.truncate-2.ensures.items, c.alone-self-inside.ensures, back) (rewound-stack s c.self.inside.depth c.self.invariant c.pop.new.self.items p k popped)
 
 pub returns-clause-cases : goal.returns-clause-cases
@@ -23,7 +23,7 @@ returns-clause-cases c = λ statics.
     let p : Point = c.in-Some-Open-default-Catch.point in
     let k : Catcher = c.in-Some-Open-default-Catch.catcher in
     let popped : s.frames ≡ c.pop.new.self.items ++ Open p (resumes.Catch k) ∷ [] = c.in-Some-Open-default-Catch.ensures.items ∙ ap (λ f. c.pop.new.self.items ++ f ∷ []) (c.in-Some-Open-default-Catch.field-0-is ∙ ap (Open p) c.in-Some-Open-default-Catch.field-0-1-is) in
-    let back : c.push.new.self.items ≡ s.frames = c.in-Ok.ensures.items ∙ sym popped in
+    let back : c.push_frame.new.frames.items ≡ s.frames = c.push_frame.ensures.is ∙ sym popped in
     rw (← c.self.view_is) (rw (c.undo.ensures, c.truncate.ensures.items, c.truncate-2.ensures.items, c.alone-self-inside.ensures, back) (rewound-cases s c.self.inside.depth c.self.invariant c.pop.new.self.items p k popped statics))
 
 pub returns-clause-at : goal.returns-clause-at
@@ -32,5 +32,5 @@ returns-clause-at c =
     let p : Point = c.in-Some-Open-default-Catch.point in
     let k : Catcher = c.in-Some-Open-default-Catch.catcher in
     let popped : s.frames ≡ c.pop.new.self.items ++ Open p (resumes.Catch k) ∷ [] = c.in-Some-Open-default-Catch.ensures.items ∙ ap (λ f. c.pop.new.self.items ++ f ∷ []) (c.in-Some-Open-default-Catch.field-0-is ∙ ap (Open p) c.in-Some-Open-default-Catch.field-0-1-is) in
-    let back : c.push.new.self.items ≡ s.frames = c.in-Ok.ensures.items ∙ sym popped in
+    let back : c.push_frame.new.frames.items ≡ s.frames = c.push_frame.ensures.is ∙ sym popped in
     rw (c.undo.ensures, c.truncate.ensures.items, c.truncate-2.ensures.items, c.alone-self-inside.ensures, back) (rewound-at s c.self.inside.depth c.self.invariant c.pop.new.self.items p k popped)
