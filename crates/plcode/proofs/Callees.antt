@@ -19,7 +19,8 @@ use Rattle.plcode.specs.declared.clause.ClauseCode.{ClauseCode}
 use Rattle.plcode.specs.Steps.{Text}
 use Rattle.plcode.specs.Clauses.{AreCodeOf, AreProcedures}
 use Rattle.plcode.specs.Callees.{IsNumber, IsNumbered, same_number, is_of, found, callee_at, of_kind, row_callee, of_clauses, statics, AreEntries, callee_in, IsCallee}
-use Rattle.plcode.proofs.Numbers.{number_is, number_refl, indicator_is, indicator_same, number_one, procedure_one, IsNumbered-more}
+use Rattle.plprogram.proofs.Procedures.{indicator_is}
+use Rattle.plcode.proofs.Numbers.{number_is, number_refl, indicator_same, number_one, procedure_one, IsNumbered-more}
 
 -- ---- entries by number
 

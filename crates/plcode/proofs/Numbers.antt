@@ -32,15 +32,6 @@ pub number_refl : (n : Number) → same_number n n ≡ true
 number_refl (Atom a) = eq_refl a
 number_refl (Functor f) = eq_refl f
 
-pub indicator_is : (p q : Indicator) → same_indicator p q ≡ true → p ≡ q
-indicator_is p q e =
-    let both = both_true (bytes_eq p.name q.name) (p.arity == q.arity) e in
-    let name : p.name ≡ q.name = (bytes_eq-Decides p.name q.name).0 both.0 in
-    let arity : p.arity ≡ q.arity = eqb-true p.arity q.arity both.1 in
-    let P : List ℕ → Indicator = λ s. record { name = s; arity = p.arity } in
-    let Q : ℕ → Indicator = λ k. record { name = q.name; arity = k } in
-    ap P name ∙ ap Q arity
-
 and_true : (a b : Bool) → a ≡ true → b ≡ true → (a && b) ≡ true
 and_true true true e f = refl
 and_true true false e f = cc

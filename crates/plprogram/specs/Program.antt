@@ -1,5 +1,5 @@
 -- A loaded program as contracts see it.
-use Rattle.std.specs.Prelude.{ℕ, if◌then◌else◌, List, [], ◌∷◌, ◌++◌, Option, Some, None, fold, refl}
+use Rattle.std.specs.Prelude.{◌≡◌, ℕ, if◌then◌else◌, List, [], ◌∷◌, ◌++◌, Option, Some, None, fold, refl}
 use Rattle.std.specs.Coded.{Coded, code_by, coded×, coded_list, coded_ℕ}
 use Rattle.plterm.specs.Tree.{Tree}
 use Rattle.plterm.specs.Reading.{tree_code}
@@ -53,6 +53,16 @@ with_clause es c = with_entry es (indicator c.head) c
 
 abbrev pub procedures_of : List Clause → List (Indicator × List Clause)
 procedures_of cs = fold with_clause [] cs
+
+-- clauses of a procedure: their heads have its name and so many arguments
+abbrev pub AreOf : Indicator → List Clause → Type 0
+AreOf p [] = Unit {0}
+AreOf p (c ∷ cs) = (indicator c.head ≡ p) × AreOf p cs
+
+-- each procedure has clauses of its own
+abbrev pub AreOwn : List (Indicator × List Clause) → Type 0
+AreOwn [] = Unit {0}
+AreOwn (e ∷ es) = AreOf e.0 e.1 × AreOwn es
 
 -- the program with one more goal of main, behind those of the text
 abbrev pub with_goal : Program → Option Tree → Program

@@ -1,6 +1,6 @@
 //! Loaded programs.
 ghost use Rattle.std.specs.Prelude.{◌≡◌, ◌<◌, [], Some, length, slice_get, OnOk, IfOk};
-ghost use Rattle.plprogram.specs.Program.{clauses_in, clauses_for, with_clause, with_goal};
+ghost use Rattle.plprogram.specs.Program.{clauses_in, clauses_for, with_clause, with_goal, AreOf};
 
 use crate::settings::{Settings, Unknown};
 use indexmap::IndexMap;
@@ -25,13 +25,15 @@ impl Model for Procedures {
     ghost use Rattle.std.specs.Prelude.{List, map};
     ghost use Rattle.plterm.specs.declared.indicator.Indicator.{Indicator};
     ghost use Rattle.plclause.specs.Clause.{Clause};
-    ghost use Rattle.plprogram.specs.Program.{procedures_code};
+    ghost use Rattle.plprogram.specs.Program.{procedures_code, AreOwn};
 
     ghost Value = { List (Indicator × List Clause) };
 
     ghost coded = { procedures_code };
 
     ghost view = { λ a. map (λ e. (e.0, e.1.items)) a.entries.entries };
+
+    ghost invariant = { λ a. AreOwn (map (λ e. (e.0, e.1.items)) a.entries.entries) };
 }
 
 impl Procedures {
@@ -65,7 +67,8 @@ impl Procedures {
     /// The procedure at a place, with its clauses in text order.
     fn at(&self, index: usize) -> (&Indicator, &[Clause])
         requires { index < length self.now }
-        ensures { slice_get self.now index ≡ Some (result.0.now, result.1.now) }
+        ensures is { slice_get self.now index ≡ Some (result.0.now, result.1.now) }
+        ensures own { AreOf result.0.now result.1.now }
     {
         let Some((indicator, clauses)) = self.entries.get_index(index) else {
             unreachable!()
@@ -86,8 +89,10 @@ impl Procedures {
             None => {
                 let mut clauses = Vec::new(alloc);
                 clauses.push(clause)?;
-                self.entries.insert(indicator, clauses)?;
-                Ok(())
+                match self.entries.insert(indicator, clauses) {
+                    Ok(_) => Ok(()),
+                    Err(_) => Err(AllocError),
+                }
             }
         }
     }
@@ -170,7 +175,8 @@ impl Program {
     /// The static procedure at a place, by their first clauses, with its clauses in text order.
     pub fn procedure_at(&self, index: usize) -> (&Indicator, &[Clause])
         requires { index < length self.now.procedures }
-        ensures { slice_get self.now.procedures index ≡ Some (result.0.now, result.1.now) }
+        ensures is { slice_get self.now.procedures index ≡ Some (result.0.now, result.1.now) }
+        ensures own { AreOf result.0.now result.1.now }
     {
         self.procedures.at(index)
     }

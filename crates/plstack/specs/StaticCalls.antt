@@ -1,8 +1,10 @@
 -- Calls of static procedures.
 use Rattle.std.specs.Prelude.{◌≡◌, ℕ, ◌+◌, ◌<◌, ◌≤◌, Option, Some, None, List, [], ◌∷◌, ◌++◌, length, drop, get_or}
 use Rattle.plterm.specs.Tree.{Tree}
+use Rattle.plterm.specs.declared.indicator.Indicator.{Indicator}
 use Rattle.plsubst.specs.Subst.{bind}
 use Rattle.plclause.specs.Clause.{Clause}
+use Rattle.plprogram.specs.Program.{Program}
 use Rattle.plsearch.specs.Types.{Place, Case, Choice}
 use Rattle.plsearch.specs.Lists.{bind_goals}
 use Rattle.plsearch.specs.Rows.{before_rest, is_true}
@@ -19,9 +21,16 @@ use Rattle.plstack.specs.declared.frame.Resume.TheVariants as resumes
 use Rattle.plstack.specs.declared.frame.Frame.{Frame}
 use Rattle.plstack.specs.declared.frame.Frame.TheVariants.{Open}
 use Rattle.plstack.specs.declared.fit.Hit.{Hit}
-use Rattle.plstack.specs.Places.{Statics, called, places_left, kept_values}
+use Rattle.plstack.specs.Places.{Static, Statics, called, places_left, kept_values}
 use Rattle.plstack.specs.Fits.{AreOwn}
 use Rattle.plstack.specs.State.{State, goals_in, goals_of, cases_of, IsList}
+
+abbrev pub static_of : Indicator × List Clause → Static
+static_of e = record { name = e.0.name; clauses = e.1 }
+
+-- the procedures of a program, by their places
+abbrev pub statics_of : Program → Statics
+statics_of P i = static_of (get_or P.procedures i (record { name = []; arity = 0 }, []))
 
 -- the procedures of a program's code, by their places
 pub record AreStatics (m : Compiled) (statics : Statics) : Type 0 where

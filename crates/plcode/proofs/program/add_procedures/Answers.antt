@@ -27,7 +27,7 @@ loop-index-preserved c =
       extends = Extends-trans c.args.names.now s t i.extends e.extends;
       entries = λ ws h.
           procedure_more s t e.extends i.table c.loop-index.entries.items c.push.new.self.items _ c.in_ok-copied.field-0 c.in_ok-push.ensures.items c.args.program.now.procedures
-          c.loop-index.index c.in-Ok.place entry ws c.procedure_at.ensures c.in-Ok.ensures.1 (i.entries ws h) c.in_ok-copied.ensures e.number c.procedure_callee.ensures;
+          c.loop-index.index c.in-Ok.place entry ws c.procedure_at.ensures.is c.in-Ok.ensures.1 (i.entries ws h) c.in_ok-copied.ensures e.number c.procedure_callee.ensures;
     }
 
 pub returns-clause-entries : goal.returns-clause-entries
