@@ -128,6 +128,32 @@ statics_found c before (ks ∷ kss) (e ∷ es) p h = go (statics_found c (before
         let Q : List (List ClauseCode) → Type 0 = λ v. IsFound c v (clauses_in es p) (callee_in (statics (length (before ++ ks ∷ [])) es) p) in
         subst P len (subst Q all later)
 
+-- the entry that says it stands at the place of the procedure
+abbrev nothing : Indicator × List Clause
+nothing = (record { name = []; arity = 0 }, [])
+
+entry_first : (gone es : List (Indicator × List Clause)) (e : Indicator × List Clause) (i : ℕ) (cs : List Clause) → cs ≡ e.1 → of_clauses (length gone) cs ≡ Static i
+    → get_or (gone ++ e ∷ es) i nothing ≡ e
+entry_first gone es e i [] is k = cc
+entry_first gone es e i (x ∷ xs) is k =
+    let at : length gone ≡ i = cc in
+    ap (λ (n : ℕ). get_or (gone ++ e ∷ es) n nothing) (sym at) ∙ get_or-append_seam gone e es nothing
+
+entry_found : (gone es : List (Indicator × List Clause)) (p : Indicator) (i : ℕ) → callee_in (statics (length gone) es) p ≡ Static i → get_or (gone ++ es) i nothing ≡ (p, clauses_in es p)
+entry_found gone [] p i k = cc
+entry_found gone (e ∷ es) p i k = go (entry_found (gone ++ e ∷ []) es p i) (same_indicator p e.0) refl k
+  where
+    go : (callee_in (statics (length (gone ++ e ∷ [])) es) p ≡ Static i → get_or ((gone ++ e ∷ []) ++ es) i nothing ≡ (p, clauses_in es p))
+        → (b : Bool) → same_indicator p e.0 ≡ b → (if b then of_clauses (length gone) e.1 else callee_in (statics (suc (length gone)) es) p) ≡ Static i
+        → get_or (gone ++ e ∷ es) i nothing ≡ (p, if b then e.1 else clauses_in es p)
+    go later true same k =
+        let with_name : Indicator → Indicator × List Clause = λ q. (q, e.1) in
+        entry_first gone es e i e.1 refl k ∙ ap with_name (sym (indicator_is p e.0 same))
+    go later false same k =
+        let len : suc (length gone) ≡ length (gone ++ e ∷ []) = omega (arith, length-append gone (e ∷ [])) in
+        let P : ℕ → Type 0 = λ n. callee_in (statics n es) p ≡ Static i in
+        ap (λ (v : List (Indicator × List Clause)). get_or v i nothing) (sym (append_assoc gone (e ∷ []) es)) ∙ later (subst P len k)
+
 -- ---- a program's
 
 module _ (c : Text) (kss : List (List ClauseCode)) (P : Program) (procedures : AreProcedures c kss P.procedures) (p : Indicator) where
@@ -135,11 +161,11 @@ module _ (c : Text) (kss : List (List ClauseCode)) (P : Program) (procedures : A
   kind_callee (kinds.Control k) e = e
   kind_callee (kinds.BuiltIn b) e = e
 
-  found_callee : kind_of p.name p.arity ≡ None → (o : Callee) → IsFound c kss (clauses_for P p) o → IsCallee c kss P p o
-  found_callee e (Control k) h = absurd h
-  found_callee e (BuiltIn b) h = absurd h
-  found_callee e (Static i) h = record { free = e; within = h.0; code = h.1; some = h.2 }
-  found_callee e Unknown h = (e, h)
+  found_callee : kind_of p.name p.arity ≡ None → (o : Callee) → callee_in (statics 0 P.procedures) p ≡ o → IsFound c kss (clauses_for P p) o → IsCallee c kss P p o
+  found_callee e (Control k) is h = absurd h
+  found_callee e (BuiltIn b) is h = absurd h
+  found_callee e (Static i) is h = record { free = e; entry = entry_found [] P.procedures p i is; within = h.0; code = h.1; some = h.2 }
+  found_callee e Unknown is h = (e, h)
 
   pub callee_is : IsCallee c kss P p (callee_in (map row_callee rows ++ statics 0 P.procedures) p)
   callee_is = go (kind_of p.name p.arity) refl
@@ -148,7 +174,7 @@ module _ (c : Text) (kss : List (List ClauseCode)) (P : Program) (procedures : A
       go (Some k) e = subst (IsCallee c kss P p) (sym (fixed rows (statics 0 P.procedures) p k e)) (kind_callee k e)
       go None e =
           subst (IsCallee c kss P p) (sym (free rows (statics 0 P.procedures) p e))
-          (found_callee e (callee_in (statics 0 P.procedures) p) (statics_found c [] kss P.procedures p procedures))
+          (found_callee e (callee_in (statics 0 P.procedures) p) refl (statics_found c [] kss P.procedures p procedures))
 
 -- ---- more of them
 

@@ -2,6 +2,7 @@
 use Rattle.std.proofs.Common.{List, [], ◌∷◌, ◌++◌}
 use Rattle.plterm.specs.declared.indicator.Indicator.{Indicator}
 use Rattle.plclause.specs.Clause.{Clause}
+use Rattle.plprogram.specs.Program.{AreOf, AreOwn}
 use Rattle.plsearch.specs.Forms.{arguments}
 use Rattle.plcode.specs.declared.clause.ClauseCode.{ClauseCode}
 use Rattle.plcode.specs.Steps.{Text, Extended}
@@ -49,3 +50,7 @@ module _ (c : Text) where
   AreProcedures-put [] (f ∷ fs) ks e h is = absurd h
   AreProcedures-put (js ∷ kss) [] ks e h is = absurd h
   AreProcedures-put (js ∷ kss) (f ∷ fs) ks e h is = (h.0, AreProcedures-put kss fs ks e h.1 is)
+
+pub AreOwn-put : (es : List (Indicator × List Clause)) (e : Indicator × List Clause) → AreOwn es → AreOf e.0 e.1 → AreOwn (es ++ e ∷ [])
+AreOwn-put [] e h is = (is, tt)
+AreOwn-put (f ∷ fs) e h is = (h.0, AreOwn-put fs e h.1 is)

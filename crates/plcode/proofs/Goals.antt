@@ -123,7 +123,7 @@ found_named (r ∷ rs) s k kind n all is e =
     let both = both_true (named_so r) (list_all named_so rs) all in
     by_row s k kind n r rs is both.0 (found_named rs s k kind n both.1 is) (bytes_eq s r.name) (k == r.arity) refl e
 
-holder_named : (s : List ℕ) (k : ℕ) (kind : Kind) (n : List ℕ) → holder_name kind ≡ Some n → kind_of s k ≡ Some kind → s ≡ n
+pub holder_named : (s : List ℕ) (k : ℕ) (kind : Kind) (n : List ℕ) → holder_name kind ≡ Some n → kind_of s k ≡ Some kind → s ≡ n
 unfolding rows
 holder_named s k kind n is e = found_named rows s k kind n refl is e
 

@@ -18,3 +18,5 @@ pub mod Indexing
 pub mod Numbers
 pub mod Callees
 pub mod Programs
+pub mod Converted
+pub mod Bound

@@ -8,7 +8,7 @@ use Rattle.platoms.specs.Names.{Table}
 use Rattle.plcode.specs.declared.node.Node.{Node}
 use Rattle.plcode.specs.declared.op.Op.TheVariants as ops
 use Rattle.plcode.specs.declared.op.Step.{Step}
-use Rattle.plcode.specs.Steps.{Text, ends, paired, joined, behind, goal, meaning, with_meaning, meanings, goals_from}
+use Rattle.plcode.specs.Steps.{Text, ends, paired, joined, behind, goal, meaning, with_meaning, meanings, step_at, goals_from}
 
 abbrev pub nowhere : Step
 nowhere = record { op = ops.Proceed; conjunctions = 0; goal = 0 }
@@ -95,3 +95,8 @@ pub meaning-ends : (t : Table) (nodes : List Node) (below : List (List Tree)) (s
 meaning-ends t nodes below s owed end =
     let all : List Tree = joined (s.conjunctions - owed) (goal t nodes below s.op s.goal ∷ behind below) in
     ap (λ (b : Bool). if b then [] else all) end
+
+-- past the last step no goals are left
+pub goals-past : (c : Text) (p : ℕ) → ends (step_at c p).op ≡ true → goals_from c p 0 ≡ []
+unfolding goals_from
+goals-past c p end = meaning-ends c.names c.nodes (meanings c.names c.nodes (take p c.steps)) (step_at c p) 0 end

@@ -1,7 +1,8 @@
 -- The entries of a program, and its code under more names.
-use Rattle.std.proofs.Common.{◌≡◌, ℕ, ◌+◌, ◌<◌, Some, Bool, true, false, refl, List, [], ◌∷◌, ◌++◌, length, map, take, get_or, subst, ap, ◌∙◌, sym, arith, append_assoc, length-take, Bor}
+use Rattle.std.proofs.Common.{◌≡◌, ℕ, ◌+◌, ◌<◌, ◌≤◌, Some, Bool, true, false, inl, inr, refl, List, [], ◌∷◌, ◌++◌, length, map, take, get_or, subst, ap, ◌∙◌, sym, arith, append_assoc, length-take, Bor}
 use Rattle.std.specs.List.{slice_get}
-use Rattle.std.proofs.lemmas.List.{map-append, map_more, take_more}
+use Rattle.std.proofs.lemmas.List.{get_or_past, map-append, map_more, take_more}
+use Rattle.std.proofs.lemmas.Bool.{cases_lt}
 use Rattle.std.proofs.lemmas.Option.{slice_get_within, get_or_from_slice_get}
 use Rattle.plterm.specs.declared.indicator.Indicator.{Indicator}
 use Rattle.plclause.specs.Clause.{Clause}
@@ -16,11 +17,13 @@ use Rattle.plcode.specs.declared.callee.Number.{Number}
 use Rattle.plcode.specs.declared.callee.Entry.{Entry}
 use Rattle.plcode.specs.declared.callee.Callees.{Callees}
 use Rattle.plcode.specs.declared.clause.ClauseCode.{ClauseCode}
-use Rattle.plcode.specs.Steps.{Text, renamed, ends, step_at, goals_from}
+use Rattle.plcode.specs.Steps.{Text, renamed, ends, step_at, goals_from, Meets}
 use Rattle.plcode.specs.Bodies.{IsCode}
 use Rattle.plcode.specs.Clauses.{AreProcedures}
 use Rattle.plcode.specs.Callees.{IsNumber, IsNumbered, found, callee_at, of_kind, row_callee, of_clauses, statics, AreEntries, IsCallee, Compiled, IsProgramCode}
 use Rattle.platoms.proofs.Extending.{Extends-trans}
+use Rattle.plcode.specs.declared.op.Step.{Step}
+use Rattle.plcode.proofs.Meanings.{nowhere, goals-past}
 use Rattle.plcode.proofs.Stays.{names_code, names_extended}
 use Rattle.plcode.proofs.Clauses.{AreProcedures-more}
 use Rattle.plcode.proofs.Callees.{AreEntries-more, AreEntries-put, found_is, callee_is, statics_last}
@@ -62,6 +65,16 @@ module _ (s t : Table) (more : Extends s t) (table : IsTable s) (es new : List E
 
 -- ---- the code of a program
 
+-- what the step at a place says; past the last one stands the end of a sequence
+pub meets_at : (c : Text) → IsCode c → (place : ℕ) → Meets c place (step_at c place)
+meets_at c code place = elim (cases_lt place (length c.steps)) [ inl lt ↦ code.steps place lt | inr ge ↦ past ge ]
+  where
+    past : length c.steps ≤ place → Meets c place (step_at c place)
+    past ge =
+        let is : step_at c place ≡ nowhere = get_or_past c.steps place nowhere ge in
+        let end : ends (step_at c place).op ≡ true = ap (λ (s : Step). ends s.op) is in
+        record { none = λ e. goals-past c place end; runs = λ e. absurd (cc (end, e)) }
+
 -- the lowest place is the end of a sequence: no place stands behind it
 pub goals-end : (c : Text) → IsCode c → goals_from c 0 0 ≡ []
 goals-end c code = go (ends (step_at c 0).op) refl
@@ -91,6 +104,7 @@ pub IsProgramCode-more : (P : Program) (m : Compiled) (t : Table) → Extends m.
     → IsProgramCode P (record { text = renamed t m.text; procedures = m.procedures; callees = m.callees })
 IsProgramCode-more P m t more table h = record {
   code = names_code m.text t more h.code table;
+  own = h.own;
   procedures = procedures_more P m.text m.procedures h.code h.procedures t more;
   callees = λ u further grown n p number. h.callees u (Extends-trans m.text.names t u more further) grown n p number;
 }

@@ -6,7 +6,7 @@ use Rattle.plnames.specs.declared.kind.Kind.{Kind}
 use Rattle.plnames.specs.declared.kind.Kind.TheVariants as kinds
 use Rattle.plnames.specs.Names.{Row, kind_of}
 use Rattle.plclause.specs.Clause.{Clause}
-use Rattle.plprogram.specs.Program.{Program, clauses_for}
+use Rattle.plprogram.specs.Program.{Program, clauses_for, AreOwn}
 use Rattle.platoms.specs.Names.{Table, IsTable, Extends, HasAtom}
 use Rattle.plcode.specs.declared.callee.Callee.{Callee}
 use Rattle.plcode.specs.declared.callee.Callee.TheVariants.{Control, BuiltIn, Static, Unknown}
@@ -84,9 +84,10 @@ callee_in (w ∷ ws) p = if same_indicator p w.0 then w.1 else callee_in ws p
 
 -- ---- the code of a program
 
--- a procedure of a program's text, with its code
+-- a procedure of a program's text, by its place, with its code
 pub record IsStatic (c : Text) (kss : List (List ClauseCode)) (P : Program) (p : Indicator) (i : ℕ) : Type 0 where
   pub free : kind_of p.name p.arity ≡ None
+  pub entry : get_or P.procedures i (record { name = []; arity = 0 }, []) ≡ (p, clauses_for P p)
   pub within : i < length kss
   pub code : AreCodeOf c (get_or kss i []) (clauses_for P p)
   pub some : clauses_for P p ≡ [] → ⊥
@@ -104,9 +105,11 @@ pub record Compiled : Type 0 where
   pub procedures : List (List ClauseCode)
   pub callees : Callees
 
--- the code of a program: its procedures, in their order, and for each number, also of names that come later, what is called by it
+-- the code of a program: its procedures, in their order, each with clauses of its own, and for each number, also of names that come
+-- later, what is called by it
 pub record IsProgramCode (P : Program) (m : Compiled) : Type 0 where
   pub code : IsCode m.text
+  pub own : AreOwn P.procedures
   pub procedures : AreProcedures m.text m.procedures P.procedures
   pub callees : (t : Table) → Extends m.text.names t → IsTable t → (n : Number) (p : Indicator) → IsNumber t n p
       → IsCallee (renamed t m.text) m.procedures P p (callee_at m.callees n)

@@ -4,6 +4,8 @@ pub mod Laying
 pub mod Steps
 pub mod Bodies
 pub mod Goals
+pub mod Converted
+pub mod Bound
 pub mod Keys
 pub mod Clauses
 pub mod Index

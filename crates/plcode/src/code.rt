@@ -1,12 +1,12 @@
 //! The nodes and steps of clauses.
-ghost use Rattle.std.specs.Prelude.{◌≡◌, ◌<◌, length};
+ghost use Rattle.std.specs.Prelude.{◌≡◌};
 ghost use Rattle.platoms.specs.Names.{Table};
 ghost use Rattle.plcode.specs.Steps.{step_at, text, text_of, Meets};
 ghost use Rattle.plcode.specs.Bodies.{IsCode};
 
 use crate::draft::Draft;
 use crate::node::Node;
-use crate::op::Step;
+use crate::op::{Op, Step};
 use platoms::names::Names;
 
 /// The nodes and steps of clauses, whose names are in a table beside them.
@@ -29,13 +29,16 @@ impl Code {
         (Code { nodes, steps }, names)
     }
 
-    /// The step at a place; the one behind it stands at the place before.
+    /// The step at a place, and past the last one the end of a sequence; the one behind it stands at the place before.
     pub fn step(&self, place: u32) -> Step
-        requires { place < length self.now.steps.items }
         ensures is { (t : Table) → result ≡ step_at (text_of t self.now) place }
         ensures meets { (t : Table) → IsCode (text_of t self.now) → Meets (text_of t self.now) place result }
     {
-        self.steps[place as usize]
+        self.steps.get(place as usize).copied().unwrap_or(Step {
+            op: Op::Proceed,
+            conjunctions: 0,
+            goal: 0,
+        })
     }
 
     /// The nodes.

@@ -1,5 +1,6 @@
 //! The code of a program's static procedures.
 ghost use Rattle.std.specs.Prelude.{IfOk, OnOk};
+ghost use Rattle.plprogram.specs.Program.{AreOwn};
 ghost use Rattle.plcode.specs.Steps.{text, Extended};
 ghost use Rattle.plcode.specs.Bodies.{IsCode};
 ghost use Rattle.plcode.specs.Clauses.{AreCodeOf, AreProcedures};
@@ -43,6 +44,7 @@ pub fn compile_procedures(
     ensures extended { OnOk result (Extended (text code.old) (text code.new)) }
     ensures code { OnOk result (IsCode (text code.new)) }
     ensures procedures { IfOk result (λ made. AreProcedures (text code.new) made.items program.now.procedures) }
+    ensures own { OnOk result (AreOwn program.now.procedures) }
 {
     let mut made = Vec::new(alloc);
     for index in 0..program.procedure_count() {

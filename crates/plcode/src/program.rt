@@ -165,9 +165,8 @@ impl ProgramCode {
         self.procedures.get(place as usize)
     }
 
-    /// The step at a place; the one behind it stands at the place before.
+    /// The step at a place, and past the last one the end of a sequence; the one behind it stands at the place before.
     pub fn step(&self, place: u32) -> Step
-        requires { place < length self.now.text.steps }
         ensures is { result ≡ step_at self.now.text place }
         ensures meets { Meets self.now.text place result }
         ensures code { IsCode self.now.text }

@@ -4,6 +4,7 @@ use Rattle.std.specs.List.{flat_map}
 use Rattle.plterm.specs.Tree.{Tree}
 use Rattle.plsubst.specs.Subst.{bind}
 use Rattle.plcells.specs.Store.{Store, IsValue, value}
+use Rattle.plcode.specs.Converted.{AreConverted}
 use Rattle.plsearch.specs.Types.{Kind, Commit, Never, Until, Element, Goal, Marker}
 use Rattle.plenv.specs.Env.{Env, over}
 use Rattle.plenv.specs.Rows.{AllBelowEach}
@@ -39,11 +40,12 @@ elements code e (items.Marker m l) = Marker (marker_of m) l ∷ []
 unfoldable pub all_elements : Goals → Env → List Item → List Element
 all_elements code e = flat_map (elements code e)
 
--- the variables of a run's goals have their slots before `end`
+-- the variables of a run's goals have their slots before `end`, and the goals are converted
 pub record IsRun (code : Goals) (r : Run) : Type 0 where
   pub width : ℕ
   pub below : AllBelowEach width (run_goals code r)
   pub within : r.base + width ≤ r.«end»
+  pub converted : AreConverted (run_goals code r)
 
 -- an item whose slots stand below n, and whose value is one of the heap
 abbrev pub IsItem : Goals → Store → ℕ → Item → Type 0

@@ -3,11 +3,12 @@ use Rattle.std.proofs.lemmas.List.{take_more}
 use Rattle.std.proofs.lemmas.Option.{slice_get_within, get_or_from_slice_get}
 use Rattle.plterm.specs.declared.indicator.Indicator.{Indicator}
 use Rattle.plclause.specs.Clause.{Clause}
+use Rattle.plprogram.specs.Program.{AreOwn}
 use Rattle.plcode.specs.declared.clause.ClauseCode.{ClauseCode}
 use Rattle.plcode.specs.Steps.{text}
 use Rattle.plcode.specs.Clauses.{AreCodeOf, AreProcedures}
 use Rattle.plcode.proofs.Stays.{Extended-trans}
-use Rattle.plcode.proofs.Clauses.{AreProcedures-more, AreProcedures-put}
+use Rattle.plcode.proofs.Clauses.{AreProcedures-more, AreProcedures-put, AreOwn-put}
 use Rattle.plcode.proofs.compile.compile_procedures.Goals as goal
 
 pub loop-index-preserved : goal.loop-index-preserved
@@ -32,4 +33,5 @@ loop-index-preserved c =
           (subst (AreProcedures after (made ++ ks ∷ [])) (sym taken)
           (AreProcedures-put after made (take i es) ks entry (AreProcedures-more before after invariant.code e.extended made (take i es) invariant.procedures)
           (subst One (sym c.in_ok-procedure.ensures) e.clauses)));
+      own = subst AreOwn (sym taken) (AreOwn-put (take i es) entry invariant.own c.procedure_at.ensures.own);
     }

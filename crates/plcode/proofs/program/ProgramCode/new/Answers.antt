@@ -34,6 +34,7 @@ returns-clause-code c =
     let more : Extends d.names s = Extends-trans d.names c.row_entries.new.names s r.extends a.extends in
     record {
       code = invariant_of-result c;
+      own = made.own;
       procedures = procedures_more P d kss is procedures s more;
       callees = callees_of P d kss is procedures c.add_procedures.new.entries.items c.in_ok-callees.callees s more a.table (a.entries (map row_callee rows) r.entries) c.in_ok-callees.ensures;
     }
