@@ -5,13 +5,15 @@ mod Committing
 mod Unified
 pub mod Putting
 pub mod Terms
+pub mod Converting
 mod Gathering
 mod Nodes
 mod Parts
 mod Building
 mod Packing
-mod Rows
+pub mod Rows
 pub mod Cuts
 pub mod Renaming
 pub mod Bounding
+pub mod Lowering
 mod Marking

@@ -1,5 +1,5 @@
 -- How an environment changes.
-use Rattle.std.specs.Prelude.{◌≡◌, ℕ, ◌+◌, ◌<◌, ◌≤◌, max, List, [], ◌∷◌, length, take, nat_lt, Some}
+use Rattle.std.specs.Prelude.{◌≡◌, ℕ, ◌+◌, ◌<◌, ◌≤◌, min, max, List, [], ◌∷◌, ◌++◌, length, take, drop, nat_lt, Some}
 use Rattle.std.specs.List.{filter}
 use Rattle.plterm.specs.Tree.{Tree, var}
 use Rattle.plsubst.specs.Subst.{bind}
@@ -74,6 +74,15 @@ pub record Unifies (old new : Env) (a b : Tree) : Type 0 where
 -- no slots from a place on, but those that are older than a mark in use
 abbrev pub released : ℕ → Env → Env
 released base e = record { heap = e.heap; slots = take (max base e.boundary) e.slots; noted = e.noted; boundary = e.boundary; count = e.count }
+
+-- the slots from `base` on stand from `at` on, and those between are gone
+abbrev pub lowered : ℕ → ℕ → Env → Env
+lowered at base e = record { heap = e.heap; slots = take at e.slots ++ drop base e.slots; noted = e.noted; boundary = e.boundary; count = e.count }
+
+-- the slots from `base` on move down to `keep`, or, where a mark in use is newer than some there, behind those; they stay where that is no lower
+pub record Lowers (keep base : ℕ) (old new : Env) (at : ℕ) : Type 0 where
+  pub moved : new ≡ lowered at base old
+  pub place : at ≡ min base (max keep old.boundary)
 
 -- the same, and no more slots or variables
 pub record Stays (old new : Env) : Type 0 where

@@ -8,7 +8,7 @@ ghost use Rattle.plcells.specs.Store.{value, AreValues, IsFresh, IsHeap, IsValue
 ghost use Rattle.plcells.specs.Putting.{standing};
 ghost use Rattle.plenv.specs.declared.slot.Slot.TheVariants.{Free as FreeSlot};
 ghost use Rattle.plenv.specs.Env.{cut, free_from, freed, noted_if, slot_at, IsEnv, IsMark, IsSlot, IsWithin};
-ghost use Rattle.plenv.specs.Changes.{bounded, older, released, AddsVariables, Commits, Enters, Keeps, Puts, PutsTerm, PutsVariables, Stays, Substitutes, Unifies};
+ghost use Rattle.plenv.specs.Changes.{bounded, older, released, AddsVariables, Commits, Enters, Keeps, Lowers, Puts, PutsTerm, PutsVariables, Stays, Substitutes, Unifies};
 
 use crate::slot::{Mark, Noted, Slot};
 use platoms::names::Names;
@@ -249,6 +249,23 @@ impl Environment {
     {
         let keep = (base as usize).max(self.boundary);
         self.slots.truncate(keep);
+    }
+
+    /// Moves the slots from `base` on down to `keep`, but not below those that are older than a mark in use. Those between are gone. It gives
+    /// the place where the slots begin then: `base`, where that is no higher.
+    pub fn lower(&mut self, keep: u32, base: u32) -> u32
+        requires { base ≤ length self.old.slots }
+        ensures { Lowers keep base self.old self.new result }
+    {
+        let keep = (keep as usize).max(self.boundary);
+        let from = base as usize;
+        if keep >= from {
+            return base;
+        }
+        let count = self.slots.len();
+        self.slots.copy_within(from..count, keep);
+        self.slots.truncate(keep + (count - from));
+        keep as u32
     }
 
     /// The slot of a variable of a clause whose slots begin at a place.

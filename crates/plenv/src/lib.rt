@@ -7,5 +7,6 @@
 
 mod block;
 pub mod env;
+pub mod goals;
 pub mod put;
 pub mod slot;
