@@ -130,7 +130,7 @@ module _ (statics : Statics) (s : State) (d : ℕ) (is : IsStack s d) (m : Marks
       opened-rest s d is m mark now links saved rest there (resumes.Copies c) goal refl e ls goes-on statics frames opens list (record { there = fits.there.there; items = fits.there.items })
       ∙ ap₂ (λ k n. Choice (left_of s k c.goal rest (drop n c.clauses.items)) ∷ cases_of statics s) depth-now next
 
-  pub called-calls : from ≡ 0 → Calls statics s (record { code = s.code; env = e; links = ls; saved = s.saved; frames = frames; goals = list }) c.goal rest c.clauses.items
+  pub called-calls : from ≡ 0 → Calls statics s (record { code = s.code; env = e; links = ls; saved = s.saved; frames = frames; goals = list }) (value s.env.heap c.goal) rest c.clauses.items
   called-calls first = record {
     others = left_of s d c.goal rest (drop (i + 1) c.clauses.items);
     places =
@@ -145,14 +145,27 @@ module _ (s : State) (d : ℕ) (is : IsStack s d) (rest : List Frame) (p : Point
   abbrev before : State
   before = back s d is rest p (resumes.Copies c) popped
 
-  the-call : IsOpen (goals_in s) s.env s.links s.saved p (resumes.Copies c) (reverse rest)
+  pub the-call : IsOpen (goals_in s) s.env s.links s.saved p (resumes.Copies c) (reverse rest)
   the-call = at-frame s d is rest p (resumes.Copies c) popped
 
-  depth-then : (statics : Statics) → deeper (cases_of statics before) 0 ≡ d - 1
+  pub depth-then : (statics : Statics) → deeper (cases_of statics before) 0 ≡ d - 1
   depth-then statics = sym (depth_is statics before (d - 1) (back-stack s d is rest p (resumes.Copies c) popped).1)
 
+  -- its marks are those of then
+  pub mark-then : IsMark p.marks.env (cut p.marks.env s.env)
+  mark-then = IsMark-cut p.marks.env p.marks.env s.env the-call.mark the-call.mark (older-same p)
+
+  pub now-then : cut p.marks.env (cut p.marks.env s.env) ≡ cut p.marks.env s.env
+  now-then = cut-cut p.marks.env p.marks.env s.env (older-same p)
+
+  pub links-then : p.marks.links ≡ length (take p.marks.links s.links)
+  links-then = sym (length-take-le p.marks.links s.links the-call.links_room)
+
+  pub saved-then : p.marks.saved ≡ length (take p.marks.saved s.saved)
+  saved-then = sym (length-take-le p.marks.saved s.saved (omega (arith, the-call.saved_room)))
+
   -- the places that were left are those of the call as things were
-  was-left : (statics : Statics) → cases_of statics s ≡ Choice (left_of before (d - 1) c.goal p.list (drop c.next c.clauses.items)) ∷ cases_of statics before
+  pub was-left : (statics : Statics) → cases_of statics s ≡ Choice (left_of before (d - 1) c.goal p.list (drop c.next c.clauses.items)) ∷ cases_of statics before
   was-left statics =
       popped-cases statics s rest (Open p (resumes.Copies c)) popped
       ∙ ap₂ (λ gs cs. Choice (filter_map (resolve (deeper cs 0) (cut p.marks.env s.env).count (value (cut p.marks.env s.env).heap c.goal) gs) (drop c.next c.clauses.items)) ∷ cs)
@@ -165,18 +178,6 @@ module _ (s : State) (d : ℕ) (is : IsStack s d) (rest : List Frame) (p : Point
   module _ (statics : Statics) (k : Copies) (goal : k.goal ≡ c.goal) (clauses : k.clauses.items ≡ c.clauses.items) (i : ℕ) (next : k.next ≡ i + 1) (e : Env) (ls : List Link) (list : Continuation)
       (fits : FirstFits (back s d is rest p (resumes.Copies c) popped) (record (back s d is rest p (resumes.Copies c) popped) { env = e; links = ls; goals = list }) (d - 1) k.goal p.list k.clauses.items c.next i)
       (frames : List Frame) (opens : OpensRest statics (reverse rest) (reverse frames) (record { marks = p.marks; list = p.list }) (resumes.Copies k)) where
-    mark-then : IsMark p.marks.env (cut p.marks.env s.env)
-    mark-then = IsMark-cut p.marks.env p.marks.env s.env the-call.mark the-call.mark (older-same p)
-
-    now-then : cut p.marks.env (cut p.marks.env s.env) ≡ cut p.marks.env s.env
-    now-then = cut-cut p.marks.env p.marks.env s.env (older-same p)
-
-    links-then : p.marks.links ≡ length (take p.marks.links s.links)
-    links-then = sym (length-take-le p.marks.links s.links the-call.links_room)
-
-    saved-then : p.marks.saved ≡ length (take p.marks.saved s.saved)
-    saved-then = sym (length-take-le p.marks.saved s.saved (omega (arith, the-call.saved_room)))
-
     goal-then : IsValue (cut p.marks.env s.env).heap k.goal
     goal-then = subst (IsValue (cut p.marks.env s.env).heap) (sym goal) the-call.resume
 

@@ -1,9 +1,11 @@
 -- What is left of a call behind a clause, and the clause's body before the rest.
-use Rattle.std.proofs.Common.{◌≡◌, ℕ, ◌+◌, ◌-◌, ◌≤◌, List, [], ◌∷◌, ◌++◌, length, map, refl, sym, ap, ◌∙◌, subst, arith, reverse, Option, Some, None}
+use Rattle.std.proofs.Common.{◌≡◌, ℕ, suc, ◌+◌, ◌-◌, ◌≤◌, List, [], ◌∷◌, ◌++◌, length, map, refl, sym, ap, ◌∙◌, subst, arith, reverse, Option, Some, None}
 use Rattle.plsubst.specs.Subst.{bind}
 use Rattle.plclause.specs.Clause.{Clause}
-use Rattle.plsearch.specs.Types.{Goal}
+use Rattle.plsearch.specs.Types.{Goal, Case}
+use Rattle.plsearch.specs.Engine.{deeper}
 use Rattle.plcode.specs.Clauses.{IsCodeOf}
+use Rattle.plcode.specs.Converted.{AreConverted}
 use Rattle.plenv.specs.Env.{over}
 use Rattle.plenv.specs.Rows.{AllBelowEach}
 use Rattle.pllinks.specs.declared.item.Run.{Run}
@@ -23,7 +25,7 @@ use Rattle.plstack.specs.State.{State, IsStack, goals_in, goals_of, place_of, ca
 use Rattle.plstack.specs.Cutting.{Settles}
 use Rattle.plstack.specs.StaticCalls.{IsCalling, GoesOn}
 use Rattle.plstack.proofs.Frames.{reverse-push}
-use Rattle.plstack.proofs.Stacks.{opened-cases, opened-state, counted, counted-cases, popped-cases, popped-stack}
+use Rattle.plstack.proofs.Stacks.{depth_is, opened-cases, opened-state, counted, counted-cases, popped-cases, popped-stack}
 use Rattle.plstack.proofs.Returning.{at-frame, back-depth}
 use Rattle.plstack.proofs.Lists.{first-elements, done-elements}
 
@@ -96,7 +98,7 @@ module _ (s : State) (d : ℕ) (is : IsStack s d) (hit : Hit) (x : Clause) (code
   own-goals = code.body.goals
 
   own-item : IsItem (goals_in s) s.env.heap (length s.env.slots) (items.Run run)
-  own-item = (record { width = x.variables; below = subst (AllBelowEach x.variables) (sym own-goals) (code.sound.body_below, tt); within = omega (arith, code.variables) }, slots)
+  own-item = (record { width = x.variables; below = subst (AllBelowEach x.variables) (sym own-goals) (code.sound.body_below, tt); within = omega (arith, code.variables); converted = subst AreConverted (sym own-goals) (code.sound.converted_body, tt) }, slots)
 
   pub body-there : IsList s (record { run = record { position = hit.clause.body; owed = 0; base = hit.base; «end» = hit.base + hit.clause.variables; level = level }; rest = behind })
   body-there = record { there = there.there; items = (own-item, there.items.1) }
@@ -107,3 +109,14 @@ module _ (s : State) (d : ℕ) (is : IsStack s d) (hit : Hit) (x : Clause) (code
       first-elements s (items.Run run) (list_at s.links behind)
       ∙ ap (λ ts. map (goal_of s.env run) ts ++ all_elements (goals_in s) s.env (list_at s.links behind)) own-goals
       ∙ ap (λ es. Goal level (bind (over s.env hit.base) x.body) ∷ es) (sym (done-elements s is.0 done (refl, refl) (list_at s.links behind)) ∙ same)
+
+-- another list is visited
+pub goes_visited : (statics : Statics) (s new : State) (l : Continuation) (p : Point) (c : Clauses) (next : Option ℕ) → GoesOn statics (record s { goals = l }) new p c next → GoesOn statics s new p c next
+unfolding cases_of
+goes_visited statics s new l p c next g = record { below = g.below; was = g.was; cases = g.cases }
+
+-- the level of the innermost case
+pub level-of : (statics : Statics) (s t : State) (d : ℕ) → IsStack s d → s ≡ t → (x : Case) (below : List Case) → cases_of statics t ≡ x ∷ below → d - 1 ≡ deeper below 0
+level-of statics s t d is same x below e =
+    let inner : d ≡ suc (deeper below 0) = depth_is statics s d is.1 ∙ ap (λ y. deeper (cases_of statics y) 0) same ∙ ap (λ cs. deeper cs 0) e in
+    omega (arith, inner)

@@ -112,6 +112,7 @@ module _ (s : State) (d : ℕ) (e : Env) (a b : Cell) (u : UnifiesEnv s.env e (v
     values = u.made.values;
     lists = list-unified;
     cases = λ statics. cases-grown (goals_in s) s.env e s.links s.links [] s.saved (sym (append-nil s.links)) u.made.keeps env.heap.names statics (reverse s.frames) is.0.frames;
+    frames = refl;
     count = u.made.count;
     code = refl;
     goals = refl;

@@ -1,5 +1,5 @@
 -- The first clause of a call that fits.
-use Rattle.std.proofs.Common.{◌≡◌, ℕ, zero, suc, ◌+◌, ◌<◌, ◌≤◌, ◌^◌, Bool, List, [], ◌∷◌, length, map, take, drop, get_or, filter_map, option_map, refl, sym, ap, ap₂, ◌∙◌, subst, arith, reverse, append-nil, le_refl, Option, Some, None, slice_index_or}
+use Rattle.std.proofs.Common.{◌≡◌, ℕ, zero, suc, ◌+◌, ◌<◌, ◌≤◌, Bool, List, [], ◌∷◌, length, map, take, drop, get_or, filter_map, option_map, refl, sym, ap, ap₂, ◌∙◌, subst, arith, reverse, append-nil, le_refl, Option, Some, None, slice_index_or}
 use Rattle.std.specs.List.{cons_option}
 use Rattle.std.proofs.lemmas.List.{drop_all}
 use Rattle.plterm.specs.Tree.{Tree, var}
@@ -51,13 +51,13 @@ extends-renamed e t is table more = record {
   keeps = renamed-kept e t more;
 }
 
-drop-split : (i : ℕ) (xs : List Clause) (x : Clause) → take 1 (drop i xs) ≡ x ∷ [] → drop i xs ≡ x ∷ drop (suc i) xs
+pub drop-split : (i : ℕ) (xs : List Clause) (x : Clause) → take 1 (drop i xs) ≡ x ∷ [] → drop i xs ≡ x ∷ drop (suc i) xs
 drop-split zero [] x e = cc
 drop-split zero (y ∷ ys) x e = ap (λ zs. get_or zs 0 x ∷ ys) e
 drop-split (suc i) [] x e = cc
 drop-split (suc i) (y ∷ ys) x e = drop-split i ys x e
 
-place-with : Bool → ℕ → Tree → List Element → ℕ → Place
+unfoldable pub place-with : Bool → ℕ → Tree → List Element → ℕ → Place
 place-with b l t es n = record { goals = before_rest b l t es; variables = n }
 
 module _ (s : State) (d : ℕ) (is : IsStack s d) (p : Point) (c : Clauses) (at : AtCall s p c) where
@@ -83,7 +83,7 @@ module _ (s : State) (d : ℕ) (is : IsStack s d) (p : Point) (c : Clauses) (at 
   pub renamed-stack : (t : Table) → IsTable t → Extends s.env.heap.names t → IsEnv (renamed s.env t) → IsStack (record s { env = renamed s.env t }) d
   renamed-stack t table more env = stack-env s d (renamed s.env t) (extends-renamed s.env t is.0.env table more) env is
 
-  module _ (statics : Statics) (own : AreStatics s.code statics) (key : Key) (key_is : IsFirstKey s.env.heap.names key (map (value s.env.heap) vs)) (few : length vs < 2 ^ 16)
+  module _ (statics : Statics) (own : AreStatics s.code statics) (key : Key) (key_is : IsFirstKey s.env.heap.names key (map (value s.env.heap) vs))
       (lt : c.procedure < length s.code.procedures) (laid : IsLaid s.code.text.names s.code.text.nodes) where
     abbrev ks : List ClauseCode
     ks = get_or s.code.procedures c.procedure []
@@ -101,7 +101,7 @@ module _ (s : State) (d : ℕ) (is : IsStack s d) (p : Point) (c : Clauses) (at 
     es = goals_of s p.list
 
     pub attempt : IsAttempt s.code.text s.env name vs key s.code.text.nodes ks xs
-    attempt = record { laid = laid; nodes_are = refl; names = is.0.names; fit = values-there; few = few; key_is = key_is; own = own.own c.procedure lt }
+    attempt = record { laid = laid; nodes_are = refl; names = is.0.names; fit = values-there; key_is = key_is; own = own.own c.procedure lt }
 
     pub same-count : length ks ≡ length xs
     same-count = own-length s.code.text name ks xs (own.own c.procedure lt)

@@ -11,6 +11,7 @@ pub mod Cutting
 pub mod Settling
 pub mod Giving
 pub mod Releasing
+pub mod Lowering
 pub mod Fitting
 pub mod Trying
 pub mod Searching
@@ -19,3 +20,15 @@ pub mod Calling
 pub mod Rewinding
 pub mod Hitting
 pub mod Going
+pub mod Entering
+pub mod Opened
+pub mod Keys
+pub mod Arguments
+pub mod Beginning
+pub mod Program
+pub mod Finding
+pub mod Linking
+pub mod Resolving
+pub mod Passing
+pub mod Stepping
+pub mod Reopening

@@ -2,6 +2,7 @@
 use Rattle.std.proofs.Common.{◌≡◌, ℕ, ◌+◌, ◌≤◌, List, [], ◌∷◌, ◌++◌, length, length-append, map, take, refl, sym, ap, ap₂, ◌∙◌, subst, arith, append_assoc, le_refl, inl, inr, ◌⊎◌}
 use Rattle.std.proofs.lemmas.List.{take-append-le, take_all}
 use Rattle.plsearch.specs.Types.{Element}
+use Rattle.plcode.specs.Converted.{AreConverted}
 use Rattle.plenv.specs.Env.{Env}
 use Rattle.plenv.specs.Rows.{AllBelowEach}
 use Rattle.plenv.proofs.Putting.{Stays-refl}
@@ -20,13 +21,13 @@ use Rattle.plstack.proofs.Growing.{state-grown, extends-grown}
 pub empty-list : (code : Goals) → code 0 0 ≡ [] → (e : Env) (links : List Link) → IsListIn code e links (alone 0)
 empty-list code none e links = record {
   there = omega arith;
-  items = ((record { width = 0; below = subst (AllBelowEach 0) (sym none) tt; within = le_refl _ }, omega arith), subst (AreItems code e.heap (length e.slots)) (sym (list_at-none links)) tt);
+  items = ((record { width = 0; below = subst (AllBelowEach 0) (sym none) tt; within = le_refl _; converted = subst AreConverted (sym none) tt }, omega arith), subst (AreItems code e.heap (length e.slots)) (sym (list_at-none links)) tt);
 }
 
 module _ (s : State) (is : IsState s) where
   -- a run of no goals
   pub done-item : (n : ℕ) → IsItem (goals_in s) s.env.heap n (items.Run done)
-  done-item n = (record { width = 0; below = subst (AllBelowEach 0) (sym is.none) tt; within = le_refl _ }, omega arith)
+  done-item n = (record { width = 0; below = subst (AllBelowEach 0) (sym is.none) tt; within = le_refl _; converted = subst AreConverted (sym is.none) tt }, omega arith)
 
   none-elements : (r : Run) → IsDone r → elements (goals_in s) s.env (items.Run r) ≡ []
   none-elements r i = ap₂ (λ p o. map (goal_of s.env r) (goals_in s p o)) i.0 i.1 ∙ ap (map (goal_of s.env r)) is.none

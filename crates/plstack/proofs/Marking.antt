@@ -50,7 +50,7 @@ module _ (code : Goals) (e : Env) where
     pub next-there : l.next ≤ i - 1
     next-there = subst (λ (x : Link). x.next ≤ i - 1) (sym link-is) (chain (i - 1) lt).next
 
-    here : list_at links i ≡ l.item ∷ list_at links l.next
+    pub here : list_at links i ≡ l.item ∷ list_at links l.next
     here =
         let next : i ≡ suc (i - 1) = omega (arith, some) in
         ap (list_at links) next

@@ -49,19 +49,19 @@ module _ (s : State) (d : ℕ) (is : IsStack s d) (e : Env) (m : Marks) (mark : 
   abbrev marked : State
   marked = record { code = s.code; env = e; links = s.links; saved = s.saved; frames = s.frames; goals = s.goals }
 
-  env-now : IsEnv e
+  pub env-now : IsEnv e
   env-now = subst IsEnv now mark.env
 
-  extends-now : ExtendsEnv s.env e
+  pub extends-now : ExtendsEnv s.env e
   extends-now = subst (ExtendsEnv s.env) (sym same) (extends-marked s.env is.0.env)
 
-  marked-stack : IsStack marked d
+  pub marked-stack : IsStack marked d
   marked-stack = stack-env s d e extends-now env-now is
 
-  marked-extends : Extends s marked
+  pub marked-extends : Extends s marked
   marked-extends = extends-env s d e extends-now env-now is
 
-  count-now : e.count ≡ s.env.count
+  pub count-now : e.count ≡ s.env.count
   count-now = ap (λ x. x.count) same
 
   module _ (l : Continuation) (r : Resume) (i : IsList s l) (resume : IsResume s.env.heap [] r) (none : kept r ≡ 0) where

@@ -1,13 +1,14 @@
 -- Slots that nothing asks for may go.
 use Rattle.std.proofs.Common.{◌≡◌, ℕ, zero, suc, ◌<◌, ◌≤◌, max, List, [], ◌∷◌, length, take, reverse, refl, sym, ap, ap₂, subst, arith, le_trans, le_refl}
-use Rattle.std.proofs.lemmas.List.{get_or-take}
+use Rattle.std.proofs.lemmas.List.{get_or-take, length-take}
 use Rattle.std.proofs.Math.Nat.{le-max_left, le-max_right}
 use Rattle.plcells.specs.declared.cell.Cell.{Cell}
 use Rattle.plcells.specs.Store.{Store}
 use Rattle.plsearch.specs.Types.{Mark as MarkOf}
 use Rattle.plsearch.specs.Engine.{deeper}
 use Rattle.plenv.specs.declared.slot.Slot.TheVariants.{Free}
-use Rattle.plenv.specs.Env.{Env, IsEnv, slot_term}
+use Rattle.plenv.specs.declared.slot.Mark.{Mark}
+use Rattle.plenv.specs.Env.{Env, IsEnv, IsMark, cut, slot_term}
 use Rattle.plenv.specs.Changes.{released}
 use Rattle.plenv.proofs.Bounding.{cut-released, IsMark-released}
 use Rattle.pllinks.specs.declared.item.Item.{Item}
@@ -26,10 +27,10 @@ use Rattle.plstack.specs.declared.frame.Frame.TheVariants.{Plain, Barrier, Open}
 use Rattle.plstack.specs.Places.{Statics, kept_values, case_of, plain, cases}
 use Rattle.plstack.specs.Frames.{IsResume, IsOpen, AreFrames}
 use Rattle.plstack.specs.State.{State, IsStack, goals_in, cases_of}
-use Rattle.plstack.specs.Giving.{GivesBack}
+use Rattle.plstack.specs.Giving.{GivesBack, IsShort}
 
 -- items that ask for no more than the first n slots
-abbrev AskFor : ℕ → List Item → Type 0
+abbrev pub AskFor : ℕ → List Item → Type 0
 AskFor n [] = Unit {0}
 AskFor n (x ∷ xs) = (slots_in x ≤ n) × AskFor n xs
 
@@ -39,7 +40,7 @@ ask-more n m (x ∷ xs) le a = (le_trans a.0 le, ask-more n m xs le a.1)
 
 -- a list asks for no more slots than its link says
 module _ (links : List Link) (n : ℕ) (chain : IsChain links) where
-  ask-of : (fuel i : ℕ) → i ≤ fuel → i ≤ length links → slots_at links i ≤ n → AskFor n (list_at links i)
+  pub ask-of : (fuel i : ℕ) → i ≤ fuel → i ≤ length links → slots_at links i ≤ n → AskFor n (list_at links i)
   ask-of fuel zero few le most = subst (AskFor n) (sym (list_at-none links)) tt
   ask-of zero (suc i) few le most = absurd (omega arith)
   ask-of (suc fuel) (suc i) few le most =
@@ -54,7 +55,7 @@ list-asks links l chain le = (
 )
 
 -- they are there still
-items-within : (code : Goals) (h : Store) (n m k : ℕ) (xs : List Item) → ((i : ℕ) → i ≤ n → i ≤ m → i ≤ k) → AskFor m xs → AreItems code h n xs → AreItems code h k xs
+pub items-within : (code : Goals) (h : Store) (n m k : ℕ) (xs : List Item) → ((i : ℕ) → i ≤ n → i ≤ m → i ≤ k) → AskFor m xs → AreItems code h n xs → AreItems code h k xs
 items-within code h n m k [] le a is = tt
 items-within code h n m k (items.Run r ∷ xs) le a is = ((is.0.0, le r.«end» is.0.1 a.0), items-within code h n m k xs le a.1 is.1)
 items-within code h n m k (items.Goal l v ∷ xs) le a is = (is.0, items-within code h n m k xs le a.1 is.1)
@@ -72,30 +73,31 @@ taken-below i (suc n) [] lt = absurd (omega arith)
 taken-below zero (suc n) (x ∷ xs) lt = omega arith
 taken-below (suc i) (suc n) (x ∷ xs) lt = let r = taken-below i n xs (omega arith) in omega (arith, r)
 
-module _ (code : Goals) (e : Env) (base : ℕ) (links : List Link) (saved : List Cell) where
-  cases-released : (statics : Statics) (fs : List Frame) → AreFrames code e links saved fs → cases statics code (released base e) links saved fs ≡ cases statics code e links saved fs
-  cases-released statics [] a = refl
-  cases-released statics (Plain i ∷ fs) a = ap (plain i) (cases-released statics fs a.1)
-  cases-released statics (Barrier l ∷ fs) a = ap (λ cs. MarkOf l ∷ cs) (cases-released statics fs a.1)
-  cases-released statics (Open p r ∷ fs) a =
-      ap₂ (λ x cs. case_of statics code (deeper cs 0) x (items_of links p.list) (kept_values saved p r) r ∷ cs) (cut-released base p.marks.env e a.0.mark) (cases-released statics fs a.1)
+-- frames stand for what they did where each mark is one still, and comes back to the same
+module _ (code : Goals) (e later : Env) (links : List Link) (saved : List Cell) (kept : (m : Mark) → IsMark m e → IsMark m later × (cut m later ≡ cut m e)) where
+  pub cases-marked : (statics : Statics) (fs : List Frame) → AreFrames code e links saved fs → cases statics code later links saved fs ≡ cases statics code e links saved fs
+  cases-marked statics [] a = refl
+  cases-marked statics (Plain i ∷ fs) a = ap (plain i) (cases-marked statics fs a.1)
+  cases-marked statics (Barrier l ∷ fs) a = ap (λ cs. MarkOf l ∷ cs) (cases-marked statics fs a.1)
+  cases-marked statics (Open p r ∷ fs) a =
+      ap₂ (λ x cs. case_of statics code (deeper cs 0) x (items_of links p.list) (kept_values saved p r) r ∷ cs) (kept p.marks.env a.0.mark).1 (cases-marked statics fs a.1)
 
-  open-released : (p : Point) (r : Resume) (fs : List Frame) → IsOpen code e links saved p r fs → IsOpen code (released base e) links saved p r fs
-  open-released p r fs is = record {
-    mark = IsMark-released base p.marks.env e is.mark;
+  open-marked : (p : Point) (r : Resume) (fs : List Frame) → IsOpen code e links saved p r fs → IsOpen code later links saved p r fs
+  open-marked p r fs is = record {
+    mark = (kept p.marks.env is.mark).0;
     links_room = is.links_room;
     list = is.list;
     saved_room = is.saved_room;
     older = is.older;
-    items = subst (λ (x : Env). AreItems code x.heap (length x.slots) (items_of links p.list)) (sym (cut-released base p.marks.env e is.mark)) is.items;
-    resume = subst (λ (x : Env). IsResume x.heap (kept_values saved p r) r) (sym (cut-released base p.marks.env e is.mark)) is.resume;
+    items = subst (λ (x : Env). AreItems code x.heap (length x.slots) (items_of links p.list)) (sym (kept p.marks.env is.mark).1) is.items;
+    resume = subst (λ (x : Env). IsResume x.heap (kept_values saved p r) r) (sym (kept p.marks.env is.mark).1) is.resume;
   }
 
-  frames-released : (fs : List Frame) → AreFrames code e links saved fs → AreFrames code (released base e) links saved fs
-  frames-released [] a = tt
-  frames-released (Plain i ∷ fs) a = (a.0, frames-released fs a.1)
-  frames-released (Barrier l ∷ fs) a = (tt, frames-released fs a.1)
-  frames-released (Open p r ∷ fs) a = (open-released p r fs a.0, frames-released fs a.1)
+  pub frames-marked : (fs : List Frame) → AreFrames code e links saved fs → AreFrames code later links saved fs
+  frames-marked [] a = tt
+  frames-marked (Plain i ∷ fs) a = (a.0, frames-marked fs a.1)
+  frames-marked (Barrier l ∷ fs) a = (tt, frames-marked fs a.1)
+  frames-marked (Open p r ∷ fs) a = (open-marked p r fs a.0, frames-marked fs a.1)
 
 -- the visited list asks for no more
 module _ (s : State) (d : ℕ) (is : IsStack s d) (base : ℕ) (base_is : base ≡ max s.goals.run.«end» (slots_at s.links s.goals.rest)) (env : IsEnv (released base s.env)) where
@@ -120,6 +122,9 @@ module _ (s : State) (d : ℕ) (is : IsStack s d) (base : ℕ) (base_is : base �
     variables = λ i lt. ap (slot_term s.env.heap) (get_or-take (max base s.env.boundary) s.env.slots i (Free 0) (taken-below i (max base s.env.boundary) s.env.slots lt));
   }
 
+  kept : (m : Mark) → IsMark m s.env → IsMark m (released base s.env) × (cut m (released base s.env) ≡ cut m s.env)
+  kept m marks = (IsMark-released base m s.env marks, cut-released base m s.env marks)
+
   pub released-stack : IsStack (record s { env = released base s.env }) d
   released-stack = (
     record {
@@ -127,7 +132,7 @@ module _ (s : State) (d : ℕ) (is : IsStack s d) (base : ℕ) (base_is : base �
       names = is.0.names;
       none = is.0.none;
       chain = is.0.chain;
-      frames = frames-released (goals_in s) s.env base s.links s.saved (reverse s.frames) is.0.frames;
+      frames = frames-marked (goals_in s) s.env (released base s.env) s.links s.saved kept (reverse s.frames) is.0.frames;
       goals = record { there = is.0.goals.there; items = items-left };
     },
     is.1,
@@ -136,9 +141,12 @@ module _ (s : State) (d : ℕ) (is : IsStack s d) (base : ℕ) (base_is : base �
   pub released-back : GivesBack s (record s { env = released base s.env })
   unfolding cases_of
   released-back = record {
-    cases = λ statics. cases-released (goals_in s) s.env base s.links s.saved statics (reverse s.frames) is.0.frames;
+    cases = λ statics. cases-marked (goals_in s) s.env (released base s.env) s.links s.saved kept statics (reverse s.frames) is.0.frames;
     place = ap (λ es. record { goals = es; variables = s.env.count }) (items-agree (goals_in s) left s.env (released base s.env) agrees (items_of s.links s.goals) items-left).1;
     heap = refl;
     frames = refl;
     code = refl;
   }
+
+  pub released-short : IsShort (record s { env = released base s.env })
+  released-short = omega (arith, length-take (max base s.env.boundary) s.env.slots, base_is)

@@ -97,7 +97,6 @@ module _ (c : Text) (e : Env) (name : List ℕ) (vs : List Cell) (key : Key) (no
       nodes_are = a.nodes_are;
       names = Extends-trans c.names e.heap.names t a.names more;
       fit = (values-renamed e t is table more vs a.fit).0;
-      few = a.few;
       own = own;
     }
 

@@ -1,5 +1,5 @@
 -- A call of a static procedure whose clauses are to be tried.
-use Rattle.std.specs.Prelude.{◌≡◌, ℕ, ◌<◌, ◌^◌, List, length, map}
+use Rattle.std.specs.Prelude.{◌≡◌, ℕ, List, map}
 use Rattle.platoms.specs.Names.{Extends as ExtendsNames}
 use Rattle.plclause.specs.Clause.{Clause}
 use Rattle.plcells.specs.declared.cell.Cell.{Cell}
@@ -19,7 +19,6 @@ pub record IsAttempt (c : Text) (e : Env) (name : List ℕ) (values : List Cell)
   pub nodes_are : nodes ≡ c.nodes
   pub names : ExtendsNames c.names e.heap.names
   pub fit : AreValues e.heap values
-  pub few : length values < 2 ^ 16
   pub key_is : IsFirstKey e.heap.names key (map (value e.heap) values)
   pub own : AreOwn c name ks xs
 
@@ -29,5 +28,4 @@ pub record IsTried (c : Text) (e : Env) (name : List ℕ) (values : List Cell) (
   pub nodes_are : nodes ≡ c.nodes
   pub names : ExtendsNames c.names e.heap.names
   pub fit : AreValues e.heap values
-  pub few : length values < 2 ^ 16
   pub own : IsOwn c name k x

@@ -1,8 +1,9 @@
 -- What a call of a dynamic procedure makes of a stack.
-use Rattle.std.specs.Prelude.{◌≡◌, ℕ, ◌+◌, ◌<◌, List, ◌∷◌, ◌++◌, length, drop}
+use Rattle.std.specs.Prelude.{◌≡◌, ℕ, ◌+◌, ◌<◌, List, [], ◌∷◌, ◌++◌, length, drop}
+use Rattle.plterm.specs.Tree.{Tree}
 use Rattle.plclause.specs.Clause.{Clause}
 use Rattle.plcells.specs.declared.cell.Cell.{Cell}
-use Rattle.plcells.specs.Store.{value}
+use Rattle.plcells.specs.Store.{IsValue, value}
 use Rattle.plsearch.specs.Types.{Place, Choice}
 use Rattle.plsearch.specs.Engine.{deeper}
 use Rattle.plenv.specs.Env.{Env, IsEnv, cut}
@@ -44,8 +45,26 @@ pub record OpensRest (statics : Statics) (old new : List Frame) (p : Point) (r :
   pub frames : (code : Goals) (e : Env) (links : List Link) (saved : List Cell) → AreFrames code e links saved old → IsOpen code e links saved p r old → AreFrames code e links saved new
   pub depth : depth_of new ≡ depth_of old + 1
 
+-- what a call of a goal has, before a list, by some clauses, as a case of the level of a new one
+abbrev pub places_of : Statics → State → Tree → Continuation → List Clause → List Place
+places_of statics s t rest cs = places_left (deeper (cases_of statics s) 0) s.env t (goals_of s rest) cs
+
 -- a call visits its first place, in a choice of the others
-pub record Calls (statics : Statics) (old new : State) (goal : Cell) (rest : Continuation) (cs : List Clause) : Type 0 where
+pub record Calls (statics : Statics) (old new : State) (t : Tree) (rest : Continuation) (cs : List Clause) : Type 0 where
   pub others : List Place
-  pub places : left_of old (deeper (cases_of statics old) 0) goal rest cs ≡ place_of new ∷ others
+  pub places : places_of statics old t rest cs ≡ place_of new ∷ others
   pub cases : cases_of statics new ≡ Choice others ∷ cases_of statics old
+
+-- it has no place, and the cases are as they were
+pub record CallsNone (statics : Statics) (old new : State) (t : Tree) (rest : Continuation) (cs : List Clause) : Type 0 where
+  pub none : places_of statics old t rest cs ≡ []
+  pub cases : cases_of statics new ≡ cases_of statics old
+
+-- the cases and the visited place stay
+pub record StaysAt (old new : State) : Type 0 where
+  pub cases : (statics : Statics) → cases_of statics new ≡ cases_of statics old
+  pub place : place_of new ≡ place_of old
+
+-- each value stands for what it did
+pub record KeepsValues (old new : State) : Type 0 where
+  pub values : (v : Cell) → IsValue old.env.heap v → IsValue new.env.heap v × (value new.env.heap v ≡ value old.env.heap v)

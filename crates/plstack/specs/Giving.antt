@@ -1,5 +1,6 @@
 -- What is given back.
-use Rattle.std.specs.Prelude.{◌≡◌}
+use Rattle.std.specs.Prelude.{◌≡◌, ◌≤◌, max, length}
+use Rattle.pllinks.specs.Links.{slots_at}
 use Rattle.plstack.specs.Places.{Statics}
 use Rattle.plstack.specs.State.{State, cases_of, place_of}
 
@@ -10,3 +11,11 @@ pub record GivesBack (old new : State) : Type 0 where
   pub heap : new.env.heap ≡ old.env.heap
   pub frames : new.frames ≡ old.frames
   pub code : new.code ≡ old.code
+
+-- the slots of the visited goals begin no higher than those end that the rest of the list or a mark in use asks for
+abbrev pub IsLow : State → Type 0
+IsLow s = s.goals.run.base ≤ max (slots_at s.links s.goals.rest) s.env.boundary
+
+-- no slots stand behind those that the visited list or a mark in use asks for
+abbrev pub IsShort : State → Type 0
+IsShort s = length s.env.slots ≤ max (max s.goals.run.«end» (slots_at s.links s.goals.rest)) s.env.boundary

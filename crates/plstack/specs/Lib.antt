@@ -3,6 +3,8 @@ pub mod Frames
 pub mod State
 pub mod Opening
 pub mod Levels
+pub mod Arguments
+pub mod First
 pub mod Cutting
 pub mod Holding
 pub mod Giving
@@ -10,3 +12,5 @@ pub mod Fits
 pub mod Attempts
 pub mod Calls
 pub mod StaticCalls
+pub mod Linking
+pub mod Trials

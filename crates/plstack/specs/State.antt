@@ -102,6 +102,7 @@ pub record Unifies (old new : State) (a b : Cell) : Type 0 where
   pub values : (v : Cell) → IsValue old.env.heap v → IsValue new.env.heap v × (value new.env.heap v ≡ bind unifier (value old.env.heap v))
   pub lists : (l : Continuation) → IsList old l → IsList new l × (goals_of new l ≡ bind_goals unifier (goals_of old l))
   pub cases : (statics : Statics) → cases_of statics new ≡ cases_of statics old
+  pub frames : new.frames ≡ old.frames
   pub count : new.env.count ≡ old.env.count
   pub code : new.code ≡ old.code
   pub goals : new.goals ≡ old.goals

@@ -1,29 +1,35 @@
 -- Calls of static procedures.
-use Rattle.std.specs.Prelude.{◌≡◌, ℕ, ◌+◌, ◌<◌, ◌≤◌, Option, Some, None, List, [], ◌∷◌, ◌++◌, length, drop, get_or}
+use Rattle.std.specs.Prelude.{◌≡◌, ℕ, ◌+◌, ◌<◌, ◌≤◌, Option, Some, None, List, [], ◌∷◌, ◌++◌, length, drop, get_or, slice_index_or}
 use Rattle.plterm.specs.Tree.{Tree}
 use Rattle.plterm.specs.declared.indicator.Indicator.{Indicator}
 use Rattle.plsubst.specs.Subst.{bind}
 use Rattle.plclause.specs.Clause.{Clause}
 use Rattle.plprogram.specs.Program.{Program}
+use Rattle.plcells.specs.declared.cell.Cell.{Cell}
 use Rattle.plsearch.specs.Types.{Place, Case, Choice}
 use Rattle.plsearch.specs.Lists.{bind_goals}
 use Rattle.plsearch.specs.Rows.{before_rest, is_true}
 use Rattle.plsearch.specs.Engine.{deeper}
 use Rattle.plcode.specs.Callees.{Compiled}
+use Rattle.plcode.specs.declared.key.Key.{Key}
+use Rattle.plcode.specs.declared.clause.ClauseCode.{ClauseCode}
+use Rattle.plcode.specs.Index.{IsNext}
 use Rattle.plcode.specs.Clauses.{IsCodeOf}
-use Rattle.plenv.specs.Env.{cut, over}
+use Rattle.plenv.specs.Env.{Env, cut, over}
 use Rattle.pllinks.specs.declared.link.Continuation.{Continuation}
 use Rattle.pllinks.specs.Lists.{all_elements}
-use Rattle.pllinks.specs.Links.{items_of}
+use Rattle.pllinks.specs.Links.{alone, items_of}
 use Rattle.plstack.specs.declared.frame.Point.{Point}
 use Rattle.plstack.specs.declared.frame.Clauses.{Clauses}
 use Rattle.plstack.specs.declared.frame.Resume.TheVariants as resumes
 use Rattle.plstack.specs.declared.frame.Frame.{Frame}
 use Rattle.plstack.specs.declared.frame.Frame.TheVariants.{Open}
+use Rattle.plstack.specs.declared.fit.Found.{Found}
 use Rattle.plstack.specs.declared.fit.Hit.{Hit}
 use Rattle.plstack.specs.Places.{Static, Statics, called, places_left, kept_values}
-use Rattle.plstack.specs.Fits.{AreOwn}
-use Rattle.plstack.specs.State.{State, goals_in, goals_of, cases_of, IsList}
+use Rattle.plstack.specs.Fits.{AreOwn, Finds}
+use Rattle.plstack.specs.State.{State, goals_in, goals_of, place_of, cases_of, HasClauses, IsList}
+use Rattle.plstack.specs.Calls.{places_of}
 
 abbrev pub static_of : Indicator × List Clause → Static
 static_of e = record { name = e.0.name; clauses = e.1 }
@@ -72,7 +78,7 @@ pub record Hits (statics : Statics) (old new : State) (p : Point) (c : Clauses) 
       ∷ further statics new d p c (onward hit.next (statics c.procedure).clauses)
 
 -- what was put for variables is in each list
-pub record Binds (old new : State) (hit : Hit) : Type 0 where
+pub record Binds (old new : State) : Type 0 where
   pub unifier : ℕ → Tree
   pub lists : (l : Continuation) → IsList old l → IsList new l × (goals_of new l ≡ bind_goals unifier (goals_of old l))
 
@@ -81,3 +87,26 @@ pub record GoesOn (statics : Statics) (old new : State) (p : Point) (c : Clauses
   pub below : List Case
   pub was : cases_of statics old ≡ Choice (further statics old (deeper below 0) p c (drop c.next (statics c.procedure).clauses)) ∷ below
   pub cases : cases_of statics new ≡ Choice (further statics old (deeper below 0) p c (onward next (statics c.procedure).clauses)) ∷ below
+
+-- the first clause that fits, with the next one that may
+pub record FindsHit (old new : Env) (t : Tree) (key : Key) (ks : List ClauseCode) (xs : List Clause) (from : ℕ) (hit : Hit) : Type 0 where
+  pub found : Found
+  pub finds : Finds old new t xs from found
+  pub base : hit.base ≡ found.base
+  pub clause : (d : ClauseCode) → slice_index_or ks found.place d ≡ hit.clause
+  pub next : IsNext key ks (found.place + 1) hit.next
+
+-- the case of a call is opened, and no clause is tried
+pub record OpensCall (old new : State) (procedure : ℕ) (values : List Cell) (list : Continuation) : Type 0 where
+  pub has : HasClauses new
+  pub cases : (statics : Statics) → cases_of statics new ≡ Choice (places_of statics old (called old.env.heap (statics procedure).name values) list (statics procedure).clauses) ∷ cases_of statics old
+  pub place : place_of new ≡ place_of old
+  pub code : new.code ≡ old.code
+
+-- a clause of the innermost call is entered: its body is visited before a list, and the clauses behind it are left
+pub record Enters (statics : Statics) (old new : State) (p : Point) (c : Clauses) (hit : Hit) (behind : ℕ) : Type 0 where
+  pub goes : GoesOn statics old new p c hit.next
+  pub place : (x : Clause) → IsCodeOf old.code.text hit.clause x → place_of new ≡ record {
+    goals = before_rest (is_true x.body) (deeper goes.below 0) (bind (over old.env hit.base) x.body) (goals_of old (alone behind));
+    variables = old.env.count;
+  }

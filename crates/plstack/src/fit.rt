@@ -71,7 +71,7 @@ fn try_clause(
     let base = env.enter(clause.variables)?;
     let row = Row {
         at: clause.head,
-        count: call.values.len() as u16,
+        count: clause.arity,
     };
     if matcher.fit(env, call.nodes, Head { row, base }, call.values)? {
         Ok(Some(base))

@@ -2,7 +2,7 @@
 ghost use Rattle.std.specs.Prelude.{◌≡◌, ◌≤◌, ◌-◌, [], ◌∷◌, ◌++◌, length, reverse, take};
 ghost use Rattle.pllinks.specs.Links.{link_at};
 ghost use Rattle.plstack.specs.Holding.{held};
-ghost use Rattle.plstack.specs.Giving.{GivesBack};
+ghost use Rattle.plstack.specs.Giving.{GivesBack, IsLow, IsShort};
 
 use crate::hold::held_in;
 use crate::stack::Stack;
@@ -10,8 +10,20 @@ use pllinks::link::{Link, slots_of};
 
 impl Stack {
     /// Gives back lists and slots that neither the open cases nor the list that is visited hold.
-    #[tactic(auto, using(crate::proofs::Giving::back_refl, crate::proofs::Giving::back_trans))]
+    #[tactic(auto, using(crate::proofs::Giving::back_trans))]
     pub fn give_back(&mut self)
+        ensures back { GivesBack self.old self.new }
+        ensures low { IsLow self.new }
+        ensures short { IsShort self.new }
+    {
+        self.give_back_lists();
+        self.give_back_slots();
+        self.lower_slots();
+    }
+
+    /// Gives back lists that neither the open cases nor the list that is visited hold, if the newest few frames say it.
+    #[tactic(auto, using(crate::proofs::Giving::back_refl, crate::proofs::Giving::back_trans))]
+    fn give_back_lists(&mut self)
         ensures { GivesBack self.old self.new }
     {
         let Some(left) = held_in(&self.frames) else {
@@ -19,7 +31,6 @@ impl Stack {
         };
         self.give_back_above(left.marks.links);
         self.give_back_below(left.marks.links);
-        self.give_back_slots();
     }
 
     /// Gives back the lists behind those that are held.
@@ -52,10 +63,26 @@ impl Stack {
 
     /// Gives back the slots that the visited list does not ask for.
     fn give_back_slots(&mut self)
-        ensures { GivesBack self.old self.new }
+        ensures back { GivesBack self.old self.new }
+        ensures short { IsShort self.new }
     {
         let asked = slots_of(&self.links, self.goals.rest);
         self.env.release(self.goals.run.end.max(asked));
+        let _ = self.env.heap();
+    }
+
+    /// Moves the slots of the visited goals down to where neither the rest of the list nor a mark in use asks for any.
+    fn lower_slots(&mut self)
+        requires { IsShort self.old }
+        ensures back { GivesBack self.old self.new }
+        ensures low { IsLow self.new }
+        ensures short { IsShort self.new }
+    {
+        let asked = slots_of(&self.links, self.goals.rest);
+        let run = self.goals.run;
+        let base = self.env.lower(asked, run.base);
+        self.goals.run.base = base;
+        self.goals.run.end = run.end - (run.base - base);
         let _ = self.env.heap();
     }
 }

@@ -2,12 +2,17 @@
 #![tactic(auto)]
 
 pub mod back;
+pub mod call;
+pub mod copy;
 pub mod cut;
+pub mod first;
 pub mod fit;
 pub mod frame;
 pub mod give;
 pub mod hold;
+mod key;
 pub mod list;
 pub mod open;
 pub mod stack;
 pub mod term;
+pub mod value;

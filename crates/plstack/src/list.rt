@@ -1,15 +1,16 @@
 //! Goal lists of a stack.
-ghost use Rattle.std.specs.Prelude.{◌≡◌, ◌++◌, length, IfOk, OnErr, OnOk};
+ghost use Rattle.std.specs.Prelude.{◌≡◌, ◌≤◌, ◌++◌, length, IfOk, OnErr, OnOk};
 ghost use Rattle.plsearch.specs.Lists.{levels};
 ghost use Rattle.pllinks.specs.Lists.{elements, IsItem, IsRun};
 ghost use Rattle.pllinks.specs.Links.{alone, IsDone};
 ghost use Rattle.pllinks.specs.declared.item.Item.TheVariants.{Run as RunOf};
 ghost use Rattle.plstack.specs.State.{goals_in, goals_of, IsList, AddsList};
 ghost use Rattle.plstack.specs.Levels.{levels_of};
+ghost use Rattle.plstack.specs.Linking.{LinksItem};
 
 use crate::stack::Stack;
 use pllinks::item::{Item, Run};
-use pllinks::link::{Continuation, number_of, push_link};
+use pllinks::link::{Continuation, Link, number_of, push_link};
 use std::alloc::{AllocError, Global};
 
 impl Stack {
@@ -32,15 +33,8 @@ impl Stack {
         ensures ok { IfOk result (λ l. AddsList self.old self.new l (elements (goals_in self.old) self.old.env item ++ goals_of self.old rest)) }
         ensures err { OnErr result (self.new ≡ self.old) }
     {
-        let count = self.links.len();
-        let behind = number_of(&mut self.links, rest)?;
-        match push_link(&mut self.links, item, behind) {
-            Ok(number) => Ok(Continuation::alone(number)),
-            Err(e) => {
-                self.links.truncate(count);
-                Err(e)
-            }
-        }
+        let list = link_before(&mut self.links, item, rest)?;
+        Ok(list)
     }
 
     /// A new list: goals of a clause before a list that is there.
@@ -62,6 +56,14 @@ impl Stack {
         self.goals = list;
     }
 
+    /// The list that is visited.
+    pub fn visited(&self) -> Continuation
+        ensures is { result ≡ self.now.goals }
+        ensures there { IsList self.now result }
+    {
+        self.goals
+    }
+
     /// The levels of the markers of a list.
     pub fn levels(&self, alloc: Global, list: Continuation) -> Result<Vec<u64>, AllocError>
         requires { IsList self.now list }
@@ -75,6 +77,27 @@ impl Stack {
             at = link.next;
         }
         Ok(found)
+    }
+}
+
+/// A new list: an item before a list that is there.
+pub(crate) fn link_before(
+    links: &mut Vec<Link>,
+    item: Item,
+    rest: Continuation,
+) -> Result<Continuation, AllocError>
+    requires { rest.rest ≤ length links.old.items }
+    ensures ok { IfOk result (λ l. LinksItem links.old.items links.new.items item rest l) }
+    ensures err { OnErr result (links.new.items ≡ links.old.items) }
+{
+    let count = links.len();
+    let behind = number_of(links, rest)?;
+    match push_link(links, item, behind) {
+        Ok(number) => Ok(Continuation::alone(number)),
+        Err(e) => {
+            links.truncate(count);
+            Err(e)
+        }
     }
 }
 

@@ -11,6 +11,7 @@ use crate::frame::{Frame, Resume};
 use plcells::cell::Cell;
 use plcode::program::ProgramCode;
 use plenv::env::Environment;
+use plhead::head::Matcher;
 use pllinks::link::{Continuation, Link};
 use std::alloc::Global;
 use std::marker::Model;
@@ -21,6 +22,7 @@ use std::marker::Model;
 pub struct Stack {
     pub(crate) code: ProgramCode,
     pub(crate) env: Environment,
+    pub(crate) matcher: Matcher,
     pub(crate) links: Vec<Link>,
     pub(crate) saved: Vec<Cell>,
     pub(crate) frames: Vec<Frame>,
@@ -53,6 +55,7 @@ impl Stack {
         Stack {
             code,
             env,
+            matcher: Matcher::new(alloc),
             links: Vec::new(alloc),
             saved: Vec::new(alloc),
             frames: Vec::new(alloc),
@@ -63,7 +66,8 @@ impl Stack {
 
     /// The program's code.
     pub fn code(&self) -> &ProgramCode
-        ensures { result.now ≡ self.now.code }
+        ensures is { result.now ≡ self.now.code }
+        ensures names { ExtendsNames self.now.code.text.names self.now.env.heap.names }
     {
         &self.code
     }

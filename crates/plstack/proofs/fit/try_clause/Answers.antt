@@ -1,4 +1,4 @@
-use Rattle.std.proofs.Common.{sym, subst, ◌∙◌}
+use Rattle.std.proofs.Common.{◌≡◌, length, sym, subst, ◌∙◌}
 use Rattle.plcells.specs.Store.{Store}
 use Rattle.plcode.specs.Laying.{IsLaid}
 use Rattle.plenv.proofs.Keeping.{Keeps-refl, Keeps-trans}
@@ -26,25 +26,25 @@ fit-requires-clause-packed c =
     (laid r.0 _ r.1 _ _ _ r.2 r.3 (sym c.from.ensures ∙ c.if-from-call.false) c.heap.ensures.env.heap.names).packed
 
 pub fit-requires-clause-row : goal.fit-requires-clause-row
-fit-requires-clause-row c = let r = c.requires in row-within r.0 _ r.1 _ _ _ r.2 r.3 (sym c.from.ensures ∙ c.if-from-call.false) c.heap.ensures.env.heap.names
+fit-requires-clause-row c = let r = c.requires in let many : c.args.clause.arity ≡ length c.args.call.now.values.now = sym c.from.ensures ∙ c.if-from-call.false in rw many (row-within r.0 _ r.1 _ _ _ r.2 r.3 (sym c.from.ensures ∙ c.if-from-call.false) c.heap.ensures.env.heap.names)
 
 pub fit-requires-clause-whole : goal.fit-requires-clause-whole
-fit-requires-clause-whole c = let r = c.requires in row-whole r.0 _ r.1 _ _ _ r.2 r.3 (sym c.from.ensures ∙ c.if-from-call.false) c.heap.ensures.env.heap.names
+fit-requires-clause-whole c = let r = c.requires in let many : c.args.clause.arity ≡ length c.args.call.now.values.now = sym c.from.ensures ∙ c.if-from-call.false in rw many (row-whole r.0 _ r.1 _ _ _ r.2 r.3 (sym c.from.ensures ∙ c.if-from-call.false) c.heap.ensures.env.heap.names)
 
 pub fit-requires-clause-covers : goal.fit-requires-clause-covers
-fit-requires-clause-covers c = let r = c.requires in covers r.0 _ r.1 _ _ _ r.2 r.3 (sym c.from.ensures ∙ c.if-from-call.false) c.heap.ensures.env.heap.names _ _ c.in_ok-base.ensures.ok
+fit-requires-clause-covers c = let r = c.requires in let many : c.args.clause.arity ≡ length c.args.call.now.values.now = sym c.from.ensures ∙ c.if-from-call.false in rw many (covers r.0 _ r.1 _ _ _ r.2 r.3 (sym c.from.ensures ∙ c.if-from-call.false) c.heap.ensures.env.heap.names _ _ c.in_ok-base.ensures.ok)
 
 pub returns-in_err-fit-clause-keeps : goal.returns-in_err-fit-clause-keeps
 returns-in_err-fit-clause-keeps c = Keeps-trans _ _ _ c.in_ok-base.ensures.ok.keeps c.fit.ensures.keeps
 
 pub returns-then-branch-clause-some : goal.returns-then-branch-clause-some
-returns-then-branch-clause-some c = λ t n x tried. fitted t _ n _ _ _ x tried (sym c.from.ensures ∙ c.if-from-call.false) c.heap.ensures.env.heap.names _ _ c.in_ok-base.ensures.ok _ (c.in_ok-fit.ensures.yes c.if-branch.true)
+returns-then-branch-clause-some c = λ t n x tried. fitted t _ n _ _ _ x tried (sym c.from.ensures ∙ c.if-from-call.false) c.heap.ensures.env.heap.names _ _ c.in_ok-base.ensures.ok _ (rw (sym c.from.ensures ∙ c.if-from-call.false) at (c.in_ok-fit.ensures.yes c.if-branch.true))
 
 pub returns-then-branch-clause-keeps : goal.returns-then-branch-clause-keeps
 returns-then-branch-clause-keeps c = Keeps-trans _ _ _ c.in_ok-base.ensures.ok.keeps c.fit.ensures.keeps
 
 pub returns-else-branch-clause-none : goal.returns-else-branch-clause-none
-returns-else-branch-clause-none c = λ t n x tried. unfit t _ n _ _ _ x tried (sym c.from.ensures ∙ c.if-from-call.false) c.heap.ensures.env.heap.names _ _ c.in_ok-base.ensures.ok c.fit.new.env (c.in_ok-fit.ensures.no c.if-branch.false)
+returns-else-branch-clause-none c = λ t n x tried. unfit t _ n _ _ _ x tried (sym c.from.ensures ∙ c.if-from-call.false) c.heap.ensures.env.heap.names _ _ c.in_ok-base.ensures.ok c.fit.new.env (rw (sym c.from.ensures ∙ c.if-from-call.false) at (c.in_ok-fit.ensures.no c.if-branch.false))
 
 pub returns-else-branch-clause-keeps : goal.returns-else-branch-clause-keeps
 returns-else-branch-clause-keeps c = Keeps-trans _ _ _ c.in_ok-base.ensures.ok.keeps c.fit.ensures.keeps

@@ -1,0 +1,141 @@
+-- A call that is tried: the clause that fits is entered, or none is left.
+use Rattle.std.proofs.Common.{◌≡◌, ℕ, List, [], ◌∷◌, ◌++◌, drop, reverse, sym, ap, ap₂, ◌∙◌, subst}
+use Rattle.plterm.specs.Tree.{Tree}
+use Rattle.plsubst.specs.Subst.{bind}
+use Rattle.plclause.specs.Clause.{Clause}
+use Rattle.plcells.specs.declared.cell.Cell.{Cell}
+use Rattle.plsearch.specs.Types.{Element, Place, Case, Choice}
+use Rattle.plsearch.specs.Lists.{bind_goals}
+use Rattle.plsearch.specs.Rows.{before_rest, is_true}
+use Rattle.plsearch.specs.Engine.{deeper}
+use Rattle.plcode.specs.Clauses.{IsCodeOf}
+use Rattle.plcode.specs.Callees.{Compiled}
+use Rattle.plenv.specs.Env.{Env, cut, over}
+use Rattle.pllinks.specs.Links.{alone}
+use Rattle.pllinks.specs.declared.link.Continuation.{Continuation}
+use Rattle.plstack.specs.declared.frame.Point.{Point}
+use Rattle.plstack.specs.declared.frame.Clauses.{Clauses}
+use Rattle.plstack.specs.declared.frame.Resume.TheVariants as resumes
+use Rattle.plstack.specs.declared.frame.Frame.{Frame}
+use Rattle.plstack.specs.declared.frame.Frame.TheVariants.{Plain, Barrier, Open}
+use Rattle.plstack.specs.declared.fit.Hit.{Hit}
+use Rattle.plstack.specs.Places.{Statics, called, places_left}
+use Rattle.plstack.specs.State.{State, goals_of, place_of, cases_of, IsList, AddsList, Retries, IsClauses, BeginsWith, HasClauses}
+use Rattle.plstack.specs.Calls.{places_of, Calls, CallsNone, StaysAt}
+use Rattle.plstack.specs.StaticCalls.{AtCall, IsCalling, further, onward, Binds, Enters, Hits, OpensCall}
+use Rattle.plstack.proofs.Frames.{reverse-push}
+use Rattle.plstack.proofs.Stacks.{popped-cases}
+
+-- the list behind the goal has a number
+module _ (s t : State) (p : Point) (c : Clauses) (n : ℕ) (at : AtCall s p c) (adds : AddsList s t (alone n) (goals_of s p.list)) where
+  pub at-numbered : AtCall t p c
+  at-numbered = record {
+    calling = record { rest = at.calling.rest; top = adds.stays.frames ∙ at.calling.top };
+    now = ap (cut p.marks.env) adds.env ∙ at.now ∙ sym adds.env;
+    list = (adds.stays.lists p.list at.list).0;
+  }
+
+  pub calling-found : (u : State) → u ≡ record t { env = u.env } → IsCalling u p c
+  calling-found u same = record { rest = at.calling.rest; top = ap (λ (x : State). x.frames) same ∙ adds.stays.frames ∙ at.calling.top }
+
+  -- a clause fits, and the unifier is put into all
+  module _ (u : State) (same : u ≡ record t { env = u.env }) (binds : Binds t u) where
+    pub behind-found : IsList u (alone n)
+    behind-found = (binds.lists (alone n) adds.there).0
+
+    list-found : goals_of u (alone n) ≡ goals_of u p.list
+    list-found =
+        (binds.lists (alone n) adds.there).1
+        ∙ ap (bind_goals binds.unifier) (adds.is ∙ sym (adds.stays.lists p.list at.list).1)
+        ∙ sym (binds.lists p.list at-numbered.list).1
+
+    pub code-found : (hit : Hit) (x : Clause) → IsCodeOf t.code.text hit.clause x → IsCodeOf u.code.text hit.clause x
+    code-found hit x code = subst (λ (m : Compiled). IsCodeOf m.text hit.clause x) (sym (ap (λ (y : State). y.code) same)) code
+
+    pub retries-entered : (statics : Statics) (new : State) (hit : Hit) → cases_of statics u ≡ cases_of statics t → Hits statics t u p c hit → Enters statics u new p c hit n → Retries statics s new
+    retries-entered statics new hit cases hits enters =
+        let d : ℕ = deeper enters.goes.below 0 in
+        let left : List Place = further statics u d p c (onward hit.next (statics c.procedure).clauses) in
+        let body : Tree = bind (over u.env hit.base) hits.clause.body in
+        record {
+          others = left;
+          older = enters.goes.below;
+          was =
+              sym (cases ∙ adds.stays.cases statics)
+              ∙ enters.goes.was
+              ∙ ap (λ ps. Choice ps ∷ enters.goes.below) (hits.left d)
+              ∙ ap (λ es. Choice (record { goals = before_rest (is_true hits.clause.body) d body es; variables = u.env.count } ∷ left) ∷ enters.goes.below) (sym list-found)
+              ∙ ap (λ q. Choice (q ∷ left) ∷ enters.goes.below) (sym (enters.place hits.clause (code-found hit hits.clause hits.code)));
+          cases = enters.goes.cases;
+        }
+
+-- no clause of the innermost call is left
+pub none-entered : (statics : Statics) (s : State) (p : Point) (c : Clauses) → IsCalling s p c → ((d : ℕ) → further statics s d p c (drop c.next (statics c.procedure).clauses) ≡ []) →
+    (below : List Case) × (cases_of statics s ≡ Choice [] ∷ below)
+none-entered statics s p c calling none =
+    let below = cases_of statics (record s { frames = calling.rest }) in
+    (below, popped-cases statics s calling.rest (Open p (resumes.Clauses c)) calling.top ∙ ap (λ ps. Choice ps ∷ below) (none (deeper below 0)))
+
+places_in : List Place → Case → List Place
+places_in d (Choice ps) = ps
+places_in d x = d
+
+first_case : Case → List Case → Case
+first_case d [] = d
+first_case d (x ∷ xs) = x
+
+behind_first : List Case → List Case
+behind_first [] = []
+behind_first (x ∷ xs) = xs
+
+-- a choice before cases is the same
+choices-same : (ps qs : List Place) (xs ys : List Case) → Choice ps ∷ xs ≡ Choice qs ∷ ys → (ps ≡ qs) × (xs ≡ ys)
+unfolding places_in first_case behind_first
+choices-same ps qs xs ys e = (ap (λ zs. places_in ps (first_case (Choice ps) zs)) e, ap behind_first e)
+
+-- a call of a goal before a list
+module _ (s t u : State) (procedure n : ℕ) (values : List Cell) (rest : Continuation) (adds : AddsList s t (alone n) (goals_of s rest)) (opens : OpensCall t u procedure values (alone n)) (statics : Statics) where
+  abbrev goal : Tree
+  goal = called s.env.heap (statics procedure).name values
+
+  abbrev cs : List Clause
+  cs = (statics procedure).clauses
+
+  numbered-places : places_of statics t (called t.env.heap (statics procedure).name values) (alone n) cs ≡ places_of statics s goal rest cs
+  numbered-places =
+      ap₂ (λ (xs : List Case) (e : Env). places_left (deeper xs 0) e (called e.heap (statics procedure).name values) (goals_of t (alone n)) cs) (adds.stays.cases statics) adds.env
+      ∙ ap (λ es. places_left (deeper (cases_of statics s) 0) s.env goal es cs) adds.is
+
+  opened : cases_of statics u ≡ Choice (places_of statics s goal rest cs) ∷ cases_of statics s
+  opened = opens.cases statics ∙ ap₂ (λ ps xs. Choice ps ∷ xs) numbered-places (adds.stays.cases statics)
+
+  pub calls-entered : (new : State) → Retries statics u new → Calls statics s new goal rest cs
+  calls-entered new r =
+      let same = choices-same (places_of statics s goal rest cs) (place_of new ∷ r.others) (cases_of statics s) r.older (sym opened ∙ r.was) in
+      record { others = r.others; places = same.0; cases = r.cases ∙ ap (λ xs. Choice r.others ∷ xs) (sym same.1) }
+
+  pub calls-none : (new : State) → cases_of statics u ≡ Choice [] ∷ cases_of statics new → CallsNone statics s new goal rest cs
+  calls-none new e =
+      let same = choices-same (places_of statics s goal rest cs) [] (cases_of statics s) (cases_of statics new) (sym opened ∙ e) in
+      record { none = same.0; cases = sym same.1 }
+
+pub stays-numbered : (s t : State) (n : ℕ) (es : List Element) → AddsList s t (alone n) es → StaysAt s t
+stays-numbered s t n es adds = record {
+  cases = adds.stays.cases;
+  place = ap₂ (λ gs k. record { goals = gs; variables = k }) adds.stays.visited (ap (λ (e : Env). e.count) adds.env);
+}
+
+without : (s : State) (rest : List Frame) (statics : Statics) (x : Case) (below : List Case) → cases_of statics s ≡ x ∷ below → (f : Frame) → IsClauses f → s.frames ≡ rest ++ f ∷ [] →
+    cases_of statics (record s { frames = rest }) ≡ below
+unfolding behind_first
+without s rest statics x below e (Plain n) i is = absurd i
+without s rest statics x below e (Barrier l) i is = absurd i
+without s rest statics x below e (Open p (resumes.Clauses c)) i is = ap behind_first (sym (popped-cases statics s rest (Open p (resumes.Clauses c)) is) ∙ e)
+without s rest statics x below e (Open p (resumes.Copies c)) i is = absurd i
+without s rest statics x below e (Open p resumes.List) i is = absurd i
+without s rest statics x below e (Open p (resumes.Catch c)) i is = absurd i
+
+-- without the innermost case, a call
+pub left-call : (s : State) (rest : List Frame) (f : Frame) → s.frames ≡ rest ++ f ∷ [] → HasClauses s → (statics : Statics) (x : Case) (below : List Case) → cases_of statics s ≡ x ∷ below →
+    cases_of statics (record s { frames = rest }) ≡ below
+left-call s rest f popped has statics x below e = without s rest statics x below e f (subst (BeginsWith IsClauses) (ap reverse popped ∙ reverse-push rest f) has) popped

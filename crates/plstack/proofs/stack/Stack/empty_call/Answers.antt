@@ -1,0 +1,18 @@
+use Rattle.plstack.proofs.Stacks.{inside}
+use Rattle.plstack.proofs.Going.{emptied-stack, emptied, emptied-older}
+use Rattle.plstack.proofs.stack.Stack.empty_call.Goals as goal
+
+pub invariant_of-self : goal.invariant_of-self
+invariant_of-self c =
+    let calling = rw (← c.self.view_is) at c.requires in
+    emptied-stack (inside c.self.inside) c.self.inside.depth c.self.invariant c.args.at.point c.args.at.call calling c.pop.new.self.items c.in-Some.field-0 c.in-Some.ensures.items c.count_up.new.frames.items c.count_up.ensures
+
+pub returns-clause-goes : goal.returns-clause-goes
+returns-clause-goes c = λ statics.
+    let calling = rw (← c.self.view_is) at c.requires in
+    rw (← c.self.view_is) (emptied (inside c.self.inside) c.self.inside.depth c.self.invariant c.args.at.point c.args.at.call calling c.pop.new.self.items c.in-Some.field-0 c.in-Some.ensures.items c.count_up.new.frames.items c.count_up.ensures statics)
+
+pub returns-clause-older : goal.returns-clause-older
+returns-clause-older c =
+    let calling = rw (← c.self.view_is) at c.requires in
+    emptied-older (inside c.self.inside) c.self.inside.depth c.self.invariant c.args.at.point c.args.at.call calling c.pop.new.self.items c.in-Some.field-0 c.in-Some.ensures.items c.count_up.new.frames.items c.count_up.ensures

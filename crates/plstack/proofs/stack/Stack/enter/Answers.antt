@@ -1,0 +1,23 @@
+use Rattle.std.proofs.Common.{ap, ◌∙◌}
+use Rattle.plsubst.specs.Subst.{bind}
+use Rattle.plsearch.specs.Rows.{before_rest, is_true}
+use Rattle.plenv.specs.Env.{over}
+use Rattle.pllinks.specs.Links.{alone}
+use Rattle.plstack.specs.State.{State, place_of, goals_of}
+use Rattle.plstack.proofs.Stacks.{inside}
+use Rattle.plstack.proofs.Going.{goes_visited, level-of}
+use Rattle.plstack.proofs.stack.Stack.enter.Goals as goal
+
+pub returns-clause-enters : goal.returns-clause-enters
+returns-clause-enters c = λ statics.
+    let s : State = c.args.self.now in
+    let goes = goes_visited statics s c.go_on.new.self c.body_list-list.result c.args.at.point c.args.at.call c.args.hit.next (rw c.visit.ensures at (c.go_on.ensures.goes statics)) in
+    let level = level-of statics (inside c.self.inside) s c.self.inside.depth c.self.invariant c.self.view_is _ goes.below goes.was in
+    record {
+      goes = goes;
+      place = λ x code.
+          c.go_on.ensures.place
+          ∙ ap place_of c.visit.ensures
+          ∙ ap (λ gs. record { goals = gs; variables = s.env.count }) (c.body_list-list.ensures.is x code)
+          ∙ ap (λ l. record { goals = before_rest (is_true x.body) l (bind (over s.env c.args.hit.base) x.body) (goals_of s (alone c.args.behind)); variables = s.env.count }) level;
+    }

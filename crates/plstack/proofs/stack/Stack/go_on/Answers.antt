@@ -1,0 +1,7 @@
+use Rattle.std.proofs.Common.{None}
+use Rattle.plstack.proofs.Going.{goes_settled}
+use Rattle.plstack.proofs.stack.Stack.go_on.Goals as goal
+
+pub returns-in-None-clause-goes : goal.returns-in-None-clause-goes
+returns-in-None-clause-goes c = λ statics.
+    rw c.in-None.is (goes_settled statics c.args.self.now c.empty_call.new.self c.settle.new.self c.args.at.point c.args.at.call None (c.empty_call.ensures.goes statics) c.settle.ensures)

@@ -1,0 +1,9 @@
+use Rattle.plstack.proofs.Stacks.{inside}
+use Rattle.plstack.proofs.Growing.{stack-env, extends-env}
+use Rattle.plstack.proofs.stack.Stack.goal_of.Goals as goal
+
+pub invariant_of-self : goal.invariant_of-self
+invariant_of-self c = stack-env (inside c.self.inside) c.self.inside.depth c.goal_of-goal.new.self c.goal_of-goal.ensures.stays.extends c.heap.ensures.env c.self.invariant
+
+pub returns-clause-stays : goal.returns-clause-stays
+returns-clause-stays c = rw (← c.self.view_is) (extends-env (inside c.self.inside) c.self.inside.depth c.goal_of-goal.new.self c.goal_of-goal.ensures.stays.extends c.heap.ensures.env c.self.invariant)

@@ -1,0 +1,25 @@
+use Rattle.std.proofs.Common.{sym, ap, subst, ◌∙◌, ◌∷◌, []}
+use Rattle.plsearch.specs.Types.{Choice}
+use Rattle.plcode.specs.Callees.{Compiled}
+use Rattle.plstack.specs.StaticCalls.{AreStatics}
+use Rattle.plstack.proofs.Entering.{behind-found, calling-found, retries-entered, none-entered}
+use Rattle.plstack.proofs.stack.Stack.try_next.Goals as goal
+
+pub enter-requires-clause-behind : goal.enter-requires-clause-behind
+enter-requires-clause-behind c =
+    behind-found c.args.self.now c.number_of.new.self c.args.at.point c.args.at.call c.in_ok-behind.behind c.requires.at c.in_ok-behind.ensures.ok c.find.new.self c.find.ensures.same (rw c.in-Some.is at c.in_ok-hit.ensures.binds)
+
+pub returns-in-Some-clause-yes : goal.returns-in-Some-clause-yes
+returns-in-Some-clause-yes c = λ _ statics own.
+    let adds = c.in_ok-behind.ensures.ok in
+    let then = subst (λ (m : Compiled). AreStatics m statics) (sym adds.stays.code) own in
+    retries-entered c.args.self.now c.number_of.new.self c.args.at.point c.args.at.call c.in_ok-behind.behind c.requires.at adds c.find.new.self c.find.ensures.same (rw c.in-Some.is at c.in_ok-hit.ensures.binds)
+    statics c.enter.new.self c.in-Some.hit (c.find.ensures.cases statics) ((rw c.in-Some.is at c.in_ok-hit.ensures.some) statics then) (c.enter.ensures.enters statics)
+
+pub returns-in-None-clause-no : goal.returns-in-None-clause-no
+returns-in-None-clause-no c = λ _ statics own.
+    let adds = c.in_ok-behind.ensures.ok in
+    let then = subst (λ (m : Compiled). AreStatics m statics) (sym adds.stays.code) own in
+    let calling = calling-found c.args.self.now c.number_of.new.self c.args.at.point c.args.at.call c.in_ok-behind.behind c.requires.at adds c.find.new.self c.find.ensures.same in
+    let e = none-entered statics c.find.new.self c.args.at.point c.args.at.call calling ((rw c.in-None.is at c.in_ok-hit.ensures.none) statics then) in
+    sym (c.find.ensures.cases statics ∙ adds.stays.cases statics) ∙ e.1 ∙ ap (λ xs. Choice [] ∷ xs) (sym (c.leave_call.ensures.cases statics (Choice []) e.0 e.1))

@@ -1,0 +1,326 @@
+//! Calls of static procedures.
+ghost use Rattle.std.specs.Prelude.{◌≡◌, ℕ, ◌+◌, ◌<◌, ◌≤◌, ◌^◌, List, [], ◌∷◌, length, drop, reverse, true, false, None, Some, IfOk, IfSome, IfNone, OnErr, OnOk};
+ghost use Rattle.plsubst.specs.Subst.{bind};
+ghost use Rattle.plclause.specs.Clause.{Clause};
+ghost use Rattle.plcells.specs.Store.{AreValues};
+ghost use Rattle.plsearch.specs.Types.{Case, Choice};
+ghost use Rattle.plsearch.specs.Rows.{before_rest, is_true};
+ghost use Rattle.plcode.specs.Clauses.{IsCodeOf};
+ghost use Rattle.plcode.specs.Steps.{Text};
+ghost use Rattle.plenv.specs.Env.{cut, over, renamed, IsMark, IsWithin};
+ghost use Rattle.plenv.specs.Changes.{Keeps};
+ghost use Rattle.pllinks.specs.Links.{alone};
+ghost use Rattle.plstack.specs.Places.{Statics, called};
+ghost use Rattle.plstack.specs.Frames.{AreOlder};
+ghost use Rattle.plstack.specs.Fits.{FindsNone};
+ghost use Rattle.plstack.specs.Attempts.{IsAttempt};
+ghost use Rattle.plstack.specs.State.{cases_of, goals_of, place_of, HasClauses, IsList, Retries};
+ghost use Rattle.plstack.specs.Calls.{Calls, CallsNone, StaysAt};
+ghost use Rattle.plstack.specs.StaticCalls.{further, AreStatics, AtCall, Binds, Enters, FindsHit, GoesOn, Hits, IsCalling, OpensCall};
+
+use crate::fit::{Attempt, Hit, first_fit};
+use crate::frame::{Clauses, Frame, Marks, Point, Resume};
+use crate::key::first_key;
+use crate::open::{count_up, push_frame};
+use crate::stack::Stack;
+use plcells::cell::Cell;
+use plenv::env::Environment;
+use plhead::head::Matcher;
+use pllinks::item::Run;
+use pllinks::link::Continuation;
+use std::alloc::AllocError;
+
+/// The innermost case, a call: what it comes back to, and what is left of it.
+#[derive(Clone, Copy)]
+pub struct Calling {
+    pub point: Point,
+    pub call: Clauses,
+}
+
+/// The first clause from a number on that fits the goal, and the next one that may. Where there is none all is as it was at the call; where
+/// memory gives out, an undo to its mark gives back what was changed.
+fn first_hit(
+    env: &mut Environment,
+    matcher: &mut Matcher,
+    call: &Attempt<'_>,
+    from: usize,
+) -> Result<Option<Hit>, AllocError>
+    requires attempt { (c : Text) × (n : List ℕ) × (xs : List Clause) × IsAttempt c env.old n call.now.values.now call.now.key call.now.nodes.now call.now.procedure.now xs }
+    requires within { from ≤ length call.now.procedure.now }
+    requires mark { IsMark call.now.mark env.old }
+    requires now { cut call.now.mark env.old ≡ env.old }
+    ensures some { IfOk result (λ o. IfSome o (λ hit. (c : Text) (n : List ℕ) (xs : List Clause) → IsAttempt c env.old n call.now.values.now call.now.key call.now.nodes.now call.now.procedure.now xs → FindsHit env.old env.new (called env.old.heap n call.now.values.now) call.now.key call.now.procedure.now xs from hit)) }
+    ensures none { IfOk result (λ o. IfNone o ((c : Text) (n : List ℕ) (xs : List Clause) → IsAttempt c env.old n call.now.values.now call.now.key call.now.nodes.now call.now.procedure.now xs → FindsNone env.old (called env.old.heap n call.now.values.now) xs from)) }
+    ensures same { IfOk result (λ o. IfNone o (env.new ≡ renamed env.old env.new.heap.names)) }
+    ensures keeps { Keeps env.old env.new }
+{
+    let Some(found) = first_fit(env, matcher, call, from)? else {
+        return Ok(None);
+    };
+    Ok(Some(Hit {
+        clause: call.procedure.clauses()[found.place],
+        base: found.base,
+        next: call.procedure.next(call.key, found.place + 1),
+    }))
+}
+
+impl Stack {
+    /// Calls a static procedure before a list: whether a clause fits. The body of the first that does is visited, in a choice of those behind it.
+    pub fn call(
+        &mut self,
+        procedure: u32,
+        values: &[Cell],
+        rest: Continuation,
+    ) -> Result<bool, AllocError>
+        requires statics { (statics : Statics) × AreStatics self.old.code statics }
+        requires values { AreValues self.old.env.heap values.now }
+        requires few { length values.now < 2 ^ 16 }
+        requires rest { IsList self.old rest }
+        ensures yes { IfOk result (λ yes. yes ≡ true → (statics : Statics) → AreStatics self.old.code statics → Calls statics self.old self.new (called self.old.env.heap (statics procedure).name values.now) rest (statics procedure).clauses) }
+        ensures no { IfOk result (λ yes. yes ≡ false → (statics : Statics) → AreStatics self.old.code statics → CallsNone statics self.old self.new (called self.old.env.heap (statics procedure).name values.now) rest (statics procedure).clauses) }
+        ensures code { self.new.code ≡ self.old.code }
+        ensures err { OnErr result (StaysAt self.old self.new) }
+    {
+        let behind = self.number_of(rest)?;
+        let at = self.open_call(procedure, values, behind)?;
+        match self.try_next(at) {
+            Ok(yes) => Ok(yes),
+            Err(e) => {
+                self.leave_call();
+                Err(e)
+            }
+        }
+    }
+
+    /// Tries the further clauses of the innermost case, a call of a static procedure: whether one fits. The body of the first that does is visited
+    /// before the list behind the goal, and the case has what is left behind it. Where none fits the case is closed.
+    /// After an `Err` the cases are as they were.
+    pub fn retry(&mut self) -> Result<bool, AllocError>
+        requires call { HasClauses self.old }
+        requires statics { (statics : Statics) × AreStatics self.old.code statics }
+        ensures yes { IfOk result (λ yes. yes ≡ true → (statics : Statics) → AreStatics self.old.code statics → Retries statics self.old self.new) }
+        ensures no { IfOk result (λ yes. yes ≡ false → (statics : Statics) → AreStatics self.old.code statics → cases_of statics self.old ≡ Choice [] ∷ cases_of statics self.new) }
+        ensures code { self.new.code ≡ self.old.code }
+        ensures err { OnErr result ((statics : Statics) → cases_of statics self.new ≡ cases_of statics self.old) }
+    {
+        let at = self.rewind_call();
+        self.try_next(at)
+    }
+
+    /// Opens the case of a call, whose values are kept, before a list by its number.
+    fn open_call(
+        &mut self,
+        procedure: u32,
+        values: &[Cell],
+        behind: u32,
+    ) -> Result<Calling, AllocError>
+        requires values { AreValues self.old.env.heap values.now }
+        requires few { length values.now < 2 ^ 16 }
+        requires behind { IsList self.old (alone behind) }
+        ensures opens { OnOk result (OpensCall self.old self.new procedure values.now (alone behind)) }
+        ensures at { IfOk result (λ at. AtCall self.new at.point at.call) }
+        ensures err { OnErr result (self.new ≡ self.old) }
+    {
+        if self.depth == u64::MAX {
+            return Err(AllocError);
+        }
+        self.frames.reserve(1)?;
+        let saved = self.saved.len();
+        self.saved.extend_from_slice(values)?;
+        let marks = Marks {
+            env: self.env.mark(),
+            links: self.links.len(),
+            saved,
+        };
+        let point = Point {
+            marks,
+            list: Continuation::alone(behind),
+        };
+        let call = Clauses {
+            procedure,
+            count: values.len() as u16,
+            next: 0,
+        };
+        push_frame(&mut self.frames, Frame::Open(point, Resume::Clauses(call)));
+        self.depth += 1;
+        Ok(Calling { point, call })
+    }
+
+    /// Goes back to where the innermost case was opened, which is a call of a static procedure and stays open.
+    fn rewind_call(&mut self) -> Calling
+        requires { HasClauses self.old }
+        ensures cases { (statics : Statics) → cases_of statics self.new ≡ cases_of statics self.old }
+        ensures at { AtCall self.new result.point result.call }
+        ensures code { self.new.code ≡ self.old.code }
+    {
+        let Some(Frame::Open(point, Resume::Clauses(call))) = self.frames.pop() else {
+            unreachable!()
+        };
+        self.env.undo(point.marks.env);
+        self.links.truncate(point.marks.links);
+        self.saved.truncate(point.marks.saved + call.count as usize);
+        self.goals = Continuation::alone(0);
+        push_frame(&mut self.frames, Frame::Open(point, Resume::Clauses(call)));
+        Calling { point, call }
+    }
+
+    /// Tries the further clauses of the innermost call, where all is as it was at its opening.
+    fn try_next(&mut self, at: Calling) -> Result<bool, AllocError>
+        requires at { AtCall self.old at.point at.call }
+        requires statics { (statics : Statics) × AreStatics self.old.code statics }
+        ensures yes { IfOk result (λ yes. yes ≡ true → (statics : Statics) → AreStatics self.old.code statics → Retries statics self.old self.new) }
+        ensures no { IfOk result (λ yes. yes ≡ false → (statics : Statics) → AreStatics self.old.code statics → cases_of statics self.old ≡ Choice [] ∷ cases_of statics self.new) }
+        ensures code { self.new.code ≡ self.old.code }
+        ensures err { OnErr result (StaysAt self.old self.new) }
+        ensures has { OnErr result (HasClauses self.new) }
+    {
+        let behind = self.number_of(at.point.list)?;
+        match self.find(at)? {
+            Some(hit) => {
+                self.enter(at, hit, behind);
+                Ok(true)
+            }
+            None => {
+                self.leave_call();
+                Ok(false)
+            }
+        }
+    }
+
+    /// The first clause that is left of the innermost call and fits: it has slots of its own, and the unifier is put into all.
+    fn find(&mut self, at: Calling) -> Result<Option<Hit>, AllocError>
+        requires at { AtCall self.old at.point at.call }
+        requires statics { (statics : Statics) × AreStatics self.old.code statics }
+        ensures some { IfOk result (λ o. IfSome o (λ hit. (statics : Statics) → AreStatics self.old.code statics → Hits statics self.old self.new at.point at.call hit)) }
+        ensures binds { IfOk result (λ o. IfSome o (λ hit. Binds self.old self.new)) }
+        ensures none { IfOk result (λ o. IfNone o ((statics : Statics) → AreStatics self.old.code statics → (d : ℕ) → further statics self.new d at.point at.call (drop at.call.next (statics at.call.procedure).clauses) ≡ [])) }
+        ensures cases { (statics : Statics) → cases_of statics self.new ≡ cases_of statics self.old }
+        ensures place { OnErr result (place_of self.new ≡ place_of self.old) }
+        ensures same { self.new ≡ record self.old { env = self.new.env } }
+    {
+        let Calling { point, call } = at;
+        let Some(procedure) = self.code.procedure(call.procedure) else {
+            return Ok(None);
+        };
+        if call.next > procedure.clauses().len() {
+            return Ok(None);
+        }
+        let first = point.marks.saved;
+        let values = &self.saved[first..first + call.count as usize];
+        let attempt = Attempt {
+            procedure,
+            nodes: self.code.nodes(),
+            key: first_key(self.env.heap(), values),
+            values,
+            mark: point.marks.env,
+        };
+        match first_hit(&mut self.env, &mut self.matcher, &attempt, call.next) {
+            Ok(hit) => {
+                let _ = self.env.heap();
+                Ok(hit)
+            }
+            Err(e) => {
+                let _ = self.env.heap();
+                self.env.undo(point.marks.env);
+                let _ = self.env.heap();
+                Err(e)
+            }
+        }
+    }
+
+    /// Enters a clause that fits: visits its body before a list, and puts what is left behind it in the place of the innermost case, a call.
+    fn enter(&mut self, at: Calling, hit: Hit, behind: u32)
+        requires calling { IsCalling self.old at.point at.call }
+        requires hit { (x : Clause) × IsCodeOf self.old.code.text hit.clause x × (hit.base + hit.clause.variables ≤ length self.old.env.slots) }
+        requires behind { IsList self.old (alone behind) }
+        ensures enters { (statics : Statics) → Enters statics self.old self.new at.point at.call hit behind }
+        ensures code { self.new.code ≡ self.old.code }
+    {
+        let level = self.depth - 1;
+        let list = self.body_list(hit, behind, level);
+        self.visit(list);
+        self.go_on(at, hit.next);
+    }
+
+    /// The body of a clause whose slots are there, at a level, before a list by its number.
+    fn body_list(&self, hit: Hit, behind: u32, level: u64) -> Continuation
+        requires hit { (x : Clause) × IsCodeOf self.now.code.text hit.clause x × (hit.base + hit.clause.variables ≤ length self.now.env.slots) }
+        requires behind { IsList self.now (alone behind) }
+        ensures there { IsList self.now result }
+        ensures is { (x : Clause) → IsCodeOf self.now.code.text hit.clause x → goals_of self.now result ≡ before_rest (is_true x.body) level (bind (over self.now.env hit.base) x.body) (goals_of self.now (alone behind)) }
+    {
+        if hit.clause.is_fact {
+            return Continuation::alone(behind);
+        }
+        let _ = self.env.heap();
+        let run = Run {
+            position: hit.clause.body,
+            owed: 0,
+            base: hit.base,
+            end: hit.base + hit.clause.variables,
+            level,
+        };
+        Continuation { run, rest: behind }
+    }
+
+    /// Of the innermost call the clauses from a number on are left, or none.
+    fn go_on(&mut self, at: Calling, next: Option<usize>)
+        requires { IsCalling self.old at.point at.call }
+        ensures goes { (statics : Statics) → GoesOn statics self.old self.new at.point at.call next }
+        ensures place { place_of self.new ≡ place_of self.old }
+        ensures code { self.new.code ≡ self.old.code }
+    {
+        match next {
+            Some(next) => self.replace_call(at, next),
+            None => {
+                self.empty_call(at);
+                self.settle(at.point.marks);
+            }
+        }
+    }
+
+    /// Of the innermost call the clauses from a number on are left.
+    fn replace_call(&mut self, at: Calling, next: usize)
+        requires { IsCalling self.old at.point at.call }
+        ensures goes { (statics : Statics) → GoesOn statics self.old self.new at.point at.call (Some next) }
+        ensures place { place_of self.new ≡ place_of self.old }
+        ensures code { self.new.code ≡ self.old.code }
+    {
+        let Calling { point, call } = at;
+        let Some(_) = self.frames.pop() else {
+            unreachable!()
+        };
+        let left = Clauses {
+            procedure: call.procedure,
+            count: call.count,
+            next,
+        };
+        push_frame(&mut self.frames, Frame::Open(point, Resume::Clauses(left)));
+    }
+
+    /// Of the innermost call nothing is left.
+    fn empty_call(&mut self, at: Calling)
+        requires { IsCalling self.old at.point at.call }
+        ensures goes { (statics : Statics) → GoesOn statics self.old self.new at.point at.call None }
+        ensures same { self.new ≡ record self.old { frames = self.new.frames } }
+        ensures within { IsWithin at.point.marks.env self.new.env }
+        ensures older { AreOlder at.point.marks (reverse self.new.frames) }
+    {
+        let Some(_) = self.frames.pop() else {
+            unreachable!()
+        };
+        count_up(&mut self.frames, 1);
+    }
+
+    /// Closes the innermost case, a call.
+    fn leave_call(&mut self)
+        requires { HasClauses self.old }
+        ensures cases { (statics : Statics) (c : Case) (below : List Case) → cases_of statics self.old ≡ c ∷ below → cases_of statics self.new ≡ below }
+        ensures same { self.new ≡ record self.old { frames = self.new.frames } }
+    {
+        let Some(_) = self.frames.pop() else {
+            unreachable!()
+        };
+        self.depth -= 1;
+    }
+}
