@@ -1,0 +1,63 @@
+-- What a call of a static procedure makes of a machine.
+use Rattle.std.proofs.Common.{◌≡◌, ℕ, [], ◌∷◌, sym, ap, ap₂, ◌∙◌, subst}
+use Rattle.plterm.specs.Tree.{Tree}
+use Rattle.plterm.specs.declared.indicator.Indicator.{Indicator}
+use Rattle.plprogram.specs.Program.{Program, clauses_for}
+use Rattle.plsearch.specs.Types.{Choice}
+use Rattle.plsearch.specs.Rows.{call, choose}
+use Rattle.plsearch.specs.Machines.Machine.{At}
+use Rattle.pllinks.specs.declared.link.Continuation.{Continuation}
+use Rattle.plstack.specs.State.{State, goals_of, place_of}
+use Rattle.plstack.specs.Places.{called}
+use Rattle.plstack.specs.Calls.{Calls, CallsNone, StaysAt}
+use Rattle.plstack.specs.StaticCalls.{statics_of}
+use Rattle.plstack.proofs.Program.{static-clauses, static-name}
+use Rattle.plmachine.specs.declared.machine.Outcome.TheVariants as outcomes
+use Rattle.plmachine.specs.declared.machine.Mode.TheVariants as modes
+use Rattle.plmachine.specs.declared.machine.Machine.{Machine as Reached}
+use Rattle.plmachine.specs.Machine.{cases_in, depth_of, local_of, machine, mode_of, Moved, Stays}
+use Rattle.plmachine.specs.Selected.{IsStaticCall}
+use Rattle.plmachine.proofs.Moves.{gives, goes-to, machine-is, moved-as, visit-asks}
+
+module _ (P : Program) (s : Reached) (st : State) (p : Indicator) (t : Tree) (i : ℕ) (rest : Continuation) (is : IsStaticCall P s p i t) (code : st.code ≡ s.stack.code) where
+  goal-is : called s.stack.env.heap (statics_of P i).name s.args.items ≡ t
+  goal-is = ap (λ n. called s.stack.env.heap n s.args.items) (static-name _ _ P p i is.static) ∙ is.goal
+
+  -- the call of the procedure at the place is that of the clauses for p
+  same-call : call (depth_of P s) s.stack.env.count (called s.stack.env.heap (statics_of P i).name s.args.items) (goals_of s.stack rest) (statics_of P i).clauses (local_of s)
+      ≡ call (depth_of P s) s.stack.env.count t (goals_of s.stack rest) (clauses_for P p) (local_of s)
+  same-call = ap₂ (λ u cs. call (depth_of P s) s.stack.env.count u (goals_of s.stack rest) cs (local_of s)) goal-is (static-clauses _ _ P p i is.static)
+
+  pub calls : (new : Reached) → s.mode ≡ modes.Visit → new ≡ record s { stack = st } → Calls (statics_of P) s.stack st (called s.stack.env.heap (statics_of P i).name s.args.items) rest (statics_of P i).clauses →
+      Moved P s new (call (depth_of P s) s.stack.env.count t (goals_of s.stack rest) (clauses_for P p) (local_of s))
+  calls new at made c =
+      let visits : new.mode ≡ modes.Visit = ap (λ x. x.mode) made ∙ at in
+      moved-as P s new _ _ same-call
+      (subst (λ ps. Moved P s new (choose ps (local_of s))) (sym c.places)
+      (goes-to P s new (Choice c.others ∷ []) (place_of st) (local_of s) (ap (λ x. x.stack.code) made ∙ code) (visit-asks new visits)
+      (ap (λ m. mode_of m new.stack) visits ∙ ap (λ x. At (place_of x.stack)) made)
+      (ap (λ x. cases_in P x) made ∙ c.cases) (ap (λ x. local_of x) made)))
+
+  pub calls-none : (new : Reached) → new ≡ record s { stack = st; mode = modes.Back outcomes.Fail } → CallsNone (statics_of P) s.stack st (called s.stack.env.heap (statics_of P i).name s.args.items) rest (statics_of P i).clauses →
+      Moved P s new (call (depth_of P s) s.stack.env.count t (goals_of s.stack rest) (clauses_for P p) (local_of s))
+  calls-none new made c =
+      moved-as P s new _ _ same-call
+      (subst (λ ps. Moved P s new (choose ps (local_of s))) (sym c.none)
+      (gives P s new outcomes.Fail (local_of s) (ap (λ x. x.stack.code) made ∙ code) (ap (λ x. x.mode) made) (ap (λ x. cases_in P x) made ∙ c.cases) (ap (λ x. local_of x) made)))
+
+-- memory gave out
+pub stays-at : (P : Program) (s new : Reached) (st : State) → s.mode ≡ modes.Visit → st.code ≡ s.stack.code → new ≡ record s { stack = st } → StaysAt s.stack st → Stays P s new
+unfolding machine
+stays-at P s new st at code made stays =
+    let visits : new.mode ≡ modes.Visit = ap (λ x. x.mode) made ∙ at in
+    let cases = ap (λ x. cases_in P x) made ∙ stays.cases (statics_of P) in
+    let local = ap (λ x. local_of x) made in
+    record {
+      code = ap (λ x. x.stack.code) made ∙ code;
+      cases = cases;
+      local = local;
+      askable = λ may. visit-asks new visits;
+      same = λ may left answers.
+          machine-is P new (mode_of s.mode s.stack) (cases_in P s) (local_of s)
+          (ap (λ m. mode_of m new.stack) visits ∙ ap (λ x. At (place_of x.stack)) made ∙ ap At stays.place ∙ ap (λ m. mode_of m s.stack) (sym at)) cases local left answers;
+    }

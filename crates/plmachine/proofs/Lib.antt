@@ -1,0 +1,11 @@
+pub mod Lists
+pub mod Moves
+pub mod Cutting
+pub mod Arounds
+pub mod Values
+pub mod Raising
+pub mod Offers
+pub mod Calling
+pub mod Selecting
+pub mod Terms
+pub mod Stepping

@@ -1,0 +1,213 @@
+-- What the rows make of a machine.
+use Rattle.std.proofs.Common.{◌≡◌, ℕ, List, [], ◌∷◌, ◌++◌, refl, sym, ap, ap₂, ◌∙◌, subst, OnErr, OnOk, Ok, Err, true, false, arith}
+use Rattle.std.specs.Prelude.{Result as Outcomes}
+use Rattle.plterm.specs.Tree.{Tree, var, int, atom, compound}
+use Rattle.plterm.specs.Variables.{copied}
+use Rattle.plterm.specs.declared.indicator.Indicator.{Indicator}
+use Rattle.plcells.specs.declared.cell.Cell.{Cell}
+use Rattle.plcells.specs.Store.{IsValue, value}
+use Rattle.plevent.specs.Search.{Answer}
+use Rattle.plprogram.specs.Program.{Program}
+use Rattle.plsearch.specs.Types.{Throw, Look, Await, Asking, Element, Place, Case, Local, Move, Give, Go}
+use Rattle.plsearch.specs.Errors.{error_term, instantiation_error}
+use Rattle.plsearch.specs.Lists.{levels}
+use Rattle.plsearch.specs.Rows.{raised, thrown, throw_1, go_on}
+use Rattle.plsearch.specs.Engine.{deeper}
+use Rattle.plsearch.specs.Machines.Machine.{Mode, At, Back, Rest, move}
+use Rattle.plsearch.specs.Search.{ending_of}
+use Rattle.pllinks.specs.declared.link.Continuation.{Continuation}
+use Rattle.plstack.specs.State.{State, IsList, place_of, cases_of, goals_of, Opens}
+use Rattle.plstack.specs.StaticCalls.{statics_of}
+use Rattle.plmachine.specs.declared.machine.Outcome.{Outcome}
+use Rattle.plmachine.specs.declared.machine.Question.{Question as Asked}
+use Rattle.plmachine.specs.declared.machine.Question.TheVariants as questions
+use Rattle.plmachine.specs.declared.machine.Mode.{Mode as Going}
+use Rattle.plmachine.specs.declared.machine.Mode.TheVariants as modes
+use Rattle.plmachine.specs.declared.machine.Machine.{Machine as Reached}
+use Rattle.plmachine.specs.Lists.{Grown, Holds}
+use Rattle.plmachine.specs.Machine.{result_of, then_of, question_of, mode_of, local_of, cases_in, depth_of, machine, is_var, IsAskable, MayAsk, Moved, Stays}
+
+-- ---- a machine by its parts
+
+pub machine-is : (P : Program) (s : Reached) (m : Mode) (cs : List Case) (w : Local) → mode_of s.mode s.stack ≡ m → cases_in P s ≡ cs → local_of s ≡ w →
+    (left : ℕ) (answers : List Answer) → machine P left answers s ≡ record { mode = m; cases = cs; run = record { steps = left; answers = answers; local = w } }
+unfolding machine
+machine-is P s m cs w at cases local left answers =
+    ap (λ x. record { mode = x; cases = cases_in P s; run = record { steps = left; answers = answers; local = local_of s } }) at
+    ∙ ap₂ (λ cs w. record { mode = m; cases = cs; run = record { steps = left; answers = answers; local = w } }) cases local
+
+-- values that are there stand for what they did
+abbrev pub ValuesStay : State → State → Type 0
+ValuesStay s t = (v : Cell) → IsValue s.env.heap v → IsValue t.env.heap v × (value t.env.heap v ≡ value s.env.heap v)
+
+may-ask : (s t : State) (m : Going) → ValuesStay s t → MayAsk s.env.heap m → MayAsk t.env.heap m
+may-ask s t modes.Visit values may = tt
+may-ask s t (modes.Ask (questions.Look v)) values may = (values v may).0
+may-ask s t (modes.Ask (questions.Await q next)) values may = may
+may-ask s t (modes.Back r) values may = tt
+
+same-mode : (s t : State) (m : Going) → ValuesStay s t → place_of t ≡ place_of s → MayAsk s.env.heap m → mode_of m t ≡ mode_of m s
+same-mode s t modes.Visit values place may = ap At place
+same-mode s t (modes.Ask (questions.Look v)) values place may =
+    ap₂ (λ u p. At (record { goals = Asking (Look u) ∷ p.goals; variables = p.variables })) (values v may).1 place
+same-mode s t (modes.Ask (questions.Await q next)) values place may =
+    ap (λ p. At (record { goals = Asking (Await q (then_of next)) ∷ p.goals; variables = p.variables })) place
+same-mode s t (modes.Back r) values place may = refl
+
+-- ---- where it stays
+
+pub stays-by : (P : Program) (s new : Reached) → new.stack.code ≡ s.stack.code → new.mode ≡ s.mode → ValuesStay s.stack new.stack → place_of new.stack ≡ place_of s.stack →
+    cases_in P new ≡ cases_in P s → local_of new ≡ local_of s → Stays P s new
+unfolding machine
+stays-by P s new code at values place cases local = record {
+  code = code;
+  cases = cases;
+  local = local;
+  askable = λ may. subst (MayAsk new.stack.env.heap) (sym at) (may-ask s.stack new.stack s.mode values may);
+  same = λ may left answers.
+      machine-is P new (mode_of s.mode s.stack) (cases_in P s) (local_of s) (ap (λ m. mode_of m new.stack) at ∙ same-mode s.stack new.stack s.mode values place may) cases local left answers;
+}
+
+pub stays_put : (P : Program) (s : Reached) → Stays P s s
+stays_put P s = record { code = refl; cases = refl; local = refl; askable = λ may. may; same = λ may left answers. refl }
+
+pub stays-trans : (P : Program) (a b c : Reached) → Stays P a b → Stays P b c → Stays P a c
+stays-trans P a b c f g = record {
+  code = g.code ∙ f.code;
+  cases = g.cases ∙ f.cases;
+  local = g.local ∙ f.local;
+  askable = λ may. g.askable (f.askable may);
+  same = λ may left answers. g.same (f.askable may) left answers ∙ f.same may left answers;
+}
+
+-- lists and values were added
+pub grown-stays : (P : Program) (s t : Reached) → Grown s.stack t.stack → t ≡ record s { stack = t.stack } → Stays P s t
+grown-stays P s t g is =
+    stays-by P s t g.extends.code (ap (λ x. x.mode) is) g.extends.values
+    (ap₂ (λ gs n. record { goals = gs; variables = n }) g.extends.visited g.count)
+    (g.extends.cases (statics_of P)) (ap (λ x. local_of x) is)
+
+pub grown-depth : (P : Program) (s t : Reached) → Grown s.stack t.stack → depth_of P t ≡ depth_of P s
+grown-depth P s t g = ap (λ cs. deeper cs 0) (g.extends.cases (statics_of P))
+
+-- ---- moves
+
+pub moved-as : (P : Program) (s new : Reached) (m m' : Move) → m ≡ m' → Moved P s new m → Moved P s new m'
+moved-as P s new m m' same moved = subst (Moved P s new) same moved
+
+-- a move from where it stood
+pub moved-from : (P : Program) (s t new : Reached) (m : Move) → Stays P s t → Moved P t new m → Moved P s new m
+moved-from P s t new m stay moved = record {
+  code = moved.code ∙ stay.code;
+  askable = moved.askable;
+  ends = λ most left answers.
+      ap₂ (λ cs w. ending_of most (Rest P (move cs (record { steps = left; answers = answers; local = w }) m))) (sym stay.cases) (sym stay.local)
+      ∙ moved.ends most left answers;
+}
+
+-- a move that is made where lists and values were added
+pub moved-grown : (P : Program) (s t new : Reached) (m m' : Move) → Grown s.stack t.stack → t ≡ record s { stack = t.stack } → m ≡ m' → Moved P t new m → Moved P s new m'
+moved-grown P s t new m m' g is same moved = subst (Moved P s new) same (moved-from P s t new m (grown-stays P s t g is) moved)
+
+-- a list is visited, in more cases
+pub goes-to : (P : Program) (s new : Reached) (cs : List Case) (p : Place) (w : Local) → new.stack.code ≡ s.stack.code → MayAsk new.stack.env.heap new.mode →
+    mode_of new.mode new.stack ≡ At p → cases_in P new ≡ cs ++ cases_in P s → local_of new ≡ w → Moved P s new (Go cs p w)
+goes-to P s new cs p w code may at cases local = record {
+  code = code;
+  askable = may;
+  ends = λ most left answers. ap (λ m. ending_of most (Rest P m)) (sym (machine-is P new (At p) (cs ++ cases_in P s) w at cases local left answers));
+}
+
+pub visit-asks : (s : Reached) → s.mode ≡ modes.Visit → MayAsk s.stack.env.heap s.mode
+visit-asks s at = subst (MayAsk s.stack.env.heap) (sym at) tt
+
+pub back-asks : (s : Reached) (r : Outcome) → s.mode ≡ modes.Back r → MayAsk s.stack.env.heap s.mode
+back-asks s r at = subst (MayAsk s.stack.env.heap) (sym at) tt
+
+-- a result is carried
+pub gives : (P : Program) (s new : Reached) (r : Outcome) (w : Local) → new.stack.code ≡ s.stack.code → new.mode ≡ modes.Back r → cases_in P new ≡ cases_in P s → local_of new ≡ w → Moved P s new (Give (result_of r) w)
+gives P s new r w code at cases local = record {
+  code = code;
+  askable = back-asks new r at;
+  ends = λ most left answers. ap (λ m. ending_of most (Rest P m)) (sym (machine-is P new (Back (result_of r)) (cases_in P s) w (ap (λ m. mode_of m new.stack) at) cases local left answers));
+}
+
+pub gave : (P : Program) (s new : Reached) (r : Outcome) → new ≡ record s { mode = modes.Back r } → Moved P s new (Give (result_of r) (local_of s))
+gave P s new r is = gives P s new r (local_of s) (ap (λ x. x.stack.code) is) (ap (λ x. x.mode) is) (ap (λ x. cases_in P x) is) (ap (λ x. local_of x) is)
+
+-- a list is visited, in a stack that has grown
+pub visits : (P : Program) (s new : Reached) (t : State) (l : Continuation) (es : List Element) (w : Local) → Grown s.stack t → Holds t l es → new.stack ≡ record t { goals = l } → new.mode ≡ modes.Visit →
+    local_of new ≡ w → Moved P s new (go_on es s.stack.env.count w)
+unfolding cases_of
+visits P s new t l es w g h is at wrote =
+    goes-to P s new [] (record { goals = es; variables = s.stack.env.count }) w (ap (λ x. x.code) is ∙ g.extends.code) (visit-asks new at)
+    (ap₂ mode_of at is ∙ ap₂ (λ gs n. At (record { goals = gs; variables = n })) h.is g.count)
+    (ap (cases_of (statics_of P)) is ∙ g.extends.cases (statics_of P)) wrote
+
+pub went : (P : Program) (s new : Reached) (t : State) (l : Continuation) (es : List Element) → Grown s.stack t → Holds t l es → new ≡ record s { stack = record t { goals = l }; mode = modes.Visit } →
+    Moved P s new (go_on es s.stack.env.count (local_of s))
+went P s new t l es g h is = visits P s new t l es (local_of s) g h (ap (λ x. x.stack) is) (ap (λ x. x.mode) is) (ap (λ x. local_of x) is)
+
+-- a list is visited in more cases
+pub enters : (P : Program) (s new : Reached) (t : State) (more : List Case) (l : Continuation) → IsList s.stack l → Opens s.stack t more → new ≡ record s { stack = record t { goals = l }; mode = modes.Visit } →
+    Moved P s new (Go more (record { goals = goals_of s.stack l; variables = s.stack.env.count }) (local_of s))
+unfolding cases_of
+enters P s new t more l i o is =
+    goes-to P s new more (record { goals = goals_of s.stack l; variables = s.stack.env.count }) (local_of s) (ap (λ x. x.stack.code) is ∙ o.code) (visit-asks new (ap (λ x. x.mode) is))
+    (ap (λ x. mode_of x.mode x.stack) is ∙ ap₂ (λ gs n. At (record { goals = gs; variables = n })) (o.lists l i).1 o.count)
+    (ap (λ x. cases_in P x) is ∙ o.cases (statics_of P)) (ap (λ x. local_of x) is)
+
+-- something is asked before a list
+pub asks : (P : Program) (s new : Reached) (q : Asked) (l : Continuation) → IsAskable s.stack.env.heap q → new ≡ record s { stack = record s.stack { goals = l }; mode = modes.Ask q } →
+    Moved P s new (go_on (Asking (question_of s.stack.env.heap q) ∷ goals_of s.stack l) s.stack.env.count (local_of s))
+unfolding cases_of
+asks P s new q l may is =
+    goes-to P s new [] (record { goals = Asking (question_of s.stack.env.heap q) ∷ goals_of s.stack l; variables = s.stack.env.count }) (local_of s) (ap (λ x. x.stack.code) is)
+    (subst (λ x. MayAsk x.stack.env.heap x.mode) (sym is) may)
+    (ap (λ x. mode_of x.mode x.stack) is) (ap (λ x. cases_in P x) is) (ap (λ x. local_of x) is)
+
+-- the same move, by its parts
+pub go-same : (cs cs' : List Case) (gs gs' : List Element) (n n' : ℕ) (w w' : Local) → cs ≡ cs' → gs ≡ gs' → n ≡ n' → w ≡ w' → ◌≡◌ {A = Move} (Go cs (record { goals = gs; variables = n }) w) (Go cs' (record { goals = gs'; variables = n' }) w')
+go-same cs cs' gs gs' n n' w w' a b c d = ap₂ (λ cs w. Go cs (record { goals = gs; variables = n }) w) a d ∙ ap₂ (λ gs n. Go cs' (record { goals = gs; variables = n }) w') b c
+
+-- ---- errors and balls
+
+pub raises : (P : Program) (s new : Reached) (e : Tree) (p : Indicator) (es : List Element) (r : Outcome) → result_of r ≡ Throw (copied 0 (error_term e p)) (levels es) →
+    new ≡ record s { mode = modes.Back r } → Moved P s new (raised e p es (local_of s))
+unfolding raised
+raises P s new e p es r is made = subst (λ x. Moved P s new (Give x (local_of s))) is (gave P s new r made)
+
+pub thrown-other : (t : Tree) (es : List Element) (w : Local) → is_var t ≡ false → thrown t es w ≡ Give (Throw (copied 0 t) (levels es)) w
+thrown-other (var x) es w not = absurd (grind (arith, not))
+thrown-other (int i) es w not = refl
+thrown-other (atom f) es w not = refl
+thrown-other (compound f ts) es w not = refl
+
+pub thrown-var : (t : Tree) (es : List Element) (w : Local) → is_var t ≡ true → thrown t es w ≡ raised instantiation_error throw_1 es w
+thrown-var (var x) es w is = refl
+thrown-var (int i) es w is = absurd (grind (arith, is))
+thrown-var (atom f) es w is = absurd (grind (arith, is))
+thrown-var (compound f ts) es w is = absurd (grind (arith, is))
+
+pub throws : (P : Program) (s new : Reached) (t : Tree) (es : List Element) (r : Outcome) → is_var t ≡ false → result_of r ≡ Throw (copied 0 t) (levels es) →
+    new ≡ record s { mode = modes.Back r } → Moved P s new (thrown t es (local_of s))
+throws P s new t es r other is made =
+    subst (Moved P s new) (sym (thrown-other t es (local_of s) other)) (subst (λ x. Moved P s new (Give x (local_of s))) is (gave P s new r made))
+
+-- ---- results
+
+pub on_err : {A E K : Type 0} (r : Outcomes A E) → K → OnErr r K
+on_err (Ok a) k = tt
+on_err (Err e) k = k
+
+pub on_ok_map : {A E K L : Type 0} (r : Outcomes A E) → (K → L) → OnOk r K → OnOk r L
+on_ok_map (Ok a) f k = f k
+on_ok_map (Err e) f k = tt
+
+pub on_err_map : {A E K L : Type 0} (r : Outcomes A E) → (K → L) → OnErr r K → OnErr r L
+on_err_map (Ok a) f k = tt
+on_err_map (Err e) f k = f k
+
+-- the arguments of the goal that is selected are others
+pub args-stay : (P : Program) (s new : Reached) → new ≡ record s { args = new.args } → Stays P s new
+args-stay P s new is = subst (Stays P s) (sym is) (stays-by P s (record s { args = new.args }) refl refl (λ v i. (i, refl)) refl refl refl)

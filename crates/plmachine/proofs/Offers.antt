@@ -1,0 +1,71 @@
+-- What a built-in predicate makes of a machine.
+use Rattle.std.proofs.Common.{◌≡◌, ℕ, ◌+◌, List, [], ◌∷◌, ◌++◌, refl, sym, ap, ap₂, ◌∙◌, subst, None, option_map, arith, append-nil}
+use Rattle.plterm.specs.Tree.{Tree, var}
+use Rattle.plterm.specs.declared.indicator.Indicator.{Indicator}
+use Rattle.plcells.specs.declared.cell.Cell.{Cell}
+use Rattle.plcells.specs.Store.{value}
+use Rattle.plsubst.specs.Unify.{places, differ, unify_in, unify}
+use Rattle.plsubst.proofs.Unify.{bind-var}
+use Rattle.plprogram.specs.Program.{Program}
+use Rattle.plprogram.specs.declared.settings.Settings.{Settings}
+use Rattle.plbuiltin.specs.Solution.{fails, unifies as unified_to, writes}
+use Rattle.plsearch.specs.Types.{Fail, Look, Await, Goal, Marker, Raise, Asking, Element, Local, Move, Give}
+use Rattle.plsearch.specs.Lists.{bind_goals}
+use Rattle.plsearch.specs.Machines.Machine.{At}
+use Rattle.plsearch.specs.Rows.{go_on, solved, taken, offer}
+use Rattle.pllinks.specs.declared.link.Continuation.{Continuation}
+use Rattle.plstack.specs.State.{State, IsList, cases_of, goals_of, Unifies}
+use Rattle.plstack.specs.StaticCalls.{statics_of}
+use Rattle.plmachine.specs.declared.machine.Outcome.TheVariants as outcomes
+use Rattle.plmachine.specs.declared.machine.Mode.TheVariants as modes
+use Rattle.plmachine.specs.declared.machine.Machine.{Machine as Reached}
+use Rattle.plmachine.specs.Machine.{mode_of, cases_in, local_of, Moved}
+use Rattle.plmachine.proofs.Moves.{gave, goes-to, visit-asks}
+
+-- a unifier was put in
+pub unifies : (P : Program) (s new : Reached) (t : State) (a b : Cell) (l : Continuation) → IsList s.stack l → Unifies s.stack t a b → new ≡ record s { stack = record t { goals = l }; mode = modes.Visit } →
+    Moved P s new (taken (solved (goals_of s.stack l) s.stack.env.count (record { left = value s.stack.env.heap a; right = value s.stack.env.heap b; new = 0 })) (local_of s))
+unfolding cases_of
+unifies P s new t a b l there u is =
+    let count : t.env.count ≡ s.stack.env.count + 0 = omega (arith, u.count) in
+    subst (λ o. Moved P s new (taken (option_map (λ σ. record { goals = bind_goals σ (goals_of s.stack l); variables = s.stack.env.count + 0 }) o) (local_of s))) (sym u.is)
+    (goes-to P s new [] _ (local_of s) (ap (λ x. x.stack.code) is ∙ u.code) (visit-asks new (ap (λ x. x.mode) is))
+    (ap (λ x. mode_of x.mode x.stack) is ∙ ap₂ (λ gs n. At (record { goals = gs; variables = n })) (u.lists l there).1 count)
+    (ap (λ x. cases_in P x) is ∙ u.cases (statics_of P)) (ap (λ x. local_of x) is))
+
+pub ununified : (P : Program) (s new : Reached) (a b : Cell) (l : Continuation) → unify (value s.stack.env.heap a) (value s.stack.env.heap b) ≡ None → new ≡ record s { mode = modes.Back outcomes.Fail } →
+    Moved P s new (taken (solved (goals_of s.stack l) s.stack.env.count (record { left = value s.stack.env.heap a; right = value s.stack.env.heap b; new = 0 })) (local_of s))
+ununified P s new a b l none is =
+    subst (λ o. Moved P s new (taken (option_map (λ σ. record { goals = bind_goals σ (goals_of s.stack l); variables = s.stack.env.count + 0 }) o) (local_of s))) (sym none)
+    (gave P s new outcomes.Fail is)
+
+-- a substitution that changes nothing leaves a list as it is
+bind-goals-var : (es : List Element) → bind_goals var es ≡ es
+bind-goals-var [] = refl
+bind-goals-var (Goal k t ∷ es) = ap₂ (λ u us. Goal k u ∷ us) (bind-var t) (bind-goals-var es)
+bind-goals-var (Marker m l ∷ es) = ap (λ us. Marker m l ∷ us) (bind-goals-var es)
+bind-goals-var (Raise b ∷ es) = ap (λ us. Raise b ∷ us) (bind-goals-var es)
+bind-goals-var (Asking (Look t) ∷ es) = ap₂ (λ u us. Asking (Look u) ∷ us) (bind-var t) (bind-goals-var es)
+bind-goals-var (Asking (Await q next) ∷ es) = ap (λ us. Asking (Await q next) ∷ us) (bind-goals-var es)
+
+-- one that is true once it has written
+pub offer-writes : (bytes : List ℕ) (settings : Settings) (p : Indicator) (es : List Element) (n : ℕ) (w : Local) →
+    go_on es n (record { out = w.out ++ bytes; settings = settings }) ≡ offer (writes bytes settings) p es n w
+unfolding unify unify_in differ places
+offer-writes bytes settings p es n w =
+    let same : n ≡ n + 0 = omega arith in
+    ap₂ (λ gs k. go_on gs k (record { out = w.out ++ bytes; settings = settings })) (sym (bind-goals-var es)) same
+
+-- one that is true, and writes nothing
+pub offer-succeeds : (settings : Settings) (p : Indicator) (es : List Element) (n : ℕ) (w : Local) → w.settings ≡ settings → go_on es n w ≡ offer (writes [] settings) p es n w
+offer-succeeds settings p es n w same = ap₂ (λ o x. go_on es n (record { out = o; settings = x })) (sym (append-nil w.out)) same ∙ offer-writes [] settings p es n w
+
+-- one that has no solution
+pub offer-fails : (settings : Settings) (p : Indicator) (es : List Element) (n : ℕ) (w : Local) → w.settings ≡ settings → ◌≡◌ {A = Move} (Give Fail w) (offer (fails settings) p es n w)
+offer-fails settings p es n w same = ap₂ (λ o x. Give Fail (record { out = o; settings = x })) (sym (append-nil w.out)) same
+
+-- and one that unifies two terms
+pub offer-unifies : (a b : Tree) (settings : Settings) (p : Indicator) (es : List Element) (n : ℕ) (w : Local) → w.settings ≡ settings →
+    taken (solved es n (record { left = a; right = b; new = 0 })) w ≡ offer (unified_to a b settings) p es n w
+offer-unifies a b settings p es n w same =
+    ap₂ (λ o s. taken (solved es n (record { left = a; right = b; new = 0 })) (record { out = o; settings = s })) (sym (append-nil w.out)) same

@@ -1,0 +1,65 @@
+use Rattle.std.proofs.Common.{refl, sym, ap, ap₂, map, ◌∙◌}
+use Rattle.plcells.specs.Store.{value}
+use Rattle.plclause.specs.Indicators.{indicator}
+use Rattle.plbuiltin.specs.Solution.{writes, unifies as unified_to}
+use Rattle.plbuiltin.specs.Solutions.{solutions}
+use Rattle.plpredicates.specs.Answers.{meant}
+use Rattle.plsearch.specs.Rows.{offer}
+use Rattle.plstack.specs.State.{goals_of}
+use Rattle.plmachine.specs.declared.machine.Outcome.TheVariants as outcomes
+use Rattle.plmachine.specs.Machine.{local_of}
+use Rattle.plmachine.proofs.Lists.{holds-list, lengthened-grown, lengthened-same}
+use Rattle.plmachine.proofs.Moves.{went, gave, moved-as, on_ok_map}
+use Rattle.plmachine.proofs.Offers.{offer-writes, offer-succeeds, offer-fails, offer-unifies}
+use Rattle.plmachine.proofs.machine.Machine.built_in.Goals as goal
+
+pub returns-in-Raises-clause-ok : goal.returns-in-Raises-clause-ok
+returns-in-Raises-clause-ok c t stands =
+    let s = c.args.self.now in
+    let n = s.stack.env.count in
+    let p = indicator t in
+    let es = goals_of s.stack c.args.rest in
+    let heap = c.heap-heap.ensures.is ∙ ap (λ e. e.heap) c.env.ensures in
+    let is = ap (meant c.heap-heap.result.now s.settings) (sym c.in-Raises.is) ∙ c.in_ok-error.ensures.is n ∙ ap₂ (λ h xs. solutions c.args.b (map (value h) xs) s.settings n) heap c.deref.ensures.value in
+    on_ok_map c.raise_of.result (moved-as c.args.program.now s c.raise_of.new.self _ _ (ap (λ x. offer x p es n (local_of s)) is)) (c.raise_of.ensures.ok t stands)
+
+pub returns-in-Fails-clause-ok : goal.returns-in-Fails-clause-ok
+returns-in-Fails-clause-ok c t stands =
+    let s = c.args.self.now in
+    let n = s.stack.env.count in
+    let p = indicator t in
+    let es = goals_of s.stack c.args.rest in
+    let heap = c.heap-heap.ensures.is ∙ ap (λ e. e.heap) c.env.ensures in
+    let is = ap (meant c.heap-heap.result.now s.settings) (sym c.in-Fails.is) ∙ c.in_ok-error.ensures.is n ∙ ap₂ (λ h xs. solutions c.args.b (map (value h) xs) s.settings n) heap c.deref.ensures.value in
+    moved-as c.args.program.now s c.give.new.self _ _ (offer-fails s.settings p es n (local_of s) refl ∙ ap (λ x. offer x p es n (local_of s)) is) (gave c.args.program.now s c.give.new.self outcomes.Fail c.give.ensures)
+
+pub returns-in-Succeeds-clause-ok : goal.returns-in-Succeeds-clause-ok
+returns-in-Succeeds-clause-ok c t stands =
+    let s = c.args.self.now in
+    let n = s.stack.env.count in
+    let p = indicator t in
+    let es = goals_of s.stack c.args.rest in
+    let heap = c.heap-heap.ensures.is ∙ ap (λ e. e.heap) c.env.ensures in
+    let is = ap (meant c.heap-heap.result.now s.settings) (sym c.in-Succeeds.is) ∙ c.in_ok-error.ensures.is n ∙ ap₂ (λ h xs. solutions c.args.b (map (value h) xs) s.settings n) heap c.deref.ensures.value in
+    moved-as c.args.program.now s c.go_on.new.self _ _ (offer-succeeds s.settings p es n (local_of s) refl ∙ ap (λ x. offer x p es n (local_of s)) is)
+    (went c.args.program.now s c.go_on.new.self s.stack c.args.rest es (lengthened-grown s.stack s.stack (lengthened-same s.stack)) (holds-list s.stack c.args.rest c.requires.rest) c.go_on.ensures)
+
+pub returns-in-Unifies-clause-ok : goal.returns-in-Unifies-clause-ok
+returns-in-Unifies-clause-ok c t stands =
+    let s = c.args.self.now in
+    let n = s.stack.env.count in
+    let p = indicator t in
+    let es = goals_of s.stack c.args.rest in
+    let heap = c.heap-heap.ensures.is ∙ ap (λ e. e.heap) c.env.ensures in
+    let is = ap (λ h. unified_to (value h c.in-Unifies.a) (value h c.in-Unifies.b) s.settings) (sym heap) ∙ ap (meant c.heap-heap.result.now s.settings) (sym c.in-Unifies.is) ∙ c.in_ok-error.ensures.is n ∙ ap₂ (λ h xs. solutions c.args.b (map (value h) xs) s.settings n) heap c.deref.ensures.value in
+    on_ok_map c.unify.result (moved-as c.args.program.now s c.unify.new.self _ _ (offer-unifies (value s.stack.env.heap c.in-Unifies.a) (value s.stack.env.heap c.in-Unifies.b) s.settings p es n (local_of s) refl ∙ ap (λ x. offer x p es n (local_of s)) is)) c.unify.ensures.ok
+
+pub returns-in-Writes-clause-ok : goal.returns-in-Writes-clause-ok
+returns-in-Writes-clause-ok c t stands =
+    let s = c.args.self.now in
+    let n = s.stack.env.count in
+    let p = indicator t in
+    let es = goals_of s.stack c.args.rest in
+    let heap = c.heap-heap.ensures.is ∙ ap (λ e. e.heap) c.env.ensures in
+    let is = ap (λ bytes. writes bytes s.settings) c.deref-in-Writes.ensures.value ∙ ap (meant c.heap-heap.result.now s.settings) (sym c.in-Writes.is) ∙ c.in_ok-error.ensures.is n ∙ ap₂ (λ h xs. solutions c.args.b (map (value h) xs) s.settings n) heap c.deref.ensures.value in
+    on_ok_map c.write_bytes.result (moved-as c.args.program.now s c.write_bytes.new.self _ _ (offer-writes c.deref-in-Writes.result.now s.settings p es n (local_of s) ∙ ap (λ x. offer x p es n (local_of s)) is)) c.write_bytes.ensures.ok

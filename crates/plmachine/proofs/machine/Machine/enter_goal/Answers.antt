@@ -1,0 +1,24 @@
+use Rattle.std.proofs.Common.{refl, ap, ◌∷◌, []}
+use Rattle.plsearch.specs.Types.{Choice}
+use Rattle.plmachine.proofs.Lists.{adds-lengthened, lengthened-grown}
+use Rattle.plmachine.proofs.Moves.{grown-stays, moved-grown, go-same, stays-trans, on_ok_map, on_err_map}
+use Rattle.plmachine.proofs.Arounds.{around-grown}
+use Rattle.plmachine.proofs.machine.Machine.enter_goal.Goals as goal
+
+pub enter-requires-clause-around : goal.enter-requires-clause-around
+enter-requires-clause-around c =
+    let s = c.args.self.now in
+    (around-grown s.stack c.link.new.self c.args.around (lengthened-grown s.stack c.link.new.self (adds-lengthened s.stack c.link.new.self _ _ c.in_ok-list.ensures.ok)) c.requires.around).1
+
+pub returns-clause-ok : goal.returns-clause-ok
+returns-clause-ok c =
+    let s = c.args.self.now in
+    let g = lengthened-grown s.stack c.link.new.self (adds-lengthened s.stack c.link.new.self _ _ c.in_ok-list.ensures.ok) in
+    on_ok_map c.enter.result (moved-grown c.args.program.now s _ c.enter.new.self _ _ g refl
+    (go-same _ _ _ _ _ _ _ _ (ap (λ cs. Choice [] ∷ cs) (around-grown s.stack c.link.new.self c.args.around g c.requires.around).0) c.in_ok-list.ensures.ok.is g.count refl)) c.enter.ensures.ok
+
+pub returns-clause-err : goal.returns-clause-err
+returns-clause-err c =
+    let s = c.args.self.now in
+    let g = lengthened-grown s.stack c.link.new.self (adds-lengthened s.stack c.link.new.self _ _ c.in_ok-list.ensures.ok) in
+    on_err_map c.enter.result (stays-trans c.args.program.now s _ c.enter.new.self (grown-stays c.args.program.now s _ g refl)) c.enter.ensures.err

@@ -1,0 +1,32 @@
+use Rattle.std.proofs.Common.{refl, subst}
+use Rattle.plstack.specs.Places.{called}
+use Rattle.plstack.specs.Calls.{Calls, CallsNone}
+use Rattle.plstack.specs.StaticCalls.{statics_of}
+use Rattle.plstack.proofs.Program.{code-statics}
+use Rattle.plmachine.proofs.Moves.{on_err}
+use Rattle.plmachine.proofs.Calling.{calls, calls-none, stays-at}
+use Rattle.plmachine.proofs.machine.Machine.resolve.Goals as goal
+
+pub call-requires-clause-statics : goal.call-requires-clause-statics
+call-requires-clause-statics c = (statics_of c.args.program.now, code-statics c.args.program.now c.args.self.now.stack.code c.requires.begun)
+
+pub returns-in_err-call-clause-err : goal.returns-in_err-call-clause-err
+returns-in_err-call-clause-err c = on_err _ (stays-at c.args.program.now c.args.self.now _ c.call.new.self c.requires.visits c.call.ensures.code refl c.in_err-call.ensures.err)
+
+pub returns-then-branch-clause-ok : goal.returns-then-branch-clause-ok
+returns-then-branch-clause-ok c p t is =
+    let s = c.args.self.now in
+    let P = c.args.program.now in
+    let i = c.args.place in
+    let yes = c.in_ok-call.ensures.yes c.if-branch.true (statics_of P) (code-statics P s.stack.code c.requires.begun) in
+    calls P s c.call.new.self p t i c.args.rest is c.call.ensures.code _ c.requires.visits refl
+    (subst (λ vs. Calls (statics_of P) s.stack c.call.new.self (called s.stack.env.heap (statics_of P i).name vs) c.args.rest (statics_of P i).clauses) c.deref.ensures.value yes)
+
+pub returns-clause-ok : goal.returns-clause-ok
+returns-clause-ok c p t is =
+    let s = c.args.self.now in
+    let P = c.args.program.now in
+    let i = c.args.place in
+    let no = c.in_ok-call.ensures.no c.if-branch.false (statics_of P) (code-statics P s.stack.code c.requires.begun) in
+    calls-none P s c.call.new.self p t i c.args.rest is c.call.ensures.code c.give.new.self c.give.ensures
+    (subst (λ vs. CallsNone (statics_of P) s.stack c.call.new.self (called s.stack.env.heap (statics_of P i).name vs) c.args.rest (statics_of P i).clauses) c.deref.ensures.value no)

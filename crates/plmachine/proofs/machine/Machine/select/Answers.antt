@@ -1,0 +1,216 @@
+use Rattle.std.proofs.Common.{[], map, sym, ap, ◌∙◌, subst}
+use Rattle.std.proofs.lemmas.List.{length-map}
+use Rattle.std.specs.Prelude.{codes}
+use Rattle.plterm.specs.Tree.{atom}
+use Rattle.plcells.specs.Store.{value}
+use Rattle.plsearch.specs.Running.{called}
+use Rattle.plsearch.specs.Rows.{row, run, call_with as call_n}
+use Rattle.plgoals.specs.Forms.{shown_form, call_with, IsInside}
+use Rattle.plstack.specs.State.{goals_of}
+use Rattle.plmachine.specs.declared.machine.Outcome.TheVariants as outcomes
+use Rattle.plmachine.specs.Machine.{depth_of, local_of}
+use Rattle.plmachine.specs.Selected.{IsCall}
+use Rattle.plmachine.proofs.Lists.{holds-list, lengthened-grown, lengthened-same}
+use Rattle.plmachine.proofs.Moves.{went, gave, moved-as, on_ok_map}
+use Rattle.plmachine.proofs.Values.{some-first}
+use Rattle.plmachine.proofs.Selecting.{selected, both-is, either-is, then-is, then-else-is}
+use Rattle.plmachine.proofs.machine.Machine.select.Goals as goal
+
+pub returns-in-True-clause-ok : goal.returns-in-True-clause-ok
+unfolding row
+returns-in-True-clause-ok c t sel =
+    let s = c.args.self.now in
+    let P = c.args.program.now in
+    selected P s c.go_on.new.self c.args.form c.args.source t c.args.level (depth_of P s) (goals_of s.stack c.args.rest) s.stack.env.count (local_of s) _ sel (ap (shown_form s.stack.env.heap s.args.items) c.in-True.is)
+    (went P s c.go_on.new.self s.stack c.args.rest (goals_of s.stack c.args.rest) (lengthened-grown s.stack s.stack (lengthened-same s.stack)) (holds-list s.stack c.args.rest c.requires.rest) c.go_on.ensures)
+
+pub returns-in-False-clause-ok : goal.returns-in-False-clause-ok
+unfolding row
+returns-in-False-clause-ok c t sel =
+    let s = c.args.self.now in
+    let P = c.args.program.now in
+    selected P s c.give.new.self c.args.form c.args.source t c.args.level (depth_of P s) (goals_of s.stack c.args.rest) s.stack.env.count (local_of s) _ sel (ap (shown_form s.stack.env.heap s.args.items) c.in-False.is) (gave P s c.give.new.self outcomes.Fail c.give.ensures)
+
+pub returns-in-NoGoal-clause-ok : goal.returns-in-NoGoal-clause-ok
+unfolding row
+returns-in-NoGoal-clause-ok c t sel =
+    let s = c.args.self.now in
+    let P = c.args.program.now in
+    selected P s c.give-in-NoGoal.new.self c.args.form c.args.source t c.args.level (depth_of P s) (goals_of s.stack c.args.rest) s.stack.env.count (local_of s) _ sel (ap (shown_form s.stack.env.heap s.args.items) c.in-NoGoal.is) (gave P s c.give-in-NoGoal.new.self outcomes.Fail c.give-in-NoGoal.ensures)
+
+pub returns-in-Halt-clause-ok : goal.returns-in-Halt-clause-ok
+unfolding row
+returns-in-Halt-clause-ok c t sel =
+    let s = c.args.self.now in
+    let P = c.args.program.now in
+    selected P s c.halt.new.self c.args.form c.args.source t c.args.level (depth_of P s) (goals_of s.stack c.args.rest) s.stack.env.count (local_of s) _ sel (ap (shown_form s.stack.env.heap s.args.items) c.in-Halt.is) c.halt.ensures
+
+pub returns-in-Both-clause-ok : goal.returns-in-Both-clause-ok
+unfolding row
+returns-in-Both-clause-ok c t sel =
+    let s = c.args.self.now in
+    let P = c.args.program.now in
+    on_ok_map c.both.result
+    (λ moved. selected P s c.both.new.self c.args.form c.args.source t c.args.level (depth_of P s) (goals_of s.stack c.args.rest) s.stack.env.count (local_of s) _ sel (ap (shown_form s.stack.env.heap s.args.items) c.in-Both.is)
+    (moved-as P s c.both.new.self _ _ (both-is P c.args.level t (depth_of P s) (goals_of s.stack c.args.rest) s.stack.env.count (local_of s) (value s.stack.env.heap c.in-Both.a) (value s.stack.env.heap c.in-Both.b)) moved))
+    c.both.ensures.ok
+
+pub returns-in-Either-clause-ok : goal.returns-in-Either-clause-ok
+unfolding row
+returns-in-Either-clause-ok c t sel =
+    let s = c.args.self.now in
+    let P = c.args.program.now in
+    on_ok_map c.either.result
+    (λ moved. selected P s c.either.new.self c.args.form c.args.source t c.args.level (depth_of P s) (goals_of s.stack c.args.rest) s.stack.env.count (local_of s) _ sel (ap (shown_form s.stack.env.heap s.args.items) c.in-Either.is)
+    (moved-as P s c.either.new.self _ _ (either-is P c.args.level t (depth_of P s) (goals_of s.stack c.args.rest) s.stack.env.count (local_of s) (value s.stack.env.heap c.in-Either.a) (value s.stack.env.heap c.in-Either.b)) moved))
+    c.either.ensures.ok
+
+pub returns-in-IfThen-clause-ok : goal.returns-in-IfThen-clause-ok
+unfolding row
+returns-in-IfThen-clause-ok c t sel =
+    let s = c.args.self.now in
+    let P = c.args.program.now in
+    on_ok_map c.then.result
+    (λ moved. selected P s c.then.new.self c.args.form c.args.source t c.args.level (depth_of P s) (goals_of s.stack c.args.rest) s.stack.env.count (local_of s) _ sel (ap (shown_form s.stack.env.heap s.args.items) c.in-IfThen.is)
+    (moved-as P s c.then.new.self _ _ (then-is P c.args.level t (depth_of P s) (goals_of s.stack c.args.rest) s.stack.env.count (local_of s) (value s.stack.env.heap c.in-IfThen.condition) (value s.stack.env.heap c.in-IfThen.then) (atom (codes "fail"))) moved))
+    c.then.ensures.ok
+
+pub returns-in-IfThenElse-clause-ok : goal.returns-in-IfThenElse-clause-ok
+unfolding row
+returns-in-IfThenElse-clause-ok c t sel =
+    let s = c.args.self.now in
+    let P = c.args.program.now in
+    on_ok_map c.then_else.result
+    (λ moved. selected P s c.then_else.new.self c.args.form c.args.source t c.args.level (depth_of P s) (goals_of s.stack c.args.rest) s.stack.env.count (local_of s) _ sel (ap (shown_form s.stack.env.heap s.args.items) c.in-IfThenElse.is)
+    (moved-as P s c.then_else.new.self _ _ (then-else-is P c.args.level t (depth_of P s) (goals_of s.stack c.args.rest) s.stack.env.count (local_of s) (value s.stack.env.heap c.in-IfThenElse.condition) (value s.stack.env.heap c.in-IfThenElse.then) (value s.stack.env.heap c.in-IfThenElse.other)) moved))
+    c.then_else.ensures.ok
+
+pub returns-in-Not-clause-ok : goal.returns-in-Not-clause-ok
+unfolding row
+returns-in-Not-clause-ok c t sel =
+    let s = c.args.self.now in
+    let P = c.args.program.now in
+    on_ok_map c.not.result (selected P s c.not.new.self c.args.form c.args.source t c.args.level (depth_of P s) (goals_of s.stack c.args.rest) s.stack.env.count (local_of s) _ sel (ap (shown_form s.stack.env.heap s.args.items) c.in-Not.is)) c.not.ensures.ok
+
+pub returns-in-Once-clause-ok : goal.returns-in-Once-clause-ok
+unfolding row
+returns-in-Once-clause-ok c t sel =
+    let s = c.args.self.now in
+    let P = c.args.program.now in
+    on_ok_map c.once.result (selected P s c.once.new.self c.args.form c.args.source t c.args.level (depth_of P s) (goals_of s.stack c.args.rest) s.stack.env.count (local_of s) _ sel (ap (shown_form s.stack.env.heap s.args.items) c.in-Once.is)) c.once.ensures.ok
+
+pub returns-in-Catching-clause-ok : goal.returns-in-Catching-clause-ok
+unfolding row
+returns-in-Catching-clause-ok c t sel =
+    let s = c.args.self.now in
+    let P = c.args.program.now in
+    on_ok_map c.catching.result (selected P s c.catching.new.self c.args.form c.args.source t c.args.level (depth_of P s) (goals_of s.stack c.args.rest) s.stack.env.count (local_of s) _ sel (ap (shown_form s.stack.env.heap s.args.items) c.in-Catching.is)) c.catching.ensures.ok
+
+pub returns-in-Throwing-clause-ok : goal.returns-in-Throwing-clause-ok
+unfolding row
+returns-in-Throwing-clause-ok c t sel =
+    let s = c.args.self.now in
+    let P = c.args.program.now in
+    on_ok_map c.throw.result (selected P s c.throw.new.self c.args.form c.args.source t c.args.level (depth_of P s) (goals_of s.stack c.args.rest) s.stack.env.count (local_of s) _ sel (ap (shown_form s.stack.env.heap s.args.items) c.in-Throwing.is)) c.throw.ensures.ok
+
+pub returns-in-Cut-clause-ok : goal.returns-in-Cut-clause-ok
+unfolding row
+returns-in-Cut-clause-ok c t sel =
+    let s = c.args.self.now in
+    let P = c.args.program.now in
+    on_ok_map c.cut.result (selected P s c.cut.new.self c.args.form c.args.source t c.args.level (depth_of P s) (goals_of s.stack c.args.rest) s.stack.env.count (local_of s) _ sel (ap (shown_form s.stack.env.heap s.args.items) c.in-Cut.is)) c.cut.ensures.ok
+
+pub returns-in-AddLast-clause-ok : goal.returns-in-AddLast-clause-ok
+unfolding row
+returns-in-AddLast-clause-ok c t sel =
+    let s = c.args.self.now in
+    let P = c.args.program.now in
+    on_ok_map c.add_last.result (selected P s c.add_last.new.self c.args.form c.args.source t c.args.level (depth_of P s) (goals_of s.stack c.args.rest) s.stack.env.count (local_of s) _ sel (ap (shown_form s.stack.env.heap s.args.items) c.in-AddLast.is)) c.add_last.ensures.ok
+
+pub returns-in-HaltWith-clause-ok : goal.returns-in-HaltWith-clause-ok
+unfolding row
+returns-in-HaltWith-clause-ok c t sel =
+    let s = c.args.self.now in
+    let P = c.args.program.now in
+    on_ok_map c.halt_with.result (selected P s c.halt_with.new.self c.args.form c.args.source t c.args.level (depth_of P s) (goals_of s.stack c.args.rest) s.stack.env.count (local_of s) _ sel (ap (shown_form s.stack.env.heap s.args.items) c.in-HaltWith.is)) c.halt_with.ensures.ok
+
+pub returns-in-BuiltIn-clause-ok : goal.returns-in-BuiltIn-clause-ok
+unfolding row
+returns-in-BuiltIn-clause-ok c t sel =
+    let s = c.args.self.now in
+    let P = c.args.program.now in
+    on_ok_map c.built_in.result (selected P s c.built_in.new.self c.args.form c.args.source t c.args.level (depth_of P s) (goals_of s.stack c.args.rest) s.stack.env.count (local_of s) _ sel (ap (shown_form s.stack.env.heap s.args.items) c.in-BuiltIn.is)) (c.built_in.ensures.ok t sel.stands)
+
+pub returns-in-Call-clause-ok : goal.returns-in-Call-clause-ok
+unfolding row
+returns-in-Call-clause-ok c t sel =
+    let s = c.args.self.now in
+    let P = c.args.program.now in
+    on_ok_map c.call.result (selected P s c.call.new.self c.args.form c.args.source t c.args.level (depth_of P s) (goals_of s.stack c.args.rest) s.stack.env.count (local_of s) _ sel (ap (shown_form s.stack.env.heap s.args.items) c.in-Call.is)) (c.call.ensures.ok _ t sel.stands (subst (λ f. IsCall P s f t) c.in-Call.is sel.call))
+
+pub returns-in-CallWith-clause-ok : goal.returns-in-CallWith-clause-ok
+unfolding row
+returns-in-CallWith-clause-ok c t sel =
+    let s = c.args.self.now in
+    let P = c.args.program.now in
+    let h = s.stack.env.heap in
+    let x = some-first s.args.items (subst (IsInside h s.args.items) c.in-CallWith.is sel.inside) in
+    on_ok_map c.call_with.result
+    (λ moved. selected P s c.call_with.new.self c.args.form c.args.source t c.args.level (depth_of P s) (goals_of s.stack c.args.rest) s.stack.env.count (local_of s) _ sel
+    (ap (shown_form h s.args.items) c.in-CallWith.is ∙ ap (λ xs. call_with (map (value h) xs)) x.2)
+    (moved-as P s c.call_with.new.self _ _ (ap (λ k. run (called (value h x.0) (map (value h) x.1)) (call_n k) [] (depth_of P s) (goals_of s.stack c.args.rest) s.stack.env.count (local_of s)) (sym (length-map x.1 (value h)))) moved))
+    (c.call_with.ensures.ok x.0 x.1 x.2)
+
+pub both-requires-clause-first : goal.both-requires-clause-first
+both-requires-clause-first c = (subst (IsInside c.args.self.now.stack.env.heap c.args.self.now.args.items) c.in-Both.is c.requires.selected.1.inside).0
+
+pub both-requires-clause-second : goal.both-requires-clause-second
+both-requires-clause-second c = (subst (IsInside c.args.self.now.stack.env.heap c.args.self.now.args.items) c.in-Both.is c.requires.selected.1.inside).1
+
+pub either-requires-clause-first : goal.either-requires-clause-first
+either-requires-clause-first c = (subst (IsInside c.args.self.now.stack.env.heap c.args.self.now.args.items) c.in-Either.is c.requires.selected.1.inside).0
+
+pub either-requires-clause-second : goal.either-requires-clause-second
+either-requires-clause-second c = (subst (IsInside c.args.self.now.stack.env.heap c.args.self.now.args.items) c.in-Either.is c.requires.selected.1.inside).1
+
+pub then-requires-clause-condition : goal.then-requires-clause-condition
+then-requires-clause-condition c = (subst (IsInside c.args.self.now.stack.env.heap c.args.self.now.args.items) c.in-IfThen.is c.requires.selected.1.inside).0
+
+pub then-requires-clause-then : goal.then-requires-clause-then
+then-requires-clause-then c = (subst (IsInside c.args.self.now.stack.env.heap c.args.self.now.args.items) c.in-IfThen.is c.requires.selected.1.inside).1
+
+pub then_else-requires-clause-condition : goal.then_else-requires-clause-condition
+then_else-requires-clause-condition c = (subst (IsInside c.args.self.now.stack.env.heap c.args.self.now.args.items) c.in-IfThenElse.is c.requires.selected.1.inside).0
+
+pub then_else-requires-clause-then : goal.then_else-requires-clause-then
+then_else-requires-clause-then c = (subst (IsInside c.args.self.now.stack.env.heap c.args.self.now.args.items) c.in-IfThenElse.is c.requires.selected.1.inside).1
+
+pub then_else-requires-clause-other : goal.then_else-requires-clause-other
+then_else-requires-clause-other c = (subst (IsInside c.args.self.now.stack.env.heap c.args.self.now.args.items) c.in-IfThenElse.is c.requires.selected.1.inside).2
+
+pub not-requires-clause-goal : goal.not-requires-clause-goal
+not-requires-clause-goal c = (subst (IsInside c.args.self.now.stack.env.heap c.args.self.now.args.items) c.in-Not.is c.requires.selected.1.inside)
+
+pub once-requires-clause-goal : goal.once-requires-clause-goal
+once-requires-clause-goal c = (subst (IsInside c.args.self.now.stack.env.heap c.args.self.now.args.items) c.in-Once.is c.requires.selected.1.inside)
+
+pub catching-requires-clause-goal : goal.catching-requires-clause-goal
+catching-requires-clause-goal c = (subst (IsInside c.args.self.now.stack.env.heap c.args.self.now.args.items) c.in-Catching.is c.requires.selected.1.inside).0
+
+pub catching-requires-clause-catcher : goal.catching-requires-clause-catcher
+catching-requires-clause-catcher c = (subst (IsInside c.args.self.now.stack.env.heap c.args.self.now.args.items) c.in-Catching.is c.requires.selected.1.inside).1
+
+pub catching-requires-clause-recovery : goal.catching-requires-clause-recovery
+catching-requires-clause-recovery c = (subst (IsInside c.args.self.now.stack.env.heap c.args.self.now.args.items) c.in-Catching.is c.requires.selected.1.inside).2
+
+pub throw-requires-clause-ball : goal.throw-requires-clause-ball
+throw-requires-clause-ball c = (subst (IsInside c.args.self.now.stack.env.heap c.args.self.now.args.items) c.in-Throwing.is c.requires.selected.1.inside)
+
+pub add_last-requires-clause-clause : goal.add_last-requires-clause-clause
+add_last-requires-clause-clause c = (subst (IsInside c.args.self.now.stack.env.heap c.args.self.now.args.items) c.in-AddLast.is c.requires.selected.1.inside)
+
+pub halt_with-requires-clause-number : goal.halt_with-requires-clause-number
+halt_with-requires-clause-number c = (subst (IsInside c.args.self.now.stack.env.heap c.args.self.now.args.items) c.in-HaltWith.is c.requires.selected.1.inside)
+
+pub call_with-requires-clause-some : goal.call_with-requires-clause-some
+call_with-requires-clause-some c = (subst (IsInside c.args.self.now.stack.env.heap c.args.self.now.args.items) c.in-CallWith.is c.requires.selected.1.inside)

@@ -1,0 +1,44 @@
+use Rattle.std.proofs.Common.{suc, ap, subst, ◌∙◌}
+use Rattle.plcode.specs.Steps.{IsFor}
+use Rattle.plstack.specs.State.{goals_of}
+use Rattle.plmachine.specs.Lists.{at_level, elements_of}
+use Rattle.plmachine.specs.Machine.{depth_of, local_of}
+use Rattle.plmachine.proofs.Moves.{moved-as, on_ok_map}
+use Rattle.plmachine.proofs.Stepping.{branch-is, branch-level, either-move, then-move, then-else-move}
+use Rattle.plmachine.proofs.machine.Machine.step.Goals as goal
+
+pub returns-in-Or-clause-ok : goal.returns-in-Or-clause-ok
+returns-in-Or-clause-ok c es at =
+    let s = c.args.self.now in
+    let P = c.args.program.now in
+    let r = c.args.run in
+    let e = subst (λ o. IsFor s.stack.code.text r.position o c.args.step.goal at.goal) c.in-Or.is at.is in
+    on_ok_map c.either.result (moved-as P s c.either.new.self _ _
+    (either-move P s.stack r (depth_of P s) (goals_of s.stack c.args.rest) s.stack.env.count (local_of s) at.goal at.is_converted e.left e.right _ _ e.form_is
+    (ap (elements_of s.stack) c.branch-left.ensures ∙ branch-is s.stack r at.width at.own at.slots c.in-Or.left e.left e.left_begins.goals)
+    (ap (elements_of s.stack) c.branch-right.ensures ∙ branch-is s.stack r at.width at.own at.slots c.in-Or.right e.right e.right_begins.goals))) c.either.ensures.ok
+
+pub returns-in-IfThen-clause-ok : goal.returns-in-IfThen-clause-ok
+returns-in-IfThen-clause-ok c es at =
+    let s = c.args.self.now in
+    let P = c.args.program.now in
+    let r = c.args.run in
+    let d = depth_of P s in
+    let e = subst (λ o. IsFor s.stack.code.text r.position o c.args.step.goal at.goal) c.in-IfThen.is at.is in
+    on_ok_map c.then.result (moved-as P s c.then.new.self _ _
+    (then-move P s.stack r d (goals_of s.stack c.args.rest) s.stack.env.count (local_of s) at.goal at.is_converted e.condition e.success _ _ e.form_is
+    (ap (λ x. elements_of s.stack (at_level (suc d) x)) c.branch-condition.ensures ∙ branch-level s.stack r at.width at.own at.slots c.in-IfThen.condition e.condition e.condition_begins.goals (suc d))
+    (ap (elements_of s.stack) c.branch-then.ensures ∙ branch-is s.stack r at.width at.own at.slots c.in-IfThen.then e.success e.success_begins.goals))) c.then.ensures.ok
+
+pub returns-in-IfThenElse-clause-ok : goal.returns-in-IfThenElse-clause-ok
+returns-in-IfThenElse-clause-ok c es at =
+    let s = c.args.self.now in
+    let P = c.args.program.now in
+    let r = c.args.run in
+    let d = depth_of P s in
+    let e = subst (λ o. IsFor s.stack.code.text r.position o c.args.step.goal at.goal) c.in-IfThenElse.is at.is in
+    on_ok_map c.then_else.result (moved-as P s c.then_else.new.self _ _
+    (then-else-move P s.stack r d (goals_of s.stack c.args.rest) s.stack.env.count (local_of s) at.goal at.is_converted e.condition e.success e.failure _ _ _ e.form_is
+    (ap (λ x. elements_of s.stack (at_level (suc d) x)) c.branch-condition-in-IfThenElse.ensures ∙ branch-level s.stack r at.width at.own at.slots c.in-IfThenElse.condition e.condition e.condition_begins.goals (suc d))
+    (ap (elements_of s.stack) c.branch-then-in-IfThenElse.ensures ∙ branch-is s.stack r at.width at.own at.slots c.in-IfThenElse.then e.success e.success_begins.goals)
+    (ap (elements_of s.stack) c.branch-other.ensures ∙ branch-is s.stack r at.width at.own at.slots c.in-IfThenElse.other e.failure e.failure_begins.goals))) c.then_else.ensures.ok

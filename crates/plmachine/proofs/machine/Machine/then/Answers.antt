@@ -1,0 +1,22 @@
+use Rattle.std.proofs.Common.{refl, ap, ◌∷◌, ◌++◌, [], ◌∙◌}
+use Rattle.plsearch.specs.Types.{Choice}
+use Rattle.plsearch.specs.Rows.{branch}
+use Rattle.plstack.specs.State.{goals_of}
+use Rattle.plmachine.specs.Lists.{elements_of}
+use Rattle.plmachine.proofs.Lists.{fail-there, fail-is}
+use Rattle.plmachine.proofs.Moves.{moved-as, go-same, on_ok_map}
+use Rattle.plmachine.proofs.machine.Machine.then.Goals as goal
+
+pub then_else-requires-clause-other : goal.then_else-requires-clause-other
+then_else-requires-clause-other c =
+    let s = c.args.self.now in
+    rw c.failure.ensures (fail-there s.stack c.requires.begun.code.fails.goals c.args.level)
+
+pub returns-clause-ok : goal.returns-clause-ok
+returns-clause-ok c =
+    let s = c.args.self.now in
+    let es = goals_of s.stack c.args.rest in
+    let n = s.stack.env.count in
+    let fails = ap (elements_of s.stack) c.failure.ensures ∙ fail-is s.stack c.requires.begun.code.fails.goals c.args.level in
+    on_ok_map c.then_else.result (moved-as c.args.program.now s c.then_else.new.self _ _
+    (go-same _ _ _ _ _ _ _ _ (ap (λ xs. Choice [] ∷ branch (xs ++ es) n ∷ []) fails) refl refl refl)) c.then_else.ensures.ok

@@ -1,0 +1,14 @@
+use Rattle.std.proofs.Common.{ap, ◌∙◌}
+use Rattle.plmachine.specs.declared.machine.Mode.TheVariants as modes
+use Rattle.plmachine.specs.declared.machine.Outcome.TheVariants as outcomes
+use Rattle.plmachine.proofs.Offers.{unifies, ununified}
+use Rattle.plmachine.proofs.machine.Machine.unify.Goals as goal
+
+pub returns-then-branch-clause-ok : goal.returns-then-branch-clause-ok
+returns-then-branch-clause-ok c =
+    unifies c.args.program.now c.args.self.now c.go_on.new.self c.unify.new.self c.args.a c.args.b c.args.rest c.requires.rest (c.in_ok-unify.ensures.yes c.if-branch.true) c.go_on.ensures
+
+pub returns-clause-ok : goal.returns-clause-ok
+returns-clause-ok c =
+    let no = c.in_ok-unify.ensures.no c.if-branch.false in
+    ununified c.args.program.now c.args.self.now c.give.new.self c.args.a c.args.b c.args.rest no.0 (c.give.ensures ∙ ap (λ st. record c.args.self.now { stack = st; mode = modes.Back outcomes.Fail }) no.1)

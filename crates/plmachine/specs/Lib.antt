@@ -1,0 +1,6 @@
+pub mod Predicates
+pub mod Machine
+pub mod Lists
+pub mod Running
+pub mod Asking
+pub mod Selected

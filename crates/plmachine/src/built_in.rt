@@ -1,0 +1,114 @@
+//! The one row of the built-in predicates (ISO/IEC 13211-1 8).
+//!
+//! A row that is refused memory leaves the search where it was.
+ghost use Rattle.std.specs.Prelude.{◌≡◌, ◌++◌, map, OnOk, OnErr};
+ghost use Rattle.plterm.specs.Tree.{Tree};
+ghost use Rattle.plcells.specs.Store.{value, AreValues, IsValue};
+ghost use Rattle.plclause.specs.Indicators.{indicator};
+ghost use Rattle.plbuiltin.specs.Solutions.{solutions};
+ghost use Rattle.plsearch.specs.Rows.{go_on as went_on, taken, solved, offer, raised};
+ghost use Rattle.plstack.specs.State.{goals_of, IsList};
+ghost use Rattle.plmachine.specs.Selected.{StandsFor};
+ghost use Rattle.plmachine.specs.Machine.{local_of, IsBegun, Moved, Stays};
+
+use crate::indicator::indicator_of;
+use crate::machine::{Machine, Outcome};
+use crate::select::Source;
+use plcells::cell::Cell;
+use pllinks::link::Continuation;
+use plnames::kind::BuiltIn;
+use plpredicates::answer::Answer;
+use plpredicates::built_in::answers;
+use plprogram::program::Program;
+use plterm::term::Term;
+use std::alloc::AllocError;
+
+impl Machine {
+    /// A built-in predicate of all the arguments.
+    pub fn built_in(
+        &mut self,
+        program: &Program,
+        b: BuiltIn,
+        source: Source,
+        rest: Continuation,
+    ) -> Result<(), AllocError>
+        requires begun { IsBegun program.now self.old }
+        requires args { AreValues self.old.stack.env.heap self.old.args.items }
+        requires source { (t : Tree) × StandsFor self.old.stack source t }
+        requires rest { IsList self.old.stack rest }
+        ensures ok { (t : Tree) → StandsFor self.old.stack source t → OnOk result (Moved program.now self.old self.new (offer (solutions b (map (value self.old.stack.env.heap) self.old.args.items) self.old.settings self.old.stack.env.count) (indicator t) (goals_of self.old.stack rest) self.old.stack.env.count (local_of self.old))) }
+        ensures err { OnErr result (Stays program.now self.old self.new) }
+    {
+        let heap = self.stack.env().heap();
+        match answers(self.alloc, heap, &self.settings, b, &self.args)? {
+            Answer::Raises(error) => self.raise_of(program, error, source, rest),
+            Answer::Fails => {
+                self.give(Outcome::Fail);
+                Ok(())
+            }
+            Answer::Succeeds => {
+                self.go_on(rest);
+                Ok(())
+            }
+            Answer::Unifies(a, b) => self.unify(program, a, b, rest),
+            Answer::Writes(bytes) => self.write_bytes(program, &bytes, rest),
+        }
+    }
+
+    /// Raises an error of the predicate of a goal.
+    fn raise_of(
+        &mut self,
+        program: &Program,
+        error: Term,
+        source: Source,
+        rest: Continuation,
+    ) -> Result<(), AllocError>
+        requires begun { IsBegun program.now self.old }
+        requires source { (t : Tree) × StandsFor self.old.stack source t }
+        requires rest { IsList self.old.stack rest }
+        ensures ok { (t : Tree) → StandsFor self.old.stack source t → OnOk result (Moved program.now self.old self.new (raised error (indicator t) (goals_of self.old.stack rest) (local_of self.old))) }
+        ensures err { OnErr result (Stays program.now self.old self.new) }
+    {
+        let goal = self.goal(source)?;
+        let p = indicator_of(self.alloc, self.stack.env().heap(), goal)?;
+        self.raise(program, error, &p, rest)
+    }
+
+    /// Two terms are unified: the one solution of a built-in predicate.
+    fn unify(
+        &mut self,
+        program: &Program,
+        a: Cell,
+        b: Cell,
+        rest: Continuation,
+    ) -> Result<(), AllocError>
+        requires first { IsValue self.old.stack.env.heap a }
+        requires second { IsValue self.old.stack.env.heap b }
+        requires rest { IsList self.old.stack rest }
+        ensures ok { OnOk result (Moved program.now self.old self.new (taken (solved (goals_of self.old.stack rest) self.old.stack.env.count (record { left = value self.old.stack.env.heap a; right = value self.old.stack.env.heap b; new = 0 })) (local_of self.old))) }
+        ensures err { OnErr result (Stays program.now self.old self.new) }
+    {
+        if self.stack.unify(a, b)? {
+            self.go_on(rest);
+            return Ok(());
+        }
+        self.give(Outcome::Fail);
+        Ok(())
+    }
+
+    /// Writes bytes, and goes on.
+    fn write_bytes(
+        &mut self,
+        program: &Program,
+        bytes: &[u8],
+        rest: Continuation,
+    ) -> Result<(), AllocError>
+        requires { IsList self.old.stack rest }
+        ensures ok { OnOk result (Moved program.now self.old self.new (went_on (goals_of self.old.stack rest) self.old.stack.env.count (record { out = (local_of self.old).out ++ bytes.now; settings = self.old.settings }))) }
+        ensures err { OnErr result (Stays program.now self.old self.new) }
+    {
+        self.out.extend_from_slice(bytes)?;
+        self.go_on(rest);
+        Ok(())
+    }
+}

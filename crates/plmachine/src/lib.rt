@@ -1,0 +1,15 @@
+//! What a goal that is selected makes of the search's machine: the rows of the table of control.
+#![tactic(auto)]
+
+pub mod asking;
+pub mod built_in;
+mod error;
+pub mod indicator;
+mod list;
+pub mod machine;
+mod predicate;
+pub mod rows;
+pub mod running;
+pub mod select;
+pub mod step;
+pub mod term;

@@ -1,0 +1,95 @@
+//! Goal lists that a row puts together.
+ghost use Rattle.std.specs.Prelude.{◌≡◌, ◌++◌, IfOk, OnErr};
+ghost use Rattle.pllinks.specs.Links.{IsDone};
+ghost use Rattle.plstack.specs.State.{goals_of, IsList};
+ghost use Rattle.plmachine.specs.Lists.{at_level, branch_at, elements_of, failing, Holds, IsPart, Lengthened};
+
+use pllinks::item::{Item, Run};
+use pllinks::link::Continuation;
+use plstack::stack::Stack;
+use std::alloc::AllocError;
+
+/// Goals at another cut level.
+pub fn at_level(item: Item, level: u64) -> Item
+    ensures { result ≡ at_level level item }
+{
+    match item {
+        Item::Run(run) => Item::Run(Run { level, ..run }),
+        Item::Goal(_, v) => Item::Goal(level, v),
+        Item::Marker(kind, of) => Item::Marker(kind, of),
+    }
+}
+
+/// The goal fail/0 of a cut level, by its place in each program's code.
+pub fn failure(level: u64) -> Item
+    ensures { result ≡ failing level }
+{
+    Item::Run(Run {
+        position: 1,
+        owed: 0,
+        base: 0,
+        end: 0,
+        level,
+    })
+}
+
+/// A branch of a goal of a clause's body, by the place where it begins.
+pub fn branch(run: Run, place: u32) -> Item
+    ensures { result ≡ branch_at run place }
+{
+    Item::Run(Run {
+        position: place,
+        owed: 0,
+        ..run
+    })
+}
+
+/// A new list: an item before a list that is there.
+pub fn before(stack: &mut Stack, item: Item, rest: Continuation) -> Result<Continuation, AllocError>
+    requires item { IsPart stack.old item }
+    requires rest { IsList stack.old rest }
+    ensures ok { IfOk result (λ l. Holds stack.new l (elements_of stack.old item ++ goals_of stack.old rest)) }
+    ensures grows { Lengthened stack.old stack.new }
+{
+    if let Item::Run(run) = item {
+        return stack.before(run, rest);
+    }
+    stack.link(item, rest)
+}
+
+/// A new list: two items before a list that is there.
+pub fn two_in_turn(
+    stack: &mut Stack,
+    first: Item,
+    second: Item,
+    rest: Continuation,
+) -> Result<Continuation, AllocError>
+    requires first { IsPart stack.old first }
+    requires second { IsPart stack.old second }
+    requires rest { IsList stack.old rest }
+    ensures ok { IfOk result (λ l. Holds stack.new l (elements_of stack.old first ++ (elements_of stack.old second ++ goals_of stack.old rest))) }
+    ensures grows { Lengthened stack.old stack.new }
+{
+    let behind = before(stack, second, rest)?;
+    before(stack, first, behind)
+}
+
+/// Two new lists: each of two items before a list that is there.
+pub fn two_before(
+    stack: &mut Stack,
+    first: Item,
+    second: Item,
+    rest: Continuation,
+) -> Result<(Continuation, Continuation), AllocError>
+    requires first { IsPart stack.old first }
+    requires second { IsPart stack.old second }
+    requires rest { IsList stack.old rest }
+    ensures first { IfOk result (λ r. Holds stack.new r.0 (elements_of stack.old first ++ goals_of stack.old rest)) }
+    ensures second { IfOk result (λ r. Holds stack.new r.1 (elements_of stack.old second ++ goals_of stack.old rest)) }
+    ensures grows { Lengthened stack.old stack.new }
+{
+    let shared = Continuation::alone(stack.number_of(rest)?);
+    let one = before(stack, first, shared)?;
+    let other = before(stack, second, shared)?;
+    Ok((one, other))
+}

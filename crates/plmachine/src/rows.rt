@@ -1,0 +1,241 @@
+//! The rows of the table of control: what each form of goal makes of a machine (ISO/IEC 13211-1 7.8).
+//!
+//! A row that is refused memory leaves the search where it was.
+ghost use Rattle.std.specs.Prelude.{◌≡◌, ◌+◌, suc, [], ◌∷◌, ◌++◌, codes, OnOk, OnErr};
+ghost use Rattle.plterm.specs.Tree.{atom};
+ghost use Rattle.plcells.specs.Store.{value, IsValue};
+ghost use Rattle.plsearch.specs.Types.{Goal, Asking, Commit, Marker, Go, Choice, Mark};
+ghost use Rattle.plsearch.specs.Rows.{thrown, branch, raised, go_on as went_on};
+ghost use Rattle.plstack.specs.State.{goals_of, IsList};
+ghost use Rattle.plstack.specs.Opening.{around_cases, branch_of, IsAround};
+ghost use Rattle.plmachine.specs.Lists.{at_level, elements_of, IsPart};
+ghost use Rattle.plmachine.specs.Machine.{depth_of, is_var, local_of, question_of, IsAskable, IsBegun, Moved, Stays};
+
+use crate::error;
+use crate::list::{at_level, failure, two_before, two_in_turn};
+use crate::machine::{Machine, Mode, Outcome, Question};
+use crate::predicate::Predicate;
+use plcells::cell::Cell;
+use plcells::heap::Heap;
+use pllinks::item::{Item, MarkerKind};
+use pllinks::link::Continuation;
+use plprogram::program::Program;
+use plstack::frame::Around;
+use plterm::indicator::Indicator;
+use plterm::term::Term;
+use std::alloc::AllocError;
+
+impl Machine {
+    /// Visits a list.
+    pub fn go_on(&mut self, list: Continuation)
+        requires { IsList self.old.stack list }
+        ensures { self.new ≡ record self.old { stack = record self.old.stack { goals = list }; mode = Mode.Visit } }
+    {
+        self.stack.visit(list);
+        self.mode = Mode::Visit;
+    }
+
+    /// Carries a result.
+    pub fn give(&mut self, outcome: Outcome)
+        ensures { self.new ≡ record self.old { mode = Mode.Back outcome } }
+    {
+        self.mode = Mode::Back(outcome);
+    }
+
+    /// Raises an error of a predicate.
+    pub fn raise(
+        &mut self,
+        program: &Program,
+        error: Term,
+        p: &Indicator,
+        rest: Continuation,
+    ) -> Result<(), AllocError>
+        requires { IsList self.old.stack rest }
+        ensures ok { OnOk result (Moved program.now self.old self.new (raised error p.now (goals_of self.old.stack rest) (local_of self.old))) }
+        ensures err { OnErr result (Stays program.now self.old self.new) }
+    {
+        let ball = error::ball(self.alloc, error, p)?;
+        let levels = self.stack.levels(self.alloc, rest)?;
+        self.give(Outcome::Throw(ball, levels));
+        Ok(())
+    }
+
+    /// Asks something before a list.
+    pub fn ask(&mut self, program: &Program, question: Question, rest: Continuation)
+        requires askable { IsAskable self.old.stack.env.heap question }
+        requires rest { IsList self.old.stack rest }
+        ensures { Moved program.now self.old self.new (went_on (Asking (question_of self.old.stack.env.heap question) ∷ goals_of self.old.stack rest) self.old.stack.env.count (local_of self.old)) }
+    {
+        self.stack.visit(rest);
+        self.mode = Mode::Ask(question);
+    }
+
+    /// Opens a choice of a list, and visits another in it.
+    fn enter_branch(
+        &mut self,
+        program: &Program,
+        list: Continuation,
+        other: Continuation,
+    ) -> Result<(), AllocError>
+        requires list { IsList self.old.stack list }
+        requires other { IsList self.old.stack other }
+        ensures ok { OnOk result (Moved program.now self.old self.new (Go (branch_of self.old.stack other ∷ []) (record { goals = goals_of self.old.stack list; variables = self.old.stack.env.count }) (local_of self.old))) }
+        ensures err { OnErr result (Stays program.now self.old self.new) }
+    {
+        self.stack.open_branch(other)?;
+        self.go_on(list);
+        Ok(())
+    }
+
+    /// Opens a choice with nothing left in other cases, and visits a list in it.
+    pub fn enter(
+        &mut self,
+        program: &Program,
+        list: Continuation,
+        around: Around,
+    ) -> Result<(), AllocError>
+        requires list { IsList self.old.stack list }
+        requires around { IsAround self.old.stack around }
+        ensures ok { OnOk result (Moved program.now self.old self.new (Go (Choice [] ∷ around_cases self.old.stack around) (record { goals = goals_of self.old.stack list; variables = self.old.stack.env.count }) (local_of self.old))) }
+        ensures err { OnErr result (Stays program.now self.old self.new) }
+    {
+        self.stack.open_run(around)?;
+        self.go_on(list);
+        Ok(())
+    }
+
+    /// A conjunction.
+    pub fn both(
+        &mut self,
+        program: &Program,
+        first: Item,
+        second: Item,
+        rest: Continuation,
+    ) -> Result<(), AllocError>
+        requires first { IsPart self.old.stack first }
+        requires second { IsPart self.old.stack second }
+        requires rest { IsList self.old.stack rest }
+        ensures ok { OnOk result (Moved program.now self.old self.new (went_on (elements_of self.old.stack first ++ (elements_of self.old.stack second ++ goals_of self.old.stack rest)) self.old.stack.env.count (local_of self.old))) }
+        ensures err { OnErr result (Stays program.now self.old self.new) }
+    {
+        let list = two_in_turn(&mut self.stack, first, second, rest)?;
+        self.go_on(list);
+        Ok(())
+    }
+
+    /// A disjunction.
+    pub fn either(
+        &mut self,
+        program: &Program,
+        first: Item,
+        second: Item,
+        rest: Continuation,
+    ) -> Result<(), AllocError>
+        requires first { IsPart self.old.stack first }
+        requires second { IsPart self.old.stack second }
+        requires rest { IsList self.old.stack rest }
+        ensures ok { OnOk result (Moved program.now self.old self.new (Go (branch (elements_of self.old.stack second ++ goals_of self.old.stack rest) self.old.stack.env.count ∷ []) (record { goals = elements_of self.old.stack first ++ goals_of self.old.stack rest; variables = self.old.stack.env.count }) (local_of self.old))) }
+        ensures err { OnErr result (Stays program.now self.old self.new) }
+    {
+        let (list, other) = two_before(&mut self.stack, first, second, rest)?;
+        self.enter_branch(program, list, other)
+    }
+
+    /// A condition, what follows it, and what is done where it fails.
+    pub fn then_else(
+        &mut self,
+        program: &Program,
+        condition: Item,
+        then: Item,
+        other: Item,
+        rest: Continuation,
+    ) -> Result<(), AllocError>
+        requires condition { IsPart self.old.stack condition }
+        requires then { IsPart self.old.stack then }
+        requires other { IsPart self.old.stack other }
+        requires rest { IsList self.old.stack rest }
+        ensures ok { OnOk result (Moved program.now self.old self.new (Go (Choice [] ∷ branch (elements_of self.old.stack other ++ goals_of self.old.stack rest) self.old.stack.env.count ∷ []) (record { goals = elements_of self.old.stack (at_level (suc (depth_of program.now self.old)) condition) ++ (Marker Commit (depth_of program.now self.old) ∷ (elements_of self.old.stack then ++ goals_of self.old.stack rest)); variables = self.old.stack.env.count }) (local_of self.old))) }
+        ensures err { OnErr result (Stays program.now self.old self.new) }
+    {
+        let depth = self.stack.depth();
+        let Some(inner) = depth.checked_add(1) else {
+            return Err(AllocError);
+        };
+        let (following, failing) = two_before(&mut self.stack, then, other, rest)?;
+        let marker = Item::Marker(MarkerKind::Commit, depth);
+        let list = two_in_turn(
+            &mut self.stack,
+            at_level(condition, inner),
+            marker,
+            following,
+        )?;
+        self.enter(program, list, Around::Branch(failing))
+    }
+
+    /// A condition and what follows it, in place of which there is failure.
+    pub fn then(
+        &mut self,
+        program: &Program,
+        level: u64,
+        condition: Item,
+        then: Item,
+        rest: Continuation,
+    ) -> Result<(), AllocError>
+        requires begun { IsBegun program.now self.old }
+        requires condition { IsPart self.old.stack condition }
+        requires then { IsPart self.old.stack then }
+        requires rest { IsList self.old.stack rest }
+        ensures ok { OnOk result (Moved program.now self.old self.new (Go (Choice [] ∷ branch (Goal level (atom (codes "fail")) ∷ goals_of self.old.stack rest) self.old.stack.env.count ∷ []) (record { goals = elements_of self.old.stack (at_level (suc (depth_of program.now self.old)) condition) ++ (Marker Commit (depth_of program.now self.old) ∷ (elements_of self.old.stack then ++ goals_of self.old.stack rest)); variables = self.old.stack.env.count }) (local_of self.old))) }
+        ensures err { OnErr result (Stays program.now self.old self.new) }
+    {
+        self.then_else(program, condition, then, failure(level), rest)
+    }
+
+    /// `!`/0 of a goal with a cut level.
+    pub fn cut(
+        &mut self,
+        program: &Program,
+        level: u64,
+        rest: Continuation,
+    ) -> Result<(), AllocError>
+        requires { IsList self.old.stack rest }
+        ensures ok { OnOk result (Moved program.now self.old self.new (Go (Mark level ∷ []) (record { goals = goals_of self.old.stack rest; variables = self.old.stack.env.count }) (local_of self.old))) }
+        ensures err { OnErr result (Stays program.now self.old self.new) }
+    {
+        self.stack.cut(level, rest)?;
+        self.mode = Mode::Visit;
+        Ok(())
+    }
+
+    /// throw/1.
+    pub fn throw(
+        &mut self,
+        program: &Program,
+        ball: Cell,
+        rest: Continuation,
+    ) -> Result<(), AllocError>
+        requires ball { IsValue self.old.stack.env.heap ball }
+        requires rest { IsList self.old.stack rest }
+        ensures ok { OnOk result (Moved program.now self.old self.new (thrown (value self.old.stack.env.heap ball) (goals_of self.old.stack rest) (local_of self.old))) }
+        ensures err { OnErr result (Stays program.now self.old self.new) }
+    {
+        if is_variable(self.stack.env().heap(), ball) {
+            let p = Predicate::Throw.indicator(self.alloc)?;
+            let error = error::instantiation(self.alloc)?;
+            return self.raise(program, error, &p, rest);
+        }
+        let term = self.stack.env().heap().take(self.alloc, ball)?;
+        let copy = term.copy(self.alloc, 0)?;
+        let levels = self.stack.levels(self.alloc, rest)?;
+        self.give(Outcome::Throw(copy, levels));
+        Ok(())
+    }
+}
+
+/// Whether the term of a value is a variable.
+pub fn is_variable(heap: &Heap, v: Cell) -> bool
+    requires { IsValue heap.now v }
+    ensures { result ≡ is_var (value heap.now v) }
+{
+    matches!(heap.root(v), Cell::Ref(_))
+}

@@ -1,0 +1,170 @@
+//! A goal that is selected (ISO/IEC 13211-1 7.7.7).
+ghost use Rattle.std.specs.Prelude.{◌≡◌, ◌≤◌, ◌∷◌, length, IfOk, OnOk, OnErr};
+ghost use Rattle.plterm.specs.Tree.{Tree};
+ghost use Rattle.plterm.specs.declared.indicator.Indicator.{Indicator as OfIndicator};
+ghost use Rattle.plcells.specs.Store.{value, AreValues, IsValue};
+ghost use Rattle.plprogram.specs.Program.{clauses_for};
+ghost use Rattle.plsearch.specs.Forms.{form as form_of};
+ghost use Rattle.plsearch.specs.Types.{Asking, Look};
+ghost use Rattle.plsearch.specs.Rows.{row, user, call as called, go_on as went_on};
+ghost use Rattle.plstack.specs.State.{goals_of, IsList};
+ghost use Rattle.plmachine.specs.Lists.{Grown};
+ghost use Rattle.plmachine.specs.Machine.{depth_of, local_of, IsBegun, Moved, Stays};
+ghost use Rattle.plmachine.specs.Selected.{IsCallOf, IsSelected, IsStaticCall, StandsFor};
+
+use crate::machine::{Machine, Mode, Outcome, Question};
+use plcells::cell::Cell;
+use plgoals::form::{Form, Procedure};
+use pllinks::item::{Item, Run};
+use pllinks::link::Continuation;
+use plprogram::program::Program;
+use plstack::frame::Catcher;
+use std::alloc::AllocError;
+
+/// Where the term of a goal stands.
+#[derive(Clone, Copy)]
+pub enum Source {
+    /// It is the term of a value.
+    Value(Cell),
+    /// It stands at a node of a clause's code, with the slots of a run for its variables.
+    Node(Run, u32),
+}
+
+impl Machine {
+    /// The row of a goal.
+    pub fn select(
+        &mut self,
+        program: &Program,
+        form: Form,
+        source: Source,
+        level: u64,
+        rest: Continuation,
+    ) -> Result<(), AllocError>
+        requires selected { (t : Tree) × IsSelected program.now self.old form source t }
+        requires rest { IsList self.old.stack rest }
+        ensures ok { (t : Tree) → IsSelected program.now self.old form source t → OnOk result (Moved program.now self.old self.new (row program.now (form_of t) level t (depth_of program.now self.old) (goals_of self.old.stack rest) self.old.stack.env.count (local_of self.old))) }
+        ensures err { OnErr result (Stays program.now self.old self.new) }
+    {
+        match form {
+            Form::True => {
+                self.go_on(rest);
+                Ok(())
+            }
+            Form::False => {
+                self.give(Outcome::Fail);
+                Ok(())
+            }
+            Form::Both(a, b) => {
+                self.both(program, Item::Goal(level, a), Item::Goal(level, b), rest)
+            }
+            Form::Either(a, b) => {
+                self.either(program, Item::Goal(level, a), Item::Goal(level, b), rest)
+            }
+            Form::IfThen(condition, then) => {
+                let condition = Item::Goal(level, condition);
+                self.then(program, level, condition, Item::Goal(level, then), rest)
+            }
+            Form::IfThenElse(condition, then, other) => {
+                let condition = Item::Goal(level, condition);
+                let then = Item::Goal(level, then);
+                self.then_else(program, condition, then, Item::Goal(level, other), rest)
+            }
+            Form::Not(goal) => self.not(program, goal, rest),
+            Form::Once(goal) => self.once(program, goal, rest),
+            Form::Catching(goal, catcher, recovery) => {
+                self.catching(program, goal, Catcher { catcher, recovery }, rest)
+            }
+            Form::Throwing(ball) => self.throw(program, ball, rest),
+            Form::CallWith => self.call_with(program, rest),
+            Form::Cut => self.cut(program, level, rest),
+            Form::BuiltIn(b) => self.built_in(program, b, source, rest),
+            Form::AddLast(clause) => self.add_last(program, clause, rest),
+            Form::Halt => {
+                self.halt(program, 0, rest);
+                Ok(())
+            }
+            Form::HaltWith(number) => self.halt_with(program, number, rest),
+            Form::Call { procedure, .. } => self.call(program, procedure, source, rest),
+            Form::NoGoal => {
+                self.give(Outcome::Fail);
+                Ok(())
+            }
+        }
+    }
+
+    /// The goal that is selected, as a value.
+    pub(crate) fn goal(&mut self, source: Source) -> Result<Cell, AllocError>
+        requires { (t : Tree) × StandsFor self.old.stack source t }
+        ensures there { IfOk result (λ v. IsValue self.new.stack.env.heap v) }
+        ensures is { IfOk result (λ v. (t : Tree) → StandsFor self.old.stack source t → value self.new.stack.env.heap v ≡ t) }
+        ensures grown { Grown self.old.stack self.new.stack }
+        ensures frame { self.new ≡ record self.old { stack = self.new.stack } }
+    {
+        match source {
+            Source::Value(v) => Ok(v),
+            Source::Node(run, node) => self.stack.put_node(run, node),
+        }
+    }
+
+    /// A call of a procedure of all the arguments.
+    fn call(
+        &mut self,
+        program: &Program,
+        procedure: Procedure,
+        source: Source,
+        rest: Continuation,
+    ) -> Result<(), AllocError>
+        requires begun { IsBegun program.now self.old }
+        requires visits { self.old.mode ≡ Mode.Visit }
+        requires args { AreValues self.old.stack.env.heap self.old.args.items }
+        requires few { length self.old.args.items ≤ 1024 }
+        requires source { (t : Tree) × StandsFor self.old.stack source t }
+        requires rest { IsList self.old.stack rest }
+        ensures ok { (p : OfIndicator) (t : Tree) → StandsFor self.old.stack source t → IsCallOf program.now self.old p procedure t → OnOk result (Moved program.now self.old self.new (user (clauses_for program.now p) (depth_of program.now self.old) t (goals_of self.old.stack rest) self.old.stack.env.count (local_of self.old))) }
+        ensures err { OnErr result (Stays program.now self.old self.new) }
+    {
+        match procedure {
+            Procedure::Static(place) => self.resolve(program, place, rest),
+            Procedure::Unknown => self.look(program, source, rest),
+        }
+    }
+
+    /// A call of a procedure of the program's text, by its place, of all the arguments.
+    fn resolve(
+        &mut self,
+        program: &Program,
+        place: u32,
+        rest: Continuation,
+    ) -> Result<(), AllocError>
+        requires begun { IsBegun program.now self.old }
+        requires visits { self.old.mode ≡ Mode.Visit }
+        requires args { AreValues self.old.stack.env.heap self.old.args.items }
+        requires few { length self.old.args.items ≤ 1024 }
+        requires rest { IsList self.old.stack rest }
+        ensures ok { (p : OfIndicator) (t : Tree) → IsStaticCall program.now self.old p place t → OnOk result (Moved program.now self.old self.new (called (depth_of program.now self.old) self.old.stack.env.count t (goals_of self.old.stack rest) (clauses_for program.now p) (local_of self.old))) }
+        ensures err { OnErr result (Stays program.now self.old self.new) }
+    {
+        if self.stack.call(place, &self.args, rest)? {
+            return Ok(());
+        }
+        self.give(Outcome::Fail);
+        Ok(())
+    }
+
+    /// A call of a procedure that is not in the program's text: its clauses are looked up in a view.
+    fn look(
+        &mut self,
+        program: &Program,
+        source: Source,
+        rest: Continuation,
+    ) -> Result<(), AllocError>
+        requires source { (t : Tree) × StandsFor self.old.stack source t }
+        requires rest { IsList self.old.stack rest }
+        ensures ok { (t : Tree) → StandsFor self.old.stack source t → OnOk result (Moved program.now self.old self.new (went_on (Asking (Look t) ∷ goals_of self.old.stack rest) self.old.stack.env.count (local_of self.old))) }
+        ensures err { OnErr result (Stays program.now self.old self.new) }
+    {
+        let goal = self.goal(source)?;
+        self.ask(program, Question::Look(goal), rest);
+        Ok(())
+    }
+}

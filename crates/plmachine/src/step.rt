@@ -1,0 +1,76 @@
+//! A goal of a clause's body that is selected, by its step (ISO/IEC 13211-1 7.7.7).
+ghost use Rattle.std.specs.Prelude.{◌≡◌, List, OnOk, OnErr};
+ghost use Rattle.plterm.specs.Tree.{Tree};
+ghost use Rattle.plsearch.specs.Types.{Element};
+ghost use Rattle.plsearch.specs.Forms.{form as form_by_term};
+ghost use Rattle.plsearch.specs.Rows.{row};
+ghost use Rattle.plstack.specs.Arguments.{IsArgument};
+ghost use Rattle.plstack.specs.First.{AtStep};
+ghost use Rattle.plstack.specs.State.{goals_of, IsList};
+ghost use Rattle.plmachine.specs.Machine.{depth_of, local_of, IsBegun, Moved, Stays};
+ghost use Rattle.plmachine.specs.Selected.{bound_at};
+
+use crate::list::branch;
+use crate::machine::{Machine, Mode};
+use crate::select::Source;
+use plcode::op::{Op, Step};
+use pllinks::item::Run;
+use pllinks::link::Continuation;
+use plprogram::program::Program;
+use std::alloc::AllocError;
+
+impl Machine {
+    /// The row of a goal of a clause's body, by its step, with the slots of a run for its variables.
+    pub fn step(
+        &mut self,
+        program: &Program,
+        run: Run,
+        step: Step,
+        rest: Continuation,
+    ) -> Result<(), AllocError>
+        requires begun { IsBegun program.now self.old }
+        requires visits { self.old.mode ≡ Mode.Visit }
+        requires at { (es : List Element) × AtStep self.old.stack es run step rest }
+        ensures ok { (es : List Element) (at : AtStep self.old.stack es run step rest) → OnOk result (Moved program.now self.old self.new (row program.now (form_by_term (bound_at self.old.stack run at.goal)) run.level (bound_at self.old.stack run at.goal) (depth_of program.now self.old) (goals_of self.old.stack rest) self.old.stack.env.count (local_of self.old))) }
+        ensures err { OnErr result (Stays program.now self.old self.new) }
+    {
+        match step.op {
+            Op::Or(left, right) => {
+                let left = branch(run, left);
+                let right = branch(run, right);
+                self.either(program, left, right, rest)
+            }
+            Op::IfThen(condition, then) => {
+                let condition = branch(run, condition);
+                let then = branch(run, then);
+                self.then(program, run.level, condition, then, rest)
+            }
+            Op::IfThenElse(condition, then, other) => {
+                let condition = branch(run, condition);
+                let then = branch(run, then);
+                let other = branch(run, other);
+                self.then_else(program, condition, then, other, rest)
+            }
+            _ => self.plain(program, run, step.goal, rest),
+        }
+    }
+
+    /// The row of a goal whose term stands at a node.
+    fn plain(
+        &mut self,
+        program: &Program,
+        run: Run,
+        node: u32,
+        rest: Continuation,
+    ) -> Result<(), AllocError>
+        requires begun { IsBegun program.now self.old }
+        requires visits { self.old.mode ≡ Mode.Visit }
+        requires node { (g : Tree) × IsArgument self.old.stack run node g }
+        requires rest { IsList self.old.stack rest }
+        ensures ok { (g : Tree) → IsArgument self.old.stack run node g → OnOk result (Moved program.now self.old self.new (row program.now (form_by_term (bound_at self.old.stack run g)) run.level (bound_at self.old.stack run g) (depth_of program.now self.old) (goals_of self.old.stack rest) self.old.stack.env.count (local_of self.old))) }
+        ensures err { OnErr result (Stays program.now self.old self.new) }
+    {
+        let goal = self.goal(Source::Node(run, node))?;
+        self.term(program, run.level, goal, rest)
+    }
+}
