@@ -1,0 +1,33 @@
+-- How much a cut leaves before a search.
+use Rattle.std.proofs.Common.{◌≡◌, ℕ, ◌+◌, ◌≤◌, ◌⊎◌, inl, inr, List, [], ◌∷◌, ◌++◌, arith}
+use Rattle.plprogram.specs.Program.{Program}
+use Rattle.plsearch.specs.Types.{Case, Choice, Mark, Handle}
+use Rattle.plsearch.specs.Machines.Levels.{AreAtMost, emptied}
+use Rattle.plsearch.specs.Machines.Weight.{case_weight, cases_weight}
+use Rattle.pllinks.specs.declared.link.Continuation.{Continuation}
+use Rattle.plstack.specs.Places.{Statics}
+use Rattle.plstack.specs.State.{State, cases_of, goals_of}
+use Rattle.plstack.specs.StaticCalls.{statics_of}
+use Rattle.plstack.specs.Cutting.{Empties, Cuts}
+
+-- each case weighs as much as an empty choice, or more
+some-weight : (c : Case) → 1 ≤ case_weight c
+some-weight (Choice []) = omega arith
+some-weight (Choice (p ∷ ps)) = omega arith
+some-weight (Mark l) = omega arith
+some-weight (Handle h p) = omega arith
+
+emptied-weight : (cs base base' : List Case) → cases_weight base' ≤ cases_weight base → cases_weight (emptied cs base') ≤ cases_weight (cs ++ base)
+emptied-weight [] base base' le = le
+emptied-weight (c ∷ cs) base base' le = omega (arith, some-weight c, emptied-weight cs base base' le)
+
+pub cut-weight : (P : Program) (old new : State) (level : ℕ) (list : Continuation) → Cuts old new level list → cases_weight (cases_of (statics_of P) new) ≤ cases_weight (cases_of (statics_of P) old) + 1
+cut-weight P old new level list cut = go cut.cases
+  where
+    go : ((statics : Statics) → cases_of statics new ≡ Mark level ∷ cases_of statics old) ⊎ (AreAtMost level (goals_of old list) × ((statics : Statics) → Empties statics old new level)) →
+        cases_weight (cases_of (statics_of P) new) ≤ cases_weight (cases_of (statics_of P) old) + 1
+    go (inl marked) = rw (marked (statics_of P)) (omega arith)
+    go (inr both) =
+        let e = both.1 (statics_of P) in
+        let less = emptied-weight (Mark level ∷ e.inside) (Choice e.places ∷ e.below) (Choice [] ∷ e.below) (omega (arith, some-weight (Choice e.places))) in
+        rw (e.cases, e.was) (omega (arith, less))

@@ -1,0 +1,6 @@
+pub mod Runs
+pub mod Cutting
+pub mod Quiets
+pub mod Catches
+pub mod Starts
+pub mod Looks

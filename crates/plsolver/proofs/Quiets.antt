@@ -1,0 +1,305 @@
+-- The turns that take no step.
+use Rattle.std.proofs.Common.{◌≡◌, ℕ, zero, suc, Bool, true, false, if◌then◌else◌, List, [], ◌∷◌, refl, sym, ap, ap₂, ◌∙◌, arith, IsTrue, ◌↔◌, Some, None, length, ◌+◌, ◌<◌, ◌≤◌, subst, inl, inr}
+use Rattle.plterm.specs.Tree.{Tree}
+use Rattle.plterm.specs.Variables.{copied, variables}
+use Rattle.plsubst.specs.Subst.{bind}
+use Rattle.plsubst.specs.Unify.{unify}
+use Rattle.plcells.specs.declared.cell.Cell.{Cell}
+use Rattle.plcells.specs.Store.{value}
+use Rattle.plevent.specs.Search.{Answer}
+use Rattle.plprogram.specs.Program.{Program}
+use Rattle.plsearch.specs.Types.{Result, Spent, Throw, Commit, Never, Until, Element, Goal, Marker, Handle, Handler, Catch, Keep, Place, Case, Choice, Mark, Local, Move, Run}
+use Rattle.plsearch.specs.Lists.{bind_goals}
+use Rattle.plsearch.specs.Running.{runnable}
+use Rattle.plsearch.specs.Rows.{select, meet, catching}
+use Rattle.plsearch.specs.Handlers.{resume, has, met_by, recovers}
+use Rattle.plsearch.specs.Engine.{deeper, mark, stop_cut}
+use Rattle.plsearch.specs.Machines.Machine.{At, Back, Machine, Rest, return, turn, step}
+use Rattle.plsearch.specs.Machines.Weight.{weight, Lighter}
+use Rattle.plsearch.proofs.Turns.{Rest-turn}
+use Rattle.plsearch.proofs.Weight.{lighter-turn}
+use Rattle.pllinks.specs.declared.item.MarkerKind.TheVariants as markers
+use Rattle.pllinks.specs.declared.link.Continuation.{Continuation}
+use Rattle.plstack.specs.State.{State, place_of, cases_of, goals_of, Retries}
+use Rattle.plstack.specs.StaticCalls.{statics_of}
+use Rattle.plstack.specs.Cutting.{Cuts}
+use Rattle.plstack.specs.First.{AtMarker}
+use Rattle.plmachine.specs.declared.machine.Outcome.{Outcome}
+use Rattle.plmachine.specs.declared.machine.Outcome.TheVariants as outcomes
+use Rattle.plmachine.specs.declared.machine.Mode.{Mode as Going}
+use Rattle.plmachine.specs.declared.machine.Mode.TheVariants as modes
+use Rattle.plmachine.specs.declared.machine.Machine.{Machine as Reached}
+use Rattle.plmachine.specs.Machine.{result_of, mode_of, local_of, cases_in, depth_of, machine, MayAsk}
+use Rattle.plmachine.proofs.Moves.{machine-is}
+use Rattle.plmachine.proofs.Cutting.{cut-place, cut-rest}
+use Rattle.plsolver.specs.declared.progress.Selected.{Selected}
+use Rattle.plsolver.specs.declared.progress.Progress.{Progress}
+use Rattle.plsolver.specs.Solver.{Quiet, Stays, IsOver, IsBack, IsSelected, Becomes, result_throws, throws_to, Recovered}
+use Rattle.plsolver.proofs.Runs.{at-place, visit-place, selected-goal}
+use Rattle.plsolver.proofs.Cutting.{cut-weight}
+
+-- the search with another stack, and another thing next
+abbrev pub to : Progress → State → Going → Progress
+to s st m = record s { machine = record s.machine { stack = st; mode = m } }
+
+pub carried : (P : Program) (s : Reached) (r : Outcome) (cs : List Case) → s.mode ≡ modes.Back r → cases_in P s ≡ cs → (left : ℕ) (answers : List Answer) →
+    machine P left answers s ≡ record { mode = Back (result_of r); cases = cs; run = record { steps = left; answers = answers; local = local_of s } }
+carried P s r cs at cases left answers = machine-is P s (Back (result_of r)) cs (local_of s) (ap (λ m. mode_of m s.stack) at) cases refl left answers
+
+not_back : (s : Reached) (r : Result) → s.mode ≡ modes.Visit → mode_of s.mode s.stack ≡ Back r → ⊥
+not_back s r at is = let e : At (place_of s.stack) ≡ Back r = ap (λ m. mode_of m s.stack) (sym at) ∙ is in cc
+
+some_case : (c : Case) (cs all : List Case) → all ≡ c ∷ cs → all ≡ [] → ⊥
+some_case c cs all is none = let e : c ∷ cs ≡ [] = sym is ∙ none in cc
+
+-- the machine makes one turn, and had not ended
+quiet : (P : Program) (s : Progress) (st : State) (m : Going) → st.code ≡ s.machine.stack.code → MayAsk st.env.heap m →
+    ((left : ℕ) (answers : List Answer) → left + s.used ≤ s.limit → machine P left answers (record s.machine { stack = st; mode = m }) ≡ turn P (machine P left answers s.machine)) →
+    ((r : Result) → mode_of s.machine.mode s.machine.stack ≡ Back r → cases_in P s.machine ≡ [] → ⊥) → Quiet P s (to s st m)
+unfolding machine
+quiet P s st m code may turned goes = record {
+  used = refl;
+  limit = refl;
+  places = refl;
+  code = code;
+  askable = may;
+  rest = λ left answers few. ap (Rest P) (turned left answers few) ∙ sym (Rest-turn P (machine P left answers s.machine));
+  lighter = λ within. fin (subst (λ m. Lighter (machine P 0 [] s.machine) m) (sym (turned 0 [] (omega (arith, within)))) (lighter-turn P (machine P 0 [] s.machine) goes));
+}
+  where
+    fin : Lighter (machine P 0 [] s.machine) (machine P 0 [] (record s.machine { stack = st; mode = m })) → weight (machine P 0 [] (record s.machine { stack = st; mode = m })) < weight (machine P 0 [] s.machine)
+    fin (inl less) = absurd (omega (arith, less))
+    fin (inr both) = both.1
+
+pub quiet-as : (P : Program) (s new : Progress) (st : State) (m : Going) → new ≡ to s st m → Quiet P s (to s st m) → Quiet P s new
+quiet-as P s new st m is q = subst (Quiet P s) (sym is) q
+
+-- ---- at a list
+
+at-goals : (P : Program) (s : Reached) (es : List Element) → s.mode ≡ modes.Visit → goals_of s.stack s.stack.goals ≡ es → (left : ℕ) (answers : List Answer) →
+    machine P left answers s ≡ record { mode = At (record { goals = es; variables = s.stack.env.count }); cases = cases_in P s; run = record { steps = left; answers = answers; local = local_of s } }
+at-goals P s es at goals left answers = at-place P s (record { goals = es; variables = s.stack.env.count }) (visit-place s es at goals) left answers
+
+pub quiet-stop : (P : Program) (s : Progress) → s.machine.mode ≡ modes.Visit → goals_of s.machine.stack s.machine.stack.goals ≡ [] → Quiet P s (to s s.machine.stack (modes.Back outcomes.Stop))
+unfolding turn machine
+quiet-stop P s at none =
+    quiet P s s.machine.stack (modes.Back outcomes.Stop) refl tt
+    (λ left answers few. sym (ap (turn P) (at-goals P s.machine [] at none left answers)))
+    (λ r is no. not_back s.machine r at is)
+
+spent : (P : Program) (cases : List Case) (row : Local → Move) (run : Run) (n : ℕ) → n ≡ 0 → ◌≡◌ {A = Machine} (record { mode = Back Spent; cases = cases; run = run }) (step cases row run n)
+spent P cases row run zero e = refl
+spent P cases row run (suc n) e = absurd (omega (arith, e))
+
+spends : (P : Program) (s : Progress) (k : ℕ) (t : Tree) (rest : List Element) → s.machine.mode ≡ modes.Visit → goals_of s.machine.stack s.machine.stack.goals ≡ Goal k t ∷ rest → s.used ≡ s.limit →
+    Quiet P s (to s s.machine.stack (modes.Back outcomes.Spent))
+unfolding turn machine meet
+spends P s k t rest at goals all =
+    quiet P s s.machine.stack (modes.Back outcomes.Spent) refl tt
+    (λ left answers few.
+    spent P (cases_in P s.machine) (select P k t (depth_of P s.machine) rest s.machine.stack.env.count) (record { steps = left; answers = answers; local = local_of s.machine }) left (omega (arith, few, all))
+    ∙ sym (ap (turn P) (at-goals P s.machine (Goal k t ∷ rest) at goals left answers)))
+    (λ r is no. not_back s.machine r at is)
+
+pub quiet-spent : (P : Program) (s : Progress) (x : Selected) → IsSelected s.machine x → s.used ≡ s.limit → Quiet P s (to s s.machine.stack (modes.Back outcomes.Spent))
+quiet-spent P s x is all = let g = selected-goal s.machine x is in spends P s g.0 g.1 g.2 is.0 g.3 all
+
+pub quiet-commit : (P : Program) (s : Progress) (st : State) (level : ℕ) (rest : Continuation) → s.machine.mode ≡ modes.Visit → AtMarker s.machine.stack (goals_of s.machine.stack s.machine.stack.goals) markers.Commit level rest →
+    Cuts s.machine.stack st level rest → Quiet P s (to s st s.machine.mode)
+unfolding turn meet weight
+quiet-commit P s st level rest at commit cut = record {
+  used = refl;
+  limit = refl;
+  places = refl;
+  code = cut.keeps.code;
+  askable = subst (MayAsk st.env.heap) (sym at) tt;
+  rest = λ left answers few.
+      let run : Run = record { steps = left; answers = answers; local = local_of s.machine } in
+      ap (Rest P) (after left answers)
+      ∙ cut-rest P s.machine.stack st level rest commit.there cut run
+      ∙ sym (Rest-turn P (record { mode = At (record { goals = Marker Commit level ∷ goals_of s.machine.stack rest; variables = s.machine.stack.env.count }); cases = cases_in P s.machine; run = run }))
+      ∙ sym (ap (Rest P) (here left answers));
+  lighter = λ within. rw (after 0 [], here 0 []) (omega (arith, cut-weight P s.machine.stack st level rest cut));
+}
+  where
+    here : (left : ℕ) (answers : List Answer) → machine P left answers s.machine ≡ record { mode = At (record { goals = Marker Commit level ∷ goals_of s.machine.stack rest; variables = s.machine.stack.env.count }); cases = cases_in P s.machine; run = record { steps = left; answers = answers; local = local_of s.machine } }
+    here left answers = at-goals P s.machine (Marker Commit level ∷ goals_of s.machine.stack rest) at commit.goals left answers
+
+    after : (left : ℕ) (answers : List Answer) → machine P left answers (record s.machine { stack = st }) ≡ record { mode = At (record { goals = goals_of s.machine.stack rest; variables = s.machine.stack.env.count }); cases = cases_of (statics_of P) st; run = record { steps = left; answers = answers; local = local_of s.machine } }
+    after left answers = at-place P (record s.machine { stack = st }) (record { goals = goals_of s.machine.stack rest; variables = s.machine.stack.env.count }) (ap (λ m. mode_of m st) at ∙ ap At (cut-place P s.machine.stack st level rest commit.there cut)) left answers
+
+pub quiet-never : (P : Program) (s : Progress) (level : ℕ) (rest : Continuation) → s.machine.mode ≡ modes.Visit → AtMarker s.machine.stack (goals_of s.machine.stack s.machine.stack.goals) markers.Never level rest →
+    Quiet P s (to s s.machine.stack (modes.Back (outcomes.CutTo level)))
+unfolding turn meet machine
+quiet-never P s level rest at never =
+    quiet P s s.machine.stack (modes.Back (outcomes.CutTo level)) refl tt
+    (λ left answers few. sym (ap (turn P) (at-goals P s.machine (Marker Never level ∷ goals_of s.machine.stack rest) at never.goals left answers)))
+    (λ r is no. not_back s.machine r at is)
+
+pub quiet-until : (P : Program) (s : Progress) (level : ℕ) (rest : Continuation) → s.machine.mode ≡ modes.Visit → AtMarker s.machine.stack (goals_of s.machine.stack s.machine.stack.goals) markers.Until level rest →
+    Quiet P s (to s (record s.machine.stack { goals = rest }) s.machine.mode)
+unfolding turn meet cases_of
+quiet-until P s level rest at until =
+    quiet P s (record s.machine.stack { goals = rest }) s.machine.mode refl (subst (MayAsk s.machine.stack.env.heap) (sym at) tt)
+    (λ left answers few.
+    at-goals P (record s.machine { stack = record s.machine.stack { goals = rest } }) (goals_of s.machine.stack rest) at refl left answers
+    ∙ sym (ap (turn P) (at-goals P s.machine (Marker Until level ∷ goals_of s.machine.stack rest) at until.goals left answers)))
+    (λ r is no. not_back s.machine r at is)
+
+-- ---- with a result
+
+pub quiet-retry : (P : Program) (s : Progress) (st : State) → s.machine.mode ≡ modes.Back outcomes.Fail → st.code ≡ s.machine.stack.code → Retries (statics_of P) s.machine.stack st → Quiet P s (to s st modes.Visit)
+unfolding turn
+quiet-retry P s st at code r =
+    quiet P s st modes.Visit code tt
+    (λ left answers few.
+    at-place P (record s.machine { stack = st; mode = modes.Visit }) (place_of st) refl left answers
+    ∙ ap (λ cs. record { mode = At (place_of st); cases = cs; run = record { steps = left; answers = answers; local = local_of s.machine } }) r.cases
+    ∙ sym (ap (turn P) (carried P s.machine outcomes.Fail (Choice (place_of st ∷ r.others) ∷ r.older) at r.was left answers)))
+    (λ x is no. some_case _ _ _ r.was no)
+
+pub quiet-close : (P : Program) (s : Progress) (st : State) → s.machine.mode ≡ modes.Back outcomes.Fail → st.code ≡ s.machine.stack.code → cases_in P s.machine ≡ Choice [] ∷ cases_of (statics_of P) st → Quiet P s (to s st s.machine.mode)
+unfolding turn
+quiet-close P s st at code was =
+    quiet P s st s.machine.mode code (subst (MayAsk st.env.heap) (sym at) tt)
+    (λ left answers few.
+    carried P (record s.machine { stack = st }) outcomes.Fail (cases_of (statics_of P) st) at refl left answers
+    ∙ sym (ap (turn P) (carried P s.machine outcomes.Fail (Choice [] ∷ cases_of (statics_of P) st) at was left answers)))
+    (λ x is no. some_case _ _ _ was no)
+
+-- the search with another stack, which carries what it carried
+abbrev pub at_stack : Progress → State → Progress
+at_stack s st = record s { machine = record s.machine { stack = st } }
+
+pub quiet-mark : (P : Program) (s new : Progress) (st : State) (l : ℕ) → IsBack s → st.code ≡ s.machine.stack.code → cases_in P s.machine ≡ Mark l ∷ cases_of (statics_of P) st →
+    Becomes (at_stack s st) new (mark l) → Quiet P s new
+unfolding turn
+quiet-mark P s new st l back code was b =
+    let r : Outcome = back.0 in
+    let made = b.is r back.1 in
+    quiet-as P s new st (modes.Back made.0) (b.frame ∙ ap (λ m. to s st m) made.1)
+    (quiet P s st (modes.Back made.0) code tt
+    (λ left answers few.
+    carried P (record s.machine { stack = st; mode = modes.Back made.0 }) made.0 (cases_of (statics_of P) st) refl refl left answers
+    ∙ ap (λ x. record { mode = Back x; cases = cases_of (statics_of P) st; run = record { steps = left; answers = answers; local = local_of s.machine } }) made.2
+    ∙ sym (ap (turn P) (carried P s.machine r (Mark l ∷ cases_of (statics_of P) st) back.1 was left answers)))
+    (λ x is no. some_case _ _ _ was no))
+
+cut-result : (P : Program) (d : ℕ) (r : Outcome) (ps : List Place) (cases : List Case) (run : Run) → deeper cases 0 ≡ d → (r ≡ outcomes.Fail → ps ≡ []) →
+    ◌≡◌ {A = Machine} (record { mode = Back (stop_cut d (result_of r)); cases = cases; run = run }) (turn P (record { mode = Back (result_of r); cases = Choice ps ∷ cases; run = run }))
+unfolding turn
+cut-result P d outcomes.Fail ps cases run is none = rw (none refl) refl
+cut-result P d outcomes.Stop [] cases run is none = refl
+cut-result P d outcomes.Stop (p ∷ ps) cases run is none = refl
+cut-result P d (outcomes.CutTo l) [] cases run is none = rw is refl
+cut-result P d (outcomes.CutTo l) (p ∷ ps) cases run is none = rw is refl
+cut-result P d (outcomes.Throw t ls) [] cases run is none = refl
+cut-result P d (outcomes.Throw t ls) (p ∷ ps) cases run is none = refl
+cut-result P d (outcomes.Halted n) [] cases run is none = refl
+cut-result P d (outcomes.Halted n) (p ∷ ps) cases run is none = refl
+cut-result P d outcomes.Spent [] cases run is none = refl
+cut-result P d outcomes.Spent (p ∷ ps) cases run is none = refl
+
+pub quiet-choice : (P : Program) (s new : Progress) (st : State) (ps : List Place) → IsBack s → st.code ≡ s.machine.stack.code → cases_in P s.machine ≡ Choice ps ∷ cases_of (statics_of P) st →
+    (s.machine.mode ≡ modes.Back outcomes.Fail → ps ≡ []) → Becomes (at_stack s st) new (stop_cut (deeper (cases_of (statics_of P) st) 0)) → Quiet P s new
+quiet-choice P s new st ps back code was none b =
+    let r : Outcome = back.0 in
+    let d : ℕ = deeper (cases_of (statics_of P) st) 0 in
+    let made = b.is r back.1 in
+    quiet-as P s new st (modes.Back made.0) (b.frame ∙ ap (λ m. to s st m) made.1)
+    (quiet P s st (modes.Back made.0) code tt
+    (λ left answers few.
+    carried P (record s.machine { stack = st; mode = modes.Back made.0 }) made.0 (cases_of (statics_of P) st) refl refl left answers
+    ∙ ap (λ x. record { mode = Back x; cases = cases_of (statics_of P) st; run = record { steps = left; answers = answers; local = local_of s.machine } }) made.2
+    ∙ cut-result P d r ps (cases_of (statics_of P) st) (record { steps = left; answers = answers; local = local_of s.machine }) refl (λ f. none (back.1 ∙ ap modes.Back f))
+    ∙ sym (ap (turn P) (carried P s.machine r (Choice ps ∷ cases_of (statics_of P) st) back.1 was left answers)))
+    (λ x is no. some_case _ _ _ was no))
+
+pub over-now : (P : Program) (s : Progress) → IsBack s → cases_in P s.machine ≡ [] → IsOver P s
+over-now P s back none = (back.0, back.1, none)
+
+-- with a result the list that is visited does not matter
+pub stays-back : (P : Program) (s : Progress) (st : State) (r : Outcome) → s.machine.mode ≡ modes.Back r → st.code ≡ s.machine.stack.code → cases_of (statics_of P) st ≡ cases_in P s.machine → Stays P s (at_stack s st)
+stays-back P s st r at code same = record {
+  used = refl;
+  limit = refl;
+  places = refl;
+  there = record {
+    code = code;
+    cases = same;
+    local = refl;
+    askable = λ may. subst (MayAsk st.env.heap) (sym at) tt;
+    same = λ may left answers. carried P (record s.machine { stack = st }) r (cases_in P s.machine) at same left answers ∙ sym (carried P s.machine r (cases_in P s.machine) at refl left answers);
+  };
+}
+
+pub both_are : {A B : Type 0} (b : Bool) → (IsTrue b ↔ (A × B)) → b ≡ true → A × B
+both_are b iff is = grind (arith, is, iff.0)
+
+-- ---- at a handler
+
+-- a handler whose goal no ball comes from passes every result on
+keeps : (h : Handler) (p : Place) (d : ℕ) (r : Outcome) (w : Local) → (result_throws d r ≡ true → ⊥) → resume h p d (result_of r) w ≡ Keep (result_of r) w
+unfolding resume
+keeps (Catch c r) p d outcomes.Fail w not = refl
+keeps (Catch c r) p d outcomes.Stop w not = refl
+keeps (Catch c r) p d (outcomes.CutTo l) w not = refl
+keeps (Catch c r) p d (outcomes.Throw t ls) w not = go (has d ls.items) refl
+  where
+    go : (b : Bool) → has d ls.items ≡ b → (if has d ls.items then met_by (unify c (copied p.variables t)) r t ls.items p d w else Keep (Throw t ls.items) w) ≡ Keep (Throw t ls.items) w
+    go true e = absurd (not e)
+    go false e = rw e refl
+keeps (Catch c r) p d (outcomes.Halted n) w not = refl
+keeps (Catch c r) p d outcomes.Spent w not = refl
+
+pub quiet-handler : (P : Program) (s : Progress) (st : State) (h : Handler) (p : Place) → IsBack s → st.code ≡ s.machine.stack.code → cases_in P s.machine ≡ Handle h p ∷ cases_of (statics_of P) st →
+    (throws_to (deeper (cases_of (statics_of P) st) 0) s.machine.mode ≡ true → ⊥) → Quiet P s (at_stack s st)
+unfolding turn
+quiet-handler P s st h p back code was not =
+    let r : Outcome = back.0 in
+    let e : s.machine.mode ≡ modes.Back r = back.1 in
+    let d : ℕ = deeper (cases_of (statics_of P) st) 0 in
+    quiet P s st s.machine.mode code (subst (MayAsk st.env.heap) (sym e) tt)
+    (λ left answers few.
+    carried P (record s.machine { stack = st }) r (cases_of (statics_of P) st) e refl left answers
+    ∙ sym (ap (turn P) (carried P s.machine r (Handle h p ∷ cases_of (statics_of P) st) e was left answers)
+    ∙ ap (return (cases_of (statics_of P) st) (record { steps = left; answers = answers; local = local_of s.machine })) (keeps h p d r (local_of s.machine) (λ yes. not (ap (throws_to d) e ∙ yes)))))
+    (λ x is no. some_case _ _ _ was no)
+
+-- the turn of an active catcher
+module _ (P : Program) (s : Progress) (o : Outcome) (ball : Tree) (found : List ℕ) (at : s.machine.mode ≡ modes.Back o) (carries : result_of o ≡ Throw ball found) (c r : Tree) (gs : List Element) (n : ℕ) (below : List Case)
+    (was : cases_in P s.machine ≡ catching c r gs n ∷ below) (active : has (deeper below 0) found ≡ true) where
+  catcher-turn : (left : ℕ) (answers : List Answer) → turn P (machine P left answers s.machine) ≡
+      return below (record { steps = left; answers = answers; local = local_of s.machine }) (met_by (unify c (copied n ball)) r ball found (record { goals = gs; variables = n }) (deeper below 0) (local_of s.machine))
+  unfolding turn resume
+  catcher-turn left answers =
+      let run : Run = record { steps = left; answers = answers; local = local_of s.machine } in
+      ap (turn P) (carried P s.machine o (catching c r gs n ∷ below) at was left answers ∙ ap (λ x. record { mode = Back x; cases = catching c r gs n ∷ below; run = run }) carries)
+      ∙ ap (λ b. return below run (if b then met_by (unify c (copied n ball)) r ball found (record { goals = gs; variables = n }) (deeper below 0) (local_of s.machine) else Keep (Throw ball found) (local_of s.machine))) active
+
+  -- the ball is another
+  pub quiet-other : (st : State) → st.code ≡ s.machine.stack.code → unify c (copied n ball) ≡ None → cases_of (statics_of P) st ≡ below → Quiet P s (at_stack s st)
+  quiet-other st code none below_is =
+      quiet P s st s.machine.mode code (subst (MayAsk st.env.heap) (sym at) tt)
+      (λ left answers few.
+      let run : Run = record { steps = left; answers = answers; local = local_of s.machine } in
+      carried P (record s.machine { stack = st }) o below at below_is left answers
+      ∙ ap (λ x. record { mode = Back x; cases = below; run = run }) carries
+      ∙ sym (catcher-turn left answers ∙ ap (λ σ. return below run (met_by σ r ball found (record { goals = gs; variables = n }) (deeper below 0) (local_of s.machine))) none))
+      (λ x is no. some_case _ _ _ was no)
+
+  -- the ball was caught, and the recovery is run
+  pub quiet-caught : (st : State) (new : Progress) (σ : ℕ → Tree) (recovery : Cell) (list : Continuation) (h : Case) → st.code ≡ s.machine.stack.code → unify c (copied n ball) ≡ Some σ → value st.env.heap recovery ≡ bind σ r →
+      goals_of st list ≡ bind_goals σ gs → st.env.count ≡ n + length (variables ball) → cases_of (statics_of P) st ≡ h ∷ below → Recovered P (at_stack s st) new recovery list → Quiet P s new
+  quiet-caught st new σ recovery list h code some runs goals count was_st did =
+      quiet-as P s new new.machine.stack new.machine.mode did.frame
+      (quiet P s new.machine.stack new.machine.mode (did.code ∙ code) did.askable
+      (λ left answers few.
+      let w : Local = local_of s.machine in
+      let run : Run = record { steps = left; answers = answers; local = w } in
+      ap (λ x. machine P left answers x.machine) (sym did.frame)
+      ∙ did.is h below was_st left answers
+      ∙ ap₂ (λ u es. return below run (recovers (runnable u) (deeper below 0) es st.env.count w)) runs goals
+      ∙ ap (λ k. return below run (recovers (runnable (bind σ r)) (deeper below 0) (bind_goals σ gs) k w)) count
+      ∙ sym (catcher-turn left answers ∙ ap (λ σ. return below run (met_by σ r ball found (record { goals = gs; variables = n }) (deeper below 0) w)) some))
+      (λ x is no. some_case _ _ _ was no))

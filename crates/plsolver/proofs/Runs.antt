@@ -1,0 +1,329 @@
+-- What turns, steps and answers say of the whole search.
+use Rattle.std.proofs.Common.{◌≡◌, ℕ, suc, ◌+◌, ◌-◌, ◌<◌, ◌≤◌, List, [], ◌∷◌, refl, sym, ap, ap₂, ◌∙◌, subst, arith, min, le_refl}
+use Rattle.std.specs.Prelude.{codes}
+use Rattle.plterm.specs.Tree.{Tree}
+use Rattle.plsubst.specs.Subst.{bind}
+use Rattle.plcells.specs.declared.cell.Cell.{Cell}
+use Rattle.plcells.specs.Store.{IsValue, value}
+use Rattle.plevent.specs.Search.{Item, View, Ask, Answer, Search, Wants, Finishes, Seen, Got}
+use Rattle.plevent.specs.Alive.{Stamped}
+use Rattle.plevent.specs.declared.request.ThreadEnd.{ThreadEnd}
+use Rattle.plevent.specs.declared.request.Request.{Request}
+use Rattle.plevent.specs.declared.request.Request.TheVariants.{Start, Publish, Finish, HaltRun}
+use Rattle.plevent.specs.declared.request.Reply.{Reply}
+use Rattle.plprogram.specs.Program.{Program}
+use Rattle.plsearch.specs.Types.{Awaits, Look, Await, Element, Goal, Asking, Place, Case, Choice, Mark, Handle, Catch, Local, Move, Run, Asks}
+use Rattle.plsearch.specs.Forms.{form}
+use Rattle.plsearch.specs.Rows.{select, row, meet}
+use Rattle.plsearch.specs.Replies.{Served, outcome, follows, walk_over, answered}
+use Rattle.plsearch.specs.Handlers.{resume}
+use Rattle.plsearch.specs.Engine.{left, choice, out, outs, Visit}
+use Rattle.plsearch.specs.Machines.Machine.{At, Back, Rest, move, turn, meets}
+use Rattle.plsearch.specs.Machines.Weight.{weight}
+use Rattle.plsearch.specs.Search.{ending_of, next_of}
+use Rattle.plsearch.specs.Solving.{Goes, TakesOne, StandsAt, EndsAt}
+use Rattle.plsearch.proofs.Turns.{Rest-turn}
+use Rattle.plcode.specs.Callees.{IsProgramCode}
+use Rattle.plcode.specs.Steps.{of_two}
+use Rattle.plenv.specs.Env.{over}
+use Rattle.plstack.specs.State.{State, cases_of, goals_of}
+use Rattle.pllinks.specs.declared.link.Continuation.{Continuation}
+use Rattle.plstack.specs.StaticCalls.{statics_of}
+use Rattle.plstack.specs.First.{AtBoth}
+use Rattle.plstack.specs.Giving.{GivesBack}
+use Rattle.plmachine.specs.declared.machine.Outcome.{Outcome}
+use Rattle.plmachine.specs.declared.machine.Then.{Then as Following}
+use Rattle.plmachine.specs.declared.machine.Then.TheVariants as thens
+use Rattle.plmachine.specs.declared.machine.Question.TheVariants as questions
+use Rattle.plmachine.specs.declared.machine.Mode.TheVariants as modes
+use Rattle.plmachine.specs.declared.machine.Machine.{Machine as Reached}
+use Rattle.plmachine.specs.Machine.{result_of, then_of, mode_of, local_of, cases_in, depth_of, machine, now, after, IsFollowed, MayAsk, Moved}
+use Rattle.plmachine.proofs.Moves.{machine-is, goes-to, visit-asks, stays-by}
+use Rattle.plsolver.specs.declared.progress.Selected.{Selected}
+use Rattle.plsolver.specs.declared.progress.Selected.TheVariants as goals
+use Rattle.plsolver.specs.declared.progress.Progress.{Progress}
+use Rattle.plsolver.specs.declared.solver.Turn.TheVariants as turns
+use Rattle.plsolver.specs.Says.{Says}
+use Rattle.plsolver.specs.Solver.{rest_of, IsOf, Stays, Quiet, Selects, IsSelected, IsAsked, WaitsForReply, WaitsForView, Waits, ReplyFits, Stepped, after_reply}
+
+-- ---- going on
+
+pub goes_on : (limit limit' : ℕ) (a b c : Search) (x y z : ℕ) → limit' ≡ limit → Goes limit a x b y → Goes limit' b y c z → Goes limit a x c z
+goes_on limit limit' a b c x y z same f g = (
+  omega (arith, f.0, g.0),
+  (λ le. omega (arith, same, g.1 (omega (arith, same, f.1 le)))),
+  (λ n answers le. f.2 n answers (omega (arith, g.0, le)) ∙ g.2 n answers le),
+)
+
+pub goes_nowhere : (limit : ℕ) (a : Search) (x : ℕ) → Goes limit a x a x
+goes_nowhere limit a x = (le_refl _, (λ le. le), λ n answers le. refl)
+
+pub stays_goes : (P : Program) (s new : Progress) → IsOf P s.machine → Stays P s new → Goes s.limit (rest_of P s) s.used (rest_of P new) new.used
+unfolding rest_of
+stays_goes P s new of t = (
+  omega (arith, t.used),
+  (λ le. omega (arith, t.used, le)),
+  λ n answers le.
+      ap₂ (λ l u. ending_of (min n l) (Rest P (machine P (min n l - u) answers s.machine))) (sym t.limit) (sym t.used)
+      ∙ ap (λ m. ending_of (min n new.limit) (Rest P m)) (sym (t.there.same of.askable (min n new.limit - new.used) answers)),
+)
+
+pub stays_of : (P : Program) (s new : Progress) → IsOf P s.machine → Stays P s new → IsOf P new.machine
+stays_of P s new of t = record { begun = subst (IsProgramCode P) (sym t.there.code) of.begun; askable = t.there.askable of.askable }
+
+pub quiet_goes : (P : Program) (s new : Progress) → s.used ≤ s.limit → Quiet P s new → Goes s.limit (rest_of P s) s.used (rest_of P new) new.used
+unfolding rest_of
+quiet_goes P s new within q = (
+  omega (arith, q.used),
+  (λ le. omega (arith, q.used, le)),
+  λ n answers le.
+      let few : (min n s.limit - s.used) + s.used ≤ s.limit = omega (arith, within) in
+      ap (ending_of (min n s.limit)) (sym (q.rest (min n s.limit - s.used) answers few))
+      ∙ ap₂ (λ l u. ending_of (min n l) (Rest P (machine P (min n l - u) answers new.machine))) (sym q.limit) (sym q.used),
+)
+
+pub quiet_of : (P : Program) (s new : Progress) → IsOf P s.machine → Quiet P s new → IsOf P new.machine
+quiet_of P s new of q = record { begun = subst (IsProgramCode P) (sym q.code) of.begun; askable = q.askable }
+
+-- how much a solver has before it without a step
+pub load : Program → Progress → ℕ
+load P s = weight (machine P 0 [] s.machine)
+
+pub quiet_lighter : (P : Program) (s new : Progress) → s.used ≤ s.limit → Quiet P s new → load P new < load P s
+unfolding load
+quiet_lighter P s new within q = q.lighter within
+
+-- ---- steps
+
+pub at-place : (P : Program) (s : Reached) (p : Place) → mode_of s.mode s.stack ≡ At p → (left : ℕ) (answers : List Answer) →
+    machine P left answers s ≡ record { mode = At p; cases = cases_in P s; run = record { steps = left; answers = answers; local = local_of s } }
+at-place P s p at left answers = machine-is P s (At p) (cases_in P s) (local_of s) at refl refl left answers
+
+pub visit-place : (s : Reached) (es : List Element) → s.mode ≡ modes.Visit → goals_of s.stack s.stack.goals ≡ es → mode_of s.mode s.stack ≡ At (record { goals = es; variables = s.stack.env.count })
+visit-place s es at goals = ap (λ m. mode_of m s.stack) at ∙ ap (λ gs. At (record { goals = gs; variables = s.stack.env.count })) goals
+
+-- the turn of a goal that is due
+due-turn : (P : Program) (s : Reached) (k : ℕ) (t : Tree) (rest : List Element) → s.mode ≡ modes.Visit → goals_of s.stack s.stack.goals ≡ Goal k t ∷ rest → (left : ℕ) (answers : List Answer) →
+    turn P (machine P (suc left) answers s) ≡ move (cases_in P s) (record { steps = left; answers = answers; local = local_of s }) (select P k t (depth_of P s) rest s.stack.env.count (local_of s))
+unfolding turn meet
+due-turn P s k t rest at goals left answers =
+    ap (turn P) (at-place P s (record { goals = Goal k t ∷ rest; variables = s.stack.env.count }) (visit-place s (Goal k t ∷ rest) at goals) (suc left) answers)
+
+pub steps : (P : Program) (s new : Progress) (k : ℕ) (t : Tree) (rest : List Element) → s.machine.mode ≡ modes.Visit → goals_of s.machine.stack s.machine.stack.goals ≡ Goal k t ∷ rest → s.used + 1 ≤ s.limit →
+    Selects P s.machine new.machine → new.used ≡ s.used + 1 → new.limit ≡ s.limit → new.places ≡ s.places → Stepped P s new
+unfolding rest_of
+steps P s new k t rest at goals some did used limit places = record {
+  used = used;
+  limit = limit;
+  places = ap (λ v. v.items) places;
+  goes = (
+    omega (arith, used),
+    (λ le. omega (arith, used, some)),
+    λ n answers le.
+        let moved = did k t rest goals in
+        let left : ℕ = min n s.limit - (s.used + 1) in
+        let one : min n s.limit - s.used ≡ suc left = omega (arith, le, used, some) in
+        ap (λ k. ending_of (min n s.limit) (Rest P (machine P k answers s.machine))) one
+        ∙ ap (ending_of (min n s.limit)) (Rest-turn P (machine P (suc left) answers s.machine))
+        ∙ ap (λ x. ending_of (min n s.limit) (Rest P x)) (due-turn P s.machine k t rest at goals left answers)
+        ∙ moved.ends (min n s.limit) left answers
+        ∙ ap₂ (λ l u. ending_of (min n l) (Rest P (machine P (min n l - u) answers new.machine))) (sym limit) (sym used),
+  );
+}
+
+-- a step, and then no more than it gave back
+pub steps_on : (P : Program) (s t new : Progress) → IsOf P t.machine → Stepped P s t → Stays P t new → Stepped P s new
+steps_on P s t new of a b = record {
+  goes = goes_on s.limit t.limit (rest_of P s) (rest_of P t) (rest_of P new) s.used t.used new.used a.limit a.goes (stays_goes P t new of b);
+  used = b.used ∙ a.used;
+  limit = b.limit ∙ a.limit;
+  places = b.places ∙ a.places;
+}
+
+-- ---- where it waits
+
+-- nothing catches a question
+asks-out : (P : Program) (cases : List Case) (q : Item) (run : Run) → outs (Visit P) 0 cases (Awaits q, run) ≡ (Awaits q, run)
+unfolding outs out choice resume
+asks-out P [] q run = refl
+asks-out P (Choice [] ∷ cases) q run = asks-out P cases q run
+asks-out P (Choice (p ∷ ps) ∷ cases) q run = asks-out P cases q run
+asks-out P (Mark l ∷ cases) q run = asks-out P cases q run
+asks-out P (Handle (Catch c r) p ∷ cases) q run = asks-out P cases q run
+
+asks-rest : (P : Program) (cases : List Case) (q : Item) (run : Run) → Rest P (record { mode = Back (Awaits q); cases = cases; run = run }) ≡ (Awaits q, run)
+unfolding Rest
+asks-rest P cases q run = asks-out P cases q run
+
+-- an item that is asked before a list
+pub stands : (P : Program) (s : Progress) (e : Element) (rest : List Element) (q : Item) → s.used ≤ s.limit →
+    mode_of s.machine.mode s.machine.stack ≡ At (record { goals = e ∷ rest; variables = s.machine.stack.env.count }) →
+    ((left : ℕ) → turn P (record { mode = At (record { goals = e ∷ rest; variables = s.machine.stack.env.count }); cases = cases_in P s.machine; run = record { steps = left; answers = []; local = local_of s.machine } })
+    ≡ record { mode = Back (Awaits q); cases = cases_in P s.machine; run = record { steps = left; answers = []; local = local_of s.machine } }) →
+    StandsAt q (rest_of P s) s.used s.machine.out.items
+unfolding rest_of
+stands P s e rest q within at asks = λ n le.
+    let k : ℕ = min n s.limit in
+    let few : k - (k - s.used) ≡ s.used = omega (arith, within, le) in
+    ap (λ m. ending_of k (Rest P m)) (at-place P s.machine (record { goals = e ∷ rest; variables = s.machine.stack.env.count }) at (k - s.used) [])
+    ∙ ap (ending_of k) (Rest-turn P _)
+    ∙ ap (λ m. ending_of k (Rest P m)) (asks (k - s.used))
+    ∙ ap (ending_of k) (asks-rest P (cases_in P s.machine) q (record { steps = k - s.used; answers = []; local = local_of s.machine }))
+    ∙ ap (λ u. record { next = Wants q; used = u; out = s.machine.out.items }) few
+
+pub stands-look : (P : Program) (s : Progress) (v : Cell) → s.used ≤ s.limit → s.machine.mode ≡ modes.Ask (questions.Look v) → StandsAt View (rest_of P s) s.used s.machine.out.items
+unfolding turn meet
+stands-look P s v within at =
+    stands P s (Asking (Look (value s.machine.stack.env.heap v))) (goals_of s.machine.stack s.machine.stack.goals) View within (ap (λ m. mode_of m s.machine.stack) at) (λ left. refl)
+
+pub stands-await : (P : Program) (s : Progress) (q : Request) (next : Following) → s.used ≤ s.limit → s.machine.mode ≡ modes.Ask (questions.Await q next) → StandsAt (Ask q) (rest_of P s) s.used s.machine.out.items
+unfolding turn meet
+stands-await P s q next within at =
+    stands P s (Asking (Await q (then_of next))) (goals_of s.machine.stack s.machine.stack.goals) (Ask q) within (ap (λ m. mode_of m s.machine.stack) at) (λ left. refl)
+
+-- the search has ended
+pub ends : (P : Program) (s : Progress) (e : ThreadEnd) (r : Outcome) → s.used ≤ s.limit → s.machine.mode ≡ modes.Back r → cases_in P s.machine ≡ [] → next_of (result_of r) ≡ Finishes e →
+    EndsAt s.limit e (rest_of P s) s.used s.machine.out.items
+unfolding rest_of Rest outs
+ends P s e r within at none is = (λ answers. at_n s.used (le_refl _) answers, λ answers. at_n s.limit within answers)
+  where
+    at_n : (n : ℕ) → s.used ≤ n → (answers : List Answer) → rest_of P s n answers ≡ record { next = Finishes e; used = s.used; out = s.machine.out.items }
+    at_n n le answers =
+        let k : ℕ = min n s.limit in
+        let few : k - (k - s.used) ≡ s.used = omega (arith, within, le) in
+        ap (λ m. ending_of k (Rest P m)) (machine-is P s.machine (Back (result_of r)) [] (local_of s.machine) (ap (λ m. mode_of m s.machine.stack) at) none refl (k - s.used) answers)
+        ∙ ap₂ (λ x u. record { next = x; used = u; out = s.machine.out.items }) is few
+
+-- ---- what stands first
+
+-- a goal that is to be selected begins the list
+pub selected-goal : (s : Reached) (x : Selected) → IsSelected s x → (k : ℕ) × (t : Tree) × (rest : List Element) × (goals_of s.stack s.stack.goals ≡ Goal k t ∷ rest)
+selected-goal s (goals.Both next) is = (is.1.level, of_two (codes ",") is.1.left is.1.right, is.1.rest, is.1.goals)
+selected-goal s (goals.Step r x rest) is = (r.level, bind (over s.stack.env r.base) is.1.goal, goals_of s.stack rest, is.1.goals)
+selected-goal s (goals.Goal k v rest) is = (k, value s.stack.env.heap v, goals_of s.stack rest, is.1.goals)
+
+-- what is asked waits
+pub asked-waits : (s : Progress) (q : Request) (next : Following) → IsAsked s q next → IsFollowed q next → WaitsForReply s q
+asked-waits s Start thens.GoesOn asked fits = absurd fits
+asked-waits s Start (thens.Ends m) asked fits = absurd fits
+asked-waits s (Publish us) thens.GoesOn asked fits = asked
+asked-waits s (Publish us) (thens.Ends m) asked fits = absurd fits
+asked-waits s (Finish e) thens.GoesOn asked fits = absurd fits
+asked-waits s (Finish e) (thens.Ends m) asked fits = absurd fits
+asked-waits s (HaltRun n) thens.GoesOn asked fits = absurd fits
+asked-waits s (HaltRun n) (thens.Ends m) asked fits = subst (λ m. IsAsked s (HaltRun n) (thens.Ends m)) (sym fits) asked
+
+pub waits-now : (s : Progress) (q : Request) (next : Following) → IsAsked s q next → MayAsk s.machine.stack.env.heap s.machine.mode → Waits s
+waits-now s q next asked may = (q, asked-waits s q next asked (subst (MayAsk s.machine.stack.env.heap) asked may))
+
+-- the request that waits is the one that is asked
+pub asked-next : (s : Progress) (q : Request) → WaitsForReply s q → (next : Following) × IsAsked s q next
+asked-next s Start waits = absurd waits
+asked-next s (Publish us) waits = (thens.GoesOn, waits)
+asked-next s (Finish e) waits = absurd waits
+asked-next s (HaltRun n) waits = (thens.Ends n, waits)
+
+same-asked : (s : Progress) (q q' : Request) (next next' : Following) → IsAsked s q next → IsAsked s q' next' → q ≡ q'
+same-asked s q q' next next' a b = let e : modes.Ask (questions.Await q next) ≡ modes.Ask (questions.Await q' next') = sym a ∙ b in cc
+
+pub says-asked : (P : Program) (s : Progress) (q q' p : Request) (next : Following) → s.used ≤ s.limit → WaitsForReply s q → IsAsked s q' next → p ≡ q' → Says P s (turns.Ask p)
+unfolding Says
+says-asked P s q q' p next within waits asked same =
+    let first = asked-next s q waits in
+    let is : q ≡ p = same-asked s q q' first.0 next first.1 asked ∙ sym same in
+    subst (λ q. WaitsForReply s q × StandsAt (Ask q) (rest_of P s) s.used s.machine.out.items) is (waits, stands-await P s q first.0 within first.1)
+
+pub says-look : (P : Program) (s : Progress) → s.used ≤ s.limit → WaitsForView s → Says P s turns.Refresh
+unfolding Says
+says-look P s within waits = (waits, stands-look P s waits.0 within waits.1)
+
+pub says-ended : (P : Program) (s : Progress) (e : ThreadEnd) (r : Outcome) → s.used ≤ s.limit → s.machine.mode ≡ modes.Back r → cases_in P s.machine ≡ [] → next_of (result_of r) ≡ Finishes e → Says P s (turns.Ended e)
+unfolding Says
+says-ended P s e r within at none is = ends P s e r within at none is
+
+-- ---- answers
+
+-- the next answer, at what is asked before a list
+answer-turn : (P : Program) (s : Reached) (e : Element) (rest : List Element) (q : Item) (a : Answer) → mode_of s.mode s.stack ≡ At (record { goals = e ∷ rest; variables = s.stack.env.count }) →
+    ((w : Local) → meet e rest w ≡ Asks q) → (left : ℕ) (answers : List Answer) →
+    turn P (machine P left (a ∷ answers) s) ≡ move (cases_in P s) (record { steps = left; answers = answers; local = local_of s }) (answered e a (depth_of P s) rest s.stack.env.count (local_of s))
+unfolding turn
+answer-turn P s e rest q a at asks left answers =
+    ap (turn P) (at-place P s (record { goals = e ∷ rest; variables = s.stack.env.count }) at left (a ∷ answers))
+    ∙ ap (meets P (cases_in P s) e rest s.stack.env.count (record { steps = left; answers = a ∷ answers; local = local_of s })) (asks (local_of s))
+
+takes : (P : Program) (s new : Progress) (e : Element) (rest : List Element) (q : Item) (a : Answer) (m : Move) → mode_of s.machine.mode s.machine.stack ≡ At (record { goals = e ∷ rest; variables = s.machine.stack.env.count }) →
+    ((w : Local) → meet e rest w ≡ Asks q) → m ≡ answered e a (depth_of P s.machine) rest s.machine.stack.env.count (local_of s.machine) → new.used ≡ s.used → new.limit ≡ s.limit →
+    ((most left : ℕ) (answers : List Answer) → after P s.machine most left answers m ≡ now P new.machine most left answers) →
+    TakesOne a (rest_of P s) s.used (rest_of P new) new.used
+unfolding rest_of
+takes P s new e rest q a m at asks is used limit ends = (
+  used,
+  λ n answers le.
+      let k : ℕ = min n s.limit in
+      ap (ending_of k) (Rest-turn P (machine P (k - s.used) (a ∷ answers) s.machine))
+      ∙ ap (λ x. ending_of k (Rest P x)) (answer-turn P s.machine e rest q a at asks (k - s.used) answers)
+      ∙ ap (λ x. after P s.machine k (k - s.used) answers x) (sym is)
+      ∙ ends k (k - s.used) answers
+      ∙ ap₂ (λ l u. ending_of (min n l) (Rest P (machine P (min n l - u) answers new.machine))) (sym limit) (sym used),
+)
+
+pub takes-look : (P : Program) (s new : Progress) (v : Cell) (g : ℕ) (us : List Stamped) → s.machine.mode ≡ modes.Ask (questions.Look v) → new.used ≡ s.used → new.limit ≡ s.limit →
+    Moved P s.machine new.machine (walk_over us (depth_of P s.machine) (value s.machine.stack.env.heap v) (goals_of s.machine.stack s.machine.stack.goals) s.machine.stack.env.count (local_of s.machine)) →
+    TakesOne (Seen g us) (rest_of P s) s.used (rest_of P new) new.used
+unfolding meet answered
+takes-look P s new v g us at used limit moved =
+    takes P s new (Asking (Look (value s.machine.stack.env.heap v))) (goals_of s.machine.stack s.machine.stack.goals) View (Seen g us)
+    (walk_over us (depth_of P s.machine) (value s.machine.stack.env.heap v) (goals_of s.machine.stack s.machine.stack.goals) s.machine.stack.env.count (local_of s.machine))
+    (ap (λ m. mode_of m s.machine.stack) at) (λ w. refl) refl used limit moved.ends
+
+-- a request that was served
+served : (P : Program) (s : Reached) (next : Following) (most left : ℕ) (answers : List Answer) →
+    after P s most left answers (follows Served (then_of next) (goals_of s.stack s.stack.goals) s.stack.env.count (local_of s)) ≡ now P (record s { mode = after_reply next }) most left answers
+unfolding machine
+served P s thens.GoesOn most left answers = refl
+served P s (thens.Ends n) most left answers = refl
+
+pub replied : (P : Program) (s new : Progress) (q : Request) (next : Following) (r : Reply) → ReplyFits s r → IsAsked s q next → new.used ≡ s.used → new.limit ≡ s.limit → new.machine ≡ record s.machine { mode = after_reply next } →
+    TakesOne (Got r) (rest_of P s) s.used (rest_of P new) new.used
+unfolding meet answered
+replied P s new q next r fits asked used limit is =
+    let first = asked-next s fits.0 fits.1 in
+    let done : outcome q r ≡ Served = ap (λ q. outcome q r) (same-asked s q fits.0 next first.0 asked first.1) ∙ fits.2 in
+    takes P s new (Asking (Await q (then_of next))) (goals_of s.machine.stack s.machine.stack.goals) (Ask q) (Got r)
+    (follows Served (then_of next) (goals_of s.machine.stack s.machine.stack.goals) s.machine.stack.env.count (local_of s.machine))
+    (ap (λ m. mode_of m s.machine.stack) asked) (λ w. refl)
+    (ap (λ o. follows o (then_of next) (goals_of s.machine.stack s.machine.stack.goals) s.machine.stack.env.count (local_of s.machine)) (sym done)) used limit
+    (λ most left answers. served P s.machine next most left answers ∙ ap (λ m. now P m most left answers) (sym is))
+
+-- ---- a goal that is selected
+
+-- the row of the goal that stands first
+pub selects-row : (P : Program) (s new : Reached) (k : ℕ) (t : Tree) (rest : List Element) → goals_of s.stack s.stack.goals ≡ Goal k t ∷ rest → Moved P s new (row P (form t) k t (depth_of P s) rest s.stack.env.count (local_of s)) → Selects P s new
+unfolding select
+selects-row P s new k t rest is moved k' t' rest' goals =
+    let same : Goal k t ∷ rest ≡ Goal k' t' ∷ rest' = sym is ∙ goals in
+    let level : k ≡ k' = cc in
+    let goal : t ≡ t' = cc in
+    let behind : rest ≡ rest' = cc in
+    subst (λ m. Moved P s new m)
+    (ap₂ (λ k t. row P (form t) k t (depth_of P s) rest s.stack.env.count (local_of s)) level goal ∙ ap (λ es. row P (form t') k' t' (depth_of P s) es s.stack.env.count (local_of s)) behind) moved
+
+pub selects-both : (P : Program) (s new : Reached) (next : Continuation) → AtBoth s.stack (goals_of s.stack s.stack.goals) next → new ≡ record s { stack = record s.stack { goals = next }; mode = modes.Visit } → Selects P s new
+unfolding row cases_of
+selects-both P s new next b is =
+    let n : ℕ = s.stack.env.count in
+    let w : Local = local_of s in
+    selects-row P s new b.level (of_two (codes ",") b.left b.right) b.rest b.goals
+    (subst (λ f. Moved P s new (row P f b.level (of_two (codes ",") b.left b.right) (depth_of P s) b.rest n w)) (sym b.form_is)
+    (goes-to P s new [] (record { goals = Goal b.level b.left ∷ Goal b.level b.right ∷ b.rest; variables = n }) w (ap (λ x. x.stack.code) is) (visit-asks new (ap (λ x. x.mode) is))
+    (ap (λ x. mode_of x.mode x.stack) is ∙ ap (λ gs. At (record { goals = gs; variables = n })) b.next_goals) (ap (λ x. cases_in P x) is) (ap (λ x. local_of x) is)))
+
+-- what was given back
+pub given-back : (P : Program) (s : Progress) (st : State) → GivesBack s.machine.stack st → Stays P s (record s { machine = record s.machine { stack = st } })
+given-back P s st back = record {
+  used = refl;
+  limit = refl;
+  places = refl;
+  there = stays-by P s.machine (record s.machine { stack = st }) back.code refl (λ v i. (subst (λ h. IsValue h v) (sym back.heap) i, ap (λ h. value h v) back.heap)) back.place (back.cases (statics_of P)) refl;
+}

@@ -1,0 +1,91 @@
+-- Where a search starts.
+use Rattle.std.proofs.Common.{◌≡◌, ℕ, ◌+◌, ◌-◌, List, [], ◌∷◌, ◌++◌, map, length, sym, ap, ap₂, ◌∙◌, subst, arith, min, append-nil}
+use Rattle.plterm.specs.Tree.{Tree}
+use Rattle.plterm.specs.Reading.{spelling}
+use Rattle.plterm.specs.Variables.{place, seen_after, renamed, variables, copied}
+use Rattle.plcells.specs.declared.cell.Cell.{Cell}
+use Rattle.plcells.specs.Store.{value}
+use Rattle.plprogram.specs.Program.{Program}
+use Rattle.plsearch.specs.Types.{Goal}
+use Rattle.plsearch.specs.Engine.{outs}
+use Rattle.plsearch.specs.Machines.Machine.{At, Rest}
+use Rattle.plsearch.specs.Search.{once, start_from, start_of, search_of, ending_of}
+use Rattle.plsearch.specs.Solving.{Begins}
+use Rattle.plcode.specs.Callees.{IsProgramCode}
+use Rattle.pllinks.specs.declared.link.Continuation.{Continuation}
+use Rattle.pllinks.specs.Lists.{goal_of, all_elements}
+use Rattle.pllinks.specs.Links.{alone, done}
+use Rattle.pllinks.proofs.Arena.{list_at-none}
+use Rattle.plstack.specs.State.{State, IsList, Extends, AddsList, goals_in, goals_of, cases_of}
+use Rattle.plstack.specs.StaticCalls.{statics_of}
+use Rattle.plstack.proofs.Lists.{empty-list}
+use Rattle.plstack.proofs.Stacks.{no-cases}
+use Rattle.plmachine.specs.declared.machine.Mode.TheVariants as modes
+use Rattle.plmachine.specs.declared.machine.Machine.{Machine as Reached}
+use Rattle.plmachine.specs.Machine.{machine, mode_of, MayAsk}
+use Rattle.plmachine.proofs.Moves.{machine-is}
+use Rattle.plsolver.specs.declared.progress.Progress.{Progress}
+use Rattle.plsolver.specs.Solver.{IsStart, IsEmpty, Starts, StartsGoal, rest_of}
+
+-- once/1 has the variables of its goal
+once-variables : (g : Tree) → variables (once g) ≡ variables g
+once-variables g = ap (seen_after []) (append-nil (spelling g))
+
+copied-once : (n : ℕ) (g : Tree) → copied n (once g) ≡ once (copied n g)
+copied-once n g = ap (λ vs. once (renamed (λ v. n + place v vs) g)) (once-variables g)
+
+-- one more goal
+pub starts-more : (old new : State) (list made : Continuation) (g : Tree) (gs : List Tree) → Starts old list gs → StartsGoal old new list made g → Starts new made (g ∷ gs)
+unfolding start_from
+starts-more old new list made g gs s one =
+    let count : old.env.count ≡ (start_from gs).variables = ap (λ p. p.variables) s.place in
+    let goals : goals_of old list ≡ (start_from gs).goals = ap (λ p. p.goals) s.place in
+    record {
+      list_there = one.list_there;
+      place = ap₂ (λ gs n. record { goals = gs; variables = n }) (one.goals ∙ ap₂ (λ n es. Goal 0 (once (copied n g)) ∷ es) count goals) (one.count ∙ ap (λ n. n + length (variables g)) count);
+      cases = λ statics. one.cases statics ∙ s.cases statics;
+    }
+
+empty-goals : (s : State) → IsEmpty s → goals_of s (alone 0) ≡ []
+unfolding all_elements
+empty-goals s is = ap₂ (λ ts xs. map (goal_of s.env done) ts ++ all_elements (goals_in s) s.env xs) is.none (list_at-none s.links)
+
+pub starts-empty : (s : State) → IsEmpty s → Starts s (alone 0) []
+unfolding start_from
+starts-empty s is = record {
+  list_there = empty-list (goals_in s) is.none s.env s.links;
+  place = ap₂ (λ gs n. record { goals = gs; variables = n }) (empty-goals s is) is.count;
+  cases = λ statics. no-cases statics s is.frames;
+}
+
+pub starts-goal : (old st new : State) (list made : Continuation) (v : Cell) (g t : Tree) → Extends old st → value st.env.heap v ≡ copied old.env.count t → t ≡ once g → st.env.count ≡ old.env.count + length (variables t) →
+    IsList old list → AddsList st new made (Goal 0 (value st.env.heap v) ∷ goals_of st list) → StartsGoal old new list made g
+starts-goal old st new list made v g t e is same grown l adds = record {
+  list_there = adds.there;
+  goals = adds.is ∙ ap₂ (λ t es. Goal 0 t ∷ es) (is ∙ ap (copied old.env.count) same ∙ copied-once old.env.count g) (e.lists list l).1;
+  count = ap (λ e. e.count) adds.env ∙ grown ∙ ap (λ vs. old.env.count + length vs) (ap variables same ∙ once-variables g);
+  cases = λ statics. adds.stays.cases statics ∙ e.cases statics;
+}
+
+-- a machine at the start
+pub is-start : (P : Program) (s : Reached) (stack : State) (list : Continuation) → IsProgramCode P stack.code → Starts stack list P.goals → s.stack ≡ record stack { goals = list } → s.mode ≡ modes.Visit → s.out.items ≡ [] → s.settings ≡ P.settings → IsStart P s
+unfolding start_of cases_of
+is-start P s stack list code starts is at out settings = record {
+  of = record { begun = subst (λ st. IsProgramCode P st.code) (sym is) code; askable = subst (λ m. MayAsk s.stack.env.heap m) (sym at) tt };
+  is = λ left answers.
+      machine-is P s (At (start_of P)) [] (record { out = []; settings = P.settings }) (ap₂ mode_of at is ∙ ap At starts.place) (ap (cases_of (statics_of P)) is ∙ starts.cases (statics_of P)) (ap₂ (λ o x. record { out = o; settings = x }) out settings) left answers;
+}
+
+-- a solver at the start
+pub begins : (P : Program) (s : Progress) → IsStart P s.machine → s.used ≡ 0 → Begins (search_of P s.limit) (rest_of P s) s.used
+unfolding search_of rest_of Rest outs start_of
+begins P s start used = (
+  used,
+  λ n answers.
+      let k : ℕ = min n s.limit in
+      let all : k - 0 ≡ k = omega arith in
+      sym
+      (ap (λ u. ending_of k (Rest P (machine P (k - u) answers s.machine))) used
+      ∙ ap (λ m. ending_of k (Rest P (machine P m answers s.machine))) all
+      ∙ ap (λ m. ending_of k (Rest P m)) (start.is k answers)),
+)

@@ -1,0 +1,25 @@
+use Rattle.std.proofs.Common.{subst}
+use Rattle.plstack.specs.State.{goals_of}
+use Rattle.plstack.specs.First.{AtMarker}
+use Rattle.plsolver.proofs.Quiets.{quiet-commit, quiet-never, quiet-until}
+use Rattle.plsolver.proofs.progress.Progress.pass_marker.Goals as goal
+
+pub returns-in_ok-cut-in-Commit-clause-ok : goal.returns-in_ok-cut-in-Commit-clause-ok
+returns-in_ok-cut-in-Commit-clause-ok c =
+    let s = c.args.self.now in
+    let st = s.machine.stack in
+    let marker = subst (λ m. AtMarker st (goals_of st st.goals) m c.args.level c.args.rest) c.in-Commit.is c.requires.marker in
+    quiet-commit c.args.program.now s c.cut.new.self c.args.level c.args.rest c.requires.visits marker c.in_ok-cut-in-Commit.ensures.ok
+
+pub returns-in-Never-clause-ok : goal.returns-in-Never-clause-ok
+returns-in-Never-clause-ok c =
+    let s = c.args.self.now in
+    let st = s.machine.stack in
+    quiet-never c.args.program.now s c.args.level c.args.rest c.requires.visits (subst (λ m. AtMarker st (goals_of st st.goals) m c.args.level c.args.rest) c.in-Never.is c.requires.marker)
+
+pub returns-in-Until-clause-ok : goal.returns-in-Until-clause-ok
+returns-in-Until-clause-ok c =
+    let s = c.args.self.now in
+    let st = s.machine.stack in
+    let marker = subst (λ m. AtMarker st (goals_of st st.goals) m c.args.level c.args.rest) c.in-Until.is c.requires.marker in
+    rw c.visit.ensures (quiet-until c.args.program.now s c.args.level c.args.rest c.requires.visits marker)

@@ -1,0 +1,50 @@
+use Rattle.std.proofs.Common.{subst}
+use Rattle.plcells.specs.Store.{value}
+use Rattle.plstack.specs.State.{goals_of}
+use Rattle.plmachine.specs.Selected.{bound_at}
+use Rattle.plmachine.proofs.Moves.{on_ok_map}
+use Rattle.plsolver.specs.Solver.{IsSelected}
+use Rattle.plsolver.proofs.Looks.{either_of}
+use Rattle.plsolver.proofs.Runs.{selects-both, selects-row}
+use Rattle.plsolver.proofs.progress.Progress.select.Goals as goal
+
+pub returns-in-Both-clause-ok : goal.returns-in-Both-clause-ok
+returns-in-Both-clause-ok c =
+    let s = c.args.self.now in
+    let both = subst (IsSelected s.machine) c.in-Both.is c.requires.goal in
+    selects-both c.args.program.now s.machine c.go_on.new.self c.in-Both.next both.1 c.go_on.ensures
+
+pub returns-in-Goal-clause-ok : goal.returns-in-Goal-clause-ok
+returns-in-Goal-clause-ok c =
+    let s = c.args.self.now in
+    let first = subst (IsSelected s.machine) c.in-Goal.is c.requires.goal in
+    on_ok_map c.term.result
+    (selects-row c.args.program.now s.machine c.term.new.self c.in-Goal.level (value s.machine.stack.env.heap c.in-Goal.goal) (goals_of s.machine.stack c.in-Goal.rest) first.1.goals) c.term.ensures.ok
+
+pub term-requires-clause-visits : goal.term-requires-clause-visits
+term-requires-clause-visits c = c.requires.goal.0
+
+pub term-requires-clause-goal : goal.term-requires-clause-goal
+term-requires-clause-goal c = (subst (IsSelected c.args.self.now.machine) c.in-Goal.is c.requires.goal).1.fits
+
+pub term-requires-clause-rest : goal.term-requires-clause-rest
+term-requires-clause-rest c = (subst (IsSelected c.args.self.now.machine) c.in-Goal.is c.requires.goal).1.there
+
+pub step-requires-clause-visits : goal.step-requires-clause-visits
+step-requires-clause-visits c = c.requires.goal.0
+
+pub step-requires-clause-at : goal.step-requires-clause-at
+step-requires-clause-at c = (_, (subst (IsSelected c.args.self.now.machine) c.in-Step.is c.requires.goal).1)
+
+pub returns-in-Step-clause-ok : goal.returns-in-Step-clause-ok
+returns-in-Step-clause-ok c =
+    let s = c.args.self.now in
+    let first = subst (IsSelected s.machine) c.in-Step.is c.requires.goal in
+    on_ok_map c.step.result
+    (selects-row c.args.program.now s.machine c.step.new.self c.in-Step.run'.level (bound_at s.machine.stack c.in-Step.run' first.1.goal) (goals_of s.machine.stack c.in-Step.rest) first.1.goals) (c.step.ensures.ok _ first.1)
+
+pub returns-in-Step-clause-of : goal.returns-in-Step-clause-of
+returns-in-Step-clause-of c =
+    let s = c.args.self.now in
+    let first = subst (IsSelected s.machine) c.in-Step.is c.requires.goal in
+    either_of c.args.program.now s.machine c.step.new.self _ c.step.result c.requires.of (c.step.ensures.ok _ first.1) c.step.ensures.err

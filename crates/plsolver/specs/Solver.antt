@@ -1,0 +1,203 @@
+-- What a solver stands for.
+use Rattle.std.specs.Prelude.{◌≡◌, ◌⊎◌, ℕ, ◌+◌, ◌-◌, ◌<◌, ◌≤◌, Bool, false, List, [], ◌∷◌, length, min}
+use Rattle.plterm.specs.Tree.{Tree}
+use Rattle.plterm.specs.Variables.{copied, variables}
+use Rattle.plcells.specs.declared.cell.Cell.{Cell}
+use Rattle.plcells.specs.Store.{value}
+use Rattle.plevent.specs.Search.{Answer, Search}
+use Rattle.plevent.specs.declared.request.Request.{Request}
+use Rattle.plevent.specs.declared.request.Request.TheVariants.{Start, Publish, Finish, HaltRun}
+use Rattle.plevent.specs.declared.request.Reply.{Reply}
+use Rattle.plprogram.specs.Program.{Program}
+use Rattle.plsearch.specs.Types.{Result, Throw, Element, Case}
+use Rattle.plsearch.specs.Types.{Goal as GoalOf}
+use Rattle.plsearch.specs.Errors.{error_term}
+use Rattle.plsearch.specs.Lists.{levels}
+use Rattle.plsearch.specs.Running.{runnable}
+use Rattle.plsearch.specs.Rows.{catch_3, select}
+use Rattle.plsearch.specs.Handlers.{has, recovers}
+use Rattle.plsearch.specs.Engine.{deeper}
+use Rattle.plsearch.specs.Machines.Machine.{At, Back, Rest, return}
+use Rattle.plsearch.specs.Machines.Weight.{weight}
+use Rattle.plsearch.specs.Replies.{Served, outcome}
+use Rattle.plsearch.specs.Solving.{Goes}
+use Rattle.plsearch.specs.Search.{ending_of, from_start, once, start_from, start_of}
+use Rattle.pllinks.specs.declared.link.Continuation.{Continuation}
+use Rattle.plstack.specs.Places.{Statics}
+use Rattle.plstack.specs.State.{State, cases_of, goals_in, goals_of, HasBranch, HasClauses, HasCopies, IsList}
+use Rattle.plstack.specs.declared.first.First.{First}
+use Rattle.plstack.specs.declared.first.First.TheVariants as firsts
+use Rattle.plstack.specs.First.{IsFirst}
+use Rattle.plmachine.specs.declared.machine.Outcome.{Outcome}
+use Rattle.plmachine.specs.declared.machine.Outcome.TheVariants as outcomes
+use Rattle.plmachine.specs.declared.machine.Then.{Then}
+use Rattle.plmachine.specs.declared.machine.Then.TheVariants as thens
+use Rattle.plmachine.specs.declared.machine.Question.TheVariants as questions
+use Rattle.plmachine.specs.declared.machine.Mode.{Mode as Going}
+use Rattle.plmachine.specs.declared.machine.Mode.TheVariants as modes
+use Rattle.plmachine.specs.declared.machine.Machine.{Machine as Reached}
+use Rattle.plmachine.specs.Machine.{result_of, local_of, cases_in, depth_of, machine, IsBegun, MayAsk, Moved}
+use Rattle.plmachine.specs.Machine.{Stays as StaysThere}
+use Rattle.plsolver.specs.declared.progress.Selected.{Selected}
+use Rattle.plsolver.specs.declared.progress.Selected.TheVariants as goals
+use Rattle.plsolver.specs.declared.progress.Due.{Due}
+use Rattle.plsolver.specs.declared.progress.Due.TheVariants as dues
+use Rattle.plsolver.specs.declared.progress.Progress.{Progress}
+
+-- the rest of its search, by a limit of steps from the start and the answers to come
+unfoldable pub rest_of : Program → Progress → Search
+rest_of P s n answers = ending_of (min n s.limit) (Rest P (machine P (min n s.limit - s.used) answers s.machine))
+
+-- the machine was begun with the program, and what it asks can be asked
+pub record IsOf (P : Program) (s : Reached) : Type 0 where
+  pub begun : IsBegun P s
+  pub askable : MayAsk s.stack.env.heap s.mode
+
+-- it stands where it stood
+pub record Stays (P : Program) (old new : Progress) : Type 0 where
+  pub used : new.used ≡ old.used
+  pub limit : new.limit ≡ old.limit
+  pub places : new.places.items ≡ old.places.items
+  pub there : StaysThere P old.machine new.machine
+
+-- without a step or an answer it came to where the same is left of its search, with less before it
+pub record Quiet (P : Program) (old new : Progress) : Type 0 where
+  pub used : new.used ≡ old.used
+  pub limit : new.limit ≡ old.limit
+  pub places : new.places.items ≡ old.places.items
+  pub code : new.machine.stack.code ≡ old.machine.stack.code
+  pub askable : MayAsk new.machine.stack.env.heap new.machine.mode
+  pub rest : (left : ℕ) (answers : List Answer) → left + old.used ≤ old.limit → Rest P (machine P left answers new.machine) ≡ Rest P (machine P left answers old.machine)
+  pub lighter : old.used ≤ old.limit → weight (machine P 0 [] new.machine) < weight (machine P 0 [] old.machine)
+
+-- it carries a result, and no case is open
+abbrev pub IsOver : Program → Progress → Type 0
+IsOver P s = (r : Outcome) × (s.machine.mode ≡ modes.Back r) × (cases_in P s.machine ≡ [])
+
+-- a goal waits for a view
+abbrev pub WaitsForView : Progress → Type 0
+WaitsForView s = (v : Cell) × (s.machine.mode ≡ modes.Ask (questions.Look v))
+
+-- a request waits for its reply, and for what follows it
+abbrev pub IsAsked : Progress → Request → Then → Type 0
+IsAsked s q next = s.machine.mode ≡ modes.Ask (questions.Await q next)
+
+abbrev pub WaitsForReply : Progress → Request → Type 0
+WaitsForReply s (Publish us) = IsAsked s (Publish us) thens.GoesOn
+WaitsForReply s (HaltRun n) = IsAsked s (HaltRun n) (thens.Ends n)
+WaitsForReply s Start = ⊥
+WaitsForReply s (Finish e) = ⊥
+
+abbrev pub Waits : Progress → Type 0
+Waits s = (q : Request) × WaitsForReply s q
+
+-- the reply says that the request was served
+abbrev pub IsReplyTo : Request → Reply → Type 0
+IsReplyTo q r = outcome q r ≡ Served
+
+-- a reply is given for the request that waits
+abbrev pub ReplyFits : Progress → Reply → Type 0
+ReplyFits s r = (q : Request) × WaitsForReply s q × IsReplyTo q r
+
+-- what is next where a request was served
+abbrev pub after_reply : Then → Going
+after_reply thens.GoesOn = modes.Visit
+after_reply (thens.Ends n) = modes.Back (outcomes.Halted n)
+
+-- a goal that is to be selected, as the first of a list
+abbrev pub first_of : Selected → First
+first_of (goals.Both next) = firsts.Both next
+first_of (goals.Step r x rest) = firsts.Step r x rest
+first_of (goals.Goal k v rest) = firsts.Goal k v rest
+
+-- it stands first in the visited list
+abbrev pub IsSelected : Reached → Selected → Type 0
+IsSelected s x = (s.mode ≡ modes.Visit) × IsFirst s.stack (first_of x)
+
+unfoldable pub Settled : Program → Progress → Due → Type 0
+Settled P s (dues.Goal x) = IsSelected s.machine x × (s.used + 1 ≤ s.limit)
+Settled P s dues.Look = WaitsForView s
+Settled P s dues.Await = Waits s
+Settled P s dues.Over = IsOver P s
+
+-- the goal that stands first was selected
+abbrev pub Selects : Program → Reached → Reached → Type 0
+Selects P old new = (k : ℕ) (t : Tree) (rest : List Element) → goals_of old.stack old.stack.goals ≡ GoalOf k t ∷ rest → Moved P old new (select P k t (depth_of P old) rest old.stack.env.count (local_of old))
+
+-- a step was taken
+pub record Stepped (P : Program) (old new : Progress) : Type 0 where
+  pub goes : Goes old.limit (rest_of P old) old.used (rest_of P new) new.used
+  pub used : new.used ≡ old.used + 1
+  pub limit : new.limit ≡ old.limit
+  pub places : new.places.items ≡ old.places.items
+
+-- the result that is carried becomes another
+pub record Becomes (old new : Progress) (f : Result → Result) : Type 0 where
+  pub frame : new ≡ record old { machine = record old.machine { mode = new.machine.mode } }
+  pub is : (r : Outcome) → old.machine.mode ≡ modes.Back r → (made : Outcome) × (new.machine.mode ≡ modes.Back made) × (result_of made ≡ f (result_of r))
+
+-- it carries a ball, and the level is among those of the markers behind it
+abbrev pub result_throws : ℕ → Outcome → Bool
+result_throws d outcomes.Fail = false
+result_throws d outcomes.Stop = false
+result_throws d (outcomes.CutTo l) = false
+result_throws d (outcomes.Throw t ls) = has d ls.items
+result_throws d (outcomes.Halted n) = false
+result_throws d outcomes.Spent = false
+
+abbrev pub throws_to : ℕ → Going → Bool
+throws_to d modes.Visit = false
+throws_to d (modes.Ask q) = false
+throws_to d (modes.Back r) = result_throws d r
+
+-- it carries a result
+abbrev pub IsBack : Progress → Type 0
+IsBack s = (r : Outcome) × (s.machine.mode ≡ modes.Back r)
+
+-- the innermost case is a choice that may have a place left
+abbrev pub HasChoice : State → Type 0
+HasChoice s = HasBranch s ⊎ HasClauses s ⊎ HasCopies s
+
+-- an error of catch/3 is carried, and the innermost case was closed
+pub record Rethrown (P : Program) (old new : Progress) (e : Tree) (list : Continuation) : Type 0 where
+  pub frame : new ≡ record old { machine = record old.machine { stack = new.machine.stack; mode = new.machine.mode } }
+  pub code : new.machine.stack.code ≡ old.machine.stack.code
+  pub askable : MayAsk new.machine.stack.env.heap new.machine.mode
+  pub is : (h : Case) (below : List Case) → cases_in P old.machine ≡ h ∷ below → (left : ℕ) (answers : List Answer) →
+      machine P left answers new.machine
+      ≡ record { mode = Back (Throw (copied 0 (error_term e catch_3)) (levels (goals_of old.machine.stack list))); cases = below; run = record { steps = left; answers = answers; local = local_of old.machine } }
+
+-- the recovery was run in place of the innermost case, before a list, or is no goal
+pub record Recovered (P : Program) (old new : Progress) (recovery : Cell) (list : Continuation) : Type 0 where
+  pub frame : new ≡ record old { machine = record old.machine { stack = new.machine.stack; mode = new.machine.mode } }
+  pub code : new.machine.stack.code ≡ old.machine.stack.code
+  pub askable : MayAsk new.machine.stack.env.heap new.machine.mode
+  pub is : (h : Case) (below : List Case) → cases_in P old.machine ≡ h ∷ below → (left : ℕ) (answers : List Answer) →
+      machine P left answers new.machine
+      ≡ return below (record { steps = left; answers = answers; local = local_of old.machine })
+      (recovers (runnable (value old.machine.stack.env.heap recovery)) (deeper below 0) (goals_of old.machine.stack list) old.machine.stack.env.count (local_of old.machine))
+
+-- a stack with no list, no case and no variable
+pub record IsEmpty (s : State) : Type 0 where
+  pub none : goals_in s 0 0 ≡ []
+  pub links : s.links ≡ []
+  pub frames : s.frames ≡ []
+  pub count : s.env.count ≡ 0
+
+-- a list of goals, each once, and no case is open
+pub record Starts (s : State) (list : Continuation) (goals : List Tree) : Type 0 where
+  pub list_there : IsList s list
+  pub place : record { goals = goals_of s list; variables = s.env.count } ≡ start_from goals
+  pub cases : (statics : Statics) → cases_of statics s ≡ []
+
+-- one more goal before a list
+pub record StartsGoal (old new : State) (list made : Continuation) (g : Tree) : Type 0 where
+  pub list_there : IsList new made
+  pub goals : goals_of new made ≡ GoalOf 0 (once (copied old.env.count g)) ∷ goals_of old list
+  pub count : new.env.count ≡ old.env.count + length (variables g)
+  pub cases : (statics : Statics) → cases_of statics new ≡ cases_of statics old
+
+-- a machine at the start of a program's search
+pub record IsStart (P : Program) (s : Reached) : Type 0 where
+  pub of : IsOf P s
+  pub is : (left : ℕ) (answers : List Answer) → machine P left answers s ≡ record { mode = At (start_of P); cases = []; run = from_start P left answers }

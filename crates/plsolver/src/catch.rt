@@ -1,0 +1,93 @@
+//! The turn of a ball at a catcher (ISO/IEC 13211-1 7.8.9).
+//!
+//! A turn that is refused memory leaves the search where it was.
+
+ghost use Rattle.std.specs.Prelude.{◌≡◌, ◌-◌, true, OnOk, OnErr};
+ghost use Rattle.plcells.specs.Store.{IsValue};
+ghost use Rattle.plstack.specs.State.{HasHandler, IsList};
+ghost use Rattle.plmachine.specs.Machine.{depth_of};
+ghost use Rattle.plsolver.specs.Solver.{IsBack, Stays, Quiet, throws_to, Recovered, Rethrown};
+
+use crate::error;
+use crate::progress::Progress;
+use plcells::cell::Cell;
+use pllinks::item::Item;
+use pllinks::link::Continuation;
+use plmachine::machine::{Mode, Outcome};
+use plmachine::running::Ready;
+use plprogram::program::Program;
+use plstack::frame::Handling;
+use plterm::term::Term;
+use std::alloc::AllocError;
+
+impl Progress {
+    /// The ball that is carried, at the innermost case, which is a catcher that is active.
+    pub(crate) fn catch(&mut self, program: &Program) -> Result<(), AllocError>
+        requires catch { HasHandler self.old.machine.stack }
+        requires throws { throws_to (depth_of program.now self.old.machine - 1) self.old.machine.mode ≡ true }
+        ensures ok { OnOk result (Quiet program.now self.old self.new) }
+        ensures err { OnErr result (Stays program.now self.old self.new) }
+    {
+        let Handling { catcher, list } = self.machine.stack.rewind();
+        let Mode::Back(outcome) = &self.machine.mode else {
+            unreachable!()
+        };
+        let Outcome::Throw(ball, _) = outcome else {
+            unreachable!()
+        };
+        let v = self.machine.stack.put_copy(self.machine.alloc, ball)?;
+        if self.machine.stack.unify(catcher.catcher, v)? {
+            self.recover(program, catcher.recovery, list)?;
+        } else {
+            self.machine.stack.close();
+        }
+        Ok(())
+    }
+
+    /// Runs a recovery before a list, in place of the innermost case, which is its catcher.
+    fn recover(
+        &mut self,
+        program: &Program,
+        recovery: Cell,
+        list: Continuation,
+    ) -> Result<(), AllocError>
+        requires back { IsBack self.old }
+        requires catch { HasHandler self.old.machine.stack }
+        requires recovery { IsValue self.old.machine.stack.env.heap recovery }
+        requires list { IsList self.old.machine.stack list }
+        ensures ok { OnOk result (Recovered program.now self.old self.new recovery list) }
+        ensures err { OnErr result (Stays program.now self.old self.new) }
+    {
+        match self.machine.ready(recovery)? {
+            Ready::Raises(error) => self.rethrow(program, error, list),
+            Ready::Runs(goal) => {
+                let level = self.machine.stack.level();
+                let made = self.machine.stack.link(Item::Goal(level, goal), list)?;
+                self.machine.stack.recover(made);
+                self.machine.mode = Mode::Visit;
+                Ok(())
+            }
+        }
+    }
+
+    /// Throws an error of catch/3 before a list, in place of the innermost case.
+    fn rethrow(
+        &mut self,
+        program: &Program,
+        error: Term,
+        list: Continuation,
+    ) -> Result<(), AllocError>
+        requires catch { HasHandler self.old.machine.stack }
+        requires list { IsList self.old.machine.stack list }
+        ensures ok { OnOk result (Rethrown program.now self.old self.new error list) }
+        ensures err { OnErr result (self.new ≡ self.old) }
+    {
+        let alloc = self.machine.alloc;
+        let p = error::catch(alloc)?;
+        let ball = error::ball(alloc, error, &p)?;
+        let levels = self.machine.stack.levels(alloc, list)?;
+        self.machine.stack.close();
+        self.machine.mode = Mode::Back(Outcome::Throw(ball, levels));
+        Ok(())
+    }
+}

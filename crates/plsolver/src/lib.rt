@@ -1,0 +1,10 @@
+//! The depth-first search of a thread, which can stop and go on, over the machine of a search.
+#![tactic(auto)]
+
+mod answers;
+mod catch;
+mod error;
+pub mod progress;
+pub mod solver;
+mod start;
+mod turns;

@@ -1,0 +1,163 @@
+//! How far a search has come, and how it goes on.
+
+ghost use Rattle.std.specs.Prelude.{◌≡◌, ◌+◌, ◌≤◌, [], IfOk, OnOk, OnErr};
+ghost use Rattle.plprogram.specs.Program.{Program as Given};
+ghost use Rattle.plsearch.specs.Search.{search_of};
+ghost use Rattle.plsearch.specs.Solving.{Begins, Goes};
+ghost use Rattle.plsolver.specs.Solver.{IsOf, IsSelected, Selects, Stays, Stepped, rest_of, Settled};
+ghost use Rattle.plsolver.specs.Says.{Says, IsSlice};
+
+use crate::solver::Turn;
+use crate::start::start;
+use plcells::cell::Cell;
+use plcode::op::Step;
+use pllinks::item::Run;
+use pllinks::link::Continuation;
+use plmachine::machine::Machine;
+use plprogram::program::Program;
+use std::alloc::{AllocError, Global};
+
+/// How far a search has come.
+#[derive(Drop)]
+pub struct Progress {
+    pub machine: Machine,
+    /// The steps taken.
+    pub used: u64,
+    /// The most steps.
+    pub limit: u64,
+    /// The places of the answers taken.
+    pub places: Vec<u64>,
+}
+
+/// A goal that is to be selected: the first of the visited list.
+#[derive(Clone, Copy)]
+pub enum Selected {
+    /// A conjunction of a clause's body: the list in which its two goals stand in its place.
+    Both(Continuation),
+    /// Any other goal of a clause's body: the run that begins with it, its step, and the list behind it.
+    Step(Run, Step, Continuation),
+    /// A goal that is a term: its cut level, its value, and the list behind it.
+    Goal(u64, Cell, Continuation),
+}
+
+/// What is due.
+#[derive(Clone, Copy)]
+pub enum Due {
+    /// A goal is to be selected.
+    Goal(Selected),
+    /// A goal waits for a view.
+    Look,
+    /// A request waits for its reply.
+    Await,
+    /// The search has ended.
+    Over,
+}
+
+impl Progress {
+    /// The search of main: the program's goals in order, each once, with at most so many steps.
+    pub fn new(alloc: Global, program: &Program, limit: u64) -> Result<Self, AllocError>
+        ensures begins { IfOk result (λ s. Begins (search_of program.now limit) (rest_of program.now s) s.used) }
+        ensures of { IfOk result (λ s. IsOf program.now s.machine) }
+        ensures limit { IfOk result (λ s. s.limit ≡ limit) }
+        ensures places { IfOk result (λ s. s.places.items ≡ []) }
+    {
+        let machine = start(alloc, program)?;
+        Ok(Progress {
+            machine,
+            used: 0,
+            limit,
+            places: Vec::new(alloc),
+        })
+    }
+
+    /// Goes on until something is asked, the search ends, or so many steps are taken.
+    #[tactic(auto, using(crate::proofs::Runs::goes_on, crate::proofs::Runs::goes_nowhere, crate::proofs::Runs::stays_goes, crate::proofs::Runs::stays_of))]
+    pub fn advance(&mut self, program: &Program, fuel: u64) -> Result<Turn, AllocError>
+        requires within { self.old.used ≤ self.old.limit }
+        requires of { IsOf program.now self.old.machine }
+        ensures goes { Goes self.old.limit (rest_of program.now self.old) self.old.used (rest_of program.now self.new) self.new.used }
+        ensures of { IsOf program.now self.new.machine }
+        ensures limit { self.new.limit ≡ self.old.limit }
+        ensures places { self.new.places.items ≡ self.old.places.items }
+        ensures fuel { self.new.used ≤ self.old.used + fuel }
+        ensures slice { IfOk result (λ turn. IsSlice turn → self.new.used ≡ self.old.used + fuel) }
+        ensures says { IfOk result (λ turn. Says program.now self.new turn) }
+    {
+        let mut left = fuel;
+        loop {
+            match self.settle(program)? {
+                Due::Goal(selected) => {
+                    if left == 0 {
+                        return Ok(Turn::Slice);
+                    }
+                    self.step(program, selected)?;
+                    left -= 1;
+                }
+                Due::Look => return Ok(Turn::Refresh),
+                Due::Await => return self.asked(program),
+                Due::Over => return self.ended(program),
+            }
+        }
+    }
+
+    /// Selects the goal that is due, and gives back the goal lists and slots that nothing holds then.
+    fn step(&mut self, program: &Program, selected: Selected) -> Result<(), AllocError>
+        requires of { IsOf program.now self.old.machine }
+        requires goal { IsSelected self.old.machine selected }
+        requires left { self.old.used + 1 ≤ self.old.limit }
+        ensures ok { OnOk result (Stepped program.now self.old self.new) }
+        ensures of { IsOf program.now self.new.machine }
+        ensures err { OnErr result (Stays program.now self.old self.new) }
+    {
+        self.select(program, selected)?;
+        self.used += 1;
+        self.give_back();
+        Ok(())
+    }
+
+    /// Gives back goal lists and slots that nothing holds.
+    fn give_back(&mut self)
+        ensures { (P : Given) → Stays P self.old self.new }
+    {
+        self.machine.stack.give_back();
+    }
+
+    /// Selects the goal that is due.
+    fn select(&mut self, program: &Program, selected: Selected) -> Result<(), AllocError>
+        requires of { IsOf program.now self.old.machine }
+        requires goal { IsSelected self.old.machine selected }
+        ensures ok { OnOk result (Selects program.now self.old.machine self.new.machine) }
+        ensures of { IsOf program.now self.new.machine }
+        ensures frame { self.new ≡ record self.old { machine = self.new.machine } }
+        ensures err { OnErr result (Stays program.now self.old self.new) }
+    {
+        match selected {
+            Selected::Both(next) => {
+                self.machine.go_on(next);
+                Ok(())
+            }
+            Selected::Step(run, step, rest) => self.machine.step(program, run, step, rest),
+            Selected::Goal(level, goal, rest) => self.machine.term(program, level, goal, rest),
+        }
+    }
+
+    /// Quiet turns, up to what is due.
+    #[tactic(auto, using(crate::proofs::Runs::quiet_goes, crate::proofs::Runs::quiet_lighter, crate::proofs::Runs::quiet_of, crate::proofs::Runs::goes_on, crate::proofs::Runs::goes_nowhere, crate::proofs::Runs::stays_goes, crate::proofs::Runs::stays_of))]
+    fn settle(&mut self, program: &Program) -> Result<Due, AllocError>
+        requires within { self.old.used ≤ self.old.limit }
+        requires of { IsOf program.now self.old.machine }
+        ensures goes { Goes self.old.limit (rest_of program.now self.old) self.old.used (rest_of program.now self.new) self.new.used }
+        ensures of { IsOf program.now self.new.machine }
+        ensures used { self.new.used ≡ self.old.used }
+        ensures limit { self.new.limit ≡ self.old.limit }
+        ensures places { self.new.places.items ≡ self.old.places.items }
+        ensures due { IfOk result (λ due. Settled program.now self.new due) }
+    {
+        loop {
+            match self.quiet_turn(program)? {
+                None => {}
+                Some(due) => return Ok(due),
+            }
+        }
+    }
+}

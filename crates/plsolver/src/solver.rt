@@ -1,0 +1,126 @@
+//! The solver.
+
+ghost use Rattle.std.specs.Prelude.{◌≡◌, ◌+◌, ◌≤◌, List, [], ◌∷◌, ◌++◌, IfOk, OnOk, OnErr, fold};
+ghost use Rattle.plevent.specs.Alive.{Stamped, before};
+ghost use Rattle.plevent.specs.Search.{Seen, Got};
+ghost use Rattle.plstore.specs.Kept.{keep, nothing};
+ghost use Rattle.plstore.specs.Rising.{Rises};
+ghost use Rattle.plsearch.specs.Search.{search_of};
+ghost use Rattle.plsearch.specs.Solving.{Begins, Goes, TakesOne};
+ghost use Rattle.plsolver.specs.Solver.{IsOf, Stays, rest_of, WaitsForView, ReplyFits};
+ghost use Rattle.plsolver.specs.Says.{Says, IsSlice};
+
+use crate::progress::Progress;
+use plevent::request::{Reply, Request, ThreadEnd};
+use plprogram::program::Program;
+use plstore::store::Store;
+use std::alloc::{AllocError, Global};
+use std::marker::Model;
+
+/// The search of a thread, which can stop and go on. It goes on with the program that it was begun with.
+#[derive(Drop)]
+pub struct Solver {
+    progress: Progress,
+}
+
+impl Model for Solver {
+    ghost use Rattle.std.specs.Coded.{codes};
+    ghost use Rattle.plterm.specs.Reading.{tree_code};
+    ghost use Rattle.plsolver.specs.declared.progress.Progress.{Progress as Reached};
+
+    ghost Value = { Reached };
+
+    ghost coded = { Prim.hlevel (codes, tree_code) };
+
+    ghost view = { λ s. s.progress };
+}
+
+/// What a call of a solver came to.
+#[derive(Drop)]
+pub enum Turn {
+    /// It asks a request.
+    Ask(Request),
+    /// It asks for a view of the database.
+    Refresh,
+    /// The fuel is used.
+    Slice,
+    /// The search has ended.
+    Ended(ThreadEnd),
+}
+
+impl Solver {
+    /// The search of main: the program's goals in order, each once, with at most so many steps.
+    pub fn new(alloc: Global, program: &Program, limit: u64) -> Result<Solver, AllocError>
+        ensures begins { IfOk result (λ s. Begins (search_of program.now limit) (rest_of program.now s) s.used) }
+        ensures of { IfOk result (λ s. IsOf program.now s.machine) }
+        ensures limit { IfOk result (λ s. s.limit ≡ limit) }
+        ensures places { IfOk result (λ s. s.places.items ≡ []) }
+    {
+        let progress = Progress::new(alloc, program, limit)?;
+        Ok(Solver { progress })
+    }
+
+    /// The bytes written so far.
+    pub fn output(&self) -> &[u8]
+        ensures { result.now ≡ self.now.machine.out.items }
+    {
+        &self.progress.machine.out
+    }
+
+    /// The places of the answers taken so far, in order.
+    pub fn places(&self) -> &[u64]
+        ensures { result.now ≡ self.now.places.items }
+    {
+        &self.progress.places
+    }
+
+    /// The steps taken so far.
+    pub fn steps(&self) -> u64
+        ensures { result ≡ self.now.used }
+    {
+        self.progress.used
+    }
+
+    /// Goes on until something is asked, the search ends, or so many steps are taken.
+    pub fn advance(&mut self, program: &Program, fuel: u64) -> Result<Turn, AllocError>
+        requires of { IsOf program.now self.old.machine }
+        requires within { self.old.used ≤ self.old.limit }
+        ensures goes { Goes self.old.limit (rest_of program.now self.old) self.old.used (rest_of program.now self.new) self.new.used }
+        ensures of { IsOf program.now self.new.machine }
+        ensures limit { self.new.limit ≡ self.old.limit }
+        ensures places { self.new.places.items ≡ self.old.places.items }
+        ensures fuel { self.new.used ≤ self.old.used + fuel }
+        ensures slice { IfOk result (λ turn. IsSlice turn → self.new.used ≡ self.old.used + fuel) }
+        ensures says { IfOk result (λ turn. Says program.now self.new turn) }
+    {
+        self.progress.advance(program, fuel)
+    }
+
+    /// The reply to the request that is asked. A refused growth leaves the solver as it was.
+    pub fn reply(&mut self, program: &Program, place: u64, reply: Reply) -> Result<(), AllocError>
+        requires of { IsOf program.now self.old.machine }
+        requires fits { ReplyFits self.old reply }
+        requires within { self.old.used ≤ self.old.limit }
+        ensures ok { OnOk result (TakesOne (Got reply) (rest_of program.now self.old) self.old.used (rest_of program.now self.new) self.new.used) }
+        ensures places { OnOk result (self.new.places.items ≡ self.old.places.items ++ place ∷ []) }
+        ensures of { IsOf program.now self.new.machine }
+        ensures limit { self.new.limit ≡ self.old.limit }
+        ensures err { OnErr result (Stays program.now self.old self.new) }
+    {
+        self.progress.reply(program, place, reply)
+    }
+
+    /// The database after the batches below a place, for the goal that waits for it. A refused growth leaves the solver as it was.
+    pub fn refreshed(&mut self, program: &Program, g: u64, store: &Store) -> Result<(), AllocError>
+        requires of { IsOf program.now self.old.machine }
+        requires waits { WaitsForView self.old }
+        requires within { self.old.used ≤ self.old.limit }
+        ensures ok { OnOk result ((us : List Stamped) → Rises 0 us → store.now ≡ fold keep nothing us → TakesOne (Seen g (before g us)) (rest_of program.now self.old) self.old.used (rest_of program.now self.new) self.new.used) }
+        ensures places { OnOk result (self.new.places.items ≡ self.old.places.items ++ g ∷ []) }
+        ensures of { IsOf program.now self.new.machine }
+        ensures limit { self.new.limit ≡ self.old.limit }
+        ensures err { OnErr result (Stays program.now self.old self.new) }
+    {
+        self.progress.refreshed(program, g, store)
+    }
+}

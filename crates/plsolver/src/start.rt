@@ -1,0 +1,92 @@
+//! Where a search starts.
+
+ghost use Rattle.std.specs.Prelude.{◌≡◌, IfOk};
+ghost use Rattle.plcode.specs.Callees.{IsProgramCode};
+ghost use Rattle.plsearch.specs.Search.{once as once_of};
+ghost use Rattle.plstack.specs.State.{IsList};
+ghost use Rattle.plsolver.specs.Solver.{IsStart, IsEmpty, Starts, StartsGoal};
+
+use plcode::program::ProgramCode;
+use plenv::env::Environment;
+use pllinks::item::Item;
+use pllinks::link::Continuation;
+use plmachine::machine::{Machine, Mode};
+use plprogram::program::Program;
+use plstack::stack::Stack;
+use plterm::name::Name;
+use plterm::term::Term;
+use std::alloc::{AllocError, Global};
+
+/// The machine of a program's search: its goals in order, each once.
+pub fn start(alloc: Global, program: &Program) -> Result<Machine, AllocError>
+    ensures { IfOk result (λ s. IsStart program.now s) }
+{
+    let mut stack = empty(alloc, program)?;
+    let list = start_goals(&mut stack, alloc, program.goals())?;
+    let settings = program.settings().copied(alloc)?;
+    stack.visit(list);
+    Ok(Machine {
+        alloc,
+        stack,
+        mode: Mode::Visit,
+        out: Vec::new(alloc),
+        settings,
+        args: Vec::new(alloc),
+    })
+}
+
+/// A stack with nothing on it, of a program's code.
+fn empty(alloc: Global, program: &Program) -> Result<Stack, AllocError>
+    ensures empty { IfOk result (λ s. IsEmpty s) }
+    ensures code { IfOk result (λ s. IsProgramCode program.now s.code) }
+{
+    let code = ProgramCode::new(alloc, program)?;
+    let names = code.names().copied(alloc)?;
+    let env = Environment::new(alloc, names);
+    Ok(Stack::new(alloc, code, env))
+}
+
+/// The list of goals, each once.
+fn start_goals(stack: &mut Stack, alloc: Global, goals: &[Term]) -> Result<Continuation, AllocError>
+    requires { IsEmpty stack.old }
+    ensures starts { IfOk result (λ list. Starts stack.new list goals.now) }
+    ensures code { stack.new.code ≡ stack.old.code }
+{
+    let mut list = Continuation::alone(0);
+    let mut i = goals.len();
+    while i > 0 {
+        i -= 1;
+        list = start_goal(stack, alloc, &goals[i], list)?;
+    }
+    Ok(list)
+}
+
+/// A goal, once, before a list.
+fn start_goal(
+    stack: &mut Stack,
+    alloc: Global,
+    goal: &Term,
+    list: Continuation,
+) -> Result<Continuation, AllocError>
+    requires { IsList stack.old list }
+    ensures starts { IfOk result (λ made. StartsGoal stack.old stack.new list made goal.now) }
+    ensures code { stack.new.code ≡ stack.old.code }
+{
+    let copy = goal.copied(alloc)?;
+    let once = once(alloc, copy)?;
+    let v = stack.put_copy(alloc, &once)?;
+    stack.link(Item::Goal(0, v), list)
+}
+
+/// A goal, once.
+fn once(alloc: Global, goal: Term) -> Result<Term, AllocError>
+    ensures { IfOk result (λ t. t ≡ once_of goal) }
+{
+    let name = Name::new(alloc, "once")?;
+    let mut args = Vec::new(alloc);
+    args.push(goal)?;
+    match Term::compound(alloc, name, args) {
+        Ok(term) => Ok(term),
+        Err(_) => Err(AllocError),
+    }
+}

@@ -1,0 +1,269 @@
+//! The turns of a search that take no step: markers are passed, and results go outward.
+
+ghost use Rattle.std.specs.Prelude.{◌≡◌, ◌-◌, ◌≤◌, ◌↔◌, IfOk, OnOk, OnErr, IfSome, IfNone, IsTrue, true, ℕ};
+ghost use Rattle.plcells.specs.Store.{IsValue};
+ghost use Rattle.plsearch.specs.Engine.{stop_cut, mark, deeper};
+ghost use Rattle.plstack.specs.Places.{Statics};
+ghost use Rattle.plstack.specs.State.{cases_of, HasClauses, HasCopies, HasBranch, HasHandler, IsList};
+ghost use Rattle.plstack.specs.First.{IsFirst};
+ghost use Rattle.plstack.specs.declared.first.First.TheVariants.{Marker as MarkerFirst};
+ghost use Rattle.plmachine.specs.Machine.{depth_of};
+ghost use Rattle.plsolver.specs.Solver.{IsOf, Stays, Quiet, Settled, IsBack, IsSelected, HasChoice, throws_to, Becomes};
+
+use crate::progress::{Due, Progress, Selected};
+use pllinks::item::MarkerKind;
+use pllinks::link::Continuation;
+use plmachine::machine::{Mode, Outcome, Question};
+use plprogram::program::Program;
+use plstack::first::First;
+use plstack::frame::Closed;
+use std::alloc::AllocError;
+
+impl Progress {
+    /// One turn that takes no step, unless something is due.
+    pub(crate) fn quiet_turn(&mut self, program: &Program) -> Result<Option<Due>, AllocError>
+        requires within { self.old.used ≤ self.old.limit }
+        requires of { IsOf program.now self.old.machine }
+        ensures on { IfOk result (λ o. IfNone o (Quiet program.now self.old self.new)) }
+        ensures due { IfOk result (λ o. IfSome o (λ due. Settled program.now self.new due × (self.new ≡ self.old))) }
+        ensures err { OnErr result (Stays program.now self.old self.new) }
+    {
+        match &self.machine.mode {
+            Mode::Visit => self.pass(program),
+            Mode::Ask(Question::Look(_)) => Ok(Some(Due::Look)),
+            Mode::Ask(Question::Await(_, _)) => Ok(Some(Due::Await)),
+            Mode::Back(_) => self.back(program),
+        }
+    }
+
+    /// One turn at a list.
+    fn pass(&mut self, program: &Program) -> Result<Option<Due>, AllocError>
+        requires visits { self.old.machine.mode ≡ Mode.Visit }
+        requires within { self.old.used ≤ self.old.limit }
+        ensures on { IfOk result (λ o. IfNone o (Quiet program.now self.old self.new)) }
+        ensures due { IfOk result (λ o. IfSome o (λ due. Settled program.now self.new due × (self.new ≡ self.old))) }
+        ensures err { OnErr result (Stays program.now self.old self.new) }
+    {
+        let selected = match self.machine.stack.first() {
+            First::Nothing => {
+                self.machine.mode = Mode::Back(Outcome::Stop);
+                return Ok(None);
+            }
+            First::Marker(kind, level, rest) => {
+                self.pass_marker(program, kind, level, rest)?;
+                return Ok(None);
+            }
+            First::Both(next) => Selected::Both(next),
+            First::Step(run, step, rest) => Selected::Step(run, step, rest),
+            First::Goal(level, v, rest) => Selected::Goal(level, v, rest),
+        };
+        Ok(self.due(program, selected))
+    }
+
+    /// A goal that is first is due, unless no step is left.
+    fn due(&mut self, program: &Program, selected: Selected) -> Option<Due>
+        requires first { IsSelected self.old.machine selected }
+        requires within { self.old.used ≤ self.old.limit }
+        ensures on { IfNone result (Quiet program.now self.old self.new) }
+        ensures due { IfSome result (λ due. Settled program.now self.new due × (self.new ≡ self.old)) }
+    {
+        if self.used == self.limit {
+            self.machine.mode = Mode::Back(Outcome::Spent);
+            return None;
+        }
+        Some(Due::Goal(selected))
+    }
+
+    /// One turn at a marker.
+    fn pass_marker(
+        &mut self,
+        program: &Program,
+        kind: MarkerKind,
+        level: u64,
+        rest: Continuation,
+    ) -> Result<(), AllocError>
+        requires visits { self.old.machine.mode ≡ Mode.Visit }
+        requires marker { IsFirst self.old.machine.stack (MarkerFirst kind level rest) }
+        ensures ok { OnOk result (Quiet program.now self.old self.new) }
+        ensures err { OnErr result (Stays program.now self.old self.new) }
+    {
+        match kind {
+            MarkerKind::Commit => self.machine.stack.cut(level, rest)?,
+            MarkerKind::Never => self.machine.mode = Mode::Back(Outcome::CutTo(level)),
+            MarkerKind::Until => self.machine.stack.visit(rest),
+        }
+        Ok(())
+    }
+
+    /// One turn with a result.
+    fn back(&mut self, program: &Program) -> Result<Option<Due>, AllocError>
+        requires back { IsBack self.old }
+        requires of { IsOf program.now self.old.machine }
+        ensures on { IfOk result (λ o. IfNone o (Quiet program.now self.old self.new)) }
+        ensures due { IfOk result (λ o. IfSome o (λ due. Settled program.now self.new due × (self.new ≡ self.old))) }
+        ensures err { OnErr result (Stays program.now self.old self.new) }
+    {
+        if self.fails() && self.is_choice() {
+            self.try_next(program)?;
+            return Ok(None);
+        }
+        if self.catches() {
+            self.catch(program)?;
+            return Ok(None);
+        }
+        Ok(self.close(program))
+    }
+
+    /// The next place of the innermost choice.
+    fn try_next(&mut self, program: &Program) -> Result<(), AllocError>
+        requires fails { self.old.machine.mode ≡ Mode.Back Outcome.Fail }
+        requires choice { HasChoice self.old.machine.stack }
+        requires of { IsOf program.now self.old.machine }
+        ensures ok { OnOk result (Quiet program.now self.old self.new) }
+        ensures err { OnErr result (Stays program.now self.old self.new) }
+    {
+        if self.machine.stack.is_branch() {
+            self.take_branch(program);
+            return Ok(());
+        }
+        if self.machine.stack.is_clauses() {
+            self.retry(program)
+        } else {
+            self.retry_copies(program)
+        }
+    }
+
+    /// The list of the innermost choice.
+    fn take_branch(&mut self, program: &Program)
+        requires fails { self.old.machine.mode ≡ Mode.Back Outcome.Fail }
+        requires branch { HasBranch self.old.machine.stack }
+        ensures { Quiet program.now self.old self.new }
+    {
+        self.machine.stack.take_branch();
+        self.machine.mode = Mode::Visit;
+    }
+
+    /// The next clause of the innermost case, a call of a static procedure.
+    fn retry(&mut self, program: &Program) -> Result<(), AllocError>
+        requires fails { self.old.machine.mode ≡ Mode.Back Outcome.Fail }
+        requires call { HasClauses self.old.machine.stack }
+        requires of { IsOf program.now self.old.machine }
+        ensures ok { OnOk result (Quiet program.now self.old self.new) }
+        ensures err { OnErr result (Stays program.now self.old self.new) }
+    {
+        if self.machine.stack.retry()? {
+            self.machine.mode = Mode::Visit;
+        }
+        Ok(())
+    }
+
+    /// The next clause of the innermost case, a call of a dynamic procedure.
+    fn retry_copies(&mut self, program: &Program) -> Result<(), AllocError>
+        requires fails { self.old.machine.mode ≡ Mode.Back Outcome.Fail }
+        requires call { HasCopies self.old.machine.stack }
+        ensures ok { OnOk result (Quiet program.now self.old self.new) }
+        ensures err { OnErr result (Stays program.now self.old self.new) }
+    {
+        if self.machine.stack.retry_copies(self.machine.alloc)? {
+            self.machine.mode = Mode::Visit;
+        }
+        Ok(())
+    }
+
+    /// Closes the innermost case, which makes of the result what it does; without one the search is over.
+    fn close(&mut self, program: &Program) -> Option<Due>
+        requires back { IsBack self.old }
+        requires tried { self.old.machine.mode ≡ Mode.Back Outcome.Fail → HasChoice self.old.machine.stack → ⊥ }
+        requires caught { HasHandler self.old.machine.stack → throws_to (depth_of program.now self.old.machine - 1) self.old.machine.mode ≡ true → ⊥ }
+        ensures on { IfNone result (Quiet program.now self.old self.new) }
+        ensures due { IfSome result (λ due. Settled program.now self.new due × (self.new ≡ self.old)) }
+    {
+        match self.machine.stack.close() {
+            None => Some(Due::Over),
+            Some(Closed::Handler) => None,
+            Some(Closed::Mark(level)) => {
+                self.pass_mark(level);
+                None
+            }
+            Some(Closed::Choice) => {
+                self.stop_cut();
+                None
+            }
+        }
+    }
+
+    /// Whether a ball is carried to the innermost case, and that is a catcher that is active.
+    fn catches(&self) -> bool
+        ensures { (statics : Statics) → IsTrue result ↔ (HasHandler self.now.machine.stack × (throws_to (deeper (cases_of statics self.now.machine.stack) 0 - 1) self.now.machine.mode ≡ true)) }
+    {
+        if !self.machine.stack.is_handler() {
+            return false;
+        }
+        match &self.machine.mode {
+            Mode::Back(Outcome::Throw(_, levels)) => levels.contains(&self.machine.stack.level()),
+            Mode::Visit
+            | Mode::Ask(_)
+            | Mode::Back(Outcome::Stop)
+            | Mode::Back(Outcome::Fail)
+            | Mode::Back(Outcome::CutTo(_))
+            | Mode::Back(Outcome::Halted(_))
+            | Mode::Back(Outcome::Spent) => false,
+        }
+    }
+
+    fn fails(&self) -> bool
+        ensures { IsTrue result ↔ (self.now.machine.mode ≡ Mode.Back Outcome.Fail) }
+    {
+        matches!(self.machine.mode, Mode::Back(Outcome::Fail))
+    }
+
+    /// Whether the innermost case is a choice that may have a place left.
+    fn is_choice(&self) -> bool
+        ensures { IsTrue result ↔ HasChoice self.now.machine.stack }
+    {
+        let stack = &self.machine.stack;
+        stack.is_branch() || stack.is_clauses() || stack.is_copies()
+    }
+
+    /// The level that the choices are given up to, if that is the result that is carried.
+    fn cut_level(&self) -> Option<u64>
+        ensures some { IfSome result (λ level. self.now.machine.mode ≡ Mode.Back (Outcome.CutTo level)) }
+        ensures none { IfNone result ((level : ℕ) → self.now.machine.mode ≡ Mode.Back (Outcome.CutTo level) → ⊥) }
+    {
+        let Mode::Back(outcome) = &self.machine.mode else {
+            return None;
+        };
+        match outcome {
+            Outcome::CutTo(level) => Some(*level),
+            Outcome::Stop
+            | Outcome::Fail
+            | Outcome::Throw(_, _)
+            | Outcome::Halted(_)
+            | Outcome::Spent => None,
+        }
+    }
+
+    /// Behind a mark Fail is a cut to its level.
+    fn pass_mark(&mut self, level: u64)
+        ensures { Becomes self.old self.new (mark level) }
+    {
+        if self.fails() {
+            self.machine.mode = Mode::Back(Outcome::CutTo(level));
+            return;
+        }
+    }
+
+    /// A cut to the level of a choice ends there.
+    fn stop_cut(&mut self)
+        ensures { (statics : Statics) → Becomes self.old self.new (stop_cut (deeper (cases_of statics self.old.machine.stack) 0)) }
+    {
+        let depth = self.machine.stack.depth();
+        let Some(level) = self.cut_level() else {
+            return;
+        };
+        if level == depth {
+            self.machine.mode = Mode::Back(Outcome::Fail);
+            return;
+        }
+    }
+}
