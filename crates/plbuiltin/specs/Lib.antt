@@ -2,4 +2,3 @@ pub mod Solution
 pub mod Terms
 pub mod Output
 pub mod Solutions
-pub mod Answers

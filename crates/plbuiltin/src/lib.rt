@@ -1,9 +1,5 @@
-//! The built-in predicates: what each gives, and its code, in a file for each topic.
+//! What the built-in predicates give: definitions alone, in a file for each topic.
 //!
-//! A further built-in predicate is a row of the table of names, a clause of its topic's definition, and a function here.
+//! A further built-in predicate is a row of the table of names, a clause of its topic's definition here, and a function of the crate that
+//! carries them out.
 #![tactic(auto)]
-
-pub mod answer;
-pub mod built_in;
-mod output;
-mod terms;

@@ -6,20 +6,22 @@ use Rattle.plhist.specs.declared.history.Run.{Run}
 use Rattle.plhist.specs.declared.history.RunEnd.{RunEnd}
 use Rattle.plprogram.specs.Program.{Program}
 use Rattle.plsearch.specs.Search.{search_of}
-use Rattle.plsolve.specs.Solver.{rest_of}
+use Rattle.plsolver.specs.Solver.{rest_of, IsOf}
 use Rattle.plrun.specs.declared.thread.Running.{Running}
 use Rattle.plrun.specs.Going.{IsRunning, IsStarted}
 use Rattle.plrun.specs.Halts.{told_places}
 
--- it follows main's search within the limit of steps of its solver, and goes on
-abbrev pub GoesOn : Program → List Entry → Running → Type 0
-GoesOn P h r = let s = r.solver in IsRunning P.first (search_of P s.limit) s.limit (rest_of P s) s.used h r.thread s.places.items
+-- it was begun with the program, follows main's search within the limit of steps of its solver, and goes on
+pub record GoesOn (P : Program) (h : List Entry) (r : Running) : Type 0 where
+  pub of : IsOf P r.solver.machine
+  pub runs : let s = r.solver in IsRunning P.first (search_of P s.limit) s.limit (rest_of P s) s.used h r.thread s.places.items
 
 -- it goes on, or has ended the run
-abbrev pub IsThread : Program → List Entry → Running → Type 0
-IsThread P h r = let s = r.solver in IsStarted P.first (search_of P s.limit) s.limit (rest_of P s) s.used h r.thread s.places.items
+pub record IsThread (P : Program) (h : List Entry) (r : Running) : Type 0 where
+  pub of : IsOf P r.solver.machine
+  pub started : let s = r.solver in IsStarted P.first (search_of P s.limit) s.limit (rest_of P s) s.used h r.thread s.places.items
 
 -- the run of a thread that comes to this end now
 abbrev pub run_now : List Entry → Running → ThreadEnd → Run
 run_now h r e =
-    let s = r.solver in record { thread = r.thread; places = told_places e h s.places.items; steps = s.used; «end» = RunEnd.Ended e; output = s.out.items }
+    let s = r.solver in record { thread = r.thread; places = told_places e h s.places.items; steps = s.used; «end» = RunEnd.Ended e; output = s.machine.out.items }

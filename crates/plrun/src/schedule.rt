@@ -10,7 +10,7 @@ use crate::thread::{Running, run_thread};
 use plevent::{Reply, Request};
 use plhist::{History, Journal, Run, Runs};
 use plprogram::program::Program;
-use plsolve::solver::Solver;
+use plsolver::solver::Solver;
 use plworld::World;
 use std::alloc::{AllocError, Global};
 

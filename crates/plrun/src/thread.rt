@@ -3,7 +3,7 @@ ghost use Rattle.std.specs.Prelude.{◌≡◌, IfOk, OnOk, IfSome, [], ◌∷◌
 ghost use Rattle.plevent.specs.Search.{View, Ask};
 ghost use Rattle.plsearch.specs.Solving.{StandsAt, EndsAt};
 ghost use Rattle.plsearch.specs.Search.{search_of};
-ghost use Rattle.plsolve.specs.Solver.{rest_of, WaitsForView, WaitsForReply};
+ghost use Rattle.plsolver.specs.Solver.{rest_of, WaitsForView, WaitsForReply};
 ghost use Rattle.plrun.specs.Halts.{told, told_places};
 ghost use Rattle.plrun.specs.Threads.{GoesOn, IsThread, run_now};
 ghost use Rattle.plrun.specs.Overall.{IsHistory};
@@ -11,7 +11,7 @@ ghost use Rattle.plrun.specs.Overall.{IsHistory};
 use plevent::{Request, ThreadEnd};
 use plhist::{Output, Places, Run, RunEnd};
 use plprogram::program::Program;
-use plsolve::solver::{Solver, Turn};
+use plsolver::solver::{Solver, Turn};
 use plworld::World;
 use std::alloc::{AllocError, Global};
 
@@ -29,7 +29,7 @@ pub struct Running {
 fn look(program: &Program, world: &World, running: &mut Running) -> Result<(), AllocError>
     requires runs { GoesOn program.now world.now.journal running.old }
     requires waits { WaitsForView running.old.solver }
-    requires at { StandsAt View (rest_of program.now running.old.solver) running.old.solver.used running.old.solver.out.items }
+    requires at { StandsAt View (rest_of program.now running.old.solver) running.old.solver.used running.old.solver.machine.out.items }
     ensures runs { OnOk result (GoesOn program.now world.now.journal running.new) }
     ensures limit { running.new.solver.limit ≡ running.old.solver.limit }
 {
@@ -49,7 +49,7 @@ fn serve(
 ) -> Result<(), AllocError>
     requires runs { GoesOn program.now world.old.journal running.old }
     requires waits { WaitsForReply running.old.solver request.now }
-    requires at { StandsAt (Ask request.now) (rest_of program.now running.old.solver) running.old.solver.used running.old.solver.out.items }
+    requires at { StandsAt (Ask request.now) (rest_of program.now running.old.solver) running.old.solver.used running.old.solver.machine.out.items }
     ensures runs { OnOk result (IsThread program.now world.new.journal running.new) }
     ensures limit { running.new.solver.limit ≡ running.old.solver.limit }
 {
@@ -60,7 +60,7 @@ fn serve(
 }
 
 /// One turn of a thread: a slice of its steps, or an item that it asks; or it has come to this end.
-#[tactic(auto, unfolding(plsolve::specs::Says::Says))]
+#[tactic(auto, unfolding(plsolver::specs::Says::Says))]
 fn turn(
     alloc: Global,
     program: &Program,
@@ -69,7 +69,7 @@ fn turn(
 ) -> Result<Option<ThreadEnd>, AllocError>
     requires { IsThread program.now world.old.journal running.old }
     ensures runs { OnOk result (IsThread program.now world.new.journal running.new) }
-    ensures ended { IfOk result (λ o. IfSome o (λ e. EndsAt running.new.solver.limit e (rest_of program.now running.new.solver) running.new.solver.used running.new.solver.out.items)) }
+    ensures ended { IfOk result (λ o. IfSome o (λ e. EndsAt running.new.solver.limit e (rest_of program.now running.new.solver) running.new.solver.used running.new.solver.machine.out.items)) }
     ensures limit { running.new.solver.limit ≡ running.old.solver.limit }
 {
     match running.solver.advance(program, SLICE)? {

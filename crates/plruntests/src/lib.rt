@@ -4,16 +4,10 @@
 #[cfg(test)]
 mod events;
 #[cfg(test)]
-mod goals;
-#[cfg(test)]
-mod heaps;
-#[cfg(test)]
 mod histories;
 #[cfg(test)]
 mod made;
 #[cfg(test)]
 mod stores;
-#[cfg(test)]
-mod unifying;
 #[cfg(test)]
 mod worlds;

@@ -1,6 +1,6 @@
 use Rattle.std.proofs.Common.{ap, sym, subst}
 use Rattle.plsearch.specs.Search.{search_of}
-use Rattle.plsolve.specs.Solver.{rest_of}
+use Rattle.plsolver.specs.Solver.{rest_of}
 use Rattle.plrun.specs.Going.{IsRunning, Runs}
 use Rattle.plrun.proofs.Serve.{relimit}
 use Rattle.plrun.proofs.Start.{begun, not_begun}
@@ -15,8 +15,11 @@ returns-in-Started-clause-begun c =
     let t = c.in-Started.number in
     let all = begun P.first (search_of P n) n (rest_of P s) s.used c.args.world.now.journal h c.in_ok-number.field-0 t _ _
     c.requires c.in_ok-number.ensures.reply (ap (λ w. w.journal) c.in_ok-number.ensures.entry) c.in-Started.is c.in_ok-solver-in-Started.ensures.begins in
-    Runs (relimit P n s.limit (rest_of P s) s.used h t s.places.items c.in_ok-solver-in-Started.ensures.limit
-    (subst (IsRunning P.first (search_of P n) n (rest_of P s) s.used h t) (sym c.in_ok-solver-in-Started.ensures.places) all.0))
+    record {
+      of = c.in_ok-solver-in-Started.ensures.of;
+      started = Runs (relimit P n s.limit (rest_of P s) s.used h t s.places.items c.in_ok-solver-in-Started.ensures.limit
+          (subst (IsRunning P.first (search_of P n) n (rest_of P s) s.used h t) (sym c.in_ok-solver-in-Started.ensures.places) all.0));
+    }
 
 pub returns-in-Started-clause-first : goal.returns-in-Started-clause-first
 returns-in-Started-clause-first c =

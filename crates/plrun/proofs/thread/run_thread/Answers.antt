@@ -1,6 +1,6 @@
 use Rattle.std.proofs.Common.{◌∙◌, ◌∷◌, [], Result, Ok, Err, OnOk, IfOk, subst}
 use Rattle.plsearch.specs.Search.{search_of}
-use Rattle.plsolve.specs.Solver.{rest_of}
+use Rattle.plsolver.specs.Solver.{rest_of}
 use Rattle.plrun.specs.Overall.{IsHistory}
 use Rattle.plrun.proofs.Halting.{halts-no-sooner}
 use Rattle.plrun.proofs.Serve.{finished}
@@ -20,5 +20,5 @@ returns-in-Some c =
     if_both c.finish.result c.finish.ensures.journal c.finish.ensures.run
     (λ run grows made.
     subst (λ n. IsHistory P.first (λ t. search_of P n) n later (run ∷ [])) (c.in_ok-end.ensures.limit ∙ c.turns.invariant.limit)
-    (finished P.first (search_of P s.limit) s.limit (rest_of P s) s.used s.out.items h later r.thread s.places.items c.in-Some.«end» run
-    (halts-no-sooner P s.limit) c.in_ok-end.ensures.runs (rw c.in-Some.is at c.in_ok-end.ensures.ended) grows made))
+    (finished P.first (search_of P s.limit) s.limit (rest_of P s) s.used s.machine.out.items h later r.thread s.places.items c.in-Some.«end» run
+    (halts-no-sooner P s.limit) c.in_ok-end.ensures.runs.started (rw c.in-Some.is at c.in_ok-end.ensures.ended) grows made))

@@ -1,8 +1,8 @@
 use Rattle.std.proofs.Common.{ap}
 use Rattle.plevent.specs.declared.request.Request.{Request}
 use Rattle.plsearch.specs.Search.{search_of}
-use Rattle.plsolve.specs.declared.progress.Progress.{Progress}
-use Rattle.plsolve.specs.Solver.{rest_of, WaitsForReply}
+use Rattle.plsolver.specs.declared.progress.Progress.{Progress}
+use Rattle.plsolver.specs.Solver.{rest_of, WaitsForReply}
 use Rattle.plrun.proofs.Halting.{halts-when-done}
 use Rattle.plrun.proofs.Serve.{MayWait, served-by, started-same, reply-done}
 use Rattle.plrun.proofs.thread.serve.Goals as goal
@@ -17,7 +17,7 @@ pub reply-requires-clause-fits : goal.reply-requires-clause-fits
 reply-requires-clause-fits c =
     let s = c.args.running.now.solver in
     let q = c.args.request.now in
-    (q, c.requires.waits, reply-done c.args.world.now.journal c.args.running.now.thread q c.in_ok-reply.reply (may_wait s q c.requires.waits) c.requires.runs.going.free c.in_ok-reply.ensures.reply)
+    (q, c.requires.waits, reply-done c.args.world.now.journal c.args.running.now.thread q c.in_ok-reply.reply (may_wait s q c.requires.waits) c.requires.runs.runs.going.free c.in_ok-reply.ensures.reply)
 
 pub returns-clause-runs : goal.returns-clause-runs
 returns-clause-runs c =
@@ -28,7 +28,8 @@ returns-clause-runs c =
     let h = c.args.world.now.journal in
     let later = c.step.new.self.journal in
     let t = c.args.running.now.thread in
-    started-same P old.limit new.limit (rest_of P new) new.used later t new.places.items c.reply.ensures.limit
-    (served-by P.first (search_of P old.limit) old.limit (rest_of P old) (rest_of P new) old.used new.used old.out.items h later t old.places.items new.places.items c.front-place.result q c.in_ok-reply.reply
-    (halts-when-done P old.limit) (may_wait old q c.requires.waits) c.requires.runs c.requires.at c.front-place.ensures
-    c.in_ok-reply.ensures.reply (ap (λ w. w.journal) c.in_ok-reply.ensures.entry) c.in_ok-reply-2.ensures.ok c.in_ok-reply-2.ensures.places)
+    let started = started-same P old.limit new.limit (rest_of P new) new.used later t new.places.items c.reply.ensures.limit
+    (served-by P.first (search_of P old.limit) old.limit (rest_of P old) (rest_of P new) old.used new.used old.machine.out.items h later t old.places.items new.places.items c.front-place.result q c.in_ok-reply.reply
+    (halts-when-done P old.limit) (may_wait old q c.requires.waits) c.requires.runs.runs c.requires.at c.front-place.ensures
+    c.in_ok-reply.ensures.reply (ap (λ w. w.journal) c.in_ok-reply.ensures.entry) c.in_ok-reply-2.ensures.ok c.in_ok-reply-2.ensures.places) in
+    record { of = c.reply.ensures.of; started = started }

@@ -1,7 +1,0 @@
-use Rattle.plframe.proofs.Stacks.{inside, level_is}
-use Rattle.plframe.proofs.stack.Stack.level.Goals as goal
-
-pub returns : goal.returns
-returns c = λ statics.
-    let has = rw (← c.self.view_is) at c.requires in
-    rw (← c.self.view_is) (level_is (inside c.self.inside) c.self.inside.depth c.self.invariant has statics)

@@ -1,7 +1,0 @@
-use Rattle.std.proofs.Common.{take, reverse}
-use Rattle.plterm.specs.Reading.{reading}
-use Rattle.plheap.proofs.Puts.{IsPut}
-use Rattle.plheap.proofs.heap.Heap.put_nodes.Given as goal
-
-abbrev pub invariant-loop-node : goal.invariant-loop-node
-invariant-loop-node l = IsPut l.initial.self l.self l.base l.pending.items (reading (reverse (take l.node-index l.nodes)))

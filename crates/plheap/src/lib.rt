@@ -1,9 +1,0 @@
-//! Terms as cells of a heap, with bindings that can be undone.
-//!
-//! A heap stands for one term a cell. A binding puts a term in the place of a variable in all of them, and an undo to a mark gives back the heap as it was there.
-#![tactic(auto)]
-
-pub mod cell;
-pub mod heap;
-pub mod put;
-pub mod take;

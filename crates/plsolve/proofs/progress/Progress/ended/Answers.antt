@@ -1,8 +1,0 @@
-use Rattle.plsolve.proofs.Runs.{says-ended}
-use Rattle.plsolve.proofs.progress.Progress.ended.Goals as goal
-
-pub returns-clause-says : goal.returns-clause-says
-returns-clause-says c = says-ended c.args.program.now c.args.self.now c.in_ok-end.end c.in-Back.outcome c.requires.within c.in-Back.is c.requires.over.2 c.in_ok-end.ensures
-
-pub returns-clause-other : goal.returns-clause-other
-returns-clause-other c = λ not. not
