@@ -1,4 +1,4 @@
-//! Tests of the crates of the heap, the database and the run, from the public calls of each.
+//! Tests of the crates of the database and the run, from the public calls of each.
 #![tactic(auto)]
 
 #[cfg(test)]
