@@ -12,6 +12,7 @@ mod Parts
 mod Building
 mod Packing
 pub mod Rows
+mod Calling
 pub mod Cuts
 pub mod Renaming
 pub mod Bounding

@@ -1,12 +1,12 @@
 -- Rows of terms that are put.
-use Rattle.std.proofs.Common.{◌≡◌, ℕ, zero, suc, ◌+◌, ◌<◌, ◌≤◌, List, [], ◌∷◌, ◌++◌, length, length-take, length-drop, take, drop, map, get_or, refl, sym, ap, ◌∙◌, subst, arith}
+use Rattle.std.proofs.Common.{◌≡◌, ℕ, zero, suc, ◌+◌, ◌<◌, ◌≤◌, List, [], ◌∷◌, ◌++◌, length, length-take, length-drop, take, drop, map, get_or, refl, sym, ap, ap₂, ◌∙◌, subst, arith}
 use Rattle.std.proofs.lemmas.List.{take_more, length-map}
 use Rattle.plterm.specs.Tree.{Tree, var}
 use Rattle.plterm.specs.Variables.{AllBelow}
 use Rattle.plsubst.specs.Subst.{bind}
 use Rattle.platoms.specs.Names.{Table}
 use Rattle.plcells.specs.declared.cell.Cell.{Cell}
-use Rattle.plcells.specs.Store.{Store, IsValue, value}
+use Rattle.plcells.specs.Store.{Store, AreValues, IsValue, value}
 use Rattle.plcode.specs.declared.node.Node.{Node}
 use Rattle.plcode.specs.Nodes.{Value, Whole, tree, value as value_of, values, row}
 use Rattle.plcode.specs.Laying.{IsLaid}
@@ -34,6 +34,18 @@ for-still old new [] [] kept are = tt
 for-still old new [] (t ∷ ts) kept are = absurd are
 for-still old new (v ∷ vs) [] kept are = absurd are
 for-still old new (v ∷ vs) (t ∷ ts) kept are = let k = kept v are.0 in (k.0, k.1 ∙ are.1, for-still old new vs ts kept are.2)
+
+pub for-values : (h : Store) (vs : List Cell) (ts : List Tree) → AreFor h vs ts → AreValues h vs
+for-values h [] [] a = tt
+for-values h [] (t ∷ ts) a = absurd a
+for-values h (v ∷ vs) [] a = absurd a
+for-values h (v ∷ vs) (t ∷ ts) a = (a.0, for-values h vs ts a.2)
+
+pub for-are : (h : Store) (vs : List Cell) (ts : List Tree) → AreFor h vs ts → map (value h) vs ≡ ts
+for-are h [] [] a = refl
+for-are h [] (t ∷ ts) a = absurd a
+for-are h (v ∷ vs) [] a = absurd a
+for-are h (v ∷ vs) (t ∷ ts) a = ap₂ (λ x xs. x ∷ xs) a.1 (for-are h vs ts a.2)
 
 -- ---- a row's terms
 get_drop : (k : ℕ) (vs : List Value) (j : ℕ) (d : Value) → get_or (drop k vs) j d ≡ get_or vs (k + j) d

@@ -4,7 +4,7 @@ use Rattle.std.proofs.lemmas.List.{length-map}
 use Rattle.plterm.specs.Tree.{Tree, compound, trees}
 use Rattle.plnames.specs.declared.kind.Control.TheVariants as controls
 use Rattle.plnames.specs.Names.{kind_of}
-use Rattle.platoms.specs.Names.{Table, atom_at, functor_at, functor_name}
+use Rattle.platoms.specs.Names.{Table, functor_name}
 use Rattle.plcells.specs.declared.cell.Cell.{Cell}
 use Rattle.plcells.specs.declared.cell.Cell.TheVariants.{Free, Lone, Ref, Int, Wide, Atom, Str, Fun, Ground}
 use Rattle.plcells.specs.Store.{Store, term, terms, value, IsHeap, IsBlock, IsEnd}
@@ -12,12 +12,12 @@ use Rattle.plsearch.specs.Forms.{form, form_by}
 use Rattle.plcode.specs.declared.callee.Callee.{Callee}
 use Rattle.plcode.specs.declared.callee.Callee.TheVariants as callees
 use Rattle.plcode.specs.declared.callee.Callees.{Callees}
-use Rattle.plcode.specs.declared.callee.Number.TheVariants.{Functor}
+use Rattle.plcode.specs.declared.callee.Number.{Number}
+use Rattle.plcode.specs.declared.callee.Number.TheVariants.{Atom as AtomNumber, Functor}
 use Rattle.plcode.specs.Bodies.{IsNoArrow}
 use Rattle.plcode.specs.Callees.{callee_at}
 use Rattle.plcode.proofs.Goals.{form_compound, branch_of}
-use Rattle.plgoals.specs.declared.callable.Callable.{Callable}
-use Rattle.plgoals.specs.Callables.{called, kind_by, HasKinds, IsCallable, IsNoGoal}
+use Rattle.plgoals.specs.Callables.{called, kind_by, name_of, procedure_of, HasKinds, IsCallable, IsNoGoal}
 use Rattle.plgoals.specs.Extended.{AreArguments}
 use Rattle.plgoals.specs.Forms.{IsArrow}
 use Rattle.plgoals.proofs.Joining.{arguments-length, terms-length}
@@ -26,30 +26,29 @@ use Rattle.plgoals.proofs.Shapes.{end-variable}
 
 -- ---- what a goal is
 
-form-called : (t : Table) (a : ℕ) (us : List Tree) → form (called t a us) ≡ form_by (kind_of (atom_at t a) (length us)) (record { name = atom_at t a; arity = length us }) us
-form-called t a [] = refl
-form-called t a (u ∷ us) = form_compound (atom_at t a) (u ∷ us)
+form-called : (t : Table) (n : Number) (us : List Tree) → IsCallable t n (length us) → form (called t n us) ≡ form_by (kind_of (name_of t n) (length us)) (procedure_of t n (length us)) us
+form-called t (AtomNumber a) [] is = refl
+form-called t (AtomNumber a) (u ∷ us) is = absurd (omega (arith, is.0))
+form-called t (Functor f) us is = form_compound (functor_name t f) us
 
-pub form-is : (h : Store) (m : Callees) (c : Callable) (args : List Cell) (k : Callee) → HasKinds h.names m → IsCallable h.names c (length args) → callee_at m c.number ≡ k →
-    form (called h.names c.name (map (value h) args)) ≡ form_by (kind_by k) (record { name = atom_at h.names c.name; arity = length args }) (map (value h) args)
-form-is h m c args k knows is e =
+pub form-is : (h : Store) (m : Callees) (n : Number) (args : List Cell) (k : Callee) → HasKinds h.names m → IsCallable h.names n (length args) → callee_at m n ≡ k →
+    form (called h.names n (map (value h) args)) ≡ form_by (kind_by k) (procedure_of h.names n (length args)) (map (value h) args)
+form-is h m n args k knows is e =
     let us = map (value h) args in
-    let s = atom_at h.names c.name in
-    form-called h.names c.name us
-    ∙ ap (λ n. form_by (kind_of s n) (record { name = s; arity = n }) us) (length-map args (value h))
-    ∙ ap (λ o. form_by o (record { name = s; arity = length args }) us) (knows c.number (record { name = s; arity = length args }) is.number ∙ ap kind_by e)
+    let s = name_of h.names n in
+    let many = length-map args (value h) in
+    form-called h.names n us (subst (IsCallable h.names n) (sym many) is)
+    ∙ ap (λ j. form_by (kind_of s j) (procedure_of h.names n j) us) many
+    ∙ ap (λ o. form_by o (procedure_of h.names n (length args)) us) (knows n (procedure_of h.names n (length args)) is ∙ ap kind_by e)
 
 -- ---- the numbers of a compound
 
-module _ (h : Store) (p f k a : ℕ) (args : List Cell) (is : IsHeap h) (block : IsBlock h p f k) (named : a ≡ (functor_at h.names f).name) (are : AreArguments h p k args) where
+module _ (h : Store) (p f k : ℕ) (args : List Cell) (is : IsHeap h) (block : IsBlock h p f k) (are : AreArguments h p k args) where
   pub compound-few : length args ≤ 1024
   compound-few = let l = arguments-length h p k args are in omega (arith, l, block.arity, (is.names.functors f block.functor).most)
 
-  pub compound-callable : IsCallable h.names (record { name = a; number = Functor f }) (length args)
-  compound-callable = record {
-    name = subst (λ n. n < length h.names.atoms) (sym named) (is.names.functors f block.functor).name;
-    number = record { within = block.functor; name = ap (atom_at h.names) (sym named); arity = block.arity ∙ sym (arguments-length h p k args are) };
-  }
+  pub compound-callable : IsCallable h.names (Functor f) (length args)
+  compound-callable = record { within = block.functor; name = refl; arity = block.arity ∙ sym (arguments-length h p k args are) }
 
 -- ---- what is no goal, and what is no `->`
 

@@ -1,28 +1,36 @@
 -- Goals by the numbers by which they are called.
-use Rattle.std.specs.Prelude.{◌≡◌, ℕ, ◌<◌, List, [], ◌∷◌, length, Option, Some, None}
+use Rattle.std.specs.Prelude.{◌≡◌, ℕ, List, Option, Some, None}
 use Rattle.std.specs.Bool.{⊤}
 use Rattle.plterm.specs.Tree.{Tree, var, int, atom, compound, trees}
 use Rattle.plterm.specs.declared.indicator.Indicator.{Indicator}
 use Rattle.plnames.specs.declared.kind.Kind.{Kind}
 use Rattle.plnames.specs.declared.kind.Kind.TheVariants as kinds
 use Rattle.plnames.specs.Names.{kind_of}
-use Rattle.platoms.specs.Names.{Table, atom_at}
+use Rattle.platoms.specs.Names.{Table, atom_at, functor_name}
 use Rattle.plcode.specs.declared.callee.Callee.{Callee}
 use Rattle.plcode.specs.declared.callee.Callee.TheVariants.{Control, BuiltIn, Static, Unknown}
 use Rattle.plcode.specs.declared.callee.Callees.{Callees}
 use Rattle.plcode.specs.declared.callee.Number.{Number}
+use Rattle.plcode.specs.declared.callee.Number.TheVariants.{Atom, Functor}
 use Rattle.plcode.specs.Callees.{callee_at, IsNumber}
-use Rattle.plgoals.specs.declared.callable.Callable.{Callable}
 
--- the goal of a name, by its number, and of arguments
-abbrev pub called : Table → ℕ → List Tree → Tree
-called t a [] = atom (atom_at t a)
-called t a (u ∷ us) = compound (atom_at t a) (trees (u ∷ us))
+-- the name of a procedure, by its number
+abbrev pub name_of : Table → Number → List ℕ
+name_of t (Atom a) = atom_at t a
+name_of t (Functor f) = functor_name t f
 
--- the numbers of a goal with so many arguments
-pub record IsCallable (t : Table) (c : Callable) (k : ℕ) : Type 0 where
-  pub name : c.name < length t.atoms
-  pub number : IsNumber t c.number (record { name = atom_at t c.name; arity = k })
+-- the procedure of a number, with so many arguments
+abbrev pub procedure_of : Table → Number → ℕ → Indicator
+procedure_of t n k = record { name = name_of t n; arity = k }
+
+-- the goal of a procedure, by its number, and of arguments
+abbrev pub called : Table → Number → List Tree → Tree
+called t (Atom a) us = atom (atom_at t a)
+called t (Functor f) us = compound (functor_name t f) (trees us)
+
+-- the number of a procedure with so many arguments
+abbrev pub IsCallable : Table → Number → ℕ → Type 0
+IsCallable t n k = IsNumber t n (procedure_of t n k)
 
 -- a variable or an integer, which nothing calls
 abbrev pub IsNoGoal : Tree → Type 0

@@ -2,7 +2,7 @@
 use Rattle.std.specs.Prelude.{◌≡◌, ℕ, suc, ◌+◌, ◌<◌, ◌≤◌, ◌^◌, pos, List, [], ◌∷◌, length, map, codes}
 use Rattle.std.specs.Bool.{⊤}
 use Rattle.plterm.specs.Tree.{Tree, int, atom, compound, trees}
-use Rattle.platoms.specs.Names.{atom_at}
+use Rattle.plterm.specs.declared.indicator.Indicator.{Indicator}
 use Rattle.plsearch.specs.Forms.{Form, True, False, Both, Either, IfThenElse, Not, Once, Catching, Throwing, CallWith, Cut, Halting, AddLast, BuiltIn, Call, NoGoal}
 use Rattle.plcells.specs.declared.cell.Cell.{Cell}
 use Rattle.plcells.specs.Store.{Store, at, terms, value, IsHead, IsValue}
@@ -18,26 +18,26 @@ abbrev pub call_with : List Tree → Form
 call_with [] = NoGoal
 call_with (g ∷ us) = CallWith g us
 
--- what a form over values stands for, with the arguments of its goal
-abbrev pub shown_form : Store → List Cell → Found → Form
-shown_form h args found.True = True
-shown_form h args found.False = False
-shown_form h args (found.Both a b) = Both (value h a) (value h b)
-shown_form h args (found.Either a b) = Either (value h a) (value h b)
-shown_form h args (found.IfThen c a) = IfThenElse (value h c) (value h a) (atom (codes "fail"))
-shown_form h args (found.IfThenElse c a b) = IfThenElse (value h c) (value h a) (value h b)
-shown_form h args (found.Not a) = Not (value h a)
-shown_form h args (found.Once a) = Once (value h a)
-shown_form h args (found.Catching g c r) = Catching (value h g) (value h c) (value h r)
-shown_form h args (found.Throwing a) = Throwing (value h a)
-shown_form h args found.CallWith = call_with (map (value h) args)
-shown_form h args found.Cut = Cut
-shown_form h args found.Halt = Halting (int (pos 0))
-shown_form h args (found.HaltWith a) = Halting (value h a)
-shown_form h args (found.AddLast a) = AddLast (value h a)
-shown_form h args (found.BuiltIn b) = BuiltIn b (map (value h) args)
-shown_form h args (found.Call a p) = Call (record { name = atom_at h.names a; arity = length args })
-shown_form h args found.NoGoal = NoGoal
+-- what a form over values stands for, with the procedure and the arguments of its goal
+abbrev pub shown_form : Store → Indicator → List Cell → Found → Form
+shown_form h p args found.True = True
+shown_form h p args found.False = False
+shown_form h p args (found.Both a b) = Both (value h a) (value h b)
+shown_form h p args (found.Either a b) = Either (value h a) (value h b)
+shown_form h p args (found.IfThen c a) = IfThenElse (value h c) (value h a) (atom (codes "fail"))
+shown_form h p args (found.IfThenElse c a b) = IfThenElse (value h c) (value h a) (value h b)
+shown_form h p args (found.Not a) = Not (value h a)
+shown_form h p args (found.Once a) = Once (value h a)
+shown_form h p args (found.Catching g c r) = Catching (value h g) (value h c) (value h r)
+shown_form h p args (found.Throwing a) = Throwing (value h a)
+shown_form h p args found.CallWith = call_with (map (value h) args)
+shown_form h p args found.Cut = Cut
+shown_form h p args found.Halt = Halting (int (pos 0))
+shown_form h p args (found.HaltWith a) = Halting (value h a)
+shown_form h p args (found.AddLast a) = AddLast (value h a)
+shown_form h p args (found.BuiltIn b) = BuiltIn b (map (value h) args)
+shown_form h p args (found.Call q) = Call p
+shown_form h p args found.NoGoal = NoGoal
 
 -- its values are values of the heap, and call/N has a goal
 abbrev pub IsInside : Store → List Cell → Found → Type 0
@@ -57,7 +57,7 @@ IsInside h args found.Halt = ⊤
 IsInside h args (found.HaltWith a) = IsValue h a
 IsInside h args (found.AddLast a) = IsValue h a
 IsInside h args (found.BuiltIn b) = ⊤
-IsInside h args (found.Call a p) = ⊤
+IsInside h args (found.Call q) = ⊤
 IsInside h args found.NoGoal = ⊤
 
 -- what is called where a procedure is

@@ -10,10 +10,10 @@ ghost use Rattle.plcode.specs.declared.callee.Callee.TheVariants as callees;
 ghost use Rattle.plcode.specs.Callees.{callee_at};
 ghost use Rattle.plgoals.specs.declared.form.Form.TheVariants as forms;
 ghost use Rattle.plgoals.specs.declared.form.Procedure.{Procedure as OfProcedure};
-ghost use Rattle.plgoals.specs.Callables.{called, HasKinds, IsCallable};
+ghost use Rattle.plgoals.specs.Callables.{called, procedure_of, HasKinds, IsCallable};
+ghost use Rattle.plterm.specs.declared.indicator.Indicator.{Indicator as OfIndicator};
 ghost use Rattle.plgoals.specs.Forms.{callee_of, shown_form, IsArrow, IsInside};
 
-use crate::callable::Callable;
 use plcells::cell::Cell;
 use plcells::heap::Heap;
 use plcode::callee::{Callee, Number};
@@ -61,8 +61,8 @@ pub enum Form {
     AddLast(Cell),
     /// A built-in predicate, of all the arguments.
     BuiltIn(BuiltIn),
-    /// A call of a procedure, of all the arguments: the number of its name, and which one it is.
-    Call { name: u32, procedure: Procedure },
+    /// A call of a procedure, of all the arguments.
+    Call(Procedure),
     /// A control construct of other arguments than it takes.
     NoGoal,
 }
@@ -77,26 +77,20 @@ fn callee_by(code: &ProgramCode, number: Number) -> Callee
     }
 }
 
-/// What a goal of these numbers and arguments is.
-pub fn form_of(heap: &Heap, code: &ProgramCode, callable: Callable, args: &[Cell]) -> Form
+/// What a goal of this number and these arguments is.
+pub fn form_of(heap: &Heap, code: &ProgramCode, number: Number, args: &[Cell]) -> Form
     requires args { AreValues heap.now args.now }
-    requires callable { IsCallable heap.now.names callable (length args.now) }
+    requires callable { IsCallable heap.now.names number (length args.now) }
     requires kinds { HasKinds heap.now.names code.now.callees }
-    ensures is { shown_form heap.now args.now result ≡ form_by_term (called heap.now.names callable.name (map (value heap.now) args.now)) }
+    ensures is { shown_form heap.now (procedure_of heap.now.names number (length args.now)) args.now result ≡ form_by_term (called heap.now.names number (map (value heap.now) args.now)) }
     ensures inside { IsInside heap.now args.now result }
-    ensures procedure { (a : ℕ) (p : OfProcedure) → result ≡ forms.Call a p → (a ≡ callable.name) × (callee_at code.now.callees callable.number ≡ callee_of p) }
+    ensures procedure { (p : OfProcedure) → result ≡ forms.Call p → callee_at code.now.callees number ≡ callee_of p }
 {
-    match callee_by(code, callable.number) {
+    match callee_by(code, number) {
         Callee::Control(control) => construct(heap, code, control, args),
         Callee::BuiltIn(b) => Form::BuiltIn(b),
-        Callee::Static(place) => Form::Call {
-            name: callable.name,
-            procedure: Procedure::Static(place),
-        },
-        Callee::Unknown => Form::Call {
-            name: callable.name,
-            procedure: Procedure::Unknown,
-        },
+        Callee::Static(place) => Form::Call(Procedure::Static(place)),
+        Callee::Unknown => Form::Call(Procedure::Unknown),
     }
 }
 
@@ -104,7 +98,7 @@ pub fn form_of(heap: &Heap, code: &ProgramCode, callable: Callable, args: &[Cell
 fn construct(heap: &Heap, code: &ProgramCode, control: Control, args: &[Cell]) -> Form
     requires args { AreValues heap.now args.now }
     requires kinds { HasKinds heap.now.names code.now.callees }
-    ensures is { shown_form heap.now args.now result ≡ construct_of control (map (value heap.now) args.now) }
+    ensures is { (p : OfIndicator) → shown_form heap.now p args.now result ≡ construct_of control (map (value heap.now) args.now) }
     ensures inside { IsInside heap.now args.now result }
 {
     match args {
@@ -117,7 +111,7 @@ fn construct(heap: &Heap, code: &ProgramCode, control: Control, args: &[Cell]) -
 }
 
 fn nullary(control: Control) -> Form
-    ensures is { (h : Store) → shown_form h [] result ≡ construct_of control [] }
+    ensures is { (h : Store) (p : OfIndicator) → shown_form h p [] result ≡ construct_of control [] }
     ensures inside { (h : Store) → IsInside h [] result }
 {
     match control {
@@ -138,7 +132,7 @@ fn nullary(control: Control) -> Form
 }
 
 fn unary(control: Control, a: Cell) -> Form
-    ensures is { (h : Store) → shown_form h (a ∷ []) result ≡ construct_of control (value h a ∷ []) }
+    ensures is { (h : Store) (p : OfIndicator) → shown_form h p (a ∷ []) result ≡ construct_of control (value h a ∷ []) }
     ensures inside { (h : Store) → IsValue h a → IsInside h (a ∷ []) result }
 {
     match control {
@@ -162,7 +156,7 @@ fn binary(heap: &Heap, code: &ProgramCode, control: Control, a: Cell, b: Cell) -
     requires first { IsValue heap.now a }
     requires second { IsValue heap.now b }
     requires kinds { HasKinds heap.now.names code.now.callees }
-    ensures is { shown_form heap.now (a ∷ b ∷ []) result ≡ construct_of control (value heap.now a ∷ value heap.now b ∷ []) }
+    ensures is { (p : OfIndicator) → shown_form heap.now p (a ∷ b ∷ []) result ≡ construct_of control (value heap.now a ∷ value heap.now b ∷ []) }
     ensures inside { IsInside heap.now (a ∷ b ∷ []) result }
 {
     match control {
@@ -183,7 +177,7 @@ fn binary(heap: &Heap, code: &ProgramCode, control: Control, a: Cell, b: Cell) -
 }
 
 fn ternary(control: Control, a: Cell, b: Cell, c: Cell) -> Form
-    ensures is { (h : Store) → shown_form h (a ∷ b ∷ c ∷ []) result ≡ construct_of control (value h a ∷ value h b ∷ value h c ∷ []) }
+    ensures is { (h : Store) (p : OfIndicator) → shown_form h p (a ∷ b ∷ c ∷ []) result ≡ construct_of control (value h a ∷ value h b ∷ value h c ∷ []) }
     ensures inside { (h : Store) → IsValue h a → IsValue h b → IsValue h c → IsInside h (a ∷ b ∷ c ∷ []) result }
 {
     match control {
@@ -205,7 +199,7 @@ fn ternary(control: Control, a: Cell, b: Cell, c: Cell) -> Form
 
 /// A construct of four arguments or more.
 fn many(control: Control) -> Form
-    ensures is { (h : Store) (args : List OfCell) → 3 < length args → shown_form h args result ≡ construct_of control (map (value h) args) }
+    ensures is { (h : Store) (p : OfIndicator) (args : List OfCell) → 3 < length args → shown_form h p args result ≡ construct_of control (map (value h) args) }
     ensures inside { (h : Store) (args : List OfCell) → 3 < length args → IsInside h args result }
 {
     if let Control::Call = control {
@@ -219,7 +213,7 @@ fn either(heap: &Heap, code: &ProgramCode, a: Cell, b: Cell) -> Form
     requires first { IsValue heap.now a }
     requires second { IsValue heap.now b }
     requires kinds { HasKinds heap.now.names code.now.callees }
-    ensures is { shown_form heap.now (a ∷ b ∷ []) result ≡ either_of (value heap.now a) (value heap.now b) }
+    ensures is { (p : OfIndicator) → shown_form heap.now p (a ∷ b ∷ []) result ≡ either_of (value heap.now a) (value heap.now b) }
     ensures inside { IsInside heap.now (a ∷ b ∷ []) result }
 {
     match arrow(heap, code, a) {

@@ -80,12 +80,15 @@ stays-trans P a b c f g = record {
   same = λ may left answers. g.same (f.askable may) left answers ∙ f.same may left answers;
 }
 
--- lists and values were added
-pub grown-stays : (P : Program) (s t : Reached) → Grown s.stack t.stack → t ≡ record s { stack = t.stack } → Stays P s t
-grown-stays P s t g is =
+-- lists and values were added, and other arguments are those of the goal that is selected
+pub grown-with : (P : Program) (s t : Reached) → Grown s.stack t.stack → t ≡ record s { stack = t.stack; args = t.args } → Stays P s t
+grown-with P s t g is =
     stays-by P s t g.extends.code (ap (λ x. x.mode) is) g.extends.values
     (ap₂ (λ gs n. record { goals = gs; variables = n }) g.extends.visited g.count)
     (g.extends.cases (statics_of P)) (ap (λ x. local_of x) is)
+
+pub grown-stays : (P : Program) (s t : Reached) → Grown s.stack t.stack → t ≡ record s { stack = t.stack } → Stays P s t
+grown-stays P s t g is = grown-with P s t g (is ∙ ap (λ a. record s { stack = t.stack; args = a }) (sym (ap (λ x. x.args) is)))
 
 pub grown-depth : (P : Program) (s t : Reached) → Grown s.stack t.stack → depth_of P t ≡ depth_of P s
 grown-depth P s t g = ap (λ cs. deeper cs 0) (g.extends.cases (statics_of P))

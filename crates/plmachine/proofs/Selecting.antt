@@ -2,6 +2,7 @@
 use Rattle.std.proofs.Common.{◌≡◌, ℕ, suc, List, [], ◌∷◌, ◌++◌, refl, sym, ◌∙◌, subst}
 use Rattle.plterm.specs.Tree.{Tree}
 use Rattle.plclause.specs.Clause.{Clause}
+use Rattle.plclause.specs.Indicators.{indicator}
 use Rattle.plprogram.specs.Program.{Program}
 use Rattle.plsearch.specs.Forms.{Form as FormOf, Both, Either, IfThenElse, form as form_of}
 use Rattle.plsearch.specs.Types.{Choice, Commit, Element, Go, Goal, Local, Marker}
@@ -15,7 +16,7 @@ use Rattle.plmachine.specs.Selected.{IsSelected}
 
 -- the move of a selected goal is that of its form's row
 pub selected : (P : Program) (s new : Reached) (f : Form) (source : Source) (t : Tree) (k d : ℕ) (es : List Element) (n : ℕ) (w : Local) (g : FormOf) → IsSelected P s f source t →
-    shown_form s.stack.env.heap s.args.items f ≡ g → Moved P s new (row P g k t d es n w) → Moved P s new (row P (form_of t) k t d es n w)
+    shown_form s.stack.env.heap (indicator t) s.args.items f ≡ g → Moved P s new (row P g k t d es n w) → Moved P s new (row P (form_of t) k t d es n w)
 selected P s new f source t k d es n w g is same moved = subst (λ g. Moved P s new (row P g k t d es n w)) (sym same ∙ is.is) moved
 
 -- the rows of control constructs of goals

@@ -4,7 +4,7 @@ use Rattle.std.specs.Bool.{⊤}
 use Rattle.plterm.specs.Tree.{Tree}
 use Rattle.plterm.specs.declared.indicator.Indicator.{Indicator}
 use Rattle.plsubst.specs.Subst.{bind}
-use Rattle.platoms.specs.Names.{atom_at}
+use Rattle.plclause.specs.Indicators.{indicator}
 use Rattle.plcells.specs.Store.{value, AreValues, IsValue}
 use Rattle.plprogram.specs.Program.{Program, clauses_for}
 use Rattle.plsearch.specs.Forms.{form as form_of}
@@ -47,7 +47,7 @@ IsCallOf P s p procedures.Unknown t = clauses_for P p ≡ []
 
 -- which procedure a goal of a form calls, if it calls one
 abbrev pub IsCall : Program → Machine → Form → Tree → Type 0
-IsCall P s (forms.Call a procedure) t = IsCallOf P s (record { name = atom_at s.stack.env.heap.names a; arity = length s.args.items }) procedure t
+IsCall P s (forms.Call procedure) t = IsCallOf P s (indicator t) procedure t
 IsCall P s f t = ⊤
 
 -- a goal of this form is selected, whose term stands at the source
@@ -57,6 +57,6 @@ pub record IsSelected (P : Program) (s : Machine) (f : Form) (source : Source) (
   pub args : AreValues s.stack.env.heap s.args.items
   pub few : length s.args.items ≤ 1024
   pub inside : IsInside s.stack.env.heap s.args.items f
-  pub is : shown_form s.stack.env.heap s.args.items f ≡ form_of t
+  pub is : shown_form s.stack.env.heap (indicator t) s.args.items f ≡ form_of t
   pub stands : StandsFor s.stack source t
   pub call : IsCall P s f t

@@ -84,7 +84,7 @@ impl Machine {
                 Ok(())
             }
             Form::HaltWith(number) => self.halt_with(program, number, rest),
-            Form::Call { procedure, .. } => self.call(program, procedure, source, rest),
+            Form::Call(procedure) => self.call(program, procedure, source, rest),
             Form::NoGoal => {
                 self.give(Outcome::Fail);
                 Ok(())

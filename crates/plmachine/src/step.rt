@@ -1,10 +1,8 @@
 //! A goal of a clause's body that is selected, by its step (ISO/IEC 13211-1 7.7.7).
 ghost use Rattle.std.specs.Prelude.{◌≡◌, List, OnOk, OnErr};
-ghost use Rattle.plterm.specs.Tree.{Tree};
 ghost use Rattle.plsearch.specs.Types.{Element};
 ghost use Rattle.plsearch.specs.Forms.{form as form_by_term};
 ghost use Rattle.plsearch.specs.Rows.{row};
-ghost use Rattle.plstack.specs.Arguments.{IsArgument};
 ghost use Rattle.plstack.specs.First.{AtStep};
 ghost use Rattle.plstack.specs.State.{goals_of, IsList};
 ghost use Rattle.plmachine.specs.Machine.{depth_of, local_of, IsBegun, Moved, Stays};
@@ -51,26 +49,7 @@ impl Machine {
                 let other = branch(run, other);
                 self.then_else(program, condition, then, other, rest)
             }
-            _ => self.plain(program, run, step.goal, rest),
+            _ => self.solve(program, Source::Node(run, step.goal), run.level, rest),
         }
-    }
-
-    /// The row of a goal whose term stands at a node.
-    fn plain(
-        &mut self,
-        program: &Program,
-        run: Run,
-        node: u32,
-        rest: Continuation,
-    ) -> Result<(), AllocError>
-        requires begun { IsBegun program.now self.old }
-        requires visits { self.old.mode ≡ Mode.Visit }
-        requires node { (g : Tree) × IsArgument self.old.stack run node g }
-        requires rest { IsList self.old.stack rest }
-        ensures ok { (g : Tree) → IsArgument self.old.stack run node g → OnOk result (Moved program.now self.old self.new (row program.now (form_by_term (bound_at self.old.stack run g)) run.level (bound_at self.old.stack run g) (depth_of program.now self.old) (goals_of self.old.stack rest) self.old.stack.env.count (local_of self.old))) }
-        ensures err { OnErr result (Stays program.now self.old self.new) }
-    {
-        let goal = self.goal(Source::Node(run, node))?;
-        self.term(program, run.level, goal, rest)
     }
 }

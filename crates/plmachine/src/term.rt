@@ -1,15 +1,19 @@
-//! A goal that comes as a term (ISO/IEC 13211-1 7.7.7).
-ghost use Rattle.std.specs.Prelude.{◌≡◌, IfOk, OnOk, OnErr};
-ghost use Rattle.plcells.specs.Store.{value, IsValue};
+//! A goal by where its term stands (ISO/IEC 13211-1 7.7.7).
+ghost use Rattle.std.specs.Prelude.{◌≡◌, ◌≤◌, length, map, IfOk, IfSome, IfNone, OnOk, OnErr};
+ghost use Rattle.plterm.specs.Tree.{Tree};
+ghost use Rattle.plcells.specs.Store.{value, AreValues, IsValue};
 ghost use Rattle.plsearch.specs.Forms.{form as form_by_term};
 ghost use Rattle.plsearch.specs.Rows.{row};
+ghost use Rattle.plgoals.specs.Callables.{called, IsCallable, IsNoGoal};
 ghost use Rattle.plstack.specs.State.{goals_of, IsList};
+ghost use Rattle.plmachine.specs.Lists.{Grown};
 ghost use Rattle.plmachine.specs.Machine.{depth_of, local_of, IsBegun, Moved, Stays};
-ghost use Rattle.plmachine.specs.Selected.{IsSelected};
+ghost use Rattle.plmachine.specs.Selected.{IsSelected, StandsFor};
 
 use crate::machine::{Machine, Mode};
 use crate::select::Source;
 use plcells::cell::Cell;
+use plcode::callee::Number;
 use plgoals::callable::arguments_of;
 use plgoals::form::{Form, form_of};
 use pllinks::link::Continuation;
@@ -32,22 +36,58 @@ impl Machine {
         ensures ok { OnOk result (Moved program.now self.old self.new (row program.now (form_by_term (value self.old.stack.env.heap goal)) level (value self.old.stack.env.heap goal) (depth_of program.now self.old) (goals_of self.old.stack rest) self.old.stack.env.count (local_of self.old))) }
         ensures err { OnErr result (Stays program.now self.old self.new) }
     {
-        let form = self.form(program, goal)?;
-        self.select(program, form, Source::Value(goal), level, rest)
+        self.solve(program, Source::Value(goal), level, rest)
     }
 
-    /// What the term of a value is as a goal. The values of its arguments are those of the goal that is selected.
-    fn form(&mut self, program: &Program, goal: Cell) -> Result<Form, AllocError>
+    /// The row of a goal by where its term stands.
+    pub(crate) fn solve(
+        &mut self,
+        program: &Program,
+        source: Source,
+        level: u64,
+        rest: Continuation,
+    ) -> Result<(), AllocError>
         requires begun { IsBegun program.now self.old }
         requires visits { self.old.mode ≡ Mode.Visit }
-        requires goal { IsValue self.old.stack.env.heap goal }
-        ensures ok { IfOk result (λ f. IsSelected program.now self.new f (Source.Value goal) (value self.old.stack.env.heap goal)) }
-        ensures frame { self.new ≡ record self.old { args = self.new.args } }
+        requires source { (t : Tree) × StandsFor self.old.stack source t }
+        requires rest { IsList self.old.stack rest }
+        ensures ok { (t : Tree) → StandsFor self.old.stack source t → OnOk result (Moved program.now self.old self.new (row program.now (form_by_term t) level t (depth_of program.now self.old) (goals_of self.old.stack rest) self.old.stack.env.count (local_of self.old))) }
+        ensures err { OnErr result (Stays program.now self.old self.new) }
     {
+        let form = self.form(program, source)?;
+        self.select(program, form, source, level, rest)
+    }
+
+    /// What a goal is. The values of its arguments are those of the goal that is selected.
+    fn form(&mut self, program: &Program, source: Source) -> Result<Form, AllocError>
+        requires begun { IsBegun program.now self.old }
+        requires visits { self.old.mode ≡ Mode.Visit }
+        requires source { (t : Tree) × StandsFor self.old.stack source t }
+        ensures ok { IfOk result (λ f. (t : Tree) → StandsFor self.old.stack source t → IsSelected program.now self.new f source t) }
+        ensures grown { Grown self.old.stack self.new.stack }
+        ensures frame { self.new ≡ record self.old { stack = self.new.stack; args = self.new.args } }
+    {
+        let Some(number) = self.number(source)? else {
+            return Ok(Form::NoGoal);
+        };
         let heap = self.stack.env().heap();
-        match arguments_of(heap, goal, &mut self.args)? {
-            Some(callable) => Ok(form_of(heap, self.stack.code(), callable, &self.args)),
-            None => Ok(Form::NoGoal),
+        Ok(form_of(heap, self.stack.code(), number, &self.args))
+    }
+
+    /// The number by which a goal is called, and the values of its arguments; none for a variable or an integer.
+    fn number(&mut self, source: Source) -> Result<Option<Number>, AllocError>
+        requires source { (t : Tree) × StandsFor self.old.stack source t }
+        ensures callable { IfOk result (λ found. IfSome found (λ n. IsCallable self.new.stack.env.heap.names n (length self.new.args.items))) }
+        ensures is { IfOk result (λ found. IfSome found (λ n. (t : Tree) → StandsFor self.old.stack source t → t ≡ called self.new.stack.env.heap.names n (map (value self.new.stack.env.heap) self.new.args.items))) }
+        ensures none { IfOk result (λ found. IfNone found ((t : Tree) → StandsFor self.old.stack source t → IsNoGoal t)) }
+        ensures values { OnOk result (AreValues self.new.stack.env.heap self.new.args.items) }
+        ensures few { OnOk result (length self.new.args.items ≤ 1024) }
+        ensures grown { Grown self.old.stack self.new.stack }
+        ensures frame { self.new ≡ record self.old { stack = self.new.stack; args = self.new.args } }
+    {
+        match source {
+            Source::Value(goal) => arguments_of(self.stack.env().heap(), goal, &mut self.args),
+            Source::Node(run, node) => self.stack.put_goal(run, node, &mut self.args),
         }
     }
 }

@@ -1,18 +1,19 @@
 //! Values of a stack: goals, and the terms of clauses.
-ghost use Rattle.std.specs.Prelude.{◌≡◌, ◌<◌, ◌≤◌, List, length, map, None, IfOk, IfSome, IfNone, OnOk};
+ghost use Rattle.std.specs.Prelude.{◌≡◌, ◌<◌, ◌≤◌, length, map, None, IfOk, IfSome, IfNone, OnOk};
 ghost use Rattle.plterm.specs.Tree.{Tree};
 ghost use Rattle.plsubst.specs.Subst.{bind};
 ghost use Rattle.plclause.specs.Conversion.{converted};
 ghost use Rattle.plcells.specs.Store.{value, AreValues, IsValue};
+ghost use Rattle.plgoals.specs.Callables.{called, IsCallable, IsNoGoal};
 ghost use Rattle.plgoals.specs.Goals.{IsGoal};
 ghost use Rattle.plgoals.specs.Extended.{Extends as ExtendsTerm};
 ghost use Rattle.plenv.specs.Env.{over};
 ghost use Rattle.plstack.specs.State.{Extends};
-ghost use Rattle.plstack.specs.Arguments.{AreArguments, IsArgument};
+ghost use Rattle.plstack.specs.Arguments.{IsArgument};
 
 use crate::stack::Stack;
 use plcells::cell::Cell;
-use plenv::slot::Row;
+use plcode::callee::Number;
 use plgoals::extend::Extended;
 use pllinks::item::Run;
 use std::alloc::{AllocError, Global};
@@ -51,16 +52,25 @@ impl Stack {
         made
     }
 
-    /// Puts the terms of a row of a clause's nodes, whose slots are those of a run: their values, in the place of those that the list holds.
-    pub fn put_row(&mut self, run: Run, row: Row, values: &mut Vec<Cell>) -> Result<(), AllocError>
-        requires { (ts : List Tree) × AreArguments self.old run row ts }
+    /// Puts the arguments of the goal at a node of a clause, whose slots are those of a run: the number by which it is called, and a list made their
+    /// values; none for a variable or an integer, and the list is empty.
+    pub fn put_goal(
+        &mut self,
+        run: Run,
+        node: u32,
+        values: &mut Vec<Cell>,
+    ) -> Result<Option<Number>, AllocError>
+        requires { (t : Tree) × IsArgument self.old run node t }
+        ensures callable { IfOk result (λ found. IfSome found (λ n. IsCallable self.new.env.heap.names n (length values.new.items))) }
+        ensures is { IfOk result (λ found. IfSome found (λ n. (t : Tree) → IsArgument self.old run node t → bind (over self.old.env run.base) t ≡ called self.new.env.heap.names n (map (value self.new.env.heap) values.new.items))) }
+        ensures none { IfOk result (λ found. IfNone found ((t : Tree) → IsArgument self.old run node t → IsNoGoal (bind (over self.old.env run.base) t))) }
         ensures values { OnOk result (AreValues self.new.env.heap values.new.items) }
-        ensures are { OnOk result ((ts : List Tree) → AreArguments self.old run row ts → map (value self.new.env.heap) values.new.items ≡ map (bind (over self.old.env run.base)) ts) }
+        ensures few { OnOk result (length values.new.items ≤ 1024) }
         ensures count { self.new.env.count ≡ self.old.env.count }
         ensures stays { Extends self.old self.new }
     {
         let _ = self.env.heap();
-        let put = self.env.put_row(self.code.nodes(), row, run.base, values);
+        let put = self.env.put_goal(self.code.nodes(), node, run.base, values);
         let _ = self.env.heap();
         put
     }

@@ -14,9 +14,9 @@ returns-in-empty-clause-inside c =
     subst (λ (xs : List Cell). IsInside h xs c.nullary.result) (sym (list-none c.args.args.now c.in-empty.len_below)) (c.nullary.ensures.inside h)
 
 pub returns-in-len1-clause-is : goal.returns-in-len1-clause-is
-returns-in-len1-clause-is c =
+returns-in-len1-clause-is c p =
     let h = c.args.heap.now in
-    subst (λ (xs : List Cell). shown_form h xs c.unary.result ≡ construct c.args.control (map (value h) xs)) (sym (list-one c.args.args.now (Free 0) c.in-len1.len_at_least c.in-len1.len_below)) (c.unary.ensures.is h)
+    subst (λ (xs : List Cell). shown_form h p xs c.unary.result ≡ construct c.args.control (map (value h) xs)) (sym (list-one c.args.args.now (Free 0) c.in-len1.len_at_least c.in-len1.len_below)) (c.unary.ensures.is h p)
 
 pub returns-in-len1-clause-inside : goal.returns-in-len1-clause-inside
 returns-in-len1-clause-inside c =
@@ -26,9 +26,9 @@ returns-in-len1-clause-inside c =
     subst (λ (xs : List Cell). IsInside h xs c.unary.result) (sym (list-one c.args.args.now (Free 0) c.in-len1.len_at_least c.in-len1.len_below)) (c.unary.ensures.inside h (at 0 (Free 0) _ c.requires.args (omega (arith, l)) refl))
 
 pub returns-in-len3-clause-is : goal.returns-in-len3-clause-is
-returns-in-len3-clause-is c =
+returns-in-len3-clause-is c p =
     let h = c.args.heap.now in
-    subst (λ (xs : List Cell). shown_form h xs c.ternary.result ≡ construct c.args.control (map (value h) xs)) (sym (list-three c.args.args.now (Free 0) c.in-len3.len_at_least c.in-len3.len_below)) (c.ternary.ensures.is h)
+    subst (λ (xs : List Cell). shown_form h p xs c.ternary.result ≡ construct c.args.control (map (value h) xs)) (sym (list-three c.args.args.now (Free 0) c.in-len3.len_at_least c.in-len3.len_below)) (c.ternary.ensures.is h p)
 
 pub returns-in-len3-clause-inside : goal.returns-in-len3-clause-inside
 returns-in-len3-clause-inside c =

@@ -2,6 +2,7 @@ use Rattle.std.proofs.Common.{[], map, sym, ap, ◌∙◌, subst}
 use Rattle.std.proofs.lemmas.List.{length-map}
 use Rattle.std.specs.Prelude.{codes}
 use Rattle.plterm.specs.Tree.{atom}
+use Rattle.plclause.specs.Indicators.{indicator}
 use Rattle.plcells.specs.Store.{value}
 use Rattle.plsearch.specs.Running.{called}
 use Rattle.plsearch.specs.Rows.{row, run, call_with as call_n}
@@ -21,7 +22,7 @@ unfolding row
 returns-in-True-clause-ok c t sel =
     let s = c.args.self.now in
     let P = c.args.program.now in
-    selected P s c.go_on.new.self c.args.form c.args.source t c.args.level (depth_of P s) (goals_of s.stack c.args.rest) s.stack.env.count (local_of s) _ sel (ap (shown_form s.stack.env.heap s.args.items) c.in-True.is)
+    selected P s c.go_on.new.self c.args.form c.args.source t c.args.level (depth_of P s) (goals_of s.stack c.args.rest) s.stack.env.count (local_of s) _ sel (ap (shown_form s.stack.env.heap (indicator t) s.args.items) c.in-True.is)
     (went P s c.go_on.new.self s.stack c.args.rest (goals_of s.stack c.args.rest) (lengthened-grown s.stack s.stack (lengthened-same s.stack)) (holds-list s.stack c.args.rest c.requires.rest) c.go_on.ensures)
 
 pub returns-in-False-clause-ok : goal.returns-in-False-clause-ok
@@ -29,21 +30,21 @@ unfolding row
 returns-in-False-clause-ok c t sel =
     let s = c.args.self.now in
     let P = c.args.program.now in
-    selected P s c.give.new.self c.args.form c.args.source t c.args.level (depth_of P s) (goals_of s.stack c.args.rest) s.stack.env.count (local_of s) _ sel (ap (shown_form s.stack.env.heap s.args.items) c.in-False.is) (gave P s c.give.new.self outcomes.Fail c.give.ensures)
+    selected P s c.give.new.self c.args.form c.args.source t c.args.level (depth_of P s) (goals_of s.stack c.args.rest) s.stack.env.count (local_of s) _ sel (ap (shown_form s.stack.env.heap (indicator t) s.args.items) c.in-False.is) (gave P s c.give.new.self outcomes.Fail c.give.ensures)
 
 pub returns-in-NoGoal-clause-ok : goal.returns-in-NoGoal-clause-ok
 unfolding row
 returns-in-NoGoal-clause-ok c t sel =
     let s = c.args.self.now in
     let P = c.args.program.now in
-    selected P s c.give-in-NoGoal.new.self c.args.form c.args.source t c.args.level (depth_of P s) (goals_of s.stack c.args.rest) s.stack.env.count (local_of s) _ sel (ap (shown_form s.stack.env.heap s.args.items) c.in-NoGoal.is) (gave P s c.give-in-NoGoal.new.self outcomes.Fail c.give-in-NoGoal.ensures)
+    selected P s c.give-in-NoGoal.new.self c.args.form c.args.source t c.args.level (depth_of P s) (goals_of s.stack c.args.rest) s.stack.env.count (local_of s) _ sel (ap (shown_form s.stack.env.heap (indicator t) s.args.items) c.in-NoGoal.is) (gave P s c.give-in-NoGoal.new.self outcomes.Fail c.give-in-NoGoal.ensures)
 
 pub returns-in-Halt-clause-ok : goal.returns-in-Halt-clause-ok
 unfolding row
 returns-in-Halt-clause-ok c t sel =
     let s = c.args.self.now in
     let P = c.args.program.now in
-    selected P s c.halt.new.self c.args.form c.args.source t c.args.level (depth_of P s) (goals_of s.stack c.args.rest) s.stack.env.count (local_of s) _ sel (ap (shown_form s.stack.env.heap s.args.items) c.in-Halt.is) c.halt.ensures
+    selected P s c.halt.new.self c.args.form c.args.source t c.args.level (depth_of P s) (goals_of s.stack c.args.rest) s.stack.env.count (local_of s) _ sel (ap (shown_form s.stack.env.heap (indicator t) s.args.items) c.in-Halt.is) c.halt.ensures
 
 pub returns-in-Both-clause-ok : goal.returns-in-Both-clause-ok
 unfolding row
@@ -51,7 +52,7 @@ returns-in-Both-clause-ok c t sel =
     let s = c.args.self.now in
     let P = c.args.program.now in
     on_ok_map c.both.result
-    (λ moved. selected P s c.both.new.self c.args.form c.args.source t c.args.level (depth_of P s) (goals_of s.stack c.args.rest) s.stack.env.count (local_of s) _ sel (ap (shown_form s.stack.env.heap s.args.items) c.in-Both.is)
+    (λ moved. selected P s c.both.new.self c.args.form c.args.source t c.args.level (depth_of P s) (goals_of s.stack c.args.rest) s.stack.env.count (local_of s) _ sel (ap (shown_form s.stack.env.heap (indicator t) s.args.items) c.in-Both.is)
     (moved-as P s c.both.new.self _ _ (both-is P c.args.level t (depth_of P s) (goals_of s.stack c.args.rest) s.stack.env.count (local_of s) (value s.stack.env.heap c.in-Both.a) (value s.stack.env.heap c.in-Both.b)) moved))
     c.both.ensures.ok
 
@@ -61,7 +62,7 @@ returns-in-Either-clause-ok c t sel =
     let s = c.args.self.now in
     let P = c.args.program.now in
     on_ok_map c.either.result
-    (λ moved. selected P s c.either.new.self c.args.form c.args.source t c.args.level (depth_of P s) (goals_of s.stack c.args.rest) s.stack.env.count (local_of s) _ sel (ap (shown_form s.stack.env.heap s.args.items) c.in-Either.is)
+    (λ moved. selected P s c.either.new.self c.args.form c.args.source t c.args.level (depth_of P s) (goals_of s.stack c.args.rest) s.stack.env.count (local_of s) _ sel (ap (shown_form s.stack.env.heap (indicator t) s.args.items) c.in-Either.is)
     (moved-as P s c.either.new.self _ _ (either-is P c.args.level t (depth_of P s) (goals_of s.stack c.args.rest) s.stack.env.count (local_of s) (value s.stack.env.heap c.in-Either.a) (value s.stack.env.heap c.in-Either.b)) moved))
     c.either.ensures.ok
 
@@ -71,7 +72,7 @@ returns-in-IfThen-clause-ok c t sel =
     let s = c.args.self.now in
     let P = c.args.program.now in
     on_ok_map c.then.result
-    (λ moved. selected P s c.then.new.self c.args.form c.args.source t c.args.level (depth_of P s) (goals_of s.stack c.args.rest) s.stack.env.count (local_of s) _ sel (ap (shown_form s.stack.env.heap s.args.items) c.in-IfThen.is)
+    (λ moved. selected P s c.then.new.self c.args.form c.args.source t c.args.level (depth_of P s) (goals_of s.stack c.args.rest) s.stack.env.count (local_of s) _ sel (ap (shown_form s.stack.env.heap (indicator t) s.args.items) c.in-IfThen.is)
     (moved-as P s c.then.new.self _ _ (then-is P c.args.level t (depth_of P s) (goals_of s.stack c.args.rest) s.stack.env.count (local_of s) (value s.stack.env.heap c.in-IfThen.condition) (value s.stack.env.heap c.in-IfThen.then) (atom (codes "fail"))) moved))
     c.then.ensures.ok
 
@@ -81,7 +82,7 @@ returns-in-IfThenElse-clause-ok c t sel =
     let s = c.args.self.now in
     let P = c.args.program.now in
     on_ok_map c.then_else.result
-    (λ moved. selected P s c.then_else.new.self c.args.form c.args.source t c.args.level (depth_of P s) (goals_of s.stack c.args.rest) s.stack.env.count (local_of s) _ sel (ap (shown_form s.stack.env.heap s.args.items) c.in-IfThenElse.is)
+    (λ moved. selected P s c.then_else.new.self c.args.form c.args.source t c.args.level (depth_of P s) (goals_of s.stack c.args.rest) s.stack.env.count (local_of s) _ sel (ap (shown_form s.stack.env.heap (indicator t) s.args.items) c.in-IfThenElse.is)
     (moved-as P s c.then_else.new.self _ _ (then-else-is P c.args.level t (depth_of P s) (goals_of s.stack c.args.rest) s.stack.env.count (local_of s) (value s.stack.env.heap c.in-IfThenElse.condition) (value s.stack.env.heap c.in-IfThenElse.then) (value s.stack.env.heap c.in-IfThenElse.other)) moved))
     c.then_else.ensures.ok
 
@@ -90,63 +91,63 @@ unfolding row
 returns-in-Not-clause-ok c t sel =
     let s = c.args.self.now in
     let P = c.args.program.now in
-    on_ok_map c.not.result (selected P s c.not.new.self c.args.form c.args.source t c.args.level (depth_of P s) (goals_of s.stack c.args.rest) s.stack.env.count (local_of s) _ sel (ap (shown_form s.stack.env.heap s.args.items) c.in-Not.is)) c.not.ensures.ok
+    on_ok_map c.not.result (selected P s c.not.new.self c.args.form c.args.source t c.args.level (depth_of P s) (goals_of s.stack c.args.rest) s.stack.env.count (local_of s) _ sel (ap (shown_form s.stack.env.heap (indicator t) s.args.items) c.in-Not.is)) c.not.ensures.ok
 
 pub returns-in-Once-clause-ok : goal.returns-in-Once-clause-ok
 unfolding row
 returns-in-Once-clause-ok c t sel =
     let s = c.args.self.now in
     let P = c.args.program.now in
-    on_ok_map c.once.result (selected P s c.once.new.self c.args.form c.args.source t c.args.level (depth_of P s) (goals_of s.stack c.args.rest) s.stack.env.count (local_of s) _ sel (ap (shown_form s.stack.env.heap s.args.items) c.in-Once.is)) c.once.ensures.ok
+    on_ok_map c.once.result (selected P s c.once.new.self c.args.form c.args.source t c.args.level (depth_of P s) (goals_of s.stack c.args.rest) s.stack.env.count (local_of s) _ sel (ap (shown_form s.stack.env.heap (indicator t) s.args.items) c.in-Once.is)) c.once.ensures.ok
 
 pub returns-in-Catching-clause-ok : goal.returns-in-Catching-clause-ok
 unfolding row
 returns-in-Catching-clause-ok c t sel =
     let s = c.args.self.now in
     let P = c.args.program.now in
-    on_ok_map c.catching.result (selected P s c.catching.new.self c.args.form c.args.source t c.args.level (depth_of P s) (goals_of s.stack c.args.rest) s.stack.env.count (local_of s) _ sel (ap (shown_form s.stack.env.heap s.args.items) c.in-Catching.is)) c.catching.ensures.ok
+    on_ok_map c.catching.result (selected P s c.catching.new.self c.args.form c.args.source t c.args.level (depth_of P s) (goals_of s.stack c.args.rest) s.stack.env.count (local_of s) _ sel (ap (shown_form s.stack.env.heap (indicator t) s.args.items) c.in-Catching.is)) c.catching.ensures.ok
 
 pub returns-in-Throwing-clause-ok : goal.returns-in-Throwing-clause-ok
 unfolding row
 returns-in-Throwing-clause-ok c t sel =
     let s = c.args.self.now in
     let P = c.args.program.now in
-    on_ok_map c.throw.result (selected P s c.throw.new.self c.args.form c.args.source t c.args.level (depth_of P s) (goals_of s.stack c.args.rest) s.stack.env.count (local_of s) _ sel (ap (shown_form s.stack.env.heap s.args.items) c.in-Throwing.is)) c.throw.ensures.ok
+    on_ok_map c.throw.result (selected P s c.throw.new.self c.args.form c.args.source t c.args.level (depth_of P s) (goals_of s.stack c.args.rest) s.stack.env.count (local_of s) _ sel (ap (shown_form s.stack.env.heap (indicator t) s.args.items) c.in-Throwing.is)) c.throw.ensures.ok
 
 pub returns-in-Cut-clause-ok : goal.returns-in-Cut-clause-ok
 unfolding row
 returns-in-Cut-clause-ok c t sel =
     let s = c.args.self.now in
     let P = c.args.program.now in
-    on_ok_map c.cut.result (selected P s c.cut.new.self c.args.form c.args.source t c.args.level (depth_of P s) (goals_of s.stack c.args.rest) s.stack.env.count (local_of s) _ sel (ap (shown_form s.stack.env.heap s.args.items) c.in-Cut.is)) c.cut.ensures.ok
+    on_ok_map c.cut.result (selected P s c.cut.new.self c.args.form c.args.source t c.args.level (depth_of P s) (goals_of s.stack c.args.rest) s.stack.env.count (local_of s) _ sel (ap (shown_form s.stack.env.heap (indicator t) s.args.items) c.in-Cut.is)) c.cut.ensures.ok
 
 pub returns-in-AddLast-clause-ok : goal.returns-in-AddLast-clause-ok
 unfolding row
 returns-in-AddLast-clause-ok c t sel =
     let s = c.args.self.now in
     let P = c.args.program.now in
-    on_ok_map c.add_last.result (selected P s c.add_last.new.self c.args.form c.args.source t c.args.level (depth_of P s) (goals_of s.stack c.args.rest) s.stack.env.count (local_of s) _ sel (ap (shown_form s.stack.env.heap s.args.items) c.in-AddLast.is)) c.add_last.ensures.ok
+    on_ok_map c.add_last.result (selected P s c.add_last.new.self c.args.form c.args.source t c.args.level (depth_of P s) (goals_of s.stack c.args.rest) s.stack.env.count (local_of s) _ sel (ap (shown_form s.stack.env.heap (indicator t) s.args.items) c.in-AddLast.is)) c.add_last.ensures.ok
 
 pub returns-in-HaltWith-clause-ok : goal.returns-in-HaltWith-clause-ok
 unfolding row
 returns-in-HaltWith-clause-ok c t sel =
     let s = c.args.self.now in
     let P = c.args.program.now in
-    on_ok_map c.halt_with.result (selected P s c.halt_with.new.self c.args.form c.args.source t c.args.level (depth_of P s) (goals_of s.stack c.args.rest) s.stack.env.count (local_of s) _ sel (ap (shown_form s.stack.env.heap s.args.items) c.in-HaltWith.is)) c.halt_with.ensures.ok
+    on_ok_map c.halt_with.result (selected P s c.halt_with.new.self c.args.form c.args.source t c.args.level (depth_of P s) (goals_of s.stack c.args.rest) s.stack.env.count (local_of s) _ sel (ap (shown_form s.stack.env.heap (indicator t) s.args.items) c.in-HaltWith.is)) c.halt_with.ensures.ok
 
 pub returns-in-BuiltIn-clause-ok : goal.returns-in-BuiltIn-clause-ok
 unfolding row
 returns-in-BuiltIn-clause-ok c t sel =
     let s = c.args.self.now in
     let P = c.args.program.now in
-    on_ok_map c.built_in.result (selected P s c.built_in.new.self c.args.form c.args.source t c.args.level (depth_of P s) (goals_of s.stack c.args.rest) s.stack.env.count (local_of s) _ sel (ap (shown_form s.stack.env.heap s.args.items) c.in-BuiltIn.is)) (c.built_in.ensures.ok t sel.stands)
+    on_ok_map c.built_in.result (selected P s c.built_in.new.self c.args.form c.args.source t c.args.level (depth_of P s) (goals_of s.stack c.args.rest) s.stack.env.count (local_of s) _ sel (ap (shown_form s.stack.env.heap (indicator t) s.args.items) c.in-BuiltIn.is)) (c.built_in.ensures.ok t sel.stands)
 
 pub returns-in-Call-clause-ok : goal.returns-in-Call-clause-ok
 unfolding row
 returns-in-Call-clause-ok c t sel =
     let s = c.args.self.now in
     let P = c.args.program.now in
-    on_ok_map c.call.result (selected P s c.call.new.self c.args.form c.args.source t c.args.level (depth_of P s) (goals_of s.stack c.args.rest) s.stack.env.count (local_of s) _ sel (ap (shown_form s.stack.env.heap s.args.items) c.in-Call.is)) (c.call.ensures.ok _ t sel.stands (subst (λ f. IsCall P s f t) c.in-Call.is sel.call))
+    on_ok_map c.call.result (selected P s c.call.new.self c.args.form c.args.source t c.args.level (depth_of P s) (goals_of s.stack c.args.rest) s.stack.env.count (local_of s) _ sel (ap (shown_form s.stack.env.heap (indicator t) s.args.items) c.in-Call.is)) (c.call.ensures.ok _ t sel.stands (subst (λ f. IsCall P s f t) c.in-Call.is sel.call))
 
 pub returns-in-CallWith-clause-ok : goal.returns-in-CallWith-clause-ok
 unfolding row
@@ -157,7 +158,7 @@ returns-in-CallWith-clause-ok c t sel =
     let x = some-first s.args.items (subst (IsInside h s.args.items) c.in-CallWith.is sel.inside) in
     on_ok_map c.call_with.result
     (λ moved. selected P s c.call_with.new.self c.args.form c.args.source t c.args.level (depth_of P s) (goals_of s.stack c.args.rest) s.stack.env.count (local_of s) _ sel
-    (ap (shown_form h s.args.items) c.in-CallWith.is ∙ ap (λ xs. call_with (map (value h) xs)) x.2)
+    (ap (shown_form h (indicator t) s.args.items) c.in-CallWith.is ∙ ap (λ xs. call_with (map (value h) xs)) x.2)
     (moved-as P s c.call_with.new.self _ _ (ap (λ k. run (called (value h x.0) (map (value h) x.1)) (call_n k) [] (depth_of P s) (goals_of s.stack c.args.rest) s.stack.env.count (local_of s)) (sym (length-map x.1 (value h)))) moved))
     (c.call_with.ensures.ok x.0 x.1 x.2)
 
