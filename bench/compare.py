@@ -65,7 +65,7 @@ def driver(text, rounds):
     some = "".join("some. " for _ in range(rounds)) if rounds else "some :- fail."
     return (
         f"\nten. ten. ten. ten. ten. ten. ten. ten. ten. ten.\n{some}\n"
-        f"rounds :- {again}.\nrounds.\nanswer :- {first}, {one}, writeq(A), nl.\n"
+        f"rounds :- {again}.\nrounds.\nanswer :- {first}, {one}, writeq(A), nl, !.\n"
     )
 
 

@@ -106,6 +106,12 @@ list-one [] d ge lt = absurd (omega (arith, ge))
 list-one (x ∷ []) d ge lt = refl
 list-one (x ∷ y ∷ xs) d ge lt = absurd (omega (arith, lt))
 
+pub list-two : (xs : List Cell) (d : Cell) → 2 ≤ length xs → length xs < 3 → xs ≡ get_or xs 0 d ∷ get_or xs 1 d ∷ []
+list-two [] d ge lt = absurd (omega (arith, ge))
+list-two (x ∷ []) d ge lt = absurd (omega (arith, ge))
+list-two (x ∷ y ∷ []) d ge lt = refl
+list-two (x ∷ y ∷ z ∷ xs) d ge lt = absurd (omega (arith, lt))
+
 pub list-three : (xs : List Cell) (d : Cell) → 3 ≤ length xs → length xs < 4 → xs ≡ get_or xs 0 d ∷ get_or xs 1 d ∷ get_or xs 2 d ∷ []
 list-three [] d ge lt = absurd (omega (arith, ge))
 list-three (x ∷ []) d ge lt = absurd (omega (arith, ge))

@@ -100,6 +100,7 @@ fn construct(heap: &Heap, code: &ProgramCode, control: Control, args: &[Cell]) -
     requires kinds { HasKinds heap.now.names code.now.callees }
     ensures is { (p : OfIndicator) → shown_form heap.now p args.now result ≡ construct_of control (map (value heap.now) args.now) }
     ensures inside { IsInside heap.now args.now result }
+    ensures no_call { (p : OfProcedure) → result ≡ forms.Call p → ⊥ }
 {
     match args {
         [] => nullary(control),
@@ -113,6 +114,7 @@ fn construct(heap: &Heap, code: &ProgramCode, control: Control, args: &[Cell]) -
 fn nullary(control: Control) -> Form
     ensures is { (h : Store) (p : OfIndicator) → shown_form h p [] result ≡ construct_of control [] }
     ensures inside { (h : Store) → IsInside h [] result }
+    ensures no_call { (p : OfProcedure) → result ≡ forms.Call p → ⊥ }
 {
     match control {
         Control::True => Form::True,
@@ -134,6 +136,7 @@ fn nullary(control: Control) -> Form
 fn unary(control: Control, a: Cell) -> Form
     ensures is { (h : Store) (p : OfIndicator) → shown_form h p (a ∷ []) result ≡ construct_of control (value h a ∷ []) }
     ensures inside { (h : Store) → IsValue h a → IsInside h (a ∷ []) result }
+    ensures no_call { (p : OfProcedure) → result ≡ forms.Call p → ⊥ }
 {
     match control {
         Control::Not => Form::Not(a),
@@ -158,6 +161,7 @@ fn binary(heap: &Heap, code: &ProgramCode, control: Control, a: Cell, b: Cell) -
     requires kinds { HasKinds heap.now.names code.now.callees }
     ensures is { (p : OfIndicator) → shown_form heap.now p (a ∷ b ∷ []) result ≡ construct_of control (value heap.now a ∷ value heap.now b ∷ []) }
     ensures inside { IsInside heap.now (a ∷ b ∷ []) result }
+    ensures no_call { (p : OfProcedure) → result ≡ forms.Call p → ⊥ }
 {
     match control {
         Control::And => Form::Both(a, b),
@@ -179,6 +183,7 @@ fn binary(heap: &Heap, code: &ProgramCode, control: Control, a: Cell, b: Cell) -
 fn ternary(control: Control, a: Cell, b: Cell, c: Cell) -> Form
     ensures is { (h : Store) (p : OfIndicator) → shown_form h p (a ∷ b ∷ c ∷ []) result ≡ construct_of control (value h a ∷ value h b ∷ value h c ∷ []) }
     ensures inside { (h : Store) → IsValue h a → IsValue h b → IsValue h c → IsInside h (a ∷ b ∷ c ∷ []) result }
+    ensures no_call { (p : OfProcedure) → result ≡ forms.Call p → ⊥ }
 {
     match control {
         Control::Catch => Form::Catching(a, b, c),
@@ -201,6 +206,7 @@ fn ternary(control: Control, a: Cell, b: Cell, c: Cell) -> Form
 fn many(control: Control) -> Form
     ensures is { (h : Store) (p : OfIndicator) (args : List OfCell) → 3 < length args → shown_form h p args result ≡ construct_of control (map (value h) args) }
     ensures inside { (h : Store) (args : List OfCell) → 3 < length args → IsInside h args result }
+    ensures no_call { (p : OfProcedure) → result ≡ forms.Call p → ⊥ }
 {
     if let Control::Call = control {
         return Form::CallWith;
@@ -215,6 +221,7 @@ fn either(heap: &Heap, code: &ProgramCode, a: Cell, b: Cell) -> Form
     requires kinds { HasKinds heap.now.names code.now.callees }
     ensures is { (p : OfIndicator) → shown_form heap.now p (a ∷ b ∷ []) result ≡ either_of (value heap.now a) (value heap.now b) }
     ensures inside { IsInside heap.now (a ∷ b ∷ []) result }
+    ensures no_call { (p : OfProcedure) → result ≡ forms.Call p → ⊥ }
 {
     match arrow(heap, code, a) {
         Some(p) => Form::IfThenElse(heap.argument(p + 1), heap.argument(p + 2), b),

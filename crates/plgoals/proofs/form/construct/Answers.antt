@@ -5,7 +5,7 @@ use Rattle.plcells.specs.Store.{value}
 use Rattle.plcells.proofs.Given.{value-in}
 use Rattle.plsearch.specs.Forms.{construct}
 use Rattle.plgoals.specs.Forms.{shown_form, IsInside}
-use Rattle.plgoals.proofs.Calling.{list-none, list-one, list-three}
+use Rattle.plgoals.proofs.Calling.{list-none, list-one, list-two, list-three}
 use Rattle.plgoals.proofs.form.construct.Goals as goal
 
 pub returns-in-empty-clause-inside : goal.returns-in-empty-clause-inside
@@ -24,6 +24,11 @@ returns-in-len1-clause-inside c =
     let l = c.in-len1.len_at_least in
     let at = value-in h c.args.args.now in
     subst (λ (xs : List Cell). IsInside h xs c.unary.result) (sym (list-one c.args.args.now (Free 0) c.in-len1.len_at_least c.in-len1.len_below)) (c.unary.ensures.inside h (at 0 (Free 0) _ c.requires.args (omega (arith, l)) refl))
+
+pub returns-in-len2-clause-is : goal.returns-in-len2-clause-is
+returns-in-len2-clause-is c p =
+    let h = c.args.heap.now in
+    subst (λ (xs : List Cell). shown_form h p xs c.binary.result ≡ construct c.args.control (map (value h) xs)) (sym (list-two c.args.args.now (Free 0) c.in-len2.len_at_least c.in-len2.len_below)) (c.binary.ensures.is p)
 
 pub returns-in-len3-clause-is : goal.returns-in-len3-clause-is
 returns-in-len3-clause-is c p =
