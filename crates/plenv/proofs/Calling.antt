@@ -13,7 +13,7 @@ use Rattle.plcode.specs.declared.node.Node.{Node}
 use Rattle.plcode.specs.declared.node.Node.TheVariants.{Var, Int, Atom, Fun, Sub}
 use Rattle.plcode.specs.Nodes.{row, IsNamed}
 use Rattle.plcode.specs.Laying.{IsLaid}
-use Rattle.plcode.specs.Packed.{node_at, IsArgument, IsBlockAt}
+use Rattle.plcode.specs.Packed.{node_at, IsArgument}
 use Rattle.plgoals.specs.Callables.{called, IsCallable}
 use Rattle.plenv.specs.declared.slot.Row.{Row}
 use Rattle.plenv.specs.Env.{Env, over, Covers}

@@ -9,7 +9,7 @@ ghost use Rattle.plgoals.specs.Callables.{called, IsCallable, IsNoGoal};
 ghost use Rattle.plgoals.specs.Goals.{IsGoal};
 ghost use Rattle.plgoals.specs.Extended.{Extends};
 ghost use Rattle.plenv.specs.Blocks.{block_at};
-ghost use Rattle.plenv.specs.Changes.{NoneFreed, Stays};
+ghost use Rattle.plenv.specs.Changes.{Stays};
 ghost use Rattle.plenv.specs.Env.{over, Covers};
 ghost use Rattle.plenv.specs.Rows.{tree_at};
 
