@@ -7,6 +7,7 @@ ghost use Rattle.plload.specs.Loading.{Loads, Refuses};
 ghost use Rattle.plload.specs.Told.{Tells};
 ghost use Rattle.plload.specs.declared.error.RefusalKind.{RefusalKind};
 ghost use Rattle.plhist.specs.Report.{report_text};
+ghost use Rattle.plhist.specs.Status.{status_of as status_of_journal};
 ghost use Rattle.plterm.specs.Tree.{Tree};
 ghost use Rattle.plwords.specs.declared.form.Form.{Form};
 ghost use Rattle.plwords.specs.declared.form.Form.TheVariants as forms;
@@ -121,6 +122,19 @@ fn report_of(alloc: Global, history: &History) -> Result<Vec<u8>, AllocError>
     report_text(alloc, history, &operators)
 }
 
+/// What is told of a run that came to its end: its history, also where memory gives out for the report.
+fn told_of(alloc: Global, history: History) -> Answer
+    ensures history { result.history ≡ Some history }
+    ensures status { result.status ≡ status_of_journal history.journal }
+    ensures report { IfOk result.output (λ text. text.items ≡ report_text iso_table history) }
+{
+    Answer {
+        output: report_of(alloc, &history),
+        status: status_of(&history.journal),
+        history: Some(history),
+    }
+}
+
 /// The history of a run of a program of so many steps, with a goal of its own behind those of the text, and its report.
 fn run_answer(
     alloc: Global,
@@ -134,11 +148,7 @@ fn run_answer(
     let loaded = load(alloc, text)?;
     let program = loaded.with_goal(goal)?;
     let history = run_schedule(alloc, &program, steps, &[])?;
-    Ok(Answer {
-        output: report_of(alloc, &history),
-        status: status_of(&history.journal),
-        history: Some(history),
-    })
+    Ok(told_of(alloc, history))
 }
 
 /// How many clauses and directives a program has.

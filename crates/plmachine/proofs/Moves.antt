@@ -109,6 +109,9 @@ moved-from P s t new m stay moved = record {
 }
 
 -- a move that is made where lists and values were added
+pub moved-with : (P : Program) (s t new : Reached) (m m' : Move) → Grown s.stack t.stack → t ≡ record s { stack = t.stack; args = t.args } → m ≡ m' → Moved P t new m → Moved P s new m'
+moved-with P s t new m m' g is same moved = subst (Moved P s new) same (moved-from P s t new m (grown-with P s t g is) moved)
+
 pub moved-grown : (P : Program) (s t new : Reached) (m m' : Move) → Grown s.stack t.stack → t ≡ record s { stack = t.stack } → m ≡ m' → Moved P t new m → Moved P s new m'
 moved-grown P s t new m m' g is same moved = subst (Moved P s new) same (moved-from P s t new m (grown-stays P s t g is) moved)
 

@@ -82,6 +82,7 @@ impl Machine {
         ensures none { IfOk result (λ found. IfNone found ((t : Tree) → StandsFor self.old.stack source t → IsNoGoal t)) }
         ensures values { OnOk result (AreValues self.new.stack.env.heap self.new.args.items) }
         ensures few { OnOk result (length self.new.args.items ≤ 1024) }
+        ensures stands { (t : Tree) → StandsFor self.old.stack source t → StandsFor self.new.stack source t }
         ensures grown { Grown self.old.stack self.new.stack }
         ensures frame { self.new ≡ record self.old { stack = self.new.stack; args = self.new.args } }
     {

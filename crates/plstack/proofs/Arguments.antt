@@ -8,12 +8,14 @@ use Rattle.plcode.proofs.Placing.{Grows-refl}
 use Rattle.plcode.proofs.Values.{IsRow-more}
 use Rattle.plcode.proofs.Waiting.{IsLaid-names}
 use Rattle.plenv.specs.declared.slot.Row.{Row}
-use Rattle.plenv.specs.Env.{Covers}
+use Rattle.plcells.proofs.Nodes.{bind-agree}
+use Rattle.plenv.specs.Changes.{Stays}
+use Rattle.plenv.specs.Env.{Env, over, Covers}
 use Rattle.plenv.specs.Rows.{row_at, tree_at}
 use Rattle.plenv.proofs.Rows.{row-tree}
 use Rattle.pllinks.specs.declared.item.Run.{Run}
 use Rattle.plstack.specs.State.{State, IsState}
-use Rattle.plstack.specs.Arguments.{IsArgument}
+use Rattle.plstack.specs.Arguments.{IsArgument, KeepsArguments}
 
 -- the nodes of the code, with the names of the heap
 module _ (s : State) (is : IsState s) (laid : IsLaid s.code.text.names s.code.text.nodes) (nodes : List Node) (same : nodes ≡ s.code.text.nodes) where
@@ -43,3 +45,10 @@ module _ (s : State) (is : IsState s) (laid : IsLaid s.code.text.names s.code.te
 
     pub one-covers : Covers s.env r.base (tree_at s.env.heap.names nodes at)
     one-covers = subst (Covers s.env r.base) (sym one-is) (record { width = is_one.width; below = is_one.below; within = omega (arith, is_one.own, is_one.slots) })
+
+-- a change of the environment that keeps what is there
+pub arguments-stay : (s : State) (e : Env) → Stays s.env e → KeepsArguments s (record s { env = e })
+arguments-stay s e stays r node t is = (
+  record { stand = is.stand; width = is.width; below = is.below; own = is.own; slots = omega (arith, is.slots, stays.slots) },
+  bind-agree is.width (over e r.base) (over s.env r.base) (λ x lt. stays.extends.variables (r.base + x) (omega (arith, lt, is.own, is.slots))) t is.below,
+)

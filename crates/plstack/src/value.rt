@@ -9,7 +9,7 @@ ghost use Rattle.plgoals.specs.Goals.{IsGoal};
 ghost use Rattle.plgoals.specs.Extended.{Extends as ExtendsTerm};
 ghost use Rattle.plenv.specs.Env.{over};
 ghost use Rattle.plstack.specs.State.{Extends};
-ghost use Rattle.plstack.specs.Arguments.{IsArgument};
+ghost use Rattle.plstack.specs.Arguments.{IsArgument, KeepsArguments};
 
 use crate::stack::Stack;
 use plcells::cell::Cell;
@@ -66,6 +66,7 @@ impl Stack {
         ensures none { IfOk result (λ found. IfNone found ((t : Tree) → IsArgument self.old run node t → IsNoGoal (bind (over self.old.env run.base) t))) }
         ensures values { OnOk result (AreValues self.new.env.heap values.new.items) }
         ensures few { OnOk result (length values.new.items ≤ 1024) }
+        ensures arguments { KeepsArguments self.old self.new }
         ensures count { self.new.env.count ≡ self.old.env.count }
         ensures stays { Extends self.old self.new }
     {

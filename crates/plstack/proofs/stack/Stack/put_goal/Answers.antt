@@ -5,7 +5,7 @@ use Rattle.plgoals.specs.Callables.{IsNoGoal}
 use Rattle.plstack.proofs.Stacks.{inside}
 use Rattle.plstack.proofs.Finding.{if_some, if_none}
 use Rattle.plstack.proofs.Growing.{stack-env, extends-env, if_ok}
-use Rattle.plstack.proofs.Arguments.{laid-now, one-within, one-whole, one-covers, one-is}
+use Rattle.plstack.proofs.Arguments.{laid-now, one-within, one-whole, one-covers, one-is, arguments-stay}
 use Rattle.plstack.proofs.stack.Stack.put_goal.Goals as goal
 
 pub put_goal-put-requires-clause-laid : goal.put_goal-put-requires-clause-laid
@@ -31,6 +31,9 @@ invariant_of-self c = stack-env (inside c.self.inside) c.self.inside.depth c.put
 
 pub returns-clause-stays : goal.returns-clause-stays
 returns-clause-stays c = rw (← c.self.view_is) (extends-env (inside c.self.inside) c.self.inside.depth c.put_goal-put.new.self c.put_goal-put.ensures.stays.extends c.heap-2.ensures.env c.self.invariant)
+
+pub returns-clause-arguments : goal.returns-clause-arguments
+returns-clause-arguments c = rw (← c.self.view_is) (arguments-stay (inside c.self.inside) c.put_goal-put.new.self c.put_goal-put.ensures.stays)
 
 pub returns-clause-is : goal.returns-clause-is
 returns-clause-is c = rw (← c.self.view_is) (
