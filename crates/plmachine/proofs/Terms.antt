@@ -14,7 +14,7 @@ use Rattle.plcode.specs.declared.callee.Callee.TheVariants as callees
 use Rattle.plcode.specs.declared.callee.Number.{Number}
 use Rattle.plcode.specs.declared.callee.Number.TheVariants.{Atom, Functor}
 use Rattle.plcode.specs.Steps.{renamed}
-use Rattle.plcode.specs.Callees.{callee_at, IsCallee}
+use Rattle.plcode.specs.Callees.{callee_at, Compiled, IsCallee}
 use Rattle.plgoals.specs.declared.form.Form.{Form}
 use Rattle.plgoals.specs.declared.form.Form.TheVariants as forms
 use Rattle.plgoals.specs.declared.form.Procedure.{Procedure}
@@ -110,3 +110,15 @@ module _ (P : Program) (s : Reached) (begun : IsBegun P s) (visits : s.mode ≡ 
       stands = stands;
       call = is-call f known;
     }
+
+-- the same, of a heap, values and code that are those of the machine
+pub selected-by : (P : Program) (s : Reached) → IsBegun P s → s.mode ≡ modes.Visit → AreValues s.stack.env.heap s.args.items → length s.args.items ≤ 1024 → (source : Source) (t : Tree) → StandsFor s.stack source t →
+    (n : Number) → IsCallable s.stack.env.heap.names n (length s.args.items) → t ≡ called_by s.stack.env.heap.names n (map (value s.stack.env.heap) s.args.items) → Extends s.stack.code.text.names s.stack.env.heap.names → IsTable s.stack.env.heap.names →
+    (h : Store) (xs : List Cell) (m : Compiled) → h ≡ s.stack.env.heap → xs ≡ s.args.items → m ≡ s.stack.code → (f : Form) → shown_form h (procedure_of h.names n (length xs)) xs f ≡ form (called_by h.names n (map (value h) xs)) → IsInside h xs f →
+    ((q : Procedure) → f ≡ forms.Call q → callee_at m.callees n ≡ callee_of q) → IsSelected P s f source t
+selected-by P s begun visits args few source t stands n callable is more table h xs m eh ex em f shows inside known =
+    let k = s.stack.env.heap in
+    selected-some P s begun visits args few source t stands n callable is more table f
+    (subst (λ xs. shown_form k (procedure_of k.names n (length xs)) xs f ≡ form (called_by k.names n (map (value k) xs))) ex (subst (λ h. shown_form h (procedure_of h.names n (length xs)) xs f ≡ form (called_by h.names n (map (value h) xs))) eh shows))
+    (subst (λ xs. IsInside k xs f) ex (subst (λ h. IsInside h xs f) eh inside))
+    (subst (λ m. (q : Procedure) → f ≡ forms.Call q → callee_at m.callees n ≡ callee_of q) em known)
