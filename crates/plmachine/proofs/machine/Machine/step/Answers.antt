@@ -1,10 +1,11 @@
-use Rattle.std.proofs.Common.{suc, ap, subst, ◌∙◌}
+use Rattle.std.proofs.Common.{suc, ap, subst, refl, ◌∙◌}
 use Rattle.plcode.specs.Steps.{IsFor}
 use Rattle.plstack.specs.State.{goals_of}
 use Rattle.plmachine.specs.Lists.{at_level, elements_of}
 use Rattle.plmachine.specs.Machine.{depth_of, local_of}
 use Rattle.plmachine.proofs.Moves.{moved-as, on_ok_map}
-use Rattle.plmachine.proofs.Stepping.{branch-is, branch-level, either-move, then-move, then-else-move}
+use Rattle.plmachine.specs.Selected.{bound_at}
+use Rattle.plmachine.proofs.Stepping.{branch-is, branch-level, either-move, plain-node, then-move, then-else-move}
 use Rattle.plmachine.proofs.machine.Machine.step.Goals as goal
 
 pub returns-in-Or-clause-ok : goal.returns-in-Or-clause-ok
@@ -42,3 +43,15 @@ returns-in-IfThenElse-clause-ok c es at =
     (ap (λ x. elements_of s.stack (at_level (suc d) x)) c.branch-condition-in-IfThenElse.ensures ∙ branch-level s.stack r at.width at.own at.slots c.in-IfThenElse.condition e.condition e.condition_begins.goals (suc d))
     (ap (elements_of s.stack) c.branch-then-in-IfThenElse.ensures ∙ branch-is s.stack r at.width at.own at.slots c.in-IfThenElse.then e.success e.success_begins.goals)
     (ap (elements_of s.stack) c.branch-other.ensures ∙ branch-is s.stack r at.width at.own at.slots c.in-IfThenElse.other e.failure e.failure_begins.goals))) c.then_else.ensures.ok
+
+pub solve-requires : goal.solve-requires
+solve-requires c =
+    let s = c.args.self.now.stack in
+    let at = c.requires.at.1 in
+    let node = plain-node s.code.text c.args.run.position c.args.step.op c.args.step.goal at.goal at.is c.in_default.not-Or c.in_default.not-IfThen c.in_default.not-IfThenElse in
+    record {
+      begun = c.requires.begun;
+      visits = c.requires.visits;
+      source = (bound_at s c.args.run at.goal, (at.goal, record { stand = node; width = at.width; below = at.below; own = at.own; slots = at.slots }, refl));
+      rest = at.there;
+    }
