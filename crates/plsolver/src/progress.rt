@@ -111,14 +111,17 @@ impl Progress {
     {
         self.select(program, selected)?;
         self.used += 1;
-        self.give_back();
+        self.give_back(selected);
         Ok(())
     }
 
-    /// Gives back goal lists and slots that nothing holds.
-    fn give_back(&mut self)
+    /// Gives back goal lists and slots that nothing holds, once a goal was selected. A conjunction leaves none.
+    fn give_back(&mut self, selected: Selected)
         ensures { (P : Given) → Stays P self.old self.new }
     {
+        if let Selected::Both(_) = selected {
+            return;
+        }
         self.machine.stack.give_back();
     }
 

@@ -1,5 +1,10 @@
+use Rattle.std.proofs.Common.{refl}
+use Rattle.plmachine.proofs.Moves.{stays_put}
 use Rattle.plsolver.proofs.Runs.{given-back}
 use Rattle.plsolver.proofs.progress.Progress.give_back.Goals as goal
+
+pub returns-in-Both : goal.returns-in-Both
+returns-in-Both c = λ P. record { used = refl; limit = refl; places = refl; there = stays_put P c.args.self.now.machine }
 
 pub returns : goal.returns
 returns c = λ P. given-back P c.args.self.now c.give_back.new.self c.give_back.ensures.back
