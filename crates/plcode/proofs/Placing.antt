@@ -1,5 +1,5 @@
 -- The steps of laying terms down.
-use Rattle.std.proofs.Common.{◌≡◌, ℕ, suc, ◌^◌, ◌<◌, ◌≤◌, List, [], ◌∷◌, ◌++◌, length, map, take, drop, refl, subst, ap, ◌∙◌, sym, arith, append_assoc, append-nil, length-append, length-take}
+use Rattle.std.proofs.Common.{◌≡◌, ℕ, ◌^◌, ◌<◌, ◌≤◌, List, [], ◌∷◌, ◌++◌, length, map, take, drop, refl, subst, ap, ◌∙◌, sym, arith, append_assoc, append-nil, length-append, length-take}
 use Rattle.std.proofs.lemmas.List.{length-map, take_all}
 use Rattle.std.proofs.Math.Seq.{drop-append_seam}
 use Rattle.std.specs.List.{flat_map}
@@ -13,9 +13,9 @@ use Rattle.plcode.specs.declared.node.Node.{Node}
 use Rattle.plcode.specs.declared.node.Node.TheVariants.{Var, Int, Atom, Fun, Sub}
 use Rattle.plcode.specs.Nodes.{Value, tree, value, values, row, IsNamed}
 use Rattle.plcode.specs.Laying.{lowest, Grows, IsLaid, IsLeaf, IsRow, Waits}
-use Rattle.plcode.proofs.Values.{values-append, length-values, EachRests-take, AllNamed-take, IsRow-more, IsSound-row}
+use Rattle.plcode.proofs.Values.{values-append, length-values, EachRests-take, AllNamed-take, IsSound-row}
 use Rattle.plcode.proofs.Packing.{ArePacked-row, IsChain-take, chain_row, row_whole}
-use Rattle.plcode.proofs.Waiting.{row_terms, block_arguments, Waits-block, Waits-leaf}
+use Rattle.plcode.proofs.Waiting.{row_terms, Waits-block, Waits-leaf}
 
 pub Grows-refl : (ns : List Node) → Grows ns ns
 Grows-refl ns = record { added = []; nodes = sym (append-nil ns) }
@@ -75,11 +75,6 @@ module _ (s t : Table) (start nodes w : List Node) (whole old left : List TermNo
     grows = Grows-trans start nodes nodes' h.grows grows;
     waits = waits;
   }
-
-pub placing_end : (s t : Table) (start nodes w : List Node) (whole left : List TermNode) → left ≡ [] → Placing s t start nodes w whole left → Waits t nodes w (reading whole)
-placing_end s t start nodes w whole left none h =
-    let e : whole ≡ h.done = h.split ∙ ap (λ ns. ns ++ h.done) none in
-    subst (λ ns. Waits t nodes w (reading ns)) (sym e) h.waits
 
 -- ---- rows
 
@@ -173,11 +168,6 @@ module _ (t : Table) (nodes w : List Node) (us : List Tree) (f k : ℕ) (h : Wai
 
   pub compound_there : IsRow t closed (length block) 1 (own ∷ [])
   compound_there = row_there t block (Sub (lowest (length nodes) (take k w)) (length nodes) ∷ drop k w) (own ∷ drop k us) 1 waits_own (omega arith)
-
-  pub arguments_there : IsRow t closed (suc (length nodes)) k (take k us)
-  arguments_there =
-      IsRow-more t t block closed (suc (length nodes)) k (take k us) waits_own.laid (Extends-refl t)
-      (record { added = Sub (lowest (length nodes) (take k w)) (length nodes) ∷ []; nodes = refl }) (block_arguments t nodes w us f k h room named block_few)
 
 -- a node alone
 module _ (t : Table) (nodes : List Node) (n : Node) (laid : IsLaid t nodes) (named : IsNamed t n) (leaf : IsLeaf n) where

@@ -12,13 +12,13 @@ use plnames::table::NameTable;
 use plterm::walk::TermRef;
 use std::alloc::{AllocError, Global};
 
-/// What a goal's node comes to: a control construct whose two goals follow, or a goal with its step and the node where it was laid.
+/// What a goal comes to: a control construct whose two goals follow, or a goal alone, by the node where it was laid.
 #[derive(Clone, Copy, Debug, PartialEq, Eq)]
 pub enum Piece {
     And,
     Or,
     IfThen,
-    Single(Op, u32),
+    Single(u32),
 }
 
 /// Where the condition of an `->` begins, and what follows it.
@@ -241,8 +241,8 @@ fn put_piece(
             put_arrow(code, parts, made)?;
             Ok(())
         }
-        Piece::Single(op, node) => {
-            push_part(parts, made, op, node, None)?;
+        Piece::Single(node) => {
+            push_part(parts, made, Op::Goal, node, None)?;
             Ok(())
         }
     }

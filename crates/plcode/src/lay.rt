@@ -2,7 +2,7 @@
 ghost use Rattle.std.specs.Prelude.{◌≡◌, suc, ◌+◌, ◌^◌, ◌<◌, ◌≤◌, [], ◌∷◌, ◌++◌, length, take, drop, reverse, IfOk, OnOk, List};
 ghost use Rattle.plterm.specs.Tree.{Tree, compound, trees};
 ghost use Rattle.plterm.specs.Reading.{arity, read, reading, Fits, IsForest};
-ghost use Rattle.platoms.specs.Names.{atom_at, Extends, HasFunctor, IsFunctor};
+ghost use Rattle.platoms.specs.Names.{atom_at, Extends, IsFunctor};
 ghost use Rattle.plcode.specs.declared.node.Node.TheVariants.{Fun, Sub};
 ghost use Rattle.plcode.specs.Nodes.{tree, value, IsNamed};
 ghost use Rattle.plcode.specs.Laying.{lower as lower_of, lowest, Grows, IsLaid, IsLeaf, IsRow, Waits};
@@ -59,15 +59,14 @@ fn put_row(
     Ok(low)
 }
 
-/// Lays a block down, whose arguments are the topmost nodes of a stack; the compound takes their place. Says where the block stands.
+/// Lays a block down, whose arguments are the topmost nodes of a stack; the compound takes their place.
 fn put_block(
     nodes: &mut Vec<Node>,
     waiting: &mut Vec<Node>,
     functor: u32,
     count: u16,
-) -> Result<u32, AllocError>
+) -> Result<(), AllocError>
     requires { count ≤ length waiting.old.items }
-    ensures root { IfOk result (λ root. root ≡ length nodes.old.items) }
     ensures nodes { OnOk result (nodes.new.items ≡ nodes.old.items ++ Fun functor count ∷ take count (reverse waiting.old.items)) }
     ensures few { OnOk result (length nodes.new.items < 2 ^ 32) }
     ensures waiting { OnOk result (reverse waiting.new.items ≡ Sub (lowest (length nodes.old.items) (take count (reverse waiting.old.items))) (length nodes.old.items) ∷ drop count (reverse waiting.old.items)) }
@@ -78,7 +77,7 @@ fn put_block(
     nodes.push(Node::Fun(functor, count))?;
     let from = put_row(nodes, waiting, count, root)?;
     waiting.push(Node::Sub(from, root))?;
-    Ok(root)
+    Ok(())
 }
 
 /// Lays a term down whose arguments are the topmost nodes of a stack; its own node takes their place.
@@ -206,62 +205,46 @@ pub fn lay_leaf(nodes: &mut Vec<Node>, names: &Names, node: Node) -> Result<u32,
     Ok(at)
 }
 
-/// A compound that was laid down: the number of its functor, where the row of its arguments begins, and where its own node stands.
-#[derive(Clone, Copy, Debug, PartialEq, Eq)]
-pub struct Laid {
-    pub functor: u32,
-    pub row: u32,
-    pub node: u32,
-}
-
-/// Lays a compound down by its functor, whose arguments wait on a stack, and no other nodes.
+/// Lays a compound down by its functor, whose arguments wait on a stack, and no other nodes; says where its own node stands.
 fn close(
     nodes: &mut Vec<Node>,
     waiting: &mut Vec<Node>,
     functor: u32,
     count: u16,
-) -> Result<Laid, AllocError>
+) -> Result<u32, AllocError>
     requires { count ≡ length waiting.old.items }
-    ensures functor { IfOk result (λ laid. laid.functor ≡ functor) }
-    ensures row { IfOk result (λ laid. laid.row ≡ suc (length nodes.old.items)) }
-    ensures node { IfOk result (λ laid. laid.node ≡ suc (length nodes.old.items) + count) }
+    ensures node { IfOk result (λ at. at ≡ suc (length nodes.old.items) + count) }
     ensures nodes { OnOk result (nodes.new.items ≡ (nodes.old.items ++ Fun functor count ∷ take count (reverse waiting.old.items)) ++ Sub (lowest (length nodes.old.items) (take count (reverse waiting.old.items))) (length nodes.old.items) ∷ []) }
     ensures few { OnOk result (length nodes.new.items < 2 ^ 32) }
 {
-    let root = put_block(nodes, waiting, functor, count)?;
-    let Ok(node) = u32::try_from(nodes.len()) else {
+    put_block(nodes, waiting, functor, count)?;
+    let Ok(at) = u32::try_from(nodes.len()) else {
         return Err(AllocError);
     };
-    put_row(nodes, waiting, 1, node)?;
-    Ok(Laid {
-        functor,
-        row: root + 1,
-        node,
-    })
+    put_row(nodes, waiting, 1, at)?;
+    Ok(at)
 }
 
-/// Lays a compound down by its functor, whose arguments are taken off the terms: their blocks, its own, and its node. For want of
-/// memory, or of numbers, what was laid down stays, and no node is there.
+/// Lays a compound down by its functor, whose arguments are taken off the terms: their blocks, its own, and its node; says where
+/// this stands. For want of memory, or of numbers, what was laid down stays, and no node is there.
 pub fn lay_compound(
     alloc: Global,
     nodes: &mut Vec<Node>,
     names: &mut Names,
     terms: &mut Terms<'_>,
     functor: Functor,
-) -> Result<Laid, AllocError>
+) -> Result<u32, AllocError>
     requires room { functor.arity ≤ length terms.old }
     requires laid { IsLaid names.old nodes.old.items }
     requires functor { IsFunctor names.old functor }
     ensures rest { OnOk result (terms.new ≡ drop functor.arity terms.old) }
-    ensures functor { IfOk result (λ laid. HasFunctor names.new laid.functor functor) }
-    ensures row { IfOk result (λ laid. IsRow names.new nodes.new.items laid.row functor.arity (take functor.arity terms.old)) }
-    ensures node { IfOk result (λ laid. IsRow names.new nodes.new.items laid.node 1 (compound (atom_at names.new functor.name) (trees (take functor.arity terms.old)) ∷ [])) }
+    ensures row { IfOk result (λ at. IsRow names.new nodes.new.items at 1 (compound (atom_at names.new functor.name) (trees (take functor.arity terms.old)) ∷ [])) }
     ensures laid { OnOk result (IsLaid names.new nodes.new.items) }
     ensures grows { OnOk result (Grows nodes.old.items nodes.new.items) }
     ensures names { Extends names.old names.new }
 {
     let number = names.functor(functor)?;
     let mut waiting = stacked(alloc, nodes, names, terms, functor.arity)?;
-    let laid = close(nodes, &mut waiting, number, functor.arity)?;
-    Ok(laid)
+    let at = close(nodes, &mut waiting, number, functor.arity)?;
+    Ok(at)
 }

@@ -10,12 +10,12 @@ lay_compound-requires-clause-laid c =
 
 pub returns-clause-extended : goal.returns-clause-extended
 returns-clause-extended c =
-    let e = c.in_ok-laid.ensures in
+    let e = c.in_ok-at.ensures in
     relaid_extended (text c.args.code.now) c.lay_compound.new.names c.lay_compound.new.nodes.items
     (Extends-trans c.args.code.now.names c.atom.new.self c.lay_compound.new.names c.atom.ensures.extends e.names) e.grows
 
 pub returns-clause-code : goal.returns-clause-code
 returns-clause-code c =
-    let e = c.in_ok-laid.ensures in
+    let e = c.in_ok-at.ensures in
     relaid_code (text c.args.code.now) c.lay_compound.new.names c.lay_compound.new.nodes.items
     (Extends-trans c.args.code.now.names c.atom.new.self c.lay_compound.new.names c.atom.ensures.extends e.names) e.grows c.requires.code e.laid

@@ -1,4 +1,4 @@
-use Rattle.std.proofs.Common.{◌≡◌, ◌<◌, ◌^◌, ◌≤◌, ◌∙◌, ◌∷◌, [], ◌++◌, suc, ℕ, List, length, take, reverse, sym, arith, ap, subst, length-append, length-take}
+use Rattle.std.proofs.Common.{◌≡◌, ◌<◌, ◌^◌, ◌≤◌, ◌∙◌, ◌∷◌, [], ◌++◌, ℕ, List, length, take, reverse, sym, arith, ap, subst, length-append, length-take}
 use Rattle.std.proofs.lemmas.List.{length-reverse, take_all}
 use Rattle.plterm.specs.Tree.{Tree, compound, trees}
 use Rattle.platoms.specs.Names.{atom_at, functor_name, HasFunctor}
@@ -7,7 +7,7 @@ use Rattle.plcode.specs.declared.node.Node.{Node}
 use Rattle.plcode.specs.declared.node.Node.TheVariants.{Fun, Sub}
 use Rattle.plcode.specs.Nodes.{IsNamed}
 use Rattle.plcode.specs.Laying.{lowest, IsRow}
-use Rattle.plcode.proofs.Placing.{compound_laid, compound_there, arguments_there}
+use Rattle.plcode.proofs.Placing.{compound_laid, compound_there}
 use Rattle.plcode.proofs.Waiting.{IsLaid-names}
 use Rattle.plcode.proofs.lay.lay_compound.Goals as goal
 
@@ -30,7 +30,7 @@ room : (c : goal.After-drop-waiting-2) → c.args.functor.arity ≤ length (reve
 room c = omega (arith, length-reverse c.in_ok-waiting.waiting.items, c.in_ok-waiting.ensures.count)
 
 few : (c : goal.After-drop-waiting-2) → length ((c.stacked.new.nodes.items ++ Fun c.in_ok-number.number c.args.functor.arity ∷ take c.args.functor.arity (reverse c.in_ok-waiting.waiting.items)) ++ Sub (lowest (length c.stacked.new.nodes.items) (take c.args.functor.arity (reverse c.in_ok-waiting.waiting.items))) (length c.stacked.new.nodes.items) ∷ []) < 2 ^ 32
-few c = let Few : List Node → Type 0 = λ ns. length ns < 2 ^ 32 in subst Few c.in_ok-laid.ensures.nodes c.in_ok-laid.ensures.few
+few c = let Few : List Node → Type 0 = λ ns. length ns < 2 ^ 32 in subst Few c.in_ok-at.ensures.nodes c.in_ok-at.ensures.few
 
 -- all terms that wait are the compound's arguments
 whole : (c : goal.After-drop-waiting-2) → take c.args.functor.arity (take c.args.functor.arity c.args.terms.now) ≡ take c.args.functor.arity c.args.terms.now
@@ -40,27 +40,14 @@ pub returns-clause-row : goal.returns-clause-row
 returns-clause-row c =
     let t = c.stacked.new.names in
     let nodes = c.stacked.new.nodes.items in
-    let e = c.in_ok-laid.ensures in
-    let k = c.args.functor.arity in
-    let w = reverse c.in_ok-waiting.waiting.items in
-    let us = take k c.args.terms.now in
-    let P : ℕ → Type 0 = λ at. IsRow t c.close.new.nodes.items at k us in
-    let Q : List Tree → Type 0 = IsRow t c.close.new.nodes.items (suc (length nodes)) k in
-    let R : List Node → Type 0 = λ ns. IsRow t ns (suc (length nodes)) k (take k us) in
-    subst P (sym e.row) (subst Q (whole c) (subst R (sym e.nodes) (arguments_there t nodes w us c.in_ok-number.number k c.in_ok-waiting.ensures.waits (room c) (named c) (few c))))
-
-pub returns-clause-node : goal.returns-clause-node
-returns-clause-node c =
-    let t = c.stacked.new.names in
-    let nodes = c.stacked.new.nodes.items in
-    let e = c.in_ok-laid.ensures in
+    let e = c.in_ok-at.ensures in
     let k = c.args.functor.arity in
     let f = c.in_ok-number.number in
     let w = reverse c.in_ok-waiting.waiting.items in
     let us = take k c.args.terms.now in
     let h = has c in
     let name : functor_name t f ≡ atom_at t c.args.functor.name = ap (λ g. atom_at t g.name) h.is in
-    let at : length (nodes ++ Fun f k ∷ take k w) ≡ c.in_ok-laid.laid.node =
+    let at : length (nodes ++ Fun f k ∷ take k w) ≡ c.in_ok-at.at =
     omega (arith, e.node, length-append nodes (Fun f k ∷ take k w), length-take k w, room c) in
     let P : ℕ → Type 0 = λ n. IsRow t c.close.new.nodes.items n 1 (compound (atom_at t c.args.functor.name) (trees us) ∷ []) in
     let Q : List Tree → Type 0 = λ v. IsRow t c.close.new.nodes.items (length (nodes ++ Fun f k ∷ take k w)) 1 (compound (atom_at t c.args.functor.name) (trees v) ∷ []) in
@@ -70,6 +57,6 @@ returns-clause-node c =
 
 pub returns-clause-laid : goal.returns-clause-laid
 returns-clause-laid c =
-    rw c.in_ok-laid.ensures.nodes
+    rw c.in_ok-at.ensures.nodes
     (compound_laid c.stacked.new.names c.stacked.new.nodes.items (reverse c.in_ok-waiting.waiting.items) (take c.args.functor.arity c.args.terms.now) c.in_ok-number.number c.args.functor.arity
     c.in_ok-waiting.ensures.waits (room c) (named c) (few c))
