@@ -5,20 +5,22 @@ use Rattle.std.proofs.lemmas.Bool.{eqb-true}
 use Rattle.std.proofs.lemmas.List.{take-append-drop}
 use Rattle.std.proofs.lemmas.List.Concat.{flat_map-append}
 use Rattle.std.proofs.lemmas.Slice.Eq.{bytes_eq-Decides}
-use Rattle.plterm.specs.Tree.{Tree, compound, trees, list_of-trees}
+use Rattle.plterm.specs.Tree.{Tree, var, int, atom, compound, trees, list_of-trees}
 use Rattle.plnames.specs.Names.{rows, kind_of, kind_in, Row}
 use Rattle.plnames.specs.declared.kind.Kind.{Kind}
 use Rattle.plnames.specs.declared.kind.Kind.TheVariants as kinds
 use Rattle.plnames.specs.declared.kind.Control.TheVariants as controls
 use Rattle.plsearch.specs.Forms.{Either, IfThenElse, form, form_by}
-use Rattle.plterm.specs.Reading.{read, spelling}
-use Rattle.plterm.specs.declared.node.Node.TheVariants.{Compound}
+use Rattle.plterm.specs.Reading.{arity, read, spelling}
+use Rattle.plterm.specs.declared.node.Node.{Node}
+use Rattle.plterm.specs.declared.node.Node.TheVariants.{Var, Int, Atom, Compound}
 use Rattle.plcode.specs.declared.body.Piece.{Piece}
 use Rattle.plcode.specs.declared.body.Piece.TheVariants.{And, Or, IfThen, Single}
 use Rattle.plcode.specs.Nodes.{row}
+use Rattle.plcode.specs.Laying.{IsRow}
 use Rattle.plcode.specs.Steps.{Text, Args}
 use Rattle.plcode.specs.Bodies.{Holds, IsNoArrow, Means, Splits}
-use Rattle.plcode.specs.Goals.{holder_of, piece_for}
+use Rattle.plcode.specs.Goals.{holder_of, piece_at, piece_for}
 
 -- ---- forms
 
@@ -103,8 +105,8 @@ two_kinds c p s (Some (kinds.Control controls.IfThen)) a b rest k h =
 two_kinds c p s kind a b rest k h = absurd (cc)
 
 -- a control construct of two goals, by its node
-pub split_two : (c : Text) (p : Piece) (s : List ℕ) (k : ℕ) (ts : List Tree) → k ≤ length ts → piece_for (kind_of s k) k ≡ Some p → Splits c p (read (Compound s k) ts) ts
-split_two c p s k ts room is = by_count (k == 2) refl is
+pub split_two : (c : Text) (p : Piece) (n : Node) (ts : List Tree) → arity n ≤ length ts → piece_at n ≡ Some p → Splits c p (read n ts) ts
+split_two c p (Compound s k) ts room is = by_count (k == 2) refl is
   where
     pair : (ts : List Tree) → 2 ≤ length ts → holder_of (kind_of s 2) ≡ Some p → Splits c p (read (Compound s 2) ts) ts
     pair [] room h = absurd (omega arith)
@@ -118,20 +120,22 @@ split_two c p s k ts room is = by_count (k == 2) refl is
         let P : ℕ → Type 0 = λ n. n ≤ length ts → holder_of (kind_of s n) ≡ Some p → Splits c p (read (Compound s n) ts) ts in
         subst P (sym two) (pair ts) room h
     by_count false e h = absurd (cc)
+split_two c p n ts room is = absurd (cc)
 
--- a compound that was laid down
-pub split_laid : (c : Text) (at : ℕ) (s : List ℕ) (k : ℕ) (ts new : List Tree) → k ≤ length ts → new ≡ drop k ts → None ≡ piece_for (kind_of s k) k
-    → Args c at (compound s (trees (take k ts)) ∷ []) → Splits c (Single at) (read (Compound s k) ts) new
-split_laid c at s k ts new room gone none node =
+-- any other goal, by the place where its own node was laid
+alone : (c : Text) (at : ℕ) (g : Tree) (rest new : List Tree) → IsNoArrow g → Args c at (g ∷ []) → new ≡ rest → Splits c (Single at) (g ∷ rest) new
+alone c at g rest new plain node gone = record { goal = g; rest = rest; before = refl; means = record { no_arrow = plain; node = node; next = gone } }
+
+pub split_laid : (c : Text) (at : ℕ) (n : Node) (ts new : List Tree) → arity n ≤ length ts → None ≡ piece_at n → new ≡ drop (arity n) ts
+    → IsRow c.names c.nodes at 1 (take 1 (read n ts)) → Splits c (Single at) (read n ts) new
+split_laid c at (Var v) ts new room none gone laid = alone c at (var v) ts new (λ b. refl) laid gone
+split_laid c at (Int i) ts new room none gone laid = alone c at (int i) ts new (λ b. refl) laid gone
+split_laid c at (Atom s) ts new room none gone laid = alone c at (atom s) ts new (λ b. refl) laid gone
+split_laid c at (Compound s k) ts new room none gone laid =
     let len : k ≡ length (take k ts) = omega (arith, length-take k ts) in
-    let N : ℕ → Type 0 = λ n. None ≡ piece_for (kind_of s n) n in
-    let plain : length (take k ts) ≡ 2 → None ≡ holder_of (kind_of s 2) = λ two. subst N (len ∙ two) none in
-    record {
-      goal = compound s (trees (take k ts));
-      rest = drop k ts;
-      before = refl;
-      means = record { no_arrow = branch_of s (take k ts) (λ two e. let n = plain two ∙ ap holder_of e in cc); node = node; next = gone };
-    }
+    let P : ℕ → Type 0 = λ n. None ≡ piece_for (kind_of s n) n in
+    let plain : length (take k ts) ≡ 2 → None ≡ holder_of (kind_of s 2) = λ two. subst P (len ∙ two) none in
+    alone c at (compound s (trees (take k ts))) (drop k ts) new (branch_of s (take k ts) (λ two e. let n = plain two ∙ ap holder_of e in cc)) laid gone
 
 pub spelled_less : (k : ℕ) (ts : List Tree) → length (flat_map spelling (drop k ts)) ≤ length (flat_map spelling ts)
 spelled_less k ts =

@@ -1,5 +1,8 @@
 -- The piece that a goal comes to, by what its name is.
 use Rattle.std.specs.Prelude.{◌==◌, ℕ, Option, Some, None, if◌then◌else◌}
+use Rattle.plterm.specs.declared.node.Node.{Node}
+use Rattle.plterm.specs.declared.node.Node.TheVariants.{Compound}
+use Rattle.plnames.specs.Names.{kind_of}
 use Rattle.plnames.specs.declared.kind.Kind.{Kind}
 use Rattle.plnames.specs.declared.kind.Kind.TheVariants as kinds
 use Rattle.plnames.specs.declared.kind.Control.{Control}
@@ -22,3 +25,8 @@ holder_of None = None
 -- the piece of a goal with k arguments that are goals
 abbrev pub piece_for : Option Kind → ℕ → Option Piece
 piece_for kind k = if k == 2 then holder_of kind else None
+
+-- the piece of a node
+abbrev pub piece_at : Node → Option Piece
+piece_at (Compound s k) = piece_for (kind_of s k) k
+piece_at n = None

@@ -13,7 +13,7 @@ use plterm::walk::TermRef;
 use std::alloc::{AllocError, Global};
 
 /// What a goal comes to: a control construct whose two goals follow, or a goal alone, by the node where it was laid.
-#[derive(Clone, Copy, Debug, PartialEq, Eq)]
+#[derive(Clone, Copy)]
 pub enum Piece {
     And,
     Or,
@@ -22,14 +22,14 @@ pub enum Piece {
 }
 
 /// Where the condition of an `->` begins, and what follows it.
-#[derive(Clone, Copy, Debug, PartialEq, Eq)]
+#[derive(Clone, Copy)]
 pub struct Arrow {
     pub condition: u32,
     pub then: u32,
 }
 
 /// So many of the steps that are made. They are the one step of an `->` where that may still get an else.
-#[derive(Clone, Copy, Debug, PartialEq, Eq)]
+#[derive(Clone, Copy)]
 pub struct Part {
     pub len: usize,
     pub arrow: Option<Arrow>,
