@@ -11,7 +11,7 @@ use Rattle.plnames.specs.declared.kind.Kind.{Kind}
 use Rattle.plnames.specs.declared.kind.Kind.TheVariants as kinds
 use Rattle.plnames.specs.declared.kind.Control.{Control}
 use Rattle.plnames.specs.declared.kind.Control.TheVariants as controls
-use Rattle.plsearch.specs.Forms.{Either, IfThenElse, either, construct, form_by, form, arguments}
+use Rattle.plsearch.specs.Forms.{Either, IfThenElse, either, construct, form_by, form}
 use Rattle.plcode.specs.Converted.{IsConverted}
 use Rattle.plcode.specs.Bound.{bound_form}
 use Rattle.plcode.proofs.Goals.{holder_named}
@@ -23,24 +23,6 @@ list_of-bind_all : (σ : ℕ → Tree) (ts : Trees) → list_of (bind_all σ ts)
 unfolding bind
 list_of-bind_all σ none = refl
 list_of-bind_all σ (more t ts) = ap (λ us. bind σ t ∷ us) (list_of-bind_all σ ts)
-
-count_bound : (σ : ℕ → Tree) (ts : Trees) → length (list_of (bind_all σ ts)) ≡ length (list_of ts)
-count_bound σ ts = ap length (list_of-bind_all σ ts) ∙ length-map (list_of ts) (bind σ)
-
-pub arguments_bound : (σ : ℕ → Tree) (g : Tree) → IsConverted g → arguments (bind σ g) ≡ map (bind σ) (arguments g)
-unfolding bind
-arguments_bound σ (var x) h = absurd (cc)
-arguments_bound σ (int i) h = refl
-arguments_bound σ (atom f) h = refl
-arguments_bound σ (compound f ts) h = list_of-bind_all σ ts
-
-pub indicator_bound : (σ : ℕ → Tree) (g : Tree) → IsConverted g → indicator (bind σ g) ≡ indicator g
-unfolding bind
-indicator_bound σ (var x) h = absurd (cc)
-indicator_bound σ (int i) h = refl
-indicator_bound σ (atom f) h = refl
-indicator_bound σ (compound f ts) h =
-    let made : ℕ → Indicator = λ n. record { name = f; arity = n } in ap made (count_bound σ ts)
 
 -- ---- forms
 

@@ -2,12 +2,11 @@
 use Rattle.std.proofs.Common.{◌≡◌, ℕ, zero, suc, ◌<◌, List, [], ◌∷◌, refl, subst, ap, ◌∙◌, sym, arith, codes}
 use Rattle.plterm.specs.Tree.{Tree, atom}
 use Rattle.plterm.specs.Reading.{first}
-use Rattle.plnames.specs.Names.{rows}
 use Rattle.platoms.specs.Names.{Table, IsTable, HasAtom}
 use Rattle.plcode.specs.declared.node.Node.TheVariants.{Atom}
 use Rattle.plcode.specs.declared.op.Op.TheVariants as ops
 use Rattle.plcode.specs.Laying.{IsLaid, IsRow}
-use Rattle.plcode.specs.Steps.{Text, meanings, step_at, goals_from, IsPlain, Meets}
+use Rattle.plcode.specs.Steps.{Text, meanings, step_at, goals_from, Meets}
 use Rattle.plcode.specs.Bodies.{IsCode}
 use Rattle.plcode.proofs.Placing.{leaf_laid, leaf_there}
 
@@ -20,7 +19,7 @@ module _ (t : Table) (a : ℕ) (table : IsTable t) (has : HasAtom t a (codes "fa
   failing = record {
     names = t;
     nodes = Atom a ∷ [];
-    steps = record { op = ops.Proceed; conjunctions = 0; goal = 0 } ∷ record { op = ops.Fail; conjunctions = 0; goal = 0 } ∷ [];
+    steps = record { op = ops.Proceed; conjunctions = 0; goal = 0 } ∷ record { op = ops.Goal; conjunctions = 0; goal = 0 } ∷ [];
   }
 
   node : IsRow t (Atom a ∷ []) 0 1 (atom (codes "fail") ∷ [])
@@ -36,10 +35,6 @@ module _ (t : Table) (a : ℕ) (table : IsTable t) (has : HasAtom t a (codes "fa
   unfolding goals_from meanings
   at_fail = let n = node in ap (λ (ts : List Tree). first ts ∷ []) n.terms
 
-  fails : IsPlain failing ops.Fail 0 (atom (codes "fail"))
-  unfolding rows
-  fails = record { does = refl; node = node }
-
   meets : (p : ℕ) → p < 2 → Meets failing p (step_at failing p)
   meets zero lt = record { none = λ e. at_end; runs = λ e. absurd (cc) }
   meets (suc zero) lt = record {
@@ -49,7 +44,7 @@ module _ (t : Table) (a : ℕ) (table : IsTable t) (has : HasAtom t a (codes "fa
       selects = λ owed more. absurd (omega (arith, more));
       goal = atom (codes "fail");
       goals = at_fail ∙ ap (λ (gs : List Tree). atom (codes "fail") ∷ gs) (sym at_end);
-      is = fails;
+      is = node;
     };
   }
   meets (suc (suc p)) lt = absurd (omega arith)

@@ -1,5 +1,5 @@
 -- The pieces of a body, from the last to the first.
-use Rattle.std.proofs.Common.{◌≡◌, ℕ, ◌≤◌, List, [], ◌∷◌, ◌++◌, ◌+◌, length, take, reverse, refl, subst, sym, arith, length-drop, length-take, codes}
+use Rattle.std.proofs.Common.{◌≡◌, ℕ, List, [], ◌∷◌, ◌++◌, ◌+◌, length, take, reverse, refl, subst, sym, arith, length-drop, length-take, codes}
 use Rattle.plterm.specs.Tree.{Tree}
 use Rattle.plcode.specs.declared.op.Op.TheVariants as ops
 use Rattle.plcode.specs.declared.op.Step.{Step}
@@ -9,7 +9,7 @@ use Rattle.plcode.specs.declared.body.Piece.TheVariants.{And, Or, IfThen, Single
 use Rattle.plcode.specs.Laying.{IsLaid}
 use Rattle.plcode.specs.Steps.{Text, Extended}
 use Rattle.plcode.specs.Bodies.{step, AreForTwo, HasTwo, Holds, IsCode, IsNext, Made, Means, Splits, Leads, Ready, Folding, Begins}
-use Rattle.plcode.proofs.Stays.{IsPlain-more}
+use Rattle.plcode.proofs.Stays.{Args-more}
 use Rattle.plcode.proofs.Pushing.{with_steps, sequence_code, sequence_begins, sequence_extended}
 
 -- ---- more code
@@ -18,7 +18,7 @@ Means-more : (c d : Text) (p : Piece) (g : Tree) (rest new : List Tree) → IsLa
 Means-more c d And g rest new laid more h = h
 Means-more c d Or g rest new laid more h = h
 Means-more c d IfThen g rest new laid more h = h
-Means-more c d (Single op at) g rest new laid more h = record { no_arrow = h.no_arrow; plain = IsPlain-more c d laid more op at g h.plain; next = h.next }
+Means-more c d (Single at) g rest new laid more h = record { no_arrow = h.no_arrow; node = Args-more c d laid more at (g ∷ []) h.node; next = h.next }
 
 pub Splits-more : (c d : Text) (p : Piece) (gs hs : List Tree) → IsLaid c.names c.nodes → Extended c d → Splits c p gs hs → Splits d p gs hs
 Splits-more c d p gs hs laid more h =
@@ -61,7 +61,7 @@ ready : (c : Text) (p : Piece) (g : Tree) (rest hs : List Tree) (ps : List Part)
 ready c And g rest hs ps xs m h = let w = m in two_of c ps xs w.first w.second rest hs w.next h
 ready c Or g rest hs ps xs m h = let w = m in two_of c ps xs w.first w.second rest hs w.next h
 ready c IfThen g rest hs ps xs m h = let w = m in two_of c ps xs w.first w.second rest hs w.next h
-ready c (Single op at) g rest hs ps xs m h = tt
+ready c (Single at) g rest hs ps xs m h = tt
 
 -- a control construct finds the parts of its two goals
 two_held : (c : Text) (name : List ℕ) (g : Tree) (rest hs : List Tree) (ps : List Part) (xs : List Step) → Holds name g rest hs → Made c ps xs hs → AreForTwo c ps xs
@@ -75,9 +75,6 @@ pub two_arrow : (c : Text) (ps : List Part) (xs : List Step) → IsNext c IfThen
 two_arrow c ps xs n = let s = n.splits in two_held c (codes "->") s.goal s.rest n.after ps xs s.means n.made
 
 -- ---- a loop over the pieces
-
-pub fold_start : (c : Text) (g : Tree) (whole : List Piece) → Leads c whole (g ∷ []) [] → Folding c g whole [] []
-fold_start c g whole h = record { goals = []; leads = h; parts = tt }
 
 module _ (c : Text) (g : Tree) (old left : List Piece) (p : Piece) (ps : List Part) (xs : List Step) (taken : old ≡ left ++ p ∷ []) (h : Folding c g old ps xs) where
   last : Last c left p (g ∷ []) h.goals
@@ -100,12 +97,6 @@ fold_whole c g left ps xs none h =
     let P : List Piece → Type 0 = λ v. Leads c v (g ∷ []) h.goals in
     let Q : List Tree → Type 0 = Made c ps xs in
     subst Q (sym (subst P none h.leads)) h.parts
-
-pub fold_some : (c : Text) (g : Tree) (left : List Piece) (ps : List Part) (xs : List Step) → left ≡ [] → ps ≡ [] → Folding c g left ps xs → ⊥
-fold_some c g left ps xs none empty h = let P : List Part → Type 0 = λ v. Made c v xs (g ∷ []) in subst P empty (fold_whole c g left ps xs none h)
-
-pub fold_room : (c : Text) (g : Tree) (left : List Piece) (p : Part) (qs ps : List Part) (xs : List Step) → left ≡ [] → qs ≡ p ∷ ps → Folding c g left qs xs → p.len ≤ length xs
-fold_room c g left p qs ps xs none is h = let P : List Part → Type 0 = λ v. Made c v xs (g ∷ []) in let m = subst P is (fold_whole c g left qs xs none h) in m.1
 
 module _ (c : Text) (code : IsCode c) (g : Tree) (left : List Piece) (p : Part) (qs ps : List Part) (xs ss : List Step) (place : ℕ) (none : left ≡ []) (is : qs ≡ p ∷ ps) (h : Folding c g left qs xs)
     (put : ss ≡ c.steps ++ (step ops.Proceed 0 ++ reverse (take p.len xs))) (at : place ≡ length c.steps + p.len)

@@ -1,5 +1,5 @@
 -- The places of the clauses of each key.
-use Rattle.std.proofs.Common.{◌≡◌, ℕ, zero, suc, ◌+◌, ◌≤◌, ◌<◌, ◌⊎◌, inl, inr, not, Bool, true, false, cond, Option, Some, None, List, [], ◌∷◌, ◌++◌, Vec, refl, sym, ap, ◌∙◌, subst, eqb-true, append-nil, length, take, drop, get_or, arith, length-take}
+use Rattle.std.proofs.Common.{◌≡◌, ℕ, zero, suc, ◌+◌, ◌≤◌, ◌<◌, ◌⊎◌, inl, inr, Bool, true, false, cond, Option, Some, None, List, [], ◌∷◌, ◌++◌, Vec, refl, sym, ap, ◌∙◌, subst, eqb-true, append-nil, length, take, drop, get_or, arith, length-take}
 use Rattle.std.specs.Global.{Global}
 use Rattle.std.proofs.lemmas.Bool.{cases_lt}
 use Rattle.std.proofs.lemmas.List.{take_more}
@@ -30,21 +30,6 @@ same_admits (Fun f) Any p q = absurd (q refl)
 same_admits (Fun f) (Int j) p q = refl
 same_admits (Fun f) (Atom b) p q = refl
 same_admits (Fun f) (Fun g) p q = nat_eq_equiv.symm f g
-
-admits_one : (k l : Key) → (k ≡ Any → ⊥) → (l ≡ Any → ⊥) → admits k l ≡ true → k ≡ l
-admits_one Any l p q e = absurd (p refl)
-admits_one (Int i) Any p q e = absurd (q refl)
-admits_one (Int i) (Int j) p q e = ap Int (same_int i j e)
-admits_one (Int i) (Atom b) p q e = cc
-admits_one (Int i) (Fun g) p q e = cc
-admits_one (Atom a) Any p q e = absurd (q refl)
-admits_one (Atom a) (Int j) p q e = cc
-admits_one (Atom a) (Atom b) p q e = ap Atom (eqb-true a b e)
-admits_one (Atom a) (Fun g) p q e = cc
-admits_one (Fun f) Any p q e = absurd (q refl)
-admits_one (Fun f) (Int j) p q e = cc
-admits_one (Fun f) (Atom b) p q e = cc
-admits_one (Fun f) (Fun g) p q e = ap Fun (eqb-true f g e)
 
 key_same : (k l : Key) → ghosts.eq k l ≡ true → k ≡ l
 key_same Any Any h = refl
@@ -89,10 +74,6 @@ admits_parts k Any some h = inr refl
 admits_parts k (Int j) some h = inl (same_admits (Int j) k (λ e. absurd (cc)) some ∙ h)
 admits_parts k (Atom b) some h = inl (same_admits (Atom b) k (λ e. absurd (cc)) some ∙ h)
 admits_parts k (Fun g) some h = inl (same_admits (Fun g) k (λ e. absurd (cc)) some ∙ h)
-
--- a key that is not the same as that of anything is another
-pub some_key : (k : Key) → not (ghosts.eq k Any) ≡ true → k ≡ Any → ⊥
-some_key k h e = let same : not (ghosts.eq k Any) ≡ false = ap (λ l. not (ghosts.eq l Any)) e in cc
 
 -- ---- the places of a key
 

@@ -7,7 +7,6 @@ pub mod Meanings
 pub mod Stays
 pub mod Pushing
 pub mod First
-pub mod Plain
 pub mod Segments
 pub mod Folds
 pub mod Goals

@@ -78,10 +78,6 @@ length-joined (suc n) gs lt = by_shape (joined n gs) (length-joined n gs (omega 
     by_shape (a ∷ []) e = absurd (omega arith)
     by_shape (a ∷ b ∷ rest) e = omega arith
 
-pub joined-add : (m n : ℕ) (gs : List Tree) → joined (m + n) gs ≡ joined m (joined n gs)
-joined-add zero n gs = let e : zero + n ≡ n = omega arith in ap (λ (k : ℕ). joined k gs) e
-joined-add (suc m) n gs = let e : suc m + n ≡ suc (m + n) = omega arith in ap (λ (k : ℕ). joined k gs) e ∙ ap paired (joined-add m n gs)
-
 -- what a step with a goal is for
 pub meaning-live : (t : Table) (nodes : List Node) (below : List (List Tree)) (s : Step) (owed : ℕ) (g : Tree) (rest : List Tree) → ends s.op ≡ false
     → goal t nodes below s.op s.goal ≡ g → behind below ≡ rest → meaning t nodes below s owed ≡ joined (s.conjunctions - owed) (g ∷ rest)

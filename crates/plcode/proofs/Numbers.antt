@@ -10,14 +10,8 @@ use Rattle.platoms.specs.Names.{Table, IsTable, Extends, functor_at}
 use Rattle.platoms.proofs.Extending.{atoms_more, functors_more, atom_same, functor_same}
 use Rattle.plcode.specs.declared.callee.Number.{Number}
 use Rattle.plcode.specs.declared.callee.Number.TheVariants.{Atom, Functor}
-use Rattle.plcode.specs.Steps.{IsProcedure}
-use Rattle.plcode.specs.Callees.{IsNumber, IsNumbered, same_number}
+use Rattle.plcode.specs.Callees.{IsNumber, IsNumbered, IsProcedure, same_number}
 use Rattle.plcode.proofs.Values.{functor_name-names}
-
-pub both_true : (a b : Bool) → (a && b) ≡ true → (a ≡ true) × (b ≡ true)
-both_true true true e = (refl, refl)
-both_true true false e = cc
-both_true false b e = cc
 
 eq_refl : (a : ℕ) → (a == a) ≡ true
 eq_refl a = elim (eqb_tells a a) [ inl p ↦ p.0 | inr p ↦ absurd (p.1 refl) ]

@@ -219,12 +219,6 @@ module _ (nodes w : List Node) (f k : ℕ) (room : k ≤ length w) (h : IsChain 
             subst P (sym same) (chain_arguments nodes (length nodes) row m args);
       }
 
-  pub block_whole : (j : ℕ) → length nodes < j → j ≤ length nodes + k → IsArgument 0 j (node_at grown j)
-  block_whole j lt le =
-      let o = own in
-      let n : Node = node_at grown j in
-      IsArgument-higher 0 (length nodes) j n (omega arith) (IsArgument-lower 0 low (length nodes) n (omega arith) (o.arguments j lt le))
-
   pub block_ends : EndsAt grown low (length nodes) (length grown)
   block_ends = record {
     packed = gather grown (length nodes) (length nodes) row (IsChain-more nodes (Fun f k ∷ row) (length nodes) row args) (last f k own);

@@ -1,5 +1,5 @@
 -- The steps of laying terms down.
-use Rattle.std.proofs.Common.{◌≡◌, ℕ, suc, ◌^◌, ◌<◌, ◌≤◌, List, [], ◌∷◌, ◌++◌, length, map, take, drop, refl, subst, ap, ◌∙◌, sym, arith, append_assoc, append-nil, length-append, length-take}
+use Rattle.std.proofs.Common.{◌≡◌, ℕ, ◌^◌, ◌<◌, ◌≤◌, List, [], ◌∷◌, ◌++◌, length, map, take, drop, refl, subst, ap, ◌∙◌, sym, arith, append_assoc, append-nil, length-append, length-take}
 use Rattle.std.proofs.lemmas.List.{length-map, take_all}
 use Rattle.std.proofs.Math.Seq.{drop-append_seam}
 use Rattle.std.specs.List.{flat_map}
@@ -7,15 +7,16 @@ use Rattle.plterm.specs.Tree.{Tree, compound, trees}
 use Rattle.plterm.specs.Reading.{arity, read, reading, spelling, Fits, AllFit, IsForest, reading-spelling}
 use Rattle.plterm.proofs.Forests.{IsForest-spelling}
 use Rattle.plterm.specs.declared.node.Node.{Node as TermNode}
-use Rattle.platoms.specs.Names.{Table, Extends, functor_name}
+use Rattle.plterm.specs.declared.node.Node.TheVariants as term
+use Rattle.platoms.specs.Names.{Table, Extends}
 use Rattle.platoms.proofs.Extending.{Extends-refl, Extends-trans}
 use Rattle.plcode.specs.declared.node.Node.{Node}
 use Rattle.plcode.specs.declared.node.Node.TheVariants.{Var, Int, Atom, Fun, Sub}
 use Rattle.plcode.specs.Nodes.{Value, tree, value, values, row, IsNamed}
-use Rattle.plcode.specs.Laying.{lowest, Grows, IsLaid, IsLeaf, IsRow, Waits}
-use Rattle.plcode.proofs.Values.{values-append, length-values, EachRests-take, AllNamed-take, IsRow-more, IsSound-row}
+use Rattle.plcode.specs.Laying.{Grows, IsLaid, IsLeaf, IsRow, Waits}
+use Rattle.plcode.proofs.Values.{values-append, length-values, EachRests-take, AllNamed-take, IsSound-row}
 use Rattle.plcode.proofs.Packing.{ArePacked-row, IsChain-take, chain_row, row_whole}
-use Rattle.plcode.proofs.Waiting.{row_terms, block_arguments, Waits-block, Waits-leaf}
+use Rattle.plcode.proofs.Waiting.{row_terms, Waits-leaf}
 
 pub Grows-refl : (ns : List Node) → Grows ns ns
 Grows-refl ns = record { added = []; nodes = sym (append-nil ns) }
@@ -76,11 +77,6 @@ module _ (s t : Table) (start nodes w : List Node) (whole old left : List TermNo
     waits = waits;
   }
 
-pub placing_end : (s t : Table) (start nodes w : List Node) (whole left : List TermNode) → left ≡ [] → Placing s t start nodes w whole left → Waits t nodes w (reading whole)
-placing_end s t start nodes w whole left none h =
-    let e : whole ≡ h.done = h.split ∙ ap (λ ns. ns ++ h.done) none in
-    subst (λ ns. Waits t nodes w (reading ns)) (sym e) h.waits
-
 -- ---- rows
 
 AllFit-parts : (ms ns : List TermNode) → AllFit (ms ++ ns) → AllFit ms × AllFit ns
@@ -136,11 +132,18 @@ module _ (from made : List TermNode) (ts : List Tree) (none : from ≡ []) (is :
 pub waits_length : (t : Table) (nodes w : List Node) (us : List Tree) → Waits t nodes w us → length w ≡ length us
 waits_length t nodes w us h = sym (length-map w (λ n. tree (value t (values t nodes) n))) ∙ ap length h.terms
 
--- all terms of a stack in a row
-pub row_all : (t : Table) (nodes w : List Node) (us : List Tree) (k : ℕ) → Waits t nodes w us → length us ≡ k → IsRow t (nodes ++ take k w) (length nodes) k us
-row_all t nodes w us k h e =
-    let P : List Tree → Type 0 = IsRow t (nodes ++ take k w) (length nodes) k in
-    subst P (take_all k us (omega arith)) (row_there t nodes w us k h (omega (arith, waits_length t nodes w us h)))
+-- a term that is read takes its arguments alone
+pub read_taken : (n : TermNode) (ts : List Tree) → take 1 (read n (take (arity n) ts)) ≡ take 1 (read n ts)
+read_taken (term.Var v) ts = refl
+read_taken (term.Int i) ts = refl
+read_taken (term.Atom s) ts = refl
+read_taken (term.Compound s k) ts = ap (λ us. compound s (trees us) ∷ []) (take_all k (take k ts) (omega (arith, length-take k ts)))
+
+pub read_some : (n : TermNode) (ts : List Tree) → 0 < length (read n ts)
+read_some (term.Var v) ts = omega arith
+read_some (term.Int i) ts = omega arith
+read_some (term.Atom s) ts = omega arith
+read_some (term.Compound s k) ts = omega arith
 
 leaf_same : (t : Table) (vs : List Value) (n : Node) → IsLeaf n → tree (value t vs n) ≡ tree (value t [] n)
 leaf_same t vs (Var s) h = refl
@@ -148,36 +151,6 @@ leaf_same t vs (Int i) h = refl
 leaf_same t vs (Atom a) h = refl
 leaf_same t vs (Fun f k) h = absurd h
 leaf_same t vs (Sub from root) h = absurd h
-
--- ---- a compound alone, whose arguments waited
-
-module _ (t : Table) (nodes w : List Node) (us : List Tree) (f k : ℕ) (h : Waits t nodes w us) (room : k ≤ length w) (named : IsNamed t (Fun f k))
-    (few : length ((nodes ++ Fun f k ∷ take k w) ++ Sub (lowest (length nodes) (take k w)) (length nodes) ∷ []) < 2 ^ 32) where
-  abbrev block : List Node
-  block = nodes ++ Fun f k ∷ take k w
-
-  abbrev closed : List Node
-  closed = block ++ Sub (lowest (length nodes) (take k w)) (length nodes) ∷ []
-
-  abbrev own : Tree
-  own = compound (functor_name t f) (trees (take k us))
-
-  block_few : length block < 2 ^ 32
-  block_few = omega (arith, few, length-append block (Sub (lowest (length nodes) (take k w)) (length nodes) ∷ []))
-
-  waits_own : Waits t block (Sub (lowest (length nodes) (take k w)) (length nodes) ∷ drop k w) (own ∷ drop k us)
-  waits_own = Waits-block t nodes w us f k h room named block_few
-
-  pub compound_laid : IsLaid t closed
-  compound_laid = row_laid t block (Sub (lowest (length nodes) (take k w)) (length nodes) ∷ drop k w) (own ∷ drop k us) 1 waits_own (omega arith) few
-
-  pub compound_there : IsRow t closed (length block) 1 (own ∷ [])
-  compound_there = row_there t block (Sub (lowest (length nodes) (take k w)) (length nodes) ∷ drop k w) (own ∷ drop k us) 1 waits_own (omega arith)
-
-  pub arguments_there : IsRow t closed (suc (length nodes)) k (take k us)
-  arguments_there =
-      IsRow-more t t block closed (suc (length nodes)) k (take k us) waits_own.laid (Extends-refl t)
-      (record { added = Sub (lowest (length nodes) (take k w)) (length nodes) ∷ []; nodes = refl }) (block_arguments t nodes w us f k h room named block_few)
 
 -- a node alone
 module _ (t : Table) (nodes : List Node) (n : Node) (laid : IsLaid t nodes) (named : IsNamed t n) (leaf : IsLeaf n) where

@@ -1,4 +1,4 @@
--- The entries of a program, and its code under more names.
+-- The entries of a program, and what its code says of each number.
 use Rattle.std.proofs.Common.{◌≡◌, ℕ, ◌+◌, ◌<◌, ◌≤◌, Some, Bool, true, false, inl, inr, refl, List, [], ◌∷◌, ◌++◌, length, map, take, get_or, subst, ap, ◌∙◌, sym, arith, append_assoc, length-take, Bor}
 use Rattle.std.specs.List.{slice_get}
 use Rattle.std.proofs.lemmas.List.{get_or_past, map-append, map_more, take_more}
@@ -20,11 +20,11 @@ use Rattle.plcode.specs.declared.clause.ClauseCode.{ClauseCode}
 use Rattle.plcode.specs.Steps.{Text, renamed, ends, step_at, goals_from, Meets}
 use Rattle.plcode.specs.Bodies.{IsCode}
 use Rattle.plcode.specs.Clauses.{AreProcedures}
-use Rattle.plcode.specs.Callees.{IsNumber, IsNumbered, found, callee_at, of_kind, row_callee, of_clauses, statics, AreEntries, IsCallee, Compiled, IsProgramCode}
+use Rattle.plcode.specs.Callees.{IsNumber, IsNumbered, found, callee_at, of_kind, row_callee, of_clauses, statics, AreEntries, IsCallee}
 use Rattle.platoms.proofs.Extending.{Extends-trans}
 use Rattle.plcode.specs.declared.op.Step.{Step}
 use Rattle.plcode.proofs.Meanings.{nowhere, goals-past}
-use Rattle.plcode.proofs.Stays.{names_code, names_extended}
+use Rattle.plcode.proofs.Stays.{names_extended}
 use Rattle.plcode.proofs.Clauses.{AreProcedures-more}
 use Rattle.plcode.proofs.Callees.{AreEntries-more, AreEntries-put, found_is, callee_is, statics_last}
 
@@ -98,13 +98,3 @@ module _ (P : Program) (c : Text) (kss : List (List ClauseCode)) (is : IsCode c)
       let same = made n ∙ found_is t grown n p number ws es (AreEntries-more s t more table ws es entries) in
       subst (IsCallee (renamed t c) kss P p) (sym same)
       (callee_is (renamed t c) kss P (procedures_more t (Extends-trans c.names s t names more)) p)
-
--- the code of a program stays that when names come
-pub IsProgramCode-more : (P : Program) (m : Compiled) (t : Table) → Extends m.text.names t → IsTable t → IsProgramCode P m
-    → IsProgramCode P (record { text = renamed t m.text; procedures = m.procedures; callees = m.callees })
-IsProgramCode-more P m t more table h = record {
-  code = names_code m.text t more h.code table;
-  own = h.own;
-  procedures = procedures_more P m.text m.procedures h.code h.procedures t more;
-  callees = λ u further grown n p number. h.callees u (Extends-trans m.text.names t u more further) grown n p number;
-}

@@ -45,7 +45,7 @@ module _ (c : Text) (n : ℕ) (below : List (List Tree)) (known : (p : ℕ) → 
       ∙ ap (λ (b : Tree). of_two _ (of_two _ h.condition b) (branch below r)) (branch_is l h.success h.success_begins)
       ∙ ap (λ (e : Tree). of_two _ (of_two _ h.condition h.success) e) (branch_is r h.failure h.failure_begins)
       ∙ sym h.is
-  goal_is op at g h = ap first h.node.terms
+  goal_is ops.Goal at g h = ap first h.terms
 
 form_both : (a b : Tree) → form (of_two (codes ",") a b) ≡ Both a b
 unfolding rows

@@ -10,11 +10,10 @@ use Rattle.plcode.specs.declared.op.Op.TheVariants as ops
 use Rattle.plcode.specs.declared.op.Step.{Step}
 use Rattle.plcode.specs.declared.body.Part.{Part}
 use Rattle.plcode.specs.declared.body.Arrow.{Arrow}
-use Rattle.plcode.specs.Steps.{Text, Extended, of_two, ends, paired, joined, IsPlain, IsFor}
+use Rattle.plcode.specs.Steps.{Text, Extended, Args, of_two, ends, paired, joined, IsFor}
 use Rattle.plcode.specs.Bodies.{arrow_of, charged, step, merged, Begins, AreFor, Segment, Awaits, Known, Made, Branches, IsNoArrow, IsCode}
 use Rattle.plcode.proofs.Meanings.{length-joined}
 use Rattle.plcode.proofs.Stays.{Extended-trans, IsBranch-more, steps_more}
-use Rattle.plcode.proofs.Plain.{plain_for}
 use Rattle.plcode.proofs.Pushing.{with_steps, AreFor-more, sequence_code, sequence_begins, sequence_extended}
 
 -- ---- one step
@@ -22,9 +21,6 @@ use Rattle.plcode.proofs.Pushing.{with_steps, AreFor-more, sequence_code, sequen
 -- a step alone is for its goal
 one_step : (c : Text) (op : Op) (at : ℕ) (g : Tree) → ends op ≡ false → IsFor c (length c.steps) op at g → Segment c g (step op at)
 one_step c op at g live is rest = (rest, record { goal = g; lives = live; is = is; room = omega arith; goals_are = refl }, refl)
-
-pub segment_goal : (c : Text) (op : Op) (at : ℕ) (g : Tree) → IsPlain c op at g → Segment c g (step op at)
-segment_goal c op at g h = let p = plain_for c op at g h in one_step c op at g p.0 p.1
 
 no_arrow : (l r : Tree) → IsNoArrow l → form (of_two (codes ";") l r) ≡ Either l r
 unfolding rows
@@ -214,9 +210,9 @@ made_one : (c : Text) (arrow : Option Arrow) (op : Op) (at : ℕ) (ps : List Par
     → Known c g arrow 1 → Segment c g (step op at) → Made c ps xs rest → Made c (record { len = 1; arrow = arrow } ∷ ps) (record { op = op; conjunctions = 0; goal = at } ∷ xs) (g ∷ rest)
 made_one c arrow op at ps xs g rest known segment h = (omega arith, omega arith, known, segment, h)
 
-pub made_goal : (c : Text) (op : Op) (at : ℕ) (ps : List Part) (xs : List Step) (g : Tree) (rest : List Tree)
-    → IsNoArrow g → IsPlain c op at g → Made c ps xs rest → Made c (record { len = 1; arrow = None } ∷ ps) (record { op = op; conjunctions = 0; goal = at } ∷ xs) (g ∷ rest)
-made_goal c op at ps xs g rest plain is h = made_one c None op at ps xs g rest plain (segment_goal c op at g is) h
+pub made_goal : (c : Text) (at : ℕ) (ps : List Part) (xs : List Step) (g : Tree) (rest : List Tree)
+    → IsNoArrow g → Args c at (g ∷ []) → Made c ps xs rest → Made c (record { len = 1; arrow = None } ∷ ps) (record { op = ops.Goal; conjunctions = 0; goal = at } ∷ xs) (g ∷ rest)
+made_goal c at ps xs g rest plain node h = made_one c None ops.Goal at ps xs g rest plain (one_step c ops.Goal at g refl node) h
 
 -- ---- `;` and `->`
 

@@ -5,24 +5,19 @@ use Rattle.std.proofs.Math.Seq.{take-suc}
 use Rattle.std.proofs.lemmas.List.{take-append-le}
 use Rattle.plterm.specs.Tree.{Tree}
 use Rattle.plterm.specs.Reading.{first}
-use Rattle.plterm.specs.declared.indicator.Indicator.{Indicator}
 use Rattle.platoms.specs.Names.{Table, Extends, IsTable}
-use Rattle.platoms.proofs.Extending.{Extends-refl, Extends-trans, atoms_more, functors_more, atom_same, functor_same}
-use Rattle.plsearch.specs.Forms.{Form, True, False, Both, Either, IfThenElse, Not, Once, Catching, Throwing, CallWith, Cut, Halting, AddLast, BuiltIn, Call, NoGoal, form, arguments}
+use Rattle.platoms.proofs.Extending.{Extends-trans}
 use Rattle.plcode.specs.declared.op.Op.{Op}
 use Rattle.plcode.specs.declared.op.Op.TheVariants as ops
 use Rattle.plcode.specs.declared.op.Step.{Step}
 use Rattle.plcode.specs.declared.node.Node.{Node}
 use Rattle.plcode.specs.Laying.{Grows, IsLaid}
-use Rattle.plcode.specs.Steps.{Text, renamed, Extended, Args, IsProcedure, Ends, Calls, Does, ends, behind, goal, meaning, meanings, step_at, goals_from, FAIL, IsBranch, IsPlain, IsFor, Selects, Runs, Meets}
+use Rattle.plcode.specs.Steps.{Text, renamed, Extended, Args, ends, behind, goal, meaning, meanings, step_at, goals_from, FAIL, IsBranch, IsFor, Selects, Runs, Meets}
 use Rattle.plcode.specs.Bodies.{IsCode}
 use Rattle.plcode.proofs.Placing.{Grows-refl, Grows-trans}
 use Rattle.plcode.proofs.Waiting.{IsLaid-names}
-use Rattle.plcode.proofs.Values.{IsRow-more, functor_name-names}
+use Rattle.plcode.proofs.Values.{IsRow-more}
 use Rattle.plcode.proofs.Meanings.{nowhere, meanings-put, meaning-live, meaning-ends}
-
-pub Extended-refl : (c : Text) → Extended c c
-Extended-refl c = record { names = Extends-refl c.names; nodes = Grows-refl c.nodes; more = []; steps = sym (append-nil c.steps) }
 
 pub Extended-trans : (a b c : Text) → Extended a b → Extended b c → Extended a c
 Extended-trans a b c p q = record {
@@ -35,48 +30,11 @@ Extended-trans a b c p q = record {
 pub steps_more : (c d : Text) → Extended c d → length c.steps ≤ length d.steps
 steps_more c d more = omega (arith, ap length more.steps, length-append c.steps more.more)
 
--- ---- what a step does
+-- ---- the goal of a step
 
 module _ (c d : Text) (laid : IsLaid c.names c.nodes) (more : Extended c d) where
   pub Args-more : (at : ℕ) (ts : List Tree) → Args c at ts → Args d at ts
   Args-more at ts h = IsRow-more c.names d.names c.nodes d.nodes at (length ts) ts laid more.names more.nodes h
-
-  IsProcedure-more : (f : ℕ) (p : Indicator) → IsProcedure c.names f p → IsProcedure d.names f p
-  IsProcedure-more f p h = record {
-    within = omega (arith, h.within, functors_more c.names d.names more.names);
-    name = functor_name-names c.names d.names more.names laid.table f h.within ∙ h.name;
-    arity = ap (λ g. g.arity) (functor_same c.names d.names more.names f h.within) ∙ h.arity;
-  }
-
-  Ends-more : (op : Op) (i : Tree) (us : List Tree) → Ends c op i us → Ends d op i us
-  Ends-more op i [] h = h
-  Ends-more op i (u ∷ us) h = (h.0, h.1, Args-more h.0 (i ∷ []) h.2)
-
-  Calls-more : (op : Op) (p : Indicator) (us : List Tree) → Calls c op p us → Calls d op p us
-  Calls-more op p [] h =
-      (h.0, h.1, record { within = omega (arith, h.2.within, atoms_more c.names d.names more.names); is = atom_same c.names d.names more.names h.0 h.2.within ∙ h.2.is })
-  Calls-more op p (u ∷ us) h = (h.0, (h.1.0, h.1.1, IsProcedure-more h.0 p h.1.2, Args-more h.1.0 (u ∷ us) h.1.3))
-
-  pub Does-more : (op : Op) (f : Form) (us : List Tree) → Does c op f us → Does d op f us
-  Does-more op True us h = h
-  Does-more op False us h = h
-  Does-more op NoGoal us h = h
-  Does-more op Cut us h = h
-  Does-more op (Both a b) us h = h
-  Does-more op (Either a b) us h = h
-  Does-more op (IfThenElse i a b) us h = h
-  Does-more op (Not g) us h = (h.0, h.1, Args-more h.0 (g ∷ []) h.2)
-  Does-more op (Once g) us h = (h.0, h.1, Args-more h.0 (g ∷ []) h.2)
-  Does-more op (Catching g k r) us h = (h.0, h.1, Args-more h.0 (g ∷ k ∷ r ∷ []) h.2)
-  Does-more op (Throwing b) us h = (h.0, h.1, Args-more h.0 (b ∷ []) h.2)
-  Does-more op (CallWith g vs) us h = (h.0, h.1, Args-more h.0 (g ∷ vs) h.2)
-  Does-more op (Halting i) us h = Ends-more op i us h
-  Does-more op (AddLast k) us h = (h.0, h.1, Args-more h.0 (k ∷ []) h.2)
-  Does-more op (BuiltIn b vs) us h = (h.0, h.1, Args-more h.0 vs h.2)
-  Does-more op (Call p) us h = Calls-more op p us h
-
-  pub IsPlain-more : (op : Op) (at : ℕ) (g : Tree) → IsPlain c op at g → IsPlain d op at g
-  IsPlain-more op at g h = record { does = Does-more op (form g) (arguments g) h.does; node = Args-more at (g ∷ []) h.node }
 
   -- the goal of a step stays
   goal-more : (place : ℕ) (op : Op) (at : ℕ) (g : Tree) (below : List (List Tree)) → IsFor c place op at g → goal d.names d.nodes below op at ≡ goal c.names c.nodes below op at
@@ -84,7 +42,7 @@ module _ (c d : Text) (laid : IsLaid c.names c.nodes) (more : Extended c d) wher
   goal-more place (ops.Or l r) at g below h = refl
   goal-more place (ops.IfThen i l) at g below h = refl
   goal-more place (ops.IfThenElse i l r) at g below h = refl
-  goal-more place op at g below h = let e = Args-more at (g ∷ []) h.node in ap first (e.terms ∙ sym h.node.terms)
+  goal-more place ops.Goal at g below h = let e = Args-more at (g ∷ []) h in ap first (e.terms ∙ sym h.terms)
 
 -- ---- the goals of the places that are there
 
@@ -162,7 +120,7 @@ module _ (c d : Text) (code : IsCode c) (more : Extended c d) where
     success_begins = IsBranch-more below above l h.success le up h.success_begins;
     failure_begins = IsBranch-more below above r h.failure le up h.failure_begins;
   }
-  IsFor-more below above op at g le up h = IsPlain-more c d code.laid more op at g h
+  IsFor-more below above ops.Goal at g le up h = Args-more c d code.laid more at (g ∷ []) h
 
   Selects-more : (p owed : ℕ) → p < length c.steps → Selects c p owed → Selects d p owed
   Selects-more p owed lt h = record {

@@ -1,14 +1,14 @@
 -- Nodes that wait on a stack for the compound that they are arguments of.
-use Rattle.std.proofs.Common.{◌≡◌, ℕ, suc, ◌+◌, ◌^◌, ◌<◌, ◌≤◌, List, [], ◌∷◌, ◌++◌, length, map, take, drop, refl, subst, ap, ◌∙◌, sym, arith, length-append, length-take}
-use Rattle.std.proofs.lemmas.List.{length-map, take_all, take-map, drop-map, drop-drop}
+use Rattle.std.proofs.Common.{◌≡◌, ℕ, ◌^◌, ◌<◌, ◌≤◌, List, [], ◌∷◌, ◌++◌, length, map, take, drop, refl, subst, ap, ◌∙◌, sym, arith, length-take}
+use Rattle.std.proofs.lemmas.List.{length-map, take_all, take-map, drop-map}
 use Rattle.std.proofs.Math.Seq.{drop-append_seam}
 use Rattle.plterm.specs.Tree.{Tree, compound, trees}
 use Rattle.platoms.specs.Names.{Table, Extends, IsTable, functor_name}
 use Rattle.plcode.specs.declared.node.Node.{Node}
 use Rattle.plcode.specs.declared.node.Node.TheVariants.{Var, Int, Atom, Fun, Sub}
-use Rattle.plcode.specs.Nodes.{Value, Head, tree, block, value, values, row, IsBlock, IsNamed, Rests}
-use Rattle.plcode.specs.Laying.{lowest, over, EachRests, IsChain, IsLaid, IsLeaf, IsRow, Waits}
-use Rattle.plcode.proofs.Packing.{block_packed, block_chain, block_whole}
+use Rattle.plcode.specs.Nodes.{Value, Head, tree, block, value, values, IsBlock, IsNamed, Rests}
+use Rattle.plcode.specs.Laying.{lowest, over, EachRests, IsChain, IsLaid, IsLeaf, Waits}
+use Rattle.plcode.proofs.Packing.{block_packed, block_chain}
 use Rattle.plcode.proofs.Values.{values-append, values-names, length-values, over-more, over-names, EachRests-more, EachRests-take, EachRests-drop, AllNamed-take, AllNamed-drop, AllNamed-names, IsSound-row, IsSound-names}
 
 pub IsLaid-names : (s t : Table) (nodes : List Node) → Extends s t → IsTable t → IsLaid s nodes → IsLaid t nodes
@@ -105,20 +105,4 @@ module _ (t : Table) (nodes w : List Node) (ts : List Tree) (f k : ℕ) (h : Wai
             ∙ ap (λ vs. block vs ∷ over t (old ++ more) (drop k w)) root
             ∙ ap (λ us. compound (functor_name t f) (trees us) ∷ over t (old ++ more) (drop k w)) (row_terms t old w ts k h.terms)
             ∙ ap (λ us. compound (functor_name t f) (trees (take k ts)) ∷ us) (over-more t old more (drop k w) (EachRests-drop old k w h.rest) ∙ sym (drop-map (λ n. tree (value t old n)) k w) ∙ ap (drop k) h.terms);
-      }
-
-  -- the row of the arguments stands behind the head of the block
-  pub block_arguments : IsRow t (nodes ++ Fun f k ∷ take k w) (suc (length nodes)) k (take k ts)
-  unfolding old more row
-  block_arguments =
-      let at : suc (length nodes) ≡ length nodes + 1 = omega arith in
-      let args = map (value t old) (take k w) in
-      record {
-        within = omega (arith, length-append nodes (Fun f k ∷ take k w), length-take k w);
-        terms = ap (λ vs. map tree (take k (drop (suc (length nodes)) vs))) grown
-            ∙ ap (λ n. map tree (take k (drop n (old ++ more)))) at
-            ∙ ap (λ vs. map tree (take k vs)) (sym (drop-drop 1 (length nodes) (old ++ more)))
-            ∙ ap (λ vs. map tree (take k (drop 1 vs))) root
-            ∙ row_terms t old w ts k h.terms;
-        whole = λ j le lt. block_whole nodes w f k room h.chain j (omega arith) (omega arith);
       }

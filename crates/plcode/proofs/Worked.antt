@@ -54,7 +54,7 @@ packed : Packed nested_nodes 0 3 0
 packed = next 0 0 2 inner (last 0 2 outer)
 
 -- a conjunction is counted on the first step
-counted : charged 2 (step ops.Cut 5 ++ step ops.True 6) ≡ record { op = ops.Cut; conjunctions = 2; goal = 5 } ∷ record { op = ops.True; conjunctions = 0; goal = 6 } ∷ []
+counted : charged 2 (step ops.Goal 5 ++ step ops.Goal 6) ≡ record { op = ops.Goal; conjunctions = 2; goal = 5 } ∷ record { op = ops.Goal; conjunctions = 0; goal = 6 } ∷ []
 counted = refl
 
 -- ---- a body: a, (b ; c), d
@@ -66,10 +66,10 @@ names = record { atoms = codes "fail" ∷ codes "a" ∷ codes "b" ∷ codes "c" 
 -- with the other. The body begins at the last place.
 steps : List Step
 steps =
-    step ops.Proceed 0 ++ step ops.Fail 0
-    ++ (step ops.Proceed 0 ++ step (ops.CallAtom 2) 2)
-    ++ (step ops.Proceed 0 ++ step (ops.CallAtom 3) 3)
-    ++ (step ops.Proceed 0 ++ step (ops.CallAtom 4) 4 ++ record { op = ops.Or 3 5; conjunctions = 1; goal = 0 } ∷ record { op = ops.CallAtom 1; conjunctions = 1; goal = 1 } ∷ [])
+    step ops.Proceed 0 ++ step ops.Goal 0
+    ++ (step ops.Proceed 0 ++ step ops.Goal 2)
+    ++ (step ops.Proceed 0 ++ step ops.Goal 3)
+    ++ (step ops.Proceed 0 ++ step ops.Goal 4 ++ record { op = ops.Or 3 5; conjunctions = 1; goal = 0 } ∷ record { op = ops.Goal; conjunctions = 1; goal = 1 } ∷ [])
 
 body : Text
 body = record { names = names; nodes = Atom 0 ∷ Atom 1 ∷ Atom 2 ∷ Atom 3 ∷ Atom 4 ∷ []; steps = steps }
@@ -110,10 +110,10 @@ arrows = record {
   names = names;
   nodes = Atom 0 ∷ Atom 1 ∷ Atom 2 ∷ Atom 3 ∷ [];
   steps =
-      step ops.Proceed 0 ++ step ops.Fail 0
-      ++ (step ops.Proceed 0 ++ step (ops.CallAtom 1) 1)
-      ++ (step ops.Proceed 0 ++ step (ops.CallAtom 2) 2)
-      ++ (step ops.Proceed 0 ++ step (ops.CallAtom 3) 3)
+      step ops.Proceed 0 ++ step ops.Goal 0
+      ++ (step ops.Proceed 0 ++ step ops.Goal 1)
+      ++ (step ops.Proceed 0 ++ step ops.Goal 2)
+      ++ (step ops.Proceed 0 ++ step ops.Goal 3)
       ++ (step ops.Proceed 0 ++ step (ops.IfThen 5 7) 0 ++ record { op = ops.IfThenElse 3 5 7; conjunctions = 1; goal = 0 } ∷ []);
 }
 

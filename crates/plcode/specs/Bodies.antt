@@ -9,7 +9,7 @@ use Rattle.plcode.specs.declared.body.Piece.TheVariants.{And, Or, IfThen, Single
 use Rattle.plcode.specs.declared.body.Part.{Part}
 use Rattle.plcode.specs.declared.body.Arrow.{Arrow}
 use Rattle.plcode.specs.Laying.{IsLaid}
-use Rattle.plcode.specs.Steps.{Text, of_two, ends, joined, step_at, FAIL, IsBranch, IsPlain, IsFor, Meets}
+use Rattle.plcode.specs.Steps.{Text, Args, of_two, ends, joined, step_at, FAIL, IsBranch, IsFor, Meets}
 
 -- a sequence for one goal begins at a place
 abbrev pub Begins : Text → ℕ → Tree → Type 0
@@ -34,10 +34,10 @@ pub record Holds (name : List ℕ) (g : Tree) (rest new : List Tree) : Type 0 wh
   pub is : g ≡ of_two name first second
   pub next : new ≡ first ∷ second ∷ rest
 
--- a goal with a step of its own
-pub record HasStep (c : Text) (op : Op) (at : ℕ) (g : Tree) (rest new : List Tree) : Type 0 where
+-- a goal with a step of its own, by its node
+pub record HasStep (c : Text) (at : ℕ) (g : Tree) (rest new : List Tree) : Type 0 where
   pub no_arrow : IsNoArrow g
-  pub plain : IsPlain c op at g
+  pub node : Args c at (g ∷ [])
   pub next : new ≡ rest
 
 -- what a piece says of the goal g before others, and what is left to say of
@@ -45,7 +45,7 @@ abbrev pub Means : Text → Piece → Tree → List Tree → List Tree → Type 
 Means c And g rest new = Holds (codes ",") g rest new
 Means c Or g rest new = Holds (codes ";") g rest new
 Means c IfThen g rest new = Holds (codes "->") g rest new
-Means c (Single op at) g rest new = HasStep c op at g rest new
+Means c (Single at) g rest new = HasStep c at g rest new
 
 pub record Splits (c : Text) (p : Piece) (old new : List Tree) : Type 0 where
   pub goal : Tree
@@ -150,7 +150,7 @@ abbrev pub Ready : Piece → List Part → ℕ → Type 0
 Ready And ps n = HasTwo ps n
 Ready Or ps n = HasTwo ps n
 Ready IfThen ps n = HasTwo ps n
-Ready (Single op at) ps n = Unit {0}
+Ready (Single at) ps n = Unit {0}
 
 -- the parts made are for goals to which the pieces that are left lead
 pub record Folding (c : Text) (g : Tree) (left : List Piece) (ps : List Part) (made : List Step) : Type 0 where

@@ -7,7 +7,7 @@ use Rattle.plnames.specs.declared.kind.Kind.TheVariants as kinds
 use Rattle.plnames.specs.Names.{Row, kind_of}
 use Rattle.plclause.specs.Clause.{Clause}
 use Rattle.plprogram.specs.Program.{Program, clauses_for, AreOwn}
-use Rattle.platoms.specs.Names.{Table, IsTable, Extends, HasAtom}
+use Rattle.platoms.specs.Names.{Table, IsTable, Extends, HasAtom, functor_name, functor_arity}
 use Rattle.plcode.specs.declared.callee.Callee.{Callee}
 use Rattle.plcode.specs.declared.callee.Callee.TheVariants.{Control, BuiltIn, Static, Unknown}
 use Rattle.plcode.specs.declared.callee.Number.{Number}
@@ -15,11 +15,17 @@ use Rattle.plcode.specs.declared.callee.Number.TheVariants.{Atom, Functor}
 use Rattle.plcode.specs.declared.callee.Entry.{Entry}
 use Rattle.plcode.specs.declared.callee.Callees.{Callees}
 use Rattle.plcode.specs.declared.clause.ClauseCode.{ClauseCode}
-use Rattle.plcode.specs.Steps.{Text, IsProcedure, renamed}
+use Rattle.plcode.specs.Steps.{Text, renamed}
 use Rattle.plcode.specs.Bodies.{IsCode}
 use Rattle.plcode.specs.Clauses.{AreCodeOf, AreProcedures}
 
 -- ---- numbers
+
+-- the procedure with a functor's number
+pub record IsProcedure (t : Table) (f : ℕ) (p : Indicator) : Type 0 where
+  pub within : f < length t.functors
+  pub name : functor_name t f ≡ p.name
+  pub arity : functor_arity t f ≡ p.arity
 
 -- the number of a procedure: its name's where it has no arguments, and else its functor's
 abbrev pub IsNumber : Table → Number → Indicator → Type 0

@@ -1,10 +1,9 @@
 -- Steps, and the goals that they are for.
-use Rattle.std.specs.Prelude.{◌≡◌, ℕ, zero, suc, ◌<◌, ◌-◌, pos, Bool, true, false, if◌then◌else◌, List, [], ◌∷◌, ◌++◌, length, take, fold, get_or, codes}
-use Rattle.plterm.specs.Tree.{Tree, int, atom, compound, none, more}
+use Rattle.std.specs.Prelude.{◌≡◌, ℕ, zero, suc, ◌<◌, ◌-◌, Bool, true, false, if◌then◌else◌, List, [], ◌∷◌, ◌++◌, length, take, fold, get_or, codes}
+use Rattle.plterm.specs.Tree.{Tree, atom, compound, none, more}
 use Rattle.plterm.specs.Reading.{first}
-use Rattle.plterm.specs.declared.indicator.Indicator.{Indicator}
-use Rattle.platoms.specs.Names.{Table, Extends, HasAtom, functor_name, functor_arity}
-use Rattle.plsearch.specs.Forms.{Form, True, False, Both, Either, IfThenElse, Not, Once, Catching, Throwing, CallWith, Cut, Halting, AddLast, BuiltIn, Call, NoGoal, form, arguments}
+use Rattle.platoms.specs.Names.{Table, Extends}
+use Rattle.plsearch.specs.Forms.{Both, Either, IfThenElse, form}
 use Rattle.plcode.specs.declared.node.Node.{Node}
 use Rattle.plcode.specs.declared.op.Op.{Op}
 use Rattle.plcode.specs.declared.op.Op.TheVariants as ops
@@ -41,41 +40,6 @@ pub record Extended (a b : Text) : Type 0 where
 -- the terms stand in a row at a place
 abbrev pub Args : Text → ℕ → List Tree → Type 0
 Args c at ts = IsRow c.names c.nodes at (length ts) ts
-
--- the procedure with a functor's number
-pub record IsProcedure (t : Table) (f : ℕ) (p : Indicator) : Type 0 where
-  pub within : f < length t.functors
-  pub name : functor_name t f ≡ p.name
-  pub arity : functor_arity t f ≡ p.arity
-
--- halt/0 ends the run as halt(0) does
-abbrev pub Ends : Text → Op → Tree → List Tree → Type 0
-Ends c op i [] = (op ≡ ops.Halt) × (i ≡ int (pos 0))
-Ends c op i (u ∷ us) = (at : ℕ) × (op ≡ ops.HaltWith at) × Args c at (i ∷ [])
-
--- an atom or a compound is called by the number of its name or functor
-abbrev pub Calls : Text → Op → Indicator → List Tree → Type 0
-Calls c op p [] = (a : ℕ) × (op ≡ ops.CallAtom a) × HasAtom c.names a p.name
-Calls c op p (u ∷ us) = (f : ℕ) × ((at : ℕ) × (op ≡ ops.Call f at) × IsProcedure c.names f p × Args c at (u ∷ us))
-
--- what a step does for a goal that is no control construct of goals: the goal's form, and its arguments
-abbrev pub Does : Text → Op → Form → List Tree → Type 0
-Does c op True us = op ≡ ops.True
-Does c op False us = op ≡ ops.Fail
-Does c op NoGoal us = op ≡ ops.NoGoal
-Does c op Cut us = op ≡ ops.Cut
-Does c op (Both a b) us = ⊥
-Does c op (Either a b) us = ⊥
-Does c op (IfThenElse i a b) us = ⊥
-Does c op (Not g) us = (at : ℕ) × (op ≡ ops.Not at) × Args c at (g ∷ [])
-Does c op (Once g) us = (at : ℕ) × (op ≡ ops.Once at) × Args c at (g ∷ [])
-Does c op (Catching g k r) us = (at : ℕ) × (op ≡ ops.Catch at) × Args c at (g ∷ k ∷ r ∷ [])
-Does c op (Throwing b) us = (at : ℕ) × (op ≡ ops.Throw at) × Args c at (b ∷ [])
-Does c op (CallWith g vs) us = (at : ℕ) × (op ≡ ops.CallTerm at (suc (length vs))) × Args c at (g ∷ vs)
-Does c op (Halting i) us = Ends c op i us
-Does c op (AddLast k) us = (at : ℕ) × (op ≡ ops.AddLast at) × Args c at (k ∷ [])
-Does c op (BuiltIn b vs) us = (at : ℕ) × (op ≡ ops.BuiltIn b at) × Args c at vs
-Does c op (Call p) us = Calls c op p us
 
 -- ---- the goals of a place
 
@@ -143,7 +107,7 @@ pub record IsBranch (c : Text) (below place : ℕ) (g : Tree) : Type 0 where
 abbrev pub FAIL : ℕ
 FAIL = 1
 
--- the goal of a step at a place by its op
+-- the goal of a step at a place by its op: a control construct by its branches, any other by its node
 pub record IsEither (c : Text) (place l r : ℕ) (g : Tree) : Type 0 where
   pub left : Tree
   pub right : Tree
@@ -171,16 +135,12 @@ pub record IsIfThenElse (c : Text) (place i l r : ℕ) (g : Tree) : Type 0 where
   pub success_begins : IsBranch c place l success
   pub failure_begins : IsBranch c place r failure
 
-pub record IsPlain (c : Text) (op : Op) (at : ℕ) (g : Tree) : Type 0 where
-  pub does : Does c op (form g) (arguments g)
-  pub node : Args c at (g ∷ [])
-
 abbrev pub IsFor : Text → ℕ → Op → ℕ → Tree → Type 0
 IsFor c place ops.Proceed at g = ⊥
 IsFor c place (ops.Or l r) at g = IsEither c place l r g
 IsFor c place (ops.IfThen i l) at g = IsIfThen c place i l g
 IsFor c place (ops.IfThenElse i l r) at g = IsIfThenElse c place i l r g
-IsFor c place op at g = IsPlain c op at g
+IsFor c place ops.Goal at g = Args c at (g ∷ [])
 
 -- the first goal is a conjunction, and what its selection leads to
 pub record Selects (c : Text) (place owed : ℕ) : Type 0 where

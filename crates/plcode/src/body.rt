@@ -12,24 +12,24 @@ use plnames::table::NameTable;
 use plterm::walk::TermRef;
 use std::alloc::{AllocError, Global};
 
-/// What a goal's node comes to: a control construct whose two goals follow, or a goal with its step and the node where it was laid.
-#[derive(Clone, Copy, Debug, PartialEq, Eq)]
+/// What a goal comes to: a control construct whose two goals follow, or a goal alone, by the node where it was laid.
+#[derive(Clone, Copy)]
 pub enum Piece {
     And,
     Or,
     IfThen,
-    Single(Op, u32),
+    Single(u32),
 }
 
 /// Where the condition of an `->` begins, and what follows it.
-#[derive(Clone, Copy, Debug, PartialEq, Eq)]
+#[derive(Clone, Copy)]
 pub struct Arrow {
     pub condition: u32,
     pub then: u32,
 }
 
 /// So many of the steps that are made. They are the one step of an `->` where that may still get an else.
-#[derive(Clone, Copy, Debug, PartialEq, Eq)]
+#[derive(Clone, Copy)]
 pub struct Part {
     pub len: usize,
     pub arrow: Option<Arrow>,
@@ -241,8 +241,8 @@ fn put_piece(
             put_arrow(code, parts, made)?;
             Ok(())
         }
-        Piece::Single(op, node) => {
-            push_part(parts, made, op, node, None)?;
+        Piece::Single(node) => {
+            push_part(parts, made, Op::Goal, node, None)?;
             Ok(())
         }
     }

@@ -34,7 +34,7 @@ pub enum Number {
 }
 
 /// What a procedure is, by its number, if it has one.
-#[derive(Clone, Copy, Debug, PartialEq, Eq)]
+#[derive(Clone, Copy)]
 pub struct Entry {
     pub number: Option<Number>,
     pub callee: Callee,

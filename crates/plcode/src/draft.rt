@@ -45,7 +45,7 @@ impl Draft {
             goal: 0,
         })?;
         steps.push(Step {
-            op: Op::Fail,
+            op: Op::Goal,
             conjunctions: 0,
             goal: 0,
         })?;

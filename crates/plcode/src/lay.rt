@@ -1,11 +1,10 @@
 //! Laying the nodes of terms down.
-ghost use Rattle.std.specs.Prelude.{◌≡◌, suc, ◌+◌, ◌^◌, ◌<◌, ◌≤◌, [], ◌∷◌, ◌++◌, length, take, drop, reverse, IfOk, OnOk, List};
-ghost use Rattle.plterm.specs.Tree.{Tree, compound, trees};
+ghost use Rattle.std.specs.Prelude.{◌≡◌, ◌^◌, ◌<◌, ◌≤◌, [], ◌∷◌, ◌++◌, length, take, drop, reverse, IfOk, OnOk, List};
+ghost use Rattle.plterm.specs.Tree.{Tree};
 ghost use Rattle.plterm.specs.Reading.{arity, read, reading, Fits, IsForest};
-ghost use Rattle.platoms.specs.Names.{atom_at, Extends, HasFunctor, IsFunctor};
+ghost use Rattle.platoms.specs.Names.{Table, Extends};
 ghost use Rattle.plcode.specs.declared.node.Node.TheVariants.{Fun, Sub};
-ghost use Rattle.plcode.specs.Nodes.{tree, value, IsNamed};
-ghost use Rattle.plcode.specs.Laying.{lower as lower_of, lowest, Grows, IsLaid, IsLeaf, IsRow, Waits};
+ghost use Rattle.plcode.specs.Laying.{lower as lower_of, lowest, Grows, IsLaid, IsRow, Waits};
 
 use crate::node::Node;
 use platoms::names::{Functor, Names};
@@ -59,15 +58,14 @@ fn put_row(
     Ok(low)
 }
 
-/// Lays a block down, whose arguments are the topmost nodes of a stack; the compound takes their place. Says where the block stands.
+/// Lays a block down, whose arguments are the topmost nodes of a stack; the compound takes their place.
 fn put_block(
     nodes: &mut Vec<Node>,
     waiting: &mut Vec<Node>,
     functor: u32,
     count: u16,
-) -> Result<u32, AllocError>
+) -> Result<(), AllocError>
     requires { count ≤ length waiting.old.items }
-    ensures root { IfOk result (λ root. root ≡ length nodes.old.items) }
     ensures nodes { OnOk result (nodes.new.items ≡ nodes.old.items ++ Fun functor count ∷ take count (reverse waiting.old.items)) }
     ensures few { OnOk result (length nodes.new.items < 2 ^ 32) }
     ensures waiting { OnOk result (reverse waiting.new.items ≡ Sub (lowest (length nodes.old.items) (take count (reverse waiting.old.items))) (length nodes.old.items) ∷ drop count (reverse waiting.old.items)) }
@@ -78,7 +76,7 @@ fn put_block(
     nodes.push(Node::Fun(functor, count))?;
     let from = put_row(nodes, waiting, count, root)?;
     waiting.push(Node::Sub(from, root))?;
-    Ok(root)
+    Ok(())
 }
 
 /// Lays a term down whose arguments are the topmost nodes of a stack; its own node takes their place.
@@ -147,7 +145,7 @@ fn stacked(
     nodes: &mut Vec<Node>,
     names: &mut Names,
     terms: &mut Terms<'_>,
-    count: u16,
+    count: usize,
 ) -> Result<Vec<Node>, AllocError>
     requires room { count ≤ length terms.old }
     requires laid { IsLaid names.old nodes.old.items }
@@ -158,10 +156,24 @@ fn stacked(
     ensures names { Extends names.old names.new }
 {
     let mut spelled = Vec::new(alloc);
-    terms.copy_nodes(count as usize, &mut spelled)?;
+    terms.copy_nodes(count, &mut spelled)?;
     let mut waiting = Vec::new(alloc);
     put_all(nodes, &mut waiting, names, spelled)?;
     Ok(waiting)
+}
+
+/// Lays the topmost nodes of a stack down in a row, so many as are asked for; the topmost one comes first. Says where the row begins.
+fn lay_row(nodes: &mut Vec<Node>, waiting: &mut Vec<Node>, count: u16) -> Result<u32, AllocError>
+    requires { count ≤ length waiting.old.items }
+    ensures grows { OnOk result (Grows nodes.old.items nodes.new.items) }
+    ensures laid { OnOk result ((t : Table) (ts : List Tree) → Waits t nodes.old.items (reverse waiting.old.items) ts → IsLaid t nodes.new.items) }
+    ensures row { IfOk result (λ at. (t : Table) (ts : List Tree) → Waits t nodes.old.items (reverse waiting.old.items) ts → IsRow t nodes.new.items at count (take count ts)) }
+{
+    let Ok(at) = u32::try_from(nodes.len()) else {
+        return Err(AllocError);
+    };
+    put_row(nodes, waiting, count, at)?;
+    Ok(at)
 }
 
 /// Lays terms down behind the nodes, so many as are asked for, which are taken off; says where the row of their own nodes begins.
@@ -181,87 +193,31 @@ pub fn lay(
     ensures grows { OnOk result (Grows nodes.old.items nodes.new.items) }
     ensures names { Extends names.old names.new }
 {
-    let mut waiting = stacked(alloc, nodes, names, terms, count)?;
-    let Ok(at) = u32::try_from(nodes.len()) else {
-        return Err(AllocError);
-    };
-    put_row(nodes, &mut waiting, count, at)?;
+    let mut waiting = stacked(alloc, nodes, names, terms, count as usize)?;
+    let at = lay_row(nodes, &mut waiting, count)?;
     Ok(at)
 }
 
-/// Lays a node down that stands for a term alone; says where.
-pub fn lay_leaf(nodes: &mut Vec<Node>, names: &Names, node: Node) -> Result<u32, AllocError>
-    requires laid { IsLaid names.now nodes.old.items }
-    requires named { IsNamed names.now node }
-    requires leaf { IsLeaf node }
-    ensures row { IfOk result (λ at. IsRow names.now nodes.new.items at 1 (tree (value names.now [] node) ∷ [])) }
-    ensures laid { OnOk result (IsLaid names.now nodes.new.items) }
-    ensures grows { OnOk result (Grows nodes.old.items nodes.new.items) }
-{
-    let Ok(at) = u32::try_from(nodes.len()) else {
-        return Err(AllocError);
-    };
-    nodes.push(node)?;
-    few(nodes.as_slice())?;
-    Ok(at)
-}
-
-/// A compound that was laid down: the number of its functor, where the row of its arguments begins, and where its own node stands.
-#[derive(Clone, Copy, Debug, PartialEq, Eq)]
-pub struct Laid {
-    pub functor: u32,
-    pub row: u32,
-    pub node: u32,
-}
-
-/// Lays a compound down by its functor, whose arguments wait on a stack, and no other nodes.
-fn close(
-    nodes: &mut Vec<Node>,
-    waiting: &mut Vec<Node>,
-    functor: u32,
-    count: u16,
-) -> Result<Laid, AllocError>
-    requires { count ≡ length waiting.old.items }
-    ensures functor { IfOk result (λ laid. laid.functor ≡ functor) }
-    ensures row { IfOk result (λ laid. laid.row ≡ suc (length nodes.old.items)) }
-    ensures node { IfOk result (λ laid. laid.node ≡ suc (length nodes.old.items) + count) }
-    ensures nodes { OnOk result (nodes.new.items ≡ (nodes.old.items ++ Fun functor count ∷ take count (reverse waiting.old.items)) ++ Sub (lowest (length nodes.old.items) (take count (reverse waiting.old.items))) (length nodes.old.items) ∷ []) }
-    ensures few { OnOk result (length nodes.new.items < 2 ^ 32) }
-{
-    let root = put_block(nodes, waiting, functor, count)?;
-    let Ok(node) = u32::try_from(nodes.len()) else {
-        return Err(AllocError);
-    };
-    put_row(nodes, waiting, 1, node)?;
-    Ok(Laid {
-        functor,
-        row: root + 1,
-        node,
-    })
-}
-
-/// Lays a compound down by its functor, whose arguments are taken off the terms: their blocks, its own, and its node. For want of
-/// memory, or of numbers, what was laid down stays, and no node is there.
-pub fn lay_compound(
+/// Lays a term down by its node, whose arguments are taken off the terms: their blocks, its own, and its own node; says where this
+/// stands. For want of memory, or of numbers, what was laid down stays, and no node is there.
+pub fn lay_term(
     alloc: Global,
     nodes: &mut Vec<Node>,
     names: &mut Names,
+    node: TermNode,
     terms: &mut Terms<'_>,
-    functor: Functor,
-) -> Result<Laid, AllocError>
-    requires room { functor.arity ≤ length terms.old }
+) -> Result<u32, AllocError>
+    requires room { arity node ≤ length terms.old }
+    requires fits { Fits node }
     requires laid { IsLaid names.old nodes.old.items }
-    requires functor { IsFunctor names.old functor }
-    ensures rest { OnOk result (terms.new ≡ drop functor.arity terms.old) }
-    ensures functor { IfOk result (λ laid. HasFunctor names.new laid.functor functor) }
-    ensures row { IfOk result (λ laid. IsRow names.new nodes.new.items laid.row functor.arity (take functor.arity terms.old)) }
-    ensures node { IfOk result (λ laid. IsRow names.new nodes.new.items laid.node 1 (compound (atom_at names.new functor.name) (trees (take functor.arity terms.old)) ∷ [])) }
+    ensures rest { OnOk result (terms.new ≡ drop (arity node) terms.old) }
+    ensures row { IfOk result (λ at. IsRow names.new nodes.new.items at 1 (take 1 (read node terms.old))) }
     ensures laid { OnOk result (IsLaid names.new nodes.new.items) }
     ensures grows { OnOk result (Grows nodes.old.items nodes.new.items) }
     ensures names { Extends names.old names.new }
 {
-    let number = names.functor(functor)?;
-    let mut waiting = stacked(alloc, nodes, names, terms, functor.arity)?;
-    let laid = close(nodes, &mut waiting, number, functor.arity)?;
-    Ok(laid)
+    let mut waiting = stacked(alloc, nodes, names, terms, node.arity())?;
+    put_node(nodes, &mut waiting, names, node)?;
+    let at = lay_row(nodes, &mut waiting, 1)?;
+    Ok(at)
 }

@@ -43,9 +43,8 @@ pub returns-in_ok-push_part-in-Single-clause-goal : goal.returns-in_ok-push_part
 returns-in_ok-push_part-in-Single-clause-goal c gs hs split h =
     let t = text c.args.code.now in
     let S : Piece → Type 0 = λ p. Splits t p gs hs in
-    let op = c.in-Single.op in
     let node = c.in-Single.node in
-    let s : Splits t (Single op node) gs hs = subst S c.in-Single.is split in
+    let s : Splits t (Single node) gs hs = subst S c.in-Single.is split in
     let m = s.means in
     let ps = reverse c.args.parts.now.items in
     let xs = reverse c.args.made.now.items in
@@ -53,7 +52,7 @@ returns-in_ok-push_part-in-Single-clause-goal c gs hs split h =
     let Q : List Tree → Type 0 = Made t (reverse c.push_part.new.parts.items) (reverse c.push_part.new.made.items) in
     subst Q (sym s.before)
     (rw (c.in_ok-push_part-in-Single.ensures.parts, c.in_ok-push_part-in-Single.ensures.made)
-    (made_goal t op node ps xs s.goal s.rest m.no_arrow m.plain (subst P m.next h)))
+    (made_goal t node ps xs s.goal s.rest m.no_arrow m.node (subst P m.next h)))
 
 pub returns-in_ok-put_either-in-Or-clause-goal : goal.returns-in_ok-put_either-in-Or-clause-goal
 returns-in_ok-put_either-in-Or-clause-goal c gs hs split h =

@@ -1,40 +1,30 @@
-use Rattle.std.proofs.Common.{◌≡◌, ◌≤◌, ◌∙◌, ℕ, None, List, length, subst, ap, sym}
-use Rattle.plnames.specs.Names.{kind_of}
-use Rattle.plcode.specs.declared.op.Op.{Op}
-use Rattle.plcode.specs.declared.body.Piece.TheVariants.{Single}
-use Rattle.plterm.specs.Reading.{read}
-use Rattle.plterm.specs.declared.node.Node.TheVariants.{Compound}
+use Rattle.std.proofs.Common.{◌≡◌, drop, take, subst, sym}
+use Rattle.plterm.specs.declared.node.Node.{Node}
+use Rattle.plterm.specs.Reading.{arity, read}
+use Rattle.plcode.specs.Laying.{IsRow}
 use Rattle.plcode.specs.Steps.{text}
-use Rattle.plcode.specs.Bodies.{Splits}
-use Rattle.plcode.specs.Goals.{compound_op, piece_for}
 use Rattle.plcode.proofs.Goals.{split_two, split_laid, spelled_less}
+use Rattle.plcode.proofs.Stays.{relaid_code}
 use Rattle.plcode.proofs.goal.piece_of.Goals as goal
 
 pub returns-in-Some-clause-splits : goal.returns-in-Some-clause-splits
-returns-in-Some-clause-splits c =
-    let s = c.in-Compound.name in
-    let k = c.in-Compound.count in
-    let is = c.kind_of-kind.ensures ∙ ap (λ (n : List ℕ). kind_of n k) c.as_str.ensures in
-    let room : k ≤ length c.args.goals.now = rw c.in-Compound.is at c.requires.room in
-    rw c.in-Compound.is
-    (split_two (text c.args.code.now) c.in-Some.piece s k c.args.goals.now room (sym (c.in-Some.ensures ∙ ap (λ o. piece_for o k) is)))
+returns-in-Some-clause-splits c = split_two (text c.args.code.now) c.in-Some.piece c.args.node.now c.args.goals.now c.requires.room (sym c.in-Some.ensures)
 
-pub returns-in_ok-laid-in-None-clause-splits : goal.returns-in_ok-laid-in-None-clause-splits
-returns-in_ok-laid-in-None-clause-splits c =
-    let d = text c.put_compound.new.code in
-    let s = c.in-Compound.name in
-    let k = c.in-Compound.count in
+pub returns-in_ok-at-in-None-clause-splits : goal.returns-in_ok-at-in-None-clause-splits
+returns-in_ok-at-in-None-clause-splits c =
+    let d = text (record { names = c.lay_term.new.names; nodes = c.lay_term.new.nodes; steps = c.args.code.now.steps }) in
     let ts = c.args.goals.now in
-    let laid = c.in_ok-laid-in-None.laid in
-    let e = c.in_ok-laid-in-None.ensures in
-    let is = c.kind_of-kind.ensures ∙ ap (λ (n : List ℕ). kind_of n k) c.as_str.ensures in
-    let room : k ≤ length ts = rw c.in-Compound.is at c.requires.room in
-    let fits = rw c.in-Compound.is at c.requires.fits in
-    let none : None ≡ piece_for (kind_of s k) k = c.in-None.ensures ∙ ap (λ o. piece_for o k) is in
-    let O : Op → Type 0 = λ op. Splits d (Single op laid.node) (read (Compound s k) ts) c.put_compound.new.goals in
-    rw c.in-Compound.is
-    (subst O (sym (c.compound_op.ensures ∙ ap (λ o. compound_op o laid.functor laid.row k) is))
-    (split_laid d laid.functor laid.row laid.node s k ts c.put_compound.new.goals fits.1 room e.rest none e.functor e.row e.node))
+    let new = c.lay_term.new.terms in
+    let at = c.in_ok-at-in-None.at in
+    let e = c.in_ok-at-in-None.ensures in
+    let P : Node → Type 0 = λ n. (new ≡ drop (arity n) ts) × IsRow d.names d.nodes at 1 (take 1 (read n ts)) in
+    let is = subst P c.in_ok-node-in-None.ensures (e.rest, e.row) in
+    split_laid d at c.args.node.now ts new c.requires.room c.in-None.ensures is.0 is.1
 
-pub returns-in_ok-laid-in-None-clause-less : goal.returns-in_ok-laid-in-None-clause-less
-returns-in_ok-laid-in-None-clause-less c = rw c.in_ok-laid-in-None.ensures.rest (spelled_less c.in-Compound.count c.args.goals.now)
+pub returns-in_ok-at-in-None-clause-less : goal.returns-in_ok-at-in-None-clause-less
+returns-in_ok-at-in-None-clause-less c = rw c.in_ok-at-in-None.ensures.rest (spelled_less (arity c.in_ok-node-in-None.node) c.args.goals.now)
+
+pub returns-in_ok-at-in-None-clause-code : goal.returns-in_ok-at-in-None-clause-code
+returns-in_ok-at-in-None-clause-code c =
+    let e = c.in_ok-at-in-None.ensures in
+    relaid_code (text c.args.code.now) c.lay_term.new.names c.lay_term.new.nodes.items e.names e.grows c.requires.code e.laid

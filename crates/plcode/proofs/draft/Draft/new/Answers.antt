@@ -15,9 +15,9 @@ returns c =
     let is = c.in_ok-fail.ensures.is in
     let has : HasAtom t a (codes "fail") = record { within = is.within; is = is.is ∙ c.in_ok-name_of.ensures.text } in
     let nodes : c.push.new.self.items ≡ Atom a ∷ [] = c.in_ok-push.ensures.items ∙ ap (λ (ns : List Node). ns ++ Atom a ∷ []) c.new-nodes.ensures.items in
-    let steps : c.push-3.new.self.items ≡ step ops.Proceed 0 ++ step ops.Fail 0 =
+    let steps : c.push-3.new.self.items ≡ step ops.Proceed 0 ++ step ops.Goal 0 =
     c.in_ok-push-3.ensures.items
-    ∙ ap (λ (ss : List Step). ss ++ step ops.Fail 0) (c.in_ok-push-2.ensures.items ∙ ap (λ (ss : List Step). ss ++ step ops.Proceed 0) c.new-steps.ensures.items) in
+    ∙ ap (λ (ss : List Step). ss ++ step ops.Goal 0) (c.in_ok-push-2.ensures.items ∙ ap (λ (ss : List Step). ss ++ step ops.Proceed 0) c.new-steps.ensures.items) in
     let P : List Node → Type 0 = λ ns. IsCode (record { names = t; nodes = ns; steps = c.push-3.new.self.items }) in
     let Q : List Step → Type 0 = λ ss. IsCode (record { names = t; nodes = Atom a ∷ []; steps = ss }) in
     subst P (sym nodes) (subst Q (sym steps) (first_code t a c.atom.ensures.table has))
