@@ -39,26 +39,8 @@ module _ (s : State) (r : Run) (width : ℕ) (own : r.base + width ≤ r.«end»
   branch-level k = ap (map (goal_of s.env (record r { position = p; owed = 0; level = k }))) begins
 
 -- the node of a goal that is no control construct of branches
-pub plain-node : (c : Text) (place : ℕ) (op : Op) (at : ℕ) (g : Tree) → IsFor c place op at g → ((l r : ℕ) → op ≡ ops.Or l r → ⊥) → ((i l : ℕ) → op ≡ ops.IfThen i l → ⊥) → ((i l r : ℕ) → op ≡ ops.IfThenElse i l r → ⊥) → Args c at (g ∷ [])
-plain-node c place ops.True at g is o i e = is.node
-plain-node c place ops.Fail at g is o i e = is.node
-plain-node c place ops.NoGoal at g is o i e = is.node
-plain-node c place ops.Cut at g is o i e = is.node
-plain-node c place (ops.Or l r) at g is o i e = absurd (o l r refl)
-plain-node c place (ops.IfThen x y) at g is o i e = absurd (i x y refl)
-plain-node c place (ops.IfThenElse x y z) at g is o i e = absurd (e x y z refl)
-plain-node c place (ops.Not n) at g is o i e = is.node
-plain-node c place (ops.Once n) at g is o i e = is.node
-plain-node c place (ops.CallTerm n k) at g is o i e = is.node
-plain-node c place (ops.Catch n) at g is o i e = is.node
-plain-node c place (ops.Throw n) at g is o i e = is.node
-plain-node c place (ops.AddLast n) at g is o i e = is.node
-plain-node c place ops.Halt at g is o i e = is.node
-plain-node c place (ops.HaltWith n) at g is o i e = is.node
-plain-node c place (ops.BuiltIn b n) at g is o i e = is.node
-plain-node c place (ops.CallAtom a) at g is o i e = is.node
-plain-node c place (ops.Call f n) at g is o i e = is.node
-plain-node c place ops.Proceed at g is o i e = absurd is
+pub plain-node : (c : Text) (place : ℕ) (op : Op) (at : ℕ) (g : Tree) → IsFor c place op at g → op ≡ ops.Goal → Args c at (g ∷ [])
+plain-node c place op at g is same = subst (λ o. IsFor c place o at g) same is
 
 -- ---- the moves of control constructs of branches
 

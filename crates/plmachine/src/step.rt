@@ -49,7 +49,8 @@ impl Machine {
                 let other = branch(run, other);
                 self.then_else(program, condition, then, other, rest)
             }
-            _ => self.solve(program, Source::Node(run, step.goal), run.level, rest),
+            Op::Goal => self.solve(program, Source::Node(run, step.goal), run.level, rest),
+            Op::Proceed => unreachable!(),
         }
     }
 }

@@ -48,10 +48,13 @@ pub solve-requires : goal.solve-requires
 solve-requires c =
     let s = c.args.self.now.stack in
     let at = c.requires.at.1 in
-    let node = plain-node s.code.text c.args.run.position c.args.step.op c.args.step.goal at.goal at.is c.in_default.not-Or c.in_default.not-IfThen c.in_default.not-IfThenElse in
+    let node = plain-node s.code.text c.args.run.position c.args.step.op c.args.step.goal at.goal at.is c.in-Goal.is in
     record {
       begun = c.requires.begun;
       visits = c.requires.visits;
       source = (bound_at s c.args.run at.goal, (at.goal, record { stand = node; width = at.width; below = at.below; own = at.own; slots = at.slots }, refl));
       rest = at.there;
     }
+
+pub unreachable-requires : goal.unreachable-requires
+unreachable-requires c = subst (λ o. IsFor c.args.self.now.stack.code.text c.args.run.position o c.args.step.goal c.requires.at.1.goal) c.in-Proceed.is c.requires.at.1.is
