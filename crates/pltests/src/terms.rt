@@ -68,11 +68,22 @@ fn copies_and_variables(rt: HostRuntime) -> Result<(), Fail> {
     assert!(rt; copy.is_same(&triple(alloc, 10, 11)?));
     let variables = copy.variables(alloc)?;
     assert_eq!(rt; variables.as_slice(), [10, 11].as_slice());
-    let mut seen = Numbers::new(alloc);
-    let place = seen.place_of(3)?;
-    assert_eq!(rt; place, 0);
-    let (numbered, seen) = triple(alloc, 7, 3)?.root().numbered(alloc, seen)?;
-    assert!(rt; numbered.is_same(&triple(alloc, 1, 0)?));
+    Ok(())
+}
+
+/// f(V7, a, V3) with the places of its variables' numbers in place of these, and the numbers that are met then.
+fn numbered(alloc: Global, seen: Numbers) -> Result<(Term, Numbers), TermError> {
+    let term = triple(alloc, 7, 3)?;
+    Ok(term.root().numbered(alloc, seen)?)
+}
+
+// Numbers have places in the order in which they are met.
+#[test]
+fn places(rt: HostRuntime) -> Result<(), Fail> {
+    let mut seen = Numbers::new(rt.alloc());
+    assert_eq!(rt; seen.place_of(3)?, 0);
+    let (term, seen) = numbered(rt.alloc(), seen)?;
+    assert!(rt; term.is_same(&triple(rt.alloc(), 1, 0)?));
     assert_eq!(rt; seen.count(), 2);
     let order = seen.into_order();
     assert_eq!(rt; order.as_slice(), [3, 7].as_slice());
