@@ -4,62 +4,80 @@ use plevent::act::{Act, Entry};
 use plevent::request::{Request, ThreadEnd};
 use plevent::standing::Standing;
 use plevent::update::{Batch, ClauseName, Update};
+use plterm::error::TermError;
 use plterm::indicator::Indicator;
 use plterm::name::Name;
 use plterm::term::Term;
+use std::alloc::{AllocError, Global};
 use std::test::Fail;
+
+/// One update of each kind.
+fn one_of_each(alloc: Global) -> Result<Vec<Update>, TermError> {
+    let mut updates = Vec::new(alloc);
+    updates.push(Update::First(clause(alloc, "true")?))?;
+    updates.push(Update::Last(clause(alloc, "true")?))?;
+    updates.push(Update::Erase(ClauseName {
+        place: 3,
+        number: 1,
+    }))?;
+    updates.push(Update::EraseOwn(0))?;
+    let name = Name::new(alloc, "q")?;
+    updates.push(Update::Declare(Indicator { name, arity: 2 }))?;
+    Ok(updates)
+}
+
+/// Whether these are one of each kind, as they were made.
+fn are_one_of_each(updates: &[Update]) -> bool {
+    match updates {
+        [
+            Update::First(_),
+            Update::Last(_),
+            Update::Erase(name),
+            Update::EraseOwn(0),
+            Update::Declare(pred),
+        ] => { (name.place, name.number) == (3, 1) && pred.name.as_str() == "q" && pred.arity == 2 }
+        _ => false,
+    }
+}
+
+/// The copy of an entry's batch, if it is one.
+fn batch_of(alloc: Global, entry: &Entry) -> Result<Option<Batch>, AllocError> {
+    match entry.copied(alloc)?.act {
+        Act::Batch(copy) => Ok(Some(copy)),
+        Act::Start | Act::End(_) | Act::Halt(_) => Ok(None),
+    }
+}
 
 // A batch of each kind of update, and its copy, in an entry.
 #[test]
 fn batches_and_entries(rt: HostRuntime) -> Result<(), Fail> {
     let alloc = rt.alloc();
-    let place = 3;
-    let number = 1;
-    let mut updates = Vec::new(alloc);
-    updates.push(Update::First(clause(alloc, "true")?))?;
-    updates.push(Update::Last(clause(alloc, "true")?))?;
-    updates.push(Update::Erase(ClauseName { place, number }))?;
-    updates.push(Update::EraseOwn(0))?;
-    let name = Name::new(alloc, "q")?;
-    updates.push(Update::Declare(Indicator { name, arity: 2 }))?;
-    let batch = Batch::new(updates).copied(alloc)?;
+    let batch = Batch::new(one_of_each(alloc)?).copied(alloc)?;
     assert_eq!(rt; batch.as_slice().len(), 5);
     let entry = Entry {
         worker: 1,
         thread: 1,
         act: Act::Batch(batch),
     };
-    match entry.copied(alloc)?.act {
-        Act::Batch(copy) => match copy.into_vec().as_slice() {
-            [
-                Update::First(_),
-                Update::Last(_),
-                Update::Erase(name),
-                Update::EraseOwn(0),
-                Update::Declare(pred),
-            ] => {
-                assert_eq!(rt; (name.place, name.number), (3, 1));
-                assert_eq!(rt; (pred.name.as_str(), pred.arity), ("q", 2));
-            }
-            _ => return Err("another batch".into()),
-        },
-        Act::Start | Act::End(_) | Act::Halt(_) => return Err("another act".into()),
-    }
+    let copy = batch_of(alloc, &entry)?.ok_or("another act")?;
+    assert!(rt; are_one_of_each(copy.into_vec().as_slice()));
     Ok(())
+}
+
+/// Whether the copy of a request is the end by this ball.
+fn ends_by(alloc: Global, asked: &Request, ball: &Term) -> Result<bool, AllocError> {
+    match asked.copied(alloc)? {
+        Request::Finish(ThreadEnd::Exception(copy)) => Ok(copy.is_same(ball)),
+        _ => Ok(false),
+    }
 }
 
 // Ends and requests, and their copies.
 #[test]
 fn ends_and_requests(rt: HostRuntime) -> Result<(), Fail> {
     let alloc = rt.alloc();
-    let ball = Term::int(alloc, 7)?;
-    let asked = Request::Finish(ThreadEnd::Exception(ball));
-    match asked.copied(alloc)? {
-        Request::Finish(ThreadEnd::Exception(copy)) => {
-            assert!(rt; copy.is_same(&Term::int(alloc, 7)?))
-        }
-        _ => return Err("another request".into()),
-    }
+    let asked = Request::Finish(ThreadEnd::Exception(Term::int(alloc, 7)?));
+    assert!(rt; ends_by(alloc, &asked, &Term::int(alloc, 7)?)?);
     assert!(rt; matches!(ThreadEnd::Budget.copied(alloc)?, ThreadEnd::Budget));
     Ok(())
 }

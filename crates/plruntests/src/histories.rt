@@ -38,51 +38,59 @@ fn act_of(end: ThreadEnd) -> Act {
     }
 }
 
-/// A history in which main ends so.
-fn history_of(alloc: Global, word: &str, output: &str) -> Result<History, AllocError> {
+/// The journal of a run in which main ends so.
+fn journal_of(alloc: Global, end: ThreadEnd) -> Result<Journal, AllocError> {
     let mut entries = Vec::new(alloc);
-    entries.push(Entry {
-        worker: 0,
-        thread: 0,
-        act: Act::Batch(Batch::new(Vec::new(alloc))),
-    })?;
-    entries.push(Entry {
-        worker: 1,
-        thread: 1,
-        act: Act::Start,
-    })?;
-    entries.push(Entry {
-        worker: 1,
-        thread: 1,
-        act: act_of(end_of(alloc, word)?),
-    })?;
+    for (of, act) in [
+        (0, Act::Batch(Batch::new(Vec::new(alloc)))),
+        (1, Act::Start),
+        (1, act_of(end)),
+    ] {
+        entries.push(Entry {
+            worker: of,
+            thread: of,
+            act,
+        })?;
+    }
+    Ok(Journal::new(entries))
+}
+
+/// The runs of one in which main ends so.
+fn runs_of(alloc: Global, end: ThreadEnd, output: &str) -> Result<Runs, AllocError> {
     let mut runs = Vec::new(alloc);
     runs.push(Run {
         thread: 1,
         places: Places::new(Vec::from_slice(alloc, &[2])?),
         steps: 1,
-        end: RunEnd::Ended(end_of(alloc, word)?),
+        end: RunEnd::Ended(end),
         output: Output::new(Vec::from_slice(alloc, output.as_bytes())?),
     })?;
-    Ok(History {
-        journal: Journal::new(entries),
-        runs: Runs::new(runs),
-    })
+    Ok(Runs::new(runs))
 }
+
+/// A history in which main ends so.
+fn history_of(alloc: Global, word: &str, output: &str) -> Result<History, AllocError> {
+    let journal = journal_of(alloc, end_of(alloc, word)?)?;
+    let runs = runs_of(alloc, end_of(alloc, word)?, output)?;
+    Ok(History { journal, runs })
+}
+
+/// The word of main's end, its output, the report, and the status.
+const REPORTS: [(&str, &str, &str, u8); 8] = [
+    ("true", "hello\n", "% thread 1 main: true\nhello\n", 0),
+    ("true", "1", "% thread 1 main: true\n1\n", 0),
+    ("true", "", "% thread 1 main: true\n", 0),
+    ("false", "", "% thread 1 main: false\n", 1),
+    ("x", "", "% thread 1 main: exception(x)\n", 2),
+    ("X", "", "% thread 1 main: exception('X')\n", 2),
+    ("budget", "ok\n", "% thread 1 main: budget\nok\n", 4),
+    ("halt", "a", "% thread 1 main: halt(44)\na\n", 44),
+];
 
 #[test]
 fn reports(rt: HostRuntime) -> Result<(), Fail> {
     let ops = OpTable::iso(rt.alloc())?;
-    for (word, output, text, number) in [
-        ("true", "hello\n", "% thread 1 main: true\nhello\n", 0),
-        ("true", "1", "% thread 1 main: true\n1\n", 0),
-        ("true", "", "% thread 1 main: true\n", 0),
-        ("false", "", "% thread 1 main: false\n", 1),
-        ("x", "", "% thread 1 main: exception(x)\n", 2),
-        ("X", "", "% thread 1 main: exception('X')\n", 2),
-        ("budget", "ok\n", "% thread 1 main: budget\nok\n", 4),
-        ("halt", "a", "% thread 1 main: halt(44)\na\n", 44),
-    ] {
+    for (word, output, text, number) in REPORTS {
         let history = history_of(rt.alloc(), word, output)?;
         let report = report_text(rt.alloc(), &history, &ops)?;
         assert!(rt; report.as_slice() == text.as_bytes(), "{word}");

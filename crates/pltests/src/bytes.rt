@@ -1,23 +1,20 @@
 //! Sources and sinks (plio).
-ghost use Rattle.std.specs.Prelude.{◌<◌, ◌^◌};
-
 use plio::{
     Failed, FileSource, MemorySink, MemorySource, ReadError, Source, StdSink, read_all, write_all,
 };
 use std::alloc::{AllocError, Global};
 use std::test::Fail;
 
-/// What reading a text whole gives, from memory.
+/// What reading a text whole gives, from memory, in pieces of at least one byte and up to 32 bits of them.
 fn read(
     alloc: Global,
     text: &str,
     piece: usize,
     fails: &[u64],
-    limit: usize,
-) -> Result<Vec<u8>, ReadError>
-    requires piece { 0 < piece }
-    requires limit { limit < 2 ^ 32 }
-{
+    limit: u32,
+) -> Result<Vec<u8>, ReadError> {
+    let piece = piece.max(1);
+    let limit = limit as usize;
     let bytes = Vec::from_slice(alloc, text.as_bytes())?;
     let fails = Vec::from_slice(alloc, fails)?;
     let mut source = MemorySource::new(bytes, piece, fails);
@@ -37,46 +34,62 @@ fn write(
     Ok((Vec::from_slice(alloc, sink.bytes())?, whole))
 }
 
+const TEXT: &str = "a.\nb.\nc :- x,";
+
+/// A text, its pieces, and a limit that it keeps.
+const WHOLE: [(&str, usize, u32); 5] = [
+    (TEXT, 1, 13),
+    (TEXT, 4, 13),
+    (TEXT, 13, 14),
+    (TEXT, 5000, 16_777_216),
+    ("", 1, 0),
+];
+
 #[test]
 fn reads_whole(rt: HostRuntime) -> Result<(), Fail> {
-    let text = "a.\nb.\nc :- x,";
-    for (piece, limit) in [(1, 13), (4, 13), (13, 14), (5000, 16_777_216)] {
+    for (text, piece, limit) in WHOLE {
         let bytes = read(rt.alloc(), text, piece, &[], limit)?;
-        assert_eq!(rt; bytes.as_slice(), text.as_bytes(), "piece {piece}");
+        assert!(rt; bytes.as_slice() == text.as_bytes(), "piece {piece}");
     }
-    assert_eq!(rt; read(rt.alloc(), "", 1, &[], 0)?.len(), 0);
     Ok(())
 }
 
+/// Pieces, the call that fails, a limit, and the error.
+const REFUSED: [(usize, u64, u32, ReadError); 8] = [
+    (4, 1, 100, ReadError::ReadFault),
+    (4, 2, 100, ReadError::ReadFault),
+    (4, 5, 100, ReadError::ReadFault),
+    (4, 6, 12, ReadError::TooLong),
+    (13, 1, 12, ReadError::ReadFault),
+    (13, 2, 12, ReadError::TooLong),
+    (1, 1, 0, ReadError::ReadFault),
+    (1, 9, 0, ReadError::TooLong),
+];
+
 #[test]
 fn reads_refused(rt: HostRuntime) {
-    let text = "a.\nb.\nc :- x,";
-    for (piece, call, limit, want) in [
-        (4, 1, 100, ReadError::ReadFault),
-        (4, 2, 100, ReadError::ReadFault),
-        (4, 5, 100, ReadError::ReadFault),
-        (4, 6, 12, ReadError::TooLong),
-        (13, 1, 12, ReadError::ReadFault),
-        (13, 2, 12, ReadError::TooLong),
-        (1, 1, 0, ReadError::ReadFault),
-        (1, 9, 0, ReadError::TooLong),
-    ] {
-        let refused = read(rt.alloc(), text, piece, &[call], limit).err();
-        assert_eq!(rt; refused, Some(want), "piece {piece}, call {call}");
+    for (piece, call, limit, want) in REFUSED {
+        let refused = read(rt.alloc(), TEXT, piece, &[call], limit).err();
+        assert!(rt; refused == Some(want), "piece {piece}, call {call}");
     }
 }
 
+/// The room of a sink, the call that fails, what it then holds, and whether that is all.
+const WRITTEN: [(usize, u64, &str, bool); 4] = [
+    (9, 2, "seven\n", true),
+    (6, 2, "seven\n", true),
+    (4, 9, "seve", false),
+    (9, 1, "", false),
+];
+
 #[test]
 fn writes(rt: HostRuntime) -> Result<(), Fail> {
-    for (room, call, held, want) in [
-        (9, 2, "seven\n", true),
-        (6, 2, "seven\n", true),
-        (4, 9, "seve", false),
-        (9, 1, "", false),
-    ] {
+    for (room, call, held, want) in WRITTEN {
         let (bytes, whole) = write(rt.alloc(), "seven\n", room, &[call])?;
-        assert_eq!(rt; bytes.as_slice(), held.as_bytes(), "room {room}");
-        assert_eq!(rt; whole, want, "room {room}");
+        assert!(rt;
+            bytes.as_slice() == held.as_bytes() && whole == want,
+            "room {room}"
+        );
     }
     Ok(())
 }

@@ -30,16 +30,18 @@ fn form_of(alloc: Global, text: &str) -> Result<String, Fail> {
     }
 }
 
+const FORMS: [(&str, &str); 5] = [
+    ("p(X) :- X", "p/1 _0 <- call/1 _0, 1 variables, of p/1"),
+    ("b", "b <- true, 0 variables, of b/0"),
+    ("p :- q, 1", "a bad body ,/2 q 1"),
+    ("1 :- a", "a bad head"),
+    ("X :- a", "no head"),
+];
+
 // A variable as a body is called; variables are 0, 1, .. by first occurrence; what is no clause, and why (7.6).
 #[test]
 fn forms(rt: HostRuntime) -> Result<(), Fail> {
-    for (text, wanted) in [
-        ("p(X) :- X", "p/1 _0 <- call/1 _0, 1 variables, of p/1"),
-        ("b", "b <- true, 0 variables, of b/0"),
-        ("p :- q, 1", "a bad body ,/2 q 1"),
-        ("1 :- a", "a bad head"),
-        ("X :- a", "no head"),
-    ] {
+    for (text, wanted) in FORMS {
         assert_eq!(rt; form_of(rt.alloc(), text)?.as_str(), wanted);
     }
     Ok(())
@@ -54,10 +56,12 @@ fn goal_of(alloc: Global, text: &str) -> Result<String, Fail> {
     }
 }
 
+const GOALS: [(&str, &str); 2] = [("a ; X", ";/2 a call/1 _0"), ("a , 1", "none")];
+
 // A variable is called within control constructs, and a number is no goal (7.6.2).
 #[test]
 fn goals(rt: HostRuntime) -> Result<(), Fail> {
-    for (text, wanted) in [("a ; X", ";/2 a call/1 _0"), ("a , 1", "none")] {
+    for (text, wanted) in GOALS {
         assert_eq!(rt; goal_of(rt.alloc(), text)?.as_str(), wanted);
     }
     Ok(())

@@ -4,7 +4,8 @@ use plload::goal::{is_goal, read_goal};
 use plload::load::{listing, load};
 use plterm::indicator::Indicator;
 use plterm::name::Name;
-use std::alloc::Global;
+use plterm::term::Term;
+use std::alloc::{AllocError, Global};
 use std::test::Fail;
 
 /// How many clauses the procedure has and how many goals main has in the program of a text, or why it is none.
@@ -17,21 +18,24 @@ fn counts(alloc: Global, text: &str, name: &str, arity: u16) -> Result<(usize, u
     Ok((program.clauses_of(&indicator).len(), program.goals().len()))
 }
 
-fn refused(line: u64, column: u64, kind: RefusalKind) -> Result<(usize, usize), LoadError> {
-    Err(LoadError::Refused { line, column, kind })
-}
+const TEXT: &str = "p(1). q. p(X) :- q, X.\n:- initialization(p(1)). :- q. p(2).";
+
+/// A text, a procedure, how many clauses that has, and how many goals main has.
+const COUNTS: [(&str, &str, u16, usize, usize); 5] = [
+    ("", "p", 0, 0, 0),
+    ("\u{feff}% c\n", "p", 0, 0, 0),
+    (TEXT, "p", 1, 3, 2),
+    (TEXT, "q", 0, 1, 2),
+    (TEXT, "p", 2, 0, 2),
+];
 
 // Clauses of a procedure need not stand together; goals and other directives are goals of main.
 #[test]
-fn programs(rt: HostRuntime) -> Result<(), Fail> {
-    let alloc = rt.alloc();
-    assert_eq!(rt; counts(alloc, "", "p", 0), Ok((0, 0)));
-    assert_eq!(rt; counts(alloc, "\u{feff}% c\n", "p", 0), Ok((0, 0)));
-    let text = "p(1). q. p(X) :- q, X.\n:- initialization(p(1)). :- q. p(2).";
-    assert_eq!(rt; counts(alloc, text, "p", 1), Ok((3, 2)));
-    assert_eq!(rt; counts(alloc, text, "q", 0), Ok((1, 2)));
-    assert_eq!(rt; counts(alloc, text, "p", 2), Ok((0, 2)));
-    Ok(())
+fn programs(rt: HostRuntime) {
+    for (text, name, arity, clauses, goals) in COUNTS {
+        let found = counts(rt.alloc(), text, name, arity);
+        assert!(rt; found == Ok((clauses, goals)), "{name}/{arity}");
+    }
 }
 
 /// A text, and the line, the column and the kind of its first refusal.
@@ -83,16 +87,23 @@ const REFUSALS: [(&str, u64, u64, RefusalKind); 23] = [
 
 // The first clause that is refused, with its line and its column.
 #[test]
-fn refusals(rt: HostRuntime) -> Result<(), Fail> {
-    let alloc = rt.alloc();
+fn refusals(rt: HostRuntime) {
     for (text, line, column, kind) in REFUSALS {
-        assert_eq!(rt;
-            counts(alloc, text, "p", 0),
-            refused(line, column, kind),
+        let found = counts(rt.alloc(), text, "p", 0);
+        assert!(rt;
+            found == Err(LoadError::Refused { line, column, kind }),
             "{text}"
         );
     }
-    Ok(())
+}
+
+/// How many variables each term has.
+fn variable_counts(alloc: Global, terms: &[Term]) -> Result<Vec<usize>, AllocError> {
+    let mut counts = Vec::new(alloc);
+    for term in terms {
+        counts.push(term.variables(alloc)?.len())?;
+    }
+    Ok(counts)
 }
 
 // Main's goals stand in text order, each with its own variables.
@@ -101,32 +112,30 @@ fn goals_in_order(rt: HostRuntime) -> Result<(), Fail> {
     let alloc = rt.alloc();
     let program = load(alloc, b":- a(X, Y). :- initialization(b(Y)). :- c.")?;
     assert_eq!(rt; program.goals().len(), 3);
-    let mut names = Vec::new(alloc);
-    for goal in program.goals() {
-        let variables = goal.variables(alloc)?;
-        names.push(variables.len())?;
-    }
-    assert_eq!(rt; names.as_slice(), [2, 1, 0].as_slice());
+    let counts = variable_counts(alloc, program.goals())?;
+    assert_eq!(rt; counts.as_slice(), [2, 1, 0].as_slice());
     assert!(rt; program.first().as_slice().is_empty());
     Ok(())
 }
 
+/// Texts, and whether they are goals.
+const GOALS: [(&str, bool); 10] = [
+    ("a,b", true),
+    ("write(x)", true),
+    ("\\+ a:-b", true),
+    ("a b", false),
+    ("1", false),
+    ("X", false),
+    ("a,1", false),
+    ("", false),
+    ("a. b", false),
+    ("a %", false),
+];
+
 // A goal beside the text is one whole clause with its end, callable and convertible.
 #[test]
 fn goals_beside(rt: HostRuntime) -> Result<(), Fail> {
-    let table = [
-        ("a,b", true),
-        ("write(x)", true),
-        ("\\+ a:-b", true),
-        ("a b", false),
-        ("1", false),
-        ("X", false),
-        ("a,1", false),
-        ("", false),
-        ("a. b", false),
-        ("a %", false),
-    ];
-    for (text, is) in table {
+    for (text, is) in GOALS {
         assert!(rt; is_goal(rt.alloc(), text)? == is, "{text}");
     }
     Ok(())

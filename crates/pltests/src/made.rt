@@ -5,7 +5,7 @@ use plops::table::OpTable;
 use plread::read::{ReadTerm, read_clause};
 use plterm::node::Node;
 use plterm::term::Term;
-use std::alloc::Global;
+use std::alloc::{AllocError, Global};
 use std::fmt::Write;
 use std::string::String;
 use std::test::Fail;
@@ -42,12 +42,17 @@ pub fn shape(alloc: Global, term: &Term) -> Result<String, Fail> {
         if !made.is_empty() {
             made.push(' ')?;
         }
-        match node {
-            Node::Var(number) => write!(made, "_{}", number)?,
-            Node::Int(value) => write!(made, "{}", value)?,
-            Node::Atom(name) => write!(made, "{}", name.as_str())?,
-            Node::Compound(name, arity) => write!(made, "{}/{}", name.as_str(), arity)?,
-        }
+        tell(&mut made, node)?;
     }
     Ok(made)
+}
+
+/// Adds one node.
+fn tell(made: &mut String, node: &Node) -> Result<(), AllocError> {
+    match node {
+        Node::Var(number) => write!(made, "_{}", number),
+        Node::Int(value) => write!(made, "{}", value),
+        Node::Atom(name) => write!(made, "{}", name.as_str()),
+        Node::Compound(name, arity) => write!(made, "{}/{}", name.as_str(), arity),
+    }
 }

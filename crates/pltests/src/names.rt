@@ -2,39 +2,46 @@
 use plnames::table::NameTable;
 use plterm::indicator::Indicator;
 use plterm::name::Name;
+use std::alloc::{AllocError, Global};
 use std::test::Fail;
+
+/// Names with their arities, and whether they are fixed.
+const FIXED: [(&str, u16, bool); 18] = [
+    ("true", 0, true),
+    (",", 2, true),
+    ("->", 2, true),
+    ("!", 0, true),
+    ("once", 1, true),
+    ("\\+", 1, true),
+    ("catch", 3, true),
+    ("throw", 1, true),
+    ("call", 0, false),
+    ("call", 1, true),
+    ("call", 8, true),
+    ("call", 9, false),
+    ("=", 2, true),
+    ("write", 1, true),
+    ("nl", 0, true),
+    ("assertz", 1, true),
+    ("assertz", 2, false),
+    ("p", 0, false),
+];
+
+/// Whether a name with an arity is fixed.
+fn is_fixed(alloc: Global, names: &NameTable, name: &str, arity: u16) -> Result<bool, AllocError> {
+    let name = Name::new(alloc, name)?;
+    Ok(names.is_fixed(&Indicator { name, arity }))
+}
 
 // Control constructs and built-in predicates are fixed.
 #[test]
 fn fixed_procedures(rt: HostRuntime) -> Result<(), Fail> {
-    let alloc = rt.alloc();
-    let names = NameTable::new(alloc)?;
-    let table = [
-        ("true", 0, true),
-        (",", 2, true),
-        ("->", 2, true),
-        ("!", 0, true),
-        ("once", 1, true),
-        ("\\+", 1, true),
-        ("catch", 3, true),
-        ("throw", 1, true),
-        ("call", 0, false),
-        ("call", 1, true),
-        ("call", 8, true),
-        ("call", 9, false),
-        ("=", 2, true),
-        ("write", 1, true),
-        ("nl", 0, true),
-        ("assertz", 1, true),
-        ("assertz", 2, false),
-        ("p", 0, false),
-    ];
-    for (name, arity, wanted) in table {
-        let indicator = Indicator {
-            name: Name::new(alloc, name)?,
-            arity,
-        };
-        assert_eq!(rt; names.is_fixed(&indicator), wanted, "{name}");
+    let names = NameTable::new(rt.alloc())?;
+    for (name, arity, wanted) in FIXED {
+        assert!(rt;
+            is_fixed(rt.alloc(), &names, name, arity)? == wanted,
+            "{name}"
+        );
     }
     Ok(())
 }

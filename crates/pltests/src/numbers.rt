@@ -1,26 +1,40 @@
 //! Names by number (platoms).
 use platoms::names::{Functor, Names};
 use plterm::name::Name;
+use std::alloc::{AllocError, Global};
 use std::test::Fail;
+
+/// The number of a short name.
+fn number_of(alloc: Global, names: &mut Names, text: &str) -> Result<u32, AllocError> {
+    let name = Name::new(alloc, text)?;
+    if name.len() > 65535 {
+        return Err(AllocError);
+    }
+    names.atom(name)
+}
+
+/// The number of a short name, that of its functor of two arguments, and whether this stands for that functor.
+fn functor_of(
+    alloc: Global,
+    names: &mut Names,
+    text: &str,
+) -> Result<(u32, u32, bool), AllocError> {
+    let name = Name::new(alloc, text)?;
+    if name.len() > 65535 {
+        return Err(AllocError);
+    }
+    let name = names.atom(name)?;
+    let functor = Functor { name, arity: 2 };
+    let number = names.functor(functor)?;
+    Ok((name, number, names.functor_of(number) == functor))
+}
 
 // Two names and a functor.
 #[test]
 fn names_by_number(rt: HostRuntime) -> Result<(), Fail> {
     let alloc = rt.alloc();
     let mut names = Names::new(alloc);
-    let a = Name::new(alloc, "a")?;
-    let b = Name::new(alloc, "b")?;
-    let sizes = (a.len(), b.len());
-    assert!(rt; sizes.0 == 1 && sizes.1 == 1);
-    let first = names.atom(a)?;
-    let second = names.atom(b)?;
-    assert_eq!(rt; (first, second), (0, 1));
-    let functor = Functor {
-        name: second,
-        arity: 2,
-    };
-    let number = names.functor(functor)?;
-    assert_eq!(rt; number, 0);
-    assert!(rt; names.functor_of(number) == functor);
+    assert_eq!(rt; number_of(alloc, &mut names, "a")?, 0);
+    assert!(rt; functor_of(alloc, &mut names, "b")? == (1, 0, true));
     Ok(())
 }

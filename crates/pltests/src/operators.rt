@@ -25,44 +25,54 @@ const OPERATORS: [(&str, u16, u16); 17] = [
     ("a", 0, 0),
 ];
 
+/// The priority of a name as an infix operator.
+fn infix(operators: &OpTable, name: &str) -> u16 {
+    operators.infix(name).map_or(0, |op| op.priority)
+}
+
+/// The priorities of a name as an infix and as a prefix operator, and whether it is a postfix operator.
+fn priorities(operators: &OpTable, name: &str) -> (u16, u16, bool) {
+    let prefix = operators.prefix(name).map_or(0, |op| op.priority);
+    (
+        infix(operators, name),
+        prefix,
+        operators.postfix(name).is_some(),
+    )
+}
+
 // The operators of the standard's table, and of directives; `<` is before no operand, `a` is no operator.
 #[test]
 fn looks_up(rt: HostRuntime) -> Result<(), Fail> {
     let iso = OpTable::iso(rt.alloc())?;
     for (name, infix, prefix) in OPERATORS {
-        assert_eq!(rt;
-            iso.infix(name).map_or(0, |op| op.priority),
-            infix,
-            "{name}"
-        );
-        assert_eq!(rt;
-            iso.prefix(name).map_or(0, |op| op.priority),
-            prefix,
-            "{name}"
-        );
-        assert!(rt; iso.postfix(name).is_none(), "{name}");
+        assert!(rt; priorities(&iso, name) == (infix, prefix, false), "{name}");
     }
     assert_eq!(rt; iso.list(rt.alloc())?.len(), 44);
     Ok(())
 }
 
+/// Operators that are refused, and why.
+const REFUSED: [(u16, Kind, &str, OpError); 8] = [
+    (700, Kind::Xfx, ",", OpError::Comma),
+    (0, Kind::Fy, ",", OpError::Comma),
+    (1201, Kind::Xfx, "a", OpError::Priority),
+    (1201, Kind::Xfx, ",", OpError::Priority),
+    (200, Kind::Xf, "+", OpError::InfixPostfix),
+    (200, Kind::Xfy, "|", OpError::Reserved),
+    (0, Kind::Xfy, "[]", OpError::Reserved),
+    (1200, Kind::Fy, "{}", OpError::Reserved),
+];
+
 // What is refused, and why, with the first of several causes; a refused table is as it was.
 #[test]
 fn refuses(rt: HostRuntime) -> Result<(), Fail> {
     let mut ops = OpTable::iso(rt.alloc())?;
-    for (priority, kind, name, error) in [
-        (700, Kind::Xfx, ",", OpError::Comma),
-        (0, Kind::Fy, ",", OpError::Comma),
-        (1201, Kind::Xfx, "a", OpError::Priority),
-        (1201, Kind::Xfx, ",", OpError::Priority),
-        (200, Kind::Xf, "+", OpError::InfixPostfix),
-        (200, Kind::Xfy, "|", OpError::Reserved),
-        (0, Kind::Xfy, "[]", OpError::Reserved),
-        (1200, Kind::Fy, "{}", OpError::Reserved),
-    ] {
-        assert_eq!(rt; ops.add(priority, kind, name), Err(error), "{name}");
-        assert_eq!(rt; ops.infix("+").map_or(0, |op| op.priority), 500);
-        assert_eq!(rt; ops.list(rt.alloc())?.len(), 44);
+    for (priority, kind, name, error) in REFUSED {
+        assert!(rt; ops.add(priority, kind, name) == Err(error), "{name}");
+        assert!(rt;
+            infix(&ops, "+") == 500 && ops.list(rt.alloc())?.len() == 44,
+            "{name}"
+        );
     }
     Ok(())
 }

@@ -6,7 +6,7 @@ use plterm::name::Name;
 use plterm::node::Node;
 use plterm::numbers::Numbers;
 use plterm::term::Term;
-use plterm::walk::Shape;
+use plterm::walk::{Shape, Terms};
 use std::alloc::{AllocError, Global};
 use std::test::Fail;
 
@@ -29,6 +29,15 @@ fn built(alloc: Global, x: u64, y: u64) -> Result<Term, AllocError> {
     builder.finish(alloc)
 }
 
+/// The numbers of two variables, and whether f(V7, a, V3) is the same term with these, and a variant of it.
+const OTHERS: [(u64, u64, bool, bool); 2] = [(7, 7, false, false), (3, 7, false, true)];
+
+/// Whether a term is the one with these variables, and a variant of it.
+fn compared(alloc: Global, term: &Term, x: u64, y: u64) -> Result<(bool, bool), TermError> {
+    let other = triple(alloc, x, y)?;
+    Ok((term.is_same(&other), term.is_variant(alloc, &other)?))
+}
+
 // f(V7, a, V3), made by its constructors and from its nodes, is one term; f(V7, a, V7) is another.
 #[test]
 fn terms_made_and_compared(rt: HostRuntime) -> Result<(), Fail> {
@@ -36,10 +45,18 @@ fn terms_made_and_compared(rt: HostRuntime) -> Result<(), Fail> {
     let term = triple(alloc, 7, 3)?;
     assert!(rt; term.is_same(&built(alloc, 7, 3)?));
     assert!(rt; term.is_same(&term.copied(alloc)?));
-    assert!(rt; !term.is_same(&triple(alloc, 7, 7)?));
-    assert!(rt; term.is_variant(alloc, &triple(alloc, 3, 7)?)?);
-    assert!(rt; !term.is_variant(alloc, &triple(alloc, 7, 7)?)?);
-    assert!(rt; !Term::int(alloc, -1)?.is_same(&Term::int(alloc, 1)?));
+    for (x, y, same, variant) in OTHERS {
+        assert!(rt; compared(alloc, &term, x, y)? == (same, variant), "{x} {y}");
+    }
+    Ok(())
+}
+
+// The integers -1 and 1 are two.
+#[test]
+fn integers(rt: HostRuntime) -> Result<(), Fail> {
+    let less = Term::int(rt.alloc(), -1)?;
+    let more = Term::int(rt.alloc(), 1)?;
+    assert!(rt; !less.is_same(&more));
     Ok(())
 }
 
@@ -51,38 +68,56 @@ fn copies_and_variables(rt: HostRuntime) -> Result<(), Fail> {
     assert!(rt; copy.is_same(&triple(alloc, 10, 11)?));
     let variables = copy.variables(alloc)?;
     assert_eq!(rt; variables.as_slice(), [10, 11].as_slice());
-    let mut seen = Numbers::new(alloc);
-    let place = seen.place_of(3)?;
-    assert_eq!(rt; place, 0);
-    let (numbered, seen) = triple(alloc, 7, 3)?.root().numbered(alloc, seen)?;
-    assert!(rt; numbered.is_same(&triple(alloc, 1, 0)?));
+    Ok(())
+}
+
+/// f(V7, a, V3) with the places of its variables' numbers in place of these, and the numbers that are met then.
+fn numbered(alloc: Global, seen: Numbers) -> Result<(Term, Numbers), TermError> {
+    let term = triple(alloc, 7, 3)?;
+    Ok(term.root().numbered(alloc, seen)?)
+}
+
+// Numbers have places in the order in which they are met.
+#[test]
+fn places(rt: HostRuntime) -> Result<(), Fail> {
+    let mut seen = Numbers::new(rt.alloc());
+    assert_eq!(rt; seen.place_of(3)?, 0);
+    let (term, seen) = numbered(rt.alloc(), seen)?;
+    assert!(rt; term.is_same(&triple(rt.alloc(), 1, 0)?));
     assert_eq!(rt; seen.count(), 2);
     let order = seen.into_order();
     assert_eq!(rt; order.as_slice(), [3, 7].as_slice());
     Ok(())
 }
 
-// The arguments of f(V7, a, V3), and the errors of constructors.
+/// Whether the arguments are three, the second is the atom a, and the third is entered as a term without arguments.
+fn are_as_made(alloc: Global, mut args: Terms<'_>) -> Result<bool, Fail> {
+    let count = args.len();
+    let _first = args.next_term();
+    let second = args.next_term().ok_or("two arguments")?.copied(alloc)?;
+    let wanted = Term::atom(alloc, Name::new(alloc, "a")?)?;
+    let is_entered = args.enter().is_some();
+    Ok(count == 3 && second.is_same(&wanted) && is_entered && args.is_empty())
+}
+
+// The arguments of f(V7, a, V3).
 #[test]
-fn shapes_and_errors(rt: HostRuntime) -> Result<(), Fail> {
-    let alloc = rt.alloc();
-    let term = triple(alloc, 7, 3)?;
+fn shapes(rt: HostRuntime) -> Result<(), Fail> {
+    let term = triple(rt.alloc(), 7, 3)?;
     match term.root().shape() {
-        Shape::Compound(name, mut args) => {
-            assert_eq!(rt; name.as_str(), "f");
-            assert_eq!(rt; args.len(), 3);
-            let _first = args.next_term();
-            let second = args.next_term().ok_or("two arguments")?;
-            assert!(rt;
-                second
-                    .copied(alloc)?
-                    .is_same(&Term::atom(alloc, Name::new(alloc, "a")?)?)
-            );
-            assert!(rt; args.enter().is_some());
-            assert!(rt; args.is_empty());
+        Shape::Compound(name, args) => {
+            assert!(rt; name.as_str() == "f");
+            assert!(rt; are_as_made(rt.alloc(), args)?);
         }
         Shape::Var(_) | Shape::Int(_) | Shape::Atom(_) => assert!(rt; false, "a compound"),
     }
+    Ok(())
+}
+
+// A compound has arguments, and a name may be empty.
+#[test]
+fn errors(rt: HostRuntime) -> Result<(), Fail> {
+    let alloc = rt.alloc();
     let none = Term::compound(alloc, Name::new(alloc, "f")?, Vec::new(alloc));
     assert!(rt; matches!(none, Err(TermError::Arity)));
     let empty = Name::new(alloc, "")?;

@@ -196,31 +196,35 @@ fn faults(rt: HostRuntime) -> Result<(), Fail> {
     Ok(())
 }
 
+/// What stands before so many `a`, what behind them, and whether these are tokens.
+const LONG_NAMES: [(&str, usize, &str, bool); 5] = [
+    ("", 65536, "", false),
+    ("'", 65536, "'", false),
+    ("'", 65535, "'.", true),
+    ("\"", 65536, "\".", true),
+    ("", 65535, ".", true),
+];
+
+/// So many `a` between two texts.
+fn long(alloc: Global, before: &str, count: usize, behind: &str) -> Result<Vec<u8>, AllocError> {
+    let mut text = Vec::from_slice(alloc, before.as_bytes())?;
+    for _ in 0..count {
+        text.push(b'a')?;
+    }
+    text.extend_from_slice(behind.as_bytes())?;
+    Ok(text)
+}
+
 // A name, and a quoted name's value, have at most 65,535 bytes; a double-quoted item's value has any number.
 #[test]
 fn long_names(rt: HostRuntime) -> Result<(), Fail> {
-    let mut text = vec![in rt.alloc(); b'a'; 65536]?;
-    let found = kinds(rt.alloc(), &text).err();
-    assert_eq!(rt; found, Some(LexError::Bad(Fault::NameTooLong, 0)));
-    text.push(b'\'')?;
-    text.insert(0, b'\'')?;
-    let found = kinds(rt.alloc(), &text).err();
-    assert_eq!(rt; found, Some(LexError::Bad(Fault::NameTooLong, 0)));
-    text.remove(1);
-    text.push(b'.')?;
-    assert!(rt; kinds(rt.alloc(), &text)?.is_some());
-    text[0] = b'"';
-    text[65536] = b'a';
-    text[65537] = b'"';
-    text.push(b'.')?;
-    assert!(rt; kinds(rt.alloc(), &text)?.is_some());
-    text.pop();
-    text.pop();
-    text.pop();
-    text.pop();
-    text[0] = b'a';
-    text.push(b'.')?;
-    assert!(rt; kinds(rt.alloc(), &text)?.is_some());
+    for (before, count, behind, fits) in LONG_NAMES {
+        let text = long(rt.alloc(), before, count, behind)?;
+        match kinds(rt.alloc(), &text) {
+            Ok(found) => assert!(rt; fits && found.is_some()),
+            Err(error) => { assert!(rt; !fits && error == LexError::Bad(Fault::NameTooLong, 0)) }
+        }
+    }
     Ok(())
 }
 
@@ -262,38 +266,43 @@ fn values(rt: HostRuntime) -> Result<(), Fail> {
     Ok(())
 }
 
-// Bytes, whether they are symbol characters (6.5.1), layout (6.5.4), and control characters of a quoted item.
+/// Bytes, whether they are symbol characters (6.5.1), layout (6.5.4), and control characters of a quoted item.
+const BYTES: [(u8, bool, bool, bool); 8] = [
+    (b'+', true, false, false),
+    (b'\\', true, false, false),
+    (b';', false, false, false),
+    (b'a', false, false, false),
+    (b' ', false, true, false),
+    (b'\n', false, true, false),
+    (7, false, false, true),
+    (127, false, false, true),
+];
+
+// What a byte is, and the marks of quoted items.
 #[test]
 fn bytes(rt: HostRuntime) {
-    for (b, symbol, layout, control) in [
-        (b'+', true, false, false),
-        (b'\\', true, false, false),
-        (b';', false, false, false),
-        (b'a', false, false, false),
-        (b' ', false, true, false),
-        (b'\n', false, true, false),
-        (7, false, false, true),
-        (127, false, false, true),
-    ] {
-        assert_eq!(rt; is_symbol(b), symbol, "{b}");
-        assert_eq!(rt; is_layout(b), layout, "{b}");
-        assert_eq!(rt; is_control(b), control, "{b}");
+    for (b, symbol, layout, control) in BYTES {
+        let is = (is_symbol(b), is_layout(b), is_control(b));
+        assert!(rt; is == (symbol, layout, control), "{b}");
     }
     assert_eq!(rt; (mark(Quote::Single), mark(Quote::Double)), (b'\'', b'"'));
 }
 
+/// Bytes, and whether they are digits of a base.
+const DIGITS: [(Base, u8, bool); 6] = [
+    (Base::Binary, b'1', true),
+    (Base::Binary, b'2', false),
+    (Base::Octal, b'8', false),
+    (Base::Decimal, b'9', true),
+    (Base::Hexadecimal, b'f', true),
+    (Base::Hexadecimal, b'g', false),
+];
+
 // Digits of each base, and a number with one more of them, up to a limit.
 #[test]
 fn digits(rt: HostRuntime) {
-    for (base, b, is) in [
-        (Base::Binary, b'1', true),
-        (Base::Binary, b'2', false),
-        (Base::Octal, b'8', false),
-        (Base::Decimal, b'9', true),
-        (Base::Hexadecimal, b'f', true),
-        (Base::Hexadecimal, b'g', false),
-    ] {
-        assert_eq!(rt; is_digit(base, b), is, "{b}");
+    for (base, b, is) in DIGITS {
+        assert!(rt; is_digit(base, b) == is, "{b}");
     }
     assert_eq!(rt; with_digit(Base::Decimal, 12, b'3', 123), Some(123));
     assert_eq!(rt; with_digit(Base::Decimal, 12, b'3', 122), None);

@@ -232,6 +232,15 @@ fn is_read(alloc: Global, text: &str, operators: &OpTable, canonical: &str) -> R
     is_written(alloc, &term, operators, Style::Canonical, canonical)
 }
 
+/// Whether what is written canonical, and as it is listed, is read back.
+fn is_read_back(alloc: Global, operators: &OpTable, row: &StyleRow) -> Result<bool, Fail> {
+    let (_, _, _, canonical, listed) = *row;
+    Ok(
+        is_read(alloc, canonical, operators, canonical)?
+            && is_read(alloc, listed, operators, canonical)?,
+    )
+}
+
 /// Whether a term, whatever the numbers of its variables are, is written as its row tells in each style.
 fn is_as_told(alloc: Global, operators: &OpTable, row: &StyleRow) -> Result<bool, Fail> {
     let (source, plain, quoted, canonical, listed) = *row;
@@ -250,13 +259,8 @@ fn styles(rt: HostRuntime) -> Result<(), Fail> {
     let alloc = rt.alloc();
     let operators = OpTable::iso(alloc)?;
     for row in &STYLES {
-        let (source, _, _, canonical, listed) = *row;
-        assert!(rt; is_as_told(alloc, &operators, row)?, "{source}");
-        assert!(rt;
-            is_read(alloc, canonical, &operators, canonical)?,
-            "{source}"
-        );
-        assert!(rt; is_read(alloc, listed, &operators, canonical)?, "{source}");
+        assert!(rt; is_as_told(alloc, &operators, row)?, "{}", row.0);
+        assert!(rt; is_read_back(alloc, &operators, row)?, "{}", row.0);
     }
     Ok(())
 }
