@@ -1,8 +1,9 @@
 -- What is left of a call behind a clause, and the clause's body before the rest.
-use Rattle.std.proofs.Common.{◌≡◌, ℕ, suc, ◌+◌, ◌-◌, ◌≤◌, List, [], ◌∷◌, ◌++◌, length, map, refl, sym, ap, ◌∙◌, subst, arith, reverse, Option, Some, None}
+use Rattle.std.proofs.Common.{◌≡◌, ℕ, Bool, true, false, if◌then◌else◌, suc, ◌+◌, ◌-◌, ◌≤◌, List, [], ◌∷◌, ◌++◌, length, map, refl, sym, ap, ◌∙◌, subst, arith, reverse, Option, Some, None}
 use Rattle.plsubst.specs.Subst.{bind}
 use Rattle.plclause.specs.Clause.{Clause}
 use Rattle.plsearch.specs.Types.{Goal, Case}
+use Rattle.plsearch.specs.Rows.{before_rest, is_true}
 use Rattle.plsearch.specs.Engine.{deeper}
 use Rattle.plcode.specs.Clauses.{IsCodeOf}
 use Rattle.plcode.specs.Converted.{AreConverted}
@@ -23,7 +24,7 @@ use Rattle.plstack.specs.Places.{Statics}
 use Rattle.plstack.specs.Frames.{AreOlder, IsOpen}
 use Rattle.plstack.specs.State.{State, IsStack, goals_in, goals_of, place_of, cases_of, IsList, CountsUp}
 use Rattle.plstack.specs.Cutting.{Settles}
-use Rattle.plstack.specs.StaticCalls.{IsCalling, GoesOn}
+use Rattle.plstack.specs.StaticCalls.{body_at, IsCalling, GoesOn}
 use Rattle.plstack.proofs.Frames.{reverse-push}
 use Rattle.plstack.proofs.Stacks.{depth_is, opened-cases, opened-state, counted, counted-cases, popped-cases, popped-stack}
 use Rattle.plstack.proofs.Returning.{at-frame, back-depth}
@@ -100,15 +101,23 @@ module _ (s : State) (d : ℕ) (is : IsStack s d) (hit : Hit) (x : Clause) (code
   own-item : IsItem (goals_in s) s.env.heap (length s.env.slots) (items.Run run)
   own-item = (record { width = x.variables; below = subst (AllBelowEach x.variables) (sym own-goals) (code.sound.body_below, tt); within = omega (arith, code.variables); converted = subst AreConverted (sym own-goals) (code.sound.converted_body, tt) }, slots)
 
-  pub body-there : IsList s (record { run = record { position = hit.clause.body; owed = 0; base = hit.base; «end» = hit.base + hit.clause.variables; level = level }; rest = behind })
-  body-there = record { there = there.there; items = (own-item, there.items.1) }
+  there-if : (b : Bool) → IsList s (if b then alone behind else record { run = record { position = hit.clause.body; owed = 0; base = hit.base; «end» = hit.base + hit.clause.variables; level = level }; rest = behind })
+  there-if true = there
+  there-if false = record { there = there.there; items = (own-item, there.items.1) }
 
-  pub body-goals : goals_of s (record { run = record { position = hit.clause.body; owed = 0; base = hit.base; «end» = hit.base + hit.clause.variables; level = level }; rest = behind })
-      ≡ Goal level (bind (over s.env hit.base) x.body) ∷ goals_of s rest
-  body-goals =
+  pub body-there : IsList s (body_at hit behind level)
+  body-there = there-if hit.clause.is_fact
+
+  goals-if : (b : Bool) → goals_of s (if b then alone behind else record { run = record { position = hit.clause.body; owed = 0; base = hit.base; «end» = hit.base + hit.clause.variables; level = level }; rest = behind })
+      ≡ before_rest b level (bind (over s.env hit.base) x.body) (goals_of s rest)
+  goals-if true = same
+  goals-if false =
       first-elements s (items.Run run) (list_at s.links behind)
       ∙ ap (λ ts. map (goal_of s.env run) ts ++ all_elements (goals_in s) s.env (list_at s.links behind)) own-goals
       ∙ ap (λ es. Goal level (bind (over s.env hit.base) x.body) ∷ es) (sym (done-elements s is.0 done (refl, refl) (list_at s.links behind)) ∙ same)
+
+  pub body-goals : goals_of s (body_at hit behind level) ≡ before_rest (is_true x.body) level (bind (over s.env hit.base) x.body) (goals_of s rest)
+  body-goals = goals-if hit.clause.is_fact ∙ ap (λ f. before_rest f level (bind (over s.env hit.base) x.body) (goals_of s rest)) code.fact
 
 -- another list is visited
 pub goes_visited : (statics : Statics) (s new : State) (l : Continuation) (p : Point) (c : Clauses) (next : Option ℕ) → GoesOn statics (record s { goals = l }) new p c next → GoesOn statics s new p c next

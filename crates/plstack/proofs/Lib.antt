@@ -32,3 +32,4 @@ pub mod Resolving
 pub mod Passing
 pub mod Stepping
 pub mod Reopening
+pub mod Postponed

@@ -7,23 +7,24 @@ use Rattle.plcells.specs.Store.{Store, IsValue, AreValues, value}
 use Rattle.plsearch.specs.Types.{Choice}
 use Rattle.plsearch.specs.Rows.{resolve}
 use Rattle.plsearch.specs.Engine.{deeper}
-use Rattle.plenv.specs.Env.{Env, cut, IsMark}
-use Rattle.plenv.specs.Changes.{bounded}
+use Rattle.plenv.specs.Env.{Env, cut}
 use Rattle.plenv.proofs.Keeping.{Keeps-refl}
 use Rattle.pllinks.specs.Lists.{AreItems, all_elements}
 use Rattle.pllinks.specs.Links.{items_of, alone}
-use Rattle.plstack.specs.declared.frame.Marks.{Marks}
 use Rattle.plstack.specs.declared.frame.Point.{Point}
 use Rattle.plstack.specs.declared.frame.Clauses.{Clauses}
 use Rattle.plstack.specs.declared.frame.Resume.TheVariants as resumes
-use Rattle.plstack.specs.declared.frame.Frame.{Frame}
 use Rattle.plstack.specs.declared.frame.Frame.TheVariants.{Open}
 use Rattle.plstack.specs.Places.{Statics, called, places_left, kept_values, cases}
-use Rattle.plstack.specs.Frames.{IsOpen, AreFrames}
-use Rattle.plstack.specs.State.{State, IsStack, goals_in, goals_of, cases_of, IsList, IsClauses}
+use Rattle.plstack.specs.Frames.{AreOlder, IsOpen, AreFrames}
+use Rattle.plstack.specs.Trials.{IsMarked}
+use Rattle.plstack.specs.State.{State, IsStack, goals_in, goals_of, cases_of, AddsList, Extends, IsList, IsClauses}
+use Rattle.plstack.specs.Calls.{places_of, Calls, CallsNone, StaysAt}
+use Rattle.pllinks.specs.declared.link.Continuation.{Continuation}
+use Rattle.plclause.specs.Clause.{Clause}
 use Rattle.plstack.specs.StaticCalls.{AtCall, OpensCall}
 use Rattle.plstack.proofs.Frames.{cases-kept, AreFrames-kept}
-use Rattle.plstack.proofs.Opening.{older-frames, marked-stack, marked-extends, extends-now}
+use Rattle.plstack.proofs.Opening.{older-frames}
 use Rattle.plstack.proofs.Stacks.{opened-cases, opened-state, has-last}
 
 -- what is kept for a call
@@ -44,10 +45,10 @@ called_stay h k name (v ∷ vs) stay a = ap (λ ts. compound name (trees ts)) (v
 
 -- values behind those that are kept
 module _ (s : State) (d : ℕ) (is : IsStack s d) (vs : List Cell) where
-  abbrev with_values : State
+  abbrev pub with_values : State
   with_values = record { code = s.code; env = s.env; links = s.links; saved = s.saved ++ vs; frames = s.frames; goals = s.goals }
 
-  values-stack : IsStack with_values d
+  pub values-stack : IsStack with_values d
   values-stack = (
     record {
       env = is.0.env;
@@ -61,79 +62,99 @@ module _ (s : State) (d : ℕ) (is : IsStack s d) (vs : List Cell) where
     is.1,
   )
 
-  values-cases : (statics : Statics) → cases_of statics with_values ≡ cases_of statics s
+  pub values-cases : (statics : Statics) → cases_of statics with_values ≡ cases_of statics s
   unfolding cases_of
   values-cases statics =
       ap (λ ks. cases statics (goals_in s) s.env ks (s.saved ++ vs) (reverse s.frames)) (sym (append-nil s.links))
       ∙ cases-kept (goals_in s) s.env s.env s.links [] s.saved vs (Keeps-refl s.env) is.0.env.heap.names statics (reverse s.frames) is.0.frames
 
--- all that is there was marked
-module _ (s : State) (d : ℕ) (is : IsStack s d) (e : Env) (m : Marks) (mark : IsMark m.env e) (now : cut m.env e ≡ e) (same : e ≡ bounded (length s.env.heap.cells) (length s.env.slots) s.env)
-    (links : m.links ≡ length s.links) (saved : m.saved ≡ length s.saved) where
-  abbrev marked_now : State
-  marked_now = record { code = s.code; env = e; links = s.links; saved = s.saved; frames = s.frames; goals = s.goals }
+-- all that is there is marked, and the case of a call would be opened now
+module _ (s : State) (d : ℕ) (is : IsStack s d) (p : Point) (m : IsMarked s p.marks) (alone_is : p.list ≡ alone p.list.rest) (i : IsList s p.list) (procedure count : ℕ) (vs : List Cell) (fit : AreValues s.env.heap vs) (many : count ≡ length vs) where
+  abbrev c : Clauses
+  c = record { procedure = procedure; count = count; next = 0 }
 
-  marked-now : IsStack marked_now d
-  marked-now = marked-stack s d is e m mark now same links saved
+  abbrev kept : State
+  kept = with_values s d is vs
 
-  stay : (v : Cell) → IsValue s.env.heap v → IsValue e.heap v × (value e.heap v ≡ value s.env.heap v)
-  stay = (extends-now s d is e m mark now same links saved).values
+  pub kept-there : kept_values (s.saved ++ vs) p (resumes.Clauses c) ≡ vs
+  kept-there = ap₂ (λ k l. take k (drop l (s.saved ++ vs))) many m.saved ∙ run_end s.saved vs
 
-  module _ (n procedure count : ℕ) (i : IsList s (alone n)) (vs : List Cell) (fit : AreValues s.env.heap vs) (many : count ≡ length vs) where
-    abbrev p : Point
-    p = record { marks = m; list = alone n }
+  pub older-then : AreOlder p.marks (reverse s.frames)
+  older-then = older-frames (goals_in s) s.env s.links s.saved p.marks m.mark m.now m.links m.saved (reverse s.frames) is.0.frames
 
-    abbrev c : Clauses
-    c = record { procedure = procedure; count = count; next = 0 }
+  frame-there : IsOpen (goals_in s) s.env s.links (s.saved ++ vs) p (resumes.Clauses c) (reverse s.frames)
+  frame-there = record {
+    mark = m.mark;
+    links_room = omega (arith, m.links);
+    list = omega (arith, m.links, i.there);
+    saved_room = omega (arith, m.saved, many, length-append s.saved vs);
+    older = older-then;
+    items = subst (λ (x : Env). AreItems (goals_in s) x.heap (length x.slots) (items_of s.links p.list)) (sym m.now) i.items;
+    resume = subst (λ (x : Env). AreValues x.heap (kept_values (s.saved ++ vs) p (resumes.Clauses c))) (sym m.now) (subst (AreValues s.env.heap) (sym kept-there) fit);
+  }
 
-    abbrev kept : State
-    kept = with_values marked_now d marked-now vs
+  -- the stack with that case
+  abbrev pub opened : State
+  opened = record { code = s.code; env = s.env; links = s.links; saved = s.saved ++ vs; frames = s.frames ++ Open p (resumes.Clauses (record { procedure = procedure; count = count; next = 0 })) ∷ []; goals = s.goals }
 
-    kept-there : kept_values (s.saved ++ vs) p (resumes.Clauses c) ≡ vs
-    kept-there = ap₂ (λ k l. take k (drop l (s.saved ++ vs))) many saved ∙ run_end s.saved vs
+  pub call-stack : IsStack opened (d + 1)
+  call-stack =
+      let o = opened-state kept d opened.frames (Open p (resumes.Clauses c)) refl (values-stack s d is vs) frame-there in
+      (o.0, omega (arith, o.1))
 
-    frame-there : IsOpen (goals_in s) e s.links (s.saved ++ vs) p (resumes.Clauses c) (reverse s.frames)
-    frame-there = record {
-      mark = mark;
-      links_room = omega (arith, links);
-      list = omega (arith, links, i.there);
-      saved_room = omega (arith, saved, many, length-append s.saved vs);
-      older = older-frames (goals_in s) e s.links s.saved m mark now links saved (reverse s.frames) marked-now.0.frames;
-      items = subst (λ (x : Env). AreItems (goals_in s) x.heap (length x.slots) (items_of s.links (alone n))) (sym now) ((marked-extends s d is e m mark now same links saved).lists (alone n) i).0.items;
-      resume = subst (λ (x : Env). AreValues x.heap (kept_values (s.saved ++ vs) p (resumes.Clauses c))) (sym now)
-          (subst (AreValues e.heap) (sym kept-there) (values_stay s.env.heap e.heap vs stay fit).0);
-    }
+  pub call-at : AtCall opened p c
+  call-at = record { calling = record { rest = s.frames; top = refl }; now = m.now; list = record { there = i.there; items = i.items } }
 
-    module _ (frames : List Frame) (pushed : frames ≡ s.frames ++ Open (record { marks = m; list = alone n }) (resumes.Clauses (record { procedure = procedure; count = count; next = 0 })) ∷ []) where
-      abbrev opened : State
-      opened = record { code = s.code; env = e; links = s.links; saved = s.saved ++ vs; frames = frames; goals = s.goals }
+  pub call-opens : OpensCall s opened procedure vs p.list
+  call-opens = record {
+    has = has-last IsClauses opened.frames s.frames (Open p (resumes.Clauses c)) refl tt;
+    cases = λ statics.
+        let name = (statics procedure).name in
+        let cs = (statics procedure).clauses in
+        let below = cases_of statics s in
+        opened-cases statics kept opened.frames (Open p (resumes.Clauses c)) refl
+        ∙ ap (λ xs. Choice (places_left (deeper xs 0) (cut p.marks.env s.env) (called (cut p.marks.env s.env).heap name (kept_values (s.saved ++ vs) p (resumes.Clauses c))) (all_elements (goals_in s) (cut p.marks.env s.env) (items_of s.links p.list)) cs) ∷ xs) (values-cases s d is vs statics)
+        ∙ ap₂ (λ (x : Env) ws. Choice (places_left (deeper below 0) x (called x.heap name ws) (all_elements (goals_in s) x (items_of s.links p.list)) cs) ∷ below) m.now kept-there;
+    place = refl;
+    code = refl;
+  }
 
-      pub call-stack : IsStack opened (d + 1)
-      call-stack =
-          let o = opened-state kept d frames (Open p (resumes.Clauses c)) pushed (values-stack marked_now d marked-now vs) frame-there in
-          (o.0, omega (arith, o.1))
+-- a list got a number, and all was marked, before a call
+module _ (s t u new : State) (n : ℕ) (rest : Continuation) (adds : AddsList s t (alone n) (goals_of s rest)) (x : Extends t u) (count : u.env.count ≡ t.env.count) where
+  pub marked-list : IsList u (alone n)
+  marked-list = (x.lists (alone n) adds.there).0
 
-      pub call-at : AtCall opened p c
-      call-at = record {
-        calling = record { rest = s.frames; top = pushed };
-        now = now;
-        list = let l = (marked-extends s d is e m mark now same links saved).lists (alone n) i in record { there = l.0.there; items = l.0.items };
-      }
+  pub marked-values : (vs : List Cell) → AreValues s.env.heap vs → AreValues u.env.heap vs
+  marked-values vs fit = (values_stay t.env.heap u.env.heap vs x.values (subst (λ (e : Env). AreValues e.heap vs) (sym adds.env) fit)).0
 
-      pub call-opens : OpensCall s opened procedure vs (alone n)
-      call-opens = record {
-        has = has-last IsClauses frames s.frames (Open p (resumes.Clauses c)) pushed tt;
-        cases = λ statics.
-            let extends = marked-extends s d is e m mark now same links saved in
-            let name = (statics procedure).name in
-            let cs = (statics procedure).clauses in
-            let below = cases_of statics s in
-            opened-cases statics kept frames (Open p (resumes.Clauses c)) pushed
-            ∙ ap (λ xs. Choice (places_left (deeper xs 0) (cut m.env e) (called (cut m.env e).heap name (kept_values (s.saved ++ vs) p (resumes.Clauses c))) (all_elements (goals_in s) (cut m.env e) (items_of s.links (alone n))) cs) ∷ xs)
-            (values-cases marked_now d marked-now vs statics ∙ extends.cases statics)
-            ∙ ap₂ (λ (x : Env) ws. Choice (places_left (deeper below 0) x (called x.heap name ws) (all_elements (goals_in s) x (items_of s.links (alone n))) cs) ∷ below) now kept-there
-            ∙ ap₂ (λ t es. Choice (places_left (deeper below 0) e t es cs) ∷ below) (called_stay s.env.heap e.heap name vs stay fit) (extends.lists (alone n) i).1
-            ∙ ap (λ k. Choice (filter_map (resolve (deeper below 0) k (called s.env.heap name vs) (goals_of s (alone n))) cs) ∷ below) (ap (λ (x : Env). x.count) same);
-        place = let extends = marked-extends s d is e m mark now same links saved in ap₂ (λ gs k. record { goals = gs; variables = k }) extends.visited (ap (λ (x : Env). x.count) same);
-        code = refl;
-      }
+  cases-then : (statics : Statics) → cases_of statics u ≡ cases_of statics s
+  cases-then statics = x.cases statics ∙ adds.stays.cases statics
+
+  count-then : u.env.count ≡ s.env.count
+  count-then = count ∙ ap (λ (e : Env). e.count) adds.env
+
+  module _ (statics : Statics) (procedure : ℕ) (vs : List Cell) (fit : AreValues s.env.heap vs) where
+    abbrev name : List ℕ
+    name = (statics procedure).name
+
+    abbrev cs : List Clause
+    cs = (statics procedure).clauses
+
+    places-then : places_of statics s (called s.env.heap name vs) rest cs ≡ places_of statics u (called u.env.heap name vs) (alone n) cs
+    places-then =
+        let there = subst (λ (e : Env). AreValues e.heap vs) (sym adds.env) fit in
+        let goal = called_stay t.env.heap u.env.heap name vs x.values there ∙ ap (λ (e : Env). called e.heap name vs) adds.env in
+        ap₂ (λ ks k. filter_map (resolve (deeper ks 0) k (called s.env.heap name vs) (goals_of s rest)) cs) (sym (cases-then statics)) (sym count-then)
+        ∙ ap₂ (λ g gs. filter_map (resolve (deeper (cases_of statics u) 0) u.env.count g gs) cs) (sym goal) (sym ((x.lists (alone n) adds.there).1 ∙ adds.is))
+
+    pub calls-then : Calls statics u new (called u.env.heap name vs) (alone n) cs → Calls statics s new (called s.env.heap name vs) rest cs
+    calls-then c = record { others = c.others; places = places-then ∙ c.places; cases = c.cases ∙ ap (λ ks. Choice c.others ∷ ks) (cases-then statics) }
+
+    pub calls-none-then : CallsNone statics u new (called u.env.heap name vs) (alone n) cs → CallsNone statics s new (called s.env.heap name vs) rest cs
+    calls-none-then c = record { none = places-then ∙ c.none; cases = c.cases ∙ cases-then statics }
+
+  pub stays-then : StaysAt u new → StaysAt s new
+  stays-then y = record {
+    cases = λ statics. y.cases statics ∙ cases-then statics;
+    place = y.place ∙ ap₂ (λ gs k. record { goals = gs; variables = k }) (x.visited ∙ adds.stays.visited) count-then;
+  }

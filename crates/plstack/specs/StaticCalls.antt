@@ -1,11 +1,12 @@
 -- Calls of static procedures.
-use Rattle.std.specs.Prelude.{◌≡◌, ℕ, ◌+◌, ◌<◌, ◌≤◌, Option, Some, None, List, [], ◌∷◌, ◌++◌, length, drop, get_or, slice_index_or}
+use Rattle.std.specs.Prelude.{◌≡◌, ℕ, ◌+◌, ◌<◌, ◌≤◌, Option, Some, None, if◌then◌else◌, List, [], ◌∷◌, ◌++◌, length, map, drop, reverse, get_or, slice_index_or}
 use Rattle.plterm.specs.Tree.{Tree}
 use Rattle.plterm.specs.declared.indicator.Indicator.{Indicator}
 use Rattle.plsubst.specs.Subst.{bind}
 use Rattle.plclause.specs.Clause.{Clause}
 use Rattle.plprogram.specs.Program.{Program}
 use Rattle.plcells.specs.declared.cell.Cell.{Cell}
+use Rattle.plcells.specs.Store.{value}
 use Rattle.plsearch.specs.Types.{Place, Case, Choice}
 use Rattle.plsearch.specs.Lists.{bind_goals}
 use Rattle.plsearch.specs.Rows.{before_rest, is_true}
@@ -14,6 +15,8 @@ use Rattle.plcode.specs.Callees.{Compiled}
 use Rattle.plcode.specs.declared.key.Key.{Key}
 use Rattle.plcode.specs.declared.clause.ClauseCode.{ClauseCode}
 use Rattle.plcode.specs.Index.{IsNext}
+use Rattle.plcode.specs.Keys.{IsFirstKey}
+use Rattle.plcode.specs.Laying.{IsLaid}
 use Rattle.plcode.specs.Clauses.{IsCodeOf}
 use Rattle.plenv.specs.Env.{Env, cut, over}
 use Rattle.pllinks.specs.declared.link.Continuation.{Continuation}
@@ -28,7 +31,7 @@ use Rattle.plstack.specs.declared.fit.Found.{Found}
 use Rattle.plstack.specs.declared.fit.Hit.{Hit}
 use Rattle.plstack.specs.Places.{Static, Statics, called, places_left, kept_values}
 use Rattle.plstack.specs.Fits.{AreOwn, Finds}
-use Rattle.plstack.specs.State.{State, goals_in, goals_of, place_of, cases_of, HasClauses, IsList}
+use Rattle.plstack.specs.State.{State, goals_in, goals_of, place_of, cases_of, CountsUp, HasClauses, IsList}
 use Rattle.plstack.specs.Calls.{places_of}
 
 abbrev pub static_of : Indicator × List Clause → Static
@@ -110,3 +113,22 @@ pub record Enters (statics : Statics) (old new : State) (p : Point) (c : Clauses
     goals = before_rest (is_true x.body) (deeper goes.below 0) (bind (over old.env hit.base) x.body) (goals_of old (alone behind));
     variables = old.env.count;
   }
+
+-- the body of a clause at a level, before a list by its number; of a fact that list alone
+abbrev pub body_at : Hit → ℕ → ℕ → Continuation
+body_at hit behind level =
+    if hit.clause.is_fact then alone behind
+    else record { run = record { position = hit.clause.body; owed = 0; base = hit.base; «end» = hit.base + hit.clause.variables; level = level }; rest = behind }
+
+-- the first clause of a procedure that fits a goal's values, by their key
+pub record FitsFirst (m : Compiled) (statics : Statics) (procedure : ℕ) (vs : List Cell) (old new : Env) (hit : Hit) : Type 0 where
+  pub key : Key
+  pub key_is : IsFirstKey old.heap.names key (map (value old.heap) vs)
+  pub within : procedure < length m.procedures
+  pub laid : IsLaid m.text.names m.text.nodes
+  pub finds : FindsHit old new (called old.heap (statics procedure).name vs) key (get_or m.procedures procedure []) (statics procedure).clauses 0 hit
+
+-- the case of the clauses of a call from a number on, or one more choice with nothing left
+abbrev pub PushesCall : Point → Clauses → Option ℕ → List Frame → List Frame → Type 0
+PushesCall p c (Some next) old new = new ≡ old ++ Open p (resumes.Clauses (record { procedure = c.procedure; count = c.count; next = next })) ∷ []
+PushesCall p c None old new = CountsUp 1 (reverse old) (reverse new)

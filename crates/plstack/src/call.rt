@@ -1,5 +1,5 @@
 //! Calls of static procedures.
-ghost use Rattle.std.specs.Prelude.{◌≡◌, ℕ, ◌+◌, ◌<◌, ◌≤◌, ◌^◌, List, [], ◌∷◌, length, drop, reverse, true, false, None, Some, IfOk, IfSome, IfNone, OnErr, OnOk};
+ghost use Rattle.std.specs.Prelude.{◌≡◌, ℕ, ◌+◌, ◌<◌, ◌≤◌, ◌^◌, List, [], ◌∷◌, length, drop, reverse, true, false, None, Some, IfOk, IfSome, IfNone, OnErr, vec_capacity, vec_len};
 ghost use Rattle.plsubst.specs.Subst.{bind};
 ghost use Rattle.plclause.specs.Clause.{Clause};
 ghost use Rattle.plcells.specs.Store.{AreValues};
@@ -7,7 +7,8 @@ ghost use Rattle.plsearch.specs.Types.{Case, Choice};
 ghost use Rattle.plsearch.specs.Rows.{before_rest, is_true};
 ghost use Rattle.plcode.specs.Clauses.{IsCodeOf};
 ghost use Rattle.plcode.specs.Steps.{Text};
-ghost use Rattle.plenv.specs.Env.{cut, over, renamed, IsMark, IsWithin};
+ghost use Rattle.platoms.specs.Names.{Extends as ExtendsNames};
+ghost use Rattle.plenv.specs.Env.{cut, over, renamed, IsEnv, IsMark, IsWithin};
 ghost use Rattle.plenv.specs.Changes.{Keeps};
 ghost use Rattle.pllinks.specs.Links.{alone};
 ghost use Rattle.plstack.specs.Places.{Statics, called};
@@ -16,19 +17,29 @@ ghost use Rattle.plstack.specs.Fits.{FindsNone};
 ghost use Rattle.plstack.specs.Attempts.{IsAttempt};
 ghost use Rattle.plstack.specs.State.{cases_of, goals_of, place_of, HasClauses, IsList, Retries};
 ghost use Rattle.plstack.specs.Calls.{Calls, CallsNone, StaysAt};
-ghost use Rattle.plstack.specs.StaticCalls.{further, AreStatics, AtCall, Binds, Enters, FindsHit, GoesOn, Hits, IsCalling, OpensCall};
+ghost use Rattle.plstack.specs.StaticCalls.{body_at, further, AreStatics, AtCall, Binds, Enters, FindsHit, FitsFirst, GoesOn, Hits, IsCalling, PushesCall};
+ghost use Rattle.plstack.specs.Trials.{IsMarked};
 
 use crate::fit::{Attempt, Hit, first_fit};
-use crate::frame::{Clauses, Frame, Marks, Point, Resume};
+use crate::frame::{Clauses, Frame, Point, Resume};
 use crate::key::first_key;
 use crate::open::{count_up, push_frame};
 use crate::stack::Stack;
 use plcells::cell::Cell;
+use plcode::program::ProgramCode;
 use plenv::env::Environment;
+use plenv::slot::Mark;
 use plhead::head::Matcher;
 use pllinks::item::Run;
 use pllinks::link::Continuation;
 use std::alloc::AllocError;
+
+/// A goal that calls a static procedure, by its place, with the values of its arguments.
+#[derive(Clone, Copy)]
+struct Goal<'a> {
+    procedure: u32,
+    values: &'a [Cell],
+}
 
 /// The innermost case, a call: what it comes back to, and what is left of it.
 #[derive(Clone, Copy)]
@@ -64,6 +75,84 @@ fn first_hit(
     }))
 }
 
+/// The first clause of a static procedure that fits a goal, and the next one that may. Where there is none, or memory gives out, all is as it was
+/// at the mark but for more names.
+fn fit_first(
+    env: &mut Environment,
+    matcher: &mut Matcher,
+    code: &ProgramCode,
+    goal: &Goal<'_>,
+    mark: Mark,
+) -> Result<Option<Hit>, AllocError>
+    requires names { ExtendsNames code.now.text.names env.old.heap.names }
+    requires statics { (statics : Statics) × AreStatics code.now statics }
+    requires values { AreValues env.old.heap goal.now.values.now }
+    requires mark { IsMark mark env.old }
+    requires now { cut mark env.old ≡ env.old }
+    ensures some { IfOk result (λ o. IfSome o (λ hit. (statics : Statics) → AreStatics code.now statics → FitsFirst code.now statics goal.now.procedure goal.now.values.now env.old env.new hit)) }
+    ensures none { IfOk result (λ o. IfNone o ((statics : Statics) → AreStatics code.now statics → FindsNone env.old (called env.old.heap (statics goal.now.procedure).name goal.now.values.now) (statics goal.now.procedure).clauses 0)) }
+    ensures back { IfOk result (λ o. IfNone o (env.new ≡ renamed env.old env.new.heap.names)) }
+    ensures err { OnErr result (env.new ≡ renamed env.old env.new.heap.names) }
+    ensures keeps { Keeps env.old env.new }
+    ensures env { IsEnv env.new }
+{
+    let _ = env.heap();
+    let Some(procedure) = code.procedure(goal.procedure) else {
+        return Ok(None);
+    };
+    let attempt = Attempt {
+        procedure,
+        nodes: code.nodes(),
+        key: first_key(env.heap(), goal.values),
+        values: goal.values,
+        mark,
+    };
+    match first_hit(env, matcher, &attempt, 0) {
+        Ok(hit) => {
+            let _ = env.heap();
+            Ok(hit)
+        }
+        Err(e) => {
+            let _ = env.heap();
+            env.undo(mark);
+            let _ = env.heap();
+            Err(e)
+        }
+    }
+}
+
+/// The body of a clause that fits, at a level, before a list by its number; of a fact that list alone.
+fn body_of(hit: Hit, behind: u32, level: u64) -> Continuation
+    requires { hit.base + hit.clause.variables < 2 ^ 32 }
+    ensures { result ≡ body_at hit behind level }
+{
+    if hit.clause.is_fact {
+        return Continuation::alone(behind);
+    }
+    let run = Run {
+        position: hit.clause.body,
+        owed: 0,
+        base: hit.base,
+        end: hit.base + hit.clause.variables,
+        level,
+    };
+    Continuation { run, rest: behind }
+}
+
+/// Opens the case of the clauses of a call from a number on, or where none is left a choice with nothing left.
+fn push_call(frames: &mut Vec<Frame>, at: Calling, next: Option<usize>)
+    requires room { vec_len frames.old < vec_capacity frames.old }
+    ensures { PushesCall at.point at.call next frames.old.items frames.new.items }
+{
+    match next {
+        Some(next) => {
+            let left = Clauses { next, ..at.call };
+            push_frame(frames, Frame::Open(at.point, Resume::Clauses(left)));
+        }
+        None => count_up(frames, 1),
+    }
+}
+
 impl Stack {
     /// Calls a static procedure before a list: whether a clause fits. The body of the first that does is visited, in a choice of those behind it.
     pub fn call(
@@ -82,14 +171,11 @@ impl Stack {
         ensures err { OnErr result (StaysAt self.old self.new) }
     {
         let behind = self.number_of(rest)?;
-        let at = self.open_call(procedure, values, behind)?;
-        match self.try_next(at) {
-            Ok(yes) => Ok(yes),
-            Err(e) => {
-                self.leave_call();
-                Err(e)
-            }
-        }
+        let point = Point {
+            marks: self.marks(),
+            list: Continuation::alone(behind),
+        };
+        self.open_call(procedure, values, point)
     }
 
     /// Tries the further clauses of the innermost case, a call of a static procedure: whether one fits. The body of the first that does is visited
@@ -107,43 +193,47 @@ impl Stack {
         self.try_next(at)
     }
 
-    /// Opens the case of a call, whose values are kept, before a list by its number.
+    /// Visits the body of the first clause of a static procedure that fits a goal's values, before a list, and opens the case of the clauses
+    /// behind it: whether one fits.
     fn open_call(
         &mut self,
         procedure: u32,
         values: &[Cell],
-        behind: u32,
-    ) -> Result<Calling, AllocError>
+        point: Point,
+    ) -> Result<bool, AllocError>
+        requires marks { IsMarked self.old point.marks }
+        requires statics { (statics : Statics) × AreStatics self.old.code statics }
         requires values { AreValues self.old.env.heap values.now }
         requires few { length values.now < 2 ^ 16 }
-        requires behind { IsList self.old (alone behind) }
-        ensures opens { OnOk result (OpensCall self.old self.new procedure values.now (alone behind)) }
-        ensures at { IfOk result (λ at. AtCall self.new at.point at.call) }
-        ensures err { OnErr result (self.new ≡ self.old) }
+        requires alone { point.list ≡ alone point.list.rest }
+        requires list { IsList self.old point.list }
+        ensures yes { IfOk result (λ yes. yes ≡ true → (statics : Statics) → AreStatics self.old.code statics → Calls statics self.old self.new (called self.old.env.heap (statics procedure).name values.now) point.list (statics procedure).clauses) }
+        ensures no { IfOk result (λ yes. yes ≡ false → (statics : Statics) → AreStatics self.old.code statics → CallsNone statics self.old self.new (called self.old.env.heap (statics procedure).name values.now) point.list (statics procedure).clauses) }
+        ensures code { self.new.code ≡ self.old.code }
+        ensures err { OnErr result (StaysAt self.old self.new) }
     {
         if self.depth == u64::MAX {
             return Err(AllocError);
         }
         self.frames.reserve(1)?;
-        let saved = self.saved.len();
         self.saved.extend_from_slice(values)?;
-        let marks = Marks {
-            env: self.env.mark(),
-            links: self.links.len(),
-            saved,
-        };
-        let point = Point {
-            marks,
-            list: Continuation::alone(behind),
+        let goal = Goal { procedure, values };
+        let mark = point.marks.env;
+        let Some(hit) = fit_first(&mut self.env, &mut self.matcher, &self.code, &goal, mark)? else {
+            return Ok(false);
         };
         let call = Clauses {
             procedure,
             count: values.len() as u16,
             next: 0,
         };
-        push_frame(&mut self.frames, Frame::Open(point, Resume::Clauses(call)));
+        push_call(&mut self.frames, Calling { point, call }, hit.next);
+        self.goals = body_of(hit, point.list.rest, self.depth);
         self.depth += 1;
-        Ok(Calling { point, call })
+        if let None = hit.next {
+            self.settle(point.marks);
+        }
+        Ok(true)
     }
 
     /// Goes back to where the innermost case was opened, which is a call of a static procedure and stays open.
@@ -249,18 +339,8 @@ impl Stack {
         ensures there { IsList self.now result }
         ensures is { (x : Clause) → IsCodeOf self.now.code.text hit.clause x → goals_of self.now result ≡ before_rest (is_true x.body) level (bind (over self.now.env hit.base) x.body) (goals_of self.now (alone behind)) }
     {
-        if hit.clause.is_fact {
-            return Continuation::alone(behind);
-        }
         let _ = self.env.heap();
-        let run = Run {
-            position: hit.clause.body,
-            owed: 0,
-            base: hit.base,
-            end: hit.base + hit.clause.variables,
-            level,
-        };
-        Continuation { run, rest: behind }
+        body_of(hit, behind, level)
     }
 
     /// Of the innermost call the clauses from a number on are left, or none.

@@ -276,7 +276,7 @@ impl Stack {
     }
 
     /// How much there is, as marks in use.
-    fn marks(&mut self) -> Marks
+    pub(crate) fn marks(&mut self) -> Marks
         ensures marked { IsMarked self.new result }
         ensures stays { Extends self.old self.new }
         ensures count { self.new.env.count ≡ self.old.env.count }

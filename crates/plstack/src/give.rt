@@ -4,7 +4,7 @@ ghost use Rattle.pllinks.specs.Links.{link_at};
 ghost use Rattle.plstack.specs.Holding.{held};
 ghost use Rattle.plstack.specs.Giving.{GivesBack, IsLow, IsShort};
 
-use crate::hold::held_in;
+use crate::hold::links_held_in;
 use crate::stack::Stack;
 use pllinks::link::{Link, slots_of};
 
@@ -26,11 +26,11 @@ impl Stack {
     fn give_back_lists(&mut self)
         ensures { GivesBack self.old self.new }
     {
-        let Some(left) = held_in(&self.frames) else {
+        let Some(floor) = links_held_in(&self.frames) else {
             return;
         };
-        self.give_back_above(left.marks.links);
-        self.give_back_below(left.marks.links);
+        self.give_back_above(floor);
+        self.give_back_below(floor);
     }
 
     /// Gives back the lists behind those that are held.

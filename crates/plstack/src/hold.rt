@@ -1,9 +1,9 @@
 //! What open cases hold.
-ghost use Rattle.std.specs.Prelude.{◌≡◌, List, [], ◌∷◌, reverse, IfNone, IfSome};
+ghost use Rattle.std.specs.Prelude.{◌≡◌, reverse, IfSome};
 ghost use Rattle.plstack.specs.Places.{kept};
-ghost use Rattle.plstack.specs.Holding.{held, no_marks};
+ghost use Rattle.plstack.specs.Holding.{held, no_marks, IsNewest};
 
-use crate::frame::{Frame, Marks, Resume};
+use crate::frame::{Frame, Marks, Point, Resume};
 use plcells::cell::Mark as HeapMark;
 use plenv::slot::Mark;
 
@@ -50,38 +50,61 @@ fn kept_by(resume: &Resume) -> u16
     }
 }
 
-/// What a frame holds, if it comes back to anything.
-fn held_by(frame: &Frame) -> Option<Held>
-    ensures some { IfSome result (λ h. (older : List Frame) → held (frame.now ∷ older) ≡ h) }
-    ensures none { IfNone result ((older : List Frame) → held (frame.now ∷ older) ≡ held older) }
+/// The newest case that comes back to anything.
+#[derive(Clone, Copy)]
+pub(crate) enum Newest<'a> {
+    /// The newest few frames do not say it.
+    Unknown,
+    /// There is none.
+    Nothing,
+    /// What it comes back to, and what it does then.
+    Open(&'a Point, &'a Resume),
+}
+
+/// The newest case that comes back to anything, if the newest few frames say it.
+pub(crate) fn newest_in(frames: &[Frame]) -> Newest<'_>
+    ensures { IsNewest (reverse frames.now) result }
 {
-    match frame {
-        Frame::Plain(_) | Frame::Barrier(_) => None,
-        Frame::Open(point, resume) => Some(Held {
-            marks: point.marks,
-            kept: kept_by(resume),
-        }),
+    let mut at = frames.len();
+    let mut left = LOOKED_AT;
+    while at > 0 {
+        if left == 0 {
+            return Newest::Unknown;
+        }
+        left -= 1;
+        at -= 1;
+        match &frames[at] {
+            Frame::Open(point, resume) => return Newest::Open(point, resume),
+            Frame::Plain(_) | Frame::Barrier(_) => {}
+        }
     }
+    Newest::Nothing
 }
 
 /// What the open cases hold, if the newest few frames say it.
 pub(crate) fn held_in(frames: &[Frame]) -> Option<Held>
     ensures { IfSome result (λ h. h ≡ held (reverse frames.now)) }
 {
-    let mut at = frames.len();
-    let mut left = LOOKED_AT;
-    while at > 0 {
-        if left == 0 {
-            return None;
-        }
-        left -= 1;
-        at -= 1;
-        if let Some(found) = held_by(&frames[at]) {
-            return Some(found);
-        }
+    match newest_in(frames) {
+        Newest::Unknown => None,
+        Newest::Nothing => Some(Held {
+            marks: no_marks(),
+            kept: 0,
+        }),
+        Newest::Open(point, resume) => Some(Held {
+            marks: point.marks,
+            kept: kept_by(resume),
+        }),
     }
-    Some(Held {
-        marks: no_marks(),
-        kept: 0,
-    })
+}
+
+/// How many links the open cases hold, if the newest few frames say it.
+pub(crate) fn links_held_in(frames: &[Frame]) -> Option<usize>
+    ensures { IfSome result (λ n. n ≡ (held (reverse frames.now)).marks.links) }
+{
+    match newest_in(frames) {
+        Newest::Unknown => None,
+        Newest::Nothing => Some(0),
+        Newest::Open(point, _) => Some(point.marks.links),
+    }
 }

@@ -1,36 +1,115 @@
 use Rattle.std.proofs.Common.{refl, arith}
-use Rattle.plstack.specs.declared.frame.Marks.{Marks}
 use Rattle.plstack.specs.State.{State}
 use Rattle.plstack.proofs.Stacks.{inside}
-use Rattle.plstack.proofs.Opened.{call-stack, call-at, call-opens}
+use Rattle.plstack.proofs.Postponed.{unchanged-at, unchanged-none, unchanged-stack, entered-calls, entered-older, entered-stack, own-slots}
+use Rattle.plstack.proofs.Reopening.{calls_settled, on_err}
 use Rattle.plstack.proofs.stack.Stack.open_call.Goals as goal
 
-pub invariant_of-self-2 : goal.invariant_of-self-2
-invariant_of-self-2 c =
+pub invariant_of-self-in_err-hit : goal.invariant_of-self-in_err-hit
+invariant_of-self-in_err-hit c =
     let s : State = inside c.self.inside in
-    let m : Marks = record { env = c.mark.result; links = c.len.result; saved = c.len-saved.result } in
-    let behind = rw (← c.self.view_is) at c.requires.behind in
+    let m = rw (← c.self.view_is) at c.requires.marks in
+    let i = rw (← c.self.view_is) at c.requires.list in
     let fit = rw (← c.self.view_is) at c.requires.values in
-    let pushed = rw (c.reserve.ensures.items, c.alone.ensures) at c.push_frame.ensures.is in
-    rw c.in_ok-extend_from_slice.ensures.items
-    (call-stack s c.self.inside.depth c.self.invariant c.mark.new.self m c.mark.ensures.mark c.mark.ensures.now c.mark.ensures.same (omega (arith, c.len.ensures, c.self.inside.links.ok.0)) (omega (arith, c.len-saved.ensures, c.self.inside.saved.ok.0)) c.args.behind c.args.procedure _ behind c.args.values.now fit refl c.push_frame.new.frames.items pushed)
+    rw (c.in_ok-extend_from_slice.ensures.items, c.reserve.ensures.items) (unchanged-stack s c.self.inside.depth c.self.invariant c.args.point m c.requires.alone i c.args.procedure _ c.args.values.now fit refl c.fit_first.new.env c.fit_first.ensures.env c.fit_first.ensures.keeps.names c.in_err-hit.ensures.err)
 
-pub returns-clause-opens : goal.returns-clause-opens
-returns-clause-opens c =
+pub returns-in_err-hit-clause-err : goal.returns-in_err-hit-clause-err
+returns-in_err-hit-clause-err c =
     let s : State = inside c.self.inside in
-    let m : Marks = record { env = c.mark.result; links = c.len.result; saved = c.len-saved.result } in
-    let behind = rw (← c.self.view_is) at c.requires.behind in
+    let m = rw (← c.self.view_is) at c.requires.marks in
+    let i = rw (← c.self.view_is) at c.requires.list in
     let fit = rw (← c.self.view_is) at c.requires.values in
-    let pushed = rw (c.reserve.ensures.items, c.alone.ensures) at c.push_frame.ensures.is in
-    rw (← c.self.view_is) (rw c.in_ok-extend_from_slice.ensures.items
-    (call-opens s c.self.inside.depth c.self.invariant c.mark.new.self m c.mark.ensures.mark c.mark.ensures.now c.mark.ensures.same (omega (arith, c.len.ensures, c.self.inside.links.ok.0)) (omega (arith, c.len-saved.ensures, c.self.inside.saved.ok.0)) c.args.behind c.args.procedure _ behind c.args.values.now fit refl c.push_frame.new.frames.items pushed))
+    on_err _ c.from_residual-in_err-hit.result
+    (rw (← c.self.view_is, c.in_ok-extend_from_slice.ensures.items, c.reserve.ensures.items) (unchanged-at s c.self.inside.depth c.self.invariant c.args.point m c.requires.alone i c.args.procedure _ c.args.values.now fit refl c.fit_first.new.env c.fit_first.ensures.env c.fit_first.ensures.keeps.names c.in_err-hit.ensures.err))
 
-pub returns-clause-at : goal.returns-clause-at
-returns-clause-at c =
+pub invariant_of-self-in_default : goal.invariant_of-self-in_default
+invariant_of-self-in_default c =
     let s : State = inside c.self.inside in
-    let m : Marks = record { env = c.mark.result; links = c.len.result; saved = c.len-saved.result } in
-    let behind = rw (← c.self.view_is) at c.requires.behind in
+    let m = rw (← c.self.view_is) at c.requires.marks in
+    let i = rw (← c.self.view_is) at c.requires.list in
     let fit = rw (← c.self.view_is) at c.requires.values in
-    let pushed = rw (c.reserve.ensures.items, c.alone.ensures) at c.push_frame.ensures.is in
-    rw (c.in_ok-extend_from_slice.ensures.items, c.alone.ensures)
-    (call-at s c.self.inside.depth c.self.invariant c.mark.new.self m c.mark.ensures.mark c.mark.ensures.now c.mark.ensures.same (omega (arith, c.len.ensures, c.self.inside.links.ok.0)) (omega (arith, c.len-saved.ensures, c.self.inside.saved.ok.0)) c.args.behind c.args.procedure _ behind c.args.values.now fit refl c.push_frame.new.frames.items pushed)
+    rw (c.in_ok-extend_from_slice.ensures.items, c.reserve.ensures.items) (unchanged-stack s c.self.inside.depth c.self.invariant c.args.point m c.requires.alone i c.args.procedure _ c.args.values.now fit refl c.fit_first.new.env c.fit_first.ensures.env c.fit_first.ensures.keeps.names (rw c.in_default.is at c.in_ok-hit.ensures.back))
+
+pub returns-in_default-clause-no : goal.returns-in_default-clause-no
+returns-in_default-clause-no c = λ _ statics own.
+    let s : State = inside c.self.inside in
+    let m = rw (← c.self.view_is) at c.requires.marks in
+    let i = rw (← c.self.view_is) at c.requires.list in
+    let fit = rw (← c.self.view_is) at c.requires.values in
+    let k = rw (← c.self.view_is) at own in
+    let none = (rw c.in_default.is at c.in_ok-hit.ensures.none) statics k in
+    rw (← c.self.view_is, c.in_ok-extend_from_slice.ensures.items, c.reserve.ensures.items) (unchanged-none s c.self.inside.depth c.self.invariant c.args.point m c.requires.alone i c.args.procedure _ c.args.values.now fit refl c.fit_first.new.env c.fit_first.ensures.env c.fit_first.ensures.keeps.names (rw c.in_default.is at c.in_ok-hit.ensures.back) statics none)
+
+pub body_of-self-inside-requires : goal.body_of-self-inside-requires
+body_of-self-inside-requires c =
+    let s : State = inside c.self.inside in
+    let m = rw (← c.self.view_is) at c.requires.marks in
+    let i = rw (← c.self.view_is) at c.requires.list in
+    let fit = rw (← c.self.view_is) at c.requires.values in
+    let o = rw (← c.self.view_is) at c.requires.statics in
+    let first = (rw c.in-Some.is at c.in_ok-hit.ensures.some) o.0 o.1 in
+    let slots = own-slots s c.self.inside.depth c.self.invariant c.args.point m c.requires.alone i c.args.procedure _ c.args.values.now fit refl o.0 o.1 c.fit_first.new.env c.fit_first.ensures.keeps c.fit_first.ensures.env c.in-Some.hit first in
+    let few = c.fit_first.ensures.env.slots.few in
+    omega (arith, slots, few)
+
+pub invariant_of-self-in-None : goal.invariant_of-self-in-None
+invariant_of-self-in-None c =
+    let s : State = inside c.self.inside in
+    let m = rw (← c.self.view_is) at c.requires.marks in
+    let i = rw (← c.self.view_is) at c.requires.list in
+    let fit = rw (← c.self.view_is) at c.requires.values in
+    let o = rw (← c.self.view_is) at c.requires.statics in
+    let first = (rw c.in-Some.is at c.in_ok-hit.ensures.some) o.0 o.1 in
+    let pushes = rw c.reserve.ensures.items at c.push_call.ensures in
+    rw (c.in_ok-extend_from_slice.ensures.items, c.body_of-self-inside.ensures) (entered-stack s c.self.inside.depth c.self.invariant c.args.point m c.requires.alone i c.args.procedure _ c.args.values.now fit refl o.0 o.1 c.fit_first.new.env c.fit_first.ensures.keeps c.fit_first.ensures.env c.in-Some.hit first c.push_call.new.frames.items pushes)
+
+pub settle-requires-clause-within : goal.settle-requires-clause-within
+settle-requires-clause-within c =
+    let m = rw (← c.self.view_is) at c.requires.marks in
+    c.fit_first.ensures.keeps.within c.args.point.marks.env m.mark.within
+
+pub settle-requires-clause-older : goal.settle-requires-clause-older
+settle-requires-clause-older c =
+    let s : State = inside c.self.inside in
+    let m = rw (← c.self.view_is) at c.requires.marks in
+    let i = rw (← c.self.view_is) at c.requires.list in
+    let fit = rw (← c.self.view_is) at c.requires.values in
+    let o = rw (← c.self.view_is) at c.requires.statics in
+    let first = (rw c.in-Some.is at c.in_ok-hit.ensures.some) o.0 o.1 in
+    let pushes = rw c.reserve.ensures.items at c.push_call.ensures in
+    entered-older s c.self.inside.depth c.self.invariant c.args.point m c.requires.alone i c.args.procedure _ c.args.values.now fit refl o.0 o.1 c.fit_first.new.env c.fit_first.ensures.keeps c.fit_first.ensures.env c.in-Some.hit first c.push_call.new.frames.items pushes c.in-None.is
+
+pub invariant_of-self-in_default-next : goal.invariant_of-self-in_default-next
+invariant_of-self-in_default-next c =
+    let s : State = inside c.self.inside in
+    let m = rw (← c.self.view_is) at c.requires.marks in
+    let i = rw (← c.self.view_is) at c.requires.list in
+    let fit = rw (← c.self.view_is) at c.requires.values in
+    let o = rw (← c.self.view_is) at c.requires.statics in
+    let first = (rw c.in-Some.is at c.in_ok-hit.ensures.some) o.0 o.1 in
+    let pushes = rw c.reserve.ensures.items at c.push_call.ensures in
+    rw (c.in_ok-extend_from_slice.ensures.items, c.body_of-self-inside.ensures) (entered-stack s c.self.inside.depth c.self.invariant c.args.point m c.requires.alone i c.args.procedure _ c.args.values.now fit refl o.0 o.1 c.fit_first.new.env c.fit_first.ensures.keeps c.fit_first.ensures.env c.in-Some.hit first c.push_call.new.frames.items pushes)
+
+pub returns-in-None-clause-yes : goal.returns-in-None-clause-yes
+returns-in-None-clause-yes c = λ _ statics own.
+    let s : State = inside c.self.inside in
+    let m = rw (← c.self.view_is) at c.requires.marks in
+    let i = rw (← c.self.view_is) at c.requires.list in
+    let fit = rw (← c.self.view_is) at c.requires.values in
+    let k = rw (← c.self.view_is) at own in
+    let first = (rw c.in-Some.is at c.in_ok-hit.ensures.some) statics k in
+    let pushes = rw c.reserve.ensures.items at c.push_call.ensures in
+    let settles = rw (c.in_ok-extend_from_slice.ensures.items, c.body_of-self-inside.ensures) at c.settle.ensures in
+    rw (← c.self.view_is) (calls_settled statics s _ c.settle.new.self _ c.args.point.list _ (entered-calls s c.self.inside.depth c.self.invariant c.args.point m c.requires.alone i c.args.procedure _ c.args.values.now fit refl statics k c.fit_first.new.env c.fit_first.ensures.keeps c.fit_first.ensures.env c.in-Some.hit first c.push_call.new.frames.items pushes) settles)
+
+pub returns-in_default-next-clause-yes : goal.returns-in_default-next-clause-yes
+returns-in_default-next-clause-yes c = λ _ statics own.
+    let s : State = inside c.self.inside in
+    let m = rw (← c.self.view_is) at c.requires.marks in
+    let i = rw (← c.self.view_is) at c.requires.list in
+    let fit = rw (← c.self.view_is) at c.requires.values in
+    let k = rw (← c.self.view_is) at own in
+    let first = (rw c.in-Some.is at c.in_ok-hit.ensures.some) statics k in
+    let pushes = rw c.reserve.ensures.items at c.push_call.ensures in
+    rw (← c.self.view_is, c.in_ok-extend_from_slice.ensures.items, c.body_of-self-inside.ensures)
+    (entered-calls s c.self.inside.depth c.self.invariant c.args.point m c.requires.alone i c.args.procedure _ c.args.values.now fit refl statics k c.fit_first.new.env c.fit_first.ensures.keeps c.fit_first.ensures.env c.in-Some.hit first c.push_call.new.frames.items pushes)

@@ -1,6 +1,6 @@
 use Rattle.std.proofs.Common.{◌≡◌, ◌≤◌, length, reverse, take}
 use Rattle.plstack.specs.Holding.{held}
-use Rattle.plstack.proofs.hold.held_in.Given as goal
+use Rattle.plstack.proofs.hold.newest_in.Given as goal
 
 abbrev pub invariant-loop-at : goal.invariant-loop-at
 invariant-loop-at l = record {

@@ -1,0 +1,167 @@
+-- The case of a call, which is opened once a clause fits.
+use Rattle.std.proofs.Common.{◌≡◌, ℕ, ◌+◌, ◌-◌, ◌≤◌, List, [], ◌++◌, length, map, get_or, refl, sym, ap, ◌∙◌, subst, arith, reverse, Option, Some, None}
+use Rattle.platoms.specs.Names.{Extends as ExtendsNames}
+use Rattle.plsubst.specs.Subst.{bind}
+use Rattle.plcells.specs.declared.cell.Cell.{Cell}
+use Rattle.plcells.specs.Store.{AreValues, value}
+use Rattle.plsearch.specs.Rows.{before_rest, is_true}
+use Rattle.plsearch.specs.Engine.{deeper}
+use Rattle.plcode.specs.Keys.{IsFirstKey}
+use Rattle.plenv.specs.Env.{Env, IsEnv, over, renamed}
+use Rattle.plenv.specs.Changes.{Keeps}
+use Rattle.pllinks.specs.declared.link.Continuation.{Continuation}
+use Rattle.pllinks.specs.Links.{alone}
+use Rattle.plstack.specs.declared.fit.Hit.{Hit}
+use Rattle.plstack.specs.declared.frame.Point.{Point}
+use Rattle.plstack.specs.declared.frame.Clauses.{Clauses}
+use Rattle.plstack.specs.declared.frame.Resume.TheVariants as resumes
+use Rattle.plstack.specs.declared.frame.Frame.{Frame}
+use Rattle.plstack.specs.declared.frame.Frame.TheVariants.{Open}
+use Rattle.plstack.specs.Calls.{Calls, CallsNone, StaysAt}
+use Rattle.plstack.specs.Fits.{FindsNone}
+use Rattle.plstack.specs.Frames.{AreOlder}
+use Rattle.plstack.specs.Places.{Statics, called, kept_values}
+use Rattle.plstack.specs.State.{State, IsStack, goals_of, place_of, cases_of, AddsList, IsList}
+use Rattle.plstack.specs.StaticCalls.{body_at, AreStatics, AtCall, IsCalling, Binds, Enters, FindsHit, FitsFirst, GoesOn, Hits, OpensCall, PushesCall}
+use Rattle.plstack.specs.Trials.{IsMarked}
+use Rattle.plstack.proofs.Entering.{calls-entered, retries-entered}
+use Rattle.plstack.proofs.Finding.{hit-binds, hit-stack, hits}
+use Rattle.plstack.proofs.Going.{body-goals, body-there, emptied, emptied-stack, level-of, replaced, replaced-stack}
+use Rattle.plstack.proofs.Growing.{extends_same, extends-env, stack-env}
+use Rattle.plstack.proofs.Hitting.{cases-stay, extends-renamed}
+use Rattle.plstack.proofs.Opened.{call-at, call-opens, call-stack, kept-there, opened, older-then, with_values, values-cases, values-stack}
+
+-- a list that is there has its number
+same-list : (s : State) (l : Continuation) (n : ℕ) → l ≡ alone n → IsList s l → AddsList s s (alone n) (goals_of s l)
+same-list s l n is i = record { there = subst (IsList s) is i; is = ap (goals_of s) (sym is); stays = extends_same s; env = refl; saved = refl }
+
+module _ (s : State) (d : ℕ) (is : IsStack s d) (p : Point) (m : IsMarked s p.marks) (alone_is : p.list ≡ alone p.list.rest) (i : IsList s p.list) (procedure count : ℕ) (vs : List Cell) (fit : AreValues s.env.heap vs) (many : count ≡ length vs) where
+  -- values were kept, and there are more names
+  module _ (e : Env) (env : IsEnv e) (names : ExtendsNames s.env.heap.names e.heap.names) (same : e ≡ renamed s.env e.heap.names) where
+    abbrev kept : State
+    kept = with_values s d is vs
+
+    abbrev pub unchanged : State
+    unchanged = record { code = s.code; env = e; links = s.links; saved = s.saved ++ vs; frames = s.frames; goals = s.goals }
+
+    pub unchanged-stack : IsStack unchanged d
+    unchanged-stack = subst (λ (x : Env). IsStack (record kept { env = x }) d) (sym same)
+        (stack-env kept d (renamed s.env e.heap.names) (extends-renamed s.env e.heap.names is.0.env env.heap.names names) (subst IsEnv same env) (values-stack s d is vs))
+
+    same-cases : (statics : Statics) → cases_of statics unchanged ≡ cases_of statics s
+    same-cases statics =
+        ap (λ (x : Env). cases_of statics (record kept { env = x })) same
+        ∙ (extends-env kept d (renamed s.env e.heap.names) (extends-renamed s.env e.heap.names is.0.env env.heap.names names) (subst IsEnv same env) (values-stack s d is vs)).cases statics
+        ∙ values-cases s d is vs statics
+
+    pub unchanged-at : StaysAt s unchanged
+    unchanged-at = record {
+      cases = same-cases;
+      place =
+          ap (λ (x : Env). place_of (record kept { env = x })) same
+          ∙ ap (λ gs. record { goals = gs; variables = s.env.count }) (extends-env kept d (renamed s.env e.heap.names) (extends-renamed s.env e.heap.names is.0.env env.heap.names names) (subst IsEnv same env) (values-stack s d is vs)).visited;
+    }
+
+    pub unchanged-none : (statics : Statics) → FindsNone s.env (called s.env.heap (statics procedure).name vs) (statics procedure).clauses 0 → CallsNone statics s unchanged (called s.env.heap (statics procedure).name vs) p.list (statics procedure).clauses
+    unchanged-none statics none = record { none = none (deeper (cases_of statics s) 0) (goals_of s p.list); cases = same-cases statics }
+
+  -- a clause fits
+  module _ (statics : Statics) (own : AreStatics s.code statics) (e : Env) (keeps : Keeps s.env e) (env : IsEnv e) (hit : Hit) (f : FitsFirst s.code statics procedure vs s.env e hit) where
+    abbrev c : Clauses
+    c = record { procedure = procedure; count = count; next = 0 }
+
+    abbrev before : State
+    before = opened s d is p m alone_is i procedure count vs fit many
+
+    before-stack : IsStack before (d + 1)
+    before-stack = call-stack s d is p m alone_is i procedure count vs fit many
+
+    there : kept_values before.saved p (resumes.Clauses c) ≡ vs
+    there = kept-there s d is p m alone_is i procedure count vs fit many
+
+    key-then : IsFirstKey s.env.heap.names f.key (map (value s.env.heap) (kept_values before.saved p (resumes.Clauses c)))
+    key-then = subst (λ ws. IsFirstKey s.env.heap.names f.key (map (value s.env.heap) ws)) (sym there) f.key_is
+
+    finds-then : FindsHit s.env e (called s.env.heap (statics procedure).name (kept_values before.saved p (resumes.Clauses c))) f.key (get_or s.code.procedures procedure []) (statics procedure).clauses 0 hit
+    finds-then = subst (λ ws. FindsHit s.env e (called s.env.heap (statics procedure).name ws) f.key (get_or s.code.procedures procedure []) (statics procedure).clauses 0 hit) (sym there) f.finds
+
+    at : AtCall before p c
+    at = call-at s d is p m alone_is i procedure count vs fit many
+
+    -- with the environment in which the clause fits
+    abbrev after : State
+    after = record before { env = e }
+
+    after-stack : IsStack after (d + 1)
+    after-stack = hit-stack before (d + 1) before-stack p c at statics own f.within f.key key-then f.laid e keeps env hit finds-then
+
+    after-hits : Hits statics before after p c hit
+    after-hits = hits before (d + 1) before-stack p c at statics own f.within f.key key-then f.laid e keeps env hit finds-then
+
+    after-binds : Binds before after
+    after-binds = hit-binds before (d + 1) before-stack p c at statics own f.within f.key key-then f.laid e keeps env hit finds-then
+
+    pub own-slots : hit.base + hit.clause.variables ≤ length e.slots
+    own-slots = after-hits.slots
+
+    module _ (frames : List Frame) (pushes : PushesCall p (record { procedure = procedure; count = count; next = 0 }) hit.next s.frames frames) where
+      abbrev framed : State
+      framed = record after { frames = frames }
+
+      calling : IsCalling after p c
+      calling = record { rest = s.frames; top = refl }
+
+      framed-is : (o : Option ℕ) → PushesCall p c o s.frames frames → IsStack framed (d + 1) × GoesOn statics after framed p c o
+      framed-is (Some next) pushed = (
+        replaced-stack after (d + 1) after-stack p c calling s.frames (Open p (resumes.Clauses c)) refl next frames pushed,
+        replaced after (d + 1) after-stack p c calling s.frames (Open p (resumes.Clauses c)) refl next frames pushed statics,
+      )
+      framed-is None up = (
+        emptied-stack after (d + 1) after-stack p c calling s.frames (Open p (resumes.Clauses c)) refl frames up,
+        emptied after (d + 1) after-stack p c calling s.frames (Open p (resumes.Clauses c)) refl frames up statics,
+      )
+
+      framed-stack : IsStack framed (d + 1)
+      framed-stack = (framed-is hit.next pushes).0
+
+      goes : GoesOn statics after framed p c hit.next
+      goes = (framed-is hit.next pushes).1
+
+      behind-there : IsList framed (alone p.list.rest)
+      behind-there =
+          let l = (after-binds.lists (alone p.list.rest) (subst (IsList before) alone_is at.list)).0 in
+          record { there = l.there; items = l.items }
+
+      -- the clause's body is visited
+      abbrev pub entered : State
+      entered = record { code = s.code; env = e; links = s.links; saved = s.saved ++ vs; frames = frames; goals = body_at hit p.list.rest d }
+
+      pub entered-stack : IsStack entered (d + 1)
+      entered-stack =
+          let l = body-there framed (d + 1) framed-stack hit after-hits.clause after-hits.code after-hits.slots (alone p.list.rest) p.list.rest behind-there refl d in
+          let t = framed-stack.0 in
+          (record { env = t.env; names = t.names; none = t.none; chain = t.chain; frames = t.frames; goals = record { there = l.there; items = l.items } }, framed-stack.1)
+
+      level : d ≡ deeper goes.below 0
+      level = let e : d + 1 - 1 ≡ deeper goes.below 0 = level-of statics framed framed (d + 1) framed-stack refl _ goes.below goes.cases in omega (arith, e)
+
+      enters : Enters statics after entered p c hit p.list.rest
+      unfolding cases_of
+      enters = record {
+        goes = record { below = goes.below; was = goes.was; cases = goes.cases };
+        place = λ x code.
+            let body = bind (over e hit.base) x.body in
+            let rest = goals_of after (alone p.list.rest) in
+            ap (λ gs. record { goals = gs; variables = e.count })
+            (body-goals framed (d + 1) framed-stack hit x code after-hits.slots (alone p.list.rest) p.list.rest behind-there refl d ∙ ap (λ l. before_rest (is_true x.body) l body rest) level);
+      }
+
+      pub entered-calls : Calls statics s entered (called s.env.heap (statics procedure).name vs) p.list (statics procedure).clauses
+      entered-calls =
+          let opens : OpensCall s before procedure vs (alone p.list.rest) = subst (OpensCall s before procedure vs) alone_is (call-opens s d is p m alone_is i procedure count vs fit many) in
+          let cases = cases-stay before (d + 1) before-stack p c at e keeps env statics in
+          calls-entered s s before procedure p.list.rest vs p.list (same-list s p.list p.list.rest alone_is i) opens statics entered
+          (retries-entered before before p c p.list.rest at (same-list before p.list p.list.rest alone_is at.list) after refl after-binds statics entered hit cases after-hits enters)
+
+      pub entered-older : hit.next ≡ None → AreOlder p.marks (reverse frames)
+      entered-older none = (subst (λ o. PushesCall p c o s.frames frames) none pushes).older p.marks (older-then s d is p m alone_is i procedure count vs fit many)

@@ -1,0 +1,28 @@
+use Rattle.std.proofs.Common.{sym, subst, ◌∙◌}
+use Rattle.plcode.specs.Callees.{Compiled}
+use Rattle.plstack.specs.StaticCalls.{AreStatics}
+use Rattle.plstack.proofs.Growing.{if_ok}
+use Rattle.plstack.proofs.Opened.{calls-none-then, calls-then, marked-values}
+use Rattle.plstack.proofs.stack.Stack.call.Goals as goal
+
+pub open_call-requires-clause-values : goal.open_call-requires-clause-values
+open_call-requires-clause-values c =
+    marked-values c.args.self.now c.number_of.new.self c.marks.new.self c.marks.new.self c.in_ok-behind.behind c.args.rest c.in_ok-behind.ensures.ok c.marks.ensures.stays c.marks.ensures.count c.args.values.now c.requires.values
+
+pub returns-clause-yes : goal.returns-clause-yes
+returns-clause-yes c =
+    if_ok _ _ c.open_call.result
+    (λ yes calls is statics own.
+    let then = subst (λ (m : Compiled). AreStatics m statics) (sym (c.marks.ensures.stays.code ∙ c.in_ok-behind.ensures.ok.stays.code)) own in
+    calls-then c.args.self.now c.number_of.new.self c.marks.new.self c.open_call.new.self c.in_ok-behind.behind c.args.rest c.in_ok-behind.ensures.ok c.marks.ensures.stays c.marks.ensures.count statics c.args.procedure c.args.values.now c.requires.values
+    (rw c.alone.ensures at (calls is statics then)))
+    c.open_call.ensures.yes
+
+pub returns-clause-no : goal.returns-clause-no
+returns-clause-no c =
+    if_ok _ _ c.open_call.result
+    (λ no calls is statics own.
+    let then = subst (λ (m : Compiled). AreStatics m statics) (sym (c.marks.ensures.stays.code ∙ c.in_ok-behind.ensures.ok.stays.code)) own in
+    calls-none-then c.args.self.now c.number_of.new.self c.marks.new.self c.open_call.new.self c.in_ok-behind.behind c.args.rest c.in_ok-behind.ensures.ok c.marks.ensures.stays c.marks.ensures.count statics c.args.procedure c.args.values.now c.requires.values
+    (rw c.alone.ensures at (calls is statics then)))
+    c.open_call.ensures.no
