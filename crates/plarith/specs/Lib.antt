@@ -1,0 +1,5 @@
+pub mod Functors
+pub mod Errors
+pub mod Integers
+pub mod Operations
+pub mod Evaluation
