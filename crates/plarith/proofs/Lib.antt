@@ -1,1 +1,6 @@
+pub mod Absolute
+pub mod Modulo
+pub mod Powers
+pub mod Shifts
+pub mod Widths
 pub mod Worked

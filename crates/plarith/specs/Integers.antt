@@ -1,5 +1,5 @@
 -- Operations on integers that the library has no words for.
-use Rattle.std.specs.Prelude.{ℕ, suc, ◌/◌, ℤ, pos, negsuc, ◌-ℤ◌, ◌*ℤ◌, neg_ℤ, int_div}
+use Rattle.std.specs.Prelude.{ℕ, zero, suc, ◌/◌, ℤ, pos, negsuc, ◌-ℤ◌, ◌*ℤ◌, neg_ℤ, int_div, Bool, true, false}
 
 -- an integer by a natural number that is not 0, rounded down
 abbrev pub floor_by : ℤ → ℕ → ℤ
@@ -23,3 +23,11 @@ remainder x y = x -ℤ int_div x y *ℤ y
 abbrev pub complement : ℤ → ℤ
 complement (pos n) = negsuc n
 complement (negsuc n) = pos n
+
+-- an integer that is not 0, and one of the other sign; 0 counts as above
+abbrev pub is_apart : ℤ → ℤ → Bool
+is_apart (pos zero) y = false
+is_apart (pos (suc m)) (pos n) = false
+is_apart (pos (suc m)) (negsuc n) = true
+is_apart (negsuc m) (pos n) = true
+is_apart (negsuc m) (negsuc n) = false

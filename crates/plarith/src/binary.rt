@@ -1,11 +1,13 @@
 //! Functors of two arguments on integers.
 ghost use Rattle.std.specs.Prelude.{◌≡◌};
-ghost use Rattle.plarith.specs.Integers.{remainder, modulo};
-ghost use Rattle.plarith.specs.Operations.{binary, power, shifted_left, shifted_right, divided, exact, fitting};
+ghost use Rattle.plarith.specs.Operations.{binary};
 
-use crate::error::{ArithError, Evaluated};
+use crate::division::{modulo, quotient, ratio, remainder};
+use crate::error::Evaluated;
 use crate::functor::Binary;
-use crate::result::fitting;
+use crate::power::power;
+use crate::shift::{shifted_left, shifted_right};
+use crate::width::fitting;
 
 impl Binary {
     /// What it gives for two integers.
@@ -16,11 +18,17 @@ impl Binary {
             Binary::Add => fitting(x.checked_add(y)),
             Binary::Subtract => fitting(x.checked_sub(y)),
             Binary::Multiply => fitting(x.checked_mul(y)),
+            Binary::Quotient => quotient(x, y),
+            Binary::Divide => ratio(x, y),
+            Binary::Remainder => remainder(x, y),
+            Binary::Modulo => modulo(x, y),
+            Binary::Power => power(x, y),
+            Binary::ShiftLeft => shifted_left(x, y),
+            Binary::ShiftRight => shifted_right(x, y),
             Binary::And => Ok(x & y),
             Binary::Or => Ok(x | y),
             Binary::Maximum => Ok(x.max(y)),
             Binary::Minimum => Ok(x.min(y)),
-            _ => Err(ArithError::Undefined),
         }
     }
 }

@@ -4,7 +4,7 @@ ghost use Rattle.plarith.specs.Operations.{unary};
 
 use crate::error::Evaluated;
 use crate::functor::Unary;
-use crate::result::fitting;
+use crate::width::fitting;
 
 impl Unary {
     /// What it gives for an integer.
