@@ -1,4 +1,5 @@
 pub mod Absolute
+pub mod Going
 pub mod Modulo
 pub mod Powers
 pub mod Shifts

@@ -7,8 +7,11 @@
 pub mod binary;
 mod division;
 pub mod error;
+pub mod evaluate;
 pub mod functor;
+pub mod operand;
 mod power;
 mod shift;
 pub mod unary;
+pub mod value;
 mod width;

@@ -1,0 +1,87 @@
+//! Expressions that stand on the heap.
+ghost use Rattle.std.specs.Prelude.{◌≡◌, ◌<◌, length, IfOk};
+ghost use Rattle.plcells.specs.Store.{IsValue, IsHead, at, term, value};
+ghost use Rattle.plarith.specs.declared.operand.Opened.TheVariants.{Known};
+ghost use Rattle.plarith.specs.Evaluation.{eval, not_evaluable};
+ghost use Rattle.plarith.specs.Values.{IsOperand, tree, Opens};
+
+use crate::error::{ArithError, Evaluated};
+use crate::evaluate::evaluate;
+use crate::functor::{Binary, Unary};
+use crate::operand::{Opened, Operand, Operands};
+use plcells::cell::Cell;
+use plcells::heap::Heap;
+use plterm::indicator::Indicator;
+use plterm::name::Name;
+use std::alloc::{AllocError, Global};
+
+/// A name with so many arguments that is not evaluable.
+fn not_evaluable(name: &Name, arity: u16) -> Result<Opened, AllocError>
+    ensures { IfOk result (λ o. o ≡ Known (not_evaluable name.now arity)) }
+{
+    let name = name.copied()?;
+    Ok(Opened::Known(Err(ArithError::NotEvaluable(Indicator {
+        name,
+        arity,
+    }))))
+}
+
+/// A compound on the heap.
+fn open_block(heap: &Heap, p: u32) -> Result<Opened, AllocError>
+    requires within { p < length heap.now.cells }
+    requires head { IsHead (at heap.now.cells p) }
+    ensures { IfOk result (Opens heap.now (term heap.now p)) }
+{
+    let (f, arity) = heap.block(p);
+    let functor = heap.names().functor_of(f);
+    let name = heap.names().atom_name(functor.name);
+    if arity == 1 {
+        if let Some(f) = Unary::of_name(name.as_str()) {
+            let argument = Operand::Value(heap.argument(p + 1));
+            return Ok(Opened::One(f, argument));
+        }
+    }
+    if arity == 2 {
+        if let Some(f) = Binary::of_name(name.as_str()) {
+            let left = Operand::Value(heap.argument(p + 1));
+            let right = Operand::Value(heap.argument(p + 2));
+            return Ok(Opened::Two(f, left, right));
+        }
+    }
+    not_evaluable(name, arity)
+}
+
+/// A value of the heap.
+fn open_value(heap: &Heap, v: Cell) -> Result<Opened, AllocError>
+    requires { IsValue heap.now v }
+    ensures { IfOk result (Opens heap.now (value heap.now v)) }
+{
+    match heap.root(v) {
+        Cell::Ref(_) => Ok(Opened::Known(Err(ArithError::Unbound))),
+        Cell::Atom(a) => not_evaluable(heap.names().atom_name(a), 0),
+        Cell::Str(p) => open_block(heap, p),
+        number => Ok(Opened::Known(Ok(heap.integer_of(number)))),
+    }
+}
+
+impl Operands for Heap {
+    ghost is_operand = { IsOperand };
+
+    ghost tree = { tree };
+
+    fn open(&self, operand: Operand) -> Result<Opened, AllocError> {
+        match operand {
+            Operand::Value(v) => open_value(self, v),
+            Operand::Node(_) => unreachable!(),
+        }
+    }
+}
+
+/// What the term of a value comes to as an expression, or its error (ISO/IEC 13211-1 7.9, 9.1.4). It takes time linear in the nodes of the
+/// term, and memory linear in its depth; it makes no cell and no term.
+pub fn eval(alloc: Global, heap: &Heap, v: Cell) -> Result<Evaluated, AllocError>
+    requires { IsValue heap.now v }
+    ensures { IfOk result (λ found. found ≡ eval (value heap.now v)) }
+{
+    evaluate(alloc, heap, Operand::Value(v))
+}
