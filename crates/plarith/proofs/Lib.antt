@@ -1,5 +1,7 @@
 pub mod Absolute
 pub mod Going
+pub mod HeapTerms
+pub mod Opening
 pub mod Modulo
 pub mod Powers
 pub mod Shifts

@@ -1,14 +1,16 @@
 //! Where expressions stand.
-ghost use Rattle.std.specs.Prelude.{◌≡◌, ◌<◌, IfOk, All};
+ghost use Rattle.std.specs.Prelude.{◌≡◌, IfOk};
 ghost use Rattle.plterm.specs.Tree.{Tree};
-ghost use Rattle.plcells.specs.Walking.{weight};
 ghost use Rattle.plarith.specs.declared.operand.Operand.{Operand};
-ghost use Rattle.plarith.specs.Evaluation.{eval};
-ghost use Rattle.plarith.specs.Operands.{outcome, parts, weigh};
+ghost use Rattle.plarith.specs.declared.operand.Opened.TheVariants.{Known};
+ghost use Rattle.plarith.specs.Evaluation.{not_evaluable};
+ghost use Rattle.plarith.specs.Operands.{seen_one, seen_two, Opens};
 
-use crate::error::Evaluated;
+use crate::error::{ArithError, Evaluated};
 use crate::functor::{Binary, Unary};
 use plcells::cell::Cell;
+use plterm::indicator::Indicator;
+use plterm::name::Name;
 use std::alloc::AllocError;
 
 /// Where an operand stands.
@@ -41,8 +43,37 @@ pub trait Operands {
 
     /// Looks at an operand.
     fn open(&self, operand: Operand) -> Result<Opened, AllocError>
-        requires operand { is_operand self.now operand }
-        ensures outcome { IfOk result (λ o. outcome (tree self.now) o ≡ eval (tree self.now operand)) }
-        ensures parts { IfOk result (λ o. All (is_operand self.now) (parts o)) }
-        ensures lighter { IfOk result (λ o. weigh (tree self.now) (parts o) < weight (tree self.now operand)) };
+        requires { is_operand self.now operand }
+        ensures { IfOk result (Opens (tree self.now) (is_operand self.now) (tree self.now operand)) };
+}
+
+impl Opened {
+    /// A name with so many arguments that is not evaluable.
+    pub fn unknown(name: &Name, arity: u16) -> Result<Opened, AllocError>
+        ensures { IfOk result (λ o. o ≡ Known (not_evaluable name.now arity)) }
+    {
+        let name = name.copied()?;
+        let indicator = Indicator { name, arity };
+        Ok(Opened::Known(Err(ArithError::NotEvaluable(indicator))))
+    }
+
+    /// A compound of one argument.
+    pub fn of_one(name: &Name, argument: Operand) -> Result<Opened, AllocError>
+        ensures { IfOk result (λ o. o ≡ seen_one name.now argument) }
+    {
+        match Unary::of_name(name.as_str()) {
+            Some(f) => Ok(Opened::One(f, argument)),
+            None => Opened::unknown(name, 1),
+        }
+    }
+
+    /// A compound of two arguments.
+    pub fn of_two(name: &Name, left: Operand, right: Operand) -> Result<Opened, AllocError>
+        ensures { IfOk result (λ o. o ≡ seen_two name.now left right) }
+    {
+        match Binary::of_name(name.as_str()) {
+            Some(f) => Ok(Opened::Two(f, left, right)),
+            None => Opened::unknown(name, 2),
+        }
+    }
 }

@@ -1,64 +1,48 @@
 //! Expressions that stand on the heap.
 ghost use Rattle.std.specs.Prelude.{◌≡◌, ◌<◌, length, IfOk};
 ghost use Rattle.plcells.specs.Store.{IsValue, IsHead, at, term, value};
-ghost use Rattle.plarith.specs.declared.operand.Opened.TheVariants.{Known};
-ghost use Rattle.plarith.specs.Evaluation.{eval, not_evaluable};
-ghost use Rattle.plarith.specs.Values.{IsOperand, tree, Opens};
+ghost use Rattle.plarith.specs.Evaluation.{eval};
+ghost use Rattle.plarith.specs.Operands.{Opens};
+ghost use Rattle.plarith.specs.Values.{IsOperand, tree};
 
 use crate::error::{ArithError, Evaluated};
 use crate::evaluate::evaluate;
-use crate::functor::{Binary, Unary};
 use crate::operand::{Opened, Operand, Operands};
 use plcells::cell::Cell;
 use plcells::heap::Heap;
-use plterm::indicator::Indicator;
-use plterm::name::Name;
 use std::alloc::{AllocError, Global};
-
-/// A name with so many arguments that is not evaluable.
-fn not_evaluable(name: &Name, arity: u16) -> Result<Opened, AllocError>
-    ensures { IfOk result (λ o. o ≡ Known (not_evaluable name.now arity)) }
-{
-    let name = name.copied()?;
-    Ok(Opened::Known(Err(ArithError::NotEvaluable(Indicator {
-        name,
-        arity,
-    }))))
-}
 
 /// A compound on the heap.
 fn open_block(heap: &Heap, p: u32) -> Result<Opened, AllocError>
     requires within { p < length heap.now.cells }
     requires head { IsHead (at heap.now.cells p) }
-    ensures { IfOk result (Opens heap.now (term heap.now p)) }
+    ensures { IfOk result (Opens (tree heap.now) (IsOperand heap.now) (term heap.now p)) }
 {
     let (f, arity) = heap.block(p);
     let functor = heap.names().functor_of(f);
     let name = heap.names().atom_name(functor.name);
-    if arity == 1 {
-        if let Some(f) = Unary::of_name(name.as_str()) {
-            let argument = Operand::Value(heap.argument(p + 1));
-            return Ok(Opened::One(f, argument));
-        }
-    }
-    if arity == 2 {
-        if let Some(f) = Binary::of_name(name.as_str()) {
+    match arity {
+        1 => Opened::of_one(name, Operand::Value(heap.argument(p + 1))),
+        2 => {
             let left = Operand::Value(heap.argument(p + 1));
             let right = Operand::Value(heap.argument(p + 2));
-            return Ok(Opened::Two(f, left, right));
+            Opened::of_two(name, left, right)
         }
+        _ => Opened::unknown(name, arity),
     }
-    not_evaluable(name, arity)
 }
 
 /// A value of the heap.
 fn open_value(heap: &Heap, v: Cell) -> Result<Opened, AllocError>
     requires { IsValue heap.now v }
-    ensures { IfOk result (Opens heap.now (value heap.now v)) }
+    ensures { IfOk result (Opens (tree heap.now) (IsOperand heap.now) (value heap.now v)) }
 {
     match heap.root(v) {
-        Cell::Ref(_) => Ok(Opened::Known(Err(ArithError::Unbound))),
-        Cell::Atom(a) => not_evaluable(heap.names().atom_name(a), 0),
+        Cell::Ref(c) => {
+            let _number = heap.number(c);
+            Ok(Opened::Known(Err(ArithError::Unbound)))
+        }
+        Cell::Atom(a) => Opened::unknown(heap.names().atom_name(a), 0),
         Cell::Str(p) => open_block(heap, p),
         number => Ok(Opened::Known(Ok(heap.integer_of(number)))),
     }
