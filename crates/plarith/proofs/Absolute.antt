@@ -1,5 +1,5 @@
 -- Where the absolute value of an integer of 64 bits has 64 bits.
-use Rattle.std.proofs.Common.{◌≡◌, ◌<◌, ◌^◌, ℤ, pos, negsuc, neg_ℤ, zero, suc, Option, Some, None, FitsSigned, w64, refl, arith}
+use Rattle.std.proofs.Common.{ℤ, pos, negsuc, neg_ℤ, zero, suc, Option, Some, None, FitsSigned, w64, arith}
 use Rattle.std.specs.Prelude.{unsigned_abs}
 use Rattle.std.specs.Option.{SomeIff}
 

@@ -1,5 +1,5 @@
 -- The steps of an evaluation.
-use Rattle.std.proofs.Common.{◌≡◌, ℕ, suc, ◌+◌, ◌*◌, ◌<◌, ℤ, List, [], ◌∷◌, ◌++◌, Ok, Err, All, refl, sym, ap, ◌∙◌, subst, arith}
+use Rattle.std.proofs.Common.{◌≡◌, suc, ◌+◌, ◌<◌, ℤ, List, [], ◌∷◌, ◌++◌, Ok, Err, refl, sym, ap, ◌∙◌, arith}
 use Rattle.plterm.specs.Tree.{Tree}
 use Rattle.plcells.specs.Walking.{weight}
 use Rattle.plarith.specs.declared.error.ArithError.{ArithError}

@@ -1,5 +1,5 @@
 -- Compounds of a heap.
-use Rattle.std.proofs.Common.{◌≡◌, ℕ, zero, suc, ◌+◌, List, [], ◌∷◌, length, refl, sym, ap, ap₂, ◌∙◌, arith}
+use Rattle.std.proofs.Common.{◌≡◌, ℕ, zero, suc, ◌+◌, List, length, refl, sym, ap, ap₂, ◌∙◌, arith}
 use Rattle.plterm.specs.Tree.{Tree, compound, none, more, trees}
 use Rattle.platoms.specs.Names.{functor_name}
 use Rattle.plcells.specs.declared.cell.Cell.{Cell}

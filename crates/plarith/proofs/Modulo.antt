@@ -1,5 +1,5 @@
 -- What remains of a division that rounds down, by what remains of one that rounds toward zero.
-use Rattle.std.proofs.Common.{◌≡◌, ℕ, zero, suc, ◌+◌, ◌*◌, ◌/◌, ◌%◌, ◌^◌, ◌<◌, ◌≤◌, ◌⊎◌, inl, inr, ℤ, pos, negsuc, ◌+ℤ◌, ◌-ℤ◌, neg_ℤ, Bool, true, false, cond, int_rem, FitsSigned, w64, refl, sym, ap, ◌∙◌, arith}
+use Rattle.std.proofs.Common.{◌≡◌, ℕ, zero, suc, ◌/◌, ◌%◌, ◌^◌, ◌<◌, ◌≤◌, ◌⊎◌, inl, inr, ℤ, pos, negsuc, ◌+ℤ◌, neg_ℤ, true, false, cond, int_rem, FitsSigned, w64, refl, sym, ap, ◌∙◌, arith}
 use Rattle.std.proofs.lemmas.Int.{ints}
 use Rattle.std.proofs.lemmas.Nat.{div-add-mod', mod-mul-add, mod_below}
 use Rattle.std.proofs.lemmas.Bool.{cases_lt, lt-ltb, le-ltb, false≢true}
@@ -11,8 +11,8 @@ use Rattle.plarith.specs.Integers.{modulo, is_apart}
 mod_next : (a d : ℕ) → 0 < d → ((suc a % d ≡ 0) × (suc (a % d) ≡ d)) ⊎ (suc a % d ≡ suc (a % d))
 mod_next a d some =
     elim (cases_lt (suc (a % d)) d) [
-        inl below ↦ inr (ap (λ n. n % d) (omega (arith, div-add-mod' a d)) ∙ mod-mul-add (a / d) d (suc (a % d)) below)
-        | inr above ↦ let whole : suc (a % d) ≡ d = omega (arith, mod_below a d some) in inl (ap (λ n. n % d) (omega (arith, div-add-mod' a d, whole)) ∙ mod-mul-add (suc (a / d)) d 0 some, whole)
+      | inl below ↦ inr (ap (λ n. n % d) (omega (arith, div-add-mod' a d)) ∙ mod-mul-add (a / d) d (suc (a % d)) below)
+      | inr above ↦ let whole : suc (a % d) ≡ d = omega (arith, mod_below a d some) in inl (ap (λ n. n % d) (omega (arith, div-add-mod' a d, whole)) ∙ mod-mul-add (suc (a / d)) d 0 some, whole)
     ]
 
 nothing_left : (b : ℕ) → 0 % suc b ≡ 0
@@ -34,14 +34,14 @@ pub modulo_is : (x y : ℤ) → 0 < unsigned_abs y → modulo x y ≡ adjusted (
 modulo_is (pos a) (pos d) some = omega (arith, ints, div-add-mod' a d) ∙ sym (above_above (a % d) d)
 modulo_is (negsuc a) (pos d) some =
     elim (mod_next a d some) [
-        inl w ↦ omega (arith, ints, div-add-mod' a d, w.1) ∙ sym (ap (λ n. adjusted (neg_ℤ (pos n)) (pos d)) w.0)
-        | inr e ↦ omega (arith, ints, div-add-mod' a d) ∙ sym (ap (λ n. adjusted (neg_ℤ (pos n)) (pos d)) e)
+      | inl w ↦ omega (arith, ints, div-add-mod' a d, w.1) ∙ sym (ap (λ n. adjusted (neg_ℤ (pos n)) (pos d)) w.0)
+      | inr e ↦ omega (arith, ints, div-add-mod' a d) ∙ sym (ap (λ n. adjusted (neg_ℤ (pos n)) (pos d)) e)
     ]
 modulo_is (pos zero) (negsuc b) some = omega (arith, ints) ∙ sym (ap (λ n. adjusted (pos n) (negsuc b)) (nothing_left b))
 modulo_is (pos (suc a)) (negsuc b) some =
     elim (mod_next a (suc b) some) [
-        inl w ↦ omega (arith, ints, div-add-mod' a (suc b), w.1) ∙ sym (ap (λ n. adjusted (pos n) (negsuc b)) w.0)
-        | inr e ↦ omega (arith, ints, div-add-mod' a (suc b)) ∙ sym (ap (λ n. adjusted (pos n) (negsuc b)) e)
+      | inl w ↦ omega (arith, ints, div-add-mod' a (suc b), w.1) ∙ sym (ap (λ n. adjusted (pos n) (negsuc b)) w.0)
+      | inr e ↦ omega (arith, ints, div-add-mod' a (suc b)) ∙ sym (ap (λ n. adjusted (pos n) (negsuc b)) e)
     ]
 modulo_is (negsuc a) (negsuc b) some = omega (arith, ints, div-add-mod' (suc a) (suc b)) ∙ sym (below_below (suc a % suc b) b)
 
@@ -54,8 +54,8 @@ modulo_alike x y r some is alike = modulo_is x y some ∙ ap (λ s. adjusted s y
 sub_fits : (a b : ℕ) → a ≤ 2 ^ 63 → b ≤ 2 ^ 63 → 0 < b → a < 2 ^ 63 → FitsSigned w64 (sub_ℕ a b)
 sub_fits a b most_a most_b some less =
     elim (cases_lt a b) [
-        inl lt ↦ rw (lt-ltb a b lt) (record { sfits = omega arith })
-        | inr le ↦ rw (le-ltb a b le) (record { sfits = omega arith })
+      | inl lt ↦ rw (lt-ltb a b lt) (record { sfits = omega arith })
+      | inr le ↦ rw (le-ltb a b le) (record { sfits = omega arith })
     ]
 
 pub apart_fits : (r y : ℤ) → FitsSigned w64 r → FitsSigned w64 y → is_apart r y ≡ true → FitsSigned w64 (r +ℤ y)

@@ -1,5 +1,5 @@
 -- Integers against bounds, as the code tests them.
-use Rattle.std.proofs.Common.{◌≡◌, ℕ, zero, suc, ◌^◌, ◌<◌, ◌≤◌, ℤ, pos, negsuc, neg_ℤ, Bool, true, false, Err, of_z, w64, refl, arith}
+use Rattle.std.proofs.Common.{◌≡◌, ℕ, zero, suc, ◌^◌, ◌<◌, ◌≤◌, ℤ, pos, negsuc, neg_ℤ, true, false, Err, of_z, w64, refl, arith}
 use Rattle.std.proofs.lemmas.Bool.{ltb-true, ltb-false, true≢false}
 use Rattle.std.specs.Prelude.{unsigned_abs, int_lt}
 use Rattle.plarith.specs.declared.error.ArithError.TheVariants.{IntOverflow}

@@ -5,7 +5,7 @@ use Rattle.plterm.specs.Tree.{Tree, var, int, atom, compound, none, more}
 use Rattle.plarith.specs.declared.error.ArithError.TheVariants.{Unbound, NotEvaluable, NotFloat, ZeroDivisor, Undefined, IntOverflow}
 use Rattle.plarith.specs.Functors.{unary_rows, binary_rows, unary_of, binary_of}
 use Rattle.plarith.specs.Errors.{Evaluated, alone, pair, error_of}
-use Rattle.plarith.specs.Evaluation.{eval, eval_all}
+use Rattle.plarith.specs.Evaluation.{eval}
 
 abbrev minus : ℕ → ℤ
 minus n = neg_ℤ (pos n)

@@ -44,7 +44,11 @@ fn after(found: Evaluated) -> Step
 }
 
 /// Looks at an operand.
-fn go_in<S: Operands>(source: &S, frames: &mut Vec<Frame>, operand: Operand) -> Result<Step, AllocError>
+fn go_in<S: Operands>(
+    source: &S,
+    frames: &mut Vec<Frame>,
+    operand: Operand,
+) -> Result<Step, AllocError>
     requires operand { S.is_operand source.now operand }
     requires waiting { All (S.is_operand source.now) (waiting frames.old.items) }
     ensures goes { IfOk result (λ s. Goes (S.tree source.now) frames.old.items frames.new.items (Into operand) s) }

@@ -1,4 +1,4 @@
-use Rattle.std.proofs.Common.{◌≡◌, ◌++◌, ◌∷◌, [], All, ◌+◌, ◌<◌, ap, arith, ◌∙◌}
+use Rattle.std.proofs.Common.{◌++◌, ◌∷◌, [], ap, arith, ◌∙◌}
 use Rattle.std.proofs.lemmas.List.Elements.{All-same, All-push, All-head, All-tail}
 use Rattle.plarith.specs.Frames.{waiting}
 use Rattle.plarith.proofs.Going.{goes_known, goes_one, goes_two, waiting-one, waiting-left}

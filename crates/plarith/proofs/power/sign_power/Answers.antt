@@ -1,4 +1,4 @@
-use Rattle.std.proofs.Common.{◌%◌, ◌==◌, ap, sym, ◌∙◌, cond, pos, negsuc, w64}
+use Rattle.std.proofs.Common.{◌%◌, ap, sym, ◌∙◌, cond, pos, negsuc, w64}
 use Rattle.std.proofs.lemmas.Bool.{eq-eqb, ne_eqb}
 use Rattle.std.proofs.lemmas.Int.{to_z-of_z}
 use Rattle.std.specs.Prelude.{unsigned_abs}

@@ -1,4 +1,4 @@
-use Rattle.std.proofs.Common.{◌≡◌, ap, sym, ◌∙◌, pos, of_z, w64, arith}
+use Rattle.std.proofs.Common.{◌≡◌, ap, sym, ◌∙◌, pos, of_z, w64}
 use Rattle.std.proofs.lemmas.Int.{to_z-of_z}
 use Rattle.std.specs.Prelude.{unsigned_abs}
 use Rattle.plarith.specs.Operations.{shifted_left}
@@ -27,6 +27,6 @@ returns c =
     let far = at_least 63 y (rw same at c.if-y-lt63.false) in
     sym (ap (shifted_left x) is ∙ shift_overflows x (unsigned_abs y) (λ e. c.if-x-eq0.false (ap (of_z w64) e)) far
     (elim c.else-x-eqminus1.branch [
-        else-x-eqminus1-via-then-x-eqminus1+else-y-eq63 w ↦ (λ e n. w.if-y-eq63.false (ap (of_z w64) (is ∙ ap pos n)))
-        | else-x-eqminus1-via-else-x-eqminus1 w ↦ (λ e n. w.if-x-eqminus1.false (ap (of_z w64) e))
+      | else-x-eqminus1-via-then-x-eqminus1+else-y-eq63 w ↦ (λ e n. w.if-y-eq63.false (ap (of_z w64) (is ∙ ap pos n)))
+      | else-x-eqminus1-via-else-x-eqminus1 w ↦ (λ e n. w.if-x-eqminus1.false (ap (of_z w64) e))
     ]))

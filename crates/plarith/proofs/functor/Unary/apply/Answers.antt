@@ -1,4 +1,4 @@
-use Rattle.std.proofs.Common.{ap, ◌∙◌, sym, to_z, of_z, w64}
+use Rattle.std.proofs.Common.{ap, ◌∙◌, sym, w64}
 use Rattle.std.proofs.lemmas.Int.{to_z-of_z}
 use Rattle.plarith.specs.Operations.{unary}
 use Rattle.plarith.proofs.Absolute.{absolute_fits}
