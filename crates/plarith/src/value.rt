@@ -32,8 +32,8 @@ fn open_block(heap: &Heap, p: u32) -> Result<Opened, AllocError>
     }
 }
 
-/// A value of the heap.
-fn open_value(heap: &Heap, v: Cell) -> Result<Opened, AllocError>
+/// What a value of the heap is seen to be.
+pub fn open_value(heap: &Heap, v: Cell) -> Result<Opened, AllocError>
     requires { IsValue heap.now v }
     ensures { IfOk result (Opens (tree heap.now) (IsOperand heap.now) (value heap.now v)) }
 {
