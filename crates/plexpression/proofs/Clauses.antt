@@ -1,23 +1,21 @@
 -- The terms of clauses as expressions.
-use Rattle.std.proofs.Common.{◌≡◌, ℕ, zero, suc, ◌+◌, ◌<◌, ◌≤◌, List, [], ◌∷◌, length, All, refl, sym, ap, ap₂, ◌∙◌, subst, arith, inl, inr, ℤ, Ok}
+use Rattle.std.proofs.Common.{◌≡◌, ℕ, zero, suc, ◌+◌, ◌<◌, ◌≤◌, List, [], ◌∷◌, length, refl, sym, ap, ap₂, ◌∙◌, subst, arith, inl, inr, ℤ, Ok}
 use Rattle.std.proofs.lemmas.Bool.{cases_lt}
 use Rattle.std.proofs.lemmas.List.Elements.{All-nil, All-cons, All-head, All-tail}
-use Rattle.plterm.specs.Tree.{Tree, Trees, var, int, atom, compound, none, more, trees, list_of, trees-list_of, list_of-trees}
+use Rattle.plterm.specs.Tree.{Tree, Trees, compound, none, more, trees, list_of, trees-list_of, list_of-trees}
 use Rattle.plterm.specs.Variables.{AllBelow, EachBelow}
 use Rattle.plsubst.specs.Subst.{bind, bind_all}
 use Rattle.platoms.specs.Names.{Table, functor_name}
-use Rattle.plcells.specs.Store.{Store, spread, value}
+use Rattle.plcells.specs.Store.{spread}
 use Rattle.plcode.specs.declared.node.Node.{Node}
 use Rattle.plcode.specs.declared.node.Node.TheVariants as node
 use Rattle.plcode.specs.Nodes.{IsNamed, values, value as node_value, tree as value_tree}
-use Rattle.plcode.specs.Laying.{IsLaid}
-use Rattle.plcode.specs.Packed.{node_at, ArePacked, IsArgument}
-use Rattle.plenv.specs.Env.{Env, over, variable, Covers}
+use Rattle.plcode.specs.Packed.{node_at}
+use Rattle.plenv.specs.Env.{Env, over, variable}
 use Rattle.platoms.specs.Names.{atom_at}
 use Rattle.plenv.specs.Rows.{tree_at}
 use Rattle.plhead.specs.Fitting.{IsCompoundAt}
 use Rattle.plhead.proofs.Trees.{length-spread, tree-at, named-at, compound-at}
-use Rattle.plarith.specs.declared.functor.Unary.{Unary}
 use Rattle.plarith.specs.declared.operand.Operand.TheVariants as operands
 use Rattle.plarith.specs.declared.operand.Opened.{Opened}
 use Rattle.plarith.specs.declared.operand.Opened.TheVariants.{Known, One, Two}
@@ -36,8 +34,8 @@ each_below : (w : ℕ → Tree) (k a n : ℕ) → EachBelow n (trees (spread w a
 each_below w zero a n below j above within = absurd (omega arith)
 each_below w (suc k) a n below j above within =
     elim (cases_lt a j) [
-        inl later ↦ each_below w k (suc a) n below.1 j (omega arith) (omega arith)
-        | inr first ↦ subst (λ i. AllBelow n (w i)) (omega arith) below.0
+      | inl later ↦ each_below w k (suc a) n below.1 j (omega arith) (omega arith)
+      | inr first ↦ subst (λ i. AllBelow n (w i)) (omega arith) below.0
     ]
 
 next : (root : ℕ) → suc root ≡ root + 1

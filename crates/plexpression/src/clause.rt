@@ -52,12 +52,7 @@ fn open_block(env: &Environment, nodes: &[Node], root: u32) -> Result<Opened, Al
 }
 
 /// What a node, of a clause whose slots begin at a place, is seen to be.
-fn open_node(
-    env: &Environment,
-    nodes: &[Node],
-    at: u32,
-    base: u32,
-) -> Result<Opened, AllocError>
+fn open_node(env: &Environment, nodes: &[Node], at: u32, base: u32) -> Result<Opened, AllocError>
     requires { IsNode env.now nodes.now base at }
     ensures { IfOk result (Opens (tree env.now nodes.now base) (IsOperand env.now nodes.now base) (bind (over env.now base) (tree_at env.now.heap.names nodes.now at))) }
 {

@@ -1,4 +1,4 @@
-use Rattle.std.proofs.Common.{◌≡◌, ◌+◌, ◌<◌, length, ap, sym, ◌∙◌, subst, w64, FitsSigned, rules}
+use Rattle.std.proofs.Common.{◌≡◌, ◌<◌, length, ap, sym, ◌∙◌, subst, w64, FitsSigned, rules}
 use Rattle.std.proofs.lemmas.Int.{to_z-of_z}
 use Rattle.std.proofs.lemmas.Result.{IfOk-weaker}
 use Rattle.platoms.specs.Names.{Table, atom_at}
@@ -8,7 +8,6 @@ use Rattle.plenv.specs.Rows.{tree_at}
 use Rattle.plarith.specs.declared.operand.Opened.TheVariants.{Known}
 use Rattle.plarith.specs.Evaluation.{not_evaluable}
 use Rattle.plarith.specs.Operands.{Opens}
-use Rattle.plarith.specs.Values.{IsOperand as IsHeapOperand, tree as heap_tree}
 use Rattle.plarith.specs.declared.operand.Operand.TheVariants as operands
 use Rattle.plexpression.specs.Nodes.{IsOperand, tree}
 use Rattle.plexpression.proofs.Clauses.{slot_within, variable_shown, opens_value, opens_int, named_within, opens_name, compound_there, opens_compound}
