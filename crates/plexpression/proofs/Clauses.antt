@@ -93,7 +93,7 @@ module _ (e : Env) (nodes : List Node) (base : ℕ) where
   opens_name at a is here = opens_atom (tree e nodes base) (IsOperand e nodes base) (tree e nodes base (operands.Node at)) (atom_at e.heap.names a) (ap (bind (over e base)) (shows at (node.Atom a) is here))
 
   pub compound_there : (at from root : ℕ) → IsNode e nodes base at → node_at nodes at ≡ node.Sub from root → IsCompoundAt e.heap.names nodes root (tree_at e.heap.names nodes at)
-  compound_there at from root is here = compound-at e.heap.names nodes is.laid.sound is.packed at from root is.within here
+  compound_there at from root is here = compound-at e.heap.names nodes is.laid.sound is.laid.packed at from root is.within here
 
   -- by how many arguments there are
   by_arity : (root k : ℕ) (name : List ℕ) (t : Tree) → t ≡ bind (over e base) (compound name (trees (spread (tree_at e.heap.names nodes) (suc root) k))) → ((j : ℕ) → root < j → j ≤ root + k → IsNode e nodes base j) →
@@ -121,7 +121,6 @@ module _ (e : Env) (nodes : List Node) (base : ℕ) where
       by_arity root c.arity (functor_name e.heap.names c.functor) (tree e nodes base (operands.Node at)) (ap (bind (over e base)) c.is)
       (λ j above within. record {
         laid = is.laid;
-        packed = is.packed;
         within = omega (arith, within, c.within);
         whole = c.whole j above within;
         covers = record { width = is.covers.width; below = each_below (tree_at e.heap.names nodes) c.arity (suc root) is.covers.width below j (omega arith) (omega arith); within = is.covers.within };

@@ -5,7 +5,7 @@ use Rattle.plsubst.specs.Subst.{bind}
 use Rattle.plcells.specs.Store.{IsValue, value}
 use Rattle.plcode.specs.declared.node.Node.{Node}
 use Rattle.plcode.specs.Laying.{IsLaid}
-use Rattle.plcode.specs.Packed.{node_at, ArePacked, IsArgument}
+use Rattle.plcode.specs.Packed.{node_at, IsArgument}
 use Rattle.plenv.specs.Env.{Env, over, Covers}
 use Rattle.plenv.specs.Rows.{tree_at}
 use Rattle.plarith.specs.declared.operand.Operand.{Operand}
@@ -18,7 +18,6 @@ use Rattle.plarith.specs.Operands.{seen_one, seen_two}
 -- a node that stands for a term alone, whose variables have slots from a place on
 pub record IsNode (e : Env) (nodes : List Node) (base at : ℕ) : Type 0 where
   pub laid : IsLaid e.heap.names nodes
-  pub packed : ArePacked nodes
   pub within : at < length nodes
   pub whole : IsArgument 0 at (node_at nodes at)
   pub covers : Covers e base (tree_at e.heap.names nodes at)

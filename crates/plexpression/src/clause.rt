@@ -4,7 +4,7 @@ ghost use Rattle.plterm.specs.Tree.{Tree};
 ghost use Rattle.plsubst.specs.Subst.{bind};
 ghost use Rattle.platoms.specs.Names.{functor_name};
 ghost use Rattle.plcode.specs.Laying.{IsLaid};
-ghost use Rattle.plcode.specs.Packed.{node_at, ArePacked, IsArgument};
+ghost use Rattle.plcode.specs.Packed.{node_at, IsArgument};
 ghost use Rattle.plenv.specs.Env.{over, variable, Covers};
 ghost use Rattle.plenv.specs.Rows.{tree_at};
 ghost use Rattle.plhead.specs.Fitting.{IsCompoundAt};
@@ -96,7 +96,6 @@ pub fn eval_node(
     base: u32,
 ) -> Result<Evaluated, AllocError>
     requires laid { IsLaid env.now.heap.names nodes.now }
-    requires packed { ArePacked nodes.now }
     requires within { at < length nodes.now }
     requires whole { IsArgument 0 at (node_at nodes.now at) }
     requires covers { Covers env.now base (tree_at env.now.heap.names nodes.now at) }
