@@ -1,5 +1,5 @@
 //! Quotients and remainders (ISO/IEC 13211-1 9.1.7).
-ghost use Rattle.std.specs.Prelude.{◌≡◌, int_div, ◌+ℤ◌, int_rem, if◌then◌else◌};
+ghost use Rattle.std.specs.Prelude.{◌≡◌, int_div, int_rem};
 ghost use Rattle.std.specs.Int.{w64, IsNonZero};
 ghost use Rattle.plarith.specs.Integers.{modulo as modulus, remainder as rest, is_apart};
 ghost use Rattle.plarith.specs.Operations.{divided, exact, fitting as bounded};

@@ -1,5 +1,5 @@
 //! Evaluation without recursion: operations wait on a stack.
-ghost use Rattle.std.specs.Prelude.{◌≡◌, ◌++◌, ◌∷◌, [], IfOk, OnOk, All};
+ghost use Rattle.std.specs.Prelude.{◌≡◌, IfOk, All};
 ghost use Rattle.plterm.specs.Tree.{Tree};
 ghost use Rattle.plarith.specs.declared.operand.Operand.{Operand};
 ghost use Rattle.plarith.specs.declared.evaluate.Step.TheVariants.{Into, Back};

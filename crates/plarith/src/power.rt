@@ -6,7 +6,7 @@ ghost use Rattle.plarith.specs.Operations.{power};
 use crate::error::{ArithError, Evaluated};
 use crate::width::fitting;
 
-/// A power of -1, of which the exponent's sign is nothing to it.
+/// A power of -1, whatever the sign of the exponent is.
 fn sign_power(y: i64) -> i64
     ensures { result ≡ int_pow (negsuc 0) (unsigned_abs y) }
 {

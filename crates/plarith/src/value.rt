@@ -39,6 +39,7 @@ pub fn open_value(heap: &Heap, v: Cell) -> Result<Opened, AllocError>
 {
     match heap.root(v) {
         Cell::Ref(c) => {
+            // That it is a variable is what the contract of its number says.
             let _number = heap.number(c);
             Ok(Opened::Known(Err(ArithError::Unbound)))
         }
@@ -62,7 +63,7 @@ impl Operands for Heap {
 }
 
 /// What the term of a value comes to as an expression, or its error (ISO/IEC 13211-1 7.9, 9.1.4). It takes time linear in the nodes of the
-/// term, and memory linear in its depth; it makes no cell and no term.
+/// term, of which parts that are shared count each time, and memory linear in its depth; it makes no cell and no term.
 pub fn eval(alloc: Global, heap: &Heap, v: Cell) -> Result<Evaluated, AllocError>
     requires { IsValue heap.now v }
     ensures { IfOk result (λ found. found ≡ eval (value heap.now v)) }

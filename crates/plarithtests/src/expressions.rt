@@ -1,6 +1,4 @@
 //! What expressions come to.
-ghost use Rattle.plterm.specs.Variables.{AllBelow};
-
 use crate::made::{one, results, two};
 use plterm::name::Name;
 use plterm::term::Term;
