@@ -19,7 +19,7 @@ use std::string::String;
 use std::test::Fail;
 
 /// A compound of one argument.
-pub fn one(alloc: Global, name: &str, a: Term) -> Result<Term, AllocError>
+pub(crate) fn one(alloc: Global, name: &str, a: Term) -> Result<Term, AllocError>
     ensures { IfOk result (λ t. t ≡ compound name.now (more a none)) }
 {
     let name = Name::new(alloc, name)?;
@@ -30,7 +30,7 @@ pub fn one(alloc: Global, name: &str, a: Term) -> Result<Term, AllocError>
 }
 
 /// A compound of two arguments.
-pub fn two(alloc: Global, name: &str, a: Term, b: Term) -> Result<Term, AllocError>
+pub(crate) fn two(alloc: Global, name: &str, a: Term, b: Term) -> Result<Term, AllocError>
     ensures { IfOk result (λ t. t ≡ compound name.now (more a (more b none))) }
 {
     let name = Name::new(alloc, name)?;
@@ -77,7 +77,7 @@ fn shown(alloc: Global, found: &Evaluated) -> Result<String, AllocError> {
 }
 
 /// Both of them as text.
-pub fn results(alloc: Global, term: &Term, count: u32) -> Result<(String, String), Fail>
+pub(crate) fn results(alloc: Global, term: &Term, count: u32) -> Result<(String, String), Fail>
     requires { AllBelow count term.now }
 {
     let first = on_heap(alloc, term, count)?;
