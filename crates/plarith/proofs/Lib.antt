@@ -1,0 +1,9 @@
+pub mod Absolute
+pub mod Going
+pub mod HeapTerms
+pub mod Opening
+pub mod Modulo
+pub mod Powers
+pub mod Shifts
+pub mod Widths
+pub mod Worked

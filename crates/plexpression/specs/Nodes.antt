@@ -1,0 +1,38 @@
+-- The nodes of a compiled clause as operands.
+use Rattle.std.specs.Prelude.{ℕ, zero, suc, ◌+◌, ◌<◌, List, length}
+use Rattle.plterm.specs.Tree.{Tree}
+use Rattle.plsubst.specs.Subst.{bind}
+use Rattle.plcells.specs.Store.{IsValue, value}
+use Rattle.plcode.specs.declared.node.Node.{Node}
+use Rattle.plcode.specs.Laying.{IsLaid}
+use Rattle.plcode.specs.Packed.{node_at, IsArgument}
+use Rattle.plenv.specs.Env.{Env, over, Covers}
+use Rattle.plenv.specs.Rows.{tree_at}
+use Rattle.plarith.specs.declared.operand.Operand.{Operand}
+use Rattle.plarith.specs.declared.operand.Operand.TheVariants as operands
+use Rattle.plarith.specs.declared.operand.Opened.{Opened}
+use Rattle.plarith.specs.declared.operand.Opened.TheVariants.{Known}
+use Rattle.plarith.specs.Evaluation.{not_evaluable}
+use Rattle.plarith.specs.Operands.{seen_one, seen_two}
+
+-- a node that stands for a term alone, whose variables have slots from a place on
+pub record IsNode (e : Env) (nodes : List Node) (base at : ℕ) : Type 0 where
+  pub laid : IsLaid e.heap.names nodes
+  pub within : at < length nodes
+  pub whole : IsArgument 0 at (node_at nodes at)
+  pub covers : Covers e base (tree_at e.heap.names nodes at)
+
+abbrev pub IsOperand : Env → List Node → ℕ → Operand → Type 0
+IsOperand e nodes base (operands.Value v) = IsValue e.heap v
+IsOperand e nodes base (operands.Node at) = IsNode e nodes base at
+
+abbrev pub tree : Env → List Node → ℕ → Operand → Tree
+tree e nodes base (operands.Value v) = value e.heap v
+tree e nodes base (operands.Node at) = bind (over e base) (tree_at e.heap.names nodes at)
+
+-- what the compound of so many arguments is seen to be whose block stands at a place
+abbrev pub seen_block : List ℕ → ℕ → ℕ → Opened
+seen_block name zero root = Known (not_evaluable name 0)
+seen_block name (suc zero) root = seen_one name (operands.Node (root + 1))
+seen_block name (suc (suc zero)) root = seen_two name (operands.Node (root + 1)) (operands.Node (root + 2))
+seen_block name (suc (suc (suc k))) root = Known (not_evaluable name (suc (suc (suc k))))
