@@ -1,4 +1,6 @@
 pub mod Solution
+pub mod Errors
 pub mod Terms
+pub mod Atoms
 pub mod Output
 pub mod Solutions

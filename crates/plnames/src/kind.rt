@@ -39,6 +39,13 @@ pub enum Terms {
     Unify,
 }
 
+/// A built-in predicate on atoms (8.16).
+#[derive(Clone, Copy, Debug, PartialEq, Eq)]
+pub enum Atoms {
+    /// atom_length/2.
+    Length,
+}
+
 /// A built-in predicate that writes (8.14).
 #[derive(Clone, Copy, Debug, PartialEq, Eq)]
 pub enum Output {
@@ -54,6 +61,7 @@ pub enum Output {
 #[derive(Clone, Copy, Debug, PartialEq, Eq)]
 pub enum BuiltIn {
     Terms(Terms),
+    Atoms(Atoms),
     Output(Output),
 }
 

@@ -1,6 +1,6 @@
 //! The table of names.
 
-use crate::kind::{BuiltIn, Control, Kind, Output, Terms};
+use crate::kind::{Atoms, BuiltIn, Control, Kind, Output, Terms};
 
 /// What each name with an arity is. No program can change or define these procedures (ISO/IEC 13211-1 7.5.2).
 pub static ROWS: &[(&str, u16, Kind)] = &[
@@ -27,6 +27,11 @@ pub static ROWS: &[(&str, u16, Kind)] = &[
     ("halt", 0, Kind::Control(Control::Halt)),
     ("halt", 1, Kind::Control(Control::Halt)),
     ("=", 2, Kind::BuiltIn(BuiltIn::Terms(Terms::Unify))),
+    (
+        "atom_length",
+        2,
+        Kind::BuiltIn(BuiltIn::Atoms(Atoms::Length)),
+    ),
     ("write", 1, Kind::BuiltIn(BuiltIn::Output(Output::Write))),
     (
         "writeq",

@@ -4,6 +4,9 @@
 #![tactic(auto)]
 
 pub mod answer;
+mod atoms;
 pub mod built_in;
+mod error;
 mod output;
+mod shape;
 mod terms;

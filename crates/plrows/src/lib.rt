@@ -2,6 +2,8 @@
 #![tactic(auto)]
 
 #[cfg(test)]
+mod atoms;
+#[cfg(test)]
 mod calls;
 #[cfg(test)]
 mod control;

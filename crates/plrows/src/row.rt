@@ -11,6 +11,9 @@ use std::thread::Threads;
 /// The words of a command line, a text, and what they make of it: the output and the status.
 pub type Row = (&'static [&'static str], &'static str, &'static str, Status);
 
+/// A goal that writes something, and what it writes; or the error that it raises, and the predicate that raises it.
+pub type Goal = (&'static str, &'static str);
+
 /// The words that run a program.
 pub const RUN: &[&str] = &["prolog", "run", "P"];
 /// The words that list one.
@@ -27,6 +30,25 @@ pub fn first_wrong<R: Threads + Wait + Sync>(
     for (place, (words, text, output, status)) in rows.iter().enumerate() {
         let (bytes, ended) = told(rt, alloc, words, text.as_bytes())?;
         if bytes.as_slice() != output.as_bytes() || ended != *status {
+            return Ok(Some(place));
+        }
+    }
+    Ok(None)
+}
+
+/// Runs goals, each as a program of its own: the place of the first that comes to anything else.
+pub fn first_wrong_goal<R: Threads + Wait + Sync>(
+    rt: &R,
+    alloc: Global,
+    goals: &[Goal],
+) -> Result<Option<usize>, Fail> {
+    for (place, (goal, written)) in goals.iter().enumerate() {
+        let text = format!(in alloc;
+            ":- initialization((catch(({goal}), error(Error, Of), (writeq(Error), write(' of '), writeq(Of)))))."
+        )?;
+        let output = format!(in alloc; "% thread 1 main: true\n{written}\n")?;
+        let (bytes, ended) = told(rt, alloc, RUN, text.as_bytes())?;
+        if bytes.as_slice() != output.as_bytes() || ended != Status::Done {
             return Ok(Some(place));
         }
     }

@@ -1,0 +1,57 @@
+-- The definitions on small inputs.
+use Rattle.std.proofs.Common.{◌≡◌, [], ◌∷◌, pos, negsuc, refl}
+use Rattle.std.specs.Prelude.{codes}
+use Rattle.std.specs.Str.{chars}
+use Rattle.plterm.specs.Tree.{Tree, var, int, atom, compound, none, more}
+use Rattle.plprogram.specs.declared.settings.Settings.{Settings}
+use Rattle.plbuiltin.specs.Errors.{instantiation_error, type_error, domain_error}
+use Rattle.plbuiltin.specs.Solution.{Raises, unifies}
+use Rattle.plbuiltin.specs.Atoms.{atom_length, count_of}
+
+foo : Tree
+foo = atom (codes "foo")
+
+f_of_foo : Tree
+unfolding foo
+f_of_foo = compound (codes "f") (more foo none)
+
+-- characters of one to four bytes
+counted : (count_of [] ≡ int (pos 0)) × (count_of (codes "enchanted evening") ≡ int (pos 17))
+unfolding chars
+counted = (refl, refl)
+
+counted_wide : count_of (97 ∷ 195 ∷ 169 ∷ 226 ∷ 130 ∷ 172 ∷ 240 ∷ 159 ∷ 152 ∷ 128 ∷ []) ≡ int (pos 4)
+unfolding chars
+counted_wide = refl
+
+module _ (s : Settings) where
+  unbound : atom_length (atom (codes "abc") ∷ var 0 ∷ []) s ≡ unifies (var 0) (int (pos 3)) s
+  unfolding chars
+  unbound = refl
+
+  bound : atom_length (atom (codes "abc") ∷ int (pos 4) ∷ []) s ≡ unifies (int (pos 4)) (int (pos 3)) s
+  unfolding chars
+  bound = refl
+
+  -- the atom is looked at before the length
+  unbound_atom : atom_length (var 0 ∷ foo ∷ []) s ≡ Raises instantiation_error
+  unbound_atom = refl
+
+  integer_atom : atom_length (int (pos 123) ∷ foo ∷ []) s ≡ Raises (type_error (codes "atom") (int (pos 123)))
+  integer_atom = refl
+
+  compound_atom : atom_length (f_of_foo ∷ int (negsuc 0) ∷ []) s ≡ Raises (type_error (codes "atom") f_of_foo)
+  unfolding f_of_foo
+  compound_atom = refl
+
+  no_integer : atom_length (foo ∷ foo ∷ []) s ≡ Raises (type_error (codes "integer") foo)
+  unfolding foo
+  no_integer = refl
+
+  compound_length : atom_length (foo ∷ f_of_foo ∷ []) s ≡ Raises (type_error (codes "integer") f_of_foo)
+  unfolding foo f_of_foo
+  compound_length = refl
+
+  negative : atom_length (foo ∷ int (negsuc 0) ∷ []) s ≡ Raises (domain_error (codes "not_less_than_zero") (int (negsuc 0)))
+  unfolding foo
+  negative = refl

@@ -1,0 +1,15 @@
+-- The errors that built-in predicates raise (ISO/IEC 13211-1 7.12.2).
+use Rattle.std.specs.Prelude.{ℕ, List, codes}
+use Rattle.plterm.specs.Tree.{Tree, atom, compound, none, more}
+
+-- a variable stands where a term is needed
+abbrev pub instantiation_error : Tree
+instantiation_error = atom (codes "instantiation_error")
+
+-- a term is of another type
+abbrev pub type_error : List ℕ → Tree → Tree
+type_error type culprit = compound (codes "type_error") (more (atom type) (more culprit none))
+
+-- a term is of the type, and outside of the domain
+abbrev pub domain_error : List ℕ → Tree → Tree
+domain_error domain culprit = compound (codes "domain_error") (more (atom domain) (more culprit none))
