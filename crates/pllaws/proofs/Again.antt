@@ -1,8 +1,9 @@
 -- What is written is read again.
-use Rattle.std.proofs.Common.{◌≡◌, ◌≤◌, ◌<◌, ◌+◌, ◌^◌, ℕ, List, [], ◌∷◌, ◌++◌, length, drop, Bool, true, false, None, codes, append_assoc, length-append, refl, sym, ap, subst, ◌∙◌, arith}
+use Rattle.std.proofs.Common.{◌≡◌, ◌≤◌, ◌<◌, ◌+◌, ◌^◌, ℕ, List, [], ◌∷◌, ◌++◌, length, drop, Bool, true, false, None, codes, length-append, refl, sym, ap, subst, ◌∙◌, arith}
 use Rattle.plterm.specs.Tree.{Tree}
 use Rattle.plterm.specs.Variables.{place, variables, copied}
 use Rattle.plterm.proofs.Belows.{AllBelow-copied}
+use Rattle.plterm.specs.Characters.{is_symbol}
 use Rattle.plops.specs.declared.table.OpTable.{OpTable}
 use Rattle.plops.specs.Sane.{IsSane}
 use Rattle.pllex.specs.declared.token.Token.{Token}
@@ -16,7 +17,6 @@ use Rattle.plread.proofs.Unique.{spelled_once}
 use Rattle.plwrite.specs.declared.style.Style.{Style}
 use Rattle.plwrite.specs.declared.style.Style.TheVariants as styles
 use Rattle.plwrite.specs.declared.place.Position.TheVariants.{At}
-use Rattle.plwrite.specs.Names.{is_symbol}
 use Rattle.plwrite.specs.Places.{whole}
 use Rattle.plwrite.specs.Styles.{has_letters}
 use Rattle.plwrite.specs.Words.{last_byte, text_of}
@@ -25,7 +25,7 @@ use Rattle.pllaws.specs.Pieces.{Piece, QuotesNames}
 use Rattle.pllaws.specs.Tokens.{text, tokens, spaces, ending, end_at}
 use Rattle.pllaws.specs.Read.{Stands}
 use Rattle.pllaws.proofs.Spacing.{clause_read}
-use Rattle.pllaws.proofs.Terms.{fit_renamed, below_more}
+use Rattle.pllaws.proofs.Terms.{fit_renamed, below_more, line_end}
 use Rattle.pllaws.specs.Written.{clause_signs}
 use Rattle.pllaws.specs.Levels.{levels_of}
 use Rattle.pllaws.specs.Told.{Tell}
@@ -105,10 +105,6 @@ module _ (ops : OpTable) (sane : IsSane ops) (style : Style) (plain : has_letter
         are = are;
         first = first_start quotes all from is_apart n s.pieces are;
       }
-
-line_end : (b : Bool) (bytes rest : List ℕ) → (bytes ++ end_text b) ++ rest ≡ bytes ++ ending b (10 ∷ rest)
-line_end true bytes rest = append_assoc bytes (end_text true) rest
-line_end false bytes rest = append_assoc bytes (end_text false) rest
 
 length-end_text : (b : Bool) → length (end_text b) ≡ spaces b + 2
 length-end_text true = refl

@@ -11,6 +11,7 @@ use Rattle.plops.specs.declared.operator.Operator.TheVariants as operators
 use Rattle.plops.specs.declared.table.OpTable.{OpTable}
 use Rattle.plops.specs.Tables.{prefix_of, infix_of, postfix_of}
 use Rattle.plops.specs.Sane.{IsSane}
+use Rattle.plops.proofs.Names.{named_itself}
 use Rattle.plread.specs.Signs.{Sign}
 use Rattle.plread.specs.Signs as tok
 use Rattle.plread.specs.Texts.{nil, curly, dot, list_term}
@@ -29,7 +30,7 @@ use Rattle.plwrite.specs.Places.{whole, argument, right_of_prefix, left_of, righ
 use Rattle.plwrite.specs.Writing.{int_of, alone_form, pair_form}
 use Rattle.pllaws.specs.Levels.{bracketed_levels, atom_levels, alone_levels, pair_levels, levels_of, other_levels}
 use Rattle.pllaws.specs.Written.{is_direct, after, paren, opening, name_sign, functor_sign, operator_sign, integer_signs, atom_signs, position_signs, bracketed, alone_signs, pair_signs, signs, other_signs, clause_signs, Fits, IsWhole, AreWhole}
-use Rattle.pllaws.proofs.Fronts.{same, no_sign, unsigned, bracket_apart, integer_apart, start_paren, start_variable, start_integer, start_call, start_before, start_atom, next_in, next_post, post_alone, called_op, joined_op, Ends, next_end, begins_end, next_comma, Stops, OpStops, op_priority, op_needs, SaneOp, below_max, left_stops, post_stops, end_stops, comma_stops, lower_stops}
+use Rattle.pllaws.proofs.Fronts.{no_sign, unsigned, bracket_apart, integer_apart, start_paren, start_variable, start_integer, start_call, start_before, start_atom, next_in, next_post, post_alone, called_op, joined_op, Ends, next_end, begins_end, next_comma, Stops, OpStops, op_priority, op_needs, SaneOp, below_max, left_stops, post_stops, end_stops, comma_stops, lower_stops}
 use Rattle.pllaws.proofs.Forms.{Uses, plain_operator, alone_op, pair_op, op_of, AloneIs, PairIs, alone_is, pair_is, sane_op}
 
 reads_from : {ops : OpTable} {room max : ℕ} {ts mid rest : List Sign} {t u : Tree} {p q : ℕ} (start : Start) → start_of ops max ts ≡ start → Begins ops room start t p mid → Extends ops room max (next_of ops max p mid) t p mid u q rest → Reads ops room max ts u q rest
@@ -546,7 +547,7 @@ module _ (ops : OpTable) (style : Style) where
 
   atom_tail : (s : List ℕ) → TailBack (atom s)
   unfolding signs levels_of
-  atom_tail s = atom_form s (bytes_eq s nil) (same s nil)
+  atom_tail s = atom_form s (bytes_eq s nil) (named_itself s nil)
 
   -- a term in any position
   abbrev Back : Tree → Type 0
@@ -564,7 +565,7 @@ module _ (ops : OpTable) (style : Style) where
       let sane = sane_op ops style s (more a (more b none)) w in
       (pair_back w s a b law other.0 other.1 (pair_form ops style s) (pair_is ops style s) sane, pair_tail w s a b law other.0 other.1 (pair_form ops style s) (pair_is ops style s) sane)
 
-  abbrev many_levels : Tree → Tree → Trees → ℕ
+  abbrev pub many_levels : Tree → Tree → Trees → ℕ
   many_levels a b args = max (levels_of ops style (At argument) a) (max (levels_of ops style (At argument) b) (other_levels ops style args))
 
   many_arguments : IsSane ops → (a b c : Tree) (args : Trees) → AtBack a → AtBack b → AllBack (more c args) → (room : ℕ) (rest : List Sign) → many_levels a b (more c args) ≤ room → Arguments ops room (signs ops style (At argument) a (after marks.Open) (tok.Comma ∷ signs ops style (At argument) b (after marks.Comma) (other_signs ops style (more c args) rest))) (more a (more b (more c args))) rest

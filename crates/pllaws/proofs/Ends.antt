@@ -2,6 +2,7 @@
 use Rattle.std.proofs.Common.{◌≡◌, ◌==◌, ◌<◌, ◌≤◌, ◌+◌, ◌-◌, ℕ, Bool, true, false, ◌&&◌, ◌||◌, leb, ltb, List, [], ◌∷◌, length, drop, Option, Some, None, refl, subst, arith, drop_of_length-le}
 use Rattle.std.specs.Char.{is_ascii_lowercase, is_ascii_uppercase}
 use Rattle.std.proofs.lemmas.Bool.{cond_both, cond-true, eqb-true, ltb-true, ltb-false, and_parts}
+use Rattle.plterm.specs.Characters.{is_symbol}
 use Rattle.pllex.specs.declared.token.Class.{Class}
 use Rattle.pllex.specs.declared.token.Class.TheVariants.{Alphanumeric, Symbol, Digit}
 use Rattle.pllex.specs.declared.token.Base.{Base}
@@ -30,7 +31,7 @@ use Rattle.pllex.specs.declared.layout.After.TheVariants as afters
 use Rattle.pllex.specs.declared.layout.Gap.{Gap}
 use Rattle.pllex.specs.declared.layout.Gap.TheVariants as gaps
 use Rattle.pllex.specs.Characters.{begins_with, rest_of_character, after_mark}
-use Rattle.pllex.specs.Classes.{is_symbol, is_digit, is_control}
+use Rattle.pllex.specs.Classes.{is_digit, is_control}
 use Rattle.pllex.specs.Escapes.{escape_turn, code_goes_on, escape_code}
 use Rattle.pllex.specs.Quoted.{quoted}
 use Rattle.pllex.specs.Tokens.{run_end, token, named, symbols, number, value, stray, gap, gap_end, goes_on, turn, item_of, item_at, after_gap, item_behind, next_item, is_end, Run, IsClause}

@@ -11,6 +11,7 @@ use Rattle.plops.specs.declared.operator.Operator.TheVariants as operators
 use Rattle.plops.specs.declared.table.OpTable.{OpTable}
 use Rattle.plops.specs.Tables.{prefix_of, infix_of, postfix_of}
 use Rattle.plops.specs.Sane.{IsSane}
+use Rattle.plops.proofs.Names.{named_itself}
 use Rattle.plread.specs.Texts.{curly, dot}
 use Rattle.plwrite.specs.declared.style.Style.{Style}
 use Rattle.plwrite.specs.declared.style.Style.TheVariants as styles
@@ -22,7 +23,7 @@ use Rattle.plwrite.specs.Styles.{used, has_letters}
 use Rattle.plwrite.specs.Places.{is_operator}
 use Rattle.plwrite.specs.Words.{is_minus}
 use Rattle.plwrite.specs.Writing.{int_of, operated, numbered, alone_form, infix_form, pair_form}
-use Rattle.pllaws.proofs.Fronts.{same, SaneOp}
+use Rattle.pllaws.proofs.Fronts.{SaneOp}
 
 abbrev pub alone_op : Alone → Option Operator
 alone_op (alone.Letter n) = None
@@ -91,7 +92,7 @@ numbered_is ops style s (Some (negsuc n)) = operated_is ops style s (used style 
 numbered_is ops style s None = operated_is ops style s (used style (prefix_of ops s)) (used style (postfix_of ops s)) false refl refl
 
 pub alone_is : (ops : OpTable) (style : Style) (s : List ℕ) (v : Option ℤ) → AloneIs ops style s (alone_form ops style s v)
-alone_is ops style s v = alone_choice ops style s (bytes_eq s curly) alone.Curly (numbered ops style s v) (same s curly) (numbered_is ops style s v)
+alone_is ops style s v = alone_choice ops style s (bytes_eq s curly) alone.Curly (numbered ops style s v) (named_itself s curly) (numbered_is ops style s v)
 
 infix_is : (ops : OpTable) (style : Style) (s : List ℕ) (o : Option Infix) → used style (infix_of ops s) ≡ o → PairIs ops style s (infix_form o)
 infix_is ops style s None e = tt
@@ -102,7 +103,7 @@ pair_choice ops style s true y h k = h refl
 pair_choice ops style s false y h k = k
 
 pub pair_is : (ops : OpTable) (style : Style) (s : List ℕ) → PairIs ops style s (pair_form ops style s)
-pair_is ops style s = pair_choice ops style s (bytes_eq s dot) (infix_form (used style (infix_of ops s))) (same s dot) (infix_is ops style s (used style (infix_of ops s)) refl)
+pair_is ops style s = pair_choice ops style s (bytes_eq s dot) (infix_form (used style (infix_of ops s))) (named_itself s dot) (infix_is ops style s (used style (infix_of ops s)) refl)
 
 sane_alone : (ops : OpTable) (style : Style) (s : List ℕ) → IsSane ops → (f : Alone) → AloneIs ops style s f → SaneOp (alone_op f)
 sane_alone ops style s w (alone.Letter n) h = tt

@@ -3,8 +3,8 @@ use Rattle.std.proofs.Common.{sym, ◌≡◌, ◌≤◌, ◌<◌, ◌⊎◌, inl
 use Rattle.std.specs.Str.{bytes_eq}
 use Rattle.std.proofs.lemmas.Bool.{leb-true, le-leb, lt-leb, lt-ltb, false≢true}
 use Rattle.std.proofs.lemmas.Bool.Decides.{nat_tests}
-use Rattle.std.proofs.lemmas.Slice.Eq.{bytes_eq-Decides}
 use Rattle.plterm.specs.Tree.{var, int, atom}
+use Rattle.plterm.specs.Characters.{is_symbol}
 use Rattle.plops.specs.declared.operator.Prefix.{Prefix}
 use Rattle.plops.specs.declared.operator.Infix.{Infix}
 use Rattle.plops.specs.declared.operator.Postfix.{Postfix}
@@ -13,6 +13,7 @@ use Rattle.plops.specs.declared.operator.Operator.TheVariants as operators
 use Rattle.plops.specs.declared.table.OpTable.{OpTable}
 use Rattle.plops.specs.Tables.{prefix_of, infix_of, postfix_of}
 use Rattle.plops.specs.Sane.{comma, comma_op, IsSane}
+use Rattle.plops.proofs.Names.{named_itself}
 use Rattle.plread.specs.Signs.{Sign}
 use Rattle.plread.specs.Signs as tok
 use Rattle.plread.specs.Texts.{nil, curly, minus}
@@ -20,15 +21,12 @@ use Rattle.plread.specs.Reading.{Stands, Opens, Calls, Before, NoStart, Next, Be
 use Rattle.plwrite.specs.declared.style.Style.{Style}
 use Rattle.plwrite.specs.declared.text.Edge.{Edge}
 use Rattle.plwrite.specs.declared.text.Role.TheVariants.{PrefixOperator, PrefixMinus}
-use Rattle.plwrite.specs.Names.{is_bare, is_symbol}
+use Rattle.plwrite.specs.Names.{is_bare}
 use Rattle.plwrite.specs.Words.{Word, first_byte, edge_of, is_letter, is_held_off, touches, prefix}
 use Rattle.plwrite.specs.declared.place.Place.{Place}
 use Rattle.plwrite.specs.Places.{needs_brackets, left_of, left_of_postfix, priority}
 use Rattle.pllaws.proofs.Digits.{first_digit}
 use Rattle.pllaws.specs.Written.{is_direct, paren, operator_sign, name_sign, integer_signs, atom_signs, Fits}
-
-pub same : (a b : List ℕ) → bytes_eq a b ≡ true → a ≡ b
-same a b e = (bytes_eq-Decides a b).0 e
 
 pub start_paren : (ops : OpTable) (max : ℕ) (o : Bool) (ts : List Sign) → start_of ops max (paren o ∷ ts) ≡ Opens ts
 unfolding start_of
@@ -73,7 +71,7 @@ start_of_name ops max n bare ts c j h = start_name ops max n bare ts c (no_sign 
 
 pub start_atom : (ops : OpTable) (max : ℕ) (n : List ℕ) (ts : List Sign) → called ts ≡ None → joined ts ≡ None → (prefix_of ops n ≡ None) ⊎ (begins ops ts ≡ false) → start_of ops max (atom_signs n ts) ≡ Stands (atom n) ts
 unfolding start_of
-start_atom ops max n ts c j h = first (bytes_eq n nil) (same n nil) (bytes_eq n curly) (same n curly) where
+start_atom ops max n ts c j h = first (bytes_eq n nil) (named_itself n nil) (bytes_eq n curly) (named_itself n curly) where
   empty : (m : List ℕ) → n ≡ m → Stands (atom m) ts ≡ Stands (atom n) ts
   empty m e = ap (λ k. Stands (atom k) ts) (sym e)
 
@@ -97,7 +95,7 @@ fits_false p left max given h = ap (λ x. x && nat_le given left) (lt-leb p max 
 -- the sign of an operator is read by the operator's name
 op_reads : (ops : OpTable) (max p : ℕ) (n : List ℕ) (ts : List Sign) → next_of ops max p (operator_sign n ∷ ts) ≡ between (infix_of ops n) (postfix_of ops n) max p n ts
 unfolding next_of
-op_reads ops max p n ts = chosen (bytes_eq n comma) (same n comma) where
+op_reads ops max p n ts = chosen (bytes_eq n comma) (named_itself n comma) where
   chosen : (b : Bool) → (b ≡ true → n ≡ comma) → next_of ops max p (cond b tok.Comma (name_sign n) ∷ ts) ≡ between (infix_of ops n) (postfix_of ops n) max p n ts
   chosen true e = ap (λ m. between (infix_of ops m) (postfix_of ops m) max p m ts) (sym (e refl))
   chosen false e = refl

@@ -1,5 +1,5 @@
 -- What stands at a place of a text, by its first byte.
-use Rattle.std.proofs.Common.{◌≡◌, ℕ, zero, suc, ◌<◌, ◌≤◌, ◌+◌, ◌-◌, true, false, cond, ◌==◌, leb, List, [], ◌∷◌, ◌++◌, length, take, drop, refl, sym, ap, ◌∙◌, arith, drop-drop, drop_at, take_at}
+use Rattle.std.proofs.Common.{◌≡◌, ℕ, zero, suc, ◌<◌, ◌≤◌, ◌+◌, ◌-◌, true, false, ◌==◌, leb, List, [], ◌∷◌, ◌++◌, length, take, drop, refl, sym, ap, ◌∙◌, arith, drop-drop, drop_at, take_at}
 use Rattle.std.specs.Prelude.{nat_eq}
 use Rattle.std.specs.List.{list_all, starts_with}
 use Rattle.std.proofs.lemmas.Bool.{cond-true, cond-false, le-leb, and_parts, and_left, ne_eqb}
@@ -10,13 +10,10 @@ use Rattle.pllex.specs.declared.layout.Mode.TheVariants as modes
 use Rattle.pllex.specs.declared.layout.Gap.TheVariants as gaps
 use Rattle.pllex.specs.Characters.{after_mark}
 use Rattle.pllex.specs.Classes.{in_class}
+use Rattle.pllex.proofs.RunEnds.{run_end-cons}
 use Rattle.pllex.specs.Tokens.{run_end, begins_in, between, gap, goes_on, token, named, item_of, item_at, after_gap, item_behind, next_item}
 
 -- ---- runs
-
-run-cons : (class : Class) (place b : ℕ) (bytes : List ℕ) → run_end class place (b ∷ bytes) ≡ cond (in_class class b) (run_end class (place + 1) bytes) place
-unfolding run_end
-run-cons class place b bytes = refl
 
 run_stays : (class : Class) (place : ℕ) (rest : List ℕ) → begins_in class rest ≡ false → run_end class place rest ≡ place
 unfolding run_end
@@ -28,7 +25,7 @@ pub run_over : (class : Class) (place : ℕ) (bytes rest : List ℕ) → list_al
 run_over class place [] rest all e = run_stays class place rest e ∙ omega arith
 run_over class place (b ∷ bytes) rest all e =
     let p = and_parts (in_class class b) (list_all (in_class class) bytes) all in
-    run-cons class place b (bytes ++ rest) ∙ cond-true (in_class class b) _ _ p.0 ∙ run_over class (place + 1) bytes rest p.1 e ∙ omega arith
+    run_end-cons class place b (bytes ++ rest) ∙ cond-true (in_class class b) _ _ p.0 ∙ run_over class (place + 1) bytes rest p.1 e ∙ omega arith
 
 short : (kind : Kind) (place n : ℕ) → n ≤ 65535 → named kind place (place + n) ≡ token kind place (place + n)
 short kind place n h = let e : (place + n) - place ≤ 65535 = omega arith in cond-true (leb ((place + n) - place) 65535) _ _ (le-leb ((place + n) - place) 65535 e)

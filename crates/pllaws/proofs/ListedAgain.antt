@@ -1,6 +1,7 @@
 -- A listing has the clauses and directives that it lists.
 use Rattle.std.proofs.Common.{◌≡◌, ◌≤◌, ◌<◌, ◌+◌, ◌^◌, ℕ, zero, suc, List, [], ◌∷◌, ◌++◌, length, drop, Bool, true, false, codes, append_assoc, append-nil, length-append, drop-drop, drop_at, refl, sym, ap, subst, ◌∙◌, arith}
 use Rattle.plterm.specs.Tree.{Tree}
+use Rattle.plterm.specs.Characters.{is_symbol}
 use Rattle.plops.specs.declared.table.OpTable.{OpTable}
 use Rattle.plops.specs.Checks.{IsTable}
 use Rattle.plops.proofs.Checks.{is_sane}
@@ -10,7 +11,6 @@ use Rattle.plread.specs.Spelling.{signs_of}
 use Rattle.plread.specs.Reading.{Spells}
 use Rattle.plwrite.specs.declared.style.Style.TheVariants.{Listed}
 use Rattle.plwrite.specs.declared.place.Position.TheVariants.{At}
-use Rattle.plwrite.specs.Names.{is_symbol}
 use Rattle.plwrite.specs.Places.{whole}
 use Rattle.plwrite.specs.Words.{last_byte}
 use Rattle.plwrite.specs.Writing.{written, end_text, clause_text}

@@ -10,6 +10,7 @@ use Rattle.plops.specs.declared.operator.Operator.TheVariants as operators
 use Rattle.plops.specs.declared.table.OpTable.{OpTable}
 use Rattle.plops.specs.Tables.{prefix_of, infix_of, postfix_of}
 use Rattle.plops.specs.Sane.{IsSane}
+use Rattle.plops.proofs.Names.{named_itself}
 use Rattle.plread.specs.Signs.{Sign}
 use Rattle.plread.specs.Signs as tok
 use Rattle.plread.specs.Texts.{nil, curly, dot, list_term}
@@ -27,9 +28,9 @@ use Rattle.plwrite.specs.Places.{whole, argument, right_of_prefix, left_of, righ
 use Rattle.plwrite.specs.Writing.{int_of, alone_form, pair_form}
 use Rattle.pllaws.specs.Levels.{bracketed_levels, atom_levels, alone_levels, pair_levels, levels_of, other_levels}
 use Rattle.pllaws.specs.Written.{is_direct, after, name_sign, functor_sign, operator_sign, integer_signs, atom_signs, position_signs, bracketed, alone_signs, pair_signs, signs, other_signs, clause_signs, Fits, IsWhole, AreWhole}
-use Rattle.pllaws.proofs.Fronts.{same, start_paren, start_variable, start_integer, start_call, start_before, start_atom, next_in, next_post, post_alone, called_op, joined_op, Ends, next_end, next_comma, Stops, op_priority, op_needs, SaneOp, below_max}
+use Rattle.pllaws.proofs.Fronts.{start_paren, start_variable, start_integer, start_call, start_before, start_atom, next_in, next_post, post_alone, called_op, joined_op, Ends, next_end, next_comma, Stops, op_priority, op_needs, SaneOp, below_max}
 use Rattle.pllaws.proofs.Forms.{Uses, alone_op, pair_op, AloneIs, PairIs, alone_is, pair_is, sane_op}
-use Rattle.pllaws.proofs.Back.{Quiet, OpQuiet, priority_of, needs, Followed, quiet_end, op_quiet_close, calm_comma, under, start_curly, start_square, opens, fronts, calm_operand, calm_left, calm_post, placed_priority, followed, calm_followed, op_quiet_square}
+use Rattle.pllaws.proofs.Back.{Quiet, OpQuiet, priority_of, needs, Followed, quiet_end, op_quiet_close, calm_comma, under, start_curly, start_square, opens, fronts, calm_operand, calm_left, calm_post, placed_priority, followed, calm_followed, op_quiet_square, many_levels}
 
 -- ---- what a reading is made of
 
@@ -377,7 +378,7 @@ module _ (ops : OpTable) (style : Style) where
 
   atom_tail : (s : List ℕ) → TailHeld (atom s)
   unfolding signs levels_of
-  atom_tail s = atom_form s (bytes_eq s nil) (same s nil)
+  atom_tail s = atom_form s (bytes_eq s nil) (named_itself s nil)
 
   -- a term in any position
   abbrev Is : Tree → Type 0
@@ -395,10 +396,7 @@ module _ (ops : OpTable) (style : Style) where
       let sane = sane_op ops style s (more a (more b none)) w in
       (pair_held w s a b law other.0 other.1 (pair_form ops style s) (pair_is ops style s) sane, pair_tail w s a b law other.0 other.1 (pair_form ops style s) (pair_is ops style s) sane)
 
-  abbrev many_levels : Tree → Tree → Trees → ℕ
-  many_levels a b args = max (levels_of ops style (At argument) a) (max (levels_of ops style (At argument) b) (other_levels ops style args))
-
-  many_arguments : IsSane ops → (a b c : Tree) (args : Trees) → AtHeld a → AtHeld b → AllHeld (more c args) → (room : ℕ) (rest : List Sign) (found : Trees) (left : List Sign) → Arguments ops room (signs ops style (At argument) a (after marks.Open) (tok.Comma ∷ signs ops style (At argument) b (after marks.Comma) (other_signs ops style (more c args) rest))) found left → ExactlyAll room (many_levels a b (more c args)) (more a (more b (more c args))) rest found left
+  many_arguments : IsSane ops → (a b c : Tree) (args : Trees) → AtHeld a → AtHeld b → AllHeld (more c args) → (room : ℕ) (rest : List Sign) (found : Trees) (left : List Sign) → Arguments ops room (signs ops style (At argument) a (after marks.Open) (tok.Comma ∷ signs ops style (At argument) b (after marks.Comma) (other_signs ops style (more c args) rest))) found left → ExactlyAll room (many_levels ops style a b (more c args)) (more a (more b (more c args))) rest found left
   many_arguments w a b c args law other others room rest found left h =
       comma_argument w a law (more b (more c args)) (max (levels_of ops style (At argument) b) (other_levels ops style (more c args))) (after marks.Open) room (signs ops style (At argument) b (after marks.Comma) (other_signs ops style (more c args) rest)) rest
       (λ f l k. arguments_held w b (more c args) other others (after marks.Comma) room rest f l k) found left h
@@ -406,9 +404,9 @@ module _ (ops : OpTable) (style : Style) where
   many_held : IsSane ops → (s : List ℕ) (a b c : Tree) (args : Trees) → AtHeld a → AtHeld b → AllHeld (more c args) → Is (compound s (more a (more b (more c args))))
   unfolding signs levels_of
   many_held w s a b c args law other others = (
-    λ place. call_held s _ (more a (more b (more c args))) (λ rest. signs ops style (At argument) a (after marks.Open) (tok.Comma ∷ signs ops style (At argument) b (after marks.Comma) (other_signs ops style (more c args) rest))) (many_levels a b (more c args)) place.most _ (many_arguments w a b c args law other others),
-    barred (compound s (more a (more b (more c args)))) 0 false (OpQuiet ops style None) (λ o ws. functor_sign s ∷ tok.OpenCall ∷ signs ops style (At argument) a (after marks.Open) (tok.Comma ∷ signs ops style (At argument) b (after marks.Comma) (other_signs ops style (more c args) ws))) (suc (many_levels a b (more c args)))
-        (call_held s _ (more a (more b (more c args))) (λ rest. signs ops style (At argument) a (after marks.Open) (tok.Comma ∷ signs ops style (At argument) b (after marks.Comma) (other_signs ops style (more c args) rest))) (many_levels a b (more c args)) 999 (OpQuiet ops style None) (many_arguments w a b c args law other others)) (op_quiet_square ops style None),
+    λ place. call_held s _ (more a (more b (more c args))) (λ rest. signs ops style (At argument) a (after marks.Open) (tok.Comma ∷ signs ops style (At argument) b (after marks.Comma) (other_signs ops style (more c args) rest))) (many_levels ops style a b (more c args)) place.most _ (many_arguments w a b c args law other others),
+    barred (compound s (more a (more b (more c args)))) 0 false (OpQuiet ops style None) (λ o ws. functor_sign s ∷ tok.OpenCall ∷ signs ops style (At argument) a (after marks.Open) (tok.Comma ∷ signs ops style (At argument) b (after marks.Comma) (other_signs ops style (more c args) ws))) (suc (many_levels ops style a b (more c args)))
+        (call_held s _ (more a (more b (more c args))) (λ rest. signs ops style (At argument) a (after marks.Open) (tok.Comma ∷ signs ops style (At argument) b (after marks.Comma) (other_signs ops style (more c args) rest))) (many_levels ops style a b (more c args)) 999 (OpQuiet ops style None) (many_arguments w a b c args law other others)) (op_quiet_square ops style None),
   )
 
   mutual

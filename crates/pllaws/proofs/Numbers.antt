@@ -2,7 +2,7 @@
 use Rattle.std.proofs.Common.{◌≡◌, ◌≤◌, ◌<◌, ◌==◌, eqb, ◌+◌, ◌^◌, max, min, ℕ, zero, suc, Bool, true, false, cond, List, [], ◌∷◌, ◌++◌, length, decimal, length-append, refl, sym, ap, subst, ◌∙◌, arith}
 use Rattle.std.specs.List.{position_or_len}
 use Rattle.std.specs.Str.{bytes_eq}
-use Rattle.std.proofs.lemmas.Bool.{cond_both, cond-false, eqb-true, eqb-false, false_from_ne_true}
+use Rattle.std.proofs.lemmas.Bool.{cond_both, cond-false, eqb-true, eqb-false}
 use Rattle.std.proofs.lemmas.Bool.Decides.{nat_tests}
 use Rattle.std.proofs.lemmas.Fmt.{decimal_nonempty, decimal_injective}
 use Rattle.std.proofs.lemmas.List.Sums.{prefix_len-le-length}
@@ -15,6 +15,7 @@ use Rattle.plterm.specs.Reading.{spelling, spellings}
 use Rattle.plterm.specs.Variables.{place, added, seen_after, variables, copied}
 use Rattle.plterm.proofs.Spellings.{place-added, place-seen_after}
 use Rattle.plops.specs.declared.table.OpTable.{OpTable}
+use Rattle.plops.proofs.Names.{other_name}
 use Rattle.plread.specs.Signs.{Sign}
 use Rattle.plread.specs.Signs as tok
 use Rattle.plread.specs.Spelling.{anonymous, number_of, seen_with}
@@ -102,9 +103,6 @@ length-names : (m : ℕ) → length (names m) ≡ m
 length-names zero = refl
 length-names (suc m) = let h = length-names m in omega (arith, length-append (names m) (written_name (1 + m) ∷ []))
 
-other_bytes : (a b : List ℕ) → (a ≡ b → ⊥) → bytes_eq a b ≡ false
-other_bytes a b h = false_from_ne_true (bytes_eq a b) (λ t. h ((bytes_eq-Decides a b).0 t))
-
 same_number : (p q : ℕ) → 1 + p < 2 ^ 64 → 1 + q < 2 ^ 64 → written_name (1 + p) ≡ written_name (1 + q) → p ≡ q
 same_number p q h k e = let digits : decimal (1 + p) ≡ decimal (1 + q) = cc in let n : 1 + p ≡ 1 + q = decimal_injective (1 + p) (1 + q) h k digits in omega arith
 
@@ -112,10 +110,10 @@ name_test : (p q : ℕ) → 1 + p < 2 ^ 64 → 1 + q < 2 ^ 64 → bytes_eq (writ
 name_test p q h k = by (eqb p q) refl where
   by : (b : Bool) → eqb p q ≡ b → bytes_eq (written_name (1 + p)) (written_name (1 + q)) ≡ b
   by true e = (bytes_eq-Decides (written_name (1 + p)) (written_name (1 + q))).1 (ap (λ n. written_name (1 + n)) (eqb-true p q e))
-  by false e = other_bytes (written_name (1 + p)) (written_name (1 + q)) (λ s. eqb-false p q e (same_number p q h k s))
+  by false e = other_name (written_name (1 + p)) (written_name (1 + q)) (λ s. eqb-false p q e (same_number p q h k s))
 
 not_anonymous : (p : ℕ) → 1 + p < 2 ^ 64 → bytes_eq (written_name (1 + p)) anonymous ≡ false
-not_anonymous p h = other_bytes (written_name (1 + p)) anonymous (λ e. let n = decimal_nonempty (1 + p) h in let digits : decimal (1 + p) ≡ [] = cc in let none_left : length (decimal (1 + p)) ≡ 0 = ap length digits in omega arith)
+not_anonymous p h = other_name (written_name (1 + p)) anonymous (λ e. let n = decimal_nonempty (1 + p) h in let digits : decimal (1 + p) ≡ [] = cc in let none_left : length (decimal (1 + p)) ≡ 0 = ap length digits in omega arith)
 
 next_place : (p m : ℕ) → cond (eqb (min p m) m) (m + cond (eqb p m) 0 1) (min p m) ≡ min p (suc m)
 next_place p m = grind (arith, nat_tests)

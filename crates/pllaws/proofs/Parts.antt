@@ -6,6 +6,7 @@ use Rattle.std.specs.Str.{bytes_eq}
 use Rattle.std.specs.Char.{is_ascii_lowercase, is_ascii_uppercase}
 use Rattle.std.proofs.lemmas.Bool.{cond-true, cond-false, and_parts, and_left, and_right, and_cases, or_parts, or_from, or_left, ne_eqb, eqb-false}
 use Rattle.std.proofs.lemmas.Bool.Decides.{nat_tests}
+use Rattle.plterm.specs.Characters.{is_alphanumeric, is_symbol}
 use Rattle.pllex.specs.declared.token.Base.TheVariants.{Decimal}
 use Rattle.pllex.specs.declared.token.Class.TheVariants.{Alphanumeric, Symbol}
 use Rattle.pllex.specs.declared.token.Kind.{Kind}
@@ -17,13 +18,13 @@ use Rattle.pllex.specs.declared.layout.After.TheVariants.{Ends}
 use Rattle.pllex.specs.declared.quoted.Within.TheVariants.{Inside}
 use Rattle.pllex.specs.Quoted as lex
 use Rattle.pllex.specs.Characters.{begins_with}
-use Rattle.pllex.specs.Classes.{is_digit, is_layout, is_symbol}
+use Rattle.pllex.specs.Classes.{is_digit, is_layout}
 use Rattle.pllex.specs.Named.{bytes_of, value_as, value_of}
 use Rattle.pllex.specs.Tokens.{run_end, begins_in, between, is_fraction, ends_here, punctuation, marked, named, symbols, token, of_quoted, item_of, next_item, is_end}
 use Rattle.plwrite.specs.declared.text.Edge.{Edge}
 use Rattle.plwrite.specs.declared.text.Sign.{Sign}
 use Rattle.plwrite.specs.declared.text.Sign.TheVariants as signs
-use Rattle.plwrite.specs.Names.{escaped, quoted, is_alphanumeric}
+use Rattle.plwrite.specs.Names.{escaped, quoted}
 use Rattle.plwrite.specs.Words.{first_byte, last_byte, is_letter, sign_text}
 use Rattle.pllaws.specs.Pieces.{Part, itself, quoted_part, sign_kind, IsName}
 use Rattle.pllaws.specs.Read.{Clear}

@@ -1,5 +1,5 @@
 -- The next clause behind a line's end is that of the next line.
-use Rattle.std.proofs.Common.{◌≡◌, ◌+◌, ℕ, zero, suc, List, [], ◌∷◌, drop, ◌&&◌, refl, sym, ap, subst, ◌∙◌, arith, drop-drop}
+use Rattle.std.proofs.Common.{◌≡◌, ◌+◌, ℕ, zero, suc, List, [], ◌∷◌, drop, ◌&&◌, refl, sym, ap, subst, ◌∙◌, arith}
 use Rattle.std.specs.Prelude.{if◌then◌else◌, nat_eq}
 use Rattle.std.specs.List.{starts_with}
 use Rattle.std.proofs.lemmas.Bool.{ne_eqb}
@@ -7,6 +7,7 @@ use Rattle.pllex.specs.declared.token.Token.{Token}
 use Rattle.pllex.specs.declared.token.Item.TheVariants as items
 use Rattle.pllex.specs.declared.layout.Mode.TheVariants as modes
 use Rattle.pllex.specs.Tokens.{gap, item_at, after_gap, item_behind, next_item, IsClause, IsOver}
+use Rattle.pllex.proofs.Names.{rest_is}
 
 -- behind a place that is not the first no mark is looked for
 next_behind : (text : List ℕ) (from : ℕ) → next_item text (suc from) ≡ item_behind text (suc from)
@@ -18,12 +19,9 @@ newline_gap : (place : ℕ) (bytes : List ℕ) → gap modes.Between place (10 �
 unfolding gap
 newline_gap place bytes = refl
 
-drop_next : (text : List ℕ) (place b : ℕ) (bytes : List ℕ) → drop place text ≡ b ∷ bytes → drop (place + 1) text ≡ bytes
-drop_next text place b bytes e = sym (drop-drop 1 place text) ∙ ap (drop 1) e
-
 newline_behind : (text : List ℕ) (place : ℕ) (bytes : List ℕ) → drop place text ≡ 10 ∷ bytes → item_behind text place ≡ item_behind text (place + 1)
 newline_behind text place bytes e =
-    ap (λ l. after_gap text (gap modes.Between place l)) e ∙ ap (after_gap text) (newline_gap place bytes) ∙ ap (λ l. after_gap text (gap modes.Between (place + 1) l)) (sym (drop_next text place 10 bytes e))
+    ap (λ l. after_gap text (gap modes.Between place l)) e ∙ ap (after_gap text) (newline_gap place bytes) ∙ ap (λ l. after_gap text (gap modes.Between (place + 1) l)) (sym (rest_is text place 10 bytes e))
 
 pub newline_next : (text : List ℕ) (from : ℕ) (bytes : List ℕ) → drop (suc from) text ≡ 10 ∷ bytes → next_item text (suc from) ≡ next_item text (suc from + 1)
 newline_next text from bytes e =

@@ -4,6 +4,7 @@ use Rattle.std.proofs.lemmas.Bool.{false≢true}
 use Rattle.std.specs.Str.{bytes_eq}
 use Rattle.plterm.specs.Tree.{Tree, Trees, var, int, atom, compound, none, more}
 use Rattle.plterm.specs.Variables.{AllBelow, EachBelow}
+use Rattle.plterm.specs.Characters.{is_symbol}
 use Rattle.plops.specs.declared.operator.Operator.TheVariants as operators
 use Rattle.plops.specs.declared.table.OpTable.{OpTable}
 use Rattle.plops.specs.Tables.{prefix_of, infix_of, postfix_of}
@@ -19,7 +20,6 @@ use Rattle.plwrite.specs.declared.form.Alone.{Alone}
 use Rattle.plwrite.specs.declared.form.Alone.TheVariants as alone
 use Rattle.plwrite.specs.declared.form.Pair.{Pair}
 use Rattle.plwrite.specs.declared.form.Pair.TheVariants as pair
-use Rattle.plwrite.specs.Names.{is_symbol}
 use Rattle.plwrite.specs.Places.{whole, argument, right_of_prefix, left_of, right_of, left_of_postfix, needs_brackets, is_bracketed_atom, place_of}
 use Rattle.plwrite.specs.Styles.{has_letters}
 use Rattle.plwrite.specs.Words as text

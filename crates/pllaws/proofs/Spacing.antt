@@ -4,6 +4,7 @@ use Rattle.std.specs.List.{flat_map}
 use Rattle.std.proofs.lemmas.Bool.{cond-true, and_left, and_right, or_from, false_from_ne_true}
 use Rattle.std.proofs.lemmas.Bool.Decides.{nat_tests}
 use Rattle.std.proofs.lemmas.List.{map-append}
+use Rattle.plterm.specs.Characters.{is_symbol}
 use Rattle.pllex.specs.declared.token.Base.TheVariants.{Decimal}
 use Rattle.pllex.specs.declared.token.Class.TheVariants.{Digit}
 use Rattle.pllex.specs.declared.token.Token.{Token}
@@ -16,7 +17,6 @@ use Rattle.plwrite.specs.declared.style.Style.{Style}
 use Rattle.plwrite.specs.declared.text.Edge.{Edge}
 use Rattle.plwrite.specs.declared.text.Role.{Role}
 use Rattle.plwrite.specs.declared.text.Role.TheVariants.{Other, PrefixOperator, PrefixMinus}
-use Rattle.plwrite.specs.Names.{is_symbol}
 use Rattle.plwrite.specs.Words.{Word, first_byte, last_byte, edge_of, is_letter, is_held_off, touches, spaced, start, text_behind}
 use Rattle.pllaws.specs.Pieces.{Piece, Part, word, parts, QuotesNames, Fits, AllFit}
 use Rattle.pllaws.specs.Tokens.{tokens_at, spaces, tokens_behind, words_of, text, tokens, values, ending, end_at}

@@ -1,14 +1,12 @@
 -- The clauses and directives of an accepted text, each with the settings under which it is read.
-use Rattle.std.proofs.Common.{◌≡◌, ℕ, List, [], ◌∷◌, Some, refl, sym, ap, subst, ◌∙◌}
+use Rattle.std.proofs.Common.{◌≡◌, ℕ, List, [], ◌∷◌, refl, sym, ap, subst, ◌∙◌}
 use Rattle.plterm.specs.Tree.{Tree}
 use Rattle.pllex.specs.Tokens.{IsOver}
-use Rattle.pllex.proofs.Clauses.{one_clause, not_over}
-use Rattle.plread.specs.Spelling.{signs_of}
-use Rattle.plread.proofs.Unique.{spelled_once}
+use Rattle.pllex.proofs.Clauses.{not_over}
 use Rattle.plprogram.specs.declared.settings.Settings.{Settings}
 use Rattle.plprogram.specs.Settings.{iso_settings}
-use Rattle.plload.specs.Taking.{Takes}
-use Rattle.plload.specs.Loading.{levels, Spelled, judged, Goes, Ending, Ends, Fails, Runs, over, stops, goes, Accepts, outcome_of, Comes}
+use Rattle.plload.proofs.Once.{one_going}
+use Rattle.plload.specs.Loading.{Goes, Ending, Ends, Fails, Runs, over, stops, goes, Accepts, outcome_of, Comes}
 
 -- from a place on the text has these, one behind the other, and nothing behind them, where these are the settings
 pub data Path (text : List ℕ) : ℕ → Settings → List (Settings × Tree) → Settings → Type 0 where
@@ -40,20 +38,6 @@ module _ {A : Type 0} (add : A → Settings → Tree → A) (text : List ℕ) wh
   runs_along : (from : ℕ) (s : Settings) (a : A) (steps : List (Settings × Tree)) (end : Settings) → Path text from s steps end → Runs add text from s a (Ends end (total add a steps))
   runs_along from s a steps end (path_over h) = over h
   runs_along from s a steps end (path_on {after} {new} {t} {steps = rest} g p) = goes g (runs_along after new (add a s t) rest end p)
-
--- the next clause goes on in one way
-record OneGoing (t u : Tree) (after last : ℕ) (new next : Settings) : Type 0 where
-  term : t ≡ u
-  place : after ≡ last
-  settings : new ≡ next
-
-one_going : (text : List ℕ) (from : ℕ) (s : Settings) (t u : Tree) (after last : ℕ) (new next : Settings) → Goes text from s t after new → Goes text from s u last next → OneGoing t u after last new next
-one_going text from s t u after last new next g h =
-    let same = one_clause text from g.tokens h.tokens after last g.reads.clause h.reads.clause in
-    let first : Spelled s (signs_of s.quotes text h.tokens) (Some t) = subst (λ ts. Spelled s (signs_of s.quotes text ts) (Some t)) same.0 g.reads.term in
-    let term : t ≡ u = spelled_once s.operators levels (signs_of s.quotes text h.tokens) t u first h.reads.term in
-    let taken : Takes new ≡ Takes next = sym g.takes ∙ ap (judged s) term ∙ h.takes in
-    record { term = term; place = same.1; settings = cc }
 
 record OnePath (xs ys : List (Settings × Tree)) (a b : Settings) : Type 0 where
   steps : xs ≡ ys

@@ -6,6 +6,7 @@ use Rattle.std.proofs.lemmas.Bool.{cond_both}
 use Rattle.plterm.specs.Variables.{place, variables, renamed, all_renamed, copied, AllBelow, EachBelow}
 use Rattle.plterm.proofs.Belows.{AllBelow-copied}
 use Rattle.plterm.specs.Tree.{Tree, var, int, atom, compound, Trees, none, more}
+use Rattle.plterm.specs.Characters.{is_symbol}
 use Rattle.plops.specs.declared.operator.Operator.TheVariants as operators
 use Rattle.plops.specs.declared.operator.Prefix.{Prefix as PrefixEntry}
 use Rattle.plops.specs.declared.operator.Postfix.{Postfix as PostfixEntry}
@@ -21,7 +22,6 @@ use Rattle.plwrite.specs.declared.form.Pair.{Pair}
 use Rattle.plwrite.specs.declared.form.Pair.TheVariants as pair
 use Rattle.plwrite.specs.Places.{whole, argument, right_of_prefix, left_of, right_of, left_of_postfix, needs_brackets, is_bracketed_atom, place_of}
 use Rattle.plwrite.specs.Words.{Word, last_byte, text_of, is_minus}
-use Rattle.plwrite.specs.Names.{is_symbol}
 use Rattle.plwrite.specs.Styles.{has_letters}
 use Rattle.plwrite.specs.Writing.{words, others, int_of, alone_form, as_operator, operated, numbered, pair_form, ends_list, behind_bar, bracketed, called, atom_words, alone_words, list_words, pair_words, written, end_text, clause_text}
 use Rattle.pllex.specs.Tokens.{ends_here}
@@ -203,7 +203,7 @@ written_read ops style q t h b all from is_apart rest s =
 pub apart_read : (ops : List Entry) (style : Style) → QuotesNames style → (t : Tree) → IsFit t → length (variables t) < 2 ^ 64 → (all : List ℕ) (from : ℕ) (rest : List ℕ) → ends_here rest ≡ true → drop from all ≡ written ops style t ++ (codes " ." ++ rest) → ReadsTerm ops style (copied 1 t) all from true
 apart_read ops style q t h b all from rest o e = written_read ops style q t h b all from true rest (record { here = e; apart = λ k. refl; over = o })
 
-line_end : (b : Bool) (text rest : List ℕ) → (text ++ end_text b) ++ rest ≡ text ++ ending b (10 ∷ rest)
+pub line_end : (b : Bool) (text rest : List ℕ) → (text ++ end_text b) ++ rest ≡ text ++ ending b (10 ∷ rest)
 line_end true text rest = append_assoc text (end_text true) rest
 line_end false text rest = append_assoc text (end_text false) rest
 

@@ -7,17 +7,18 @@ use Rattle.std.specs.Str.{bytes_eq}
 use Rattle.std.specs.Char.{is_ascii_lowercase, is_ascii_uppercase}
 use Rattle.std.proofs.lemmas.Bool.{cond_both, and_parts, and_from, and_left, and_right, and_cases, or_parts, or_cases, or_from, not-true}
 use Rattle.std.proofs.lemmas.Bool.Decides.{nat_tests}
-use Rattle.std.proofs.lemmas.Slice.Eq.{bytes_eq-Decides}
 use Rattle.std.proofs.lemmas.Fmt.{length-decimal-le}
+use Rattle.plterm.specs.Characters.{is_alphanumeric, is_symbol}
+use Rattle.plops.proofs.Names.{named_itself}
 use Rattle.pllex.specs.declared.token.Base.TheVariants.{Decimal}
 use Rattle.pllex.specs.declared.token.Kind.TheVariants as kinds
-use Rattle.pllex.specs.Classes.{is_digit, is_symbol}
+use Rattle.pllex.specs.Classes.{is_digit}
 use Rattle.pllex.specs.Tokens.{is_fraction}
 use Rattle.plwrite.specs.declared.style.Style.{Style}
 use Rattle.plwrite.specs.declared.style.Style.TheVariants as styles
 use Rattle.plwrite.specs.declared.text.Sign.{Sign}
 use Rattle.plwrite.specs.declared.text.Sign.TheVariants as signs
-use Rattle.plwrite.specs.Names.{quoted, quoted_unless, name_text, functor_text, is_alphanumeric, is_solo, is_small, is_symbolic, is_bare, is_empty_brackets}
+use Rattle.plwrite.specs.Names.{quoted, quoted_unless, name_text, functor_text, is_solo, is_small, is_symbolic, is_bare, is_empty_brackets}
 use Rattle.plwrite.specs.Words.{last_byte, is_letter, sign_text, letter_text, digits_unless_zero}
 use Rattle.pllaws.specs.Pieces.{Piece, Variable, Letter, Integer, Name, Functor, Prefix, Operator, Punctuation, Part, word, parts, QuotesNames, Fits, IsName, itself, quoted_part, functor_part, name_parts, operator_parts, integer_parts, sign_kind}
 use Rattle.pllaws.proofs.Integers.{decimal_digits, EndsNumber}
@@ -57,9 +58,6 @@ sign_read s = one_read (itself (sign_kind s) (sign_text s)) (front s) (λ rest h
 
 -- ---- names without quotes
 
-same : (s t : List ℕ) → bytes_eq s t ≡ true → s ≡ t
-same s t e = (bytes_eq-Decides s t).0 e
-
 cut_read : IsRead (codes "!") (itself kinds.Name (codes "!") ∷ [])
 cut_read = one_read (itself kinds.Name (codes "!")) (front_by 33 [] refl) (λ rest h. cut_token rest)
 
@@ -76,7 +74,7 @@ solo_read s e f =
       | inl h ↦ absurd cc
       | inr g ↦ elim (or_cases (bytes_eq s (codes "{}")) _ g) [
         | inl h ↦ absurd cc
-        | inr h ↦ elim (or_cases (bytes_eq s (codes "!")) _ h) [ inl i ↦ subst Bare (sym (same s (codes "!") i)) cut_read | inr i ↦ subst Bare (sym (same s (codes ";") i)) semicolon_read ]
+        | inr h ↦ elim (or_cases (bytes_eq s (codes "!")) _ h) [ inl i ↦ subst Bare (sym (named_itself s (codes "!") i)) cut_read | inr i ↦ subst Bare (sym (named_itself s (codes ";") i)) semicolon_read ]
       ]
     ]
 
@@ -141,9 +139,9 @@ name_read : (s : List ℕ) → IsName s → IsRead (quoted_unless (is_bare s) s)
 name_read s n =
     let P : List Part → Type 0 = λ ps. IsRead (quoted_unless (is_bare s) s) ps in
     cond_both (bytes_eq s (codes "[]")) _ _ P
-    (λ t. named_as s (codes "[]") _ (same s (codes "[]") t) (two_signs signs.OpenSquare signs.CloseSquare 91 93 refl refl refl))
+    (λ t. named_as s (codes "[]") _ (named_itself s (codes "[]") t) (two_signs signs.OpenSquare signs.CloseSquare 91 93 refl refl refl))
     (λ f. cond_both (bytes_eq s (codes "{}")) _ _ P
-    (λ t. named_as s (codes "{}") _ (same s (codes "{}") t) (two_signs signs.OpenCurly signs.CloseCurly 123 125 refl refl refl))
+    (λ t. named_as s (codes "{}") _ (named_itself s (codes "{}") t) (two_signs signs.OpenCurly signs.CloseCurly 123 125 refl refl refl))
     (λ g. named_read s (is_bare s) n (λ e. (e, or_from (bytes_eq s (codes "[]")) (bytes_eq s (codes "{}")) f g))))
 
 functor_read : (s : List ℕ) → IsName s → IsRead (quoted_unless (is_bare s && not (is_empty_brackets s)) s) (functor_part s ∷ [])

@@ -1,11 +1,11 @@
 -- How words stand in a text, and what they are read as.
 use Rattle.std.specs.Prelude.{◌≡◌, ℕ, List, [], ◌∷◌, ◌++◌, drop, map, Bool, true, false}
+use Rattle.plterm.specs.Characters.{is_symbol}
 use Rattle.pllex.specs.declared.token.Token.{Token}
 use Rattle.pllex.specs.Named.{value_of}
 use Rattle.pllex.specs.Tokens.{is_fraction, ends_here, Run, IsClause}
 use Rattle.plwrite.specs.declared.style.Style.{Style}
 use Rattle.plwrite.specs.declared.text.Edge.{Edge}
-use Rattle.plwrite.specs.Names.{is_symbol}
 use Rattle.plwrite.specs.Words.{first_byte, last_byte, edge_of, touches}
 use Rattle.pllaws.specs.Pieces.{Piece, word}
 use Rattle.pllaws.specs.Tokens.{text, ending}

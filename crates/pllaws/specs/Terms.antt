@@ -1,11 +1,11 @@
 -- The text of a term is read as a clause.
 use Rattle.std.specs.Prelude.{◌≡◌, ℕ, ◌+◌, List, [], ◌++◌, length, drop, Bool, true}
 use Rattle.plterm.specs.Tree.{Tree, var, int, atom, compound, Trees, none, more}
+use Rattle.plterm.specs.Characters.{is_symbol}
 use Rattle.plops.specs.declared.table.Entry.{Entry}
 use Rattle.pllex.specs.Tokens.{ends_here}
 use Rattle.plwrite.specs.declared.style.Style.{Style}
 use Rattle.plwrite.specs.declared.place.Position.TheVariants.{At}
-use Rattle.plwrite.specs.Names.{is_symbol}
 use Rattle.plwrite.specs.Places.{whole}
 use Rattle.plwrite.specs.Words.{Word, last_byte, text_of}
 use Rattle.plwrite.specs.Writing.{words}

@@ -2,11 +2,11 @@
 ghost use Rattle.std.specs.Prelude.{◌≡◌, ◌+◌, ◌<◌, ◌^◌, ◌++◌, ℕ, List, length, drop, map, Bool, true, codes};
 ghost use Rattle.plterm.specs.Tree.{Tree};
 ghost use Rattle.plterm.specs.Variables.{variables, copied, AllBelow};
+ghost use Rattle.plterm.specs.Characters.{is_symbol};
 ghost use Rattle.plops.specs.declared.table.Entry.{Entry};
 ghost use Rattle.plwrite.specs.declared.style.Style.{Style};
 ghost use Rattle.pllex.specs.Tokens.{ends_here};
 ghost use Rattle.plwrite.specs.declared.style.Style.TheVariants.{Listed};
-ghost use Rattle.plwrite.specs.Names.{is_symbol};
 ghost use Rattle.plwrite.specs.Words.{last_byte};
 ghost use Rattle.plwrite.specs.Writing.{written, clause_text};
 ghost use Rattle.pllaws.specs.Pieces.{Piece, QuotesNames, Fits, AllFit, word, parts};
