@@ -1,7 +1,8 @@
 -- A converted goal is its own conversion, and stays one under other variables.
-use Rattle.std.proofs.Common.{◌≡◌, ℕ, suc, Bool, true, false, List, length, Option, Some, None, option_map, option_and_then, IfSome, refl, ap, ◌∙◌, subst, if◌then◌else◌}
+use Rattle.std.proofs.Common.{◌≡◌, ℕ, Bool, true, false, List, length, Option, Some, None, option_map, option_and_then, IfSome, refl, ap, ◌∙◌, subst, if◌then◌else◌}
 use Rattle.plterm.specs.Tree.{Tree, var, int, atom, compound, Trees, none, more, list_of}
 use Rattle.plterm.specs.Variables.{renamed, all_renamed}
+use Rattle.plterm.proofs.Spellings.{length-all_renamed}
 use Rattle.plclause.specs.Conversion.{is_control, converted, all_converted}
 use Rattle.plclause.proofs.GoalNodes.{all_counted}
 
@@ -41,10 +42,6 @@ pub converted_again : (t u : Tree) → converted t ≡ Some u → converted u �
 converted_again t u e = subst (λ (o : Option Tree). IfSome o (λ w. converted w ≡ Some w)) e (converted_stable t)
 
 -- ---- under other variables
-
-length-all_renamed : (f : ℕ → ℕ) (ts : Trees) → length (list_of (all_renamed f ts)) ≡ length (list_of ts)
-length-all_renamed f none = refl
-length-all_renamed f (more t ts) = ap suc (length-all_renamed f ts)
 
 renamed_more : (f : ℕ → ℕ) (x : Option Tree) (y : Option Trees)
     → option_and_then (λ u. option_map (more u) (option_map (all_renamed f) y)) (option_map (renamed f) x) ≡ option_map (all_renamed f) (option_and_then (λ u. option_map (more u) y) x)

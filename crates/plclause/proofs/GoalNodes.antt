@@ -5,7 +5,7 @@ use Rattle.plterm.specs.declared.node.Node.{Node}
 use Rattle.plterm.specs.declared.node.Node.TheVariants.{Compound}
 use Rattle.plterm.specs.Tree.{Tree, int, compound, Trees, none, more, trees, list_of, list_of-trees}
 use Rattle.plterm.specs.Reading.{read, tree_of, spelling, spellings, Fits, AllFit, IsTerm}
-use Rattle.plterm.proofs.Spellings.{length-take_room, whole_nodes}
+use Rattle.plterm.proofs.Spellings.{spellings-trees, length-take_room, whole_nodes}
 use Rattle.plterm.proofs.Forests.{AllFit-push}
 use Rattle.plclause.specs.Conversion.{is_control, converted, all_converted}
 use Rattle.plclause.specs.Goals.{joined, goal_nodes}
@@ -98,10 +98,6 @@ control_same made s k ts room e =
     ∙ ap (λ (o : Option (List Node)). joined (Some made) (joined o (goal_nodes (drop k ts)))) (sym same)
 
 -- ---- other goals
-
-spellings-trees : (ts : List Tree) → spellings (trees ts) ≡ flat_map spelling ts
-spellings-trees [] = refl
-spellings-trees (t ∷ ts) = ap (λ ns. spelling t ++ ns) (spellings-trees ts)
 
 pub plain_same : (made nodes : List Node) (s : List ℕ) (k : ℕ) (ts rest : List Tree) → k ≤ length ts → is_control s k ≡ false
     → nodes ≡ (made ++ Compound s k ∷ []) ++ flat_map spelling (take k ts) → rest ≡ drop k ts

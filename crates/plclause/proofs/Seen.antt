@@ -4,9 +4,9 @@ use Rattle.plterm.specs.declared.node.Node.{Node}
 use Rattle.plterm.specs.declared.node.Node.TheVariants.{Var, Int, Atom, Compound}
 use Rattle.plterm.specs.Tree.{Tree, var, int, atom, compound}
 use Rattle.plterm.specs.Reading.{spelling, tree_of, tree_of-spelling}
-use Rattle.plterm.specs.Variables.{place, added, with_node, seen_after, variables, renamed, rename, AllBelow}
-use Rattle.plterm.proofs.Spellings.{place-added, place-seen_after, kept_by_node, spelling-renamed}
-use Rattle.plterm.proofs.Belows.{NodesBelow, AllBelow-spelling}
+use Rattle.plterm.specs.Variables.{place, added, seen_after, variables, renamed, rename, AllBelow}
+use Rattle.plterm.proofs.Spellings.{place-added, place-seen_after, spelling-renamed}
+use Rattle.plterm.proofs.Belows.{NodesBelow, AllBelow-spelling, known_after}
 use Rattle.plclause.specs.Clause.{Clause}
 use Rattle.plclause.specs.Soundness.{IsCallable, both_variables, clause_from}
 
@@ -17,10 +17,6 @@ AllSeen seen (Var v ∷ ns) = (place v seen < length seen) × AllSeen seen ns
 AllSeen seen (Int i ∷ ns) = AllSeen seen ns
 AllSeen seen (Atom s ∷ ns) = AllSeen seen ns
 AllSeen seen (Compound s k ∷ ns) = AllSeen seen ns
-
-known_after : (ns : List Node) (v : ℕ) (seen : List ℕ) → place v seen < length seen → place v (seen_after seen ns) < length (seen_after seen ns)
-known_after [] v seen h = h
-known_after (n ∷ ns) v seen h = let k = kept_by_node n v seen h in known_after ns v (with_node seen n) (rw k.0 k.1)
 
 pub AllSeen-after : (ns : List Node) (seen : List ℕ) → AllSeen (seen_after seen ns) ns
 AllSeen-after [] seen = tt

@@ -6,6 +6,7 @@ use Rattle.std.proofs.lemmas.Bool.{leb-true, cond_both}
 use Rattle.std.proofs.lemmas.Bool.Decides.{nat_tests}
 use Rattle.std.proofs.lemmas.Str.{IsUtf8-from_ascii, is_utf8-from_IsUtf8}
 use Rattle.std.proofs.lemmas.Str.Ascii.{IsAscii-cons, IsAscii-nil}
+use Rattle.plterm.specs.Characters.{is_symbol}
 use Rattle.pllex.specs.declared.token.Token.{Token}
 use Rattle.pllex.specs.declared.token.Class.{Class}
 use Rattle.pllex.specs.declared.token.Class.TheVariants.{Alphanumeric, Symbol, Digit}
@@ -26,7 +27,7 @@ use Rattle.pllex.specs.declared.token.Fault.{Fault}
 use Rattle.pllex.specs.declared.token.Fault.TheVariants as faults
 use Rattle.pllex.specs.declared.layout.Gap.{Gap}
 use Rattle.pllex.specs.declared.layout.Gap.TheVariants as gaps
-use Rattle.pllex.specs.Classes.{in_class, is_symbol, is_digit, is_control}
+use Rattle.pllex.specs.Classes.{in_class, is_digit, is_control}
 use Rattle.pllex.specs.Quoted.{quoted, quoted_value}
 use Rattle.pllex.specs.Tokens.{run_end, token, named, symbols, number, value, stray, item_of, item_at, after_gap, item_behind, next_item, Run, IsClause, is_end}
 use Rattle.pllex.specs.Tokens as lex
@@ -172,7 +173,7 @@ number_named text start b bytes = cond_both (b == 48) (lex.zero_number text star
 
 -- ---- quoted items
 
-rest_is : (text : List ℕ) (place b : ℕ) (bytes : List ℕ) → drop place text ≡ b ∷ bytes → drop (place + 1) text ≡ bytes
+pub rest_is : (text : List ℕ) (place b : ℕ) (bytes : List ℕ) → drop place text ≡ b ∷ bytes → drop (place + 1) text ≡ bytes
 rest_is text place b bytes e =
     let size : length text - place ≡ suc (length bytes) = sym (length-drop place text) ∙ ap length e in
     let same : get_or text place 0 ∷ drop (place + 1) text ≡ b ∷ bytes = sym (drop_here text place (omega arith)) ∙ e in

@@ -12,7 +12,7 @@ use Rattle.pllex.specs.Tokens.{run_end, turn, goes_on, gap, gap_end}
 pub drop_here : (text : List ℕ) (place : ℕ) → place < length text → drop place text ≡ get_or text place 0 ∷ drop (place + 1) text
 drop_here text place h = rw add-one (drop-cons text place 0 h)
 
-run_end-cons : (class : Class) (place b : ℕ) (bytes : List ℕ) → run_end class place (b ∷ bytes) ≡ cond (in_class class b) (run_end class (place + 1) bytes) place
+pub run_end-cons : (class : Class) (place b : ℕ) (bytes : List ℕ) → run_end class place (b ∷ bytes) ≡ cond (in_class class b) (run_end class (place + 1) bytes) place
 unfolding run_end
 run_end-cons class place b bytes = refl
 

@@ -1,6 +1,7 @@
 -- The tokens of a text, by longest match.
 use Rattle.std.specs.Prelude.{◌≡◌, ℕ, zero, suc, ◌+◌, ◌-◌, ◌*◌, List, [], ◌∷◌, ◌++◌, take, drop, Bool, true, false, ◌&&◌, ◌||◌, ◌==◌, nat_le, if◌then◌else◌, ◌⊎◌, Option, Some, None, is_some}
 use Rattle.std.specs.Char.{is_ascii_lowercase, is_ascii_uppercase, digit_value}
+use Rattle.plterm.specs.Characters.{is_symbol}
 use Rattle.pllex.specs.declared.token.Base.{Base}
 use Rattle.pllex.specs.declared.token.Base.TheVariants.{Binary, Octal, Decimal, Hexadecimal}
 use Rattle.pllex.specs.declared.escape.Escape.TheVariants.{Begins}
@@ -27,7 +28,7 @@ use Rattle.pllex.specs.declared.layout.After.TheVariants as afters
 use Rattle.pllex.specs.declared.layout.Gap.{Gap}
 use Rattle.pllex.specs.declared.layout.Gap.TheVariants as gaps
 use Rattle.pllex.specs.Characters.{begins_with, rest_of_character, code_at, after_mark}
-use Rattle.pllex.specs.Classes.{is_layout, is_symbol, radix, is_digit, is_control, in_class}
+use Rattle.pllex.specs.Classes.{is_layout, radix, is_digit, is_control, in_class}
 use Rattle.pllex.specs.Escapes.{escape_code}
 use Rattle.pllex.specs.Quoted.{quoted}
 

@@ -8,8 +8,9 @@ use crate::characters::rest_of_character;
 use crate::digits::is_digit;
 use crate::number::number;
 use crate::quoted::{Quote, Quoted, quoted_end};
-use crate::runs::{is_layout, is_symbol, run_end};
+use crate::runs::{is_layout, run_end};
 use crate::token::{Base, Class, Fault, Item, Kind, Token};
+use plterm::characters::is_symbol;
 
 fn named(kind: Kind, start: usize, end: usize) -> Item
     requires { start < end }

@@ -1,12 +1,9 @@
 -- A text comes to one outcome, whatever is made of it.
-use Rattle.std.proofs.Common.{◌≡◌, ℕ, List, [], ◌∷◌, Option, Some, None, true, refl, sym, ap, subst, ◌∙◌, inl, inr}
-use Rattle.std.proofs.lemmas.Bool.{false≢true}
+use Rattle.std.proofs.Common.{◌≡◌, ℕ, List, [], Option, Some, None, refl, sym, ap, subst, ◌∙◌}
 use Rattle.plterm.specs.Tree.{Tree}
 use Rattle.pllex.specs.declared.token.Token.{Token}
-use Rattle.pllex.specs.declared.token.Fault.{Fault}
-use Rattle.pllex.specs.declared.token.Item.TheVariants as items
-use Rattle.pllex.specs.Tokens.{next_item, is_end, Run, IsFault, IsOver, IsFirst}
-use Rattle.pllex.proofs.Clauses.{one_clause, no_fault, not_over}
+use Rattle.pllex.specs.Tokens.{IsOver}
+use Rattle.pllex.proofs.Clauses.{one_clause, no_fault, not_over, one_fault, fault_not_over}
 use Rattle.plread.specs.Signs.{Sign}
 use Rattle.plread.specs.Spelling.{signs_of}
 use Rattle.plread.proofs.Unique.{spelled_once}
@@ -18,55 +15,6 @@ use Rattle.plload.specs.Position.{line_of, column_of}
 use Rattle.plload.specs.Draft.{empty_draft, with_term}
 use Rattle.plload.specs.Loading.{levels, Spelled, first_place, Reads, judged, Stops, lexical, unread, refused, Goes, Ending, Fails, Runs, over, stops, goes, Outcome, Refuses, outcome_of, Comes, Loads}
 use Rattle.plload.specs.Listing.{with_line, Lists}
-
--- ---- faults
-
--- at this place no token but an end stands
-Halts : List ℕ → ℕ → Type 0
-Halts text place = (t : Token) → next_item text place ≡ items.Token t → is_end t.kind ≡ true
-
-one_run : (text : List ℕ) (from : ℕ) (xs ys : List Token) (p q : ℕ) → Run text from xs p → Run text from ys q → Halts text p → Halts text q → (xs ≡ ys) × (p ≡ q)
-unfolding Halts
-one_run text from [] [] p q r s h k = (refl, sym r ∙ s)
-one_run text from [] (y ∷ ys) p q r s h k = absurd (false≢true (sym s.1 ∙ h y (ap (next_item text) (sym r) ∙ s.0)))
-one_run text from (x ∷ xs) [] p q r s h k = absurd (false≢true (sym r.1 ∙ k x (ap (next_item text) (sym s) ∙ r.0)))
-one_run text from (x ∷ xs) (y ∷ ys) p q r s h k =
-    let same : x ≡ y = cc (r.0, s.0) in
-    let rest = one_run text y.end xs ys p q (subst (λ t. Run text t.end xs p) same r.2) s.2 h k in
-    (let front : xs ≡ ys = rest.0 in cc, rest.1)
-
-halts_at_fault : (text : List ℕ) (place : ℕ) (f : Fault) (at : ℕ) → next_item text place ≡ items.Fault f at → Halts text place
-unfolding Halts
-halts_at_fault text place f at h t g = cc
-
-halts_at_nothing : (text : List ℕ) (place : ℕ) → next_item text place ≡ items.Nothing → Halts text place
-unfolding Halts
-halts_at_nothing text place h t g = cc
-
-one_first : (ts : List Token) (p q : ℕ) → IsFirst ts p → IsFirst ts q → p ≡ q
-one_first [] p q h k = absurd h
-one_first (t ∷ ts) p q h k = sym h ∙ k
-
-one_fault : (text : List ℕ) (from : ℕ) (f g : Fault) (p q : ℕ) → IsFault text from f p → IsFault text from g q → p ≡ q
-one_fault text from f g p q (xs, x, r, inl h) (ys, y, s, inl k) =
-    let same = one_run text from xs ys x y r s (halts_at_fault text x f p h) (halts_at_fault text y g q k) in
-    let place : x ≡ y = same.1 in cc
-one_fault text from f g p q (xs, x, r, inl h) (ys, y, s, inr k) =
-    let same = one_run text from xs ys x y r s (halts_at_fault text x f p h) (halts_at_nothing text y k.0) in
-    let place : x ≡ y = same.1 in
-    let nothing : next_item text y ≡ items.Nothing = k.0 in absurd cc
-one_fault text from f g p q (xs, x, r, inr h) (ys, y, s, inl k) =
-    let same = one_run text from xs ys x y r s (halts_at_nothing text x h.0) (halts_at_fault text y g q k) in
-    let place : x ≡ y = same.1 in
-    let nothing : next_item text x ≡ items.Nothing = h.0 in absurd cc
-one_fault text from f g p q (xs, x, r, inr h) (ys, y, s, inr k) =
-    let same = one_run text from xs ys x y r s (halts_at_nothing text x h.0) (halts_at_nothing text y k.0) in
-    one_first ys p q (subst (λ ts. IsFirst ts p) same.0 h.2) k.2
-
-fault_not_over : (text : List ℕ) (from : ℕ) (f : Fault) (p : ℕ) → IsFault text from f p → IsOver text from → ⊥
-fault_not_over text from f p ([], x, r, inl h) o = let place : from ≡ x = r in cc
-fault_not_over text from f p ([], x, r, inr h) o = h.2
-fault_not_over text from f p (t ∷ ts, x, r, h) o = let token : next_item text from ≡ items.Token t = r.0 in cc
 
 -- ---- a clause
 
@@ -116,7 +64,7 @@ module _ (text : List ℕ) (from : ℕ) (s : Settings) where
     pub kind : k ≡ l
 
   one_stop : (p q : ℕ) (k l : RefusalKind) → Stops text from s p k → Stops text from s q l → OneStop p q k l
-  one_stop p q k l (lexical {fault} {place} h) (lexical {fault = g} {place = r} m) = record { place = one_fault text from fault g place r h m; kind = refl }
+  one_stop p q k l (lexical {fault} {place} h) (lexical {fault = g} {place = r} m) = record { place = (one_fault text from fault g place r h m).1; kind = refl }
   one_stop p q k l (lexical {fault} {place} h) (unread {ts} {after} r) = absurd (no_fault text from ts after fault place r.clause h)
   one_stop p q k l (lexical {fault} {place} h) (refused {ts} {after} r j) = absurd (no_fault text from ts after fault place r.clause h)
   one_stop p q k l (unread {ts} {after} r) (lexical {fault} {place} h) = absurd (no_fault text from ts after fault place r.clause h)
@@ -139,7 +87,7 @@ module _ (text : List ℕ) (from : ℕ) (s : Settings) where
     pub place : after ≡ end
     pub settings : new ≡ other
 
-  one_going : (t u : Tree) (after end : ℕ) (new other : Settings) → Goes text from s t after new → Goes text from s u end other → OneGoing t u after end new other
+  pub one_going : (t u : Tree) (after end : ℕ) (new other : Settings) → Goes text from s t after new → Goes text from s u end other → OneGoing t u after end new other
   one_going t u after end new other g h =
       let both = one_reading text from s g.tokens h.tokens after end (Some t) (Some u) g.reads h.reads in
       let same = both.term in

@@ -1,6 +1,6 @@
 -- A table is sane where each entry passes a test, and the comma is its operator.
 use Rattle.std.proofs.Common.{◌≡◌, ◌<◌, ◌≤◌, Bool, true, false, cond, ◌&&◌, nat_lt, nat_le, ℕ, List, [], ◌∷◌, Option, Some, None, refl, subst, ap}
-use Rattle.std.proofs.lemmas.Bool.{false≢true, leb-true, ltb-true}
+use Rattle.std.proofs.lemmas.Bool.{false≢true, and_parts, leb-true, ltb-true}
 use Rattle.std.specs.Prelude.{is_none, option_and_then}
 use Rattle.std.specs.List.{list_all}
 use Rattle.plops.specs.declared.operator.Prefix.{Prefix}
@@ -19,28 +19,24 @@ good_if : (b : Bool) (x y : Option Entry) → IsGood x → IsGood y → IsGood (
 good_if true x y h k = h
 good_if false x y h k = k
 
-both : (a b : Bool) → (a && b) ≡ true → (a ≡ true) × (b ≡ true)
-both true b h = (refl, h)
-both false b h = absurd (false≢true h)
-
 found_good : (entries : List Entry) (n : List ℕ) → list_all is_good entries ≡ true → IsGood (find entries n)
 found_good [] n h = tt
 found_good (e ∷ entries) n h =
-    let parts = both (is_good e) (list_all is_good entries) h in
+    let parts = and_parts (is_good e) (list_all is_good entries) h in
     good_if (is_named n e) (Some e) (find entries n) parts.0 (found_good entries n parts.1)
 
 -- what the test of an entry says
-record Parts (e : Entry) : Type 0 where
-  before : good_prefix e.as_prefix ≡ true
-  between : good_infix e.as_infix ≡ true
-  behind : good_postfix e.as_postfix ≡ true
-  lone : alone e.as_infix e.as_postfix ≡ true
+pub record Parts (e : Entry) : Type 0 where
+  pub before : good_prefix e.as_prefix ≡ true
+  pub between : good_infix e.as_infix ≡ true
+  pub behind : good_postfix e.as_postfix ≡ true
+  pub lone : alone e.as_infix e.as_postfix ≡ true
 
-parts : (e : Entry) → is_good e ≡ true → Parts e
+pub parts : (e : Entry) → is_good e ≡ true → Parts e
 parts e h =
-    let first = both (good_prefix e.as_prefix) (good_infix e.as_infix && (good_postfix e.as_postfix && alone e.as_infix e.as_postfix)) h in
-    let second = both (good_infix e.as_infix) (good_postfix e.as_postfix && alone e.as_infix e.as_postfix) first.1 in
-    let third = both (good_postfix e.as_postfix) (alone e.as_infix e.as_postfix) second.1 in
+    let first = and_parts (good_prefix e.as_prefix) (good_infix e.as_infix && (good_postfix e.as_postfix && alone e.as_infix e.as_postfix)) h in
+    let second = and_parts (good_infix e.as_infix) (good_postfix e.as_postfix && alone e.as_infix e.as_postfix) first.1 in
+    let third = and_parts (good_postfix e.as_postfix) (alone e.as_infix e.as_postfix) second.1 in
     record { before = first.0; between = second.0; behind = third.0; lone = third.1 }
 
 prefix_good : (o : Option Entry) (op : Prefix) → IsGood o → option_and_then (λ e. e.as_prefix) o ≡ Some op → good_prefix (Some op) ≡ true
@@ -72,9 +68,9 @@ record Numbers (op : Infix) : Type 0 where
 
 numbers : (op : Infix) → good_infix (Some op) ≡ true → Numbers op
 numbers op h =
-    let first = both (nat_lt 0 op.priority) (nat_le op.priority 1200 && (nat_le op.left op.priority && nat_le op.right op.priority)) h in
-    let second = both (nat_le op.priority 1200) (nat_le op.left op.priority && nat_le op.right op.priority) first.1 in
-    let third = both (nat_le op.left op.priority) (nat_le op.right op.priority) second.1 in
+    let first = and_parts (nat_lt 0 op.priority) (nat_le op.priority 1200 && (nat_le op.left op.priority && nat_le op.right op.priority)) h in
+    let second = and_parts (nat_le op.priority 1200) (nat_le op.left op.priority && nat_le op.right op.priority) first.1 in
+    let third = and_parts (nat_le op.left op.priority) (nat_le op.right op.priority) second.1 in
     record { some = ltb-true 0 op.priority first.0; top = leb-true op.priority 1200 second.0; left = leb-true op.left op.priority third.0; right = leb-true op.right op.priority third.1 }
 
 module _ (ops : List Entry) (good : list_all is_good ops ≡ true) where
@@ -108,17 +104,17 @@ module _ (ops : List Entry) (good : list_all is_good ops ≡ true) where
 
   pub sane : infix_of ops comma ≡ Some comma_op → ((n : List ℕ) → is_reserved n ≡ true → find ops n ≡ None) → IsSane ops
   sane h none = record {
-    pre_some = λ n op e. ltb-true 0 op.priority (both _ _ (pre n op e)).0;
-    pre_top = λ n op e. leb-true op.priority 1200 (both _ _ (both _ _ (pre n op e)).1).0;
-    pre_right = λ n op e. leb-true op.right op.priority (both _ _ (both _ _ (pre n op e)).1).1;
+    pre_some = λ n op e. ltb-true 0 op.priority (and_parts _ _ (pre n op e)).0;
+    pre_top = λ n op e. leb-true op.priority 1200 (and_parts _ _ (and_parts _ _ (pre n op e)).1).0;
+    pre_right = λ n op e. leb-true op.right op.priority (and_parts _ _ (and_parts _ _ (pre n op e)).1).1;
     in_some = λ n op e. (numbers op (mid n op e)).some;
     in_top = λ n op e. (numbers op (mid n op e)).top;
     in_left = λ n op e. (numbers op (mid n op e)).left;
     in_right = λ n op e. (numbers op (mid n op e)).right;
     in_alone = lone;
-    post_some = λ n op e. ltb-true 0 op.priority (both _ _ (post n op e)).0;
-    post_top = λ n op e. leb-true op.priority 1200 (both _ _ (both _ _ (post n op e)).1).0;
-    post_left = λ n op e. leb-true op.left op.priority (both _ _ (both _ _ (post n op e)).1).1;
+    post_some = λ n op e. ltb-true 0 op.priority (and_parts _ _ (post n op e)).0;
+    post_top = λ n op e. leb-true op.priority 1200 (and_parts _ _ (and_parts _ _ (post n op e)).1).0;
+    post_left = λ n op e. leb-true op.left op.priority (and_parts _ _ (and_parts _ _ (post n op e)).1).1;
     in_comma = h;
     pre_reserved = λ n r. no_prefix n (none n r);
     in_reserved = λ n r. no_infix n (none n r);

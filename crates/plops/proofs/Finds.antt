@@ -10,7 +10,7 @@ use Rattle.plops.specs.declared.table.Entry.{Entry}
 use Rattle.plops.specs.Tables.{plain, is_named, find, with_operator}
 use Rattle.plops.specs.Operators.{operator_of}
 use Rattle.plops.specs.Changes.{without, changed, is_plain, is_before, kept, put, entry_of, added}
-use Rattle.plops.proofs.Names.{before_other, before_or, named_itself, other_name, same_name, by_test}
+use Rattle.plops.proofs.Names.{before_other, before_or, named_itself, not_before_itself, other_name, same_name, by_test}
 
 -- ---- what is found among the entries that pass a test of their names
 
@@ -65,9 +65,6 @@ as_kept e =
     by_test (is_plain e)
     (λ b. ap (λ l. find l e.name) (cond-true (is_plain e) [] (e ∷ []) b) ∙ sym (cond-true (is_plain e) None (Some e) b))
     (λ b. ap (λ l. find l e.name) (cond-false (is_plain e) [] (e ∷ []) b) ∙ cond-true (is_named e.name e) (Some e) None (same_name e.name e.name refl) ∙ sym (cond-false (is_plain e) None (Some e) b))
-
-not_before_itself : (n : List ℕ) → is_before n n ≡ false
-not_before_itself n = false_from_ne_true (is_before n n) (λ t. true≢false (sym t ∙ before_other n n t))
 
 or_this : (o : Option Entry) → option_or (option_or None o) None ≡ o
 or_this None = refl

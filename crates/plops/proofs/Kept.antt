@@ -14,10 +14,11 @@ use Rattle.plops.specs.declared.error.OpError.TheVariants as errors
 use Rattle.plops.specs.Tables.{plain, is_named, find, with_operator, infix_of}
 use Rattle.plops.specs.Operators.{operator_of}
 use Rattle.plops.specs.Sane.{comma, comma_op, is_reserved}
-use Rattle.plops.specs.Checks.{good_prefix, good_infix, good_postfix, alone, is_good, IsTable}
+use Rattle.plops.specs.Checks.{alone, is_good, IsTable}
 use Rattle.plops.specs.Changes.{without, changed, is_plain, is_before, is_rising, kept, put, entry_of, added, is_beside, refusal}
 use Rattle.plops.proofs.Names.{same_name, by_test}
 use Rattle.plops.proofs.Ranks.{is_above, above_more}
+use Rattle.plops.proofs.Checks.{Parts, parts}
 use Rattle.plops.proofs.Finds.{elsewhere}
 
 -- ---- it rises
@@ -79,20 +80,6 @@ all_put p e t h k =
     (list_all-append p low (kept e) ∙ and_from (list_all p low) (list_all p (kept e)) (all_filter p (λ x. is_before x.name e.name) t h)
     (cond_both (is_plain e) [] (e ∷ []) (λ l. list_all p l ≡ true) (λ b. refl) (λ b. and_from (p e) true k refl)))
     (all_filter p (λ x. is_before e.name x.name) t h)
-
--- what the test of an entry says
-record Parts (e : Entry) : Type 0 where
-  before : good_prefix e.as_prefix ≡ true
-  between : good_infix e.as_infix ≡ true
-  behind : good_postfix e.as_postfix ≡ true
-  lone : alone e.as_infix e.as_postfix ≡ true
-
-parts : (e : Entry) → is_good e ≡ true → Parts e
-parts e h =
-    let first = and_parts (good_prefix e.as_prefix) (good_infix e.as_infix && (good_postfix e.as_postfix && alone e.as_infix e.as_postfix)) h in
-    let second = and_parts (good_infix e.as_infix) (good_postfix e.as_postfix && alone e.as_infix e.as_postfix) first.1 in
-    let third = and_parts (good_postfix e.as_postfix) (alone e.as_infix e.as_postfix) second.1 in
-    record { before = first.0; between = second.0; behind = third.0; lone = third.1 }
 
 good_from : (e : Entry) → Parts e → is_good e ≡ true
 good_from e p = and_from _ _ p.before (and_from _ _ p.between (and_from _ _ p.behind p.lone))

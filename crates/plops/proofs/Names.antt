@@ -61,11 +61,11 @@ named_itself a b h = same_text a b (sym h)
 pub not_before_named : (a b : List ℕ) → bytes_eq a b ≡ true → is_before a b ≡ false
 not_before_named a b h = self_equal (slice_cmp nat_cmp a b) (sym (texts_ties a b) ∙ h)
 
+pub not_before_itself : (n : List ℕ) → is_before n n ≡ false
+not_before_itself n = false_from_ne_true (is_before n n) (λ t. true≢false (sym t ∙ before_other n n t))
+
 pub not_behind_named : (a b : List ℕ) → bytes_eq a b ≡ true → is_before b a ≡ false
-not_behind_named a b h = subst (λ x. is_before b x ≡ false) (sym (named_itself a b h)) (itself b)
-  where
-    itself : (x : List ℕ) → is_before x x ≡ false
-    itself x = false_from_ne_true (is_before x x) (λ t. true≢false (sym t ∙ before_other x x t))
+not_behind_named a b h = subst (λ x. is_before b x ≡ false) (sym (named_itself a b h)) (not_before_itself b)
 
 pub other_name : (a b : List ℕ) → (a ≡ b → ⊥) → bytes_eq a b ≡ false
 other_name a b h = false_from_ne_true (bytes_eq a b) (λ t. h (named_itself a b t))

@@ -1,6 +1,6 @@
 -- The procedures of a program as the map that holds them.
-use Rattle.std.proofs.Common.{◌≡◌, ◌==◌, ◌&&◌, ℕ, zero, suc, Bool, true, false, cond, bytes_eq, List, [], ◌∷◌, ◌++◌, map, Vec, Option, Some, None, slice_get, refl, sym, ap, ◌∙◌, subst}
-use Rattle.std.proofs.lemmas.Bool.{eqb-true}
+use Rattle.std.proofs.Common.{◌≡◌, ◌==◌, ℕ, zero, suc, Bool, true, false, cond, bytes_eq, List, [], ◌∷◌, ◌++◌, map, Vec, Option, Some, None, slice_get, refl, sym, ap, ◌∙◌, subst}
+use Rattle.std.proofs.lemmas.Bool.{and_parts, eqb-true}
 use Rattle.std.proofs.lemmas.Slice.Eq.{bytes_eq-Decides}
 use Rattle.std.specs.Global.{Global}
 use Rattle.std.specs.Map.{lookup, set_value}
@@ -75,15 +75,10 @@ insert_new [] p w c e f = ap (λ (cs : List Clause). (p, cs) ∷ []) f
 insert_new (x ∷ es) p w c e f =
     insert_at (same_indicator p x.0) x w (lookup (same_indicator p) es) es (insert_entry same_indicator es p w) c (with_entry (map shown es) p c) e (λ g. insert_new es p w c g f)
 
-both_true : (a b : Bool) → (a && b) ≡ true → (a ≡ true) × (b ≡ true)
-both_true true true e = (refl, refl)
-both_true true false e = cc
-both_true false b e = cc
-
 -- the same name and arity
 pub indicator_is : (p q : Indicator) → same_indicator p q ≡ true → p ≡ q
 indicator_is p q e =
-    let both = both_true (bytes_eq p.name q.name) (p.arity == q.arity) e in
+    let both = and_parts (bytes_eq p.name q.name) (p.arity == q.arity) e in
     let P : List ℕ → Indicator = λ s. record { name = s; arity = p.arity } in
     let Q : ℕ → Indicator = λ k. record { name = q.name; arity = k } in
     ap P ((bytes_eq-Decides p.name q.name).0 both.0) ∙ ap Q (eqb-true p.arity q.arity both.1)

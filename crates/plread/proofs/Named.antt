@@ -14,7 +14,7 @@ use Rattle.pllex.specs.Named.{bytes_of, value_of}
 use Rattle.plops.specs.declared.flag.Quotes.{Quotes}
 use Rattle.plread.specs.Spelling.{anonymous, number_of, seen_with, seen_after, seen_behind, sign, is_joined, signs_behind, variable_names, signs_of}
 use Rattle.plread.specs.Named.{NameStands, NamesStand}
-use Rattle.plread.proofs.Numbered.{same}
+use Rattle.plops.proofs.Names.{named_itself}
 
 -- one more name is put behind those seen, or none is
 either_way : (b : Bool) (seen : List (List ℕ)) (name : List ℕ) → (more : List (List ℕ)) × (cond b (seen ++ name ∷ []) seen ≡ seen ++ more)
@@ -43,7 +43,7 @@ old_name true seen name other = absurd (other refl)
 old_name false seen name other =
     let within : position_or_len (bytes_eq name) seen ≤ length seen = prefix_len-le-length (λ x. not (bytes_eq name x)) seen in
     let old : position_or_len (bytes_eq name) seen < length seen = lt_of_le-ne within other in
-    (old, sym (same name (get_or seen (position_or_len (bytes_eq name) seen) []) (passes_at_first (bytes_eq name) seen [] old)))
+    (old, sym (named_itself name (get_or seen (position_or_len (bytes_eq name) seen) []) (passes_at_first (bytes_eq name) seen [] old)))
 
 -- the name seen last stands at its number
 at_number : (b : Bool) (seen : List (List ℕ)) (name : List ℕ) → eqb (number_of seen name) (length seen) ≡ b → (number_of seen name < length (cond b (seen ++ name ∷ []) seen)) × (get_or (cond b (seen ++ name ∷ []) seen) (number_of seen name) [] ≡ name)

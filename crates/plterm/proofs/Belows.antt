@@ -35,7 +35,7 @@ mutual
       let b = below_front n (spelling t) (spellings ts) h in (AllBelow-spelling n t b.0, EachBelow-spellings n ts b.1)
 
 -- more variables are seen
-known_after : (ns : List Node) (v : ℕ) (seen : List ℕ) → place v seen < length seen → place v (seen_after seen ns) < length (seen_after seen ns)
+pub known_after : (ns : List Node) (v : ℕ) (seen : List ℕ) → place v seen < length seen → place v (seen_after seen ns) < length (seen_after seen ns)
 known_after [] v seen h = h
 known_after (n ∷ ns) v seen h = let k = kept_by_node n v seen h in known_after ns v (with_node seen n) (rw k.0 k.1)
 

@@ -7,9 +7,10 @@ use pllex::escape::{Coded, escape_code};
 use pllex::item::item_at;
 use pllex::layout::{Gap, gap_at};
 use pllex::quoted::{Quote, Quoted, is_control, mark, quoted_end};
-use pllex::runs::{is_layout, is_symbol, run_end};
+use pllex::runs::{is_layout, run_end};
 use pllex::token::{Base, Class, Fault, Item, Kind, Token};
 use pllex::value::{has_value, value_of};
+use plterm::characters::is_symbol;
 use std::alloc::{AllocError, Global};
 use std::test::Fail;
 

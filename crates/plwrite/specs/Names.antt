@@ -2,17 +2,10 @@
 use Rattle.std.specs.Prelude.{ℕ, ◌+◌, ◌/◌, ◌%◌, List, [], ◌∷◌, ◌++◌, length, Bool, true, false, ◌||◌, ◌&&◌, not, ◌==◌, nat_lt, nat_eq, if◌then◌else◌, codes}
 use Rattle.std.specs.List.{flat_map, list_all, starts_with}
 use Rattle.std.specs.Str.{bytes_eq}
-use Rattle.std.specs.Char.{is_ascii_alphanumeric, is_ascii_lowercase}
+use Rattle.std.specs.Char.{is_ascii_lowercase}
+use Rattle.plterm.specs.Characters.{is_alphanumeric, is_symbol}
 use Rattle.plwrite.specs.declared.style.Style.{Style}
 use Rattle.plwrite.specs.declared.style.Style.TheVariants.{Plain, Quoted, Canonical, Listed}
-
--- ASCII letters, digits and `_`
-abbrev pub is_alphanumeric : ℕ → Bool
-is_alphanumeric b = is_ascii_alphanumeric b || (b == 95)
-
--- + - * / \ ^ < > = ~ : . ? @ # & $
-abbrev pub is_symbol : ℕ → Bool
-is_symbol b = (b == 43) || (b == 45) || (b == 42) || (b == 47) || (b == 92) || (b == 94) || (b == 60) || (b == 62) || (b == 61) || (b == 126) || (b == 58) || (b == 46) || (b == 63) || (b == 64) || (b == 35) || (b == 38) || (b == 36)
 
 -- a name that stands for itself alone
 abbrev pub is_solo : List ℕ → Bool

@@ -1,5 +1,5 @@
 -- What a style writes with operators, and as variables.
-use Rattle.std.specs.Prelude.{Bool, true, false, Option, Some, None}
+use Rattle.std.specs.Prelude.{Bool, true, false, Option, None}
 use Rattle.plwrite.specs.declared.style.Style.{Style}
 use Rattle.plwrite.specs.declared.style.Style.TheVariants.{Plain, Quoted, Canonical, Listed}
 

@@ -3,6 +3,7 @@ use Rattle.std.specs.Prelude.{◌≡◌, ℕ, ℤ, ◌+◌, ◌-◌, ◌/◌, �
 use Rattle.std.specs.Fmt.{signed_decimal}
 use Rattle.std.specs.Str.{bytes_eq}
 use Rattle.std.specs.Char.{is_ascii_digit}
+use Rattle.plterm.specs.Characters.{is_alphanumeric, is_symbol}
 use Rattle.plwrite.specs.declared.style.Style.{Style}
 use Rattle.plwrite.specs.declared.text.Role.{Role}
 use Rattle.plwrite.specs.declared.text.Role.TheVariants.{Other, PrefixOperator, PrefixMinus}
@@ -10,7 +11,7 @@ use Rattle.plwrite.specs.declared.text.Edge.{Edge}
 use Rattle.plwrite.specs.declared.text.Text.{Text}
 use Rattle.plwrite.specs.declared.text.Sign.{Sign}
 use Rattle.plwrite.specs.declared.text.Sign.TheVariants as signs
-use Rattle.plwrite.specs.Names.{is_alphanumeric, is_symbol, name_text, functor_text}
+use Rattle.plwrite.specs.Names.{name_text, functor_text}
 
 -- a token as it is written, and whether it stands as a prefix operator
 pub record Word : Type 0 where

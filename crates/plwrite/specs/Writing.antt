@@ -3,6 +3,7 @@ use Rattle.std.specs.Prelude.{ℕ, ℤ, pos, negsuc, List, [], ◌∷◌, ◌++�
 use Rattle.std.specs.Str.{bytes_eq}
 use Rattle.plterm.specs.Tree.{Tree, var, int, atom, compound, Trees, none, more}
 use Rattle.plterm.specs.Variables.{copied}
+use Rattle.plterm.specs.Characters.{is_symbol}
 use Rattle.plops.specs.declared.operator.Prefix.{Prefix}
 use Rattle.plops.specs.declared.operator.Infix.{Infix}
 use Rattle.plops.specs.declared.operator.Postfix.{Postfix}
@@ -19,7 +20,6 @@ use Rattle.plwrite.specs.declared.form.Alone.TheVariants as alone
 use Rattle.plwrite.specs.declared.form.Pair.{Pair}
 use Rattle.plwrite.specs.declared.form.Pair.TheVariants as pair
 use Rattle.plwrite.specs.Styles.{used, has_letters}
-use Rattle.plwrite.specs.Names.{is_symbol}
 use Rattle.plwrite.specs.Words.{Word, last_byte, text_of, plain, sign, variable, integer, letter_text, name, functor, prefix, operator, is_minus}
 use Rattle.plwrite.specs.Places.{whole, argument, right_of_prefix, left_of, right_of, left_of_postfix, needs_brackets, is_bracketed_atom, place_of}
 

@@ -1,42 +1,11 @@
 //! The spelling of names (ISO/IEC 13211-1 6.4.2).
 ghost use Rattle.std.specs.Prelude.{◌≡◌, ◌++◌, ◌∷◌, ◌<◌, IfOk, OnOk};
 ghost use Rattle.std.specs.List.{list_all};
-ghost use Rattle.plwrite.specs.Names.{is_alphanumeric, is_symbol, is_solo, is_small, is_symbolic, is_bare, hex_digit, hex, escaped, quoted, is_empty_brackets};
+ghost use Rattle.plterm.specs.Characters.{is_alphanumeric, is_symbol};
+ghost use Rattle.plwrite.specs.Names.{is_solo, is_small, is_symbolic, is_bare, hex_digit, hex, escaped, quoted, is_empty_brackets};
 
+use plterm::characters::{is_alphanumeric, is_symbol};
 use std::alloc::{AllocError, Global};
-
-/// Whether it is an ASCII letter, a digit or `_`.
-pub fn is_alphanumeric(b: u8) -> bool
-    ensures { result ≡ is_alphanumeric b }
-{
-    b.is_ascii_alphanumeric() || b == b'_'
-}
-
-/// Whether it is a symbol character.
-pub fn is_symbol(b: u8) -> bool
-    ensures { result ≡ is_symbol b }
-{
-    match b {
-        b'+'
-        | b'-'
-        | b'*'
-        | b'/'
-        | b'\\'
-        | b'^'
-        | b'<'
-        | b'>'
-        | b'='
-        | b'~'
-        | b':'
-        | b'.'
-        | b'?'
-        | b'@'
-        | b'#'
-        | b'&'
-        | b'$' => true,
-        _ => false,
-    }
-}
 
 fn is_solo(name: &str) -> bool
     ensures { result ≡ is_solo name.now }

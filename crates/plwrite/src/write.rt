@@ -2,12 +2,12 @@
 ghost use Rattle.std.specs.Prelude.{◌≡◌, IfOk};
 ghost use Rattle.plwrite.specs.Writing.{written, clause_text};
 
-use crate::names::is_symbol;
 use crate::style::Style;
 use crate::task::Notation;
 use crate::text::last_byte;
 use crate::writer::Writer;
 use plops::table::OpTable;
+use plterm::characters::is_symbol;
 use plterm::term::Term;
 use std::alloc::{AllocError, Global};
 

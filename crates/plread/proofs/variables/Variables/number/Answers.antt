@@ -4,20 +4,22 @@ use Rattle.std.specs.List.{position, position_or_len}
 use Rattle.std.specs.HashMap.{get_by}
 use Rattle.std.proofs.lemmas.List.{map-append, length-map}
 use Rattle.std.proofs.lemmas.Map.Text.{hash_map_updates_str}
+use Rattle.plterm.proofs.Places.{position-none}
+use Rattle.plops.proofs.Names.{named_itself}
 use Rattle.plread.specs.Spelling.{anonymous, number_of, seen_with}
-use Rattle.plread.proofs.Numbered.{same, place_of_new, number_of_new, seen_with_new, table_more, table_skips}
+use Rattle.plread.proofs.Numbered.{number_of_new, seen_with_new, table_more, table_skips}
 use Rattle.plread.proofs.variables.Variables.number.Goals as goal
 use Rattle.plread.proofs.variables.Variables.number.Goals.{In_default}
 
 pub invariant_of-self-then-eq : goal.invariant_of-self-then-eq
 invariant_of-self-then-eq c = λ q other.
     let seen = map (λ n. n.now) c.self.inside.order.items in
-    let skips : position (bytes_eq q) seen ≡ position (bytes_eq q) (seen ++ c.args.name.now ∷ []) = table_skips seen c.args.name.now q (same c.args.name.now anonymous (sym c.eq.ensures ∙ c.if-eq.true)) other in
+    let skips : position (bytes_eq q) seen ≡ position (bytes_eq q) (seen ++ c.args.name.now ∷ []) = table_skips seen c.args.name.now q (named_itself c.args.name.now anonymous (sym c.eq.ensures ∙ c.if-eq.true)) other in
     c.self.invariant q other ∙ skips ∙ ap (position (bytes_eq q)) (sym (map-append (λ n. n.now) c.self.inside.order.items (c.args.name ∷ [])) ∙ ap (map (λ n. n.now)) (sym c.in_ok-push.ensures.items))
 
 -- the name stands nowhere yet
 at_end : (c : In_default) → position_or_len (bytes_eq c.args.name.now) (map (λ n. n.now) c.self.inside.order.items) ≡ length (map (λ n. n.now) c.self.inside.order.items)
-at_end c = place_of_new c.args.name.now (map (λ n. n.now) c.self.inside.order.items) (c.in_default.ensures.value ∙ c.self.invariant c.args.name.now (sym c.eq.ensures ∙ c.if-eq.false))
+at_end c = position-none (bytes_eq c.args.name.now) (map (λ n. n.now) c.self.inside.order.items) (c.in_default.ensures.value ∙ c.self.invariant c.args.name.now (sym c.eq.ensures ∙ c.if-eq.false))
 
 next_is : (c : In_default) → c.len-next.result ≡ length (map (λ n. n.now) c.self.inside.order.items)
 next_is c = omega (arith, c.self.inside.order.ok.0, length-map c.self.inside.order.items (λ n. n.now))

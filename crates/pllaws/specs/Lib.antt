@@ -1,0 +1,10 @@
+pub mod Pieces
+pub mod Tokens
+pub mod Read
+pub mod Terms
+pub mod Written
+pub mod Told
+pub mod Levels
+pub mod Numbered
+pub mod Again
+pub mod Needs

@@ -1,5 +1,0 @@
-use Rattle.plreread.proofs.Numbers.{clause_numbered}
-use Rattle.plreread.proofs.variables_are_numbered.Goals as goal
-
-pub returns : goal.returns
-returns c = λ ops style t h. clause_numbered ops style t h

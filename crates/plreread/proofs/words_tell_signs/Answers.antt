@@ -1,5 +1,0 @@
-use Rattle.plreread.proofs.Says.{clause_told}
-use Rattle.plreread.proofs.words_tell_signs.Goals as goal
-
-pub returns : goal.returns
-returns c = λ ops w style plain t h b. clause_told ops style w plain t h b

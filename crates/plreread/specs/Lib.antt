@@ -1,5 +1,0 @@
-pub mod Written
-pub mod Told
-pub mod Levels
-pub mod Numbered
-pub mod Again
