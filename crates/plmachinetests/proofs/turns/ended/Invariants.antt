@@ -1,0 +1,6 @@
+use Rattle.std.proofs.Common.{◌≡◌}
+use Rattle.plsolver.specs.Solver.{IsOf}
+use Rattle.plmachinetests.proofs.turns.ended.Given as goal
+
+abbrev pub invariant-turns : goal.invariant-turns
+invariant-turns l = record { of : IsOf l.program l.going.solver.machine; solver : l.going.solver.limit ≡ l.going.limit }

@@ -1,0 +1,189 @@
+//! Searches turn by turn (plsolver).
+ghost use Rattle.std.specs.Prelude.{◌≡◌, ◌≤◌, true, IfOk, OnOk};
+ghost use Rattle.plsolver.specs.Solver.{IsOf, IsReplyTo, WaitsForReply};
+
+use plevent::{Reply, Request, ThreadEnd};
+use plload::goal::read_goal;
+use plload::load::load;
+use plops::table::OpTable;
+use plprogram::program::Program;
+use plsolver::solver::{Solver, Turn};
+use plterm::term::Term;
+use plworld::World;
+use plwrite::style::Style;
+use plwrite::write::write_term;
+use std::alloc::{AllocError, Global};
+use std::string::String;
+use std::test::Fail;
+
+/// A search that goes on, what it asks, and its limit of steps.
+#[derive(Drop)]
+pub struct Going {
+    solver: Solver,
+    world: World,
+    limit: u64,
+}
+
+/// A program with a goal.
+pub fn program(alloc: Global, text: &str, goal: &str) -> Result<Program, Fail> {
+    let goal = read_goal(alloc, goal)?;
+    let program = load(alloc, text.as_bytes())?;
+    Ok(program.with_goal(goal)?)
+}
+
+/// Whether a reply says that a request was served.
+fn is_served(request: &Request, reply: &Reply) -> bool
+    ensures { result ≡ true → IsReplyTo request.now reply.now }
+{
+    match (request, reply) {
+        (Request::Publish(_), Reply::Published) => true,
+        (Request::HaltRun(_), Reply::Done) => true,
+        _ => false,
+    }
+}
+
+/// Gives what was asked its reply.
+fn serve(alloc: Global, program: &Program, going: &mut Going, request: &Request) -> Result<(), Fail>
+    requires of { IsOf program.now going.old.solver.machine }
+    requires waits { WaitsForReply going.old.solver request.now }
+    requires within { going.old.solver.used ≤ going.old.solver.limit }
+    ensures of { OnOk result (IsOf program.now going.new.solver.machine) }
+    ensures solver { OnOk result (going.new.solver.limit ≡ going.old.solver.limit) }
+    ensures limit { going.new.limit ≡ going.old.limit }
+{
+    let place = going.world.front();
+    let reply = going.world.step(alloc, 1, 1, request)?;
+    if !is_served(request, &reply) {
+        return Err("another reply".into());
+    }
+    going.solver.reply(program, place, reply)?;
+    Ok(())
+}
+
+/// A turn of so much fuel.
+#[tactic(auto, unfolding(plsolver::specs::Says::Says))]
+fn turn(
+    alloc: Global,
+    program: &Program,
+    going: &mut Going,
+    fuel: u64,
+) -> Result<Option<ThreadEnd>, Fail>
+    requires of { IsOf program.now going.old.solver.machine }
+    requires solver { going.old.solver.limit ≡ going.old.limit }
+    ensures of { OnOk result (IsOf program.now going.new.solver.machine) }
+    ensures solver { OnOk result (going.new.solver.limit ≡ going.new.limit) }
+    ensures limit { going.new.limit ≡ going.old.limit }
+{
+    if going.solver.steps() > going.limit {
+        return Err("more steps than the limit".into());
+    }
+    let next = going.solver.advance(program, fuel)?;
+    if going.solver.steps() > going.limit {
+        return Err("more steps than the limit".into());
+    }
+    match next {
+        Turn::Slice => Ok(None),
+        Turn::Refresh => {
+            let g = going.world.front();
+            going.solver.refreshed(program, g, going.world.store())?;
+            Ok(None)
+        }
+        Turn::Ask(request) => {
+            serve(alloc, program, going, &request)?;
+            Ok(None)
+        }
+        Turn::Ended(end) => Ok(Some(end)),
+    }
+}
+
+/// A term as writeq/1 writes it under the standard operators (7.10.5); its variables are _1, _2, .. by first occurrence.
+fn text_of(alloc: Global, term: &Term) -> Result<String, Fail> {
+    let operators = OpTable::iso(alloc)?;
+    let text = write_term(alloc, term, &operators, Style::Quoted)?;
+    Ok(String::from_utf8(text)?)
+}
+
+/// The word of an end, or the ball of an exception.
+pub fn word(alloc: Global, end: &ThreadEnd) -> Result<String, Fail> {
+    match end {
+        ThreadEnd::True => Ok(String::from_str(alloc, "true")?),
+        ThreadEnd::False => Ok(String::from_str(alloc, "false")?),
+        ThreadEnd::Budget => Ok(String::from_str(alloc, "budget")?),
+        ThreadEnd::Halt(status) => Ok(format!(in alloc; "halt({status})")?),
+        ThreadEnd::Exception(ball) => text_of(alloc, ball),
+    }
+}
+
+/// An end, the steps that were taken, the places of the answers, and what was written.
+fn told(alloc: Global, going: &Going, end: &ThreadEnd) -> Result<String, Fail> {
+    let end = word(alloc, end)?;
+    let steps = going.solver.steps();
+    let places = going.solver.places();
+    let output = String::from_utf8(Vec::from_slice(alloc, going.solver.output())?)?;
+    Ok(format!(in alloc; "{end} {steps} {places:?} {output}")?)
+}
+
+/// A world in which main has started.
+fn started(alloc: Global, program: &Program) -> Result<World, AllocError> {
+    let mut world = World::open(alloc, program.first())?;
+    world.step(alloc, 1, 0, &Request::Start)?;
+    Ok(world)
+}
+
+/// The search of main of at most so many steps, which has taken none.
+fn begun(alloc: Global, program: &Program, limit: u64) -> Result<Going, AllocError>
+    ensures of { IfOk result (λ going. IsOf program.now going.solver.machine) }
+    ensures solver { IfOk result (λ going. going.solver.limit ≡ going.limit) }
+{
+    let world = started(alloc, program)?;
+    let solver = Solver::new(alloc, program, limit)?;
+    Ok(Going {
+        solver,
+        world,
+        limit,
+    })
+}
+
+/// How a search ends that goes on in slices of so much fuel, and in how many turns.
+fn ended(
+    alloc: Global,
+    program: &Program,
+    going: &mut Going,
+    fuel: u64,
+) -> Result<(ThreadEnd, u64), Fail>
+    requires of { IsOf program.now going.old.solver.machine }
+    requires solver { going.old.solver.limit ≡ going.old.limit }
+{
+    'turns: for turns in 0..100000 {
+        if let Some(end) = turn(alloc, program, going, fuel)? {
+            return Ok((end, turns));
+        }
+    }
+    Err("no end".into())
+}
+
+/// A search that goes on to its end in slices of so much fuel: how it ends, and in how many turns.
+fn finished(
+    alloc: Global,
+    program: &Program,
+    going: &mut Going,
+    fuel: u64,
+) -> Result<(String, u64), Fail>
+    requires of { IsOf program.now going.old.solver.machine }
+    requires solver { going.old.solver.limit ≡ going.old.limit }
+{
+    let (end, turns) = ended(alloc, program, going, fuel)?;
+    let text = told(alloc, going, &end)?;
+    Ok((text, turns))
+}
+
+/// A search of at most so many steps, in slices of so much fuel: how it ends, and in how many turns.
+pub fn search(
+    alloc: Global,
+    program: &Program,
+    limit: u64,
+    fuel: u64,
+) -> Result<(String, u64), Fail> {
+    let mut going = begun(alloc, program, limit)?;
+    finished(alloc, program, &mut going, fuel)
+}
