@@ -291,6 +291,10 @@ pub fn prolog_command<R: Threads + Wait + Sync, S: Source, T: Source, K: Sink, G
         × Comes form (S.left program.old) (S.left program.new) result.history output whole × AppendsPrefix (K.holds out.old) (K.holds out.new) output) }
     ensures write { result.status ≡ Status.WriteFault → Rose (K.faults out.old) (K.faults out.new) }
 
+    // 74: the text was read and the form has made something of it, which stands: a run's history is told.
+    ensures kept { result.status ≡ Status.WriteFault → (form : Form Tree) × IsOf form words.now × (output : List ℕ) × (whole : Status)
+        × Comes form (S.left program.old) (S.left program.new) result.history output whole }
+
     // A known text that is short enough gets its answer, unless a source or the sink failed or memory gave out.
     ensures complete { (text : List ℕ) → IsCommand words.now → S.left program.old ≡ Some text → length text ≤ text_limit →
         (Rose (S.faults program.old) (S.faults program.new) → ⊥) → (Rose (K.faults out.old) (K.faults out.new) → ⊥) → IsAnswerOrMemory result.status }

@@ -1,5 +1,6 @@
 //! A loaded program: its static procedures, the goals of main, the first batch of the journal, and the operators and flags at its end.
 #![tactic(auto)]
 
+mod library;
 pub mod program;
 pub mod settings;

@@ -1,5 +1,5 @@
 //! Loaded programs.
-ghost use Rattle.std.specs.Prelude.{◌≡◌, ◌<◌, [], Some, length, slice_get, OnOk, IfOk};
+ghost use Rattle.std.specs.Prelude.{◌≡◌, ◌<◌, [], Some, fold, length, slice_get, OnOk, IfOk};
 ghost use Rattle.plprogram.specs.Program.{clauses_in, clauses_for, with_clause, with_goal, AreOf};
 
 use crate::settings::{Settings, Unknown};
@@ -74,6 +74,16 @@ impl Procedures {
             unreachable!()
         };
         (indicator, clauses.as_slice())
+    }
+
+    /// Adds clauses, each as the last of its procedure. After an `Err` some of them may be there.
+    fn add_all(&mut self, alloc: Global, clauses: Vec<Clause>) -> Result<(), AllocError>
+        ensures { OnOk result (self.new ≡ fold with_clause self.old clauses.items) }
+    {
+        for clause in clauses {
+            self.add(alloc, clause)?;
+        }
+        Ok(())
     }
 
     /// Adds a clause, as the last of its procedure. After an `Err` the procedure may be there without the clause.
@@ -156,6 +166,17 @@ impl Program {
             program.goals.push(goal)?;
         }
         Ok(program)
+    }
+
+    /// The program with further static clauses, each as the last of its procedure. After an `Err` some of them may be there.
+    pub(crate) fn add_clauses(
+        &mut self,
+        alloc: Global,
+        clauses: Vec<Clause>,
+    ) -> Result<(), AllocError>
+        ensures { OnOk result (self.new ≡ record self.old { procedures = fold with_clause self.old.procedures clauses.items }) }
+    {
+        self.procedures.add_all(alloc, clauses)
     }
 
     /// The clauses of a static procedure, in text order; none, if the program does not define it.

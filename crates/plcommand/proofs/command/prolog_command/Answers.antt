@@ -145,6 +145,11 @@ returns-in-Ok-answer_for-clause-write g c =
     let wrote = c.write_output.ensures says.2.output says.2.is in
     λ e. faulted holds held faults later says.2.output a.status c.write_output.result good wrote e
 
+pub returns-in-Ok-answer_for-clause-kept : goal.returns-in-Ok-answer_for-clause-kept
+returns-in-Ok-answer_for-clause-kept g c =
+    let says = c.in-Ok-answer_for.ensures.answer in
+    λ e. (c.in-Ok.form, c.in-Ok.ensures.asks, says.2.output, c.in-Ok-answer_for.answer.status, record { text = says.0; gave = says.1; makes = says.2.makes })
+
 pub returns-in-Ok-answer_for-clause-complete : goal.returns-in-Ok-answer_for-clause-complete
 returns-in-Ok-answer_for-clause-complete g c =
     let a = c.in-Ok-answer_for.answer in
@@ -183,6 +188,11 @@ returns-in-Err-answer_for-clause-usage g c =
     let Cause : Status → Type 0 = IsReadCause (g.S.Source.left c.args.program.now) (g.S.Source.left c.answer_for.new.source) (g.S.Source.faults c.args.program.now) (g.S.Source.faults c.answer_for.new.source) in
     λ e command. subst Cause e c.in-Err-answer_for.ensures.cause
 
+pub returns-in-Err-answer_for-clause-kept : goal.returns-in-Err-answer_for-clause-kept
+returns-in-Err-answer_for-clause-kept g c =
+    let Cause : Status → Type 0 = IsReadCause (g.S.Source.left c.args.program.now) (g.S.Source.left c.answer_for.new.source) (g.S.Source.faults c.args.program.now) (g.S.Source.faults c.answer_for.new.source) in
+    λ e. absurd (subst Cause e c.in-Err-answer_for.ensures.cause)
+
 pub returns-in-Err-answer_for-clause-refused : goal.returns-in-Err-answer_for-clause-refused
 returns-in-Err-answer_for-clause-refused g c = λ never. absurd (never (c.in-Ok.form, c.in-Ok.ensures.asks.0, c.in-Ok.ensures.asks.1))
 
@@ -209,6 +219,9 @@ returns-in-Err-clause-answer g c = λ answer. absurd (words_no_answer c.args.wor
 
 pub returns-in-Err-clause-write : goal.returns-in-Err-clause-write
 returns-in-Err-clause-write g c = λ e. absurd (subst (IsWordsCause c.args.words.now) e c.in-Err.ensures.cause)
+
+pub returns-in-Err-clause-kept : goal.returns-in-Err-clause-kept
+returns-in-Err-clause-kept g c = λ e. absurd (subst (IsWordsCause c.args.words.now) e c.in-Err.ensures.cause)
 
 pub returns-in-Err-clause-complete : goal.returns-in-Err-clause-complete
 returns-in-Err-clause-complete g c = λ text command known short sound_source sound_sink. words_complete c.args.words.now c.in-Err.status c.in-Err.ensures.cause command
