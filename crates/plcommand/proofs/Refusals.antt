@@ -53,7 +53,7 @@ journal_answers : (h : List Entry) → IsAnswer (status_of h)
 journal_answers h = where_answers (reading h).standing.halted (status_of_main h) (end_answers (end_of 1 (reading h).standing.threads))
 
 pub answers : (text : List ℕ) (form : Form Tree) (history : Option History) (output : List ℕ) (status : Status) → Makes text form history output status → IsAnswer status
-answers text form history output status (ran {h = h} l r) = journal_answers h.journal
+answers text form history output status (ran {h = h} l b r) = journal_answers h.journal
 answers text form history output status (checked l) = tt
 answers text form history output status (listed l) = tt
 answers text form history output status (refused l) = tt
@@ -61,9 +61,9 @@ answers text form history output status (refused l) = tt
 -- a history comes of a run
 pub has_run : (words : List (List ℕ)) (form : Form Tree) (before now : Option (List ℕ)) (text : List ℕ) (history : Option History) (output : List ℕ) (status : Status) →
     IsOf form words → Gave before now text → Makes text form history output status → (h : History) → history ≡ Some h → HasRun words before now h
-has_run words form before now text history output status asked gave (ran {steps} {goal} {program} {h = k} l r) h e =
+has_run words form before now text history output status asked gave (ran {steps} {goal} {program} {whole} {h = k} l b r) h e =
     let same : k ≡ h = cc in
-    subst (HasRun words before now) same (record { steps = steps; goal = goal; asked = asked; text = text; gave = gave; program = program; loaded = l; run = r })
+    subst (HasRun words before now) same (record { steps = steps; goal = goal; asked = asked; text = text; gave = gave; program = program; loaded = l; whole = whole; library = b; run = r })
 has_run words form before now text history output status asked gave (checked l) h e = absurd cc
 has_run words form before now text history output status asked gave (listed l) h e = absurd cc
 has_run words form before now text history output status asked gave (refused l) h e = absurd cc

@@ -7,6 +7,7 @@ use Rattle.plprogram.specs.Program.{Program, with_goal}
 use Rattle.plload.specs.Loading.{Loads, Accepts, Refuses}
 use Rattle.plload.specs.Listing.{Lists}
 use Rattle.plload.specs.declared.error.RefusalKind.{RefusalKind}
+use Rattle.pllibrary.specs.Library.{HasLibrary}
 use Rattle.plsearch.specs.Search.{search_of}
 use Rattle.plhist.specs.declared.history.History.{History}
 use Rattle.plhist.specs.declared.status.Status.{Status}
@@ -41,10 +42,11 @@ pub record IsRunOf (program : Program) (steps : ℕ) (h : History) : Type 0 wher
 abbrev pub check_text : Program → List ℕ
 check_text program = codes "clauses " ++ decimal program.clauses ++ codes " directives " ++ decimal program.directives ++ 10 ∷ []
 
--- What a form makes of a text: a history if it runs the program, with a goal of its own behind those of the text, the
--- output, and the status. Of a text that is refused, the output is the line that says where.
+-- What a form makes of a text: a history if it runs the program, with those procedures of the library that it lacks and with a
+-- goal of its own behind those of the text, the output, and the status. Of a text that is refused, the output is the line that says where.
 pub data Makes (text : List ℕ) : Form Tree → Option History → List ℕ → Status → Type 0 where
-  ran : {steps : ℕ} {goal : Option Tree} {program : Program} {h : History} → Loads text (Accepts program) → IsRunOf (with_goal program goal) steps h →
+  ran : {steps : ℕ} {goal : Option Tree} {program whole : Program} {h : History} →
+      Loads text (Accepts program) → HasLibrary program whole → IsRunOf (with_goal whole goal) steps h →
       Makes text (Run steps goal) (Some h) (report_text iso_table h) (status_of h.journal)
   checked : {program : Program} → Loads text (Accepts program) → Makes text Check None (check_text program) Status.Done
   listed : {lines : List ℕ} → Lists text (Accepts lines) → Makes text ListForm None lines Status.Done
@@ -56,7 +58,7 @@ pub record Comes (form : Form Tree) (before now : Option (List ℕ)) (history : 
   pub gave : Gave before now text
   pub makes : Makes text form history output status
 
--- the words ask for a run, the text that was read is a program's, and this is a history of the run
+-- the words ask for a run, the text that was read is a program's, and this is a history of the run, which has the library
 pub record HasRun (words : List (List ℕ)) (before now : Option (List ℕ)) (h : History) : Type 0 where
   pub steps : ℕ
   pub goal : Option Tree
@@ -65,7 +67,9 @@ pub record HasRun (words : List (List ℕ)) (before now : Option (List ℕ)) (h 
   pub gave : Gave before now text
   pub program : Program
   pub loaded : Loads text (Accepts program)
-  pub run : IsRunOf (with_goal program goal) steps h
+  pub whole : Program
+  pub library : HasLibrary program whole
+  pub run : IsRunOf (with_goal whole goal) steps h
 
 -- An answer says what a form makes of a text; its output may be missing for want of memory.
 pub record Says (text : List ℕ) (form : Form Tree) (a : Answer) : Type 0 where

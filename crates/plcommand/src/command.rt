@@ -17,6 +17,7 @@ ghost use Rattle.plcommand.specs.Outcome.{text_limit, Gave, HasRun, Comes, Says,
 
 use itoa::Buffer;
 use plhist::{History, Status, refusal_text, report_text, status_of};
+use pllibrary::library::with_library;
 use plio::{Gate, ReadError, Sink, Source, read_all, write_all};
 use plload::error::{LoadError, RefusalKind};
 use plload::goal::read_goal;
@@ -135,7 +136,8 @@ fn told_of(alloc: Global, history: History) -> Answer
     }
 }
 
-/// The history of a run of a program of so many steps, with a goal of its own behind those of the text, and its report.
+/// The history of a run of a program of so many steps, with the library and with a goal of its own behind those of the text, and
+/// its report.
 fn run_answer(
     alloc: Global,
     text: &[u8],
@@ -146,7 +148,8 @@ fn run_answer(
     ensures refused { IfErr result (Tells text.now) }
 {
     let loaded = load(alloc, text)?;
-    let program = loaded.with_goal(goal)?;
+    let whole = with_library(alloc, loaded)?;
+    let program = whole.with_goal(goal)?;
     let history = run_schedule(alloc, &program, steps, &[])?;
     Ok(told_of(alloc, history))
 }

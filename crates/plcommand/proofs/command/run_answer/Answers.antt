@@ -15,6 +15,6 @@ returns-clause-says c =
       output = report_text iso_table h;
       makes = subst (Makes c.args.text.now (Run steps c.args.goal) c.told_of.result.history (report_text iso_table h)) (sym c.told_of.ensures.status)
           (subst (λ o. Makes c.args.text.now (Run steps c.args.goal) o (report_text iso_table h) (status_of h.journal)) (sym c.told_of.ensures.history)
-          (ran c.in_ok-loaded.ensures.accepted (subst (λ p. IsRunOf p steps h) c.in_ok-program.ensures run)));
+          (ran c.in_ok-loaded.ensures.accepted c.in_ok-whole.ensures (subst (λ p. IsRunOf p steps h) c.in_ok-program.ensures run)));
       is = c.told_of.ensures.report;
     }

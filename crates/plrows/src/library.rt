@@ -1,0 +1,121 @@
+//! The library.
+use crate::row::{CHECK, Goal, LIST, RUN, Row, first_wrong, first_wrong_goal};
+use plhist::Status;
+use std::test::Fail;
+
+/// What its procedures give, all answers in their order.
+const ANSWERS: [Goal; 27] = [
+    ("append([a,b], [c], L), writeq(L)", "[a,b,c]"),
+    (
+        "append(X, Y, [a,b]), writeq(X-Y), write(' '), fail ; write(end)",
+        "[]-[a,b] [a]-[b] [a,b]-[] end",
+    ),
+    ("append([a|T], [c], [a,b,c]), writeq(T)", "[b]"),
+    ("append([a], x, L), writeq(L)", "[a|x]"),
+    ("member(X, [a,b,c]), write(X), fail ; write(end)", "abcend"),
+    ("member(b, [a,b]), write(yes)", "yes"),
+    ("member(x, [a,b]) ; write(no)", "no"),
+    ("member(f(X), [a,f(b),f(c)]), write(X), fail ; true", "bc"),
+    ("memberchk(X, [a,b]), write(X), fail ; write(end)", "aend"),
+    ("memberchk(x, [a,b]) ; write(no)", "no"),
+    (
+        "select(X, [a,b,c], L), writeq(X-L), write(' '), fail ; true",
+        "a-[b,c] b-[a,c] c-[a,b] ",
+    ),
+    ("select(b, [a,b,c,b], L), writeq(L)", "[a,c,b]"),
+    ("reverse([a,b,c], L), writeq(L)", "[c,b,a]"),
+    ("reverse([], L), writeq(L)", "[]"),
+    ("maplist(=(x), [A,B]), writeq(A-B)", "x-x"),
+    ("maplist(nothing, []), write(yes)", "yes"),
+    ("maplist(=(x), [x,y]) ; write(no)", "no"),
+    (
+        "maplist(append([a]), [[b],[c,d]], L), writeq(L)",
+        "[[a,b],[a,c,d]]",
+    ),
+    ("maplist(atom_length, [ab,'',c], L), writeq(L)", "[2,0,1]"),
+    ("maplist(=, [a,b], [c]) ; write(no)", "no"),
+    (
+        "forall(member(X, [a,b]), atom_length(X, 1)), writeq(X)",
+        "_1",
+    ),
+    (
+        "forall(member(X, [a,bb]), atom_length(X, 1)) ; write(no)",
+        "no",
+    ),
+    ("forall(fail, nothing), write(yes)", "yes"),
+    (
+        "ignore(member(X, [a,b])), write(X), fail ; write(end)",
+        "aend",
+    ),
+    ("ignore(fail), write(yes)", "yes"),
+    ("not(member(x, [a])), (not(true) ; write(no))", "no"),
+    (
+        "assertz(seen(a)), assertz(seen(b)), repeat, seen(X), write(X), X = b, !",
+        "ab",
+    ),
+];
+
+/// Errors come from the goals that it calls, and its procedures are static.
+const ERRORS: [Goal; 6] = [
+    ("maplist(_, [a])", "instantiation_error of call/2"),
+    ("maplist(1, [a])", "type_error(callable,1) of call/2"),
+    ("forall(_, true)", "instantiation_error of call/1"),
+    ("ignore(_)", "instantiation_error of once/1"),
+    ("not(1)", "type_error(callable,1) of (\\+)/1"),
+    (
+        "assertz(append(a, b, c))",
+        "permission_error(modify,static_procedure,append/3) of assertz/1",
+    ),
+];
+
+/// A procedure stands where the text neither defines nor declares it, each by itself; a listing and a count have none of them.
+const PROGRAMS: [Row; 5] = [
+    (
+        RUN,
+        "append(a, b, c). :- initialization((append(X, Y, Z), writeq([X,Y,Z]), fail ; true)).",
+        "% thread 1 main: true\n[a,b,c]\n",
+        Status::Done,
+    ),
+    (
+        RUN,
+        ":- dynamic(append/3). :- initialization((append([], a, X) ; write(none))).",
+        "% thread 1 main: true\nnone\n",
+        Status::Done,
+    ),
+    (
+        RUN,
+        "'$reverse'(_, _, mine). :- initialization((reverse([a], X), write(X))).",
+        "% thread 1 main: true\nmine\n",
+        Status::Done,
+    ),
+    (
+        LIST,
+        "a :- member(x, [y]).",
+        "a:-member(x,[y]).\n",
+        Status::Done,
+    ),
+    (
+        CHECK,
+        "a :- member(x, [y]).",
+        "clauses 1 directives 0\n",
+        Status::Done,
+    ),
+];
+
+#[test]
+fn rows_of_the_library(rt: HostRuntime) -> Result<(), Fail> {
+    assert_eq!(rt; first_wrong_goal(&rt, rt.alloc(), &ANSWERS)?, None);
+    Ok(())
+}
+
+#[test]
+fn rows_of_library_errors(rt: HostRuntime) -> Result<(), Fail> {
+    assert_eq!(rt; first_wrong_goal(&rt, rt.alloc(), &ERRORS)?, None);
+    Ok(())
+}
+
+#[test]
+fn rows_of_library_programs(rt: HostRuntime) -> Result<(), Fail> {
+    assert_eq!(rt; first_wrong(&rt, rt.alloc(), &PROGRAMS)?, None);
+    Ok(())
+}
