@@ -1,6 +1,6 @@
 //! Calls, balls and catchers.
-use crate::row::{RUN, Row, first_wrong};
 use plhist::Status;
+use plrow::row::{RUN, Row, first_wrong};
 use std::test::Fail;
 
 /// What a program says of a run as a whole, and calls.

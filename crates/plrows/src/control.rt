@@ -1,6 +1,6 @@
 //! Control constructs: cuts, conditions, the order of solutions, and unification.
-use crate::row::{RUN, Row, first_wrong};
 use plhist::Status;
+use plrow::row::{RUN, Row, first_wrong};
 use std::test::Fail;
 
 /// Control constructs.

@@ -1,6 +1,6 @@
 //! Deep terms, bodies, recursion and choice points.
-use crate::row::{RUN, repeated, told};
 use plhist::Status;
+use plrow::row::{RUN, repeated, told};
 use std::test::Fail;
 
 /// `d17(G, C, T)` calls G 131,072 times: where `g(F, T)` says that F is one level around T, C is so many levels around T.

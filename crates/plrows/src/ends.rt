@@ -1,6 +1,6 @@
 //! Ends of a run.
-use crate::row::{RUN, Row, first_wrong};
 use plhist::Status;
+use plrow::row::{RUN, Row, first_wrong};
 use std::test::Fail;
 
 /// Ends of the run, and the flag `unknown`.

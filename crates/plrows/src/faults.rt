@@ -1,8 +1,8 @@
 //! Faults of the source and of the sink, and too long a text.
-use crate::row::{RUN, called, repeated, told, words_of};
 use plcommand::command::{Report, TEXT_LIMIT};
 use plhist::Status;
 use plio::{MemorySink, MemorySource};
+use plrow::row::{RUN, called, repeated, told, words_of};
 use std::alloc::Global;
 use std::sync::Wait;
 use std::test::Fail;

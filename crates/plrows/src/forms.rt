@@ -1,7 +1,7 @@
 //! Words of a command line: listings, counts, options, and words of no form.
-use crate::row::{CHECK, LIST, Row, first_wrong};
 use plhist::Status;
 use plload::error::RefusalKind;
+use plrow::row::{CHECK, LIST, Row, first_wrong};
 use std::test::Fail;
 
 /// Listings, and counts.

@@ -2,8 +2,6 @@
 #![tactic(auto)]
 
 #[cfg(test)]
-mod atoms;
-#[cfg(test)]
 mod calls;
 #[cfg(test)]
 mod control;
@@ -16,8 +14,4 @@ mod faults;
 #[cfg(test)]
 mod forms;
 #[cfg(test)]
-mod library;
-#[cfg(test)]
 mod programs;
-#[cfg(test)]
-mod row;

@@ -1,7 +1,7 @@
 //! Programs of all that runs, and their listings.
-use crate::row::{LIST, RUN, Row, first_wrong, told};
 use plhist::Status;
 use plload::error::RefusalKind;
+use plrow::row::{LIST, RUN, Row, first_wrong, told};
 use std::test::Fail;
 
 /// Programs and their reports.

@@ -1,7 +1,7 @@
 //! Built-in predicates on atoms.
-use crate::row::{Goal, RUN, Row, first_wrong, first_wrong_goal};
 use plhist::Status;
 use plload::error::RefusalKind;
+use plrow::row::{Goal, RUN, Row, first_wrong, first_wrong_goal};
 use std::test::Fail;
 
 /// atom_length/2: how many characters there are.

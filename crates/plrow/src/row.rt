@@ -5,7 +5,6 @@ use plio::{MemorySink, MemorySource, NoGate};
 use plwords::words::Words;
 use std::alloc::{AllocError, Global};
 use std::sync::Wait;
-use std::test::Fail;
 use std::thread::Threads;
 
 /// The words of a command line, a text, and what they make of it: the output and the status.
@@ -26,7 +25,7 @@ pub fn first_wrong<R: Threads + Wait + Sync>(
     rt: &R,
     alloc: Global,
     rows: &[Row],
-) -> Result<Option<usize>, Fail> {
+) -> Result<Option<usize>, AllocError> {
     for (place, (words, text, output, status)) in rows.iter().enumerate() {
         let (bytes, ended) = told(rt, alloc, words, text.as_bytes())?;
         if bytes.as_slice() != output.as_bytes() || ended != *status {
@@ -41,7 +40,7 @@ pub fn first_wrong_goal<R: Threads + Wait + Sync>(
     rt: &R,
     alloc: Global,
     goals: &[Goal],
-) -> Result<Option<usize>, Fail> {
+) -> Result<Option<usize>, AllocError> {
     for (place, (goal, written)) in goals.iter().enumerate() {
         let text = format!(in alloc;
             ":- initialization((catch(({goal}), error(Error, Of), (writeq(Error), write(' of '), writeq(Of)))))."
@@ -61,7 +60,7 @@ pub fn told<R: Threads + Wait + Sync>(
     alloc: Global,
     words: &[&str],
     text: &[u8],
-) -> Result<(Vec<u8>, Status), Fail> {
+) -> Result<(Vec<u8>, Status), AllocError> {
     let words = words_of(alloc, words)?;
     let source = MemorySource::new(Vec::from_slice(alloc, text)?, 4096, Vec::new(alloc));
     let sink = MemorySink::new(alloc, 1_000_000, Vec::new(alloc))?;
@@ -76,7 +75,7 @@ pub fn called<R: Threads + Wait + Sync>(
     words: &Words,
     source: MemorySource,
     sink: MemorySink,
-) -> Result<(Vec<u8>, Report), Fail> {
+) -> Result<(Vec<u8>, Report), AllocError> {
     let mut program = source;
     let mut second = MemorySource::new(Vec::new(alloc), 1, Vec::new(alloc));
     let mut out = sink;

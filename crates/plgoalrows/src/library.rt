@@ -1,6 +1,6 @@
 //! The library.
-use crate::row::{CHECK, Goal, LIST, RUN, Row, first_wrong, first_wrong_goal};
 use plhist::Status;
+use plrow::row::{CHECK, Goal, LIST, RUN, Row, first_wrong, first_wrong_goal};
 use std::test::Fail;
 
 /// What its procedures give, all answers in their order.

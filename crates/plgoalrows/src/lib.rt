@@ -1,0 +1,7 @@
+//! Worked goals: built-in predicates and the library, each row a goal with what it writes or raises.
+#![tactic(auto)]
+
+#[cfg(test)]
+mod atoms;
+#[cfg(test)]
+mod library;
