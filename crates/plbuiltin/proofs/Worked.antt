@@ -1,11 +1,13 @@
 -- The definitions on small inputs.
-use Rattle.std.proofs.Common.{◌≡◌, [], ◌∷◌, pos, negsuc, refl}
+use Rattle.std.proofs.Common.{◌≡◌, true, false, List, [], ◌∷◌, map, pos, negsuc, refl}
 use Rattle.std.specs.Prelude.{codes}
 use Rattle.std.specs.Str.{chars}
 use Rattle.plterm.specs.Tree.{Tree, var, int, atom, compound, none, more}
 use Rattle.plprogram.specs.declared.settings.Settings.{Settings}
 use Rattle.plbuiltin.specs.Errors.{instantiation_error, type_error, domain_error}
 use Rattle.plbuiltin.specs.Solution.{Raises, unifies}
+use Rattle.plnames.specs.declared.kind.Tests.TheVariants.{Variable, Bound, Atom, Integer, Atomic, Compound, Callable, ProperList}
+use Rattle.plbuiltin.specs.Tests.{is_list, holds}
 use Rattle.plbuiltin.specs.Atoms.{atom_length, count_of}
 
 foo : Tree
@@ -55,3 +57,52 @@ module _ (s : Settings) where
   negative : atom_length (foo ∷ int (negsuc 0) ∷ []) s ≡ Raises (domain_error (codes "not_less_than_zero") (int (negsuc 0)))
   unfolding foo
   negative = refl
+
+-- ---- tests of what a term is
+
+terms : List Tree
+unfolding foo f_of_foo
+terms = var 0 ∷ int (negsuc 0) ∷ foo ∷ f_of_foo ∷ []
+
+variables : map (holds Variable) terms ≡ true ∷ false ∷ false ∷ false ∷ []
+unfolding terms
+variables = refl
+
+bound_terms : map (holds Bound) terms ≡ false ∷ true ∷ true ∷ true ∷ []
+unfolding terms
+bound_terms = refl
+
+atoms : map (holds Atom) terms ≡ false ∷ false ∷ true ∷ false ∷ []
+unfolding terms
+atoms = refl
+
+integers : map (holds Integer) terms ≡ false ∷ true ∷ false ∷ false ∷ []
+unfolding terms
+integers = refl
+
+atomic_terms : map (holds Atomic) terms ≡ false ∷ true ∷ true ∷ false ∷ []
+unfolding terms
+atomic_terms = refl
+
+compounds : map (holds Compound) terms ≡ false ∷ false ∷ false ∷ true ∷ []
+unfolding terms
+compounds = refl
+
+callable_terms : map (holds Callable) terms ≡ false ∷ false ∷ true ∷ true ∷ []
+unfolding terms
+callable_terms = refl
+
+empty : Tree
+empty = atom (codes "[]")
+
+dot : Tree → Tree → Tree
+dot t u = compound (codes ".") (more t (more u none))
+
+-- a list is one whatever its elements are, and none where its end is another term
+lists : map (holds ProperList) (empty ∷ dot (var 0) empty ∷ dot foo (dot foo empty) ∷ []) ≡ true ∷ true ∷ true ∷ []
+unfolding is_list empty dot foo
+lists = refl
+
+no_lists : map (holds ProperList) (var 0 ∷ foo ∷ f_of_foo ∷ dot foo (var 0) ∷ dot empty foo ∷ compound (codes ".") (more empty none) ∷ []) ≡ false ∷ false ∷ false ∷ false ∷ false ∷ false ∷ []
+unfolding is_list empty dot foo f_of_foo
+no_lists = refl

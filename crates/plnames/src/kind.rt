@@ -39,6 +39,27 @@ pub enum Terms {
     Unify,
 }
 
+/// A built-in predicate that asks what a term is (8.3).
+#[derive(Clone, Copy, Debug, PartialEq, Eq)]
+pub enum Tests {
+    /// var/1.
+    Variable,
+    /// nonvar/1.
+    Bound,
+    /// atom/1.
+    Atom,
+    /// integer/1 and number/1: each number is an integer.
+    Integer,
+    /// atomic/1.
+    Atomic,
+    /// compound/1.
+    Compound,
+    /// callable/1.
+    Callable,
+    /// is_list/1.
+    ProperList,
+}
+
 /// A built-in predicate on atoms (8.16).
 #[derive(Clone, Copy, Debug, PartialEq, Eq)]
 pub enum Atoms {
@@ -61,6 +82,7 @@ pub enum Output {
 #[derive(Clone, Copy, Debug, PartialEq, Eq)]
 pub enum BuiltIn {
     Terms(Terms),
+    Tests(Tests),
     Atoms(Atoms),
     Output(Output),
 }

@@ -10,3 +10,4 @@ mod error;
 mod output;
 mod shape;
 mod terms;
+mod tests;

@@ -19,3 +19,5 @@ mod forms;
 mod programs;
 #[cfg(test)]
 mod row;
+#[cfg(test)]
+mod type_tests;
