@@ -2,4 +2,5 @@
 #![tactic(auto)]
 
 pub mod compare;
+pub mod ground;
 pub mod shape;
