@@ -1,15 +1,15 @@
 -- The list of spans, step by step.
-use Rattle.std.proofs.Common.{◌≡◌, ℕ, zero, suc, ◌+◌, ◌-◌, ◌<◌, ◌≤◌, Bool, true, false, ◌&&◌, List, [], ◌∷◌, ◌++◌, length, refl, sym, ap, ap₂, ◌∙◌, subst, arith, append-nil, nat_lt}
-use Rattle.plterm.specs.Tree.{Tree, var, int, atom, compound, trees}
+use Rattle.std.proofs.Common.{◌≡◌, ℕ, suc, ◌+◌, ◌-◌, ◌<◌, ◌≤◌, Bool, true, false, ◌&&◌, List, [], ◌∷◌, ◌++◌, refl, sym, ap, ap₂, ◌∙◌, subst, arith, append-nil, nat_lt}
+use Rattle.plterm.specs.Tree.{Tree, var, compound, trees}
 use Rattle.plterm.specs.Ground.{is_ground, are_ground}
 use Rattle.platoms.specs.Names.{IsTable, functor_name}
-use Rattle.plcells.specs.Store.{Store, at, term, terms, IsHead, IsBlock}
+use Rattle.plcells.specs.Store.{Store, term, terms, IsBlock}
 use Rattle.plcells.specs.Walking.{weight, weights}
 use Rattle.plcells.proofs.Searching.{weight-some}
 use Rattle.plorder.specs.declared.shape.Block.{Block}
 use Rattle.plorder.specs.declared.shape.Shape.{Shape}
 use Rattle.plorder.specs.declared.shape.Shape.TheVariants.{Variable, Integer, Atom, Compound}
-use Rattle.plorder.specs.declared.ground.Span.{Span}
+use Rattle.plorder.specs.declared.variables.Span.{Span}
 use Rattle.plorder.specs.Shapes.{IsOfShape}
 use Rattle.plorder.specs.Spans.{IsSpan, AreSpans, IsLooked, all_ground, weigh_spans, rest_of}
 
@@ -87,11 +87,11 @@ module _ (h : Store) (old rest : List Span) (s : Span) (e : old ≡ rest ++ s �
       let span : IsSpan h s = taken in
       record {
         spans = subst (AreSpans h) (sym now) (are-append h rest shrunk others (record {
-              some = omega (arith, more);
-              within = omega (arith, more, span.within);
-              plain = λ d le lt. span.plain d (omega arith) (omega (arith, more));
-              few = span.few;
-            }));
+          some = omega (arith, more);
+          within = omega (arith, more, span.within);
+          plain = λ d le lt. span.plain d (omega arith) (omega (arith, more));
+          few = span.few;
+        }));
         is =
             ap (all_ground h) e ∙ ground-append h rest s
             ∙ ap (λ (b : Bool). all_ground h rest && b) (parted k ek)
@@ -134,9 +134,9 @@ module _ (h : Store) (start old new after : List Span) (a : ℕ) (left : IsLeft 
 
 -- a term without arguments
 pub looked-leaf : (h : Store) (old : List Span) (t : Tree) → is_ground t ≡ true → IsLooked h old old t
-looked-leaf h old t ground = record {
+looked-leaf h old t none = record {
   spans = λ are. are;
-  is = sym (ap (λ (b : Bool). all_ground h old && b) ground ∙ and-true (all_ground h old));
+  is = sym (ap (λ (b : Bool). all_ground h old && b) none ∙ and-true (all_ground h old));
   lighter = omega (arith, weight-some t);
 }
 
@@ -148,11 +148,11 @@ looked-block h old new t b s names block e ef ec en =
     let some : 0 < b.arity = subst (λ k. 0 < k) block.arity ((names.functors b.functor block.functor).some) in
     record {
       spans = λ are. subst (AreSpans h) (sym en) (are-append h old s are (record {
-            some = omega (arith, some, ec);
-            within = omega (arith, block.within);
-            plain = λ d le lt. block.plain d (omega arith) (omega arith);
-            few = block.few;
-          }));
+        some = omega (arith, some, ec);
+        within = omega (arith, block.within);
+        plain = λ d le lt. block.plain d (omega arith) (omega arith);
+        few = block.few;
+      }));
       is = ap (all_ground h) en ∙ ground-append h old s ∙ ap (λ (u : Tree). all_ground h old && is_ground u) (sym shows);
       lighter = omega (arith, ap weight shows, ap (weigh_spans h) en, weigh-append h old s);
     }

@@ -1,11 +1,11 @@
 -- What is left of a look for variables.
-use Rattle.std.specs.Prelude.{◌≡◌, ℕ, suc, ◌+◌, ◌-◌, ◌^◌, ◌<◌, ◌≤◌, Bool, true, false, ◌&&◌, List, [], ◌∷◌, length, nat_lt, if◌then◌else◌}
+use Rattle.std.specs.Prelude.{◌≡◌, ℕ, ◌+◌, ◌-◌, ◌^◌, ◌<◌, ◌≤◌, Bool, true, false, ◌&&◌, List, [], ◌∷◌, length, nat_lt, if◌then◌else◌}
 use Rattle.std.specs.Bool.{⊤}
 use Rattle.plterm.specs.Tree.{Tree, trees}
 use Rattle.plterm.specs.Ground.{is_ground, are_ground}
 use Rattle.plcells.specs.Store.{Store, at, terms, IsHead}
 use Rattle.plcells.specs.Walking.{weight, weights}
-use Rattle.plorder.specs.declared.ground.Span.{Span}
+use Rattle.plorder.specs.declared.variables.Span.{Span}
 
 -- the cells of a span hold arguments
 pub record IsSpan (h : Store) (s : Span) : Type 0 where

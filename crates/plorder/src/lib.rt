@@ -2,5 +2,5 @@
 #![tactic(auto)]
 
 pub mod compare;
-pub mod ground;
 pub mod shape;
+pub mod variables;

@@ -1,7 +1,7 @@
 use Rattle.std.proofs.Common.{arith, refl}
 use Rattle.plcells.specs.Store.{value}
 use Rattle.plorder.proofs.Looking.{variable-not, looked-leaf, looked-block, shape-ground}
-use Rattle.plorder.proofs.ground.look.Goals as goal
+use Rattle.plorder.proofs.variables.look.Goals as goal
 
 pub returns-in-Variable : goal.returns-in-Variable
 returns-in-Variable c = variable-not (value c.args.heap.now c.args.v) c.in-Variable.field-0 c.in-Variable.ensures

@@ -1,6 +1,6 @@
 use Rattle.std.proofs.Common.{◌≡◌}
 use Rattle.plorder.specs.Spans.{AreSpans, all_ground, weigh_spans}
-use Rattle.plorder.proofs.ground.look_through.Given as goal
+use Rattle.plorder.proofs.variables.look_through.Given as goal
 
 abbrev pub invariant-spans : goal.invariant-spans
 invariant-spans l = record {

@@ -1,9 +1,9 @@
 use Rattle.std.proofs.Common.{◌∙◌, sym, ap, subst, arith}
 use Rattle.plterm.specs.Ground.{is_ground}
-use Rattle.plcells.specs.Store.{term, value}
+use Rattle.plcells.specs.Store.{value}
 use Rattle.plorder.specs.Spans.{IsLooked, Looks}
 use Rattle.plorder.proofs.Looking.{taken, left-taken, on-variable, on-looked, spans-looked, lighter-looked}
-use Rattle.plorder.proofs.ground.look_through.Goals as goal
+use Rattle.plorder.proofs.variables.look_through.Goals as goal
 
 pub push_rest-requires : goal.push_rest-requires
 push_rest-requires c =
