@@ -60,6 +60,34 @@ pub enum Tests {
     ProperList,
 }
 
+/// What the order of two terms has to be (8.4.1).
+#[derive(Clone, Copy, Debug, PartialEq, Eq)]
+pub enum Relation {
+    /// `==`/2.
+    Same,
+    /// `\==`/2.
+    Different,
+    /// `@<`/2.
+    Before,
+    /// `@=<`/2.
+    NotAfter,
+    /// `@>`/2.
+    After,
+    /// `@>=`/2.
+    NotBefore,
+}
+
+/// A built-in predicate that looks at terms as they are (8.3.10, 8.4).
+#[derive(Clone, Copy, Debug, PartialEq, Eq)]
+pub enum Order {
+    /// The order of two terms is one of some.
+    Holds(Relation),
+    /// compare/3.
+    Compare,
+    /// ground/1.
+    Ground,
+}
+
 /// A built-in predicate on atoms (8.16).
 #[derive(Clone, Copy, Debug, PartialEq, Eq)]
 pub enum Atoms {
@@ -83,6 +111,7 @@ pub enum Output {
 pub enum BuiltIn {
     Terms(Terms),
     Tests(Tests),
+    Order(Order),
     Atoms(Atoms),
     Output(Output),
 }

@@ -1,6 +1,6 @@
 //! The table of names.
 
-use crate::kind::{Atoms, BuiltIn, Control, Kind, Output, Terms, Tests};
+use crate::kind::{Atoms, BuiltIn, Control, Kind, Order, Output, Relation, Terms, Tests};
 
 /// What each name with an arity is. No program can change or define these procedures (ISO/IEC 13211-1 7.5.2).
 pub static ROWS: &[(&str, u16, Kind)] = &[
@@ -47,6 +47,46 @@ pub static ROWS: &[(&str, u16, Kind)] = &[
         "is_list",
         1,
         Kind::BuiltIn(BuiltIn::Tests(Tests::ProperList)),
+    ),
+    (
+        "==",
+        2,
+        Kind::BuiltIn(BuiltIn::Order(Order::Holds(Relation::Same))),
+    ),
+    (
+        "\\==",
+        2,
+        Kind::BuiltIn(BuiltIn::Order(Order::Holds(Relation::Different))),
+    ),
+    (
+        "@<",
+        2,
+        Kind::BuiltIn(BuiltIn::Order(Order::Holds(Relation::Before))),
+    ),
+    (
+        "@=<",
+        2,
+        Kind::BuiltIn(BuiltIn::Order(Order::Holds(Relation::NotAfter))),
+    ),
+    (
+        "@>",
+        2,
+        Kind::BuiltIn(BuiltIn::Order(Order::Holds(Relation::After))),
+    ),
+    (
+        "@>=",
+        2,
+        Kind::BuiltIn(BuiltIn::Order(Order::Holds(Relation::NotBefore))),
+    ),
+    (
+        "compare",
+        3,
+        Kind::BuiltIn(BuiltIn::Order(Order::Compare)),
+    ),
+    (
+        "ground",
+        1,
+        Kind::BuiltIn(BuiltIn::Order(Order::Ground)),
     ),
     (
         "atom_length",

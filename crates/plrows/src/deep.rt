@@ -26,7 +26,7 @@ const DOUBLES: &str = "
 ";
 
 /// Programs over `d17`, each of which writes `end`.
-const DEEP: [&str; 16] = [
+const DEEP: [&str; 17] = [
     // Constructs in one another, to the right and to the left, proved and gone back through.
     "g((true, T), T). :- d17(g, C, write(end)), call(C).",
     "g((T, true), T). :- d17(g, C, write(end)), call(C).",
@@ -44,6 +44,7 @@ const DEEP: [&str; 16] = [
     "i([o|T], [i|T]). i([i|T], [o|U]) :- i(T, U). n(X) :- i(X, Y), n(Y), true. n(_). :- n([o,o,o,o,o,o,o,o,o,o,o,o,o,o,o,o,o]), !, write(end).",
     // Terms: unified, not unified with a part, thrown, published.
     "g(f(T), T). :- d17(g, A, a), d17(g, B, X), (X = B ; A = B), X = a, write(end).",
+    "g(f(T), T). :- d17(g, A, a), d17(g, B, a), d17(g, C, b), A == B, A @< C, compare(>, C, B), ground(A), write(end).",
     "g(f(T), T). :- d17(g, A, a), catch(throw(A), B, true), A = B, write(end).",
     ":- dynamic p/1. g(f(T), T). :- d17(g, A, a), assertz(p(A)), p(B), A = B, write(end).",
     ":- dynamic p/0. g((true, T), T). :- d17(g, C, write(end)), assertz((p :- C)), p.",

@@ -16,6 +16,8 @@ mod faults;
 #[cfg(test)]
 mod forms;
 #[cfg(test)]
+mod order;
+#[cfg(test)]
 mod programs;
 #[cfg(test)]
 mod row;
