@@ -26,7 +26,7 @@ const DOUBLES: &str = "
 ";
 
 /// Programs over `d17`, each of which writes `end`.
-const DEEP: [&str; 17] = [
+const DEEP: [&str; 16] = [
     // Constructs in one another, to the right and to the left, proved and gone back through.
     "g((true, T), T). :- d17(g, C, write(end)), call(C).",
     "g((T, true), T). :- d17(g, C, write(end)), call(C).",
@@ -44,11 +44,14 @@ const DEEP: [&str; 17] = [
     "i([o|T], [i|T]). i([i|T], [o|U]) :- i(T, U). n(X) :- i(X, Y), n(Y), true. n(_). :- n([o,o,o,o,o,o,o,o,o,o,o,o,o,o,o,o,o]), !, write(end).",
     // Terms: unified, not unified with a part, thrown, published.
     "g(f(T), T). :- d17(g, A, a), d17(g, B, X), (X = B ; A = B), X = a, write(end).",
-    "g(f(T), T). :- d17(g, A, a), d17(g, B, a), d17(g, C, b), A == B, A @< C, compare(>, C, B), ground(A), write(end).",
     "g(f(T), T). :- d17(g, A, a), catch(throw(A), B, true), A = B, write(end).",
     ":- dynamic p/1. g(f(T), T). :- d17(g, A, a), assertz(p(A)), p(B), A = B, write(end).",
     ":- dynamic p/0. g((true, T), T). :- d17(g, C, write(end)), assertz((p :- C)), p.",
 ];
+
+/// Two terms over `d17`, compared.
+const DEEP_ORDER: &str =
+    "g(f(T), T). :- d17(g, A, a), d17(g, B, b), A @< B, A \\== B, ground(A), write(end).";
 
 // Nothing is so deep that it does not end, or takes the stack.
 #[test]
@@ -64,6 +67,18 @@ fn deep_goals(rt: HostRuntime) -> Result<(), Fail> {
         );
         assert!(rt; ended == Status::Done, "{text}");
     }
+    Ok(())
+}
+
+// Nor is what is compared.
+#[test]
+fn deep_orders(rt: HostRuntime) -> Result<(), Fail> {
+    let alloc = rt.alloc();
+    let mut whole = Vec::from_slice(alloc, DOUBLES.as_bytes())?;
+    whole.extend_from_slice(DEEP_ORDER.as_bytes())?;
+    let (bytes, ended) = told(&rt, alloc, RUN, &whole)?;
+    assert!(rt; bytes.as_slice() == b"% thread 1 main: true\nend\n".as_slice());
+    assert!(rt; ended == Status::Done);
     Ok(())
 }
 

@@ -11,7 +11,10 @@ const ORDERS: [Goal; 42] = [
     ("X == Y ; write(no)", "no"),
     ("X = Y, X == Y, write(yes)", "yes"),
     ("X \\== Y, X = Y, X == Y, write(yes)", "yes"),
-    ("a \\== b, 1 \\== 2, a \\== 1, f(a) \\== a, write(yes)", "yes"),
+    (
+        "a \\== b, 1 \\== 2, a \\== 1, f(a) \\== a, write(yes)",
+        "yes",
+    ),
     ("a \\== a ; write(no)", "no"),
     ("f(X, Y) == f(X, Y), write(yes)", "yes"),
     ("f(X, Y) == f(Y, X) ; write(no)", "no"),
@@ -36,10 +39,19 @@ const ORDERS: [Goal; 42] = [
     ("a @>= b ; write(no)", "no"),
     // A name by its bytes, and not by its length.
     ("abc @< b, z @> aaaa, ab @< abc, write(yes)", "yes"),
-    ("'Z' @< a, z @< 'é', 'é' @< '€', '€' @< '😀', write(yes)", "yes"),
+    (
+        "'Z' @< a, z @< 'é', 'é' @< '€', '€' @< '😀', write(yes)",
+        "yes",
+    ),
     // A compound by its arity, then by its name, then by its arguments from the left.
-    ("z(z) @< a(a, a), a(b) @< b(a), f(a, z) @< f(b, a), write(yes)", "yes"),
-    ("f(a, b, 1) @< f(a, b, 2), f(f(a), b) @> f(a, z), write(yes)", "yes"),
+    (
+        "z(z) @< a(a, a), a(b) @< b(a), f(a, z) @< f(b, a), write(yes)",
+        "yes",
+    ),
+    (
+        "f(a, b, 1) @< f(a, b, 2), f(f(a), b) @> f(a, z), write(yes)",
+        "yes",
+    ),
     // Of two variables the one that came first.
     ("X @< Y, Y @> X, f(Y, a) @> f(X, b), write(yes)", "yes"),
     ("f(X, Y) = f(B, A), A @> B, Y @> X, write(yes)", "yes"),
@@ -51,13 +63,25 @@ const ORDERS: [Goal; 42] = [
     ("compare(O, _, _), writeq(O)", "<"),
     ("compare(O, X, X), writeq(O)", "="),
     ("compare(O, O, O), writeq(O)", "="),
-    ("compare(<, 1, 2), compare(=, 2, 2), compare(>, 2, 1), write(yes)", "yes"),
+    (
+        "compare(<, 1, 2), compare(=, 2, 2), compare(>, 2, 1), write(yes)",
+        "yes",
+    ),
     ("compare(=, 1, 2) ; write(no)", "no"),
     ("compare(>, 1, 2) ; compare(<, 2, 1) ; write(no)", "no"),
     ("compare(O, 1, 2), compare(O, 2, 1) ; write(no)", "no"),
-    ("ground(a), ground(-1), ground(f(a, [b, g(c)])), write(yes)", "yes"),
-    ("ground(_) ; ground(f(a, _)) ; ground(f(_, a)) ; ground([a|_]) ; write(no)", "no"),
-    ("X = f(Y, Z), Y = g(Z), \\+ ground(X), Z = a, ground(X), write(yes)", "yes"),
+    (
+        "ground(a), ground(-1), ground(f(a, [b, g(c)])), write(yes)",
+        "yes",
+    ),
+    (
+        "ground(_) ; ground(f(a, _)) ; ground(f(_, a)) ; ground([a|_]) ; write(no)",
+        "no",
+    ),
+    (
+        "X = f(Y, Z), Y = g(Z), \\+ ground(X), Z = a, ground(X), write(yes)",
+        "yes",
+    ),
 ];
 
 /// The errors of compare/3; the others raise none.
@@ -68,13 +92,22 @@ const ORDER_ERRORS: [Goal; 10] = [
     ("compare(x, a, b)", "domain_error(order,x) of compare/3"),
     ("compare([], a, b)", "domain_error(order,[]) of compare/3"),
     ("compare('', a, a)", "domain_error(order,'') of compare/3"),
-    ("compare('< ', a, b)", "domain_error(order,'< ') of compare/3"),
-    ("call(compare(lt), a, b)", "domain_error(order,lt) of compare/3"),
+    (
+        "compare('< ', a, b)",
+        "domain_error(order,'< ') of compare/3",
+    ),
+    (
+        "call(compare(lt), a, b)",
+        "domain_error(order,lt) of compare/3",
+    ),
     (
         "assertz(compare(a, b, c))",
         "permission_error(modify,static_procedure,compare/3) of assertz/1",
     ),
-    ("ground(a, b)", "existence_error(procedure,ground/2) of ground/2"),
+    (
+        "ground(a, b)",
+        "existence_error(procedure,ground/2) of ground/2",
+    ),
 ];
 
 /// All terms of a chain stand before those that follow; the age of a variable; what fails, and what no program defines.
