@@ -1,11 +1,20 @@
 -- The definitions on small inputs.
-use Rattle.std.proofs.Common.{◌≡◌, [], ◌∷◌, pos, negsuc, refl}
+use Rattle.std.proofs.Common.{◌≡◌, true, false, List, [], ◌∷◌, map, pos, negsuc, refl}
 use Rattle.std.specs.Prelude.{codes}
 use Rattle.std.specs.Str.{chars}
 use Rattle.plterm.specs.Tree.{Tree, var, int, atom, compound, none, more}
 use Rattle.plprogram.specs.declared.settings.Settings.{Settings}
 use Rattle.plbuiltin.specs.Errors.{instantiation_error, type_error, domain_error}
-use Rattle.plbuiltin.specs.Solution.{Raises, unifies}
+use Rattle.plbuiltin.specs.Solution.{Raises, unifies, decides}
+use Rattle.std.specs.declared.cmp.Ordering.TheVariants as orderings
+use Rattle.plterm.specs.Order.{order}
+use Rattle.plterm.specs.Ground.{is_ground}
+use Rattle.plnames.specs.declared.kind.Relation.{Relation}
+use Rattle.plnames.specs.declared.kind.Relation.TheVariants.{Same, Different, Before, NotAfter, After, NotBefore}
+use Rattle.plnames.specs.declared.kind.Order.TheVariants.{Holds, Ground}
+use Rattle.plbuiltin.specs.Order.{stand, compare, on_order}
+use Rattle.plnames.specs.declared.kind.Tests.TheVariants.{Variable, Bound, Atom, Integer, Atomic, Compound, Callable, ProperList}
+use Rattle.plbuiltin.specs.Tests.{is_list, holds}
 use Rattle.plbuiltin.specs.Atoms.{atom_length, count_of}
 
 foo : Tree
@@ -55,3 +64,97 @@ module _ (s : Settings) where
   negative : atom_length (foo ∷ int (negsuc 0) ∷ []) s ≡ Raises (domain_error (codes "not_less_than_zero") (int (negsuc 0)))
   unfolding foo
   negative = refl
+
+-- ---- tests of what a term is
+
+terms : List Tree
+unfolding foo f_of_foo
+terms = var 0 ∷ int (negsuc 0) ∷ foo ∷ f_of_foo ∷ []
+
+variables : map (holds Variable) terms ≡ true ∷ false ∷ false ∷ false ∷ []
+unfolding terms
+variables = refl
+
+bound_terms : map (holds Bound) terms ≡ false ∷ true ∷ true ∷ true ∷ []
+unfolding terms
+bound_terms = refl
+
+atoms : map (holds Atom) terms ≡ false ∷ false ∷ true ∷ false ∷ []
+unfolding terms
+atoms = refl
+
+integers : map (holds Integer) terms ≡ false ∷ true ∷ false ∷ false ∷ []
+unfolding terms
+integers = refl
+
+atomic_terms : map (holds Atomic) terms ≡ false ∷ true ∷ true ∷ false ∷ []
+unfolding terms
+atomic_terms = refl
+
+compounds : map (holds Compound) terms ≡ false ∷ false ∷ false ∷ true ∷ []
+unfolding terms
+compounds = refl
+
+callable_terms : map (holds Callable) terms ≡ false ∷ false ∷ true ∷ true ∷ []
+unfolding terms
+callable_terms = refl
+
+empty : Tree
+empty = atom (codes "[]")
+
+dot : Tree → Tree → Tree
+dot t u = compound (codes ".") (more t (more u none))
+
+-- a list is one whatever its elements are, and none where its end is another term
+lists : map (holds ProperList) (empty ∷ dot (var 0) empty ∷ dot foo (dot foo empty) ∷ []) ≡ true ∷ true ∷ true ∷ []
+unfolding is_list empty dot foo
+lists = refl
+
+no_lists : map (holds ProperList) (var 0 ∷ foo ∷ f_of_foo ∷ dot foo (var 0) ∷ dot empty foo ∷ compound (codes ".") (more empty none) ∷ []) ≡ false ∷ false ∷ false ∷ false ∷ false ∷ false ∷ []
+unfolding is_list empty dot foo f_of_foo
+no_lists = refl
+
+-- ---- the order of terms
+
+relations : List Relation
+relations = Same ∷ Different ∷ Before ∷ NotAfter ∷ After ∷ NotBefore ∷ []
+
+stand_less : map (λ r. stand r orderings.Less) relations ≡ false ∷ true ∷ true ∷ true ∷ false ∷ false ∷ []
+unfolding relations
+stand_less = refl
+
+stand_equal : map (λ r. stand r orderings.Equal) relations ≡ true ∷ false ∷ false ∷ true ∷ false ∷ true ∷ []
+unfolding relations
+stand_equal = refl
+
+stand_greater : map (λ r. stand r orderings.Greater) relations ≡ false ∷ true ∷ false ∷ false ∷ true ∷ true ∷ []
+unfolding relations
+stand_greater = refl
+
+module _ (s : Settings) where
+  older_before : on_order (Holds Before) (var 0 ∷ var 1 ∷ []) s ≡ decides true s
+  unfolding order
+  older_before = refl
+
+  compared : compare (var 0 ∷ foo ∷ f_of_foo ∷ []) s ≡ unifies (var 0) (atom (codes "<")) s
+  unfolding foo f_of_foo order
+  compared = refl
+
+  compared_bound : compare (atom (codes "=") ∷ int (pos 2) ∷ int (pos 1) ∷ []) s ≡ unifies (atom (codes "=")) (atom (codes ">")) s
+  unfolding order
+  compared_bound = refl
+
+  no_order : compare (foo ∷ foo ∷ foo ∷ []) s ≡ Raises (domain_error (codes "order") foo)
+  unfolding foo
+  no_order = refl
+
+  no_atom : compare (int (pos 0) ∷ foo ∷ foo ∷ []) s ≡ Raises (type_error (codes "atom") (int (pos 0)))
+  no_atom = refl
+
+  with_variable : on_order Ground (compound (codes "f") (more foo (more (var 0) none)) ∷ []) s ≡ decides false s
+  unfolding foo is_ground
+  with_variable = refl
+
+  without_variable : on_order Ground (f_of_foo ∷ []) s ≡ decides true s
+  unfolding foo f_of_foo is_ground
+  without_variable = refl

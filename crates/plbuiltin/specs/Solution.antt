@@ -1,5 +1,5 @@
 -- What a call of a built-in predicate gives.
-use Rattle.std.specs.Prelude.{ℕ, List, [], ◌∷◌, codes}
+use Rattle.std.specs.Prelude.{ℕ, Bool, true, false, List, [], ◌∷◌, codes}
 use Rattle.plterm.specs.Tree.{Tree, atom}
 use Rattle.plprogram.specs.declared.settings.Settings.{Settings}
 
@@ -24,3 +24,8 @@ unifies left right settings = Gives (record { left = left; right = right; new = 
 -- it is true once these bytes are written; both sides are one atom
 abbrev pub writes : List ℕ → Settings → Solved
 writes bytes settings = Gives (record { left = atom (codes "true"); right = atom (codes "true"); new = 0 } ∷ []) bytes settings
+
+-- it is true, or fails
+abbrev pub decides : Bool → Settings → Solved
+decides true settings = writes [] settings
+decides false settings = fails settings

@@ -5,3 +5,7 @@
 mod atoms;
 #[cfg(test)]
 mod library;
+#[cfg(test)]
+mod order;
+#[cfg(test)]
+mod type_tests;

@@ -1,13 +1,14 @@
 //! The one row of the built-in predicates (ISO/IEC 13211-1 8).
 //!
 //! A row that is refused memory leaves the search where it was.
-ghost use Rattle.std.specs.Prelude.{◌≡◌, ◌++◌, map, OnOk, OnErr};
-ghost use Rattle.plterm.specs.Tree.{Tree};
+ghost use Rattle.std.specs.Prelude.{◌≡◌, ◌++◌, map, IfOk, OnOk, OnErr};
+ghost use Rattle.plterm.specs.Tree.{Tree, atom};
 ghost use Rattle.plcells.specs.Store.{value, AreValues, IsValue};
 ghost use Rattle.plclause.specs.Indicators.{indicator};
 ghost use Rattle.plbuiltin.specs.Solutions.{solutions};
 ghost use Rattle.plsearch.specs.Rows.{go_on as went_on, taken, solved, offer, raised};
 ghost use Rattle.plstack.specs.State.{goals_of, IsList};
+ghost use Rattle.plmachine.specs.Lists.{Grown};
 ghost use Rattle.plmachine.specs.Selected.{StandsFor};
 ghost use Rattle.plmachine.specs.Machine.{local_of, IsBegun, Moved, Stays};
 
@@ -20,6 +21,7 @@ use plnames::kind::BuiltIn;
 use plpredicates::answer::Answer;
 use plpredicates::built_in::answers;
 use plprogram::program::Program;
+use plterm::name::Name;
 use plterm::term::Term;
 use std::alloc::AllocError;
 
@@ -51,6 +53,7 @@ impl Machine {
                 Ok(())
             }
             Answer::Unifies(a, b) => self.unify(program, a, b, rest),
+            Answer::Names(v, name) => self.unify_name(program, v, name, rest),
             Answer::Writes(bytes) => self.write_bytes(program, &bytes, rest),
         }
     }
@@ -94,6 +97,36 @@ impl Machine {
         }
         self.give(Outcome::Fail);
         Ok(())
+    }
+
+    /// A term is unified with an atom: the one solution of a built-in predicate.
+    fn unify_name(
+        &mut self,
+        program: &Program,
+        v: Cell,
+        name: Name,
+        rest: Continuation,
+    ) -> Result<(), AllocError>
+        requires value { IsValue self.old.stack.env.heap v }
+        requires rest { IsList self.old.stack rest }
+        ensures ok { OnOk result (Moved program.now self.old self.new (taken (solved (goals_of self.old.stack rest) self.old.stack.env.count (record { left = value self.old.stack.env.heap v; right = atom name; new = 0 })) (local_of self.old))) }
+        ensures err { OnErr result (Stays program.now self.old self.new) }
+    {
+        let w = self.atom(name)?;
+        self.unify(program, v, w, rest)
+    }
+
+    /// The value of an atom.
+    fn atom(&mut self, name: Name) -> Result<Cell, AllocError>
+        ensures fits { IfOk result (λ w. IsValue self.new.stack.env.heap w) }
+        ensures is { IfOk result (λ w. value self.new.stack.env.heap w ≡ atom name) }
+        ensures grown { Grown self.old.stack self.new.stack }
+        ensures frame { self.new ≡ record self.old { stack = self.new.stack } }
+    {
+        let Ok(term) = Term::atom(self.alloc, name) else {
+            return Err(AllocError);
+        };
+        self.stack.put_copy(self.alloc, &term)
     }
 
     /// Writes bytes, and goes on.

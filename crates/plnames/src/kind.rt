@@ -39,6 +39,55 @@ pub enum Terms {
     Unify,
 }
 
+/// A built-in predicate that asks what a term is (8.3).
+#[derive(Clone, Copy, Debug, PartialEq, Eq)]
+pub enum Tests {
+    /// var/1.
+    Variable,
+    /// nonvar/1.
+    Bound,
+    /// atom/1.
+    Atom,
+    /// integer/1 and number/1: each number is an integer.
+    Integer,
+    /// atomic/1.
+    Atomic,
+    /// compound/1.
+    Compound,
+    /// callable/1.
+    Callable,
+    /// is_list/1.
+    ProperList,
+}
+
+/// What the order of two terms has to be (8.4.1).
+#[derive(Clone, Copy, Debug, PartialEq, Eq)]
+pub enum Relation {
+    /// `==`/2.
+    Same,
+    /// `\==`/2.
+    Different,
+    /// `@<`/2.
+    Before,
+    /// `@=<`/2.
+    NotAfter,
+    /// `@>`/2.
+    After,
+    /// `@>=`/2.
+    NotBefore,
+}
+
+/// A built-in predicate that looks at terms as they are (8.3.10, 8.4).
+#[derive(Clone, Copy, Debug, PartialEq, Eq)]
+pub enum Order {
+    /// The order of two terms is one of some.
+    Holds(Relation),
+    /// compare/3.
+    Compare,
+    /// ground/1.
+    Ground,
+}
+
 /// A built-in predicate on atoms (8.16).
 #[derive(Clone, Copy, Debug, PartialEq, Eq)]
 pub enum Atoms {
@@ -61,6 +110,8 @@ pub enum Output {
 #[derive(Clone, Copy, Debug, PartialEq, Eq)]
 pub enum BuiltIn {
     Terms(Terms),
+    Tests(Tests),
+    Order(Order),
     Atoms(Atoms),
     Output(Output),
 }

@@ -1,6 +1,6 @@
 //! The table of names.
 
-use crate::kind::{Atoms, BuiltIn, Control, Kind, Output, Terms};
+use crate::kind::{Atoms, BuiltIn, Control, Kind, Order, Output, Relation, Terms, Tests};
 
 /// What each name with an arity is. No program can change or define these procedures (ISO/IEC 13211-1 7.5.2).
 pub static ROWS: &[(&str, u16, Kind)] = &[
@@ -27,6 +27,67 @@ pub static ROWS: &[(&str, u16, Kind)] = &[
     ("halt", 0, Kind::Control(Control::Halt)),
     ("halt", 1, Kind::Control(Control::Halt)),
     ("=", 2, Kind::BuiltIn(BuiltIn::Terms(Terms::Unify))),
+    ("var", 1, Kind::BuiltIn(BuiltIn::Tests(Tests::Variable))),
+    ("nonvar", 1, Kind::BuiltIn(BuiltIn::Tests(Tests::Bound))),
+    ("atom", 1, Kind::BuiltIn(BuiltIn::Tests(Tests::Atom))),
+    ("integer", 1, Kind::BuiltIn(BuiltIn::Tests(Tests::Integer))),
+    ("number", 1, Kind::BuiltIn(BuiltIn::Tests(Tests::Integer))),
+    ("atomic", 1, Kind::BuiltIn(BuiltIn::Tests(Tests::Atomic))),
+    (
+        "compound",
+        1,
+        Kind::BuiltIn(BuiltIn::Tests(Tests::Compound)),
+    ),
+    (
+        "callable",
+        1,
+        Kind::BuiltIn(BuiltIn::Tests(Tests::Callable)),
+    ),
+    (
+        "is_list",
+        1,
+        Kind::BuiltIn(BuiltIn::Tests(Tests::ProperList)),
+    ),
+    (
+        "==",
+        2,
+        Kind::BuiltIn(BuiltIn::Order(Order::Holds(Relation::Same))),
+    ),
+    (
+        "\\==",
+        2,
+        Kind::BuiltIn(BuiltIn::Order(Order::Holds(Relation::Different))),
+    ),
+    (
+        "@<",
+        2,
+        Kind::BuiltIn(BuiltIn::Order(Order::Holds(Relation::Before))),
+    ),
+    (
+        "@=<",
+        2,
+        Kind::BuiltIn(BuiltIn::Order(Order::Holds(Relation::NotAfter))),
+    ),
+    (
+        "@>",
+        2,
+        Kind::BuiltIn(BuiltIn::Order(Order::Holds(Relation::After))),
+    ),
+    (
+        "@>=",
+        2,
+        Kind::BuiltIn(BuiltIn::Order(Order::Holds(Relation::NotBefore))),
+    ),
+    (
+        "compare",
+        3,
+        Kind::BuiltIn(BuiltIn::Order(Order::Compare)),
+    ),
+    (
+        "ground",
+        1,
+        Kind::BuiltIn(BuiltIn::Order(Order::Ground)),
+    ),
     (
         "atom_length",
         2,

@@ -1,6 +1,7 @@
 //! What calls of built-in predicates come to.
 
 use plcells::cell::Cell;
+use plterm::name::Name;
 use plterm::term::Term;
 
 /// What a call of a built-in predicate comes to.
@@ -14,6 +15,8 @@ pub enum Answer {
     Succeeds,
     /// It is true where the terms of two values are unified.
     Unifies(Cell, Cell),
+    /// It is true where the term of a value is unified with the atom of a name.
+    Names(Cell, Name),
     /// It is true once these bytes are written.
     Writes(Vec<u8>),
 }

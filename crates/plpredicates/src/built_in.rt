@@ -6,8 +6,10 @@ ghost use Rattle.plpredicates.specs.Answers.{IsThere, meant};
 
 use crate::answer::Answer;
 use crate::atoms::atoms_answer;
+use crate::order::order_answer;
 use crate::output::output_answer;
 use crate::terms::terms_answer;
+use crate::tests::tests_answer;
 use plcells::cell::Cell;
 use plcells::heap::Heap;
 use plnames::kind::BuiltIn;
@@ -29,6 +31,8 @@ pub fn answers(
 {
     match b {
         BuiltIn::Terms(b) => Ok(terms_answer(b, args)),
+        BuiltIn::Tests(b) => Ok(tests_answer(heap, b, args)),
+        BuiltIn::Order(b) => order_answer(alloc, heap, b, args),
         BuiltIn::Atoms(b) => atoms_answer(alloc, heap, b, args),
         BuiltIn::Output(b) => output_answer(alloc, heap, settings, b, args),
     }

@@ -7,6 +7,8 @@ pub mod answer;
 mod atoms;
 pub mod built_in;
 mod error;
+mod order;
 mod output;
 mod shape;
 mod terms;
+mod tests;

@@ -1,0 +1,12 @@
+use Rattle.std.proofs.Common.{◌≡◌}
+use Rattle.plorder.specs.Runs.{AreRuns, runs_order, weigh_runs}
+use Rattle.plorder.proofs.compare.settle.Given as goal
+
+abbrev pub invariant-runs : goal.invariant-runs
+invariant-runs l = record {
+  inside : AreRuns l.heap l.work.items;
+  same : runs_order l.heap l.work.items ≡ runs_order l.heap l.initial.work.items;
+}
+
+abbrev pub decreases-runs : goal.decreases-runs
+decreases-runs l = weigh_runs l.heap l.work.items

@@ -1,0 +1,14 @@
+use Rattle.std.proofs.Common.{◌≡◌}
+use Rattle.plcells.specs.Store.{IsValue, value}
+use Rattle.plcells.specs.Walking.{weight}
+use Rattle.plbuiltin.specs.Tests.{is_list}
+use Rattle.plpredicates.proofs.tests.is_list.Given as goal
+
+abbrev pub invariant-loop-tail : goal.invariant-loop-tail
+invariant-loop-tail l = record {
+  fits : IsValue l.heap l.rest;
+  same : is_list (value l.heap l.rest) ≡ is_list (value l.heap l.fn.v);
+}
+
+abbrev pub decreases-loop-tail : goal.decreases-loop-tail
+decreases-loop-tail l = weight (value l.heap l.rest)

@@ -1,0 +1,138 @@
+//! Built-in predicates that compare terms (ISO/IEC 13211-1 8.4), and ground/1 (8.3.10).
+ghost use Rattle.std.specs.Prelude.{◌≡◌, [], ◌∷◌, IfOk, map};
+ghost use Rattle.plterm.specs.Order.{order};
+ghost use Rattle.plterm.specs.Tree.{atom};
+ghost use Rattle.plcells.specs.Store.{Store, value, IsValue, AreValues};
+ghost use Rattle.plprogram.specs.declared.settings.Settings.{Settings};
+ghost use Rattle.plbuiltin.specs.Solution.{decides, unifies};
+ghost use Rattle.plbuiltin.specs.Order.{compare as compare_of, is_sign, on_order, sign, stand};
+ghost use Rattle.plpredicates.specs.Answers.{IsThere, meant};
+
+use crate::answer::Answer;
+use crate::error::{domain_error, type_error};
+use crate::shape::{Shape, shape_of};
+use plcells::cell::Cell;
+use plcells::heap::Heap;
+use plnames::kind::{Order, Relation};
+use plorder::compare::{Room, compare};
+use plorder::variables::is_ground;
+use plterm::name::Name;
+use std::alloc::{AllocError, Global};
+use std::cmp::Ordering;
+
+/// What a call of one of them comes to.
+pub(crate) fn order_answer(
+    alloc: Global,
+    heap: &Heap,
+    b: Order,
+    args: &[Cell],
+) -> Result<Answer, AllocError>
+    requires args { AreValues heap.now args.now }
+    ensures is { IfOk result (λ answer. (s : Settings) → meant heap.now s answer ≡ on_order b (map (value heap.now) args.now) s) }
+    ensures there { IfOk result (IsThere heap.now) }
+{
+    match (b, args) {
+        (Order::Holds(relation), [a, b]) => {
+            let order = compare(heap, &mut Room::new(alloc), *a, *b)?;
+            Ok(decided(stand(relation, order)))
+        }
+        (Order::Ground, [v]) => {
+            let mut work = Vec::new(alloc);
+            Ok(decided(is_ground(heap, &mut work, *v)?))
+        }
+        (Order::Compare, [o, a, b]) => compare_answer(alloc, heap, *o, *a, *b),
+        _ => Ok(Answer::Fails),
+    }
+}
+
+/// True, or a failure.
+fn decided(holds: bool) -> Answer
+    ensures is { (h : Store) (s : Settings) → meant h s result ≡ decides holds s }
+    ensures there { (h : Store) → IsThere h result }
+{
+    if holds {
+        Answer::Succeeds
+    } else {
+        Answer::Fails
+    }
+}
+
+/// Whether two terms of an order stand so.
+fn stand(relation: Relation, order: Ordering) -> bool
+    ensures { result ≡ stand relation order }
+{
+    match relation {
+        Relation::Same => order.is_eq(),
+        Relation::Different => order.is_ne(),
+        Relation::Before => order.is_lt(),
+        Relation::NotAfter => order.is_le(),
+        Relation::After => order.is_gt(),
+        Relation::NotBefore => order.is_ge(),
+    }
+}
+
+/// An order as compare/3 names it.
+fn sign_of(order: Ordering) -> &'static str
+    ensures { result.now ≡ sign order }
+{
+    match order {
+        Ordering::Less => "<",
+        Ordering::Equal => "=",
+        Ordering::Greater => ">",
+    }
+}
+
+/// Whether a name is that of an order.
+fn is_sign(name: &Name) -> bool
+    ensures { result ≡ is_sign name.now }
+{
+    let text = name.as_str();
+    text == "<" || text == "=" || text == ">"
+}
+
+/// The order of two values is unified with a value.
+fn ordered(
+    alloc: Global,
+    heap: &Heap,
+    o: Cell,
+    a: Cell,
+    b: Cell,
+) -> Result<Answer, AllocError>
+    requires order { IsValue heap.now o }
+    requires left { IsValue heap.now a }
+    requires right { IsValue heap.now b }
+    ensures is { IfOk result (λ answer. (s : Settings) → meant heap.now s answer ≡ unifies (value heap.now o) (atom (sign (order (value heap.now a) (value heap.now b)))) s) }
+    ensures there { IfOk result (IsThere heap.now) }
+{
+    let order = compare(heap, &mut Room::new(alloc), a, b)?;
+    let name = Name::new(alloc, sign_of(order))?;
+    Ok(Answer::Names(o, name))
+}
+
+/// compare/3 (8.4.2).
+fn compare_answer(
+    alloc: Global,
+    heap: &Heap,
+    o: Cell,
+    a: Cell,
+    b: Cell,
+) -> Result<Answer, AllocError>
+    requires order { IsValue heap.now o }
+    requires left { IsValue heap.now a }
+    requires right { IsValue heap.now b }
+    ensures is { IfOk result (λ answer. (s : Settings) → meant heap.now s answer ≡ compare_of (value heap.now o ∷ value heap.now a ∷ value heap.now b ∷ []) s) }
+    ensures there { IfOk result (IsThere heap.now) }
+{
+    match shape_of(heap, o) {
+        Shape::Variable => ordered(alloc, heap, o, a, b),
+        Shape::Atom(name) if is_sign(heap.names().atom_name(name)) => ordered(alloc, heap, o, a, b),
+        Shape::Atom(_) => {
+            let culprit = heap.take(alloc, o)?;
+            Ok(Answer::Raises(domain_error(alloc, "order", culprit)?))
+        }
+        _ => {
+            let culprit = heap.take(alloc, o)?;
+            Ok(Answer::Raises(type_error(alloc, "atom", culprit)?))
+        }
+    }
+}
