@@ -1,6 +1,6 @@
 //! The table of names.
 
-use crate::kind::{Atoms, BuiltIn, Control, Kind, Output, Terms, Tests};
+use crate::kind::{Arithmetic, Atoms, BuiltIn, Comparison, Control, Kind, Output, Terms, Tests};
 
 /// What each name with an arity is. No program can change or define these procedures (ISO/IEC 13211-1 7.5.2).
 pub static ROWS: &[(&str, u16, Kind)] = &[
@@ -47,6 +47,37 @@ pub static ROWS: &[(&str, u16, Kind)] = &[
         "is_list",
         1,
         Kind::BuiltIn(BuiltIn::Tests(Tests::ProperList)),
+    ),
+    ("is", 2, Kind::BuiltIn(BuiltIn::Arithmetic(Arithmetic::Is))),
+    (
+        "=:=",
+        2,
+        Kind::BuiltIn(BuiltIn::Arithmetic(Arithmetic::Compare(Comparison::Equal))),
+    ),
+    (
+        "=\\=",
+        2,
+        Kind::BuiltIn(BuiltIn::Arithmetic(Arithmetic::Compare(Comparison::Unequal))),
+    ),
+    (
+        "<",
+        2,
+        Kind::BuiltIn(BuiltIn::Arithmetic(Arithmetic::Compare(Comparison::Less))),
+    ),
+    (
+        "=<",
+        2,
+        Kind::BuiltIn(BuiltIn::Arithmetic(Arithmetic::Compare(Comparison::AtMost))),
+    ),
+    (
+        ">",
+        2,
+        Kind::BuiltIn(BuiltIn::Arithmetic(Arithmetic::Compare(Comparison::Greater))),
+    ),
+    (
+        ">=",
+        2,
+        Kind::BuiltIn(BuiltIn::Arithmetic(Arithmetic::Compare(Comparison::AtLeast))),
     ),
     (
         "atom_length",

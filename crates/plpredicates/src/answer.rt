@@ -14,6 +14,8 @@ pub enum Answer {
     Succeeds,
     /// It is true where the terms of two values are unified.
     Unifies(Cell, Cell),
+    /// It is true where the term of a value is unified with an integer.
+    Equals(Cell, i64),
     /// It is true once these bytes are written.
     Writes(Vec<u8>),
 }
