@@ -1,5 +1,5 @@
 -- The definitions on small inputs.
-use Rattle.std.proofs.Common.{◌≡◌, true, false, List, [], ◌∷◌, map, pos, negsuc, refl}
+use Rattle.std.proofs.Common.{◌≡◌, ℕ, true, false, List, [], ◌∷◌, map, pos, negsuc, refl}
 use Rattle.std.specs.Prelude.{codes}
 use Rattle.std.specs.Str.{chars}
 use Rattle.plterm.specs.Tree.{Tree, var, int, atom, compound, none, more}
@@ -14,7 +14,13 @@ use Rattle.plnames.specs.declared.kind.Relation.TheVariants.{Same, Different, Be
 use Rattle.plnames.specs.declared.kind.Order.TheVariants.{Holds, Ground}
 use Rattle.plbuiltin.specs.Order.{stand, compare, on_order}
 use Rattle.plnames.specs.declared.kind.Tests.TheVariants.{Variable, Bound, Atom, Integer, Atomic, Compound, Callable, ProperList}
+use Rattle.plnames.specs.declared.kind.Comparison.TheVariants.{Equal, Unequal, Less, AtMost, Greater, AtLeast}
+use Rattle.plnames.specs.declared.kind.Arithmetic.TheVariants.{Is, Compare}
+use Rattle.plarith.specs.Functors.{unary_of, unary_rows, binary_of, binary_rows}
+use Rattle.plarith.specs.Evaluation.{eval}
+use Rattle.plarith.specs.Errors.{evaluation_error, indicator_term}
 use Rattle.plbuiltin.specs.Tests.{is_list, holds}
+use Rattle.plbuiltin.specs.Arithmetic.{compares, on_arithmetic}
 use Rattle.plbuiltin.specs.Atoms.{atom_length, count_of}
 
 foo : Tree
@@ -113,6 +119,61 @@ lists = refl
 no_lists : map (holds ProperList) (var 0 ∷ foo ∷ f_of_foo ∷ dot foo (var 0) ∷ dot empty foo ∷ compound (codes ".") (more empty none) ∷ []) ≡ false ∷ false ∷ false ∷ false ∷ false ∷ false ∷ []
 unfolding is_list empty dot foo f_of_foo
 no_lists = refl
+
+-- ---- arithmetic
+
+two : List ℕ → Tree → Tree → Tree
+two f t u = compound f (more t (more u none))
+
+-- 1 beside 1, 2 and -1
+equal : map (compares Equal (pos 1)) (pos 1 ∷ pos 2 ∷ negsuc 0 ∷ []) ≡ true ∷ false ∷ false ∷ []
+equal = refl
+
+unequal : map (compares Unequal (pos 1)) (pos 1 ∷ pos 2 ∷ negsuc 0 ∷ []) ≡ false ∷ true ∷ true ∷ []
+unequal = refl
+
+less : map (compares Less (pos 1)) (pos 1 ∷ pos 2 ∷ negsuc 0 ∷ []) ≡ false ∷ true ∷ false ∷ []
+less = refl
+
+at_most : map (compares AtMost (pos 1)) (pos 1 ∷ pos 2 ∷ negsuc 0 ∷ []) ≡ true ∷ true ∷ false ∷ []
+at_most = refl
+
+greater : map (compares Greater (pos 1)) (pos 1 ∷ pos 2 ∷ negsuc 0 ∷ []) ≡ false ∷ false ∷ true ∷ []
+greater = refl
+
+at_least : map (compares AtLeast (pos 1)) (pos 1 ∷ pos 2 ∷ negsuc 0 ∷ []) ≡ true ∷ false ∷ true ∷ []
+at_least = refl
+
+module _ (s : Settings) where
+  quotient : on_arithmetic Is (var 0 ∷ two (codes "//") (int (pos 7)) (int (negsuc 1)) ∷ []) s ≡ unifies (var 0) (int (negsuc 2)) s
+  unfolding two eval binary_of binary_rows
+  quotient = refl
+
+  modulo : on_arithmetic Is (foo ∷ two (codes "mod") (int (negsuc 6)) (int (pos 2)) ∷ []) s ≡ unifies foo (int (pos 1)) s
+  unfolding two eval binary_of binary_rows
+  modulo = refl
+
+  overflow : on_arithmetic Is (var 0 ∷ two (codes "+") (int (pos 9223372036854775807)) (int (pos 1)) ∷ []) s ≡ Raises (evaluation_error (codes "int_overflow"))
+  unfolding two eval binary_of binary_rows
+  overflow = refl
+
+  -- a functor that is not evaluable is told before a variable to its right
+  no_functor : on_arithmetic Is (var 0 ∷ two (codes "+") foo (var 1) ∷ []) s ≡ Raises (type_error (codes "evaluable") (indicator_term (record { name = codes "foo"; arity = 0 })))
+  unfolding two foo eval binary_of binary_rows
+  no_functor = refl
+
+  comparison : on_arithmetic (Compare Less) (int (pos 1) ∷ two (codes "*") (int (pos 1)) (int (pos 2)) ∷ []) s ≡ decides true s
+  unfolding two eval binary_of binary_rows
+  comparison = refl
+
+  -- the left one comes first
+  left_error : on_arithmetic (Compare Equal) (var 0 ∷ foo ∷ []) s ≡ Raises instantiation_error
+  unfolding foo eval
+  left_error = refl
+
+  right_error : on_arithmetic (Compare Equal) (int (pos 0) ∷ two (codes "//") (int (pos 1)) (int (pos 0)) ∷ []) s ≡ Raises (evaluation_error (codes "zero_divisor"))
+  unfolding two eval binary_of binary_rows
+  right_error = refl
 
 -- ---- the order of terms
 

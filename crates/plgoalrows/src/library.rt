@@ -4,7 +4,7 @@ use plrow::row::{CHECK, Goal, LIST, RUN, Row, first_wrong, first_wrong_goal};
 use std::test::Fail;
 
 /// What its procedures give, all answers in their order.
-const ANSWERS: [Goal; 27] = [
+const ANSWERS: [Goal; 40] = [
     ("append([a,b], [c], L), writeq(L)", "[a,b,c]"),
     (
         "append(X, Y, [a,b]), writeq(X-Y), write(' '), fail ; write(end)",
@@ -53,15 +53,31 @@ const ANSWERS: [Goal; 27] = [
         "assertz(seen(a)), assertz(seen(b)), repeat, seen(X), write(X), X = b, !",
         "ab",
     ),
+    ("length([a,b,c], N), write(N)", "3"),
+    ("length([], N), write(N)", "0"),
+    ("length(L, 2), writeq(L)", "[_1,_2]"),
+    ("length([a|T], 3), writeq(T)", "[_1,_2]"),
+    ("length([a,b], 1) ; write(no)", "no"),
+    ("length([a|b], _) ; write(no)", "no"),
+    ("length(_, -1) ; write(no)", "no"),
+    ("length(L, N), N >= 2, !, writeq(L-N)", "[_1,_2]-2"),
+    ("between(1, 3, X), write(X), fail ; write(end)", "123end"),
+    ("between(1, 3, 3), write(yes)", "yes"),
+    ("between(1, 3, 4) ; write(no)", "no"),
+    ("between(3, 1, _) ; write(no)", "no"),
+    ("between(-1, -1, X), write(X)", "-1"),
 ];
 
 /// Errors come from the goals that it calls, and its procedures are static.
-const ERRORS: [Goal; 6] = [
+const ERRORS: [Goal; 9] = [
     ("maplist(_, [a])", "instantiation_error of call/2"),
     ("maplist(1, [a])", "type_error(callable,1) of call/2"),
     ("forall(_, true)", "instantiation_error of call/1"),
     ("ignore(_)", "instantiation_error of once/1"),
     ("not(1)", "type_error(callable,1) of (\\+)/1"),
+    ("length(_, a)", "type_error(evaluable,a/0) of (>=)/2"),
+    ("between(a, 3, _)", "type_error(evaluable,a/0) of (=<)/2"),
+    ("between(1, _, _)", "instantiation_error of (=<)/2"),
     (
         "assertz(append(a, b, c))",
         "permission_error(modify,static_procedure,append/3) of assertz/1",

@@ -2,7 +2,7 @@
 //!
 //! A row that is refused memory leaves the search where it was.
 ghost use Rattle.std.specs.Prelude.{◌≡◌, ◌++◌, map, IfOk, OnOk, OnErr};
-ghost use Rattle.plterm.specs.Tree.{Tree, atom};
+ghost use Rattle.plterm.specs.Tree.{Tree, atom, int};
 ghost use Rattle.plcells.specs.Store.{value, AreValues, IsValue};
 ghost use Rattle.plclause.specs.Indicators.{indicator};
 ghost use Rattle.plbuiltin.specs.Solutions.{solutions};
@@ -53,6 +53,7 @@ impl Machine {
                 Ok(())
             }
             Answer::Unifies(a, b) => self.unify(program, a, b, rest),
+            Answer::Equals(v, number) => self.equal(program, v, number, rest),
             Answer::Names(v, name) => self.unify_name(program, v, name, rest),
             Answer::Writes(bytes) => self.write_bytes(program, &bytes, rest),
         }
@@ -97,6 +98,37 @@ impl Machine {
         }
         self.give(Outcome::Fail);
         Ok(())
+    }
+
+    /// A term is unified with an integer: the one solution of a built-in predicate.
+    fn equal(
+        &mut self,
+        program: &Program,
+        v: Cell,
+        number: i64,
+        rest: Continuation,
+    ) -> Result<(), AllocError>
+        requires value { IsValue self.old.stack.env.heap v }
+        requires rest { IsList self.old.stack rest }
+        ensures ok { OnOk result (Moved program.now self.old self.new (taken (solved (goals_of self.old.stack rest) self.old.stack.env.count (record { left = value self.old.stack.env.heap v; right = int number; new = 0 })) (local_of self.old))) }
+        ensures err { OnErr result (Stays program.now self.old self.new) }
+    {
+        let w = self.integer(number)?;
+        self.unify(program, v, w, rest)
+    }
+
+    /// The value of an integer.
+    fn integer(&mut self, number: i64) -> Result<Cell, AllocError>
+        ensures fits { IfOk result (λ w. IsValue self.new.stack.env.heap w) }
+        ensures is { IfOk result (λ w. value self.new.stack.env.heap w ≡ int number) }
+        ensures grown { Grown self.old.stack self.new.stack }
+        ensures frame { self.new ≡ record self.old { stack = self.new.stack } }
+    {
+        if let Ok(small) = i32::try_from(number) {
+            return Ok(Cell::Int(small));
+        }
+        let term = Term::int(self.alloc, number)?;
+        self.stack.put_copy(self.alloc, &term)
     }
 
     /// A term is unified with an atom: the one solution of a built-in predicate.

@@ -60,6 +60,32 @@ pub enum Tests {
     ProperList,
 }
 
+/// How two integers compare (8.7).
+#[derive(Clone, Copy, Debug, PartialEq, Eq)]
+pub enum Comparison {
+    /// `=:=`/2.
+    Equal,
+    /// `=\=`/2.
+    Unequal,
+    /// `<`/2.
+    Less,
+    /// `=<`/2.
+    AtMost,
+    /// `>`/2.
+    Greater,
+    /// `>=`/2.
+    AtLeast,
+}
+
+/// A built-in predicate that evaluates expressions (8.6, 8.7).
+#[derive(Clone, Copy, Debug, PartialEq, Eq)]
+pub enum Arithmetic {
+    /// is/2.
+    Is,
+    /// A comparison of the values of two expressions.
+    Compare(Comparison),
+}
+
 /// What the order of two terms has to be (8.4.1).
 #[derive(Clone, Copy, Debug, PartialEq, Eq)]
 pub enum Relation {
@@ -111,6 +137,7 @@ pub enum Output {
 pub enum BuiltIn {
     Terms(Terms),
     Tests(Tests),
+    Arithmetic(Arithmetic),
     Order(Order),
     Atoms(Atoms),
     Output(Output),

@@ -1,6 +1,8 @@
 //! The table of names.
 
-use crate::kind::{Atoms, BuiltIn, Control, Kind, Order, Output, Relation, Terms, Tests};
+use crate::kind::{
+    Arithmetic, Atoms, BuiltIn, Comparison, Control, Kind, Order, Output, Relation, Terms, Tests,
+};
 
 /// What each name with an arity is. No program can change or define these procedures (ISO/IEC 13211-1 7.5.2).
 pub static ROWS: &[(&str, u16, Kind)] = &[
@@ -48,6 +50,37 @@ pub static ROWS: &[(&str, u16, Kind)] = &[
         1,
         Kind::BuiltIn(BuiltIn::Tests(Tests::ProperList)),
     ),
+    ("is", 2, Kind::BuiltIn(BuiltIn::Arithmetic(Arithmetic::Is))),
+    (
+        "=:=",
+        2,
+        Kind::BuiltIn(BuiltIn::Arithmetic(Arithmetic::Compare(Comparison::Equal))),
+    ),
+    (
+        "=\\=",
+        2,
+        Kind::BuiltIn(BuiltIn::Arithmetic(Arithmetic::Compare(Comparison::Unequal))),
+    ),
+    (
+        "<",
+        2,
+        Kind::BuiltIn(BuiltIn::Arithmetic(Arithmetic::Compare(Comparison::Less))),
+    ),
+    (
+        "=<",
+        2,
+        Kind::BuiltIn(BuiltIn::Arithmetic(Arithmetic::Compare(Comparison::AtMost))),
+    ),
+    (
+        ">",
+        2,
+        Kind::BuiltIn(BuiltIn::Arithmetic(Arithmetic::Compare(Comparison::Greater))),
+    ),
+    (
+        ">=",
+        2,
+        Kind::BuiltIn(BuiltIn::Arithmetic(Arithmetic::Compare(Comparison::AtLeast))),
+    ),
     (
         "==",
         2,
@@ -78,16 +111,8 @@ pub static ROWS: &[(&str, u16, Kind)] = &[
         2,
         Kind::BuiltIn(BuiltIn::Order(Order::Holds(Relation::NotBefore))),
     ),
-    (
-        "compare",
-        3,
-        Kind::BuiltIn(BuiltIn::Order(Order::Compare)),
-    ),
-    (
-        "ground",
-        1,
-        Kind::BuiltIn(BuiltIn::Order(Order::Ground)),
-    ),
+    ("compare", 3, Kind::BuiltIn(BuiltIn::Order(Order::Compare))),
+    ("ground", 1, Kind::BuiltIn(BuiltIn::Order(Order::Ground))),
     (
         "atom_length",
         2,

@@ -15,6 +15,8 @@ pub enum Answer {
     Succeeds,
     /// It is true where the terms of two values are unified.
     Unifies(Cell, Cell),
+    /// It is true where the term of a value is unified with an integer.
+    Equals(Cell, i64),
     /// It is true where the term of a value is unified with the atom of a name.
     Names(Cell, Name),
     /// It is true once these bytes are written.

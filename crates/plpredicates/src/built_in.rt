@@ -5,6 +5,7 @@ ghost use Rattle.plbuiltin.specs.Solutions.{solutions};
 ghost use Rattle.plpredicates.specs.Answers.{IsThere, meant};
 
 use crate::answer::Answer;
+use crate::arithmetic::arithmetic_answer;
 use crate::atoms::atoms_answer;
 use crate::order::order_answer;
 use crate::output::output_answer;
@@ -32,6 +33,7 @@ pub fn answers(
     match b {
         BuiltIn::Terms(b) => Ok(terms_answer(b, args)),
         BuiltIn::Tests(b) => Ok(tests_answer(heap, b, args)),
+        BuiltIn::Arithmetic(b) => arithmetic_answer(alloc, heap, b, args),
         BuiltIn::Order(b) => order_answer(alloc, heap, b, args),
         BuiltIn::Atoms(b) => atoms_answer(alloc, heap, b, args),
         BuiltIn::Output(b) => output_answer(alloc, heap, settings, b, args),

@@ -4,6 +4,7 @@
 #![tactic(auto)]
 
 pub mod answer;
+mod arithmetic;
 mod atoms;
 pub mod built_in;
 mod error;

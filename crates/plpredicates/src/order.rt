@@ -91,13 +91,7 @@ fn is_sign(name: &Name) -> bool
 }
 
 /// The order of two values is unified with a value.
-fn ordered(
-    alloc: Global,
-    heap: &Heap,
-    o: Cell,
-    a: Cell,
-    b: Cell,
-) -> Result<Answer, AllocError>
+fn ordered(alloc: Global, heap: &Heap, o: Cell, a: Cell, b: Cell) -> Result<Answer, AllocError>
     requires order { IsValue heap.now o }
     requires left { IsValue heap.now a }
     requires right { IsValue heap.now b }

@@ -1,5 +1,7 @@
-use Rattle.std.proofs.Common.{refl, sym, ap, ap₂, map, ◌∙◌}
-use Rattle.plterm.specs.Tree.{atom}
+use Rattle.std.proofs.Common.{refl, sym, ap, ap₂, map, ◌∙◌, rules, w64}
+use Rattle.std.specs.Prelude.{FitsSigned}
+use Rattle.std.proofs.lemmas.Int.{to_z-of_z}
+use Rattle.plterm.specs.Tree.{atom, int}
 use Rattle.plcells.specs.Store.{value}
 use Rattle.plclause.specs.Indicators.{indicator}
 use Rattle.plbuiltin.specs.Solution.{writes, unifies as unified_to}
@@ -54,6 +56,18 @@ returns-in-Unifies-clause-ok c t stands =
     let heap = c.heap-heap.ensures.is ∙ ap (λ e. e.heap) c.env.ensures in
     let is = ap (λ h. unified_to (value h c.in-Unifies.a) (value h c.in-Unifies.b) s.settings) (sym heap) ∙ ap (meant c.heap-heap.result.now s.settings) (sym c.in-Unifies.is) ∙ c.in_ok-error.ensures.is n ∙ ap₂ (λ h xs. solutions c.args.b (map (value h) xs) s.settings n) heap c.deref.ensures.value in
     on_ok_map c.unify.result (moved-as c.args.program.now s c.unify.new.self _ _ (offer-unifies (value s.stack.env.heap c.in-Unifies.a) (value s.stack.env.heap c.in-Unifies.b) s.settings p es n (local_of s) refl ∙ ap (λ x. offer x p es n (local_of s)) is)) c.unify.ensures.ok
+
+pub returns-in-Equals-clause-ok : goal.returns-in-Equals-clause-ok
+returns-in-Equals-clause-ok c t stands =
+    let s = c.args.self.now in
+    let n = s.stack.env.count in
+    let p = indicator t in
+    let es = goals_of s.stack c.args.rest in
+    let heap = c.heap-heap.ensures.is ∙ ap (λ e. e.heap) c.env.ensures in
+    let is = ap (λ h. unified_to (value h c.in-Equals.v) (int c.in-Equals.number) s.settings) (sym heap) ∙ ap (meant c.heap-heap.result.now s.settings) (sym c.in-Equals.is) ∙ c.in_ok-error.ensures.is n ∙ ap₂ (λ h xs. solutions c.args.b (map (value h) xs) s.settings n) heap c.deref.ensures.value in
+    let fits : FitsSigned w64 c.in-Equals.number = search rules in
+    let moved = rw (to_z-of_z w64 c.in-Equals.number fits) at c.equal.ensures.ok in
+    on_ok_map c.equal.result (moved-as c.args.program.now s c.equal.new.self _ _ (offer-unifies (value s.stack.env.heap c.in-Equals.v) (int c.in-Equals.number) s.settings p es n (local_of s) refl ∙ ap (λ x. offer x p es n (local_of s)) is)) moved
 
 pub returns-in-Names-clause-ok : goal.returns-in-Names-clause-ok
 returns-in-Names-clause-ok c t stands =

@@ -1,0 +1,97 @@
+//! Arithmetic (ISO/IEC 13211-1 8.6, 8.7).
+ghost use Rattle.std.specs.Prelude.{◌≡◌, IfOk, map};
+ghost use Rattle.plcells.specs.Store.{Store, value, IsValue, AreValues};
+ghost use Rattle.plarith.specs.Errors.{error_of};
+ghost use Rattle.plarith.specs.Evaluation.{eval as eval_of};
+ghost use Rattle.plprogram.specs.declared.settings.Settings.{Settings};
+ghost use Rattle.plbuiltin.specs.Solution.{Raises};
+ghost use Rattle.plbuiltin.specs.Arithmetic.{on_arithmetic, equals as equals_of, compared as compared_of, compares as compares_of};
+ghost use Rattle.plpredicates.specs.Answers.{IsThere, meant};
+
+use crate::answer::Answer;
+use plarith::error::ArithError;
+use plarith::value::eval;
+use plcells::cell::Cell;
+use plcells::heap::Heap;
+use plnames::kind::{Arithmetic, Comparison};
+use std::alloc::{AllocError, Global};
+
+/// What a call of one of them comes to.
+pub(crate) fn arithmetic_answer(
+    alloc: Global,
+    heap: &Heap,
+    b: Arithmetic,
+    args: &[Cell],
+) -> Result<Answer, AllocError>
+    requires args { AreValues heap.now args.now }
+    ensures is { IfOk result (λ answer. (s : Settings) → meant heap.now s answer ≡ on_arithmetic b (map (value heap.now) args.now) s) }
+    ensures there { IfOk result (IsThere heap.now) }
+{
+    let [left, right] = args else {
+        return Ok(Answer::Fails);
+    };
+    match b {
+        Arithmetic::Is => equals(alloc, heap, *left, *right),
+        Arithmetic::Compare(c) => compared(alloc, heap, c, *left, *right),
+    }
+}
+
+/// is/2 (8.6.1).
+fn equals(alloc: Global, heap: &Heap, term: Cell, expression: Cell) -> Result<Answer, AllocError>
+    requires term { IsValue heap.now term }
+    requires expression { IsValue heap.now expression }
+    ensures is { IfOk result (λ answer. (s : Settings) → meant heap.now s answer ≡ equals_of (value heap.now term) (eval_of (value heap.now expression)) s) }
+    ensures there { IfOk result (IsThere heap.now) }
+{
+    match eval(alloc, heap, expression)? {
+        Ok(number) => Ok(Answer::Equals(term, number)),
+        Err(error) => raises(alloc, &error),
+    }
+}
+
+/// `=:=`/2, `=\=`/2, `<`/2, `=<`/2, `>`/2 and `>=`/2 (8.7.1).
+fn compared(
+    alloc: Global,
+    heap: &Heap,
+    c: Comparison,
+    left: Cell,
+    right: Cell,
+) -> Result<Answer, AllocError>
+    requires left { IsValue heap.now left }
+    requires right { IsValue heap.now right }
+    ensures is { IfOk result (λ answer. (s : Settings) → meant heap.now s answer ≡ compared_of c (eval_of (value heap.now left)) (eval_of (value heap.now right)) s) }
+    ensures there { IfOk result (IsThere heap.now) }
+{
+    let x = match eval(alloc, heap, left)? {
+        Ok(x) => x,
+        Err(error) => return raises(alloc, &error),
+    };
+    match eval(alloc, heap, right)? {
+        Ok(y) if compares(c, x, y) => Ok(Answer::Succeeds),
+        Ok(_) => Ok(Answer::Fails),
+        Err(error) => raises(alloc, &error),
+    }
+}
+
+/// An error of an expression is raised.
+fn raises(alloc: Global, error: &ArithError) -> Result<Answer, AllocError>
+    ensures is { IfOk result (λ answer. (h : Store) (s : Settings) → meant h s answer ≡ Raises (error_of error.now)) }
+    ensures there { IfOk result (λ answer. (h : Store) → IsThere h answer) }
+{
+    let term = error.term(alloc)?;
+    Ok(Answer::Raises(term))
+}
+
+/// Whether two integers compare so.
+fn compares(c: Comparison, x: i64, y: i64) -> bool
+    ensures { result ≡ compares_of c x y }
+{
+    match c {
+        Comparison::Equal => x == y,
+        Comparison::Unequal => x != y,
+        Comparison::Less => x < y,
+        Comparison::AtMost => x <= y,
+        Comparison::Greater => x > y,
+        Comparison::AtLeast => x >= y,
+    }
+}
