@@ -66,6 +66,7 @@ impl Heap {
     }
 
     /// Whether the variable of the cell `x` stands in the term of a value. What is known not to hold it is not walked.
+    #[inline(always)]
     pub fn occurs(&self, stack: &mut Vec<u32>, x: u32, v: Cell) -> Result<bool, AllocError>
         requires variable { IsEnd self.now (RefCell x) }
         requires fits { IsValue self.now v }

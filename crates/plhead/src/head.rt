@@ -24,6 +24,7 @@ use plenv::slot::{Row, Slot};
 use std::alloc::{AllocError, Global};
 
 /// Whether a value is an unbound variable of a number above this one.
+#[inline(always)]
 fn is_younger(heap: &Heap, v: Cell, number: u64) -> bool
     requires { IsValue heap.now v }
     ensures variable { (n : ℕ) → value heap.now v ≡ var n → IsTrue result ↔ (number < n) }
@@ -36,6 +37,7 @@ fn is_younger(heap: &Heap, v: Cell, number: u64) -> bool
 }
 
 /// Unifies the variable of a free slot with a value: the slot takes it. A value that is a younger variable stands for the slot's.
+#[inline(always)]
 fn meet_free(env: &mut Environment, slot: u32, number: u64, v: Cell) -> Result<bool, AllocError>
     requires within { slot < length env.old.slots }
     requires free { slot_at env.old.slots slot ≡ FreeSlot number }
@@ -56,6 +58,7 @@ fn meet_free(env: &mut Environment, slot: u32, number: u64, v: Cell) -> Result<b
 }
 
 /// Unifies what a slot stands for with a value.
+#[inline(always)]
 fn meet_slot(env: &mut Environment, slot: u32, v: Cell) -> Result<bool, AllocError>
     requires within { slot < length env.old.slots }
     requires value { IsValue env.old.heap v }
@@ -92,6 +95,7 @@ fn put_and_unify(
 }
 
 /// What a node, of a clause whose slots begin at a place, and a value come to: a unifier was put, they have none, or their arguments are left.
+#[inline(always)]
 fn meet(
     env: &mut Environment,
     nodes: &[Node],
