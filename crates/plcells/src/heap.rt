@@ -605,6 +605,7 @@ impl Heap {
     }
 
     /// A new block of these arguments: its first cell. In a ground one no variable can stand, now and later.
+    #[inline(always)]
     pub fn build(&mut self, f: u32, ground: bool, arguments: &[Argument]) -> Result<u32, AllocError>
         requires functor { IsFunctorOf self.old.names f (length arguments.now) }
         requires parts { AreParts self.old arguments.now }
