@@ -241,6 +241,7 @@ impl Environment {
     }
 
     /// Puts a row of terms of a clause whose slots begin at a place: their values, in the place of those that the list holds.
+    #[inline(always)]
     pub fn put_row(
         &mut self,
         nodes: &[Node],
