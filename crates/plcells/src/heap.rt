@@ -283,6 +283,9 @@ fn leave_older(trail: &mut Vec<Trailed>, from: usize, cells: usize)
     requires { from ≤ length trail.old.items }
     ensures { trail.new.items ≡ take from trail.old.items ++ older cells (drop from trail.old.items) }
 {
+    if trail.len() == from {
+        return;
+    }
     let kept = move_older(&mut trail[from..], cells);
     trail.truncate(from + kept);
 }

@@ -110,6 +110,9 @@ fn leave_older(noted: &mut Vec<Noted>, from: usize, slots: usize)
     requires { from ≤ length noted.old.items }
     ensures { noted.new.items ≡ take from noted.old.items ++ older slots (drop from noted.old.items) }
 {
+    if noted.len() == from {
+        return;
+    }
     let kept = move_older(&mut noted[from..], slots);
     noted.truncate(from + kept);
 }
