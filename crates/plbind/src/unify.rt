@@ -35,6 +35,7 @@ pub enum Verdict {
 }
 
 /// A variable and another value.
+#[inline(always)]
 fn beside(x: u32, v: Cell) -> Kind
     ensures { result ≡ kind_of (RefCell x) v }
 {
@@ -46,6 +47,7 @@ fn beside(x: u32, v: Cell) -> Kind
 }
 
 /// An atom and what is no variable.
+#[inline(always)]
 fn beside_atom(f: u32, v: Cell) -> Kind
     requires { (j : ℕ) → v ≡ RefCell j → ⊥ }
     ensures { result ≡ kind_of (AtomCell f) v }
@@ -57,6 +59,7 @@ fn beside_atom(f: u32, v: Cell) -> Kind
 }
 
 /// A compound and what is no variable.
+#[inline(always)]
 fn beside_block(p: u32, v: Cell) -> Kind
     requires { (j : ℕ) → v ≡ RefCell j → ⊥ }
     ensures { result ≡ kind_of (StrCell p) v }
@@ -68,6 +71,7 @@ fn beside_block(p: u32, v: Cell) -> Kind
 }
 
 /// Whether a value is an integer.
+#[inline(always)]
 fn is_integer(v: Cell) -> bool
     ensures { IsTrue result ↔ IsInteger v }
 {
@@ -75,6 +79,7 @@ fn is_integer(v: Cell) -> bool
 }
 
 /// What two values are, where references end.
+#[inline(always)]
 fn sort(a: Cell, b: Cell) -> Kind
     ensures { result ≡ kind_of a b }
 {
@@ -109,6 +114,7 @@ fn push_pairs(work: &mut Vec<(u32, u32)>, a: u32, b: u32, k: u16) -> Result<(), 
 }
 
 /// Of two variables the younger has to stand for the older.
+#[inline(always)]
 fn judge_variables(heap: &Heap, x: u32, y: u32) -> Verdict
     requires left { IsEnd heap.now (RefCell x) }
     requires right { IsEnd heap.now (RefCell y) }
@@ -126,6 +132,7 @@ fn judge_variables(heap: &Heap, x: u32, y: u32) -> Verdict
 }
 
 /// Two compounds have one functor and one term for each argument, or differ for good.
+#[inline(always)]
 fn judge_blocks(heap: &Heap, p: u32, q: u32) -> Verdict
     requires left { IsValue heap.now (StrCell p) }
     requires right { IsValue heap.now (StrCell q) }
@@ -151,6 +158,7 @@ fn same_integers(i: i64, j: i64) -> bool
 }
 
 /// What two values come to.
+#[inline(always)]
 fn compare(heap: &Heap, a: Cell, b: Cell) -> Verdict
     requires left { IsValue heap.now a }
     requires right { IsValue heap.now b }
@@ -190,6 +198,7 @@ fn descend(heap: &Heap, work: &mut Vec<(u32, u32)>) -> Result<Verdict, AllocErro
 }
 
 /// Binds the variable of a cell, unless it stands in the value's term.
+#[inline(always)]
 fn bind_apart(heap: &mut Heap, stack: &mut Vec<u32>, x: u32, v: Cell) -> Result<bool, AllocError>
     requires { (n : ℕ) × IsNear heap.old x v n }
     ensures ok { IfOk result (λ r. (n : ℕ) → IsNear heap.old x v n → Bindings heap.old heap.new v n r) }

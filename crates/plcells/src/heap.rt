@@ -44,6 +44,7 @@ impl Model for Heap {
 }
 
 /// Where a cell is an unbound variable, the place of its number.
+#[inline(always)]
 fn place_of(cell: Cell) -> Option<u32>
     ensures some { (p : ℕ) → result ≡ Some p → plain cell ≡ FreeCell p }
     ensures none { result ≡ None → (p : ℕ) → plain cell ≡ FreeCell p → ⊥ }
@@ -55,6 +56,7 @@ fn place_of(cell: Cell) -> Option<u32>
 }
 
 /// From now on a cell refers to what a value refers to: its variable is lone no more.
+#[inline(always)]
 fn embed(cells: &mut Vec<Cell>, v: Cell)
     requires { IsPlaced (length cells.old.items) v }
     ensures same { map plain cells.new.items ≡ map plain cells.old.items }
@@ -83,6 +85,7 @@ fn drop_above(closed: &mut Vec<u32>, x: usize)
 }
 
 /// Takes off the numbers of prefixes that are closed no more where a cell comes to hold a value.
+#[inline(always)]
 fn reopen(closed: &mut Vec<u32>, x: u32, v: Cell)
     requires { AreRising closed.old.items }
     ensures kept { closed.new.items ≡ take (length closed.new.items) closed.old.items }
@@ -97,6 +100,7 @@ fn reopen(closed: &mut Vec<u32>, x: u32, v: Cell)
 }
 
 /// Notes a binding for an undo, where its cell is old.
+#[inline(always)]
 fn note(trail: &mut Vec<Trailed>, old: bool, bound: Trailed) -> Result<(), AllocError>
     ensures ok { OnOk result (trail.new.items ≡ trailed_if old trail.old.items bound) }
     ensures err { OnErr result (trail.new.items ≡ trail.old.items) }
@@ -279,6 +283,9 @@ fn leave_older(trail: &mut Vec<Trailed>, from: usize, cells: usize)
     requires { from ≤ length trail.old.items }
     ensures { trail.new.items ≡ take from trail.old.items ++ older cells (drop from trail.old.items) }
 {
+    if trail.len() == from {
+        return;
+    }
     let kept = move_older(&mut trail[from..], cells);
     trail.truncate(from + kept);
 }
@@ -301,6 +308,7 @@ impl Heap {
     }
 
     /// How many cells there are.
+    #[inline(always)]
     pub fn len(&self) -> usize
         ensures { result ≡ length self.now.cells }
     {
@@ -308,6 +316,7 @@ impl Heap {
     }
 
     /// How many cells are old: a mark in use is not above.
+    #[inline(always)]
     pub fn boundary(&self) -> usize
         ensures is { result ≡ self.now.boundary }
         ensures within { result ≤ length self.now.cells }
@@ -317,6 +326,7 @@ impl Heap {
     }
 
     /// The names.
+    #[inline(always)]
     pub fn names(&self) -> &Names
         ensures { result.now ≡ self.now.names }
     {
@@ -360,6 +370,7 @@ impl Heap {
     }
 
     /// A cell as a value: a variable's is the reference to it.
+    #[inline(always)]
     pub fn argument(&self, c: u32) -> Cell
         requires within { c < length self.now.cells }
         requires plain { IsHead (at self.now.cells c) → ⊥ }
@@ -374,6 +385,7 @@ impl Heap {
     }
 
     /// The value where the references of a value end.
+    #[inline(always)]
     pub fn root(&self, v: Cell) -> Cell
         requires { IsValue self.now v }
         ensures fits { IsValue self.now result }
@@ -392,6 +404,7 @@ impl Heap {
     }
 
     /// The number of an unbound variable.
+    #[inline(always)]
     pub fn number(&self, c: u32) -> u64
         requires { IsEnd self.now (RefCell c) }
         ensures is { term self.now c ≡ var result }
@@ -404,6 +417,7 @@ impl Heap {
     }
 
     /// Binds the variable of a cell to a value.
+    #[inline(always)]
     pub fn bind(&mut self, x: u32, v: Cell) -> Result<(), AllocError>
         requires { (p : ℕ) × IsBinding self.old x p v }
         ensures ok { (p : ℕ) → IsBinding self.old x p v → OnOk result (Binds self.old self.new (number_at self.old p) (value self.old v)) }
@@ -477,6 +491,7 @@ impl Heap {
     }
 
     /// Whether no cell refers to an unbound variable, as is known of some.
+    #[inline(always)]
     pub(crate) fn is_lone(&self, x: u32) -> bool
         requires { IsEnd self.now (RefCell x) }
         ensures { result ≡ true → (n c : ℕ) → term self.now x ≡ var n → c < length self.now.cells → (c ≡ x → ⊥) → occurs n (term self.now c) ≡ false }
@@ -593,6 +608,7 @@ impl Heap {
     }
 
     /// A new block of these arguments: its first cell. In a ground one no variable can stand, now and later.
+    #[inline(always)]
     pub fn build(&mut self, f: u32, ground: bool, arguments: &[Argument]) -> Result<u32, AllocError>
         requires functor { IsFunctorOf self.old.names f (length arguments.now) }
         requires parts { AreParts self.old arguments.now }
@@ -631,6 +647,7 @@ impl Heap {
     }
 
     /// The functor of a block by its number, and how many arguments it has.
+    #[inline(always)]
     pub fn block(&self, p: u32) -> (u32, u16)
         requires within { p < length self.now.cells }
         requires head { IsHead (at self.now.cells p) }

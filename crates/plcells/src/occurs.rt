@@ -13,6 +13,7 @@ use std::alloc::AllocError;
 
 impl Heap {
     /// Looks at the arguments of a block for the variable of the cell `x`, and puts those blocks on the stack in which it may still stand: none below `floor`.
+    #[inline(always)]
     fn look(&self, stack: &mut Vec<u32>, x: u32, floor: u32, p: u32) -> Result<bool, AllocError>
         requires variable { IsEnd self.now (RefCell x) }
         requires floor { IsFloor self.now x floor }
@@ -56,7 +57,10 @@ impl Heap {
             return Ok(false);
         }
         stack.clear();
-        stack.push(p)?;
+        let here = self.look(stack, x, floor, p)?;
+        if here {
+            return Ok(true);
+        }
         while let Some(q) = stack.pop() {
             if self.look(stack, x, floor, q)? {
                 return Ok(true);
@@ -66,6 +70,7 @@ impl Heap {
     }
 
     /// Whether the variable of the cell `x` stands in the term of a value. What is known not to hold it is not walked.
+    #[inline(always)]
     pub fn occurs(&self, stack: &mut Vec<u32>, x: u32, v: Cell) -> Result<bool, AllocError>
         requires variable { IsEnd self.now (RefCell x) }
         requires fits { IsValue self.now v }

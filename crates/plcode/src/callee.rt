@@ -115,6 +115,7 @@ impl Callees {
     }
 
     /// What is called by a number.
+    #[inline(always)]
     pub fn at(&self, number: Number) -> Callee
         ensures { result ≡ callee_at self.now number }
     {

@@ -30,6 +30,7 @@ impl Code {
     }
 
     /// The step at a place, and past the last one the end of a sequence; the one behind it stands at the place before.
+    #[inline(always)]
     pub fn step(&self, place: u32) -> Step
         ensures is { (t : Table) → result ≡ step_at (text_of t self.now) place }
         ensures meets { (t : Table) → IsCode (text_of t self.now) → Meets (text_of t self.now) place result }
@@ -42,6 +43,7 @@ impl Code {
     }
 
     /// The nodes.
+    #[inline(always)]
     pub fn nodes(&self) -> &[Node]
         ensures { result.now ≡ self.now.nodes.items }
     {

@@ -14,6 +14,7 @@ use std::marker::Model;
 const SCANNED: usize = 7;
 
 /// The place of the first clause, from a place on, that a goal of a key may be for: the keys are looked at one by one.
+#[inline(always)]
 fn next_candidate(clauses: &[ClauseCode], key: Key, from: usize) -> Option<usize>
     requires { from ≤ length clauses.now }
     ensures { IsNext key clauses.now from result }
@@ -156,6 +157,7 @@ impl Procedure {
     }
 
     /// The place of the first clause, from a place on, that a goal of a key may be for.
+    #[inline(always)]
     pub fn next(&self, key: Key, from: usize) -> Option<usize>
         requires { from ≤ length self.now }
         ensures { IsNext key self.now from result }

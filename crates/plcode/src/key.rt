@@ -31,6 +31,7 @@ pub fn heads_part()
 
 impl Key {
     /// Whether a clause of the key `clause` may be for a goal of this one: where one of them is that of anything, or they are one.
+    #[inline(always)]
     pub fn admits(self, clause: Key) -> bool
         ensures { result ≡ admits_key self clause }
     {

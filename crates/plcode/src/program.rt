@@ -144,6 +144,7 @@ impl ProgramCode {
     }
 
     /// What the atom with a number is called as.
+    #[inline(always)]
     pub fn callee_of_atom(&self, atom: u32) -> Callee
         ensures { result ≡ callee_at self.now.callees (Atom atom) }
     {
@@ -151,6 +152,7 @@ impl ProgramCode {
     }
 
     /// What a compound with a functor of a number is called as.
+    #[inline(always)]
     pub fn callee_of_functor(&self, functor: u32) -> Callee
         ensures { result ≡ callee_at self.now.callees (Functor functor) }
     {
@@ -158,6 +160,7 @@ impl ProgramCode {
     }
 
     /// The procedure of the program's text at a place, if there is one.
+    #[inline(always)]
     pub fn procedure(&self, place: u32) -> Option<&Procedure>
         ensures some { IfSome result (λ p. (place < length self.now.procedures) × (p.now ≡ get_or self.now.procedures place [])) }
         ensures none { IfNone result (length self.now.procedures ≤ place) }
@@ -166,6 +169,7 @@ impl ProgramCode {
     }
 
     /// The step at a place, and past the last one the end of a sequence; the one behind it stands at the place before.
+    #[inline(always)]
     pub fn step(&self, place: u32) -> Step
         ensures is { result ≡ step_at self.now.text place }
         ensures meets { Meets self.now.text place result }
@@ -175,6 +179,7 @@ impl ProgramCode {
     }
 
     /// The nodes.
+    #[inline(always)]
     pub fn nodes(&self) -> &[Node]
         ensures is { result.now ≡ self.now.text.nodes }
         ensures laid { IsLaid self.now.text.names self.now.text.nodes }

@@ -17,6 +17,7 @@ pub(crate) struct Run {
 }
 
 /// A slot as an argument: a free one is a new variable. What has no slot stands in no term that is asked for.
+#[inline(always)]
 fn part_at(slots: &[Slot], slot: usize) -> Argument
     ensures { result ≡ part_at_slot slots.now slot }
 {
@@ -28,6 +29,7 @@ fn part_at(slots: &[Slot], slot: usize) -> Argument
 }
 
 /// A node as an argument.
+#[inline(always)]
 fn part(heap: &mut Heap, slots: &[Slot], node: Node, run: Run) -> Result<Argument, AllocError>
     requires { IsReady heap.old run node }
     ensures ok { IfOk result (λ x. IsPart heap.new slots.now run node x) }
@@ -57,6 +59,7 @@ pub(crate) enum Gathered {
 }
 
 /// Gathers the arguments of a block, in the place of those that the list holds.
+#[inline(always)]
 pub(crate) fn gather(
     heap: &mut Heap,
     block: &mut Vec<Argument>,

@@ -42,6 +42,7 @@ impl Model for Environment {
 }
 
 /// What is known of every heap.
+#[inline(always)]
 pub(crate) fn known(heap: &Heap)
     ensures { IsHeap heap.now }
 {
@@ -61,6 +62,7 @@ fn push_free(slots: &mut Vec<Slot>, number: u64, width: u32) -> Result<(), Alloc
 }
 
 /// Notes a slot that is set, where it is old.
+#[inline(always)]
 pub(crate) fn note(noted: &mut Vec<Noted>, old: bool, set: Noted) -> Result<(), AllocError>
     ensures ok { OnOk result (noted.new.items ≡ noted_if old noted.old.items set) }
     ensures err { OnErr result (noted.new.items ≡ noted.old.items) }
@@ -108,6 +110,9 @@ fn leave_older(noted: &mut Vec<Noted>, from: usize, slots: usize)
     requires { from ≤ length noted.old.items }
     ensures { noted.new.items ≡ take from noted.old.items ++ older slots (drop from noted.old.items) }
 {
+    if noted.len() == from {
+        return;
+    }
     let kept = move_older(&mut noted[from..], slots);
     noted.truncate(from + kept);
 }
@@ -178,6 +183,7 @@ impl Environment {
     }
 
     /// The heap.
+    #[inline(always)]
     pub fn heap(&self) -> &Heap
         ensures is { result.now ≡ self.now.heap }
         ensures env { IsEnv self.now }
@@ -187,6 +193,7 @@ impl Environment {
     }
 
     /// How many slots there are.
+    #[inline(always)]
     pub fn slot_count(&self) -> usize
         ensures { result ≡ length self.now.slots }
     {
@@ -217,6 +224,7 @@ impl Environment {
     }
 
     /// Slots for the variables of a clause, which are new: where the slots begin.
+    #[inline(always)]
     pub fn enter(&mut self, width: u32) -> Result<u32, AllocError>
         ensures ok { IfOk result (λ base. Enters self.old self.new base width) }
         ensures err { OnErr result (self.new ≡ self.old) }
@@ -244,6 +252,7 @@ impl Environment {
     }
 
     /// Gives back the slots from a place on, but those that are older than a mark in use.
+    #[inline(always)]
     pub fn release(&mut self, base: u32)
         ensures { self.new ≡ released base self.old }
     {
@@ -269,6 +278,7 @@ impl Environment {
     }
 
     /// The slot of a variable of a clause whose slots begin at a place.
+    #[inline(always)]
     pub fn slot_of(&self, base: u32, variable: u32) -> u32
         requires { base + variable < length self.now.slots }
         ensures { result ≡ base + variable }
@@ -278,6 +288,7 @@ impl Environment {
     }
 
     /// What a slot holds.
+    #[inline(always)]
     pub fn slot(&self, slot: u32) -> Slot
         requires { slot < length self.now.slots }
         ensures is { result ≡ slot_at self.now.slots slot }
@@ -289,6 +300,7 @@ impl Environment {
     }
 
     /// Sets a free slot: a value stands for its variable from now on.
+    #[inline(always)]
     pub fn set(&mut self, slot: u32, v: Cell) -> Result<(), AllocError>
         requires within { slot < length self.old.slots }
         requires value { IsValue self.old.heap v }
@@ -310,6 +322,7 @@ impl Environment {
 
     /// Unifies two values in a choice: whether they have a unifier. Where they have none, or memory gives out, some variables may be bound,
     /// which an undo to a mark in use takes off.
+    #[inline(always)]
     pub fn unify_in_choice(&mut self, a: Cell, b: Cell) -> Result<bool, AllocError>
         requires left { IsValue self.old.heap a }
         requires right { IsValue self.old.heap b }

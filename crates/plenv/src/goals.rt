@@ -53,6 +53,7 @@ impl Environment {
 
     /// Puts the arguments of the compound whose block stands at a place, of a clause whose slots begin at a place: the number by which it is
     /// called, and a list made their values.
+    #[inline(always)]
     fn put_arguments(
         &mut self,
         nodes: &[Node],

@@ -33,6 +33,7 @@ fn add_variable(heap: &mut Heap, number: u64) -> Result<u32, AllocError>
 
 impl Environment {
     /// Puts the variable of a free slot on the heap: its value, which the slot holds from now on. A slot that is set has its value already.
+    #[inline(always)]
     pub fn put_variable(&mut self, slot: u32) -> Result<Cell, AllocError>
         requires within { slot < length self.old.slots }
         ensures ok { (n : _) → slot_at self.old.slots slot ≡ FreeSlot n → IfOk result (λ v. Puts self.old self.new v (var n)) }
@@ -46,6 +47,7 @@ impl Environment {
     }
 
     /// The same for any slot.
+    #[inline(always)]
     fn put_slot(&mut self, slot: usize) -> Result<Cell, AllocError>
         requires within { slot < length self.old.slots }
         ensures ok { (n : _) → slot_at self.old.slots slot ≡ FreeSlot n → IfOk result (λ v. Puts self.old self.new v (var n)) }
@@ -75,6 +77,7 @@ impl Environment {
 
     /// Puts the block at a place behind those before it, where no more than one of its variables has a free slot: how many arguments it has.
     /// That variable stands in the block, and its slot refers to it from now on.
+    #[inline(always)]
     fn put_block(&mut self, nodes: &[Node], place: u32, run: Run) -> Result<Option<u16>, AllocError>
         requires laid { IsLaid self.old.heap.names nodes.now }
         requires block { (f : _) × ((k : _) × IsBlockAt nodes.now run.from place f k) }
@@ -216,6 +219,7 @@ impl Environment {
     }
 
     /// The same for any place.
+    #[inline(always)]
     fn put_at(&mut self, nodes: &[Node], at: usize, base: u32) -> Result<Cell, AllocError>
         requires laid { IsLaid self.old.heap.names nodes.now }
         requires packed { ArePacked nodes.now }
@@ -237,6 +241,7 @@ impl Environment {
     }
 
     /// Puts a row of terms of a clause whose slots begin at a place: their values, in the place of those that the list holds.
+    #[inline(always)]
     pub fn put_row(
         &mut self,
         nodes: &[Node],

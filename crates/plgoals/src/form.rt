@@ -68,6 +68,7 @@ pub enum Form {
 }
 
 /// What is called by a number.
+#[inline(always)]
 fn callee_by(code: &ProgramCode, number: Number) -> Callee
     ensures { result ≡ callee_at code.now.callees number }
 {
@@ -78,6 +79,7 @@ fn callee_by(code: &ProgramCode, number: Number) -> Callee
 }
 
 /// What a goal of this number and these arguments is.
+#[inline(always)]
 pub fn form_of(heap: &Heap, code: &ProgramCode, number: Number, args: &[Cell]) -> Form
     requires args { AreValues heap.now args.now }
     requires callable { IsCallable heap.now.names number (length args.now) }
@@ -95,6 +97,7 @@ pub fn form_of(heap: &Heap, code: &ProgramCode, number: Number, args: &[Cell]) -
 }
 
 /// A control construct with its arguments.
+#[inline(never)]
 fn construct(heap: &Heap, code: &ProgramCode, control: Control, args: &[Cell]) -> Form
     requires args { AreValues heap.now args.now }
     requires kinds { HasKinds heap.now.names code.now.callees }

@@ -7,3 +7,4 @@ pub mod Rows
 pub mod Verdicts
 pub mod Steps
 pub mod Heads
+pub mod References

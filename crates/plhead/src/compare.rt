@@ -25,6 +25,7 @@ pub enum Verdict {
 }
 
 /// A verdict that leaves nothing.
+#[inline(always)]
 pub(crate) fn verdict_of(same: bool) -> Verdict
     ensures { result ≡ said same }
 {
@@ -32,6 +33,7 @@ pub(crate) fn verdict_of(same: bool) -> Verdict
 }
 
 /// Whether a value where references end, which is no variable, is an integer.
+#[inline(always)]
 fn is_number(heap: &Heap, number: i64, v: Cell) -> bool
     requires heap { IsHeap heap.now }
     requires value { IsValue heap.now v }
@@ -45,6 +47,7 @@ fn is_number(heap: &Heap, number: i64, v: Cell) -> bool
 }
 
 /// Whether a value where references end is an atom.
+#[inline(always)]
 fn is_atom(atom: u32, v: Cell) -> bool
     ensures { IsTrue result ↔ (v ≡ AtomCell atom) }
 {
@@ -55,6 +58,7 @@ fn is_atom(atom: u32, v: Cell) -> bool
 }
 
 /// Two compounds have one functor, and so one argument for each of the other, or differ for good.
+#[inline(always)]
 fn compare_blocks(heap: &Heap, nodes: &[Node], root: u32, p: u32) -> Verdict
     requires few { length nodes.now < 2 ^ 32 }
     requires node { (u : Tree) × IsCompoundAt heap.now.names nodes.now root u }
@@ -73,6 +77,7 @@ fn compare_blocks(heap: &Heap, nodes: &[Node], root: u32, p: u32) -> Verdict
 }
 
 /// A node that is no variable beside a value where references end, which is none either.
+#[inline(always)]
 pub(crate) fn compare(heap: &Heap, nodes: &[Node], at: u32, v: Cell) -> Verdict
     requires laid { IsLaid heap.now.names nodes.now }
     requires packed { ArePacked nodes.now }

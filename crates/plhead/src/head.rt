@@ -11,7 +11,7 @@ ghost use Rattle.plenv.specs.declared.slot.Slot.TheVariants.{Free as FreeSlot};
 ghost use Rattle.plenv.specs.Env.{over, slot_at, variable, Covers, IsSlot};
 ghost use Rattle.plenv.specs.Changes.{Keeps, Unifies};
 ghost use Rattle.plenv.specs.Rows.{row_at, tree_at, CoversAll};
-ghost use Rattle.plhead.specs.Equations.{left, right, AreEquations, IsEquation};
+ghost use Rattle.plhead.specs.Equations.{left, pairs, references, right, AreEquations, IsEquation};
 ghost use Rattle.plhead.specs.Fitting.{Answers, Comes, NotUnifiable, Stands, UnifiesAll};
 
 use crate::compare::{Verdict, compare, verdict_of};
@@ -24,6 +24,7 @@ use plenv::slot::{Row, Slot};
 use std::alloc::{AllocError, Global};
 
 /// Whether a value is an unbound variable of a number above this one.
+#[inline(always)]
 fn is_younger(heap: &Heap, v: Cell, number: u64) -> bool
     requires { IsValue heap.now v }
     ensures variable { (n : ℕ) → value heap.now v ≡ var n → IsTrue result ↔ (number < n) }
@@ -36,6 +37,7 @@ fn is_younger(heap: &Heap, v: Cell, number: u64) -> bool
 }
 
 /// Unifies the variable of a free slot with a value: the slot takes it. A value that is a younger variable stands for the slot's.
+#[inline(always)]
 fn meet_free(env: &mut Environment, slot: u32, number: u64, v: Cell) -> Result<bool, AllocError>
     requires within { slot < length env.old.slots }
     requires free { slot_at env.old.slots slot ≡ FreeSlot number }
@@ -56,6 +58,7 @@ fn meet_free(env: &mut Environment, slot: u32, number: u64, v: Cell) -> Result<b
 }
 
 /// Unifies what a slot stands for with a value.
+#[inline(always)]
 fn meet_slot(env: &mut Environment, slot: u32, v: Cell) -> Result<bool, AllocError>
     requires within { slot < length env.old.slots }
     requires value { IsValue env.old.heap v }
@@ -92,6 +95,7 @@ fn put_and_unify(
 }
 
 /// What a node, of a clause whose slots begin at a place, and a value come to: a unifier was put, they have none, or their arguments are left.
+#[inline(always)]
 fn meet(
     env: &mut Environment,
     nodes: &[Node],
@@ -178,6 +182,72 @@ fn unify_node(
     }
 }
 
+/// Nodes from a place on, beside as many cells: the arguments of two compounds.
+#[derive(Clone, Copy)]
+struct Arguments {
+    first: u32,
+    cells: u32,
+    count: u16,
+}
+
+/// Unifies nodes, of a clause whose slots begin at a place, with the terms of as many cells, one after the other.
+fn unify_arguments(
+    env: &mut Environment,
+    nodes: &[Node],
+    base: u32,
+    args: Arguments,
+    work: &mut Vec<(u32, Cell)>,
+) -> Result<bool, AllocError>
+    requires laid { IsLaid env.old.heap.names nodes.now }
+    requires packed { ArePacked nodes.now }
+    requires few { length nodes.now < 2 ^ 32 }
+    requires nodes { args.first + args.count ≤ length nodes.now }
+    requires cells { args.cells + args.count < 2 ^ 32 }
+    requires equations { AreEquations env.old base nodes.now (tree_at env.old.heap.names nodes.now) (pairs args.first (references args.cells args.count)) }
+    ensures answers { IfOk result (λ fits. (s t : Tree) → Stands env.old base (tree_at env.old.heap.names nodes.now) (pairs args.first (references args.cells args.count)) s t → Answers env.old env.new s t fits) }
+    ensures keeps { Keeps env.old env.new }
+{
+    for i in 0..args.count {
+        let v = env.heap().argument(args.cells + u32::from(i));
+        let equation = (args.first + u32::from(i), v);
+        if !unify_node(env, nodes, base, equation, work)? {
+            return Ok(false);
+        }
+    }
+    Ok(true)
+}
+
+/// Unifies an argument of a head, of a clause whose slots begin at a place, with a value.
+fn unify_argument(
+    env: &mut Environment,
+    nodes: &[Node],
+    base: u32,
+    equation: (u32, Cell),
+    work: &mut Vec<(u32, Cell)>,
+) -> Result<bool, AllocError>
+    requires sound { IsSound env.old.heap.names nodes.now }
+    requires packed { ArePacked nodes.now }
+    requires few { length nodes.now < 2 ^ 32 }
+    requires equation { IsEquation env.old base nodes.now (tree_at env.old.heap.names nodes.now) equation }
+    ensures yes { IfOk result (λ fits. fits ≡ true → Unifies env.old env.new (left env.old base (tree_at env.old.heap.names nodes.now) equation) (right env.old equation)) }
+    ensures no { IfOk result (λ fits. fits ≡ false → unify (left env.old base (tree_at env.old.heap.names nodes.now) equation) (right env.old equation) ≡ None) }
+    ensures keeps { Keeps env.old env.new }
+{
+    let (at, v) = equation;
+    match meet(env, nodes, base, at, v)? {
+        Verdict::Same => Ok(true),
+        Verdict::Clash => Ok(false),
+        Verdict::Args(first, cells, count) => {
+            let args = Arguments {
+                first,
+                cells,
+                count,
+            };
+            unify_arguments(env, nodes, base, args, work)
+        }
+    }
+}
+
 /// The arguments of a clause's head, and where its slots begin.
 #[derive(Clone, Copy)]
 pub struct Head {
@@ -221,7 +291,7 @@ impl Matcher {
     {
         for (i, v) in values.iter().enumerate() {
             let equation = (head.row.at + i as u32, *v);
-            if !unify_node(env, nodes, head.base, equation, &mut self.work)? {
+            if !unify_argument(env, nodes, head.base, equation, &mut self.work)? {
                 return Ok(false);
             }
         }

@@ -8,6 +8,7 @@ use plcells::heap::Heap;
 use std::alloc::AllocError;
 
 /// Puts so many nodes from a place on beside the terms of as many cells on the list, the first on top.
+#[inline(always)]
 pub(crate) fn push_arguments(
     work: &mut Vec<(u32, Cell)>,
     heap: &Heap,

@@ -1,28 +1,34 @@
-use Rattle.std.proofs.Common.{◌≡◌, ◌∙◌, ◌||◌, length, arith, ap, sym, subst}
+use Rattle.std.proofs.Common.{◌≡◌, false, ◌∙◌, ◌||◌, length, arith, ap, sym, subst}
+use Rattle.plsubst.specs.Subst.{occurs}
+use Rattle.plcells.specs.Store.{term}
 use Rattle.plcells.specs.Walking.{weigh, occurs_any, AreBlocks}
-use Rattle.plcells.proofs.Searching.{blocks-pop, any-push, weigh-push, one-block, or-all, one-occurs, empty-none}
+use Rattle.plcells.proofs.Searching.{blocks-pop, any-push, weigh-push, or-all, empty-none}
 use Rattle.plcells.proofs.heap.Heap.occurs_below.Goals as goal
 
-pub loop-q-init : goal.loop-q-init
-loop-q-init c =
-    let h = c.args.self.now in
-    rw (c.in_ok-push.ensures.items, c.clear.ensures.items) (record {
-      blocks = one-block h c.args.p c.requires.within c.requires.head;
-      left = λ n numbered. one-occurs n h c.args.p;
-    })
+pub returns-then-here : goal.returns-then-here
+returns-then-here c = λ n numbered. sym (c.in_ok-here.ensures.found c.if-here.true n numbered)
 
-pub look-requires-clause-within : goal.look-requires-clause-within
-look-requires-clause-within c =
+pub loop-q-init : goal.loop-q-init
+loop-q-init c = record {
+  blocks = c.in_ok-here.ensures.blocks;
+  left = λ n numbered.
+      let h = c.args.self.now in
+      let nothing : occurs_any n h c.clear.new.self.items ≡ false = empty-none n h c.clear.new.self.items (ap length c.clear.ensures.items) in
+      sym (c.in_ok-here.ensures.left c.if-here.false n numbered ∙ ap (λ b. b || occurs n (term h c.args.p)) nothing);
+}
+
+pub look-requires-in-Some-clause-within : goal.look-requires-in-Some-clause-within
+look-requires-in-Some-clause-within c =
     let h = c.args.self.now in
     (blocks-pop h c.pop.new.self.items c.in-Some.q (subst (AreBlocks h) c.in-Some.ensures.items c.loop-q.invariant.blocks)).1.0
 
-pub look-requires-clause-head : goal.look-requires-clause-head
-look-requires-clause-head c =
+pub look-requires-in-Some-clause-head : goal.look-requires-in-Some-clause-head
+look-requires-in-Some-clause-head c =
     let h = c.args.self.now in
     (blocks-pop h c.pop.new.self.items c.in-Some.q (subst (AreBlocks h) c.in-Some.ensures.items c.loop-q.invariant.blocks)).1.1
 
-pub look-requires-clause-blocks : goal.look-requires-clause-blocks
-look-requires-clause-blocks c =
+pub look-requires-in-Some-clause-blocks : goal.look-requires-in-Some-clause-blocks
+look-requires-in-Some-clause-blocks c =
     let h = c.args.self.now in
     (blocks-pop h c.pop.new.self.items c.in-Some.q (subst (AreBlocks h) c.in-Some.ensures.items c.loop-q.invariant.blocks)).0
 

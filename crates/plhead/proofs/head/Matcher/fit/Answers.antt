@@ -21,32 +21,32 @@ loop-i-init c = record {
   keeps = keeps-refl c.args.env.now;
 }
 
-pub unify_node-requires-clause-sound : goal.unify_node-requires-clause-sound
-unify_node-requires-clause-sound c = sound-now c.args.env.now c.loop-i.env c.args.nodes.now c.requires.laid c.loop-i.invariant.keeps
+pub unify_argument-requires-clause-sound : goal.unify_argument-requires-clause-sound
+unify_argument-requires-clause-sound c = sound-now c.args.env.now c.loop-i.env c.args.nodes.now c.requires.laid c.loop-i.invariant.keeps
 
-pub unify_node-requires-clause-equation : goal.unify_node-requires-clause-equation
-unify_node-requires-clause-equation c = next-equation c.args.head.row.at c.args.values.now c.args.env.now c.loop-i.env c.args.head.base c.args.nodes.now c.requires.laid c.loop-i.invariant.keeps c.loop-i.i c.loop-i-test.true c.loop-i.invariant.equations
+pub unify_argument-requires-clause-equation : goal.unify_argument-requires-clause-equation
+unify_argument-requires-clause-equation c = next-equation c.args.head.row.at c.args.values.now c.args.env.now c.loop-i.env c.args.head.base c.args.nodes.now c.requires.laid c.loop-i.invariant.keeps c.loop-i.i c.loop-i-test.true c.loop-i.invariant.equations
 
-pub returns-in_err-unify_node-clause-keeps : goal.returns-in_err-unify_node-clause-keeps
-returns-in_err-unify_node-clause-keeps c = keeps-trans c.args.env.now c.loop-i.env c.unify_node.new.env c.loop-i.invariant.keeps c.unify_node.ensures.keeps
+pub returns-in_err-unify_argument-clause-keeps : goal.returns-in_err-unify_argument-clause-keeps
+returns-in_err-unify_argument-clause-keeps c = keeps-trans c.args.env.now c.loop-i.env c.unify_argument.new.env c.loop-i.invariant.keeps c.unify_argument.ensures.keeps
 
 pub returns-then-not-branch-clause-no : goal.returns-then-not-branch-clause-no
 returns-then-not-branch-clause-no c = λ e f.
     let ts = map (value c.args.env.now.heap) c.args.values.now in
     let us = map (bind (over c.args.env.now c.args.head.base)) (row_at c.args.env.now.heap.names c.args.nodes.now c.args.head.row) in
-    next-never c.args.head.row.at c.args.values.now c.args.env.now c.loop-i.env c.args.head.base c.args.nodes.now c.requires.laid c.loop-i.invariant.keeps c.loop-i.i c.loop-i-test.true c.loop-i.invariant.equations (c.in_ok-unify_node.ensures.no c.if-not-branch.true) (compound f (trees ts)) (compound f (trees us))
+    next-never c.args.head.row.at c.args.values.now c.args.env.now c.loop-i.env c.args.head.base c.args.nodes.now c.requires.laid c.loop-i.invariant.keeps c.loop-i.i c.loop-i-test.true c.loop-i.invariant.equations (c.in_ok-unify_argument.ensures.no c.if-not-branch.true) (compound f (trees ts)) (compound f (trees us))
     (c.loop-i.invariant.progress (compound f (trees ts)) (compound f (trees us)) (row-stands c.args.env.now c.args.head.base (tree_at c.args.env.now.heap.names c.args.nodes.now) c.args.nodes.now c.args.head.row.at c.args.head.row.count c.args.values.now (row_at c.args.env.now.heap.names c.args.nodes.now c.args.head.row) (row-spread c.args.env.now.heap.names c.args.nodes.now c.args.head.row.at c.args.head.row.count c.requires.row) c.requires.count f))
 
 pub returns-then-not-branch-clause-keeps : goal.returns-then-not-branch-clause-keeps
-returns-then-not-branch-clause-keeps c = keeps-trans c.args.env.now c.loop-i.env c.unify_node.new.env c.loop-i.invariant.keeps c.unify_node.ensures.keeps
+returns-then-not-branch-clause-keeps c = keeps-trans c.args.env.now c.loop-i.env c.unify_argument.new.env c.loop-i.invariant.keeps c.unify_argument.ensures.keeps
 
 pub loop-i-preserved : goal.loop-i-preserved
 loop-i-preserved c =
-    let made = c.in_ok-unify_node.ensures.yes c.if-not-branch.false in
+    let made = c.in_ok-unify_argument.ensures.yes c.if-not-branch.false in
     record {
-      equations = next-equations c.args.head.row.at c.args.values.now c.args.env.now c.loop-i.env c.args.head.base c.args.nodes.now c.requires.laid c.loop-i.invariant.keeps c.loop-i.i c.loop-i-test.true c.loop-i.invariant.equations c.unify_node.new.env made;
-      progress = λ s t stands. next-progress c.args.head.row.at c.args.values.now c.args.env.now c.loop-i.env c.args.head.base c.args.nodes.now c.requires.laid c.loop-i.invariant.keeps c.loop-i.i c.loop-i-test.true c.loop-i.invariant.equations c.unify_node.new.env made s t (c.loop-i.invariant.progress s t stands);
-      keeps = keeps-trans c.args.env.now c.loop-i.env c.unify_node.new.env c.loop-i.invariant.keeps c.unify_node.ensures.keeps;
+      equations = next-equations c.args.head.row.at c.args.values.now c.args.env.now c.loop-i.env c.args.head.base c.args.nodes.now c.requires.laid c.loop-i.invariant.keeps c.loop-i.i c.loop-i-test.true c.loop-i.invariant.equations c.unify_argument.new.env made;
+      progress = λ s t stands. next-progress c.args.head.row.at c.args.values.now c.args.env.now c.loop-i.env c.args.head.base c.args.nodes.now c.requires.laid c.loop-i.invariant.keeps c.loop-i.i c.loop-i-test.true c.loop-i.invariant.equations c.unify_argument.new.env made s t (c.loop-i.invariant.progress s t stands);
+      keeps = keeps-trans c.args.env.now c.loop-i.env c.unify_argument.new.env c.loop-i.invariant.keeps c.unify_argument.ensures.keeps;
     }
 
 pub returns-clause-yes : goal.returns-clause-yes
