@@ -10,7 +10,7 @@ use Rattle.std.proofs.lemmas.Map.Lookups.{exact_unsigned, exact_signed, exact_by
 use Rattle.plterm.specs.Tree.{Tree, var, int, atom, compound, Trees, none, more, list_of}
 use Rattle.plterm.specs.Order.{name_order, functor_order, order, arguments_order}
 
-then_first : (o p : Ordering) → ordering_then o p ≡ Equal → o ≡ Equal
+pub then_first : (o p : Ordering) → ordering_then o p ≡ Equal → o ≡ Equal
 then_first Less p h = cc
 then_first Equal p h = refl
 then_first Greater p h = cc
