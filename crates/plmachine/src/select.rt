@@ -107,7 +107,7 @@ impl Machine {
     }
 
     /// A call of a procedure of all the arguments.
-    fn call(
+    pub(crate) fn call(
         &mut self,
         program: &Program,
         procedure: Procedure,
@@ -152,6 +152,7 @@ impl Machine {
     }
 
     /// A call of a procedure that is not in the program's text: its clauses are looked up in a view.
+    #[inline(never)]
     fn look(
         &mut self,
         program: &Program,

@@ -55,6 +55,9 @@ impl Machine {
         ensures err { OnErr result (Stays program.now self.old self.new) }
     {
         let form = self.form(program, source)?;
+        if let Form::Call(procedure) = form {
+            return self.call(program, procedure, source, rest);
+        }
         self.select(program, form, source, level, rest)
     }
 
