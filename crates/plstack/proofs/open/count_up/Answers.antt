@@ -1,5 +1,4 @@
-use Rattle.std.proofs.Common.{◌≡◌, ◌∙◌, ◌++◌, ◌∷◌, [], ◌+◌, List, length, arith, refl}
-use Rattle.plstack.specs.declared.frame.Frame.{Frame}
+use Rattle.std.proofs.Common.{◌≡◌, ◌+◌, length, arith}
 use Rattle.plstack.specs.declared.frame.Frame.TheVariants.{Plain}
 use Rattle.plstack.proofs.Stacks.{counts-in-place, set-last}
 use Rattle.plstack.proofs.open.count_up.Goals as goal
