@@ -107,7 +107,7 @@ impl Machine {
     }
 
     /// A call of a procedure of all the arguments.
-    pub(crate) fn call(
+    fn call(
         &mut self,
         program: &Program,
         procedure: Procedure,
@@ -130,7 +130,7 @@ impl Machine {
     }
 
     /// A call of a procedure of the program's text, by its place, of all the arguments.
-    fn resolve(
+    pub(crate) fn resolve(
         &mut self,
         program: &Program,
         place: u32,
