@@ -46,6 +46,7 @@ fn is_static_procedure(program: &Program, p: &Indicator) -> bool
 
 impl Machine {
     /// assertz/1.
+    #[inline(never)]
     pub fn add_last(
         &mut self,
         program: &Program,
@@ -111,6 +112,7 @@ impl Machine {
     }
 
     /// halt/1.
+    #[inline(never)]
     pub fn halt_with(
         &mut self,
         program: &Program,

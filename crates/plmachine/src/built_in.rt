@@ -27,6 +27,7 @@ use std::alloc::AllocError;
 
 impl Machine {
     /// A built-in predicate of all the arguments.
+    #[inline(never)]
     pub fn built_in(
         &mut self,
         program: &Program,

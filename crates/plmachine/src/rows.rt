@@ -43,6 +43,7 @@ impl Machine {
     }
 
     /// Raises an error of a predicate.
+    #[inline(never)]
     pub fn raise(
         &mut self,
         program: &Program,
@@ -105,6 +106,7 @@ impl Machine {
     }
 
     /// A conjunction.
+    #[inline(never)]
     pub fn both(
         &mut self,
         program: &Program,
@@ -124,6 +126,7 @@ impl Machine {
     }
 
     /// A disjunction.
+    #[inline(never)]
     pub fn either(
         &mut self,
         program: &Program,
@@ -142,6 +145,7 @@ impl Machine {
     }
 
     /// A condition, what follows it, and what is done where it fails.
+    #[inline(never)]
     pub fn then_else(
         &mut self,
         program: &Program,
@@ -208,6 +212,7 @@ impl Machine {
     }
 
     /// throw/1.
+    #[inline(never)]
     pub fn throw(
         &mut self,
         program: &Program,

@@ -49,6 +49,7 @@ pub struct Running {
 
 impl Machine {
     /// A term is run as a goal.
+    #[inline(never)]
     pub fn run(&mut self, program: &Program, ready: Ready, how: Running) -> Result<(), AllocError>
         requires ready { IsReady self.old.stack ready }
         requires how { IsRunning self.old.stack how }
@@ -95,6 +96,7 @@ impl Machine {
     }
 
     /// once/1.
+    #[inline(never)]
     pub fn once(
         &mut self,
         program: &Program,
@@ -119,6 +121,7 @@ impl Machine {
     }
 
     /// `\+`/1.
+    #[inline(never)]
     pub fn not(
         &mut self,
         program: &Program,
@@ -146,6 +149,7 @@ impl Machine {
     }
 
     /// catch/3 of a goal, with a catcher and a recovery.
+    #[inline(never)]
     pub fn catching(
         &mut self,
         program: &Program,
@@ -179,6 +183,7 @@ impl Machine {
     }
 
     /// call/N: the goal is the first argument, and its further arguments stand behind it.
+    #[inline(never)]
     pub fn call_with(&mut self, program: &Program, rest: Continuation) -> Result<(), AllocError>
         requires args { AreValues self.old.stack.env.heap self.old.args.items }
         requires some { 0 < length self.old.args.items }

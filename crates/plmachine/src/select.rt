@@ -130,7 +130,7 @@ impl Machine {
     }
 
     /// A call of a procedure of the program's text, by its place, of all the arguments.
-    fn resolve(
+    pub(crate) fn resolve(
         &mut self,
         program: &Program,
         place: u32,
@@ -152,6 +152,7 @@ impl Machine {
     }
 
     /// A call of a procedure that is not in the program's text: its clauses are looked up in a view.
+    #[inline(never)]
     fn look(
         &mut self,
         program: &Program,

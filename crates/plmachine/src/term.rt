@@ -15,7 +15,7 @@ use crate::select::Source;
 use plcells::cell::Cell;
 use plcode::callee::Number;
 use plgoals::callable::arguments_of;
-use plgoals::form::{Form, form_of};
+use plgoals::form::{Form, Procedure, form_of};
 use pllinks::link::Continuation;
 use plprogram::program::Program;
 use std::alloc::AllocError;
@@ -55,6 +55,9 @@ impl Machine {
         ensures err { OnErr result (Stays program.now self.old self.new) }
     {
         let form = self.form(program, source)?;
+        if let Form::Call(Procedure::Static(place)) = form {
+            return self.resolve(program, place, rest);
+        }
         self.select(program, form, source, level, rest)
     }
 

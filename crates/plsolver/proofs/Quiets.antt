@@ -8,18 +8,20 @@ use Rattle.plcells.specs.declared.cell.Cell.{Cell}
 use Rattle.plcells.specs.Store.{value}
 use Rattle.plevent.specs.Search.{Answer}
 use Rattle.plprogram.specs.Program.{Program}
-use Rattle.plsearch.specs.Types.{Result, Spent, Throw, Commit, Never, Until, Element, Goal, Marker, Handle, Handler, Catch, Keep, Place, Case, Choice, Mark, Local, Move, Run}
+use Rattle.plsearch.specs.Types.{Result, Fail, Spent, Throw, Commit, Never, Until, Element, Goal, Marker, Handle, Handler, Catch, Keep, Place, Case, Choice, Mark, Local, Move, Run}
 use Rattle.plsearch.specs.Lists.{bind_goals}
 use Rattle.plsearch.specs.Running.{runnable}
 use Rattle.plsearch.specs.Rows.{select, meet, catching}
 use Rattle.plsearch.specs.Handlers.{resume, has, met_by, recovers}
 use Rattle.plsearch.specs.Engine.{deeper, mark, stop_cut}
 use Rattle.plsearch.specs.Machines.Machine.{At, Back, Machine, Rest, return, turn, step}
-use Rattle.plsearch.specs.Machines.Weight.{weight, Lighter}
+use Rattle.plsearch.specs.Machines.Weight.{cases_weight, weight, Lighter}
 use Rattle.plsearch.proofs.Turns.{Rest-turn}
 use Rattle.plsearch.proofs.Weight.{lighter-turn}
 use Rattle.pllinks.specs.declared.item.MarkerKind.TheVariants as markers
 use Rattle.pllinks.specs.declared.link.Continuation.{Continuation}
+use Rattle.plstack.specs.Opening.{ClosesPlain}
+use Rattle.plstack.specs.Places.{plain}
 use Rattle.plstack.specs.State.{State, place_of, cases_of, goals_of, Retries}
 use Rattle.plstack.specs.StaticCalls.{statics_of}
 use Rattle.plstack.specs.Cutting.{Cuts}
@@ -166,6 +168,37 @@ quiet-close P s st at code was =
     carried P (record s.machine { stack = st }) outcomes.Fail (cases_of (statics_of P) st) at refl left answers
     ∙ sym (ap (turn P) (carried P s.machine outcomes.Fail (Choice [] ∷ cases_of (statics_of P) st) at was left answers)))
     (λ x is no. some_case _ _ _ was no)
+
+-- failure goes through choices with nothing left
+fails-through : (P : Program) (n : ℕ) (below : List Case) (run : Run) → Rest P (record { mode = Back Fail; cases = plain n below; run = run }) ≡ Rest P (record { mode = Back Fail; cases = below; run = run })
+unfolding turn
+fails-through P zero below run = refl
+fails-through P (suc n) below run = Rest-turn P (record { mode = Back Fail; cases = plain (suc n) below; run = run }) ∙ fails-through P n below run
+
+plain-weight : (n : ℕ) (below : List Case) → cases_weight (plain n below) ≡ n + cases_weight below
+plain-weight zero below = omega arith
+plain-weight (suc n) below = let e = plain-weight n below in omega (arith, e)
+
+pub quiet-plain : (P : Program) (s : Progress) (st : State) → s.machine.mode ≡ modes.Back outcomes.Fail → st.code ≡ s.machine.stack.code → ClosesPlain s.machine.stack st → Quiet P s (to s st s.machine.mode)
+unfolding weight
+quiet-plain P s st at code closes = record {
+  used = refl;
+  limit = refl;
+  places = refl;
+  code = code;
+  askable = subst (MayAsk st.env.heap) (sym at) tt;
+  rest = λ left answers few.
+      ap (Rest P) (after left answers)
+      ∙ sym (fails-through P closes.count (cases_of (statics_of P) st) (record { steps = left; answers = answers; local = local_of s.machine }))
+      ∙ sym (ap (Rest P) (before left answers));
+  lighter = λ within. rw (after 0 [], before 0 []) (omega (arith, closes.some, plain-weight closes.count (cases_of (statics_of P) st)));
+}
+  where
+    before : (left : ℕ) (answers : List Answer) → machine P left answers s.machine ≡ record { mode = Back Fail; cases = plain closes.count (cases_of (statics_of P) st); run = record { steps = left; answers = answers; local = local_of s.machine } }
+    before left answers = carried P s.machine outcomes.Fail (plain closes.count (cases_of (statics_of P) st)) at (closes.was (statics_of P)) left answers
+
+    after : (left : ℕ) (answers : List Answer) → machine P left answers (record s.machine { stack = st }) ≡ record { mode = Back Fail; cases = cases_of (statics_of P) st; run = record { steps = left; answers = answers; local = local_of s.machine } }
+    after left answers = carried P (record s.machine { stack = st }) outcomes.Fail (cases_of (statics_of P) st) at refl left answers
 
 -- the search with another stack, which carries what it carried
 abbrev pub at_stack : Progress → State → Progress

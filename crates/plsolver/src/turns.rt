@@ -4,7 +4,7 @@ ghost use Rattle.std.specs.Prelude.{◌≡◌, ◌-◌, ◌≤◌, ◌↔◌, If
 ghost use Rattle.plcells.specs.Store.{IsValue};
 ghost use Rattle.plsearch.specs.Engine.{stop_cut, mark, deeper};
 ghost use Rattle.plstack.specs.Places.{Statics};
-ghost use Rattle.plstack.specs.State.{cases_of, HasClauses, HasCopies, HasBranch, HasHandler, IsList};
+ghost use Rattle.plstack.specs.State.{cases_of, HasClauses, HasCopies, HasBranch, HasHandler, HasPlain, IsList};
 ghost use Rattle.plstack.specs.First.{IsFirst};
 ghost use Rattle.plstack.specs.declared.first.First.TheVariants.{Marker as MarkerFirst};
 ghost use Rattle.plmachine.specs.Machine.{depth_of};
@@ -103,15 +103,42 @@ impl Progress {
         ensures due { IfOk result (λ o. IfSome o (λ due. Settled program.now self.new due × (self.new ≡ self.old))) }
         ensures err { OnErr result (Stays program.now self.old self.new) }
     {
-        if self.fails() && self.is_choice() {
-            self.try_next(program)?;
-            return Ok(None);
+        if self.fails() {
+            return self.fail(program);
         }
         if self.catches() {
             self.catch(program)?;
             return Ok(None);
         }
         Ok(self.close(program))
+    }
+
+    /// One turn with failure: the next place of the innermost choice, or it is closed, together with others that have nothing left.
+    fn fail(&mut self, program: &Program) -> Result<Option<Due>, AllocError>
+        requires fails { self.old.machine.mode ≡ Mode.Back Outcome.Fail }
+        requires of { IsOf program.now self.old.machine }
+        ensures on { IfOk result (λ o. IfNone o (Quiet program.now self.old self.new)) }
+        ensures due { IfOk result (λ o. IfSome o (λ due. Settled program.now self.new due × (self.new ≡ self.old))) }
+        ensures err { OnErr result (Stays program.now self.old self.new) }
+    {
+        if self.machine.stack.is_plain() {
+            self.close_plain(program);
+            return Ok(None);
+        }
+        if self.is_choice() {
+            self.try_next(program)?;
+            return Ok(None);
+        }
+        Ok(self.close(program))
+    }
+
+    /// Closes the innermost choices, which have nothing left.
+    fn close_plain(&mut self, program: &Program)
+        requires fails { self.old.machine.mode ≡ Mode.Back Outcome.Fail }
+        requires plain { HasPlain self.old.machine.stack }
+        ensures { Quiet program.now self.old self.new }
+    {
+        self.machine.stack.close_plain();
     }
 
     /// The next place of the innermost choice.

@@ -1,11 +1,12 @@
 -- The case of a call, which is opened once a clause fits.
-use Rattle.std.proofs.Common.{◌≡◌, ℕ, ◌+◌, ◌-◌, ◌≤◌, List, [], ◌++◌, length, map, get_or, refl, sym, ap, ◌∙◌, subst, arith, reverse, Option, Some, None}
+use Rattle.std.proofs.Common.{◌≡◌, ℕ, ◌+◌, ◌-◌, ◌≤◌, List, [], ◌∷◌, ◌++◌, append-nil, length, map, get_or, refl, sym, ap, ◌∙◌, subst, arith, reverse, Option, Some, None}
 use Rattle.platoms.specs.Names.{Extends as ExtendsNames}
 use Rattle.plsubst.specs.Subst.{bind}
 use Rattle.plcells.specs.declared.cell.Cell.{Cell}
 use Rattle.plcells.specs.Store.{AreValues, value}
 use Rattle.plsearch.specs.Rows.{before_rest, is_true}
 use Rattle.plsearch.specs.Engine.{deeper}
+use Rattle.plsearch.specs.Types.{Choice}
 use Rattle.plcode.specs.Keys.{IsFirstKey}
 use Rattle.plenv.specs.Env.{Env, IsEnv, over, renamed}
 use Rattle.plenv.specs.Changes.{Keeps}
@@ -19,47 +20,43 @@ use Rattle.plstack.specs.declared.frame.Frame.{Frame}
 use Rattle.plstack.specs.declared.frame.Frame.TheVariants.{Open}
 use Rattle.plstack.specs.Calls.{Calls, CallsNone, StaysAt}
 use Rattle.plstack.specs.Fits.{FindsNone}
-use Rattle.plstack.specs.Frames.{AreOlder}
-use Rattle.plstack.specs.Places.{Statics, called, kept_values}
-use Rattle.plstack.specs.State.{State, IsStack, goals_of, place_of, cases_of, AddsList, IsList}
+use Rattle.plstack.specs.Frames.{AreFrames, AreOlder}
+use Rattle.plstack.specs.Places.{Statics, called, kept_values, cases}
+use Rattle.plstack.specs.State.{State, IsStack, goals_in, goals_of, place_of, cases_of, AddsList, CountsUp, IsList}
 use Rattle.plstack.specs.StaticCalls.{body_at, AreStatics, AtCall, IsCalling, Binds, Enters, FindsHit, FitsFirst, GoesOn, Hits, OpensCall, PushesCall}
 use Rattle.plstack.specs.Trials.{IsMarked}
 use Rattle.plstack.proofs.Entering.{calls-entered, retries-entered}
 use Rattle.plstack.proofs.Finding.{hit-binds, hit-stack, hits}
 use Rattle.plstack.proofs.Going.{body-goals, body-there, emptied, emptied-stack, level-of, replaced, replaced-stack}
-use Rattle.plstack.proofs.Growing.{extends_same, extends-env, stack-env}
+use Rattle.plstack.proofs.Growing.{cases-grown, extends_same, extends-env, frames-grown, stack-env}
 use Rattle.plstack.proofs.Hitting.{cases-stay, extends-renamed}
-use Rattle.plstack.proofs.Opened.{call-at, call-opens, call-stack, kept-there, opened, older-then, with_values, values-cases, values-stack}
+use Rattle.plstack.proofs.Opened.{call-at, call-opens, call-stack, kept-there, opened, older-then}
 
 -- a list that is there has its number
 same-list : (s : State) (l : Continuation) (n : ℕ) → l ≡ alone n → IsList s l → AddsList s s (alone n) (goals_of s l)
 same-list s l n is i = record { there = subst (IsList s) is i; is = ap (goals_of s) (sym is); stays = extends_same s; env = refl; saved = refl }
 
 module _ (s : State) (d : ℕ) (is : IsStack s d) (p : Point) (m : IsMarked s p.marks) (alone_is : p.list ≡ alone p.list.rest) (i : IsList s p.list) (procedure count : ℕ) (vs : List Cell) (fit : AreValues s.env.heap vs) (many : count ≡ length vs) where
-  -- values were kept, and there are more names
+  -- there are more names
   module _ (e : Env) (env : IsEnv e) (names : ExtendsNames s.env.heap.names e.heap.names) (same : e ≡ renamed s.env e.heap.names) where
-    abbrev kept : State
-    kept = with_values s d is vs
-
     abbrev pub unchanged : State
-    unchanged = record { code = s.code; env = e; links = s.links; saved = s.saved ++ vs; frames = s.frames; goals = s.goals }
+    unchanged = record s { env = e }
 
     pub unchanged-stack : IsStack unchanged d
-    unchanged-stack = subst (λ (x : Env). IsStack (record kept { env = x }) d) (sym same)
-        (stack-env kept d (renamed s.env e.heap.names) (extends-renamed s.env e.heap.names is.0.env env.heap.names names) (subst IsEnv same env) (values-stack s d is vs))
+    unchanged-stack = subst (λ (x : Env). IsStack (record s { env = x }) d) (sym same)
+        (stack-env s d (renamed s.env e.heap.names) (extends-renamed s.env e.heap.names is.0.env env.heap.names names) (subst IsEnv same env) is)
 
     same-cases : (statics : Statics) → cases_of statics unchanged ≡ cases_of statics s
     same-cases statics =
-        ap (λ (x : Env). cases_of statics (record kept { env = x })) same
-        ∙ (extends-env kept d (renamed s.env e.heap.names) (extends-renamed s.env e.heap.names is.0.env env.heap.names names) (subst IsEnv same env) (values-stack s d is vs)).cases statics
-        ∙ values-cases s d is vs statics
+        ap (λ (x : Env). cases_of statics (record s { env = x })) same
+        ∙ (extends-env s d (renamed s.env e.heap.names) (extends-renamed s.env e.heap.names is.0.env env.heap.names names) (subst IsEnv same env) is).cases statics
 
     pub unchanged-at : StaysAt s unchanged
     unchanged-at = record {
       cases = same-cases;
       place =
-          ap (λ (x : Env). place_of (record kept { env = x })) same
-          ∙ ap (λ gs. record { goals = gs; variables = s.env.count }) (extends-env kept d (renamed s.env e.heap.names) (extends-renamed s.env e.heap.names is.0.env env.heap.names names) (subst IsEnv same env) (values-stack s d is vs)).visited;
+          ap (λ (x : Env). place_of (record s { env = x })) same
+          ∙ ap (λ gs. record { goals = gs; variables = s.env.count }) (extends-env s d (renamed s.env e.heap.names) (extends-renamed s.env e.heap.names is.0.env env.heap.names names) (subst IsEnv same env) is).visited;
     }
 
     pub unchanged-none : (statics : Statics) → FindsNone s.env (called s.env.heap (statics procedure).name vs) (statics procedure).clauses 0 → CallsNone statics s unchanged (called s.env.heap (statics procedure).name vs) p.list (statics procedure).clauses
@@ -165,3 +162,44 @@ module _ (s : State) (d : ℕ) (is : IsStack s d) (p : Point) (m : IsMarked s p.
 
       pub entered-older : hit.next ≡ None → AreOlder p.marks (reverse frames)
       entered-older none = (subst (λ o. PushesCall p c o s.frames frames) none pushes).older p.marks (older-then s d is p m alone_is i procedure count vs fit many)
+
+      -- nothing is left: no values are kept
+      module _ (none : hit.next ≡ None) where
+        up : CountsUp 1 (reverse s.frames) (reverse frames)
+        up = subst (λ o. PushesCall p c o s.frames frames) none pushes
+
+        abbrev pub entered-last : State
+        entered-last = record { code = s.code; env = e; links = s.links; saved = s.saved; frames = frames; goals = body_at hit p.list.rest d }
+
+        frames-now : AreFrames (goals_in s) e s.links s.saved (reverse s.frames)
+        frames-now = frames-grown (goals_in s) s.env e s.links s.links [] s.saved (sym (append-nil s.links)) keeps env.heap.names (reverse s.frames) is.0.frames
+
+        pub last-stack : IsStack entered-last (d + 1)
+        last-stack =
+            let t = entered-stack.0 in (
+              record {
+                env = env;
+                names = t.names;
+                none = t.none;
+                chain = t.chain;
+                frames = up.frames (goals_in s) e s.links s.saved frames-now;
+                goals = record { there = t.goals.there; items = t.goals.items };
+              },
+              entered-stack.1,
+            )
+
+        last-cases : cases_of statics entered-last ≡ Choice [] ∷ cases_of statics s
+        unfolding cases_of
+        last-cases =
+            up.cases statics (goals_in s) e s.links s.saved
+            ∙ ap (λ cs. Choice [] ∷ cs) (cases-grown (goals_in s) s.env e s.links s.links [] s.saved (sym (append-nil s.links)) keeps env.heap.names statics (reverse s.frames) is.0.frames)
+
+        entered-cases : cases_of statics entered ≡ Choice [] ∷ cases statics (goals_in s) e s.links (s.saved ++ vs) (reverse s.frames)
+        unfolding cases_of
+        entered-cases = up.cases statics (goals_in s) e s.links (s.saved ++ vs)
+
+        pub last-calls : Calls statics s entered-last (called s.env.heap (statics procedure).name vs) p.list (statics procedure).clauses
+        last-calls =
+            let both = sym entered-calls.cases ∙ entered-cases in
+            let empty : entered-calls.others ≡ [] = cc in
+            record { others = entered-calls.others; places = entered-calls.places; cases = last-cases ∙ ap (λ ps. Choice ps ∷ cases_of statics s) (sym empty) }

@@ -1,5 +1,6 @@
 -- Frames that are put on a stack and taken off.
-use Rattle.std.proofs.Common.{◌≡◌, ℕ, zero, suc, ◌+◌, ◌-◌, ◌<◌, List, [], ◌∷◌, ◌++◌, length, refl, sym, ap, ◌∙◌, subst, arith, reverse}
+use Rattle.std.proofs.Common.{◌≡◌, ℕ, zero, suc, ◌+◌, ◌-◌, ◌<◌, List, [], ◌∷◌, ◌++◌, length, length-append, slice_set, refl, sym, ap, ap₂, ◌∙◌, subst, arith, reverse}
+use Rattle.std.proofs.Math.Seq.{set-append_seam}
 use Rattle.platoms.specs.Names.{Extends as ExtendsNames}
 use Rattle.plcode.specs.Steps.{goals_from}
 use Rattle.plcode.specs.Callees.{Compiled}
@@ -140,6 +141,11 @@ counts-in-place rest old new m n was is =
       older = λ m o. o;
       depth = omega arith;
     })
+
+pub set-last : (frames rest : List Frame) (f g : Frame) (n : ℕ) → frames ≡ rest ++ f ∷ [] → n ≡ length frames → slice_set frames (n - 1) g ≡ rest ++ g ∷ []
+set-last frames rest f g n e many =
+    let at : n - 1 ≡ length rest = omega (arith, many, ap length e, length-append rest (f ∷ [])) in
+    ap₂ (λ fs i. slice_set fs i g) e at ∙ set-append_seam rest f [] g
 
 pub counts-new : (old new : List Frame) (n : ℕ) → 0 < n → new ≡ old ++ Plain n ∷ [] → CountsUp n (reverse old) (reverse new)
 counts-new old new n some is =

@@ -1,5 +1,5 @@
 -- Cases that are opened and closed.
-use Rattle.std.specs.Prelude.{◌≡◌, List, [], ◌∷◌}
+use Rattle.std.specs.Prelude.{◌≡◌, ◌<◌, ℕ, List, [], ◌∷◌}
 use Rattle.plcells.specs.declared.cell.Cell.{Cell}
 use Rattle.plcells.specs.Store.{IsValue, value}
 use Rattle.plsearch.specs.Types.{Place, Handler, Catch, Case, Choice, Mark, Handle}
@@ -14,7 +14,7 @@ use Rattle.plstack.specs.declared.frame.Around.{Around}
 use Rattle.plstack.specs.declared.frame.Around.TheVariants as arounds
 use Rattle.plstack.specs.declared.frame.Closed.{Closed}
 use Rattle.plstack.specs.declared.frame.Closed.TheVariants as closings
-use Rattle.plstack.specs.Places.{Statics, case_of}
+use Rattle.plstack.specs.Places.{Statics, case_of, plain}
 use Rattle.plstack.specs.State.{State, goals_in, goals_of, place_at, cases_of, IsList, HasClauses, HasCopies, HasBranch, HasHandler}
 
 -- values and lists stand for what they did, whatever cases are open
@@ -72,3 +72,9 @@ abbrev pub ClosedAs : Statics → State → State → Closed → Type 0
 ClosedAs statics old new closings.Choice = (ps : List Place) × (cases_of statics old ≡ Choice ps ∷ cases_of statics new) × ((HasClauses old → ⊥) → (HasCopies old → ⊥) → (HasBranch old → ⊥) → ps ≡ [])
 ClosedAs statics old new (closings.Mark l) = cases_of statics old ≡ Mark l ∷ cases_of statics new
 ClosedAs statics old new closings.Handler = HasHandler old × (h : Handler) × (p : Place) × (cases_of statics old ≡ Handle h p ∷ cases_of statics new)
+
+-- so many choices with nothing left were closed, the innermost cases
+pub record ClosesPlain (old new : State) : Type 0 where
+  pub count : ℕ
+  pub some : 0 < count
+  pub was : (statics : Statics) → cases_of statics old ≡ plain count (cases_of statics new)

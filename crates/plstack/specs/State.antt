@@ -19,7 +19,7 @@ use Rattle.plstack.specs.declared.frame.Catcher.{Catcher}
 use Rattle.plstack.specs.declared.frame.Marks.{Marks}
 use Rattle.plstack.specs.declared.frame.Resume.TheVariants as resumes
 use Rattle.plstack.specs.declared.frame.Frame.{Frame}
-use Rattle.plstack.specs.declared.frame.Frame.TheVariants.{Open}
+use Rattle.plstack.specs.declared.frame.Frame.TheVariants.{Open, Plain}
 use Rattle.plstack.specs.Places.{Statics, plain, cases, depth_of}
 use Rattle.plstack.specs.Frames.{AreOlder, AreFrames}
 
@@ -114,7 +114,8 @@ pub record CountsUp (n : ℕ) (old new : List Frame) : Type 0 where
   pub older : (m : Marks) → AreOlder m old → AreOlder m new
   pub depth : depth_of new ≡ depth_of old + n
 
--- what the innermost case is: a choice of the further clauses of a static or of a dynamic procedure, a choice of a list, or a handler
+-- what the innermost case is: a choice of the further clauses of a static or of a dynamic procedure, a choice of a list, a choice with
+-- nothing left, or a handler
 abbrev pub IsClauses : Frame → Type 0
 IsClauses (Open p (resumes.Clauses c)) = Unit {0}
 IsClauses f = ⊥
@@ -126,6 +127,10 @@ IsCopies f = ⊥
 abbrev pub IsBranch : Frame → Type 0
 IsBranch (Open p resumes.List) = Unit {0}
 IsBranch f = ⊥
+
+abbrev pub IsPlain : Frame → Type 0
+IsPlain (Plain n) = Unit {0}
+IsPlain f = ⊥
 
 abbrev pub IsHandler : Frame → Type 0
 IsHandler (Open p (resumes.Catch c)) = Unit {0}
@@ -143,6 +148,9 @@ HasCopies s = BeginsWith IsCopies (reverse s.frames)
 
 abbrev pub HasBranch : State → Type 0
 HasBranch s = BeginsWith IsBranch (reverse s.frames)
+
+abbrev pub HasPlain : State → Type 0
+HasPlain s = BeginsWith IsPlain (reverse s.frames)
 
 abbrev pub HasHandler : State → Type 0
 HasHandler s = BeginsWith IsHandler (reverse s.frames)

@@ -1,5 +1,5 @@
 //! Calls of static procedures.
-ghost use Rattle.std.specs.Prelude.{◌≡◌, ℕ, ◌+◌, ◌<◌, ◌≤◌, ◌^◌, List, [], ◌∷◌, length, drop, reverse, true, false, None, Some, IfOk, IfSome, IfNone, OnErr, vec_capacity, vec_len};
+ghost use Rattle.std.specs.Prelude.{◌≡◌, ℕ, ◌+◌, ◌<◌, ◌≤◌, ◌^◌, List, [], ◌∷◌, ◌++◌, length, drop, reverse, true, false, None, Some, IfOk, IfSome, IfNone, OnErr, vec_capacity, vec_len};
 ghost use Rattle.plsubst.specs.Subst.{bind};
 ghost use Rattle.plclause.specs.Clause.{Clause};
 ghost use Rattle.plcells.specs.Store.{AreValues};
@@ -153,6 +153,17 @@ fn push_call(frames: &mut Vec<Frame>, at: Calling, next: Option<usize>)
     }
 }
 
+/// Keeps values behind the others, where there is room for them.
+fn keep_values(saved: &mut Vec<Cell>, values: &[Cell])
+    requires room { vec_len saved.old + length values.now ≤ vec_capacity saved.old }
+    ensures { saved.new.items ≡ saved.old.items ++ values.now }
+{
+    match saved.extend_from_slice(values) {
+        Ok(()) => {}
+        Err(_) => unreachable!(),
+    }
+}
+
 impl Stack {
     /// Calls a static procedure before a list: whether a clause fits. The body of the first that does is visited, in a choice of those behind it.
     pub fn call(
@@ -216,7 +227,7 @@ impl Stack {
             return Err(AllocError);
         }
         self.frames.reserve(1)?;
-        self.saved.extend_from_slice(values)?;
+        self.saved.reserve(values.len())?;
         let goal = Goal { procedure, values };
         let mark = point.marks.env;
         let Some(hit) = fit_first(&mut self.env, &mut self.matcher, &self.code, &goal, mark)? else {
@@ -230,8 +241,9 @@ impl Stack {
         push_call(&mut self.frames, Calling { point, call }, hit.next);
         self.goals = body_of(hit, point.list.rest, self.depth);
         self.depth += 1;
-        if let None = hit.next {
-            self.settle(point.marks);
+        match hit.next {
+            Some(_) => keep_values(&mut self.saved, values),
+            None => self.settle(point.marks),
         }
         Ok(true)
     }

@@ -21,11 +21,17 @@ impl Stack {
         self.lower_slots();
     }
 
-    /// Gives back lists that neither the open cases nor the list that is visited hold, if the newest few frames say it.
+    /// Gives back lists that neither the open cases nor the list that is visited hold, if the newest few frames say it. Where the visited list
+    /// begins with the last link, and what is behind it with the link before, there are none.
     #[tactic(auto, using(crate::proofs::Giving::back_refl, crate::proofs::Giving::back_trans))]
     fn give_back_lists(&mut self)
         ensures { GivesBack self.old self.new }
     {
+        let count = self.links.len();
+        let is_last = self.goals.rest as usize == count;
+        if is_last && (count < 2 || self.links[count - 1].next as usize > count - 2) {
+            return;
+        }
         let Some(floor) = links_held_in(&self.frames) else {
             return;
         };

@@ -1,10 +1,11 @@
 //! Cases that are opened and closed.
-ghost use Rattle.std.specs.Prelude.{◌≡◌, ◌+◌, ◌<◌, ◌≤◌, [], ◌∷◌, ◌++◌, reverse, IfNone, IfSome, OnErr, OnOk, vec_capacity, vec_len};
+ghost use Rattle.std.specs.Prelude.{◌≡◌, ◌+◌, ◌<◌, ◌≤◌, [], ◌∷◌, ◌++◌, List, reverse, IfNone, IfSome, OnErr, OnOk, vec_capacity, vec_len};
 ghost use Rattle.plsearch.specs.Types.{Choice};
 ghost use Rattle.plstack.specs.Places.{Statics, kept};
 ghost use Rattle.plstack.specs.Frames.{IsResume};
-ghost use Rattle.plstack.specs.State.{cases_of, CountsUp, IsList, Opens};
-ghost use Rattle.plstack.specs.Opening.{around_cases, branch_of, closing, ClosedAs, IsAround, OpensFrame, OpensIn};
+ghost use Rattle.plstack.specs.declared.frame.Frame.{Frame};
+ghost use Rattle.plstack.specs.State.{cases_of, CountsUp, HasPlain, IsList, Opens};
+ghost use Rattle.plstack.specs.Opening.{around_cases, branch_of, closing, ClosedAs, ClosesPlain, IsAround, OpensFrame, OpensIn};
 
 use crate::frame::{Around, Closed, Frame, Marks, Point, Resume};
 use crate::stack::Stack;
@@ -119,6 +120,18 @@ impl Stack {
             }
         }
     }
+
+    /// Closes the innermost choices, which have nothing left to try.
+    pub fn close_plain(&mut self)
+        requires { HasPlain self.old }
+        ensures closes { ClosesPlain self.old self.new }
+        ensures code { self.new.code ≡ self.old.code }
+    {
+        let Some(Frame::Plain(n)) = self.frames.pop() else {
+            unreachable!()
+        };
+        self.depth -= n;
+    }
 }
 
 /// What is closed with a case that does this.
@@ -152,12 +165,21 @@ pub(crate) fn count_up(frames: &mut Vec<Frame>, n: u64)
     requires room { vec_len frames.old < vec_capacity frames.old }
     ensures { CountsUp n (reverse frames.old.items) (reverse frames.new.items) }
 {
-    match frames.pop() {
-        Some(Frame::Plain(m)) if m <= u64::MAX - n => push_frame(frames, Frame::Plain(m + n)),
-        Some(frame) => {
-            push_frame(frames, frame);
-            push_frame(frames, Frame::Plain(n));
+    match plain_in(frames) {
+        Some(m) if m <= u64::MAX - n => {
+            let last = frames.len() - 1;
+            frames[last] = Frame::Plain(m + n);
         }
-        None => push_frame(frames, Frame::Plain(n)),
+        _ => push_frame(frames, Frame::Plain(n)),
+    }
+}
+
+/// How many choices with nothing left the newest frame is, if it is such a one.
+fn plain_in(frames: &[Frame]) -> Option<u64>
+    ensures { IfSome result (λ m. (rest : List Frame) × (frames.now ≡ rest ++ Frame.Plain m ∷ [])) }
+{
+    match frames.last() {
+        Some(Frame::Plain(m)) => Some(*m),
+        Some(Frame::Barrier(_)) | Some(Frame::Open(_, _)) | None => None,
     }
 }

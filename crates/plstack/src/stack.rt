@@ -5,7 +5,7 @@ ghost use Rattle.plcode.specs.Steps.{goals_from};
 ghost use Rattle.plsearch.specs.Engine.{deeper};
 ghost use Rattle.pllinks.specs.Links.{alone};
 ghost use Rattle.plstack.specs.Places.{Statics};
-ghost use Rattle.plstack.specs.State.{cases_of, HasBranch, HasClauses, HasCopies, HasHandler};
+ghost use Rattle.plstack.specs.State.{cases_of, HasBranch, HasClauses, HasCopies, HasHandler, HasPlain};
 
 use crate::frame::{Frame, Resume};
 use plcells::cell::Cell;
@@ -114,6 +114,13 @@ impl Stack {
         ensures { IsTrue result ↔ HasBranch self.now }
     {
         matches!(self.frames.last(), Some(Frame::Open(_, Resume::List)))
+    }
+
+    /// Whether the innermost cases are choices with nothing left to try.
+    pub fn is_plain(&self) -> bool
+        ensures { IsTrue result ↔ HasPlain self.now }
+    {
+        matches!(self.frames.last(), Some(Frame::Plain(_)))
     }
 
     /// Whether the innermost case is a handler.

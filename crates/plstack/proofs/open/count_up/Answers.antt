@@ -1,8 +1,10 @@
-use Rattle.std.proofs.Common.{◌++◌, ◌∷◌, [], ap, ◌∙◌}
-use Rattle.plstack.proofs.Stacks.{counts-in-place}
+use Rattle.std.proofs.Common.{◌≡◌, ◌+◌, length, arith}
+use Rattle.plstack.specs.declared.frame.Frame.TheVariants.{Plain}
+use Rattle.plstack.proofs.Stacks.{counts-in-place, set-last}
 use Rattle.plstack.proofs.open.count_up.Goals as goal
 
-pub returns-in-Some-Plain : goal.returns-in-Some-Plain
-returns-in-Some-Plain c =
-    let was = c.in-Some-Plain.ensures.items ∙ ap (λ f. c.pop.new.self.items ++ f ∷ []) c.in-Some-Plain.field-0-is in
-    counts-in-place c.pop.new.self.items c.args.frames.now.items c.push_frame.new.frames.items c.in-Some-Plain.m c.args.n was c.push_frame.ensures.is
+pub returns-in-Some : goal.returns-in-Some
+returns-in-Some c =
+    let last = rw c.deref.ensures.value at c.in-Some.ensures in
+    let many : c.len-last.result ≡ length c.args.frames.now.items = omega (arith, c.len-last.ensures, c.args.frames.now.ok.0) in
+    counts-in-place last.0 c.args.frames.now.items _ c.in-Some.m c.args.n last.1 (set-last c.args.frames.now.items last.0 (Plain c.in-Some.m) (Plain (c.in-Some.m + c.args.n)) c.len-last.result last.1 many)

@@ -1,9 +1,14 @@
-use Rattle.std.proofs.Common.{ap, ap₂, ◌∙◌}
+use Rattle.std.proofs.Common.{ap, ap₂, ◌∙◌, subst}
+use Rattle.plclause.specs.Indicators.{indicator}
+use Rattle.plprogram.specs.Program.{clauses_for}
 use Rattle.plsearch.specs.Forms.{form as form_by_term}
 use Rattle.plsearch.specs.Rows.{row}
+use Rattle.plgoals.specs.Forms.{shown_form}
 use Rattle.plstack.specs.State.{goals_of}
 use Rattle.plmachine.specs.Machine.{depth_of, local_of}
-use Rattle.plmachine.proofs.Moves.{grown-depth, grown-with, moved-with, stays-trans, on_err, on_ok_map, on_err_map}
+use Rattle.plmachine.specs.Selected.{IsCall, IsCallOf}
+use Rattle.plmachine.proofs.Moves.{grown-depth, grown-with, moved-as, moved-with, stays-trans, on_err, on_ok_map, on_err_map}
+use Rattle.plmachine.proofs.Selecting.{selected, user-some}
 use Rattle.plmachine.proofs.machine.Machine.solve.Goals as goal
 
 pub returns-in_err-form-clause-err : goal.returns-in_err-form-clause-err
@@ -14,6 +19,45 @@ select-requires-clause-selected c = (c.requires.source.0, c.in_ok-form.ensures.o
 
 pub select-requires-clause-rest : goal.select-requires-clause-rest
 select-requires-clause-rest c = (c.form.ensures.grown.extends.lists c.args.rest c.requires.rest).0
+
+pub resolve-requires-clause-begun : goal.resolve-requires-clause-begun
+resolve-requires-clause-begun c = (c.in_ok-form.ensures.ok c.requires.source.0 c.requires.source.1).begun
+
+pub resolve-requires-clause-visits : goal.resolve-requires-clause-visits
+resolve-requires-clause-visits c = (c.in_ok-form.ensures.ok c.requires.source.0 c.requires.source.1).visits
+
+pub resolve-requires-clause-args : goal.resolve-requires-clause-args
+resolve-requires-clause-args c = (c.in_ok-form.ensures.ok c.requires.source.0 c.requires.source.1).args
+
+pub resolve-requires-clause-few : goal.resolve-requires-clause-few
+resolve-requires-clause-few c = (c.in_ok-form.ensures.ok c.requires.source.0 c.requires.source.1).few
+
+pub resolve-requires-clause-rest : goal.resolve-requires-clause-rest
+resolve-requires-clause-rest c = (c.form.ensures.grown.extends.lists c.args.rest c.requires.rest).0
+
+pub returns-in-Call-Static-clause-ok : goal.returns-in-Call-Static-clause-ok
+unfolding row
+returns-in-Call-Static-clause-ok c u stands =
+    let s = c.args.self.now in
+    let t = c.form.new.self in
+    let P = c.args.program.now in
+    let k = c.args.level in
+    let grown = c.form.ensures.grown in
+    let goals = (grown.extends.lists c.args.rest c.requires.rest).1 in
+    let sel = c.in_ok-form.ensures.ok u stands in
+    let i = subst (λ q. IsCallOf P t (indicator u) q u) {x = c.in-Call-Static.field-0} (rw c.in-Call-Static.is at c.in-Call-Static.field-0-is) (subst (λ f. IsCall P t f u) c.in-Call-Static.is sel.call) in
+    on_ok_map c.resolve.result
+    (λ moved. moved-with P s t c.resolve.new.self _ _ grown c.form.ensures.frame
+    (ap₂ (λ d es. row P (form_by_term u) k u d es t.stack.env.count (local_of t)) (grown-depth P s t grown) goals
+    ∙ ap₂ (λ n w. row P (form_by_term u) k u (depth_of P s) (goals_of s.stack c.args.rest) n w) grown.count (ap (λ x. local_of x) c.form.ensures.frame))
+    (selected P t c.resolve.new.self _ c.args.source u k (depth_of P t) (goals_of t.stack c.args.rest) t.stack.env.count (local_of t) _ sel (ap (shown_form t.stack.env.heap (indicator u) t.args.items) c.in-Call-Static.is)
+    (moved-as P t c.resolve.new.self _ _ (user-some (clauses_for P (indicator u)) (depth_of P t) u (goals_of t.stack c.args.rest) t.stack.env.count (local_of t) i.static.some) moved)))
+    (c.resolve.ensures.ok (indicator u) u i)
+
+pub returns-in-Call-Static-clause-err : goal.returns-in-Call-Static-clause-err
+returns-in-Call-Static-clause-err c =
+    let s = c.args.self.now in
+    on_err_map c.resolve.result (stays-trans c.args.program.now s c.form.new.self c.resolve.new.self (grown-with c.args.program.now s c.form.new.self c.form.ensures.grown c.form.ensures.frame)) c.resolve.ensures.err
 
 pub returns-clause-ok : goal.returns-clause-ok
 returns-clause-ok c u stands =
