@@ -136,7 +136,7 @@ impl Progress {
     {
         match selected {
             Selected::Both(next) => {
-                self.machine.go_on(next);
+                self.machine.stack.visit(next);
                 Ok(())
             }
             Selected::Step(run, step, rest) => self.machine.step(program, run, step, rest),

@@ -1,4 +1,4 @@
-use Rattle.std.proofs.Common.{subst}
+use Rattle.std.proofs.Common.{ap₂, subst}
 use Rattle.plcells.specs.Store.{value}
 use Rattle.plstack.specs.State.{goals_of}
 use Rattle.plmachine.specs.Selected.{bound_at}
@@ -12,7 +12,7 @@ pub returns-in-Both-clause-ok : goal.returns-in-Both-clause-ok
 returns-in-Both-clause-ok c =
     let s = c.args.self.now in
     let both = subst (IsSelected s.machine) c.in-Both.is c.requires.goal in
-    selects-both c.args.program.now s.machine c.go_on.new.self c.in-Both.next both.1 c.go_on.ensures
+    selects-both c.args.program.now s.machine (record s.machine { stack = c.visit.new.self }) c.in-Both.next both.1 (ap₂ (λ st m. record s.machine { stack = st; mode = m }) c.visit.ensures both.0)
 
 pub returns-in-Goal-clause-ok : goal.returns-in-Goal-clause-ok
 returns-in-Goal-clause-ok c =
