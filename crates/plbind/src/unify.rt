@@ -252,6 +252,7 @@ fn solve(heap: &mut Heap, scratch: &mut Scratch) -> Result<bool, AllocError>
 
 /// Binds a most general unifier of two values, the younger of two variables to the older. Where the answer is no or memory
 /// gives out some variables may be bound; an undo to a mark in use takes the bindings off.
+#[inline(always)]
 pub fn unify_in_choice(
     heap: &mut Heap,
     scratch: &mut Scratch,

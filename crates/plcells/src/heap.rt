@@ -140,6 +140,7 @@ fn push_block(cells: &mut Vec<Cell>, f: u32, values: &[Cell]) -> Result<(), Allo
 }
 
 /// Puts the cells of a block's arguments behind the others, and the numbers of its new variables behind the numbers.
+#[inline(always)]
 fn push_arguments(
     cells: &mut Vec<Cell>,
     numbers: &mut Vec<u64>,
@@ -164,6 +165,7 @@ fn push_arguments(
 }
 
 /// Puts a block behind the cells, and the numbers of its new variables behind the numbers.
+#[inline(always)]
 fn push_parts(
     cells: &mut Vec<Cell>,
     numbers: &mut Vec<u64>,
@@ -201,6 +203,7 @@ fn head_of(f: u32, ground: bool) -> Cell
 }
 
 /// From now on cells refer to what these arguments refer to.
+#[inline(always)]
 fn embed_arguments(cells: &mut Vec<Cell>, arguments: &[Argument])
     requires { AllPlaced (length cells.old.items) (cells_of 0 arguments.now) }
     ensures same { map plain cells.new.items ≡ map plain cells.old.items }

@@ -43,6 +43,7 @@ impl Heap {
     }
 
     /// Whether the variable of the cell `x` stands in the compound whose block begins at a cell.
+    #[inline(always)]
     fn occurs_below(&self, stack: &mut Vec<u32>, x: u32, p: u32) -> Result<bool, AllocError>
         requires variable { IsEnd self.now (RefCell x) }
         requires within { p < length self.now.cells }

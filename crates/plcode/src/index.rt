@@ -11,7 +11,7 @@ use std::alloc::{AllocError, Global};
 use std::marker::Model;
 
 /// So many clauses are scanned rather than found by a key.
-const SCANNED: usize = 7;
+const SCANNED: usize = 24;
 
 /// The place of the first clause, from a place on, that a goal of a key may be for: the keys are looked at one by one.
 #[inline(always)]
@@ -113,7 +113,7 @@ fn next_place(places: &IndexMap<Key, Vec<usize>>, key: Key, from: usize) -> Opti
     earlier(own, open)
 }
 
-/// The clauses of a procedure, in text order. Where there are more than seven, those that a goal may be for are found by their keys.
+/// The clauses of a procedure, in text order. Where there are more than 24, those that a goal may be for are found by their keys.
 #[derive(Drop)]
 pub struct Procedure {
     clauses: Vec<ClauseCode>,

@@ -173,6 +173,7 @@ impl Environment {
     }
 
     /// Puts a compound, of a clause whose slots begin at a place: its value.
+    #[inline(always)]
     fn put_compound(
         &mut self,
         nodes: &[Node],
@@ -204,6 +205,7 @@ impl Environment {
     }
 
     /// Puts the term of a node, of a clause whose slots begin at a place: its value.
+    #[inline(always)]
     pub fn put_node(&mut self, nodes: &[Node], at: u32, base: u32) -> Result<Cell, AllocError>
         requires laid { IsLaid self.old.heap.names nodes.now }
         requires packed { ArePacked nodes.now }
