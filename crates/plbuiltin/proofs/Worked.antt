@@ -5,7 +5,7 @@ use Rattle.std.specs.Str.{chars}
 use Rattle.plterm.specs.Tree.{Tree, var, int, atom, compound, none, more}
 use Rattle.plprogram.specs.declared.settings.Settings.{Settings}
 use Rattle.plbuiltin.specs.Errors.{instantiation_error, type_error, domain_error}
-use Rattle.plbuiltin.specs.Solution.{Raises, unifies, decides}
+use Rattle.plbuiltin.specs.Solution.{Raises, fails, unifies, decides}
 use Rattle.std.specs.declared.cmp.Ordering.TheVariants as orderings
 use Rattle.plterm.specs.Order.{order}
 use Rattle.plterm.specs.Ground.{is_ground}
@@ -20,6 +20,7 @@ use Rattle.plarith.specs.Functors.{unary_of, unary_rows, binary_of, binary_rows}
 use Rattle.plarith.specs.Evaluation.{eval}
 use Rattle.plarith.specs.Errors.{evaluation_error, indicator_term}
 use Rattle.plbuiltin.specs.Tests.{is_list, holds}
+use Rattle.plbuiltin.specs.Parts.{arg}
 use Rattle.plbuiltin.specs.Arithmetic.{compares, on_arithmetic}
 use Rattle.plbuiltin.specs.Atoms.{atom_length, count_of}
 
@@ -219,3 +220,39 @@ module _ (s : Settings) where
   without_variable : on_order Ground (f_of_foo ∷ []) s ≡ decides true s
   unfolding foo f_of_foo is_ground
   without_variable = refl
+
+-- ---- parts of terms
+
+pair_of_atoms : Tree
+unfolding foo
+pair_of_atoms = compound (codes "g") (more (atom (codes "a")) (more foo none))
+
+module _ (s : Settings) where
+  first_argument : arg (int (pos 1)) pair_of_atoms (var 0) s ≡ unifies (var 0) (atom (codes "a")) s
+  unfolding pair_of_atoms
+  first_argument = refl
+
+  last_argument : arg (int (pos 2)) pair_of_atoms (var 0) s ≡ unifies (var 0) foo s
+  unfolding pair_of_atoms
+  last_argument = refl
+
+  no_argument : (arg (int (pos 0)) pair_of_atoms (var 0) s ≡ fails s) × (arg (int (pos 3)) pair_of_atoms (var 0) s ≡ fails s)
+  unfolding pair_of_atoms
+  no_argument = (refl, refl)
+
+  -- variables first, then the number, then the term, then the number's domain
+  argument_unbound : (arg (var 0) foo foo s ≡ Raises instantiation_error) × (arg foo (var 0) foo s ≡ Raises instantiation_error)
+  unfolding foo
+  argument_unbound = (refl, refl)
+
+  argument_of_no_integer : arg foo foo foo s ≡ Raises (type_error (codes "integer") foo)
+  unfolding foo
+  argument_of_no_integer = refl
+
+  argument_of_no_compound : arg (int (negsuc 0)) foo foo s ≡ Raises (type_error (codes "compound") foo)
+  unfolding foo
+  argument_of_no_compound = refl
+
+  argument_below_zero : arg (int (negsuc 0)) f_of_foo foo s ≡ Raises (domain_error (codes "not_less_than_zero") (int (negsuc 0)))
+  unfolding f_of_foo
+  argument_below_zero = refl

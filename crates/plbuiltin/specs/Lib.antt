@@ -2,6 +2,7 @@ pub mod Solution
 pub mod Errors
 pub mod Terms
 pub mod Tests
+pub mod Parts
 pub mod Arithmetic
 pub mod Order
 pub mod Atoms

@@ -2,11 +2,12 @@
 use Rattle.std.specs.Prelude.{ℕ, List}
 use Rattle.plterm.specs.Tree.{Tree}
 use Rattle.plnames.specs.declared.kind.BuiltIn.{BuiltIn}
-use Rattle.plnames.specs.declared.kind.BuiltIn.TheVariants.{Terms, Tests, Order, Atoms, Output, Arithmetic}
+use Rattle.plnames.specs.declared.kind.BuiltIn.TheVariants.{Terms, Tests, Parts, Order, Atoms, Output, Arithmetic}
 use Rattle.plprogram.specs.declared.settings.Settings.{Settings}
 use Rattle.plbuiltin.specs.Solution.{Solved}
 use Rattle.plbuiltin.specs.Terms.{on_terms}
 use Rattle.plbuiltin.specs.Tests.{on_tests}
+use Rattle.plbuiltin.specs.Parts.{on_parts}
 use Rattle.plbuiltin.specs.Arithmetic.{on_arithmetic}
 use Rattle.plbuiltin.specs.Order.{on_order}
 use Rattle.plbuiltin.specs.Atoms.{on_atoms}
@@ -16,6 +17,7 @@ use Rattle.plbuiltin.specs.Output.{on_output}
 abbrev pub solutions : BuiltIn → List Tree → Settings → ℕ → Solved
 solutions (Terms b) us settings n = on_terms b us settings
 solutions (Tests b) us settings n = on_tests b us settings
+solutions (Parts b) us settings n = on_parts b us settings
 solutions (Arithmetic b) us settings n = on_arithmetic b us settings
 solutions (Order b) us settings n = on_order b us settings
 solutions (Atoms b) us settings n = on_atoms b us settings

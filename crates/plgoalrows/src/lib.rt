@@ -10,4 +10,6 @@ mod library;
 #[cfg(test)]
 mod order;
 #[cfg(test)]
+mod parts;
+#[cfg(test)]
 mod type_tests;

@@ -35,7 +35,7 @@ pub enum Control {
 /// A built-in predicate on terms (8.2).
 #[derive(Clone, Copy, Debug, PartialEq, Eq)]
 pub enum Terms {
-    /// =/2.
+    /// =/2, and unify_with_occurs_check/2, since each unification makes the occurs check.
     Unify,
 }
 
@@ -58,6 +58,13 @@ pub enum Tests {
     Callable,
     /// is_list/1.
     ProperList,
+}
+
+/// A built-in predicate on the parts of a term (8.5).
+#[derive(Clone, Copy, Debug, PartialEq, Eq)]
+pub enum Parts {
+    /// arg/3.
+    Argument,
 }
 
 /// How two integers compare (8.7).
@@ -137,6 +144,7 @@ pub enum Output {
 pub enum BuiltIn {
     Terms(Terms),
     Tests(Tests),
+    Parts(Parts),
     Arithmetic(Arithmetic),
     Order(Order),
     Atoms(Atoms),

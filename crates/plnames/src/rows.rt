@@ -1,7 +1,8 @@
 //! The table of names.
 
 use crate::kind::{
-    Arithmetic, Atoms, BuiltIn, Comparison, Control, Kind, Order, Output, Relation, Terms, Tests,
+    Arithmetic, Atoms, BuiltIn, Comparison, Control, Kind, Order, Output, Parts, Relation, Terms,
+    Tests,
 };
 
 /// What each name with an arity is. No program can change or define these procedures (ISO/IEC 13211-1 7.5.2).
@@ -29,6 +30,11 @@ pub static ROWS: &[(&str, u16, Kind)] = &[
     ("halt", 0, Kind::Control(Control::Halt)),
     ("halt", 1, Kind::Control(Control::Halt)),
     ("=", 2, Kind::BuiltIn(BuiltIn::Terms(Terms::Unify))),
+    (
+        "unify_with_occurs_check",
+        2,
+        Kind::BuiltIn(BuiltIn::Terms(Terms::Unify)),
+    ),
     ("var", 1, Kind::BuiltIn(BuiltIn::Tests(Tests::Variable))),
     ("nonvar", 1, Kind::BuiltIn(BuiltIn::Tests(Tests::Bound))),
     ("atom", 1, Kind::BuiltIn(BuiltIn::Tests(Tests::Atom))),
@@ -50,6 +56,7 @@ pub static ROWS: &[(&str, u16, Kind)] = &[
         1,
         Kind::BuiltIn(BuiltIn::Tests(Tests::ProperList)),
     ),
+    ("arg", 3, Kind::BuiltIn(BuiltIn::Parts(Parts::Argument))),
     ("is", 2, Kind::BuiltIn(BuiltIn::Arithmetic(Arithmetic::Is))),
     (
         "=:=",

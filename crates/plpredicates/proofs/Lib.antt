@@ -1,3 +1,4 @@
 pub mod Roots
 pub mod Counts
 pub mod Tails
+pub mod Arguments

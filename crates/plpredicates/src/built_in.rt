@@ -9,6 +9,7 @@ use crate::arithmetic::arithmetic_answer;
 use crate::atoms::atoms_answer;
 use crate::order::order_answer;
 use crate::output::output_answer;
+use crate::parts::parts_answer;
 use crate::terms::terms_answer;
 use crate::tests::tests_answer;
 use plcells::cell::Cell;
@@ -33,6 +34,7 @@ pub fn answers(
     match b {
         BuiltIn::Terms(b) => Ok(terms_answer(b, args)),
         BuiltIn::Tests(b) => Ok(tests_answer(heap, b, args)),
+        BuiltIn::Parts(b) => parts_answer(alloc, heap, b, args),
         BuiltIn::Arithmetic(b) => arithmetic_answer(alloc, heap, b, args),
         BuiltIn::Order(b) => order_answer(alloc, heap, b, args),
         BuiltIn::Atoms(b) => atoms_answer(alloc, heap, b, args),

@@ -10,6 +10,7 @@ pub mod built_in;
 mod error;
 mod order;
 mod output;
+mod parts;
 mod shape;
 mod terms;
 mod tests;
