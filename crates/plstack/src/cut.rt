@@ -89,6 +89,7 @@ impl Stack {
     }
 
     /// No more is old any more than what the newest case holds that comes back to anything, where cases from these marks on were given up.
+    #[inline(always)]
     pub(crate) fn settle(&mut self, since: Marks)
         requires within { IsWithin since.env self.old.env }
         requires older { AreOlder since (reverse self.old.frames) }

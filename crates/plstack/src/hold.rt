@@ -62,6 +62,7 @@ pub(crate) enum Newest<'a> {
 }
 
 /// The newest case that comes back to anything, if the newest few frames say it.
+#[inline(always)]
 pub(crate) fn newest_in(frames: &[Frame]) -> Newest<'_>
     ensures { IsNewest (reverse frames.now) result }
 {

@@ -99,6 +99,7 @@ impl Stack {
     }
 
     /// Closes the innermost case, if one is open.
+    #[inline(always)]
     pub fn close(&mut self) -> Option<Closed>
         ensures some { IfSome result (λ c. (statics : Statics) → ClosedAs statics self.old self.new c) }
         ensures none { IfNone result ((statics : Statics) → cases_of statics self.old ≡ []) }
@@ -160,6 +161,7 @@ pub(crate) fn push_frame(frames: &mut Vec<Frame>, frame: Frame)
 }
 
 /// So many more choices with nothing left, in place if the newest case is such a one.
+#[inline(always)]
 pub(crate) fn count_up(frames: &mut Vec<Frame>, n: u64)
     requires some { 0 < n }
     requires room { vec_len frames.old < vec_capacity frames.old }
