@@ -17,8 +17,8 @@ ghost use Rattle.plcommand.specs.Outcome.{text_limit, Gave, HasRun, Comes, Says,
 
 use itoa::Buffer;
 use plhist::{History, Status, refusal_text, report_text, status_of};
-use pllibrary::library::with_library;
 use plio::{Gate, ReadError, Sink, Source, read_all, write_all};
+use pllibrary::library::with_library;
 use plload::error::{LoadError, RefusalKind};
 use plload::goal::read_goal;
 use plload::load::{listing, load};

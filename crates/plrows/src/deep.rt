@@ -49,10 +49,6 @@ const DEEP: [&str; 16] = [
     ":- dynamic p/0. g((true, T), T). :- d17(g, C, write(end)), assertz((p :- C)), p.",
 ];
 
-/// Two terms over `d17`, compared.
-const DEEP_ORDER: &str =
-    "g(f(T), T). :- d17(g, A, a), d17(g, B, b), A @< B, A \\== B, ground(A), write(end).";
-
 // Nothing is so deep that it does not end, or takes the stack.
 #[test]
 fn deep_goals(rt: HostRuntime) -> Result<(), Fail> {
@@ -67,18 +63,6 @@ fn deep_goals(rt: HostRuntime) -> Result<(), Fail> {
         );
         assert!(rt; ended == Status::Done, "{text}");
     }
-    Ok(())
-}
-
-// Nor is what is compared.
-#[test]
-fn deep_orders(rt: HostRuntime) -> Result<(), Fail> {
-    let alloc = rt.alloc();
-    let mut whole = Vec::from_slice(alloc, DOUBLES.as_bytes())?;
-    whole.extend_from_slice(DEEP_ORDER.as_bytes())?;
-    let (bytes, ended) = told(&rt, alloc, RUN, &whole)?;
-    assert!(rt; bytes.as_slice() == b"% thread 1 main: true\nend\n".as_slice());
-    assert!(rt; ended == Status::Done);
     Ok(())
 }
 

@@ -18,8 +18,8 @@ loop-i-preserved c =
     let f = lacked c.args.self.now in
     let next : suc i ≡ i + 1 = omega arith in
     c.in_ok-push_lacked.ensures
-      ∙ ap (λ xs. xs ++ f e) c.loop-i.invariant
-      ∙ ap (λ xs. flat_map f (take i es) ++ xs) (sym (append-nil (f e)))
-      ∙ sym more
-      ∙ ap (λ xs. flat_map f xs) (sym last)
-      ∙ ap (λ n. flat_map f (take n es)) next
+    ∙ ap (λ xs. xs ++ f e) c.loop-i.invariant
+    ∙ ap (λ xs. flat_map f (take i es) ++ xs) (sym (append-nil (f e)))
+    ∙ sym more
+    ∙ ap (λ xs. flat_map f xs) (sym last)
+    ∙ ap (λ n. flat_map f (take n es)) next
