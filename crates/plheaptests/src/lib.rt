@@ -1,0 +1,15 @@
+//! Tests of terms on the machine's heap: unification, undoing, goals, the order of terms, and the slots of clauses.
+#![tactic(auto)]
+
+#[cfg(test)]
+mod differences;
+#[cfg(test)]
+mod goals;
+#[cfg(test)]
+mod made;
+#[cfg(test)]
+mod plain;
+#[cfg(test)]
+mod slots;
+#[cfg(test)]
+mod unification;

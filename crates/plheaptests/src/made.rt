@@ -1,0 +1,69 @@
+//! Goals that are put into an environment, and the texts of values.
+ghost use Rattle.std.specs.Prelude.{IfOk, OnOk};
+ghost use Rattle.plcells.specs.Store.{AreValues, IsValue};
+
+use platoms::names::Names;
+use plcells::cell::Cell;
+use plcells::heap::Heap;
+use plenv::env::Environment;
+use plgoals::callable::arguments_of;
+use plload::goal::read_goal;
+use plops::table::OpTable;
+use plterm::term::Term;
+use plwrite::style::Style;
+use plwrite::write::write_term;
+use std::alloc::{AllocError, Global};
+use std::string::String;
+use std::test::Fail;
+
+/// An environment with nothing in it.
+pub(crate) fn empty(alloc: Global) -> Environment {
+    Environment::new(alloc, Names::new(alloc))
+}
+
+/// Puts a term, its variables new: its value.
+pub(crate) fn put(env: &mut Environment, alloc: Global, term: &Term) -> Result<Cell, AllocError>
+    ensures { IfOk result (λ v. IsValue env.new.heap v) }
+{
+    let copy = term.copy(alloc, 0)?;
+    let variables = term.variables(alloc)?;
+    let Ok(count) = u32::try_from(variables.len()) else {
+        return Err(AllocError);
+    };
+    env.put_term(alloc, &copy, count)
+}
+
+/// Puts the goal of a text: its value.
+pub(crate) fn put_text(env: &mut Environment, alloc: Global, text: &str) -> Result<Cell, Fail>
+    ensures { IfOk result (λ v. IsValue env.new.heap v) }
+{
+    let Some(goal) = read_goal(alloc, text)? else {
+        return Err("no goal".into());
+    };
+    let v = put(env, alloc, &goal)?;
+    Ok(v)
+}
+
+/// Puts the goal of a text: the values of its arguments.
+pub(crate) fn put_arguments(
+    env: &mut Environment,
+    alloc: Global,
+    text: &str,
+) -> Result<Vec<Cell>, Fail>
+    ensures { IfOk result (λ vs. AreValues env.new.heap vs.items) }
+{
+    let goal = put_text(env, alloc, text)?;
+    let mut args = Vec::new(alloc);
+    let _number = arguments_of(env.heap(), goal, &mut args)?;
+    Ok(args)
+}
+
+/// The text of a value's term, quoted.
+pub(crate) fn shown(alloc: Global, heap: &Heap, v: Cell) -> Result<String, AllocError>
+    requires { IsValue heap.now v }
+{
+    let term = heap.take(alloc, v)?;
+    let operators = OpTable::iso(alloc)?;
+    let text = write_term(alloc, &term, &operators, Style::Quoted)?;
+    String::from_utf8_lossy(alloc, &text)
+}

@@ -1,0 +1,98 @@
+//! What two terms come to that are unified.
+use crate::made::{empty, put_arguments, shown};
+use std::alloc::Global;
+use std::string::String;
+use std::test::Fail;
+
+/// Two terms, as the sides of a goal, and what the left one is once they are unified.
+const UNIFIED: [(&str, &str); 24] = [
+    ("X = a", "a"),
+    ("a = X", "a"),
+    ("X = Y", "_1"),
+    ("X = X", "_1"),
+    ("a = b", "no"),
+    ("a = 1", "no"),
+    ("1 = 1", "1"),
+    ("4294967296 = 0", "no"),
+    (
+        "9223372036854775807 = 9223372036854775807",
+        "9223372036854775807",
+    ),
+    (
+        "f(X, -9223372036854775808) = f(1, Y)",
+        "f(1,-9223372036854775808)",
+    ),
+    ("f(X, b) = f(a, Y)", "f(a,b)"),
+    ("f(X, X) = f(a, b)", "no"),
+    ("f(X, X) = f(Y, b)", "f(b,b)"),
+    ("f(X, Y, Z) = f(Y, Z, a)", "f(a,a,a)"),
+    ("f(X, Y) = g(X, Y)", "no"),
+    ("f(X) = f(X, Y)", "no"),
+    ("f(f(X), Y) = f(Y, f(a))", "f(f(a),f(a))"),
+    ("[H|T] = [1, 2, 3]", "[1,2,3]"),
+    ("'.'(a, X) = [a, b]", "[a,b]"),
+    // With the occurs check, also where the variable stands deep, or is met again by another way.
+    ("X = f(X)", "no"),
+    ("X = f(a, g(h(X)))", "no"),
+    ("g(X, f(X)) = g(Y, Y)", "no"),
+    ("f(X, Y) = f(g(Y), g(X))", "no"),
+    ("f(X, Y, X) = f(g(Y), Z, g(a))", "f(g(a),a,g(a))"),
+];
+
+/// What the left side of a goal is once the sides are unified; `no`, where they have no unifier.
+pub(crate) fn unified(alloc: Global, goal: &str) -> Result<String, Fail> {
+    let mut env = empty(alloc);
+    let args = put_arguments(&mut env, alloc, goal)?;
+    let [left, right] = args.as_slice() else {
+        return Err("no two sides".into());
+    };
+    if !env.unify(*left, *right)? {
+        return Ok("no".to_string(alloc)?);
+    }
+    Ok(shown(alloc, env.heap(), *left)?)
+}
+
+/// Two terms, and what both are behind a unification in a choice that is gone back to, whether they have a unifier or not.
+const UNDONE: [(&str, &str); 6] = [
+    ("X = a", "_1 and a"),
+    ("f(X, Y, b) = f(Y, c, d)", "f(_1,_2,b) and f(_1,c,d)"),
+    ("f(X, g(Y)) = f(1, Z)", "f(_1,g(_2)) and f(1,_1)"),
+    ("f(X, X) = f(Y, f(Y))", "f(_1,_1) and f(_1,f(_1))"),
+    ("[X, Y|T] = [a, b, c]", "[_1,_2|_3] and [a,b,c]"),
+    ("a = b", "a and b"),
+];
+
+/// Both sides of a goal, once they were unified in a choice that is gone back to.
+fn undone(alloc: Global, goal: &str) -> Result<String, Fail> {
+    let mut env = empty(alloc);
+    let args = put_arguments(&mut env, alloc, goal)?;
+    let [left, right] = args.as_slice() else {
+        return Err("no two sides".into());
+    };
+    let mark = env.mark();
+    let _fits = env.unify_in_choice(*left, *right)?;
+    env.undo(mark);
+    let first = shown(alloc, env.heap(), *left)?;
+    let second = shown(alloc, env.heap(), *right)?;
+    Ok(format!(in alloc; "{first} and {second}")?)
+}
+
+#[test]
+fn rows_of_unification(rt: HostRuntime) -> Result<(), Fail> {
+    let alloc = rt.alloc();
+    for (goal, wanted) in UNIFIED {
+        let found = unified(alloc, goal)?;
+        assert_eq!(rt; found.as_str(), wanted);
+    }
+    Ok(())
+}
+
+#[test]
+fn rows_of_undoing(rt: HostRuntime) -> Result<(), Fail> {
+    let alloc = rt.alloc();
+    for (goal, wanted) in UNDONE {
+        let found = undone(alloc, goal)?;
+        assert_eq!(rt; found.as_str(), wanted);
+    }
+    Ok(())
+}
