@@ -1,0 +1,91 @@
+//! Compiled procedures: the clauses that a goal's key leaves.
+use plcode::callee::Callee;
+use plcode::key::Key;
+use plcode::program::ProgramCode;
+use plload::load::load;
+use plprogram::program::Program;
+use std::alloc::Global;
+use std::fmt::Write;
+use std::string::String;
+use std::test::Fail;
+
+/// Clauses whose first arguments are 0, 1, 2 and a variable, again and again.
+const FEW: &str = "n(0, a). n(1, b). n(2, c). n(_, d). n(0, e). n(1, f). n(x, g). n(f(_), h).";
+
+/// Keys, and the places of the clauses of `FEW` that are for them; the same of four times as many.
+const PLACES: [(Key, &str, &str); 5] = [
+    (
+        Key::Any,
+        "0 1 2 3 4 5 6 7 ",
+        "0 1 2 3 4 5 6 7 8 9 10 11 12 13 14 15 16 17 18 19 20 21 22 23 24 25 26 27 28 29 30 31 ",
+    ),
+    (Key::Int(0), "0 3 4 ", "0 3 4 8 11 12 16 19 20 24 27 28 "),
+    (Key::Int(1), "1 3 5 ", "1 3 5 9 11 13 17 19 21 25 27 29 "),
+    (Key::Int(2), "2 3 ", "2 3 10 11 18 19 26 27 "),
+    (Key::Int(7), "3 ", "3 11 19 27 "),
+];
+
+/// The program of a text.
+fn program(alloc: Global, text: &str) -> Result<Program, Fail> {
+    match load(alloc, text.as_bytes()) {
+        Ok(program) => Ok(program),
+        Err(_) => Err("refused".into()),
+    }
+}
+
+/// The places of the clauses of a text's first procedure that a key leaves, one after the other.
+fn places(alloc: Global, text: &str, key: Key) -> Result<String, Fail> {
+    let program = program(alloc, text)?;
+    let code = ProgramCode::new(alloc, &program)?;
+    let Some(procedure) = code.procedure(0) else {
+        return Err("no procedure".into());
+    };
+    let mut found = String::new(alloc);
+    for from in 0..procedure.clauses().len() {
+        if procedure.next(key, from) == Some(from) {
+            write!(found, "{from} ")?;
+        }
+    }
+    Ok(found)
+}
+
+/// A text four times.
+fn four_times(alloc: Global, text: &str) -> Result<String, Fail> {
+    let mut made = String::new(alloc);
+    for _ in 0..4 {
+        made.push_str(text)?;
+        made.push(' ')?;
+    }
+    Ok(made)
+}
+
+/// Whether the first procedure of a text is called by the number of some functor.
+fn is_called(alloc: Global, text: &str) -> Result<bool, Fail> {
+    let program = program(alloc, text)?;
+    let code = ProgramCode::new(alloc, &program)?;
+    for functor in 0..1000 {
+        if code.callee_of_functor(functor) == Callee::Static(0) {
+            return Ok(true);
+        }
+    }
+    Ok(false)
+}
+
+#[test]
+fn rows_of_keys(rt: HostRuntime) -> Result<(), Fail> {
+    let alloc = rt.alloc();
+    let many = four_times(alloc, FEW)?;
+    for (key, few_places, many_places) in PLACES {
+        let found = places(alloc, FEW, key)?;
+        assert_eq!(rt; found.as_str(), few_places);
+        let found = places(alloc, &many, key)?;
+        assert_eq!(rt; found.as_str(), many_places);
+    }
+    Ok(())
+}
+
+#[test]
+fn callees(rt: HostRuntime) -> Result<(), Fail> {
+    assert!(rt; is_called(rt.alloc(), FEW)?);
+    Ok(())
+}
