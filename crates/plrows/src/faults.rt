@@ -3,7 +3,7 @@ use plcommand::command::{Report, TEXT_LIMIT};
 use plhist::Status;
 use plio::{MemorySink, MemorySource};
 use plrow::row::{RUN, called, repeated, told, words_of};
-use std::alloc::Global;
+use std::alloc::{AllocError, Global};
 use std::sync::Wait;
 use std::test::Fail;
 use std::thread::Threads;
@@ -15,7 +15,7 @@ fn with_faults<R: Threads + Wait + Sync>(
     text: &str,
     reads: &[u64],
     writes: &[u64],
-) -> Result<(Vec<u8>, Report), Fail> {
+) -> Result<(Vec<u8>, Report), AllocError> {
     let words = words_of(alloc, RUN)?;
     let bytes = Vec::from_slice(alloc, text.as_bytes())?;
     let source = MemorySource::new(bytes, 4, Vec::from_slice(alloc, reads)?);
