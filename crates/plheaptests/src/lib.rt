@@ -1,4 +1,4 @@
-//! Tests of terms on the machine's heap: unification, undoing, goals, the order of terms, and the slots of clauses.
+//! Tests of terms on the machine's heap: unification, goals, the order of terms, and the slots of clauses.
 #![tactic(auto)]
 
 #[cfg(test)]
