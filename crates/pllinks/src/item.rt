@@ -2,6 +2,7 @@
 ghost use Rattle.std.specs.Prelude.{◌≡◌, ◌↔◌, IsTrue};
 ghost use Rattle.pllinks.specs.Links.{done, IsDone};
 
+use crate::level::Level;
 use plcells::cell::Cell;
 
 /// What a marker is for.
@@ -26,7 +27,7 @@ pub struct Run {
     /// Where they end.
     pub end: u32,
     /// Its cut level.
-    pub level: u64,
+    pub level: Level,
 }
 
 impl Run {
@@ -39,13 +40,13 @@ impl Run {
             owed: 0,
             base: 0,
             end: 0,
-            level: 0,
+            level: Level::BOTTOM,
         }
     }
 
     /// Whether these are the goals behind the last one.
-    pub fn is_done(self) -> bool
-        ensures { IsTrue result ↔ IsDone self }
+    pub fn is_done(&self) -> bool
+        ensures { IsTrue result ↔ IsDone self.now }
     {
         self.position == 0 && self.owed == 0
     }
@@ -57,7 +58,7 @@ pub enum Item {
     /// Goals of a clause.
     Run(Run),
     /// A goal that is a term: its cut level, and its value.
-    Goal(u64, Cell),
+    Goal(Level, Cell),
     /// A marker, and its level.
-    Marker(MarkerKind, u64),
+    Marker(MarkerKind, Level),
 }

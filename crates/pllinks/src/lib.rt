@@ -5,7 +5,9 @@
 #![tactic(auto)]
 
 pub mod item;
+pub mod level;
 pub mod link;
+pub mod list;
 
 ghost use Rattle.pllinks.specs.Changing.{ListsAgree, ListsSubstitute};
 

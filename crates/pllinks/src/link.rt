@@ -1,17 +1,19 @@
 //! Links: goal lists that share their rest.
-ghost use Rattle.std.specs.Prelude.{◌≡◌, ◌+◌, ◌≤◌, [], ◌∷◌, ◌++◌, length, IfOk, OnOk, OnErr};
-ghost use Rattle.pllinks.specs.Links.{IsDone, Numbers, alone, level_in, slots_in, top_at, slots_at, link_to, list_at};
+ghost use Rattle.std.specs.Prelude.{◌≡◌, ◌+◌, ◌-◌, ◌<◌, ◌≤◌, [], ◌∷◌, ◌++◌, length, IfOk, IfSome, IfNone, OnOk, OnErr};
+ghost use Rattle.pllinks.specs.Links.{IsDone, Numbers, alone, level_in, link_at, slots_in, top_at, slots_at, link_to, list_at};
 
 use crate::item::{Item, Run};
+use crate::level::Level;
+use crate::list::ListId;
 use std::alloc::AllocError;
 
-/// An item, and the number of the list behind it. 0 is the empty list.
+/// An item, and the list behind it.
 #[derive(Clone, Copy)]
 pub struct Link {
     pub item: Item,
-    pub next: u32,
+    pub next: ListId,
     /// The highest level that the list names.
-    pub top: u64,
+    pub top: Level,
     /// How many slots the list asks for.
     pub slots: u32,
 }
@@ -20,12 +22,12 @@ pub struct Link {
 #[derive(Clone, Copy)]
 pub struct Continuation {
     pub run: Run,
-    pub rest: u32,
+    pub rest: ListId,
 }
 
 impl Continuation {
     /// A list by its number.
-    pub fn alone(rest: u32) -> Continuation
+    pub fn alone(rest: ListId) -> Continuation
         ensures { result ≡ alone rest }
     {
         Continuation {
@@ -36,19 +38,19 @@ impl Continuation {
 }
 
 /// The level that an item names.
-fn level_of(item: Item) -> u64
-    ensures { result ≡ level_in item }
+fn level_of(item: &Item) -> Level
+    ensures { result ≡ level_in item.now }
 {
     match item {
         Item::Run(run) => run.level,
-        Item::Goal(level, _) => level,
-        Item::Marker(_, level) => level,
+        Item::Goal(level, _) => *level,
+        Item::Marker(_, level) => *level,
     }
 }
 
 /// How many slots an item asks for.
-fn slots_for(item: Item) -> u32
-    ensures { result ≡ slots_in item }
+fn slots_for(item: &Item) -> u32
+    ensures { result ≡ slots_in item.now }
 {
     match item {
         Item::Run(run) => run.end,
@@ -57,53 +59,63 @@ fn slots_for(item: Item) -> u32
     }
 }
 
+/// The first link of a list; none for the empty list.
+#[inline(always)]
+pub fn first_link(links: &[Link], list: ListId) -> Option<&Link>
+    requires { list ≤ length links.now }
+    ensures some { IfSome result (λ l. (0 < list) × (l.now ≡ link_at links.now (list - 1))) }
+    ensures none { IfNone result (list ≡ 0) }
+{
+    let place = list.place()?;
+    Some(&links[place])
+}
+
 /// The highest level that a list names.
-pub fn top_of(links: &[Link], list: u32) -> u64
+pub fn top_of(links: &[Link], list: ListId) -> Level
     requires { list ≤ length links.now }
     ensures { result ≡ top_at links.now list }
 {
-    if list == 0 {
-        return 0;
+    match first_link(links, list) {
+        Some(link) => link.top,
+        None => Level::BOTTOM,
     }
-    links[list as usize - 1].top
 }
 
 /// How many slots a list asks for.
-pub fn slots_of(links: &[Link], list: u32) -> u32
+pub fn slots_of(links: &[Link], list: ListId) -> u32
     requires { list ≤ length links.now }
     ensures { result ≡ slots_at links.now list }
 {
-    if list == 0 {
-        return 0;
+    match first_link(links, list) {
+        Some(link) => link.slots,
+        None => 0,
     }
-    links[list as usize - 1].slots
 }
 
 /// A new list: an item before a list that is there. It gives the list's number.
-pub fn push_link(links: &mut Vec<Link>, item: Item, rest: u32) -> Result<u32, AllocError>
+pub fn push_link(links: &mut Vec<Link>, item: Item, rest: ListId) -> Result<ListId, AllocError>
     requires { rest ≤ length links.old.items }
     ensures ok { OnOk result (links.new.items ≡ links.old.items ++ link_to links.old.items item rest ∷ []) }
     ensures number { IfOk result (λ i. i ≡ length links.old.items + 1) }
     ensures err { OnErr result (links.new.items ≡ links.old.items) }
 {
-    let number = links.len();
-    if number >= u32::MAX as usize {
+    let Some(list) = ListId::begun_at(links.len()) else {
         return Err(AllocError);
-    }
-    let top = level_of(item).max(top_of(links, rest));
-    let slots = slots_for(item).max(slots_of(links, rest));
+    };
+    let top = level_of(&item).max(top_of(links, rest));
+    let slots = slots_for(&item).max(slots_of(links, rest));
     links.push(Link {
         item,
         next: rest,
         top,
         slots,
     })?;
-    Ok(number as u32 + 1)
+    Ok(list)
 }
 
 /// The number of a list: where no goals of a clause are left it is the rest's, and else that of a new one.
 #[tactic(auto, using(crate::proofs::Numbering::numbers_rest, crate::proofs::Numbering::numbers_new))]
-pub fn number_of(links: &mut Vec<Link>, list: Continuation) -> Result<u32, AllocError>
+pub fn number_of(links: &mut Vec<Link>, list: Continuation) -> Result<ListId, AllocError>
     requires { list.rest ≤ length links.old.items }
     ensures ok { IfOk result (λ n. Numbers links.old.items links.new.items list n) }
     ensures rest { IsDone list.run → IfOk result (λ n. n ≡ list.rest) }

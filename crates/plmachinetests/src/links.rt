@@ -1,7 +1,9 @@
 //! Goal lists (pllinks).
 use plcells::cell::Cell;
 use pllinks::item::{Item, MarkerKind, Run};
+use pllinks::level::Level;
 use pllinks::link::{Continuation, number_of, push_link, slots_of, top_of};
+use pllinks::list::ListId;
 use std::test::Fail;
 
 /// Goals of a clause at a level, whose slots end at a place.
@@ -11,8 +13,37 @@ fn run(level: u64, end: u32) -> Item {
         owed: 1,
         base: 0,
         end,
-        level,
+        level: Level::new(level),
     })
+}
+
+/// A goal that is a term, at a level.
+fn goal(level: u64) -> Item {
+    Item::Goal(Level::new(level), Cell::Int(7))
+}
+
+/// A marker of a level.
+fn marker(level: u64) -> Item {
+    Item::Marker(MarkerKind::Commit, Level::new(level))
+}
+
+/// The list that was made after so many others; the first is the empty one.
+fn made(after: usize) -> ListId {
+    if after == 0 {
+        return ListId::EMPTY;
+    }
+    ListId::begun_at(after - 1).unwrap_or(ListId::EMPTY)
+}
+
+/// One conjunction of a goal, selected.
+fn selected() -> Run {
+    Run {
+        position: 0,
+        owed: 1,
+        base: 0,
+        end: 0,
+        level: Level::BOTTOM,
+    }
 }
 
 // Lists that share their rest: an item, the number of the list behind it, and the highest level and the slots of the new list.
@@ -20,21 +51,24 @@ fn run(level: u64, end: u32) -> Item {
 fn lists(rt: HostRuntime) -> Result<(), Fail> {
     let alloc = rt.alloc();
     let mut links = Vec::new(alloc);
-    assert_eq!(rt; (top_of(&links, 0), slots_of(&links, 0)), (0, 0));
+    let none = ListId::EMPTY;
+    assert!(rt; none.is_empty());
+    assert_eq!(rt; (top_of(&links, none), slots_of(&links, none)), (Level::BOTTOM, 0));
     for (item, rest, number, top, slots) in [
-        (Item::Goal(3, Cell::Int(7)), 0, 1, 3, 0),
+        (goal(3), 0, 1, 3, 0),
         (run(2, 5), 1, 2, 3, 5),
         (run(4, 2), 2, 3, 4, 5),
-        (Item::Marker(MarkerKind::Commit, 8), 1, 4, 8, 0),
+        (marker(8), 1, 4, 8, 0),
         (run(1, 1), 0, 5, 1, 1),
     ] {
-        if rest as usize <= links.len() {
+        let rest = made(rest);
+        if rest.extent() <= links.len() {
             let list = push_link(&mut links, item, rest)?;
-            assert_eq!(rt; list, number);
-            if list as usize <= links.len() {
+            assert_eq!(rt; list, made(number));
+            if list.extent() <= links.len() {
                 assert_eq!(rt;
                     (top_of(&links, list), slots_of(&links, list)),
-                    (top, slots)
+                    (Level::new(top), slots)
                 );
             }
         }
@@ -47,16 +81,13 @@ fn lists(rt: HostRuntime) -> Result<(), Fail> {
 fn numbers(rt: HostRuntime) -> Result<(), Fail> {
     let mut links = Vec::new(rt.alloc());
     assert!(rt; Run::done().is_done());
-    assert_eq!(rt; number_of(&mut links, Continuation::alone(0))?, 0);
+    assert_eq!(rt; number_of(&mut links, Continuation::alone(ListId::EMPTY))?, ListId::EMPTY);
     assert_eq!(rt; links.len(), 0);
-    let run = Run {
-        position: 0,
-        owed: 1,
-        base: 0,
-        end: 0,
-        level: 0,
+    assert!(rt; !selected().is_done());
+    let list = Continuation {
+        run: selected(),
+        rest: ListId::EMPTY,
     };
-    assert!(rt; !run.is_done());
-    assert_eq!(rt; number_of(&mut links, Continuation { run, rest: 0 })?, 1);
+    assert_eq!(rt; number_of(&mut links, list)?, made(1));
     Ok(())
 }
