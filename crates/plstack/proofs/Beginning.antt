@@ -1,5 +1,5 @@
 -- What stands first in a list: of its run, or of the links behind it.
-use Rattle.std.proofs.Common.{◌≡◌, ℕ, ◌+◌, ◌-◌, ◌<◌, ◌≤◌, List, [], ◌∷◌, ◌++◌, length, map, codes, refl, sym, ap, ◌∙◌, subst, arith, get_or, take, true, false, add-one, inl, inr, if◌then◌else◌}
+use Rattle.std.proofs.Common.{◌≡◌, ℕ, ◌+◌, ◌-◌, ◌<◌, ◌≤◌, List, [], ◌∷◌, ◌++◌, length, map, codes, refl, sym, ap, ◌∙◌, subst, arith, take, true, false, add-one, inl, inr, if◌then◌else◌}
 use Rattle.std.proofs.lemmas.Bool.{cases_lt}
 use Rattle.plterm.specs.Tree.{Tree}
 use Rattle.plsubst.specs.Subst.{bind}
@@ -22,7 +22,7 @@ use Rattle.pllinks.specs.declared.item.Item.TheVariants as items
 use Rattle.pllinks.specs.declared.link.Link.{Link}
 use Rattle.pllinks.specs.declared.link.Continuation.{Continuation}
 use Rattle.pllinks.specs.Lists.{goal_of, run_goals, elements, all_elements, IsRun, IsItem, AreItems}
-use Rattle.pllinks.specs.Links.{alone, done, list_at}
+use Rattle.pllinks.specs.Links.{alone, done, list_at, link_at}
 use Rattle.pllinks.proofs.Arena.{list_at-none}
 use Rattle.plstack.specs.State.{State, goals_in, goals_of, IsList, IsState}
 use Rattle.plstack.specs.First.{AtBoth, AtStep, AtGoal, AtMarker, IsShort, IsStep}
@@ -171,7 +171,7 @@ module _ (s : State) (is : IsState s) (l : Continuation) (there : IsList s l) wh
   nothing-left e none = goals-are s l [] e ∙ ap (all_elements (goals_in s) s.env) (ap (list_at s.links) none ∙ list_at-none s.links)
 
   -- the link behind it
-  module _ (k : Link) (some : l.rest ≡ 0 → ⊥) (at : k ≡ get_or s.links (l.rest - 1) k) where
+  module _ (k : Link) (some : l.rest ≡ 0 → ⊥) (at : k ≡ link_at s.links (l.rest - 1)) where
     pub next-less : k.next < l.rest
     next-less = omega (arith, some, next-there (goals_in s) s.env s.links is.chain l.rest k some there.there at)
 

@@ -1,6 +1,5 @@
 -- The levels of a list's markers, link by link.
-use Rattle.std.proofs.Common.{◌≡◌, ℕ, suc, ◌-◌, ◌<◌, ◌≤◌, List, [], ◌∷◌, ◌++◌, length, map, refl, sym, ap, ◌∙◌, subst, arith, append-nil, append_assoc, get_or}
-use Rattle.std.proofs.lemmas.List.{get_or_default}
+use Rattle.std.proofs.Common.{◌≡◌, ℕ, suc, ◌-◌, ◌<◌, ◌≤◌, List, [], ◌∷◌, ◌++◌, length, map, refl, sym, ap, ◌∙◌, subst, arith, append-nil, append_assoc}
 use Rattle.plterm.specs.Tree.{Tree}
 use Rattle.plsearch.specs.Types.{Element}
 use Rattle.plsearch.specs.Lists.{levels}
@@ -40,12 +39,9 @@ module _ (code : Goals) (e : Env) where
   levels-start links l found none = ap (λ xs. xs ++ levels_at (list_at links l.rest)) none ∙ sym (levels-list links l)
 
   -- one link further
-  module _ (links : List Link) (chain : IsChain links) (i : ℕ) (l : Link) (some : i ≡ 0 → ⊥) (there : i ≤ length links) (at : l ≡ get_or links (i - 1) l) where
+  module _ (links : List Link) (chain : IsChain links) (i : ℕ) (l : Link) (some : i ≡ 0 → ⊥) (there : i ≤ length links) (link-is : l ≡ link_at links (i - 1)) where
     lt : i - 1 < length links
     lt = omega (arith, some, there)
-
-    link-is : l ≡ link_at links (i - 1)
-    link-is = at ∙ get_or_default links (i - 1) l (link_at [] 0) lt
 
     pub next-there : l.next ≤ i - 1
     next-there = subst (λ (x : Link). x.next ≤ i - 1) (sym link-is) (chain (i - 1) lt).next

@@ -9,6 +9,7 @@ use crate::frame::{Frame, Handling, Marks, Resume};
 use crate::open::{count_up, push_frame};
 use crate::stack::Stack;
 use pllinks::link::Continuation;
+use pllinks::list::ListId;
 
 impl Stack {
     /// Comes back to the innermost choice, which has one list to be tried: visits it.
@@ -29,9 +30,10 @@ impl Stack {
         ensures within { IsWithin result.env self.new.env }
         ensures older { AreOlder result (reverse self.new.frames) }
     {
-        let Some(Frame::Open(point, Resume::List)) = self.frames.pop() else {
+        let Some(Frame::Open(point, resume)) = self.frames.pop() else {
             unreachable!()
         };
+        let Resume::List = resume else { unreachable!() };
         self.env.undo(point.marks.env);
         self.links.truncate(point.marks.links);
         self.saved.truncate(point.marks.saved);
@@ -53,12 +55,10 @@ impl Stack {
         self.env.undo(point.marks.env);
         self.links.truncate(point.marks.links);
         self.saved.truncate(point.marks.saved);
-        self.goals = Continuation::alone(0);
+        self.goals = Continuation::alone(ListId::EMPTY);
+        let list = point.list;
         push_frame(&mut self.frames, Frame::Open(point, Resume::Catch(catcher)));
-        Handling {
-            catcher,
-            list: point.list,
-        }
+        Handling { catcher, list }
     }
 
     /// Visits a list in a choice with nothing left, in place of the innermost case, which is a handler.
@@ -82,7 +82,10 @@ impl Stack {
         ensures within { IsWithin result.env self.new.env }
         ensures older { AreOlder result (reverse self.new.frames) }
     {
-        let Some(Frame::Open(point, Resume::Catch(_))) = self.frames.pop() else {
+        let Some(Frame::Open(point, resume)) = self.frames.pop() else {
+            unreachable!()
+        };
+        let Resume::Catch(_) = resume else {
             unreachable!()
         };
         count_up(&mut self.frames, 1);

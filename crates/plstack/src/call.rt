@@ -23,7 +23,7 @@ ghost use Rattle.plstack.specs.Trials.{IsMarked};
 use crate::fit::{Attempt, Hit, first_fit};
 use crate::frame::{Clauses, Frame, Point, Resume};
 use crate::key::first_key;
-use crate::open::{count_up, push_frame};
+use crate::open::{count_up, deeper, push_frame};
 use crate::stack::Stack;
 use plcells::cell::Cell;
 use plcode::program::ProgramCode;
@@ -31,7 +31,9 @@ use plenv::env::Environment;
 use plenv::slot::Mark;
 use plhead::head::Matcher;
 use pllinks::item::Run;
+use pllinks::level::Level;
 use pllinks::link::Continuation;
+use pllinks::list::ListId;
 use std::alloc::AllocError;
 
 /// A goal that calls a static procedure, by its place, with the values of its arguments.
@@ -122,7 +124,7 @@ fn fit_first(
 }
 
 /// The body of a clause that fits, at a level, before a list by its number; of a fact that list alone.
-fn body_of(hit: Hit, behind: u32, level: u64) -> Continuation
+fn body_of(hit: Hit, behind: ListId, level: Level) -> Continuation
     requires { hit.base + hit.clause.variables < 2 ^ 32 }
     ensures { result ≡ body_at hit behind level }
 {
@@ -140,9 +142,9 @@ fn body_of(hit: Hit, behind: u32, level: u64) -> Continuation
 }
 
 /// Opens the case of the clauses of a call from a number on, or where none is left a choice with nothing left.
-fn push_call(frames: &mut Vec<Frame>, at: Calling, next: Option<usize>)
+fn push_call(frames: &mut Vec<Frame>, at: &Calling, next: Option<usize>)
     requires room { vec_len frames.old < vec_capacity frames.old }
-    ensures { PushesCall at.point at.call next frames.old.items frames.new.items }
+    ensures { PushesCall at.now.point at.now.call next frames.old.items frames.new.items }
 {
     match next {
         Some(next) => {
@@ -181,12 +183,12 @@ impl Stack {
         ensures code { self.new.code ≡ self.old.code }
         ensures err { OnErr result (StaysAt self.old self.new) }
     {
-        let behind = self.number_of(rest)?;
+        let behind = self.number_of(&rest)?;
         let point = Point {
             marks: self.marks(),
             list: Continuation::alone(behind),
         };
-        self.open_call(procedure, values, point)
+        self.open_call(procedure, values, &point)
     }
 
     /// Tries the further clauses of the innermost case, a call of a static procedure: whether one fits. The body of the first that does is visited
@@ -210,22 +212,20 @@ impl Stack {
         &mut self,
         procedure: u32,
         values: &[Cell],
-        point: Point,
+        point: &Point,
     ) -> Result<bool, AllocError>
-        requires marks { IsMarked self.old point.marks }
+        requires marks { IsMarked self.old point.now.marks }
         requires statics { (statics : Statics) × AreStatics self.old.code statics }
         requires values { AreValues self.old.env.heap values.now }
         requires few { length values.now < 2 ^ 16 }
-        requires alone { point.list ≡ alone point.list.rest }
-        requires list { IsList self.old point.list }
-        ensures yes { IfOk result (λ yes. yes ≡ true → (statics : Statics) → AreStatics self.old.code statics → Calls statics self.old self.new (called self.old.env.heap (statics procedure).name values.now) point.list (statics procedure).clauses) }
-        ensures no { IfOk result (λ yes. yes ≡ false → (statics : Statics) → AreStatics self.old.code statics → CallsNone statics self.old self.new (called self.old.env.heap (statics procedure).name values.now) point.list (statics procedure).clauses) }
+        requires alone { point.now.list ≡ alone point.now.list.rest }
+        requires list { IsList self.old point.now.list }
+        ensures yes { IfOk result (λ yes. yes ≡ true → (statics : Statics) → AreStatics self.old.code statics → Calls statics self.old self.new (called self.old.env.heap (statics procedure).name values.now) point.now.list (statics procedure).clauses) }
+        ensures no { IfOk result (λ yes. yes ≡ false → (statics : Statics) → AreStatics self.old.code statics → CallsNone statics self.old self.new (called self.old.env.heap (statics procedure).name values.now) point.now.list (statics procedure).clauses) }
         ensures code { self.new.code ≡ self.old.code }
         ensures err { OnErr result (StaysAt self.old self.new) }
     {
-        if self.depth == u64::MAX {
-            return Err(AllocError);
-        }
+        let depth = deeper(self.depth, 1)?;
         self.frames.reserve(1)?;
         self.saved.reserve(values.len())?;
         let goal = Goal { procedure, values };
@@ -238,9 +238,13 @@ impl Stack {
             count: values.len() as u16,
             next: 0,
         };
-        push_call(&mut self.frames, Calling { point, call }, hit.next);
+        let at = Calling {
+            point: *point,
+            call,
+        };
+        push_call(&mut self.frames, &at, hit.next);
         self.goals = body_of(hit, point.list.rest, self.depth);
-        self.depth += 1;
+        self.depth = depth;
         match hit.next {
             Some(_) => keep_values(&mut self.saved, values),
             None => self.settle(point.marks),
@@ -261,9 +265,13 @@ impl Stack {
         self.env.undo(point.marks.env);
         self.links.truncate(point.marks.links);
         self.saved.truncate(point.marks.saved + call.count as usize);
-        self.goals = Continuation::alone(0);
-        push_frame(&mut self.frames, Frame::Open(point, Resume::Clauses(call)));
-        Calling { point, call }
+        self.goals = Continuation::alone(ListId::EMPTY);
+        let at = Calling { point, call };
+        push_frame(
+            &mut self.frames,
+            Frame::Open(at.point, Resume::Clauses(at.call)),
+        );
+        at
     }
 
     /// Tries the further clauses of the innermost call, where all is as it was at its opening.
@@ -276,8 +284,8 @@ impl Stack {
         ensures err { OnErr result (StaysAt self.old self.new) }
         ensures has { OnErr result (HasClauses self.new) }
     {
-        let behind = self.number_of(at.point.list)?;
-        match self.find(at)? {
+        let behind = self.number_of(&at.point.list)?;
+        match self.find(&at)? {
             Some(hit) => {
                 self.enter(at, hit, behind);
                 Ok(true)
@@ -290,17 +298,17 @@ impl Stack {
     }
 
     /// The first clause that is left of the innermost call and fits: it has slots of its own, and the unifier is put into all.
-    fn find(&mut self, at: Calling) -> Result<Option<Hit>, AllocError>
-        requires at { AtCall self.old at.point at.call }
+    fn find(&mut self, at: &Calling) -> Result<Option<Hit>, AllocError>
+        requires at { AtCall self.old at.now.point at.now.call }
         requires statics { (statics : Statics) × AreStatics self.old.code statics }
-        ensures some { IfOk result (λ o. IfSome o (λ hit. (statics : Statics) → AreStatics self.old.code statics → Hits statics self.old self.new at.point at.call hit)) }
+        ensures some { IfOk result (λ o. IfSome o (λ hit. (statics : Statics) → AreStatics self.old.code statics → Hits statics self.old self.new at.now.point at.now.call hit)) }
         ensures binds { IfOk result (λ o. IfSome o (λ hit. Binds self.old self.new)) }
-        ensures none { IfOk result (λ o. IfNone o ((statics : Statics) → AreStatics self.old.code statics → (d : ℕ) → further statics self.new d at.point at.call (drop at.call.next (statics at.call.procedure).clauses) ≡ [])) }
+        ensures none { IfOk result (λ o. IfNone o ((statics : Statics) → AreStatics self.old.code statics → (d : ℕ) → further statics self.new d at.now.point at.now.call (drop at.now.call.next (statics at.now.call.procedure).clauses) ≡ [])) }
         ensures cases { (statics : Statics) → cases_of statics self.new ≡ cases_of statics self.old }
         ensures place { OnErr result (place_of self.new ≡ place_of self.old) }
         ensures same { self.new ≡ record self.old { env = self.new.env } }
     {
-        let Calling { point, call } = at;
+        let Calling { point, call } = *at;
         let Some(procedure) = self.code.procedure(call.procedure) else {
             return Ok(None);
         };
@@ -331,21 +339,21 @@ impl Stack {
     }
 
     /// Enters a clause that fits: visits its body before a list, and puts what is left behind it in the place of the innermost case, a call.
-    fn enter(&mut self, at: Calling, hit: Hit, behind: u32)
+    fn enter(&mut self, at: Calling, hit: Hit, behind: ListId)
         requires calling { IsCalling self.old at.point at.call }
         requires hit { (x : Clause) × IsCodeOf self.old.code.text hit.clause x × (hit.base + hit.clause.variables ≤ length self.old.env.slots) }
         requires behind { IsList self.old (alone behind) }
         ensures enters { (statics : Statics) → Enters statics self.old self.new at.point at.call hit behind }
         ensures code { self.new.code ≡ self.old.code }
     {
-        let level = self.depth - 1;
+        let level = self.depth.down(1);
         let list = self.body_list(hit, behind, level);
         self.visit(list);
         self.go_on(at, hit.next);
     }
 
     /// The body of a clause whose slots are there, at a level, before a list by its number.
-    fn body_list(&self, hit: Hit, behind: u32, level: u64) -> Continuation
+    fn body_list(&self, hit: Hit, behind: ListId, level: Level) -> Continuation
         requires hit { (x : Clause) × IsCodeOf self.now.code.text hit.clause x × (hit.base + hit.clause.variables ≤ length self.now.env.slots) }
         requires behind { IsList self.now (alone behind) }
         ensures there { IsList self.now result }
@@ -365,8 +373,9 @@ impl Stack {
         match next {
             Some(next) => self.replace_call(at, next),
             None => {
+                let marks = at.point.marks;
                 self.empty_call(at);
-                self.settle(at.point.marks);
+                self.settle(marks);
             }
         }
     }
@@ -413,6 +422,6 @@ impl Stack {
         let Some(_) = self.frames.pop() else {
             unreachable!()
         };
-        self.depth -= 1;
+        self.depth = self.depth.down(1);
     }
 }

@@ -18,14 +18,16 @@ ghost use Rattle.plstack.specs.Trials.{ComesBack, FindsCopy, IsMarked, IsOpened,
 
 use crate::frame::{Copies, Frame, Marks, Point, Resume};
 use crate::list::link_before;
-use crate::open::{count_up, push_frame};
+use crate::open::{count_up, deeper, push_frame};
 use crate::stack::Stack;
 use plcells::cell::Cell;
 use plclause::clause::Clause;
 use plenv::env::Environment;
 use plenv::slot::Mark;
 use pllinks::item::Item;
+use pllinks::level::Level;
 use pllinks::link::{Continuation, Link};
+use pllinks::list::ListId;
 use plterm::term::Term;
 use plterm::walk::Shape;
 use std::alloc::{AllocError, Global};
@@ -37,7 +39,7 @@ pub struct Trial<'a> {
     pub goal: Cell,
     pub clauses: &'a [Clause],
     pub mark: Mark,
-    pub level: u64,
+    pub level: Level,
     pub rest: Continuation,
 }
 
@@ -307,9 +309,7 @@ impl Stack {
         ensures values { OnErr result (KeepsValues self.old self.new) }
         ensures code { self.new.code ≡ self.old.code }
     {
-        if self.depth == u64::MAX {
-            return Err(AllocError);
-        }
+        let depth = deeper(self.depth, 1)?;
         self.frames.reserve(1)?;
         let call = Trial {
             goal: copies.goal,
@@ -324,12 +324,10 @@ impl Stack {
         };
         copies.next = step.place + 1;
         self.goals = step.list;
+        let marks = point.marks;
         let is_last = push_copies(&mut self.frames, point, copies);
-        self.depth += 1;
-        Ok(Some(Opened {
-            marks: point.marks,
-            is_last,
-        }))
+        self.depth = depth;
+        Ok(Some(Opened { marks, is_last }))
     }
 
     /// Goes back to where the innermost case was opened, a call of a dynamic procedure, and visits its next place: whether it has one. Where it
@@ -359,32 +357,33 @@ impl Stack {
         ensures err { OnErr result ((statics : Statics) → cases_of statics self.new ≡ cases_of statics self.old) }
         ensures code { self.new.code ≡ self.old.code }
     {
-        let Some(Frame::Open(point, Resume::Copies(mut copies))) = self.frames.pop() else {
+        let Some(Frame::Open(point, resume)) = self.frames.pop() else {
+            unreachable!()
+        };
+        let Resume::Copies(mut copies) = resume else {
             unreachable!()
         };
         self.env.undo(point.marks.env);
         self.links.truncate(point.marks.links);
         self.saved.truncate(point.marks.saved);
-        self.goals = Continuation::alone(0);
+        self.goals = Continuation::alone(ListId::EMPTY);
         let call = Trial {
             goal: copies.goal,
             clauses: &copies.clauses,
             mark: point.marks.env,
-            level: self.depth - 1,
+            level: self.depth.down(1),
             rest: point.list,
         };
         match resolve_first(&mut self.env, &mut self.links, alloc, &call, copies.next) {
             Ok(Some(step)) => {
                 copies.next = step.place + 1;
                 self.goals = step.list;
+                let marks = point.marks;
                 let is_last = push_copies(&mut self.frames, point, copies);
-                Ok(Some(Opened {
-                    marks: point.marks,
-                    is_last,
-                }))
+                Ok(Some(Opened { marks, is_last }))
             }
             Ok(None) => {
-                self.depth -= 1;
+                self.depth = self.depth.down(1);
                 Ok(None)
             }
             Err(e) => {

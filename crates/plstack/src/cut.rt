@@ -10,32 +10,39 @@ ghost use Rattle.plstack.specs.Cutting.{ChoiceAt, Cuts, EmptiesFrom, GivesUp, Is
 
 use crate::frame::{Frame, Marks, Resume};
 use crate::hold::held_in;
-use crate::open::count_up;
+use crate::open::{count_up, deeper};
 use crate::stack::Stack;
+use pllinks::level::Level;
 use pllinks::link::{Continuation, top_of};
 use std::alloc::AllocError;
 
+/// The frame of a choice: its number, and the level below it.
+#[derive(Clone, Copy)]
+pub struct ChoiceFrame {
+    pub at: usize,
+    pub below: Level,
+}
+
 impl Stack {
     /// Gives up the choices down to a level, and visits a list.
-    pub fn cut(&mut self, level: u64, list: Continuation) -> Result<(), AllocError>
+    pub fn cut(&mut self, level: Level, list: Continuation) -> Result<(), AllocError>
         requires { IsList self.old list }
         ensures ok { OnOk result (Cuts self.old self.new level list) }
         ensures err { OnErr result (self.new ≡ self.old) }
     {
-        match self.given_up(level, list) {
-            Some((at, below)) => self.give_up(at, below)?,
+        match self.given_up(level, &list) {
+            Some(frame) => self.give_up(frame)?,
             None => self.open_barrier(level)?,
         }
         self.visit(list);
         Ok(())
     }
 
-    /// The frame of the choice at a level, if it may be emptied where a list is visited behind a cut to this level:
-    /// its number, and how many cases are open below it.
-    fn given_up(&self, level: u64, list: Continuation) -> Option<(usize, u64)>
-        requires { IsList self.now list }
-        ensures most { IsSome result → AreAtMost level (goals_of self.now list) }
-        ensures at { IfSome result (λ r. ChoiceAt self.now.frames level r.0 r.1) }
+    /// The frame of the choice at a level, if it may be emptied where a list is visited behind a cut to this level.
+    fn given_up(&self, level: Level, list: &Continuation) -> Option<ChoiceFrame>
+        requires { IsList self.now list.now }
+        ensures most { IsSome result → AreAtMost level (goals_of self.now list.now) }
+        ensures at { IfSome result (λ r. ChoiceAt self.now.frames level r.at r.below) }
     {
         if list.run.level > level || top_of(&self.links, list.rest) > level {
             return None;
@@ -44,29 +51,27 @@ impl Stack {
     }
 
     /// Opens a case behind which Fail is a cut to a level.
-    fn open_barrier(&mut self, level: u64) -> Result<(), AllocError>
+    fn open_barrier(&mut self, level: Level) -> Result<(), AllocError>
         ensures ok { OnOk result ((statics : Statics) → cases_of statics self.new ≡ Mark level ∷ cases_of statics self.old) }
         ensures same { self.new ≡ record self.old { frames = self.new.frames } }
         ensures err { OnErr result (self.new ≡ self.old) }
     {
-        if self.depth == u64::MAX {
-            return Err(AllocError);
-        }
+        let depth = deeper(self.depth, 1)?;
         self.frames.push(Frame::Barrier(level))?;
-        self.depth += 1;
+        self.depth = depth;
         Ok(())
     }
 
-    /// Gives up the cases from the frame of a number on, with so many cases below it: they are empty, and one more.
+    /// Gives up the cases from a frame on: they are empty, and one more.
     #[tactic(auto, using(crate::proofs::Settling::gives_up, crate::proofs::Settling::gives_settled))]
-    fn give_up(&mut self, at: usize, below: u64) -> Result<(), AllocError>
-        requires at { at < length self.old.frames }
-        requires below { depth_of (reverse (take at self.old.frames)) ≡ below }
-        ensures ok { OnOk result (GivesUp self.old self.new at below) }
+    fn give_up(&mut self, frame: ChoiceFrame) -> Result<(), AllocError>
+        requires at { frame.at < length self.old.frames }
+        requires below { depth_of (reverse (take frame.at self.old.frames)) ≡ frame.below }
+        ensures ok { OnOk result (GivesUp self.old self.new frame.at frame.below) }
         ensures err { OnErr result (self.new ≡ self.old) }
     {
-        let since = self.oldest_from(at);
-        self.empty_from(at, below)?;
+        let since = self.oldest_from(frame.at);
+        self.empty_from(frame)?;
         if let Some(since) = since {
             self.settle(since);
         }
@@ -104,19 +109,17 @@ impl Stack {
         let _ = self.env.heap();
     }
 
-    /// Empties the cases from the frame of a number on, with so many cases below it, and one case more.
-    fn empty_from(&mut self, at: usize, below: u64) -> Result<(), AllocError>
-        requires at { at < length self.old.frames }
-        requires below { depth_of (reverse (take at self.old.frames)) ≡ below }
-        ensures ok { OnOk result (EmptiesFrom self.old self.new at below) }
+    /// Empties the cases from a frame on, and one case more.
+    fn empty_from(&mut self, frame: ChoiceFrame) -> Result<(), AllocError>
+        requires at { frame.at < length self.old.frames }
+        requires below { depth_of (reverse (take frame.at self.old.frames)) ≡ frame.below }
+        ensures ok { OnOk result (EmptiesFrom self.old self.new frame.at frame.below) }
         ensures err { OnErr result (self.new ≡ self.old) }
     {
-        if self.depth == u64::MAX {
-            return Err(AllocError);
-        }
-        self.frames.truncate(at);
-        count_up(&mut self.frames, self.depth - below + 1);
-        self.depth += 1;
+        let depth = deeper(self.depth, 1)?;
+        self.frames.truncate(frame.at);
+        count_up(&mut self.frames, depth.cases_above(frame.below));
+        self.depth = depth;
         Ok(())
     }
 }
@@ -152,11 +155,11 @@ fn is_choice(frame: &Frame) -> bool
     }
 }
 
-/// The frame of the case at a level, where it is a choice: its number, and how many cases are open below it.
+/// The frame of the case at a level, where it is a choice.
 /// This takes as many turns as there are frames above it.
-fn choice_at(frames: &[Frame], depth: u64, level: u64) -> Option<(usize, u64)>
+fn choice_at(frames: &[Frame], depth: Level, level: Level) -> Option<ChoiceFrame>
     requires { depth ≡ depth_of (reverse frames.now) }
-    ensures { IfSome result (λ r. ChoiceAt frames.now level r.0 r.1) }
+    ensures { IfSome result (λ r. ChoiceAt frames.now level r.at r.below) }
 {
     if depth <= level {
         return None;
@@ -165,10 +168,10 @@ fn choice_at(frames: &[Frame], depth: u64, level: u64) -> Option<(usize, u64)>
     let mut below = depth;
     while below > level {
         at -= 1;
-        below -= size_of(&frames[at]);
+        below = below.down(size_of(&frames[at]));
     }
     if is_choice(&frames[at]) {
-        Some((at, below))
+        Some(ChoiceFrame { at, below })
     } else {
         None
     }

@@ -8,7 +8,8 @@ use crate::stack::Stack;
 use plcells::cell::Cell;
 use plcode::op::{Op, Step};
 use pllinks::item::{Item, MarkerKind, Run};
-use pllinks::link::Continuation;
+use pllinks::level::Level;
+use pllinks::link::{Continuation, first_link};
 
 /// What stands first in a goal list.
 #[derive(Clone, Copy)]
@@ -20,9 +21,9 @@ pub enum First {
     /// Any other goal of a clause's body: the run that begins with it, its step, and the list behind it.
     Step(Run, Step, Continuation),
     /// A goal that is a term: its cut level, its value, and the list behind it.
-    Goal(u64, Cell, Continuation),
+    Goal(Level, Cell, Continuation),
     /// A marker, its level, and the list behind it.
-    Marker(MarkerKind, u64, Continuation),
+    Marker(MarkerKind, Level, Continuation),
 }
 
 impl Stack {
@@ -35,10 +36,9 @@ impl Stack {
             if let Some(step) = self.step_of(list.run) {
                 return self.first_of_run(list, step);
             }
-            if list.rest == 0 {
+            let Some(link) = first_link(&self.links, list.rest) else {
                 return First::Nothing;
-            }
-            let link = self.links[list.rest as usize - 1];
+            };
             let behind = Continuation::alone(link.next);
             match link.item {
                 Item::Run(run) => {

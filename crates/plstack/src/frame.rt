@@ -3,6 +3,7 @@
 use plcells::cell::Cell;
 use plclause::clause::Clause;
 use plenv::slot::Mark;
+use pllinks::level::Level;
 use pllinks::link::Continuation;
 
 /// How much there was: of the environment, of links, and of values that are kept for calls.
@@ -64,7 +65,7 @@ pub enum Frame {
     /// So many choices with nothing left to try.
     Plain(u64),
     /// Behind it Fail is a cut to a level.
-    Barrier(u64),
+    Barrier(Level),
     /// A choice point or a handler.
     Open(Point, Resume),
 }
@@ -93,7 +94,7 @@ pub enum Closed {
     /// A choice.
     Choice,
     /// A mark of a level.
-    Mark(u64),
+    Mark(Level),
     /// A handler.
     Handler,
 }

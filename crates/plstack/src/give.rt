@@ -1,12 +1,12 @@
 //! Goal lists and slots that nothing holds.
-ghost use Rattle.std.specs.Prelude.{◌≡◌, ◌≤◌, ◌-◌, [], ◌∷◌, ◌++◌, length, reverse, take};
-ghost use Rattle.pllinks.specs.Links.{link_at};
+ghost use Rattle.std.specs.Prelude.{◌≡◌, reverse};
 ghost use Rattle.plstack.specs.Holding.{held};
 ghost use Rattle.plstack.specs.Giving.{GivesBack, IsLow, IsShort};
 
 use crate::hold::links_held_in;
+use crate::list::drop_below;
 use crate::stack::Stack;
-use pllinks::link::{Link, slots_of};
+use pllinks::link::slots_of;
 
 impl Stack {
     /// Gives back lists and slots that neither the open cases nor the list that is visited hold.
@@ -28,8 +28,8 @@ impl Stack {
         ensures { GivesBack self.old self.new }
     {
         let count = self.links.len();
-        let is_last = self.goals.rest as usize == count;
-        if is_last && (count < 2 || self.links[count - 1].next as usize > count - 2) {
+        let is_last = self.goals.rest.extent() == count;
+        if is_last && (count < 2 || self.links[count - 1].next.extent() > count - 2) {
             return;
         }
         let Some(floor) = links_held_in(&self.frames) else {
@@ -44,7 +44,7 @@ impl Stack {
         requires { floor ≡ (held (reverse self.old.frames)).marks.links }
         ensures { GivesBack self.old self.new }
     {
-        let keep = (self.goals.rest as usize).max(floor);
+        let keep = self.goals.rest.extent().max(floor);
         if keep < self.links.len() {
             self.links.truncate(keep);
         }
@@ -56,15 +56,15 @@ impl Stack {
         ensures { GivesBack self.old self.new }
     {
         let count = self.links.len();
-        if count < 2 || self.goals.rest as usize != count {
+        if count < 2 || self.goals.rest.extent() != count {
             return;
         }
         let below = count - 2;
-        if floor > below || self.links[count - 1].next as usize > below {
+        if floor > below || self.links[count - 1].next.extent() > below {
             return;
         }
         drop_below(&mut self.links);
-        self.goals.rest -= 1;
+        self.goals.rest = self.goals.rest.previous();
     }
 
     /// Gives back the slots that the visited list does not ask for.
@@ -90,19 +90,5 @@ impl Stack {
         self.goals.run.base = base;
         self.goals.run.end = run.end - (run.base - base);
         let _ = self.env.heap();
-    }
-}
-
-/// Gives back the list below the last one, whose place the last one takes.
-fn drop_below(links: &mut Vec<Link>)
-    requires { 2 ≤ length links.old.items }
-    ensures { links.new.items ≡ take (length links.old.items - 2) links.old.items ++ link_at links.old.items (length links.old.items - 1) ∷ [] }
-{
-    if let Some(last) = links.pop() {
-        links.truncate(links.len() - 1);
-        match links.push(last) {
-            Ok(()) => {}
-            Err(_) => unreachable!(),
-        }
     }
 }

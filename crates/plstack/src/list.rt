@@ -1,8 +1,8 @@
 //! Goal lists of a stack.
-ghost use Rattle.std.specs.Prelude.{◌≡◌, ◌≤◌, ◌++◌, length, IfOk, OnErr, OnOk};
+ghost use Rattle.std.specs.Prelude.{◌≡◌, ◌≤◌, ◌-◌, [], ◌∷◌, ◌++◌, length, take, IfOk, OnErr, OnOk};
 ghost use Rattle.plsearch.specs.Lists.{levels};
 ghost use Rattle.pllinks.specs.Lists.{elements, IsItem, IsRun};
-ghost use Rattle.pllinks.specs.Links.{alone, IsDone};
+ghost use Rattle.pllinks.specs.Links.{alone, link_at, IsDone};
 ghost use Rattle.pllinks.specs.declared.item.Item.TheVariants.{Run as RunOf};
 ghost use Rattle.plstack.specs.State.{goals_in, goals_of, IsList, AddsList};
 ghost use Rattle.plstack.specs.Levels.{levels_of};
@@ -10,19 +10,21 @@ ghost use Rattle.plstack.specs.Linking.{LinksItem};
 
 use crate::stack::Stack;
 use pllinks::item::{Item, Run};
-use pllinks::link::{Continuation, Link, number_of, push_link};
+use pllinks::level::Level;
+use pllinks::link::{Continuation, Link, first_link, number_of, push_link};
+use pllinks::list::ListId;
 use std::alloc::{AllocError, Global};
 
 impl Stack {
     /// The number of a list of the same goals: where no goals of a clause are left that of the rest, and else a new list's.
-    pub fn number_of(&mut self, list: Continuation) -> Result<u32, AllocError>
-        requires { IsList self.old list }
-        ensures ok { IfOk result (λ n. AddsList self.old self.new (alone n) (goals_of self.old list)) }
-        ensures rest { IsDone list.run → IfOk result (λ n. n ≡ list.rest) }
-        ensures same { IsDone list.run → self.new ≡ self.old }
+    pub fn number_of(&mut self, list: &Continuation) -> Result<ListId, AllocError>
+        requires { IsList self.old list.now }
+        ensures ok { IfOk result (λ n. AddsList self.old self.new (alone n) (goals_of self.old list.now)) }
+        ensures rest { IsDone list.now.run → IfOk result (λ n. n ≡ list.now.rest) }
+        ensures same { IsDone list.now.run → self.new ≡ self.old }
         ensures err { OnErr result (self.new ≡ self.old) }
     {
-        let number = number_of(&mut self.links, list)?;
+        let number = number_of(&mut self.links, *list)?;
         Ok(number)
     }
 
@@ -65,14 +67,13 @@ impl Stack {
     }
 
     /// The levels of the markers of a list.
-    pub fn levels(&self, alloc: Global, list: Continuation) -> Result<Vec<u64>, AllocError>
+    pub fn levels(&self, alloc: Global, list: Continuation) -> Result<Vec<Level>, AllocError>
         requires { IsList self.now list }
         ensures { IfOk result (λ found. found.items ≡ levels (goals_of self.now list)) }
     {
         let mut found = Vec::new(alloc);
         let mut at = list.rest;
-        while at > 0 {
-            let link = self.links[at as usize - 1];
+        while let Some(link) = first_link(&self.links, at) {
             push_level(&mut found, link.item)?;
             at = link.next;
         }
@@ -102,11 +103,21 @@ pub(crate) fn link_before(
 }
 
 /// One more level, if the item is a marker.
-fn push_level(found: &mut Vec<u64>, item: Item) -> Result<(), AllocError>
+fn push_level(found: &mut Vec<Level>, item: Item) -> Result<(), AllocError>
     ensures { OnOk result (found.new.items ≡ found.old.items ++ levels_of item) }
 {
     if let Item::Marker(_, level) = item {
         found.push(level)?;
     }
     Ok(())
+}
+
+/// Gives back the list below the last one, whose place the last one takes.
+pub(crate) fn drop_below(links: &mut Vec<Link>)
+    requires { 2 ≤ length links.old.items }
+    ensures { links.new.items ≡ take (length links.old.items - 2) links.old.items ++ link_at links.old.items (length links.old.items - 1) ∷ [] }
+{
+    let last = links.len() - 1;
+    links.swap(last - 1, last);
+    links.truncate(last);
 }

@@ -1,5 +1,5 @@
 //! Cases that are opened and closed.
-ghost use Rattle.std.specs.Prelude.{◌≡◌, ◌+◌, ◌<◌, ◌≤◌, [], ◌∷◌, ◌++◌, List, reverse, IfNone, IfSome, OnErr, OnOk, vec_capacity, vec_len};
+ghost use Rattle.std.specs.Prelude.{◌≡◌, ◌+◌, ◌<◌, ◌≤◌, ◌^◌, [], ◌∷◌, ◌++◌, List, reverse, IfNone, IfOk, IfSome, OnErr, OnOk, vec_capacity, vec_len};
 ghost use Rattle.plsearch.specs.Types.{Choice};
 ghost use Rattle.plstack.specs.Places.{Statics, kept};
 ghost use Rattle.plstack.specs.Frames.{IsResume};
@@ -9,6 +9,7 @@ ghost use Rattle.plstack.specs.Opening.{around_cases, branch_of, closing, Closed
 
 use crate::frame::{Around, Closed, Frame, Marks, Point, Resume};
 use crate::stack::Stack;
+use pllinks::level::Level;
 use pllinks::link::Continuation;
 use std::alloc::AllocError;
 
@@ -18,12 +19,10 @@ impl Stack {
         ensures ok { OnOk result (Opens self.old self.new (Choice [] ∷ [])) }
         ensures err { OnErr result (self.new ≡ self.old) }
     {
-        if self.depth == u64::MAX {
-            return Err(AllocError);
-        }
+        let depth = deeper(self.depth, 1)?;
         self.frames.reserve(1)?;
         count_up(&mut self.frames, 1);
-        self.depth += 1;
+        self.depth = depth;
         Ok(())
     }
 
@@ -61,9 +60,7 @@ impl Stack {
         ensures ok { OnOk result (OpensFrame self.old self.new list resume) }
         ensures err { OnErr result (self.new ≡ self.old) }
     {
-        if self.depth == u64::MAX {
-            return Err(AllocError);
-        }
+        let depth = deeper(self.depth, 1)?;
         self.frames.reserve(1)?;
         let marks = Marks {
             env: self.env.mark(),
@@ -71,7 +68,7 @@ impl Stack {
             saved: self.saved.len(),
         };
         push_frame(&mut self.frames, Frame::Open(Point { marks, list }, resume));
-        self.depth += 1;
+        self.depth = depth;
         Ok(())
     }
 
@@ -83,9 +80,7 @@ impl Stack {
         ensures ok { OnOk result (OpensIn self.old self.new list resume) }
         ensures err { OnErr result (self.new ≡ self.old) }
     {
-        if self.depth >= u64::MAX - 1 {
-            return Err(AllocError);
-        }
+        let depth = deeper(self.depth, 2)?;
         self.frames.reserve(2)?;
         let marks = Marks {
             env: self.env.mark(),
@@ -94,7 +89,7 @@ impl Stack {
         };
         push_frame(&mut self.frames, Frame::Open(Point { marks, list }, resume));
         count_up(&mut self.frames, 1);
-        self.depth += 2;
+        self.depth = depth;
         Ok(())
     }
 
@@ -109,13 +104,14 @@ impl Stack {
         let Some(frame) = self.frames.pop() else {
             return None;
         };
-        self.depth -= 1;
+        self.depth = self.depth.down(1);
         match frame {
             Frame::Barrier(level) => Some(Closed::Mark(level)),
             Frame::Open(_, resume) => Some(closed_as(resume)),
             Frame::Plain(n) => {
                 if n > 1 {
                     push_frame(&mut self.frames, Frame::Plain(n - 1));
+                    return Some(Closed::Choice);
                 }
                 Some(Closed::Choice)
             }
@@ -131,7 +127,19 @@ impl Stack {
         let Some(Frame::Plain(n)) = self.frames.pop() else {
             unreachable!()
         };
-        self.depth -= n;
+        self.depth = self.depth.down(n);
+    }
+}
+
+/// The level so many cases above a depth; an `Err` where there is none, as where memory gives out.
+#[inline(always)]
+pub(crate) fn deeper(depth: Level, cases: u64) -> Result<Level, AllocError>
+    ensures ok { IfOk result (λ level. level ≡ depth + cases) }
+    ensures err { OnErr result (2 ^ 64 ≤ depth + cases) }
+{
+    match depth.up(cases) {
+        Some(level) => Ok(level),
+        None => Err(AllocError),
     }
 }
 

@@ -12,7 +12,9 @@ use plcells::cell::Cell;
 use plcode::program::ProgramCode;
 use plenv::env::Environment;
 use plhead::head::Matcher;
+use pllinks::level::Level;
 use pllinks::link::{Continuation, Link};
+use pllinks::list::ListId;
 use std::alloc::Global;
 use std::marker::Model;
 
@@ -27,7 +29,7 @@ pub struct Stack {
     pub(crate) saved: Vec<Cell>,
     pub(crate) frames: Vec<Frame>,
     pub(crate) goals: Continuation,
-    pub(crate) depth: u64,
+    pub(crate) depth: Level,
 }
 
 impl Model for Stack {
@@ -59,8 +61,8 @@ impl Stack {
             links: Vec::new(alloc),
             saved: Vec::new(alloc),
             frames: Vec::new(alloc),
-            goals: Continuation::alone(0),
-            depth: 0,
+            goals: Continuation::alone(ListId::EMPTY),
+            depth: Level::BOTTOM,
         }
     }
 
@@ -79,20 +81,20 @@ impl Stack {
         &self.env
     }
 
-    /// How many cases are open.
+    /// The level above all open cases.
     #[tactic(auto, using(crate::proofs::Stacks::depth_is))]
-    pub fn depth(&self) -> u64
+    pub fn depth(&self) -> Level
         ensures { (statics : Statics) → result ≡ deeper (cases_of statics self.now) 0 }
     {
         self.depth
     }
 
     /// The level of the innermost case, which is a handler.
-    pub fn level(&self) -> u64
+    pub fn level(&self) -> Level
         requires { HasHandler self.now }
         ensures { (statics : Statics) → deeper (cases_of statics self.now) 0 ≡ result + 1 }
     {
-        self.depth - 1
+        self.depth.down(1)
     }
 
     /// Whether the innermost case is a choice of further clauses of a static procedure.

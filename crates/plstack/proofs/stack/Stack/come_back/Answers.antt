@@ -10,27 +10,27 @@ use Rattle.plstack.proofs.stack.Stack.come_back.Goals as goal
 pub invariant_of-self : goal.invariant_of-self
 invariant_of-self c =
     let s : State = inside c.self.inside in
-    let p : Point = c.in-Some-Open-default-List.point in
-    let popped : s.frames ≡ c.pop.new.self.items ++ Open p resumes.List ∷ [] = c.in-Some-Open-default-List.ensures.items ∙ ap (λ f. c.pop.new.self.items ++ f ∷ []) (c.in-Some-Open-default-List.field-0-is ∙ ap (Open p) c.in-Some-Open-default-List.field-0-1-is) in
+    let p : Point = c.in-Some-Open.point in
+    let popped : s.frames ≡ c.pop.new.self.items ++ Open p resumes.List ∷ [] = c.in-Some-Open.ensures.items ∙ ap (λ f. c.pop.new.self.items ++ f ∷ []) (c.in-Some-Open.field-0-is ∙ ap (Open p) c.in-List.is) in
     rw (c.undo.ensures, c.truncate.ensures.items, c.truncate-2.ensures.items) (taken-stack s c.self.inside.depth c.self.invariant c.pop.new.self.items p popped c.count_up.new.frames.items c.count_up.ensures)
 
 pub returns-clause-retries : goal.returns-clause-retries
 returns-clause-retries c = λ statics.
     let s : State = inside c.self.inside in
-    let p : Point = c.in-Some-Open-default-List.point in
-    let popped : s.frames ≡ c.pop.new.self.items ++ Open p resumes.List ∷ [] = c.in-Some-Open-default-List.ensures.items ∙ ap (λ f. c.pop.new.self.items ++ f ∷ []) (c.in-Some-Open-default-List.field-0-is ∙ ap (Open p) c.in-Some-Open-default-List.field-0-1-is) in
+    let p : Point = c.in-Some-Open.point in
+    let popped : s.frames ≡ c.pop.new.self.items ++ Open p resumes.List ∷ [] = c.in-Some-Open.ensures.items ∙ ap (λ f. c.pop.new.self.items ++ f ∷ []) (c.in-Some-Open.field-0-is ∙ ap (Open p) c.in-List.is) in
     rw (← c.self.view_is) (rw (c.undo.ensures, c.truncate.ensures.items, c.truncate-2.ensures.items) (taken s c.self.inside.depth c.self.invariant c.pop.new.self.items p popped c.count_up.new.frames.items c.count_up.ensures statics))
 
 pub returns-clause-within : goal.returns-clause-within
 returns-clause-within c =
     let s : State = inside c.self.inside in
-    let p : Point = c.in-Some-Open-default-List.point in
-    let popped : s.frames ≡ c.pop.new.self.items ++ Open p resumes.List ∷ [] = c.in-Some-Open-default-List.ensures.items ∙ ap (λ f. c.pop.new.self.items ++ f ∷ []) (c.in-Some-Open-default-List.field-0-is ∙ ap (Open p) c.in-Some-Open-default-List.field-0-1-is) in
+    let p : Point = c.in-Some-Open.point in
+    let popped : s.frames ≡ c.pop.new.self.items ++ Open p resumes.List ∷ [] = c.in-Some-Open.ensures.items ∙ ap (λ f. c.pop.new.self.items ++ f ∷ []) (c.in-Some-Open.field-0-is ∙ ap (Open p) c.in-List.is) in
     rw c.undo.ensures (within-then s c.self.inside.depth c.self.invariant c.pop.new.self.items p resumes.List popped)
 
 pub returns-clause-older : goal.returns-clause-older
 returns-clause-older c =
     let s : State = inside c.self.inside in
-    let p : Point = c.in-Some-Open-default-List.point in
-    let popped : s.frames ≡ c.pop.new.self.items ++ Open p resumes.List ∷ [] = c.in-Some-Open-default-List.ensures.items ∙ ap (λ f. c.pop.new.self.items ++ f ∷ []) (c.in-Some-Open-default-List.field-0-is ∙ ap (Open p) c.in-Some-Open-default-List.field-0-1-is) in
+    let p : Point = c.in-Some-Open.point in
+    let popped : s.frames ≡ c.pop.new.self.items ++ Open p resumes.List ∷ [] = c.in-Some-Open.ensures.items ∙ ap (λ f. c.pop.new.self.items ++ f ∷ []) (c.in-Some-Open.field-0-is ∙ ap (Open p) c.in-List.is) in
     older-then s c.self.inside.depth c.self.invariant c.pop.new.self.items p resumes.List popped c.count_up.new.frames.items c.count_up.ensures

@@ -1,15 +1,15 @@
-use Rattle.std.proofs.Common.{◌-◌, ◌+◌, arith}
+use Rattle.std.proofs.Common.{◌≡◌, ◌-◌, ◌+◌, arith}
 use Rattle.plstack.specs.State.{State}
 use Rattle.plstack.proofs.Cutting.{depth-under, emptied-stack, empties-from}
 use Rattle.plstack.proofs.Stacks.{inside}
 use Rattle.plstack.proofs.stack.Stack.empty_from.Goals as goal
 
-pub overflow_sub-self-inside : goal.overflow_sub-self-inside
-overflow_sub-self-inside c =
+pub cases_above-requires : goal.cases_above-requires
+cases_above-requires c =
     let s : State = inside c.self.inside in
     let there = rw (← c.self.view_is) at c.requires.at in
     let under = rw (← c.self.view_is) at c.requires.below in
-    omega (arith, depth-under s.frames c.args.at there, under, c.self.invariant.1)
+    omega (arith, depth-under s.frames c.args.frame.at there, under, c.self.invariant.1, c.in_ok-depth.ensures.ok)
 
 pub invariant_of-self : goal.invariant_of-self
 invariant_of-self c =
@@ -17,7 +17,8 @@ invariant_of-self c =
     let there = rw (← c.self.view_is) at c.requires.at in
     let under = rw (← c.self.view_is) at c.requires.below in
     let up = rw c.truncate.ensures.items at c.count_up.ensures in
-    emptied-stack s c.self.inside.depth c.self.invariant c.args.at c.args.below (c.self.inside.depth - c.args.below + 1) there under (omega arith) c.count_up.new.frames.items up
+    let count : c.cases_above.result ≡ c.self.inside.depth - c.args.frame.below + 1 = omega (arith, c.cases_above.ensures, c.in_ok-depth.ensures.ok, depth-under s.frames c.args.frame.at there, under, c.self.invariant.1) in
+    rw c.in_ok-depth.ensures.ok (emptied-stack s c.self.inside.depth c.self.invariant c.args.frame.at c.args.frame.below c.cases_above.result there under count c.count_up.new.frames.items up)
 
 pub returns-clause-ok : goal.returns-clause-ok
 returns-clause-ok c =
@@ -25,4 +26,12 @@ returns-clause-ok c =
     let there = rw (← c.self.view_is) at c.requires.at in
     let under = rw (← c.self.view_is) at c.requires.below in
     let up = rw c.truncate.ensures.items at c.count_up.ensures in
-    rw (← c.self.view_is) (empties-from s c.self.inside.depth c.self.invariant c.args.at c.args.below (c.self.inside.depth - c.args.below + 1) there under (omega arith) c.count_up.new.frames.items up)
+    let count : c.cases_above.result ≡ c.self.inside.depth - c.args.frame.below + 1 = omega (arith, c.cases_above.ensures, c.in_ok-depth.ensures.ok, depth-under s.frames c.args.frame.at there, under, c.self.invariant.1) in
+    rw (← c.self.view_is) (empties-from s c.self.inside.depth c.self.invariant c.args.frame.at c.args.frame.below c.cases_above.result there under count c.count_up.new.frames.items up)
+
+pub count_up-requires-clause-some : goal.count_up-requires-clause-some
+count_up-requires-clause-some c =
+    let s : State = inside c.self.inside in
+    let there = rw (← c.self.view_is) at c.requires.at in
+    let under = rw (← c.self.view_is) at c.requires.below in
+    omega (arith, c.cases_above.ensures, c.in_ok-depth.ensures.ok, depth-under s.frames c.args.frame.at there, under, c.self.invariant.1)

@@ -19,5 +19,5 @@ returns-clause-enters c = λ statics.
           c.go_on.ensures.place
           ∙ ap place_of c.visit.ensures
           ∙ ap (λ gs. record { goals = gs; variables = s.env.count }) (c.body_list-list.ensures.is x code)
-          ∙ ap (λ l. record { goals = before_rest (is_true x.body) l (bind (over s.env c.args.hit.base) x.body) (goals_of s (alone c.args.behind)); variables = s.env.count }) level;
+          ∙ ap (λ l. record { goals = before_rest (is_true x.body) l (bind (over s.env c.args.hit.base) x.body) (goals_of s (alone c.args.behind)); variables = s.env.count }) (c.down-level.ensures ∙ level);
     }

@@ -1,4 +1,4 @@
-use Rattle.std.proofs.Common.{refl, ◌∙◌, sym, subst, arith}
+use Rattle.std.proofs.Common.{◌≡◌, refl, ◌∙◌, sym, subst, arith}
 use Rattle.plstack.specs.First.{Begins}
 use Rattle.plstack.proofs.Stacks.{inside}
 use Rattle.plstack.proofs.Beginning.{nothing-left, next-less, run-there, run-goals-there, term-there, marker-there}
@@ -10,28 +10,32 @@ loop-step-init c = rw (← c.self.view_is) (record { there = c.self.invariant.0.
 pub returns-in-Some : goal.returns-in-Some
 returns-in-Some c = subst (λ es. Begins c.args.self.now es c.first_of_run.result) c.loop-step.invariant.same c.first_of_run.ensures
 
-pub returns-then-list-eq0 : goal.returns-then-list-eq0
-returns-then-list-eq0 c =
-    sym c.loop-step.invariant.same ∙ nothing-left c.args.self.now c.step_of.ensures.state c.loop-step.list c.loop-step.invariant.there c.in_default.ensures.none c.if-list-eq0.true
-
-pub index-link-requires : goal.index-link-requires
-index-link-requires c =
+pub first_link-requires : goal.first_link-requires
+first_link-requires c =
     let there = rw (← c.self.view_is) at c.loop-step.invariant.there in
-    omega (arith, there.there, c.if-list-eq0.false)
+    rw c.deref.ensures.value there.there
+
+pub returns-in_default-first_link : goal.returns-in_default-first_link
+returns-in_default-first_link c =
+    sym c.loop-step.invariant.same ∙ nothing-left c.args.self.now c.step_of.ensures.state c.loop-step.list c.loop-step.invariant.there c.in_default.ensures.none c.in_default-first_link.ensures.none
 
 pub loop-step-smaller : goal.loop-step-smaller
 loop-step-smaller c =
     let there = rw (← c.self.view_is) at c.loop-step.invariant.there in
-    next-less (inside c.self.inside) c.self.invariant.0 c.loop-step.list there c.index-link.result.now c.if-list-eq0.false c.index-link.ensures
+    let first = rw c.deref.ensures.value at c.in-Some-first_link.ensures.some in
+    let some : c.loop-step.list.rest ≡ 0 → ⊥ = λ none. omega (arith, none, first.0) in
+    next-less (inside c.self.inside) c.self.invariant.0 c.loop-step.list there c.in-Some-first_link.link.now some first.1
 
 pub loop-step-preserved : goal.loop-step-preserved
 loop-step-preserved c =
     let there = rw (← c.self.view_is) at c.loop-step.invariant.there in
     let same = rw (← c.self.view_is) at c.loop-step.invariant.same in
     let none = rw (← c.self.view_is) at c.in_default.ensures.none in
+    let first = rw c.deref.ensures.value at c.in-Some-first_link.ensures.some in
+    let some : c.loop-step.list.rest ≡ 0 → ⊥ = λ none. omega (arith, none, first.0) in
     rw (← c.self.view_is) (record {
-      there = run-there (inside c.self.inside) c.self.invariant.0 c.loop-step.list there c.index-link.result.now c.if-list-eq0.false c.index-link.ensures c.in-Run.run' c.in-Run.is;
-      same = run-goals-there (inside c.self.inside) c.self.invariant.0 c.loop-step.list there c.index-link.result.now c.if-list-eq0.false c.index-link.ensures c.in-Run.run' c.in-Run.is none ∙ same;
+      there = run-there (inside c.self.inside) c.self.invariant.0 c.loop-step.list there c.in-Some-first_link.link.now some first.1 c.in-Run.run' c.in-Run.is;
+      same = run-goals-there (inside c.self.inside) c.self.invariant.0 c.loop-step.list there c.in-Some-first_link.link.now some first.1 c.in-Run.run' c.in-Run.is none ∙ same;
     })
 
 pub returns-in-Goal : goal.returns-in-Goal
@@ -39,13 +43,17 @@ returns-in-Goal c =
     let there = rw (← c.self.view_is) at c.loop-step.invariant.there in
     let same = rw (← c.self.view_is) at c.loop-step.invariant.same in
     let none = rw (← c.self.view_is) at c.in_default.ensures.none in
+    let first = rw c.deref.ensures.value at c.in-Some-first_link.ensures.some in
+    let some : c.loop-step.list.rest ≡ 0 → ⊥ = λ none. omega (arith, none, first.0) in
     rw (← c.self.view_is, c.alone-behind.ensures, ← same)
-    (term-there (inside c.self.inside) c.self.invariant.0 c.loop-step.list there c.index-link.result.now c.if-list-eq0.false c.index-link.ensures c.in-Goal.level c.in-Goal.v c.in-Goal.is none)
+    (term-there (inside c.self.inside) c.self.invariant.0 c.loop-step.list there c.in-Some-first_link.link.now some first.1 c.in-Goal.level c.in-Goal.v c.in-Goal.is none)
 
 pub returns-in-Marker : goal.returns-in-Marker
 returns-in-Marker c =
     let there = rw (← c.self.view_is) at c.loop-step.invariant.there in
     let same = rw (← c.self.view_is) at c.loop-step.invariant.same in
     let none = rw (← c.self.view_is) at c.in_default.ensures.none in
+    let first = rw c.deref.ensures.value at c.in-Some-first_link.ensures.some in
+    let some : c.loop-step.list.rest ≡ 0 → ⊥ = λ none. omega (arith, none, first.0) in
     rw (← c.self.view_is, c.alone-behind.ensures, ← same)
-    (marker-there (inside c.self.inside) c.self.invariant.0 c.loop-step.list there c.index-link.result.now c.if-list-eq0.false c.index-link.ensures c.in-Marker.kind c.in-Marker.level c.in-Marker.is none)
+    (marker-there (inside c.self.inside) c.self.invariant.0 c.loop-step.list there c.in-Some-first_link.link.now some first.1 c.in-Marker.kind c.in-Marker.level c.in-Marker.is none)

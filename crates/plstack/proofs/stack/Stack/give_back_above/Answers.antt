@@ -9,8 +9,8 @@ invariant_of-self c =
     let s = inside c.self.inside in
     let floor : c.args.floor ≡ held_links s = rw (← c.self.view_is) at c.requires in
     let k = c.max-keep.result in
-    let held : held_links s ≤ k = rw (c.max-keep.ensures, ← floor) (le-max_right s.goals.rest c.args.floor) in
-    let visited : s.goals.rest ≤ k = rw c.max-keep.ensures (le-max_left s.goals.rest c.args.floor) in
+    let held : held_links s ≤ k = rw (c.max-keep.ensures, ← floor) (le-max_right c.extent.result c.args.floor) in
+    let visited : s.goals.rest ≤ k = rw (c.max-keep.ensures, ← c.extent.ensures) (le-max_left c.extent.result c.args.floor) in
     rw c.truncate.ensures.items (above-stack s c.self.inside.depth c.self.invariant k (omega (arith, c.if-keep-len.true, c.len.ensures)) held visited)
 
 pub returns-then-keep-len : goal.returns-then-keep-len
@@ -18,6 +18,6 @@ returns-then-keep-len c =
     let s = inside c.self.inside in
     let floor : c.args.floor ≡ held_links s = rw (← c.self.view_is) at c.requires in
     let k = c.max-keep.result in
-    let held : held_links s ≤ k = rw (c.max-keep.ensures, ← floor) (le-max_right s.goals.rest c.args.floor) in
-    let visited : s.goals.rest ≤ k = rw c.max-keep.ensures (le-max_left s.goals.rest c.args.floor) in
+    let held : held_links s ≤ k = rw (c.max-keep.ensures, ← floor) (le-max_right c.extent.result c.args.floor) in
+    let visited : s.goals.rest ≤ k = rw (c.max-keep.ensures, ← c.extent.ensures) (le-max_left c.extent.result c.args.floor) in
     rw (← c.self.view_is) (rw c.truncate.ensures.items (above-back s c.self.inside.depth c.self.invariant k (omega (arith, c.if-keep-len.true, c.len.ensures)) held visited))

@@ -11,33 +11,33 @@ use Rattle.plstack.proofs.stack.Stack.leave_handler.Goals as goal
 pub invariant_of-self : goal.invariant_of-self
 invariant_of-self c =
     let s : State = inside c.self.inside in
-    let p : Point = c.in-Some-Open-default-Catch.point in
-    let k : Catcher = c.in-Some-Open-default-Catch.field-0-1-0 in
-    let popped : s.frames ≡ c.pop.new.self.items ++ Open p (resumes.Catch k) ∷ [] = c.in-Some-Open-default-Catch.ensures.items ∙ ap (λ f. c.pop.new.self.items ++ f ∷ []) (c.in-Some-Open-default-Catch.field-0-is ∙ ap (Open p) c.in-Some-Open-default-Catch.field-0-1-is) in
+    let p : Point = c.in-Some-Open.point in
+    let k : Catcher = c.in-Catch.field-0 in
+    let popped : s.frames ≡ c.pop.new.self.items ++ Open p (resumes.Catch k) ∷ [] = c.in-Some-Open.ensures.items ∙ ap (λ f. c.pop.new.self.items ++ f ∷ []) (c.in-Some-Open.field-0-is ∙ ap (Open p) c.in-Catch.is) in
     let list = rw (← c.self.view_is) at c.requires.list in
     recovered-stack s c.self.inside.depth c.self.invariant c.pop.new.self.items p k popped c.count_up.new.frames.items c.count_up.ensures c.args.list list
 
 pub returns-clause-recovers : goal.returns-clause-recovers
 returns-clause-recovers c =
     let s : State = inside c.self.inside in
-    let p : Point = c.in-Some-Open-default-Catch.point in
-    let k : Catcher = c.in-Some-Open-default-Catch.field-0-1-0 in
-    let popped : s.frames ≡ c.pop.new.self.items ++ Open p (resumes.Catch k) ∷ [] = c.in-Some-Open-default-Catch.ensures.items ∙ ap (λ f. c.pop.new.self.items ++ f ∷ []) (c.in-Some-Open-default-Catch.field-0-is ∙ ap (Open p) c.in-Some-Open-default-Catch.field-0-1-is) in
+    let p : Point = c.in-Some-Open.point in
+    let k : Catcher = c.in-Catch.field-0 in
+    let popped : s.frames ≡ c.pop.new.self.items ++ Open p (resumes.Catch k) ∷ [] = c.in-Some-Open.ensures.items ∙ ap (λ f. c.pop.new.self.items ++ f ∷ []) (c.in-Some-Open.field-0-is ∙ ap (Open p) c.in-Catch.is) in
     let list = rw (← c.self.view_is) at c.requires.list in
     rw (← c.self.view_is) (recovers s c.self.inside.depth c.self.invariant c.pop.new.self.items p k popped c.count_up.new.frames.items c.count_up.ensures c.args.list list)
 
 pub returns-clause-within : goal.returns-clause-within
 returns-clause-within c =
     let s : State = inside c.self.inside in
-    let p : Point = c.in-Some-Open-default-Catch.point in
-    let k : Catcher = c.in-Some-Open-default-Catch.field-0-1-0 in
-    let popped : s.frames ≡ c.pop.new.self.items ++ Open p (resumes.Catch k) ∷ [] = c.in-Some-Open-default-Catch.ensures.items ∙ ap (λ f. c.pop.new.self.items ++ f ∷ []) (c.in-Some-Open-default-Catch.field-0-is ∙ ap (Open p) c.in-Some-Open-default-Catch.field-0-1-is) in
+    let p : Point = c.in-Some-Open.point in
+    let k : Catcher = c.in-Catch.field-0 in
+    let popped : s.frames ≡ c.pop.new.self.items ++ Open p (resumes.Catch k) ∷ [] = c.in-Some-Open.ensures.items ∙ ap (λ f. c.pop.new.self.items ++ f ∷ []) (c.in-Some-Open.field-0-is ∙ ap (Open p) c.in-Catch.is) in
     within-now s c.self.inside.depth c.self.invariant c.pop.new.self.items p (resumes.Catch k) popped
 
 pub returns-clause-older : goal.returns-clause-older
 returns-clause-older c =
     let s : State = inside c.self.inside in
-    let p : Point = c.in-Some-Open-default-Catch.point in
-    let k : Catcher = c.in-Some-Open-default-Catch.field-0-1-0 in
-    let popped : s.frames ≡ c.pop.new.self.items ++ Open p (resumes.Catch k) ∷ [] = c.in-Some-Open-default-Catch.ensures.items ∙ ap (λ f. c.pop.new.self.items ++ f ∷ []) (c.in-Some-Open-default-Catch.field-0-is ∙ ap (Open p) c.in-Some-Open-default-Catch.field-0-1-is) in
+    let p : Point = c.in-Some-Open.point in
+    let k : Catcher = c.in-Catch.field-0 in
+    let popped : s.frames ≡ c.pop.new.self.items ++ Open p (resumes.Catch k) ∷ [] = c.in-Some-Open.ensures.items ∙ ap (λ f. c.pop.new.self.items ++ f ∷ []) (c.in-Some-Open.field-0-is ∙ ap (Open p) c.in-Catch.is) in
     older-then s c.self.inside.depth c.self.invariant c.pop.new.self.items p (resumes.Catch k) popped c.count_up.new.frames.items c.count_up.ensures

@@ -45,8 +45,8 @@ invariant_of-self-2 c =
     let first = rw (c.in-Some.is, c.deref.ensures.value) at c.in_ok-step.ensures.some in
     let fits = first s c.self.invariant.0 refl refl list in
     let opens = rw c.reserve.ensures.items at (c.push_copies-is_last.ensures.opens no-statics) in
-    called-stack no-statics s c.self.inside.depth c.self.invariant p.marks m.mark m.now m.links m.saved p.list list n goal k.next c.in-Some.step.place refl
-    c.resolve_first.new.env c.resolve_first.new.links.items c.in-Some.step.list fits c.push_copies-is_last.new.frames.items opens
+    rw c.in_ok-depth.ensures.ok (called-stack no-statics s c.self.inside.depth c.self.invariant p.marks m.mark m.now m.links m.saved p.list list n goal k.next c.in-Some.step.place refl
+    c.resolve_first.new.env c.resolve_first.new.links.items c.in-Some.step.list fits c.push_copies-is_last.new.frames.items opens)
 
 pub returns-clause-some : goal.returns-clause-some
 returns-clause-some c = λ _ statics.
