@@ -5,12 +5,13 @@ ghost use Rattle.plstack.specs.State.{goals_of, IsList};
 ghost use Rattle.plmachine.specs.Lists.{at_level, branch_at, elements_of, failing, Holds, IsPart, Lengthened};
 
 use pllinks::item::{Item, Run};
+use pllinks::level::Level;
 use pllinks::link::Continuation;
 use plstack::stack::Stack;
 use std::alloc::AllocError;
 
 /// Goals at another cut level.
-pub fn at_level(item: Item, level: u64) -> Item
+pub fn at_level(item: Item, level: Level) -> Item
     ensures { result ≡ at_level level item }
 {
     match item {
@@ -21,7 +22,7 @@ pub fn at_level(item: Item, level: u64) -> Item
 }
 
 /// The goal fail/0 of a cut level, by its place in each program's code.
-pub fn failure(level: u64) -> Item
+pub fn failure(level: Level) -> Item
     ensures { result ≡ failing level }
 {
     Item::Run(Run {
@@ -34,13 +35,13 @@ pub fn failure(level: u64) -> Item
 }
 
 /// A branch of a goal of a clause's body, by the place where it begins.
-pub fn branch(run: Run, place: u32) -> Item
-    ensures { result ≡ branch_at run place }
+pub fn branch(run: &Run, place: u32) -> Item
+    ensures { result ≡ branch_at run.now place }
 {
     Item::Run(Run {
         position: place,
         owed: 0,
-        ..run
+        ..*run
     })
 }
 
@@ -88,8 +89,8 @@ pub fn two_before(
     ensures second { IfOk result (λ r. Holds stack.new r.1 (elements_of stack.old second ++ goals_of stack.old rest)) }
     ensures grows { Lengthened stack.old stack.new }
 {
-    let shared = Continuation::alone(stack.number_of(rest)?);
-    let one = before(stack, first, shared)?;
-    let other = before(stack, second, shared)?;
+    let shared = stack.number_of(&rest)?;
+    let one = before(stack, first, Continuation::alone(shared))?;
+    let other = before(stack, second, Continuation::alone(shared))?;
     Ok((one, other))
 }

@@ -2,6 +2,7 @@
 
 use plcells::cell::Cell;
 use plevent::request::Request;
+use pllinks::level::Level;
 use plprogram::settings::Settings;
 use plstack::stack::Stack;
 use plterm::term::Term;
@@ -15,9 +16,9 @@ pub enum Outcome {
     /// It has no further solution.
     Fail,
     /// The choices down to a level are given up.
-    CutTo(u64),
+    CutTo(Level),
     /// A ball was thrown, with the levels of the markers behind it.
-    Throw(Term, Vec<u64>),
+    Throw(Term, Vec<Level>),
     /// The run was ended with a number.
     Halted(u8),
     /// No step is left.

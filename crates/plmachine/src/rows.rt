@@ -18,6 +18,7 @@ use crate::predicate::Predicate;
 use plcells::cell::Cell;
 use plcells::heap::Heap;
 use pllinks::item::{Item, MarkerKind};
+use pllinks::level::Level;
 use pllinks::link::Continuation;
 use plprogram::program::Program;
 use plstack::frame::Around;
@@ -162,7 +163,7 @@ impl Machine {
         ensures err { OnErr result (Stays program.now self.old self.new) }
     {
         let depth = self.stack.depth();
-        let Some(inner) = depth.checked_add(1) else {
+        let Some(inner) = depth.up(1) else {
             return Err(AllocError);
         };
         let (following, failing) = two_before(&mut self.stack, then, other, rest)?;
@@ -180,7 +181,7 @@ impl Machine {
     pub fn then(
         &mut self,
         program: &Program,
-        level: u64,
+        level: Level,
         condition: Item,
         then: Item,
         rest: Continuation,
@@ -199,7 +200,7 @@ impl Machine {
     pub fn cut(
         &mut self,
         program: &Program,
-        level: u64,
+        level: Level,
         rest: Continuation,
     ) -> Result<(), AllocError>
         requires { IsList self.old.stack rest }

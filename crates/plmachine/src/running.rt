@@ -23,6 +23,7 @@ use crate::rows::is_variable;
 use plcells::cell::Cell;
 use plgoals::extend::Extended;
 use pllinks::item::{Item, MarkerKind};
+use pllinks::level::Level;
 use pllinks::link::Continuation;
 use plprogram::program::Program;
 use plstack::frame::{Around, Catcher, Handling};
@@ -43,7 +44,7 @@ pub enum Ready {
 pub struct Running {
     pub predicate: Predicate,
     pub around: Around,
-    pub level: u64,
+    pub level: Level,
     pub list: Continuation,
 }
 
@@ -66,7 +67,7 @@ impl Machine {
     fn enter_goal(
         &mut self,
         program: &Program,
-        level: u64,
+        level: Level,
         goal: Cell,
         list: Continuation,
         around: Around,
@@ -110,7 +111,7 @@ impl Machine {
     {
         let depth = self.stack.depth();
         let marker = Item::Marker(MarkerKind::Commit, depth);
-        let (ready, list) = self.ready_before(goal, marker, rest)?;
+        let (ready, list) = self.ready_before(goal, marker, &rest)?;
         let how = Running {
             predicate: Predicate::Once,
             around: Around::Nothing,
@@ -134,11 +135,11 @@ impl Machine {
         ensures err { OnErr result (Stays program.now self.old self.new) }
     {
         let depth = self.stack.depth();
-        let Some(level) = depth.checked_add(1) else {
+        let Some(level) = depth.up(1) else {
             return Err(AllocError);
         };
         let marker = Item::Marker(MarkerKind::Never, depth);
-        let (ready, list) = self.ready_before(goal, marker, rest)?;
+        let (ready, list) = self.ready_before(goal, marker, &rest)?;
         let how = Running {
             predicate: Predicate::Not,
             around: Around::Branch(rest),
@@ -165,11 +166,11 @@ impl Machine {
         ensures err { OnErr result (Stays program.now self.old self.new) }
     {
         let depth = self.stack.depth();
-        let Some(level) = depth.checked_add(1) else {
+        let Some(level) = depth.up(1) else {
             return Err(AllocError);
         };
         let marker = Item::Marker(MarkerKind::Until, depth);
-        let (ready, list) = self.ready_before(goal, marker, rest)?;
+        let (ready, list) = self.ready_before(goal, marker, &rest)?;
         let how = Running {
             predicate: Predicate::Catch,
             around: Around::Handle(Handling {
@@ -209,17 +210,17 @@ impl Machine {
         &mut self,
         goal: Cell,
         marker: Item,
-        rest: Continuation,
+        rest: &Continuation,
     ) -> Result<(Ready, Continuation), AllocError>
         requires goal { IsValue self.old.stack.env.heap goal }
         requires marker { IsPart self.old.stack marker }
-        requires rest { IsList self.old.stack rest }
+        requires rest { IsList self.old.stack rest.now }
         ensures ready { IfOk result (λ r. Readies self.new.stack (runnable (value self.old.stack.env.heap goal)) r.0) }
-        ensures list { IfOk result (λ r. Holds self.new.stack r.1 (elements_of self.old.stack marker ++ goals_of self.old.stack rest)) }
+        ensures list { IfOk result (λ r. Holds self.new.stack r.1 (elements_of self.old.stack marker ++ goals_of self.old.stack rest.now)) }
         ensures grown { Grown self.old.stack self.new.stack }
         ensures frame { self.new ≡ record self.old { stack = self.new.stack } }
     {
-        let list = self.stack.link(marker, rest)?;
+        let list = self.stack.link(marker, *rest)?;
         let ready = self.ready(goal)?;
         Ok((ready, list))
     }

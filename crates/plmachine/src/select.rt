@@ -16,6 +16,7 @@ use crate::machine::{Machine, Mode, Outcome, Question};
 use plcells::cell::Cell;
 use plgoals::form::{Form, Procedure};
 use pllinks::item::{Item, Run};
+use pllinks::level::Level;
 use pllinks::link::Continuation;
 use plprogram::program::Program;
 use plstack::frame::Catcher;
@@ -37,7 +38,7 @@ impl Machine {
         program: &Program,
         form: Form,
         source: Source,
-        level: u64,
+        level: Level,
         rest: Continuation,
     ) -> Result<(), AllocError>
         requires selected { (t : Tree) × IsSelected program.now self.old form source t }

@@ -34,22 +34,25 @@ impl Machine {
     {
         match step.op {
             Op::Or(left, right) => {
-                let left = branch(run, left);
-                let right = branch(run, right);
+                let left = branch(&run, left);
+                let right = branch(&run, right);
                 self.either(program, left, right, rest)
             }
             Op::IfThen(condition, then) => {
-                let condition = branch(run, condition);
-                let then = branch(run, then);
+                let condition = branch(&run, condition);
+                let then = branch(&run, then);
                 self.then(program, run.level, condition, then, rest)
             }
             Op::IfThenElse(condition, then, other) => {
-                let condition = branch(run, condition);
-                let then = branch(run, then);
-                let other = branch(run, other);
+                let condition = branch(&run, condition);
+                let then = branch(&run, then);
+                let other = branch(&run, other);
                 self.then_else(program, condition, then, other, rest)
             }
-            Op::Goal => self.solve(program, Source::Node(run, step.goal), run.level, rest),
+            Op::Goal => {
+                let level = run.level;
+                self.solve(program, Source::Node(run, step.goal), level, rest)
+            }
             Op::Proceed => unreachable!(),
         }
     }

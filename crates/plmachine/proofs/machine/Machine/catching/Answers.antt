@@ -21,7 +21,7 @@ returns-clause-ok c =
     let t = c.ready_before.new.self in
     let g = c.ready_before.ensures.grown in
     let depth = c.depth-depth.ensures (statics_of c.args.program.now) in
-    let next : c.in-Some.level ≡ suc c.depth-depth.result = omega (arith, c.in-Some.ensures.1) in
+    let next : c.in-Some.level ≡ suc c.depth-depth.result = omega (arith, c.in-Some.ensures.some) in
     let goals = c.in_ok-ready.ensures.list.is ∙ ap (λ d. Marker Until d ∷ goals_of s.stack c.args.rest) depth in
     on_ok_map c.run.result (moved-grown c.args.program.now s t c.run.new.self _ _ g c.ready_before.ensures.frame
     (run-same catch_3 catch_3 refl _ _ _ _ _ _ _ _ _ _ _ _ (sym c.in_ok-ready.ensures.ready.is) (around-grown s.stack t.stack (arounds.Handle (record { catcher = c.args.catcher; list = c.args.rest })) g (record { catcher = c.requires.catcher; recovery = c.requires.recovery; list = c.requires.rest })).0 (next ∙ ap suc depth) goals g.count (ap (λ x. local_of x) c.ready_before.ensures.frame))) c.run.ensures.ok

@@ -21,7 +21,7 @@ returns-clause-ok c =
     let t = c.ready_before.new.self in
     let g = c.ready_before.ensures.grown in
     let depth = c.depth-depth.ensures (statics_of c.args.program.now) in
-    let next : c.in-Some.level ≡ suc c.depth-depth.result = omega (arith, c.in-Some.ensures.1) in
+    let next : c.in-Some.level ≡ suc c.depth-depth.result = omega (arith, c.in-Some.ensures.some) in
     let goals = c.in_ok-ready.ensures.list.is ∙ ap (λ d. Marker Never d ∷ goals_of s.stack c.args.rest) depth in
     on_ok_map c.run.result (moved-grown c.args.program.now s t c.run.new.self _ _ g c.ready_before.ensures.frame
     (run-same not_1 not_1 refl _ _ _ _ _ _ _ _ _ _ _ _ (sym c.in_ok-ready.ensures.ready.is) (around-grown s.stack t.stack (arounds.Branch c.args.rest) g c.requires.rest).0 (next ∙ ap suc depth) goals g.count (ap (λ x. local_of x) c.ready_before.ensures.frame))) c.run.ensures.ok

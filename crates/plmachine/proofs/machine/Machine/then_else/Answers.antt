@@ -33,7 +33,7 @@ returns-clause-ok c =
     let f = lengthened-trans s.stack a b c.two_before.ensures.grows c.two_in_turn.ensures.grows in
     let g = lengthened-grown s.stack b f in
     let depth = c.depth-depth.ensures (statics_of c.args.program.now) in
-    let next : c.in-Some.inner ≡ suc c.depth-depth.result = omega (arith, c.in-Some.ensures.1) in
+    let next : c.in-Some.inner ≡ suc c.depth-depth.result = omega (arith, c.in-Some.ensures.some) in
     let failing = c.two_in_turn.ensures.grows.extends.lists c.in_ok-following.failing c.in_ok-following.ensures.second.there in
     let list = then-list s.stack a b c.args.condition c.args.then c.in_ok-following.following c.in_ok-list.list (goals_of s.stack c.args.rest) c.two_before.ensures.grows c.in_ok-following.ensures.first
     c.at_level.result c.in-Some.inner (suc (depth_of c.args.program.now s)) c.depth-depth.result (depth_of c.args.program.now s) c.at_level.ensures (next ∙ ap suc depth) depth c.in_ok-list.ensures.ok in
