@@ -12,6 +12,7 @@ use crate::start::start;
 use plcells::cell::Cell;
 use plcode::op::Step;
 use pllinks::item::Run;
+use pllinks::level::Level;
 use pllinks::link::Continuation;
 use plmachine::machine::Machine;
 use plprogram::program::Program;
@@ -37,7 +38,7 @@ pub enum Selected {
     /// Any other goal of a clause's body: the run that begins with it, its step, and the list behind it.
     Step(Run, Step, Continuation),
     /// A goal that is a term: its cut level, its value, and the list behind it.
-    Goal(u64, Cell, Continuation),
+    Goal(Level, Cell, Continuation),
 }
 
 /// What is due.
@@ -109,14 +110,14 @@ impl Progress {
         ensures of { IsOf program.now self.new.machine }
         ensures err { OnErr result (Stays program.now self.old self.new) }
     {
-        self.select(program, selected)?;
+        self.select(program, &selected)?;
         self.used += 1;
-        self.give_back(selected);
+        self.give_back(&selected);
         Ok(())
     }
 
     /// Gives back goal lists and slots that nothing holds, once a goal was selected. A conjunction leaves none.
-    fn give_back(&mut self, selected: Selected)
+    fn give_back(&mut self, selected: &Selected)
         ensures { (P : Given) → Stays P self.old self.new }
     {
         if let Selected::Both(_) = selected {
@@ -126,9 +127,9 @@ impl Progress {
     }
 
     /// Selects the goal that is due.
-    fn select(&mut self, program: &Program, selected: Selected) -> Result<(), AllocError>
+    fn select(&mut self, program: &Program, selected: &Selected) -> Result<(), AllocError>
         requires of { IsOf program.now self.old.machine }
-        requires goal { IsSelected self.old.machine selected }
+        requires goal { IsSelected self.old.machine selected.now }
         ensures ok { OnOk result (Selects program.now self.old.machine self.new.machine) }
         ensures of { IsOf program.now self.new.machine }
         ensures frame { self.new ≡ record self.old { machine = self.new.machine } }
@@ -136,11 +137,11 @@ impl Progress {
     {
         match selected {
             Selected::Both(next) => {
-                self.machine.stack.visit(next);
+                self.machine.stack.visit(*next);
                 Ok(())
             }
-            Selected::Step(run, step, rest) => self.machine.step(program, run, step, rest),
-            Selected::Goal(level, goal, rest) => self.machine.term(program, level, goal, rest),
+            Selected::Step(run, step, rest) => self.machine.step(program, *run, *step, *rest),
+            Selected::Goal(level, goal, rest) => self.machine.term(program, *level, *goal, *rest),
         }
     }
 

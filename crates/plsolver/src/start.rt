@@ -9,7 +9,9 @@ ghost use Rattle.plsolver.specs.Solver.{IsStart, IsEmpty, Starts, StartsGoal};
 use plcode::program::ProgramCode;
 use plenv::env::Environment;
 use pllinks::item::Item;
+use pllinks::level::Level;
 use pllinks::link::Continuation;
+use pllinks::list::ListId;
 use plmachine::machine::{Machine, Mode};
 use plprogram::program::Program;
 use plstack::stack::Stack;
@@ -52,7 +54,7 @@ fn start_goals(stack: &mut Stack, alloc: Global, goals: &[Term]) -> Result<Conti
     ensures starts { IfOk result (λ list. Starts stack.new list goals.now) }
     ensures code { stack.new.code ≡ stack.old.code }
 {
-    let mut list = Continuation::alone(0);
+    let mut list = Continuation::alone(ListId::EMPTY);
     let mut i = goals.len();
     while i > 0 {
         i -= 1;
@@ -75,7 +77,7 @@ fn start_goal(
     let copy = goal.copied(alloc)?;
     let once = once(alloc, copy)?;
     let v = stack.put_copy(alloc, &once)?;
-    stack.link(Item::Goal(0, v), list)
+    stack.link(Item::Goal(Level::BOTTOM, v), list)
 }
 
 /// A goal, once.

@@ -12,6 +12,7 @@ ghost use Rattle.plsolver.specs.Solver.{IsOf, Stays, Quiet, Settled, IsBack, IsS
 
 use crate::progress::{Due, Progress, Selected};
 use pllinks::item::MarkerKind;
+use pllinks::level::Level;
 use pllinks::link::Continuation;
 use plmachine::machine::{Mode, Outcome, Question};
 use plprogram::program::Program;
@@ -79,7 +80,7 @@ impl Progress {
         &mut self,
         program: &Program,
         kind: MarkerKind,
-        level: u64,
+        level: Level,
         rest: Continuation,
     ) -> Result<(), AllocError>
         requires visits { self.old.machine.mode ≡ Mode.Visit }
@@ -253,7 +254,7 @@ impl Progress {
     }
 
     /// The level that the choices are given up to, if that is the result that is carried.
-    fn cut_level(&self) -> Option<u64>
+    fn cut_level(&self) -> Option<Level>
         ensures some { IfSome result (λ level. self.now.machine.mode ≡ Mode.Back (Outcome.CutTo level)) }
         ensures none { IfNone result ((level : ℕ) → self.now.machine.mode ≡ Mode.Back (Outcome.CutTo level) → ⊥) }
     {
@@ -271,7 +272,7 @@ impl Progress {
     }
 
     /// Behind a mark Fail is a cut to its level.
-    fn pass_mark(&mut self, level: u64)
+    fn pass_mark(&mut self, level: Level)
         ensures { Becomes self.old self.new (mark level) }
     {
         if self.fails() {
