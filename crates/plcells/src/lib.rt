@@ -4,6 +4,7 @@
 #![tactic(auto)]
 
 pub mod cell;
+pub mod equation;
 pub mod heap;
 pub mod occurs;
 pub mod put;

@@ -18,3 +18,4 @@ pub mod Renaming
 pub mod Bounding
 pub mod Lowering
 mod Marking
+pub mod Solving

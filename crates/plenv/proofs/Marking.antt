@@ -14,7 +14,7 @@ use Rattle.plenv.proofs.Putting.{stays-grown}
 
 -- with the boundaries as they were before
 module _ (e new : Env) (cells slots : ℕ) (more_cells : e.heap.boundary ≤ cells) (more_slots : e.boundary ≤ slots) where
-  keeps_under : Keeps (bounded cells slots e) new → Keeps e (bounded e.heap.boundary e.boundary new)
+  pub keeps_under : Keeps (bounded cells slots e) new → Keeps e (bounded e.heap.boundary e.boundary new)
   unfolding cut cut_heap
   keeps_under k = record {
     within = λ m w.

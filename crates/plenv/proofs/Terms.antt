@@ -25,7 +25,7 @@ use Rattle.plenv.proofs.Putting.{Extends-trans, Puts-stays, extends-grown, stays
 pub no_variables : (h : Store) (n : ℕ) → AddsVariables h h [] n 0
 no_variables h n = record { count = refl; fit = tt; are = λ x lt. absurd (omega arith); preserves = Preserves-refl h; names = refl; fresh = λ m f apart. f }
 
-all_still : (old new : Store) (vs : List Cell) → ((v : Cell) → IsValue old v → IsValue new v) → AreValues old vs → AreValues new vs
+pub all_still : (old new : Store) (vs : List Cell) → ((v : Cell) → IsValue old v → IsValue new v) → AreValues old vs → AreValues new vs
 all_still old new [] still are = tt
 all_still old new (v ∷ vs) still are = (still v are.0, all_still old new vs still are.1)
 

@@ -3,3 +3,4 @@ pub mod Changes
 pub mod Rows
 pub mod Blocks
 pub mod Marks
+pub mod Solving

@@ -369,7 +369,7 @@ impl Environment {
     }
 
     /// Only so many cells and slots are old from now on: no mark of more is in use.
-    fn forget(&mut self, cells: usize, slots: usize)
+    pub(crate) fn forget(&mut self, cells: usize, slots: usize)
         requires cells { cells ≤ self.old.heap.boundary }
         requires slots { slots ≤ self.old.boundary }
         ensures { self.new ≡ bounded cells slots self.old }

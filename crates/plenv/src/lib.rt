@@ -10,3 +10,4 @@ pub mod env;
 pub mod goals;
 pub mod put;
 pub mod slot;
+pub mod solve;

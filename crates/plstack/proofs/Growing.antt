@@ -10,7 +10,11 @@ use Rattle.plsearch.specs.Lists.{bind_goals}
 use Rattle.plenv.specs.Env.{Env, IsEnv}
 use Rattle.plenv.specs.Changes.{Keeps, PutsTerm, Stays, Extends as ExtendsEnv, Unifies as UnifiesEnv}
 use Rattle.plcells.specs.declared.cell.Cell.{Cell}
+use Rattle.plcells.specs.declared.equation.Equation.{Equation}
 use Rattle.plcells.specs.Store.{value}
+use Rattle.plcells.specs.Equations.{left_of, right_of}
+use Rattle.plenv.specs.Solving.{counted, Solves as SolvesEnv}
+use Rattle.plenv.proofs.Solving.{env-counted, extends-counted}
 use Rattle.pllinks.specs.declared.link.Link.{Link}
 use Rattle.pllinks.specs.declared.link.Continuation.{Continuation}
 use Rattle.pllinks.specs.Lists.{Goals, AreItems, all_elements}
@@ -20,7 +24,7 @@ use Rattle.pllinks.proofs.Changing.{items-agree, items-bound, items-more as wide
 use Rattle.plstack.specs.declared.frame.Frame.{Frame}
 use Rattle.plstack.specs.Places.{Statics, cases}
 use Rattle.plstack.specs.Frames.{AreFrames}
-use Rattle.plstack.specs.State.{State, goals_in, goals_of, cases_of, IsList, IsState, IsStack, Extends, Unifies}
+use Rattle.plstack.specs.State.{State, goals_in, goals_of, cases_of, IsList, IsState, IsStack, Extends, Solves, Unifies}
 use Rattle.plstack.proofs.Frames.{items-more, cases-kept, AreFrames-kept}
 
 -- the values that cases keep are as they were
@@ -86,8 +90,8 @@ module _ (s : State) (d : ℕ) (e : Env) (x : ExtendsEnv s.env e) (env : IsEnv e
   pub extends-env : Extends s (record s { env = e })
   extends-env = extends-grown s e s.links [] (sym (append-nil s.links)) x env is.0
 
--- two values were unified
-module _ (s : State) (d : ℕ) (e : Env) (a b : Cell) (u : UnifiesEnv s.env e (value s.env.heap a) (value s.env.heap b)) (env : IsEnv e) (is : IsStack s d) where
+-- a unifier of two terms was put in
+module _ (s : State) (d : ℕ) (e : Env) (a b : Tree) (u : UnifiesEnv s.env e a b) (env : IsEnv e) (is : IsStack s d) where
   list-unified : (l : Continuation) → IsList s l → IsList (record s { env = e }) l × (goals_of (record s { env = e }) l ≡ bind_goals u.unifier (goals_of s l))
   list-unified l i = let r = items-bound (goals_in s) s.env e u.unifier u.made (items_of s.links l) i.items in (record { there = i.there; items = r.0 }, r.1)
 
@@ -104,19 +108,83 @@ module _ (s : State) (d : ℕ) (e : Env) (a b : Cell) (u : UnifiesEnv s.env e (v
     is.1,
   )
 
-  pub unifies : Unifies s (record s { env = e }) a b
+  cases-unified : (statics : Statics) → cases_of statics (record s { env = e }) ≡ cases_of statics s
   unfolding cases_of
+  cases-unified statics = cases-grown (goals_in s) s.env e s.links s.links [] s.saved (sym (append-nil s.links)) u.made.keeps env.heap.names statics (reverse s.frames) is.0.frames
+
+-- two values were unified
+module _ (s : State) (d : ℕ) (e : Env) (a b : Cell) (u : UnifiesEnv s.env e (value s.env.heap a) (value s.env.heap b)) (env : IsEnv e) (is : IsStack s d) where
+  pub unifies : Unifies s (record s { env = e }) a b
   unifies = record {
     unifier = u.unifier;
     is = u.is;
     values = u.made.values;
-    lists = list-unified;
-    cases = λ statics. cases-grown (goals_in s) s.env e s.links s.links [] s.saved (sym (append-nil s.links)) u.made.keeps env.heap.names statics (reverse s.frames) is.0.frames;
+    lists = list-unified s d e _ _ u env is;
+    cases = cases-unified s d e _ _ u env is;
     frames = refl;
     count = u.made.count;
     code = refl;
     goals = refl;
   }
+
+-- an equation was solved: its new variables are in use, and a unifier was put in
+module _ (s : State) (d : ℕ) (e : Env) (q : Equation) (u : SolvesEnv s.env e q) (env : IsEnv e) (is : IsStack s d) where
+  abbrev wide : Env
+  wide = counted q.new s.env
+
+  wider_env : IsEnv wide
+  wider_env = env-counted s.env q.new is.0.env
+
+  at_first : IsStack (record s { env = wide }) d
+  at_first = stack-env s d wide (extends-counted s.env q.new) wider_env is
+
+  stays : Extends s (record s { env = wide })
+  stays = extends-env s d wide (extends-counted s.env q.new) wider_env is
+
+  abbrev unified : UnifiesEnv wide e (left_of s.env.heap s.env.count q) (right_of s.env.heap s.env.count q)
+  unified = record { unifier = u.unifier; is = u.is; made = u.made }
+
+  pub solved-stack : IsStack (record s { env = e }) d
+  solved-stack = unified-stack (record s { env = wide }) d e _ _ unified env at_first
+
+  pub solves : Solves s (record s { env = e }) q
+  solves = record {
+    unifier = u.unifier;
+    is = u.is;
+    lists = λ l i.
+        let r = stays.lists l i in
+        let t = list-unified (record s { env = wide }) d e _ _ unified env at_first l r.0 in
+        (t.0, t.1 ∙ ap (bind_goals u.unifier) r.1);
+    cases = λ statics. cases-unified (record s { env = wide }) d e _ _ unified env at_first statics ∙ stays.cases statics;
+    count = u.made.count;
+    code = refl;
+  }
+
+-- whatever came of an equation
+module _ (s : State) (d : ℕ) (e : Env) (q : Equation) (env : IsEnv e) (is : IsStack s d) where
+  pub solve-stack : (r : Outcomes Bool AllocError) → IfOk r (λ fits. fits ≡ true → SolvesEnv s.env e q) →
+      IfOk r (λ fits. fits ≡ false → (unify (left_of s.env.heap s.env.count q) (right_of s.env.heap s.env.count q) ≡ None) × Stays s.env e) → OnErr r (Stays s.env e) → IsStack (record s { env = e }) d
+  solve-stack (Ok true) fits not err = solved-stack s d e q (fits refl) env is
+  solve-stack (Ok false) fits not err = stack-env s d e (not refl).1.extends env is
+  solve-stack (Err x) fits not err = stack-env s d e err.extends env is
+
+  pub solve-solves : (r : Outcomes Bool AllocError) → IfOk r (λ fits. fits ≡ true → SolvesEnv s.env e q) → IfOk r (λ fits. fits ≡ true → Solves s (record s { env = e }) q)
+  solve-solves (Ok answer) fits = λ so. solves s d e q (fits so) env is
+  solve-solves (Err x) fits = tt
+
+  pub solve-stays : (r : Outcomes Bool AllocError) → IfOk r (λ fits. fits ≡ false → (unify (left_of s.env.heap s.env.count q) (right_of s.env.heap s.env.count q) ≡ None) × Stays s.env e) →
+      IfOk r (λ fits. fits ≡ false → Extends s (record s { env = e }) × (e.count ≡ s.env.count))
+  solve-stays (Ok answer) not = λ no. (extends-env s d e (not no).1.extends env is, (not no).1.count)
+  solve-stays (Err x) not = tt
+
+  pub solve-none : (r : Outcomes Bool AllocError) → IfOk r (λ fits. fits ≡ false → (unify (left_of s.env.heap s.env.count q) (right_of s.env.heap s.env.count q) ≡ None) × Stays s.env e) →
+      IfOk r (λ fits. fits ≡ false → unify (left_of s.env.heap s.env.count q) (right_of s.env.heap s.env.count q) ≡ None)
+  solve-none (Ok answer) not = λ no. (not no).0
+  solve-none (Err x) not = tt
+
+  pub solve-err : (r : Outcomes Bool AllocError) → OnErr r (Stays s.env e) → OnErr r (Extends s (record s { env = e }) × (e.count ≡ s.env.count))
+  solve-err (Ok answer) err = tt
+  solve-err (Err x) err = (extends-env s d e err.extends env is, err.count)
 
 pub extends_same : (s : State) → Extends s s
 extends_same s = record { code = refl; frames = refl; goals = refl; visited = refl; cases = λ statics. refl; lists = λ l i. (i, refl); values = λ v f. (f, refl) }
@@ -125,7 +193,7 @@ extends_same s = record { code = refl; frames = refl; goals = refl; visited = re
 module _ (s : State) (d : ℕ) (e : Env) (a b : Cell) (env : IsEnv e) (is : IsStack s d) where
   pub unify-stack : (r : Outcomes Bool AllocError) → IfOk r (λ fits. fits ≡ true → UnifiesEnv s.env e (value s.env.heap a) (value s.env.heap b)) →
       IfOk r (λ fits. fits ≡ false → (unify (value s.env.heap a) (value s.env.heap b) ≡ None) × (e ≡ s.env)) → OnErr r (e ≡ s.env) → IsStack (record s { env = e }) d
-  unify-stack (Ok true) fits not err = unified-stack s d e a b (fits refl) env is
+  unify-stack (Ok true) fits not err = unified-stack s d e _ _ (fits refl) env is
   unify-stack (Ok false) fits not err = rw (not refl).1 is
   unify-stack (Err x) fits not err = rw err is
 

@@ -5,7 +5,9 @@ use Rattle.plsubst.specs.Subst.{bind}
 use Rattle.plsubst.specs.Unify.{unify}
 use Rattle.platoms.specs.Names.{Extends as ExtendsNames}
 use Rattle.plcells.specs.declared.cell.Cell.{Cell}
+use Rattle.plcells.specs.declared.equation.Equation.{Equation}
 use Rattle.plcells.specs.Store.{IsValue, value}
+use Rattle.plcells.specs.Equations.{left_of, right_of}
 use Rattle.plsearch.specs.Types.{Element, Place, Case, Choice, Handle, Catch}
 use Rattle.plsearch.specs.Lists.{bind_goals}
 use Rattle.plcode.specs.Steps.{goals_from}
@@ -106,6 +108,15 @@ pub record Unifies (old new : State) (a b : Cell) : Type 0 where
   pub count : new.env.count ≡ old.env.count
   pub code : new.code ≡ old.code
   pub goals : new.goals ≡ old.goals
+
+-- the most general unifier of an equation's terms was put into all values and lists, and its new variables are in use
+pub record Solves (old new : State) (e : Equation) : Type 0 where
+  pub unifier : ℕ → Tree
+  pub is : unify (left_of old.env.heap old.env.count e) (right_of old.env.heap old.env.count e) ≡ Some unifier
+  pub lists : (l : Continuation) → IsList old l → IsList new l × (goals_of new l ≡ bind_goals unifier (goals_of old l))
+  pub cases : (statics : Statics) → cases_of statics new ≡ cases_of statics old
+  pub count : new.env.count ≡ old.env.count + e.new
+  pub code : new.code ≡ old.code
 
 -- so many more choices with nothing left, whatever the others are
 pub record CountsUp (n : ℕ) (old new : List Frame) : Type 0 where

@@ -2,11 +2,13 @@
 ghost use Rattle.std.specs.Prelude.{◌≡◌, ◌+◌, length, true, false, None, IfOk, OnOk, OnErr};
 ghost use Rattle.plterm.specs.Variables.{copied, variables};
 ghost use Rattle.plsubst.specs.Unify.{unify as unifier_of};
+ghost use Rattle.plcells.specs.Equations.{IsEquation, left_of, right_of};
 ghost use Rattle.plcells.specs.Store.{IsValue, value};
-ghost use Rattle.plstack.specs.State.{Extends, Unifies};
+ghost use Rattle.plstack.specs.State.{Extends, Solves, Unifies};
 
 use crate::stack::Stack;
 use plcells::cell::Cell;
+use plcells::equation::Equation;
 use plterm::term::Term;
 use std::alloc::{AllocError, Global};
 
@@ -22,6 +24,20 @@ impl Stack {
         let fits = self.env.unify(a, b);
         let _ = self.env.heap();
         fits
+    }
+
+    /// Unifies the two terms of an equation, its new variables numbered from the count on: whether they have a unifier. Where they have none, or
+    /// memory gives out, all stands for what it did.
+    pub fn solve(&mut self, alloc: Global, equation: Equation) -> Result<bool, AllocError>
+        requires { IsEquation self.old.env.heap equation }
+        ensures yes { IfOk result (λ fits. fits ≡ true → Solves self.old self.new equation) }
+        ensures no { IfOk result (λ fits. fits ≡ false → unifier_of (left_of self.old.env.heap self.old.env.count equation) (right_of self.old.env.heap self.old.env.count equation) ≡ None) }
+        ensures same { IfOk result (λ fits. fits ≡ false → Extends self.old self.new × (self.new.env.count ≡ self.old.env.count)) }
+        ensures err { OnErr result (Extends self.old self.new × (self.new.env.count ≡ self.old.env.count)) }
+    {
+        let solved = self.env.solve(alloc, equation);
+        let _ = self.env.heap();
+        solved
     }
 
     /// Puts a copy of a term, its variables new: its value. After an `Err` all stands for what it did.
