@@ -53,7 +53,10 @@ fn lists(rt: HostRuntime) -> Result<(), Fail> {
     let mut links = Vec::new(alloc);
     let none = ListId::EMPTY;
     assert!(rt; none.is_empty());
-    assert_eq!(rt; (top_of(&links, none), slots_of(&links, none)), (Level::BOTTOM, 0));
+    assert_eq!(rt;
+        (top_of(&links, none), slots_of(&links, none)),
+        (Level::BOTTOM, 0)
+    );
     for (item, rest, number, top, slots) in [
         (goal(3), 0, 1, 3, 0),
         (run(2, 5), 1, 2, 3, 5),
@@ -81,7 +84,10 @@ fn lists(rt: HostRuntime) -> Result<(), Fail> {
 fn numbers(rt: HostRuntime) -> Result<(), Fail> {
     let mut links = Vec::new(rt.alloc());
     assert!(rt; Run::done().is_done());
-    assert_eq!(rt; number_of(&mut links, Continuation::alone(ListId::EMPTY))?, ListId::EMPTY);
+    assert_eq!(rt;
+        number_of(&mut links, Continuation::alone(ListId::EMPTY))?,
+        ListId::EMPTY
+    );
     assert_eq!(rt; links.len(), 0);
     assert!(rt; !selected().is_done());
     let list = Continuation {

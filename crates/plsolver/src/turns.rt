@@ -206,14 +206,16 @@ impl Progress {
         ensures on { IfNone result (Quiet program.now self.old self.new) }
         ensures due { IfSome result (λ due. Settled program.now self.new due × (self.new ≡ self.old)) }
     {
-        match self.machine.stack.close() {
-            None => Some(Due::Over),
-            Some(Closed::Handler) => None,
-            Some(Closed::Mark(level)) => {
+        let Some(closed) = self.machine.stack.close() else {
+            return Some(Due::Over);
+        };
+        match closed {
+            Closed::Handler => None,
+            Closed::Mark(level) => {
                 self.pass_mark(level);
                 None
             }
-            Some(Closed::Choice) => {
+            Closed::Choice => {
                 self.stop_cut();
                 None
             }

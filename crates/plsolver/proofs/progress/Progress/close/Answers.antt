@@ -7,28 +7,28 @@ use Rattle.plsolver.specs.Solver.{Settled, throws_to}
 use Rattle.plsolver.proofs.Quiets.{quiet-mark, quiet-handler, quiet-choice, over-now}
 use Rattle.plsolver.proofs.progress.Progress.close.Goals as goal
 
-pub returns-in-None-clause-due : goal.returns-in-None-clause-due
+pub returns-in_default-clause-due : goal.returns-in_default-clause-due
 unfolding Settled
-returns-in-None-clause-due c = rw c.in-None.ensures.same (over-now c.args.program.now c.args.self.now c.requires.back (c.in-None.ensures.none (statics_of c.args.program.now)), refl)
+returns-in_default-clause-due c = rw c.in_default.ensures.same (over-now c.args.program.now c.args.self.now c.requires.back (c.in_default.ensures.none (statics_of c.args.program.now)), refl)
 
-pub returns-in-Some-Mark-clause-on : goal.returns-in-Some-Mark-clause-on
-returns-in-Some-Mark-clause-on c =
-    let closed = (rw c.in-Some-Mark.field-0-is at c.in-Some-Mark.ensures.some) (statics_of c.args.program.now) in
-    quiet-mark c.args.program.now c.args.self.now c.pass_mark.new.self c.close.new.self c.in-Some-Mark.level c.requires.back c.close.ensures.code closed c.pass_mark.ensures
+pub returns-in-Mark-clause-on : goal.returns-in-Mark-clause-on
+returns-in-Mark-clause-on c =
+    let closed = (rw c.in-Mark.is at c.in-Some.ensures.some) (statics_of c.args.program.now) in
+    quiet-mark c.args.program.now c.args.self.now c.pass_mark.new.self c.close.new.self c.in-Mark.level c.requires.back c.close.ensures.code closed c.pass_mark.ensures
 
-pub returns-in-Some-Choice-clause-on : goal.returns-in-Some-Choice-clause-on
-returns-in-Some-Choice-clause-on c =
+pub returns-in-Choice-clause-on : goal.returns-in-Choice-clause-on
+returns-in-Choice-clause-on c =
     let P = c.args.program.now in
-    let closed = (rw c.in-Some-Choice.field-0-is at c.in-Some-Choice.ensures.some) (statics_of P) in
+    let closed = (rw c.in-Choice.is at c.in-Some.ensures.some) (statics_of P) in
     quiet-choice P c.args.self.now c.stop_cut.new.self c.close.new.self closed.0 c.requires.back c.close.ensures.code closed.1
     (λ f. closed.2 (λ has. c.requires.tried f (inr (inl has))) (λ has. c.requires.tried f (inr (inr has))) (λ has. c.requires.tried f (inl has)))
     (c.stop_cut.ensures (statics_of P))
 
-pub returns-in-Some-Handler-clause-on : goal.returns-in-Some-Handler-clause-on
-returns-in-Some-Handler-clause-on c =
+pub returns-in-Handler-clause-on : goal.returns-in-Handler-clause-on
+returns-in-Handler-clause-on c =
     let s = c.args.self.now in
     let P = c.args.program.now in
-    let closed = (rw c.in-Some-Handler.field-0-is at c.in-Some-Handler.ensures.some) (statics_of P) in
+    let closed = (rw c.in-Handler.is at c.in-Some.ensures.some) (statics_of P) in
     let deep : depth_of P s.machine - 1 ≡ deeper (cases_of (statics_of P) c.close.new.self) 0 = omega (arith, ap (λ cs. deeper cs 0) closed.3) in
     quiet-handler P s c.close.new.self closed.1 closed.2 c.requires.back c.close.ensures.code closed.3
     (λ yes. c.requires.caught closed.0 (ap (λ d. throws_to d s.machine.mode) deep ∙ yes))
