@@ -1,11 +1,12 @@
 -- The definitions on small inputs.
 use Rattle.std.proofs.Common.{◌≡◌, ℕ, true, false, List, [], ◌∷◌, map, pos, negsuc, refl}
 use Rattle.std.specs.Prelude.{codes}
+use Rattle.std.specs.Char.{encode_utf8}
 use Rattle.std.specs.Str.{chars}
 use Rattle.plterm.specs.Tree.{Tree, var, int, atom, compound, none, more}
 use Rattle.plprogram.specs.declared.settings.Settings.{Settings}
-use Rattle.plbuiltin.specs.Errors.{instantiation_error, type_error, domain_error}
-use Rattle.plbuiltin.specs.Solution.{Raises, fails, unifies, decides}
+use Rattle.plbuiltin.specs.Errors.{instantiation_error, type_error, domain_error, representation_error, syntax_error}
+use Rattle.plbuiltin.specs.Solution.{Raises, Gives, fails, unifies, decides}
 use Rattle.std.specs.declared.cmp.Ordering.TheVariants as orderings
 use Rattle.plterm.specs.Order.{order}
 use Rattle.plterm.specs.Ground.{is_ground}
@@ -16,13 +17,21 @@ use Rattle.plbuiltin.specs.Order.{stand, compare, on_order}
 use Rattle.plnames.specs.declared.kind.Tests.TheVariants.{Variable, Bound, Atom, Integer, Atomic, Compound, Callable, ProperList}
 use Rattle.plnames.specs.declared.kind.Comparison.TheVariants.{Equal, Unequal, Less, AtMost, Greater, AtLeast}
 use Rattle.plnames.specs.declared.kind.Arithmetic.TheVariants.{Is, Compare}
-use Rattle.plarith.specs.Functors.{unary_of, unary_rows, binary_of, binary_rows}
+use Rattle.plarith.specs.Functors.{binary_of, binary_rows}
 use Rattle.plarith.specs.Evaluation.{eval}
 use Rattle.plarith.specs.Errors.{evaluation_error, indicator_term}
-use Rattle.plbuiltin.specs.Tests.{is_list, holds}
-use Rattle.plbuiltin.specs.Parts.{arg}
+use Rattle.plbuiltin.specs.Lists.{elements_of}
+use Rattle.plbuiltin.specs.Tests.{holds}
+use Rattle.plbuiltin.specs.Parts.{arg, both, functor, univ}
+use Rattle.plnames.specs.declared.kind.Spelling.TheVariants.{Characters, Codes}
+use Rattle.plnames.specs.declared.kind.Sorting.TheVariants.{Once, Keys}
+use Rattle.pllex.specs.Tokens.{run_end, gap, value, item_of}
+use Rattle.plnumber.specs.Numbers.{number_of}
+use Rattle.plsort.specs.Sorted.{inserted, in_order, added, set_of}
+use Rattle.plbuiltin.specs.Sorting.{on_sorting}
+use Rattle.plbuiltin.specs.Texts.{text_in}
 use Rattle.plbuiltin.specs.Arithmetic.{compares, on_arithmetic}
-use Rattle.plbuiltin.specs.Atoms.{atom_length, count_of}
+use Rattle.plbuiltin.specs.Atoms.{atom_length, char_code, count_of, number_spelled, spell}
 
 foo : Tree
 foo = atom (codes "foo")
@@ -114,11 +123,11 @@ dot t u = compound (codes ".") (more t (more u none))
 
 -- a list is one whatever its elements are, and none where its end is another term
 lists : map (holds ProperList) (empty ∷ dot (var 0) empty ∷ dot foo (dot foo empty) ∷ []) ≡ true ∷ true ∷ true ∷ []
-unfolding is_list empty dot foo
+unfolding elements_of empty dot foo
 lists = refl
 
 no_lists : map (holds ProperList) (var 0 ∷ foo ∷ f_of_foo ∷ dot foo (var 0) ∷ dot empty foo ∷ compound (codes ".") (more empty none) ∷ []) ≡ false ∷ false ∷ false ∷ false ∷ false ∷ false ∷ []
-unfolding is_list empty dot foo f_of_foo
+unfolding elements_of empty dot foo f_of_foo
 no_lists = refl
 
 -- ---- arithmetic
@@ -256,3 +265,86 @@ module _ (s : Settings) where
   argument_below_zero : arg (int (negsuc 0)) f_of_foo foo s ≡ Raises (domain_error (codes "not_less_than_zero") (int (negsuc 0)))
   unfolding f_of_foo
   argument_below_zero = refl
+
+-- ---- names with arguments
+
+module _ (s : Settings) where
+  functor_of_bound : functor f_of_foo (var 0) (var 1) s 2 ≡ unifies (both (var 0) (var 1)) (both (atom (codes "f")) (int (pos 1))) s
+  unfolding f_of_foo
+  functor_of_bound = refl
+
+  -- the new variables are numbered from those in use on
+  functor_made : functor (var 0) foo (int (pos 2)) s 5 ≡ Gives (record { left = var 0; right = compound (codes "foo") (more (var 5) (more (var 6) none)); new = 2 } ∷ []) [] s
+  unfolding foo
+  functor_made = refl
+
+  functor_errors :
+      (functor (var 0) (var 1) foo s 2 ≡ Raises instantiation_error)
+      × (functor (var 0) f_of_foo (int (negsuc 0)) s 2 ≡ Raises (type_error (codes "atomic") f_of_foo))
+      × (functor (var 0) foo (int (pos 1025)) s 2 ≡ Raises (representation_error (codes "max_arity")))
+      × (functor (var 0) (int (pos 7)) (int (pos 1)) s 2 ≡ Raises (type_error (codes "callable") (int (pos 7))))
+  unfolding foo f_of_foo
+  functor_errors = (refl, refl, refl, refl)
+
+  univ_of_bound : univ f_of_foo (var 0) s ≡ unifies (var 0) (dot (atom (codes "f")) (dot foo empty)) s
+  unfolding f_of_foo foo dot empty
+  univ_of_bound = refl
+
+  univ_made : univ (var 0) (dot foo (dot (int (pos 1)) empty)) s ≡ unifies (var 0) (compound (codes "foo") (more (int (pos 1)) none)) s
+  unfolding foo dot empty elements_of
+  univ_made = refl
+
+  univ_errors : (univ (var 0) empty s ≡ Raises (domain_error (codes "non_empty_list") empty)) × (univ (var 0) (dot foo (var 1)) s ≡ Raises instantiation_error)
+  unfolding foo dot empty elements_of
+  univ_errors = (refl, refl)
+
+-- ---- texts
+
+module _ (s : Settings) where
+  spelled_atom : spell Codes foo (var 0) s ≡ unifies (var 0) (dot (int (pos 102)) (dot (int (pos 111)) (dot (int (pos 111)) empty))) s
+  unfolding foo dot empty chars
+  spelled_atom = refl
+
+  atom_made : spell Characters (var 0) (dot (atom (codes "a")) (dot (atom (codes "b")) empty)) s ≡ unifies (var 0) (atom (codes "ab")) s
+  unfolding dot empty elements_of chars encode_utf8
+  atom_made = refl
+
+  partial_text : spell Characters (var 0) (dot (atom (codes "a")) (var 1)) s ≡ Raises instantiation_error
+  unfolding dot elements_of chars
+  partial_text = refl
+
+  codes_of : (char_code (var 0) (int (pos 97)) s ≡ unifies (var 0) (atom (codes "a")) s) × (char_code (atom (codes "a")) (var 0) s ≡ unifies (var 0) (int (pos 97)) s)
+  unfolding chars encode_utf8
+  codes_of = (refl, refl)
+
+  code_errors : (char_code (var 0) (var 1) s ≡ Raises instantiation_error) × (char_code (var 0) (int (pos 1114112)) s ≡ Raises (representation_error (codes "character_code")))
+  code_errors = (refl, refl)
+
+  number_read : number_spelled Codes (var 0) empty (text_in Codes (dot (int (pos 49)) (dot (int (pos 50)) empty))) s ≡ unifies (var 0) (int (pos 12)) s
+  unfolding dot empty elements_of number_of gap item_of run_end value encode_utf8
+  number_read = refl
+
+  no_number : number_spelled Codes (var 0) empty (text_in Codes (dot (int (pos 49)) (dot (int (pos 32)) empty))) s ≡ Raises (syntax_error (codes "illegal_number"))
+  unfolding dot empty elements_of number_of gap item_of run_end value encode_utf8
+  no_number = refl
+
+-- ---- lists in order
+
+keyed : ℕ → Tree → Tree
+keyed k v = compound (codes "-") (more (int (pos k)) (more v none))
+
+module _ (s : Settings) where
+  sorted_once : on_sorting Once (dot foo (dot (int (pos 1)) (dot foo empty)) ∷ var 0 ∷ []) s ≡ unifies (var 0) (dot (int (pos 1)) (dot foo empty)) s
+  unfolding foo dot empty elements_of order added set_of
+  sorted_once = refl
+
+  sorted_keys : on_sorting Keys (dot (keyed 2 foo) (dot (keyed 1 foo) (dot (keyed 2 empty) empty)) ∷ var 0 ∷ []) s ≡ unifies (var 0) (dot (keyed 1 foo) (dot (keyed 2 foo) (dot (keyed 2 empty) empty))) s
+  unfolding foo dot empty keyed elements_of order inserted in_order
+  sorted_keys = refl
+
+  key_errors :
+      (on_sorting Keys (dot (var 1) (dot foo empty) ∷ var 0 ∷ []) s ≡ Raises instantiation_error)
+      × (on_sorting Keys (dot foo (dot (var 1) empty) ∷ var 0 ∷ []) s ≡ Raises (type_error (codes "pair") foo))
+      × (on_sorting Keys (dot foo (var 1) ∷ var 0 ∷ []) s ≡ Raises instantiation_error)
+  unfolding foo dot empty elements_of
+  key_errors = (refl, refl, refl)

@@ -13,3 +13,11 @@ type_error type culprit = compound (codes "type_error") (more (atom type) (more 
 -- a term is of the type, and outside of the domain
 abbrev pub domain_error : List ℕ → Tree → Tree
 domain_error domain culprit = compound (codes "domain_error") (more (atom domain) (more culprit none))
+
+-- a limit of what can be represented was met
+abbrev pub representation_error : List ℕ → Tree
+representation_error limit = compound (codes "representation_error") (more (atom limit) none)
+
+-- a text is none that can be read
+abbrev pub syntax_error : List ℕ → Tree
+syntax_error fault = compound (codes "syntax_error") (more (atom fault) none)

@@ -1,10 +1,13 @@
 pub mod Solution
 pub mod Errors
+pub mod Lists
+pub mod Texts
 pub mod Terms
 pub mod Tests
 pub mod Parts
 pub mod Arithmetic
 pub mod Order
+pub mod Sorting
 pub mod Atoms
 pub mod Output
 pub mod Solutions

@@ -1,25 +1,20 @@
 -- Built-in predicates that ask what a term is (ISO/IEC 13211-1 8.3).
-use Rattle.std.specs.Prelude.{Bool, true, false, ◌&&◌, List, [], ◌∷◌, codes}
-use Rattle.std.specs.Str.{bytes_eq}
-use Rattle.plterm.specs.Tree.{Tree, var, int, atom, compound, Trees, none, more}
+use Rattle.std.specs.Prelude.{Bool, true, false, List, [], ◌∷◌}
+use Rattle.plterm.specs.Tree.{Tree, var, int, atom, compound}
 use Rattle.plnames.specs.declared.kind.Tests.{Tests}
 use Rattle.plnames.specs.declared.kind.Tests.TheVariants.{Variable, Bound, Atom, Integer, Atomic, Compound, Callable, ProperList}
 use Rattle.plprogram.specs.declared.settings.Settings.{Settings}
+use Rattle.plbuiltin.specs.Lists.{Tail, Empty, Unbound, Other, elements_of}
 use Rattle.plbuiltin.specs.Solution.{Solved, fails, decides}
 
--- a list: the empty one, or an element before a list
-unfoldable mutual
-  pub is_list : Tree → Bool
-  is_list (var x) = false
-  is_list (int i) = false
-  is_list (atom name) = bytes_eq name (codes "[]")
-  is_list (compound name ts) = bytes_eq name (codes ".") && is_element_before ts
+abbrev pub is_empty : Tail → Bool
+is_empty Empty = true
+is_empty Unbound = false
+is_empty Other = false
 
-  pub is_element_before : Trees → Bool
-  is_element_before none = false
-  is_element_before (more t none) = false
-  is_element_before (more t (more u none)) = is_list u
-  is_element_before (more t (more u (more v ts))) = false
+-- a list: the empty one, or an element before a list
+abbrev pub is_list : Tree → Bool
+is_list t = is_empty (elements_of t).tail
 
 abbrev pub holds : Tests → Tree → Bool
 holds Variable (var x) = true

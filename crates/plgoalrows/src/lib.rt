@@ -6,10 +6,18 @@ mod arithmetic;
 #[cfg(test)]
 mod atoms;
 #[cfg(test)]
+mod build;
+#[cfg(test)]
 mod library;
 #[cfg(test)]
 mod order;
 #[cfg(test)]
+mod output;
+#[cfg(test)]
 mod parts;
+#[cfg(test)]
+mod sorting;
+#[cfg(test)]
+mod texts;
 #[cfg(test)]
 mod type_tests;

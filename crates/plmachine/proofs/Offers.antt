@@ -3,24 +3,29 @@ use Rattle.std.proofs.Common.{◌≡◌, ℕ, ◌+◌, List, [], ◌∷◌, ◌+
 use Rattle.plterm.specs.Tree.{Tree, var}
 use Rattle.plterm.specs.declared.indicator.Indicator.{Indicator}
 use Rattle.plcells.specs.declared.cell.Cell.{Cell}
+use Rattle.plcells.specs.declared.equation.Equation.{Equation}
+use Rattle.plcells.specs.Equations.{left_of, right_of}
 use Rattle.plcells.specs.Store.{value}
 use Rattle.plsubst.specs.Unify.{places, differ, unify_in, unify}
 use Rattle.plsubst.proofs.Unify.{bind-var}
 use Rattle.plprogram.specs.Program.{Program}
 use Rattle.plprogram.specs.declared.settings.Settings.{Settings}
-use Rattle.plbuiltin.specs.Solution.{fails, unifies as unified_to, writes}
+use Rattle.plbuiltin.specs.Solution.{Gives, fails, unifies as unified_to, writes, decides}
+use Rattle.plbuiltin.specs.Terms.{is_none}
 use Rattle.plsearch.specs.Types.{Fail, Look, Await, Goal, Marker, Raise, Asking, Element, Local, Move, Give}
 use Rattle.plsearch.specs.Lists.{bind_goals}
 use Rattle.plsearch.specs.Machines.Machine.{At}
 use Rattle.plsearch.specs.Rows.{go_on, solved, taken, offer}
 use Rattle.pllinks.specs.declared.link.Continuation.{Continuation}
-use Rattle.plstack.specs.State.{State, IsList, cases_of, goals_of, Unifies}
+use Rattle.plstack.specs.State.{State, IsList, cases_of, goals_of, Solves, Unifies}
 use Rattle.plstack.specs.StaticCalls.{statics_of}
 use Rattle.plmachine.specs.declared.machine.Outcome.TheVariants as outcomes
 use Rattle.plmachine.specs.declared.machine.Mode.TheVariants as modes
 use Rattle.plmachine.specs.declared.machine.Machine.{Machine as Reached}
+use Rattle.plmachine.specs.Lists.{Grown}
 use Rattle.plmachine.specs.Machine.{mode_of, cases_in, local_of, Moved}
-use Rattle.plmachine.proofs.Moves.{gave, goes-to, visit-asks}
+use Rattle.plmachine.proofs.Lists.{holds-list, lengthened-grown, lengthened-same}
+use Rattle.plmachine.proofs.Moves.{gave, gives, goes-to, moved-as, moved-grown, visit-asks, went}
 
 -- a unifier was put in
 pub unifies : (P : Program) (s new : Reached) (t : State) (a b : Cell) (l : Continuation) → IsList s.stack l → Unifies s.stack t a b → new ≡ record s { stack = record t { goals = l }; mode = modes.Visit } →
@@ -38,6 +43,23 @@ pub ununified : (P : Program) (s new : Reached) (a b : Cell) (l : Continuation) 
 ununified P s new a b l none is =
     subst (λ o. Moved P s new (taken (option_map (λ σ. record { goals = bind_goals σ (goals_of s.stack l); variables = s.stack.env.count + 0 }) o) (local_of s))) (sym none)
     (gave P s new outcomes.Fail is)
+
+-- an equation was solved
+pub solves : (P : Program) (s new : Reached) (t : State) (q : Equation) (l : Continuation) → IsList s.stack l → Solves s.stack t q → new ≡ record s { stack = record t { goals = l }; mode = modes.Visit } →
+    Moved P s new (taken (solved (goals_of s.stack l) s.stack.env.count (record { left = left_of s.stack.env.heap s.stack.env.count q; right = right_of s.stack.env.heap s.stack.env.count q; new = q.new })) (local_of s))
+unfolding cases_of
+solves P s new t q l there u is =
+    subst (λ o. Moved P s new (taken (option_map (λ σ. record { goals = bind_goals σ (goals_of s.stack l); variables = s.stack.env.count + q.new }) o) (local_of s))) (sym u.is)
+    (goes-to P s new [] _ (local_of s) (ap (λ x. x.stack.code) is ∙ u.code) (visit-asks new (ap (λ x. x.mode) is))
+    (ap (λ x. mode_of x.mode x.stack) is ∙ ap₂ (λ gs n. At (record { goals = gs; variables = n })) (u.lists l there).1 u.count)
+    (ap (λ x. cases_in P x) is ∙ u.cases (statics_of P)) (ap (λ x. local_of x) is))
+
+pub unsolved : (P : Program) (s t new : Reached) (q : Equation) (l : Continuation) → Grown s.stack t.stack → t ≡ record s { stack = t.stack } →
+    unify (left_of s.stack.env.heap s.stack.env.count q) (right_of s.stack.env.heap s.stack.env.count q) ≡ None → new ≡ record t { mode = modes.Back outcomes.Fail } →
+    Moved P s new (taken (solved (goals_of s.stack l) s.stack.env.count (record { left = left_of s.stack.env.heap s.stack.env.count q; right = right_of s.stack.env.heap s.stack.env.count q; new = q.new })) (local_of s))
+unsolved P s t new q l g frame none is =
+    subst (λ o. Moved P s new (taken (option_map (λ σ. record { goals = bind_goals σ (goals_of s.stack l); variables = s.stack.env.count + q.new }) o) (local_of s))) (sym none)
+    (moved-grown P s t new (Give Fail (local_of t)) (Give Fail (local_of s)) g frame (ap (λ x. Give Fail (local_of x)) frame) (gave P t new outcomes.Fail is))
 
 -- a substitution that changes nothing leaves a list as it is
 bind-goals-var : (es : List Element) → bind_goals var es ≡ es
@@ -64,8 +86,29 @@ offer-succeeds settings p es n w same = ap₂ (λ o x. go_on es n (record { out 
 pub offer-fails : (settings : Settings) (p : Indicator) (es : List Element) (n : ℕ) (w : Local) → w.settings ≡ settings → ◌≡◌ {A = Move} (Give Fail w) (offer (fails settings) p es n w)
 offer-fails settings p es n w same = ap₂ (λ o x. Give Fail (record { out = o; settings = x })) (sym (append-nil w.out)) same
 
--- and one that unifies two terms
+-- one that unifies two terms with new variables
+pub offer-solves : (a b : Tree) (k : ℕ) (settings : Settings) (p : Indicator) (es : List Element) (n : ℕ) (w : Local) → w.settings ≡ settings →
+    taken (solved es n (record { left = a; right = b; new = k })) w ≡ offer (Gives (record { left = a; right = b; new = k } ∷ []) [] settings) p es n w
+offer-solves a b k settings p es n w same =
+    ap₂ (λ o s. taken (solved es n (record { left = a; right = b; new = k })) (record { out = o; settings = s })) (sym (append-nil w.out)) same
+
+-- and without
 pub offer-unifies : (a b : Tree) (settings : Settings) (p : Indicator) (es : List Element) (n : ℕ) (w : Local) → w.settings ≡ settings →
     taken (solved es n (record { left = a; right = b; new = 0 })) w ≡ offer (unified_to a b settings) p es n w
-offer-unifies a b settings p es n w same =
-    ap₂ (λ o s. taken (solved es n (record { left = a; right = b; new = 0 })) (record { out = o; settings = s })) (sym (append-nil w.out)) same
+offer-unifies a b = offer-solves a b 0
+
+-- one that is true where two terms have no unifier
+pub differs : (P : Program) (s new : Reached) (a b : Tree) (p : Indicator) (l : Continuation) → IsList s.stack l → unify a b ≡ None → new ≡ record s { stack = record s.stack { goals = l }; mode = modes.Visit } →
+    Moved P s new (offer (decides (is_none (unify a b)) s.settings) p (goals_of s.stack l) s.stack.env.count (local_of s))
+differs P s new a b p l there none is =
+    subst (λ o. Moved P s new (offer (decides (is_none o) s.settings) p (goals_of s.stack l) s.stack.env.count (local_of s))) (sym none)
+    (moved-as P s new _ _ (offer-succeeds s.settings p (goals_of s.stack l) s.stack.env.count (local_of s) refl)
+    (went P s new s.stack l (goals_of s.stack l) (lengthened-grown s.stack s.stack (lengthened-same s.stack)) (holds-list s.stack l there) is))
+
+pub unified : (P : Program) (s new : Reached) (t : State) (a b : Cell) (p : Indicator) (es : List Element) (n : ℕ) → Unifies s.stack t a b → new ≡ record s { stack = t; mode = modes.Back outcomes.Fail } →
+    Moved P s new (offer (decides (is_none (unify (value s.stack.env.heap a) (value s.stack.env.heap b))) s.settings) p es n (local_of s))
+unfolding cases_of
+unified P s new t a b p es n u is =
+    subst (λ o. Moved P s new (offer (decides (is_none o) s.settings) p es n (local_of s))) (sym u.is)
+    (moved-as P s new _ _ (offer-fails s.settings p es n (local_of s) refl)
+    (gives P s new outcomes.Fail (local_of s) (ap (λ x. x.stack.code) is ∙ u.code) (ap (λ x. x.mode) is) (ap (λ x. cases_in P x) is ∙ u.cases (statics_of P)) (ap (λ x. local_of x) is)))

@@ -2,10 +2,15 @@
 //!
 //! A row that is refused memory leaves the search where it was.
 ghost use Rattle.std.specs.Prelude.{◌≡◌, ◌++◌, map, IfOk, OnOk, OnErr};
-ghost use Rattle.plterm.specs.Tree.{Tree, atom, int};
+ghost use Rattle.plterm.specs.Tree.{Tree, int};
+ghost use Rattle.plterm.specs.declared.indicator.Indicator.{Indicator};
+ghost use Rattle.plsubst.specs.Unify.{unify};
+ghost use Rattle.plcells.specs.Equations.{IsEquation, left_of, right_of};
 ghost use Rattle.plcells.specs.Store.{value, AreValues, IsValue};
 ghost use Rattle.plclause.specs.Indicators.{indicator};
+ghost use Rattle.plbuiltin.specs.Solution.{decides};
 ghost use Rattle.plbuiltin.specs.Solutions.{solutions};
+ghost use Rattle.plbuiltin.specs.Terms.{is_none};
 ghost use Rattle.plsearch.specs.Rows.{go_on as went_on, taken, solved, offer, raised};
 ghost use Rattle.plstack.specs.State.{goals_of, IsList};
 ghost use Rattle.plmachine.specs.Lists.{Grown};
@@ -16,12 +21,12 @@ use crate::indicator::indicator_of;
 use crate::machine::{Machine, Outcome};
 use crate::select::Source;
 use plcells::cell::Cell;
+use plcells::equation::Equation;
 use pllinks::link::Continuation;
 use plnames::kind::BuiltIn;
 use plpredicates::answer::Answer;
 use plpredicates::built_in::answers;
 use plprogram::program::Program;
-use plterm::name::Name;
 use plterm::term::Term;
 use std::alloc::AllocError;
 
@@ -54,8 +59,9 @@ impl Machine {
                 Ok(())
             }
             Answer::Unifies(a, b) => self.unify(program, a, b, rest),
+            Answer::Differs(a, b) => self.differ(program, a, b, rest),
             Answer::Equals(v, number) => self.equal(program, v, number, rest),
-            Answer::Names(v, name) => self.unify_name(program, v, name, rest),
+            Answer::Solves(equation) => self.solve_equation(program, equation, rest),
             Answer::Writes(bytes) => self.write_bytes(program, &bytes, rest),
         }
     }
@@ -132,34 +138,46 @@ impl Machine {
         self.stack.put_copy(self.alloc, &term)
     }
 
-    /// A term is unified with an atom: the one solution of a built-in predicate.
-    fn unify_name(
+    /// The two terms of an equation are unified: the one solution of a built-in predicate.
+    fn solve_equation(
         &mut self,
         program: &Program,
-        v: Cell,
-        name: Name,
+        equation: Equation,
         rest: Continuation,
     ) -> Result<(), AllocError>
-        requires value { IsValue self.old.stack.env.heap v }
+        requires equation { IsEquation self.old.stack.env.heap equation }
         requires rest { IsList self.old.stack rest }
-        ensures ok { OnOk result (Moved program.now self.old self.new (taken (solved (goals_of self.old.stack rest) self.old.stack.env.count (record { left = value self.old.stack.env.heap v; right = atom name; new = 0 })) (local_of self.old))) }
+        ensures ok { OnOk result (Moved program.now self.old self.new (taken (solved (goals_of self.old.stack rest) self.old.stack.env.count (record { left = left_of self.old.stack.env.heap self.old.stack.env.count equation; right = right_of self.old.stack.env.heap self.old.stack.env.count equation; new = equation.new })) (local_of self.old))) }
         ensures err { OnErr result (Stays program.now self.old self.new) }
     {
-        let w = self.atom(name)?;
-        self.unify(program, v, w, rest)
+        if self.stack.solve(self.alloc, equation)? {
+            self.go_on(rest);
+            return Ok(());
+        }
+        self.give(Outcome::Fail);
+        Ok(())
     }
 
-    /// The value of an atom.
-    fn atom(&mut self, name: Name) -> Result<Cell, AllocError>
-        ensures fits { IfOk result (λ w. IsValue self.new.stack.env.heap w) }
-        ensures is { IfOk result (λ w. value self.new.stack.env.heap w ≡ atom name) }
-        ensures grown { Grown self.old.stack self.new.stack }
-        ensures frame { self.new ≡ record self.old { stack = self.new.stack } }
+    /// Two terms are not unified: a built-in predicate that is true where they have no unifier.
+    fn differ(
+        &mut self,
+        program: &Program,
+        a: Cell,
+        b: Cell,
+        rest: Continuation,
+    ) -> Result<(), AllocError>
+        requires first { IsValue self.old.stack.env.heap a }
+        requires second { IsValue self.old.stack.env.heap b }
+        requires rest { IsList self.old.stack rest }
+        ensures ok { (p : Indicator) → OnOk result (Moved program.now self.old self.new (offer (decides (is_none (unify (value self.old.stack.env.heap a) (value self.old.stack.env.heap b))) self.old.settings) p (goals_of self.old.stack rest) self.old.stack.env.count (local_of self.old))) }
+        ensures err { OnErr result (Stays program.now self.old self.new) }
     {
-        let Ok(term) = Term::atom(self.alloc, name) else {
-            return Err(AllocError);
-        };
-        self.stack.put_copy(self.alloc, &term)
+        if self.stack.unify(a, b)? {
+            self.give(Outcome::Fail);
+            return Ok(());
+        }
+        self.go_on(rest);
+        Ok(())
     }
 
     /// Writes bytes, and goes on.

@@ -37,6 +37,8 @@ pub enum Control {
 pub enum Terms {
     /// =/2, and unify_with_occurs_check/2, since each unification makes the occurs check.
     Unify,
+    /// `\=`/2.
+    Differ,
 }
 
 /// A built-in predicate that asks what a term is (8.3).
@@ -65,6 +67,14 @@ pub enum Tests {
 pub enum Parts {
     /// arg/3.
     Argument,
+    /// functor/3.
+    Functor,
+    /// `=..`/2.
+    Univ,
+    /// copy_term/2.
+    Copy,
+    /// term_variables/2.
+    Variables,
 }
 
 /// How two integers compare (8.7).
@@ -121,11 +131,39 @@ pub enum Order {
     Ground,
 }
 
+/// A built-in predicate that puts the elements of a list in order (Cor.2 8.4.3, 8.4.4).
+#[derive(Clone, Copy, Debug, PartialEq, Eq)]
+pub enum Sorting {
+    /// sort/2: of equal elements one is left.
+    Once,
+    /// msort/2: all elements stay.
+    Each,
+    /// keysort/2: pairs, by their keys.
+    Keys,
+}
+
+/// How a text is spelled as a list (6.3.7).
+#[derive(Clone, Copy, Debug, PartialEq, Eq)]
+pub enum Spelling {
+    /// By one-character atoms.
+    Characters,
+    /// By the codes of its characters.
+    Codes,
+}
+
 /// A built-in predicate on atoms (8.16).
 #[derive(Clone, Copy, Debug, PartialEq, Eq)]
 pub enum Atoms {
     /// atom_length/2.
     Length,
+    /// atom_chars/2 and atom_codes/2.
+    Spelled(Spelling),
+    /// char_code/2.
+    CharacterCode,
+    /// number_chars/2 and number_codes/2.
+    NumberSpelled(Spelling),
+    /// atom_number/2.
+    Number,
 }
 
 /// A built-in predicate that writes (8.14).
@@ -133,10 +171,20 @@ pub enum Atoms {
 pub enum Output {
     /// write/1.
     Write,
-    /// writeq/1.
+    /// writeq/1 and print/1.
     WriteQuoted,
+    /// write_canonical/1.
+    WriteCanonical,
+    /// writeln/1.
+    WriteLine,
     /// nl/0.
     Newline,
+    /// flush_output/0.
+    Flush,
+    /// put_char/1.
+    PutCharacter,
+    /// tab/1.
+    Tab,
 }
 
 /// A built-in predicate, by its topic.
@@ -147,6 +195,7 @@ pub enum BuiltIn {
     Parts(Parts),
     Arithmetic(Arithmetic),
     Order(Order),
+    Sorting(Sorting),
     Atoms(Atoms),
     Output(Output),
 }

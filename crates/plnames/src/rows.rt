@@ -1,8 +1,8 @@
 //! The table of names.
 
 use crate::kind::{
-    Arithmetic, Atoms, BuiltIn, Comparison, Control, Kind, Order, Output, Parts, Relation, Terms,
-    Tests,
+    Arithmetic, Atoms, BuiltIn, Comparison, Control, Kind, Order, Output, Parts, Relation, Sorting,
+    Spelling, Terms, Tests,
 };
 
 /// What each name with an arity is. No program can change or define these procedures (ISO/IEC 13211-1 7.5.2).
@@ -35,6 +35,7 @@ pub static ROWS: &[(&str, u16, Kind)] = &[
         2,
         Kind::BuiltIn(BuiltIn::Terms(Terms::Unify)),
     ),
+    ("\\=", 2, Kind::BuiltIn(BuiltIn::Terms(Terms::Differ))),
     ("var", 1, Kind::BuiltIn(BuiltIn::Tests(Tests::Variable))),
     ("nonvar", 1, Kind::BuiltIn(BuiltIn::Tests(Tests::Bound))),
     ("atom", 1, Kind::BuiltIn(BuiltIn::Tests(Tests::Atom))),
@@ -57,6 +58,14 @@ pub static ROWS: &[(&str, u16, Kind)] = &[
         Kind::BuiltIn(BuiltIn::Tests(Tests::ProperList)),
     ),
     ("arg", 3, Kind::BuiltIn(BuiltIn::Parts(Parts::Argument))),
+    ("functor", 3, Kind::BuiltIn(BuiltIn::Parts(Parts::Functor))),
+    ("=..", 2, Kind::BuiltIn(BuiltIn::Parts(Parts::Univ))),
+    ("copy_term", 2, Kind::BuiltIn(BuiltIn::Parts(Parts::Copy))),
+    (
+        "term_variables",
+        2,
+        Kind::BuiltIn(BuiltIn::Parts(Parts::Variables)),
+    ),
     ("is", 2, Kind::BuiltIn(BuiltIn::Arithmetic(Arithmetic::Is))),
     (
         "=:=",
@@ -120,10 +129,43 @@ pub static ROWS: &[(&str, u16, Kind)] = &[
     ),
     ("compare", 3, Kind::BuiltIn(BuiltIn::Order(Order::Compare))),
     ("ground", 1, Kind::BuiltIn(BuiltIn::Order(Order::Ground))),
+    ("sort", 2, Kind::BuiltIn(BuiltIn::Sorting(Sorting::Once))),
+    ("msort", 2, Kind::BuiltIn(BuiltIn::Sorting(Sorting::Each))),
+    ("keysort", 2, Kind::BuiltIn(BuiltIn::Sorting(Sorting::Keys))),
     (
         "atom_length",
         2,
         Kind::BuiltIn(BuiltIn::Atoms(Atoms::Length)),
+    ),
+    (
+        "atom_chars",
+        2,
+        Kind::BuiltIn(BuiltIn::Atoms(Atoms::Spelled(Spelling::Characters))),
+    ),
+    (
+        "atom_codes",
+        2,
+        Kind::BuiltIn(BuiltIn::Atoms(Atoms::Spelled(Spelling::Codes))),
+    ),
+    (
+        "char_code",
+        2,
+        Kind::BuiltIn(BuiltIn::Atoms(Atoms::CharacterCode)),
+    ),
+    (
+        "number_chars",
+        2,
+        Kind::BuiltIn(BuiltIn::Atoms(Atoms::NumberSpelled(Spelling::Characters))),
+    ),
+    (
+        "number_codes",
+        2,
+        Kind::BuiltIn(BuiltIn::Atoms(Atoms::NumberSpelled(Spelling::Codes))),
+    ),
+    (
+        "atom_number",
+        2,
+        Kind::BuiltIn(BuiltIn::Atoms(Atoms::Number)),
     ),
     ("write", 1, Kind::BuiltIn(BuiltIn::Output(Output::Write))),
     (
@@ -131,5 +173,31 @@ pub static ROWS: &[(&str, u16, Kind)] = &[
         1,
         Kind::BuiltIn(BuiltIn::Output(Output::WriteQuoted)),
     ),
+    (
+        "print",
+        1,
+        Kind::BuiltIn(BuiltIn::Output(Output::WriteQuoted)),
+    ),
+    (
+        "write_canonical",
+        1,
+        Kind::BuiltIn(BuiltIn::Output(Output::WriteCanonical)),
+    ),
+    (
+        "writeln",
+        1,
+        Kind::BuiltIn(BuiltIn::Output(Output::WriteLine)),
+    ),
     ("nl", 0, Kind::BuiltIn(BuiltIn::Output(Output::Newline))),
+    (
+        "flush_output",
+        0,
+        Kind::BuiltIn(BuiltIn::Output(Output::Flush)),
+    ),
+    (
+        "put_char",
+        1,
+        Kind::BuiltIn(BuiltIn::Output(Output::PutCharacter)),
+    ),
+    ("tab", 1, Kind::BuiltIn(BuiltIn::Output(Output::Tab))),
 ];

@@ -1,49 +1,56 @@
 -- The arguments of compounds by their numbers.
-use Rattle.std.proofs.Common.{◌≡◌, ◌<◌, ◌≤◌, ℤ, pos, negsuc, false, ℕ, zero, suc, ◌+◌, List, refl, ap, ◌∙◌, arith}
-use Rattle.std.specs.Prelude.{int_lt, nat_abs}
-use Rattle.plterm.specs.Tree.{Tree, Trees, int, compound, none, more, trees}
-use Rattle.plcells.specs.declared.cell.Cell.{Cell}
-use Rattle.plcells.specs.declared.cell.Cell.TheVariants.{Free, Lone, Ref, Int, Wide, Atom, Str, Fun, Ground}
-use Rattle.plcells.specs.Store.{Store, term, terms, value, IsValue, IsEnd, IsHeap, IsBlock}
+use Rattle.std.proofs.Common.{◌≡◌, ◌<◌, ◌≤◌, false, ◌&&◌, pos, nat_eq, ℕ, zero, suc, ◌+◌, refl, sym, ap, ◌∙◌, arith}
+use Rattle.std.specs.Prelude.{codes}
+use Rattle.std.specs.Str.{bytes_eq}
+use Rattle.plterm.specs.Tree.{Tree, Trees, int, none, more, trees}
+use Rattle.platoms.specs.Names.{functor_name}
+use Rattle.plcells.specs.Store.{Store, term, terms, spread, IsBlock}
 use Rattle.plprogram.specs.declared.settings.Settings.{Settings}
 use Rattle.plbuiltin.specs.Solution.{fails, unifies}
 use Rattle.plbuiltin.specs.Parts.{arg, is_argument}
-use Rattle.plpredicates.proofs.Roots.{variable_at}
+use Rattle.plbuiltin.specs.Sorting.{is_two, is_pair}
 
 module _ (h : Store) (a : Tree) (s : Settings) where
-  pub argument_at : (c k n : ℕ) → n < k → is_argument (suc n) (trees (terms h c k)) a s ≡ unifies a (term h (c + n)) s
+  argument_at : (c k n : ℕ) → n < k → is_argument (suc n) (trees (terms h c k)) a s ≡ unifies a (term h (c + n)) s
   argument_at c zero n lt = absurd (omega arith)
   argument_at c (suc k) zero lt = let same : c ≡ c + 0 = omega arith in ap (λ j. unifies a (term h j) s) same
   argument_at c (suc k) (suc n) lt =
       let same : suc c + n ≡ c + suc n = omega arith in
       argument_at (suc c) k n (omega arith) ∙ ap (λ j. unifies a (term h j) s) same
 
-  pub no_argument : (c k n : ℕ) → k ≤ n → is_argument (suc n) (trees (terms h c k)) a s ≡ fails s
+  no_argument : (c k n : ℕ) → k ≤ n → is_argument (suc n) (trees (terms h c k)) a s ≡ fails s
   no_argument c zero n le = refl
   no_argument c (suc k) zero le = absurd (omega arith)
   no_argument c (suc k) (suc n) le = no_argument (suc c) k n (omega arith)
 
-pub argument_0 : (a : Tree) (s : Settings) (ts : Trees) → is_argument zero ts a s ≡ fails s
+argument_0 : (a : Tree) (s : Settings) (ts : Trees) → is_argument zero ts a s ≡ fails s
 argument_0 a s none = refl
 argument_0 a s (more t ts) = refl
 
--- a value that is no compound
-pub no_block : (h : Store) (v : Cell) (f : List ℕ) (ts : Trees) → IsHeap h → IsValue h v → IsEnd h v → ((p : ℕ) → v ≡ Str p → ⊥) → value h v ≡ compound f ts → ⊥
-no_block h (Free p) f ts is fits end other e = fits
-no_block h (Lone p) f ts is fits end other e = fits
-no_block h (Ref j) f ts is fits end other e = let x = variable_at h j is fits.0 end in cc x.1
-no_block h (Int n) f ts is fits end other e = cc
-no_block h (Wide p) f ts is fits end other e = cc
-no_block h (Atom a) f ts is fits end other e = cc
-no_block h (Str p) f ts is fits end other e = other p refl
-no_block h (Fun g) f ts is fits end other e = fits
-no_block h (Ground g) f ts is fits end other e = fits
+-- the arguments of a block
+module _ (h : Store) (p f k : ℕ) (block : IsBlock h p f k) (a : Tree) (s : Settings) where
+  numbered : (n : ℕ) → arg (int (pos n)) (term h p) a s ≡ is_argument n (trees (terms h (suc p) k)) a s
+  numbered n = ap (λ t. arg (int (pos n)) t a s) block.is
 
--- the arguments of a compound whose block is known
-pub arguments_of : (h : Store) (p g k : ℕ) (f : List ℕ) (ts : Trees) → IsBlock h p g k → term h p ≡ compound f ts → ts ≡ trees (terms h (suc p) k)
-arguments_of h p g k f ts block e = let is = block.is in cc
+  pub no_first : (n : ℕ) → n ≡ 0 → fails s ≡ arg (int (pos n)) (term h p) a s
+  no_first n e = sym (numbered n ∙ ap (λ m. is_argument m (trees (terms h (suc p) k)) a s) e ∙ argument_0 a s (trees (terms h (suc p) k)))
 
--- a number that is not negative
-pub numbered : (z : ℤ) (f : List ℕ) (ts : Trees) (a : Tree) (s : Settings) → int_lt z (pos 0) ≡ false → arg (int z) (compound f ts) a s ≡ is_argument (nat_abs z) ts a s
-numbered (pos n) f ts a s le = refl
-numbered (negsuc n) f ts a s le = cc
+  pub none_behind : (n : ℕ) → k < n → fails s ≡ arg (int (pos n)) (term h p) a s
+  none_behind zero lt = absurd (omega arith)
+  none_behind (suc n) lt = sym (numbered (suc n) ∙ no_argument h a s (suc p) k n (omega arith))
+
+  pub one_at : (n : ℕ) (t : Tree) → 0 < n → n ≤ k → t ≡ term h (p + n) → unifies a t s ≡ arg (int (pos n)) (term h p) a s
+  one_at zero t some le e = absurd (omega arith)
+  one_at (suc n) t some le e =
+      let place : suc p + n ≡ p + suc n = omega arith in
+      sym (numbered (suc n) ∙ argument_at h a s (suc p) k n (omega arith) ∙ ap (λ j. unifies a (term h j) s) place ∙ ap (λ u. unifies a u s) (sym e))
+
+-- pairs have two arguments
+two : (w : ℕ → Tree) (c k : ℕ) → is_two (trees (spread w c k)) ≡ nat_eq k 2
+two w c zero = refl
+two w c (suc zero) = refl
+two w c (suc (suc zero)) = refl
+two w c (suc (suc (suc k))) = let other : nat_eq (suc (suc (suc k))) 2 ≡ false = grind arith in sym other
+
+pub pair_at : (h : Store) (p f k : ℕ) → IsBlock h p f k → is_pair (term h p) ≡ (nat_eq k 2 && bytes_eq (functor_name h.names f) (codes "-"))
+pair_at h p f k block = ap is_pair block.is ∙ ap (λ b. b && bytes_eq (functor_name h.names f) (codes "-")) (two (term h) (suc p) k)

@@ -1,3 +1,3 @@
 pub mod Answers
-pub mod Shapes
-pub mod Tails
+pub mod Lists
+pub mod Building

@@ -1,7 +1,7 @@
 //! What calls of built-in predicates come to.
 
 use plcells::cell::Cell;
-use plterm::name::Name;
+use plcells::equation::Equation;
 use plterm::term::Term;
 
 /// What a call of a built-in predicate comes to.
@@ -15,10 +15,12 @@ pub enum Answer {
     Succeeds,
     /// It is true where the terms of two values are unified.
     Unifies(Cell, Cell),
+    /// It is true where the terms of two values have no unifier.
+    Differs(Cell, Cell),
     /// It is true where the term of a value is unified with an integer.
     Equals(Cell, i64),
-    /// It is true where the term of a value is unified with the atom of a name.
-    Names(Cell, Name),
+    /// It is true where the two terms of an equation are unified.
+    Solves(Equation),
     /// It is true once these bytes are written.
     Writes(Vec<u8>),
 }

@@ -1,5 +1,5 @@
 //! Arithmetic (ISO/IEC 13211-1 8.6, 8.7).
-ghost use Rattle.std.specs.Prelude.{◌≡◌, IfOk, map};
+ghost use Rattle.std.specs.Prelude.{◌≡◌, ℕ, IfOk, map};
 ghost use Rattle.plcells.specs.Store.{Store, value, IsValue, AreValues};
 ghost use Rattle.plarith.specs.Errors.{error_of};
 ghost use Rattle.plarith.specs.Evaluation.{eval as eval_of};
@@ -24,7 +24,7 @@ pub(crate) fn arithmetic_answer(
     args: &[Cell],
 ) -> Result<Answer, AllocError>
     requires args { AreValues heap.now args.now }
-    ensures is { IfOk result (λ answer. (s : Settings) → meant heap.now s answer ≡ on_arithmetic b (map (value heap.now) args.now) s) }
+    ensures is { IfOk result (λ answer. (s : Settings) (n : ℕ) → meant heap.now s n answer ≡ on_arithmetic b (map (value heap.now) args.now) s) }
     ensures there { IfOk result (IsThere heap.now) }
 {
     let [left, right] = args else {
@@ -40,7 +40,7 @@ pub(crate) fn arithmetic_answer(
 fn equals(alloc: Global, heap: &Heap, term: Cell, expression: Cell) -> Result<Answer, AllocError>
     requires term { IsValue heap.now term }
     requires expression { IsValue heap.now expression }
-    ensures is { IfOk result (λ answer. (s : Settings) → meant heap.now s answer ≡ equals_of (value heap.now term) (eval_of (value heap.now expression)) s) }
+    ensures is { IfOk result (λ answer. (s : Settings) (n : ℕ) → meant heap.now s n answer ≡ equals_of (value heap.now term) (eval_of (value heap.now expression)) s) }
     ensures there { IfOk result (IsThere heap.now) }
 {
     match eval(alloc, heap, expression)? {
@@ -59,7 +59,7 @@ fn compared(
 ) -> Result<Answer, AllocError>
     requires left { IsValue heap.now left }
     requires right { IsValue heap.now right }
-    ensures is { IfOk result (λ answer. (s : Settings) → meant heap.now s answer ≡ compared_of c (eval_of (value heap.now left)) (eval_of (value heap.now right)) s) }
+    ensures is { IfOk result (λ answer. (s : Settings) (n : ℕ) → meant heap.now s n answer ≡ compared_of c (eval_of (value heap.now left)) (eval_of (value heap.now right)) s) }
     ensures there { IfOk result (IsThere heap.now) }
 {
     let x = match eval(alloc, heap, left)? {
@@ -75,7 +75,7 @@ fn compared(
 
 /// An error of an expression is raised.
 fn raises(alloc: Global, error: &ArithError) -> Result<Answer, AllocError>
-    ensures is { IfOk result (λ answer. (h : Store) (s : Settings) → meant h s answer ≡ Raises (error_of error.now)) }
+    ensures is { IfOk result (λ answer. (h : Store) (s : Settings) (n : ℕ) → meant h s n answer ≡ Raises (error_of error.now)) }
     ensures there { IfOk result (λ answer. (h : Store) → IsThere h answer) }
 {
     let term = error.term(alloc)?;

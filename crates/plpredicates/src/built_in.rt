@@ -10,6 +10,7 @@ use crate::atoms::atoms_answer;
 use crate::order::order_answer;
 use crate::output::output_answer;
 use crate::parts::parts_answer;
+use crate::sorting::sorting_answer;
 use crate::terms::terms_answer;
 use crate::tests::tests_answer;
 use plcells::cell::Cell;
@@ -28,7 +29,7 @@ pub fn answers(
     args: &[Cell],
 ) -> Result<Answer, AllocError>
     requires args { AreValues heap.now args.now }
-    ensures is { IfOk result (λ answer. (n : ℕ) → meant heap.now settings.now answer ≡ solutions b (map (value heap.now) args.now) settings.now n) }
+    ensures is { IfOk result (λ answer. (n : ℕ) → meant heap.now settings.now n answer ≡ solutions b (map (value heap.now) args.now) settings.now n) }
     ensures there { IfOk result (IsThere heap.now) }
 {
     match b {
@@ -37,6 +38,7 @@ pub fn answers(
         BuiltIn::Parts(b) => parts_answer(alloc, heap, b, args),
         BuiltIn::Arithmetic(b) => arithmetic_answer(alloc, heap, b, args),
         BuiltIn::Order(b) => order_answer(alloc, heap, b, args),
+        BuiltIn::Sorting(b) => sorting_answer(alloc, heap, b, args),
         BuiltIn::Atoms(b) => atoms_answer(alloc, heap, b, args),
         BuiltIn::Output(b) => output_answer(alloc, heap, settings, b, args),
     }

@@ -1,14 +1,18 @@
 //! The errors that built-in predicates raise (ISO/IEC 13211-1 7.12.2).
 ghost use Rattle.std.specs.Prelude.{◌≡◌, IfOk};
 ghost use Rattle.plterm.specs.Tree.{atom, compound, none, more};
-ghost use Rattle.plbuiltin.specs.Errors.{instantiation_error, type_error, domain_error};
+ghost use Rattle.plcells.specs.Store.{value, IsValue};
+ghost use Rattle.plbuiltin.specs.Errors.{instantiation_error, type_error, domain_error, representation_error, syntax_error};
 
+use crate::answer::Answer;
+use plcells::cell::Cell;
+use plcells::heap::Heap;
 use plterm::name::Name;
 use plterm::term::Term;
 use std::alloc::{AllocError, Global};
 
-/// An atom by its name.
-fn atom(alloc: Global, name: &str) -> Result<Term, AllocError>
+/// An atom by its name, which is short.
+pub(crate) fn atom(alloc: Global, name: &str) -> Result<Term, AllocError>
     ensures { IfOk result (λ t. t ≡ atom name.now) }
 {
     let name = Name::new(alloc, name)?;
@@ -25,6 +29,18 @@ fn error(alloc: Global, kind: &str, of: &str, culprit: Term) -> Result<Term, All
     let of = atom(alloc, of)?;
     let name = Name::new(alloc, kind)?;
     match Term::compound(alloc, name, vec![in alloc; of, culprit]?) {
+        Ok(term) => Ok(term),
+        Err(_) => Err(AllocError),
+    }
+}
+
+/// An error of a kind, of which a word tells more.
+fn word_error(alloc: Global, kind: &str, word: &str) -> Result<Term, AllocError>
+    ensures { IfOk result (λ t. t ≡ compound kind.now (more (atom word.now) none)) }
+{
+    let word = atom(alloc, word)?;
+    let name = Name::new(alloc, kind)?;
+    match Term::compound(alloc, name, vec![in alloc; word]?) {
         Ok(term) => Ok(term),
         Err(_) => Err(AllocError),
     }
@@ -49,4 +65,53 @@ pub(crate) fn domain_error(alloc: Global, domain: &str, culprit: Term) -> Result
     ensures { IfOk result (λ t. t ≡ domain_error domain.now culprit) }
 {
     error(alloc, "domain_error", domain, culprit)
+}
+
+/// A limit of what can be represented was met.
+pub(crate) fn representation_error(alloc: Global, limit: &str) -> Result<Term, AllocError>
+    ensures { IfOk result (λ t. t ≡ representation_error limit.now) }
+{
+    word_error(alloc, "representation_error", limit)
+}
+
+/// A text is none that can be read.
+pub(crate) fn syntax_error(alloc: Global, fault: &str) -> Result<Term, AllocError>
+    ensures { IfOk result (λ t. t ≡ syntax_error fault.now) }
+{
+    word_error(alloc, "syntax_error", fault)
+}
+
+/// A variable stands where a term is needed.
+pub(crate) fn unbound(alloc: Global) -> Result<Answer, AllocError>
+    ensures { IfOk result (λ answer. answer ≡ Answer.Raises instantiation_error) }
+{
+    Ok(Answer::Raises(instantiation_error(alloc)?))
+}
+
+/// The term of a value is of another type.
+pub(crate) fn wrong_type(
+    alloc: Global,
+    heap: &Heap,
+    kind: &str,
+    v: Cell,
+) -> Result<Answer, AllocError>
+    requires { IsValue heap.now v }
+    ensures { IfOk result (λ answer. answer ≡ Answer.Raises (type_error kind.now (value heap.now v))) }
+{
+    let culprit = heap.take(alloc, v)?;
+    Ok(Answer::Raises(type_error(alloc, kind, culprit)?))
+}
+
+/// The term of a value is outside of a domain.
+pub(crate) fn outside(
+    alloc: Global,
+    heap: &Heap,
+    domain: &str,
+    v: Cell,
+) -> Result<Answer, AllocError>
+    requires { IsValue heap.now v }
+    ensures { IfOk result (λ answer. answer ≡ Answer.Raises (domain_error domain.now (value heap.now v))) }
+{
+    let culprit = heap.take(alloc, v)?;
+    Ok(Answer::Raises(domain_error(alloc, domain, culprit)?))
 }

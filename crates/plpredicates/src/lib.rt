@@ -6,11 +6,15 @@
 pub mod answer;
 mod arithmetic;
 mod atoms;
+mod build;
 pub mod built_in;
+mod equation;
 mod error;
+mod list;
 mod order;
 mod output;
 mod parts;
-mod shape;
+mod sorting;
 mod terms;
 mod tests;
+mod text;

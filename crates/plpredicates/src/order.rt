@@ -1,5 +1,5 @@
 //! Built-in predicates that compare terms (ISO/IEC 13211-1 8.4), and ground/1 (8.3.10).
-ghost use Rattle.std.specs.Prelude.{◌≡◌, [], ◌∷◌, IfOk, map};
+ghost use Rattle.std.specs.Prelude.{◌≡◌, ℕ, [], ◌∷◌, IfOk, map};
 ghost use Rattle.plterm.specs.Order.{order};
 ghost use Rattle.plterm.specs.Tree.{atom};
 ghost use Rattle.plcells.specs.Store.{Store, value, IsValue, AreValues};
@@ -9,12 +9,13 @@ ghost use Rattle.plbuiltin.specs.Order.{compare as compare_of, is_sign, on_order
 ghost use Rattle.plpredicates.specs.Answers.{IsThere, meant};
 
 use crate::answer::Answer;
-use crate::error::{domain_error, type_error};
-use crate::shape::{Shape, shape_of};
+use crate::equation::is_term;
+use crate::error::{atom, outside, wrong_type};
 use plcells::cell::Cell;
 use plcells::heap::Heap;
 use plnames::kind::{Order, Relation};
 use plorder::compare::{Room, compare};
+use plorder::shape::{Shape, shape_of};
 use plorder::variables::is_ground;
 use plterm::name::Name;
 use std::alloc::{AllocError, Global};
@@ -28,7 +29,7 @@ pub(crate) fn order_answer(
     args: &[Cell],
 ) -> Result<Answer, AllocError>
     requires args { AreValues heap.now args.now }
-    ensures is { IfOk result (λ answer. (s : Settings) → meant heap.now s answer ≡ on_order b (map (value heap.now) args.now) s) }
+    ensures is { IfOk result (λ answer. (s : Settings) (n : ℕ) → meant heap.now s n answer ≡ on_order b (map (value heap.now) args.now) s) }
     ensures there { IfOk result (IsThere heap.now) }
 {
     match (b, args) {
@@ -47,7 +48,7 @@ pub(crate) fn order_answer(
 
 /// True, or a failure.
 fn decided(holds: bool) -> Answer
-    ensures is { (h : Store) (s : Settings) → meant h s result ≡ decides holds s }
+    ensures is { (h : Store) (s : Settings) (n : ℕ) → meant h s n result ≡ decides holds s }
     ensures there { (h : Store) → IsThere h result }
 {
     if holds {
@@ -95,12 +96,11 @@ fn ordered(alloc: Global, heap: &Heap, o: Cell, a: Cell, b: Cell) -> Result<Answ
     requires order { IsValue heap.now o }
     requires left { IsValue heap.now a }
     requires right { IsValue heap.now b }
-    ensures is { IfOk result (λ answer. (s : Settings) → meant heap.now s answer ≡ unifies (value heap.now o) (atom (sign (order (value heap.now a) (value heap.now b)))) s) }
+    ensures is { IfOk result (λ answer. (s : Settings) (n : ℕ) → meant heap.now s n answer ≡ unifies (value heap.now o) (atom (sign (order (value heap.now a) (value heap.now b)))) s) }
     ensures there { IfOk result (IsThere heap.now) }
 {
     let order = compare(heap, &mut Room::new(alloc), a, b)?;
-    let name = Name::new(alloc, sign_of(order))?;
-    Ok(Answer::Names(o, name))
+    is_term(alloc, o, atom(alloc, sign_of(order))?)
 }
 
 /// compare/3 (8.4.2).
@@ -114,19 +114,13 @@ fn compare_answer(
     requires order { IsValue heap.now o }
     requires left { IsValue heap.now a }
     requires right { IsValue heap.now b }
-    ensures is { IfOk result (λ answer. (s : Settings) → meant heap.now s answer ≡ compare_of (value heap.now o ∷ value heap.now a ∷ value heap.now b ∷ []) s) }
+    ensures is { IfOk result (λ answer. (s : Settings) (n : ℕ) → meant heap.now s n answer ≡ compare_of (value heap.now o ∷ value heap.now a ∷ value heap.now b ∷ []) s) }
     ensures there { IfOk result (IsThere heap.now) }
 {
     match shape_of(heap, o) {
-        Shape::Variable => ordered(alloc, heap, o, a, b),
+        Shape::Variable(_) => ordered(alloc, heap, o, a, b),
         Shape::Atom(name) if is_sign(heap.names().atom_name(name)) => ordered(alloc, heap, o, a, b),
-        Shape::Atom(_) => {
-            let culprit = heap.take(alloc, o)?;
-            Ok(Answer::Raises(domain_error(alloc, "order", culprit)?))
-        }
-        _ => {
-            let culprit = heap.take(alloc, o)?;
-            Ok(Answer::Raises(type_error(alloc, "atom", culprit)?))
-        }
+        Shape::Atom(_) => outside(alloc, heap, "order", o),
+        _ => wrong_type(alloc, heap, "atom", o),
     }
 }

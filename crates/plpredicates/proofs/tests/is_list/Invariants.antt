@@ -1,13 +1,13 @@
 use Rattle.std.proofs.Common.{◌≡◌}
 use Rattle.plcells.specs.Store.{IsValue, value}
 use Rattle.plcells.specs.Walking.{weight}
-use Rattle.plbuiltin.specs.Tests.{is_list}
+use Rattle.plbuiltin.specs.Lists.{elements_of}
 use Rattle.plpredicates.proofs.tests.is_list.Given as goal
 
 abbrev pub invariant-loop-tail : goal.invariant-loop-tail
 invariant-loop-tail l = record {
   fits : IsValue l.heap l.rest;
-  same : is_list (value l.heap l.rest) ≡ is_list (value l.heap l.fn.v);
+  same : (elements_of (value l.heap l.rest)).tail ≡ (elements_of (value l.heap l.fn.v)).tail;
 }
 
 abbrev pub decreases-loop-tail : goal.decreases-loop-tail

@@ -1,10 +1,13 @@
-use Rattle.std.proofs.Common.{refl, sym, ap, ap₂, map, ◌∙◌, rules, w64}
+use Rattle.std.proofs.Common.{refl, sym, ap, ap₂, map, [], ◌∷◌, ◌∙◌, rules, w64}
 use Rattle.std.specs.Prelude.{FitsSigned}
 use Rattle.std.proofs.lemmas.Int.{to_z-of_z}
-use Rattle.plterm.specs.Tree.{atom, int}
+use Rattle.plterm.specs.Tree.{int}
+use Rattle.plsubst.specs.Unify.{unify}
+use Rattle.plcells.specs.Equations.{left_of, right_of}
 use Rattle.plcells.specs.Store.{value}
 use Rattle.plclause.specs.Indicators.{indicator}
-use Rattle.plbuiltin.specs.Solution.{writes, unifies as unified_to}
+use Rattle.plbuiltin.specs.Solution.{Gives, writes, decides, unifies as unified_to}
+use Rattle.plbuiltin.specs.Terms.{is_none}
 use Rattle.plbuiltin.specs.Solutions.{solutions}
 use Rattle.plpredicates.specs.Answers.{meant}
 use Rattle.plsearch.specs.Rows.{offer}
@@ -13,7 +16,7 @@ use Rattle.plmachine.specs.declared.machine.Outcome.TheVariants as outcomes
 use Rattle.plmachine.specs.Machine.{local_of}
 use Rattle.plmachine.proofs.Lists.{holds-list, lengthened-grown, lengthened-same}
 use Rattle.plmachine.proofs.Moves.{went, gave, moved-as, on_ok_map}
-use Rattle.plmachine.proofs.Offers.{offer-writes, offer-succeeds, offer-fails, offer-unifies}
+use Rattle.plmachine.proofs.Offers.{offer-writes, offer-succeeds, offer-fails, offer-unifies, offer-solves}
 use Rattle.plmachine.proofs.machine.Machine.built_in.Goals as goal
 
 pub returns-in-Raises-clause-ok : goal.returns-in-Raises-clause-ok
@@ -23,7 +26,7 @@ returns-in-Raises-clause-ok c t stands =
     let p = indicator t in
     let es = goals_of s.stack c.args.rest in
     let heap = c.heap-heap.ensures.is ∙ ap (λ e. e.heap) c.env.ensures in
-    let is = ap (meant c.heap-heap.result.now s.settings) (sym c.in-Raises.is) ∙ c.in_ok-error.ensures.is n ∙ ap₂ (λ h xs. solutions c.args.b (map (value h) xs) s.settings n) heap c.deref.ensures.value in
+    let is = ap (meant c.heap-heap.result.now s.settings n) (sym c.in-Raises.is) ∙ c.in_ok-error.ensures.is n ∙ ap₂ (λ h xs. solutions c.args.b (map (value h) xs) s.settings n) heap c.deref.ensures.value in
     on_ok_map c.raise_of.result (moved-as c.args.program.now s c.raise_of.new.self _ _ (ap (λ x. offer x p es n (local_of s)) is)) (c.raise_of.ensures.ok t stands)
 
 pub returns-in-Fails-clause-ok : goal.returns-in-Fails-clause-ok
@@ -33,7 +36,7 @@ returns-in-Fails-clause-ok c t stands =
     let p = indicator t in
     let es = goals_of s.stack c.args.rest in
     let heap = c.heap-heap.ensures.is ∙ ap (λ e. e.heap) c.env.ensures in
-    let is = ap (meant c.heap-heap.result.now s.settings) (sym c.in-Fails.is) ∙ c.in_ok-error.ensures.is n ∙ ap₂ (λ h xs. solutions c.args.b (map (value h) xs) s.settings n) heap c.deref.ensures.value in
+    let is = ap (meant c.heap-heap.result.now s.settings n) (sym c.in-Fails.is) ∙ c.in_ok-error.ensures.is n ∙ ap₂ (λ h xs. solutions c.args.b (map (value h) xs) s.settings n) heap c.deref.ensures.value in
     moved-as c.args.program.now s c.give.new.self _ _ (offer-fails s.settings p es n (local_of s) refl ∙ ap (λ x. offer x p es n (local_of s)) is) (gave c.args.program.now s c.give.new.self outcomes.Fail c.give.ensures)
 
 pub returns-in-Succeeds-clause-ok : goal.returns-in-Succeeds-clause-ok
@@ -43,7 +46,7 @@ returns-in-Succeeds-clause-ok c t stands =
     let p = indicator t in
     let es = goals_of s.stack c.args.rest in
     let heap = c.heap-heap.ensures.is ∙ ap (λ e. e.heap) c.env.ensures in
-    let is = ap (meant c.heap-heap.result.now s.settings) (sym c.in-Succeeds.is) ∙ c.in_ok-error.ensures.is n ∙ ap₂ (λ h xs. solutions c.args.b (map (value h) xs) s.settings n) heap c.deref.ensures.value in
+    let is = ap (meant c.heap-heap.result.now s.settings n) (sym c.in-Succeeds.is) ∙ c.in_ok-error.ensures.is n ∙ ap₂ (λ h xs. solutions c.args.b (map (value h) xs) s.settings n) heap c.deref.ensures.value in
     moved-as c.args.program.now s c.go_on.new.self _ _ (offer-succeeds s.settings p es n (local_of s) refl ∙ ap (λ x. offer x p es n (local_of s)) is)
     (went c.args.program.now s c.go_on.new.self s.stack c.args.rest es (lengthened-grown s.stack s.stack (lengthened-same s.stack)) (holds-list s.stack c.args.rest c.requires.rest) c.go_on.ensures)
 
@@ -54,7 +57,7 @@ returns-in-Unifies-clause-ok c t stands =
     let p = indicator t in
     let es = goals_of s.stack c.args.rest in
     let heap = c.heap-heap.ensures.is ∙ ap (λ e. e.heap) c.env.ensures in
-    let is = ap (λ h. unified_to (value h c.in-Unifies.a) (value h c.in-Unifies.b) s.settings) (sym heap) ∙ ap (meant c.heap-heap.result.now s.settings) (sym c.in-Unifies.is) ∙ c.in_ok-error.ensures.is n ∙ ap₂ (λ h xs. solutions c.args.b (map (value h) xs) s.settings n) heap c.deref.ensures.value in
+    let is = ap (λ h. unified_to (value h c.in-Unifies.a) (value h c.in-Unifies.b) s.settings) (sym heap) ∙ ap (meant c.heap-heap.result.now s.settings n) (sym c.in-Unifies.is) ∙ c.in_ok-error.ensures.is n ∙ ap₂ (λ h xs. solutions c.args.b (map (value h) xs) s.settings n) heap c.deref.ensures.value in
     on_ok_map c.unify.result (moved-as c.args.program.now s c.unify.new.self _ _ (offer-unifies (value s.stack.env.heap c.in-Unifies.a) (value s.stack.env.heap c.in-Unifies.b) s.settings p es n (local_of s) refl ∙ ap (λ x. offer x p es n (local_of s)) is)) c.unify.ensures.ok
 
 pub returns-in-Equals-clause-ok : goal.returns-in-Equals-clause-ok
@@ -64,20 +67,31 @@ returns-in-Equals-clause-ok c t stands =
     let p = indicator t in
     let es = goals_of s.stack c.args.rest in
     let heap = c.heap-heap.ensures.is ∙ ap (λ e. e.heap) c.env.ensures in
-    let is = ap (λ h. unified_to (value h c.in-Equals.v) (int c.in-Equals.number) s.settings) (sym heap) ∙ ap (meant c.heap-heap.result.now s.settings) (sym c.in-Equals.is) ∙ c.in_ok-error.ensures.is n ∙ ap₂ (λ h xs. solutions c.args.b (map (value h) xs) s.settings n) heap c.deref.ensures.value in
+    let is = ap (λ h. unified_to (value h c.in-Equals.v) (int c.in-Equals.number) s.settings) (sym heap) ∙ ap (meant c.heap-heap.result.now s.settings n) (sym c.in-Equals.is) ∙ c.in_ok-error.ensures.is n ∙ ap₂ (λ h xs. solutions c.args.b (map (value h) xs) s.settings n) heap c.deref.ensures.value in
     let fits : FitsSigned w64 c.in-Equals.number = search rules in
     let moved = rw (to_z-of_z w64 c.in-Equals.number fits) at c.equal.ensures.ok in
     on_ok_map c.equal.result (moved-as c.args.program.now s c.equal.new.self _ _ (offer-unifies (value s.stack.env.heap c.in-Equals.v) (int c.in-Equals.number) s.settings p es n (local_of s) refl ∙ ap (λ x. offer x p es n (local_of s)) is)) moved
 
-pub returns-in-Names-clause-ok : goal.returns-in-Names-clause-ok
-returns-in-Names-clause-ok c t stands =
+pub returns-in-Differs-clause-ok : goal.returns-in-Differs-clause-ok
+returns-in-Differs-clause-ok c t stands =
     let s = c.args.self.now in
     let n = s.stack.env.count in
     let p = indicator t in
     let es = goals_of s.stack c.args.rest in
     let heap = c.heap-heap.ensures.is ∙ ap (λ e. e.heap) c.env.ensures in
-    let is = ap (λ h. unified_to (value h c.in-Names.v) (atom c.in-Names.name) s.settings) (sym heap) ∙ ap (meant c.heap-heap.result.now s.settings) (sym c.in-Names.is) ∙ c.in_ok-error.ensures.is n ∙ ap₂ (λ h xs. solutions c.args.b (map (value h) xs) s.settings n) heap c.deref.ensures.value in
-    on_ok_map c.unify_name.result (moved-as c.args.program.now s c.unify_name.new.self _ _ (offer-unifies (value s.stack.env.heap c.in-Names.v) (atom c.in-Names.name) s.settings p es n (local_of s) refl ∙ ap (λ x. offer x p es n (local_of s)) is)) c.unify_name.ensures.ok
+    let is = ap (λ h. decides (is_none (unify (value h c.in-Differs.a) (value h c.in-Differs.b))) s.settings) (sym heap) ∙ ap (meant c.heap-heap.result.now s.settings n) (sym c.in-Differs.is) ∙ c.in_ok-error.ensures.is n ∙ ap₂ (λ h xs. solutions c.args.b (map (value h) xs) s.settings n) heap c.deref.ensures.value in
+    on_ok_map c.differ.result (moved-as c.args.program.now s c.differ.new.self _ _ (ap (λ x. offer x p es n (local_of s)) is)) (c.differ.ensures.ok p)
+
+pub returns-in-Solves-clause-ok : goal.returns-in-Solves-clause-ok
+returns-in-Solves-clause-ok c t stands =
+    let s = c.args.self.now in
+    let n = s.stack.env.count in
+    let p = indicator t in
+    let es = goals_of s.stack c.args.rest in
+    let q = c.in-Solves.equation in
+    let heap = c.heap-heap.ensures.is ∙ ap (λ e. e.heap) c.env.ensures in
+    let is = ap (λ h. Gives (record { left = left_of h n q; right = right_of h n q; new = q.new } ∷ []) [] s.settings) (sym heap) ∙ ap (meant c.heap-heap.result.now s.settings n) (sym c.in-Solves.is) ∙ c.in_ok-error.ensures.is n ∙ ap₂ (λ h xs. solutions c.args.b (map (value h) xs) s.settings n) heap c.deref.ensures.value in
+    on_ok_map c.solve_equation.result (moved-as c.args.program.now s c.solve_equation.new.self _ _ (offer-solves (left_of s.stack.env.heap n q) (right_of s.stack.env.heap n q) q.new s.settings p es n (local_of s) refl ∙ ap (λ x. offer x p es n (local_of s)) is)) c.solve_equation.ensures.ok
 
 pub returns-in-Writes-clause-ok : goal.returns-in-Writes-clause-ok
 returns-in-Writes-clause-ok c t stands =
@@ -86,5 +100,5 @@ returns-in-Writes-clause-ok c t stands =
     let p = indicator t in
     let es = goals_of s.stack c.args.rest in
     let heap = c.heap-heap.ensures.is ∙ ap (λ e. e.heap) c.env.ensures in
-    let is = ap (λ bytes. writes bytes s.settings) c.deref-in-Writes.ensures.value ∙ ap (meant c.heap-heap.result.now s.settings) (sym c.in-Writes.is) ∙ c.in_ok-error.ensures.is n ∙ ap₂ (λ h xs. solutions c.args.b (map (value h) xs) s.settings n) heap c.deref.ensures.value in
+    let is = ap (λ bytes. writes bytes s.settings) c.deref-in-Writes.ensures.value ∙ ap (meant c.heap-heap.result.now s.settings n) (sym c.in-Writes.is) ∙ c.in_ok-error.ensures.is n ∙ ap₂ (λ h xs. solutions c.args.b (map (value h) xs) s.settings n) heap c.deref.ensures.value in
     on_ok_map c.write_bytes.result (moved-as c.args.program.now s c.write_bytes.new.self _ _ (offer-writes c.deref-in-Writes.result.now s.settings p es n (local_of s) ∙ ap (λ x. offer x p es n (local_of s)) is)) c.write_bytes.ensures.ok

@@ -1,0 +1,50 @@
+-- Terms as lists (ISO/IEC 13211-1 6.3.5).
+use Rattle.std.specs.Prelude.{List, [], ◌∷◌, codes, if◌then◌else◌}
+use Rattle.std.specs.Str.{bytes_eq}
+use Rattle.plterm.specs.Tree.{Tree, var, int, atom, compound, Trees, none, more}
+use Rattle.plbuiltin.specs.Errors.{instantiation_error, type_error}
+
+-- what stands behind the last element: the empty list, a variable, or another term
+pub data Tail : Type 0 where
+  Empty : Tail
+  Unbound : Tail
+  Other : Tail
+
+pub record Elements : Type 0 where
+  pub items : List Tree
+  pub tail : Tail
+
+-- no element
+abbrev pub ends : Tail → Elements
+ends tail = record { items = []; tail = tail }
+
+abbrev pub before : Tree → Elements → Elements
+before t es = record { items = t ∷ es.items; tail = es.tail }
+
+-- the elements from the left, as far as they go
+unfoldable mutual
+  pub elements_of : Tree → Elements
+  elements_of (var x) = ends Unbound
+  elements_of (int i) = ends Other
+  elements_of (atom name) = if bytes_eq name (codes "[]") then ends Empty else ends Other
+  elements_of (compound name ts) = if bytes_eq name (codes ".") then elements_in ts else ends Other
+
+  -- of the arguments of a list's cell
+  pub elements_in : Trees → Elements
+  elements_in none = ends Other
+  elements_in (more t none) = ends Other
+  elements_in (more t (more u none)) = before t (elements_of u)
+  elements_in (more t (more u (more v ts))) = ends Other
+
+-- the elements of a list, or the error of a term that is none
+pub data Checked : Type 0 where
+  Whole : List Tree → Checked
+  Amiss : Tree → Checked
+
+abbrev pub checked_by : List Tree → Tail → Tree → Checked
+checked_by ts Empty l = Whole ts
+checked_by ts Unbound l = Amiss instantiation_error
+checked_by ts Other l = Amiss (type_error (codes "list") l)
+
+abbrev pub checked : Tree → Checked
+checked l = let es = elements_of l in checked_by es.items es.tail l

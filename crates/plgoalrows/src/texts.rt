@@ -1,0 +1,287 @@
+//! Built-in predicates on the texts of atoms and numbers.
+use plrow::row::{Goal, first_wrong_goal};
+use std::test::Fail;
+
+/// atom_chars/2, atom_codes/2 and char_code/2.
+const TEXTS: [Goal; 32] = [
+    ("atom_chars(abc, L), writeq(L)", "[a,b,c]"),
+    ("atom_chars('', L), writeq(L)", "[]"),
+    ("atom_chars([], L), writeq(L)", "['[',']']"),
+    ("atom_chars('a b', L), writeq(L)", "[a,' ',b]"),
+    ("atom_chars(123, L), writeq(L)", "['1','2','3']"),
+    ("atom_chars(-5, L), writeq(L)", "[-,'5']"),
+    ("atom_chars('é€😀', L), writeq(L)", "['é','€','😀']"),
+    ("atom_chars(X, [a,b]), writeq(X)", "ab"),
+    ("atom_chars(X, []), writeq(X)", "''"),
+    // A text of digits becomes an atom, and no integer.
+    ("atom_chars(X, ['1','2']), writeq(X), atom(X)", "'12'"),
+    ("atom_chars(X, ['é', a]), writeq(X)", "'éa'"),
+    ("atom_chars(abc, [a|T]), writeq(T)", "[b,c]"),
+    ("atom_chars(abc, [a,X,c]), writeq(X)", "b"),
+    ("atom_chars(abc, [a,b]) ; write(no)", "no"),
+    // A term that is bound is spelled, whatever the list is.
+    ("atom_chars(abc, foo) ; write(no)", "no"),
+    ("atom_chars(abc, [1,2,3]) ; write(no)", "no"),
+    ("atom_codes(abc, L), writeq(L)", "[97,98,99]"),
+    ("atom_codes(12, L), writeq(L)", "[49,50]"),
+    (
+        "atom_codes(-9223372036854775808, L), length(L, N), writeq(N)",
+        "20",
+    ),
+    ("atom_codes('é€😀', L), writeq(L)", "[233,8364,128512]"),
+    ("atom_codes(X, [233,8364,128512]), writeq(X)", "'é€😀'"),
+    ("atom_codes(X, \"abc\"), writeq(X)", "abc"),
+    ("atom_codes(X, []), writeq(X)", "''"),
+    ("atom_codes(X, [0'a|[]]), writeq(X)", "a"),
+    ("atom_codes(abc, \"abd\") ; write(no)", "no"),
+    ("char_code(a, X), writeq(X)", "97"),
+    ("char_code(X, 97), writeq(X)", "a"),
+    ("char_code('😀', X), writeq(X)", "128512"),
+    (
+        "char_code(X, 0x10FFFF), char_code(X, Y), writeq(Y)",
+        "1114111",
+    ),
+    ("char_code(a, 97), write(yes)", "yes"),
+    ("char_code(a, 98) ; write(no)", "no"),
+    ("char_code(X, 10), writeq(X)", "'\\n'"),
+];
+
+/// number_chars/2, number_codes/2 and atom_number/2.
+const NUMBERS: [Goal; 36] = [
+    ("number_chars(X, ['1','2']), writeq(X)", "12"),
+    ("number_chars(X, [-,'1']), writeq(X)", "-1"),
+    ("number_chars(X, [' ','1']), writeq(X)", "1"),
+    ("number_chars(X, ['\\n',' ','1']), writeq(X)", "1"),
+    ("number_chars(X, [' ',-,'1']), writeq(X)", "-1"),
+    ("number_chars(12, L), writeq(L)", "['1','2']"),
+    ("number_chars(-12, L), writeq(L)", "[-,'1','2']"),
+    ("number_chars(12, ['1'|T]), writeq(T)", "['2']"),
+    ("number_chars(12, ['0','1','2']), write(yes)", "yes"),
+    ("number_chars(12, [' ','1','2']), write(yes)", "yes"),
+    ("number_chars(12, ['1','3']) ; write(no)", "no"),
+    ("number_chars(12, [a|_]) ; write(no)", "no"),
+    ("number_chars(12, foo) ; write(no)", "no"),
+    ("number_codes(X, \"42\"), writeq(X)", "42"),
+    ("number_codes(X, \"0x1F\"), writeq(X)", "31"),
+    ("number_codes(X, \"0o17\"), writeq(X)", "15"),
+    ("number_codes(X, \"0b101\"), writeq(X)", "5"),
+    ("number_codes(X, \"0'a\"), writeq(X)", "97"),
+    ("number_codes(X, \"-0'a\"), writeq(X)", "-97"),
+    ("number_codes(X, \"% c\\n7\"), writeq(X)", "7"),
+    ("number_codes(X, \"/* c */7\"), writeq(X)", "7"),
+    (
+        "number_codes(X, \"9223372036854775807\"), writeq(X)",
+        "9223372036854775807",
+    ),
+    (
+        "number_codes(X, \"-9223372036854775808\"), writeq(X)",
+        "-9223372036854775808",
+    ),
+    ("number_codes(65, L), writeq(L)", "[54,53]"),
+    ("number_codes(12, \"012\"), write(yes)", "yes"),
+    ("number_codes(12, \"13\") ; write(no)", "no"),
+    ("atom_number('12', X), writeq(X)", "12"),
+    ("atom_number('0x1F', X), writeq(X)", "31"),
+    ("atom_number(' -7', X), writeq(X)", "-7"),
+    ("atom_number(foo, _) ; write(no)", "no"),
+    ("atom_number('', _) ; write(no)", "no"),
+    ("atom_number('12 ', _) ; write(no)", "no"),
+    ("atom_number('9223372036854775808', _) ; write(no)", "no"),
+    ("atom_number(X, 12), writeq(X)", "'12'"),
+    ("atom_number(X, -12), writeq(X)", "'-12'"),
+    ("atom_number('12', 13) ; write(no)", "no"),
+];
+
+/// Their errors, in the order of their checks.
+const TEXT_ERRORS: [Goal; 49] = [
+    ("atom_chars(_, _)", "instantiation_error of atom_chars/2"),
+    (
+        "atom_chars(_, [a|_])",
+        "instantiation_error of atom_chars/2",
+    ),
+    (
+        "atom_chars(_, [a,_])",
+        "instantiation_error of atom_chars/2",
+    ),
+    (
+        "atom_chars(_, [a,_|b])",
+        "instantiation_error of atom_chars/2",
+    ),
+    (
+        "atom_chars(f(a), _)",
+        "type_error(atomic,f(a)) of atom_chars/2",
+    ),
+    ("atom_chars(_, foo)", "type_error(list,foo) of atom_chars/2"),
+    (
+        "atom_chars(_, [a|b])",
+        "type_error(list,[a|b]) of atom_chars/2",
+    ),
+    (
+        "atom_chars(_, [a,bc])",
+        "type_error(character,bc) of atom_chars/2",
+    ),
+    (
+        "atom_chars(_, [a,''])",
+        "type_error(character,'') of atom_chars/2",
+    ),
+    (
+        "atom_chars(_, [1])",
+        "type_error(character,1) of atom_chars/2",
+    ),
+    (
+        "atom_chars(_, [f(a)|_])",
+        "type_error(character,f(a)) of atom_chars/2",
+    ),
+    ("atom_codes(_, _)", "instantiation_error of atom_codes/2"),
+    ("atom_codes(_, [_])", "instantiation_error of atom_codes/2"),
+    (
+        "atom_codes(f(a), _)",
+        "type_error(atomic,f(a)) of atom_codes/2",
+    ),
+    (
+        "atom_codes(_, [97|98])",
+        "type_error(list,[97|98]) of atom_codes/2",
+    ),
+    (
+        "atom_codes(_, [a])",
+        "type_error(integer,a) of atom_codes/2",
+    ),
+    (
+        "atom_codes(_, [-1])",
+        "representation_error(character_code) of atom_codes/2",
+    ),
+    (
+        "atom_codes(_, [55296])",
+        "representation_error(character_code) of atom_codes/2",
+    ),
+    (
+        "atom_codes(_, [1114112])",
+        "representation_error(character_code) of atom_codes/2",
+    ),
+    (
+        "atom_codes(_, [4294967393])",
+        "representation_error(character_code) of atom_codes/2",
+    ),
+    ("char_code(_, _)", "instantiation_error of char_code/2"),
+    (
+        "char_code(ab, _)",
+        "type_error(character,ab) of char_code/2",
+    ),
+    ("char_code(1, _)", "type_error(character,1) of char_code/2"),
+    (
+        "char_code(ab, foo)",
+        "type_error(character,ab) of char_code/2",
+    ),
+    (
+        "char_code(_, foo)",
+        "type_error(integer,foo) of char_code/2",
+    ),
+    (
+        "char_code(a, foo)",
+        "type_error(integer,foo) of char_code/2",
+    ),
+    (
+        "char_code(_, -1)",
+        "representation_error(character_code) of char_code/2",
+    ),
+    (
+        "char_code(a, 55296)",
+        "representation_error(character_code) of char_code/2",
+    ),
+    (
+        "number_chars(_, _)",
+        "instantiation_error of number_chars/2",
+    ),
+    (
+        "number_chars(_, ['1'|_])",
+        "instantiation_error of number_chars/2",
+    ),
+    (
+        "number_chars(_, [_|1])",
+        "instantiation_error of number_chars/2",
+    ),
+    (
+        "number_chars(foo, ['1'])",
+        "type_error(number,foo) of number_chars/2",
+    ),
+    (
+        "number_chars(f(a), _)",
+        "type_error(number,f(a)) of number_chars/2",
+    ),
+    (
+        "number_chars(_, foo)",
+        "type_error(list,foo) of number_chars/2",
+    ),
+    (
+        "number_chars(_, [1])",
+        "type_error(character,1) of number_chars/2",
+    ),
+    (
+        "number_chars(_, [a])",
+        "syntax_error(illegal_number) of number_chars/2",
+    ),
+    (
+        "number_chars(_, [])",
+        "syntax_error(illegal_number) of number_chars/2",
+    ),
+    (
+        "number_chars(_, ['1',' '])",
+        "syntax_error(illegal_number) of number_chars/2",
+    ),
+    (
+        "number_chars(_, [-,' ','1'])",
+        "syntax_error(illegal_number) of number_chars/2",
+    ),
+    (
+        "number_chars(1, [a])",
+        "syntax_error(illegal_number) of number_chars/2",
+    ),
+    (
+        "number_codes(_, \"1.5\")",
+        "syntax_error(illegal_number) of number_codes/2",
+    ),
+    (
+        "number_codes(_, \"+1\")",
+        "syntax_error(illegal_number) of number_codes/2",
+    ),
+    (
+        "number_codes(_, \"9223372036854775808\")",
+        "syntax_error(illegal_number) of number_codes/2",
+    ),
+    (
+        "number_codes(_, [foo])",
+        "type_error(integer,foo) of number_codes/2",
+    ),
+    (
+        "number_codes(_, [-1])",
+        "representation_error(character_code) of number_codes/2",
+    ),
+    ("atom_number(_, _)", "instantiation_error of atom_number/2"),
+    ("atom_number(1, _)", "type_error(atom,1) of atom_number/2"),
+    (
+        "atom_number(_, foo)",
+        "type_error(integer,foo) of atom_number/2",
+    ),
+    (
+        "atom_number(foo, bar)",
+        "type_error(integer,bar) of atom_number/2",
+    ),
+];
+
+#[test]
+fn rows_of_texts(rt: HostRuntime) -> Result<(), Fail> {
+    assert_eq!(rt; first_wrong_goal(&rt, rt.alloc(), &TEXTS)?, None);
+    Ok(())
+}
+
+#[test]
+fn rows_of_numbers(rt: HostRuntime) -> Result<(), Fail> {
+    assert_eq!(rt; first_wrong_goal(&rt, rt.alloc(), &NUMBERS)?, None);
+    Ok(())
+}
+
+#[test]
+fn rows_of_text_errors(rt: HostRuntime) -> Result<(), Fail> {
+    assert_eq!(rt; first_wrong_goal(&rt, rt.alloc(), &TEXT_ERRORS)?, None);
+    Ok(())
+}

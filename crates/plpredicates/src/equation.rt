@@ -1,0 +1,97 @@
+//! Answers that are equations.
+ghost use Rattle.std.specs.Prelude.{◌≡◌, ℕ, suc, ◌<◌, map, IfOk};
+ghost use Rattle.plterm.specs.Tree.{var};
+ghost use Rattle.plterm.specs.Variables.{AllBelow};
+ghost use Rattle.plcells.specs.Store.{Store, value, IsValue, AreValues};
+ghost use Rattle.plprogram.specs.declared.settings.Settings.{Settings};
+ghost use Rattle.plread.specs.Texts.{listed};
+ghost use Rattle.plbuiltin.specs.Solution.{unifies};
+ghost use Rattle.plbuiltin.specs.Parts.{both};
+ghost use Rattle.plpredicates.specs.Answers.{IsThere, meant};
+ghost use Rattle.plpredicates.specs.Building.{solved_by, width};
+
+use crate::answer::Answer;
+use crate::build::list_of_variables;
+use plcells::cell::Cell;
+use plcells::equation::Equation;
+use plterm::name::Name;
+use plterm::term::Term;
+use std::alloc::{AllocError, Global};
+
+/// The term of a value is unified with a term, whose variable 0 stands for that value, the next for the other values, and the rest are new.
+pub(crate) fn solves(
+    alloc: Global,
+    v: Cell,
+    right: Term,
+    others: &[Cell],
+    new: u32,
+) -> Result<Answer, AllocError>
+    requires below { AllBelow (width others.now new) right }
+    ensures is { (h : Store) → IfOk result (λ answer. (s : Settings) (n : ℕ) → meant h s n answer ≡ solved_by h s n v others.now right new) }
+    ensures there { (h : Store) → IsValue h v → AreValues h others.now → IfOk result (IsThere h) }
+{
+    let left = Term::var(alloc, 0)?;
+    let mut values = Vec::with_capacity(alloc, others.len() + 1)?;
+    values.push(v)?;
+    values.extend_from_slice(others)?;
+    Ok(Answer::Solves(Equation {
+        left,
+        right,
+        values,
+        new,
+    }))
+}
+
+/// The term of a value is unified with a term without variables.
+pub(crate) fn is_term(alloc: Global, v: Cell, term: Term) -> Result<Answer, AllocError>
+    requires { AllBelow 0 term }
+    ensures is { (h : Store) → IfOk result (λ answer. (s : Settings) (n : ℕ) → meant h s n answer ≡ unifies (value h v) term s) }
+    ensures there { (h : Store) → IsValue h v → IfOk result (IsThere h) }
+{
+    solves(alloc, v, term, &[], 0)
+}
+
+/// The term of a value is unified with the list of the terms of others.
+pub(crate) fn is_list_of(alloc: Global, v: Cell, items: &[Cell]) -> Result<Answer, AllocError>
+    ensures is { (h : Store) → IfOk result (λ answer. (s : Settings) (n : ℕ) → meant h s n answer ≡ unifies (value h v) (listed (map (value h) items.now)) s) }
+    ensures there { (h : Store) → IsValue h v → AreValues h items.now → IfOk result (IsThere h) }
+{
+    let term = list_of_variables(alloc, 1, items.len() as u64)?;
+    solves(alloc, v, term, items, 0)
+}
+
+/// The terms of two values are unified with those of two others.
+pub(crate) fn are_values(
+    alloc: Global,
+    left: (Cell, Cell),
+    right: (Cell, Cell),
+) -> Result<Answer, AllocError>
+    ensures is { (h : Store) → IfOk result (λ answer. (s : Settings) (n : ℕ) → meant h s n answer ≡ unifies (both (value h left.0) (value h left.1)) (both (value h right.0) (value h right.1)) s) }
+    ensures there { (h : Store) → IsValue h left.0 → IsValue h left.1 → IsValue h right.0 → IsValue h right.1 → IfOk result (IsThere h) }
+{
+    let mut values = Vec::new(alloc);
+    values.push(left.0)?;
+    values.push(left.1)?;
+    values.push(right.0)?;
+    values.push(right.1)?;
+    Ok(Answer::Solves(Equation {
+        left: pair(alloc, 0)?,
+        right: pair(alloc, 2)?,
+        values,
+        new: 0,
+    }))
+}
+
+/// Two variables at once, with the numbers from one on.
+fn pair(alloc: Global, from: u64) -> Result<Term, AllocError>
+    requires { from < 3 }
+    ensures { IfOk result (λ t. t ≡ both (var from) (var (suc from))) }
+{
+    let name = Name::new(alloc, "-")?;
+    let a = Term::var(alloc, from)?;
+    let b = Term::var(alloc, from + 1)?;
+    match Term::compound(alloc, name, vec![in alloc; a, b]?) {
+        Ok(term) => Ok(term),
+        Err(_) => Err(AllocError),
+    }
+}
