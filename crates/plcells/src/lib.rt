@@ -5,6 +5,7 @@
 
 pub mod cell;
 pub mod heap;
+pub mod id;
 pub mod occurs;
 pub mod put;
 pub mod take;
