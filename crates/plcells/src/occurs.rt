@@ -84,13 +84,13 @@ impl Heap {
 
     /// Whether the variable of the cell `x` stands in the term of a value. What is known not to hold it is not walked.
     #[inline(always)]
-    pub fn occurs(&self, stack: &mut Vec<CellId>, x: CellId, v: Cell) -> Result<bool, AllocError>
+    pub fn occurs(&self, stack: &mut Vec<CellId>, x: CellId, v: &Cell) -> Result<bool, AllocError>
         requires variable { IsEnd self.now (RefCell x) }
-        requires fits { IsValue self.now v }
-        ensures is { IfOk result (λ r. (n : ℕ) → term self.now x ≡ var n → r ≡ occurs n (value self.now v)) }
+        requires fits { IsValue self.now v.now }
+        ensures is { IfOk result (λ r. (n : ℕ) → term self.now x ≡ var n → r ≡ occurs n (value self.now v.now)) }
         ensures heap { OnOk result (IsHeap self.now) }
     {
-        match self.root(v) {
+        match self.root(*v) {
             Cell::Ref(c) => Ok(c == x),
             Cell::Str(p) => self.occurs_below(stack, x, p),
             _ => Ok(false),
