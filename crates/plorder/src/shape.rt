@@ -4,11 +4,12 @@ ghost use Rattle.plorder.specs.Shapes.{IsOfShape};
 
 use plcells::cell::Cell;
 use plcells::heap::Heap;
+use plcells::id::CellId;
 
 /// A compound on the heap: where its block begins, the number of its functor, and how many arguments it has.
 #[derive(Clone, Copy)]
 pub struct Block {
-    pub place: u32,
+    pub place: CellId,
     pub functor: u32,
     pub arity: u16,
 }
