@@ -195,7 +195,7 @@ fn descend(heap: &Heap, work: &mut Vec<(CellId, CellId)>) -> Result<Verdict, All
     while let Some(pair) = work.pop() {
         match compare(heap, heap.argument(pair.0), heap.argument(pair.1)) {
             Verdict::Same => {}
-            Verdict::Args(p, q, k) => push_pairs(work, p.argument(1), q.argument(1), k)?,
+            Verdict::Args(p, q, k) => push_pairs(work, p.arg(1), q.arg(1), k)?,
             Verdict::Clash => return Ok(Verdict::Clash),
             Verdict::Binds(x, v) => return Ok(Verdict::Binds(x, v)),
         }
@@ -282,7 +282,7 @@ pub fn unify_in_choice(
         Verdict::Binds(x, v) => bind_apart(heap, &mut scratch.stack, x, v),
         Verdict::Args(p, q, k) => {
             scratch.work.clear();
-            push_pairs(&mut scratch.work, p.argument(1), q.argument(1), k)?;
+            push_pairs(&mut scratch.work, p.arg(1), q.arg(1), k)?;
             solve(heap, scratch)
         }
     }

@@ -52,7 +52,7 @@ impl CellId {
 
     /// The argument of a number, from 1 on, of the block that begins here.
     #[inline(always)]
-    pub fn argument(self, number: u32) -> CellId
+    pub fn arg(self, number: u32) -> CellId
         requires { self + number < 2 ^ 32 }
         ensures { result ≡ self + number }
     {

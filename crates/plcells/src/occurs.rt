@@ -36,7 +36,7 @@ impl Heap {
             return Ok(false);
         };
         for j in 0..count {
-            match self.root(self.argument(p.argument(1 + u32::from(j)))) {
+            match self.root(self.argument(p.arg(1 + u32::from(j)))) {
                 Cell::Ref(c) => if c == x {
                     return Ok(true);
                 },

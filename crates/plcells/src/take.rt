@@ -45,7 +45,7 @@ fn take_value(
             let functor = heap.names().functor_of(f);
             let name = heap.names().atom_name(functor.name).copied()?;
             nodes.push(Node::Compound(name, count))?;
-            push_run(stack, p.argument(1), count)?;
+            push_run(stack, p.arg(1), count)?;
         }
         number => nodes.push(Node::Int(heap.integer_of(number)))?,
     }

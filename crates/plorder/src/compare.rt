@@ -110,8 +110,8 @@ fn judge_blocks(heap: &Heap, a: Block, b: Block) -> Verdict
     }
     match compare_functors(heap.names(), a.functor, b.functor) {
         Ordering::Equal => Verdict::Arguments(Run {
-            left: a.place.argument(1),
-            right: b.place.argument(1),
+            left: a.place.arg(1),
+            right: b.place.arg(1),
             count: a.arity,
         }),
         decided => Verdict::Decided(decided),

@@ -39,7 +39,7 @@ fn look(heap: &Heap, work: &mut Vec<Span>, v: Cell) -> Result<bool, AllocError>
     match shape_of(heap, v) {
         Shape::Variable(_) => return Ok(false),
         Shape::Compound(block) => work.push(Span {
-            first: block.place.argument(1),
+            first: block.place.arg(1),
             count: block.arity,
         })?,
         _ => {}

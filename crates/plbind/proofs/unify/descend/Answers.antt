@@ -32,13 +32,13 @@ loop-pair-preserved-in-Same c =
       same = equal_same h c.args.work.now.items c.loop-pair.work.items c.pop.new.self.items c.in-Some.pair.0 c.in-Some.pair.1 c.in-Some.ensures.items says c.loop-pair.invariant.same;
     }
 
-pub argument-requires-in-Args : goal.argument-requires-in-Args
+pub arg-requires : goal.arg-requires
 unfolding Says
-argument-requires-in-Args c = omega (arith, c.in-Args.ensures.left, c.in-Args.ensures.few)
+arg-requires c = omega (arith, c.in-Args.ensures.left, c.in-Args.ensures.few)
 
-pub argument-requires-in-Args-2 : goal.argument-requires-in-Args-2
+pub arg-requires-in-Args : goal.arg-requires-in-Args
 unfolding Says
-argument-requires-in-Args-2 c = omega (arith, c.in-Args.ensures.right, c.in-Args.ensures.few)
+arg-requires-in-Args c = omega (arith, c.in-Args.ensures.right, c.in-Args.ensures.few)
 
 pub push_pairs-requires-clause-left : goal.push_pairs-requires-clause-left
 unfolding Says
@@ -53,7 +53,7 @@ unfolding Says
 loop-pair-smaller c =
     let h = c.args.heap.now in
     let says = says-along h (value h c.argument.result) (value h c.argument-in-Some.result) (term h c.in-Some.pair.0) (term h c.in-Some.pair.1) (Args c.in-Args.p c.in-Args.q c.in-Args.k) c.argument.ensures.same c.argument-in-Some.ensures.same c.in-Args.ensures in
-    rw (c.in_ok-push_pairs-in-Args.ensures, c.argument-in-Args.ensures, c.argument-in-Args-2.ensures) (
+    rw (c.in_ok-push_pairs-in-Args.ensures, c.arg.ensures, c.arg-in-Args.ensures) (
     lighter_args h c.args.work.now.items c.loop-pair.work.items c.pop.new.self.items c.in-Some.pair.0 c.in-Some.pair.1 c.in-Some.ensures.items c.in-Args.p c.in-Args.q c.in-Args.k (c.in-Args.p + 1) (c.in-Args.q + 1) says (omega arith) (omega arith))
 
 pub loop-pair-preserved : goal.loop-pair-preserved
@@ -61,7 +61,7 @@ unfolding Says
 loop-pair-preserved c =
     let h = c.args.heap.now in
     let says = says-along h (value h c.argument.result) (value h c.argument-in-Some.result) (term h c.in-Some.pair.0) (term h c.in-Some.pair.1) (Args c.in-Args.p c.in-Args.q c.in-Args.k) c.argument.ensures.same c.argument-in-Some.ensures.same c.in-Args.ensures in
-    rw (c.in_ok-push_pairs-in-Args.ensures, c.argument-in-Args.ensures, c.argument-in-Args-2.ensures) (record {
+    rw (c.in_ok-push_pairs-in-Args.ensures, c.arg.ensures, c.arg-in-Args.ensures) (record {
       inside = inside_args h c.args.work.now.items c.loop-pair.work.items c.pop.new.self.items c.in-Some.pair.0 c.in-Some.pair.1 c.in-Some.ensures.items c.in-Args.p c.in-Args.q c.in-Args.k (c.in-Args.p + 1) (c.in-Args.q + 1) says (omega arith) (omega arith) c.loop-pair.invariant.inside;
       same = equal_args h c.args.work.now.items c.loop-pair.work.items c.pop.new.self.items c.in-Some.pair.0 c.in-Some.pair.1 c.in-Some.ensures.items c.in-Args.p c.in-Args.q c.in-Args.k (c.in-Args.p + 1) (c.in-Args.q + 1) says (omega arith) (omega arith) c.loop-pair.invariant.same;
     })

@@ -21,28 +21,28 @@ loop-j-init c =
       lighter = start-lighter h c.args.stack.now.items;
     }
 
-pub argument-requires : goal.argument-requires
-argument-requires c =
+pub arg-requires : goal.arg-requires
+arg-requires c =
     let b = c.open_arity.ensures.some c.in-Some.count c.in-Some.is in
     omega (arith, b.within, b.few, c.loop-j-test.true, c.from.ensures)
 
-pub argument-requires-in-loop-j-clause-within : goal.argument-requires-in-loop-j-clause-within
-argument-requires-in-loop-j-clause-within c =
+pub argument-requires-clause-within : goal.argument-requires-clause-within
+argument-requires-clause-within c =
     let b = c.open_arity.ensures.some c.in-Some.count c.in-Some.is in
-    omega (arith, b.within, c.loop-j-test.true, c.from.ensures, c.argument.ensures)
+    omega (arith, b.within, c.loop-j-test.true, c.from.ensures, c.arg.ensures)
 
-pub argument-requires-in-loop-j-clause-plain : goal.argument-requires-in-loop-j-clause-plain
-argument-requires-in-loop-j-clause-plain c =
+pub argument-requires-clause-plain : goal.argument-requires-clause-plain
+argument-requires-clause-plain c =
     let b = c.open_arity.ensures.some c.in-Some.count c.in-Some.is in
-    b.plain c.argument.result (omega (arith, c.argument.ensures)) (omega (arith, c.loop-j-test.true, c.from.ensures, c.argument.ensures))
+    b.plain c.arg.result (omega (arith, c.arg.ensures)) (omega (arith, c.loop-j-test.true, c.from.ensures, c.arg.ensures))
 
 pub returns-then-eq-clause-found : goal.returns-then-eq-clause-found
 returns-then-eq-clause-found c = λ e n numbered.
     let h = c.args.self.now in
     let b = c.open_arity.ensures.some c.in-Some.count c.in-Some.is in
-    let d = c.argument.result in
-    let same : term h d ≡ term h c.in-Ref.c = sym c.argument-in-loop-j.ensures.same ∙ sym c.in-Ref.ensures.same in
-    some-argument h c.args.p c.in-Some.count c.loop-j.j d n b (omega (arith, c.from.ensures, c.argument.ensures)) c.loop-j-test.true
+    let d = c.arg.result in
+    let same : term h d ≡ term h c.in-Ref.c = sym c.argument.ensures.same ∙ sym c.in-Ref.ensures.same in
+    some-argument h c.args.p c.in-Some.count c.loop-j.j d n b (omega (arith, c.from.ensures, c.arg.ensures)) c.loop-j-test.true
     (ap (occurs n) same ∙ same-some h c.root.ensures.heap c.args.x n c.requires.variable numbered c.in-Ref.c (eqb-true c.in-Ref.c c.args.x (sym c.eq.ensures ∙ c.if-eq.true)))
 
 pub loop-j-preserved : goal.loop-j-preserved
@@ -51,26 +51,26 @@ loop-j-preserved c =
     let old = c.args.stack.now.items in
     let p = c.args.p in
     let j = c.loop-j.j in
-    let d = c.argument.result in
-    let is : d ≡ suc p + j = omega (arith, c.from.ensures, c.argument.ensures) in
+    let d = c.arg.result in
+    let is : d ≡ suc p + j = omega (arith, c.from.ensures, c.arg.ensures) in
     let inv = c.loop-j.invariant in
     elim c.match-root.branch [
       | in-Ref+else-eq w ↦ rw w.stack-is (
-          let same : term h d ≡ term h w.in-Ref.c = sym c.argument-in-loop-j.ensures.same ∙ sym w.in-Ref.ensures.same in
+          let same : term h d ≡ term h w.in-Ref.c = sym c.argument.ensures.same ∙ sym w.in-Ref.ensures.same in
           record {
             blocks = inv.blocks;
             left = λ n numbered. skipped-left h p j d old c.loop-j.stack.items is n (inv.left n numbered) (ap (occurs n) same ∙ other-none h c.root.ensures.heap c.args.x n c.requires.variable numbered w.in-Ref.c w.in-Ref.ensures.end (eqb-false w.in-Ref.c c.args.x (sym w.eq.ensures ∙ w.if-eq.false)));
             lighter = skipped-lighter h p j d old c.loop-j.stack.items is inv.lighter;
           })
       | in-Str+then-ge+in_ok-push-in-Str w ↦ rw (w.stack-is, w.in_ok-push-in-Str.ensures.items) (
-          let same : term h w.in-Str.q ≡ term h d = w.in-Str.ensures.same ∙ c.argument-in-loop-j.ensures.same in
+          let same : term h w.in-Str.q ≡ term h d = w.in-Str.ensures.same ∙ c.argument.ensures.same in
           record {
             blocks = blocks-push h c.loop-j.stack.items w.in-Str.q inv.blocks w.in-Str.ensures.fits.0 w.in-Str.ensures.fits.1;
             left = λ n numbered. pushed-left h p j d old c.loop-j.stack.items is n (inv.left n numbered) w.in-Str.q same;
             lighter = pushed-lighter h p j d old c.loop-j.stack.items is inv.lighter w.in-Str.q same;
           })
       | in-Str+else-ge w ↦ rw w.stack-is (
-          let same : term h d ≡ term h w.in-Str.q = sym c.argument-in-loop-j.ensures.same ∙ sym w.in-Str.ensures.same in
+          let same : term h d ≡ term h w.in-Str.q = sym c.argument.ensures.same ∙ sym w.in-Str.ensures.same in
           record {
             blocks = inv.blocks;
             left = λ n numbered. skipped-left h p j d old c.loop-j.stack.items is n (inv.left n numbered) (ap (occurs n) same ∙ c.requires.floor n w.in-Str.q numbered (below w.in-Str.q c.args.floor w.ge.ensures w.if-ge.false));
@@ -80,7 +80,7 @@ loop-j-preserved c =
           record {
             blocks = inv.blocks;
             left = λ n numbered. skipped-left h p j d old c.loop-j.stack.items is n (inv.left n numbered)
-                (ap (occurs n) (sym c.argument-in-loop-j.ensures.same ∙ sym c.root.ensures.same) ∙ leaf h n c.root.result c.root.ensures.fits w.in_default-root.not-Ref w.in_default-root.not-Str);
+                (ap (occurs n) (sym c.argument.ensures.same ∙ sym c.root.ensures.same) ∙ leaf h n c.root.result c.root.ensures.fits w.in_default-root.not-Ref w.in_default-root.not-Str);
             lighter = skipped-lighter h p j d old c.loop-j.stack.items is inv.lighter;
           })
     ]
