@@ -36,19 +36,19 @@ impl Continuation {
 }
 
 /// The level that an item names.
-fn level_of(item: Item) -> u64
-    ensures { result ≡ level_in item }
+fn level_of(item: &Item) -> u64
+    ensures { result ≡ level_in item.now }
 {
     match item {
         Item::Run(run) => run.level,
-        Item::Goal(level, _) => level,
-        Item::Marker(_, level) => level,
+        Item::Goal(level, _) => *level,
+        Item::Marker(_, level) => *level,
     }
 }
 
 /// How many slots an item asks for.
-fn slots_for(item: Item) -> u32
-    ensures { result ≡ slots_in item }
+fn slots_for(item: &Item) -> u32
+    ensures { result ≡ slots_in item.now }
 {
     match item {
         Item::Run(run) => run.end,
@@ -90,8 +90,8 @@ pub fn push_link(links: &mut Vec<Link>, item: Item, rest: u32) -> Result<u32, Al
     if number >= u32::MAX as usize {
         return Err(AllocError);
     }
-    let top = level_of(item).max(top_of(links, rest));
-    let slots = slots_for(item).max(slots_of(links, rest));
+    let top = level_of(&item).max(top_of(links, rest));
+    let slots = slots_for(&item).max(slots_of(links, rest));
     links.push(Link {
         item,
         next: rest,

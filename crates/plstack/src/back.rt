@@ -47,18 +47,20 @@ impl Stack {
         ensures at { AtHandler self.new result.catcher result.list }
         ensures code { self.new.code ≡ self.old.code }
     {
-        let Some(Frame::Open(point, Resume::Catch(catcher))) = self.frames.pop() else {
+        let Some(Frame::Open(point, resume)) = self.frames.pop() else {
+            unreachable!()
+        };
+        let Resume::Catch(catcher) = resume else {
             unreachable!()
         };
         self.env.undo(point.marks.env);
         self.links.truncate(point.marks.links);
         self.saved.truncate(point.marks.saved);
         self.goals = Continuation::alone(0);
-        push_frame(&mut self.frames, Frame::Open(point, Resume::Catch(catcher)));
-        Handling {
-            catcher,
-            list: point.list,
-        }
+        let list = point.list;
+        let kept = catcher;
+        push_frame(&mut self.frames, Frame::Open(point, Resume::Catch(kept)));
+        Handling { catcher, list }
     }
 
     /// Visits a list in a choice with nothing left, in place of the innermost case, which is a handler.

@@ -38,17 +38,17 @@ impl Stack {
             if list.rest == 0 {
                 return First::Nothing;
             }
-            let link = self.links[list.rest as usize - 1];
+            let link = &self.links[list.rest as usize - 1];
             let behind = Continuation::alone(link.next);
-            match link.item {
+            match &link.item {
                 Item::Run(run) => {
                     list = Continuation {
-                        run,
+                        run: *run,
                         rest: link.next,
                     };
                 }
-                Item::Goal(level, v) => return First::Goal(level, v, behind),
-                Item::Marker(kind, level) => return First::Marker(kind, level, behind),
+                Item::Goal(level, v) => return First::Goal(*level, *v, behind),
+                Item::Marker(kind, level) => return First::Marker(*kind, *level, behind),
             }
         }
     }

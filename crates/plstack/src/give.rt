@@ -1,12 +1,11 @@
 //! Goal lists and slots that nothing holds.
-ghost use Rattle.std.specs.Prelude.{◌≡◌, ◌≤◌, ◌-◌, [], ◌∷◌, ◌++◌, length, reverse, take};
-ghost use Rattle.pllinks.specs.Links.{link_at};
+ghost use Rattle.std.specs.Prelude.{◌≡◌, ◌≤◌, ◌-◌, [], ◌∷◌, ◌++◌, length, reverse, take, get_or};
 ghost use Rattle.plstack.specs.Holding.{held};
 ghost use Rattle.plstack.specs.Giving.{GivesBack, IsLow, IsShort};
 
 use crate::hold::links_held_in;
 use crate::stack::Stack;
-use pllinks::link::{Link, slots_of};
+use pllinks::link::slots_of;
 
 impl Stack {
     /// Gives back lists and slots that neither the open cases nor the list that is visited hold.
@@ -94,9 +93,9 @@ impl Stack {
 }
 
 /// Gives back the list below the last one, whose place the last one takes.
-fn drop_below(links: &mut Vec<Link>)
+fn drop_below<T: Copy>(links: &mut Vec<T>)
     requires { 2 ≤ length links.old.items }
-    ensures { links.new.items ≡ take (length links.old.items - 2) links.old.items ++ link_at links.old.items (length links.old.items - 1) ∷ [] }
+    ensures { (d : T) → links.new.items ≡ take (length links.old.items - 2) links.old.items ++ get_or links.old.items (length links.old.items - 1) d ∷ [] }
 {
     if let Some(last) = links.pop() {
         links.truncate(links.len() - 1);
