@@ -41,7 +41,7 @@ fn atom_length(alloc: Global, heap: &Heap, args: &[Cell]) -> Result<Answer, Allo
     let [text, length] = args else {
         return Ok(Answer::Fails);
     };
-    match shape_of(heap, *text) {
+    match shape_of(heap, text) {
         Shape::Variable => Ok(Answer::Raises(instantiation_error(alloc)?)),
         Shape::Atom(name) => has_length(alloc, heap, heap.names().atom_name(name), *length),
         _ => {
@@ -58,7 +58,7 @@ fn has_length(alloc: Global, heap: &Heap, name: &Name, length: Cell) -> Result<A
     ensures is { IfOk result (λ answer. (s : Settings) → meant heap.now s answer ≡ has_length name.now (value heap.now length) s) }
     ensures there { IfOk result (IsThere heap.now) }
 {
-    match shape_of(heap, length) {
+    match shape_of(heap, &length) {
         Shape::Atom(_) | Shape::Compound => {
             let culprit = heap.take(alloc, length)?;
             Ok(Answer::Raises(type_error(alloc, "integer", culprit)?))

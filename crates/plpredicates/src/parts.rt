@@ -50,14 +50,14 @@ fn arg(
     ensures is { IfOk result (λ answer. (s : Settings) → meant heap.now s answer ≡ arg_of (value heap.now number) (value heap.now term) (value heap.now argument) s) }
     ensures there { IfOk result (IsThere heap.now) }
 {
-    match shape_of(heap, number) {
+    match shape_of(heap, &number) {
         Shape::Variable => Ok(Answer::Raises(instantiation_error(alloc)?)),
-        Shape::Integer(n) => match shape_of(heap, term) {
+        Shape::Integer(n) => match shape_of(heap, &term) {
             Shape::Variable => Ok(Answer::Raises(instantiation_error(alloc)?)),
             Shape::Compound => numbered(alloc, heap, n, term, argument),
             _ => wrong_type(alloc, heap, "compound", term),
         },
-        _ => match shape_of(heap, term) {
+        _ => match shape_of(heap, &term) {
             Shape::Variable => Ok(Answer::Raises(instantiation_error(alloc)?)),
             _ => wrong_type(alloc, heap, "integer", number),
         },
@@ -111,5 +111,5 @@ fn is_argument(heap: &Heap, number: u64, term: Cell, argument: Cell) -> Answer
     if number > u64::from(arity) {
         return Answer::Fails;
     }
-    Answer::Unifies(argument, heap.argument(p + number as u32))
+    Answer::Unifies(argument, heap.argument(p.arg(number as u32)))
 }

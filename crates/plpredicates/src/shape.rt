@@ -19,11 +19,11 @@ pub(crate) enum Shape {
 }
 
 /// What the term of a value is.
-pub(crate) fn shape_of(heap: &Heap, v: Cell) -> Shape
-    requires { IsValue heap.now v }
-    ensures { IsOfShape heap.now (value heap.now v) result }
+pub(crate) fn shape_of(heap: &Heap, v: &Cell) -> Shape
+    requires { IsValue heap.now v.now }
+    ensures { IsOfShape heap.now (value heap.now v.now) result }
 {
-    let root = heap.root(v);
+    let root = heap.root(*v);
     match root {
         Cell::Ref(_) => Shape::Variable,
         Cell::Atom(name) => Shape::Atom(name),

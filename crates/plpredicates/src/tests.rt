@@ -29,7 +29,7 @@ fn holds(heap: &Heap, b: Tests, v: Cell) -> bool
     requires { IsValue heap.now v }
     ensures { result ≡ holds_of b (value heap.now v) }
 {
-    let shape = shape_of(heap, v);
+    let shape = shape_of(heap, &v);
     match b {
         Tests::Variable => matches!(shape, Shape::Variable),
         Tests::Bound => !matches!(shape, Shape::Variable),
@@ -48,19 +48,19 @@ fn is_list(heap: &Heap, v: Cell) -> bool
     ensures { result ≡ is_list_of (value heap.now v) }
 {
     let mut rest = v;
-    while let Some(tail) = tail_of(heap, rest) {
+    while let Some(tail) = tail_of(heap, &rest) {
         rest = tail;
     }
     is_empty_list(heap, rest)
 }
 
 /// What stands behind the first element of a list.
-fn tail_of(heap: &Heap, v: Cell) -> Option<Cell>
-    requires { IsValue heap.now v }
-    ensures some { (w : Cell) → result ≡ Some w → IsTail heap.now (value heap.now v) w }
-    ensures none { result ≡ None → is_list_of (value heap.now v) ≡ is_empty_list (value heap.now v) }
+fn tail_of(heap: &Heap, v: &Cell) -> Option<Cell>
+    requires { IsValue heap.now v.now }
+    ensures some { (w : Cell) → result ≡ Some w → IsTail heap.now (value heap.now v.now) w }
+    ensures none { result ≡ None → is_list_of (value heap.now v.now) ≡ is_empty_list (value heap.now v.now) }
 {
-    let Cell::Str(p) = heap.root(v) else {
+    let Cell::Str(p) = heap.root(*v) else {
         return None;
     };
     let (f, arity) = heap.block(p);
@@ -70,7 +70,7 @@ fn tail_of(heap: &Heap, v: Cell) -> Option<Cell>
     let functor = heap.names().functor_of(f);
     let name = heap.names().atom_name(functor.name);
     if name.as_str() == "." {
-        Some(heap.argument(p + 2))
+        Some(heap.argument(p.arg(2)))
     } else {
         None
     }
@@ -81,7 +81,7 @@ fn is_empty_list(heap: &Heap, v: Cell) -> bool
     requires { IsValue heap.now v }
     ensures { result ≡ is_empty_list (value heap.now v) }
 {
-    match shape_of(heap, v) {
+    match shape_of(heap, &v) {
         Shape::Atom(name) => heap.names().atom_name(name).as_str() == "[]",
         _ => false,
     }

@@ -32,4 +32,4 @@ returns-clause-is c = λ f ts s e.
     let all = arguments_of h p c.block-arity.result.0 k f ts c.block-arity.ensures.block (sym (ap (value h) c.in-Str.is) ∙ c.root.ensures.same ∙ e) in
     let below : n < k = omega (arith, first, c.if-number-from.false, c.from.ensures) in
     let place : p + c.args.number ≡ suc p + n = omega (arith, first) in
-    sym (ap₂ (λ m us. is_argument m us a s) first all ∙ argument_at h a s (suc p) k n below ∙ ap (λ t. unifies a t s) (sym (c.argument.ensures.same ∙ ap (term h) place)))
+    sym (ap₂ (λ m us. is_argument m us a s) first all ∙ argument_at h a s (suc p) k n below ∙ ap (λ t. unifies a t s) (sym ((rw c.arg.ensures at c.argument.ensures.same) ∙ ap (term h) place)))

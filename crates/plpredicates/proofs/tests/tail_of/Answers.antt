@@ -26,8 +26,8 @@ returns-then-eq-clause-some c = λ w is.
     let same : c.argument.result ≡ w = cc in
     let named : c.as_str.result.now ≡ functor_name h.names f =
     c.as_str.ensures ∙ c.atom_name-name.ensures.is ∙ ap (λ t. atom_at t c.functor_of-functor.result.name) c.names-2.ensures ∙ ap (λ k. atom_at h.names k.name) (c.functor_of-functor.ensures.is ∙ ap (λ t. functor_at t f) c.names.ensures) in
-    subst (IsTail h (value h c.args.v)) same (subst (λ t. IsTail h t c.argument.result) e
-    (tail_at h c.in-Str.p f c.block-f.result.1 c.as_str.result.now c.block-f.ensures.block named c.argument.result c.if-arity-ne2.false (sym c.eq.ensures ∙ c.if-eq.true) c.argument.ensures.fits c.argument.ensures.same))
+    subst (IsTail h (value h c.args.v.now)) same (subst (λ t. IsTail h t c.argument.result) e
+    (tail_at h c.in-Str.p f c.block-f.result.1 c.as_str.result.now c.block-f.ensures.block named c.argument.result c.if-arity-ne2.false (sym c.eq.ensures ∙ c.if-eq.true) c.argument.ensures.fits (rw c.arg.ensures at c.argument.ensures.same)))
 
 pub returns-else-eq-clause-none : goal.returns-else-eq-clause-none
 returns-else-eq-clause-none c = λ n.
