@@ -54,7 +54,7 @@ impl Machine {
         ensures ok { (t : Tree) → StandsFor self.old.stack source t → OnOk result (Moved program.now self.old self.new (row program.now (form_by_term t) level t (depth_of program.now self.old) (goals_of self.old.stack rest) self.old.stack.env.count (local_of self.old))) }
         ensures err { OnErr result (Stays program.now self.old self.new) }
     {
-        let form = self.form(program, source)?;
+        let form = self.form(program, &source)?;
         if let Form::Call(Procedure::Static(place)) = form {
             return self.resolve(program, place, rest);
         }
@@ -62,11 +62,11 @@ impl Machine {
     }
 
     /// What a goal is. The values of its arguments are those of the goal that is selected.
-    fn form(&mut self, program: &Program, source: Source) -> Result<Form, AllocError>
+    fn form(&mut self, program: &Program, source: &Source) -> Result<Form, AllocError>
         requires begun { IsBegun program.now self.old }
         requires visits { self.old.mode ≡ Mode.Visit }
-        requires source { (t : Tree) × StandsFor self.old.stack source t }
-        ensures ok { IfOk result (λ f. (t : Tree) → StandsFor self.old.stack source t → IsSelected program.now self.new f source t) }
+        requires source { (t : Tree) × StandsFor self.old.stack source.now t }
+        ensures ok { IfOk result (λ f. (t : Tree) → StandsFor self.old.stack source.now t → IsSelected program.now self.new f source.now t) }
         ensures grown { Grown self.old.stack self.new.stack }
         ensures frame { self.new ≡ record self.old { stack = self.new.stack; args = self.new.args } }
     {
@@ -78,18 +78,18 @@ impl Machine {
     }
 
     /// The number by which a goal is called, and the values of its arguments; none for a variable or an integer.
-    fn number(&mut self, source: Source) -> Result<Option<Number>, AllocError>
-        requires source { (t : Tree) × StandsFor self.old.stack source t }
+    fn number(&mut self, source: &Source) -> Result<Option<Number>, AllocError>
+        requires source { (t : Tree) × StandsFor self.old.stack source.now t }
         ensures callable { IfOk result (λ found. IfSome found (λ n. IsCallable self.new.stack.env.heap.names n (length self.new.args.items))) }
-        ensures is { IfOk result (λ found. IfSome found (λ n. (t : Tree) → StandsFor self.old.stack source t → t ≡ called self.new.stack.env.heap.names n (map (value self.new.stack.env.heap) self.new.args.items))) }
-        ensures none { IfOk result (λ found. IfNone found ((t : Tree) → StandsFor self.old.stack source t → IsNoGoal t)) }
+        ensures is { IfOk result (λ found. IfSome found (λ n. (t : Tree) → StandsFor self.old.stack source.now t → t ≡ called self.new.stack.env.heap.names n (map (value self.new.stack.env.heap) self.new.args.items))) }
+        ensures none { IfOk result (λ found. IfNone found ((t : Tree) → StandsFor self.old.stack source.now t → IsNoGoal t)) }
         ensures values { OnOk result (AreValues self.new.stack.env.heap self.new.args.items) }
         ensures few { OnOk result (length self.new.args.items ≤ 1024) }
-        ensures stands { (t : Tree) → StandsFor self.old.stack source t → StandsFor self.new.stack source t }
+        ensures stands { (t : Tree) → StandsFor self.old.stack source.now t → StandsFor self.new.stack source.now t }
         ensures grown { Grown self.old.stack self.new.stack }
         ensures frame { self.new ≡ record self.old { stack = self.new.stack; args = self.new.args } }
     {
-        match source {
+        match *source {
             Source::Value(goal) => arguments_of(self.stack.env().heap(), goal, &mut self.args),
             Source::Node(run, node) => self.stack.put_goal(run, node, &mut self.args),
         }

@@ -21,7 +21,7 @@ returns-clause-ok c t stands =
     let h = mid.stack.env.heap in
     let heap = c.heap-heap.ensures.is ∙ ap (λ e. e.heap) c.env.ensures in
     let table = subst (λ e. IsTable e.heap.names) c.env.ensures c.heap-heap.ensures.env.heap.names in
-    selected-by c.args.program.now mid begun visits number.values number.few c.args.source t (number.stands t stands) c.in-Some.number
+    selected-by c.args.program.now mid begun visits number.values number.few c.args.source.now t (number.stands t stands) c.in-Some.number
     (subst (λ o. IfSome o (λ n. IsCallable h.names n (length mid.args.items))) c.in-Some.is number.callable)
-    ((subst (λ o. IfSome o (λ n. (t : Tree) → StandsFor s.stack c.args.source t → t ≡ called h.names n (map (value h) mid.args.items))) c.in-Some.is number.is) t stands)
+    ((subst (λ o. IfSome o (λ n. (t : Tree) → StandsFor s.stack c.args.source.now t → t ≡ called h.names n (map (value h) mid.args.items))) c.in-Some.is number.is) t stands)
     c.code.ensures.names table c.heap-heap.result.now c.deref.result.now c.code.result.now heap c.deref.ensures.value c.code.ensures.is c.form_of.result c.form_of.ensures.is c.form_of.ensures.inside c.form_of.ensures.procedure
