@@ -155,8 +155,8 @@ fn integer_start<'a>(words: &Words, n: u64, tokens: &'a [Token]) -> Opening<'a>
     }
 }
 
-/// The negative of an integer of at most 2^63.
-fn negative(n: u64) -> Option<i64>
+/// The negative of an integer of at most 2^63. None for a greater one.
+pub fn negative(n: u64) -> Option<i64>
     ensures { result ≡ (if nat_le n 9223372036854775808 then Some (negative n) else None) }
 {
     if n > 9223372036854775808 {

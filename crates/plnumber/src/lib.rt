@@ -1,0 +1,4 @@
+//! Numbers from text.
+#![tactic(auto)]
+
+pub mod number;
