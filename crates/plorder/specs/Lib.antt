@@ -1,3 +1,4 @@
 pub mod Shapes
 pub mod Runs
 pub mod Spans
+pub mod Occurrences

@@ -1,6 +1,7 @@
-//! The order of terms, for values of the machine's heap.
+//! The order of terms, and their variables, for values of the machine's heap.
 #![tactic(auto)]
 
 pub mod compare;
+pub mod occurrences;
 pub mod shape;
 pub mod variables;

@@ -17,7 +17,7 @@ pub struct Span {
 }
 
 /// Puts a span on the list without its first cell, if there is another.
-fn push_rest(work: &mut Vec<Span>, span: Span) -> Result<(), AllocError>
+pub(crate) fn push_rest(work: &mut Vec<Span>, span: Span) -> Result<(), AllocError>
     requires { span.first + span.count < 2 ^ 32 }
     ensures { OnOk result (work.new.items ≡ work.old.items ++ rest_of span) }
 {
