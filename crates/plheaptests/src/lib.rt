@@ -1,4 +1,4 @@
-//! Tests of terms on the machine's heap: unification, goals, the order of terms, and the slots of clauses.
+//! Tests of terms on the machine's heap: unification, goals, the order of terms, lists in it, and the slots of clauses.
 #![tactic(auto)]
 
 #[cfg(test)]
@@ -7,6 +7,8 @@ mod codes;
 mod differences;
 #[cfg(test)]
 mod goals;
+#[cfg(test)]
+mod lists;
 #[cfg(test)]
 mod made;
 #[cfg(test)]
