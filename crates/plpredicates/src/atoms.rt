@@ -54,7 +54,7 @@ fn atom_length(alloc: Global, heap: &Heap, text: Cell, length: Cell) -> Result<A
     ensures is { IfOk result (λ answer. (s : Settings) (n : ℕ) → meant heap.now s n answer ≡ atom_length (value heap.now text ∷ value heap.now length ∷ []) s) }
     ensures there { IfOk result (IsThere heap.now) }
 {
-    match shape_of(heap, text) {
+    match shape_of(heap, &text) {
         Shape::Variable(_) => unbound(alloc),
         Shape::Atom(name) => has_length(alloc, heap, heap.names().atom_name(name), length),
         _ => wrong_type(alloc, heap, "atom", text),
@@ -68,7 +68,7 @@ fn has_length(alloc: Global, heap: &Heap, name: &Name, length: Cell) -> Result<A
     ensures is { IfOk result (λ answer. (s : Settings) (n : ℕ) → meant heap.now s n answer ≡ has_length name.now (value heap.now length) s) }
     ensures there { IfOk result (IsThere heap.now) }
 {
-    match shape_of(heap, length) {
+    match shape_of(heap, &length) {
         Shape::Atom(_) | Shape::Compound(_) => wrong_type(alloc, heap, "integer", length),
         Shape::Integer(number) if number < 0 => {
             outside(alloc, heap, "not_less_than_zero", length)
@@ -98,7 +98,7 @@ fn spell(
     ensures is { IfOk result (λ answer. (s : Settings) (n : ℕ) → meant heap.now s n answer ≡ spell_of k (value heap.now text) (value heap.now list) s) }
     ensures there { IfOk result (IsThere heap.now) }
 {
-    match shape_of(heap, text) {
+    match shape_of(heap, &text) {
         Shape::Variable(_) => match text_in(alloc, heap, k, list)? {
             Ok(spelled) => is_atom(alloc, text, &spelled),
             Err(error) => Ok(Answer::Raises(error)),
@@ -146,7 +146,7 @@ fn char_code(alloc: Global, heap: &Heap, c: Cell, code: Cell) -> Result<Answer, 
     ensures is { IfOk result (λ answer. (s : Settings) (n : ℕ) → meant heap.now s n answer ≡ char_code_of (value heap.now c) (value heap.now code) s) }
     ensures there { IfOk result (IsThere heap.now) }
 {
-    if let Shape::Variable(_) = shape_of(heap, c) {
+    if let Shape::Variable(_) = shape_of(heap, &c) {
         return match character_of(alloc, heap, Spelling::Codes, code)? {
             Ok(found) => is_character(alloc, c, found),
             Err(error) => Ok(Answer::Raises(error)),
@@ -175,7 +175,7 @@ fn has_code(alloc: Global, heap: &Heap, c: char, code: Cell) -> Result<Answer, A
     ensures there { IfOk result (IsThere heap.now) }
 {
     let answer = Answer::Unifies(code, Cell::Int(u32::from(c) as i32));
-    if let Shape::Variable(_) = shape_of(heap, code) {
+    if let Shape::Variable(_) = shape_of(heap, &code) {
         return Ok(answer);
     }
     match character_of(alloc, heap, Spelling::Codes, code)? {
@@ -197,7 +197,7 @@ fn number_spelled(
     ensures is { IfOk result (λ answer. (s : Settings) (n : ℕ) → meant heap.now s n answer ≡ number_spelled_of k (value heap.now number) (value heap.now list) (text_in_term k (value heap.now list)) s) }
     ensures there { IfOk result (IsThere heap.now) }
 {
-    let shape = shape_of(heap, number);
+    let shape = shape_of(heap, &number);
     if let Shape::Atom(_) | Shape::Compound(_) = shape {
         return wrong_type(alloc, heap, "number", number);
     }
@@ -226,7 +226,7 @@ fn atom_number(alloc: Global, heap: &Heap, text: Cell, number: Cell) -> Result<A
     ensures is { IfOk result (λ answer. (s : Settings) (n : ℕ) → meant heap.now s n answer ≡ atom_number_of (value heap.now text) (value heap.now number) s) }
     ensures there { IfOk result (IsThere heap.now) }
 {
-    match (shape_of(heap, text), shape_of(heap, number)) {
+    match (shape_of(heap, &text), shape_of(heap, &number)) {
         (Shape::Variable(_), Shape::Variable(_)) => unbound(alloc),
         (Shape::Variable(_), Shape::Integer(i)) => {
             let mut buffer = Buffer::new();

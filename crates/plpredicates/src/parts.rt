@@ -58,7 +58,7 @@ fn arg(
     ensures is { IfOk result (λ answer. (s : Settings) (n : ℕ) → meant heap.now s n answer ≡ arg_of (value heap.now number) (value heap.now term) (value heap.now argument) s) }
     ensures there { IfOk result (IsThere heap.now) }
 {
-    match (shape_of(heap, number), shape_of(heap, term)) {
+    match (shape_of(heap, &number), shape_of(heap, &term)) {
         (Shape::Variable(_), _) | (_, Shape::Variable(_)) => unbound(alloc),
         (Shape::Integer(i), Shape::Compound(block)) => {
             if i < 0 {
@@ -81,7 +81,7 @@ fn is_argument(heap: &Heap, number: u64, block: Block, argument: Cell) -> Answer
     if number == 0 || number > u64::from(block.arity) {
         return Answer::Fails;
     }
-    Answer::Unifies(argument, heap.argument(block.place + number as u32))
+    Answer::Unifies(argument, heap.argument(block.place.arg(number as u32)))
 }
 
 /// functor/3 (8.5.1).
@@ -98,7 +98,7 @@ fn functor(
     ensures is { IfOk result (λ answer. (s : Settings) (n : ℕ) → meant heap.now s n answer ≡ functor_of (value heap.now term) (value heap.now name) (value heap.now arity) s n) }
     ensures there { IfOk result (IsThere heap.now) }
 {
-    match shape_of(heap, term) {
+    match shape_of(heap, &term) {
         Shape::Variable(_) => make(alloc, heap, term, name, arity),
         Shape::Compound(block) => {
             let functor = heap.names().functor_of(block.functor);
@@ -123,7 +123,7 @@ fn make(
     ensures is { IfOk result (λ answer. (s : Settings) (n : ℕ) → meant heap.now s n answer ≡ make_of (value heap.now term) (value heap.now name) (value heap.now arity) s n) }
     ensures there { IfOk result (IsThere heap.now) }
 {
-    match (shape_of(heap, name), shape_of(heap, arity)) {
+    match (shape_of(heap, &name), shape_of(heap, &arity)) {
         (Shape::Variable(_), _) | (_, Shape::Variable(_)) => unbound(alloc),
         (Shape::Compound(_), _) => wrong_type(alloc, heap, "atomic", name),
         (_, Shape::Integer(count)) if count < 0 => {
@@ -160,7 +160,7 @@ fn made(
     if count == 0 {
         return Ok(Answer::Unifies(term, name));
     }
-    let Shape::Atom(a) = shape_of(heap, name) else {
+    let Shape::Atom(a) = shape_of(heap, &name) else {
         return wrong_type(alloc, heap, "callable", name);
     };
     let functor = heap.names().atom_name(a).copied()?;
@@ -175,8 +175,8 @@ fn univ(alloc: Global, heap: &Heap, term: Cell, list: Cell) -> Result<Answer, Al
     ensures is { IfOk result (λ answer. (s : Settings) (n : ℕ) → meant heap.now s n answer ≡ univ_of (value heap.now term) (value heap.now list) s) }
     ensures there { IfOk result (IsThere heap.now) }
 {
-    match shape_of(heap, term) {
-        Shape::Variable(_) => match whole_list(alloc, heap, list)? {
+    match shape_of(heap, &term) {
+        Shape::Variable(_) => match whole_list(alloc, heap, &list)? {
             Checked::Amiss(error) => Ok(Answer::Raises(error)),
             Checked::Whole(items) => from_elements(alloc, heap, term, &items, list),
         },
@@ -199,7 +199,7 @@ fn elements(alloc: Global, heap: &Heap, block: Block) -> Result<Vec<Cell>, Alloc
     let mut items = Vec::new(alloc);
     items.push(Cell::Atom(functor.name))?;
     for k in 0..block.arity {
-        items.push(heap.argument(block.place + 1 + u32::from(k)))?;
+        items.push(heap.argument(block.place.arg(1 + u32::from(k))))?;
     }
     Ok(items)
 }
@@ -221,7 +221,7 @@ fn from_elements(
     let Some((head, arguments)) = items.split_first() else {
         return outside(alloc, heap, "non_empty_list", list);
     };
-    match shape_of(heap, *head) {
+    match shape_of(heap, head) {
         Shape::Variable(_) => unbound(alloc),
         Shape::Compound(_) => wrong_type(alloc, heap, "atomic", *head),
         _ if arguments.is_empty() => Ok(Answer::Unifies(term, *head)),

@@ -29,7 +29,7 @@ fn holds(heap: &Heap, b: Tests, v: Cell) -> bool
     requires { IsValue heap.now v }
     ensures { result ≡ holds_of b (value heap.now v) }
 {
-    let shape = shape_of(heap, v);
+    let shape = shape_of(heap, &v);
     match b {
         Tests::Variable => matches!(shape, Shape::Variable(_)),
         Tests::Bound => !matches!(shape, Shape::Variable(_)),
@@ -48,8 +48,8 @@ fn is_list(heap: &Heap, v: Cell) -> bool
     ensures { result ≡ is_list_of (value heap.now v) }
 {
     let mut rest = v;
-    while let Some((_, tail)) = cell_of(heap, rest) {
+    while let Some((_, tail)) = cell_of(heap, &rest) {
         rest = tail;
     }
-    matches!(tail_of(heap, rest), Tail::Empty)
+    matches!(tail_of(heap, &rest), Tail::Empty)
 }

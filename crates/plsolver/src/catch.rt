@@ -58,7 +58,7 @@ impl Progress {
         ensures ok { OnOk result (Recovered program.now self.old self.new recovery list) }
         ensures err { OnErr result (Stays program.now self.old self.new) }
     {
-        match self.machine.ready(recovery)? {
+        match self.machine.ready(&recovery)? {
             Ready::Raises(error) => self.rethrow(program, error, list),
             Ready::Runs(goal) => {
                 let level = self.machine.stack.level();

@@ -49,7 +49,10 @@ impl Stack {
         ensures at { AtHandler self.new result.catcher result.list }
         ensures code { self.new.code ≡ self.old.code }
     {
-        let Some(Frame::Open(point, Resume::Catch(catcher))) = self.frames.pop() else {
+        let Some(Frame::Open(point, resume)) = self.frames.pop() else {
+            unreachable!()
+        };
+        let Resume::Catch(catcher) = resume else {
             unreachable!()
         };
         self.env.undo(point.marks.env);
@@ -57,7 +60,8 @@ impl Stack {
         self.saved.truncate(point.marks.saved);
         self.goals = Continuation::alone(ListId::EMPTY);
         let list = point.list;
-        push_frame(&mut self.frames, Frame::Open(point, Resume::Catch(catcher)));
+        let kept = catcher;
+        push_frame(&mut self.frames, Frame::Open(point, Resume::Catch(kept)));
         Handling { catcher, list }
     }
 

@@ -11,26 +11,26 @@ use Rattle.plstack.proofs.stack.Stack.rewind.Goals as goal
 pub invariant_of-self : goal.invariant_of-self
 invariant_of-self c =
     let s : State = inside c.self.inside in
-    let p : Point = c.in-Some-Open-default-Catch.point in
-    let k : Catcher = c.in-Some-Open-default-Catch.catcher in
-    let popped : s.frames ≡ c.pop.new.self.items ++ Open p (resumes.Catch k) ∷ [] = c.in-Some-Open-default-Catch.ensures.items ∙ ap (λ f. c.pop.new.self.items ++ f ∷ []) (c.in-Some-Open-default-Catch.field-0-is ∙ ap (Open p) c.in-Some-Open-default-Catch.field-0-1-is) in
+    let p : Point = c.in-Some-Open.point in
+    let k : Catcher = c.in-Catch.catcher in
+    let popped : s.frames ≡ c.pop.new.self.items ++ Open p (resumes.Catch k) ∷ [] = c.in-Some-Open.ensures.items ∙ ap (λ f. c.pop.new.self.items ++ f ∷ []) (c.in-Some-Open.field-0-is ∙ ap (Open p) c.in-Catch.is) in
     let back : c.push_frame.new.frames.items ≡ s.frames = c.push_frame.ensures.is ∙ sym popped in
     rw (c.undo.ensures, c.truncate.ensures.items, c.truncate-2.ensures.items, c.alone-self-inside.ensures, back) (rewound-stack s c.self.inside.depth c.self.invariant c.pop.new.self.items p k popped)
 
 pub returns-clause-cases : goal.returns-clause-cases
 returns-clause-cases c = λ statics.
     let s : State = inside c.self.inside in
-    let p : Point = c.in-Some-Open-default-Catch.point in
-    let k : Catcher = c.in-Some-Open-default-Catch.catcher in
-    let popped : s.frames ≡ c.pop.new.self.items ++ Open p (resumes.Catch k) ∷ [] = c.in-Some-Open-default-Catch.ensures.items ∙ ap (λ f. c.pop.new.self.items ++ f ∷ []) (c.in-Some-Open-default-Catch.field-0-is ∙ ap (Open p) c.in-Some-Open-default-Catch.field-0-1-is) in
+    let p : Point = c.in-Some-Open.point in
+    let k : Catcher = c.in-Catch.catcher in
+    let popped : s.frames ≡ c.pop.new.self.items ++ Open p (resumes.Catch k) ∷ [] = c.in-Some-Open.ensures.items ∙ ap (λ f. c.pop.new.self.items ++ f ∷ []) (c.in-Some-Open.field-0-is ∙ ap (Open p) c.in-Catch.is) in
     let back : c.push_frame.new.frames.items ≡ s.frames = c.push_frame.ensures.is ∙ sym popped in
     rw (← c.self.view_is) (rw (c.undo.ensures, c.truncate.ensures.items, c.truncate-2.ensures.items, c.alone-self-inside.ensures, back) (rewound-cases s c.self.inside.depth c.self.invariant c.pop.new.self.items p k popped statics))
 
 pub returns-clause-at : goal.returns-clause-at
 returns-clause-at c =
     let s : State = inside c.self.inside in
-    let p : Point = c.in-Some-Open-default-Catch.point in
-    let k : Catcher = c.in-Some-Open-default-Catch.catcher in
-    let popped : s.frames ≡ c.pop.new.self.items ++ Open p (resumes.Catch k) ∷ [] = c.in-Some-Open-default-Catch.ensures.items ∙ ap (λ f. c.pop.new.self.items ++ f ∷ []) (c.in-Some-Open-default-Catch.field-0-is ∙ ap (Open p) c.in-Some-Open-default-Catch.field-0-1-is) in
+    let p : Point = c.in-Some-Open.point in
+    let k : Catcher = c.in-Catch.catcher in
+    let popped : s.frames ≡ c.pop.new.self.items ++ Open p (resumes.Catch k) ∷ [] = c.in-Some-Open.ensures.items ∙ ap (λ f. c.pop.new.self.items ++ f ∷ []) (c.in-Some-Open.field-0-is ∙ ap (Open p) c.in-Catch.is) in
     let back : c.push_frame.new.frames.items ≡ s.frames = c.push_frame.ensures.is ∙ sym popped in
     rw (c.undo.ensures, c.truncate.ensures.items, c.truncate-2.ensures.items, c.alone-self-inside.ensures, back) (rewound-at s c.self.inside.depth c.self.invariant c.pop.new.self.items p k popped)
