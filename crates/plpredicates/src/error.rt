@@ -53,10 +53,17 @@ pub(crate) fn instantiation_error(alloc: Global) -> Result<Term, AllocError>
     atom(alloc, "instantiation_error")
 }
 
-/// A term is of another type.
-pub(crate) fn type_error(alloc: Global, kind: &str, culprit: Term) -> Result<Term, AllocError>
-    ensures { IfOk result (λ t. t ≡ type_error kind.now culprit) }
+/// The term of a value is of another type.
+pub(crate) fn type_error(
+    alloc: Global,
+    heap: &Heap,
+    kind: &str,
+    v: Cell,
+) -> Result<Term, AllocError>
+    requires { IsValue heap.now v }
+    ensures { IfOk result (λ t. t ≡ type_error kind.now (value heap.now v)) }
 {
+    let culprit = heap.take(alloc, v)?;
     error(alloc, "type_error", kind, culprit)
 }
 
@@ -98,8 +105,7 @@ pub(crate) fn wrong_type(
     requires { IsValue heap.now v }
     ensures { IfOk result (λ answer. answer ≡ Answer.Raises (type_error kind.now (value heap.now v))) }
 {
-    let culprit = heap.take(alloc, v)?;
-    Ok(Answer::Raises(type_error(alloc, kind, culprit)?))
+    Ok(Answer::Raises(type_error(alloc, heap, kind, v)?))
 }
 
 /// The term of a value is outside of a domain.

@@ -96,9 +96,6 @@ pub(crate) fn whole_list(alloc: Global, heap: &Heap, v: Cell) -> Result<Checked,
     match tail {
         Tail::Empty => Ok(Checked::Whole(items)),
         Tail::Unbound => Ok(Checked::Amiss(instantiation_error(alloc)?)),
-        Tail::Other => {
-            let culprit = heap.take(alloc, v)?;
-            Ok(Checked::Amiss(type_error(alloc, "list", culprit)?))
-        }
+        Tail::Other => Ok(Checked::Amiss(type_error(alloc, heap, "list", v)?)),
     }
 }

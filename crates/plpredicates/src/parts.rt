@@ -18,10 +18,8 @@ use plcells::heap::Heap;
 use plnames::kind::Parts;
 use plorder::occurrences::variables_of;
 use plorder::shape::{Block, Shape, shape_of};
+use plterm::term::ARITY;
 use std::alloc::{AllocError, Global};
-
-/// The most arguments of a compound.
-const ARITY: i64 = 1024;
 
 /// What a call of one of them comes to.
 pub(crate) fn parts_answer(
@@ -129,7 +127,7 @@ fn make(
         (_, Shape::Integer(count)) if count < 0 => {
             outside(alloc, heap, "not_less_than_zero", arity)
         }
-        (_, Shape::Integer(count)) if count > ARITY => too_many(alloc),
+        (_, Shape::Integer(count)) if count > ARITY as i64 => too_many(alloc),
         (_, Shape::Integer(count)) => made(alloc, heap, term, name, count as u16),
         _ => wrong_type(alloc, heap, "integer", arity),
     }
@@ -245,7 +243,7 @@ fn with_name(
     ensures is { IfOk result (λ answer. (s : Settings) (n : ℕ) → meant heap.now s n answer ≡ named_of (value heap.now term) (atom_at heap.now.names name) (map (value heap.now) arguments.now) s) }
     ensures there { IfOk result (IsThere heap.now) }
 {
-    if arguments.len() > ARITY as usize {
+    if arguments.len() > ARITY {
         return too_many(alloc);
     }
     let functor = heap.names().atom_name(name).copied()?;

@@ -86,10 +86,7 @@ fn pair_fault(alloc: Global, heap: &Heap, v: Cell) -> Result<Option<Term>, Alloc
     match shape_of(heap, v) {
         Shape::Variable(_) => Ok(Some(instantiation_error(alloc)?)),
         Shape::Compound(block) if is_pair(heap, block) => Ok(None),
-        _ => {
-            let culprit = heap.take(alloc, v)?;
-            Ok(Some(type_error(alloc, "pair", culprit)?))
-        }
+        _ => Ok(Some(type_error(alloc, heap, "pair", v)?)),
     }
 }
 

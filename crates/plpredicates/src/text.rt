@@ -4,7 +4,6 @@ ghost use Rattle.std.specs.Str.{chars};
 ghost use Rattle.plterm.specs.Tree.{int};
 ghost use Rattle.plcells.specs.Store.{value, IsValue};
 ghost use Rattle.plnames.specs.declared.kind.Spelling.TheVariants.{Codes};
-ghost use Rattle.plbuiltin.specs.Errors.{type_error as type_error_of};
 ghost use Rattle.plbuiltin.specs.Texts.{character_of as character_in, text_in as text_in_term};
 
 use crate::error::{instantiation_error, representation_error, type_error};
@@ -40,10 +39,7 @@ pub(crate) fn text_in(
     match tail_of(heap, rest) {
         Tail::Empty => Ok(Ok(text)),
         Tail::Unbound => Ok(Err(instantiation_error(alloc)?)),
-        Tail::Other => {
-            let culprit = heap.take(alloc, v)?;
-            Ok(Err(type_error(alloc, "list", culprit)?))
-        }
+        Tail::Other => Ok(Err(type_error(alloc, heap, "list", v)?)),
     }
 }
 
@@ -62,22 +58,13 @@ pub(crate) fn character_of(
         (Spelling::Characters, Shape::Atom(name)) => {
             match one_character(heap.names().atom_name(name).as_str()) {
                 Some(c) => Ok(Ok(c)),
-                None => other(alloc, heap, "character", v),
+                None => Ok(Err(type_error(alloc, heap, "character", v)?)),
             }
         }
-        (Spelling::Characters, _) => other(alloc, heap, "character", v),
+        (Spelling::Characters, _) => Ok(Err(type_error(alloc, heap, "character", v)?)),
         (Spelling::Codes, Shape::Integer(code)) => of_code(alloc, code),
-        (Spelling::Codes, _) => other(alloc, heap, "integer", v),
+        (Spelling::Codes, _) => Ok(Err(type_error(alloc, heap, "integer", v)?)),
     }
-}
-
-/// A value is of another type.
-fn other(alloc: Global, heap: &Heap, kind: &str, v: Cell) -> Result<Result<char, Term>, AllocError>
-    requires { IsValue heap.now v }
-    ensures { IfOk result (λ c. c ≡ Err (type_error_of kind.now (value heap.now v))) }
-{
-    let culprit = heap.take(alloc, v)?;
-    Ok(Err(type_error(alloc, kind, culprit)?))
 }
 
 /// The character of a text that is one character.

@@ -29,7 +29,7 @@ returns-clause-is c =
     let vs = c.args.arguments.now in
     let ts = map (value h) vs in
     let named : c.in_ok-functor.functor ≡ f = search rules in
-    let few : nat_le (length ts) 1024 ≡ true = grind (arith, length-map vs (value h), c.if-arguments.false) in
+    let few : nat_le (length ts) 1024 ≡ true = grind (arith, length-map vs (value h), c.if-arguments-gt-ARITY.false) in
     forwarded c.solves.result h (λ s n. solved_by h s n c.args.term vs c.in_ok-right.right 0) (λ s n. with_name t f ts s) (c.solves.ensures.is h)
     (λ s n.
     solved-as h s n c.args.term vs c.in_ok-right.right (compound f (trees ts)) 0
