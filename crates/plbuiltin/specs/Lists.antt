@@ -1,5 +1,5 @@
 -- Terms as lists (ISO/IEC 13211-1 6.3.5).
-use Rattle.std.specs.Prelude.{List, [], ◌∷◌, codes, if◌then◌else◌}
+use Rattle.std.specs.Prelude.{Bool, true, false, List, [], ◌∷◌, codes, if◌then◌else◌}
 use Rattle.std.specs.Str.{bytes_eq}
 use Rattle.plterm.specs.Tree.{Tree, var, int, atom, compound, Trees, none, more}
 use Rattle.plbuiltin.specs.Errors.{instantiation_error, type_error}
@@ -48,3 +48,12 @@ checked_by ts Other l = Amiss (type_error (codes "list") l)
 
 abbrev pub checked : Tree → Checked
 checked l = let es = elements_of l in checked_by es.items es.tail l
+
+-- a term may be a list: it is one, or its end is not known
+abbrev pub may_end : Tail → Bool
+may_end Empty = true
+may_end Unbound = true
+may_end Other = false
+
+abbrev pub may_be_list : Tree → Bool
+may_be_list l = may_end (elements_of l).tail

@@ -81,6 +81,11 @@ module _ (σ : ℕ → Tree) where
   construct_bound controls.Catch (a ∷ b ∷ []) h = refl
   construct_bound controls.Catch (a ∷ b ∷ c ∷ []) h = refl
   construct_bound controls.Catch (a ∷ b ∷ c ∷ u ∷ us) h = refl
+  construct_bound controls.FindAll [] h = refl
+  construct_bound controls.FindAll (a ∷ []) h = refl
+  construct_bound controls.FindAll (a ∷ b ∷ []) h = refl
+  construct_bound controls.FindAll (a ∷ b ∷ c ∷ []) h = refl
+  construct_bound controls.FindAll (a ∷ b ∷ c ∷ u ∷ us) h = refl
   construct_bound controls.Throw [] h = refl
   construct_bound controls.Throw (a ∷ []) h = refl
   construct_bound controls.Throw (a ∷ u ∷ us) h = refl

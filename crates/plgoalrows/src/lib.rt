@@ -8,6 +8,8 @@ mod atoms;
 #[cfg(test)]
 mod build;
 #[cfg(test)]
+mod findall;
+#[cfg(test)]
 mod library;
 #[cfg(test)]
 mod order;

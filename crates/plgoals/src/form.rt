@@ -48,6 +48,8 @@ pub enum Form {
     Once(Cell),
     /// catch/3: a goal, a catcher and a recovery.
     Catching(Cell, Cell, Cell),
+    /// findall/3: a template, a goal, and what is to be the list.
+    FindAll(Cell, Cell, Cell),
     /// throw/1 of a ball.
     Throwing(Cell),
     /// call/N: the goal is the first of the arguments, and its further arguments stand behind it.
@@ -131,6 +133,7 @@ fn nullary(control: Control) -> Form
         | Control::Once
         | Control::Call
         | Control::Catch
+        | Control::FindAll
         | Control::Throw
         | Control::AddLast => Form::NoGoal,
     }
@@ -154,7 +157,8 @@ fn unary(control: Control, a: Cell) -> Form
         | Control::And
         | Control::Or
         | Control::IfThen
-        | Control::Catch => Form::NoGoal,
+        | Control::Catch
+        | Control::FindAll => Form::NoGoal,
     }
 }
 
@@ -177,6 +181,7 @@ fn binary(heap: &Heap, code: &ProgramCode, control: Control, a: Cell, b: Cell) -
         | Control::Not
         | Control::Once
         | Control::Catch
+        | Control::FindAll
         | Control::Throw
         | Control::AddLast
         | Control::Halt => Form::NoGoal,
@@ -190,6 +195,7 @@ fn ternary(control: Control, a: Cell, b: Cell, c: Cell) -> Form
 {
     match control {
         Control::Catch => Form::Catching(a, b, c),
+        Control::FindAll => Form::FindAll(a, b, c),
         Control::Call => Form::CallWith,
         Control::True
         | Control::Fail

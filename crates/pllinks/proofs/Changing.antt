@@ -4,17 +4,19 @@ use Rattle.plterm.specs.Tree.{Tree, Trees, var, int, atom, compound, none, more}
 use Rattle.plterm.specs.Variables.{AllBelow, EachBelow}
 use Rattle.plsubst.specs.Subst.{bind, bind_all}
 use Rattle.plsubst.proofs.Unify.{bind-bind}
-use Rattle.plsearch.specs.Types.{Goal}
-use Rattle.plsearch.specs.Lists.{bind_element, bind_goals}
+use Rattle.plsearch.specs.Types.{Collect, Goal, Marker}
+use Rattle.plsearch.specs.Lists.{bind_kind, bind_element, bind_goals}
 use Rattle.plcells.specs.declared.cell.Cell.{Cell}
 use Rattle.plcells.specs.Store.{IsValue, value}
 use Rattle.plenv.specs.Env.{Env, over, variable}
 use Rattle.plenv.specs.Changes.{Substitutes}
 use Rattle.plenv.specs.Rows.{AllBelowEach}
 use Rattle.pllinks.specs.declared.item.Run.{Run}
+use Rattle.pllinks.specs.declared.item.MarkerKind.{MarkerKind}
+use Rattle.pllinks.specs.declared.item.MarkerKind.TheVariants as markers
 use Rattle.pllinks.specs.declared.item.Item.{Item}
 use Rattle.pllinks.specs.declared.item.Item.TheVariants as items
-use Rattle.pllinks.specs.Lists.{Goals, goal_of, run_goals, elements, all_elements, IsItem, AreItems}
+use Rattle.pllinks.specs.Lists.{Goals, goal_of, run_goals, marker_of, elements, all_elements, IsMarker, IsItem, AreItems}
 use Rattle.pllinks.specs.Changing.{Agrees, ListsAgree, ListsSubstitute}
 
 -- substitutions that agree on the variables of a term
@@ -36,7 +38,7 @@ pub items-more : (code : Goals) (e : Env) (n m : ℕ) (xs : List Item) → n ≤
 items-more code e n m [] le a = tt
 items-more code e n m (items.Run r ∷ xs) le a = ((a.0.0, le_trans a.0.1 le), items-more code e n m xs le a.1)
 items-more code e n m (items.Goal k v ∷ xs) le a = (a.0, items-more code e n m xs le a.1)
-items-more code e n m (items.Marker k l ∷ xs) le a = (tt, items-more code e n m xs le a.1)
+items-more code e n m (items.Marker k l ∷ xs) le a = (a.0, items-more code e n m xs le a.1)
 
 module _ (code : Goals) (n : ℕ) (old new : Env) (same : Agrees n old new) where
   run-agrees : (r : Run) (width : ℕ) (ts : List Tree) → AllBelowEach width ts → r.base + width ≤ n → map (goal_of new r) ts ≡ map (goal_of old r) ts
@@ -46,15 +48,27 @@ module _ (code : Goals) (n : ℕ) (old new : Env) (same : Agrees n old new) wher
       (bind-agree (over new r.base) (over old r.base) width t (λ x lt. same.variables (r.base + x) (omega (arith, lt, le))) b.0)
       (run-agrees r width ts b.1 le)
 
+  marker-agrees : (k : MarkerKind) → IsMarker old.heap k → marker_of new.heap k ≡ marker_of old.heap k
+  marker-agrees markers.Commit i = refl
+  marker-agrees markers.Never i = refl
+  marker-agrees markers.Until i = refl
+  marker-agrees (markers.Collect v) i = ap Collect (same.values v i).1
+
+  marker-stays : (k : MarkerKind) → IsMarker old.heap k → IsMarker new.heap k
+  marker-stays markers.Commit i = tt
+  marker-stays markers.Never i = tt
+  marker-stays markers.Until i = tt
+  marker-stays (markers.Collect v) i = (same.values v i).0
+
   item-agrees : (x : Item) → IsItem code old.heap n x → elements code new x ≡ elements code old x
   item-agrees (items.Run r) i = run-agrees r i.0.width (run_goals code r) i.0.below (le_trans i.0.within i.1)
   item-agrees (items.Goal k v) i = ap (λ t. Goal k t ∷ []) (same.values v i).1
-  item-agrees (items.Marker k l) i = refl
+  item-agrees (items.Marker k l) i = ap (λ m. Marker m l ∷ []) (marker-agrees k i)
 
   item-stays : (x : Item) → IsItem code old.heap n x → IsItem code new.heap n x
   item-stays (items.Run r) i = i
   item-stays (items.Goal k v) i = (same.values v i).0
-  item-stays (items.Marker k l) i = tt
+  item-stays (items.Marker k l) i = marker-stays k i
 
   pub items-agree : (xs : List Item) → AreItems code old.heap n xs → AreItems code new.heap n xs × (all_elements code new xs ≡ all_elements code old xs)
   unfolding all_elements
@@ -85,15 +99,27 @@ module _ (code : Goals) (n : ℕ) (old new : Env) (σ : ℕ → Tree) (made : Bo
   run-bound r width [] b le = refl
   run-bound r width (t ∷ ts) b le = ap₂ (λ x xs. Goal r.level x ∷ xs) (goal-bound r width t b.0 le) (run-bound r width ts b.1 le)
 
+  marker-bound : (k : MarkerKind) → IsMarker old.heap k → marker_of new.heap k ≡ bind_kind σ (marker_of old.heap k)
+  marker-bound markers.Commit i = refl
+  marker-bound markers.Never i = refl
+  marker-bound markers.Until i = refl
+  marker-bound (markers.Collect v) i = ap Collect (made.values v i).1
+
+  marker-kept : (k : MarkerKind) → IsMarker old.heap k → IsMarker new.heap k
+  marker-kept markers.Commit i = tt
+  marker-kept markers.Never i = tt
+  marker-kept markers.Until i = tt
+  marker-kept (markers.Collect v) i = (made.values v i).0
+
   item-bound : (x : Item) → IsItem code old.heap n x → elements code new x ≡ map (bind_element σ) (elements code old x)
   item-bound (items.Run r) i = run-bound r i.0.width (run_goals code r) i.0.below (le_trans i.0.within i.1)
   item-bound (items.Goal k v) i = ap (λ t. Goal k t ∷ []) (made.values v i).1
-  item-bound (items.Marker k l) i = refl
+  item-bound (items.Marker k l) i = ap (λ m. Marker m l ∷ []) (marker-bound k i)
 
   item-kept : (x : Item) → IsItem code old.heap n x → IsItem code new.heap n x
   item-kept (items.Run r) i = i
   item-kept (items.Goal k v) i = (made.values v i).0
-  item-kept (items.Marker k l) i = tt
+  item-kept (items.Marker k l) i = marker-kept k i
 
   pub items-put : (xs : List Item) → AreItems code old.heap n xs → AreItems code new.heap n xs × (all_elements code new xs ≡ bind_goals σ (all_elements code old xs))
   unfolding all_elements

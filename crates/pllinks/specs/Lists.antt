@@ -5,7 +5,7 @@ use Rattle.plterm.specs.Tree.{Tree}
 use Rattle.plsubst.specs.Subst.{bind}
 use Rattle.plcells.specs.Store.{Store, IsValue, value}
 use Rattle.plcode.specs.Converted.{AreConverted}
-use Rattle.plsearch.specs.Types.{Kind, Commit, Never, Until, Element, Goal, Marker}
+use Rattle.plsearch.specs.Types.{Kind, Commit, Never, Until, Collect, Element, Goal, Marker}
 use Rattle.plenv.specs.Env.{Env, over}
 use Rattle.plenv.specs.Rows.{AllBelowEach}
 use Rattle.pllinks.specs.declared.item.MarkerKind.{MarkerKind}
@@ -18,10 +18,12 @@ use Rattle.pllinks.specs.declared.item.Item.TheVariants as items
 abbrev pub Goals : Type 0
 Goals = ℕ → ℕ → List Tree
 
-abbrev pub marker_of : MarkerKind → Kind
-marker_of markers.Commit = Commit
-marker_of markers.Never = Never
-marker_of markers.Until = Until
+-- what a marker over a heap stands for
+abbrev pub marker_of : Store → MarkerKind → Kind
+marker_of h markers.Commit = Commit
+marker_of h markers.Never = Never
+marker_of h markers.Until = Until
+marker_of h (markers.Collect v) = Collect (value h v)
 
 -- the goals of a run of compiled goals
 abbrev pub run_goals : Goals → Run → List Tree
@@ -34,7 +36,7 @@ goal_of e r t = Goal r.level (bind (over e r.base) t)
 abbrev pub elements : Goals → Env → Item → List Element
 elements code e (items.Run r) = map (goal_of e r) (run_goals code r)
 elements code e (items.Goal k v) = Goal k (value e.heap v) ∷ []
-elements code e (items.Marker m l) = Marker (marker_of m) l ∷ []
+elements code e (items.Marker m l) = Marker (marker_of e.heap m) l ∷ []
 
 -- what a goal list stands for, by its items
 unfoldable pub all_elements : Goals → Env → List Item → List Element
@@ -47,11 +49,18 @@ pub record IsRun (code : Goals) (r : Run) : Type 0 where
   pub within : r.base + width ≤ r.«end»
   pub converted : AreConverted (run_goals code r)
 
+-- the value of a marker is one of the heap
+abbrev pub IsMarker : Store → MarkerKind → Type 0
+IsMarker h markers.Commit = Unit {0}
+IsMarker h markers.Never = Unit {0}
+IsMarker h markers.Until = Unit {0}
+IsMarker h (markers.Collect v) = IsValue h v
+
 -- an item whose slots stand below n, and whose value is one of the heap
 abbrev pub IsItem : Goals → Store → ℕ → Item → Type 0
 IsItem code h n (items.Run r) = IsRun code r × (r.«end» ≤ n)
 IsItem code h n (items.Goal k v) = IsValue h v
-IsItem code h n (items.Marker m l) = Unit {0}
+IsItem code h n (items.Marker m l) = IsMarker h m
 
 abbrev pub AreItems : Goals → Store → ℕ → List Item → Type 0
 AreItems code h n [] = Unit {0}

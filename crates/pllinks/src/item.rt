@@ -6,7 +6,7 @@ use crate::level::Level;
 use plcells::cell::Cell;
 
 /// What a marker is for.
-#[derive(Clone, Copy, Debug, PartialEq, Eq)]
+#[derive(Clone, Copy)]
 pub enum MarkerKind {
     /// Behind it the choices down to its level are given up.
     Commit,
@@ -14,6 +14,8 @@ pub enum MarkerKind {
     Never,
     /// Up to here the handler of its level is active.
     Until,
+    /// Here a copy of the term of a value is kept for the handler of its level, and the list fails.
+    Collect(Cell),
 }
 
 /// Goals of a clause, from a position of its code on.

@@ -9,3 +9,4 @@ pub mod Calling
 pub mod Selecting
 pub mod Terms
 pub mod Stepping
+pub mod Gathering

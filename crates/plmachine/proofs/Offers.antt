@@ -12,8 +12,8 @@ use Rattle.plprogram.specs.Program.{Program}
 use Rattle.plprogram.specs.declared.settings.Settings.{Settings}
 use Rattle.plbuiltin.specs.Solution.{Gives, fails, unifies as unified_to, writes, decides}
 use Rattle.plbuiltin.specs.Terms.{is_none}
-use Rattle.plsearch.specs.Types.{Fail, Look, Await, Goal, Marker, Raise, Asking, Element, Local, Move, Give}
-use Rattle.plsearch.specs.Lists.{bind_goals}
+use Rattle.plsearch.specs.Types.{Fail, Kind, Commit, Never, Until, Collect, Look, Await, Goal, Marker, Raise, Asking, Element, Local, Move, Give}
+use Rattle.plsearch.specs.Lists.{bind_kind, bind_goals}
 use Rattle.plsearch.specs.Machines.Machine.{At}
 use Rattle.plsearch.specs.Rows.{go_on, solved, taken, offer}
 use Rattle.pllinks.specs.declared.link.Continuation.{Continuation}
@@ -62,35 +62,41 @@ unsolved P s t new q l g frame none is =
     (moved-grown P s t new (Give Fail (local_of t)) (Give Fail (local_of s)) g frame (ap (λ x. Give Fail (local_of x)) frame) (gave P t new outcomes.Fail is))
 
 -- a substitution that changes nothing leaves a list as it is
+bind-kind-var : (m : Kind) → bind_kind var m ≡ m
+bind-kind-var Commit = refl
+bind-kind-var Never = refl
+bind-kind-var Until = refl
+bind-kind-var (Collect t) = ap Collect (bind-var t)
+
 bind-goals-var : (es : List Element) → bind_goals var es ≡ es
 bind-goals-var [] = refl
 bind-goals-var (Goal k t ∷ es) = ap₂ (λ u us. Goal k u ∷ us) (bind-var t) (bind-goals-var es)
-bind-goals-var (Marker m l ∷ es) = ap (λ us. Marker m l ∷ us) (bind-goals-var es)
+bind-goals-var (Marker m l ∷ es) = ap₂ (λ k us. Marker k l ∷ us) (bind-kind-var m) (bind-goals-var es)
 bind-goals-var (Raise b ∷ es) = ap (λ us. Raise b ∷ us) (bind-goals-var es)
 bind-goals-var (Asking (Look t) ∷ es) = ap₂ (λ u us. Asking (Look u) ∷ us) (bind-var t) (bind-goals-var es)
 bind-goals-var (Asking (Await q next) ∷ es) = ap (λ us. Asking (Await q next) ∷ us) (bind-goals-var es)
 
 -- one that is true once it has written
 pub offer-writes : (bytes : List ℕ) (settings : Settings) (p : Indicator) (es : List Element) (n : ℕ) (w : Local) →
-    go_on es n (record { out = w.out ++ bytes; settings = settings }) ≡ offer (writes bytes settings) p es n w
+    go_on es n (record w { out = w.out ++ bytes; settings = settings }) ≡ offer (writes bytes settings) p es n w
 unfolding unify unify_in differ places
 offer-writes bytes settings p es n w =
     let same : n ≡ n + 0 = omega arith in
-    ap₂ (λ gs k. go_on gs k (record { out = w.out ++ bytes; settings = settings })) (sym (bind-goals-var es)) same
+    ap₂ (λ gs k. go_on gs k (record w { out = w.out ++ bytes; settings = settings })) (sym (bind-goals-var es)) same
 
 -- one that is true, and writes nothing
 pub offer-succeeds : (settings : Settings) (p : Indicator) (es : List Element) (n : ℕ) (w : Local) → w.settings ≡ settings → go_on es n w ≡ offer (writes [] settings) p es n w
-offer-succeeds settings p es n w same = ap₂ (λ o x. go_on es n (record { out = o; settings = x })) (sym (append-nil w.out)) same ∙ offer-writes [] settings p es n w
+offer-succeeds settings p es n w same = ap₂ (λ o x. go_on es n (record w { out = o; settings = x })) (sym (append-nil w.out)) same ∙ offer-writes [] settings p es n w
 
 -- one that has no solution
 pub offer-fails : (settings : Settings) (p : Indicator) (es : List Element) (n : ℕ) (w : Local) → w.settings ≡ settings → ◌≡◌ {A = Move} (Give Fail w) (offer (fails settings) p es n w)
-offer-fails settings p es n w same = ap₂ (λ o x. Give Fail (record { out = o; settings = x })) (sym (append-nil w.out)) same
+offer-fails settings p es n w same = ap₂ (λ o x. Give Fail (record w { out = o; settings = x })) (sym (append-nil w.out)) same
 
 -- one that unifies two terms with new variables
 pub offer-solves : (a b : Tree) (k : ℕ) (settings : Settings) (p : Indicator) (es : List Element) (n : ℕ) (w : Local) → w.settings ≡ settings →
     taken (solved es n (record { left = a; right = b; new = k })) w ≡ offer (Gives (record { left = a; right = b; new = k } ∷ []) [] settings) p es n w
 offer-solves a b k settings p es n w same =
-    ap₂ (λ o s. taken (solved es n (record { left = a; right = b; new = k })) (record { out = o; settings = s })) (sym (append-nil w.out)) same
+    ap₂ (λ o s. taken (solved es n (record { left = a; right = b; new = k })) (record w { out = o; settings = s })) (sym (append-nil w.out)) same
 
 -- and without
 pub offer-unifies : (a b : Tree) (settings : Settings) (p : Indicator) (es : List Element) (n : ℕ) (w : Local) → w.settings ≡ settings →

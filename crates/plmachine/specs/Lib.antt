@@ -4,3 +4,4 @@ pub mod Lists
 pub mod Running
 pub mod Asking
 pub mod Selected
+pub mod Gathering

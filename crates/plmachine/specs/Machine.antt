@@ -51,7 +51,7 @@ mode_of (modes.Ask q) s = place_behind s (Asking (question_of s.env.heap q) ∷ 
 mode_of (modes.Back r) s = Back (result_of r)
 
 abbrev pub local_of : Reached → Local
-local_of s = record { out = s.out.items; settings = s.settings }
+local_of s = record { out = s.out.items; settings = s.settings; kept = s.kept }
 
 abbrev pub cases_in : Program → Reached → List Case
 cases_in P s = cases_of (statics_of P) s.stack

@@ -188,7 +188,7 @@ impl Machine {
         rest: Continuation,
     ) -> Result<(), AllocError>
         requires { IsList self.old.stack rest }
-        ensures ok { OnOk result (Moved program.now self.old self.new (went_on (goals_of self.old.stack rest) self.old.stack.env.count (record { out = (local_of self.old).out ++ bytes.now; settings = self.old.settings }))) }
+        ensures ok { OnOk result (Moved program.now self.old self.new (went_on (goals_of self.old.stack rest) self.old.stack.env.count (record (local_of self.old) { out = (local_of self.old).out ++ bytes.now }))) }
         ensures err { OnErr result (Stays program.now self.old self.new) }
     {
         self.out.extend_from_slice(bytes)?;

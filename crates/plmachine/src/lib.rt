@@ -4,6 +4,7 @@
 pub mod asking;
 pub mod built_in;
 mod error;
+pub mod finding;
 pub mod indicator;
 mod list;
 pub mod machine;

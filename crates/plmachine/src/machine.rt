@@ -1,6 +1,7 @@
 //! The machine of a search.
 
 use plcells::cell::Cell;
+use plcollect::collection::Collection;
 use plevent::request::Request;
 use pllinks::level::Level;
 use plprogram::settings::Settings;
@@ -61,6 +62,8 @@ pub struct Machine {
     pub out: Vec<u8>,
     /// The operators and flags of the thread.
     pub settings: Settings,
+    /// The copies that are kept for findall/3.
+    pub kept: Collection,
     /// The values of the arguments of the goal that is selected.
     pub args: Vec<Cell>,
 }

@@ -13,6 +13,7 @@ pub enum Predicate {
     Once,
     Not,
     Catch,
+    FindAll,
     Throw,
     /// call/N with N - 1 further arguments.
     CallWith(u16),
@@ -32,6 +33,7 @@ impl Predicate {
             Predicate::Once => ("once", 1),
             Predicate::Not => ("\\+", 1),
             Predicate::Catch => ("catch", 3),
+            Predicate::FindAll => ("findall", 3),
             Predicate::Throw => ("throw", 1),
             Predicate::CallWith(further) => ("call", further + 1),
             Predicate::AddLast => ("assertz", 1),

@@ -26,7 +26,7 @@ use pllinks::item::{Item, MarkerKind};
 use pllinks::level::Level;
 use pllinks::link::Continuation;
 use plprogram::program::Program;
-use plstack::frame::{Around, Catcher, Handling};
+use plstack::frame::{Around, Catcher, Handler, Handling};
 use plterm::term::Term;
 use std::alloc::AllocError;
 
@@ -174,7 +174,7 @@ impl Machine {
         let how = Running {
             predicate: Predicate::Catch,
             around: Around::Handle(Handling {
-                catcher,
+                handler: Handler::Catch(catcher),
                 list: rest,
             }),
             level,
@@ -206,7 +206,7 @@ impl Machine {
     }
 
     /// What a term comes to as a goal, and a new list: a marker before a list that is there.
-    fn ready_before(
+    pub(crate) fn ready_before(
         &mut self,
         goal: Cell,
         marker: Item,

@@ -12,6 +12,7 @@ ghost use Rattle.plmachine.specs.Lists.{Grown};
 ghost use Rattle.plmachine.specs.Machine.{depth_of, local_of, IsBegun, Moved, Stays};
 ghost use Rattle.plmachine.specs.Selected.{IsCallOf, IsSelected, IsStaticCall, StandsFor};
 
+use crate::finding::Finding;
 use crate::machine::{Machine, Mode, Outcome, Question};
 use plcells::cell::Cell;
 use plgoals::form::{Form, Procedure};
@@ -74,6 +75,14 @@ impl Machine {
             Form::Once(goal) => self.once(program, goal, rest),
             Form::Catching(goal, catcher, recovery) => {
                 self.catching(program, goal, Catcher { catcher, recovery }, rest)
+            }
+            Form::FindAll(template, goal, whole) => {
+                let finding = Finding {
+                    template,
+                    goal,
+                    whole,
+                };
+                self.find_all(program, finding, rest)
             }
             Form::Throwing(ball) => self.throw(program, ball, rest),
             Form::CallWith => self.call_with(program, rest),

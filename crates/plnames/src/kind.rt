@@ -24,6 +24,8 @@ pub enum Control {
     Call,
     /// catch/3.
     Catch,
+    /// findall/3.
+    FindAll,
     /// throw/1.
     Throw,
     /// assertz/1.

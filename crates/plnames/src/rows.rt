@@ -25,6 +25,7 @@ pub static ROWS: &[(&str, u16, Kind)] = &[
     ("call", 7, Kind::Control(Control::Call)),
     ("call", 8, Kind::Control(Control::Call)),
     ("catch", 3, Kind::Control(Control::Catch)),
+    ("findall", 3, Kind::Control(Control::FindAll)),
     ("throw", 1, Kind::Control(Control::Throw)),
     ("assertz", 1, Kind::Control(Control::AddLast)),
     ("halt", 0, Kind::Control(Control::Halt)),

@@ -132,12 +132,6 @@ below-items f [] each = tt
 below-items f (x ∷ xs) each = (each x, (below-items f xs each, tt))
 
 -- the equation of a value with a term
-pub solved-by : (h : Store) (s : Settings) (n : ℕ) (v : Cell) (vs ws : List Cell) (l t : Tree) (new : ℕ) → ws ≡ v ∷ vs → l ≡ var 0 →
-    Gives (record { left = bind (filled h ws n) l; right = bind (filled h ws n) t; new = new } ∷ []) [] s ≡ solved_by h s n v vs t new
-solved-by h s n v vs ws l t new values left =
-    ap₂ (λ us u. Gives (record { left = bind (filled h us n) u; right = bind (filled h us n) t; new = new } ∷ []) [] s) values left
-    ∙ ap (λ u. Gives (record { left = u; right = bind (filled h (v ∷ vs) n) t; new = new } ∷ []) [] s) (bind-first h v vs n)
-
 pub solved-as : (h : Store) (s : Settings) (n : ℕ) (v : Cell) (vs : List Cell) (t u : Tree) (new : ℕ) → bind (filled h (v ∷ vs) n) t ≡ u →
     solved_by h s n v vs t new ≡ Gives (record { left = value h v; right = u; new = new } ∷ []) [] s
 solved-as h s n v vs t u new e = ap (λ w. Gives (record { left = value h v; right = w; new = new } ∷ []) [] s) e

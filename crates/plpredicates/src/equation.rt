@@ -1,7 +1,9 @@
 //! Answers that are equations.
-ghost use Rattle.std.specs.Prelude.{◌≡◌, ℕ, suc, ◌<◌, map, IfOk};
+ghost use Rattle.std.specs.Prelude.{◌≡◌, ℕ, suc, ◌<◌, ◌∷◌, map, IfOk};
 ghost use Rattle.plterm.specs.Tree.{var};
 ghost use Rattle.plterm.specs.Variables.{AllBelow};
+ghost use Rattle.plsubst.specs.Subst.{bind};
+ghost use Rattle.plcells.specs.Equations.{IsEquation, filled, left_of, right_of};
 ghost use Rattle.plcells.specs.Store.{Store, value, IsValue, AreValues};
 ghost use Rattle.plprogram.specs.declared.settings.Settings.{Settings};
 ghost use Rattle.plread.specs.Texts.{listed};
@@ -30,16 +32,45 @@ pub(crate) fn solves(
     ensures is { (h : Store) → IfOk result (λ answer. (s : Settings) (n : ℕ) → meant h s n answer ≡ solved_by h s n v others.now right new) }
     ensures there { (h : Store) → IsValue h v → AreValues h others.now → IfOk result (IsThere h) }
 {
+    let equation = equation_of(alloc, v, right, others, new)?;
+    Ok(Answer::Solves(equation))
+}
+
+/// The term of a value beside a term, whose variable 0 stands for that value, the next for the other values, and the rest are new.
+fn equation_of(
+    alloc: Global,
+    v: Cell,
+    right: Term,
+    others: &[Cell],
+    new: u32,
+) -> Result<Equation, AllocError>
+    requires below { AllBelow (width others.now new) right }
+    ensures left { (h : Store) (n : ℕ) → IfOk result (λ e. left_of h n e ≡ value h v) }
+    ensures right { (h : Store) (n : ℕ) → IfOk result (λ e. right_of h n e ≡ bind (filled h (v ∷ others.now) n) right) }
+    ensures new { IfOk result (λ e. e.new ≡ new) }
+    ensures there { (h : Store) → IsValue h v → AreValues h others.now → IfOk result (IsEquation h) }
+{
     let left = Term::var(alloc, 0)?;
     let mut values = Vec::with_capacity(alloc, others.len() + 1)?;
     values.push(v)?;
     values.extend_from_slice(others)?;
-    Ok(Answer::Solves(Equation {
+    Ok(Equation {
         left,
         right,
         values,
         new,
-    }))
+    })
+}
+
+/// The term of a value beside the list of the terms of others.
+pub fn list_equation(alloc: Global, v: Cell, items: &[Cell]) -> Result<Equation, AllocError>
+    ensures left { (h : Store) (n : ℕ) → IfOk result (λ e. left_of h n e ≡ value h v) }
+    ensures right { (h : Store) (n : ℕ) → IfOk result (λ e. right_of h n e ≡ listed (map (value h) items.now)) }
+    ensures new { IfOk result (λ e. e.new ≡ 0) }
+    ensures there { (h : Store) → IsValue h v → AreValues h items.now → IfOk result (IsEquation h) }
+{
+    let right = list_of_variables(alloc, 1, items.len() as u64)?;
+    equation_of(alloc, v, right, items, 0)
 }
 
 /// The term of a value is unified with a term without variables.
@@ -56,8 +87,8 @@ pub(crate) fn is_list_of(alloc: Global, v: Cell, items: &[Cell]) -> Result<Answe
     ensures is { (h : Store) → IfOk result (λ answer. (s : Settings) (n : ℕ) → meant h s n answer ≡ unifies (value h v) (listed (map (value h) items.now)) s) }
     ensures there { (h : Store) → IsValue h v → AreValues h items.now → IfOk result (IsThere h) }
 {
-    let term = list_of_variables(alloc, 1, items.len() as u64)?;
-    solves(alloc, v, term, items, 0)
+    let equation = list_equation(alloc, v, items)?;
+    Ok(Answer::Solves(equation))
 }
 
 /// The terms of two values are unified with those of two others.

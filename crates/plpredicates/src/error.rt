@@ -54,7 +54,7 @@ pub(crate) fn instantiation_error(alloc: Global) -> Result<Term, AllocError>
 }
 
 /// The term of a value is of another type.
-pub(crate) fn type_error(
+pub fn type_error(
     alloc: Global,
     heap: &Heap,
     kind: &str,

@@ -1,7 +1,7 @@
 //! The terms of values as lists (ISO/IEC 13211-1 6.3.5).
 ghost use Rattle.std.specs.Prelude.{◌≡◌, map, IfOk, IfSome, IfNone};
 ghost use Rattle.plcells.specs.Store.{value, IsValue, AreValues};
-ghost use Rattle.plbuiltin.specs.Lists.{elements_of as elements_in_term, ends, checked as checked_of};
+ghost use Rattle.plbuiltin.specs.Lists.{elements_of as elements_in_term, ends, may_be_list, checked as checked_of};
 ghost use Rattle.plpredicates.specs.Lists.{tail_as, tail_at, IsCell, AreThere, checked_as};
 
 use crate::error::{instantiation_error, type_error};
@@ -67,6 +67,29 @@ pub(crate) fn tail_of(heap: &Heap, v: Cell) -> Tail
         Shape::Variable(_) => Tail::Unbound,
         Shape::Atom(name) if heap.names().atom_name(name).as_str() == "[]" => Tail::Empty,
         _ => Tail::Other,
+    }
+}
+
+/// What stands behind the elements of a term.
+pub(crate) fn end_of(heap: &Heap, v: Cell) -> Tail
+    requires { IsValue heap.now v }
+    ensures { tail_as result ≡ (elements_in_term (value heap.now v)).tail }
+{
+    let mut rest = v;
+    while let Some((_, tail)) = cell_of(heap, rest) {
+        rest = tail;
+    }
+    tail_of(heap, rest)
+}
+
+/// Whether the term of a value is a list, or may become one as its end is a variable. It takes time linear in the elements.
+pub fn may_be_list(heap: &Heap, v: Cell) -> bool
+    requires { IsValue heap.now v }
+    ensures { result ≡ may_be_list (value heap.now v) }
+{
+    match end_of(heap, v) {
+        Tail::Empty | Tail::Unbound => true,
+        Tail::Other => false,
     }
 }
 

@@ -6,7 +6,7 @@ ghost use Rattle.plbuiltin.specs.Tests.{on_tests, holds as holds_of, is_list as 
 ghost use Rattle.plpredicates.specs.Answers.{IsThere, meant};
 
 use crate::answer::Answer;
-use crate::list::{Tail, cell_of, tail_of};
+use crate::list::{Tail, end_of};
 use plcells::cell::Cell;
 use plcells::heap::Heap;
 use plnames::kind::Tests;
@@ -47,9 +47,5 @@ fn is_list(heap: &Heap, v: Cell) -> bool
     requires { IsValue heap.now v }
     ensures { result ≡ is_list_of (value heap.now v) }
 {
-    let mut rest = v;
-    while let Some((_, tail)) = cell_of(heap, rest) {
-        rest = tail;
-    }
-    matches!(tail_of(heap, rest), Tail::Empty)
+    matches!(end_of(heap, v), Tail::Empty)
 }

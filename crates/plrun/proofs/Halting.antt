@@ -1,5 +1,6 @@
 -- How main's search ends the run: once that is done, and no sooner.
 use Rattle.std.proofs.Common.{◌≡◌, ℕ, zero, suc, ◌+◌, ◌<◌, Bool, true, false, inl, inr, List, [], ◌∷◌, ◌++◌, min, length, Option, Some, None, refl, sym, ap, ◌∙◌, subst, arith, nat_eq, if◌then◌else◌}
+use Rattle.std.specs.Prelude.{codes}
 use Rattle.std.specs.List.{filter_map, cons_option}
 use Rattle.std.specs.Option.{option_map}
 use Rattle.plterm.specs.Tree.{Tree, var, int, atom, compound}
@@ -23,14 +24,17 @@ use Rattle.plprogram.specs.declared.settings.Unknown.{Unknown}
 use Rattle.plprogram.specs.declared.settings.Unknown.TheVariants as unknown
 use Rattle.plbuiltin.specs.Solution.{Solution, Solved, Gives, Raises as Refuses}
 use Rattle.plbuiltin.specs.Solutions.{solutions}
-use Rattle.plsearch.specs.Types.{Result, Stop, Fail, CutTo, Throw, Halted, Spent, Awaits, Stopped, Unfit, Commit, Never, Until, Then, GoesOn, Ends, Question, Look, Await, Element, Goal, Marker, Raise, Asking, Place, Case, Choice, Mark, Handle, Handler, Catch, Return, Keep, Again, Anew, Local, Move, Give, Go, Run}
+use Rattle.plsearch.specs.Types.{Result, Stop, Fail, CutTo, Throw, Halted, Spent, Awaits, Stopped, Unfit, Commit, Never, Until, Collect, Then, GoesOn, Ends, Question, Look, Await, Element, Goal, Marker, Raise, Asking, Place, Case, Choice, Mark, Handle, Handler, Catch, Gather, Return, Keep, Again, Anew, Local, Move, Give, Go, Run}
 use Rattle.plsearch.specs.Errors.{static_error}
 use Rattle.plsearch.specs.Lists.{bind_element, bind_goals}
-use Rattle.plsearch.specs.Forms.{Form, True, False, Both, Either, IfThenElse, Not, Once, Catching, Throwing, CallWith, Cut, Halting, AddLast, BuiltIn, Call, NoGoal, form}
+use Rattle.plsearch.specs.Forms.{Form, True, False, Both, Either, IfThenElse, Not, Once, Catching, FindAll, Throwing, CallWith, Cut, Halting, AddLast, BuiltIn, Call, NoGoal, form}
 use Rattle.plsearch.specs.Running.{Runnable, Runs, Raises, runnable, called}
-use Rattle.plsearch.specs.Rows.{is_true, before_rest, resolve, choose, call, raised, asked, once_1, not_1, catch_3, call_with, assertz_1, first_of, run, thrown, catching, branch, go_on, is_static, add, halting, user, solved, taken, offered, offer, row, select, meet}
+use Rattle.plsearch.specs.Rows.{is_true, before_rest, resolve, choose, call, raised, asked, once_1, not_1, catch_3, call_with, assertz_1, first_of, run, thrown, catching, finding, findall_3, gathering, branch, go_on, is_static, add, halting, user, solved, taken, offered, offer, row, select, meet}
 use Rattle.plsearch.specs.Replies.{outcome, follows, missing, walk_over, answered}
-use Rattle.plsearch.specs.Handlers.{has, recovers, met_by, resume}
+use Rattle.plsearch.specs.Handlers.{has, recovers, met_by, goes_on, resume}
+use Rattle.plbuiltin.specs.Errors.{type_error}
+use Rattle.plbuiltin.specs.Lists.{may_be_list}
+use Rattle.plsearch.specs.Collecting.{copies_from, dropped, gathered}
 use Rattle.plsearch.specs.Engine.{stop_cut, mark, choice, out, deeper, outs, Visit, left}
 use Rattle.plsearch.specs.Machines.Machine.{Mode, At, Back, Machine, Rest, move, step, ask, visits, backs, turn_in, turn}
 use Rattle.plsearch.specs.Machines.Machine as machines
@@ -162,6 +166,13 @@ offer_fits : (s : Solved) (p : Indicator) (rest : List Element) (n : ℕ) (w : L
 offer_fits (Refuses e) p rest n w proper = raised_fits _ _ rest w
 offer_fits (Gives ss bytes settings) p rest n w proper = offered_fits ss rest n _ proper
 
+finding_fits : (a g l : Tree) (d : ℕ) (rest : List Element) (n : ℕ) (w : Local) → AreProper rest → MoveFits (finding a g l d rest n w)
+finding_fits a g l d rest n w proper = go (may_be_list l)
+  where
+    go : (b : Bool) → MoveFits (if b then run (runnable g) findall_3 (gathering l rest n ∷ []) (suc d) (Marker (Collect a) d ∷ rest) n w else raised (type_error (codes "list") l) findall_3 rest w)
+    go true = run_fits (runnable g) findall_3 (gathering l rest n ∷ []) (suc d) (Marker (Collect a) d ∷ rest) n w (proper, tt) (tt, proper)
+    go false = raised_fits _ _ rest w
+
 row_fits : (P : Program) (f : Form) (k : ℕ) (t : Tree) (d : ℕ) (rest : List Element) (n : ℕ) (w : Local) → AreProper rest → MoveFits (row P f k t d rest n w)
 unfolding row
 row_fits P True k t d rest n w proper = (tt, proper)
@@ -171,6 +182,7 @@ row_fits P (Either a b) k t d rest n w proper = ((((tt, proper), tt), tt), (tt, 
 row_fits P (IfThenElse c a e) k t d rest n w proper = ((tt, (((tt, proper), tt), tt)), (tt, (tt, (tt, proper))))
 row_fits P (Not g) k t d rest n w proper = run_fits (runnable g) not_1 (branch rest n ∷ []) (suc d) (Marker Never d ∷ rest) n w ((proper, tt), tt) (tt, proper)
 row_fits P (Catching g c r) k t d rest n w proper = run_fits (runnable g) catch_3 (catching c r rest n ∷ []) (suc d) (Marker Until d ∷ rest) n w (proper, tt) (tt, proper)
+row_fits P (FindAll a g l) k t d rest n w proper = finding_fits a g l d rest n w proper
 row_fits P (Throwing b) k t d rest n w proper = thrown_fits b rest w
 row_fits P (Once g) k t d rest n w proper = run_fits (runnable g) once_1 [] d (Marker Commit d ∷ rest) n w tt (tt, proper)
 row_fits P (CallWith g us) k t d rest n w proper = run_fits (called g us) (call_with (length us)) [] d rest n w tt proper
@@ -238,6 +250,15 @@ resume_fits (Catch c r) p d (Throw b ls) w proper other = go (has d ls)
     go true = met_fits (unify c (copied p.variables b)) r b ls p d w proper
     go false = tt
 resume_fits (Catch c r) p d x w proper other = other
+resume_fits (Gather l) p d Fail w proper other = goes (gathered l (copies_from d w.kept) p.variables)
+  where
+    goes : (s : Solution) → ReturnFits (goes_on (solved p.goals p.variables s) (dropped d w))
+    goes s = from (unify s.left s.right)
+      where
+        from : (o : Option (ℕ → Tree)) → ReturnFits (goes_on (option_map (λ σ. record { goals = bind_goals σ p.goals; variables = p.variables + s.new }) o) (dropped d w))
+        from None = tt
+        from (Some σ) = bound σ p.goals proper
+resume_fits (Gather l) p d x w proper other = other
 
 cut_other : (d : ℕ) (r : Result) → IsOther r → IsOther (stop_cut d r)
 cut_other d (CutTo l) other = go (nat_eq l d)
@@ -379,6 +400,7 @@ module _ (P : Program) where
   visit_turned cases (Marker Commit l ∷ es) n run r proper common = Goes refl (record { mode = r.1; cases = (tt, proper); answers = common })
   visit_turned cases (Marker Never l ∷ es) n run r proper common = Goes refl (record { mode = tt; cases = proper; answers = common })
   visit_turned cases (Marker Until l ∷ es) n run r proper common = Goes refl (record { mode = r.1; cases = proper; answers = common })
+  visit_turned cases (Marker (Collect t) l ∷ es) n run r proper common = Goes refl (record { mode = tt; cases = proper; answers = common })
   visit_turned cases (Raise b ∷ es) n run r proper common = Goes refl (record { mode = tt; cases = proper; answers = common })
   visit_turned cases (Asking q ∷ es) n run r proper common =
       ask_turned cases (λ a. answered (Asking q) a (deeper cases 0) es n) (asked q) run run.answers proper common

@@ -3,7 +3,7 @@ use Rattle.std.proofs.Common.{◌≡◌, ℕ, suc, ◌<◌, ◌≤◌, Bool, tru
 use Rattle.std.specs.Prelude.{nat_le}
 use Rattle.std.proofs.lemmas.Bool.Decides.{nat_tests}
 use Rattle.plprogram.specs.Program.{Program}
-use Rattle.plsearch.specs.Types.{Result, Stop, Fail, CutTo, Throw, Halted, Spent, Awaits, Stopped, Unfit, Kind, Commit, Never, Until, Element, Goal, Marker, Raise, Asking, Place, Case, Choice, Mark, Handle, Handler, Catch, Run}
+use Rattle.plsearch.specs.Types.{Result, Stop, Fail, CutTo, Throw, Halted, Spent, Awaits, Stopped, Unfit, Kind, Commit, Never, Until, Collect, Element, Goal, Marker, Raise, Asking, Place, Case, Choice, Mark, Handle, Handler, Catch, Gather, Run}
 use Rattle.plsearch.specs.Handlers.{has, resume}
 use Rattle.plsearch.specs.Engine.{stop_cut, mark, deeper, choice, returned, out, outs, Visit}
 use Rattle.plsearch.specs.Machines.Levels.{IsAtMost, AreAtMost, emptied}
@@ -31,6 +31,7 @@ unfolding GivesUp
 gives-up k Commit l h = at-most l k h
 gives-up k Never l h = at-most l k h
 gives-up k Until l h = tt
+gives-up k (Collect t) l h = tt
 
 allowed : (k d : ℕ) (e : Element) → IsAtMost k e → Allows (low k) (apart k d) e
 unfolding Allows
@@ -121,6 +122,8 @@ module _ (P : Program) where
   unfolding resume Passes
   kept k d i (Catch c x) p (Throw b ls) run lt below h = rw (not-behind k d i lt below ls h) refl
   kept k d i (Catch c x) p r run lt below h = refl
+  kept k d i (Gather l) p Fail run lt below h = absurd h
+  kept k d i (Gather l) p r run lt below h = refl
 
   -- a case above k
   out-passes : (k d i : ℕ) (c : Case) (r : Result) (run : Run) → k < i → i < d → Passes k d r → out (Visit P) i c (r, run) ≡ (r, run)

@@ -3,7 +3,7 @@ use Rattle.std.proofs.Common.{◌≡◌, ℕ, zero, suc, ◌+◌, ◌<◌, ◌�
 use Rattle.plevent.specs.Search.{Item, Answer, Finishes}
 use Rattle.plevent.specs.declared.request.ThreadEnd.{ThreadEnd}
 use Rattle.plprogram.specs.Program.{Program}
-use Rattle.plsearch.specs.Types.{Result, Stop, Fail, CutTo, Throw, Halted, Spent, Awaits, Stopped, Unfit, Element, Place, Case, Choice, Mark, Handle, Catch, Return, Keep, Again, Anew, Local, Move, Give, Go, Meeting, Select, Asks, End, Pass, Marked, Run}
+use Rattle.plsearch.specs.Types.{Result, Stop, Fail, CutTo, Throw, Halted, Spent, Awaits, Stopped, Unfit, Element, Place, Case, Choice, Mark, Handle, Catch, Gather, Return, Keep, Again, Anew, Local, Move, Give, Go, Meeting, Select, Asks, End, Pass, Marked, Run}
 use Rattle.plsearch.specs.Rows.{select, meet}
 use Rattle.plsearch.specs.Replies.{answered}
 use Rattle.plsearch.specs.Handlers.{resume}
@@ -83,6 +83,7 @@ module _ (P : Program) (further : List Answer) where
   out-still (Choice ps) d q run n = choice-still ps d q run n
   out-still (Mark l) d q run n = n
   out-still (Handle (Catch c r) p) d q run n = n
+  out-still (Handle (Gather l) p) d q run n = n
 
   returned-grows : (k : ℕ) → Claim k → (d : ℕ) (b : Return) (run : Run) → left run < k → Grows (returned (Visit P) d b run) (returned (Visit P) d b (with_more run))
   unfolding Grows with_more Claim

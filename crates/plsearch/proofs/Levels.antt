@@ -1,4 +1,5 @@
 -- Levels of results: a list that names some levels is cut to these alone, and no ball that it throws has others behind it.
+use Rattle.std.specs.Prelude.{codes}
 use Rattle.std.proofs.Common.{◌≡◌, ℕ, zero, suc, ◌+◌, ◌<◌, ◌≤◌, Bool, true, false, ◌||◌, if◌then◌else◌, List, [], ◌∷◌, length, Option, Some, None, refl, sym, ap, subst, arith, nat_eq}
 use Rattle.std.proofs.lemmas.Bool.Decides.{nat_tests}
 use Rattle.std.specs.List.{filter_map, cons_option}
@@ -18,16 +19,19 @@ use Rattle.plevent.specs.Search.{Item, Answer, Seen, Got}
 use Rattle.plprogram.specs.Program.{Program, clauses_for}
 use Rattle.plprogram.specs.declared.settings.Unknown.{Unknown}
 use Rattle.plprogram.specs.declared.settings.Unknown.TheVariants as unknown
+use Rattle.plbuiltin.specs.Errors.{type_error}
+use Rattle.plbuiltin.specs.Lists.{may_be_list}
 use Rattle.plbuiltin.specs.Solution.{Solution, Solved, Gives, Raises as Refuses}
 use Rattle.plbuiltin.specs.Solutions.{solutions}
 use Rattle.plsearch.specs.Errors.{static_error, error_term}
-use Rattle.plsearch.specs.Types.{Result, Stop, Fail, CutTo, Throw, Halted, Spent, Awaits, Stopped, Unfit, Kind, Commit, Never, Until, Then, GoesOn, Ends, Question, Look, Await, Element, Goal, Marker, Raise, Asking, Place, Case, Choice, Mark, Handle, Handler, Catch, Return, Keep, Again, Anew, Local, Move, Give, Go, Run}
-use Rattle.plsearch.specs.Lists.{bind_element, bind_goals, levels}
-use Rattle.plsearch.specs.Forms.{Form, True, False, Both, Either, IfThenElse, Not, Once, Catching, Throwing, CallWith, Cut, Halting, AddLast, BuiltIn, Call, NoGoal, form}
+use Rattle.plsearch.specs.Types.{Result, Stop, Fail, CutTo, Throw, Halted, Spent, Awaits, Stopped, Unfit, Kind, Commit, Never, Until, Collect, Then, GoesOn, Ends, Question, Look, Await, Element, Goal, Marker, Raise, Asking, Place, Case, Choice, Mark, Handle, Handler, Catch, Gather, Return, Keep, Again, Anew, Local, Move, Give, Go, Run}
+use Rattle.plsearch.specs.Lists.{bind_kind, bind_element, bind_goals, levels}
+use Rattle.plsearch.specs.Forms.{Form, True, False, Both, Either, IfThenElse, Not, Once, Catching, FindAll, Throwing, CallWith, Cut, Halting, AddLast, BuiltIn, Call, NoGoal, form}
 use Rattle.plsearch.specs.Running.{Runnable, Runs, Raises, runnable, called}
-use Rattle.plsearch.specs.Rows.{is_true, before_rest, resolve, choose, call, raised, assertz_1, first_of, run, call_with, branch, catching, go_on, thrown, halting, is_static, add_clause, add, user, solved, taken, offered, offer, row, select, asked, meet}
+use Rattle.plsearch.specs.Collecting.{copies_from, dropped, gathered}
+use Rattle.plsearch.specs.Rows.{finding, findall_3, gathering, is_true, before_rest, resolve, choose, call, raised, assertz_1, first_of, run, call_with, branch, catching, go_on, thrown, halting, is_static, add_clause, add, user, solved, taken, offered, offer, row, select, asked, meet}
 use Rattle.plsearch.specs.Replies.{Outcome, Served, Stops, Misfits, outcome, follows, missing, answered}
-use Rattle.plsearch.specs.Handlers.{has, recovers, met_by, resume}
+use Rattle.plsearch.specs.Handlers.{has, recovers, met_by, goes_on, resume}
 use Rattle.plsearch.specs.Engine.{Ended, stop_cut, mark, deeper, choice, returned, out, outs, moved, stepped, asks, walk, left, Visit}
 use Rattle.plsearch.proofs.Fuel.{Visit-walk}
 use Rattle.plsearch.proofs.Ends.{Visit-left, out-left}
@@ -65,6 +69,7 @@ unfoldable pub GivesUp : Levels → Kind → ℕ → Type 0
 GivesUp C Commit l = C l ≡ true
 GivesUp C Never l = C l ≡ true
 GivesUp C Until l = Unit {0}
+GivesUp C (Collect t) l = Unit {0}
 
 unfoldable pub Allows : Levels → Levels → Element → Type 0
 Allows C N (Goal k t) = C k ≡ true
@@ -97,6 +102,7 @@ unfolding GivesUp
 gives-up-more C d Commit l h = also-others C d l h
 gives-up-more C d Never l h = also-others C d l h
 gives-up-more C d Until l h = tt
+gives-up-more C d (Collect t) l h = tt
 
 allows-more : (C N : Levels) (d : ℕ) (e : Element) → Allows C N e → Allows (also C d) N e
 unfolding Allows
@@ -110,10 +116,17 @@ unfolding AllAllow
 allow-more C N d [] h = tt
 allow-more C N d (e ∷ es) h = (allows-more C N d e h.0, allow-more C N d es h.1)
 
+gives-up-bound : (C : Levels) (σ : ℕ → Tree) (m : Kind) (l : ℕ) → GivesUp C m l → GivesUp C (bind_kind σ m) l
+unfolding GivesUp
+gives-up-bound C σ Commit l h = h
+gives-up-bound C σ Never l h = h
+gives-up-bound C σ Until l h = tt
+gives-up-bound C σ (Collect t) l h = tt
+
 allows-bound : (C N : Levels) (σ : ℕ → Tree) (e : Element) → Allows C N e → Allows C N (bind_element σ e)
 unfolding Allows
 allows-bound C N σ (Goal k t) h = h
-allows-bound C N σ (Marker m l) h = h
+allows-bound C N σ (Marker m l) h = (gives-up-bound C σ m l h.0, h.1)
 allows-bound C N σ (Raise b) h = tt
 allows-bound C N σ (Asking q) h = tt
 
@@ -251,6 +264,11 @@ module _ (C N : Levels) (d : ℕ) (holds : Holds N d) where
   unfolding MoveAllows CasesAllow CaseAllows PlacesAllow
   in-catcher c r list es n w other all = ((tt, (other, tt)), all)
 
+  in-gatherer : (l : Tree) (list : List Element) (es : List Element) (n : ℕ) (w : Local) → AllAllow C N list → AllAllow (also C (suc d)) N es →
+      MoveAllows C N d (Go (Choice [] ∷ gathering l list n ∷ []) (record { goals = es; variables = n }) w)
+  unfolding MoveAllows CasesAllow CaseAllows PlacesAllow
+  in-gatherer l list es n w other all = ((tt, (other, tt)), all)
+
   thrown-allowed : (b : Tree) (rest : List Element) (w : Local) → AllAllow C N rest → MoveAllows C N d (thrown b rest w)
   thrown-allowed (var x) rest w all = raises _ _ rest w all
   thrown-allowed (int i) rest w all = throws (copied 0 (int i)) rest w all
@@ -302,6 +320,14 @@ module _ (C N : Levels) (d : ℕ) (holds : Holds N d) where
   offer-allowed (Refuses e) p rest n w all = raises e p rest w all
   offer-allowed (Gives ss bytes settings) p rest n w all = offered-allowed ss rest n _ all
 
+  finding-allowed : (t g l : Tree) (rest : List Element) (n : ℕ) (w : Local) → AllAllow C N rest → MoveAllows C N d (finding t g l d rest n w)
+  unfolding AllAllow Allows GivesUp
+  finding-allowed t g l rest n w all =
+      one-of (may_be_list l) _ (raised (type_error (codes "list") l) findall_3 rest w)
+      (in-gatherer l rest (first_of (runnable g) _ (suc d) ∷ Marker (Collect t) d ∷ rest) n w all
+          (first-allowed (runnable g) _ (also C (suc d)) (suc d) (Marker (Collect t) d ∷ rest) (also-it C (suc d)) ((tt, holds d (omega arith)), allow-more C N (suc d) rest all)))
+      (raises _ _ rest w all)
+
   row-allowed : (P : Program) (c : Form) (k : ℕ) (t : Tree) (rest : List Element) (n : ℕ) (w : Local) → C k ≡ true → AllAllow C N rest → MoveAllows C N d (row P c k t d rest n w)
   unfolding row AllAllow Allows GivesUp PlacesAllow MoveAllows CasesAllow CaseAllows
   row-allowed P True k t rest n w is all = go-on rest n w all
@@ -321,6 +347,7 @@ module _ (C N : Levels) (d : ℕ) (holds : Holds N d) where
   row-allowed P (Catching g c r) k t rest n w is all =
       in-catcher c r rest (first_of (runnable g) _ (suc d) ∷ Marker Until d ∷ rest) n w all
       (first-allowed (runnable g) _ (also C (suc d)) (suc d) (Marker Until d ∷ rest) (also-it C (suc d)) ((tt, holds d (omega arith)), allow-more C N (suc d) rest all))
+  row-allowed P (FindAll a g l) k t rest n w is all = finding-allowed a g l rest n w all
   row-allowed P (Throwing b) k t rest n w is all = thrown-allowed b rest w all
   row-allowed P (Once g) k t rest n w is all = runs (runnable g) _ (Marker Commit d ∷ rest) n w ((also-it C d, holds d (omega arith)), allow-more C N d rest all)
   row-allowed P (CallWith g us) k t rest n w is all = runs (called g us) (call_with (length us)) rest n w (allow-more C N d rest all)
@@ -420,6 +447,15 @@ resume-allowed C N d (Catch c r) p (Throw b ls) w all bounded = met (has d ls)
     met false = bounded
     met true = met-allowed (unify c (copied p.variables b))
 resume-allowed C N d (Catch c r) p x w all bounded = bounded
+resume-allowed C N d (Gather l) p Fail w all bounded = goes (gathered l (copies_from d w.kept) p.variables)
+  where
+    goes : (s : Solution) → ReturnAllows C N d (goes_on (solved p.goals p.variables s) (dropped d w))
+    goes s = from (unify s.left s.right)
+      where
+        from : (o : Option (ℕ → Tree)) → ReturnAllows C N d (goes_on (option_map (λ σ. record { goals = bind_goals σ p.goals; variables = p.variables + s.new }) o) (dropped d w))
+        from None = bounded
+        from (Some σ) = allow-bound C N σ p.goals all
+resume-allowed C N d (Gather l) p x w all bounded = bounded
 
 module _ (P : Program) where
   Claim : ℕ → Type 0
@@ -494,6 +530,7 @@ module _ (P : Program) where
   walk-bounded k h C N (Marker Commit l ∷ es) n d holds run le all = mark-out C N d l (walk P (Visit P) es n (suc d) run) all.0.0 (walk-bounded k h C N es n (suc d) (holds-deeper N d (suc d) (omega arith) holds) run le all.1)
   walk-bounded k h C N (Marker Never l ∷ es) n d holds run le all = all.0.0
   walk-bounded k h C N (Marker Until l ∷ es) n d holds run le all = walk-bounded k h C N es n d holds run le all.1
+  walk-bounded k h C N (Marker (Collect t) l ∷ es) n d holds run le all = tt
   walk-bounded k h C N (Raise b ∷ es) n d holds run le all = levels-in C N es all.1
   walk-bounded k h C N (Asking q ∷ es) n d holds run le all = asks-bounded k h C N d holds (λ a. answered (Asking q) a d es n) (λ a w. answered-allowed C N d holds q a es n w all.1) (asked q) run run.answers le
 

@@ -1,5 +1,6 @@
 -- Each turn takes a step or an answer, or makes the machine lighter: so turns come to an end.
 use Rattle.std.proofs.Common.{◌≡◌, ℕ, zero, suc, ◌+◌, ◌≤◌, inl, inr, List, [], ◌∷◌, length, refl, ap, arith, Bool, true, false, if◌then◌else◌, Option, Some, None}
+use Rattle.std.specs.Option.{option_map}
 use Rattle.plevent.specs.Search.{Item, Answer}
 use Rattle.plprogram.specs.Program.{Program}
 use Rattle.std.proofs.lemmas.List.{length-map}
@@ -7,12 +8,14 @@ use Rattle.plterm.specs.Tree.{Tree}
 use Rattle.plterm.specs.Variables.{variables, copied}
 use Rattle.plsubst.specs.Subst.{bind}
 use Rattle.plsubst.specs.Unify.{unify}
-use Rattle.plsearch.specs.Types.{Catch, Throw, Result, Fail, Element, Place, Case, Choice, Mark, Handle, Handler, Local, Move, Give, Go, Meeting, Select, Asks, End, Pass, Marked, Return, Keep, Again, Anew, Run}
+use Rattle.plsearch.specs.Types.{Catch, Gather, Throw, Result, Fail, Element, Place, Case, Choice, Mark, Handle, Handler, Local, Move, Give, Go, Meeting, Select, Asks, End, Pass, Marked, Return, Keep, Again, Anew, Run}
 use Rattle.plsearch.specs.Lists.{bind_element, bind_goals}
 use Rattle.plsearch.specs.Running.{Runnable, Runs, Raises, runnable}
-use Rattle.plsearch.specs.Rows.{select, meet}
+use Rattle.plbuiltin.specs.Solution.{Solution}
+use Rattle.plsearch.specs.Collecting.{copies_from, dropped, gathered}
+use Rattle.plsearch.specs.Rows.{select, meet, solved}
 use Rattle.plsearch.specs.Replies.{answered}
-use Rattle.plsearch.specs.Handlers.{has, recovers, met_by, resume}
+use Rattle.plsearch.specs.Handlers.{has, recovers, met_by, goes_on, resume}
 use Rattle.plsearch.specs.Engine.{left, deeper}
 use Rattle.plsearch.specs.Machines.Machine.{Mode, At, Back, Machine, move, step, ask, meets, visits, choose, return, backs, turn_in, turn}
 use Rattle.plsearch.specs.Machines.Weight.{place_weight, weight, Lighter}
@@ -39,6 +42,15 @@ resume-weight (Catch c r) p d (Throw b ls) w = go (has d ls)
     go false = omega arith
     go true = met-weight (unify c (copied p.variables b))
 resume-weight (Catch c r) p d x w = omega arith
+resume-weight (Gather l) p d Fail w = goes (gathered l (copies_from d w.kept) p.variables)
+  where
+    goes : (s : Solution) → return_weight (goes_on (solved p.goals p.variables s) (dropped d w)) ≤ place_weight p + 3
+    goes s = from (unify s.left s.right)
+      where
+        from : (o : Option (ℕ → Tree)) → return_weight (goes_on (option_map (λ σ. record { goals = bind_goals σ p.goals; variables = p.variables + s.new }) o) (dropped d w)) ≤ place_weight p + 3
+        from None = omega arith
+        from (Some σ) = omega (arith, length-map p.goals (bind_element σ))
+resume-weight (Gather l) p d x w = omega arith
 
 -- the machine at a goal list
 abbrev at_goals : Place → List Case → Run → Machine

@@ -16,6 +16,7 @@ use Rattle.plops.specs.declared.flag.Quotes.TheVariants.{Codes}
 use Rattle.plprogram.specs.declared.settings.Unknown.TheVariants as unknown
 use Rattle.plprogram.specs.Program.{Program}
 use Rattle.plnames.specs.Names.{rows}
+use Rattle.plbuiltin.specs.Lists.{elements_of}
 use Rattle.plsearch.specs.Errors.{pair}
 use Rattle.plsearch.specs.Rows.{raised, row, select, meet}
 use Rattle.plsearch.specs.Replies.{answered}
@@ -25,7 +26,7 @@ use Rattle.plsearch.specs.Search.{start_from, start_of, search_of}
 
 -- all that a search computes with
 pub all : ℕ
-unfolding rows bind occurs places differ unify_in unify living exists words others prefix_of infix_of postfix_of raised row select meet answered resume choice out outs moved walk visit_in Visit start_from start_of search_of
+unfolding rows elements_of bind occurs places differ unify_in unify living exists words others prefix_of infix_of postfix_of raised row select meet answered resume choice out outs moved walk visit_in Visit start_from start_of search_of
 all = 0
 
 abbrev name : List ℕ → Tree
@@ -321,6 +322,43 @@ throws_no_variable : (search (of (codes "throw") (var 0)) 1000 []).next
     ≡ Finishes (Exception (pair (codes "error") (name (codes "instantiation_error")) (pair (codes "/") (name (codes "throw")) (int (pos 1)))))
 unfolding all
 throws_no_variable = refl
+
+-- main :- findall(X, p(X), L), write(L).
+abbrev finds : Tree → Tree → Tree → Tree
+finds t g l = compound (codes "findall") (more t (more g (more l none)))
+
+abbrev collects : Tree
+collects = and (finds (var 0) (of (codes "p") (var 0)) (var 1)) (of (codes "write") (var 1))
+
+writes_all : search_of (with_variables 2 collects) 1000 1000 [] ≡ record { next = Finishes True; used = 6; out = codes "[a,b]" }
+unfolding all
+writes_all = refl
+
+-- main :- findall(Y, p(X), [a,b]): the copies' variables are apart
+abbrev a_and_b : Tree
+a_and_b = pair (codes ".") (name (codes "a")) (pair (codes ".") (name (codes "b")) (name (codes "[]")))
+
+keeps_apart : search_of (with_variables 2 (finds (var 1) (of (codes "p") (var 0)) a_and_b)) 1000 1000 [] ≡ record { next = Finishes True; used = 4; out = [] }
+unfolding all
+keeps_apart = refl
+
+-- main :- findall(L, (p(X), findall(X, p(Y), L)), M), write(M).
+nests : search_of (with_variables 4 (and (finds (var 2) (and (of (codes "p") (var 0)) (finds (var 0) (of (codes "p") (var 1)) (var 2))) (var 3)) (of (codes "write") (var 3)))) 1000 1000 []
+    ≡ record { next = Finishes True; used = 11; out = codes "[[a,a],[b,b]]" }
+unfolding all
+nests = refl
+
+-- main :- catch(findall(X, (p(X), throw(y)), L), y, true), findall(X, p(X), L), write(L): what was kept before the ball is gone
+drops : search_of (with_variables 2 (and (catches (finds (var 0) (and (of (codes "p") (var 0)) (of (codes "throw") (name (codes "y")))) (var 1)) (name (codes "y")) (name (codes "true"))) collects)) 1000 1000 []
+    ≡ record { next = Finishes True; used = 13; out = codes "[a,b]" }
+unfolding all
+drops = refl
+
+-- main :- findall(X, p(X), a).
+wants_a_list : (search_of (with_variables 1 (finds (var 0) (of (codes "p") (var 0)) (name (codes "a")))) 1000 1000 []).next
+    ≡ Finishes (Exception (pair (codes "error") (pair (codes "type_error") (name (codes "list")) (name (codes "a"))) (pair (codes "/") (name (codes "findall")) (int (pos 3)))))
+unfolding all
+wants_a_list = refl
 
 -- The variable of a ball is no variable of those that catch it: with t :- throw(f(_)) and r(X) :- X = a,
 -- main :- catch(t, E, true), r(_), E = f(b).

@@ -19,6 +19,7 @@ pub data Form : Type 0 where
   Not : Tree → Form
   Once : Tree → Form
   Catching : Tree → Tree → Tree → Form
+  FindAll : Tree → Tree → Tree → Form
   Throwing : Tree → Form
   CallWith : Tree → List Tree → Form
   Cut : Form
@@ -45,6 +46,7 @@ construct controls.Not (g ∷ []) = Not g
 construct controls.Once (g ∷ []) = Once g
 construct controls.Call (g ∷ us) = CallWith g us
 construct controls.Catch (g ∷ c ∷ r ∷ []) = Catching g c r
+construct controls.FindAll (t ∷ g ∷ l ∷ []) = FindAll t g l
 construct controls.Throw (b ∷ []) = Throwing b
 construct controls.AddLast (c ∷ []) = AddLast c
 construct controls.Halt [] = Halting (int (pos 0))

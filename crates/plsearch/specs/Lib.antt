@@ -1,6 +1,7 @@
 pub mod Types
 pub mod Errors
 pub mod Lists
+pub mod Collecting
 pub mod Forms
 pub mod Running
 pub mod Rows

@@ -2,16 +2,22 @@
 use Rattle.std.specs.Prelude.{ℕ, List, [], ◌∷◌, map}
 use Rattle.plterm.specs.Tree.{Tree}
 use Rattle.plsubst.specs.Subst.{bind}
-use Rattle.plsearch.specs.Types.{Question, Look, Await, Element, Goal, Marker, Raise, Asking}
+use Rattle.plsearch.specs.Types.{Kind, Commit, Never, Until, Collect, Question, Look, Await, Element, Goal, Marker, Raise, Asking}
 
 abbrev pub bind_question : (ℕ → Tree) → Question → Question
 bind_question σ (Look t) = Look (bind σ t)
 bind_question σ (Await q next) = Await q next
 
+abbrev pub bind_kind : (ℕ → Tree) → Kind → Kind
+bind_kind σ Commit = Commit
+bind_kind σ Never = Never
+bind_kind σ Until = Until
+bind_kind σ (Collect t) = Collect (bind σ t)
+
 -- an element under a substitution
 abbrev pub bind_element : (ℕ → Tree) → Element → Element
 bind_element σ (Goal k t) = Goal k (bind σ t)
-bind_element σ (Marker m l) = Marker m l
+bind_element σ (Marker m l) = Marker (bind_kind σ m) l
 bind_element σ (Raise b) = Raise b
 bind_element σ (Asking q) = Asking (bind_question σ q)
 

@@ -15,12 +15,15 @@ use Rattle.plevent.specs.declared.request.Request.TheVariants.{Publish, HaltRun}
 use Rattle.plevent.specs.declared.update.Update.TheVariants.{Last}
 use Rattle.plnames.specs.Names.{is_fixed}
 use Rattle.plprogram.specs.Program.{Program, clauses_for}
+use Rattle.plbuiltin.specs.Errors.{type_error}
+use Rattle.plbuiltin.specs.Lists.{may_be_list}
 use Rattle.plbuiltin.specs.Solution.{Solution, Solved, Gives, Raises as Refuses}
 use Rattle.plbuiltin.specs.Solutions.{solutions}
-use Rattle.plsearch.specs.Types.{Fail, CutTo, Throw, Commit, Never, Until, GoesOn, Ends, Question, Look, Await, Element, Goal, Marker, Raise, Asking, Place, Catch, Case, Choice, Mark, Handle, Local, Move, Give, Go, Meeting, Select, Asks, End, Pass, Marked}
+use Rattle.plsearch.specs.Types.{Fail, CutTo, Throw, Commit, Never, Until, Collect, GoesOn, Ends, Question, Look, Await, Element, Goal, Marker, Raise, Asking, Place, Catch, Gather, Case, Choice, Mark, Handle, Local, Move, Give, Go, Meeting, Select, Asks, End, Pass, Marked}
 use Rattle.plsearch.specs.Errors.{instantiation_error, callable_error, integer_error, static_error, error_term}
 use Rattle.plsearch.specs.Lists.{bind_goals, levels}
-use Rattle.plsearch.specs.Forms.{Form, True, False, Both, Either, IfThenElse, Not, Once, Catching, Throwing, CallWith, Cut, Halting, AddLast, BuiltIn, Call, NoGoal, form}
+use Rattle.plsearch.specs.Collecting.{collected}
+use Rattle.plsearch.specs.Forms.{Form, True, False, Both, Either, IfThenElse, Not, Once, Catching, FindAll, Throwing, CallWith, Cut, Halting, AddLast, BuiltIn, Call, NoGoal, form}
 use Rattle.plsearch.specs.Running.{Runnable, Runs, Raises, runnable, called}
 
 abbrev pub is_true : Tree → Bool
@@ -61,6 +64,9 @@ not_1 = record { name = codes "\\+"; arity = 1 }
 abbrev pub catch_3 : Indicator
 catch_3 = record { name = codes "catch"; arity = 3 }
 
+abbrev pub findall_3 : Indicator
+findall_3 = record { name = codes "findall"; arity = 3 }
+
 abbrev pub throw_1 : Indicator
 throw_1 = record { name = codes "throw"; arity = 1 }
 
@@ -91,6 +97,10 @@ thrown t rest w = Give (Throw (copied 0 t) (levels rest)) w
 -- a catcher and its recovery, at a list
 abbrev pub catching : Tree → Tree → List Element → ℕ → Case
 catching c r es n = Handle (Catch c r) (record { goals = es; variables = n })
+
+-- the list of what is collected, at a list
+abbrev pub gathering : Tree → List Element → ℕ → Case
+gathering l es n = Handle (Gather l) (record { goals = es; variables = n })
 
 -- a choice of one list
 abbrev pub branch : List Element → ℕ → Case
@@ -153,7 +163,13 @@ offered ss rest n w = choose (filter_map (solved rest n) ss) w
 -- what a built-in predicate p comes to: its error, or what it writes and sets, and its solutions
 abbrev pub offer : Solved → Indicator → List Element → ℕ → Local → Move
 offer (Refuses e) p rest n w = raised e p rest w
-offer (Gives ss bytes settings) p rest n w = offered ss rest n (record { out = w.out ++ bytes; settings = settings })
+offer (Gives ss bytes settings) p rest n w = offered ss rest n (record w { out = w.out ++ bytes; settings = settings })
+
+-- the solutions of a goal are collected (8.10.1): what is to be their list is looked at first
+abbrev pub finding : Tree → Tree → Tree → ℕ → List Element → ℕ → Local → Move
+finding t g l d rest n w =
+    if may_be_list l then run (runnable g) findall_3 (gathering l rest n ∷ []) (suc d) (Marker (Collect t) d ∷ rest) n w
+    else raised (type_error (codes "list") l) findall_3 rest w
 
 -- A goal that is selected, with its cut level k, at the depth d. The parts of a goal that is selected are converted, so the condition of
 -- `->` is run as it stands, at a cut level of its own.
@@ -165,6 +181,7 @@ row P (Either a b) k t d rest n w = Go (branch (Goal k b ∷ rest) n ∷ []) (re
 row P (IfThenElse c a e) k t d rest n w = Go (Choice [] ∷ branch (Goal k e ∷ rest) n ∷ []) (record { goals = Goal (suc d) c ∷ Marker Commit d ∷ Goal k a ∷ rest; variables = n }) w
 row P (Not g) k t d rest n w = run (runnable g) not_1 (branch rest n ∷ []) (suc d) (Marker Never d ∷ rest) n w
 row P (Catching g c r) k t d rest n w = run (runnable g) catch_3 (catching c r rest n ∷ []) (suc d) (Marker Until d ∷ rest) n w
+row P (FindAll a g l) k t d rest n w = finding a g l d rest n w
 row P (Throwing b) k t d rest n w = thrown b rest w
 row P (Once g) k t d rest n w = run (runnable g) once_1 [] d (Marker Commit d ∷ rest) n w
 row P (CallWith g us) k t d rest n w = run (called g us) (call_with (length us)) [] d rest n w
@@ -189,5 +206,6 @@ meet (Goal k t) rest w = Select k t
 meet (Marker Commit l) rest w = Marked l w
 meet (Marker Never l) rest w = End (CutTo l) w
 meet (Marker Until l) rest w = Pass w
+meet (Marker (Collect t) l) rest w = End Fail (collected l t w)
 meet (Raise b) rest w = End (Throw b (levels rest)) w
 meet (Asking q) rest w = Asks (asked q)

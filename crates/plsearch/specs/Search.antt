@@ -42,9 +42,9 @@ next_of Unfit = Ceases
 abbrev pub ending_of : ℕ → Ended → Ending
 ending_of steps e = record { next = next_of e.0; used = steps - e.1.steps; out = e.1.local.out }
 
--- so many steps and these answers are left, nothing was written, and the operators and flags are the program's
+-- so many steps and these answers are left, nothing was written, nothing is kept, and the operators and flags are the program's
 abbrev pub from_start : Program → ℕ → List Answer → Run
-from_start P steps answers = record { steps = steps; answers = answers; local = record { out = []; settings = P.settings } }
+from_start P steps answers = record { steps = steps; answers = answers; local = record { out = []; settings = P.settings; kept = [] } }
 
 -- main's search, which takes no more steps than the limit
 unfoldable pub search_of : Program → ℕ → Search

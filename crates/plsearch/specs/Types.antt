@@ -20,11 +20,12 @@ pub data Result : Type 0 where
   Unfit : Result
 
 -- what a marker is for: Commit, behind which the choices down to its level are given up, Never, where they are given up and the list
--- fails, and Until, up to which the handler of its level is active
+-- fails, Until, up to which the handler of its level is active, and Collect, where a copy of a term is kept and the list fails
 pub data Kind : Type 0 where
   Commit : Kind
   Never : Kind
   Until : Kind
+  Collect : Tree → Kind
 
 -- what follows once a request is done: the list goes on, or the run is ended with a number
 pub data Then : Type 0 where
@@ -49,9 +50,10 @@ pub record Place : Type 0 where
   pub goals : List Element
   pub variables : ℕ
 
--- what an open case does besides choosing and marking: a catcher and its recovery
+-- what an open case does besides choosing and marking: a catcher and its recovery, or the term that is the list of the copies kept
 pub data Handler : Type 0 where
   Catch : Tree → Tree → Handler
+  Gather : Tree → Handler
 
 -- an open case, outside of the list that is visited now: the places still to try, a mark, behind which Fail is a cut to its level, or a
 -- handler, with the place behind the goal that it is for. The level of a case is the number of cases that are open outside of it
@@ -60,10 +62,16 @@ pub data Case : Type 0 where
   Mark : ℕ → Case
   Handle : Handler → Place → Case
 
--- what a thread has besides its steps and answers: its output, and its operators and flags
+-- a copy of a term, its variables numbered from 0, and the level of the handler that it is kept for
+pub record Kept : Type 0 where
+  pub level : ℕ
+  pub copy : Tree
+
+-- what a thread has besides its steps and answers: its output, its operators and flags, and the copies that are kept, the latest last
 pub record Local : Type 0 where
   pub out : List ℕ
   pub settings : Settings
+  pub kept : List Kept
 
 -- what a row of the table says: the result, or cases to open, the innermost first, and the list to visit in them
 pub data Move : Type 0 where

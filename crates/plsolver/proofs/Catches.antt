@@ -7,7 +7,8 @@ use Rattle.plsubst.specs.Unify.{unify}
 use Rattle.plcells.specs.declared.cell.Cell.{Cell}
 use Rattle.plcells.specs.Store.{IsValue, value}
 use Rattle.plprogram.specs.Program.{Program}
-use Rattle.plsearch.specs.Types.{Goal, Element, Case, Throw}
+use Rattle.plsearch.specs.Types.{Goal, Element, Case, Throw, Kept}
+use Rattle.plsearch.specs.Collecting.{dropped, kept_below}
 use Rattle.plsearch.specs.Errors.{error_term}
 use Rattle.plsearch.specs.Lists.{levels, bind_goals}
 use Rattle.plsearch.specs.Running.{Runs, Raises, runnable}
@@ -16,6 +17,8 @@ use Rattle.plsearch.specs.Handlers.{recovers, has}
 use Rattle.plsearch.specs.Engine.{deeper}
 use Rattle.plsearch.specs.Machines.Machine.{At, Back, return}
 use Rattle.pllinks.specs.declared.link.Continuation.{Continuation}
+use Rattle.plstack.specs.declared.frame.Catcher.{Catcher}
+use Rattle.plstack.specs.declared.frame.Handler.TheVariants as handlers
 use Rattle.plstack.specs.declared.frame.Handling.{Handling}
 use Rattle.plstack.specs.declared.frame.Closed.{Closed}
 use Rattle.plstack.specs.declared.frame.Closed.TheVariants as closes
@@ -27,7 +30,7 @@ use Rattle.plmachine.specs.declared.machine.Outcome.{Outcome}
 use Rattle.plmachine.specs.declared.machine.Mode.TheVariants as modes
 use Rattle.plmachine.specs.Machine.{result_of, local_of, cases_in, depth_of}
 use Rattle.plmachine.specs.Lists.{Grown}
-use Rattle.plmachine.proofs.Moves.{stays-trans, grown-stays as grown-there}
+use Rattle.plmachine.proofs.Moves.{machine-is, stays-trans, grown-stays as grown-there}
 use Rattle.plsolver.specs.declared.progress.Progress.{Progress}
 use Rattle.plsolver.specs.Solver.{Stays, Quiet, Recovered, Rethrown}
 use Rattle.plsolver.proofs.Runs.{at-place}
@@ -42,7 +45,7 @@ pub closed-below : (statics : Statics) (s new : State) (h : Case) (below : List 
 closed-below statics s new h below None some none was = let e : h ∷ below ≡ [] = sym was ∙ none statics in absurd cc
 closed-below statics s new h below (Some closes.Choice) some none was = tail_is _ h _ below (sym (some statics).1 ∙ was)
 closed-below statics s new h below (Some (closes.Mark l)) some none was = tail_is _ h _ below (sym (some statics) ∙ was)
-closed-below statics s new h below (Some closes.Handler) some none was = tail_is _ h _ below (sym (some statics).3 ∙ was)
+closed-below statics s new h below (Some closes.Handler) some none was = tail_is _ h _ below (sym (some statics).2.0 ∙ was)
 
 pub rethrows : (P : Program) (s new : Progress) (st : State) (e : Tree) (list : Continuation) (o : Outcome) → result_of o ≡ Throw (copied 0 (error_term e catch_3)) (levels (goals_of s.machine.stack list)) → st.code ≡ s.machine.stack.code →
     ((h : Case) (below : List Case) → cases_in P s.machine ≡ h ∷ below → cases_of (statics_of P) st ≡ below) → new ≡ to s st (modes.Back o) → Rethrown P s new e list
@@ -68,7 +71,9 @@ grown-stays P s new g is = record {
 pub recovered-raises : (P : Program) (s new : Progress) (st : State) (e : Tree) (recovery : Cell) (list : Continuation) → Grown s.machine.stack st → IsList s.machine.stack list → runnable (value s.machine.stack.env.heap recovery) ≡ Raises e →
     Rethrown P (at_stack s st) new e list → Recovered P s new recovery list
 recovered-raises P s new st e recovery list g l runs did = record {
-  frame = did.frame;
+  frame =
+      let same : new.machine.kept ≡ s.machine.kept = ap (λ x. x.machine.kept) did.frame in
+      did.frame ∙ ap (λ k. record s { machine = record s.machine { stack = new.machine.stack; mode = new.machine.mode; kept = k } }) (sym same);
   code = did.code ∙ g.extends.code;
   askable = did.askable;
   is = λ h below was left answers.
@@ -80,8 +85,9 @@ recovered-raises P s new st e recovery list g l runs did = record {
 -- the recovery is run
 pub recovered-runs : (P : Program) (s : Progress) (st linked last : State) (recovery : Cell) (list : Continuation) (goal : Cell) (level : ℕ) (made : Continuation) → Grown s.machine.stack st → IsList s.machine.stack list →
     runnable (value s.machine.stack.env.heap recovery) ≡ Runs (value st.env.heap goal) → ((statics : Statics) → deeper (cases_of statics st) 0 ≡ level + 1) → Extends st linked → linked.env ≡ st.env →
-    goals_of linked made ≡ Goal level (value st.env.heap goal) ∷ goals_of st list → Recovers linked last made → last.code ≡ linked.code → Recovered P s (to s last modes.Visit) recovery list
-recovered-runs P s st linked last recovery list goal level made g l runs at e env goals did code = record {
+    goals_of linked made ≡ Goal level (value st.env.heap goal) ∷ goals_of st list → Recovers linked last made → last.code ≡ linked.code → (kept : List Kept) → kept ≡ kept_below level s.machine.kept →
+    Recovered P s (record s { machine = record s.machine { stack = last; mode = modes.Visit; kept = kept } }) recovery list
+recovered-runs P s st linked last recovery list goal level made g l runs at e env goals did code kept kept_is = record {
   frame = refl;
   code = code ∙ e.code ∙ g.extends.code;
   askable = tt;
@@ -93,9 +99,10 @@ recovered-runs P s st linked last recovery list goal level made g l runs at e en
       let gs : List Element = Goal (deeper below 0) (value st.env.heap goal) ∷ goals_of s.machine.stack list in
       let place : place_of last ≡ record { goals = gs; variables = s.machine.stack.env.count } =
       did.place ∙ ap₂ (λ gs n. record { goals = gs; variables = n }) (goals ∙ ap₂ (λ k es. Goal k (value st.env.heap goal) ∷ es) deep rest) count in
-      at-place P (record s.machine { stack = last; mode = modes.Visit }) (record { goals = gs; variables = s.machine.stack.env.count }) (ap At place) left answers
-      ∙ ap (λ cs. record { mode = At (record { goals = gs; variables = s.machine.stack.env.count }); cases = cs; run = record { steps = left; answers = answers; local = local_of s.machine } })
-      (did.cases (statics_of P) h below (e.cases (statics_of P) ∙ was_st))
+      let local : local_of (record s.machine { kept = kept }) ≡ dropped (deeper below 0) (local_of s.machine) =
+      ap (λ k. record (local_of s.machine) { kept = k }) (kept_is ∙ ap (λ d. kept_below d s.machine.kept) deep) in
+      machine-is P (record s.machine { stack = last; mode = modes.Visit; kept = kept }) (At (record { goals = gs; variables = s.machine.stack.env.count })) below (dropped (deeper below 0) (local_of s.machine)) (ap At place)
+      (did.cases (statics_of P) h below (e.cases (statics_of P) ∙ was_st)) local left answers
       ∙ ap (λ x. return below (record { steps = left; answers = answers; local = local_of s.machine }) (recovers x (deeper below 0) (goals_of s.machine.stack list) s.machine.stack.env.count (local_of s.machine))) (sym runs);
 }
 
@@ -104,14 +111,14 @@ handler-stays s t same has = subst (λ fs. BeginsWith IsHandler (reverse fs)) (s
 
 -- the ball at its catcher
 module _ (P : Program) (s : Progress) (o : Outcome) (ball : Tree) (found : List ℕ) (at : s.machine.mode ≡ modes.Back o) (carries : result_of o ≡ Throw ball found) (st : State) (k : Handling) (code : st.code ≡ s.machine.stack.code)
-    (same : (statics : Statics) → cases_of statics st ≡ cases_of statics s.machine.stack) (here : AtHandler st k.catcher k.list) (active : has (depth_of P s.machine - 1) found ≡ true) (put : State) (grew : Extends st put) (v : Cell)
+    (same : (statics : Statics) → cases_of statics st ≡ cases_of statics s.machine.stack) (x : Catcher) (here : AtHandler st (handlers.Catch x) k.list) (active : has (depth_of P s.machine - 1) found ≡ true) (put : State) (grew : Extends st put) (v : Cell)
     (copy : value put.env.heap v ≡ copied st.env.count ball) where
   -- the handler that the frame stands for
   abbrev catcher : Tree
-  catcher = value st.env.heap k.catcher.catcher
+  catcher = value st.env.heap x.catcher
 
   abbrev recovery : Tree
-  recovery = value st.env.heap k.catcher.recovery
+  recovery = value st.env.heap x.recovery
 
   cases-are : cases_in P s.machine ≡ catching catcher recovery (goals_of st k.list) st.env.count ∷ here.below (statics_of P)
   cases-are = sym (same (statics_of P)) ∙ here.cases (statics_of P)
@@ -121,18 +128,18 @@ module _ (P : Program) (s : Progress) (o : Outcome) (ball : Tree) (found : List 
       let d : depth_of P s.machine - 1 ≡ deeper (here.below (statics_of P)) 0 = omega (arith, ap (λ cs. deeper cs 0) cases-are) in
       subst (λ d. has d found ≡ true) d active
 
-  sides : unify catcher (copied st.env.count ball) ≡ unify (value put.env.heap k.catcher.catcher) (value put.env.heap v)
-  sides = ap₂ unify (sym (grew.values k.catcher.catcher here.catcher).1) (sym copy)
+  sides : unify catcher (copied st.env.count ball) ≡ unify (value put.env.heap x.catcher) (value put.env.heap v)
+  sides = ap₂ unify (sym (grew.values x.catcher here.there.0).1) (sym copy)
 
-  pub catches-other : (last : State) → last.code ≡ put.code → unify (value put.env.heap k.catcher.catcher) (value put.env.heap v) ≡ None →
+  pub catches-other : (last : State) → last.code ≡ put.code → unify (value put.env.heap x.catcher) (value put.env.heap v) ≡ None →
       ((h : Case) (below : List Case) → cases_of (statics_of P) put ≡ h ∷ below → cases_of (statics_of P) last ≡ below) → Quiet P s (at_stack s last)
   catches-other last stays none closed =
       quiet-other P s o ball found at carries catcher recovery (goals_of st k.list) st.env.count (here.below (statics_of P)) cases-are is-active last (stays ∙ grew.code ∙ code) (sides ∙ none)
       (closed _ (here.below (statics_of P)) (grew.cases (statics_of P) ∙ here.cases (statics_of P)))
 
-  module _ (count : put.env.count ≡ st.env.count + length (variables ball)) (last : State) (u : Unifies put last k.catcher.catcher v) where
-    pub recovery-there : IsValue last.env.heap k.catcher.recovery
-    recovery-there = (u.values k.catcher.recovery (grew.values k.catcher.recovery here.recovery).0).0
+  module _ (count : put.env.count ≡ st.env.count + length (variables ball)) (last : State) (u : Unifies put last x.catcher v) where
+    pub recovery-there : IsValue last.env.heap x.recovery
+    recovery-there = (u.values x.recovery (grew.values x.recovery here.there.1).0).0
 
     pub list-there : IsList last k.list
     list-there = (u.lists k.list (grew.lists k.list here.list_there).0).0
@@ -140,14 +147,14 @@ module _ (P : Program) (s : Progress) (o : Outcome) (ball : Tree) (found : List 
     pub handler-there : HasHandler last
     handler-there = handler-stays st last (u.frames ∙ grew.frames) here.has
 
-    pub catches-it : (new : Progress) → Recovered P (at_stack s last) new k.catcher.recovery k.list → Quiet P s new
+    pub catches-it : (new : Progress) → Recovered P (at_stack s last) new x.recovery k.list → Quiet P s new
     catches-it new did =
         let list = grew.lists k.list here.list_there in
-        let r = grew.values k.catcher.recovery here.recovery in
+        let r = grew.values x.recovery here.there.1 in
         quiet-caught P s o ball found at carries catcher recovery (goals_of st k.list) st.env.count (here.below (statics_of P)) cases-are is-active
-        last new u.unifier k.catcher.recovery k.list (catching catcher recovery (goals_of st k.list) st.env.count) (u.code ∙ grew.code ∙ code)
+        last new u.unifier x.recovery k.list (catching catcher recovery (goals_of st k.list) st.env.count) (u.code ∙ grew.code ∙ code)
         (sides ∙ u.is)
-        ((u.values k.catcher.recovery r.0).1 ∙ ap (bind u.unifier) r.1)
+        ((u.values x.recovery r.0).1 ∙ ap (bind u.unifier) r.1)
         ((u.lists k.list list.0).1 ∙ ap (bind_goals u.unifier) list.1)
         (u.count ∙ count)
         (u.cases (statics_of P) ∙ grew.cases (statics_of P) ∙ here.cases (statics_of P))

@@ -2,5 +2,6 @@ pub mod Runs
 pub mod Cutting
 pub mod Quiets
 pub mod Catches
+pub mod Gathering
 pub mod Starts
 pub mod Looks

@@ -1,4 +1,5 @@
 -- The turns that take no step.
+use Rattle.std.specs.Option.{option_map}
 use Rattle.std.proofs.Common.{◌≡◌, ℕ, zero, suc, Bool, true, false, if◌then◌else◌, List, [], ◌∷◌, refl, sym, ap, ap₂, ◌∙◌, arith, IsTrue, ◌↔◌, Some, None, length, ◌+◌, ◌<◌, ◌≤◌, subst, inl, inr}
 use Rattle.plterm.specs.Tree.{Tree}
 use Rattle.plterm.specs.Variables.{copied, variables}
@@ -8,11 +9,14 @@ use Rattle.plcells.specs.declared.cell.Cell.{Cell}
 use Rattle.plcells.specs.Store.{value}
 use Rattle.plevent.specs.Search.{Answer}
 use Rattle.plprogram.specs.Program.{Program}
-use Rattle.plsearch.specs.Types.{Result, Fail, Spent, Throw, Commit, Never, Until, Element, Goal, Marker, Handle, Handler, Catch, Keep, Place, Case, Choice, Mark, Local, Move, Run}
+use Rattle.plsearch.specs.Types.{Result, Fail, Spent, Throw, Commit, Never, Until, Collect, Element, Goal, Marker, Handle, Handler, Catch, Gather, Keep, Place, Case, Choice, Mark, Kept, Local, Move, Run}
+use Rattle.plread.specs.Texts.{listed}
 use Rattle.plsearch.specs.Lists.{bind_goals}
 use Rattle.plsearch.specs.Running.{runnable}
-use Rattle.plsearch.specs.Rows.{select, meet, catching}
-use Rattle.plsearch.specs.Handlers.{resume, has, met_by, recovers}
+use Rattle.plbuiltin.specs.Solution.{Solution}
+use Rattle.plsearch.specs.Collecting.{copies_from, count_new, dropped, gathered, kept_below, renumbered, with_copy}
+use Rattle.plsearch.specs.Rows.{select, meet, catching, gathering, solved}
+use Rattle.plsearch.specs.Handlers.{resume, has, met_by, recovers, goes_on}
 use Rattle.plsearch.specs.Engine.{deeper, mark, stop_cut}
 use Rattle.plsearch.specs.Machines.Machine.{At, Back, Machine, Rest, return, turn, step}
 use Rattle.plsearch.specs.Machines.Weight.{cases_weight, weight, Lighter}
@@ -36,7 +40,7 @@ use Rattle.plmachine.proofs.Moves.{machine-is}
 use Rattle.plmachine.proofs.Cutting.{cut-place, cut-rest}
 use Rattle.plsolver.specs.declared.progress.Selected.{Selected}
 use Rattle.plsolver.specs.declared.progress.Progress.{Progress}
-use Rattle.plsolver.specs.Solver.{Quiet, Stays, IsOver, IsBack, IsSelected, Becomes, result_throws, throws_to, Recovered}
+use Rattle.plsolver.specs.Solver.{Quiet, Stays, IsOver, IsBack, IsSelected, Becomes, Collects, result_throws, throws_to, Recovered}
 use Rattle.plsolver.proofs.Runs.{at-place, visit-place, selected-goal}
 use Rattle.plsolver.proofs.Cutting.{cut-weight}
 
@@ -55,11 +59,11 @@ some_case : (c : Case) (cs all : List Case) → all ≡ c ∷ cs → all ≡ [] 
 some_case c cs all is none = let e : c ∷ cs ≡ [] = sym is ∙ none in cc
 
 -- the machine makes one turn, and had not ended
-quiet : (P : Program) (s : Progress) (st : State) (m : Going) → st.code ≡ s.machine.stack.code → MayAsk st.env.heap m →
-    ((left : ℕ) (answers : List Answer) → left + s.used ≤ s.limit → machine P left answers (record s.machine { stack = st; mode = m }) ≡ turn P (machine P left answers s.machine)) →
-    ((r : Result) → mode_of s.machine.mode s.machine.stack ≡ Back r → cases_in P s.machine ≡ [] → ⊥) → Quiet P s (to s st m)
+quiet-at : (P : Program) (s : Progress) (t : Reached) → t.stack.code ≡ s.machine.stack.code → MayAsk t.stack.env.heap t.mode →
+    ((left : ℕ) (answers : List Answer) → left + s.used ≤ s.limit → machine P left answers t ≡ turn P (machine P left answers s.machine)) →
+    ((r : Result) → mode_of s.machine.mode s.machine.stack ≡ Back r → cases_in P s.machine ≡ [] → ⊥) → Quiet P s (record s { machine = t })
 unfolding machine
-quiet P s st m code may turned goes = record {
+quiet-at P s t code may turned goes = record {
   used = refl;
   limit = refl;
   places = refl;
@@ -69,9 +73,14 @@ quiet P s st m code may turned goes = record {
   lighter = λ within. fin (subst (λ m. Lighter (machine P 0 [] s.machine) m) (sym (turned 0 [] (omega (arith, within)))) (lighter-turn P (machine P 0 [] s.machine) goes));
 }
   where
-    fin : Lighter (machine P 0 [] s.machine) (machine P 0 [] (record s.machine { stack = st; mode = m })) → weight (machine P 0 [] (record s.machine { stack = st; mode = m })) < weight (machine P 0 [] s.machine)
+    fin : Lighter (machine P 0 [] s.machine) (machine P 0 [] t) → weight (machine P 0 [] t) < weight (machine P 0 [] s.machine)
     fin (inl less) = absurd (omega (arith, less))
     fin (inr both) = both.1
+
+quiet : (P : Program) (s : Progress) (st : State) (m : Going) → st.code ≡ s.machine.stack.code → MayAsk st.env.heap m →
+    ((left : ℕ) (answers : List Answer) → left + s.used ≤ s.limit → machine P left answers (record s.machine { stack = st; mode = m }) ≡ turn P (machine P left answers s.machine)) →
+    ((r : Result) → mode_of s.machine.mode s.machine.stack ≡ Back r → cases_in P s.machine ≡ [] → ⊥) → Quiet P s (to s st m)
+quiet P s st m = quiet-at P s (record s.machine { stack = st; mode = m })
 
 pub quiet-as : (P : Program) (s new : Progress) (st : State) (m : Going) → new ≡ to s st m → Quiet P s (to s st m) → Quiet P s new
 quiet-as P s new st m is q = subst (Quiet P s) (sym is) q
@@ -147,6 +156,15 @@ quiet-until P s level rest at until =
     at-goals P (record s.machine { stack = record s.machine.stack { goals = rest } }) (goals_of s.machine.stack rest) at refl left answers
     ∙ sym (ap (turn P) (at-goals P s.machine (Marker Until level ∷ goals_of s.machine.stack rest) at until.goals left answers)))
     (λ r is no. not_back s.machine r at is)
+
+pub quiet-collect : (P : Program) (s new : Progress) (v : Cell) (level : ℕ) (rest : Continuation) → s.machine.mode ≡ modes.Visit → AtMarker s.machine.stack (goals_of s.machine.stack s.machine.stack.goals) (markers.Collect v) level rest →
+    Collects s new level (value s.machine.stack.env.heap v) → Quiet P s new
+unfolding turn meet machine
+quiet-collect P s new v level rest at collect did =
+    subst (Quiet P s) (sym did)
+    (quiet-at P s (record s.machine { kept = with_copy level (value s.machine.stack.env.heap v) s.machine.kept; mode = modes.Back outcomes.Fail }) refl tt
+    (λ left answers few. sym (ap (turn P) (at-goals P s.machine (Marker (Collect (value s.machine.stack.env.heap v)) level ∷ goals_of s.machine.stack rest) at collect.goals left answers)))
+    (λ r is no. not_back s.machine r at is))
 
 -- ---- with a result
 
@@ -271,24 +289,31 @@ both_are b iff is = grind (arith, is, iff.0)
 
 -- ---- at a handler
 
--- a handler whose goal no ball comes from passes every result on
-keeps : (h : Handler) (p : Place) (d : ℕ) (r : Outcome) (w : Local) → (result_throws d r ≡ true → ⊥) → resume h p d (result_of r) w ≡ Keep (result_of r) w
+-- a catcher whose goal no ball comes from passes every result on, and so does a handler of what was kept but for failure
+keeps : (h : Handler) (p : Place) (d : ℕ) (r : Outcome) (w : Local) → ((c x : Tree) → h ≡ Catch c x → result_throws d r ≡ true → ⊥) → ((l : Tree) → h ≡ Gather l → r ≡ outcomes.Fail → ⊥) →
+    resume h p d (result_of r) w ≡ Keep (result_of r) w
 unfolding resume
-keeps (Catch c r) p d outcomes.Fail w not = refl
-keeps (Catch c r) p d outcomes.Stop w not = refl
-keeps (Catch c r) p d (outcomes.CutTo l) w not = refl
-keeps (Catch c r) p d (outcomes.Throw t ls) w not = go (has d ls.items) refl
+keeps (Catch c r) p d outcomes.Fail w not fails = refl
+keeps (Catch c r) p d outcomes.Stop w not fails = refl
+keeps (Catch c r) p d (outcomes.CutTo l) w not fails = refl
+keeps (Catch c r) p d (outcomes.Throw t ls) w not fails = go (has d ls.items) refl
   where
     go : (b : Bool) → has d ls.items ≡ b → (if has d ls.items then met_by (unify c (copied p.variables t)) r t ls.items p d w else Keep (Throw t ls.items) w) ≡ Keep (Throw t ls.items) w
-    go true e = absurd (not e)
+    go true e = absurd (not c r refl e)
     go false e = rw e refl
-keeps (Catch c r) p d (outcomes.Halted n) w not = refl
-keeps (Catch c r) p d outcomes.Spent w not = refl
+keeps (Catch c r) p d (outcomes.Halted n) w not fails = refl
+keeps (Catch c r) p d outcomes.Spent w not fails = refl
+keeps (Gather l) p d outcomes.Fail w not fails = absurd (fails l refl refl)
+keeps (Gather l) p d outcomes.Stop w not fails = refl
+keeps (Gather l) p d (outcomes.CutTo k) w not fails = refl
+keeps (Gather l) p d (outcomes.Throw t ls) w not fails = refl
+keeps (Gather l) p d (outcomes.Halted n) w not fails = refl
+keeps (Gather l) p d outcomes.Spent w not fails = refl
 
 pub quiet-handler : (P : Program) (s : Progress) (st : State) (h : Handler) (p : Place) → IsBack s → st.code ≡ s.machine.stack.code → cases_in P s.machine ≡ Handle h p ∷ cases_of (statics_of P) st →
-    (throws_to (deeper (cases_of (statics_of P) st) 0) s.machine.mode ≡ true → ⊥) → Quiet P s (at_stack s st)
+    ((c x : Tree) → h ≡ Catch c x → throws_to (deeper (cases_of (statics_of P) st) 0) s.machine.mode ≡ true → ⊥) → ((l : Tree) → h ≡ Gather l → s.machine.mode ≡ modes.Back outcomes.Fail → ⊥) → Quiet P s (at_stack s st)
 unfolding turn
-quiet-handler P s st h p back code was not =
+quiet-handler P s st h p back code was not fails =
     let r : Outcome = back.0 in
     let e : s.machine.mode ≡ modes.Back r = back.1 in
     let d : ℕ = deeper (cases_of (statics_of P) st) 0 in
@@ -296,7 +321,7 @@ quiet-handler P s st h p back code was not =
     (λ left answers few.
     carried P (record s.machine { stack = st }) r (cases_of (statics_of P) st) e refl left answers
     ∙ sym (ap (turn P) (carried P s.machine r (Handle h p ∷ cases_of (statics_of P) st) e was left answers)
-    ∙ ap (return (cases_of (statics_of P) st) (record { steps = left; answers = answers; local = local_of s.machine })) (keeps h p d r (local_of s.machine) (λ yes. not (ap (throws_to d) e ∙ yes)))))
+    ∙ ap (return (cases_of (statics_of P) st) (record { steps = left; answers = answers; local = local_of s.machine })) (keeps h p d r (local_of s.machine) (λ c x is yes. not c x is (ap (throws_to d) e ∙ yes)) (λ l is same. fails l is (e ∙ ap modes.Back same)))))
     (λ x is no. some_case _ _ _ was no)
 
 -- the turn of an active catcher
@@ -325,8 +350,8 @@ module _ (P : Program) (s : Progress) (o : Outcome) (ball : Tree) (found : List 
   pub quiet-caught : (st : State) (new : Progress) (σ : ℕ → Tree) (recovery : Cell) (list : Continuation) (h : Case) → st.code ≡ s.machine.stack.code → unify c (copied n ball) ≡ Some σ → value st.env.heap recovery ≡ bind σ r →
       goals_of st list ≡ bind_goals σ gs → st.env.count ≡ n + length (variables ball) → cases_of (statics_of P) st ≡ h ∷ below → Recovered P (at_stack s st) new recovery list → Quiet P s new
   quiet-caught st new σ recovery list h code some runs goals count was_st did =
-      quiet-as P s new new.machine.stack new.machine.mode did.frame
-      (quiet P s new.machine.stack new.machine.mode (did.code ∙ code) did.askable
+      subst (Quiet P s) (sym did.frame)
+      (quiet-at P s (record s.machine { stack = new.machine.stack; mode = new.machine.mode; kept = new.machine.kept }) (did.code ∙ code) did.askable
       (λ left answers few.
       let w : Local = local_of s.machine in
       let run : Run = record { steps = left; answers = answers; local = w } in
@@ -336,3 +361,42 @@ module _ (P : Program) (s : Progress) (o : Outcome) (ball : Tree) (found : List 
       ∙ ap (λ k. return below run (recovers (runnable (bind σ r)) (deeper below 0) (bind_goals σ gs) k w)) count
       ∙ sym (catcher-turn left answers ∙ ap (λ σ. return below run (met_by σ r ball found (record { goals = gs; variables = n }) (deeper below 0) w)) some))
       (λ x is no. some_case _ _ _ was no))
+
+-- the turn of failure where copies are gathered
+module _ (P : Program) (s : Progress) (at : s.machine.mode ≡ modes.Back outcomes.Fail) (l : Tree) (gs : List Element) (n : ℕ) (below : List Case) (was : cases_in P s.machine ≡ gathering l gs n ∷ below) where
+  abbrev level : ℕ
+  level = deeper below 0
+
+  abbrev copies : List Tree
+  copies = copies_from level s.machine.kept
+
+  abbrev left_over : Local
+  left_over = dropped level (local_of s.machine)
+
+  gather-turn : (left : ℕ) (answers : List Answer) → turn P (machine P left answers s.machine) ≡
+      return below (record { steps = left; answers = answers; local = local_of s.machine }) (goes_on (solved gs n (gathered l copies n)) left_over)
+  unfolding turn resume
+  gather-turn left answers = ap (turn P) (carried P s.machine outcomes.Fail (gathering l gs n ∷ below) at was left answers)
+
+  module _ (st : State) (code : st.code ≡ s.machine.stack.code) (below_is : cases_of (statics_of P) st ≡ below) (kept : List Kept) (kept_is : kept ≡ kept_below level s.machine.kept) where
+    local-is : (local_of (record s.machine { kept = kept })) ≡ left_over
+    local-is = ap (λ k. record (local_of s.machine) { kept = k }) kept_is
+
+    -- the list has no unifier with the term
+    pub quiet-unlike : unify l (listed (renumbered n copies)) ≡ None → Quiet P s (record s { machine = record s.machine { stack = st; kept = kept } })
+    quiet-unlike none =
+        quiet-at P s (record s.machine { stack = st; kept = kept }) code (subst (MayAsk st.env.heap) (sym at) tt)
+        (λ left answers few.
+        machine-is P (record s.machine { stack = st; kept = kept }) (Back Fail) below left_over (ap (λ m. mode_of m st) at) below_is local-is left answers
+        ∙ sym (gather-turn left answers ∙ ap (λ o. return below (record { steps = left; answers = answers; local = local_of s.machine }) (goes_on (option_map (λ σ. record { goals = bind_goals σ gs; variables = n + count_new copies }) o) left_over)) none))
+        (λ x is no. some_case _ _ _ was no)
+
+    -- the list goes on
+    pub quiet-gathered : (σ : ℕ → Tree) → unify l (listed (renumbered n copies)) ≡ Some σ → place_of st ≡ record { goals = bind_goals σ gs; variables = n + count_new copies } →
+        Quiet P s (record s { machine = record s.machine { stack = st; mode = modes.Visit; kept = kept } })
+    quiet-gathered σ some place =
+        quiet-at P s (record s.machine { stack = st; mode = modes.Visit; kept = kept }) code tt
+        (λ left answers few.
+        machine-is P (record s.machine { stack = st; mode = modes.Visit; kept = kept }) (At (record { goals = bind_goals σ gs; variables = n + count_new copies })) below left_over (ap At place) below_is local-is left answers
+        ∙ sym (gather-turn left answers ∙ ap (λ o. return below (record { steps = left; answers = answers; local = local_of s.machine }) (goes_on (option_map (λ σ. record { goals = bind_goals σ gs; variables = n + count_new copies }) o) left_over)) some))
+        (λ x is no. some_case _ _ _ was no)

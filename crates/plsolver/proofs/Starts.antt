@@ -68,12 +68,12 @@ starts-goal old st new list made v g t e is same grown l adds = record {
 }
 
 -- a machine at the start
-pub is-start : (P : Program) (s : Reached) (stack : State) (list : Continuation) → IsProgramCode P stack.code → Starts stack list P.goals → s.stack ≡ record stack { goals = list } → s.mode ≡ modes.Visit → s.out.items ≡ [] → s.settings ≡ P.settings → IsStart P s
+pub is-start : (P : Program) (s : Reached) (stack : State) (list : Continuation) → IsProgramCode P stack.code → Starts stack list P.goals → s.stack ≡ record stack { goals = list } → s.mode ≡ modes.Visit → s.out.items ≡ [] → s.settings ≡ P.settings → s.kept ≡ [] → IsStart P s
 unfolding start_of cases_of
-is-start P s stack list code starts is at out settings = record {
+is-start P s stack list code starts is at out settings kept = record {
   of = record { begun = subst (λ st. IsProgramCode P st.code) (sym is) code; askable = subst (λ m. MayAsk s.stack.env.heap m) (sym at) tt };
   is = λ left answers.
-      machine-is P s (At (start_of P)) [] (record { out = []; settings = P.settings }) (ap₂ mode_of at is ∙ ap At starts.place) (ap (cases_of (statics_of P)) is ∙ starts.cases (statics_of P)) (ap₂ (λ o x. record { out = o; settings = x }) out settings) left answers;
+      machine-is P s (At (start_of P)) [] (record { out = []; settings = P.settings; kept = [] }) (ap₂ mode_of at is ∙ ap At starts.place) (ap (cases_of (statics_of P)) is ∙ starts.cases (statics_of P)) (ap₂ (λ o x. record { out = o; settings = x; kept = s.kept }) out settings ∙ ap (λ k. record { out = []; settings = P.settings; kept = k }) kept) left answers;
 }
 
 -- a solver at the start

@@ -14,6 +14,7 @@ use Rattle.plsearch.specs.Types.{Goal as GoalOf}
 use Rattle.plsearch.specs.Errors.{error_term}
 use Rattle.plsearch.specs.Lists.{levels}
 use Rattle.plsearch.specs.Running.{runnable}
+use Rattle.plsearch.specs.Collecting.{with_copy}
 use Rattle.plsearch.specs.Rows.{catch_3, select}
 use Rattle.plsearch.specs.Handlers.{has, recovers}
 use Rattle.plsearch.specs.Engine.{deeper}
@@ -158,6 +159,10 @@ IsBack s = (r : Outcome) × (s.machine.mode ≡ modes.Back r)
 abbrev pub HasChoice : State → Type 0
 HasChoice s = HasBranch s ⊎ HasClauses s ⊎ HasCopies s
 
+-- a copy of a term is kept for the handler of a level, and the list fails
+abbrev pub Collects : Progress → Progress → ℕ → Tree → Type 0
+Collects old new l t = new ≡ record old { machine = record old.machine { kept = with_copy l t old.machine.kept; mode = modes.Back outcomes.Fail } }
+
 -- an error of catch/3 is carried, and the innermost case was closed
 pub record Rethrown (P : Program) (old new : Progress) (e : Tree) (list : Continuation) : Type 0 where
   pub frame : new ≡ record old { machine = record old.machine { stack = new.machine.stack; mode = new.machine.mode } }
@@ -169,7 +174,7 @@ pub record Rethrown (P : Program) (old new : Progress) (e : Tree) (list : Contin
 
 -- the recovery was run in place of the innermost case, before a list, or is no goal
 pub record Recovered (P : Program) (old new : Progress) (recovery : Cell) (list : Continuation) : Type 0 where
-  pub frame : new ≡ record old { machine = record old.machine { stack = new.machine.stack; mode = new.machine.mode } }
+  pub frame : new ≡ record old { machine = record old.machine { stack = new.machine.stack; mode = new.machine.mode; kept = new.machine.kept } }
   pub code : new.machine.stack.code ≡ old.machine.stack.code
   pub askable : MayAsk new.machine.stack.env.heap new.machine.mode
   pub is : (h : Case) (below : List Case) → cases_in P old.machine ≡ h ∷ below → (left : ℕ) (answers : List Answer) →

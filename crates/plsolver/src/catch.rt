@@ -1,10 +1,10 @@
-//! The turn of a ball at a catcher (ISO/IEC 13211-1 7.8.9).
+//! The turns at handlers: of a ball at a catcher (ISO/IEC 13211-1 7.8.9), and of failure where copies are gathered (8.10.1).
 //!
 //! A turn that is refused memory leaves the search where it was.
 
 ghost use Rattle.std.specs.Prelude.{◌≡◌, ◌-◌, true, OnOk, OnErr};
 ghost use Rattle.plcells.specs.Store.{IsValue};
-ghost use Rattle.plstack.specs.State.{HasHandler, IsList};
+ghost use Rattle.plstack.specs.State.{HasCatcher, HasGatherer, HasHandler, IsList};
 ghost use Rattle.plmachine.specs.Machine.{depth_of};
 ghost use Rattle.plsolver.specs.Solver.{IsBack, Stays, Quiet, throws_to, Recovered, Rethrown};
 
@@ -16,19 +16,22 @@ use pllinks::link::Continuation;
 use plmachine::machine::{Mode, Outcome};
 use plmachine::running::Ready;
 use plprogram::program::Program;
-use plstack::frame::Handling;
+use plstack::frame::{Handler, Handling};
 use plterm::term::Term;
 use std::alloc::AllocError;
 
 impl Progress {
     /// The ball that is carried, at the innermost case, which is a catcher that is active.
     pub(crate) fn catch(&mut self, program: &Program) -> Result<(), AllocError>
-        requires catch { HasHandler self.old.machine.stack }
+        requires catch { HasCatcher self.old.machine.stack }
         requires throws { throws_to (depth_of program.now self.old.machine - 1) self.old.machine.mode ≡ true }
         ensures ok { OnOk result (Quiet program.now self.old self.new) }
         ensures err { OnErr result (Stays program.now self.old self.new) }
     {
-        let Handling { catcher, list } = self.machine.stack.rewind();
+        let Handling { handler, list } = self.machine.stack.rewind();
+        let Handler::Catch(catcher) = handler else {
+            unreachable!()
+        };
         let Mode::Back(outcome) = &self.machine.mode else {
             unreachable!()
         };
@@ -41,6 +44,28 @@ impl Progress {
         } else {
             self.machine.stack.close();
         }
+        Ok(())
+    }
+
+    /// Failure, at the innermost case, which gathers what was kept.
+    pub(crate) fn gather(&mut self, program: &Program) -> Result<(), AllocError>
+        requires gathers { HasGatherer self.old.machine.stack }
+        requires fails { self.old.machine.mode ≡ Mode.Back Outcome.Fail }
+        ensures ok { OnOk result (Quiet program.now self.old self.new) }
+        ensures err { OnErr result (Stays program.now self.old self.new) }
+    {
+        let Handling { handler, list } = self.machine.stack.rewind();
+        let Handler::Gather(whole) = handler else {
+            unreachable!()
+        };
+        let level = self.machine.stack.level();
+        if self.machine.gather(level, whole)? {
+            self.machine.stack.leave(list);
+            self.machine.mode = Mode::Visit;
+        } else {
+            self.machine.stack.close();
+        }
+        self.machine.kept.drop_from(level);
         Ok(())
     }
 
@@ -64,6 +89,7 @@ impl Progress {
                 let level = self.machine.stack.level();
                 let made = self.machine.stack.link(Item::Goal(level, goal), list)?;
                 self.machine.stack.recover(made);
+                self.machine.kept.drop_from(level);
                 self.machine.mode = Mode::Visit;
                 Ok(())
             }

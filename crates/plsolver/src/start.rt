@@ -12,6 +12,7 @@ use pllinks::item::Item;
 use pllinks::level::Level;
 use pllinks::link::Continuation;
 use pllinks::list::ListId;
+use plcollect::collection::Collection;
 use plmachine::machine::{Machine, Mode};
 use plprogram::program::Program;
 use plstack::stack::Stack;
@@ -33,6 +34,7 @@ pub fn start(alloc: Global, program: &Program) -> Result<Machine, AllocError>
         mode: Mode::Visit,
         out: Vec::new(alloc),
         settings,
+        kept: Collection::new(alloc),
         args: Vec::new(alloc),
     })
 }

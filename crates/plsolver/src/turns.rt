@@ -1,16 +1,17 @@
 //! The turns of a search that take no step: markers are passed, and results go outward.
 
 ghost use Rattle.std.specs.Prelude.{◌≡◌, ◌-◌, ◌≤◌, ◌↔◌, IfOk, OnOk, OnErr, IfSome, IfNone, IsTrue, true, ℕ};
-ghost use Rattle.plcells.specs.Store.{IsValue};
+ghost use Rattle.plcells.specs.Store.{IsValue, value};
 ghost use Rattle.plsearch.specs.Engine.{stop_cut, mark, deeper};
 ghost use Rattle.plstack.specs.Places.{Statics};
-ghost use Rattle.plstack.specs.State.{cases_of, HasClauses, HasCopies, HasBranch, HasHandler, HasPlain, IsList};
+ghost use Rattle.plstack.specs.State.{cases_of, HasCatcher, HasClauses, HasCopies, HasBranch, HasGatherer, HasPlain, IsList};
 ghost use Rattle.plstack.specs.First.{IsFirst};
 ghost use Rattle.plstack.specs.declared.first.First.TheVariants.{Marker as MarkerFirst};
 ghost use Rattle.plmachine.specs.Machine.{depth_of};
-ghost use Rattle.plsolver.specs.Solver.{IsOf, Stays, Quiet, Settled, IsBack, IsSelected, HasChoice, throws_to, Becomes};
+ghost use Rattle.plsolver.specs.Solver.{IsOf, Stays, Quiet, Settled, IsBack, IsSelected, HasChoice, throws_to, Becomes, Collects};
 
 use crate::progress::{Due, Progress, Selected};
+use plcells::cell::Cell;
 use pllinks::item::MarkerKind;
 use pllinks::level::Level;
 use pllinks::link::Continuation;
@@ -92,7 +93,21 @@ impl Progress {
             MarkerKind::Commit => self.machine.stack.cut(level, rest)?,
             MarkerKind::Never => self.machine.mode = Mode::Back(Outcome::CutTo(level)),
             MarkerKind::Until => self.machine.stack.visit(rest),
+            MarkerKind::Collect(v) => self.collect(v, level)?,
         }
+        Ok(())
+    }
+
+    /// A copy of the term of a value is kept for the handler of a level, and the list fails.
+    fn collect(&mut self, v: Cell, level: Level) -> Result<(), AllocError>
+        requires { IsValue self.old.machine.stack.env.heap v }
+        ensures ok { OnOk result (Collects self.old self.new level (value self.old.machine.stack.env.heap v)) }
+        ensures err { OnErr result (self.new ≡ self.old) }
+    {
+        let alloc = self.machine.alloc;
+        let term = self.machine.stack.env().heap().take(alloc, v)?;
+        self.machine.kept.keep(alloc, &term, level)?;
+        self.machine.mode = Mode::Back(Outcome::Fail);
         Ok(())
     }
 
@@ -128,6 +143,10 @@ impl Progress {
         }
         if self.is_choice() {
             self.try_next(program)?;
+            return Ok(None);
+        }
+        if self.machine.stack.is_gatherer() {
+            self.gather(program)?;
             return Ok(None);
         }
         Ok(self.close(program))
@@ -202,7 +221,8 @@ impl Progress {
     fn close(&mut self, program: &Program) -> Option<Due>
         requires back { IsBack self.old }
         requires tried { self.old.machine.mode ≡ Mode.Back Outcome.Fail → HasChoice self.old.machine.stack → ⊥ }
-        requires caught { HasHandler self.old.machine.stack → throws_to (depth_of program.now self.old.machine - 1) self.old.machine.mode ≡ true → ⊥ }
+        requires caught { HasCatcher self.old.machine.stack → throws_to (depth_of program.now self.old.machine - 1) self.old.machine.mode ≡ true → ⊥ }
+        requires gathered { HasGatherer self.old.machine.stack → self.old.machine.mode ≡ Mode.Back Outcome.Fail → ⊥ }
         ensures on { IfNone result (Quiet program.now self.old self.new) }
         ensures due { IfSome result (λ due. Settled program.now self.new due × (self.new ≡ self.old)) }
     {
@@ -224,9 +244,9 @@ impl Progress {
 
     /// Whether a ball is carried to the innermost case, and that is a catcher that is active.
     fn catches(&self) -> bool
-        ensures { (statics : Statics) → IsTrue result ↔ (HasHandler self.now.machine.stack × (throws_to (deeper (cases_of statics self.now.machine.stack) 0 - 1) self.now.machine.mode ≡ true)) }
+        ensures { (statics : Statics) → IsTrue result ↔ (HasCatcher self.now.machine.stack × (throws_to (deeper (cases_of statics self.now.machine.stack) 0 - 1) self.now.machine.mode ≡ true)) }
     {
-        if !self.machine.stack.is_handler() {
+        if !self.machine.stack.is_catcher() {
             return false;
         }
         match &self.machine.mode {

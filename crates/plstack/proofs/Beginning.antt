@@ -209,4 +209,8 @@ module _ (s : State) (is : IsState s) (l : Continuation) (there : IsList s l) wh
     }
 
     pub marker-there : (kind : MarkerKind) (level : ℕ) → k.item ≡ items.Marker kind level → run_goals (goals_in s) l.run ≡ [] → AtMarker s (goals_of s l) kind level (alone k.next)
-    marker-there kind level e end = record { goals = link-goals end ∙ ap (λ x. elements (goals_in s) s.env x ++ goals_of s (alone k.next)) e; there = behind-link }
+    marker-there kind level e end = record {
+      goals = link-goals end ∙ ap (λ x. elements (goals_in s) s.env x ++ goals_of s (alone k.next)) e;
+      fits = subst (IsItem (goals_in s) s.env.heap (length s.env.slots)) e items-here.0;
+      there = behind-link;
+    }

@@ -88,7 +88,7 @@ module _ (statics : Statics) (code : Goals) (e : Env) (links : List Link) (saved
   chosen d x xs vs (resumes.Clauses c) i = record { places = _; is = refl }
   chosen d x xs vs (resumes.Copies c) i = record { places = _; is = refl }
   chosen d x xs vs resumes.List i = record { places = _; is = refl }
-  chosen d x xs vs (resumes.Catch c) i = absurd i
+  chosen d x xs vs (resumes.Handle y) i = absurd i
 
   one-splits : (f : Frame) (base : List Case) (level : ℕ) → IsChoice f → deeper base 0 ≤ level → level < deeper base 0 + size f → Splits (opened statics code e links saved f base) level (plain (level - deeper base 0) base)
   one-splits (Plain n) base level choice low high =

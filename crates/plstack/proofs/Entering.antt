@@ -133,7 +133,7 @@ without s rest statics x below e (Barrier l) i is = absurd i
 without s rest statics x below e (Open p (resumes.Clauses c)) i is = ap behind_first (sym (popped-cases statics s rest (Open p (resumes.Clauses c)) is) ∙ e)
 without s rest statics x below e (Open p (resumes.Copies c)) i is = absurd i
 without s rest statics x below e (Open p resumes.List) i is = absurd i
-without s rest statics x below e (Open p (resumes.Catch c)) i is = absurd i
+without s rest statics x below e (Open p (resumes.Handle y)) i is = absurd i
 
 -- without the innermost case, a call
 pub left-call : (s : State) (rest : List Frame) (f : Frame) → s.frames ≡ rest ++ f ∷ [] → HasClauses s → (statics : Statics) (x : Case) (below : List Case) → cases_of statics s ≡ x ∷ below →

@@ -156,6 +156,7 @@ module _ (s : State) (d : ℕ) (e : Env) (q : Equation) (u : SolvesEnv s.env e q
         let t = list-unified (record s { env = wide }) d e _ _ unified env at_first l r.0 in
         (t.0, t.1 ∙ ap (bind_goals u.unifier) r.1);
     cases = λ statics. cases-unified (record s { env = wide }) d e _ _ unified env at_first statics ∙ stays.cases statics;
+    frames = refl;
     count = u.made.count;
     code = refl;
   }

@@ -5,6 +5,7 @@ pub mod Lists
 pub mod Marking
 pub mod Copying
 pub mod Stacks
+pub mod Handled
 pub mod Opening
 pub mod Returning
 pub mod Cutting

@@ -15,13 +15,15 @@ use Rattle.plstack.specs.declared.frame.Marks.{Marks}
 use Rattle.plstack.specs.declared.frame.Point.{Point}
 use Rattle.plstack.specs.declared.frame.Resume.{Resume}
 use Rattle.plstack.specs.declared.frame.Resume.TheVariants as resumes
+use Rattle.plstack.specs.declared.frame.Handler.TheVariants as handlers
 use Rattle.plstack.specs.declared.frame.Handling.{Handling}
 use Rattle.plstack.specs.declared.frame.Frame.{Frame}
 use Rattle.plstack.specs.declared.frame.Frame.TheVariants.{Plain, Barrier, Open}
 use Rattle.plstack.specs.Places.{Statics, kept, kept_values, case_of}
 use Rattle.plstack.specs.Frames.{AreOlder, IsResume, IsOpen, AreFrames}
-use Rattle.plstack.specs.State.{State, IsStack, goals_in, cases_of, IsList, Extends, CountsUp, Opens, IsClauses, IsCopies, IsBranch, IsHandler}
+use Rattle.plstack.specs.State.{State, IsStack, goals_in, cases_of, IsList, Extends, CountsUp, Opens, IsClauses, IsCopies, IsBranch, IsCatcher, IsGatherer}
 use Rattle.plstack.specs.Opening.{branch_of, handler_of, closing, ClosedAs, IsHandling, OpensFrame, OpensIn, Keeps}
+use Rattle.plstack.proofs.Handled.{handled-same}
 use Rattle.plstack.proofs.Growing.{stack-env, extends-env}
 use Rattle.plstack.proofs.Stacks.{opened-cases, opened-state, counted, counted-cases, popped-cases, has-last}
 
@@ -72,7 +74,7 @@ module _ (s : State) (d : ℕ) (is : IsStack s d) (e : Env) (m : Marks) (mark : 
     resume-now (resumes.Clauses c) a = tt
     resume-now (resumes.Copies c) a = (extends-now.values c.goal a).0
     resume-now resumes.List a = tt
-    resume-now (resumes.Catch c) a = ((extends-now.values c.catcher a.0).0, (extends-now.values c.recovery a.1).0)
+    resume-now (resumes.Handle x) a = (handled-same s.env.heap e.heap extends-now.values x a).0
 
     frame-now : IsOpen (goals_in s) e s.links s.saved point r (reverse s.frames)
     frame-now = record {
@@ -133,7 +135,7 @@ module _ (s new : State) where
 
   handler-same : (h : Handling) → IsHandling s h → Keeps s new → handler_of new h ≡ handler_of s h
   handler-same h i y =
-      ap₂ Handle (ap₂ Catch (y.values h.catcher.catcher i.catcher).1 (y.values h.catcher.recovery i.recovery).1)
+      ap₂ Handle (handled-same s.env.heap new.env.heap y.values h.handler i.handler).1
       (ap₂ (λ gs n. record { goals = gs; variables = n }) (y.lists h.list i.list).1 y.count)
 
   -- all else stays
@@ -146,7 +148,7 @@ module _ (s new : State) where
   pub opens_in_branch : (l : Continuation) → IsList s l → OpensIn s new l resumes.List → Opens s new (Choice [] ∷ branch_of s l ∷ [])
   opens_in_branch l i o = opens-these (Choice [] ∷ branch_of s l ∷ []) (λ statics. o.cases statics ∙ ap (λ c. Choice [] ∷ c ∷ cases_of statics s) (branch-same l i o.keeps)) o.keeps o.goals
 
-  pub opens_in_handler : (h : Handling) → IsHandling s h → OpensIn s new h.list (resumes.Catch h.catcher) → Opens s new (Choice [] ∷ handler_of s h ∷ [])
+  pub opens_in_handler : (h : Handling) → IsHandling s h → OpensIn s new h.list (resumes.Handle h.handler) → Opens s new (Choice [] ∷ handler_of s h ∷ [])
   opens_in_handler h i o = opens-these (Choice [] ∷ handler_of s h ∷ []) (λ statics. o.cases statics ∙ ap (λ c. Choice [] ∷ c ∷ cases_of statics s) (handler-same h i o.keeps)) o.keeps o.goals
 
 -- more choices with nothing left
@@ -165,4 +167,17 @@ pub closed-open : (statics : Statics) (s : State) (rest : List Frame) (p : Point
 closed-open statics s rest p (resumes.Clauses c) e = (_, popped-cases statics s rest (Open p (resumes.Clauses c)) e, λ not n m. absurd (not (has-last IsClauses s.frames rest (Open p (resumes.Clauses c)) e tt)))
 closed-open statics s rest p (resumes.Copies c) e = (_, popped-cases statics s rest (Open p (resumes.Copies c)) e, λ n not m. absurd (not (has-last IsCopies s.frames rest (Open p (resumes.Copies c)) e tt)))
 closed-open statics s rest p resumes.List e = (_, popped-cases statics s rest (Open p resumes.List) e, λ n m not. absurd (not (has-last IsBranch s.frames rest (Open p resumes.List) e tt)))
-closed-open statics s rest p (resumes.Catch c) e = (has-last IsHandler s.frames rest (Open p (resumes.Catch c)) e tt, _, _, popped-cases statics s rest (Open p (resumes.Catch c)) e)
+closed-open statics s rest p (resumes.Handle (handlers.Catch c)) e = (
+  _,
+  _,
+  popped-cases statics s rest (Open p (resumes.Handle (handlers.Catch c))) e,
+  (λ a b is not. not (has-last IsCatcher s.frames rest (Open p (resumes.Handle (handlers.Catch c))) e tt)),
+  λ l is not. absurd (cc),
+)
+closed-open statics s rest p (resumes.Handle (handlers.Gather v)) e = (
+  _,
+  _,
+  popped-cases statics s rest (Open p (resumes.Handle (handlers.Gather v))) e,
+  (λ a b is not. absurd (cc)),
+  λ l is not. not (has-last IsGatherer s.frames rest (Open p (resumes.Handle (handlers.Gather v))) e tt),
+)

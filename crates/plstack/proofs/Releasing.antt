@@ -59,7 +59,7 @@ pub items-within : (code : Goals) (h : Store) (n m k : ℕ) (xs : List Item) →
 items-within code h n m k [] le a is = tt
 items-within code h n m k (items.Run r ∷ xs) le a is = ((is.0.0, le r.«end» is.0.1 a.0), items-within code h n m k xs le a.1 is.1)
 items-within code h n m k (items.Goal l v ∷ xs) le a is = (is.0, items-within code h n m k xs le a.1 is.1)
-items-within code h n m k (items.Marker x l ∷ xs) le a is = (tt, items-within code h n m k xs le a.1 is.1)
+items-within code h n m k (items.Marker x l ∷ xs) le a is = (is.0, items-within code h n m k xs le a.1 is.1)
 
 taken-within : {A : Type 0} (i n : ℕ) (xs : List A) → i ≤ n → i ≤ length xs → i ≤ length (take n xs)
 taken-within zero n xs le lt = omega arith

@@ -6,7 +6,7 @@ use Rattle.plclause.specs.Clause.{Clause}
 use Rattle.plcells.specs.declared.cell.Cell.{Cell}
 use Rattle.plcells.specs.Store.{AreValues, value, renamed as renamed_heap, Preserves}
 use Rattle.plcells.proofs.Renaming.{Preserves-renamed}
-use Rattle.plsearch.specs.Types.{Element, Choice, Handle, Catch}
+use Rattle.plsearch.specs.Types.{Element, Choice, Handle}
 use Rattle.plsearch.specs.Rows.{resolve}
 use Rattle.plenv.specs.declared.slot.Slot.{Slot}
 use Rattle.plenv.specs.declared.slot.Slot.TheVariants.{Free, Set}
@@ -19,6 +19,7 @@ use Rattle.plstack.specs.declared.frame.Resume.{Resume}
 use Rattle.plstack.specs.declared.frame.Resume.TheVariants as resumes
 use Rattle.plstack.specs.Places.{Statics, called, places_left, case_of}
 use Rattle.plstack.specs.Frames.{IsResume}
+use Rattle.plstack.proofs.Handled.{handled-same}
 
 module _ (e : Env) (t : Table) (is : IsEnv e) (table : IsTable t) (more : Extends e.heap.names t) where
   pub stays : Preserves e.heap (renamed_heap e.heap t)
@@ -46,7 +47,7 @@ module _ (e : Env) (t : Table) (is : IsEnv e) (table : IsTable t) (more : Extend
   resume-renamed vs (resumes.Clauses c) i = (values-renamed vs i).0
   resume-renamed vs (resumes.Copies c) i = (stays.values c.goal i).0
   resume-renamed vs resumes.List i = tt
-  resume-renamed vs (resumes.Catch c) i = ((stays.values c.catcher i.0).0, (stays.values c.recovery i.1).0)
+  resume-renamed vs (resumes.Handle x) i = (handled-same e.heap (renamed_heap e.heap t) stays.values x i).0
 
   module _ (statics : Statics) (code : Goals) (d : ℕ) (xs : List Item) (items : AreItems code e.heap (length e.slots) xs) where
     goals-renamed : all_elements code (renamed e t) xs ≡ all_elements code e xs
@@ -59,6 +60,4 @@ module _ (e : Env) (t : Table) (is : IsEnv e) (table : IsTable t) (more : Extend
     case-renamed vs (resumes.Clauses c) i = ap Choice (left-renamed _ _ (λ g. drop c.next (statics c.procedure).clauses) (called-renamed (statics c.procedure).name vs i))
     case-renamed vs (resumes.Copies c) i = ap Choice (left-renamed _ _ (λ g. drop c.next c.clauses.items) (stays.values c.goal i).1)
     case-renamed vs resumes.List i = ap (λ es. Choice (record { goals = es; variables = e.count } ∷ [])) goals-renamed
-    case-renamed vs (resumes.Catch c) i =
-        ap₂ (λ h es. Handle h (record { goals = es; variables = e.count }))
-        (ap₂ Catch (stays.values c.catcher i.0).1 (stays.values c.recovery i.1).1) goals-renamed
+    case-renamed vs (resumes.Handle x) i = ap₂ (λ h es. Handle h (record { goals = es; variables = e.count })) (handled-same e.heap (renamed_heap e.heap t) stays.values x i).1 goals-renamed

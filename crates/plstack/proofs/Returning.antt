@@ -2,7 +2,7 @@
 use Rattle.std.proofs.Common.{◌≡◌, ℕ, suc, ◌-◌, ◌≤◌, List, [], ◌∷◌, ◌++◌, length, take, refl, sym, ap, ap₂, ◌∙◌, subst, arith, reverse, le_refl, length-take-le}
 use Rattle.platoms.specs.Names.{Extends as ExtendsNames}
 use Rattle.plcells.specs.Store.{value}
-use Rattle.plsearch.specs.Types.{Case, Choice, Handle, Catch}
+use Rattle.plsearch.specs.Types.{Case, Choice, Handle}
 use Rattle.plenv.specs.Env.{Env, IsEnv, IsWithin, cut}
 use Rattle.plenv.specs.Marks.{IsOlder as IsEnvOlder}
 use Rattle.plenv.proofs.Cuts.{cut-cut, cut-names, IsMark-cut}
@@ -13,12 +13,12 @@ use Rattle.pllinks.proofs.Arena.{chain-take}
 use Rattle.plstack.specs.declared.frame.Point.{Point}
 use Rattle.plstack.specs.declared.frame.Resume.{Resume}
 use Rattle.plstack.specs.declared.frame.Resume.TheVariants as resumes
-use Rattle.plstack.specs.declared.frame.Catcher.{Catcher}
+use Rattle.plstack.specs.declared.frame.Handler.{Handler}
 use Rattle.plstack.specs.declared.frame.Frame.{Frame}
 use Rattle.plstack.specs.declared.frame.Frame.TheVariants.{Open}
-use Rattle.plstack.specs.Places.{Statics, case_of, depth_of}
+use Rattle.plstack.specs.Places.{Statics, handled, case_of, depth_of}
 use Rattle.plstack.specs.Frames.{IsOpen, AreOlder, IsResume, AreFrames}
-use Rattle.plstack.specs.State.{State, IsStack, goals_in, goals_of, cases_of, IsList, CountsUp, Retries, AtHandler, Recovers, IsHandler}
+use Rattle.plstack.specs.State.{State, IsStack, goals_in, goals_of, cases_of, IsList, CountsUp, Retries, AtHandler, Leaves, Recovers, IsHandler}
 use Rattle.plstack.specs.Cutting.{Settles}
 use Rattle.plstack.proofs.Frames.{items-take, cases-cut, AreFrames-cut}
 use Rattle.plstack.proofs.Lists.{empty-list}
@@ -120,70 +120,69 @@ module _ (s : State) (d : ℕ) (is : IsStack s d) (rest : List Frame) (p : Point
   }
 
 -- all is as it was where a handler was opened, which stays open
-module _ (s : State) (d : ℕ) (is : IsStack s d) (rest : List Frame) (p : Point) (c : Catcher) (popped : s.frames ≡ rest ++ Open p (resumes.Catch c) ∷ []) where
+module _ (s : State) (d : ℕ) (is : IsStack s d) (rest : List Frame) (p : Point) (x : Handler) (popped : s.frames ≡ rest ++ Open p (resumes.Handle x) ∷ []) where
   abbrev none-visited : State
-  none-visited = back s d is rest p (resumes.Catch c) popped
+  none-visited = back s d is rest p (resumes.Handle x) popped
 
   abbrev rewound : State
   rewound = record { code = s.code; env = cut p.marks.env s.env; links = take p.marks.links s.links; saved = take p.marks.saved s.saved; frames = s.frames; goals = alone 0 }
 
-  the-frame : IsOpen (goals_in s) s.env s.links s.saved p (resumes.Catch c) (reverse rest)
-  the-frame = at-frame s d is rest p (resumes.Catch c) popped
+  the-frame : IsOpen (goals_in s) s.env s.links s.saved p (resumes.Handle x) (reverse rest)
+  the-frame = at-frame s d is rest p (resumes.Handle x) popped
 
   now : cut p.marks.env (cut p.marks.env s.env) ≡ cut p.marks.env s.env
   now = cut-cut p.marks.env p.marks.env s.env (older-same p)
 
-  frame-then : IsOpen (goals_in s) (cut p.marks.env s.env) (take p.marks.links s.links) (take p.marks.saved s.saved) p (resumes.Catch c) (reverse rest)
+  frame-then : IsOpen (goals_in s) (cut p.marks.env s.env) (take p.marks.links s.links) (take p.marks.saved s.saved) p (resumes.Handle x) (reverse rest)
   frame-then = record {
     mark = IsMark-cut p.marks.env p.marks.env s.env the-frame.mark the-frame.mark (older-same p);
     links_room = omega (arith, length-take-le p.marks.links s.links the-frame.links_room);
     list = the-frame.list;
-    saved_room = omega (arith, the-frame.saved_room, length-take-le p.marks.saved s.saved (saved-room s d is rest p (resumes.Catch c) popped));
+    saved_room = omega (arith, the-frame.saved_room, length-take-le p.marks.saved s.saved (saved-room s d is rest p (resumes.Handle x) popped));
     older = the-frame.older;
-    items = subst (λ (x : Env). AreItems (goals_in s) x.heap (length x.slots) (items_of (take p.marks.links s.links) p.list)) (sym now) (back-list s d is rest p (resumes.Catch c) popped).items;
-    resume = subst (λ (x : Env). IsResume x.heap [] (resumes.Catch c)) (sym now) the-frame.resume;
+    items = subst (λ (x : Env). AreItems (goals_in s) x.heap (length x.slots) (items_of (take p.marks.links s.links) p.list)) (sym now) (back-list s d is rest p (resumes.Handle x) popped).items;
+    resume = subst (λ (e : Env). IsResume e.heap [] (resumes.Handle x)) (sym now) the-frame.resume;
   }
 
   pub rewound-stack : IsStack rewound d
   rewound-stack =
-      let o = opened-state none-visited (d - 1) s.frames (Open p (resumes.Catch c)) popped (back-stack s d is rest p (resumes.Catch c) popped) frame-then in
-      (o.0, omega (arith, o.1, back-depth s d is rest p (resumes.Catch c) popped))
+      let o = opened-state none-visited (d - 1) s.frames (Open p (resumes.Handle x)) popped (back-stack s d is rest p (resumes.Handle x) popped) frame-then in
+      (o.0, omega (arith, o.1, back-depth s d is rest p (resumes.Handle x) popped))
 
   rewound-open : (statics : Statics) → cases_of statics rewound ≡
-      Handle (Catch (value (cut p.marks.env s.env).heap c.catcher) (value (cut p.marks.env s.env).heap c.recovery)) (record { goals = goals_of none-visited p.list; variables = (cut p.marks.env s.env).count }) ∷ cases_of statics none-visited
+      Handle (handled (cut p.marks.env s.env).heap x) (record { goals = goals_of none-visited p.list; variables = (cut p.marks.env s.env).count }) ∷ cases_of statics none-visited
   rewound-open statics =
-      opened-cases statics none-visited s.frames (Open p (resumes.Catch c)) popped
-      ∙ ap (λ x. case_of statics (goals_in s) 0 x (items_of (take p.marks.links s.links) p.list) [] (resumes.Catch c) ∷ cases_of statics none-visited) now
+      opened-cases statics none-visited s.frames (Open p (resumes.Handle x)) popped
+      ∙ ap (λ e. case_of statics (goals_in s) 0 e (items_of (take p.marks.links s.links) p.list) [] (resumes.Handle x) ∷ cases_of statics none-visited) now
 
   pub rewound-cases : (statics : Statics) → cases_of statics rewound ≡ cases_of statics s
   rewound-cases statics =
       rewound-open statics
-      ∙ ap₂ (λ gs cs. Handle (Catch (value (cut p.marks.env s.env).heap c.catcher) (value (cut p.marks.env s.env).heap c.recovery)) (record { goals = gs; variables = (cut p.marks.env s.env).count }) ∷ cs)
-      (back-goals s d is rest p (resumes.Catch c) popped) (back-cases s d is rest p (resumes.Catch c) popped statics)
-      ∙ sym (popped-cases statics s rest (Open p (resumes.Catch c)) popped)
+      ∙ ap₂ (λ gs cs. Handle (handled (cut p.marks.env s.env).heap x) (record { goals = gs; variables = (cut p.marks.env s.env).count }) ∷ cs)
+      (back-goals s d is rest p (resumes.Handle x) popped) (back-cases s d is rest p (resumes.Handle x) popped statics)
+      ∙ sym (popped-cases statics s rest (Open p (resumes.Handle x)) popped)
 
-  pub rewound-at : AtHandler rewound c p.list
+  pub rewound-at : AtHandler rewound x p.list
   rewound-at = record {
     below = λ statics. cases_of statics none-visited;
     cases = rewound-open;
-    catcher = the-frame.resume.0;
-    recovery = the-frame.resume.1;
-    list_there = let l = back-list s d is rest p (resumes.Catch c) popped in record { there = l.there; items = l.items };
-    has = has-last IsHandler s.frames rest (Open p (resumes.Catch c)) popped tt;
+    there = the-frame.resume;
+    list_there = let l = back-list s d is rest p (resumes.Handle x) popped in record { there = l.there; items = l.items };
+    has = has-last IsHandler s.frames rest (Open p (resumes.Handle x)) popped tt;
   }
 
 tail_is : (x y : Case) (xs ys : List Case) → x ∷ xs ≡ y ∷ ys → xs ≡ ys
 tail_is x y xs ys e = cc
 
 -- a list is visited in a choice in place of a handler
-module _ (s : State) (d : ℕ) (is : IsStack s d) (rest : List Frame) (p : Point) (c : Catcher) (popped : s.frames ≡ rest ++ Open p (resumes.Catch c) ∷ []) (frames : List Frame) (up : CountsUp 1 (reverse rest) (reverse frames))
+module _ (s : State) (d : ℕ) (is : IsStack s d) (rest : List Frame) (p : Point) (x : Handler) (popped : s.frames ≡ rest ++ Open p (resumes.Handle x) ∷ []) (frames : List Frame) (up : CountsUp 1 (reverse rest) (reverse frames))
     (list : Continuation) (l : IsList s list) where
   abbrev without : State
   without = record { code = s.code; env = s.env; links = s.links; saved = s.saved; frames = rest; goals = list }
 
   pub recovered-stack : IsStack (record s { frames = frames; goals = list }) d
   recovered-stack =
-      let q = popped-frames s d rest (Open p (resumes.Catch c)) popped is in
+      let q = popped-frames s d rest (Open p (resumes.Handle x)) popped is in
       let v = visiting (record s { frames = rest }) (depth_of (reverse rest)) list (with-frames s rest is.0 q.1, refl) (record { there = l.there; items = l.items }) in
       let u = counted 1 without (depth_of (reverse rest)) frames up v in
       (u.0, omega (arith, u.1, q.2))
@@ -191,8 +190,23 @@ module _ (s : State) (d : ℕ) (is : IsStack s d) (rest : List Frame) (p : Point
   pub recovers : Recovers s (record s { frames = frames; goals = list }) list
   recovers = record {
     cases = λ statics h below was.
-        let split = sym (popped-cases statics s rest (Open p (resumes.Catch c)) popped) ∙ was in
+        let split = sym (popped-cases statics s rest (Open p (resumes.Handle x)) popped) ∙ was in
         counted-cases 1 statics without frames up ∙ ap (λ cs. Choice [] ∷ cs) (same-cases statics (record s { frames = rest }) list ∙ tail_is _ _ _ _ split);
+    place = refl;
+  }
+
+-- a list is visited where a handler was taken off
+module _ (s : State) (d : ℕ) (is : IsStack s d) (rest : List Frame) (p : Point) (x : Handler) (popped : s.frames ≡ rest ++ Open p (resumes.Handle x) ∷ []) (list : Continuation) (l : IsList s list) where
+  pub left-stack : IsStack (record s { frames = rest; goals = list }) (d - 1)
+  left-stack =
+      let q = popped-frames s d rest (Open p (resumes.Handle x)) popped is in
+      let v = visiting (record s { frames = rest }) (depth_of (reverse rest)) list (with-frames s rest is.0 q.1, refl) (record { there = l.there; items = l.items }) in
+      (v.0, omega (arith, q.2))
+
+  pub leaves : Leaves s (record s { frames = rest; goals = list }) list
+  leaves = record {
+    cases = λ statics h below was.
+        same-cases statics (record s { frames = rest }) list ∙ tail_is _ _ _ _ (sym (popped-cases statics s rest (Open p (resumes.Handle x)) popped) ∙ was);
     place = refl;
   }
 
@@ -211,6 +225,12 @@ recovers_settled s mid new list r y = record {
   place = y.place ∙ r.place;
 }
 
+pub leaves_settled : (s mid new : State) (list : Continuation) → Leaves s mid list → Settles mid new → Leaves s new list
+leaves_settled s mid new list r y = record {
+  cases = λ statics h below was. y.cases statics ∙ r.cases statics h below was;
+  place = y.place ∙ r.place;
+}
+
 -- the marks of a case that was taken off
 module _ (s : State) (d : ℕ) (is : IsStack s d) (rest : List Frame) (p : Point) (r : Resume) (popped : s.frames ≡ rest ++ Open p r ∷ []) where
   pub within-now : IsWithin p.marks.env s.env
@@ -219,5 +239,8 @@ module _ (s : State) (d : ℕ) (is : IsStack s d) (rest : List Frame) (p : Point
   pub within-then : IsWithin p.marks.env (cut p.marks.env s.env)
   within-then = (IsMark-cut p.marks.env p.marks.env s.env (at-frame s d is rest p r popped).mark (at-frame s d is rest p r popped).mark (older-same p)).within
 
+  pub older-rest : AreOlder p.marks (reverse rest)
+  older-rest = (at-frame s d is rest p r popped).older
+
   pub older-then : (frames : List Frame) → CountsUp 1 (reverse rest) (reverse frames) → AreOlder p.marks (reverse frames)
-  older-then frames up = up.older p.marks (at-frame s d is rest p r popped).older
+  older-then frames up = up.older p.marks older-rest

@@ -104,6 +104,9 @@ empty_is (x ∷ xs) e = absurd (omega arith)
 pub has-last : (Is : Frame → Type 0) (frames rest : List Frame) (f : Frame) → frames ≡ rest ++ f ∷ [] → Is f → BeginsWith Is (reverse frames)
 has-last Is frames rest f e i = subst (BeginsWith Is) (sym (ap reverse e ∙ reverse-push rest f)) i
 
+pub is-last : (Is : Frame → Type 0) (frames rest : List Frame) (f : Frame) → frames ≡ rest ++ f ∷ [] → BeginsWith Is (reverse frames) → Is f
+is-last Is frames rest f e begins = subst (BeginsWith Is) (ap reverse e ∙ reverse-push rest f) begins
+
 -- closing a choice of so many
 pub closed-plain : (statics : Statics) (s : State) (rest frames : List Frame) (n : ℕ) → s.frames ≡ rest ++ Plain n ∷ [] → 1 < n → frames ≡ rest ++ Plain (n - 1) ∷ [] →
     cases_of statics s ≡ Choice [] ∷ cases_of statics (record s { frames = frames })

@@ -20,7 +20,7 @@ abbrev pub IsChosen : Resume → Type 0
 IsChosen (resumes.Clauses c) = Unit {0}
 IsChosen (resumes.Copies c) = Unit {0}
 IsChosen resumes.List = Unit {0}
-IsChosen (resumes.Catch c) = ⊥
+IsChosen (resumes.Handle x) = ⊥
 
 abbrev pub IsChoice : Frame → Type 0
 IsChoice (Plain n) = Unit {0}

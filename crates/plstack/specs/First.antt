@@ -14,7 +14,7 @@ use Rattle.plenv.specs.Env.{over}
 use Rattle.pllinks.specs.declared.item.Run.{Run}
 use Rattle.pllinks.specs.declared.item.MarkerKind.{MarkerKind}
 use Rattle.pllinks.specs.declared.link.Continuation.{Continuation}
-use Rattle.pllinks.specs.Lists.{marker_of, run_goals}
+use Rattle.pllinks.specs.Lists.{marker_of, run_goals, IsMarker}
 use Rattle.pllinks.specs.Links.{IsDone}
 use Rattle.plstack.specs.declared.first.First.{First}
 use Rattle.plstack.specs.declared.first.First.TheVariants as firsts
@@ -56,7 +56,8 @@ pub record AtGoal (s : State) (es : List Element) (level : ℕ) (v : Cell) (rest
 
 -- goals that begin with a marker, and the list behind it
 pub record AtMarker (s : State) (es : List Element) (kind : MarkerKind) (level : ℕ) (rest : Continuation) : Type 0 where
-  pub goals : es ≡ Marker (marker_of kind) level ∷ goals_of s rest
+  pub goals : es ≡ Marker (marker_of s.env.heap kind) level ∷ goals_of s rest
+  pub fits : IsMarker s.env.heap kind
   pub there : IsList s rest
 
 -- what stands first in some goals

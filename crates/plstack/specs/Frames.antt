@@ -10,6 +10,8 @@ use Rattle.pllinks.specs.Lists.{Goals, AreItems}
 use Rattle.pllinks.specs.Links.{items_of}
 use Rattle.plstack.specs.declared.frame.Marks.{Marks}
 use Rattle.plstack.specs.declared.frame.Point.{Point}
+use Rattle.plstack.specs.declared.frame.Handler.{Handler}
+use Rattle.plstack.specs.declared.frame.Handler.TheVariants as handlers
 use Rattle.plstack.specs.declared.frame.Resume.{Resume}
 use Rattle.plstack.specs.declared.frame.Resume.TheVariants as resumes
 use Rattle.plstack.specs.declared.frame.Frame.{Frame}
@@ -28,12 +30,17 @@ AreOlder m (Plain n ∷ fs) = AreOlder m fs
 AreOlder m (Barrier l ∷ fs) = AreOlder m fs
 AreOlder m (Open p r ∷ fs) = IsOlder m p r × AreOlder m fs
 
+-- the values of a handler are those of a heap
+abbrev pub IsHandled : Store → Handler → Type 0
+IsHandled h (handlers.Catch c) = IsValue h c.catcher × IsValue h c.recovery
+IsHandled h (handlers.Gather v) = IsValue h v
+
 -- the values of a case are those of the heap that it comes back to
 abbrev pub IsResume : Store → List Cell → Resume → Type 0
 IsResume h vs (resumes.Clauses c) = AreValues h vs
 IsResume h vs (resumes.Copies c) = IsValue h c.goal
 IsResume h vs resumes.List = ⊤
-IsResume h vs (resumes.Catch c) = IsValue h c.catcher × IsValue h c.recovery
+IsResume h vs (resumes.Handle x) = IsHandled h x
 
 -- a choice point or handler: it reads what it comes back to at its marks, and the frames behind it are older
 pub record IsOpen (code : Goals) (e : Env) (links : List Link) (saved : List Cell) (p : Point) (r : Resume) (fs : List Frame) : Type 0 where

@@ -1,8 +1,9 @@
 -- Cases that are opened and closed.
 use Rattle.std.specs.Prelude.{◌≡◌, ◌<◌, ℕ, List, [], ◌∷◌}
+use Rattle.plterm.specs.Tree.{Tree}
 use Rattle.plcells.specs.declared.cell.Cell.{Cell}
 use Rattle.plcells.specs.Store.{IsValue, value}
-use Rattle.plsearch.specs.Types.{Place, Handler, Catch, Case, Choice, Mark, Handle}
+use Rattle.plsearch.specs.Types.{Place, Handler, Catch, Gather, Case, Choice, Mark, Handle}
 use Rattle.plsearch.specs.Rows.{branch}
 use Rattle.plsearch.specs.Engine.{deeper}
 use Rattle.pllinks.specs.declared.link.Continuation.{Continuation}
@@ -14,8 +15,9 @@ use Rattle.plstack.specs.declared.frame.Around.{Around}
 use Rattle.plstack.specs.declared.frame.Around.TheVariants as arounds
 use Rattle.plstack.specs.declared.frame.Closed.{Closed}
 use Rattle.plstack.specs.declared.frame.Closed.TheVariants as closings
-use Rattle.plstack.specs.Places.{Statics, case_of, plain}
-use Rattle.plstack.specs.State.{State, goals_in, goals_of, place_at, cases_of, IsList, HasClauses, HasCopies, HasBranch, HasHandler}
+use Rattle.plstack.specs.Places.{Statics, handled, case_of, plain}
+use Rattle.plstack.specs.Frames.{IsHandled}
+use Rattle.plstack.specs.State.{State, goals_in, goals_of, place_at, cases_of, IsList, HasClauses, HasCopies, HasBranch, HasCatcher, HasGatherer}
 
 -- values and lists stand for what they did, whatever cases are open
 pub record Keeps (old new : State) : Type 0 where
@@ -30,11 +32,10 @@ branch_of s l = branch (goals_of s l) s.env.count
 
 -- what a handler stands for
 abbrev pub handler_of : State → Handling → Case
-handler_of s h = Handle (Catch (value s.env.heap h.catcher.catcher) (value s.env.heap h.catcher.recovery)) (place_at s h.list)
+handler_of s h = Handle (handled s.env.heap h.handler) (place_at s h.list)
 
 pub record IsHandling (s : State) (h : Handling) : Type 0 where
-  pub catcher : IsValue s.env.heap h.catcher.catcher
-  pub recovery : IsValue s.env.heap h.catcher.recovery
+  pub handler : IsHandled s.env.heap h.handler
   pub list : IsList s h.list
 
 -- the cases that a goal with a cut level of its own runs in
@@ -65,13 +66,13 @@ abbrev pub closing : Resume → Closed
 closing (resumes.Clauses c) = closings.Choice
 closing (resumes.Copies c) = closings.Choice
 closing resumes.List = closings.Choice
-closing (resumes.Catch c) = closings.Handler
+closing (resumes.Handle x) = closings.Handler
 
 -- the innermost case was closed
 abbrev pub ClosedAs : Statics → State → State → Closed → Type 0
 ClosedAs statics old new closings.Choice = (ps : List Place) × (cases_of statics old ≡ Choice ps ∷ cases_of statics new) × ((HasClauses old → ⊥) → (HasCopies old → ⊥) → (HasBranch old → ⊥) → ps ≡ [])
 ClosedAs statics old new (closings.Mark l) = cases_of statics old ≡ Mark l ∷ cases_of statics new
-ClosedAs statics old new closings.Handler = HasHandler old × (h : Handler) × (p : Place) × (cases_of statics old ≡ Handle h p ∷ cases_of statics new)
+ClosedAs statics old new closings.Handler = (h : Handler) × (p : Place) × (cases_of statics old ≡ Handle h p ∷ cases_of statics new) × ((c r : Tree) → h ≡ Catch c r → (HasCatcher old → ⊥) → ⊥) × ((l : Tree) → h ≡ Gather l → (HasGatherer old → ⊥) → ⊥)
 
 -- so many choices with nothing left were closed, the innermost cases
 pub record ClosesPlain (old new : State) : Type 0 where

@@ -4,7 +4,7 @@ use Rattle.plterm.specs.Tree.{Tree, atom, compound, trees}
 use Rattle.plclause.specs.Clause.{Clause}
 use Rattle.plcells.specs.declared.cell.Cell.{Cell}
 use Rattle.plcells.specs.Store.{Store, value}
-use Rattle.plsearch.specs.Types.{Element, Place, Catch, Case, Choice, Mark, Handle}
+use Rattle.plsearch.specs.Types.{Element, Place, Handler, Catch, Gather, Case, Choice, Mark, Handle}
 use Rattle.plsearch.specs.Rows.{resolve}
 use Rattle.plsearch.specs.Engine.{deeper}
 use Rattle.plenv.specs.Env.{Env, cut}
@@ -13,6 +13,8 @@ use Rattle.pllinks.specs.declared.link.Link.{Link}
 use Rattle.pllinks.specs.Lists.{Goals, all_elements}
 use Rattle.pllinks.specs.Links.{items_of}
 use Rattle.plstack.specs.declared.frame.Point.{Point}
+use Rattle.plstack.specs.declared.frame.Handler.{Handler as Handles}
+use Rattle.plstack.specs.declared.frame.Handler.TheVariants as handlers
 use Rattle.plstack.specs.declared.frame.Resume.{Resume}
 use Rattle.plstack.specs.declared.frame.Resume.TheVariants as resumes
 use Rattle.plstack.specs.declared.frame.Frame.{Frame}
@@ -40,12 +42,17 @@ called h name (v ∷ vs) = compound name (trees (map (value h) (v ∷ vs)))
 abbrev pub places_left : ℕ → Env → Tree → List Element → List Clause → List Place
 places_left d e t rest cs = filter_map (resolve d e.count t rest) cs
 
+-- what a handler over a heap stands for
+abbrev pub handled : Store → Handles → Handler
+handled h (handlers.Catch c) = Catch (value h c.catcher) (value h c.recovery)
+handled h (handlers.Gather v) = Gather (value h v)
+
 -- how many values a case keeps
 abbrev pub kept : Resume → ℕ
 kept (resumes.Clauses c) = c.count
 kept (resumes.Copies c) = 0
 kept resumes.List = 0
-kept (resumes.Catch c) = 0
+kept (resumes.Handle x) = 0
 
 -- the values that a case keeps
 abbrev pub kept_values : List Cell → Point → Resume → List Cell
@@ -56,7 +63,7 @@ abbrev pub case_of : Statics → Goals → ℕ → Env → List Item → List Ce
 case_of statics code d e xs vs (resumes.Clauses c) = Choice (places_left d e (called e.heap (statics c.procedure).name vs) (all_elements code e xs) (drop c.next (statics c.procedure).clauses))
 case_of statics code d e xs vs (resumes.Copies c) = Choice (places_left d e (value e.heap c.goal) (all_elements code e xs) (drop c.next c.clauses.items))
 case_of statics code d e xs vs resumes.List = Choice (place_of_items code e xs ∷ [])
-case_of statics code d e xs vs (resumes.Catch c) = Handle (Catch (value e.heap c.catcher) (value e.heap c.recovery)) (place_of_items code e xs)
+case_of statics code d e xs vs (resumes.Handle x) = Handle (handled e.heap x) (place_of_items code e xs)
 
 abbrev pub plain : ℕ → List Case → List Case
 plain zero below = below

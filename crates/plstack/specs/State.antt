@@ -8,7 +8,7 @@ use Rattle.plcells.specs.declared.cell.Cell.{Cell}
 use Rattle.plcells.specs.declared.equation.Equation.{Equation}
 use Rattle.plcells.specs.Store.{IsValue, value}
 use Rattle.plcells.specs.Equations.{left_of, right_of}
-use Rattle.plsearch.specs.Types.{Element, Place, Case, Choice, Handle, Catch}
+use Rattle.plsearch.specs.Types.{Element, Place, Case, Choice, Handle}
 use Rattle.plsearch.specs.Lists.{bind_goals}
 use Rattle.plcode.specs.Steps.{goals_from}
 use Rattle.plcode.specs.Callees.{Compiled}
@@ -17,13 +17,14 @@ use Rattle.pllinks.specs.declared.link.Link.{Link}
 use Rattle.pllinks.specs.declared.link.Continuation.{Continuation}
 use Rattle.pllinks.specs.Lists.{Goals}
 use Rattle.pllinks.specs.Links.{goals_of as list_goals, IsList as IsListIn, IsChain}
-use Rattle.plstack.specs.declared.frame.Catcher.{Catcher}
+use Rattle.plstack.specs.declared.frame.Handler.{Handler}
+use Rattle.plstack.specs.declared.frame.Handler.TheVariants as handlers
 use Rattle.plstack.specs.declared.frame.Marks.{Marks}
 use Rattle.plstack.specs.declared.frame.Resume.TheVariants as resumes
 use Rattle.plstack.specs.declared.frame.Frame.{Frame}
 use Rattle.plstack.specs.declared.frame.Frame.TheVariants.{Open, Plain}
-use Rattle.plstack.specs.Places.{Statics, plain, cases, depth_of}
-use Rattle.plstack.specs.Frames.{AreOlder, AreFrames}
+use Rattle.plstack.specs.Places.{Statics, handled, plain, cases, depth_of}
+use Rattle.plstack.specs.Frames.{AreOlder, IsHandled, AreFrames}
 
 -- the program's code, with the names that it was compiled with; the environment; the links; the values that open cases keep; the frames,
 -- the newest last; and the list that is visited
@@ -115,6 +116,7 @@ pub record Solves (old new : State) (e : Equation) : Type 0 where
   pub is : unify (left_of old.env.heap old.env.count e) (right_of old.env.heap old.env.count e) ≡ Some unifier
   pub lists : (l : Continuation) → IsList old l → IsList new l × (goals_of new l ≡ bind_goals unifier (goals_of old l))
   pub cases : (statics : Statics) → cases_of statics new ≡ cases_of statics old
+  pub frames : new.frames ≡ old.frames
   pub count : new.env.count ≡ old.env.count + e.new
   pub code : new.code ≡ old.code
 
@@ -126,7 +128,7 @@ pub record CountsUp (n : ℕ) (old new : List Frame) : Type 0 where
   pub depth : depth_of new ≡ depth_of old + n
 
 -- what the innermost case is: a choice of the further clauses of a static or of a dynamic procedure, a choice of a list, a choice with
--- nothing left, or a handler
+-- nothing left, or a handler, of a ball or of what was kept
 abbrev pub IsClauses : Frame → Type 0
 IsClauses (Open p (resumes.Clauses c)) = Unit {0}
 IsClauses f = ⊥
@@ -144,8 +146,24 @@ IsPlain (Plain n) = Unit {0}
 IsPlain f = ⊥
 
 abbrev pub IsHandler : Frame → Type 0
-IsHandler (Open p (resumes.Catch c)) = Unit {0}
+IsHandler (Open p (resumes.Handle x)) = Unit {0}
 IsHandler f = ⊥
+
+abbrev pub Catches : Handler → Type 0
+Catches (handlers.Catch c) = Unit {0}
+Catches (handlers.Gather v) = ⊥
+
+abbrev pub Gathers : Handler → Type 0
+Gathers (handlers.Catch c) = ⊥
+Gathers (handlers.Gather v) = Unit {0}
+
+abbrev pub IsCatcher : Frame → Type 0
+IsCatcher (Open p (resumes.Handle x)) = Catches x
+IsCatcher f = ⊥
+
+abbrev pub IsGatherer : Frame → Type 0
+IsGatherer (Open p (resumes.Handle x)) = Gathers x
+IsGatherer f = ⊥
 
 abbrev pub BeginsWith : (Frame → Type 0) → List Frame → Type 0
 BeginsWith Is [] = ⊥
@@ -166,6 +184,12 @@ HasPlain s = BeginsWith IsPlain (reverse s.frames)
 abbrev pub HasHandler : State → Type 0
 HasHandler s = BeginsWith IsHandler (reverse s.frames)
 
+abbrev pub HasCatcher : State → Type 0
+HasCatcher s = BeginsWith IsCatcher (reverse s.frames)
+
+abbrev pub HasGatherer : State → Type 0
+HasGatherer s = BeginsWith IsGatherer (reverse s.frames)
+
 -- the next place of the innermost choice is visited
 pub record Retries (statics : Statics) (old new : State) : Type 0 where
   pub others : List Place
@@ -174,15 +198,19 @@ pub record Retries (statics : Statics) (old new : State) : Type 0 where
   pub cases : cases_of statics new ≡ Choice others ∷ older
 
 -- the innermost case is this handler, and all is as it was at its opening
-pub record AtHandler (s : State) (c : Catcher) (list : Continuation) : Type 0 where
+pub record AtHandler (s : State) (x : Handler) (list : Continuation) : Type 0 where
   pub below : Statics → List Case
-  pub cases : (statics : Statics) → cases_of statics s ≡ Handle (Catch (value s.env.heap c.catcher) (value s.env.heap c.recovery)) (place_at s list) ∷ below statics
-  pub catcher : IsValue s.env.heap c.catcher
-  pub recovery : IsValue s.env.heap c.recovery
+  pub cases : (statics : Statics) → cases_of statics s ≡ Handle (handled s.env.heap x) (place_at s list) ∷ below statics
+  pub there : IsHandled s.env.heap x
   pub list_there : IsList s list
   pub has : HasHandler s
 
 -- the innermost case was a handler, and a list is visited in a choice with nothing left in its place
 pub record Recovers (old new : State) (list : Continuation) : Type 0 where
   pub cases : (statics : Statics) (h : Case) (below : List Case) → cases_of statics old ≡ h ∷ below → cases_of statics new ≡ Choice [] ∷ below
+  pub place : place_of new ≡ place_at old list
+
+-- the innermost case was a handler, and is closed, and a list is visited
+pub record Leaves (old new : State) (list : Continuation) : Type 0 where
+  pub cases : (statics : Statics) (h : Case) (below : List Case) → cases_of statics old ≡ h ∷ below → cases_of statics new ≡ below
   pub place : place_of new ≡ place_at old list

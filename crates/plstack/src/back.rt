@@ -3,7 +3,7 @@ ghost use Rattle.std.specs.Prelude.{◌≡◌, reverse};
 ghost use Rattle.plenv.specs.Env.{IsWithin};
 ghost use Rattle.plstack.specs.Places.{Statics};
 ghost use Rattle.plstack.specs.Frames.{AreOlder};
-ghost use Rattle.plstack.specs.State.{cases_of, AtHandler, HasBranch, HasHandler, IsList, Recovers, Retries};
+ghost use Rattle.plstack.specs.State.{cases_of, AtHandler, Catches, Gathers, HasBranch, HasCatcher, HasGatherer, HasHandler, IsList, Leaves, Recovers, Retries};
 
 use crate::frame::{Frame, Handling, Marks, Resume};
 use crate::open::{count_up, push_frame};
@@ -46,10 +46,12 @@ impl Stack {
     pub fn rewind(&mut self) -> Handling
         requires { HasHandler self.old }
         ensures cases { (statics : Statics) → cases_of statics self.new ≡ cases_of statics self.old }
-        ensures at { AtHandler self.new result.catcher result.list }
+        ensures at { AtHandler self.new result.handler result.list }
+        ensures catches { HasCatcher self.old → Catches result.handler }
+        ensures gathers { HasGatherer self.old → Gathers result.handler }
         ensures code { self.new.code ≡ self.old.code }
     {
-        let Some(Frame::Open(point, Resume::Catch(catcher))) = self.frames.pop() else {
+        let Some(Frame::Open(point, Resume::Handle(handler))) = self.frames.pop() else {
             unreachable!()
         };
         self.env.undo(point.marks.env);
@@ -57,8 +59,8 @@ impl Stack {
         self.saved.truncate(point.marks.saved);
         self.goals = Continuation::alone(ListId::EMPTY);
         let list = point.list;
-        push_frame(&mut self.frames, Frame::Open(point, Resume::Catch(catcher)));
-        Handling { catcher, list }
+        push_frame(&mut self.frames, Frame::Open(point, Resume::Handle(handler)));
+        Handling { handler, list }
     }
 
     /// Visits a list in a choice with nothing left, in place of the innermost case, which is a handler.
@@ -73,6 +75,38 @@ impl Stack {
         self.settle(marks);
     }
 
+    /// Closes the innermost case, which is a handler, and visits a list.
+    #[tactic(auto, using(crate::proofs::Returning::leaves_settled))]
+    pub fn leave(&mut self, list: Continuation)
+        requires handler { HasHandler self.old }
+        requires list { IsList self.old list }
+        ensures leaves { Leaves self.old self.new list }
+        ensures code { self.new.code ≡ self.old.code }
+    {
+        let marks = self.close_handler(list);
+        self.settle(marks);
+    }
+
+    /// Takes off the innermost case, which is a handler, and visits a list: the handler's marks.
+    fn close_handler(&mut self, list: Continuation) -> Marks
+        requires handler { HasHandler self.old }
+        requires list { IsList self.old list }
+        ensures leaves { Leaves self.old self.new list }
+        ensures code { self.new.code ≡ self.old.code }
+        ensures within { IsWithin result.env self.new.env }
+        ensures older { AreOlder result (reverse self.new.frames) }
+    {
+        let Some(Frame::Open(point, resume)) = self.frames.pop() else {
+            unreachable!()
+        };
+        let Resume::Handle(_) = resume else {
+            unreachable!()
+        };
+        self.depth = self.depth.down(1);
+        self.goals = list;
+        point.marks
+    }
+
     /// Puts a choice with nothing left in the place of the innermost case, which is a handler, and visits a list: the handler's marks.
     fn leave_handler(&mut self, list: Continuation) -> Marks
         requires handler { HasHandler self.old }
@@ -85,7 +119,7 @@ impl Stack {
         let Some(Frame::Open(point, resume)) = self.frames.pop() else {
             unreachable!()
         };
-        let Resume::Catch(_) = resume else {
+        let Resume::Handle(_) = resume else {
             unreachable!()
         };
         count_up(&mut self.frames, 1);

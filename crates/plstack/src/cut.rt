@@ -140,7 +140,7 @@ fn is_chosen(resume: &Resume) -> bool
 {
     match resume {
         Resume::Clauses(_) | Resume::Copies(_) | Resume::List => true,
-        Resume::Catch(_) => false,
+        Resume::Handle(_) => false,
     }
 }
 

@@ -46,6 +46,15 @@ pub struct Catcher {
     pub recovery: Cell,
 }
 
+/// What a handler is for.
+#[derive(Clone, Copy)]
+pub enum Handler {
+    /// A ball may be caught.
+    Catch(Catcher),
+    /// The term of a value is unified with the list of what was kept.
+    Gather(Cell),
+}
+
 /// What an open case does with what it comes back to.
 #[derive(Drop)]
 pub enum Resume {
@@ -55,8 +64,8 @@ pub enum Resume {
     Copies(Copies),
     /// The list is visited.
     List,
-    /// A ball may be caught.
-    Catch(Catcher),
+    /// It is a handler.
+    Handle(Handler),
 }
 
 /// Open cases.
@@ -73,7 +82,7 @@ pub enum Frame {
 /// A handler, and the list behind the goal that it is for.
 #[derive(Clone, Copy)]
 pub struct Handling {
-    pub catcher: Catcher,
+    pub handler: Handler,
     pub list: Continuation,
 }
 

@@ -46,7 +46,7 @@ fn kept_by(resume: &Resume) -> u16
 {
     match resume {
         Resume::Clauses(clauses) => clauses.count,
-        Resume::Copies(_) | Resume::List | Resume::Catch(_) => 0,
+        Resume::Copies(_) | Resume::List | Resume::Handle(_) => 0,
     }
 }
 

@@ -47,7 +47,7 @@ impl Stack {
             Around::Nothing => self.open_plain(),
             Around::Branch(list) => self.open_plain_in(list, Resume::List),
             Around::Handle(handling) => {
-                self.open_plain_in(handling.list, Resume::Catch(handling.catcher))
+                self.open_plain_in(handling.list, Resume::Handle(handling.handler))
             }
         }
     }
@@ -151,7 +151,7 @@ fn closed_as(resume: Resume) -> Closed
         Resume::Clauses(_) => Closed::Choice,
         Resume::Copies(_) => Closed::Choice,
         Resume::List => Closed::Choice,
-        Resume::Catch(_) => Closed::Handler,
+        Resume::Handle(_) => Closed::Handler,
     }
 }
 

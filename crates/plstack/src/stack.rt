@@ -5,9 +5,9 @@ ghost use Rattle.plcode.specs.Steps.{goals_from};
 ghost use Rattle.plsearch.specs.Engine.{deeper};
 ghost use Rattle.pllinks.specs.Links.{alone};
 ghost use Rattle.plstack.specs.Places.{Statics};
-ghost use Rattle.plstack.specs.State.{cases_of, HasBranch, HasClauses, HasCopies, HasHandler, HasPlain};
+ghost use Rattle.plstack.specs.State.{cases_of, HasBranch, HasCatcher, HasClauses, HasCopies, HasGatherer, HasHandler, HasPlain};
 
-use crate::frame::{Frame, Resume};
+use crate::frame::{Frame, Handler, Resume};
 use plcells::cell::Cell;
 use plcode::program::ProgramCode;
 use plenv::env::Environment;
@@ -125,10 +125,23 @@ impl Stack {
         matches!(self.frames.last(), Some(Frame::Plain(_)))
     }
 
-    /// Whether the innermost case is a handler.
-    pub fn is_handler(&self) -> bool
-        ensures { IsTrue result ↔ HasHandler self.now }
+    /// Whether the innermost case is a handler of a ball.
+    pub fn is_catcher(&self) -> bool
+        ensures { IsTrue result ↔ HasCatcher self.now }
     {
-        matches!(self.frames.last(), Some(Frame::Open(_, Resume::Catch(_))))
+        matches!(
+            self.frames.last(),
+            Some(Frame::Open(_, Resume::Handle(Handler::Catch(_))))
+        )
+    }
+
+    /// Whether the innermost case is a handler of what was kept.
+    pub fn is_gatherer(&self) -> bool
+        ensures { IsTrue result ↔ HasGatherer self.now }
+    {
+        matches!(
+            self.frames.last(),
+            Some(Frame::Open(_, Resume::Handle(Handler::Gather(_))))
+        )
     }
 }

@@ -107,6 +107,13 @@ returns-in-Catching-clause-ok c t sel =
     let P = c.args.program.now in
     on_ok_map c.catching.result (selected P s c.catching.new.self c.args.form c.args.source t c.args.level (depth_of P s) (goals_of s.stack c.args.rest) s.stack.env.count (local_of s) _ sel (ap (shown_form s.stack.env.heap (indicator t) s.args.items) c.in-Catching.is)) c.catching.ensures.ok
 
+pub returns-in-FindAll-clause-ok : goal.returns-in-FindAll-clause-ok
+unfolding row
+returns-in-FindAll-clause-ok c t sel =
+    let s = c.args.self.now in
+    let P = c.args.program.now in
+    on_ok_map c.find_all.result (selected P s c.find_all.new.self c.args.form c.args.source t c.args.level (depth_of P s) (goals_of s.stack c.args.rest) s.stack.env.count (local_of s) _ sel (ap (shown_form s.stack.env.heap (indicator t) s.args.items) c.in-FindAll.is)) c.find_all.ensures.ok
+
 pub returns-in-Throwing-clause-ok : goal.returns-in-Throwing-clause-ok
 unfolding row
 returns-in-Throwing-clause-ok c t sel =
@@ -203,6 +210,15 @@ catching-requires-clause-catcher c = (subst (IsInside c.args.self.now.stack.env.
 
 pub catching-requires-clause-recovery : goal.catching-requires-clause-recovery
 catching-requires-clause-recovery c = (subst (IsInside c.args.self.now.stack.env.heap c.args.self.now.args.items) c.in-Catching.is c.requires.selected.1.inside).2
+
+pub find_all-requires-clause-template : goal.find_all-requires-clause-template
+find_all-requires-clause-template c = (subst (IsInside c.args.self.now.stack.env.heap c.args.self.now.args.items) c.in-FindAll.is c.requires.selected.1.inside).0
+
+pub find_all-requires-clause-goal : goal.find_all-requires-clause-goal
+find_all-requires-clause-goal c = (subst (IsInside c.args.self.now.stack.env.heap c.args.self.now.args.items) c.in-FindAll.is c.requires.selected.1.inside).1
+
+pub find_all-requires-clause-whole : goal.find_all-requires-clause-whole
+find_all-requires-clause-whole c = (subst (IsInside c.args.self.now.stack.env.heap c.args.self.now.args.items) c.in-FindAll.is c.requires.selected.1.inside).2
 
 pub throw-requires-clause-ball : goal.throw-requires-clause-ball
 throw-requires-clause-ball c = (subst (IsInside c.args.self.now.stack.env.heap c.args.self.now.args.items) c.in-Throwing.is c.requires.selected.1.inside)

@@ -1,6 +1,6 @@
 use Rattle.std.proofs.Common.{◌≡◌, ◌-◌, true, ap, ◌∙◌, subst, refl}
 use Rattle.plsearch.specs.Handlers.{has}
-use Rattle.plstack.specs.State.{cases_of}
+use Rattle.plstack.specs.State.{cases_of, AtHandler}
 use Rattle.plstack.specs.StaticCalls.{statics_of}
 use Rattle.plmachine.specs.declared.machine.Outcome.TheVariants as outcomes
 use Rattle.plmachine.specs.declared.machine.Mode.TheVariants as modes
@@ -41,7 +41,7 @@ returns-in_ok-recover-clause-ok c =
     let P = c.args.program.now in
     let at : s.machine.mode ≡ modes.Back (outcomes.Throw c.in-Throw.ball c.in-Throw.field-1) = c.in-Back.is ∙ ap modes.Back c.in-Throw.is in
     let active : has (depth_of P s.machine - 1) c.in-Throw.field-1.items ≡ true = subst (λ m. throws_to (depth_of P s.machine - 1) m ≡ true) at c.requires.throws in
-    catches-it P s _ c.in-Throw.ball c.in-Throw.field-1.items at refl c.rewind-list.new.self c.rewind-list.result c.rewind-list.ensures.code c.rewind-list.ensures.cases c.rewind-list.ensures.at active
+    catches-it P s _ c.in-Throw.ball c.in-Throw.field-1.items at refl c.rewind-list.new.self c.rewind-list.result c.rewind-list.ensures.code c.rewind-list.ensures.cases c.in-Catch.catcher (subst (λ x. AtHandler c.rewind-list.new.self x c.rewind-list.result.list) c.in-Catch.is c.rewind-list.ensures.at) active
     c.put_copy.new.self c.put_copy.ensures.stays c.in_ok-v.v c.in_ok-v.ensures.is c.in_ok-v.ensures.count c.unify.new.self (c.in_ok-unify.ensures.yes c.if-branch.true) c.recover.new.self c.in_ok-recover.ensures.ok
 
 pub returns-else-branch-clause-ok : goal.returns-else-branch-clause-ok
@@ -51,6 +51,6 @@ returns-else-branch-clause-ok c =
     let at : s.machine.mode ≡ modes.Back (outcomes.Throw c.in-Throw.ball c.in-Throw.field-1) = c.in-Back.is ∙ ap modes.Back c.in-Throw.is in
     let active : has (depth_of P s.machine - 1) c.in-Throw.field-1.items ≡ true = subst (λ m. throws_to (depth_of P s.machine - 1) m ≡ true) at c.requires.throws in
     let no = c.in_ok-unify.ensures.no c.if-branch.false in
-    catches-other P s _ c.in-Throw.ball c.in-Throw.field-1.items at refl c.rewind-list.new.self c.rewind-list.result c.rewind-list.ensures.code c.rewind-list.ensures.cases c.rewind-list.ensures.at active
+    catches-other P s _ c.in-Throw.ball c.in-Throw.field-1.items at refl c.rewind-list.new.self c.rewind-list.result c.rewind-list.ensures.code c.rewind-list.ensures.cases c.in-Catch.catcher (subst (λ x. AtHandler c.rewind-list.new.self x c.rewind-list.result.list) c.in-Catch.is c.rewind-list.ensures.at) active
     c.put_copy.new.self c.put_copy.ensures.stays c.in_ok-v.v c.in_ok-v.ensures.is c.close.new.self (c.close.ensures.code ∙ ap (λ x. x.code) no.1) no.0
     (λ h below was. closed-below (statics_of P) c.unify.new.self c.close.new.self h below c.close.result c.close.ensures.some c.close.ensures.none (ap (cases_of (statics_of P)) no.1 ∙ was))

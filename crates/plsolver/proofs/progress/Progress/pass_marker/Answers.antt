@@ -1,7 +1,7 @@
 use Rattle.std.proofs.Common.{subst}
 use Rattle.plstack.specs.State.{goals_of}
 use Rattle.plstack.specs.First.{AtMarker}
-use Rattle.plsolver.proofs.Quiets.{quiet-commit, quiet-never, quiet-until}
+use Rattle.plsolver.proofs.Quiets.{quiet-collect, quiet-commit, quiet-never, quiet-until}
 use Rattle.plsolver.proofs.progress.Progress.pass_marker.Goals as goal
 
 pub returns-in_ok-cut-in-Commit-clause-ok : goal.returns-in_ok-cut-in-Commit-clause-ok
@@ -23,3 +23,16 @@ returns-in-Until-clause-ok c =
     let st = s.machine.stack in
     let marker = subst (λ m. AtMarker st (goals_of st st.goals) m c.args.level c.args.rest) c.in-Until.is c.requires.marker in
     rw c.visit.ensures (quiet-until c.args.program.now s c.args.level c.args.rest c.requires.visits marker)
+
+pub collect-requires : goal.collect-requires
+collect-requires c =
+    let s = c.args.self.now in
+    let st = s.machine.stack in
+    (subst (λ m. AtMarker st (goals_of st st.goals) m c.args.level c.args.rest) c.in-Collect.is c.requires.marker).fits
+
+pub returns-in_ok-collect-in-Collect-clause-ok : goal.returns-in_ok-collect-in-Collect-clause-ok
+returns-in_ok-collect-in-Collect-clause-ok c =
+    let s = c.args.self.now in
+    let st = s.machine.stack in
+    let marker = subst (λ m. AtMarker st (goals_of st st.goals) m c.args.level c.args.rest) c.in-Collect.is c.requires.marker in
+    quiet-collect c.args.program.now s c.collect.new.self c.in-Collect.v c.args.level c.args.rest c.requires.visits marker c.in_ok-collect-in-Collect.ensures.ok

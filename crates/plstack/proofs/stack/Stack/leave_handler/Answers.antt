@@ -1,6 +1,6 @@
 use Rattle.std.proofs.Common.{◌≡◌, ◌++◌, ◌∷◌, [], ap, ◌∙◌}
 use Rattle.plstack.specs.declared.frame.Point.{Point}
-use Rattle.plstack.specs.declared.frame.Catcher.{Catcher}
+use Rattle.plstack.specs.declared.frame.Handler.{Handler}
 use Rattle.plstack.specs.declared.frame.Resume.TheVariants as resumes
 use Rattle.plstack.specs.declared.frame.Frame.TheVariants.{Open}
 use Rattle.plstack.specs.State.{State}
@@ -12,8 +12,8 @@ pub invariant_of-self : goal.invariant_of-self
 invariant_of-self c =
     let s : State = inside c.self.inside in
     let p : Point = c.in-Some-Open.point in
-    let k : Catcher = c.in-Catch.field-0 in
-    let popped : s.frames ≡ c.pop.new.self.items ++ Open p (resumes.Catch k) ∷ [] = c.in-Some-Open.ensures.items ∙ ap (λ f. c.pop.new.self.items ++ f ∷ []) (c.in-Some-Open.field-0-is ∙ ap (Open p) c.in-Catch.is) in
+    let k : Handler = c.in-Handle.field-0 in
+    let popped : s.frames ≡ c.pop.new.self.items ++ Open p (resumes.Handle k) ∷ [] = c.in-Some-Open.ensures.items ∙ ap (λ f. c.pop.new.self.items ++ f ∷ []) (c.in-Some-Open.field-0-is ∙ ap (Open p) c.in-Handle.is) in
     let list = rw (← c.self.view_is) at c.requires.list in
     recovered-stack s c.self.inside.depth c.self.invariant c.pop.new.self.items p k popped c.count_up.new.frames.items c.count_up.ensures c.args.list list
 
@@ -21,8 +21,8 @@ pub returns-clause-recovers : goal.returns-clause-recovers
 returns-clause-recovers c =
     let s : State = inside c.self.inside in
     let p : Point = c.in-Some-Open.point in
-    let k : Catcher = c.in-Catch.field-0 in
-    let popped : s.frames ≡ c.pop.new.self.items ++ Open p (resumes.Catch k) ∷ [] = c.in-Some-Open.ensures.items ∙ ap (λ f. c.pop.new.self.items ++ f ∷ []) (c.in-Some-Open.field-0-is ∙ ap (Open p) c.in-Catch.is) in
+    let k : Handler = c.in-Handle.field-0 in
+    let popped : s.frames ≡ c.pop.new.self.items ++ Open p (resumes.Handle k) ∷ [] = c.in-Some-Open.ensures.items ∙ ap (λ f. c.pop.new.self.items ++ f ∷ []) (c.in-Some-Open.field-0-is ∙ ap (Open p) c.in-Handle.is) in
     let list = rw (← c.self.view_is) at c.requires.list in
     rw (← c.self.view_is) (recovers s c.self.inside.depth c.self.invariant c.pop.new.self.items p k popped c.count_up.new.frames.items c.count_up.ensures c.args.list list)
 
@@ -30,14 +30,14 @@ pub returns-clause-within : goal.returns-clause-within
 returns-clause-within c =
     let s : State = inside c.self.inside in
     let p : Point = c.in-Some-Open.point in
-    let k : Catcher = c.in-Catch.field-0 in
-    let popped : s.frames ≡ c.pop.new.self.items ++ Open p (resumes.Catch k) ∷ [] = c.in-Some-Open.ensures.items ∙ ap (λ f. c.pop.new.self.items ++ f ∷ []) (c.in-Some-Open.field-0-is ∙ ap (Open p) c.in-Catch.is) in
-    within-now s c.self.inside.depth c.self.invariant c.pop.new.self.items p (resumes.Catch k) popped
+    let k : Handler = c.in-Handle.field-0 in
+    let popped : s.frames ≡ c.pop.new.self.items ++ Open p (resumes.Handle k) ∷ [] = c.in-Some-Open.ensures.items ∙ ap (λ f. c.pop.new.self.items ++ f ∷ []) (c.in-Some-Open.field-0-is ∙ ap (Open p) c.in-Handle.is) in
+    within-now s c.self.inside.depth c.self.invariant c.pop.new.self.items p (resumes.Handle k) popped
 
 pub returns-clause-older : goal.returns-clause-older
 returns-clause-older c =
     let s : State = inside c.self.inside in
     let p : Point = c.in-Some-Open.point in
-    let k : Catcher = c.in-Catch.field-0 in
-    let popped : s.frames ≡ c.pop.new.self.items ++ Open p (resumes.Catch k) ∷ [] = c.in-Some-Open.ensures.items ∙ ap (λ f. c.pop.new.self.items ++ f ∷ []) (c.in-Some-Open.field-0-is ∙ ap (Open p) c.in-Catch.is) in
-    older-then s c.self.inside.depth c.self.invariant c.pop.new.self.items p (resumes.Catch k) popped c.count_up.new.frames.items c.count_up.ensures
+    let k : Handler = c.in-Handle.field-0 in
+    let popped : s.frames ≡ c.pop.new.self.items ++ Open p (resumes.Handle k) ∷ [] = c.in-Some-Open.ensures.items ∙ ap (λ f. c.pop.new.self.items ++ f ∷ []) (c.in-Some-Open.field-0-is ∙ ap (Open p) c.in-Handle.is) in
+    older-then s c.self.inside.depth c.self.invariant c.pop.new.self.items p (resumes.Handle k) popped c.count_up.new.frames.items c.count_up.ensures

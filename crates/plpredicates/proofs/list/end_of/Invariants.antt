@@ -2,7 +2,7 @@ use Rattle.std.proofs.Common.{◌≡◌}
 use Rattle.plcells.specs.Store.{IsValue, value}
 use Rattle.plcells.specs.Walking.{weight}
 use Rattle.plbuiltin.specs.Lists.{elements_of}
-use Rattle.plpredicates.proofs.tests.is_list.Given as goal
+use Rattle.plpredicates.proofs.list.end_of.Given as goal
 
 abbrev pub invariant-loop-tail : goal.invariant-loop-tail
 invariant-loop-tail l = record {

@@ -1,0 +1,4 @@
+//! The copies that findall/3 keeps until its goal has no further solution.
+#![tactic(auto)]
+
+pub mod collection;
