@@ -1,12 +1,17 @@
 -- The definitions on small inputs.
-use Rattle.std.proofs.Common.{◌≡◌, ℕ, true, false, List, [], ◌∷◌, map, pos, negsuc, refl}
+use Rattle.std.proofs.Common.{◌≡◌, ℕ, true, false, List, [], ◌∷◌, map, pos, negsuc, Ok, Err, refl}
 use Rattle.std.specs.Prelude.{codes}
 use Rattle.std.specs.Char.{encode_utf8}
 use Rattle.std.specs.Str.{chars}
 use Rattle.plterm.specs.Tree.{Tree, var, int, atom, compound, none, more}
 use Rattle.plprogram.specs.declared.settings.Settings.{Settings}
-use Rattle.plbuiltin.specs.Errors.{instantiation_error, type_error, domain_error, representation_error, syntax_error}
-use Rattle.plbuiltin.specs.Solution.{Raises, Gives, fails, unifies, decides}
+use Rattle.plprogram.specs.declared.settings.Unknown.TheVariants.{Fail}
+use Rattle.plops.specs.declared.operator.Kind.TheVariants.{Xfx}
+use Rattle.plwrite.specs.declared.style.Style.TheVariants.{Plain}
+use Rattle.plbuiltin.specs.Errors.{instantiation_error, type_error, domain_error, permission_error, representation_error, syntax_error}
+use Rattle.plbuiltin.specs.Solution.{Raises, Gives, fails, unifies, writes, sets, decides}
+use Rattle.plbuiltin.specs.Flags.{asked, set_flag}
+use Rattle.plbuiltin.specs.Format.{Byte, Takes, Amiss, Written, pieces, format}
 use Rattle.std.specs.declared.cmp.Ordering.TheVariants as orderings
 use Rattle.plterm.specs.Order.{order}
 use Rattle.plterm.specs.Ground.{is_ground}
@@ -348,3 +353,58 @@ module _ (s : Settings) where
       × (on_sorting Keys (dot foo (var 1) ∷ var 0 ∷ []) s ≡ Raises instantiation_error)
   unfolding foo dot empty elements_of
   key_errors = (refl, refl, refl)
+
+-- ---- operators and flags
+
+arrow : Tree
+arrow = atom (codes "===>")
+
+names : asked (int (pos 700)) (atom (codes "xfx")) (dot arrow (dot foo empty)) ≡ Ok (record { priority = 700; kind = Xfx; names = codes "===>" ∷ codes "foo" ∷ [] })
+unfolding arrow foo dot empty elements_of
+names = refl
+
+asked_amiss :
+    (asked (int (pos 700)) (var 0) arrow ≡ Err instantiation_error)
+    × (asked foo (atom (codes "xfx")) (dot arrow (dot (var 0) empty)) ≡ Err instantiation_error)
+    × (asked foo (int (pos 1)) arrow ≡ Err (type_error (codes "integer") foo))
+    × (asked (int (pos 1201)) (atom (codes "xfx")) (dot (int (pos 1)) empty) ≡ Err (type_error (codes "atom") (int (pos 1))))
+    × (asked (int (pos 1201)) foo arrow ≡ Err (domain_error (codes "operator_priority") (int (pos 1201))))
+    × (asked (int (negsuc 0)) foo arrow ≡ Err (domain_error (codes "operator_priority") (int (negsuc 0))))
+    × (asked (int (pos 1200)) foo arrow ≡ Err (domain_error (codes "operator_specifier") foo))
+unfolding arrow foo dot empty elements_of
+asked_amiss = (refl, refl, refl, refl, refl, refl, refl)
+
+module _ (s : Settings) where
+  flag_set : set_flag (atom (codes "unknown")) (atom (codes "fail")) s ≡ sets (record s { unknown = Fail })
+  flag_set = refl
+
+  flags_amiss :
+      (set_flag (atom (codes "bounded")) foo s ≡ Raises (permission_error (codes "modify") (codes "flag") (atom (codes "bounded"))))
+      × (set_flag foo (int (pos 1)) s ≡ Raises (domain_error (codes "prolog_flag") foo))
+      × (set_flag (int (pos 1)) foo s ≡ Raises (type_error (codes "atom") (int (pos 1))))
+      × (set_flag foo (var 0) s ≡ Raises instantiation_error)
+  unfolding foo
+  flags_amiss = (refl, refl, refl, refl)
+
+-- ---- formats
+
+pieces_worked : pieces false (codes "a~w~n~") ≡ Byte 97 ∷ Takes (Written Plain) ∷ Byte 10 ∷ Amiss ∷ []
+pieces_worked = refl
+
+module _ (s : Settings) where
+  two_arguments : format (atom (codes "~a-~a") ∷ dot foo (dot empty empty) ∷ []) s ≡ writes (codes "foo-[]") s
+  unfolding foo dot empty elements_of
+  two_arguments = refl
+
+  one_argument : format (atom (codes "<~a>") ∷ foo ∷ []) s ≡ writes (codes "<foo>") s
+  unfolding foo elements_of
+  one_argument = refl
+
+  formats_amiss :
+      (format (atom (codes "~a") ∷ []) s ≡ Raises (domain_error (codes "format_arguments") (atom (codes "[]"))))
+      × (format (atom (codes "~a") ∷ dot foo (dot foo empty) ∷ []) s ≡ Raises (domain_error (codes "format_arguments") (dot foo (dot foo empty))))
+      × (format (atom (codes "~z") ∷ empty ∷ []) s ≡ Raises (domain_error (codes "format_control") (atom (codes "~z"))))
+      × (format (atom (codes "~d") ∷ foo ∷ []) s ≡ Raises (type_error (codes "integer") foo))
+      × (format (var 0 ∷ []) s ≡ Raises instantiation_error)
+  unfolding foo dot empty elements_of
+  formats_amiss = (refl, refl, refl, refl, refl)

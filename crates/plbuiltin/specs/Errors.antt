@@ -14,6 +14,10 @@ type_error type culprit = compound (codes "type_error") (more (atom type) (more 
 abbrev pub domain_error : List ℕ → Tree → Tree
 domain_error domain culprit = compound (codes "domain_error") (more (atom domain) (more culprit none))
 
+-- what is asked for may not be done to this
+abbrev pub permission_error : List ℕ → List ℕ → Tree → Tree
+permission_error action type culprit = compound (codes "permission_error") (more (atom action) (more (atom type) (more culprit none)))
+
 -- a limit of what can be represented was met
 abbrev pub representation_error : List ℕ → Tree
 representation_error limit = compound (codes "representation_error") (more (atom limit) none)

@@ -9,5 +9,7 @@ pub mod Arithmetic
 pub mod Order
 pub mod Sorting
 pub mod Atoms
+pub mod Format
 pub mod Output
+pub mod Flags
 pub mod Solutions

@@ -1,5 +1,6 @@
 -- Terms as lists (ISO/IEC 13211-1 6.3.5).
-use Rattle.std.specs.Prelude.{Bool, true, false, List, [], ◌∷◌, codes, if◌then◌else◌}
+use Rattle.std.specs.Prelude.{Bool, true, false, ◌||◌, List, [], ◌∷◌, codes, if◌then◌else◌}
+use Rattle.std.specs.List.{list_any}
 use Rattle.std.specs.Str.{bytes_eq}
 use Rattle.plterm.specs.Tree.{Tree, var, int, atom, compound, Trees, none, more}
 use Rattle.plbuiltin.specs.Errors.{instantiation_error, type_error}
@@ -57,3 +58,16 @@ may_end Other = false
 
 abbrev pub may_be_list : Tree → Bool
 may_be_list l = may_end (elements_of l).tail
+
+-- a variable, a list whose end is one, or a list with an element that is one
+abbrev pub is_variable : Tree → Bool
+is_variable (var x) = true
+is_variable t = false
+
+abbrev pub is_unbound : Tail → Bool
+is_unbound Unbound = true
+is_unbound Empty = false
+is_unbound Other = false
+
+abbrev pub is_partial : Elements → Bool
+is_partial es = is_unbound es.tail || list_any is_variable es.items

@@ -8,11 +8,12 @@ use Rattle.plwrite.specs.Writing.{written}
 use Rattle.plwrite.specs.declared.style.Style.{Style}
 use Rattle.plwrite.specs.declared.style.Style.TheVariants.{Plain, Quoted, Canonical}
 use Rattle.plnames.specs.declared.kind.Output.{Output}
-use Rattle.plnames.specs.declared.kind.Output.TheVariants.{Write, WriteQuoted, WriteCanonical, WriteLine, Newline, Flush, PutCharacter, Tab}
+use Rattle.plnames.specs.declared.kind.Output.TheVariants.{Write, WriteQuoted, WriteCanonical, WriteLine, Newline, Flush, PutCharacter, Tab, Format}
 use Rattle.plnames.specs.declared.kind.Spelling.TheVariants.{Characters}
 use Rattle.plprogram.specs.declared.settings.Settings.{Settings}
 use Rattle.plbuiltin.specs.Solution.{Solved, Raises, fails, writes}
 use Rattle.plbuiltin.specs.Texts.{Found, character_of}
+use Rattle.plbuiltin.specs.Format.{format}
 
 -- the text of a term under the operators as they stand
 abbrev pub term_output : Style → List Tree → Settings → Solved
@@ -57,3 +58,4 @@ on_output Newline us settings = fixed_output (10 ∷ []) us settings
 on_output Flush us settings = fixed_output [] us settings
 on_output PutCharacter us settings = put_character us settings
 on_output Tab us settings = tab us settings
+on_output Format us settings = format us settings

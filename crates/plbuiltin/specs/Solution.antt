@@ -25,6 +25,10 @@ unifies left right settings = Gives (record { left = left; right = right; new = 
 abbrev pub writes : List ℕ → Settings → Solved
 writes bytes settings = Gives (record { left = atom (codes "true"); right = atom (codes "true"); new = 0 } ∷ []) bytes settings
 
+-- it is true, and these are the settings from then on
+abbrev pub sets : Settings → Solved
+sets settings = writes [] settings
+
 -- it is true, or fails
 abbrev pub decides : Bool → Settings → Solved
 decides true settings = writes [] settings

@@ -2,7 +2,7 @@
 use Rattle.std.specs.Prelude.{ℕ, List}
 use Rattle.plterm.specs.Tree.{Tree}
 use Rattle.plnames.specs.declared.kind.BuiltIn.{BuiltIn}
-use Rattle.plnames.specs.declared.kind.BuiltIn.TheVariants.{Terms, Tests, Parts, Order, Sorting, Atoms, Output, Arithmetic}
+use Rattle.plnames.specs.declared.kind.BuiltIn.TheVariants.{Terms, Tests, Parts, Order, Sorting, Atoms, Output, Flags, Arithmetic}
 use Rattle.plprogram.specs.declared.settings.Settings.{Settings}
 use Rattle.plbuiltin.specs.Solution.{Solved}
 use Rattle.plbuiltin.specs.Terms.{on_terms}
@@ -13,6 +13,7 @@ use Rattle.plbuiltin.specs.Order.{on_order}
 use Rattle.plbuiltin.specs.Sorting.{on_sorting}
 use Rattle.plbuiltin.specs.Atoms.{on_atoms}
 use Rattle.plbuiltin.specs.Output.{on_output}
+use Rattle.plbuiltin.specs.Flags.{on_flags}
 
 -- what a built-in predicate gives for its arguments, under a thread's settings, where so many variables are in use
 abbrev pub solutions : BuiltIn → List Tree → Settings → ℕ → Solved
@@ -24,3 +25,4 @@ solutions (Order b) us settings n = on_order b us settings
 solutions (Sorting b) us settings n = on_sorting b us settings
 solutions (Atoms b) us settings n = on_atoms b us settings
 solutions (Output b) us settings n = on_output b us settings
+solutions (Flags b) us settings n = on_flags b us settings

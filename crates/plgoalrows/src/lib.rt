@@ -10,6 +10,10 @@ mod build;
 #[cfg(test)]
 mod findall;
 #[cfg(test)]
+mod flags;
+#[cfg(test)]
+mod format;
+#[cfg(test)]
 mod library;
 #[cfg(test)]
 mod order;

@@ -6,7 +6,7 @@ use Rattle.pllex.specs.Tokens.{IsClause}
 use Rattle.plload.specs.declared.next.Next.{Next}
 use Rattle.plload.specs.declared.next.Next.TheVariants as nexts
 use Rattle.plprogram.specs.declared.settings.Settings.{Settings}
-use Rattle.plload.specs.Meaning.{Meaning, Adds, Runs as RunsGoal, Declares, Operates, SetsQuotes, SetsUnknown, Passes, Refused}
+use Rattle.plload.specs.Meaning.{Meaning, Adds, Runs as RunsGoal, Declares, Operates, Sets, Passes, Refused}
 use Rattle.plload.specs.Draft.{Draft, with_meaning}
 use Rattle.plload.specs.Loading.{IsNext, Follows, Stops, Moves, first_place, unread}
 
@@ -36,7 +36,6 @@ counts_once d (Adds c) = omega arith
 counts_once d (RunsGoal goal) = omega arith
 counts_once d (Declares ps) = omega arith
 counts_once d (Operates priority kind names) = omega arith
-counts_once d (SetsQuotes quotes) = omega arith
-counts_once d (SetsUnknown unknown) = omega arith
+counts_once d (Sets flag) = omega arith
 counts_once d Passes = omega arith
 counts_once d (Refused kind) = omega arith

@@ -5,8 +5,9 @@ use Rattle.plclause.specs.Clause.{Clause}
 use Rattle.plload.specs.declared.error.RefusalKind.TheVariants.{NotCallable, StaticRedefined, BadDirective}
 use Rattle.plops.specs.declared.operator.Kind.TheVariants.{Xfx}
 use Rattle.plops.specs.declared.flag.Quotes.TheVariants.{Atom}
+use Rattle.plprogram.specs.declared.change.Flag.TheVariants.{Quotes}
 use Rattle.plnames.specs.Names.{rows, is_fixed}
-use Rattle.plload.specs.Meaning.{Adds, Runs, Declares, Operates, SetsQuotes, Passes, Refused, meaning}
+use Rattle.plload.specs.Meaning.{Adds, Runs, Declares, Operates, Sets, Passes, Refused, meaning}
 use Rattle.plload.specs.Position.{line_of, column_of}
 use Rattle.plprogram.specs.Program.{procedures_of, clauses_in}
 
@@ -113,7 +114,7 @@ operator : meaning (one (codes ":-") (compound (codes "op") (more (int (pos 700)
 operator = refl
 
 -- :- set_prolog_flag(double_quotes, atom).
-flag : meaning (one (codes ":-") (two (codes "set_prolog_flag") (atom (codes "double_quotes")) (atom (codes "atom")))) ≡ SetsQuotes Atom
+flag : meaning (one (codes ":-") (two (codes "set_prolog_flag") (atom (codes "double_quotes")) (atom (codes "atom")))) ≡ Sets (Quotes Atom)
 flag = refl
 
 -- :- set_prolog_flag(bounded, true).

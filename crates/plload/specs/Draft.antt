@@ -13,7 +13,7 @@ use Rattle.plevent.specs.declared.update.Update.{Update}
 use Rattle.plevent.specs.declared.update.Update.TheVariants.{Declare, Last}
 use Rattle.plprogram.specs.declared.settings.Settings.{Settings}
 use Rattle.plprogram.specs.Program.{Program, procedures_of}
-use Rattle.plload.specs.Meaning.{Meaning, Adds, Runs, Declares, Operates, SetsQuotes, SetsUnknown, Passes, Refused, meaning}
+use Rattle.plload.specs.Meaning.{Meaning, Adds, Runs, Declares, Operates, Sets, Passes, Refused, meaning}
 
 -- What a text holds so far: its clauses in order; the procedures that directives name as dynamic, each once; the goals of
 -- main; and how many directives there are.
@@ -43,8 +43,7 @@ with_meaning d (Adds c) = record d { clauses = d.clauses ++ c ∷ [] }
 with_meaning d (Runs goal) = record d { goals = d.goals ++ goal ∷ []; directives = d.directives + 1 }
 with_meaning d (Declares ps) = record d { declared = fold with_name d.declared ps; directives = d.directives + 1 }
 with_meaning d (Operates priority kind names) = record d { directives = d.directives + 1 }
-with_meaning d (SetsQuotes quotes) = record d { directives = d.directives + 1 }
-with_meaning d (SetsUnknown unknown) = record d { directives = d.directives + 1 }
+with_meaning d (Sets flag) = record d { directives = d.directives + 1 }
 with_meaning d Passes = record d { directives = d.directives + 1 }
 with_meaning d (Refused kind) = d
 

@@ -2,7 +2,6 @@ pub mod Lists
 pub mod Meaning
 pub mod Shown
 pub mod Taking
-pub mod Tables
 pub mod Draft
 pub mod Position
 pub mod Loading

@@ -1,5 +1,5 @@
 -- What a clause of a program's text does.
-use Rattle.std.specs.Prelude.{ℕ, pos, negsuc, Bool, true, false, ◌||◌, nat_le, if◌then◌else◌, List, [], ◌∷◌, codes, Option, Some, None, is_some}
+use Rattle.std.specs.Prelude.{ℕ, pos, negsuc, Bool, true, false, ◌||◌, nat_le, if◌then◌else◌, List, [], ◌∷◌, codes, Option, Some, None, is_some, Result, Ok, Err}
 use Rattle.std.specs.List.{list_any}
 use Rattle.std.specs.Str.{bytes_eq}
 use Rattle.plterm.specs.Tree.{Tree, var, int, atom, compound, list_of}
@@ -11,11 +11,9 @@ use Rattle.plclause.specs.declared.form.ClauseForm.TheVariants as forms
 use Rattle.plclause.specs.Indicators.{indicator}
 use Rattle.plclause.specs.Clause.{Clause}
 use Rattle.plops.specs.declared.operator.Kind.{Kind}
-use Rattle.plops.specs.declared.operator.Kind.TheVariants.{Xfx, Xfy, Yfx, Fx, Fy, Xf, Yf}
-use Rattle.plops.specs.declared.flag.Quotes.{Quotes}
-use Rattle.plops.specs.declared.flag.Quotes.TheVariants.{Codes, Chars, Atom}
-use Rattle.plprogram.specs.declared.settings.Unknown.{Unknown}
-use Rattle.plprogram.specs.declared.settings.Unknown.TheVariants.{Error, Fail}
+use Rattle.plprogram.specs.Changes.{kind_named, flag_named}
+use Rattle.plprogram.specs.declared.change.Flag.{Flag}
+use Rattle.plprogram.specs.declared.change.FlagError.{FlagError}
 use Rattle.plload.specs.declared.error.RefusalKind.{RefusalKind}
 use Rattle.plload.specs.declared.error.RefusalKind.TheVariants.{NotCallable, StaticRedefined, BadDirective}
 use Rattle.plnames.specs.Names.{is_fixed, is_named}
@@ -28,8 +26,7 @@ pub data Meaning : Type 0 where
   Runs : Tree → Meaning
   Declares : List Indicator → Meaning
   Operates : ℕ → Kind → List (List ℕ) → Meaning
-  SetsQuotes : Quotes → Meaning
-  SetsUnknown : Unknown → Meaning
+  Sets : Flag → Meaning
   Passes : Meaning
   Refused : RefusalKind → Meaning
 
@@ -91,36 +88,18 @@ abbrev pub is_library : Tree → Bool
 is_library t = is_some (only_argument (codes "library") t)
 
 -- set_prolog_flag/2
-abbrev pub quotes_meaning : List ℕ → Meaning
-quotes_meaning v =
-    if bytes_eq v (codes "codes") then SetsQuotes Codes
-    else (if bytes_eq v (codes "chars") then SetsQuotes Chars
-    else (if bytes_eq v (codes "atom") then SetsQuotes Atom else bad))
-
-abbrev pub unknown_meaning : List ℕ → Meaning
-unknown_meaning v =
-    if bytes_eq v (codes "error") then SetsUnknown Error
-    else (if bytes_eq v (codes "fail") then SetsUnknown Fail else bad)
+abbrev pub set_to : Result Flag FlagError → Meaning
+set_to (Ok flag) = Sets flag
+set_to (Err e) = bad
 
 abbrev pub flag_meaning : Option (List ℕ) → Option (List ℕ) → Meaning
-flag_meaning (Some f) (Some v) = if bytes_eq f (codes "double_quotes") then quotes_meaning v else (if bytes_eq f (codes "unknown") then unknown_meaning v else bad)
-flag_meaning (Some f) None = bad
+flag_meaning (Some f) v = set_to (flag_named f v)
 flag_meaning None v = bad
 
 -- op/3: a priority, a kind, and a name or a list of names
-abbrev pub kind_of : List ℕ → Option Kind
-kind_of s =
-    if bytes_eq s (codes "xfx") then Some Xfx
-    else (if bytes_eq s (codes "xfy") then Some Xfy
-    else (if bytes_eq s (codes "yfx") then Some Yfx
-    else (if bytes_eq s (codes "fx") then Some Fx
-    else (if bytes_eq s (codes "fy") then Some Fy
-    else (if bytes_eq s (codes "xf") then Some Xf
-    else (if bytes_eq s (codes "yf") then Some Yf else None))))))
-
 abbrev pub kind_in : Option (List ℕ) → Option Kind
 kind_in None = None
-kind_in (Some s) = kind_of s
+kind_in (Some s) = kind_named s
 
 abbrev pub names_of : Tree → Option (List (List ℕ))
 names_of t = each_of name_of (if is_list t then elements t else Some (t ∷ []))

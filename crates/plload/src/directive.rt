@@ -3,7 +3,7 @@ ghost use Rattle.std.specs.Prelude.{◌≡◌, Some, IfOk, option_map, option_co
 ghost use Rattle.std.specs.List.{list_any};
 ghost use Rattle.plnames.specs.Names.{is_fixed};
 ghost use Rattle.plload.specs.Lists.{each, elements, members, is_list};
-ghost use Rattle.plload.specs.Meaning.{goal_meaning, directive_meaning, is_directive_name, of_args, of_one, of_two, of_three, dynamic_meaning, passes_if, is_library, flag_meaning, quotes_meaning, unknown_meaning, operator_meaning, kind_of, kind_in, name_of, names_of, number_to, indicators, indicator_of};
+ghost use Rattle.plload.specs.Meaning.{goal_meaning, directive_meaning, is_directive_name, of_args, of_one, of_two, of_three, dynamic_meaning, passes_if, is_library, flag_meaning, operator_meaning, kind_in, name_of, names_of, number_to, indicators, indicator_of};
 ghost use Rattle.plload.specs.Shown.{shown};
 
 use crate::error::RefusalKind;
@@ -11,9 +11,8 @@ use crate::lists::{argument_of, elements_of, is_list, members_of, pair_of};
 use crate::meaning::Meaning;
 use plclause::convert::convert;
 use plnames::table::NameTable;
-use plops::flag::Quotes;
 use plops::operator::Kind;
-use plprogram::settings::Unknown;
+use plprogram::change::{flag_named, kind_named};
 use plterm::indicator::Indicator;
 use plterm::name::Name;
 use plterm::walk::{Shape, TermRef, Terms};
@@ -283,34 +282,12 @@ fn is_library(term: &TermRef<'_>) -> bool
 fn flag_of(flag: Option<&Name>, value: Option<&Name>) -> Meaning
     ensures { shown result ≡ flag_meaning (option_copied flag.entry) (option_copied value.entry) }
 {
-    let (Some(flag), Some(value)) = (flag, value) else {
+    let Some(flag) = flag else {
         return Meaning::Refused(RefusalKind::BadDirective);
     };
-    match flag.as_str() {
-        "double_quotes" => quotes_of(value.as_str()),
-        "unknown" => unknown_of(value.as_str()),
-        _ => Meaning::Refused(RefusalKind::BadDirective),
-    }
-}
-
-fn quotes_of(value: &str) -> Meaning
-    ensures { shown result ≡ quotes_meaning value.now }
-{
-    match value {
-        "codes" => Meaning::SetsQuotes(Quotes::Codes),
-        "chars" => Meaning::SetsQuotes(Quotes::Chars),
-        "atom" => Meaning::SetsQuotes(Quotes::Atom),
-        _ => Meaning::Refused(RefusalKind::BadDirective),
-    }
-}
-
-fn unknown_of(value: &str) -> Meaning
-    ensures { shown result ≡ unknown_meaning value.now }
-{
-    match value {
-        "error" => Meaning::SetsUnknown(Unknown::Error),
-        "fail" => Meaning::SetsUnknown(Unknown::Fail),
-        _ => Meaning::Refused(RefusalKind::BadDirective),
+    match flag_named(flag.as_str(), value) {
+        Ok(flag) => Meaning::Sets(flag),
+        Err(_) => Meaning::Refused(RefusalKind::BadDirective),
     }
 }
 
@@ -352,22 +329,7 @@ fn kind_in(name: Option<&Name>) -> Option<Kind>
 {
     match name {
         None => None,
-        Some(name) => kind_of(name.as_str()),
-    }
-}
-
-fn kind_of(name: &str) -> Option<Kind>
-    ensures { result ≡ kind_of name.now }
-{
-    match name {
-        "xfx" => Some(Kind::Xfx),
-        "xfy" => Some(Kind::Xfy),
-        "yfx" => Some(Kind::Yfx),
-        "fx" => Some(Kind::Fx),
-        "fy" => Some(Kind::Fy),
-        "xf" => Some(Kind::Xf),
-        "yf" => Some(Kind::Yf),
-        _ => None,
+        Some(name) => kind_named(name.as_str()),
     }
 }
 

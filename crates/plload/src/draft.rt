@@ -75,7 +75,7 @@ impl Draft {
                 self.count_directive();
                 Ok(())
             }
-            Meaning::SetsQuotes(_) | Meaning::SetsUnknown(_) | Meaning::Passes => {
+            Meaning::Sets(_) | Meaning::Passes => {
                 self.count_directive();
                 Ok(())
             }

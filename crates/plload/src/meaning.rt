@@ -11,9 +11,8 @@ use crate::lists::argument_of;
 use plclause::clause::Clause;
 use plclause::form::{ClauseForm, clause_of};
 use plnames::table::NameTable;
-use plops::flag::Quotes;
 use plops::operator::Kind;
-use plprogram::settings::Unknown;
+use plprogram::change::Flag;
 use plterm::indicator::Indicator;
 use plterm::name::Name;
 use plterm::term::Term;
@@ -30,10 +29,8 @@ pub enum Meaning {
     Declares(Vec<Indicator>),
     /// It makes names operators of a priority and a kind; of priority 0, none.
     Operates(u16, Kind, Vec<Name>),
-    /// It sets the flag `double_quotes`.
-    SetsQuotes(Quotes),
-    /// It sets the flag `unknown`.
-    SetsUnknown(Unknown),
+    /// It sets a flag.
+    Sets(Flag),
     /// It has no effect.
     Passes,
     /// It is refused.

@@ -10,7 +10,7 @@ use Rattle.plsubst.specs.Unify.{places, differ, unify_in, unify}
 use Rattle.plsubst.proofs.Unify.{bind-var}
 use Rattle.plprogram.specs.Program.{Program}
 use Rattle.plprogram.specs.declared.settings.Settings.{Settings}
-use Rattle.plbuiltin.specs.Solution.{Gives, fails, unifies as unified_to, writes, decides}
+use Rattle.plbuiltin.specs.Solution.{Gives, fails, unifies as unified_to, writes, sets, decides}
 use Rattle.plbuiltin.specs.Terms.{is_none}
 use Rattle.plsearch.specs.Types.{Fail, Kind, Commit, Never, Until, Collect, Look, Await, Goal, Marker, Raise, Asking, Element, Local, Move, Give}
 use Rattle.plsearch.specs.Lists.{bind_kind, bind_goals}
@@ -87,6 +87,10 @@ offer-writes bytes settings p es n w =
 -- one that is true, and writes nothing
 pub offer-succeeds : (settings : Settings) (p : Indicator) (es : List Element) (n : ℕ) (w : Local) → w.settings ≡ settings → go_on es n w ≡ offer (writes [] settings) p es n w
 offer-succeeds settings p es n w same = ap₂ (λ o x. go_on es n (record w { out = o; settings = x })) (sym (append-nil w.out)) same ∙ offer-writes [] settings p es n w
+
+-- one that is true, and changes the settings
+pub offer-sets : (settings : Settings) (p : Indicator) (es : List Element) (n : ℕ) (w : Local) → go_on es n (record w { settings = settings }) ≡ offer (sets settings) p es n w
+offer-sets settings p es n w = ap (λ o. go_on es n (record w { out = o; settings = settings })) (sym (append-nil w.out)) ∙ offer-writes [] settings p es n w
 
 -- one that has no solution
 pub offer-fails : (settings : Settings) (p : Indicator) (es : List Element) (n : ℕ) (w : Local) → w.settings ≡ settings → ◌≡◌ {A = Move} (Give Fail w) (offer (fails settings) p es n w)

@@ -27,6 +27,7 @@ use plnames::kind::BuiltIn;
 use plpredicates::answer::Answer;
 use plpredicates::built_in::answers;
 use plprogram::program::Program;
+use plprogram::settings::Settings;
 use plterm::term::Term;
 use std::alloc::AllocError;
 
@@ -63,6 +64,10 @@ impl Machine {
             Answer::Equals(v, number) => self.equal(program, v, number, rest),
             Answer::Solves(equation) => self.solve_equation(program, equation, rest),
             Answer::Writes(bytes) => self.write_bytes(program, &bytes, rest),
+            Answer::Sets(settings) => {
+                self.set(program, settings, rest);
+                Ok(())
+            }
         }
     }
 
@@ -194,5 +199,14 @@ impl Machine {
         self.out.extend_from_slice(bytes)?;
         self.go_on(rest);
         Ok(())
+    }
+
+    /// Takes other operators and flags, and goes on.
+    fn set(&mut self, program: &Program, settings: Settings, rest: Continuation)
+        requires { IsList self.old.stack rest }
+        ensures { Moved program.now self.old self.new (went_on (goals_of self.old.stack rest) self.old.stack.env.count (record (local_of self.old) { settings = settings })) }
+    {
+        self.settings = settings;
+        self.go_on(rest);
     }
 }

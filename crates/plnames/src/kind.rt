@@ -187,6 +187,17 @@ pub enum Output {
     PutCharacter,
     /// tab/1.
     Tab,
+    /// format/1 and format/2.
+    Format,
+}
+
+/// A built-in predicate on the operators and the flags (8.14.3, 8.17).
+#[derive(Clone, Copy, Debug, PartialEq, Eq)]
+pub enum Flags {
+    /// op/3.
+    Operator,
+    /// set_prolog_flag/2.
+    Set,
 }
 
 /// A built-in predicate, by its topic.
@@ -200,6 +211,7 @@ pub enum BuiltIn {
     Sorting(Sorting),
     Atoms(Atoms),
     Output(Output),
+    Flags(Flags),
 }
 
 /// What a name with an arity is, if it is fixed.

@@ -1,8 +1,8 @@
 //! The table of names.
 
 use crate::kind::{
-    Arithmetic, Atoms, BuiltIn, Comparison, Control, Kind, Order, Output, Parts, Relation, Sorting,
-    Spelling, Terms, Tests,
+    Arithmetic, Atoms, BuiltIn, Comparison, Control, Flags, Kind, Order, Output, Parts, Relation,
+    Sorting, Spelling, Terms, Tests,
 };
 
 /// What each name with an arity is. No program can change or define these procedures (ISO/IEC 13211-1 7.5.2).
@@ -201,4 +201,12 @@ pub static ROWS: &[(&str, u16, Kind)] = &[
         Kind::BuiltIn(BuiltIn::Output(Output::PutCharacter)),
     ),
     ("tab", 1, Kind::BuiltIn(BuiltIn::Output(Output::Tab))),
+    ("format", 1, Kind::BuiltIn(BuiltIn::Output(Output::Format))),
+    ("format", 2, Kind::BuiltIn(BuiltIn::Output(Output::Format))),
+    ("op", 3, Kind::BuiltIn(BuiltIn::Flags(Flags::Operator))),
+    (
+        "set_prolog_flag",
+        2,
+        Kind::BuiltIn(BuiltIn::Flags(Flags::Set)),
+    ),
 ];

@@ -6,3 +6,5 @@ pub mod Numbered
 pub mod Arguments
 pub mod Spelled
 pub mod Forwarding
+pub mod Named
+pub mod Formatted

@@ -2,6 +2,7 @@
 
 use plcells::cell::Cell;
 use plcells::equation::Equation;
+use plprogram::settings::Settings;
 use plterm::term::Term;
 
 /// What a call of a built-in predicate comes to.
@@ -23,4 +24,6 @@ pub enum Answer {
     Solves(Equation),
     /// It is true once these bytes are written.
     Writes(Vec<u8>),
+    /// It is true, and these are the operators and flags from then on.
+    Sets(Settings),
 }

@@ -7,6 +7,7 @@ ghost use Rattle.plpredicates.specs.Answers.{IsThere, meant};
 use crate::answer::Answer;
 use crate::arithmetic::arithmetic_answer;
 use crate::atoms::atoms_answer;
+use crate::flags::flags_answer;
 use crate::order::order_answer;
 use crate::output::output_answer;
 use crate::parts::parts_answer;
@@ -41,5 +42,6 @@ pub fn answers(
         BuiltIn::Sorting(b) => sorting_answer(alloc, heap, b, args),
         BuiltIn::Atoms(b) => atoms_answer(alloc, heap, b, args),
         BuiltIn::Output(b) => output_answer(alloc, heap, settings, b, args),
+        BuiltIn::Flags(b) => flags_answer(alloc, heap, settings, b, args),
     }
 }

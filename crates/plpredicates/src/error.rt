@@ -1,8 +1,9 @@
 //! The errors that built-in predicates raise (ISO/IEC 13211-1 7.12.2).
-ghost use Rattle.std.specs.Prelude.{◌≡◌, IfOk};
+ghost use Rattle.std.specs.Prelude.{◌≡◌, codes, IfOk};
 ghost use Rattle.plterm.specs.Tree.{atom, compound, none, more};
 ghost use Rattle.plcells.specs.Store.{value, IsValue};
-ghost use Rattle.plbuiltin.specs.Errors.{instantiation_error, type_error, domain_error, representation_error, syntax_error};
+ghost use Rattle.plbuiltin.specs.Errors.{instantiation_error, type_error, domain_error, permission_error, representation_error, syntax_error};
+ghost use Rattle.plbuiltin.specs.Flags.{flag_and_value};
 
 use crate::answer::Answer;
 use plcells::cell::Cell;
@@ -72,6 +73,44 @@ pub(crate) fn domain_error(alloc: Global, domain: &str, culprit: Term) -> Result
     ensures { IfOk result (λ t. t ≡ domain_error domain.now culprit) }
 {
     error(alloc, "domain_error", domain, culprit)
+}
+
+/// A flag does not have a value.
+pub(crate) fn value_error(
+    alloc: Global,
+    heap: &Heap,
+    flag: Cell,
+    v: Cell,
+) -> Result<Term, AllocError>
+    requires flag { IsValue heap.now flag }
+    requires value { IsValue heap.now v }
+    ensures { IfOk result (λ t. t ≡ domain_error (codes "flag_value") (flag_and_value (value heap.now flag) (value heap.now v))) }
+{
+    let flag = heap.take(alloc, flag)?;
+    let value = heap.take(alloc, v)?;
+    let plus = Name::new(alloc, "+")?;
+    match Term::compound(alloc, plus, vec![in alloc; flag, value]?) {
+        Ok(culprit) => domain_error(alloc, "flag_value", culprit),
+        Err(_) => Err(AllocError),
+    }
+}
+
+/// What is asked for may not be done to this.
+pub(crate) fn permission_error(
+    alloc: Global,
+    action: &str,
+    kind: &str,
+    culprit: Term,
+) -> Result<Term, AllocError>
+    ensures { IfOk result (λ t. t ≡ permission_error action.now kind.now culprit) }
+{
+    let action = atom(alloc, action)?;
+    let kind = atom(alloc, kind)?;
+    let name = Name::new(alloc, "permission_error")?;
+    match Term::compound(alloc, name, vec![in alloc; action, kind, culprit]?) {
+        Ok(term) => Ok(term),
+        Err(_) => Err(AllocError),
+    }
 }
 
 /// A limit of what can be represented was met.

@@ -10,6 +10,8 @@ mod build;
 pub mod built_in;
 pub mod equation;
 pub mod error;
+mod flags;
+mod format;
 pub mod list;
 mod order;
 mod output;

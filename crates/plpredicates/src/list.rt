@@ -1,7 +1,8 @@
 //! The terms of values as lists (ISO/IEC 13211-1 6.3.5).
 ghost use Rattle.std.specs.Prelude.{◌≡◌, map, IfOk, IfSome, IfNone};
 ghost use Rattle.plcells.specs.Store.{value, IsValue, AreValues};
-ghost use Rattle.plbuiltin.specs.Lists.{elements_of as elements_in_term, ends, may_be_list, checked as checked_of};
+ghost use Rattle.plbuiltin.specs.Lists.{elements_of as elements_in_term, ends, may_be_list, checked as checked_of, is_variable as is_variable_of, is_partial as is_partial_of};
+ghost use Rattle.std.specs.List.{list_any};
 ghost use Rattle.plpredicates.specs.Lists.{tail_as, tail_at, IsCell, AreThere, checked_as};
 
 use crate::error::{instantiation_error, type_error};
@@ -121,4 +122,33 @@ pub(crate) fn whole_list(alloc: Global, heap: &Heap, v: Cell) -> Result<Checked,
         Tail::Unbound => Ok(Checked::Amiss(instantiation_error(alloc)?)),
         Tail::Other => Ok(Checked::Amiss(type_error(alloc, heap, "list", v)?)),
     }
+}
+
+/// Whether a value is an unbound variable.
+pub(crate) fn is_variable(heap: &Heap, v: Cell) -> bool
+    requires { IsValue heap.now v }
+    ensures { result ≡ is_variable_of (value heap.now v) }
+{
+    matches!(shape_of(heap, v), Shape::Variable(_))
+}
+
+/// Whether the end of a list or one of its elements is an unbound variable.
+pub(crate) fn is_partial(heap: &Heap, list: &Elements) -> bool
+    requires { AreValues heap.now list.now.items.items }
+    ensures { result ≡ is_partial_of (record { items = map (value heap.now) list.now.items.items; tail = tail_as list.now.tail }) }
+{
+    matches!(list.tail, Tail::Unbound) || any_variable(heap, &list.items)
+}
+
+/// Whether one of some values is an unbound variable.
+fn any_variable(heap: &Heap, items: &[Cell]) -> bool
+    requires { AreValues heap.now items.now }
+    ensures { result ≡ list_any is_variable_of (map (value heap.now) items.now) }
+{
+    for v in items {
+        if is_variable(heap, *v) {
+            return true;
+        }
+    }
+    false
 }

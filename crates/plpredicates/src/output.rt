@@ -10,6 +10,7 @@ ghost use Rattle.plbuiltin.specs.Texts.{character_of as character_in};
 ghost use Rattle.plpredicates.specs.Answers.{IsThere, meant};
 
 use crate::answer::Answer;
+use crate::format::format;
 use crate::text::character_of;
 use plarith::value::eval;
 use plcells::cell::Cell;
@@ -41,6 +42,10 @@ pub(crate) fn output_answer(
         (Output::Flush, []) => Ok(Answer::Succeeds),
         (Output::PutCharacter, [c]) => put_character(alloc, heap, *c),
         (Output::Tab, [e]) => tab(alloc, heap, *e),
+        (Output::Format, [control]) => format(alloc, heap, settings, *control, None),
+        (Output::Format, [control, values]) => {
+            format(alloc, heap, settings, *control, Some(*values))
+        }
         _ => Ok(Answer::Fails),
     }
 }

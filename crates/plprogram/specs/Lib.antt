@@ -1,3 +1,4 @@
 pub mod Settings
+pub mod Changes
 pub mod Program
 pub mod Library

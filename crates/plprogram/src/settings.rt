@@ -1,7 +1,9 @@
 //! The operators and the flags.
 ghost use Rattle.std.specs.Prelude.{◌≡◌, IfOk};
 ghost use Rattle.plprogram.specs.Settings.{iso_settings};
+ghost use Rattle.plprogram.specs.Changes.{with_flag};
 
+use crate::change::Flag;
 use plops::flag::Quotes;
 use plops::table::OpTable;
 use std::alloc::{AllocError, Global};
@@ -47,5 +49,15 @@ impl Settings {
             quotes: self.quotes,
             unknown: self.unknown,
         })
+    }
+
+    /// Sets a flag.
+    pub fn set(&mut self, flag: Flag)
+        ensures { self.new ≡ with_flag flag self.old }
+    {
+        match flag {
+            Flag::Quotes(quotes) => self.quotes = quotes,
+            Flag::Unknown(unknown) => self.unknown = unknown,
+        }
     }
 }

@@ -16,7 +16,7 @@ use Rattle.plmachine.specs.declared.machine.Outcome.TheVariants as outcomes
 use Rattle.plmachine.specs.Machine.{local_of}
 use Rattle.plmachine.proofs.Lists.{holds-list, lengthened-grown, lengthened-same}
 use Rattle.plmachine.proofs.Moves.{went, gave, moved-as, on_ok_map}
-use Rattle.plmachine.proofs.Offers.{offer-writes, offer-succeeds, offer-fails, offer-unifies, offer-solves}
+use Rattle.plmachine.proofs.Offers.{offer-writes, offer-succeeds, offer-sets, offer-fails, offer-unifies, offer-solves}
 use Rattle.plmachine.proofs.machine.Machine.built_in.Goals as goal
 
 pub returns-in-Raises-clause-ok : goal.returns-in-Raises-clause-ok
@@ -102,3 +102,13 @@ returns-in-Writes-clause-ok c t stands =
     let heap = c.heap-heap.ensures.is ∙ ap (λ e. e.heap) c.env.ensures in
     let is = ap (λ bytes. writes bytes s.settings) c.deref-in-Writes.ensures.value ∙ ap (meant c.heap-heap.result.now s.settings n) (sym c.in-Writes.is) ∙ c.in_ok-error.ensures.is n ∙ ap₂ (λ h xs. solutions c.args.b (map (value h) xs) s.settings n) heap c.deref.ensures.value in
     on_ok_map c.write_bytes.result (moved-as c.args.program.now s c.write_bytes.new.self _ _ (offer-writes c.deref-in-Writes.result.now s.settings p es n (local_of s) ∙ ap (λ x. offer x p es n (local_of s)) is)) c.write_bytes.ensures.ok
+
+pub returns-in-Sets-clause-ok : goal.returns-in-Sets-clause-ok
+returns-in-Sets-clause-ok c t stands =
+    let s = c.args.self.now in
+    let n = s.stack.env.count in
+    let p = indicator t in
+    let es = goals_of s.stack c.args.rest in
+    let heap = c.heap-heap.ensures.is ∙ ap (λ e. e.heap) c.env.ensures in
+    let is = ap (meant c.heap-heap.result.now s.settings n) (sym c.in-Sets.is) ∙ c.in_ok-error.ensures.is n ∙ ap₂ (λ h xs. solutions c.args.b (map (value h) xs) s.settings n) heap c.deref.ensures.value in
+    moved-as c.args.program.now s c.set.new.self _ _ (offer-sets c.in-Sets.settings p es n (local_of s) ∙ ap (λ x. offer x p es n (local_of s)) is) c.set.ensures

@@ -1,0 +1,32 @@
+-- The pieces of a format, and what they make of its arguments, taken from the left.
+use Rattle.std.proofs.Common.{◌≡◌, ℕ, List, [], ◌∷◌, ◌++◌, Ok, Err, refl, sym, ap, ◌∙◌}
+use Rattle.std.proofs.lemmas.List.{append_assoc, append-nil}
+use Rattle.plterm.specs.Tree.{Tree}
+use Rattle.plprogram.specs.declared.settings.Settings.{Settings}
+use Rattle.plbuiltin.specs.Format.{Directive, Piece, Byte, Takes, argument_text, formatted, joined}
+use Rattle.plbuiltin.specs.Texts.{Found}
+
+pub joined_none : (r : Found (List ℕ)) → r ≡ joined (Ok []) r
+joined_none (Ok text) = refl
+joined_none (Err e) = refl
+
+pub joined_more : (text more : List ℕ) (r : Found (List ℕ)) → joined (Ok text) (joined (Ok more) r) ≡ joined (Ok (text ++ more)) r
+joined_more text more (Ok rest) = ap Ok (sym (append_assoc text more rest))
+joined_more text more (Err e) = refl
+
+module _ (s : Settings) (f a : Tree) (all : Found (List ℕ)) (text : List ℕ) (ps : List Piece) (ts : List Tree) where
+  -- one more byte
+  pub one_byte : (c : ℕ) → all ≡ joined (Ok text) (formatted s f a (Byte c ∷ ps) ts) → all ≡ joined (Ok (text ++ c ∷ [])) (formatted s f a ps ts)
+  one_byte c so_far = so_far ∙ joined_more text (c ∷ []) (formatted s f a ps ts)
+
+  -- one more argument
+  pub one_argument : (d : Directive) (t : Tree) (more : List ℕ) → all ≡ joined (Ok text) (formatted s f a (Takes d ∷ ps) (t ∷ ts)) → argument_text d t s ≡ Ok more →
+      all ≡ joined (Ok (text ++ more)) (formatted s f a ps ts)
+  one_argument d t more so_far is = so_far ∙ ap (λ r. joined (Ok text) (joined r (formatted s f a ps ts))) is ∙ joined_more text more (formatted s f a ps ts)
+
+  -- the error of an argument
+  pub bad_argument : (d : Directive) (t e : Tree) → all ≡ joined (Ok text) (formatted s f a (Takes d ∷ ps) (t ∷ ts)) → argument_text d t s ≡ Err e → all ≡ Err e
+  bad_argument d t e so_far is = so_far ∙ ap (λ r. joined (Ok text) (joined r (formatted s f a ps ts))) is
+
+pub all_formatted : (all : Found (List ℕ)) (text : List ℕ) → all ≡ joined (Ok text) (Ok []) → all ≡ Ok text
+all_formatted all text so_far = so_far ∙ ap Ok (append-nil text)
