@@ -8,20 +8,17 @@ const FOUND: [Goal; 46] = [
     ("findall(a, true, L), writeq(L)", "[a]"),
     ("findall(X-X, member(X, [1, 2]), L), writeq(L)", "[1-1,2-2]"),
     // The variables of a copy are new, and those of two copies are apart.
-    ("findall(X-Y, member(X, [1, 2]), L), writeq(L)", "[1-_1,2-_2]"),
+    (
+        "findall(X-Y, member(X, [1, 2]), L), writeq(L)",
+        "[1-_1,2-_2]",
+    ),
     (
         "findall(Y, member(_, [1, 2]), [A, B]), A = a, writeq(A/B)",
         "a/_1",
     ),
-    (
-        "findall(f(Y, Z, Y), true, [T]), writeq(T)",
-        "f(_1,_2,_1)",
-    ),
+    ("findall(f(Y, Z, Y), true, [T]), writeq(T)", "f(_1,_2,_1)"),
     // What the goal binds is undone.
-    (
-        "findall(X, (X = 1 ; X = 2), L), var(X), writeq(L)",
-        "[1,2]",
-    ),
+    ("findall(X, (X = 1 ; X = 2), L), var(X), writeq(L)", "[1,2]"),
     ("Y = b, findall(X-Y, X = a, L), writeq(L)", "[a-b]"),
     // The list may be given in full or in part.
     ("findall(X, member(X, [1, 2]), [1, 2]), write(yes)", "yes"),
@@ -31,7 +28,10 @@ const FOUND: [Goal; 46] = [
     ("findall(X, member(X, [1, 2]), [2|_]) ; write(no)", "no"),
     ("findall(X, member(X, [1, 2]), []) ; write(no)", "no"),
     ("findall(X, fail, []), write(yes)", "yes"),
-    ("findall(X, member(X, [f(Y), f(b)]), [f(a)|T]), writeq(Y/T)", "_1/[f(b)]"),
+    (
+        "findall(X, member(X, [f(Y), f(b)]), [f(a)|T]), writeq(Y/T)",
+        "_1/[f(b)]",
+    ),
     // It succeeds once.
     (
         "findall(X, member(X, [1, 2]), L), writeq(L), fail ; write(end)",
@@ -51,7 +51,10 @@ const FOUND: [Goal; 46] = [
         "[1,2]",
     ),
     // The goal is run as by call/1.
-    ("G = member(X, [1, 2]), findall(X, G, L), writeq(L)", "[1,2]"),
+    (
+        "G = member(X, [1, 2]), findall(X, G, L), writeq(L)",
+        "[1,2]",
+    ),
     ("findall(X, (member(X, [1, 2, 3]), !), L), writeq(L)", "[1]"),
     (
         "findall(X, ((X = 1 ; X = 2), \\+ X = 1), L), writeq(L)",
@@ -109,7 +112,10 @@ const FOUND: [Goal; 46] = [
     ),
     // Errors: what is to be the list is looked at first, and then the goal.
     ("findall(X, true, foo)", "type_error(list,foo) of findall/3"),
-    ("findall(X, true, [a|foo])", "type_error(list,[a|foo]) of findall/3"),
+    (
+        "findall(X, true, [a|foo])",
+        "type_error(list,[a|foo]) of findall/3",
+    ),
     ("findall(X, G, foo)", "type_error(list,foo) of findall/3"),
     ("findall(X, G, L)", "instantiation_error of findall/3"),
     ("findall(X, 7, L)", "type_error(callable,7) of findall/3"),
@@ -121,7 +127,10 @@ const FOUND: [Goal; 46] = [
         "findall(X, (member(X, [1]), atom_length(X, _)), L)",
         "type_error(atom,1) of atom_length/2",
     ),
-    ("findall(X, nothing(X), L)", "existence_error(procedure,nothing/1) of nothing/1"),
+    (
+        "findall(X, nothing(X), L)",
+        "existence_error(procedure,nothing/1) of nothing/1",
+    ),
 ];
 
 #[test]

@@ -1,5 +1,7 @@
 -- Copies that are put one after another, and their list.
-use Rattle.std.proofs.Common.{◌≡◌, ℕ, suc, ◌+◌, Bool, true, false, if◌then◌else◌, List, [], ◌∷◌, ◌++◌, length, map, refl, sym, ap, ap₂, ◌∙◌, subst, arith}
+use Rattle.std.specs.Prelude.{Result as Outcomes}
+use Rattle.std.specs.declared.alloc.AllocError.{AllocError}
+use Rattle.std.proofs.Common.{◌≡◌, ℕ, ◌+◌, Bool, true, false, Ok, Err, IfOk, OnErr, None, List, [], ◌∷◌, ◌++◌, length, map, refl, sym, ap, ap₂, ◌∙◌, subst, arith}
 use Rattle.plterm.specs.Tree.{Tree}
 use Rattle.plterm.specs.Variables.{copied, variables}
 use Rattle.plsubst.specs.Unify.{unify}
@@ -8,19 +10,11 @@ use Rattle.plcells.specs.declared.equation.Equation.{Equation}
 use Rattle.plcells.specs.Store.{Store, value, IsValue, AreValues}
 use Rattle.plcells.specs.Equations.{left_of, right_of}
 use Rattle.plread.specs.Texts.{listed}
-use Rattle.plprogram.specs.Program.{Program}
-use Rattle.plbuiltin.specs.Errors.{type_error}
-use Rattle.plbuiltin.specs.Lists.{may_be_list}
-use Rattle.std.specs.Prelude.{codes}
-use Rattle.plsearch.specs.Types.{Kept, Collect, Marker, Element, Local, Move}
-use Rattle.plsearch.specs.Running.{runnable}
-use Rattle.plsearch.specs.Rows.{finding, findall_3, gathering, raised, run}
+use Rattle.plsearch.specs.Types.{Kept}
 use Rattle.plsearch.specs.Lists.{bind_goals}
 use Rattle.plsearch.specs.Collecting.{count_new, renumbered}
 use Rattle.plstack.specs.State.{State, Extends, Solves}
 use Rattle.plstack.proofs.Growing.{extends_same}
-use Rattle.plmachine.specs.declared.machine.Machine.{Machine as Reached}
-use Rattle.plmachine.specs.Machine.{Moved}
 use Rattle.plmachine.specs.Gathering.{copies_in, Gathers}
 use Rattle.plmachine.proofs.Lists.{extends-trans}
 
@@ -92,13 +86,21 @@ gathers old put new l ts vs e fits p left right none s = record {
   code = s.code ∙ p.stays.code;
 }
 
--- findall/3, where its list may be one, and where it can't
-module _ (P : Program) (s new : Reached) (t g l : Tree) (d : ℕ) (es : List Element) (n : ℕ) (w : Local) where
-  abbrev of : Bool → Move
-  of b = if b then run (runnable g) findall_3 (gathering l es n ∷ []) (suc d) (Marker (Collect t) d ∷ es) n w else raised (type_error (codes "list") l) findall_3 es w
+module _ (old put new : State) (l : Cell) (ts : List Tree) (vs : List Cell) (e : Equation) (fits : IsValue old.env.heap l) (p : Puts old put ts vs) (left : left_of put.env.heap put.env.count e ≡ value put.env.heap l)
+    (right : right_of put.env.heap put.env.count e ≡ listed (map (value put.env.heap) vs)) (none : e.new ≡ 0) where
+  pub gathers-yes : (r : Outcomes Bool AllocError) → IfOk r (λ so. so ≡ true → Solves put new e) → IfOk r (λ so. so ≡ true → Gathers old new (value old.env.heap l) ts)
+  gathers-yes (Ok answer) solved = λ so. gathers old put new l ts vs e fits p left right none (solved so)
+  gathers-yes (Err x) solved = tt
 
-  pub found : may_be_list l ≡ true → Moved P s new (run (runnable g) findall_3 (gathering l es n ∷ []) (suc d) (Marker (Collect t) d ∷ es) n w) → Moved P s new (finding t g l d es n w)
-  found is m = subst (λ b. Moved P s new (of b)) (sym is) m
+  pub gathers-no : (r : Outcomes Bool AllocError) → IfOk r (λ so. so ≡ false → unify (left_of put.env.heap put.env.count e) (right_of put.env.heap put.env.count e) ≡ None) →
+      IfOk r (λ so. so ≡ false → unify (value old.env.heap l) (listed (renumbered old.env.count ts)) ≡ None)
+  gathers-no (Ok answer) not = λ no. ap₂ unify (sym (p.stays.values l fits).1 ∙ sym left) (sym (ap listed p.are) ∙ sym right) ∙ not no
+  gathers-no (Err x) not = tt
 
-  pub unfound : may_be_list l ≡ false → Moved P s new (raised (type_error (codes "list") l) findall_3 es w) → Moved P s new (finding t g l d es n w)
-  unfound is m = subst (λ b. Moved P s new (of b)) (sym is) m
+  pub gathers-same : (r : Outcomes Bool AllocError) → IfOk r (λ so. so ≡ false → Extends put new × (new.env.count ≡ put.env.count)) → IfOk r (λ so. so ≡ false → Extends old new)
+  gathers-same (Ok answer) same = λ no. extends-trans old put new p.stays (same no).0
+  gathers-same (Err x) same = tt
+
+  pub gathers-err : (r : Outcomes Bool AllocError) → OnErr r (Extends put new × (new.env.count ≡ put.env.count)) → OnErr r (Extends old new)
+  gathers-err (Ok answer) err = tt
+  gathers-err (Err x) err = extends-trans old put new p.stays err.0

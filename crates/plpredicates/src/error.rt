@@ -55,12 +55,7 @@ pub(crate) fn instantiation_error(alloc: Global) -> Result<Term, AllocError>
 }
 
 /// The term of a value is of another type.
-pub fn type_error(
-    alloc: Global,
-    heap: &Heap,
-    kind: &str,
-    v: Cell,
-) -> Result<Term, AllocError>
+pub fn type_error(alloc: Global, heap: &Heap, kind: &str, v: Cell) -> Result<Term, AllocError>
     requires { IsValue heap.now v }
     ensures { IfOk result (λ t. t ≡ type_error kind.now (value heap.now v)) }
 {

@@ -298,6 +298,7 @@ outs_asking P d (Choice [] ∷ cs) q run = outs_asking P d cs q run
 outs_asking P d (Choice (p ∷ ps) ∷ cs) q run = outs_asking P d cs q run
 outs_asking P d (Mark l ∷ cs) q run = outs_asking P d cs q run
 outs_asking P d (Handle (Catch c r) p ∷ cs) q run = outs_asking P d cs q run
+outs_asking P d (Handle (Gather l) p ∷ cs) q run = outs_asking P d cs q run
 
 outs_halted : (P : Program) (d : ℕ) (cs : List Case) (i : ℕ) (run : Run) → outs (Visit P) d cs (Halted i, run) ≡ (Halted i, run)
 unfolding outs out choice resume
@@ -306,6 +307,7 @@ outs_halted P d (Choice [] ∷ cs) i run = outs_halted P d cs i run
 outs_halted P d (Choice (p ∷ ps) ∷ cs) i run = outs_halted P d cs i run
 outs_halted P d (Mark l ∷ cs) i run = outs_halted P d cs i run
 outs_halted P d (Handle (Catch c r) p ∷ cs) i run = outs_halted P d cs i run
+outs_halted P d (Handle (Gather l) p ∷ cs) i run = outs_halted P d cs i run
 
 at_no_back : (p : Place) (r : Result) → At p ≡ Back r → ⊥
 at_no_back p r is = cc

@@ -10,6 +10,4 @@ mod made;
 #[cfg(test)]
 mod stores;
 #[cfg(test)]
-mod walks;
-#[cfg(test)]
 mod worlds;

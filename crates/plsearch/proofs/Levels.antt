@@ -325,7 +325,7 @@ module _ (C N : Levels) (d : ℕ) (holds : Holds N d) where
   finding-allowed t g l rest n w all =
       one-of (may_be_list l) _ (raised (type_error (codes "list") l) findall_3 rest w)
       (in-gatherer l rest (first_of (runnable g) _ (suc d) ∷ Marker (Collect t) d ∷ rest) n w all
-          (first-allowed (runnable g) _ (also C (suc d)) (suc d) (Marker (Collect t) d ∷ rest) (also-it C (suc d)) ((tt, holds d (omega arith)), allow-more C N (suc d) rest all)))
+      (first-allowed (runnable g) _ (also C (suc d)) (suc d) (Marker (Collect t) d ∷ rest) (also-it C (suc d)) ((tt, holds d (omega arith)), allow-more C N (suc d) rest all)))
       (raises _ _ rest w all)
 
   row-allowed : (P : Program) (c : Form) (k : ℕ) (t : Tree) (rest : List Element) (n : ℕ) (w : Local) → C k ≡ true → AllAllow C N rest → MoveAllows C N d (row P c k t d rest n w)

@@ -7,7 +7,7 @@ use Rattle.plsubst.specs.Unify.{unify}
 use Rattle.plcells.specs.declared.cell.Cell.{Cell}
 use Rattle.plcells.specs.Store.{IsValue, value}
 use Rattle.plprogram.specs.Program.{Program}
-use Rattle.plsearch.specs.Types.{Goal, Element, Case, Throw, Kept}
+use Rattle.plsearch.specs.Types.{Goal, Element, Case, Choice, Throw, Kept}
 use Rattle.plsearch.specs.Collecting.{dropped, kept_below}
 use Rattle.plsearch.specs.Errors.{error_term}
 use Rattle.plsearch.specs.Lists.{levels, bind_goals}
@@ -45,7 +45,7 @@ pub closed-below : (statics : Statics) (s new : State) (h : Case) (below : List 
 closed-below statics s new h below None some none was = let e : h ∷ below ≡ [] = sym was ∙ none statics in absurd cc
 closed-below statics s new h below (Some closes.Choice) some none was = tail_is _ h _ below (sym (some statics).1 ∙ was)
 closed-below statics s new h below (Some (closes.Mark l)) some none was = tail_is _ h _ below (sym (some statics) ∙ was)
-closed-below statics s new h below (Some closes.Handler) some none was = tail_is _ h _ below (sym (some statics).2.0 ∙ was)
+closed-below statics s new h below (Some closes.Handler) some none was = tail_is _ h _ below (sym (some statics).2 ∙ was)
 
 pub rethrows : (P : Program) (s new : Progress) (st : State) (e : Tree) (list : Continuation) (o : Outcome) → result_of o ≡ Throw (copied 0 (error_term e catch_3)) (levels (goals_of s.machine.stack list)) → st.code ≡ s.machine.stack.code →
     ((h : Case) (below : List Case) → cases_in P s.machine ≡ h ∷ below → cases_of (statics_of P) st ≡ below) → new ≡ to s st (modes.Back o) → Rethrown P s new e list
@@ -101,7 +101,7 @@ recovered-runs P s st linked last recovery list goal level made g l runs at e en
       did.place ∙ ap₂ (λ gs n. record { goals = gs; variables = n }) (goals ∙ ap₂ (λ k es. Goal k (value st.env.heap goal) ∷ es) deep rest) count in
       let local : local_of (record s.machine { kept = kept }) ≡ dropped (deeper below 0) (local_of s.machine) =
       ap (λ k. record (local_of s.machine) { kept = k }) (kept_is ∙ ap (λ d. kept_below d s.machine.kept) deep) in
-      machine-is P (record s.machine { stack = last; mode = modes.Visit; kept = kept }) (At (record { goals = gs; variables = s.machine.stack.env.count })) below (dropped (deeper below 0) (local_of s.machine)) (ap At place)
+      machine-is P (record s.machine { stack = last; mode = modes.Visit; kept = kept }) (At (record { goals = gs; variables = s.machine.stack.env.count })) (Choice [] ∷ below) (dropped (deeper below 0) (local_of s.machine)) (ap At place)
       (did.cases (statics_of P) h below (e.cases (statics_of P) ∙ was_st)) local left answers
       ∙ ap (λ x. return below (record { steps = left; answers = answers; local = local_of s.machine }) (recovers x (deeper below 0) (goals_of s.machine.stack list) s.machine.stack.env.count (local_of s.machine))) (sym runs);
 }

@@ -12,7 +12,7 @@ use Rattle.plevent.specs.declared.request.Request.{Request}
 use Rattle.plevent.specs.declared.request.Request.TheVariants.{Start, Publish, Finish, HaltRun}
 use Rattle.plevent.specs.declared.request.Reply.{Reply}
 use Rattle.plprogram.specs.Program.{Program}
-use Rattle.plsearch.specs.Types.{Awaits, Look, Await, Element, Goal, Asking, Place, Case, Choice, Mark, Handle, Catch, Local, Move, Run, Asks}
+use Rattle.plsearch.specs.Types.{Awaits, Look, Await, Element, Goal, Asking, Place, Case, Choice, Mark, Handle, Catch, Gather, Local, Move, Run, Asks}
 use Rattle.plsearch.specs.Forms.{form}
 use Rattle.plsearch.specs.Rows.{select, row, meet}
 use Rattle.plsearch.specs.Replies.{Served, outcome, follows, walk_over, answered}
@@ -150,6 +150,7 @@ asks-out P (Choice [] ∷ cases) q run = asks-out P cases q run
 asks-out P (Choice (p ∷ ps) ∷ cases) q run = asks-out P cases q run
 asks-out P (Mark l ∷ cases) q run = asks-out P cases q run
 asks-out P (Handle (Catch c r) p ∷ cases) q run = asks-out P cases q run
+asks-out P (Handle (Gather l) p ∷ cases) q run = asks-out P cases q run
 
 asks-rest : (P : Program) (cases : List Case) (q : Item) (run : Run) → Rest P (record { mode = Back (Awaits q); cases = cases; run = run }) ≡ (Awaits q, run)
 unfolding Rest

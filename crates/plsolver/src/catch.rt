@@ -59,13 +59,14 @@ impl Progress {
             unreachable!()
         };
         let level = self.machine.stack.level();
-        if self.machine.gather(level, whole)? {
-            self.machine.stack.leave(list);
-            self.machine.mode = Mode::Visit;
-        } else {
-            self.machine.stack.close();
-        }
+        let fits = self.machine.gather(level, whole)?;
         self.machine.kept.drop_from(level);
+        if !fits {
+            self.machine.stack.close();
+            return Ok(());
+        }
+        self.machine.stack.leave(list);
+        self.machine.mode = Mode::Visit;
         Ok(())
     }
 

@@ -7,12 +7,12 @@ ghost use Rattle.plstack.specs.State.{IsList};
 ghost use Rattle.plsolver.specs.Solver.{IsStart, IsEmpty, Starts, StartsGoal};
 
 use plcode::program::ProgramCode;
+use plcollect::collection::Collection;
 use plenv::env::Environment;
 use pllinks::item::Item;
 use pllinks::level::Level;
 use pllinks::link::Continuation;
 use pllinks::list::ListId;
-use plcollect::collection::Collection;
 use plmachine::machine::{Machine, Mode};
 use plprogram::program::Program;
 use plstack::stack::Stack;

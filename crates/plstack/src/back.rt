@@ -59,7 +59,10 @@ impl Stack {
         self.saved.truncate(point.marks.saved);
         self.goals = Continuation::alone(ListId::EMPTY);
         let list = point.list;
-        push_frame(&mut self.frames, Frame::Open(point, Resume::Handle(handler)));
+        push_frame(
+            &mut self.frames,
+            Frame::Open(point, Resume::Handle(handler)),
+        );
         Handling { handler, list }
     }
 

@@ -8,4 +8,4 @@ pub returns : goal.returns
 returns c =
     let P = c.args.program.now in
     is-start P _ c.start_goals.new.stack c.in_ok-list.list (subst (IsProgramCode P) (sym c.start_goals.ensures.code) c.in_ok-stack.ensures.code) (subst (Starts c.start_goals.new.stack c.in_ok-list.list) c.goals.ensures c.in_ok-list.ensures.starts)
-    c.visit.ensures refl c.new.ensures.items (c.in_ok-settings.ensures ∙ c.settings.ensures) c.new-kept.ensures
+    c.visit.ensures refl c.new.ensures.items (c.in_ok-settings.ensures ∙ c.settings.ensures) c.new-2.ensures

@@ -1,18 +1,42 @@
-use Rattle.std.proofs.Common.{◌≡◌, ap, ◌∙◌, subst, refl}
+use Rattle.std.proofs.Common.{◌≡◌, ap, sym, subst, ◌∙◌}
+use Rattle.plsearch.specs.Collecting.{kept_below}
 use Rattle.plstack.specs.State.{cases_of, AtHandler}
 use Rattle.plstack.specs.StaticCalls.{statics_of}
-use Rattle.plstack.specs.declared.frame.Handler.TheVariants as handlers
 use Rattle.plmachine.specs.declared.machine.Outcome.TheVariants as outcomes
+use Rattle.plmachine.specs.declared.machine.Mode.TheVariants as modes
 use Rattle.plmachine.proofs.Moves.{on_err}
+use Rattle.plsolver.specs.Solver.{Stays, Quiet}
 use Rattle.plsolver.proofs.Quiets.{stays-back}
 use Rattle.plsolver.proofs.Catches.{closed-below}
-use Rattle.plsolver.proofs.Gathering.{gathers-it, gathers-other, list-there, handler-there}
+use Rattle.plsolver.proofs.Gathering.{gathers-it, gathers-other}
 use Rattle.plsolver.proofs.progress.Progress.gather.Goals as goal
 
-pub returns-then-branch-clause-ok : goal.returns-then-branch-clause-ok
-returns-then-branch-clause-ok c =
+pub returns-in_err-fits-clause-err : goal.returns-in_err-fits-clause-err
+returns-in_err-fits-clause-err c =
     let s = c.args.self.now in
     let P = c.args.program.now in
-    let here = subst (λ x. AtHandler c.rewind-list.new.self x c.rewind-list.result.list) c.in-Gather.is c.rewind-list.ensures.at in
-    gathers-it P s c.requires.fails c.rewind-list.new.self c.rewind-list.result.list c.in-Gather.whole c.rewind-list.ensures.code c.rewind-list.ensures.cases here c.level-level.result c.level-level.ensures
-    c.gather.new.self.stack (c.in_ok-gather.ensures.yes c.if-branch.true) c.leave.new.self c.drop_from.new.self c.leave.ensures.leaves c.leave.ensures.code c.drop_from.ensures
+    let e = c.in_err-fits.ensures.err in
+    on_err _ (subst (λ m. Stays P s (record s { machine = m })) (sym c.gather.ensures.frame)
+    (stays-back P s c.gather.new.self.stack outcomes.Fail c.requires.fails (e.code ∙ c.rewind-handler.ensures.code) (e.cases (statics_of P) ∙ c.rewind-handler.ensures.cases (statics_of P))))
+
+pub returns-then-not-fits-clause-ok : goal.returns-then-not-fits-clause-ok
+returns-then-not-fits-clause-ok c =
+    let s = c.args.self.now in
+    let P = c.args.program.now in
+    let put = c.gather.new.self.stack in
+    let here = subst (λ x. AtHandler c.rewind-handler.new.self x c.rewind-handler.result.list) c.in-Gather.is c.rewind-handler.ensures.at in
+    subst (λ m. Quiet P s (record s { machine = record m { stack = c.close.new.self; kept = c.drop_from.new.self } })) (sym c.gather.ensures.frame)
+    (gathers-other P s c.requires.fails c.rewind-handler.new.self c.rewind-handler.result.list c.in-Gather.whole c.rewind-handler.ensures.code c.rewind-handler.ensures.cases here c.level-level.result c.level-level.ensures
+    put c.close.new.self c.drop_from.new.self (c.in_ok-fits.ensures.same c.if-not-fits.true) (c.in_ok-fits.ensures.no c.if-not-fits.true)
+    (λ h below was. closed-below (statics_of P) put c.close.new.self h below c.close.result c.close.ensures.some c.close.ensures.none was) c.close.ensures.code
+    (c.drop_from.ensures ∙ ap (λ m. kept_below c.level-level.result m.kept) c.gather.ensures.frame))
+
+pub returns-clause-ok : goal.returns-clause-ok
+returns-clause-ok c =
+    let s = c.args.self.now in
+    let P = c.args.program.now in
+    let here = subst (λ x. AtHandler c.rewind-handler.new.self x c.rewind-handler.result.list) c.in-Gather.is c.rewind-handler.ensures.at in
+    subst (λ m. Quiet P s (record s { machine = record m { stack = c.leave.new.self; mode = modes.Visit; kept = c.drop_from.new.self } })) (sym c.gather.ensures.frame)
+    (gathers-it P s c.requires.fails c.rewind-handler.new.self c.rewind-handler.result.list c.in-Gather.whole c.rewind-handler.ensures.code c.rewind-handler.ensures.cases here c.level-level.result c.level-level.ensures
+    c.gather.new.self.stack (c.in_ok-fits.ensures.yes c.if-not-fits.false) c.leave.new.self c.drop_from.new.self c.leave.ensures.leaves c.leave.ensures.code
+    (c.drop_from.ensures ∙ ap (λ m. kept_below c.level-level.result m.kept) c.gather.ensures.frame))
