@@ -9,5 +9,6 @@ pub mod Arithmetic
 pub mod Order
 pub mod Sorting
 pub mod Atoms
+pub mod Pieces
 pub mod Output
 pub mod Solutions
