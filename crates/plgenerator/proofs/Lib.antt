@@ -1,0 +1,4 @@
+pub mod Offsets
+pub mod Missing
+pub mod Rows
+pub mod Beside
