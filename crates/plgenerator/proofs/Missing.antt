@@ -1,5 +1,5 @@
 -- Solutions that cannot be unified, by one of their terms.
-use Rattle.std.proofs.Common.{◌≡◌, ℕ, ℤ, pos, List, [], ◌∷◌, take, drop, sym, ap, ◌∙◌}
+use Rattle.std.proofs.Common.{◌≡◌, ℕ, ℤ, pos, negsuc, List, [], ◌∷◌, take, drop, sym, ap, ◌∙◌}
 use Rattle.std.specs.Str.{encode_utf8_all}
 use Rattle.plterm.specs.Tree.{Tree, int, atom}
 use Rattle.plsubst.specs.Subst.{bind}
@@ -8,18 +8,25 @@ use Rattle.plsubst.proofs.UnifyUnique.{unify-none}
 use Rattle.plbuiltin.specs.Pieces.{part, split}
 use Rattle.plgenerator.specs.Fitting.{Misses}
 
+magnitude : ℤ → ℕ
+magnitude (pos n) = n
+magnitude (negsuc n) = n
+
+pos-same : {m n : ℕ} → pos m ≡ pos n → m ≡ n
+pos-same e = ap magnitude e
+
 module _ (cs : List ℕ) (b l r : ℕ) (x y z w : Tree) where
-  pub missing-before : (i : ℤ) → x ≡ int i → (pos b ≡ i → ⊥) → Misses (part cs (x ∷ y ∷ z ∷ w ∷ []) b l r)
+  pub missing-before : (n : ℕ) → x ≡ int (pos n) → (b ≡ n → ⊥) → Misses (part cs (x ∷ y ∷ z ∷ w ∷ []) b l r)
   unfolding bind
-  missing-before i is apart = unify-none _ _ (λ τ e. apart (sym (int-number (sym (ap (bind τ) is) ∙ more-head (compound-parts e)))))
+  missing-before n is apart = unify-none _ _ (λ τ e. apart (pos-same (sym (int-number (sym (ap (bind τ) is) ∙ more-head (compound-parts e))))))
 
-  pub missing-length : (i : ℤ) → y ≡ int i → (pos l ≡ i → ⊥) → Misses (part cs (x ∷ y ∷ z ∷ w ∷ []) b l r)
+  pub missing-length : (n : ℕ) → y ≡ int (pos n) → (l ≡ n → ⊥) → Misses (part cs (x ∷ y ∷ z ∷ w ∷ []) b l r)
   unfolding bind
-  missing-length i is apart = unify-none _ _ (λ τ e. apart (sym (int-number (sym (ap (bind τ) is) ∙ more-head (more-tail (compound-parts e))))))
+  missing-length n is apart = unify-none _ _ (λ τ e. apart (pos-same (sym (int-number (sym (ap (bind τ) is) ∙ more-head (more-tail (compound-parts e)))))))
 
-  pub missing-after : (i : ℤ) → z ≡ int i → (pos r ≡ i → ⊥) → Misses (part cs (x ∷ y ∷ z ∷ w ∷ []) b l r)
+  pub missing-after : (n : ℕ) → z ≡ int (pos n) → (r ≡ n → ⊥) → Misses (part cs (x ∷ y ∷ z ∷ w ∷ []) b l r)
   unfolding bind
-  missing-after i is apart = unify-none _ _ (λ τ e. apart (sym (int-number (sym (ap (bind τ) is) ∙ more-head (more-tail (more-tail (compound-parts e)))))))
+  missing-after n is apart = unify-none _ _ (λ τ e. apart (pos-same (sym (int-number (sym (ap (bind τ) is) ∙ more-head (more-tail (more-tail (compound-parts e))))))))
 
   pub missing-text : (s : List ℕ) → w ≡ atom s → (encode_utf8_all (take l (drop b cs)) ≡ s → ⊥) → Misses (part cs (x ∷ y ∷ z ∷ w ∷ []) b l r)
   unfolding bind

@@ -4,7 +4,11 @@
 //! of the arguments, and those that could not be unified with them are passed over.
 #![tactic(auto)]
 
+mod argument;
+mod equation;
+pub mod generator;
 mod part;
 mod split;
 mod text;
 pub mod turn;
+pub mod wanted;
