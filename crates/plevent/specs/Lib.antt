@@ -3,3 +3,4 @@ pub mod Reading
 pub mod Rows
 pub mod Search
 pub mod First
+pub mod Keys

@@ -3,11 +3,13 @@
 #![tactic(auto)]
 
 pub mod act;
+pub mod key;
 pub mod request;
 pub mod standing;
 pub mod update;
 
 pub use act::{Act, Entry};
+pub use key::Key;
 pub use request::{Reply, Request, ThreadEnd};
 pub use standing::{Standing, Thread, Threads};
 pub use update::{Batch, ClauseName, Update};

@@ -1,7 +1,0 @@
-use Rattle.std.proofs.Common.{subst}
-use Rattle.plstore.specs.Rising.{NoneIs}
-use Rattle.plstore.proofs.Visible.{none-named}
-use Rattle.plstore.proofs.tables.visible_after.Goals as goal
-
-pub returns-in-None : goal.returns-in-None
-returns-in-None c = none-named c.args.g c.args.pred.now c.args.name c.args.tables.now.records.items (subst (NoneIs c.args.name) c.as_slice.ensures.value c.in-None.ensures)
