@@ -10,4 +10,6 @@ mod made;
 #[cfg(test)]
 mod stores;
 #[cfg(test)]
+mod walks;
+#[cfg(test)]
 mod worlds;

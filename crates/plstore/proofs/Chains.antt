@@ -1,5 +1,5 @@
 -- The links of a procedure pass all its clauses.
-use Rattle.std.proofs.Common.{◌≡◌, ◌+◌, ◌-◌, refl, sym, ◌∙◌, ap, ap₂, subst, arith, ℕ, suc, zero, ◌<◌, ◌≤◌, Bool, true, false, cond, List, [], ◌∷◌, ◌++◌, Option, Some, None, length, get_or, take, drop, map, reverse, drop-cons, append_assoc}
+use Rattle.std.proofs.Common.{◌≡◌, ◌+◌, ◌-◌, refl, sym, ◌∙◌, ap, ap₂, subst, arith, ℕ, suc, zero, ◌<◌, ◌≤◌, Bool, true, false, cond, List, [], ◌∷◌, ◌++◌, Option, Some, None, length, get_or, take, drop, map, filter, reverse, drop-cons, append_assoc}
 use Rattle.std.specs.Prelude.{◌&&◌}
 use Rattle.std.proofs.Math.Seq.{take-suc, take-length}
 use Rattle.std.proofs.lemmas.List.{append-nil, reverse-append, length-map}
@@ -9,10 +9,12 @@ use Rattle.plterm.specs.declared.indicator.Indicator.{Indicator}
 use Rattle.plevent.specs.Alive.{Living, clauses_of, names_of, add_if, named}
 use Rattle.plterm.specs.Tree.{atom}
 use Rattle.plstore.specs.declared.record.Record.{Record}
+use Rattle.plevent.specs.declared.key.Key.{Key}
 use Rattle.plstore.specs.Kept.{seen, picked, in_front, behind_all, head}
-use Rattle.plstore.specs.Links.{last_below, first_from, fronts, backs, down, up, IsDown, IsUp}
+use Rattle.plstore.specs.Like.{fits, first_like, is_met}
+use Rattle.plstore.specs.Links.{below, onward, last_below, first_from, fronts, backs, down, up, IsDown, IsUp, Marked}
 use Rattle.plstore.proofs.Law.{picked-append, picked-cons, cons_if, own}
-use Rattle.plstore.proofs.Bits.{LastIs, last-some, drop-whole, drop-mark}
+use Rattle.plstore.proofs.Bits.{LastIs, get-in, last-some, drop-whole, drop-mark}
 
 get-map : (t : Record → Bool) (rs : List Record) (i : ℕ) (d : Record) → i < length rs → get_or (map t rs) i false ≡ t (get_or rs i d)
 get-map t [] i d l = absurd (omega arith)
@@ -139,10 +141,6 @@ pub record Down (p : Indicator) (g : ℕ) (rs : List Record) (at : Option ℕ) (
   pub at_is : at ≡ last_below (fronts p rs) below
   pub found : now ++ clauses_of (down p g rs below) ≡ was ++ clauses_of (down p g rs (length rs))
 
-abbrev pub place_after : Option ℕ → ℕ
-place_after None = 0
-place_after (Some i) = suc i
-
 pub front-last : (p : Indicator) (rs : List Record) (n i : ℕ) → last_below (fronts p rs) n ≡ Some i → LastIs (fronts p rs) n i
 front-last p rs n i e = last-some (fronts p rs) n i e
 
@@ -155,12 +153,12 @@ pub down-next : (p : Indicator) (g : ℕ) (rs : List Record) (next : List (Optio
 down-next p g rs next at was now i links w e = links.older i (front-last p rs w.below i (sym w.at_is ∙ e)).here
 
 pub down-smaller : (p : Indicator) (g : ℕ) (rs : List Record) (next : List (Option ℕ)) (at to : Option ℕ) (was now : List Clause) (i : ℕ) → IsDown p rs next → Down p g rs at was now → at ≡ Some i → to ≡ get_or next i None →
-    place_after to < place_after at
+    below to < below at
 down-smaller p g rs next at to was now i links w e t =
     let n : to ≡ last_below (fronts p rs) i = t ∙ down-next p g rs next at was now i links w e in
-    subst (λ a. place_after to < place_after a) (sym e) (by-case to n)
+    subst (λ a. below to < below a) (sym e) (by-case to n)
   where
-    by-case : (to : Option ℕ) → to ≡ last_below (fronts p rs) i → place_after to < suc i
+    by-case : (to : Option ℕ) → to ≡ last_below (fronts p rs) i → below to < suc i
     by-case None n = omega arith
     by-case (Some j) n = let l = (front-last p rs i j (sym n)).within in omega (arith, l)
 
@@ -266,105 +264,143 @@ some-record = record { name = named 0 0; clause = record { head = atom []; body 
 pub up-within : (p : Indicator) (g : ℕ) (rs : List Record) (at : Option ℕ) (was now : List Clause) (i : ℕ) → Up p g rs at was now → at ≡ Some i → i < length rs
 up-within p g rs at was now i w e = (up-is p g rs at was now i some-record w e).within
 
--- a search downward for the first that is seen
-pub record SeekDown (p : Indicator) (g : ℕ) (rs : List Record) (at : Option ℕ) (all : Option ClauseName) : Type 0 where
-  pub below : ℕ
-  pub within : below ≤ length rs
-  pub at_is : at ≡ last_below (fronts p rs) below
-  pub same : head (names_of (down p g rs below)) ≡ all
+-- a mark is that of a record
+mark-within : (t : Record → Bool) (rs : List Record) (i : ℕ) → get_or (map t rs) i false ≡ true → i < length rs
+mark-within t rs i h = let l = get-in (map t rs) i h in omega (arith, l, length-map rs t)
 
-head-cons : (v : Bool) (x : Living) (xs : List Living) → head (names_of (cons_if v x xs)) ≡ cond v (Some x.name) (head (names_of xs))
-head-cons true x xs = refl
-head-cons false x xs = refl
+pub marked-last : (bs : List Bool) (n : ℕ) (o : Option ℕ) → o ≡ last_below bs n → Marked bs o
+marked-last bs n None e = tt
+marked-last bs n (Some i) e = (last-some bs n i (sym e)).here
 
-pub seek-down-within : (p : Indicator) (g : ℕ) (rs : List Record) (at : Option ℕ) (all : Option ClauseName) (i : ℕ) → SeekDown p g rs at all → at ≡ Some i → i < length rs
-seek-down-within p g rs at all i w e = let l = (front-last p rs w.below i (sym w.at_is ∙ e)).within in omega (arith, l, w.within)
+marked-some : (bs : List Bool) (o : Option ℕ) (i : ℕ) → Marked bs o → o ≡ Some i → get_or bs i false ≡ true
+marked-some bs o i m e = subst (Marked bs) e m
 
-seek-down-next : (p : Indicator) (g : ℕ) (rs : List Record) (next : List (Option ℕ)) (at : Option ℕ) (all : Option ClauseName) (i : ℕ) → IsDown p rs next → SeekDown p g rs at all → at ≡ Some i → get_or next i None ≡ last_below (fronts p rs) i
-seek-down-next p g rs next at all i links w e = links.older i (front-last p rs w.below i (sym w.at_is ∙ e)).here
+-- what comes downward from a mark on
+down-mark : (p : Indicator) (g : ℕ) (rs : List Record) (i : ℕ) (d : Record) → get_or (fronts p rs) i false ≡ true →
+    down p g rs (suc i) ≡ cons_if (seen g (get_or rs i d)) (own (get_or rs i d)) (down p g rs i)
+down-mark p g rs i d h = down-step p g rs i d true (mark-within (in_front p) rs i h) h ∙ cons-in (seen g (get_or rs i d)) (own (get_or rs i d)) (down p g rs i)
 
-pub seek-down-smaller : (p : Indicator) (g : ℕ) (rs : List Record) (next : List (Option ℕ)) (at to : Option ℕ) (all : Option ClauseName) (i : ℕ) → IsDown p rs next → SeekDown p g rs at all → at ≡ Some i → to ≡ get_or next i None →
-    place_after to < place_after at
-seek-down-smaller p g rs next at to all i links w e t =
-    let n : to ≡ last_below (fronts p rs) i = t ∙ seek-down-next p g rs next at all i links w e in
-    subst (λ a. place_after to < place_after a) (sym e) (by-case to n)
-  where
-    by-case : (to : Option ℕ) → to ≡ last_below (fronts p rs) i → place_after to < suc i
-    by-case None n = omega arith
-    by-case (Some j) n = let l = (front-last p rs i j (sym n)).within in omega (arith, l)
+pub down-below : (p : Indicator) (g : ℕ) (rs : List Record) (n : ℕ) (o : Option ℕ) → n ≤ length rs → o ≡ last_below (fronts p rs) n → down p g rs (below o) ≡ down p g rs n
+down-below p g rs n None l e = sym (down-none p g rs n l (sym e))
+down-below p g rs n (Some i) l e =
+    let r = get_or rs i some-record in
+    down-mark p g rs i some-record (last-some (fronts p rs) n i (sym e)).here ∙ sym (down-some p g rs n i some-record l (sym e))
 
-seek-down-at : (p : Indicator) (g : ℕ) (rs : List Record) (at : Option ℕ) (all : Option ClauseName) (i : ℕ) (r : Record) (v : Bool) → SeekDown p g rs at all → at ≡ Some i → r ≡ get_or rs i r → seen g r ≡ v →
-    all ≡ cond v (Some r.name) (head (names_of (down p g rs i)))
-seek-down-at p g rs at all i r v w e er ev =
-    sym w.same ∙ ap (λ l. head (names_of l)) (down-some p g rs w.below i r w.within (sym w.at_is ∙ e) ∙ ap₂ (λ q u. cons_if u (own q) (down p g rs i)) (sym er) (ap (seen g) (sym er) ∙ ev))
-    ∙ head-cons v (own r) (down p g rs i)
+up-mark : (p : Indicator) (g : ℕ) (rs : List Record) (i : ℕ) (d : Record) → get_or (backs p rs) i false ≡ true →
+    up p g rs i ≡ cons_if (seen g (get_or rs i d)) (own (get_or rs i d)) (up p g rs (suc i))
+up-mark p g rs i d h = up-step p g rs i d true (mark-within (behind_all p) rs i h) h ∙ cons-in (seen g (get_or rs i d)) (own (get_or rs i d)) (up p g rs (suc i))
 
-pub seek-down-found : (p : Indicator) (g : ℕ) (rs : List Record) (at : Option ℕ) (all : Option ClauseName) (i : ℕ) (r : Record) → SeekDown p g rs at all → at ≡ Some i → r ≡ get_or rs i r → seen g r ≡ true → Some r.name ≡ all
-seek-down-found p g rs at all i r w e er ev = sym (seek-down-at p g rs at all i r true w e er ev)
+pub marked-first : (p : Indicator) (rs : List Record) (m k : ℕ) (o : Option ℕ) → k + m ≡ length rs → o ≡ first_from k (drop k (backs p rs)) → Marked (backs p rs) o
+marked-first p rs m k None s e = tt
+marked-first p rs m k (Some i) s e = (up-some p 0 rs m k i some-record s (sym e)).mark
 
-pub seek-down-more : (p : Indicator) (g : ℕ) (rs : List Record) (next : List (Option ℕ)) (at to : Option ℕ) (all : Option ClauseName) (i : ℕ) (r : Record) → IsDown p rs next → SeekDown p g rs at all → at ≡ Some i → r ≡ get_or rs i r → seen g r ≡ false →
-    to ≡ get_or next i None → SeekDown p g rs to all
-seek-down-more p g rs next at to all i r links w e er ev et = record {
-  below = i;
-  within = let l = seek-down-within p g rs at all i w e in omega (arith, l);
-  at_is = et ∙ seek-down-next p g rs next at all i links w e;
-  same = sym (seek-down-at p g rs at all i r false w e er ev);
-}
+pub up-onward : (p : Indicator) (g : ℕ) (rs : List Record) (m k : ℕ) (o : Option ℕ) → k + m ≡ length rs → o ≡ first_from k (drop k (backs p rs)) → up p g rs (onward (length rs) o) ≡ up p g rs k
+up-onward p g rs m k None s e = ap (picked (behind_all p) g) (drop-records rs (length rs) (omega arith)) ∙ sym (up-none p g rs m k s (sym e))
+up-onward p g rs m k (Some i) s e =
+    let u = up-some p g rs m k i some-record s (sym e) in
+    up-mark p g rs i some-record u.mark ∙ sym u.rest
 
-pub seek-down-over : (p : Indicator) (g : ℕ) (rs : List Record) (at : Option ℕ) (all : Option ClauseName) → SeekDown p g rs at all → ((i : ℕ) → at ≡ Some i → ⊥) → None ≡ all
-seek-down-over p g rs at all w h = ap (λ l. head (names_of l)) (sym (down-none p g rs w.below w.within (sym w.at_is ∙ not-some at h))) ∙ w.same
+-- the first that is sought
+pub like-cons : (k : Key) (v : Bool) (x : Living) (xs : List Living) → first_like k (cons_if v x xs) ≡ cond (v && fits k x) (Some x.name) (first_like k xs)
+like-cons k true x xs = elim (fits k x) as (λ v. head (names_of (cond v (x ∷ filter (fits k) xs) (filter (fits k) xs))) ≡ cond v (Some x.name) (first_like k xs)) [ true ↦ refl | false ↦ refl ]
+like-cons k false x xs = refl
 
--- and upward
-pub record SeekUp (p : Indicator) (g : ℕ) (rs : List Record) (at : Option ℕ) (all : Option ClauseName) : Type 0 where
-  pub from : ℕ
-  pub left : ℕ
-  pub whole : from + left ≡ length rs
-  pub at_is : at ≡ first_from from (drop from (backs p rs))
-  pub same : head (names_of (up p g rs from)) ≡ all
+-- a search downward
+pub record SeekDown (p : Indicator) (g : ℕ) (k : Key) (rs : List Record) (at : Option ℕ) (all : Option ClauseName) : Type 0 where
+  pub mark : Marked (fronts p rs) at
+  pub same : first_like k (down p g rs (below at)) ≡ all
 
-seek-up-is : (p : Indicator) (g : ℕ) (rs : List Record) (at : Option ℕ) (all : Option ClauseName) (i : ℕ) (d : Record) → (w : SeekUp p g rs at all) → at ≡ Some i → UpIs p g rs w.from i d
-seek-up-is p g rs at all i d w e = up-some p g rs w.left w.from i d w.whole (sym w.at_is ∙ e)
+module _ (p : Indicator) (g : ℕ) (k : Key) (rs : List Record) (next : List (Option ℕ)) (at to : Option ℕ) (all : Option ClauseName) (i : ℕ) (links : IsDown p rs next) (w : SeekDown p g k rs at all) (e : at ≡ Some i) (t : to ≡ get_or next i None) where
+  seek-down-mark : get_or (fronts p rs) i false ≡ true
+  seek-down-mark = marked-some (fronts p rs) at i w.mark e
 
-pub seek-up-start : (p : Indicator) (g : ℕ) (rs : List Record) (at : Option ℕ) (from : ℕ) → from ≤ length rs → at ≡ first_from from (drop from (backs p rs)) → SeekUp p g rs at (head (names_of (up p g rs from)))
-seek-up-start p g rs at from l e = record { from = from; left = length rs - from; whole = omega arith; at_is = e; same = refl }
+  pub seek-down-within : i < length rs
+  seek-down-within = mark-within (in_front p) rs i seek-down-mark
 
-pub seek-up-within : (p : Indicator) (g : ℕ) (rs : List Record) (at : Option ℕ) (all : Option ClauseName) (i : ℕ) → SeekUp p g rs at all → at ≡ Some i → i < length rs
-seek-up-within p g rs at all i w e = (seek-up-is p g rs at all i some-record w e).within
+  pub seek-down-linked : i < length next
+  seek-down-linked = omega (arith, seek-down-within, links.count)
 
-pub seek-up-smaller : (p : Indicator) (g : ℕ) (rs : List Record) (next : List (Option ℕ)) (at to : Option ℕ) (all : Option ClauseName) (i : ℕ) → IsUp p rs next → SeekUp p g rs at all → at ≡ Some i → to ≡ get_or next i None →
-    left_from (length rs) to < left_from (length rs) at
-seek-up-smaller p g rs next at to all i links w e t =
-    let u = seek-up-is p g rs at all i some-record w e in
-    let n : to ≡ first_from (suc i) (drop (suc i) (backs p rs)) = t ∙ links.newer i u.mark in
-    subst (λ a. left_from (length rs) to < left_from (length rs) a) (sym e) (by-case to n u.within)
-  where
-    by-case : (to : Option ℕ) → to ≡ first_from (suc i) (drop (suc i) (backs p rs)) → i < length rs → left_from (length rs) to < length rs - i
-    by-case None n l = omega arith
-    by-case (Some j) n l =
-        let whole : suc i + (length rs - suc i) ≡ length rs = omega arith in
-        let u = up-some p g rs (length rs - suc i) (suc i) j some-record whole (sym n) in omega (arith, u.above, u.within)
+  seek-down-to : to ≡ last_below (fronts p rs) i
+  seek-down-to = t ∙ links.older i seek-down-mark
 
-seek-up-at : (p : Indicator) (g : ℕ) (rs : List Record) (at : Option ℕ) (all : Option ClauseName) (i : ℕ) (r : Record) (v : Bool) → SeekUp p g rs at all → at ≡ Some i → r ≡ get_or rs i r → seen g r ≡ v →
-    all ≡ cond v (Some r.name) (head (names_of (up p g rs (suc i))))
-seek-up-at p g rs at all i r v w e er ev =
-    let u = seek-up-is p g rs at all i r w e in
-    sym w.same ∙ ap (λ l. head (names_of l)) (u.rest ∙ ap₂ (λ q u. cons_if u (own q) (up p g rs (suc i))) (sym er) (ap (seen g) (sym er) ∙ ev))
-    ∙ head-cons v (own r) (up p g rs (suc i))
+  pub seek-down-smaller : below to < below at
+  seek-down-smaller = subst (λ a. below to < below a) (sym e) (by-case to seek-down-to)
+    where
+      by-case : (to : Option ℕ) → to ≡ last_below (fronts p rs) i → below to < suc i
+      by-case None n = omega arith
+      by-case (Some j) n = let l = (last-some (fronts p rs) i j (sym n)).within in omega (arith, l)
 
-pub seek-up-found : (p : Indicator) (g : ℕ) (rs : List Record) (at : Option ℕ) (all : Option ClauseName) (i : ℕ) (r : Record) → SeekUp p g rs at all → at ≡ Some i → r ≡ get_or rs i r → seen g r ≡ true → Some r.name ≡ all
-seek-up-found p g rs at all i r w e er ev = sym (seek-up-at p g rs at all i r true w e er ev)
+seek-down-at : (p : Indicator) (g : ℕ) (k : Key) (rs : List Record) (at : Option ℕ) (all : Option ClauseName) (i : ℕ) (r : Record) (v : Bool) → SeekDown p g k rs at all → at ≡ Some i → r ≡ get_or rs i r → is_met g k r ≡ v →
+    all ≡ cond v (Some r.name) (first_like k (down p g rs i))
+seek-down-at p g k rs at all i r v w e er ev =
+    sym w.same ∙ ap (λ a. first_like k (down p g rs (below a))) e
+    ∙ ap (first_like k) (down-mark p g rs i r (marked-some (fronts p rs) at i w.mark e) ∙ ap (λ q. cons_if (seen g q) (own q) (down p g rs i)) (sym er))
+    ∙ like-cons k (seen g r) (own r) (down p g rs i) ∙ ap (λ v. cond v (Some r.name) (first_like k (down p g rs i))) ev
 
-pub seek-up-more : (p : Indicator) (g : ℕ) (rs : List Record) (next : List (Option ℕ)) (at to : Option ℕ) (all : Option ClauseName) (i : ℕ) (r : Record) → IsUp p rs next → SeekUp p g rs at all → at ≡ Some i → r ≡ get_or rs i r → seen g r ≡ false →
-    to ≡ get_or next i None → SeekUp p g rs to all
-seek-up-more p g rs next at to all i r links w e er ev et =
-    let u = seek-up-is p g rs at all i r w e in
+pub seek-down-found : (p : Indicator) (g : ℕ) (k : Key) (rs : List Record) (at : Option ℕ) (all : Option ClauseName) (i : ℕ) (r : Record) → SeekDown p g k rs at all → at ≡ Some i → r ≡ get_or rs i r → is_met g k r ≡ true → Some r.name ≡ all
+seek-down-found p g k rs at all i r w e er ev = sym (seek-down-at p g k rs at all i r true w e er ev)
+
+pub seek-down-more : (p : Indicator) (g : ℕ) (k : Key) (rs : List Record) (next : List (Option ℕ)) (at to : Option ℕ) (all : Option ClauseName) (i : ℕ) (r : Record) → IsDown p rs next → SeekDown p g k rs at all → at ≡ Some i → r ≡ get_or rs i r → is_met g k r ≡ false →
+    to ≡ get_or next i None → SeekDown p g k rs to all
+seek-down-more p g k rs next at to all i r links w e er ev et =
+    let l : i ≤ length rs = let l = seek-down-within p g k rs next at to all i links w e et in omega (arith, l) in
+    let t = seek-down-to p g k rs next at to all i links w e et in
     record {
-      from = suc i;
-      left = length rs - suc i;
-      whole = omega (arith, u.within);
-      at_is = et ∙ links.newer i u.mark;
-      same = sym (seek-up-at p g rs at all i r false w e er ev);
+      mark = marked-last (fronts p rs) i to t;
+      same = ap (first_like k) (down-below p g rs i to l t) ∙ sym (seek-down-at p g k rs at all i r false w e er ev);
     }
 
-pub seek-up-over : (p : Indicator) (g : ℕ) (rs : List Record) (at : Option ℕ) (all : Option ClauseName) → SeekUp p g rs at all → ((i : ℕ) → at ≡ Some i → ⊥) → None ≡ all
-seek-up-over p g rs at all w h = ap (λ l. head (names_of l)) (sym (up-none p g rs w.left w.from w.whole (sym w.at_is ∙ not-some at h))) ∙ w.same
+pub seek-down-over : (p : Indicator) (g : ℕ) (k : Key) (rs : List Record) (at : Option ℕ) (all : Option ClauseName) → SeekDown p g k rs at all → ((i : ℕ) → at ≡ Some i → ⊥) → None ≡ all
+seek-down-over p g k rs at all w h = sym (ap (λ a. first_like k (down p g rs (below a))) (not-some at h)) ∙ w.same
+
+-- and upward
+pub record SeekUp (p : Indicator) (g : ℕ) (k : Key) (rs : List Record) (at : Option ℕ) (all : Option ClauseName) : Type 0 where
+  pub mark : Marked (backs p rs) at
+  pub same : first_like k (up p g rs (onward (length rs) at)) ≡ all
+
+module _ (p : Indicator) (g : ℕ) (k : Key) (rs : List Record) (next : List (Option ℕ)) (at to : Option ℕ) (all : Option ClauseName) (i : ℕ) (links : IsUp p rs next) (w : SeekUp p g k rs at all) (e : at ≡ Some i) (t : to ≡ get_or next i None) where
+  seek-up-mark : get_or (backs p rs) i false ≡ true
+  seek-up-mark = marked-some (backs p rs) at i w.mark e
+
+  pub seek-up-within : i < length rs
+  seek-up-within = mark-within (behind_all p) rs i seek-up-mark
+
+  pub seek-up-linked : i < length next
+  seek-up-linked = omega (arith, seek-up-within, links.count)
+
+  seek-up-to : to ≡ first_from (suc i) (drop (suc i) (backs p rs))
+  seek-up-to = t ∙ links.newer i seek-up-mark
+
+  pub seek-up-left : suc i + (length rs - suc i) ≡ length rs
+  seek-up-left = omega (arith, seek-up-within)
+
+  pub seek-up-smaller : left_from (length rs) to < left_from (length rs) at
+  seek-up-smaller = subst (λ a. left_from (length rs) to < left_from (length rs) a) (sym e) (by-case to seek-up-to)
+    where
+      by-case : (to : Option ℕ) → to ≡ first_from (suc i) (drop (suc i) (backs p rs)) → left_from (length rs) to < length rs - i
+      by-case None n = omega (arith, seek-up-within)
+      by-case (Some j) n = let u = up-some p g rs (length rs - suc i) (suc i) j some-record seek-up-left (sym n) in omega (arith, u.above, u.within, seek-up-within)
+
+seek-up-at : (p : Indicator) (g : ℕ) (k : Key) (rs : List Record) (at : Option ℕ) (all : Option ClauseName) (i : ℕ) (r : Record) (v : Bool) → SeekUp p g k rs at all → at ≡ Some i → r ≡ get_or rs i r → is_met g k r ≡ v →
+    all ≡ cond v (Some r.name) (first_like k (up p g rs (suc i)))
+seek-up-at p g k rs at all i r v w e er ev =
+    sym w.same ∙ ap (λ a. first_like k (up p g rs (onward (length rs) a))) e
+    ∙ ap (first_like k) (up-mark p g rs i r (marked-some (backs p rs) at i w.mark e) ∙ ap (λ q. cons_if (seen g q) (own q) (up p g rs (suc i))) (sym er))
+    ∙ like-cons k (seen g r) (own r) (up p g rs (suc i)) ∙ ap (λ v. cond v (Some r.name) (first_like k (up p g rs (suc i)))) ev
+
+pub seek-up-found : (p : Indicator) (g : ℕ) (k : Key) (rs : List Record) (at : Option ℕ) (all : Option ClauseName) (i : ℕ) (r : Record) → SeekUp p g k rs at all → at ≡ Some i → r ≡ get_or rs i r → is_met g k r ≡ true → Some r.name ≡ all
+seek-up-found p g k rs at all i r w e er ev = sym (seek-up-at p g k rs at all i r true w e er ev)
+
+pub seek-up-more : (p : Indicator) (g : ℕ) (k : Key) (rs : List Record) (next : List (Option ℕ)) (at to : Option ℕ) (all : Option ClauseName) (i : ℕ) (r : Record) → IsUp p rs next → SeekUp p g k rs at all → at ≡ Some i → r ≡ get_or rs i r → is_met g k r ≡ false →
+    to ≡ get_or next i None → SeekUp p g k rs to all
+seek-up-more p g k rs next at to all i r links w e er ev et =
+    let s = seek-up-left p g k rs next at to all i links w e et in
+    let t = seek-up-to p g k rs next at to all i links w e et in
+    record {
+      mark = marked-first p rs (length rs - suc i) (suc i) to s t;
+      same = ap (first_like k) (up-onward p g rs (length rs - suc i) (suc i) to s t) ∙ sym (seek-up-at p g k rs at all i r false w e er ev);
+    }
+
+pub seek-up-over : (p : Indicator) (g : ℕ) (k : Key) (rs : List Record) (at : Option ℕ) (all : Option ClauseName) → SeekUp p g k rs at all → ((i : ℕ) → at ≡ Some i → ⊥) → None ≡ all
+seek-up-over p g k rs at all w h =
+    sym (ap (λ a. first_like k (up p g rs (onward (length rs) a))) (not-some at h) ∙ ap (λ l. first_like k (picked (behind_all p) g l)) (drop-records rs (length rs) (omega arith))) ∙ w.same

@@ -7,5 +7,6 @@ pub mod Bits
 pub mod Index
 pub mod Plans
 pub mod Chains
+pub mod Keys
 mod Worked
 pub mod Visible

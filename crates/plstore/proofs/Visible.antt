@@ -1,30 +1,43 @@
 -- The name behind another in a walk.
-use Rattle.std.proofs.Common.{◌≡◌, ◌+◌, inl, inr, refl, sym, ◌∙◌, ap, arith, ℕ, suc, zero, ◌<◌, ◌≤◌, Bool, true, false, cond, List, [], ◌∷◌, ◌++◌, Option, None, length, get_or, drop, reverse}
+use Rattle.std.proofs.Common.{◌≡◌, ◌+◌, ◌-◌, inl, inr, refl, sym, ◌∙◌, ap, ap₂, arith, ℕ, suc, zero, ◌<◌, ◌≤◌, Bool, true, false, cond, List, [], ◌∷◌, ◌++◌, Option, None, length, get_or, filter, reverse}
 use Rattle.std.specs.Prelude.{◌&&◌, not}
 use Rattle.std.proofs.Math.Seq.{take-length}
 use Rattle.std.proofs.lemmas.List.{map-append}
+use Rattle.std.proofs.lemmas.List.Elements.{filter-append}
 use Rattle.std.proofs.lemmas.Bool.Decides.{nat_tests}
 use Rattle.plterm.specs.declared.indicator.Indicator.{Indicator}
 use Rattle.plevent.specs.declared.update.ClauseName.{ClauseName}
+use Rattle.plevent.specs.declared.key.Key.{Key}
+use Rattle.plevent.specs.declared.key.Key.TheVariants.{Any}
+use Rattle.plevent.specs.Keys.{first_key}
 use Rattle.plevent.specs.Alive.{Living, add_if, or_else, same_name, names_of, is_of}
 use Rattle.plstore.specs.declared.record.Record.{Record}
-use Rattle.plstore.specs.Kept.{seen, picked, in_front, behind_all, walk, head, behind, is_named}
+use Rattle.plstore.specs.Kept.{seen, picked, in_front, behind_all, walk, head, behind, is_named, next_of}
+use Rattle.plstore.specs.declared.record.Declared.{Declared}
+use Rattle.plstore.specs.declared.ends.Ends.{Ends}
+use Rattle.plstore.specs.declared.record.Cursor.{Cursor}
+use Rattle.plstore.specs.declared.record.Cursor.TheVariants.{Start, After}
+use Rattle.plstore.specs.Like.{fits, first_like, past, next_like_of}
 use Rattle.plstore.specs.Rising.{NoneIs, OneIs}
-use Rattle.plstore.specs.Links.{first_from, fronts, backs, down, up}
+use Rattle.plstore.specs.Links.{below, onward, fronts, backs, down, up, Marked, IsIndexed}
+use Rattle.plstore.proofs.Keys.{any-left}
 use Rattle.plstore.proofs.Law.{cons_if, own}
 use Rattle.plstore.proofs.Bits.{cases}
-use Rattle.plstore.proofs.Chains.{down-step, up-step, drop-records, some-record}
+use Rattle.plstore.proofs.Chains.{down-step, up-step, drop-records, some-record, marked-last, marked-first, down-below, up-onward}
 
 -- a walk is what comes downward, and then what comes upward
-pub walk-parts : (g : ℕ) (p : Indicator) (rs : List Record) → names_of (walk g p rs) ≡ names_of (down p g rs (length rs)) ++ names_of (up p g rs 0)
+pub walk-parts : (g : ℕ) (p : Indicator) (rs : List Record) → walk g p rs ≡ down p g rs (length rs) ++ up p g rs 0
 unfolding walk
-walk-parts g p rs =
-    map-append (λ (x : Living). x.name) (reverse (picked (in_front p) g rs)) (picked (behind_all p) g rs)
-    ∙ ap (λ l. names_of (reverse (picked (in_front p) g l)) ++ names_of (picked (behind_all p) g rs)) (sym (take-length rs))
+walk-parts g p rs = ap (λ l. reverse (picked (in_front p) g l) ++ picked (behind_all p) g rs) (sym (take-length rs))
 
-pub head-append : (xs ys : List ClauseName) → head (xs ++ ys) ≡ or_else (head xs) (head ys)
+head-append : (xs ys : List ClauseName) → head (xs ++ ys) ≡ or_else (head xs) (head ys)
 head-append [] ys = refl
 head-append (x ∷ xs) ys = refl
+
+pub like-append : (k : Key) (xs ys : List Living) → first_like k (xs ++ ys) ≡ or_else (first_like k xs) (first_like k ys)
+like-append k xs ys =
+    ap (λ l. head (names_of l)) (filter-append (fits k) xs ys) ∙ ap head (map-append (λ (x : Living). x.name) (filter (fits k) xs) (filter (fits k) ys))
+    ∙ head-append (names_of (filter (fits k) xs)) (names_of (filter (fits k) ys))
 
 name-false : (x y : ClauseName) → same_name y x ≡ false → same_name x y ≡ false
 name-false x y h = grind (arith, nat_tests)
@@ -36,18 +49,14 @@ name-true x y h = grind (arith, nat_tests)
 abbrev pub Passed : Indicator → ℕ → ClauseName → List Record → (Indicator → Record → Bool) → ℕ → Type 0
 Passed p g x rs side m = (d : Record) → seen g (get_or rs m d) && side p (get_or rs m d) ≡ true → same_name x (get_or rs m d).name ≡ false
 
-names-cons : (v : Bool) (y : Living) (ys : List Living) → names_of (cons_if v y ys) ≡ cond v (y.name ∷ names_of ys) (names_of ys)
-names-cons true y ys = refl
-names-cons false y ys = refl
-
 -- one that is passed
-behind-skip : (x : ClauseName) (v : Bool) (y : ClauseName) (us : List ClauseName) → (v ≡ true → same_name x y ≡ false) → behind x (cond v (y ∷ us) us) ≡ behind x us
-behind-skip x true y us h = ap (λ b. add_if b (head us) (behind x us)) (h refl)
-behind-skip x false y us h = refl
+past-skip : (x : ClauseName) (v : Bool) (y : Living) (us : List Living) → (v ≡ true → same_name x y.name ≡ false) → past x (cons_if v y us) ≡ past x us
+past-skip x true y us h = ap (λ b. add_if b us (past x us)) (h refl)
+past-skip x false y us h = refl
 
-cond-append : (v : Bool) (y : ClauseName) (us ys : List ClauseName) → cond v (y ∷ us) us ++ ys ≡ cond v (y ∷ us ++ ys) (us ++ ys)
-cond-append true y us ys = refl
-cond-append false y us ys = refl
+cons-append : (v : Bool) (y : Living) (us ys : List Living) → cons_if v y us ++ ys ≡ cons_if v y (us ++ ys)
+cons-append true y us ys = refl
+cons-append false y us ys = refl
 
 front-is : (p : Indicator) (g : ℕ) (rs : List Record) (m : ℕ) (d : Record) → m < length rs → get_or (fronts p rs) m false ≡ in_front p (get_or rs m d)
 front-is p g [] m d l = absurd (omega arith)
@@ -59,91 +68,85 @@ back-is p g [] m d l = absurd (omega arith)
 back-is p g (r ∷ rs) zero d l = refl
 back-is p g (r ∷ rs) (suc m) d l = back-is p g rs m d (omega arith)
 
-down-names : (p : Indicator) (g : ℕ) (rs : List Record) (m : ℕ) (d : Record) → m < length rs →
-    names_of (down p g rs (suc m)) ≡ cond (seen g (get_or rs m d) && in_front p (get_or rs m d)) ((get_or rs m d).name ∷ names_of (down p g rs m)) (names_of (down p g rs m))
-down-names p g rs m d l =
-    let r = get_or rs m d in
-    ap names_of (down-step p g rs m d (in_front p r) l (front-is p g rs m d l)) ∙ names-cons (seen g r && in_front p r) (own r) (down p g rs m)
+down-list : (p : Indicator) (g : ℕ) (rs : List Record) (m : ℕ) (d : Record) → m < length rs →
+    down p g rs (suc m) ≡ cons_if (seen g (get_or rs m d) && in_front p (get_or rs m d)) (own (get_or rs m d)) (down p g rs m)
+down-list p g rs m d l = down-step p g rs m d (in_front p (get_or rs m d)) l (front-is p g rs m d l)
 
-up-names : (p : Indicator) (g : ℕ) (rs : List Record) (k : ℕ) (d : Record) → k < length rs →
-    names_of (up p g rs k) ≡ cond (seen g (get_or rs k d) && behind_all p (get_or rs k d)) ((get_or rs k d).name ∷ names_of (up p g rs (suc k))) (names_of (up p g rs (suc k)))
-up-names p g rs k d l =
-    let r = get_or rs k d in
-    ap names_of (up-step p g rs k d (behind_all p r) l (back-is p g rs k d l)) ∙ names-cons (seen g r && behind_all p r) (own r) (up p g rs (suc k))
+up-list : (p : Indicator) (g : ℕ) (rs : List Record) (k : ℕ) (d : Record) → k < length rs →
+    up p g rs k ≡ cons_if (seen g (get_or rs k d) && behind_all p (get_or rs k d)) (own (get_or rs k d)) (up p g rs (suc k))
+up-list p g rs k d l = up-step p g rs k d (behind_all p (get_or rs k d)) l (back-is p g rs k d l)
 
-pub skip-down : (p : Indicator) (g : ℕ) (x : ClauseName) (rs : List Record) (d : Record) (ys : List ClauseName) (n : ℕ) → n ≤ length rs → ((m : ℕ) → m < n → Passed p g x rs in_front m) →
-    behind x (names_of (down p g rs n) ++ ys) ≡ behind x ys
+pub skip-down : (p : Indicator) (g : ℕ) (x : ClauseName) (rs : List Record) (d : Record) (ys : List Living) (n : ℕ) → n ≤ length rs → ((m : ℕ) → m < n → Passed p g x rs in_front m) →
+    past x (down p g rs n ++ ys) ≡ past x ys
 skip-down p g x rs d ys zero l h = refl
 skip-down p g x rs d ys (suc m) l h =
     let r = get_or rs m d in
     let v = seen g r && in_front p r in
-    ap (λ l. behind x (l ++ ys)) (down-names p g rs m d (omega arith))
-    ∙ ap (behind x) (cond-append v r.name (names_of (down p g rs m)) ys)
-    ∙ behind-skip x v r.name (names_of (down p g rs m) ++ ys) (h m (omega arith) d)
+    ap (λ l. past x (l ++ ys)) (down-list p g rs m d (omega arith))
+    ∙ ap (past x) (cons-append v (own r) (down p g rs m) ys)
+    ∙ past-skip x v (own r) (down p g rs m ++ ys) (h m (omega arith) d)
     ∙ skip-down p g x rs d ys m (omega arith) (λ k b. h k (omega arith))
 
 pub skip-up : (p : Indicator) (g : ℕ) (x : ClauseName) (rs : List Record) (d : Record) (m k : ℕ) → k + m ≡ length rs → ((j : ℕ) → j < length rs → Passed p g x rs behind_all j) →
-    behind x (names_of (up p g rs k)) ≡ None
-skip-up p g x rs d zero k e h = ap (λ l. behind x (names_of (picked (behind_all p) g l))) (drop-records rs k (omega arith))
+    past x (up p g rs k) ≡ []
+skip-up p g x rs d zero k e h = ap (λ l. past x (picked (behind_all p) g l)) (drop-records rs k (omega arith))
 skip-up p g x rs d (suc m) k e h =
     let r = get_or rs k d in
     let v = seen g r && behind_all p r in
-    ap (behind x) (up-names p g rs k d (omega arith))
-    ∙ behind-skip x v r.name (names_of (up p g rs (suc k))) (h k (omega arith) d)
+    ap (past x) (up-list p g rs k d (omega arith))
+    ∙ past-skip x v (own r) (up p g rs (suc k)) (h k (omega arith) d)
     ∙ skip-up p g x rs d m (suc k) (omega arith) h
 
 -- a name that is not in the walk
 pub not-in-walk : (g : ℕ) (p : Indicator) (x : ClauseName) (rs : List Record) (d : Record) → ((m : ℕ) → m < length rs → Passed p g x rs in_front m) → ((m : ℕ) → m < length rs → Passed p g x rs behind_all m) →
-    behind x (names_of (walk g p rs)) ≡ None
+    past x (walk g p rs) ≡ []
 not-in-walk g p x rs d hf hb =
-    ap (behind x) (walk-parts g p rs) ∙ skip-down p g x rs d (names_of (up p g rs 0)) (length rs) (omega arith) hf ∙ skip-up p g x rs d (length rs) 0 (omega arith) hb
+    ap (past x) (walk-parts g p rs) ∙ skip-down p g x rs d (up p g rs 0) (length rs) (omega arith) hf ∙ skip-up p g x rs d (length rs) 0 (omega arith) hb
 
 -- one that is found
-behind-here : (x y : ClauseName) (us : List ClauseName) (v : Bool) → v ≡ true → same_name x y ≡ true → behind x (cond v (y ∷ us) us) ≡ head us
-behind-here x y us v e h = ap (λ v. behind x (cond v (y ∷ us) us)) e ∙ ap (λ b. add_if b (head us) (behind x us)) h
+past-here : (x : ClauseName) (y : Living) (us : List Living) (v : Bool) → v ≡ true → same_name x y.name ≡ true → past x (cons_if v y us) ≡ us
+past-here x y us v e h = ap (λ v. past x (cons_if v y us)) e ∙ ap (λ b. add_if b us (past x us)) h
 
-found-down : (p : Indicator) (g : ℕ) (x : ClauseName) (rs : List Record) (d : Record) (ys : List ClauseName) (i n : ℕ) → i < n → n ≤ length rs → OneIs x rs i → seen g (get_or rs i d) && in_front p (get_or rs i d) ≡ true →
-    behind x (names_of (down p g rs n) ++ ys) ≡ head (names_of (down p g rs i) ++ ys)
+found-down : (p : Indicator) (g : ℕ) (x : ClauseName) (rs : List Record) (d : Record) (ys : List Living) (i n : ℕ) → i < n → n ≤ length rs → OneIs x rs i → seen g (get_or rs i d) && in_front p (get_or rs i d) ≡ true →
+    past x (down p g rs n ++ ys) ≡ down p g rs i ++ ys
 found-down p g x rs d ys i zero b l one e = absurd (omega arith)
 found-down p g x rs d ys i (suc m) b l one e =
     let r = get_or rs m d in
     let v = seen g r && in_front p r in
-    ap (λ l. behind x (l ++ ys)) (down-names p g rs m d (omega arith))
-    ∙ ap (behind x) (cond-append v r.name (names_of (down p g rs m)) ys)
+    ap (λ l. past x (l ++ ys)) (down-list p g rs m d (omega arith))
+    ∙ ap (past x) (cons-append v (own r) (down p g rs m) ys)
     ∙ elim (cases i m) [
-      | inl lt ↦ behind-skip x v r.name (names_of (down p g rs m) ++ ys) (λ _. name-false x r.name (one.others m d (omega arith) (λ q. absurd (omega arith))))
+      | inl lt ↦ past-skip x v (own r) (down p g rs m ++ ys) (λ _. name-false x r.name (one.others m d (omega arith) (λ q. absurd (omega arith))))
           ∙ found-down p g x rs d ys i m lt (omega arith) one e
       | inr o ↦ elim o [
-        | inl q ↦ behind-here x r.name (names_of (down p g rs m) ++ ys) v
+        | inl q ↦ past-here x (own r) (down p g rs m ++ ys) v
             (ap (λ m. seen g (get_or rs m d) && in_front p (get_or rs m d)) (sym q) ∙ e) (name-true x r.name (ap (λ m. is_named x (get_or rs m d)) (sym q) ∙ one.here d))
-            ∙ ap (λ m. head (names_of (down p g rs m) ++ ys)) (sym q)
+            ∙ ap (λ m. down p g rs m ++ ys) (sym q)
         | inr gt ↦ absurd (omega arith)
       ]
     ]
 
 found-up : (p : Indicator) (g : ℕ) (x : ClauseName) (rs : List Record) (d : Record) (i m k : ℕ) → k + m ≡ length rs → k ≤ i → OneIs x rs i → seen g (get_or rs i d) && behind_all p (get_or rs i d) ≡ true →
-    behind x (names_of (up p g rs k)) ≡ head (names_of (up p g rs (suc i)))
+    past x (up p g rs k) ≡ up p g rs (suc i)
 found-up p g x rs d i zero k s b one e = absurd (omega (arith, one.within))
 found-up p g x rs d i (suc m) k s b one e =
     let r = get_or rs k d in
     let v = seen g r && behind_all p r in
-    ap (behind x) (up-names p g rs k d (omega arith))
+    ap (past x) (up-list p g rs k d (omega arith))
     ∙ elim (cases k i) [
-      | inl lt ↦ behind-skip x v r.name (names_of (up p g rs (suc k))) (λ _. name-false x r.name (one.others k d (omega arith) (λ q. absurd (omega arith))))
+      | inl lt ↦ past-skip x v (own r) (up p g rs (suc k)) (λ _. name-false x r.name (one.others k d (omega arith) (λ q. absurd (omega arith))))
           ∙ found-up p g x rs d i m (suc k) (omega arith) lt one e
       | inr o ↦ elim o [
-        | inl q ↦ behind-here x r.name (names_of (up p g rs (suc k))) v
+        | inl q ↦ past-here x (own r) (up p g rs (suc k)) v
             (ap (λ m. seen g (get_or rs m d) && behind_all p (get_or rs m d)) q ∙ e) (name-true x r.name (ap (λ m. is_named x (get_or rs m d)) q ∙ one.here d))
-            ∙ ap (λ m. head (names_of (up p g rs (suc m)))) q
+            ∙ ap (λ m. up p g rs (suc m)) q
         | inr gt ↦ absurd (omega arith)
       ]
     ]
 
 pub after-front : (g : ℕ) (p : Indicator) (x : ClauseName) (rs : List Record) (i : ℕ) (d : Record) → OneIs x rs i → seen g (get_or rs i d) && in_front p (get_or rs i d) ≡ true →
-    behind x (names_of (walk g p rs)) ≡ or_else (head (names_of (down p g rs i))) (head (names_of (up p g rs 0)))
-after-front g p x rs i d one e =
-    ap (behind x) (walk-parts g p rs) ∙ found-down p g x rs d (names_of (up p g rs 0)) i (length rs) one.within (omega arith) one e
-    ∙ head-append (names_of (down p g rs i)) (names_of (up p g rs 0))
+    past x (walk g p rs) ≡ down p g rs i ++ up p g rs 0
+after-front g p x rs i d one e = ap (past x) (walk-parts g p rs) ∙ found-down p g x rs d (up p g rs 0) i (length rs) one.within (omega arith) one e
 
 -- one behind is none in front
 sides : (p : Indicator) (g : ℕ) (r : Record) → seen g r && behind_all p r ≡ true → seen g r && in_front p r ≡ true → ⊥
@@ -155,10 +158,10 @@ sides p g r h k = by-cases (seen g r) r.front h k
     by-cases true false h k = absurd (cc)
 
 pub after-back : (g : ℕ) (p : Indicator) (x : ClauseName) (rs : List Record) (i : ℕ) (d : Record) → OneIs x rs i → seen g (get_or rs i d) && behind_all p (get_or rs i d) ≡ true →
-    behind x (names_of (walk g p rs)) ≡ head (names_of (up p g rs (suc i)))
+    past x (walk g p rs) ≡ up p g rs (suc i)
 after-back g p x rs i d one e =
-    ap (behind x) (walk-parts g p rs)
-    ∙ skip-down p g x rs d (names_of (up p g rs 0)) (length rs) (omega arith) (λ m b c h. elim (cases m i) [
+    ap (past x) (walk-parts g p rs)
+    ∙ skip-down p g x rs d (up p g rs 0) (length rs) (omega arith) (λ m b c h. elim (cases m i) [
       | inl lt ↦ name-false x (get_or rs m c).name (one.others m c b (λ q. absurd (omega arith)))
       | inr o ↦ elim o [
         | inl q ↦ absurd (sides p g (get_or rs i c) (same-record i one.within c ∙ e) (ap (λ m. seen g (get_or rs m c) && in_front p (get_or rs m c)) (sym q) ∙ h))
@@ -176,9 +179,9 @@ after-back g p x rs i d one e =
     same-record i l c = ap (λ r. seen g r && behind_all p r) (reads rs i c d l)
 
 -- where no record has the name
-pub none-named : (g : ℕ) (p : Indicator) (x : ClauseName) (rs : List Record) → NoneIs x rs → None ≡ behind x (names_of (walk g p rs))
-none-named g p x rs none =
-    sym (not-in-walk g p x rs some-record (λ m b d h. name-false x (get_or rs m d).name (none m d b)) (λ m b d h. name-false x (get_or rs m d).name (none m d b)))
+pub none-named : (g : ℕ) (p : Indicator) (k : Key) (x : ClauseName) (rs : List Record) → NoneIs x rs → None ≡ first_like k (past x (walk g p rs))
+none-named g p k x rs none =
+    ap (first_like k) (sym (not-in-walk g p x rs some-record (λ m b d h. name-false x (get_or rs m d).name (none m d b)) (λ m b d h. name-false x (get_or rs m d).name (none m d b))))
 
 reads : (rs : List Record) (i : ℕ) (c d : Record) → i < length rs → get_or rs i c ≡ get_or rs i d
 reads [] i c d l = absurd (omega arith)
@@ -191,10 +194,10 @@ drop-front true true b h k = absurd (cc)
 drop-front true false b h k = absurd (cc)
 
 -- where the record of the name is not seen, or is of another procedure
-pub not-shown : (g : ℕ) (p : Indicator) (x : ClauseName) (rs : List Record) (i : ℕ) (d : Record) → OneIs x rs i → d ≡ get_or rs i d → seen g d && is_of p d.clause ≡ false → None ≡ behind x (names_of (walk g p rs))
-not-shown g p x rs i d one e h =
+pub not-shown : (g : ℕ) (p : Indicator) (k : Key) (x : ClauseName) (rs : List Record) (i : ℕ) (d : Record) → OneIs x rs i → d ≡ get_or rs i d → seen g d && is_of p d.clause ≡ false → None ≡ first_like k (past x (walk g p rs))
+not-shown g p key x rs i d one e h =
     let here : (c : Record) → d ≡ get_or rs i c = λ c. e ∙ reads rs i d c one.within in
-    sym (not-in-walk g p x rs d
+    ap (first_like key) (sym (not-in-walk g p x rs d
     (λ m b c k. elim (cases m i) [
       | inl lt ↦ name-false x (get_or rs m c).name (one.others m c b (λ q. absurd (omega arith)))
       | inr o ↦ elim o [
@@ -208,7 +211,7 @@ not-shown g p x rs i d one e h =
         | inl q ↦ absurd (drop-front (seen g d) (not d.front) (is_of p d.clause) h (ap (λ r. seen g r && behind_all p r) (here c) ∙ ap (λ m. seen g (get_or rs m c) && behind_all p (get_or rs m c)) (sym q) ∙ k))
         | inr gt ↦ name-false x (get_or rs m c).name (one.others m c b (λ q. absurd (omega arith)))
       ]
-    ]))
+    ])))
 
 with-side : (s f b : Bool) → s && b ≡ true → f ≡ true → s && (f && b) ≡ true
 with-side s true b h e = h
@@ -222,27 +225,70 @@ only-right : (s b : Bool) → s && b ≡ true → b ≡ true
 only-right true b h = h
 only-right false b h = absurd (cc)
 
-pub shown-front : (g : ℕ) (p : Indicator) (x : ClauseName) (rs : List Record) (i : ℕ) (d : Record) (found : Option ClauseName) → OneIs x rs i → d ≡ get_or rs i d → seen g d && is_of p d.clause ≡ true → d.front ≡ true →
-    found ≡ or_else (head (names_of (down p g rs i))) (head (names_of (up p g rs 0))) → found ≡ behind x (names_of (walk g p rs))
-shown-front g p x rs i d found one e h f k =
-    k ∙ sym (after-front g p x rs i d one (ap (λ r. seen g r && in_front p r) (sym e) ∙ with-side (seen g d) d.front (is_of p d.clause) h f))
+pub shown-front : (g : ℕ) (p : Indicator) (k : Key) (x : ClauseName) (rs : List Record) (i : ℕ) (d : Record) (to : Option ℕ) (found : Option ClauseName) → OneIs x rs i → d ≡ get_or rs i d → seen g d && is_of p d.clause ≡ true → d.front ≡ true →
+    down p g rs (below to) ≡ down p g rs i → found ≡ or_else (first_like k (down p g rs (below to))) (first_like k (up p g rs 0)) → found ≡ first_like k (past x (walk g p rs))
+shown-front g p k x rs i d to found one e h f same is =
+    is ∙ ap (λ l. or_else (first_like k l) (first_like k (up p g rs 0))) same ∙ sym (like-append k (down p g rs i) (up p g rs 0))
+    ∙ ap (first_like k) (sym (after-front g p x rs i d one (ap (λ r. seen g r && in_front p r) (sym e) ∙ with-side (seen g d) d.front (is_of p d.clause) h f)))
 
-pub shown-back : (g : ℕ) (p : Indicator) (x : ClauseName) (rs : List Record) (i : ℕ) (d : Record) (found : Option ClauseName) → OneIs x rs i → d ≡ get_or rs i d → seen g d && is_of p d.clause ≡ true → d.front ≡ false →
-    found ≡ head (names_of (up p g rs (i + 1))) → found ≡ behind x (names_of (walk g p rs))
-shown-back g p x rs i d found one e h f k =
-    let s : i + 1 ≡ suc i = omega arith in
-    k ∙ ap (λ n. head (names_of (up p g rs n))) s
-    ∙ sym (after-back g p x rs i d one (ap (λ r. seen g r && behind_all p r) (sym e) ∙ with-not (seen g d) d.front (is_of p d.clause) h f))
+pub shown-back : (g : ℕ) (p : Indicator) (k : Key) (x : ClauseName) (rs : List Record) (i n : ℕ) (d : Record) (found : Option ClauseName) → OneIs x rs i → d ≡ get_or rs i d → seen g d && is_of p d.clause ≡ true → d.front ≡ false →
+    up p g rs n ≡ up p g rs (suc i) → found ≡ first_like k (up p g rs n) → found ≡ first_like k (past x (walk g p rs))
+shown-back g p k x rs i n d found one e h f same is =
+    is ∙ ap (first_like k) same
+    ∙ ap (first_like k) (sym (after-back g p x rs i d one (ap (λ r. seen g r && behind_all p r) (sym e) ∙ with-not (seen g d) d.front (is_of p d.clause) h f)))
 
--- the link of one behind
-pub shown-link : (g : ℕ) (p : Indicator) (rs : List Record) (next : List (Option ℕ)) (i : ℕ) (d : Record) → ((i : ℕ) → get_or (backs p rs) i false ≡ true → get_or next i None ≡ first_from (suc i) (drop (suc i) (backs p rs))) →
-    i < length rs → d ≡ get_or rs i d → seen g d && is_of p d.clause ≡ true → d.front ≡ false → get_or next i None ≡ first_from (i + 1) (drop (i + 1) (backs p rs))
-shown-link g p rs next i d newer l e h f =
-    let s : suc i ≡ i + 1 = omega arith in
-    let mark : get_or (backs p rs) i false ≡ true = back-is p g rs i d l ∙ ap (behind_all p) (sym e) ∙ only-right (seen g d) (behind_all p d) (with-not (seen g d) d.front (is_of p d.clause) h f) in
-    newer i mark ∙ ap (λ n. first_from n (drop n (backs p rs))) s
+-- the side of one that is shown
+pub shown-in-front : (g : ℕ) (p : Indicator) (rs : List Record) (i : ℕ) (d : Record) → i < length rs → d ≡ get_or rs i d → seen g d && is_of p d.clause ≡ true → d.front ≡ true → get_or (fronts p rs) i false ≡ true
+shown-in-front g p rs i d l e h f = front-is p g rs i d l ∙ ap (in_front p) (sym e) ∙ only-right (seen g d) (in_front p d) (with-side (seen g d) d.front (is_of p d.clause) h f)
 
-pub first-is : (g : ℕ) (p : Indicator) (rs : List Record) (n : ℕ) (found : Option ClauseName) → n ≡ length rs → found ≡ or_else (head (names_of (down p g rs n))) (head (names_of (up p g rs 0))) → found ≡ head (names_of (walk g p rs))
-first-is g p rs n found e k =
-    k ∙ ap (λ n. or_else (head (names_of (down p g rs n))) (head (names_of (up p g rs 0)))) e
-    ∙ sym (head-append (names_of (down p g rs (length rs))) (names_of (up p g rs 0))) ∙ ap head (sym (walk-parts g p rs))
+pub shown-behind : (g : ℕ) (p : Indicator) (rs : List Record) (i : ℕ) (d : Record) → i < length rs → d ≡ get_or rs i d → seen g d && is_of p d.clause ≡ true → d.front ≡ false → get_or (backs p rs) i false ≡ true
+shown-behind g p rs i d l e h f = back-is p g rs i d l ∙ ap (behind_all p) (sym e) ∙ only-right (seen g d) (behind_all p d) (with-not (seen g d) d.front (is_of p d.clause) h f)
+
+pub first-is : (g : ℕ) (p : Indicator) (k : Key) (rs : List Record) (to : Option ℕ) (found : Option ClauseName) → down p g rs (below to) ≡ down p g rs (length rs) → found ≡ or_else (first_like k (down p g rs (below to))) (first_like k (up p g rs 0)) →
+    found ≡ first_like k (walk g p rs)
+first-is g p k rs to found same is =
+    is ∙ ap (λ l. or_else (first_like k l) (first_like k (up p g rs 0))) same
+    ∙ sym (like-append k (down p g rs (length rs)) (up p g rs 0)) ∙ ap (first_like k) (sym (walk-parts g p rs))
+
+-- the ends of a procedure, and where a link leads
+module _ (p : Indicator) (rs : List Record) (ds : List Declared) (next : List (Option ℕ)) (E : Indicator → Ends) (ix : IsIndexed rs ds next E) where
+  pub newest-marked : (e : Ends) → e ≡ E p → Marked (fronts p rs) e.newest_front
+  newest-marked e h = marked-last (fronts p rs) (length rs) e.newest_front (ap (λ (d : Ends). d.newest_front) h ∙ ix.front p)
+
+  pub newest-whole : (g : ℕ) (e : Ends) → e ≡ E p → down p g rs (below e.newest_front) ≡ down p g rs (length rs)
+  newest-whole g e h = down-below p g rs (length rs) e.newest_front (omega arith) (ap (λ (d : Ends). d.newest_front) h ∙ ix.front p)
+
+  pub oldest-marked : (e : Ends) → e ≡ E p → Marked (backs p rs) e.oldest_back
+  oldest-marked e h = marked-first p rs (length rs) 0 e.oldest_back (omega arith) (ap (λ (d : Ends). d.oldest_back) h ∙ ix.oldest p)
+
+  pub oldest-whole : (g : ℕ) (e : Ends) → e ≡ E p → up p g rs (onward (length rs) e.oldest_back) ≡ up p g rs 0
+  oldest-whole g e h = up-onward p g rs (length rs) 0 e.oldest_back (omega arith) (ap (λ (d : Ends). d.oldest_back) h ∙ ix.oldest p)
+
+  module _ (i : ℕ) (to : Option ℕ) (l : i < length rs) (t : to ≡ get_or next i None) where
+    pub down-marked : get_or (fronts p rs) i false ≡ true → Marked (fronts p rs) to
+    down-marked h = marked-last (fronts p rs) i to (t ∙ ix.older p i h)
+
+    pub down-linked : (g : ℕ) → get_or (fronts p rs) i false ≡ true → down p g rs (below to) ≡ down p g rs i
+    down-linked g h = down-below p g rs i to (omega arith) (t ∙ ix.older p i h)
+
+    left : suc i + (length rs - suc i) ≡ length rs
+    left = omega arith
+
+    pub up-marked : get_or (backs p rs) i false ≡ true → Marked (backs p rs) to
+    up-marked h = marked-first p rs (length rs - suc i) (suc i) to left (t ∙ ix.newer p i h)
+
+    pub up-linked : (g : ℕ) → get_or (backs p rs) i false ≡ true → up p g rs (onward (length rs) to) ≡ up p g rs (suc i)
+    up-linked g h = up-onward p g rs (length rs - suc i) (suc i) to left (t ∙ ix.newer p i h)
+
+-- with the key of anything each clause is met
+any-filter : (xs : List Living) → filter (fits Any) xs ≡ xs
+any-filter [] = refl
+any-filter (x ∷ xs) = ap₂ (λ v ys. cond v (x ∷ ys) ys) (any-left (first_key x.clause.head)) (any-filter xs)
+
+past-names : (x : ClauseName) (xs : List Living) → head (names_of (past x xs)) ≡ behind x (names_of xs)
+past-names x [] = refl
+past-names x (y ∷ ys) = elim (same_name x y.name) as (λ v. head (names_of (add_if v ys (past x ys))) ≡ add_if v (head (names_of ys)) (behind x (names_of ys))) [ true ↦ refl | false ↦ past-names x ys ]
+
+pub next-any : (c : Cursor) (xs : List Living) → next_like_of Any c xs ≡ next_of c (names_of xs)
+next-any Start xs = ap (λ l. head (names_of l)) (any-filter xs)
+next-any (After x) xs = ap (λ l. head (names_of l)) (any-filter (past x xs)) ∙ past-names x xs

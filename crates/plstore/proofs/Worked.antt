@@ -1,12 +1,14 @@
 -- A store after two batches, computed.
-use Rattle.std.specs.Prelude.{◌≡◌, ℕ, true, false, List, [], ◌∷◌, fold, Some, None, refl}
-use Rattle.plterm.specs.Tree.{atom}
+use Rattle.std.specs.Prelude.{◌≡◌, ℕ, true, false, List, [], ◌∷◌, fold, pos, Some, None, refl}
+use Rattle.plterm.specs.Tree.{Tree, var, int, atom, compound, none, more}
 use Rattle.plterm.specs.declared.indicator.Indicator.{Indicator}
 use Rattle.plclause.specs.Clause.{Clause}
 use Rattle.plevent.specs.declared.update.Update.TheVariants.{First, Last, Erase, Declare}
 use Rattle.plevent.specs.Alive.{stamped, named, names_of, clauses_of}
+use Rattle.plevent.specs.declared.key.Key.TheVariants.{Any, Int, Functor}
 use Rattle.plstore.specs.declared.record.Cursor.TheVariants.{Start, After}
 use Rattle.plstore.specs.Kept.{Kept, nothing, keep, walk, here, is_there, clause_of, next_of}
+use Rattle.plstore.specs.Like.{next_like_of}
 
 abbrev p : Indicator
 p = record { name = 112 ∷ []; arity = 0 }
@@ -94,3 +96,40 @@ ends = refl
 pub not_in_it : next_of (After (named 0 1)) (names_of (walk 5 p both.records)) ≡ None
 unfolding walk
 not_in_it = refl
+
+-- p(1).  p(X).  p(2).  p(f(1)).
+abbrev fact : Tree → ℕ → Clause
+fact t n = record { head = compound (112 ∷ []) (more t none); body = atom (116 ∷ 114 ∷ 117 ∷ 101 ∷ []); variables = n }
+
+abbrev four : Kept
+four = fold keep nothing (stamped 0 0 (Declare q ∷ Last (fact (int (pos 1)) 0) ∷ Last (fact (var 0) 1) ∷ Last (fact (int (pos 2)) 0) ∷ Last (fact (compound (102 ∷ []) (more (int (pos 1)) none)) 0) ∷ []))
+
+-- those that may be for p(2): the variable, and then the 2
+pub like_two : next_like_of (Int (pos 2)) Start (walk 1 q four.records) ≡ Some (named 0 2)
+unfolding walk
+like_two = refl
+
+pub like_two_next : next_like_of (Int (pos 2)) (After (named 0 2)) (walk 1 q four.records) ≡ Some (named 0 3)
+unfolding walk
+like_two_next = refl
+
+pub like_two_last : next_like_of (Int (pos 2)) (After (named 0 3)) (walk 1 q four.records) ≡ None
+unfolding walk
+like_two_last = refl
+
+-- a cursor may stand at one that does not fit
+pub like_two_from_one : next_like_of (Int (pos 2)) (After (named 0 1)) (walk 1 q four.records) ≡ Some (named 0 2)
+unfolding walk
+like_two_from_one = refl
+
+pub like_functor : next_like_of (Functor (102 ∷ []) 1) (After (named 0 2)) (walk 1 q four.records) ≡ Some (named 0 4)
+unfolding walk
+like_functor = refl
+
+pub like_other_arity : next_like_of (Functor (102 ∷ []) 2) (After (named 0 2)) (walk 1 q four.records) ≡ None
+unfolding walk
+like_other_arity = refl
+
+pub like_any : next_like_of Any Start (walk 1 q four.records) ≡ Some (named 0 1)
+unfolding walk
+like_any = refl

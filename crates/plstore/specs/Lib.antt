@@ -1,4 +1,5 @@
 pub mod Kept
+pub mod Like
 pub mod Rising
 pub mod Links
 pub mod Plan

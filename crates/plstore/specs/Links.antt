@@ -85,3 +85,17 @@ pub record IsDown (p : Indicator) (rs : List Record) (next : List (Option ℕ)) 
 pub record IsUp (p : Indicator) (rs : List Record) (next : List (Option ℕ)) : Type 0 where
   pub count : length next ≡ length rs
   pub newer : (i : ℕ) → slice_index_or (backs p rs) i false ≡ true → slice_index_or next i None ≡ first_from (suc i) (drop (suc i) (backs p rs))
+
+-- a link leads to a mark, or nowhere
+abbrev pub Marked : List Bool → Option ℕ → Type 0
+Marked bs None = Unit {0}
+Marked bs (Some i) = slice_index_or bs i false ≡ true
+
+-- how many records a link downward has still to pass, and from which record on one upward does
+abbrev pub below : Option ℕ → ℕ
+below None = 0
+below (Some i) = suc i
+
+abbrev pub onward : ℕ → Option ℕ → ℕ
+onward n None = n
+onward n (Some i) = i

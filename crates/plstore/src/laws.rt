@@ -1,5 +1,9 @@
 //! What a store keeps is the database at every time.
-ghost use Rattle.std.specs.Prelude.{◌≡◌, ℕ, List, fold};
+ghost use Rattle.std.specs.Prelude.{◌≡◌, ℕ, List, None, fold, false};
+ghost use Rattle.plterm.specs.Tree.{Tree};
+ghost use Rattle.plsubst.specs.Subst.{shift};
+ghost use Rattle.plsubst.specs.Unify.{unify};
+ghost use Rattle.plevent.specs.Keys.{first_key, may_fit};
 ghost use Rattle.plclause.specs.Clause.{Clause};
 ghost use Rattle.plterm.specs.declared.indicator.Indicator.{Indicator};
 ghost use Rattle.plevent.specs.declared.update.ClauseName.{ClauseName};
@@ -30,4 +34,10 @@ pub fn exists_law()
 /// The clause of a name is the one that was made with it.
 pub fn clause_law()
     ensures { (x : ClauseName) (us : List Stamped) → clause_of x (fold keep nothing us) ≡ clause_named x us }
+{}
+
+/// A goal does not unify with a head that its key does not fit, whatever the head's variables are: a clause that is passed
+/// over has no solution there.
+pub fn passed_over_law()
+    ensures { (goal head : Tree) → may_fit (first_key goal) (first_key head) ≡ false → (n : ℕ) → unify goal (shift n head) ≡ None }
 {}

@@ -5,6 +5,8 @@ mod ends;
 pub mod laws;
 mod plan;
 pub mod record;
+mod sought;
+mod steps;
 pub mod store;
 mod tables;
 mod walk;

@@ -3,15 +3,18 @@ ghost use Rattle.std.specs.Prelude.{◌≡◌, IfOk, OnOk, OnErr, fold, length};
 ghost use Rattle.std.specs.Option.{option_copied};
 ghost use Rattle.plevent.specs.Alive.{stamped, clauses_of, names_of};
 ghost use Rattle.plstore.specs.Kept.{keep, nothing, here, clause_of, is_there, next_of, walk};
+ghost use Rattle.plstore.specs.Like.{next_like_of};
 ghost use Rattle.plstore.specs.Rising.{AllBelowPlace};
 
 use crate::ends::ends_of;
 use crate::plan::plan;
 use crate::record::{Cursor, Declared, Record};
-use crate::tables::{Tables, find, first_visible, make_all, visible_after};
+use crate::sought::Sought;
+use crate::steps::{first_sought, sought_after};
+use crate::tables::{Tables, find, make_all};
 use crate::walk::{gather_back, gather_front};
 use plclause::clause::Clause;
-use plevent::{Batch, ClauseName};
+use plevent::{Batch, ClauseName, Key};
 use plterm::indicator::Indicator;
 use std::alloc::{AllocError, Global};
 use std::collections::HashMap;
@@ -92,9 +95,24 @@ impl Store {
     pub fn next_visible(&self, g: u64, pred: &Indicator, cursor: Cursor) -> Option<ClauseName>
         ensures { result ≡ next_of cursor (names_of (walk g pred.now self.now.records)) }
     {
+        self.next_like(g, pred, &Key::Any, cursor)
+    }
+
+    /// The same of the clauses that may be for a goal of this key: one that cannot fit by its first argument is passed
+    /// over. The cursor may stand at any clause of the walk.
+    pub fn next_like(
+        &self,
+        g: u64,
+        pred: &Indicator,
+        key: &Key,
+        cursor: Cursor,
+    ) -> Option<ClauseName>
+        ensures { result ≡ next_like_of key.now cursor (walk g pred.now self.now.records) }
+    {
+        let sought = Sought { g, pred, key };
         match cursor {
-            Cursor::Start => first_visible(&self.tables, g, pred),
-            Cursor::After(name) => visible_after(&self.tables, g, pred, name),
+            Cursor::Start => first_sought(&self.tables, &sought),
+            Cursor::After(name) => sought_after(&self.tables, &sought, name),
         }
     }
 

@@ -1,11 +1,10 @@
 //! The tables of a store, and how an update changes them.
-ghost use Rattle.std.specs.Prelude.{◌≡◌, ◌&&◌, ◌+◌, ◌<◌, ◌≤◌, ◌++◌, ◌∷◌, [], MatchOption, fold, length, vec_len};
+ghost use Rattle.std.specs.Prelude.{◌≡◌, ◌+◌, ◌<◌, ◌≤◌, ◌++◌, ◌∷◌, [], MatchOption, fold, length, vec_len};
 ghost use Rattle.std.specs.Vec.{vec_capacity};
 ghost use Rattle.std.specs.HashMap.{spare};
 ghost use Rattle.plclause.specs.Indicators.{indicator};
-ghost use Rattle.plevent.specs.Alive.{stamped, named, names_of, or_else, is_of};
-ghost use Rattle.plstore.specs.Kept.{keep, made, erase_at, first_of, changed_where, is_named, head, behind, seen, walk};
-ghost use Rattle.plstore.specs.Links.{last_below, fronts, down, up};
+ghost use Rattle.plevent.specs.Alive.{stamped, named};
+ghost use Rattle.plstore.specs.Kept.{keep, made, erase_at, first_of, changed_where, is_named};
 ghost use Rattle.plstore.specs.Plan.{update_of, updates_of, IsPlanned, AllPlanned};
 ghost use Rattle.plstore.specs.Rising.{less, IsRising, InOrder, NoneIs, OneIs};
 ghost use Rattle.plstore.specs.Tables.{kept_in, Indexed};
@@ -13,7 +12,6 @@ ghost use Rattle.plstore.specs.Tables.{kept_in, Indexed};
 use crate::ends::{Ends, earlier, ends_of, grown, link, set_ends};
 use crate::plan::Planned;
 use crate::record::{Declared, Record};
-use crate::walk::{link_at, record_at, seek_back, seek_front};
 use plclause::clause::Clause;
 use plevent::ClauseName;
 use plterm::indicator::Indicator;
@@ -193,86 +191,4 @@ fn precedes(x: ClauseName, y: ClauseName) -> bool
     ensures { result ≡ less x y }
 {
     x.place < y.place || x.place == y.place && x.number < y.number
-}
-
-/// The name of the first clause of a procedure that is seen at `g`.
-pub(crate) fn first_visible(tables: &Tables, g: u64, pred: &Indicator) -> Option<ClauseName>
-    requires { Indexed tables.now }
-    ensures { result ≡ head (names_of (walk g pred.now tables.now.records.items)) }
-{
-    let ends = ends_of(&tables.index, pred);
-    first_from_front(tables, g, pred, ends.newest_front, tables.records.len())
-}
-
-/// The name of the first one that stands in front below a record, or behind.
-fn first_from_front(
-    tables: &Tables,
-    g: u64,
-    pred: &Indicator,
-    newest: Option<usize>,
-    below: usize,
-) -> Option<ClauseName>
-    requires indexed { Indexed tables.now }
-    requires within { below ≤ length tables.now.records.items }
-    requires newest { newest ≡ last_below (fronts pred.now tables.now.records.items) below }
-    ensures { result ≡ or_else (head (names_of (down pred.now g tables.now.records.items below))) (head (names_of (up pred.now g tables.now.records.items 0))) }
-{
-    let records = tables.records.as_slice();
-    let next = tables.next.as_slice();
-    match seek_front(records, next, pred, newest, below, g) {
-        Some(name) => return Some(name),
-        None => {
-            let ends = ends_of(&tables.index, pred);
-            return seek_back(records, next, pred, ends.oldest_back, 0, g);
-        }
-    }
-}
-
-/// The name of the clause of a procedure that is seen at `g` behind the one with this name; none where that one is not
-/// seen, or is of another procedure.
-pub(crate) fn visible_after(
-    tables: &Tables,
-    g: u64,
-    pred: &Indicator,
-    name: ClauseName,
-) -> Option<ClauseName>
-    requires rising { IsRising tables.now.records.items }
-    requires indexed { Indexed tables.now }
-    ensures { result ≡ behind name (names_of (walk g pred.now tables.now.records.items)) }
-{
-    match find(tables.records.as_slice(), name) {
-        None => return None,
-        Some(number) => return visible_from(tables, g, pred, name, number),
-    }
-}
-
-fn visible_from(
-    tables: &Tables,
-    g: u64,
-    pred: &Indicator,
-    name: ClauseName,
-    number: usize,
-) -> Option<ClauseName>
-    requires indexed { Indexed tables.now }
-    requires one { OneIs name tables.now.records.items number }
-    ensures { result ≡ behind name (names_of (walk g pred.now tables.now.records.items)) }
-{
-    let _ = name;
-    let one = record_at(tables.records.as_slice(), number);
-    if !is_shown(one, g, pred) {
-        return None;
-    }
-    let link = link_at(tables.next.as_slice(), number);
-    if one.front {
-        return first_from_front(tables, g, pred, link, number);
-    }
-    let records = tables.records.as_slice();
-    seek_back(records, tables.next.as_slice(), pred, link, number + 1, g)
-}
-
-/// Whether a record is seen at `g` and of the procedure.
-fn is_shown(one: &Record, g: u64, pred: &Indicator) -> bool
-    ensures { result ≡ seen g one.now && is_of pred.now one.now.clause }
-{
-    one.is_seen(g) && one.is_of(pred)
 }

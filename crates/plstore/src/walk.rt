@@ -1,10 +1,12 @@
 //! The walk over the clauses of a procedure, by its links.
-ghost use Rattle.std.specs.Prelude.{◌≡◌, ◌++◌, ◌<◌, ◌≤◌, drop, ◌∷◌, [], None, cond, length, reverse, slice_index_or, OnOk};
-ghost use Rattle.plevent.specs.Alive.{clauses_of, names_of};
-ghost use Rattle.plstore.specs.Kept.{head, picked, seen, in_front, behind_all};
-ghost use Rattle.plstore.specs.Links.{down, up, fronts, backs, last_below, first_from, IsDown, IsUp};
+ghost use Rattle.std.specs.Prelude.{◌≡◌, ◌++◌, ◌<◌, ◌∷◌, [], None, cond, length, reverse, slice_index_or, OnOk};
+ghost use Rattle.plevent.specs.Alive.{clauses_of};
+ghost use Rattle.plstore.specs.Kept.{picked, seen, in_front, behind_all};
+ghost use Rattle.plstore.specs.Like.{first_like};
+ghost use Rattle.plstore.specs.Links.{below, down, onward, up, fronts, backs, last_below, first_from, IsDown, IsUp, Marked};
 
 use crate::record::Record;
+use crate::sought::Sought;
 use plclause::clause::Clause;
 use plevent::ClauseName;
 use plterm::indicator::Indicator;
@@ -56,26 +58,21 @@ pub(crate) fn gather_back(
     Ok(())
 }
 
-/// The name of the first clause that is seen at `g`, of those put in front that stand below a record, the newest first.
+/// The name of the first clause that is sought, of those put in front, from one on, the newest first.
 pub(crate) fn seek_front(
     records: &[Record],
     next: &[Option<usize>],
-    pred: &Indicator,
+    sought: &Sought<'_>,
     newest: Option<usize>,
-    below: usize,
-    g: u64,
 ) -> Option<ClauseName>
-    requires links { IsDown pred.now records.now next.now }
-    requires within { below ≤ length records.now }
-    requires newest { newest ≡ last_below (fronts pred.now records.now) below }
-    ensures { result ≡ head (names_of (down pred.now g records.now below)) }
+    requires links { IsDown sought.now.pred.now records.now next.now }
+    requires newest { Marked (fronts sought.now.pred.now records.now) newest }
+    ensures { result ≡ first_like sought.now.key.now (down sought.now.pred.now sought.now.g records.now (below newest)) }
 {
-    let _ = pred;
-    let _ = below;
     let mut at = newest;
     while let Some(number) = at {
         let record = record_at(records, number);
-        if record.is_seen(g) {
+        if sought.is_met(record) {
             return Some(record.name);
         }
         at = link_at(next, number);
@@ -83,26 +80,21 @@ pub(crate) fn seek_front(
     None
 }
 
-/// The same of those put behind, from a record on, the oldest first.
+/// The same of those put behind, the oldest first.
 pub(crate) fn seek_back(
     records: &[Record],
     next: &[Option<usize>],
-    pred: &Indicator,
+    sought: &Sought<'_>,
     oldest: Option<usize>,
-    from: usize,
-    g: u64,
 ) -> Option<ClauseName>
-    requires links { IsUp pred.now records.now next.now }
-    requires within { from ≤ length records.now }
-    requires oldest { oldest ≡ first_from from (drop from (backs pred.now records.now)) }
-    ensures { result ≡ head (names_of (up pred.now g records.now from)) }
+    requires links { IsUp sought.now.pred.now records.now next.now }
+    requires oldest { Marked (backs sought.now.pred.now records.now) oldest }
+    ensures { result ≡ first_like sought.now.key.now (up sought.now.pred.now sought.now.g records.now (onward (length records.now) oldest)) }
 {
-    let _ = pred;
-    let _ = from;
     let mut at = oldest;
     while let Some(number) = at {
         let record = record_at(records, number);
-        if record.is_seen(g) {
+        if sought.is_met(record) {
             return Some(record.name);
         }
         at = link_at(next, number);

@@ -1,25 +1,23 @@
-use Rattle.std.proofs.Common.{◌<◌, ◌∙◌, arith, sym, length}
-use Rattle.plstore.proofs.Chains.{seek-down-within, seek-down-smaller, seek-down-found, seek-down-more, seek-down-over}
+use Rattle.std.proofs.Common.{◌∙◌, refl, sym}
+use Rattle.plstore.proofs.Chains.{seek-down-within, seek-down-linked, seek-down-smaller, seek-down-found, seek-down-more, seek-down-over}
 use Rattle.plstore.proofs.walk.seek_front.Goals as goal
 
 pub record_at-record-requires : goal.record_at-record-requires
-record_at-record-requires c = seek-down-within _ _ _ _ _ c.in-Some.number c.loop-at.invariant c.in-Some.is
+record_at-record-requires c = seek-down-within _ _ _ _ c.args.next.now _ _ _ c.in-Some.number c.requires.links c.loop-at.invariant c.in-Some.is refl
 
-pub returns-then-is_seen : goal.returns-then-is_seen
-returns-then-is_seen c = seek-down-found _ _ _ _ _ c.in-Some.number c.record_at-record.result.now c.loop-at.invariant c.in-Some.is c.record_at-record.ensures (sym c.is_seen.ensures ∙ c.if-is_seen.true)
+pub returns-then-is_met : goal.returns-then-is_met
+returns-then-is_met c = seek-down-found _ _ _ _ _ _ c.in-Some.number c.record_at-record.result.now c.loop-at.invariant c.in-Some.is c.record_at-record.ensures (sym c.is_met.ensures ∙ c.if-is_met.true)
 
 pub link_at-at-requires : goal.link_at-at-requires
-link_at-at-requires c =
-    let l : c.in-Some.number < length c.args.records.now = seek-down-within _ _ _ _ _ c.in-Some.number c.loop-at.invariant c.in-Some.is in
-    omega (arith, l, c.requires.links.count)
+link_at-at-requires c = seek-down-linked _ _ _ _ c.args.next.now _ _ _ c.in-Some.number c.requires.links c.loop-at.invariant c.in-Some.is refl
 
 pub loop-at-smaller : goal.loop-at-smaller
-loop-at-smaller c = seek-down-smaller _ _ _ c.args.next.now _ _ _ c.in-Some.number c.requires.links c.loop-at.invariant c.in-Some.is c.link_at-at.ensures
+loop-at-smaller c = seek-down-smaller _ _ _ _ c.args.next.now _ _ _ c.in-Some.number c.requires.links c.loop-at.invariant c.in-Some.is c.link_at-at.ensures
 
 pub loop-at-preserved : goal.loop-at-preserved
 loop-at-preserved c =
-    seek-down-more _ _ _ c.args.next.now _ _ _ c.in-Some.number c.record_at-record.result.now c.requires.links c.loop-at.invariant c.in-Some.is
-    c.record_at-record.ensures (sym c.is_seen.ensures ∙ c.if-is_seen.false) c.link_at-at.ensures
+    seek-down-more _ _ _ _ c.args.next.now _ _ _ c.in-Some.number c.record_at-record.result.now c.requires.links c.loop-at.invariant c.in-Some.is
+    c.record_at-record.ensures (sym c.is_met.ensures ∙ c.if-is_met.false) c.link_at-at.ensures
 
 pub returns : goal.returns
-returns c = seek-down-over _ _ _ _ _ c.loop-at.invariant c.in_default.not-Some
+returns c = seek-down-over _ _ _ _ _ _ c.loop-at.invariant c.in_default.not-Some

@@ -1,0 +1,35 @@
+-- The clauses of a walk that may be for a goal of a key.
+use Rattle.std.specs.Prelude.{ℕ, Bool, ◌&&◌, List, [], ◌∷◌, filter, Option}
+use Rattle.plevent.specs.declared.update.ClauseName.{ClauseName}
+use Rattle.plevent.specs.declared.key.Key.{Key}
+use Rattle.plevent.specs.Alive.{Living, same_name, names_of, lives_as, add_if}
+use Rattle.plevent.specs.Keys.{first_key, may_fit}
+use Rattle.plstore.specs.declared.record.Record.{Record}
+use Rattle.plstore.specs.declared.record.Cursor.{Cursor}
+use Rattle.plstore.specs.declared.record.Cursor.TheVariants.{Start, After}
+use Rattle.plstore.specs.Kept.{head, seen}
+
+-- a clause may be for a goal of a key
+abbrev pub fits : Key → Living → Bool
+fits k x = may_fit k (first_key x.clause.head)
+
+-- the name of the first of them
+abbrev pub first_like : Key → List Living → Option ClauseName
+first_like k xs = head (names_of (filter (fits k) xs))
+
+-- those behind a name
+abbrev pub past : ClauseName → List Living → List Living
+past x [] = []
+past x (y ∷ ys) = add_if (same_name x y.name) ys (past x ys)
+
+abbrev pub rest : Cursor → List Living → List Living
+rest Start xs = xs
+rest (After x) xs = past x xs
+
+-- the name of the first one behind a cursor
+abbrev pub next_like_of : Key → Cursor → List Living → Option ClauseName
+next_like_of k c xs = first_like k (rest c xs)
+
+-- a record is seen at g, and its clause may be for a goal of a key
+abbrev pub is_met : ℕ → Key → Record → Bool
+is_met g k r = seen g r && fits k (lives_as r.name r.clause)
