@@ -35,7 +35,7 @@ down-step p g rs m d v l e =
     ∙ reverse-cons (seen g r && in_front p r) (own r) (picked (in_front p) g (take m rs))
     ∙ ap (λ v. cons_if (seen g r && v) (own r) (down p g rs m)) side
 
-cons-out : (s : Bool) (x : Living) (xs : List Living) → cons_if (s && false) x xs ≡ xs
+pub cons-out : (s : Bool) (x : Living) (xs : List Living) → cons_if (s && false) x xs ≡ xs
 cons-out true x xs = refl
 cons-out false x xs = refl
 
@@ -305,30 +305,40 @@ pub like-cons : (k : Key) (v : Bool) (x : Living) (xs : List Living) → first_l
 like-cons k true x xs = elim (fits k x) as (λ v. head (names_of (cond v (x ∷ filter (fits k) xs) (filter (fits k) xs))) ≡ cond v (Some x.name) (first_like k xs)) [ true ↦ refl | false ↦ refl ]
 like-cons k false x xs = refl
 
+-- where a run ends that a walk at g passes over downward, and upward
+pub record EndDown (p : Indicator) (g : ℕ) (rs : List Record) (i n : ℕ) : Type 0 where
+  pub order : n ≤ i
+  pub mark : get_or (fronts p rs) n false ≡ true
+  pub same : down p g rs i ≡ down p g rs n
+
+pub record EndUp (p : Indicator) (g : ℕ) (rs : List Record) (i n : ℕ) : Type 0 where
+  pub order : i ≤ n
+  pub mark : get_or (backs p rs) n false ≡ true
+  pub same : up p g rs (suc i) ≡ up p g rs (suc n)
+
 -- a search downward
 pub record SeekDown (p : Indicator) (g : ℕ) (k : Key) (rs : List Record) (at : Option ℕ) (all : Option ClauseName) : Type 0 where
   pub mark : Marked (fronts p rs) at
   pub same : first_like k (down p g rs (below at)) ≡ all
 
-module _ (p : Indicator) (g : ℕ) (k : Key) (rs : List Record) (next : List (Option ℕ)) (at to : Option ℕ) (all : Option ClauseName) (i : ℕ) (links : IsDown p rs next) (w : SeekDown p g k rs at all) (e : at ≡ Some i) (t : to ≡ get_or next i None) where
-  seek-down-mark : get_or (fronts p rs) i false ≡ true
-  seek-down-mark = marked-some (fronts p rs) at i w.mark e
+pub seek-down-mark : (p : Indicator) (g : ℕ) (k : Key) (rs : List Record) (at : Option ℕ) (all : Option ClauseName) (i : ℕ) → SeekDown p g k rs at all → at ≡ Some i → get_or (fronts p rs) i false ≡ true
+seek-down-mark p g k rs at all i w e = marked-some (fronts p rs) at i w.mark e
 
-  pub seek-down-within : i < length rs
-  seek-down-within = mark-within (in_front p) rs i seek-down-mark
+pub seek-down-within : (p : Indicator) (g : ℕ) (k : Key) (rs : List Record) (at : Option ℕ) (all : Option ClauseName) (i : ℕ) → SeekDown p g k rs at all → at ≡ Some i → i < length rs
+seek-down-within p g k rs at all i w e = mark-within (in_front p) rs i (seek-down-mark p g k rs at all i w e)
 
-  pub seek-down-linked : i < length next
-  seek-down-linked = omega (arith, seek-down-within, links.count)
+pub end-down-within : (p : Indicator) (g : ℕ) (rs : List Record) (next : List (Option ℕ)) (i n : ℕ) → IsDown p rs next → EndDown p g rs i n → n < length next
+end-down-within p g rs next i n links end = let l = mark-within (in_front p) rs n end.mark in omega (arith, l, links.count)
 
-  seek-down-to : to ≡ last_below (fronts p rs) i
-  seek-down-to = t ∙ links.older i seek-down-mark
+end-down-to : (p : Indicator) (g : ℕ) (rs : List Record) (next : List (Option ℕ)) (i n : ℕ) (to : Option ℕ) → IsDown p rs next → EndDown p g rs i n → to ≡ get_or next n None → to ≡ last_below (fronts p rs) n
+end-down-to p g rs next i n to links end t = t ∙ links.older n end.mark
 
-  pub seek-down-smaller : below to < below at
-  seek-down-smaller = subst (λ a. below to < below a) (sym e) (by-case to seek-down-to)
-    where
-      by-case : (to : Option ℕ) → to ≡ last_below (fronts p rs) i → below to < suc i
-      by-case None n = omega arith
-      by-case (Some j) n = let l = (last-some (fronts p rs) i j (sym n)).within in omega (arith, l)
+pub seek-down-smaller : (p : Indicator) (g : ℕ) (rs : List Record) (next : List (Option ℕ)) (at to : Option ℕ) (i n : ℕ) → IsDown p rs next → EndDown p g rs i n → at ≡ Some i → to ≡ get_or next n None → below to < below at
+seek-down-smaller p g rs next at to i n links end e t = subst (λ a. below to < below a) (sym e) (by-case to (end-down-to p g rs next i n to links end t))
+  where
+    by-case : (to : Option ℕ) → to ≡ last_below (fronts p rs) n → below to < suc i
+    by-case None h = omega arith
+    by-case (Some j) h = let l = (last-some (fronts p rs) n j (sym h)).within in omega (arith, l, end.order)
 
 seek-down-at : (p : Indicator) (g : ℕ) (k : Key) (rs : List Record) (at : Option ℕ) (all : Option ClauseName) (i : ℕ) (r : Record) (v : Bool) → SeekDown p g k rs at all → at ≡ Some i → r ≡ get_or rs i r → is_met g k r ≡ v →
     all ≡ cond v (Some r.name) (first_like k (down p g rs i))
@@ -340,14 +350,14 @@ seek-down-at p g k rs at all i r v w e er ev =
 pub seek-down-found : (p : Indicator) (g : ℕ) (k : Key) (rs : List Record) (at : Option ℕ) (all : Option ClauseName) (i : ℕ) (r : Record) → SeekDown p g k rs at all → at ≡ Some i → r ≡ get_or rs i r → is_met g k r ≡ true → Some r.name ≡ all
 seek-down-found p g k rs at all i r w e er ev = sym (seek-down-at p g k rs at all i r true w e er ev)
 
-pub seek-down-more : (p : Indicator) (g : ℕ) (k : Key) (rs : List Record) (next : List (Option ℕ)) (at to : Option ℕ) (all : Option ClauseName) (i : ℕ) (r : Record) → IsDown p rs next → SeekDown p g k rs at all → at ≡ Some i → r ≡ get_or rs i r → is_met g k r ≡ false →
-    to ≡ get_or next i None → SeekDown p g k rs to all
-seek-down-more p g k rs next at to all i r links w e er ev et =
-    let l : i ≤ length rs = let l = seek-down-within p g k rs next at to all i links w e et in omega (arith, l) in
-    let t = seek-down-to p g k rs next at to all i links w e et in
+pub seek-down-more : (p : Indicator) (g : ℕ) (k : Key) (rs : List Record) (next : List (Option ℕ)) (at to : Option ℕ) (all : Option ClauseName) (i n : ℕ) (r : Record) → IsDown p rs next → EndDown p g rs i n → SeekDown p g k rs at all → at ≡ Some i →
+    r ≡ get_or rs i r → is_met g k r ≡ false → to ≡ get_or next n None → SeekDown p g k rs to all
+seek-down-more p g k rs next at to all i n r links end w e er ev et =
+    let l : n ≤ length rs = let l = seek-down-within p g k rs at all i w e in omega (arith, l, end.order) in
+    let t = end-down-to p g rs next i n to links end et in
     record {
-      mark = marked-last (fronts p rs) i to t;
-      same = ap (first_like k) (down-below p g rs i to l t) ∙ sym (seek-down-at p g k rs at all i r false w e er ev);
+      mark = marked-last (fronts p rs) n to t;
+      same = ap (first_like k) (down-below p g rs n to l t ∙ sym end.same) ∙ sym (seek-down-at p g k rs at all i r false w e er ev);
     }
 
 pub seek-down-over : (p : Indicator) (g : ℕ) (k : Key) (rs : List Record) (at : Option ℕ) (all : Option ClauseName) → SeekDown p g k rs at all → ((i : ℕ) → at ≡ Some i → ⊥) → None ≡ all
@@ -358,28 +368,30 @@ pub record SeekUp (p : Indicator) (g : ℕ) (k : Key) (rs : List Record) (at : O
   pub mark : Marked (backs p rs) at
   pub same : first_like k (up p g rs (onward (length rs) at)) ≡ all
 
-module _ (p : Indicator) (g : ℕ) (k : Key) (rs : List Record) (next : List (Option ℕ)) (at to : Option ℕ) (all : Option ClauseName) (i : ℕ) (links : IsUp p rs next) (w : SeekUp p g k rs at all) (e : at ≡ Some i) (t : to ≡ get_or next i None) where
-  seek-up-mark : get_or (backs p rs) i false ≡ true
-  seek-up-mark = marked-some (backs p rs) at i w.mark e
+pub seek-up-mark : (p : Indicator) (g : ℕ) (k : Key) (rs : List Record) (at : Option ℕ) (all : Option ClauseName) (i : ℕ) → SeekUp p g k rs at all → at ≡ Some i → get_or (backs p rs) i false ≡ true
+seek-up-mark p g k rs at all i w e = marked-some (backs p rs) at i w.mark e
 
-  pub seek-up-within : i < length rs
-  seek-up-within = mark-within (behind_all p) rs i seek-up-mark
+pub seek-up-within : (p : Indicator) (g : ℕ) (k : Key) (rs : List Record) (at : Option ℕ) (all : Option ClauseName) (i : ℕ) → SeekUp p g k rs at all → at ≡ Some i → i < length rs
+seek-up-within p g k rs at all i w e = mark-within (behind_all p) rs i (seek-up-mark p g k rs at all i w e)
 
-  pub seek-up-linked : i < length next
-  seek-up-linked = omega (arith, seek-up-within, links.count)
+end-up-in : (p : Indicator) (g : ℕ) (rs : List Record) (i n : ℕ) → EndUp p g rs i n → n < length rs
+end-up-in p g rs i n end = mark-within (behind_all p) rs n end.mark
 
-  seek-up-to : to ≡ first_from (suc i) (drop (suc i) (backs p rs))
-  seek-up-to = t ∙ links.newer i seek-up-mark
+pub end-up-within : (p : Indicator) (g : ℕ) (rs : List Record) (next : List (Option ℕ)) (i n : ℕ) → IsUp p rs next → EndUp p g rs i n → n < length next
+end-up-within p g rs next i n links end = let l = end-up-in p g rs i n end in omega (arith, l, links.count)
 
-  pub seek-up-left : suc i + (length rs - suc i) ≡ length rs
-  seek-up-left = omega (arith, seek-up-within)
+end-up-to : (p : Indicator) (g : ℕ) (rs : List Record) (next : List (Option ℕ)) (i n : ℕ) (to : Option ℕ) → IsUp p rs next → EndUp p g rs i n → to ≡ get_or next n None → to ≡ first_from (suc n) (drop (suc n) (backs p rs))
+end-up-to p g rs next i n to links end t = t ∙ links.newer n end.mark
 
-  pub seek-up-smaller : left_from (length rs) to < left_from (length rs) at
-  seek-up-smaller = subst (λ a. left_from (length rs) to < left_from (length rs) a) (sym e) (by-case to seek-up-to)
-    where
-      by-case : (to : Option ℕ) → to ≡ first_from (suc i) (drop (suc i) (backs p rs)) → left_from (length rs) to < length rs - i
-      by-case None n = omega (arith, seek-up-within)
-      by-case (Some j) n = let u = up-some p g rs (length rs - suc i) (suc i) j some-record seek-up-left (sym n) in omega (arith, u.above, u.within, seek-up-within)
+end-up-left : (p : Indicator) (g : ℕ) (rs : List Record) (i n : ℕ) → EndUp p g rs i n → suc n + (length rs - suc n) ≡ length rs
+end-up-left p g rs i n end = let l = end-up-in p g rs i n end in omega (arith, l)
+
+pub seek-up-smaller : (p : Indicator) (g : ℕ) (rs : List Record) (next : List (Option ℕ)) (at to : Option ℕ) (i n : ℕ) → IsUp p rs next → EndUp p g rs i n → at ≡ Some i → to ≡ get_or next n None → left_from (length rs) to < left_from (length rs) at
+seek-up-smaller p g rs next at to i n links end e t = subst (λ a. left_from (length rs) to < left_from (length rs) a) (sym e) (by-case to (end-up-to p g rs next i n to links end t))
+  where
+    by-case : (to : Option ℕ) → to ≡ first_from (suc n) (drop (suc n) (backs p rs)) → left_from (length rs) to < length rs - i
+    by-case None h = let l = end-up-in p g rs i n end in omega (arith, l, end.order)
+    by-case (Some j) h = let u = up-some p g rs (length rs - suc n) (suc n) j some-record (end-up-left p g rs i n end) (sym h) in let l = end-up-in p g rs i n end in omega (arith, u.above, u.within, l, end.order)
 
 seek-up-at : (p : Indicator) (g : ℕ) (k : Key) (rs : List Record) (at : Option ℕ) (all : Option ClauseName) (i : ℕ) (r : Record) (v : Bool) → SeekUp p g k rs at all → at ≡ Some i → r ≡ get_or rs i r → is_met g k r ≡ v →
     all ≡ cond v (Some r.name) (first_like k (up p g rs (suc i)))
@@ -391,14 +403,14 @@ seek-up-at p g k rs at all i r v w e er ev =
 pub seek-up-found : (p : Indicator) (g : ℕ) (k : Key) (rs : List Record) (at : Option ℕ) (all : Option ClauseName) (i : ℕ) (r : Record) → SeekUp p g k rs at all → at ≡ Some i → r ≡ get_or rs i r → is_met g k r ≡ true → Some r.name ≡ all
 seek-up-found p g k rs at all i r w e er ev = sym (seek-up-at p g k rs at all i r true w e er ev)
 
-pub seek-up-more : (p : Indicator) (g : ℕ) (k : Key) (rs : List Record) (next : List (Option ℕ)) (at to : Option ℕ) (all : Option ClauseName) (i : ℕ) (r : Record) → IsUp p rs next → SeekUp p g k rs at all → at ≡ Some i → r ≡ get_or rs i r → is_met g k r ≡ false →
-    to ≡ get_or next i None → SeekUp p g k rs to all
-seek-up-more p g k rs next at to all i r links w e er ev et =
-    let s = seek-up-left p g k rs next at to all i links w e et in
-    let t = seek-up-to p g k rs next at to all i links w e et in
+pub seek-up-more : (p : Indicator) (g : ℕ) (k : Key) (rs : List Record) (next : List (Option ℕ)) (at to : Option ℕ) (all : Option ClauseName) (i n : ℕ) (r : Record) → IsUp p rs next → EndUp p g rs i n → SeekUp p g k rs at all → at ≡ Some i →
+    r ≡ get_or rs i r → is_met g k r ≡ false → to ≡ get_or next n None → SeekUp p g k rs to all
+seek-up-more p g k rs next at to all i n r links end w e er ev et =
+    let s = end-up-left p g rs i n end in
+    let t = end-up-to p g rs next i n to links end et in
     record {
-      mark = marked-first p rs (length rs - suc i) (suc i) to s t;
-      same = ap (first_like k) (up-onward p g rs (length rs - suc i) (suc i) to s t) ∙ sym (seek-up-at p g k rs at all i r false w e er ev);
+      mark = marked-first p rs (length rs - suc n) (suc n) to s t;
+      same = ap (first_like k) (up-onward p g rs (length rs - suc n) (suc n) to s t ∙ sym end.same) ∙ sym (seek-up-at p g k rs at all i r false w e er ev);
     }
 
 pub seek-up-over : (p : Indicator) (g : ℕ) (k : Key) (rs : List Record) (at : Option ℕ) (all : Option ClauseName) → SeekUp p g k rs at all → ((i : ℕ) → at ≡ Some i → ⊥) → None ≡ all

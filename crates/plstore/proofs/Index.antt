@@ -333,15 +333,15 @@ back-erased : (p : Indicator) (b : ℕ) (r : Record) (v : Bool) → behind_all p
 back-erased p b r true = refl
 back-erased p b r false = refl
 
-fronts-erased : (p : Indicator) (y : ClauseName) (b : ℕ) (rs : List Record) → fronts p (changed_where (is_named y) (erase_at b) rs) ≡ fronts p rs
+pub fronts-erased : (p : Indicator) (y : ClauseName) (b : ℕ) (rs : List Record) → fronts p (changed_where (is_named y) (erase_at b) rs) ≡ fronts p rs
 fronts-erased p y b [] = refl
 fronts-erased p y b (r ∷ rs) = ap₂ (λ u us. u ∷ us) (front-erased p b r (is_named y r)) (fronts-erased p y b rs)
 
-backs-erased : (p : Indicator) (y : ClauseName) (b : ℕ) (rs : List Record) → backs p (changed_where (is_named y) (erase_at b) rs) ≡ backs p rs
+pub backs-erased : (p : Indicator) (y : ClauseName) (b : ℕ) (rs : List Record) → backs p (changed_where (is_named y) (erase_at b) rs) ≡ backs p rs
 backs-erased p y b [] = refl
 backs-erased p y b (r ∷ rs) = ap₂ (λ u us. u ∷ us) (back-erased p b r (is_named y r)) (backs-erased p y b rs)
 
-length-erased : (y : ClauseName) (b : ℕ) (rs : List Record) → length (changed_where (is_named y) (erase_at b) rs) ≡ length rs
+pub length-erased : (y : ClauseName) (b : ℕ) (rs : List Record) → length (changed_where (is_named y) (erase_at b) rs) ≡ length rs
 length-erased y b [] = refl
 length-erased y b (r ∷ rs) = ap suc (length-erased y b rs)
 

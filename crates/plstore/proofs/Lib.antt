@@ -7,6 +7,7 @@ pub mod Bits
 pub mod Index
 pub mod Plans
 pub mod Chains
+pub mod Passing
 pub mod Keys
 mod Worked
 pub mod Visible

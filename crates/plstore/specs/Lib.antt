@@ -2,5 +2,6 @@ pub mod Kept
 pub mod Like
 pub mod Rising
 pub mod Links
+pub mod Runs
 pub mod Plan
 pub mod Tables

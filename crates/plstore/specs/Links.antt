@@ -99,3 +99,8 @@ below (Some i) = suc i
 abbrev pub onward : ℕ → Option ℕ → ℕ
 onward n None = n
 onward n (Some i) = i
+
+-- the links of each procedure
+pub record IsLinked (rs : List Record) (next : List (Option ℕ)) : Type 0 where
+  pub down : (p : Indicator) → IsDown p rs next
+  pub up : (p : Indicator) → IsUp p rs next

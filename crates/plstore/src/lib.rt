@@ -5,6 +5,7 @@ mod ends;
 pub mod laws;
 mod plan;
 pub mod record;
+mod runs;
 mod sought;
 mod steps;
 pub mod store;

@@ -6,7 +6,7 @@ ghost use Rattle.plstore.specs.Kept.{walk};
 ghost use Rattle.plstore.specs.Like.{first_like, past};
 ghost use Rattle.plstore.specs.Links.{below, down, fronts, up, Marked};
 ghost use Rattle.plstore.specs.Rising.{IsRising, OneIs};
-ghost use Rattle.plstore.specs.Tables.{Indexed};
+ghost use Rattle.plstore.specs.Tables.{Indexed, Passed};
 
 use crate::ends::ends_of;
 use crate::sought::Sought;
@@ -16,7 +16,8 @@ use plevent::ClauseName;
 
 /// The name of the first clause that is sought.
 pub(crate) fn first_sought(tables: &Tables, sought: &Sought<'_>) -> Option<ClauseName>
-    requires { Indexed tables.now }
+    requires indexed { Indexed tables.now }
+    requires runs { Passed tables.now }
     ensures { result ≡ first_like sought.now.key.now (walk sought.now.g sought.now.pred.now tables.now.records.items) }
 {
     let ends = ends_of(&tables.index, sought.pred);
@@ -26,17 +27,19 @@ pub(crate) fn first_sought(tables: &Tables, sought: &Sought<'_>) -> Option<Claus
 /// The name of the first one from a record in front on, downward, and then of those behind.
 fn sought_from(tables: &Tables, sought: &Sought<'_>, newest: Option<usize>) -> Option<ClauseName>
     requires indexed { Indexed tables.now }
+    requires runs { Passed tables.now }
     requires newest { Marked (fronts sought.now.pred.now tables.now.records.items) newest }
     ensures { result ≡ or_else (first_like sought.now.key.now (down sought.now.pred.now sought.now.g tables.now.records.items (below newest)))
         (first_like sought.now.key.now (up sought.now.pred.now sought.now.g tables.now.records.items 0)) }
 {
     let records = tables.records.as_slice();
     let next = tables.next.as_slice();
-    match seek_front(records, next, sought, newest) {
+    let places = tables.places.as_slice();
+    match seek_front(records, next, places, sought, newest) {
         Some(name) => return Some(name),
         None => {
             let ends = ends_of(&tables.index, sought.pred);
-            return seek_back(records, next, sought, ends.oldest_back);
+            return seek_back(records, next, places, sought, ends.oldest_back);
         }
     }
 }
@@ -50,6 +53,7 @@ pub(crate) fn sought_after(
 ) -> Option<ClauseName>
     requires rising { IsRising tables.now.records.items }
     requires indexed { Indexed tables.now }
+    requires runs { Passed tables.now }
     ensures { result ≡ first_like sought.now.key.now (past name (walk sought.now.g sought.now.pred.now tables.now.records.items)) }
 {
     match find(tables.records.as_slice(), name) {
@@ -61,6 +65,7 @@ pub(crate) fn sought_after(
 /// The same of a record, by its number.
 fn sought_behind(tables: &Tables, sought: &Sought<'_>, number: usize) -> Option<ClauseName>
     requires indexed { Indexed tables.now }
+    requires runs { Passed tables.now }
     requires within { number < length tables.now.records.items }
     ensures { (x : Named) → OneIs x tables.now.records.items number →
         result ≡ first_like sought.now.key.now (past x (walk sought.now.g sought.now.pred.now tables.now.records.items)) }
@@ -76,6 +81,7 @@ fn sought_behind(tables: &Tables, sought: &Sought<'_>, number: usize) -> Option<
     seek_back(
         tables.records.as_slice(),
         tables.next.as_slice(),
+        tables.places.as_slice(),
         sought,
         link,
     )

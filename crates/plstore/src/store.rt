@@ -51,6 +51,7 @@ impl Store {
                 declared: Vec::new(alloc),
                 next: Vec::new(alloc),
                 index: HashMap::new(alloc),
+                places: Vec::new(alloc),
             },
         }
     }
@@ -65,6 +66,7 @@ impl Store {
         self.tables.records.reserve(plan.len())?;
         self.tables.declared.reserve(plan.len())?;
         self.tables.next.reserve(plan.len())?;
+        self.tables.places.reserve(plan.len())?;
         self.tables.index.reserve(plan.len())?;
         make_all(&mut self.tables, plan, place);
         Ok(())

@@ -3,9 +3,11 @@ ghost use Rattle.std.specs.Prelude.{◌≡◌, ◌++◌, ◌<◌, ◌∷◌, [],
 ghost use Rattle.plevent.specs.Alive.{clauses_of};
 ghost use Rattle.plstore.specs.Kept.{picked, seen, in_front, behind_all};
 ghost use Rattle.plstore.specs.Like.{first_like};
+ghost use Rattle.plstore.specs.Runs.{HasRuns};
 ghost use Rattle.plstore.specs.Links.{below, down, onward, up, fronts, backs, last_below, first_from, IsDown, IsUp, Marked};
 
 use crate::record::Record;
+use crate::runs::{Place, run_end};
 use crate::sought::Sought;
 use plclause::clause::Clause;
 use plevent::ClauseName;
@@ -62,10 +64,12 @@ pub(crate) fn gather_back(
 pub(crate) fn seek_front(
     records: &[Record],
     next: &[Option<usize>],
+    places: &[Place],
     sought: &Sought<'_>,
     newest: Option<usize>,
 ) -> Option<ClauseName>
     requires links { IsDown sought.now.pred.now records.now next.now }
+    requires runs { HasRuns records.now places.now }
     requires newest { Marked (fronts sought.now.pred.now records.now) newest }
     ensures { result ≡ first_like sought.now.key.now (down sought.now.pred.now sought.now.g records.now (below newest)) }
 {
@@ -75,7 +79,7 @@ pub(crate) fn seek_front(
         if sought.is_met(record) {
             return Some(record.name);
         }
-        at = link_at(next, number);
+        at = link_at(next, run_end(places, number, sought.g));
     }
     None
 }
@@ -84,10 +88,12 @@ pub(crate) fn seek_front(
 pub(crate) fn seek_back(
     records: &[Record],
     next: &[Option<usize>],
+    places: &[Place],
     sought: &Sought<'_>,
     oldest: Option<usize>,
 ) -> Option<ClauseName>
     requires links { IsUp sought.now.pred.now records.now next.now }
+    requires runs { HasRuns records.now places.now }
     requires oldest { Marked (backs sought.now.pred.now records.now) oldest }
     ensures { result ≡ first_like sought.now.key.now (up sought.now.pred.now sought.now.g records.now (onward (length records.now) oldest)) }
 {
@@ -97,7 +103,7 @@ pub(crate) fn seek_back(
         if sought.is_met(record) {
             return Some(record.name);
         }
-        at = link_at(next, number);
+        at = link_at(next, run_end(places, number, sought.g));
     }
     None
 }

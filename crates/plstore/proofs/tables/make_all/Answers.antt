@@ -33,10 +33,12 @@ loop-planned-preserved c =
         order = subst (λ n. InOrder (named p n) c.make.new.tables.records.items) (omega arith)
             (subst (InOrder (named p (suc n))) (sym (ap (λ k. k.records) c.make.ensures.made)) (order-keep p n u c.loop-planned.tables.records.items i.order));
         indexed = c.make.ensures.indexed;
+        runs = c.make.ensures.runs;
         planned = rest.1;
         records_room = omega (arith, r, i.records_room, c.make.ensures.records_room, c.make.ensures.records_len);
         declared_room = omega (arith, r, i.declared_room, c.make.ensures.declared_room, c.make.ensures.declared_len);
         next_room = omega (arith, r, i.next_room, c.make.ensures.next_room, c.make.ensures.next_len);
         index_room = omega (arith, r, i.index_room, c.make.ensures.index_room);
+        places_room = omega (arith, r, i.places_room, c.make.ensures.places_room, c.make.ensures.places_len);
       },
     )

@@ -1,0 +1,50 @@
+-- Runs of erased records.
+use Rattle.std.specs.Prelude.{◌≡◌, ℕ, ◌≤◌, true, List, length, nat_lt, slice_index_or, Bool, false, Option, Some, None}
+use Rattle.plterm.specs.declared.indicator.Indicator.{Indicator}
+use Rattle.plevent.specs.Alive.{add_if}
+use Rattle.plstore.specs.declared.record.Record.{Record}
+use Rattle.plstore.specs.declared.runs.Run.{Run}
+use Rattle.plstore.specs.declared.runs.Place.{Place}
+use Rattle.plstore.specs.Links.{fronts, backs}
+
+-- erased at a place or below
+abbrev pub IsGone : ℕ → Option ℕ → Type 0
+IsGone b None = ⊥
+IsGone b (Some e) = e ≤ b
+
+-- each record of some marked ones from low to high, both included, was erased at b or below
+abbrev pub AllGone : List Bool → List Record → ℕ → ℕ → ℕ → Type 0
+AllGone bs rs b low high = (j : ℕ) (d : Record) → low ≤ j → j ≤ high → slice_index_or bs j false ≡ true → IsGone b (slice_index_or rs j d).erased
+
+-- a run from the record i on, downward and upward
+pub record IsRunDown (bs : List Bool) (rs : List Record) (i : ℕ) (r : Run) : Type 0 where
+  pub order : r.last ≤ i
+  pub mark : slice_index_or bs r.last false ≡ true
+  pub gone : AllGone bs rs r.latest r.last i
+
+pub record IsRunUp (bs : List Bool) (rs : List Record) (i : ℕ) (r : Run) : Type 0 where
+  pub order : i ≤ r.last
+  pub mark : slice_index_or bs r.last false ≡ true
+  pub gone : AllGone bs rs r.latest i r.last
+
+-- on its side of its procedure
+pub record IsRun (rs : List Record) (i : ℕ) (r : Run) : Type 0 where
+  pub down : (p : Indicator) → slice_index_or (fronts p rs) i false ≡ true → IsRunDown (fronts p rs) rs i r
+  pub up : (p : Indicator) → slice_index_or (backs p rs) i false ≡ true → IsRunUp (backs p rs) rs i r
+
+abbrev pub no_place : Place
+no_place = record { run = None; from = None; start = 0 }
+
+-- each run that is noted is one
+pub record HasRuns (rs : List Record) (places : List Place) : Type 0 where
+  pub count : length places ≡ length rs
+  pub each : (i : ℕ) (r : Run) → (slice_index_or places i no_place).run ≡ Some r → IsRun rs i r
+
+pub record SameRuns (old new : List Place) : Type 0 where
+  pub count : length new ≡ length old
+  pub each : (i : ℕ) → (slice_index_or new i no_place).run ≡ (slice_index_or old i no_place).run
+
+-- how far a walk at g passes over a run
+abbrev pub end_at : ℕ → ℕ → Option Run → ℕ
+end_at g i None = i
+end_at g i (Some r) = add_if (nat_lt r.latest g) r.last i

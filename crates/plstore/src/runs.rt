@@ -1,0 +1,192 @@
+//! Runs of erased records, which a walk at a later time passes over in one step.
+ghost use Rattle.std.specs.Prelude.{◌≡◌, ◌<◌, ◌≤◌, ◌+◌, ◌++◌, ◌∷◌, [], ℕ, List, None, Some, length, slice_index_or, vec_len};
+ghost use Rattle.std.specs.Vec.{vec_capacity};
+ghost use Rattle.plstore.specs.declared.record.Record.{Record};
+ghost use Rattle.plstore.specs.declared.runs.Run.{Run as Ran};
+ghost use Rattle.plstore.specs.Links.{IsLinked};
+ghost use Rattle.plstore.specs.Runs.{end_at, no_place, HasRuns, IsGone, IsRun, SameRuns};
+
+use crate::ends::Ends;
+
+/// Erased records of one side of a procedure that follow one another: from one on up to `last`, each erased by a batch at
+/// `latest` or below.
+#[derive(Clone, Copy)]
+pub(crate) struct Run {
+    pub(crate) last: usize,
+    pub(crate) latest: u64,
+}
+
+/// What is kept of a record beside its link.
+#[derive(Clone, Copy)]
+pub(crate) struct Place {
+    /// The run that begins here.
+    pub(crate) run: Option<Run>,
+    /// The record whose link leads here. Nothing but time depends on it, nor on the next.
+    pub(crate) from: Option<usize>,
+    /// Where the run that ends here begins.
+    pub(crate) start: usize,
+}
+
+/// The last record of the run that begins here, as far as a walk at `g` passes over it; else this record.
+pub(crate) fn run_end(places: &[Place], number: usize, g: u64) -> usize
+    requires { number < length places.now }
+    ensures { result ≡ end_at g number (slice_index_or places.now number no_place).run }
+{
+    match places[number].run {
+        Some(run) if run.latest < g => run.last,
+        Some(_) | None => number,
+    }
+}
+
+/// Takes note that a record is erased by a batch at a place, and joins it with the runs before it and behind it.
+pub(crate) fn bury(places: &mut Vec<Place>, next: &[Option<usize>], number: usize, place: u64)
+    ensures runs { (rs : List Record) → IsLinked rs next.now → ((d : Record) → IsGone place (slice_index_or rs number d).erased) → HasRuns rs places.old.items → HasRuns rs places.new.items }
+    ensures room { vec_capacity places.new ≡ vec_capacity places.old }
+    ensures len { vec_len places.new ≡ vec_len places.old }
+{
+    bury_in(places.as_mut_slice(), next, number, place);
+}
+
+fn bury_in(places: &mut [Place], next: &[Option<usize>], number: usize, place: u64)
+    ensures runs { (rs : List Record) → IsLinked rs next.now → ((d : Record) → IsGone place (slice_index_or rs number d).erased) → HasRuns rs places.old → HasRuns rs places.new }
+    ensures len { length places.new ≡ length places.old }
+{
+    let own = Run {
+        last: number,
+        latest: place,
+    };
+    begin(places, number, own);
+    lengthen(places, next, number);
+    if let Some(start) = start_before(places, number) {
+        lengthen(places, next, start);
+    }
+}
+
+/// Where the run begins that ends with the record before this one, if that is erased.
+fn start_before(places: &[Place], number: usize) -> Option<usize> {
+    let before = places.get(number)?.from?;
+    Some(places.get(before)?.start)
+}
+
+/// Joins the run that begins here with the one behind it.
+fn lengthen(places: &mut [Place], next: &[Option<usize>], start: usize)
+    ensures runs { (rs : List Record) → IsLinked rs next.now → HasRuns rs places.old → HasRuns rs places.new }
+    ensures len { length places.new ≡ length places.old }
+{
+    if let Some(own) = run_at(places, start) {
+        let run = joined(places, next, own);
+        begin(places, start, run);
+    }
+}
+
+/// The run that begins at a record, if there is the record and it is erased.
+fn run_at(places: &[Place], number: usize) -> Option<Run>
+    ensures { result ≡ (slice_index_or places.now number no_place).run }
+{
+    if number < places.len() {
+        places[number].run
+    } else {
+        None
+    }
+}
+
+/// A run, with the one behind it.
+fn joined(places: &[Place], next: &[Option<usize>], own: Run) -> Run
+    ensures { (rs : List Record) (i : ℕ) → IsLinked rs next.now → HasRuns rs places.now → IsRun rs i own → IsRun rs i result }
+{
+    match run_behind(places, next, own.last) {
+        Some(run) => Run {
+            last: run.last,
+            latest: later(own.latest, run.latest),
+        },
+        None => own,
+    }
+}
+
+/// The run that begins at the record to which the link of this one leads.
+fn run_behind(places: &[Place], next: &[Option<usize>], number: usize) -> Option<Run>
+    ensures { (r : Ran) → result ≡ Some r → (n : ℕ) × (slice_index_or next.now number None ≡ Some n) × ((slice_index_or places.now n no_place).run ≡ Some r) }
+{
+    if number < next.len() {
+        let behind = next[number]?;
+        run_at(places, behind)
+    } else {
+        None
+    }
+}
+
+fn later(a: u64, b: u64) -> u64
+    ensures left { a ≤ result }
+    ensures right { b ≤ result }
+{
+    if a < b { b } else { a }
+}
+
+/// Notes a run at its first record, and where it begins at its last one.
+fn begin(places: &mut [Place], start: usize, run: Run)
+    ensures runs { (rs : List Record) → HasRuns rs places.old → IsRun rs start run → HasRuns rs places.new }
+    ensures len { length places.new ≡ length places.old }
+{
+    set_run(places, start, run);
+    set_start(places, run.last, start);
+}
+
+fn set_run(places: &mut [Place], start: usize, run: Run)
+    ensures runs { (rs : List Record) → HasRuns rs places.old → IsRun rs start run → HasRuns rs places.new }
+    ensures len { length places.new ≡ length places.old }
+{
+    if start < places.len() {
+        places[start].run = Some(run);
+    }
+}
+
+fn set_start(places: &mut [Place], last: usize, start: usize)
+    ensures same { SameRuns places.old places.new }
+{
+    if last < places.len() {
+        places[last].start = start;
+    }
+}
+
+/// Notes of a record which one leads to it.
+fn set_from(places: &mut [Place], number: usize, from: usize)
+    ensures same { SameRuns places.old places.new }
+{
+    if number < places.len() {
+        places[number].from = Some(from);
+    }
+}
+
+/// Appends the place of one more record, for which there is room.
+pub(crate) fn add_place(places: &mut Vec<Place>, front: bool, number: usize, ends: Ends)
+    requires { vec_len places.old < vec_capacity places.old }
+    ensures runs { (rs : List Record) (r : Record) → HasRuns rs places.old.items → HasRuns (rs ++ r ∷ []) places.new.items }
+    ensures room { vec_capacity places.old ≤ vec_capacity places.new }
+    ensures len { vec_len places.new ≡ vec_len places.old + 1 }
+{
+    if !front {
+        append(places, ends.newest_back, number);
+        return;
+    }
+    append(places, None, number);
+    if let Some(first) = ends.newest_front {
+        set_from(places.as_mut_slice(), first, number);
+    }
+}
+
+fn append(places: &mut Vec<Place>, from: Option<usize>, number: usize)
+    requires { vec_len places.old < vec_capacity places.old }
+    ensures runs { (rs : List Record) (r : Record) → HasRuns rs places.old.items → HasRuns (rs ++ r ∷ []) places.new.items }
+    ensures room { vec_capacity places.old ≤ vec_capacity places.new }
+    ensures len { vec_len places.new ≡ vec_len places.old + 1 }
+{
+    let place = Place {
+        run: None,
+        from,
+        start: number,
+    };
+    match places.push(place) {
+        Ok(()) => {}
+        Err(_) => unreachable!(),
+    }
+}
