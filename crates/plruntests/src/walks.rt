@@ -1,4 +1,7 @@
 //! Walks over the clauses of a procedure, by their first arguments and while they come and go (plstore).
+ghost use Rattle.std.specs.Prelude.{◌<◌, ◌+◌, OnOk};
+ghost use Rattle.plstore.specs.Rising.{AllBelowPlace};
+
 use plclause::clause::Clause;
 use plevent::{Batch, ClauseName, Key, Update};
 use plload::goal::read_goal;
@@ -73,5 +76,71 @@ fn by_first_argument(rt: HostRuntime) -> Result<(), Fail> {
         [1, 2, 3, 4].as_slice()
     );
     assert!(rt; walk(alloc, &store, 0, &Key::Any)?.is_empty());
+    Ok(())
+}
+
+/// A batch of one update.
+fn batch(alloc: Global, update: Update) -> Result<Batch, AllocError> {
+    let mut updates = Vec::new(alloc);
+    updates.push(update)?;
+    Ok(Batch::new(updates))
+}
+
+/// A clause comes at a place, and goes at the next one.
+fn round(alloc: Global, store: &mut Store, place: u64) -> Result<(), Fail>
+    requires below { AllBelowPlace place store.old.records }
+    requires early { place < 2000 }
+    ensures { OnOk result (AllBelowPlace (place + 2) store.new.records) }
+{
+    let fact = fact(alloc, "p(1)")?;
+    store.apply(alloc, batch(alloc, Update::Last(fact))?, place)?;
+    let name = ClauseName { place, number: 0 };
+    store.apply(alloc, batch(alloc, Update::Erase(name))?, place + 1)?;
+    Ok(())
+}
+
+/// A store in which clauses have come and gone 1,000 times, from place 1 on.
+fn counted(alloc: Global) -> Result<Store, Fail> {
+    let mut updates = Vec::new(alloc);
+    updates.push(Update::Declare(indicator(alloc)?))?;
+    let mut store = Store::new(alloc);
+    store.apply(alloc, Batch::new(updates), 0)?;
+    let mut place = 1;
+    while place < 2000 {
+        round(alloc, &mut store, place)?;
+        place += 2;
+    }
+    Ok(store)
+}
+
+/// Whether the walk at a place is this one clause, by its first argument too.
+fn is_alone(store: &Store, pred: &Indicator, g: u64, place: u64) -> bool {
+    let first = store.next_visible(g, pred, Cursor::Start);
+    let like = store.next_like(g, pred, &Key::Int(1), Cursor::Start);
+    let unlike = store.next_like(g, pred, &Key::Int(2), Cursor::Start);
+    match (first, like, unlike) {
+        (Some(name), Some(same), None) => {
+            let next = store.next_visible(g, pred, Cursor::After(name));
+            name.place == place && same.place == place && next.is_none()
+        }
+        _ => false,
+    }
+}
+
+// Each walk at an earlier time is as it was then, after all that came later.
+#[test]
+fn come_and_gone(rt: HostRuntime) -> Result<(), Fail> {
+    let alloc = rt.alloc();
+    let store = counted(alloc)?;
+    let pred = indicator(alloc)?;
+    for i in 1..1001u64 {
+        assert!(rt; is_alone(&store, &pred, 2 * i, 2 * i - 1), "round {i}");
+        assert!(rt;
+            store
+                .next_visible(2 * i + 1, &pred, Cursor::Start)
+                .is_none(),
+            "round {i}"
+        );
+    }
     Ok(())
 }

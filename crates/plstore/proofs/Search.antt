@@ -191,3 +191,12 @@ place-keep g s rs h all = by-case s.update
     by-case (Erase y) = place-erase g s.at.place (is_named y) rs all
     by-case (EraseOwn n) = place-erase g s.at.place (is_named (named s.at.place n)) rs all
     by-case (Declare q) = all
+
+pub place-more : (b g : ℕ) (rs : List Record) → b ≤ g → AllBelowPlace b rs → AllBelowPlace g rs
+place-more b g rs h all k d l = let m = all k d l in omega (arith, m)
+
+-- after a batch at b each name's place is below g
+pub place-batch : (b n g : ℕ) (us : List Update) (k : Kept) → b < g → AllBelowPlace g k.records → AllBelowPlace g (fold keep k (stamped b n us)).records
+place-batch b n g [] k h all = all
+place-batch b n g (u ∷ us) k h all =
+    let s : Stamped = record { at = named b n; update = u } in place-batch b (suc n) g us (keep k s) h (place-keep g s k.records h all)
