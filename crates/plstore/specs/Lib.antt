@@ -1,7 +1,10 @@
 pub mod Kept
 pub mod Like
 pub mod Rising
+pub mod Slots
+pub mod Bonds
 pub mod Links
 pub mod Runs
 pub mod Plan
 pub mod Tables
+pub mod Slotted

@@ -9,7 +9,8 @@ use Rattle.plevent.specs.Alive.{Living, add_if, or_else}
 use Rattle.plstore.specs.declared.record.Record.{Record}
 use Rattle.plstore.specs.declared.record.Declared.{Declared}
 use Rattle.plstore.specs.declared.ends.Ends.{Ends}
-use Rattle.plstore.specs.Kept.{in_front, behind_all, picked, is_there}
+use Rattle.plstore.specs.Kept.{picked, is_there}
+use Rattle.plstore.specs.Bonds.{Bond, ByProcedure, BySlot, ClassOf, front_of, back_of}
 
 -- the last mark below n, and the first one of a list that begins at k
 abbrev pub last_below : List Bool → ℕ → Option ℕ
@@ -21,18 +22,18 @@ first_from k [] = None
 first_from k (b ∷ bs) = add_if b (Some k) (first_from (suc k) bs)
 
 -- which records are of p, put in front of others or behind them
-abbrev pub fronts : Indicator → List Record → List Bool
-fronts p rs = map (in_front p) rs
+abbrev pub fronts : (bond : Bond) → ClassOf bond → List Record → List Bool
+fronts bond p rs = map (front_of bond p) rs
 
-abbrev pub backs : Indicator → List Record → List Bool
-backs p rs = map (behind_all p) rs
+abbrev pub backs : (bond : Bond) → ClassOf bond → List Record → List Bool
+backs bond p rs = map (back_of bond p) rs
 
 -- the clauses of p that are seen at g: those in front below n downward, and those behind from k on upward
-abbrev pub down : Indicator → ℕ → List Record → ℕ → List Living
-down p g rs n = reverse (picked (in_front p) g (take n rs))
+abbrev pub down : (bond : Bond) → ClassOf bond → ℕ → List Record → ℕ → List Living
+down bond p g rs n = reverse (picked (front_of bond p) g (take n rs))
 
-abbrev pub up : Indicator → ℕ → List Record → ℕ → List Living
-up p g rs k = picked (behind_all p) g (drop k rs)
+abbrev pub up : (bond : Bond) → ClassOf bond → ℕ → List Record → ℕ → List Living
+up bond p g rs k = picked (back_of bond p) g (drop k rs)
 
 abbrev pub Index : Type 0
 Index = HashMap Indicator Ends (BuildHasherDefault FoldHasher)
@@ -67,24 +68,29 @@ abbrev pub links_after : Bool → ℕ → Ends → List (Option ℕ) → List (O
 links_after true n e next = next ++ e.newest_front ∷ []
 links_after false n e next = linked_at e.newest_back n (next ++ None ∷ [])
 
--- links and ends are those of the records, at each procedure
-pub record IsIndexed (rs : List Record) (ds : List Declared) (next : List (Option ℕ)) (ends : Indicator → Ends) : Type 0 where
+-- the ends of each procedure know since when it is named
+abbrev pub SinceIs : (bond : Bond) → List Record → List Declared → (ClassOf bond → Ends) → Type 0
+SinceIs ByProcedure rs ds ends = (p : Indicator) (g : ℕ) → since_below g (ends p).since ≡ is_there g p (record { records = rs; declared = ds })
+SinceIs BySlot rs ds ends = Unit {0}
+
+-- links and ends are those of the records, at each class
+pub record IsIndexed (bond : Bond) (rs : List Record) (ds : List Declared) (next : List (Option ℕ)) (ends : ClassOf bond → Ends) : Type 0 where
   pub count : length next ≡ length rs
-  pub front : (p : Indicator) → (ends p).newest_front ≡ last_below (fronts p rs) (length rs)
-  pub oldest : (p : Indicator) → (ends p).oldest_back ≡ first_from 0 (backs p rs)
-  pub newest : (p : Indicator) → (ends p).newest_back ≡ last_below (backs p rs) (length rs)
-  pub older : (p : Indicator) (i : ℕ) → slice_index_or (fronts p rs) i false ≡ true → slice_index_or next i None ≡ last_below (fronts p rs) i
-  pub newer : (p : Indicator) (i : ℕ) → slice_index_or (backs p rs) i false ≡ true → slice_index_or next i None ≡ first_from (suc i) (drop (suc i) (backs p rs))
-  pub since : (p : Indicator) (g : ℕ) → since_below g (ends p).since ≡ is_there g p (record { records = rs; declared = ds })
+  pub front : (p : ClassOf bond) → (ends p).newest_front ≡ last_below (fronts bond p rs) (length rs)
+  pub oldest : (p : ClassOf bond) → (ends p).oldest_back ≡ first_from 0 (backs bond p rs)
+  pub newest : (p : ClassOf bond) → (ends p).newest_back ≡ last_below (backs bond p rs) (length rs)
+  pub older : (p : ClassOf bond) (i : ℕ) → slice_index_or (fronts bond p rs) i false ≡ true → slice_index_or next i None ≡ last_below (fronts bond p rs) i
+  pub newer : (p : ClassOf bond) (i : ℕ) → slice_index_or (backs bond p rs) i false ≡ true → slice_index_or next i None ≡ first_from (suc i) (drop (suc i) (backs bond p rs))
+  pub since : SinceIs bond rs ds ends
 
 -- the links of p alone
-pub record IsDown (p : Indicator) (rs : List Record) (next : List (Option ℕ)) : Type 0 where
+pub record IsDown (bond : Bond) (p : ClassOf bond) (rs : List Record) (next : List (Option ℕ)) : Type 0 where
   pub count : length next ≡ length rs
-  pub older : (i : ℕ) → slice_index_or (fronts p rs) i false ≡ true → slice_index_or next i None ≡ last_below (fronts p rs) i
+  pub older : (i : ℕ) → slice_index_or (fronts bond p rs) i false ≡ true → slice_index_or next i None ≡ last_below (fronts bond p rs) i
 
-pub record IsUp (p : Indicator) (rs : List Record) (next : List (Option ℕ)) : Type 0 where
+pub record IsUp (bond : Bond) (p : ClassOf bond) (rs : List Record) (next : List (Option ℕ)) : Type 0 where
   pub count : length next ≡ length rs
-  pub newer : (i : ℕ) → slice_index_or (backs p rs) i false ≡ true → slice_index_or next i None ≡ first_from (suc i) (drop (suc i) (backs p rs))
+  pub newer : (i : ℕ) → slice_index_or (backs bond p rs) i false ≡ true → slice_index_or next i None ≡ first_from (suc i) (drop (suc i) (backs bond p rs))
 
 -- a link leads to a mark, or nowhere
 abbrev pub Marked : List Bool → Option ℕ → Type 0
@@ -100,7 +106,7 @@ abbrev pub onward : ℕ → Option ℕ → ℕ
 onward n None = n
 onward n (Some i) = i
 
--- the links of each procedure
-pub record IsLinked (rs : List Record) (next : List (Option ℕ)) : Type 0 where
-  pub down : (p : Indicator) → IsDown p rs next
-  pub up : (p : Indicator) → IsUp p rs next
+-- the links of each class
+pub record IsLinked (bond : Bond) (rs : List Record) (next : List (Option ℕ)) : Type 0 where
+  pub down : (p : ClassOf bond) → IsDown bond p rs next
+  pub up : (p : ClassOf bond) → IsUp bond p rs next

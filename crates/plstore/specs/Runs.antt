@@ -1,6 +1,6 @@
 -- Runs of erased records.
 use Rattle.std.specs.Prelude.{◌≡◌, ℕ, ◌≤◌, true, List, length, nat_lt, slice_index_or, Bool, false, Option, Some, None}
-use Rattle.plterm.specs.declared.indicator.Indicator.{Indicator}
+use Rattle.plstore.specs.Bonds.{Bond, ClassOf}
 use Rattle.plevent.specs.Alive.{add_if}
 use Rattle.plstore.specs.declared.record.Record.{Record}
 use Rattle.plstore.specs.declared.runs.Run.{Run}
@@ -27,18 +27,18 @@ pub record IsRunUp (bs : List Bool) (rs : List Record) (i : ℕ) (r : Run) : Typ
   pub mark : slice_index_or bs r.last false ≡ true
   pub gone : AllGone bs rs r.latest i r.last
 
--- on its side of its procedure
-pub record IsRun (rs : List Record) (i : ℕ) (r : Run) : Type 0 where
-  pub down : (p : Indicator) → slice_index_or (fronts p rs) i false ≡ true → IsRunDown (fronts p rs) rs i r
-  pub up : (p : Indicator) → slice_index_or (backs p rs) i false ≡ true → IsRunUp (backs p rs) rs i r
+-- on its side of its class
+pub record IsRun (bond : Bond) (rs : List Record) (i : ℕ) (r : Run) : Type 0 where
+  pub down : (p : ClassOf bond) → slice_index_or (fronts bond p rs) i false ≡ true → IsRunDown (fronts bond p rs) rs i r
+  pub up : (p : ClassOf bond) → slice_index_or (backs bond p rs) i false ≡ true → IsRunUp (backs bond p rs) rs i r
 
 abbrev pub no_place : Place
 no_place = record { run = None; from = None; start = 0 }
 
 -- each run that is noted is one
-pub record HasRuns (rs : List Record) (places : List Place) : Type 0 where
+pub record HasRuns (bond : Bond) (rs : List Record) (places : List Place) : Type 0 where
   pub count : length places ≡ length rs
-  pub each : (i : ℕ) (r : Run) → (slice_index_or places i no_place).run ≡ Some r → IsRun rs i r
+  pub each : (i : ℕ) (r : Run) → (slice_index_or places i no_place).run ≡ Some r → IsRun bond rs i r
 
 pub record SameRuns (old new : List Place) : Type 0 where
   pub count : length new ≡ length old

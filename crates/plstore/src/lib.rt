@@ -6,6 +6,8 @@ pub mod laws;
 mod plan;
 pub mod record;
 mod runs;
+mod slot;
+mod slots;
 mod sought;
 mod steps;
 pub mod store;

@@ -3,6 +3,7 @@ ghost use Rattle.std.specs.Prelude.{◌≡◌, ◌<◌, ◌≤◌, ◌+◌, ◌+
 ghost use Rattle.std.specs.Vec.{vec_capacity};
 ghost use Rattle.plstore.specs.declared.record.Record.{Record};
 ghost use Rattle.plstore.specs.declared.runs.Run.{Run as Ran};
+ghost use Rattle.plstore.specs.Bonds.{Bond};
 ghost use Rattle.plstore.specs.Links.{IsLinked};
 ghost use Rattle.plstore.specs.Runs.{end_at, no_place, HasRuns, IsGone, IsRun, SameRuns};
 
@@ -40,7 +41,7 @@ pub(crate) fn run_end(places: &[Place], number: usize, g: u64) -> usize
 
 /// Takes note that a record is erased by a batch at a place, and joins it with the runs before it and behind it.
 pub(crate) fn bury(places: &mut Vec<Place>, next: &[Option<usize>], number: usize, place: u64)
-    ensures runs { (rs : List Record) → IsLinked rs next.now → ((d : Record) → IsGone place (slice_index_or rs number d).erased) → HasRuns rs places.old.items → HasRuns rs places.new.items }
+    ensures runs { (bond : Bond) (rs : List Record) → IsLinked bond rs next.now → ((d : Record) → IsGone place (slice_index_or rs number d).erased) → HasRuns bond rs places.old.items → HasRuns bond rs places.new.items }
     ensures room { vec_capacity places.new ≡ vec_capacity places.old }
     ensures len { vec_len places.new ≡ vec_len places.old }
 {
@@ -48,7 +49,7 @@ pub(crate) fn bury(places: &mut Vec<Place>, next: &[Option<usize>], number: usiz
 }
 
 fn bury_in(places: &mut [Place], next: &[Option<usize>], number: usize, place: u64)
-    ensures runs { (rs : List Record) → IsLinked rs next.now → ((d : Record) → IsGone place (slice_index_or rs number d).erased) → HasRuns rs places.old → HasRuns rs places.new }
+    ensures runs { (bond : Bond) (rs : List Record) → IsLinked bond rs next.now → ((d : Record) → IsGone place (slice_index_or rs number d).erased) → HasRuns bond rs places.old → HasRuns bond rs places.new }
     ensures len { length places.new ≡ length places.old }
 {
     let own = Run {
@@ -70,7 +71,7 @@ fn start_before(places: &[Place], number: usize) -> Option<usize> {
 
 /// Joins the run that begins here with the one behind it.
 fn lengthen(places: &mut [Place], next: &[Option<usize>], start: usize)
-    ensures runs { (rs : List Record) → IsLinked rs next.now → HasRuns rs places.old → HasRuns rs places.new }
+    ensures runs { (bond : Bond) (rs : List Record) → IsLinked bond rs next.now → HasRuns bond rs places.old → HasRuns bond rs places.new }
     ensures len { length places.new ≡ length places.old }
 {
     if let Some(own) = run_at(places, start) {
@@ -92,7 +93,7 @@ fn run_at(places: &[Place], number: usize) -> Option<Run>
 
 /// A run, with the one behind it.
 fn joined(places: &[Place], next: &[Option<usize>], own: Run) -> Run
-    ensures { (rs : List Record) (i : ℕ) → IsLinked rs next.now → HasRuns rs places.now → IsRun rs i own → IsRun rs i result }
+    ensures { (bond : Bond) (rs : List Record) (i : ℕ) → IsLinked bond rs next.now → HasRuns bond rs places.now → IsRun bond rs i own → IsRun bond rs i result }
 {
     match run_behind(places, next, own.last) {
         Some(run) => Run {
@@ -124,7 +125,7 @@ fn later(a: u64, b: u64) -> u64
 
 /// Notes a run at its first record, and where it begins at its last one.
 fn begin(places: &mut [Place], start: usize, run: Run)
-    ensures runs { (rs : List Record) → HasRuns rs places.old → IsRun rs start run → HasRuns rs places.new }
+    ensures runs { (bond : Bond) (rs : List Record) → HasRuns bond rs places.old → IsRun bond rs start run → HasRuns bond rs places.new }
     ensures len { length places.new ≡ length places.old }
 {
     set_run(places, start, run);
@@ -132,7 +133,7 @@ fn begin(places: &mut [Place], start: usize, run: Run)
 }
 
 fn set_run(places: &mut [Place], start: usize, run: Run)
-    ensures runs { (rs : List Record) → HasRuns rs places.old → IsRun rs start run → HasRuns rs places.new }
+    ensures runs { (bond : Bond) (rs : List Record) → HasRuns bond rs places.old → IsRun bond rs start run → HasRuns bond rs places.new }
     ensures len { length places.new ≡ length places.old }
 {
     if start < places.len() {
@@ -149,8 +150,17 @@ fn set_start(places: &mut [Place], last: usize, start: usize)
 }
 
 /// Notes of a record which one leads to it.
-fn set_from(places: &mut [Place], number: usize, from: usize)
+fn set_from(places: &mut Vec<Place>, number: usize, from: usize)
+    ensures same { SameRuns places.old.items places.new.items }
+    ensures room { vec_capacity places.new ≡ vec_capacity places.old }
+    ensures len { vec_len places.new ≡ vec_len places.old }
+{
+    set_from_in(places.as_mut_slice(), number, from);
+}
+
+fn set_from_in(places: &mut [Place], number: usize, from: usize)
     ensures same { SameRuns places.old places.new }
+    ensures len { length places.new ≡ length places.old }
 {
     if number < places.len() {
         places[number].from = Some(from);
@@ -160,7 +170,7 @@ fn set_from(places: &mut [Place], number: usize, from: usize)
 /// Appends the place of one more record, for which there is room.
 pub(crate) fn add_place(places: &mut Vec<Place>, front: bool, number: usize, ends: Ends)
     requires { vec_len places.old < vec_capacity places.old }
-    ensures runs { (rs : List Record) (r : Record) → HasRuns rs places.old.items → HasRuns (rs ++ r ∷ []) places.new.items }
+    ensures runs { (bond : Bond) (rs : List Record) (r : Record) → HasRuns bond rs places.old.items → HasRuns bond (rs ++ r ∷ []) places.new.items }
     ensures room { vec_capacity places.old ≤ vec_capacity places.new }
     ensures len { vec_len places.new ≡ vec_len places.old + 1 }
 {
@@ -170,13 +180,13 @@ pub(crate) fn add_place(places: &mut Vec<Place>, front: bool, number: usize, end
     }
     append(places, None, number);
     if let Some(first) = ends.newest_front {
-        set_from(places.as_mut_slice(), first, number);
+        set_from(places, first, number);
     }
 }
 
 fn append(places: &mut Vec<Place>, from: Option<usize>, number: usize)
     requires { vec_len places.old < vec_capacity places.old }
-    ensures runs { (rs : List Record) (r : Record) → HasRuns rs places.old.items → HasRuns (rs ++ r ∷ []) places.new.items }
+    ensures runs { (bond : Bond) (rs : List Record) (r : Record) → HasRuns bond rs places.old.items → HasRuns bond (rs ++ r ∷ []) places.new.items }
     ensures room { vec_capacity places.old ≤ vec_capacity places.new }
     ensures len { vec_len places.new ≡ vec_len places.old + 1 }
 {

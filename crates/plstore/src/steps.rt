@@ -4,6 +4,7 @@ ghost use Rattle.plevent.specs.declared.update.ClauseName.{ClauseName as Named};
 ghost use Rattle.plevent.specs.Alive.{or_else};
 ghost use Rattle.plstore.specs.Kept.{walk};
 ghost use Rattle.plstore.specs.Like.{first_like, past};
+ghost use Rattle.plstore.specs.Bonds.{ByProcedure};
 ghost use Rattle.plstore.specs.Links.{below, down, fronts, up, Marked};
 ghost use Rattle.plstore.specs.Rising.{IsRising, OneIs};
 ghost use Rattle.plstore.specs.Tables.{Indexed, Passed};
@@ -28,9 +29,9 @@ pub(crate) fn first_sought(tables: &Tables, sought: &Sought<'_>) -> Option<Claus
 fn sought_from(tables: &Tables, sought: &Sought<'_>, newest: Option<usize>) -> Option<ClauseName>
     requires indexed { Indexed tables.now }
     requires runs { Passed tables.now }
-    requires newest { Marked (fronts sought.now.pred.now tables.now.records.items) newest }
-    ensures { result ≡ or_else (first_like sought.now.key.now (down sought.now.pred.now sought.now.g tables.now.records.items (below newest)))
-        (first_like sought.now.key.now (up sought.now.pred.now sought.now.g tables.now.records.items 0)) }
+    requires newest { Marked (fronts ByProcedure sought.now.pred.now tables.now.records.items) newest }
+    ensures { result ≡ or_else (first_like sought.now.key.now (down ByProcedure sought.now.pred.now sought.now.g tables.now.records.items (below newest)))
+        (first_like sought.now.key.now (up ByProcedure sought.now.pred.now sought.now.g tables.now.records.items 0)) }
 {
     let records = tables.records.as_slice();
     let next = tables.next.as_slice();

@@ -4,6 +4,7 @@ ghost use Rattle.plevent.specs.Alive.{clauses_of};
 ghost use Rattle.plstore.specs.Kept.{picked, seen, in_front, behind_all};
 ghost use Rattle.plstore.specs.Like.{first_like};
 ghost use Rattle.plstore.specs.Runs.{HasRuns};
+ghost use Rattle.plstore.specs.Bonds.{ByProcedure};
 ghost use Rattle.plstore.specs.Links.{below, down, onward, up, fronts, backs, last_below, first_from, IsDown, IsUp, Marked};
 
 use crate::record::Record;
@@ -23,8 +24,8 @@ pub(crate) fn gather_front(
     g: u64,
     found: &mut Vec<Clause>,
 ) -> Result<(), AllocError>
-    requires links { IsDown pred.now records.now next.now }
-    requires newest { newest ≡ last_below (fronts pred.now records.now) (length records.now) }
+    requires links { IsDown ByProcedure pred.now records.now next.now }
+    requires newest { newest ≡ last_below (fronts ByProcedure pred.now records.now) (length records.now) }
     ensures { OnOk result (found.new.items ≡ found.old.items ++ clauses_of (reverse (picked (in_front pred.now) g records.now))) }
 {
     let _ = pred;
@@ -46,8 +47,8 @@ pub(crate) fn gather_back(
     g: u64,
     found: &mut Vec<Clause>,
 ) -> Result<(), AllocError>
-    requires links { IsUp pred.now records.now next.now }
-    requires oldest { oldest ≡ first_from 0 (backs pred.now records.now) }
+    requires links { IsUp ByProcedure pred.now records.now next.now }
+    requires oldest { oldest ≡ first_from 0 (backs ByProcedure pred.now records.now) }
     ensures { OnOk result (found.new.items ≡ found.old.items ++ clauses_of (picked (behind_all pred.now) g records.now)) }
 {
     let _ = pred;
@@ -68,10 +69,10 @@ pub(crate) fn seek_front(
     sought: &Sought<'_>,
     newest: Option<usize>,
 ) -> Option<ClauseName>
-    requires links { IsDown sought.now.pred.now records.now next.now }
-    requires runs { HasRuns records.now places.now }
-    requires newest { Marked (fronts sought.now.pred.now records.now) newest }
-    ensures { result ≡ first_like sought.now.key.now (down sought.now.pred.now sought.now.g records.now (below newest)) }
+    requires links { IsDown ByProcedure sought.now.pred.now records.now next.now }
+    requires runs { HasRuns ByProcedure records.now places.now }
+    requires newest { Marked (fronts ByProcedure sought.now.pred.now records.now) newest }
+    ensures { result ≡ first_like sought.now.key.now (down ByProcedure sought.now.pred.now sought.now.g records.now (below newest)) }
 {
     let mut at = newest;
     while let Some(number) = at {
@@ -92,10 +93,10 @@ pub(crate) fn seek_back(
     sought: &Sought<'_>,
     oldest: Option<usize>,
 ) -> Option<ClauseName>
-    requires links { IsUp sought.now.pred.now records.now next.now }
-    requires runs { HasRuns records.now places.now }
-    requires oldest { Marked (backs sought.now.pred.now records.now) oldest }
-    ensures { result ≡ first_like sought.now.key.now (up sought.now.pred.now sought.now.g records.now (onward (length records.now) oldest)) }
+    requires links { IsUp ByProcedure sought.now.pred.now records.now next.now }
+    requires runs { HasRuns ByProcedure records.now places.now }
+    requires oldest { Marked (backs ByProcedure sought.now.pred.now records.now) oldest }
+    ensures { result ≡ first_like sought.now.key.now (up ByProcedure sought.now.pred.now sought.now.g records.now (onward (length records.now) oldest)) }
 {
     let mut at = oldest;
     while let Some(number) = at {

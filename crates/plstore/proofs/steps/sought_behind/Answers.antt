@@ -1,5 +1,6 @@
 use Rattle.std.proofs.Common.{◌≡◌, ◌∙◌, sym, ap, subst, get_or, length, None}
 use Rattle.plstore.specs.Like.{first_like}
+use Rattle.plstore.specs.Bonds.{ByProcedure}
 use Rattle.plstore.specs.Links.{backs, ends_in, onward, up, Marked}
 use Rattle.plstore.proofs.Visible.{not-shown, shown-front, shown-back, shown-in-front, shown-behind, down-marked, down-linked, up-marked, up-linked}
 use Rattle.plstore.proofs.steps.sought_behind.Goals as goal
@@ -38,7 +39,7 @@ seek_back-requires-clause-oldest c =
     let t = c.args.tables.now in
     let q = c.args.sought.now in
     let r = c.record_at-one.result.now in
-    subst (λ rs. Marked (backs q.pred.now rs) c.link_at-link.result) (sym c.as_slice-3.ensures.value)
+    subst (λ rs. Marked (backs ByProcedure q.pred.now rs) c.link_at-link.result) (sym c.as_slice-3.ensures.value)
     (up-marked q.pred.now t.records.items t.declared.items t.next.items (ends_in t.index) c.requires.indexed c.args.number c.link_at-link.result c.requires.within
     (c.link_at-link.ensures ∙ ap (λ ns. get_or ns c.args.number None) c.as_slice-2.ensures.value)
     (shown-behind q.g q.pred.now t.records.items c.args.number r c.requires.within
@@ -55,4 +56,4 @@ returns c = λ x one.
     (up-linked q.pred.now t.records.items t.declared.items t.next.items (ends_in t.index) c.requires.indexed c.args.number c.link_at-link.result c.requires.within
     (c.link_at-link.ensures ∙ ap (λ ns. get_or ns c.args.number None) c.as_slice-2.ensures.value) q.g
     (shown-behind q.g q.pred.now t.records.items c.args.number r c.requires.within er shown c.if-one.false))
-    (c.seek_back.ensures ∙ ap (λ rs. first_like q.key.now (up q.pred.now q.g rs (onward (length rs) c.link_at-link.result))) c.as_slice-3.ensures.value)
+    (c.seek_back.ensures ∙ ap (λ rs. first_like q.key.now (up ByProcedure q.pred.now q.g rs (onward (length rs) c.link_at-link.result))) c.as_slice-3.ensures.value)
