@@ -1,15 +1,17 @@
 -- The definitions on small inputs.
-use Rattle.std.proofs.Common.{◌≡◌, ℕ, true, false, List, [], ◌∷◌, map, pos, negsuc, Ok, Err, refl}
+use Rattle.std.proofs.Common.{◌≡◌, ℕ, true, false, List, [], ◌∷◌, ◌++◌, map, pos, negsuc, Ok, Err, Some, None, refl}
 use Rattle.std.specs.Prelude.{codes}
 use Rattle.std.specs.Char.{encode_utf8}
 use Rattle.std.specs.Str.{chars}
 use Rattle.plterm.specs.Tree.{Tree, var, int, atom, compound, none, more}
 use Rattle.plprogram.specs.declared.settings.Settings.{Settings}
 use Rattle.plprogram.specs.declared.settings.Unknown.TheVariants.{Fail}
+use Rattle.plops.specs.Listing.{current_ops}
 use Rattle.plops.specs.declared.operator.Kind.TheVariants.{Xfx}
+use Rattle.plops.specs.declared.table.Entry.{Entry}
 use Rattle.plwrite.specs.declared.style.Style.TheVariants.{Plain}
 use Rattle.plbuiltin.specs.Errors.{instantiation_error, type_error, domain_error, permission_error, representation_error, syntax_error}
-use Rattle.plbuiltin.specs.Solution.{Raises, Gives, fails, unifies, writes, sets, decides}
+use Rattle.plbuiltin.specs.Solution.{Solution, Raises, Gives, are, are_one_of, fails, unifies, writes, sets, decides}
 use Rattle.plbuiltin.specs.Flags.{asked, set_flag}
 use Rattle.plbuiltin.specs.Format.{Byte, Takes, Amiss, Written, pieces, format}
 use Rattle.std.specs.declared.cmp.Ordering.TheVariants as orderings
@@ -34,7 +36,9 @@ use Rattle.pllex.specs.Tokens.{run_end, gap, value, item_of}
 use Rattle.plnumber.specs.Numbers.{number_of}
 use Rattle.plsort.specs.Sorted.{inserted, in_order, added, set_of}
 use Rattle.plbuiltin.specs.Sorting.{on_sorting}
-use Rattle.plbuiltin.specs.Texts.{text_in}
+use Rattle.plbuiltin.specs.Texts.{text_in, number_text, atom_of}
+use Rattle.plbuiltin.specs.Pieces.{parts, splits, sub_atom, atom_concat, whole}
+use Rattle.plbuiltin.specs.Current.{current_op, current_flag, operator_terms}
 use Rattle.plbuiltin.specs.Arithmetic.{compares, on_arithmetic}
 use Rattle.plbuiltin.specs.Atoms.{atom_length, char_code, count_of, number_spelled, spell}
 
@@ -408,3 +412,84 @@ module _ (s : Settings) where
       × (format (var 0 ∷ []) s ≡ Raises instantiation_error)
   unfolding foo dot empty elements_of
   formats_amiss = (refl, refl, refl, refl, refl)
+
+-- ---- parts of texts
+
+module _ (b l r t : Tree) (s : Settings) where
+  one : ℕ → ℕ → ℕ → List ℕ → Solution
+  one i j k name = are (b ∷ l ∷ r ∷ t ∷ []) (int (pos i) ∷ int (pos j) ∷ int (pos k) ∷ atom name ∷ [])
+
+  parts_of_two : parts (codes "ab") (b ∷ l ∷ r ∷ t ∷ []) ≡ one 0 0 2 [] ∷ one 0 1 1 (codes "a") ∷ one 0 2 0 (codes "ab") ∷ one 1 0 1 [] ∷ one 1 1 0 (codes "b") ∷ one 2 0 0 [] ∷ []
+  unfolding one encode_utf8
+  parts_of_two = refl
+
+  parts_of_none : parts [] (b ∷ l ∷ r ∷ t ∷ []) ≡ one 0 0 0 [] ∷ []
+  unfolding one
+  parts_of_none = refl
+
+  -- two bytes that are one character
+  parts_of_wide : sub_atom (atom (195 ∷ 169 ∷ []) ∷ var 0 ∷ var 1 ∷ var 2 ∷ var 3 ∷ []) s ≡ Gives (parts (233 ∷ []) (var 0 ∷ var 1 ∷ var 2 ∷ var 3 ∷ [])) [] s
+  unfolding chars
+  parts_of_wide = refl
+
+  splits_of_two : splits (codes "ab") (l ∷ r ∷ []) ≡ are (l ∷ r ∷ []) (atom [] ∷ atom (codes "ab") ∷ []) ∷ are (l ∷ r ∷ []) (atom (codes "a") ∷ atom (codes "b") ∷ []) ∷ are (l ∷ r ∷ []) (atom (codes "ab") ∷ atom [] ∷ []) ∷ []
+  unfolding encode_utf8
+  splits_of_two = refl
+
+module _ (s : Settings) where
+  joined : atom_concat (atom (codes "ab") ∷ atom (codes "c") ∷ var 0 ∷ []) s ≡ unifies (var 0) (atom (codes "abc")) s
+  joined = refl
+
+  -- an integer stands for its text
+  joined_integer : atom_concat (atom (codes "ab") ∷ int (pos 1) ∷ var 0 ∷ []) s ≡ whole (atom_of (codes "ab" ++ number_text (pos 1))) (var 0) s
+  joined_integer = refl
+
+  divided_integer : atom_concat (int (pos 1) ∷ var 0 ∷ int (pos 12) ∷ []) s ≡ Gives (splits (chars (number_text (pos 12))) (atom (number_text (pos 1)) ∷ var 0 ∷ [])) [] s
+  divided_integer = refl
+
+  -- what is not known is looked for first, and then what is no text, from the left
+  concat_errors :
+      (atom_concat (f_of_foo ∷ var 0 ∷ var 1 ∷ []) s ≡ Raises instantiation_error)
+      × (atom_concat (f_of_foo ∷ foo ∷ var 0 ∷ []) s ≡ Raises (type_error (codes "atomic") f_of_foo))
+      × (atom_concat (var 0 ∷ foo ∷ f_of_foo ∷ []) s ≡ Raises (type_error (codes "atomic") f_of_foo))
+  unfolding foo f_of_foo
+  concat_errors = (refl, refl, refl)
+
+  -- the text is looked at before the numbers, and each of these wholly
+  part_errors :
+      (sub_atom (var 0 ∷ foo ∷ foo ∷ foo ∷ int (pos 1) ∷ []) s ≡ Raises instantiation_error)
+      × (sub_atom (foo ∷ foo ∷ var 0 ∷ var 1 ∷ int (pos 1) ∷ []) s ≡ Raises (type_error (codes "atom") (int (pos 1))))
+      × (sub_atom (foo ∷ int (negsuc 0) ∷ foo ∷ var 0 ∷ var 1 ∷ []) s ≡ Raises (domain_error (codes "not_less_than_zero") (int (negsuc 0))))
+  unfolding foo
+  part_errors = (refl, refl, refl)
+
+-- ---- the operators and the flags as they stand
+
+minus : Entry
+minus = record { name = codes "-"; as_prefix = Some (record { priority = 200; right = 200 }); as_infix = Some (record { priority = 500; left = 500; right = 499 }); as_postfix = None }
+
+-- of a name the prefix operator comes first
+operators_told : map operator_terms (current_ops (minus ∷ [])) ≡ (int (pos 200) ∷ atom (codes "fy") ∷ atom (codes "-") ∷ []) ∷ (int (pos 500) ∷ atom (codes "yfx") ∷ atom (codes "-") ∷ []) ∷ []
+unfolding minus
+operators_told = refl
+
+module _ (s : Settings) where
+  -- any operator of that name
+  current_named : current_op (var 0) (var 1) (atom (codes "-")) (record s { operators = minus ∷ [] }) ≡ are_one_of (var 0 ∷ var 1 ∷ atom (codes "-") ∷ []) ((int (pos 200) ∷ atom (codes "fy") ∷ atom (codes "-") ∷ []) ∷ (int (pos 500) ∷ atom (codes "yfx") ∷ atom (codes "-") ∷ []) ∷ []) (record s { operators = minus ∷ [] })
+  unfolding minus
+  current_named = refl
+
+  -- the priority is looked at first, and then the specifier
+  current_errors :
+      (current_op (int (pos 1201)) foo (int (pos 1)) s ≡ Raises (domain_error (codes "operator_priority") (int (pos 1201))))
+      × (current_op foo (var 0) (var 1) s ≡ Raises (domain_error (codes "operator_priority") foo))
+      × (current_op (var 0) foo (int (pos 1)) s ≡ Raises (domain_error (codes "operator_specifier") foo))
+      × (current_op (int (pos 0)) (atom (codes "xfx")) (int (pos 1)) s ≡ Raises (type_error (codes "atom") (int (pos 1))))
+  unfolding foo
+  current_errors = (refl, refl, refl, refl)
+
+  flag_errors :
+      (current_flag foo (var 0) s ≡ Raises (domain_error (codes "prolog_flag") foo))
+      × (current_flag (int (pos 1)) (var 0) s ≡ Raises (type_error (codes "atom") (int (pos 1))))
+  unfolding foo
+  flag_errors = (refl, refl)

@@ -5,12 +5,13 @@ use Rattle.plterm.specs.Tree.{Tree, var, int, atom, compound}
 use Rattle.plread.specs.Texts.{char_tree, code_tree}
 use Rattle.plnumber.specs.Numbers.{number_of}
 use Rattle.plnames.specs.declared.kind.Atoms.{Atoms}
-use Rattle.plnames.specs.declared.kind.Atoms.TheVariants.{Length, Spelled, CharacterCode, NumberSpelled, Number}
+use Rattle.plnames.specs.declared.kind.Atoms.TheVariants.{Length, Spelled, CharacterCode, NumberSpelled, Number, Concatenation, Part}
 use Rattle.plnames.specs.declared.kind.Spelling.{Spelling}
 use Rattle.plnames.specs.declared.kind.Spelling.TheVariants.{Characters, Codes}
 use Rattle.plprogram.specs.declared.settings.Settings.{Settings}
 use Rattle.plbuiltin.specs.Errors.{instantiation_error, type_error, domain_error, syntax_error}
 use Rattle.plbuiltin.specs.Solution.{Solved, Raises, fails, unifies}
+use Rattle.plbuiltin.specs.Pieces.{atom_concat, sub_atom}
 use Rattle.plbuiltin.specs.Texts.{Found, number_text, spelled, character_of, text_in, atom_of}
 
 -- how many characters a name has
@@ -101,4 +102,6 @@ on_atoms (Spelled k) (a ∷ l ∷ []) settings = spell k a l settings
 on_atoms CharacterCode (c ∷ n ∷ []) settings = char_code c n settings
 on_atoms (NumberSpelled k) (n ∷ l ∷ []) settings = number_spelled k n l (text_in k l) settings
 on_atoms Number (a ∷ n ∷ []) settings = atom_number a n settings
+on_atoms Concatenation us settings = atom_concat us settings
+on_atoms Part us settings = sub_atom us settings
 on_atoms b us settings = fails settings

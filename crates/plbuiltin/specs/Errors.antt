@@ -1,6 +1,6 @@
 -- The errors that built-in predicates raise (ISO/IEC 13211-1 7.12.2).
-use Rattle.std.specs.Prelude.{ℕ, List, codes}
-use Rattle.plterm.specs.Tree.{Tree, atom, compound, none, more}
+use Rattle.std.specs.Prelude.{ℕ, List, [], ◌∷◌, codes, Option, Some, None}
+use Rattle.plterm.specs.Tree.{Tree, var, int, atom, compound, none, more}
 
 -- a variable stands where a term is needed
 abbrev pub instantiation_error : Tree
@@ -25,3 +25,16 @@ representation_error limit = compound (codes "representation_error") (more (atom
 -- a text is none that can be read
 abbrev pub syntax_error : List ℕ → Tree
 syntax_error fault = compound (codes "syntax_error") (more (atom fault) none)
+
+-- the error of an argument that is to be a variable or an atom
+abbrev pub atom_error : Tree → Option Tree
+atom_error (var x) = None
+atom_error (int i) = Some (type_error (codes "atom") (int i))
+atom_error (atom name) = None
+atom_error (compound f ts) = Some (type_error (codes "atom") (compound f ts))
+
+-- the first error counts
+abbrev pub first_error : List (Option Tree) → Option Tree
+first_error [] = None
+first_error (Some e ∷ es) = Some e
+first_error (None ∷ es) = first_error es

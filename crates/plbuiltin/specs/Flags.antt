@@ -1,4 +1,4 @@
--- Built-in predicates that change the operators and the flags (ISO/IEC 13211-1 8.14.3, 8.17.1).
+-- Built-in predicates on the operators and the flags (ISO/IEC 13211-1 8.14.3, 8.14.4, 8.17).
 use Rattle.std.specs.Prelude.{ℕ, ℤ, pos, negsuc, nat_le, ◌||◌, List, [], ◌∷◌, codes, Option, Some, None, Result, Ok, Err, if◌then◌else◌}
 use Rattle.plterm.specs.Tree.{Tree, var, int, atom, compound, none, more}
 use Rattle.plops.specs.declared.error.OpError.{OpError}
@@ -6,13 +6,14 @@ use Rattle.plops.specs.declared.error.OpError.TheVariants as causes
 use Rattle.plops.specs.declared.operator.Kind.{Kind}
 use Rattle.plops.specs.declared.table.Entry.{Entry}
 use Rattle.plnames.specs.declared.kind.Flags.{Flags}
-use Rattle.plnames.specs.declared.kind.Flags.TheVariants.{Operator, Set}
+use Rattle.plnames.specs.declared.kind.Flags.TheVariants.{Operator, CurrentOperator, Set, Current}
 use Rattle.plprogram.specs.Changes.{declared, kind_named, flag_named, with_flag}
 use Rattle.plprogram.specs.declared.change.Flag.{Flag}
 use Rattle.plprogram.specs.declared.change.FlagError.{FlagError}
 use Rattle.plprogram.specs.declared.change.FlagError.TheVariants.{NoFlag, ReadOnly, NoValue}
 use Rattle.plprogram.specs.declared.change.Refusal.{Refusal}
 use Rattle.plprogram.specs.declared.settings.Settings.{Settings}
+use Rattle.plbuiltin.specs.Current.{current_op, current_flag}
 use Rattle.plbuiltin.specs.Errors.{instantiation_error, type_error, domain_error, permission_error}
 use Rattle.plbuiltin.specs.Lists.{Tail, Empty, Unbound, Other, elements_of, is_partial, is_variable}
 use Rattle.plbuiltin.specs.Solution.{Solved, Raises, fails, sets}
@@ -114,5 +115,7 @@ set_flag flag value settings = Raises (type_error (codes "atom") flag)
 
 abbrev pub on_flags : Flags → List Tree → Settings → Solved
 on_flags Operator (priority ∷ kind ∷ names ∷ []) settings = op (asked priority kind names) settings
+on_flags CurrentOperator (priority ∷ kind ∷ name ∷ []) settings = current_op priority kind name settings
 on_flags Set (flag ∷ value ∷ []) settings = set_flag flag value settings
+on_flags Current (flag ∷ value ∷ []) settings = current_flag flag value settings
 on_flags b us settings = fails settings

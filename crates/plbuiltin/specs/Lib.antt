@@ -8,8 +8,10 @@ pub mod Parts
 pub mod Arithmetic
 pub mod Order
 pub mod Sorting
+pub mod Pieces
 pub mod Atoms
 pub mod Format
 pub mod Output
+pub mod Current
 pub mod Flags
 pub mod Solutions

@@ -1,6 +1,6 @@
 -- What a call of a built-in predicate gives.
-use Rattle.std.specs.Prelude.{ℕ, Bool, true, false, List, [], ◌∷◌, codes}
-use Rattle.plterm.specs.Tree.{Tree, atom}
+use Rattle.std.specs.Prelude.{ℕ, Bool, true, false, List, [], ◌∷◌, map, codes, Option, Some, None}
+use Rattle.plterm.specs.Tree.{Tree, atom, compound, trees}
 use Rattle.plprogram.specs.declared.settings.Settings.{Settings}
 
 -- a solution: two terms that are unified, and how many variables they have that were not in use
@@ -33,3 +33,24 @@ sets settings = writes [] settings
 abbrev pub decides : Bool → Settings → Solved
 decides true settings = writes [] settings
 decides false settings = fails settings
+
+-- it raises an error, where there is one
+abbrev pub unless : Option Tree → Solved → Solved
+unless (Some e) solved = Raises e
+unless None solved = solved
+
+-- several terms at once
+abbrev pub together : List Tree → Tree
+together ts = compound (codes "-") (trees ts)
+
+-- they are unified with one term
+abbrev pub against : List Tree → Tree → Solution
+against us t = record { left = together us; right = t; new = 0 }
+
+-- or with as many others
+abbrev pub are : List Tree → List Tree → Solution
+are us ts = against us (together ts)
+
+-- they are unified with one group of others after another
+abbrev pub are_one_of : List Tree → List (List Tree) → Settings → Solved
+are_one_of us tss settings = Gives (map (are us) tss) [] settings

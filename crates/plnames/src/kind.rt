@@ -166,6 +166,10 @@ pub enum Atoms {
     NumberSpelled(Spelling),
     /// atom_number/2.
     Number,
+    /// atom_concat/3.
+    Concatenation,
+    /// sub_atom/5.
+    Part,
 }
 
 /// A built-in predicate that writes (8.14).
@@ -191,13 +195,17 @@ pub enum Output {
     Format,
 }
 
-/// A built-in predicate on the operators and the flags (8.14.3, 8.17).
+/// A built-in predicate on the operators and the flags (8.14.3, 8.14.4, 8.17).
 #[derive(Clone, Copy, Debug, PartialEq, Eq)]
 pub enum Flags {
     /// op/3.
     Operator,
+    /// current_op/3.
+    CurrentOperator,
     /// set_prolog_flag/2.
     Set,
+    /// current_prolog_flag/2.
+    Current,
 }
 
 /// A built-in predicate, by its topic.

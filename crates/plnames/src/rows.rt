@@ -168,6 +168,12 @@ pub static ROWS: &[(&str, u16, Kind)] = &[
         2,
         Kind::BuiltIn(BuiltIn::Atoms(Atoms::Number)),
     ),
+    (
+        "atom_concat",
+        3,
+        Kind::BuiltIn(BuiltIn::Atoms(Atoms::Concatenation)),
+    ),
+    ("sub_atom", 5, Kind::BuiltIn(BuiltIn::Atoms(Atoms::Part))),
     ("write", 1, Kind::BuiltIn(BuiltIn::Output(Output::Write))),
     (
         "writeq",
@@ -205,8 +211,18 @@ pub static ROWS: &[(&str, u16, Kind)] = &[
     ("format", 2, Kind::BuiltIn(BuiltIn::Output(Output::Format))),
     ("op", 3, Kind::BuiltIn(BuiltIn::Flags(Flags::Operator))),
     (
+        "current_op",
+        3,
+        Kind::BuiltIn(BuiltIn::Flags(Flags::CurrentOperator)),
+    ),
+    (
         "set_prolog_flag",
         2,
         Kind::BuiltIn(BuiltIn::Flags(Flags::Set)),
+    ),
+    (
+        "current_prolog_flag",
+        2,
+        Kind::BuiltIn(BuiltIn::Flags(Flags::Current)),
     ),
 ];

@@ -1,0 +1,77 @@
+-- The answers that are left of a call, over the values of its arguments.
+use Rattle.std.specs.Prelude.{◌≡◌, ℕ, ◌<◌, ◌≤◌, List, [], ◌∷◌, map, length, Option, Some, None, IfSome}
+use Rattle.std.specs.Str.{chars}
+use Rattle.plterm.specs.Tree.{Tree, atom}
+use Rattle.plcells.specs.declared.cell.Cell.{Cell}
+use Rattle.plcells.specs.declared.equation.Equation.{Equation}
+use Rattle.plcells.specs.Store.{Store, value, IsValue}
+use Rattle.plcells.specs.Equations.{IsEquation, left_of, right_of}
+use Rattle.plbuiltin.specs.Solution.{Solution, against}
+use Rattle.plbuiltin.specs.Lists.{elements_of}
+use Rattle.plbuiltin.specs.Pieces.{text_of, as_text}
+use Rattle.plgenerator.specs.declared.turn.Part.{Part}
+use Rattle.plgenerator.specs.declared.turn.Split.{Split}
+use Rattle.plgenerator.specs.declared.turn.Turn.{Turn}
+use Rattle.plgenerator.specs.declared.turn.Turn.TheVariants as turns
+use Rattle.plgenerator.specs.declared.generator.Found.{Found}
+use Rattle.plgenerator.specs.declared.wanted.Sought.{Sought}
+use Rattle.plgenerator.specs.Fitting.{fitting}
+use Rattle.plgenerator.specs.Turns.{IsPart, IsSplit, parts_left, splits_left}
+
+abbrev pub solution_of : Store → ℕ → Equation → Solution
+solution_of h n e = record { left = left_of h n e; right = right_of h n e; new = e.new }
+
+-- the terms of the arguments behind the atom
+abbrev pub sought_terms : Store → Sought → List Tree
+sought_terms h s = value h s.before ∷ value h s.length ∷ value h s.after ∷ value h s.text ∷ []
+
+abbrev pub parts_in : Option (List ℕ) → List Tree → Part → List Solution
+parts_in None us p = []
+parts_in (Some name) us p = parts_left (chars name) us p
+
+abbrev pub splits_in : Option (List ℕ) → List Tree → Split → List Solution
+splits_in None us s = []
+splits_in (Some name) us s = splits_left (chars name) us s
+
+-- those of sub_atom/5
+abbrev pub parts_for : Store → List Cell → Part → List Solution
+parts_for h (a ∷ b ∷ l ∷ r ∷ s ∷ []) p = parts_in (text_of (value h a)) (value h b ∷ value h l ∷ value h r ∷ value h s ∷ []) p
+parts_for h vs p = []
+
+-- those of atom_concat/3, where its first two arguments are not both known
+abbrev pub splits_for : Store → List Cell → Split → List Solution
+splits_for h (a ∷ b ∷ c ∷ []) s = splits_in (text_of (value h c)) (as_text (value h a) ∷ as_text (value h b) ∷ []) s
+splits_for h vs s = []
+
+-- each element of a list in turn
+abbrev pub elements_for : Store → List Cell → Cell → List Solution
+elements_for h vs l = map (against (map (value h) vs)) (elements_of (value h l)).items
+
+abbrev pub left : Store → List Cell → Turn → List Solution
+left h vs (turns.Part p) = parts_for h vs p
+left h vs (turns.Split s) = splits_for h vs s
+left h vs (turns.Element l) = elements_for h vs l
+
+abbrev pub left_if : Store → List Cell → Option Turn → List Solution
+left_if h vs None = []
+left_if h vs (Some turn) = left h vs turn
+
+-- a turn of these arguments
+abbrev pub IsPartFor : Store → List Cell → Part → Type 0
+IsPartFor h (a ∷ b ∷ l ∷ r ∷ s ∷ []) p = (name : List ℕ) × (value h a ≡ atom name) × IsPart (chars name) p
+IsPartFor h vs p = ⊥
+
+abbrev pub IsSplitFor : Store → List Cell → Split → Type 0
+IsSplitFor h (a ∷ b ∷ c ∷ []) s = (name : List ℕ) × (text_of (value h c) ≡ Some name) × IsSplit (chars name) s
+IsSplitFor h vs s = ⊥
+
+abbrev pub IsTurn : Store → List Cell → Turn → Type 0
+IsTurn h vs (turns.Part p) = IsPartFor h vs p
+IsTurn h vs (turns.Split s) = IsSplitFor h vs s
+IsTurn h vs (turns.Element l) = IsValue h l × (0 < length vs) × (length vs ≤ 1024)
+
+-- an answer, behind some that have no unifier, and before those that are left
+pub record Finds (h : Store) (vs : List Cell) (turn : Turn) (f : Found) : Type 0 where
+  pub equation : IsEquation h f.equation
+  pub rest : IfSome f.rest (IsTurn h vs)
+  pub is : (n : ℕ) → fitting (left h vs turn) ≡ fitting (solution_of h n f.equation ∷ left_if h vs f.rest)

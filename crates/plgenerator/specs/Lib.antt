@@ -1,0 +1,4 @@
+pub mod Fitting
+pub mod Turns
+pub mod Wanting
+pub mod Answers

@@ -1,0 +1,132 @@
+//! Answers as equations.
+ghost use Rattle.std.specs.Prelude.{◌≡◌, ◌<◌, ◌≤◌, ℕ, suc, [], ◌∷◌, length, IfOk};
+ghost use Rattle.std.specs.Str.{chars};
+ghost use Rattle.plterm.specs.Tree.{Tree, atom};
+ghost use Rattle.plterm.specs.Variables.{AllBelow};
+ghost use Rattle.plsubst.specs.Subst.{bind};
+ghost use Rattle.plcells.specs.Store.{Store, value, IsValue};
+ghost use Rattle.plcells.specs.Equations.{IsEquation};
+ghost use Rattle.plbuiltin.specs.Solution.{together as tuple};
+ghost use Rattle.plbuiltin.specs.Pieces.{part as part_of, split as split_of, as_text};
+ghost use Rattle.plgenerator.specs.Turns.{IsPart, IsSplit};
+ghost use Rattle.plgenerator.specs.Answers.{solution_of, sought_terms};
+
+use crate::text::{behind, divided};
+use crate::turn::{Part, Split};
+use crate::wanted::Sought;
+use itoa::Buffer;
+use plcells::cell::Cell;
+use plcells::equation::Equation;
+use plcells::heap::Heap;
+use plorder::shape::{Shape, shape_of};
+use plterm::name::Name;
+use plterm::term::Term;
+use std::alloc::{AllocError, Global};
+
+/// Two or four terms at once.
+fn together(alloc: Global, terms: Vec<Term>) -> Result<Term, AllocError>
+    requires some { 0 < length terms.items }
+    requires few { length terms.items ≤ 4 }
+    ensures { IfOk result (λ t. t ≡ tuple terms.items) }
+{
+    let name = Name::new(alloc, "-")?;
+    match Term::compound(alloc, name, terms) {
+        Ok(term) => Ok(term),
+        Err(_) => Err(AllocError),
+    }
+}
+
+/// The atom of a text, which has at most 65,535 bytes.
+fn atom(alloc: Global, text: &str) -> Result<Term, AllocError>
+    ensures { IfOk result (λ t. t ≡ atom text.now) }
+{
+    let name = Name::new(alloc, text)?;
+    match Term::atom(alloc, name) {
+        Ok(term) => Ok(term),
+        Err(_) => Err(AllocError),
+    }
+}
+
+/// What stands for the term of a value that is variable x: the atom of its text where it is an integer.
+fn side(alloc: Global, heap: &Heap, v: Cell, x: u64) -> Result<Term, AllocError>
+    requires { IsValue heap.now v }
+    ensures is { (σ : ℕ → Tree) → σ x ≡ value heap.now v → IfOk result (λ t. bind σ t ≡ as_text (value heap.now v)) }
+    ensures below { IfOk result (AllBelow (suc x)) }
+{
+    match shape_of(heap, v) {
+        Shape::Integer(i) => {
+            let mut buffer = Buffer::new();
+            atom(alloc, buffer.format(i))
+        }
+        _ => Term::var(alloc, x),
+    }
+}
+
+/// What the values are unified with: the numbers of characters before a part, in it and behind it, and its text.
+fn part_term(alloc: Global, text: &str, part: Part) -> Result<Term, AllocError>
+    requires { IsPart (chars text.now) part }
+    ensures { IfOk result (λ t. t ≡ (part_of (chars text.now) [] part.offset.characters part.length part.after).right) }
+{
+    let (name, _) = divided(behind(text, part.offset), part.length);
+    let before = Term::int(alloc, part.offset.characters.into())?;
+    let length = Term::int(alloc, part.length.into())?;
+    let after = Term::int(alloc, part.after.into())?;
+    let name = atom(alloc, name)?;
+    together(alloc, vec![in alloc; before, length, after, name]?)
+}
+
+/// The answer that a part is.
+pub(crate) fn part_equation(
+    alloc: Global,
+    sought: Sought,
+    text: &str,
+    part: Part,
+) -> Result<Equation, AllocError>
+    requires { IsPart (chars text.now) part }
+    ensures is { (h : Store) (n : ℕ) → IfOk result (λ e. solution_of h n e ≡ part_of (chars text.now) (sought_terms h sought) part.offset.characters part.length part.after) }
+    ensures there { (h : Store) → IsValue h sought.before → IsValue h sought.length → IsValue h sought.after → IsValue h sought.text → IfOk result (IsEquation h) }
+{
+    let right = part_term(alloc, text, part)?;
+    let before = Term::var(alloc, 0)?;
+    let length = Term::var(alloc, 1)?;
+    let after = Term::var(alloc, 2)?;
+    let name = Term::var(alloc, 3)?;
+    let left = together(alloc, vec![in alloc; before, length, after, name]?)?;
+    let values = vec![in alloc; sought.before, sought.length, sought.after, sought.text]?;
+    Ok(Equation {
+        left,
+        right,
+        values,
+        new: 0,
+    })
+}
+
+/// The answer that a way to divide a text is.
+pub(crate) fn split_equation(
+    alloc: Global,
+    heap: &Heap,
+    sides: (Cell, Cell),
+    text: &str,
+    split: Split,
+) -> Result<Equation, AllocError>
+    requires front { IsValue heap.now sides.0 }
+    requires back { IsValue heap.now sides.1 }
+    requires split { IsSplit (chars text.now) split }
+    ensures is { (n : ℕ) → IfOk result (λ e. solution_of heap.now n e ≡ split_of (chars text.now) (as_text (value heap.now sides.0) ∷ as_text (value heap.now sides.1) ∷ []) split.offset.characters) }
+    ensures there { IfOk result (IsEquation heap.now) }
+{
+    let (front, back) = text.split_at(split.offset.bytes as usize);
+    let front = atom(alloc, front)?;
+    let back = atom(alloc, back)?;
+    let right = together(alloc, vec![in alloc; front, back]?)?;
+    let front = side(alloc, heap, sides.0, 0)?;
+    let back = side(alloc, heap, sides.1, 1)?;
+    let left = together(alloc, vec![in alloc; front, back]?)?;
+    let values = vec![in alloc; sides.0, sides.1]?;
+    Ok(Equation {
+        left,
+        right,
+        values,
+        new: 0,
+    })
+}

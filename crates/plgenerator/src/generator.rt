@@ -1,0 +1,133 @@
+//! The next answer.
+ghost use Rattle.std.specs.Prelude.{◌≡◌, [], ◌∷◌, option_map, IfOk, IfSome, IfNone};
+ghost use Rattle.plcells.specs.Store.{value, IsValue, AreValues};
+ghost use Rattle.plgenerator.specs.Fitting.{fitting};
+ghost use Rattle.plgenerator.specs.Answers.{left, IsTurn, Finds};
+
+use crate::argument::{atom_in, name_of};
+use crate::equation::{part_equation, split_equation};
+use crate::part::{first_part, part_after};
+use crate::split::first_split;
+use crate::turn::{Part, Split, Turn};
+use crate::wanted::{Sought, wanted};
+use plcells::cell::Cell;
+use plcells::equation::Equation;
+use plcells::heap::Heap;
+use std::alloc::{AllocError, Global};
+
+/// An answer, and those behind it.
+#[derive(Drop)]
+pub struct Found {
+    /// The two terms that are to be unified; no variable is new.
+    pub equation: Equation,
+    /// None where there is none.
+    pub rest: Option<Turn>,
+}
+
+/// The turn of a part.
+fn part_turn(part: Option<Part>) -> Option<Turn>
+    ensures { result ≡ option_map Turn.Part part }
+{
+    match part {
+        Some(part) => Some(Turn::Part(part)),
+        None => None,
+    }
+}
+
+/// The turn of a way to divide a text.
+fn split_turn(split: Option<Split>) -> Option<Turn>
+    ensures { result ≡ option_map Turn.Split split }
+{
+    match split {
+        Some(split) => Some(Turn::Split(split)),
+        None => None,
+    }
+}
+
+/// The next answer of sub_atom/5, whose parts are those of the atom of a value.
+fn next_part(
+    alloc: Global,
+    heap: &Heap,
+    atom: Cell,
+    sought: Sought,
+    part: Part,
+) -> Result<Option<Found>, AllocError>
+    requires atom { IsValue heap.now atom }
+    requires before { IsValue heap.now sought.before }
+    requires length { IsValue heap.now sought.length }
+    requires after { IsValue heap.now sought.after }
+    requires text { IsValue heap.now sought.text }
+    requires turn { IsTurn heap.now (atom ∷ sought.before ∷ sought.length ∷ sought.after ∷ sought.text ∷ []) (Turn.Part part) }
+    ensures some { IfOk result (λ o. IfSome o (Finds heap.now (atom ∷ sought.before ∷ sought.length ∷ sought.after ∷ sought.text ∷ []) (Turn.Part part))) }
+    ensures none { IfOk result (λ o. IfNone o (fitting (left heap.now (atom ∷ sought.before ∷ sought.length ∷ sought.after ∷ sought.text ∷ []) (Turn.Part part)) ≡ [])) }
+{
+    let Some(name) = atom_in(heap, atom) else {
+        return Ok(None);
+    };
+    let text = name.as_str();
+    let wanted = wanted(heap, sought)?;
+    let Some(part) = first_part(&wanted, text, part) else {
+        return Ok(None);
+    };
+    let equation = part_equation(alloc, sought, text, part)?;
+    let rest = part_turn(part_after(&wanted, text, part));
+    Ok(Some(Found { equation, rest }))
+}
+
+/// The next answer of atom_concat/3, whose third argument is divided.
+fn next_split(
+    alloc: Global,
+    heap: &Heap,
+    sides: (Cell, Cell),
+    whole: Cell,
+    split: Split,
+) -> Result<Option<Found>, AllocError>
+    requires front { IsValue heap.now sides.0 }
+    requires back { IsValue heap.now sides.1 }
+    requires whole { IsValue heap.now whole }
+    requires turn { IsTurn heap.now (sides.0 ∷ sides.1 ∷ whole ∷ []) (Turn.Split split) }
+    ensures some { IfOk result (λ o. IfSome o (Finds heap.now (sides.0 ∷ sides.1 ∷ whole ∷ []) (Turn.Split split))) }
+    ensures none { IfOk result (λ o. IfNone o (fitting (left heap.now (sides.0 ∷ sides.1 ∷ whole ∷ []) (Turn.Split split)) ≡ [])) }
+{
+    let Some(name) = name_of(alloc, heap, whole)? else {
+        return Ok(None);
+    };
+    let front = name_of(alloc, heap, sides.0)?;
+    let back = name_of(alloc, heap, sides.1)?;
+    let Some((split, rest)) = first_split(name.as_str(), &front, &back, split) else {
+        return Ok(None);
+    };
+    let equation = split_equation(alloc, heap, sides, name.as_str(), split)?;
+    let rest = split_turn(rest);
+    Ok(Some(Found { equation, rest }))
+}
+
+/// The next of the answers that are left which may fit: it is to be unified, and where it is none, those behind it are asked. Those passed over
+/// have no unifier. The cost is that of making the answer, and of passing over; no name, term or cell stays.
+pub fn next(
+    alloc: Global,
+    heap: &Heap,
+    args: &[Cell],
+    turn: Turn,
+) -> Result<Option<Found>, AllocError>
+    requires args { AreValues heap.now args.now }
+    requires turn { IsTurn heap.now args.now turn }
+    ensures some { IfOk result (λ o. IfSome o (Finds heap.now args.now turn)) }
+    ensures none { IfOk result (λ o. IfNone o (fitting (left heap.now args.now turn) ≡ [])) }
+{
+    match (turn, args) {
+        (Turn::Part(part), [atom, before, length, after, text]) => {
+            let sought = Sought {
+                before: *before,
+                length: *length,
+                after: *after,
+                text: *text,
+            };
+            next_part(alloc, heap, *atom, sought, part)
+        }
+        (Turn::Split(split), [front, back, whole]) => {
+            next_split(alloc, heap, (*front, *back), *whole, split)
+        }
+        _ => Ok(None),
+    }
+}

@@ -1,0 +1,36 @@
+//! Which answers of a call are left.
+
+use plcells::cell::Cell;
+
+/// A place in a text: how many characters and how many bytes stand before it.
+#[derive(Clone, Copy)]
+pub struct Offset {
+    pub characters: u16,
+    pub bytes: u16,
+}
+
+/// The parts of an atom from one on: where it begins, how many characters it has, and how many stand behind it.
+#[derive(Clone, Copy)]
+pub struct Part {
+    pub offset: Offset,
+    pub length: u16,
+    pub after: u16,
+}
+
+/// The ways to divide a text from one on: where it is divided, and how many characters stand behind that place.
+#[derive(Clone, Copy)]
+pub struct Split {
+    pub offset: Offset,
+    pub after: u16,
+}
+
+/// The answers that are left.
+#[derive(Clone, Copy)]
+pub enum Turn {
+    /// Of sub_atom/5.
+    Part(Part),
+    /// Of atom_concat/3.
+    Split(Split),
+    /// Each element of a list, by its value.
+    Element(Cell),
+}
