@@ -5,3 +5,4 @@ pub mod Beside
 pub mod Equations
 pub mod Known
 pub mod Turning
+pub mod Staying

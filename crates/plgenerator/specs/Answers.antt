@@ -34,40 +34,40 @@ splits_in None us s = []
 splits_in (Some name) us s = splits_left (chars name) us s
 
 -- those of sub_atom/5
-abbrev pub parts_for : Store → List Cell → Part → List Solution
-parts_for h (a ∷ b ∷ l ∷ r ∷ s ∷ []) p = parts_in (text_of (value h a)) (value h b ∷ value h l ∷ value h r ∷ value h s ∷ []) p
-parts_for h vs p = []
+abbrev pub parts_for : List Tree → Part → List Solution
+parts_for (a ∷ b ∷ l ∷ r ∷ s ∷ []) p = parts_in (text_of a) (b ∷ l ∷ r ∷ s ∷ []) p
+parts_for us p = []
 
 -- those of atom_concat/3, where its first two arguments are not both known
-abbrev pub splits_for : Store → List Cell → Split → List Solution
-splits_for h (a ∷ b ∷ c ∷ []) s = splits_in (text_of (value h c)) (as_text (value h a) ∷ as_text (value h b) ∷ []) s
-splits_for h vs s = []
+abbrev pub splits_for : List Tree → Split → List Solution
+splits_for (a ∷ b ∷ c ∷ []) s = splits_in (text_of c) (as_text a ∷ as_text b ∷ []) s
+splits_for us s = []
 
 -- each element of a list in turn
-abbrev pub elements_for : Store → List Cell → Cell → List Solution
-elements_for h vs l = map (against (map (value h) vs)) (elements_of (value h l)).items
+abbrev pub elements_for : List Tree → Tree → List Solution
+elements_for us t = map (against us) (elements_of t).items
 
 abbrev pub left : Store → List Cell → Turn → List Solution
-left h vs (turns.Part p) = parts_for h vs p
-left h vs (turns.Split s) = splits_for h vs s
-left h vs (turns.Element l) = elements_for h vs l
+left h vs (turns.Part p) = parts_for (map (value h) vs) p
+left h vs (turns.Split s) = splits_for (map (value h) vs) s
+left h vs (turns.Element l) = elements_for (map (value h) vs) (value h l)
 
 abbrev pub left_if : Store → List Cell → Option Turn → List Solution
 left_if h vs None = []
 left_if h vs (Some turn) = left h vs turn
 
 -- a turn of these arguments
-abbrev pub IsPartFor : Store → List Cell → Part → Type 0
-IsPartFor h (a ∷ b ∷ l ∷ r ∷ s ∷ []) p = (name : List ℕ) × (value h a ≡ atom name) × IsPart (chars name) p
-IsPartFor h vs p = ⊥
+abbrev pub IsPartFor : List Tree → Part → Type 0
+IsPartFor (a ∷ b ∷ l ∷ r ∷ s ∷ []) p = (name : List ℕ) × (a ≡ atom name) × IsPart (chars name) p
+IsPartFor us p = ⊥
 
-abbrev pub IsSplitFor : Store → List Cell → Split → Type 0
-IsSplitFor h (a ∷ b ∷ c ∷ []) s = (name : List ℕ) × (text_of (value h c) ≡ Some name) × IsSplit (chars name) s
-IsSplitFor h vs s = ⊥
+abbrev pub IsSplitFor : List Tree → Split → Type 0
+IsSplitFor (a ∷ b ∷ c ∷ []) s = (name : List ℕ) × (text_of c ≡ Some name) × IsSplit (chars name) s
+IsSplitFor us s = ⊥
 
 abbrev pub IsTurn : Store → List Cell → Turn → Type 0
-IsTurn h vs (turns.Part p) = IsPartFor h vs p
-IsTurn h vs (turns.Split s) = IsSplitFor h vs s
+IsTurn h vs (turns.Part p) = IsPartFor (map (value h) vs) p
+IsTurn h vs (turns.Split s) = IsSplitFor (map (value h) vs) s
 IsTurn h vs (turns.Element l) = IsValue h l × (0 < length vs) × (length vs ≤ 1024)
 
 -- an answer, behind some that have no unifier, and before those that are left
