@@ -74,4 +74,5 @@ IsTurn h vs (turns.Element l) = IsValue h l × (0 < length vs) × (length vs ≤
 pub record Finds (h : Store) (vs : List Cell) (turn : Turn) (f : Found) : Type 0 where
   pub equation : IsEquation h f.equation
   pub rest : IfSome f.rest (IsTurn h vs)
+  pub fewer : IfSome f.rest (λ rest. length (left h vs rest) < length (left h vs turn))
   pub is : (n : ℕ) → fitting (left h vs turn) ≡ fitting (solution_of h n f.equation ∷ left_if h vs f.rest)
