@@ -1,16 +1,16 @@
 -- The answers that are left of a call, over the values of its arguments.
-use Rattle.std.specs.Prelude.{◌≡◌, ℕ, ◌<◌, ◌≤◌, List, [], ◌∷◌, map, length, Option, Some, None, IfSome}
+use Rattle.std.specs.Prelude.{◌≡◌, ℕ, ◌+◌, ◌<◌, ◌≤◌, List, [], ◌∷◌, map, take, drop, length, Option, Some, None, IfSome}
 use Rattle.std.specs.Str.{chars}
 use Rattle.plterm.specs.Tree.{Tree, atom}
 use Rattle.plcells.specs.declared.cell.Cell.{Cell}
 use Rattle.plcells.specs.declared.equation.Equation.{Equation}
-use Rattle.plcells.specs.Store.{Store, value, IsValue}
+use Rattle.plcells.specs.Store.{Store, value}
 use Rattle.plcells.specs.Equations.{IsEquation, left_of, right_of}
 use Rattle.plbuiltin.specs.Solution.{Solution, against}
-use Rattle.plbuiltin.specs.Lists.{elements_of}
 use Rattle.plbuiltin.specs.Pieces.{text_of, as_text}
 use Rattle.plgenerator.specs.declared.turn.Part.{Part}
 use Rattle.plgenerator.specs.declared.turn.Split.{Split}
+use Rattle.plgenerator.specs.declared.turn.Groups.{Groups}
 use Rattle.plgenerator.specs.declared.turn.Turn.{Turn}
 use Rattle.plgenerator.specs.declared.turn.Turn.TheVariants as turns
 use Rattle.plgenerator.specs.declared.generator.Found.{Found}
@@ -43,14 +43,19 @@ abbrev pub splits_for : List Tree → Split → List Solution
 splits_for (a ∷ b ∷ c ∷ []) s = splits_in (text_of c) (as_text a ∷ as_text b ∷ []) s
 splits_for us s = []
 
--- each element of a list in turn
-abbrev pub elements_for : List Tree → Tree → List Solution
-elements_for us t = map (against us) (elements_of t).items
+-- those of a predicate whose arguments are unified with one group of terms after another: the first terms are the arguments, and those behind
+-- them the groups
+abbrev pub groups_for : List Tree → Groups → List Solution
+groups_for us g = map (against (take g.arguments us)) (drop (g.arguments + g.passed) us)
+
+-- of a call over these terms
+abbrev pub left_of_terms : List Tree → Turn → List Solution
+left_of_terms us (turns.Part p) = parts_for us p
+left_of_terms us (turns.Split s) = splits_for us s
+left_of_terms us (turns.Groups g) = groups_for us g
 
 abbrev pub left : Store → List Cell → Turn → List Solution
-left h vs (turns.Part p) = parts_for (map (value h) vs) p
-left h vs (turns.Split s) = splits_for (map (value h) vs) s
-left h vs (turns.Element l) = elements_for (map (value h) vs) (value h l)
+left h vs turn = left_of_terms (map (value h) vs) turn
 
 abbrev pub left_if : Store → List Cell → Option Turn → List Solution
 left_if h vs None = []
@@ -65,10 +70,16 @@ abbrev pub IsSplitFor : List Tree → Split → Type 0
 IsSplitFor (a ∷ b ∷ c ∷ []) s = (name : List ℕ) × (text_of c ≡ Some name) × IsSplit (chars name) s
 IsSplitFor us s = ⊥
 
+abbrev pub AreGroups : List Tree → Groups → Type 0
+AreGroups us g = (0 < g.arguments) × (g.arguments ≤ 1023) × (g.arguments + g.passed ≤ length us)
+
+abbrev pub IsTurnOf : List Tree → Turn → Type 0
+IsTurnOf us (turns.Part p) = IsPartFor us p
+IsTurnOf us (turns.Split s) = IsSplitFor us s
+IsTurnOf us (turns.Groups g) = AreGroups us g
+
 abbrev pub IsTurn : Store → List Cell → Turn → Type 0
-IsTurn h vs (turns.Part p) = IsPartFor (map (value h) vs) p
-IsTurn h vs (turns.Split s) = IsSplitFor (map (value h) vs) s
-IsTurn h vs (turns.Element l) = IsValue h l × (0 < length vs) × (length vs ≤ 1024)
+IsTurn h vs turn = IsTurnOf (map (value h) vs) turn
 
 -- an answer, behind some that have no unifier, and before those that are left
 pub record Finds (h : Store) (vs : List Cell) (turn : Turn) (f : Found) : Type 0 where

@@ -1,7 +1,5 @@
 //! Which answers of a call are left.
 
-use plcells::cell::Cell;
-
 /// A place in a text: how many characters and how many bytes stand before it.
 #[derive(Clone, Copy)]
 pub struct Offset {
@@ -24,6 +22,13 @@ pub struct Split {
     pub after: u16,
 }
 
+/// The groups of terms that are left: how many arguments stand before them, and how many groups were passed.
+#[derive(Clone, Copy)]
+pub struct Groups {
+    pub arguments: u16,
+    pub passed: u32,
+}
+
 /// The answers that are left.
 #[derive(Clone, Copy)]
 pub enum Turn {
@@ -31,6 +36,6 @@ pub enum Turn {
     Part(Part),
     /// Of atom_concat/3.
     Split(Split),
-    /// Each element of a list, by its value.
-    Element(Cell),
+    /// Of a predicate whose arguments are unified with one group of terms after another.
+    Groups(Groups),
 }
