@@ -1,16 +1,12 @@
-//! Worked goals: built-in predicates and the library, each row a goal with what it writes or raises.
+//! Worked goals: built-in predicates on terms and the library, each row a goal with what it writes or raises.
 #![tactic(auto)]
 
 #[cfg(test)]
 mod arithmetic;
 #[cfg(test)]
-mod atoms;
-#[cfg(test)]
 mod build;
 #[cfg(test)]
 mod findall;
-#[cfg(test)]
-mod flags;
 #[cfg(test)]
 mod format;
 #[cfg(test)]
@@ -23,7 +19,5 @@ mod output;
 mod parts;
 #[cfg(test)]
 mod sorting;
-#[cfg(test)]
-mod texts;
 #[cfg(test)]
 mod type_tests;
