@@ -6,7 +6,7 @@ use Rattle.plload.specs.declared.error.RefusalKind.TheVariants.{NotCallable, Sta
 use Rattle.plops.specs.declared.operator.Kind.TheVariants.{Xfx}
 use Rattle.plops.specs.declared.flag.Quotes.TheVariants.{Atom}
 use Rattle.plprogram.specs.declared.change.Flag.TheVariants.{Quotes}
-use Rattle.plnames.specs.Names.{rows, is_fixed}
+use Rattle.plnames.specs.Names.{rows, kept, is_fixed}
 use Rattle.plload.specs.Meaning.{Adds, Runs, Declares, Operates, Sets, Passes, Refused, meaning}
 use Rattle.plload.specs.Position.{line_of, column_of}
 use Rattle.plprogram.specs.Program.{procedures_of, clauses_in}
@@ -133,8 +133,13 @@ fixed_once : is_fixed (record { name = codes "once"; arity = 1 }) ≡ true
 unfolding rows
 fixed_once = refl
 
+-- it is kept for a predicate that has no row yet
+fixed_retract : is_fixed (record { name = codes "retract"; arity = 1 }) ≡ true
+unfolding rows kept
+fixed_retract = refl
+
 not_fixed : is_fixed (record { name = codes "once"; arity = 2 }) ≡ false
-unfolding rows
+unfolding rows kept
 not_fixed = refl
 
 -- the second byte of the third line

@@ -226,3 +226,38 @@ pub static ROWS: &[(&str, u16, Kind)] = &[
         Kind::BuiltIn(BuiltIn::Flags(Flags::Current)),
     ),
 ];
+
+/// Names with arities that are kept for control constructs and built-in predicates: no program can define them, and a call of one is a call of
+/// a procedure that is not there.
+pub static KEPT: &[(&str, u16)] = &[
+    ("asserta", 1),
+    ("assert", 1),
+    ("retract", 1),
+    ("retractall", 1),
+    ("dynamic", 1),
+    ("clause", 2),
+    ("transaction", 1),
+    ("snapshot", 1),
+    ("with_mutex", 2),
+    ("thread_exit", 1),
+    ("thread_create", 1),
+    ("thread_create", 2),
+    ("thread_create", 3),
+    ("thread_self", 1),
+    ("thread_join", 1),
+    ("thread_join", 2),
+    ("thread_detach", 1),
+    ("thread_send_message", 2),
+    ("thread_get_message", 1),
+    ("thread_get_message", 2),
+    ("thread_peek_message", 1),
+    ("thread_peek_message", 2),
+    ("message_queue_create", 1),
+    ("message_queue_create", 2),
+    ("message_queue_destroy", 1),
+    ("mutex_create", 1),
+    ("mutex_destroy", 1),
+    ("mutex_lock", 1),
+    ("mutex_unlock", 1),
+    ("mutex_trylock", 1),
+];

@@ -1,10 +1,11 @@
 //! The table of names, by hash.
 ghost use Rattle.std.specs.Prelude.{◌≡◌, [], IfOk, fold, map};
-ghost use Rattle.plnames.specs.Names.{kind_of, is_fixed, rows};
+ghost use Rattle.std.specs.List.{list_any};
+ghost use Rattle.plnames.specs.Names.{kind_of, is_fixed, is_named, rows};
 ghost use Rattle.plnames.specs.Entries.{row_of, entry_row, put};
 
 use crate::kind::Kind;
-use crate::rows::ROWS;
+use crate::rows::{KEPT, ROWS};
 use indexmap::IndexMap;
 use plterm::indicator::Indicator;
 use std::alloc::{AllocError, Global};
@@ -30,14 +31,24 @@ impl NameTable {
         self.kinds.get(&(name, arity)).copied()
     }
 
-    /// Whether the procedure is a control construct or a built-in predicate: it is static whatever the program holds
-    /// (ISO/IEC 13211-1 7.5.2).
+    /// Whether the procedure is a control construct or a built-in predicate, or its name is kept for one: it is static whatever the program
+    /// holds (ISO/IEC 13211-1 7.5.2).
     pub fn is_fixed(&self, indicator: &Indicator) -> bool
         ensures { result ≡ is_fixed indicator.now }
     {
-        self.kind_of(indicator.name.as_str(), indicator.arity)
-            .is_some()
+        let kind = self.kind_of(indicator.name.as_str(), indicator.arity);
+        kind.is_some() || is_among(KEPT, indicator)
     }
+}
+
+/// Whether a procedure's name and arity are among some.
+fn is_among(names: &[(&'static str, u16)], indicator: &Indicator) -> bool
+    ensures { result ≡ list_any (λ n. is_named indicator.now n.0.now n.1) names.now }
+{
+    let name = indicator.name.as_str();
+    names
+        .iter()
+        .any(|row| name == row.0 && indicator.arity == row.1)
 }
 
 /// The kinds of rows, by name and arity.

@@ -6,7 +6,7 @@ use std::alloc::{AllocError, Global};
 use std::test::Fail;
 
 /// Names with their arities, and whether they are fixed.
-const FIXED: [(&str, u16, bool); 18] = [
+const FIXED: [(&str, u16, bool); 34] = [
     ("true", 0, true),
     (",", 2, true),
     ("->", 2, true),
@@ -24,6 +24,22 @@ const FIXED: [(&str, u16, bool); 18] = [
     ("nl", 0, true),
     ("assertz", 1, true),
     ("assertz", 2, false),
+    ("asserta", 1, true),
+    ("asserta", 2, false),
+    ("retract", 1, true),
+    ("clause", 2, true),
+    ("clause", 3, false),
+    ("transaction", 1, true),
+    ("transaction", 3, false),
+    ("transaction_updates", 1, false),
+    ("thread_create", 3, true),
+    ("thread_create", 4, false),
+    ("mutex_trylock", 1, true),
+    ("erase", 1, false),
+    ("bagof", 3, false),
+    ("setof", 3, false),
+    ("phrase", 2, false),
+    ("phrase", 3, false),
     ("p", 0, false),
 ];
 

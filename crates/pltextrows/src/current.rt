@@ -1,5 +1,6 @@
 //! The operators and the flags as they stand: current_op/3 and current_prolog_flag/2.
-use plrow::row::{Goal, first_wrong_goal};
+use plhist::Status;
+use plrow::row::{Goal, RUN, Row, first_wrong, first_wrong_goal};
 use std::test::Fail;
 
 /// current_op/3: by name, and of a name first the prefix operator.
@@ -216,6 +217,40 @@ const FLAG_ERRORS: [Goal; 4] = [
         "domain_error(prolog_flag,[]) of current_prolog_flag/2",
     ),
 ];
+
+/// Names that are kept: no text defines them, and a call of one is a call of a procedure that is not there.
+const KEPT: [Row; 4] = [
+    (
+        RUN,
+        "a.\nretract(X) :- a(X).",
+        "refused: line 2 column 1: static_redefined\n",
+        Status::Refused,
+    ),
+    (
+        RUN,
+        "thread_create(_, _, _).",
+        "refused: line 1 column 1: static_redefined\n",
+        Status::Refused,
+    ),
+    (
+        RUN,
+        "clause(1, 2, 3).\nbagof(a, b, c).\nphrase(a, b).\nasserta(a, b).\n:- initialization((clause(X, 2, 3), bagof(a, b, c), phrase(a, b), asserta(a, b), write(X))).",
+        "% thread 1 main: true\n1",
+        Status::Done,
+    ),
+    (
+        RUN,
+        ":- initialization((catch(retract(a), error(E, _), (write(E), nl)), catch(assertz(retract(a)), error(F, _), write(F)))).",
+        "% thread 1 main: true\nexistence_error(procedure,retract/1)\npermission_error(modify,static_procedure,retract/1)",
+        Status::Done,
+    ),
+];
+
+#[test]
+fn rows_of_kept_names(rt: HostRuntime) -> Result<(), Fail> {
+    assert_eq!(rt; first_wrong(&rt, rt.alloc(), &KEPT)?, None);
+    Ok(())
+}
 
 #[test]
 fn rows_of_current_operators(rt: HostRuntime) -> Result<(), Fail> {
