@@ -1,5 +1,6 @@
 //! The operators and the flags as they stand: current_op/3 and current_prolog_flag/2.
 use plhist::Status;
+use plload::error::RefusalKind;
 use plrow::row::{Goal, RUN, Row, first_wrong, first_wrong_goal};
 use std::test::Fail;
 
@@ -224,24 +225,32 @@ const KEPT: [Row; 4] = [
         RUN,
         "a.\nretract(X) :- a(X).",
         "refused: line 2 column 1: static_redefined\n",
-        Status::Refused,
+        Status::Refused {
+            line: 2,
+            column: 1,
+            kind: RefusalKind::StaticRedefined,
+        },
     ),
     (
         RUN,
         "thread_create(_, _, _).",
         "refused: line 1 column 1: static_redefined\n",
-        Status::Refused,
+        Status::Refused {
+            line: 1,
+            column: 1,
+            kind: RefusalKind::StaticRedefined,
+        },
     ),
     (
         RUN,
         "clause(1, 2, 3).\nbagof(a, b, c).\nphrase(a, b).\nasserta(a, b).\n:- initialization((clause(X, 2, 3), bagof(a, b, c), phrase(a, b), asserta(a, b), write(X))).",
-        "% thread 1 main: true\n1",
+        "% thread 1 main: true\n1\n",
         Status::Done,
     ),
     (
         RUN,
         ":- initialization((catch(retract(a), error(E, _), (write(E), nl)), catch(assertz(retract(a)), error(F, _), write(F)))).",
-        "% thread 1 main: true\nexistence_error(procedure,retract/1)\npermission_error(modify,static_procedure,retract/1)",
+        "% thread 1 main: true\nexistence_error(procedure,retract/1)\npermission_error(modify,static_procedure,retract/1)\n",
         Status::Done,
     ),
 ];
