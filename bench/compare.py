@@ -23,7 +23,7 @@ import tempfile
 
 HERE = os.path.dirname(os.path.realpath(__file__))
 PROLOG = os.path.join(os.path.dirname(HERE), "prolog")
-NAMES = ["nrev", "tak", "queens", "zebra", "deriv", "unify", "deep", "up", "upvar", "catch", "control", "lookup", "output", "count", "itak", "iqueens"]
+NAMES = ["nrev", "tak", "queens", "zebra", "deriv", "unify", "deep", "up", "upvar", "catch", "control", "lookup", "output", "count", "itak", "iqueens", "sort", "findall", "texts", "parts"]
 FACTS = 100000
 
 
