@@ -1,7 +1,8 @@
 -- The parts that begin at one place, and those behind it, as far as they fit.
-use Rattle.std.proofs.Common.{◌≡◌, ℕ, zero, suc, ◌+◌, ◌-◌, ◌<◌, ◌≤◌, ◌⊎◌, inl, inr, Option, Some, None, List, [], ◌∷◌, ◌++◌, length, refl, sym, ap, ap₂, ◌∙◌, arith, subst}
+use Rattle.std.proofs.Common.{◌≡◌, ℕ, zero, suc, ◌+◌, ◌<◌, ◌≤◌, ◌⊎◌, inl, inr, Option, Some, None, List, [], ◌∷◌, ◌++◌, length, refl, sym, ap, ap₂, ◌∙◌, arith, subst}
 use Rattle.std.specs.Prelude.{IfSome, IfNone}
 use Rattle.std.proofs.lemmas.Bool.{cases_eq}
+use Rattle.std.proofs.lemmas.List.{length-append}
 use Rattle.plterm.specs.Tree.{Tree}
 use Rattle.plbuiltin.specs.Solution.{Solution}
 use Rattle.plbuiltin.specs.Pieces.{part, parts_at}
@@ -10,7 +11,7 @@ use Rattle.plgenerator.specs.declared.turn.Part.{Part}
 use Rattle.plgenerator.specs.Fitting.{Misses, fitting, fitting_by}
 use Rattle.plgenerator.specs.Turns.{parts_behind, beside, others, parts_left, parts_if}
 use Rattle.plgenerator.specs.Wanting.{AreAllowed, NoneBegins}
-use Rattle.plgenerator.proofs.Rows.{fitting-append, fitting-front, row-misses, row-only, rows-miss, rows-from}
+use Rattle.plgenerator.proofs.Rows.{length-row, fitting-append, fitting-front, row-misses, row-only, rows-miss, rows-from}
 
 module _ (cs : List ℕ) (us : List Tree) (b l r room : ℕ) (e : room ≡ l + r) where
   pub one-beside : (m k : ℕ) → m + k ≡ l + r → l ≤ m → AreAllowed us cs b room (One m) → fitting (parts_at cs us b l r) ≡ fitting (parts_at cs us b m k)
@@ -53,16 +54,6 @@ module _ (cs : List ℕ) (us : List Tree) (b : ℕ) where
       ap (fitting_by _ (part cs us b l (suc r)))
       (fitting-append (parts_at cs us b (suc l) r) ss ∙ ap (λ l. l ++ fitting ss) (row-misses cs us b (suc l) r (λ m k e le. none m k (omega (arith, e)) (omega (arith, le)))))
 
-  -- one before longer ones
-  pub longer-behind : (l r : ℕ) → 0 < r → parts_at cs us b l r ++ parts_behind cs us b (l + r) ≡ part cs us b l r ∷ (parts_at cs us b (l + 1) (r - 1) ++ parts_behind cs us b (l + 1 + (r - 1)))
-  longer-behind l zero some = absurd (omega (arith, some))
-  longer-behind l (suc r) some =
-      let next : suc l ≡ l + 1 = omega arith in
-      let fewer : r ≡ suc r - 1 = omega arith in
-      let all : l + suc r ≡ l + 1 + (suc r - 1) = omega arith in
-      ap₂ (λ x y. part cs us b l (suc r) ∷ (parts_at cs us b x r ++ parts_behind cs us b y)) next all
-      ∙ ap (λ x. part cs us b l (suc r) ∷ (parts_at cs us b (l + 1) x ++ parts_behind cs us b (l + 1 + (suc r - 1)))) fewer
-
 module _ (cs : List ℕ) (us : List Tree) (p : Part) where
   pub others-fit : (o : Option Part) → IfSome o (λ q. others cs us p ≡ parts_left cs us q) → IfNone o (fitting (others cs us p) ≡ []) → fitting (others cs us p) ≡ fitting (parts_if cs us o)
   others-fit None some none = none
@@ -73,6 +64,21 @@ module _ (cs : List ℕ) (us : List Tree) (p : Part) where
   here-fits (Some q) same e =
       fitting-front (beside cs us p) (beside cs us q) (others cs us p) e
       ∙ ap₂ (λ o n. fitting (beside cs us q ++ parts_behind cs us o.characters n)) (sym same.0) (sym same.1)
+
+  length-left : (q : Part) → length (parts_left cs us q) ≡ suc q.after + length (others cs us q)
+  length-left q = length-append (beside cs us q) (others cs us q) ∙ ap (λ n. n + length (others cs us q)) (length-row cs us q.offset.characters q.length q.after)
+
+  -- no more are left from one of those beside it on
+  pub here-left : (o : Option Part) → IfSome o (λ q. (q.offset ≡ p.offset) × (q.length + q.after ≡ p.length + p.after)) → IfSome o (λ q. q.after ≤ p.after) → IfSome o (λ q. length (parts_left cs us q) ≤ length (parts_left cs us p))
+  here-left None same later = tt
+  here-left (Some q) same later =
+      let behind : length (others cs us q) ≡ length (others cs us p) = ap₂ (λ o n. length (parts_behind cs us o.characters n)) same.0 same.1 in
+      omega (arith, length-left q, length-left p, behind, later)
+
+  -- fewer are left from the next place on
+  pub behind-left : (o : Option Part) → IfSome o (λ q. others cs us p ≡ parts_left cs us q) → IfSome o (λ q. length (parts_left cs us q) < length (parts_left cs us p))
+  behind-left None is = tt
+  behind-left (Some q) is = omega (arith, length-left p, ap length is)
 
   pub none-here : fitting (beside cs us p) ≡ [] → fitting (parts_left cs us p) ≡ fitting (others cs us p)
   none-here e = fitting-append (beside cs us p) (others cs us p) ∙ ap (λ l. l ++ fitting (others cs us p)) e

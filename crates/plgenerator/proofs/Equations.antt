@@ -1,6 +1,6 @@
 -- Equations of values with terms that have no variables.
-use Rattle.std.proofs.Common.{◌≡◌, ℕ, ◌+◌, pos, List, [], ◌∷◌, length, take, drop, sym, ap, ap₂, ◌∙◌, arith, subst}
-use Rattle.plterm.specs.Tree.{Tree, var, int}
+use Rattle.std.proofs.Common.{◌≡◌, ℕ, ◌+◌, ℤ, pos, List, [], ◌∷◌, length, take, drop, sym, ap, ap₂, ◌∙◌, arith, subst}
+use Rattle.plterm.specs.Tree.{Tree, var, int, atom}
 use Rattle.plterm.specs.Variables.{AllBelow}
 use Rattle.plsubst.specs.Subst.{bind}
 use Rattle.plcells.specs.declared.cell.Cell.{Cell}
@@ -8,6 +8,7 @@ use Rattle.plcells.specs.Store.{Store, value, IsValue, AreValues}
 use Rattle.plcells.specs.Equations.{filled}
 use Rattle.plbuiltin.specs.Solution.{Solution}
 use Rattle.plbuiltin.specs.Solution.{together, are}
+use Rattle.plbuiltin.specs.Texts.{number_text}
 use Rattle.plbuiltin.specs.Pieces.{part, split, atom_spelled, as_text}
 
 -- the sides of a part's equation
@@ -58,3 +59,12 @@ module _ (h : Store) (a b : Cell) (ws : List Cell) (l r x y : Tree) (cs : List �
 -- the values by their places
 pub first-filled : (h : Store) (a b : Cell) (ws : List Cell) (n : ℕ) → ws ≡ a ∷ b ∷ [] → (filled h ws n 0 ≡ value h a) × (filled h ws n 1 ≡ value h b)
 first-filled h a b ws n e = (ap (λ us. filled h us n 0) e, ap (λ us. filled h us n 1) e)
+
+-- the atom of an integer's text, and what stands for itself
+pub bound-text : (σ : ℕ → Tree) (t v : Tree) (s : List ℕ) (i : ℤ) → t ≡ atom s → s ≡ number_text i → v ≡ int i → bind σ t ≡ as_text v
+unfolding bind
+bound-text σ t v s i is text number = ap (bind σ) is ∙ ap atom text ∙ sym (ap as_text number)
+
+pub bound-variable : (σ : ℕ → Tree) (t v : Tree) (x : ℕ) → t ≡ var x → σ x ≡ v → as_text v ≡ v → bind σ t ≡ as_text v
+unfolding bind
+bound-variable σ t v x is bound same = ap (bind σ) is ∙ bound ∙ sym same

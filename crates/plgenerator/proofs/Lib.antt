@@ -6,3 +6,4 @@ pub mod Equations
 pub mod Known
 pub mod Turning
 pub mod Staying
+pub mod Grouping

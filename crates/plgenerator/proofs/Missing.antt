@@ -13,6 +13,7 @@ magnitude (pos n) = n
 magnitude (negsuc n) = n
 
 pos-same : {m n : ℕ} → pos m ≡ pos n → m ≡ n
+unfolding magnitude
 pos-same e = ap magnitude e
 
 module _ (cs : List ℕ) (b l r : ℕ) (x y z w : Tree) where

@@ -1,10 +1,10 @@
 -- Texts divided at a number of characters.
-use Rattle.std.proofs.Common.{◌≡◌, ℕ, zero, suc, ◌+◌, ◌-◌, ◌<◌, ◌≤◌, true, Option, Some, None, List, [], ◌∷◌, ◌++◌, length, take, drop, refl, sym, ap, ◌∙◌, arith, subst}
+use Rattle.std.proofs.Common.{◌≡◌, ℕ, zero, suc, ◌+◌, ◌<◌, ◌≤◌, true, Option, Some, None, List, [], ◌∷◌, ◌++◌, length, take, drop, refl, sym, ap, ◌∙◌, arith, subst}
 use Rattle.std.specs.Option.{MatchOption}
 use Rattle.std.specs.Char.{encode_utf8}
 use Rattle.std.specs.Str.{chars, encode_utf8_all, all_scalars, IsUtf8, IsCharBoundary}
 use Rattle.std.proofs.lemmas.Bool.{and_parts}
-use Rattle.std.proofs.lemmas.Str.{encodes-append, encodes-chars, scalars-chars, encodes_same, cons_from_encodes, length-le-encodes, chars-append, IsCharBoundary-at_seam}
+use Rattle.std.proofs.lemmas.Str.{chars-encodes, encodes-append, encodes-chars, scalars-chars, encodes_same, cons_from_encodes, length-le-encodes, chars-append, IsCharBoundary-at_seam}
 use Rattle.std.proofs.lemmas.List.{take-append-drop, take_at, drop_at, drop-drop, length-append, length-drop, length-take-le}
 
 -- each character is a byte or more
@@ -15,6 +15,10 @@ scalars-drop : (k : ℕ) (cs : List ℕ) → all_scalars cs ≡ true → all_sca
 scalars-drop zero cs all = all
 scalars-drop (suc k) [] all = refl
 scalars-drop (suc k) (c ∷ cs) all = scalars-drop k cs (and_parts _ _ all).1
+
+-- the characters behind a place
+pub chars-behind : (bs : List ℕ) (k : ℕ) → IsUtf8 bs → chars (encode_utf8_all (drop k (chars bs))) ≡ drop k (chars bs)
+chars-behind bs k u = chars-encodes (drop k (chars bs)) (scalars-drop k (chars bs) (scalars-chars bs u))
 
 -- the bytes of the first characters, and of the others
 pub both_parts : (bs : List ℕ) (k : ℕ) → IsUtf8 bs → bs ≡ encode_utf8_all (take k (chars bs)) ++ encode_utf8_all (drop k (chars bs))

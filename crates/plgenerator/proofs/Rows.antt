@@ -1,5 +1,5 @@
 -- The parts and the divisions that can be unified with arguments.
-use Rattle.std.proofs.Common.{◌≡◌, ℕ, zero, suc, ◌+◌, ◌-◌, ◌<◌, ◌≤◌, List, [], ◌∷◌, ◌++◌, ◌⊎◌, inl, inr, Option, Some, None, refl, sym, ap, ap₂, ◌∙◌, arith}
+use Rattle.std.proofs.Common.{◌≡◌, ℕ, zero, suc, ◌+◌, ◌<◌, ◌≤◌, List, [], ◌∷◌, ◌++◌, length, ◌⊎◌, inl, inr, Option, Some, None, refl, sym, ap, ap₂, ◌∙◌, arith}
 use Rattle.std.proofs.lemmas.Bool.{cases_lt}
 use Rattle.std.proofs.lemmas.List.{append-nil}
 use Rattle.plterm.specs.Tree.{Tree}
@@ -25,10 +25,12 @@ passed s ss miss = ap (λ o. fitting_by o s (fitting ss)) miss
 pub fitting-front : (xs ys zs : List Solution) → fitting xs ≡ fitting ys → fitting (xs ++ zs) ≡ fitting (ys ++ zs)
 fitting-front xs ys zs e = fitting-append xs zs ∙ ap (λ l. l ++ fitting zs) e ∙ sym (fitting-append ys zs)
 
-pub fitting-back : (xs ys zs : List Solution) → fitting ys ≡ fitting zs → fitting (xs ++ ys) ≡ fitting (xs ++ zs)
-fitting-back xs ys zs e = fitting-append xs ys ∙ ap (λ l. fitting xs ++ l) e ∙ sym (fitting-append xs zs)
-
 module _ (cs : List ℕ) (us : List Tree) (b : ℕ) where
+  -- how many a row has
+  pub length-row : (l r : ℕ) → length (parts_at cs us b l r) ≡ suc r
+  length-row l zero = refl
+  length-row l (suc r) = ap suc (length-row (suc l) r)
+
   -- none of a row
   pub row-misses : (l r : ℕ) → ((m k : ℕ) → m + k ≡ l + r → l ≤ m → Misses (part cs us b m k)) → fitting (parts_at cs us b l r) ≡ []
   row-misses l zero none = passed (part cs us b l zero) [] (none l zero refl (omega arith))

@@ -1,6 +1,5 @@
 -- What is left of a call stays where its values stand for what they did.
 use Rattle.std.proofs.Common.{◌≡◌, List, [], ◌∷◌, map, refl, sym, ap, ap₂, subst}
-use Rattle.plterm.specs.Tree.{Tree}
 use Rattle.plcells.specs.declared.cell.Cell.{Cell}
 use Rattle.plcells.specs.Store.{Store, value, IsValue, AreValues}
 use Rattle.plgenerator.specs.declared.turn.Turn.{Turn}

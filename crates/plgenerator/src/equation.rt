@@ -1,4 +1,4 @@
-//! Answers as equations.
+//! Answers as equations: what the arguments of a call are unified with.
 ghost use Rattle.std.specs.Prelude.{◌≡◌, ◌<◌, ◌≤◌, ℕ, suc, [], ◌∷◌, length, IfOk};
 ghost use Rattle.std.specs.Str.{chars};
 ghost use Rattle.plterm.specs.Tree.{Tree, atom};
@@ -23,10 +23,10 @@ use plterm::name::Name;
 use plterm::term::Term;
 use std::alloc::{AllocError, Global};
 
-/// Two or four terms at once.
-fn together(alloc: Global, terms: Vec<Term>) -> Result<Term, AllocError>
+/// Several terms at once.
+pub(crate) fn together(alloc: Global, terms: Vec<Term>) -> Result<Term, AllocError>
     requires some { 0 < length terms.items }
-    requires few { length terms.items ≤ 4 }
+    requires few { length terms.items ≤ 1024 }
     ensures { IfOk result (λ t. t ≡ tuple terms.items) }
 {
     let name = Name::new(alloc, "-")?;
@@ -36,7 +36,7 @@ fn together(alloc: Global, terms: Vec<Term>) -> Result<Term, AllocError>
     }
 }
 
-/// The atom of a text, which has at most 65,535 bytes.
+/// The atom of a text. An `Err` comes for want of memory, and where the text has more than 65,535 bytes.
 fn atom(alloc: Global, text: &str) -> Result<Term, AllocError>
     ensures { IfOk result (λ t. t ≡ atom text.now) }
 {
@@ -51,7 +51,7 @@ fn atom(alloc: Global, text: &str) -> Result<Term, AllocError>
 fn side(alloc: Global, heap: &Heap, v: Cell, x: u64) -> Result<Term, AllocError>
     requires { IsValue heap.now v }
     ensures is { (σ : ℕ → Tree) → σ x ≡ value heap.now v → IfOk result (λ t. bind σ t ≡ as_text (value heap.now v)) }
-    ensures below { IfOk result (AllBelow (suc x)) }
+    ensures below { (n : ℕ) → x < n → IfOk result (AllBelow n) }
 {
     match shape_of(heap, v) {
         Shape::Integer(i) => {
@@ -75,8 +75,9 @@ fn part_term(alloc: Global, text: &str, part: Part) -> Result<Term, AllocError>
     together(alloc, vec![in alloc; before, length, after, name]?)
 }
 
-/// The answer that a part is.
-pub(crate) fn part_equation(
+/// The answer that a part of an atom is: its arguments behind the atom are unified with the numbers of characters before the part, in it and
+/// behind it, and with its text (ISO/IEC 13211-1 8.16.3).
+pub fn part_equation(
     alloc: Global,
     sought: Sought,
     text: &str,
@@ -101,8 +102,9 @@ pub(crate) fn part_equation(
     })
 }
 
-/// The answer that a way to divide a text is.
-pub(crate) fn split_equation(
+/// The answer that a way to divide a text is: two arguments, where an integer stands for its text, are unified with the front and the back
+/// (ISO/IEC 13211-1 8.16.2).
+pub fn split_equation(
     alloc: Global,
     heap: &Heap,
     sides: (Cell, Cell),
@@ -119,9 +121,9 @@ pub(crate) fn split_equation(
     let front = atom(alloc, front)?;
     let back = atom(alloc, back)?;
     let right = together(alloc, vec![in alloc; front, back]?)?;
-    let front = side(alloc, heap, sides.0, 0)?;
-    let back = side(alloc, heap, sides.1, 1)?;
-    let left = together(alloc, vec![in alloc; front, back]?)?;
+    let first = side(alloc, heap, sides.0, 0)?;
+    let second = side(alloc, heap, sides.1, 1)?;
+    let left = together(alloc, vec![in alloc; first, second]?)?;
     let values = vec![in alloc; sides.0, sides.1]?;
     Ok(Equation {
         left,

@@ -6,6 +6,7 @@ ghost use Rattle.plgenerator.specs.Answers.{left, IsTurn, Finds};
 
 use crate::argument::{atom_in, name_of};
 use crate::equation::{part_equation, split_equation};
+use crate::group::next_group;
 use crate::part::{first_part, part_after};
 use crate::split::first_split;
 use crate::turn::{Part, Split, Turn};
@@ -20,7 +21,7 @@ use std::alloc::{AllocError, Global};
 pub struct Found {
     /// The two terms that are to be unified; no variable is new.
     pub equation: Equation,
-    /// None where there is none.
+    /// The answers behind it, if there are any.
     pub rest: Option<Turn>,
 }
 
@@ -44,7 +45,7 @@ fn split_turn(split: Option<Split>) -> Option<Turn>
     }
 }
 
-/// The next answer of sub_atom/5, whose parts are those of the atom of a value.
+/// The next answer of sub_atom/5 (8.16.3), whose parts are those of the atom of a value.
 fn next_part(
     alloc: Global,
     heap: &Heap,
@@ -74,7 +75,7 @@ fn next_part(
     Ok(Some(Found { equation, rest }))
 }
 
-/// The next answer of atom_concat/3, whose third argument is divided.
+/// The next answer of atom_concat/3 (8.16.2), whose third argument is divided.
 fn next_split(
     alloc: Global,
     heap: &Heap,
@@ -94,16 +95,18 @@ fn next_split(
     };
     let front = name_of(alloc, heap, sides.0)?;
     let back = name_of(alloc, heap, sides.1)?;
-    let Some((split, rest)) = first_split(name.as_str(), &front, &back, split) else {
+    let text = name.as_str();
+    let Some((split, rest)) = first_split(text, &front, &back, split) else {
         return Ok(None);
     };
-    let equation = split_equation(alloc, heap, sides, name.as_str(), split)?;
+    let equation = split_equation(alloc, heap, sides, text, split)?;
     let rest = split_turn(rest);
     Ok(Some(Found { equation, rest }))
 }
 
-/// The next of the answers that are left which may fit: it is to be unified, and where it is none, those behind it are asked. Those passed over
-/// have no unifier. The cost is that of making the answer, and of passing over; no name, term or cell stays.
+/// The next of the answers that are left which may fit (ISO/IEC 13211-1 8.14.4, 8.16.2, 8.16.3, 8.17.2): it is to be unified, and where it has no
+/// unifier, those behind it are asked. Those passed over have none. The cost is that of making the answer, and of passing over; no name, term or
+/// cell stays.
 pub fn next(
     alloc: Global,
     heap: &Heap,
@@ -128,6 +131,7 @@ pub fn next(
         (Turn::Split(split), [front, back, whole]) => {
             next_split(alloc, heap, (*front, *back), *whole, split)
         }
+        (Turn::Groups(groups), _) => next_group(alloc, args, groups),
         _ => Ok(None),
     }
 }

@@ -5,10 +5,11 @@
 #![tactic(auto)]
 
 mod argument;
-mod equation;
+pub mod equation;
 pub mod generator;
-mod part;
-mod split;
+mod group;
+pub mod part;
+pub mod split;
 mod text;
 pub mod turn;
 pub mod wanted;

@@ -2,13 +2,13 @@
 ghost use Rattle.std.specs.Prelude.{◌≡◌, ℕ, suc, ◌+◌, ◌<◌, ◌≤◌, List, [], ◌∷◌, length, true, false, IfSome, IfNone};
 ghost use Rattle.std.specs.Str.{chars};
 ghost use Rattle.plterm.specs.Tree.{Tree};
-ghost use Rattle.plbuiltin.specs.Pieces.{part as part_of};
+ghost use Rattle.plbuiltin.specs.Pieces.{part as part_of, parts};
 ghost use Rattle.plgenerator.specs.Fitting.{Misses, fitting};
 ghost use Rattle.plgenerator.specs.Turns.{IsPart, beside, others, parts_left, parts_if};
 ghost use Rattle.plgenerator.specs.Wanting.{AreAllowed, NoneBegins, AreWanted};
 
 use crate::text::{behind, next_offset};
-use crate::turn::Part;
+use crate::turn::{Offset, Part};
 use plterm::name::Name;
 
 /// What the arguments say of a part: the numbers of characters before it, in it and behind it, and its text.
@@ -26,6 +26,22 @@ enum Lengths {
     All,
     One(u64),
     None,
+}
+
+/// The first part of a text, from which on all its parts are (8.16.3).
+pub fn all_parts(text: &str) -> Part
+    requires { length text.now ≤ 65535 }
+    ensures part { IsPart (chars text.now) result }
+    ensures all { (us : List Tree) → parts_left (chars text.now) us result ≡ parts (chars text.now) us }
+{
+    Part {
+        offset: Offset {
+            characters: 0,
+            bytes: 0,
+        },
+        length: 0,
+        after: text.chars().count() as u16,
+    }
 }
 
 /// Which lengths may fit where so many characters stand from a place on.
@@ -72,6 +88,7 @@ fn may_end(wanted: &Wanted, part: Part) -> bool
 fn first_beside(wanted: &Wanted, part: Part) -> Option<Part>
     requires { part.length + part.after ≤ 65535 }
     ensures same { IfSome result (λ q. (q.offset ≡ part.offset) × (q.length + q.after ≡ part.length + part.after)) }
+    ensures later { IfSome result (λ q. q.after ≤ part.after) }
     ensures fits { (us : List Tree) → AreWanted us wanted.now → (cs : List ℕ) → IsPart cs part → IfSome result (λ q. fitting (beside cs us part) ≡ fitting (beside cs us q)) }
     ensures none { (us : List Tree) → AreWanted us wanted.now → (cs : List ℕ) → IsPart cs part → IfNone result (fitting (beside cs us part) ≡ []) }
 {
@@ -146,6 +163,7 @@ fn part_here(wanted: &Wanted, text: &str, part: Part) -> Option<Part>
     requires name { length text.now ≤ 65535 }
     requires part { IsPart (chars text.now) part }
     ensures part { IfSome result (IsPart (chars text.now)) }
+    ensures left { (us : List Tree) → IfSome result (λ q. length (parts_left (chars text.now) us q) ≤ length (parts_left (chars text.now) us part)) }
     ensures some { (us : List Tree) → AreWanted us wanted.now → IfSome result (λ q. fitting (parts_left (chars text.now) us part) ≡ fitting (parts_left (chars text.now) us q)) }
     ensures none { (us : List Tree) → AreWanted us wanted.now → IfNone result (fitting (parts_left (chars text.now) us part) ≡ fitting (others (chars text.now) us part)) }
 {
@@ -161,6 +179,7 @@ pub(crate) fn first_part(wanted: &Wanted, text: &str, part: Part) -> Option<Part
     requires name { length text.now ≤ 65535 }
     requires part { IsPart (chars text.now) part }
     ensures part { IfSome result (IsPart (chars text.now)) }
+    ensures left { (us : List Tree) → IfSome result (λ q. length (parts_left (chars text.now) us q) ≤ length (parts_left (chars text.now) us part)) }
     ensures some { (us : List Tree) → AreWanted us wanted.now → IfSome result (λ q. fitting (parts_left (chars text.now) us part) ≡ fitting (parts_left (chars text.now) us q)) }
     ensures none { (us : List Tree) → AreWanted us wanted.now → IfNone result (fitting (parts_left (chars text.now) us part) ≡ []) }
 {
@@ -194,6 +213,7 @@ pub(crate) fn part_after(wanted: &Wanted, text: &str, part: Part) -> Option<Part
     requires name { length text.now ≤ 65535 }
     requires part { IsPart (chars text.now) part }
     ensures part { IfSome result (IsPart (chars text.now)) }
+    ensures fewer { (us : List Tree) → IfSome result (λ q. length (parts_left (chars text.now) us q) < length (parts_left (chars text.now) us part)) }
     ensures is { (us : List Tree) → AreWanted us wanted.now → fitting (parts_left (chars text.now) us part) ≡ fitting (part_of (chars text.now) us part.offset.characters part.length part.after ∷ parts_if (chars text.now) us result) }
 {
     if may_be_longer(wanted, part) {

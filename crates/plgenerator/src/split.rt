@@ -1,14 +1,29 @@
 //! The ways to divide a text, one at a time (ISO/IEC 13211-1 8.16.2).
-ghost use Rattle.std.specs.Prelude.{◌≡◌, ◌≤◌, List, [], ◌∷◌, length, IfSome, IfNone};
+ghost use Rattle.std.specs.Prelude.{◌≡◌, ◌<◌, ◌≤◌, List, [], ◌∷◌, length, IfSome, IfNone};
 ghost use Rattle.std.specs.Str.{chars};
 ghost use Rattle.plterm.specs.Tree.{Tree, atom};
-ghost use Rattle.plbuiltin.specs.Pieces.{split as split_of};
+ghost use Rattle.plbuiltin.specs.Pieces.{split as split_of, splits};
 ghost use Rattle.plgenerator.specs.Fitting.{fitting};
 ghost use Rattle.plgenerator.specs.Turns.{IsSplit, splits_left, splits_if};
 
 use crate::text::next_offset;
 use crate::turn::{Offset, Split};
 use plterm::name::Name;
+
+/// The first way to divide a text, from which on all the ways are (8.16.2).
+pub fn all_splits(text: &str) -> Split
+    requires { length text.now ≤ 65535 }
+    ensures split { IsSplit (chars text.now) result }
+    ensures all { (us : List Tree) → splits_left (chars text.now) us result ≡ splits (chars text.now) us }
+{
+    Split {
+        offset: Offset {
+            characters: 0,
+            bytes: 0,
+        },
+        after: text.chars().count() as u16,
+    }
+}
 
 /// The one way, from one on, so that a front stands before it.
 fn behind_front(text: &str, front: &str, split: Split) -> Option<Split>
@@ -65,6 +80,7 @@ fn split_after(text: &str, split: Split) -> Option<Split>
     requires name { length text.now ≤ 65535 }
     requires split { IsSplit (chars text.now) split }
     ensures split { IfSome result (IsSplit (chars text.now)) }
+    ensures fewer { (us : List Tree) → IfSome result (λ rest. length (splits_left (chars text.now) us rest) < length (splits_left (chars text.now) us split)) }
     ensures is { (us : List Tree) → splits_left (chars text.now) us split ≡ split_of (chars text.now) us split.offset.characters ∷ splits_if (chars text.now) us result }
 {
     if split.after == 0 {
@@ -87,6 +103,7 @@ pub(crate) fn first_split(
     requires split { IsSplit (chars text.now) split }
     ensures split { IfSome result (λ q. IsSplit (chars text.now) q.0) }
     ensures rest { IfSome result (λ q. IfSome q.1 (IsSplit (chars text.now))) }
+    ensures fewer { (us : List Tree) → IfSome result (λ q. IfSome q.1 (λ rest. length (splits_left (chars text.now) us rest) < length (splits_left (chars text.now) us split))) }
     ensures some { (u w : Tree) → IfSome front.now (λ s. u ≡ atom s) → IfSome back.now (λ s. w ≡ atom s) → IfSome result (λ q. fitting (splits_left (chars text.now) (u ∷ w ∷ []) split) ≡ fitting (split_of (chars text.now) (u ∷ w ∷ []) q.0.offset.characters ∷ splits_if (chars text.now) (u ∷ w ∷ []) q.1)) }
     ensures none { (u w : Tree) → IfSome front.now (λ s. u ≡ atom s) → IfSome back.now (λ s. w ≡ atom s) → IfNone result (fitting (splits_left (chars text.now) (u ∷ w ∷ []) split) ≡ []) }
 {

@@ -22,7 +22,8 @@ pub struct Split {
     pub after: u16,
 }
 
-/// The groups of terms that are left: how many arguments stand before them, and how many groups were passed.
+/// The groups of terms that are left. The values of such a call are its arguments and behind them the groups, each one value: how many
+/// arguments there are, and how many groups were passed.
 #[derive(Clone, Copy)]
 pub struct Groups {
     pub arguments: u16,
@@ -32,10 +33,11 @@ pub struct Groups {
 /// The answers that are left.
 #[derive(Clone, Copy)]
 pub enum Turn {
-    /// Of sub_atom/5.
+    /// Of sub_atom/5 (ISO/IEC 13211-1 8.16.3).
     Part(Part),
-    /// Of atom_concat/3.
+    /// Of atom_concat/3 (8.16.2), whose third argument is divided.
     Split(Split),
-    /// Of a predicate whose arguments are unified with one group of terms after another.
+    /// Of a predicate whose arguments are unified with one group of terms after another, as current_op/3 (8.14.4) and current_prolog_flag/2
+    /// (8.17.2).
     Groups(Groups),
 }

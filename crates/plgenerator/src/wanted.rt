@@ -13,7 +13,8 @@ use plcells::heap::Heap;
 use plterm::name::Name;
 use std::alloc::AllocError;
 
-/// The arguments behind the atom.
+/// The arguments of a call of sub_atom/5 behind the atom (ISO/IEC 13211-1 8.16.3), as values: the numbers of characters before a part, in it and
+/// behind it, and its text.
 #[derive(Clone, Copy)]
 pub struct Sought {
     pub before: Cell,

@@ -1,11 +1,14 @@
 use Rattle.std.proofs.Common.{arith}
 use Rattle.std.specs.Str.{chars}
 use Rattle.plgenerator.proofs.Offsets.{chars-le}
-use Rattle.plgenerator.proofs.Beside.{none-begins, here-fits, none-here, none-here-if}
+use Rattle.plgenerator.proofs.Beside.{none-begins, here-left, here-fits, none-here, none-here-if}
 use Rattle.plgenerator.proofs.part.part_here.Goals as goal
 
 pub first_beside-requires : goal.first_beside-requires
 first_beside-requires c = omega (arith, c.requires.part.all, c.requires.name, chars-le c.args.text.now c.utf8.text)
+
+pub returns-then-may_begin-clause-left : goal.returns-then-may_begin-clause-left
+returns-then-may_begin-clause-left c = λ us. here-left (chars c.args.text.now) us c.args.part c.first_beside.result c.first_beside.ensures.same c.first_beside.ensures.later
 
 pub returns-then-may_begin-clause-some : goal.returns-then-may_begin-clause-some
 returns-then-may_begin-clause-some c = λ us w.
