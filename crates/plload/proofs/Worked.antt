@@ -22,7 +22,7 @@ fact name = record { head = atom name; body = atom (codes "true"); variables = 0
 
 -- a.
 added : meaning (atom (codes "a")) ≡ Adds (fact (codes "a"))
-unfolding rows
+unfolding rows kept
 added = refl
 
 -- 1 :- a.
@@ -35,12 +35,12 @@ bad_body_first = refl
 
 -- true.
 control_head : meaning (atom (codes "true")) ≡ Refused StaticRedefined
-unfolding rows
+unfolding rows kept
 control_head = refl
 
 -- -->(a, b).
 grammar_rule : meaning (two (codes "-->") (atom (codes "a")) (atom (codes "b"))) ≡ Refused StaticRedefined
-unfolding rows
+unfolding rows kept
 grammar_rule = refl
 
 -- :- initialization(p(V4)).
@@ -75,17 +75,17 @@ abbrev p_1 : Tree
 p_1 = slash (atom (codes "p")) (int (pos 1))
 
 dynamic_one : meaning (one (codes ":-") (one (codes "dynamic") p_1)) ≡ Declares (record { name = codes "p"; arity = 1 } ∷ [])
-unfolding rows
+unfolding rows kept
 dynamic_one = refl
 
 -- :- dynamic((p/1, q/0)).
 dynamic_two : meaning (one (codes ":-") (one (codes "dynamic") (two (codes ",") p_1 (slash (atom (codes "q")) (int (pos 0)))))) ≡ Declares (record { name = codes "p"; arity = 1 } ∷ record { name = codes "q"; arity = 0 } ∷ [])
-unfolding rows
+unfolding rows kept
 dynamic_two = refl
 
 -- :- dynamic([p/1]).
 dynamic_list : meaning (one (codes ":-") (one (codes "dynamic") (two (codes ".") p_1 (atom (codes "[]"))))) ≡ Declares (record { name = codes "p"; arity = 1 } ∷ [])
-unfolding rows
+unfolding rows kept
 dynamic_list = refl
 
 -- :- dynamic([p/1|X]).
@@ -94,7 +94,7 @@ dynamic_partial = refl
 
 -- :- dynamic(write/1).
 dynamic_built_in : meaning (one (codes ":-") (one (codes "dynamic") (slash (atom (codes "write")) (int (pos 1))))) ≡ Refused BadDirective
-unfolding rows
+unfolding rows kept
 dynamic_built_in = refl
 
 -- :- dynamic.
@@ -130,7 +130,7 @@ module_directive : meaning (one (codes ":-") (two (codes "module") (atom (codes 
 module_directive = refl
 
 fixed_once : is_fixed (record { name = codes "once"; arity = 1 }) ≡ true
-unfolding rows
+unfolding rows kept
 fixed_once = refl
 
 -- it is kept for a predicate that has no row yet

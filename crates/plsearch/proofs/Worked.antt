@@ -15,7 +15,7 @@ use Rattle.plevent.specs.declared.update.Update.TheVariants.{Last}
 use Rattle.plops.specs.declared.flag.Quotes.TheVariants.{Codes}
 use Rattle.plprogram.specs.declared.settings.Unknown.TheVariants as unknown
 use Rattle.plprogram.specs.Program.{Program}
-use Rattle.plnames.specs.Names.{rows}
+use Rattle.plnames.specs.Names.{rows, kept}
 use Rattle.plbuiltin.specs.Lists.{elements_of}
 use Rattle.plsearch.specs.Errors.{pair}
 use Rattle.plsearch.specs.Rows.{raised, row, select, meet}
@@ -26,7 +26,7 @@ use Rattle.plsearch.specs.Search.{start_from, start_of, search_of}
 
 -- all that a search computes with
 pub all : ℕ
-unfolding rows elements_of bind occurs places differ unify_in unify living exists words others prefix_of infix_of postfix_of raised row select meet answered resume choice out outs moved walk visit_in Visit start_from start_of search_of
+unfolding rows kept elements_of bind occurs places differ unify_in unify living exists words others prefix_of infix_of postfix_of raised row select meet answered resume choice out outs moved walk visit_in Visit start_from start_of search_of
 all = 0
 
 abbrev name : List ℕ → Tree
