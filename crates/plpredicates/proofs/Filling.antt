@@ -16,7 +16,7 @@ use Rattle.plnames.specs.declared.kind.Spelling.TheVariants.{Characters, Codes}
 use Rattle.plbuiltin.specs.Texts.{spelled}
 use Rattle.plprogram.specs.declared.settings.Settings.{Settings}
 use Rattle.plbuiltin.specs.Parts.{both, variables_from}
-use Rattle.plbuiltin.specs.Solution.{Gives, unifies}
+use Rattle.plbuiltin.specs.Solution.{Gives, together, unifies}
 use Rattle.plpredicates.specs.Building.{solved_by}
 
 -- a substitution goes through a list
@@ -66,6 +66,13 @@ module _ (h : Store) (v : Cell) (vs : List Cell) (n : ℕ) where
 
   pub bind-arguments : (f : List ℕ) (k : ℕ) → k ≡ length vs → bind (filled h (v ∷ vs) n) (compound f (trees (variables_from 1 k))) ≡ compound f (trees (map (value h) vs))
   bind-arguments f k e = ap (λ j. bind (filled h (v ∷ vs) n) (compound f (trees (variables_from 1 j)))) e ∙ bind-compound (filled h (v ∷ vs) n) f (variables_from 1 (length vs)) ∙ ap (λ ts. compound f (trees ts)) values_at
+
+-- values at once
+pub bind-together : (h : Store) (vs : List Cell) (n k : ℕ) → k ≡ length vs → bind (filled h vs n) (together (variables_from 0 k)) ≡ together (map (value h) vs)
+bind-together h vs n k e =
+    ap (λ j. bind (filled h vs n) (together (variables_from 0 j))) e
+    ∙ bind-compound (filled h vs n) (codes "-") (variables_from 0 (length vs))
+    ∙ ap together (bound-values (filled h vs n) h vs 0 (λ i lt. ap (filled h vs n) (omega arith) ∙ ap (λ b. if b then value h (at vs i) else var (n + (i - length vs))) (lt-ltb i (length vs) lt)))
 
 -- no values but one: the rest are new
 module _ (h : Store) (v : Cell) (n : ℕ) where

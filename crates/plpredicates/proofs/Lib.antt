@@ -1,5 +1,6 @@
 pub mod Roots
-pub mod Counts
+pub mod Dividing
+pub mod Groups
 pub mod Cells
 pub mod Filling
 pub mod Numbered

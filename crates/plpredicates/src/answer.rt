@@ -2,6 +2,7 @@
 
 use plcells::cell::Cell;
 use plcells::equation::Equation;
+use plgenerator::turn::Turn;
 use plprogram::settings::Settings;
 use plterm::term::Term;
 
@@ -22,6 +23,10 @@ pub enum Answer {
     Equals(Cell, i64),
     /// It is true where the two terms of an equation are unified.
     Solves(Equation),
+    /// Its answers are those of a turn over the values of the arguments: there are none, or at least two.
+    Several(Vec<Cell>, Turn),
+    /// It is true where the terms of some values are unified, together, with one of some terms after another. These have no variables, and there is not just one.
+    Groups(Vec<Cell>, Vec<Term>),
     /// It is true once these bytes are written.
     Writes(Vec<u8>),
     /// It is true, and these are the operators and flags from then on.

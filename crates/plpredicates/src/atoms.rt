@@ -15,7 +15,8 @@ use crate::answer::Answer;
 use crate::build::spelled;
 use crate::equation::is_term;
 use crate::error::{self, outside, unbound, wrong_type};
-use crate::text::{character_of, text_in};
+use crate::pieces::{atom_concat, sub_atom};
+use crate::text::{atom_of, character_of, text_in};
 use itoa::Buffer;
 use plcells::cell::Cell;
 use plcells::heap::Heap;
@@ -23,7 +24,6 @@ use plnames::kind::{Atoms, Spelling};
 use plnumber::number::number_of;
 use plorder::shape::{Shape, shape_of};
 use plterm::name::Name;
-use plterm::term::NAME_LENGTH;
 use std::alloc::{AllocError, Global};
 
 /// What a call of one of them comes to.
@@ -43,6 +43,8 @@ pub(crate) fn atoms_answer(
         (Atoms::CharacterCode, [c, code]) => char_code(alloc, heap, *c, *code),
         (Atoms::NumberSpelled(k), [number, list]) => number_spelled(alloc, heap, k, *number, *list),
         (Atoms::Number, [text, number]) => atom_number(alloc, heap, *text, *number),
+        (Atoms::Concatenation, _) => atom_concat(alloc, heap, args),
+        (Atoms::Part, _) => sub_atom(alloc, heap, args),
         _ => Ok(Answer::Fails),
     }
 }
@@ -132,11 +134,10 @@ fn is_atom(alloc: Global, v: Cell, text: &str) -> Result<Answer, AllocError>
     ensures is { (h : Store) → IfOk result (λ answer. (s : Settings) (n : ℕ) → meant h s n answer ≡ is_found (value h v) (atom_of text.now) s) }
     ensures there { (h : Store) → IsValue h v → IfOk result (IsThere h) }
 {
-    if text.len() > NAME_LENGTH {
-        let error = error::representation_error(alloc, "max_atom_length")?;
-        return Ok(Answer::Raises(error));
+    match atom_of(alloc, text)? {
+        Ok(term) => is_term(alloc, v, term),
+        Err(error) => Ok(Answer::Raises(error)),
     }
-    is_term(alloc, v, error::atom(alloc, text)?)
 }
 
 /// char_code/2 (8.16.6).

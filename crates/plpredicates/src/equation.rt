@@ -1,5 +1,5 @@
 //! Answers that are equations.
-ghost use Rattle.std.specs.Prelude.{◌≡◌, ℕ, suc, ◌<◌, ◌∷◌, map, IfOk};
+ghost use Rattle.std.specs.Prelude.{◌≡◌, ℕ, suc, ◌<◌, ◌≤◌, [], ◌∷◌, length, map, IfOk};
 ghost use Rattle.plterm.specs.Tree.{var};
 ghost use Rattle.plterm.specs.Variables.{AllBelow};
 ghost use Rattle.plsubst.specs.Subst.{bind};
@@ -7,13 +7,13 @@ ghost use Rattle.plcells.specs.Equations.{IsEquation, filled, left_of, right_of}
 ghost use Rattle.plcells.specs.Store.{Store, value, IsValue, AreValues};
 ghost use Rattle.plprogram.specs.declared.settings.Settings.{Settings};
 ghost use Rattle.plread.specs.Texts.{listed};
-ghost use Rattle.plbuiltin.specs.Solution.{unifies};
+ghost use Rattle.plbuiltin.specs.Solution.{Gives, unifies, against};
 ghost use Rattle.plbuiltin.specs.Parts.{both};
 ghost use Rattle.plpredicates.specs.Answers.{IsThere, meant};
 ghost use Rattle.plpredicates.specs.Building.{solved_by, width};
 
 use crate::answer::Answer;
-use crate::build::list_of_variables;
+use crate::build::{compound_of_variables, list_of_variables, together};
 use plcells::cell::Cell;
 use plcells::equation::Equation;
 use plterm::name::Name;
@@ -82,6 +82,43 @@ pub(crate) fn is_term(alloc: Global, v: Cell, term: Term) -> Result<Answer, Allo
     solves(alloc, v, term, &[], 0)
 }
 
+/// Two terms without variables are unified.
+pub(crate) fn are_terms(alloc: Global, left: Term, right: Term) -> Answer
+    requires left { AllBelow 0 left }
+    requires right { AllBelow 0 right }
+    ensures is { (h : Store) (s : Settings) (n : ℕ) → meant h s n result ≡ unifies left right s }
+    ensures there { (h : Store) → IsThere h result }
+{
+    Answer::Solves(Equation {
+        left,
+        right,
+        values: Vec::new(alloc),
+        new: 0,
+    })
+}
+
+/// The terms of some values are unified, together, with a term without variables.
+pub(crate) fn are_together(
+    alloc: Global,
+    values: Vec<Cell>,
+    right: Term,
+) -> Result<Answer, AllocError>
+    requires some { 0 < length values.items }
+    requires few { length values.items ≤ 1024 }
+    requires right { AllBelow 0 right }
+    ensures is { (h : Store) → IfOk result (λ answer. (s : Settings) (n : ℕ) → meant h s n answer ≡ Gives (against (map (value h) values.items) right ∷ []) [] s) }
+    ensures there { (h : Store) → AreValues h values.items → IfOk result (IsThere h) }
+{
+    let name = Name::new(alloc, "-")?;
+    let left = compound_of_variables(alloc, name, 0, values.len() as u16)?;
+    Ok(Answer::Solves(Equation {
+        left,
+        right,
+        values,
+        new: 0,
+    }))
+}
+
 /// The term of a value is unified with the list of the terms of others.
 pub(crate) fn is_list_of(alloc: Global, v: Cell, items: &[Cell]) -> Result<Answer, AllocError>
     ensures is { (h : Store) → IfOk result (λ answer. (s : Settings) (n : ℕ) → meant h s n answer ≡ unifies (value h v) (listed (map (value h) items.now)) s) }
@@ -118,11 +155,7 @@ fn pair(alloc: Global, from: u64) -> Result<Term, AllocError>
     requires { from < 3 }
     ensures { IfOk result (λ t. t ≡ both (var from) (var (suc from))) }
 {
-    let name = Name::new(alloc, "-")?;
     let a = Term::var(alloc, from)?;
     let b = Term::var(alloc, from + 1)?;
-    match Term::compound(alloc, name, vec![in alloc; a, b]?) {
-        Ok(term) => Ok(term),
-        Err(_) => Err(AllocError),
-    }
+    together(alloc, vec![in alloc; a, b]?)
 }

@@ -2,12 +2,13 @@
 ghost use Rattle.std.specs.Prelude.{◌≡◌, codes, IfOk};
 ghost use Rattle.plterm.specs.Tree.{atom, compound, none, more};
 ghost use Rattle.plcells.specs.Store.{value, IsValue};
-ghost use Rattle.plbuiltin.specs.Errors.{instantiation_error, type_error, domain_error, permission_error, representation_error, syntax_error};
+ghost use Rattle.plbuiltin.specs.Errors.{atom_error, instantiation_error, type_error, domain_error, permission_error, representation_error, syntax_error};
 ghost use Rattle.plbuiltin.specs.Flags.{flag_and_value};
 
 use crate::answer::Answer;
 use plcells::cell::Cell;
 use plcells::heap::Heap;
+use plorder::shape::{Shape, shape_of};
 use plterm::name::Name;
 use plterm::term::Term;
 use std::alloc::{AllocError, Global};
@@ -63,11 +64,36 @@ pub fn type_error(alloc: Global, heap: &Heap, kind: &str, v: Cell) -> Result<Ter
     error(alloc, "type_error", kind, culprit)
 }
 
+/// The error of a value that is to be a variable or an atom.
+pub(crate) fn atom_error(alloc: Global, heap: &Heap, v: Cell) -> Result<Option<Term>, AllocError>
+    requires { IsValue heap.now v }
+    ensures { IfOk result (λ error. error ≡ atom_error (value heap.now v)) }
+{
+    match shape_of(heap, v) {
+        Shape::Variable(_) | Shape::Atom(_) => Ok(None),
+        _ => Ok(Some(type_error(alloc, heap, "atom", v)?)),
+    }
+}
+
 /// A term is of the type, and outside of the domain.
 pub(crate) fn domain_error(alloc: Global, domain: &str, culprit: Term) -> Result<Term, AllocError>
     ensures { IfOk result (λ t. t ≡ domain_error domain.now culprit) }
 {
     error(alloc, "domain_error", domain, culprit)
+}
+
+/// The term of a value is outside of a domain.
+pub(crate) fn outside_error(
+    alloc: Global,
+    heap: &Heap,
+    domain: &str,
+    v: Cell,
+) -> Result<Term, AllocError>
+    requires { IsValue heap.now v }
+    ensures { IfOk result (λ t. t ≡ domain_error domain.now (value heap.now v)) }
+{
+    let culprit = heap.take(alloc, v)?;
+    domain_error(alloc, domain, culprit)
 }
 
 /// A flag does not have a value.
@@ -152,6 +178,5 @@ pub(crate) fn outside(
     requires { IsValue heap.now v }
     ensures { IfOk result (λ answer. answer ≡ Answer.Raises (domain_error domain.now (value heap.now v))) }
 {
-    let culprit = heap.take(alloc, v)?;
-    Ok(Answer::Raises(domain_error(alloc, domain, culprit)?))
+    Ok(Answer::Raises(outside_error(alloc, heap, domain, v)?))
 }

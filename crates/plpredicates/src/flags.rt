@@ -10,6 +10,7 @@ ghost use Rattle.plpredicates.specs.Lists.{tail_as};
 ghost use Rattle.plterm.specs.Tree.{atom};
 
 use crate::answer::Answer;
+use crate::current::{Pattern, current_flag, current_op};
 use crate::error::{
     self, domain_error, outside, permission_error, type_error, unbound, value_error, wrong_type,
 };
@@ -53,7 +54,16 @@ pub(crate) fn flags_answer(
                 Err(error) => Ok(Answer::Raises(error)),
             }
         }
+        (Flags::CurrentOperator, [priority, kind, name]) => {
+            let op = Pattern {
+                priority: *priority,
+                kind: *kind,
+                name: *name,
+            };
+            current_op(alloc, heap, settings, op)
+        }
         (Flags::Set, [flag, value]) => set_flag(alloc, heap, settings, *flag, *value),
+        (Flags::Current, [flag, value]) => current_flag(alloc, heap, settings, *flag, *value),
         _ => Ok(Answer::Fails),
     }
 }

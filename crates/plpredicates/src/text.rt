@@ -1,18 +1,21 @@
 //! Texts: atomic terms by their characters, and lists of characters and of codes (ISO/IEC 13211-1 6.3.7, 7.1.4).
-ghost use Rattle.std.specs.Prelude.{◌≡◌, ℕ, [], ◌∷◌, Ok, Err, IfOk, IfErr, IfSome, IfNone, string_bytes};
+ghost use Rattle.std.specs.Prelude.{◌≡◌, ◌≤◌, ℕ, [], ◌∷◌, Ok, Err, length, IfOk, IfErr, IfSome, IfNone, string_bytes};
 ghost use Rattle.std.specs.Str.{chars};
 ghost use Rattle.plterm.specs.Tree.{int};
 ghost use Rattle.plcells.specs.Store.{value, IsValue};
 ghost use Rattle.plnames.specs.declared.kind.Spelling.TheVariants.{Codes};
-ghost use Rattle.plbuiltin.specs.Texts.{character_of as character_in, text_in as text_in_term};
+ghost use Rattle.plbuiltin.specs.Pieces.{text_of};
+ghost use Rattle.plbuiltin.specs.Texts.{atom_of, character_of as character_in, text_in as text_in_term};
 
-use crate::error::{instantiation_error, representation_error, type_error};
+use crate::error::{atom, instantiation_error, representation_error, type_error};
 use crate::list::{Tail, cell_of, tail_of};
+use itoa::Buffer;
 use plcells::cell::Cell;
 use plcells::heap::Heap;
 use plnames::kind::Spelling;
 use plorder::shape::{Shape, shape_of};
-use plterm::term::Term;
+use plterm::name::Name;
+use plterm::term::{NAME_LENGTH, Term};
 use std::alloc::{AllocError, Global};
 use std::string::String;
 
@@ -87,5 +90,31 @@ fn of_code(alloc: Global, code: i64) -> Result<Result<char, Term>, AllocError>
     match u32::try_from(code).ok().and_then(char::from_u32) {
         Some(c) => Ok(Ok(c)),
         None => Ok(Err(representation_error(alloc, "character_code")?)),
+    }
+}
+
+/// The atom of a text, or the error of one that is longer than 65,535 bytes.
+pub(crate) fn atom_of(alloc: Global, text: &str) -> Result<Result<Term, Term>, AllocError>
+    ensures { IfOk result (λ found. found ≡ atom_of text.now) }
+{
+    if text.len() > NAME_LENGTH {
+        return Ok(Err(representation_error(alloc, "max_atom_length")?));
+    }
+    Ok(Ok(atom(alloc, text)?))
+}
+
+/// The text of the atomic term of a value.
+pub(crate) fn text_of(alloc: Global, heap: &Heap, v: Cell) -> Result<Option<Name>, AllocError>
+    requires { IsValue heap.now v }
+    ensures is { IfOk result (λ text. text ≡ text_of (value heap.now v)) }
+    ensures short { IfOk result (λ text. IfSome text (λ name. length name ≤ 65535)) }
+{
+    match shape_of(heap, v) {
+        Shape::Atom(a) => Ok(Some(heap.names().atom_name(a).copied()?)),
+        Shape::Integer(i) => {
+            let mut buffer = Buffer::new();
+            Ok(Some(Name::new(alloc, buffer.format(i))?))
+        }
+        _ => Ok(None),
     }
 }

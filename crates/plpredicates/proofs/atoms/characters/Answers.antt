@@ -2,7 +2,7 @@ use Rattle.std.proofs.Common.{◌≡◌, ◌≤◌, length, rules, arith, ap, �
 use Rattle.std.specs.Str.{chars}
 use Rattle.std.proofs.lemmas.Int.{to_z_pos}
 use Rattle.std.proofs.lemmas.Str.{chars_from_encodes, IsUtf8-from_is_utf8}
-use Rattle.plpredicates.proofs.Counts.{chars-le}
+use Rattle.plgenerator.proofs.Offsets.{chars-le}
 use Rattle.plpredicates.proofs.atoms.characters.Goals as goal
 
 pub returns : goal.returns
