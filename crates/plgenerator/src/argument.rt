@@ -1,5 +1,5 @@
 //! The terms of arguments.
-ghost use Rattle.std.specs.Prelude.{◌≡◌, ℕ, pos, List, IfOk, IfSome, IfNone};
+ghost use Rattle.std.specs.Prelude.{◌≡◌, ◌≤◌, ℕ, pos, List, length, IfOk, IfSome, IfNone};
 ghost use Rattle.plterm.specs.Tree.{int, atom};
 ghost use Rattle.plterm.specs.Reading.{IsName};
 ghost use Rattle.plcells.specs.Store.{value, IsValue};
@@ -47,11 +47,12 @@ pub(crate) fn atom_copied(heap: &Heap, v: Cell) -> Result<Option<Name>, AllocErr
     }
 }
 
-/// The text of the atomic term of a value.
-pub(crate) fn name_of(alloc: Global, heap: &Heap, v: Cell) -> Result<Option<Name>, AllocError>
+/// The text of the atomic term of a value, which has at most 65,535 bytes.
+pub fn text_of(alloc: Global, heap: &Heap, v: Cell) -> Result<Option<Name>, AllocError>
     requires { IsValue heap.now v }
-    ensures is { IfOk result (λ o. o ≡ text_of (value heap.now v)) }
-    ensures name { IfOk result (λ o. IfSome o IsName) }
+    ensures is { IfOk result (λ text. text ≡ text_of (value heap.now v)) }
+    ensures name { IfOk result (λ text. IfSome text IsName) }
+    ensures short { IfOk result (λ text. IfSome text (λ name. length name ≤ 65535)) }
 {
     match shape_of(heap, v) {
         Shape::Atom(a) => Ok(Some(heap.names().atom_name(a).copied()?)),

@@ -24,7 +24,7 @@ use plterm::term::Term;
 use std::alloc::{AllocError, Global};
 
 /// Several terms at once.
-pub(crate) fn together(alloc: Global, terms: Vec<Term>) -> Result<Term, AllocError>
+pub fn together(alloc: Global, terms: Vec<Term>) -> Result<Term, AllocError>
     requires some { 0 < length terms.items }
     requires few { length terms.items ≤ 1024 }
     ensures { IfOk result (λ t. t ≡ tuple terms.items) }

@@ -4,7 +4,7 @@ ghost use Rattle.plcells.specs.Store.{value, IsValue, AreValues};
 ghost use Rattle.plgenerator.specs.Fitting.{fitting};
 ghost use Rattle.plgenerator.specs.Answers.{left, IsTurn, Finds};
 
-use crate::argument::{atom_in, name_of};
+use crate::argument::{atom_in, text_of};
 use crate::equation::{part_equation, split_equation};
 use crate::group::next_group;
 use crate::part::{first_part, part_after};
@@ -90,11 +90,11 @@ fn next_split(
     ensures some { IfOk result (λ o. IfSome o (Finds heap.now (sides.0 ∷ sides.1 ∷ whole ∷ []) (Turn.Split split))) }
     ensures none { IfOk result (λ o. IfNone o (fitting (left heap.now (sides.0 ∷ sides.1 ∷ whole ∷ []) (Turn.Split split)) ≡ [])) }
 {
-    let Some(name) = name_of(alloc, heap, whole)? else {
+    let Some(name) = text_of(alloc, heap, whole)? else {
         return Ok(None);
     };
-    let front = name_of(alloc, heap, sides.0)?;
-    let back = name_of(alloc, heap, sides.1)?;
+    let front = text_of(alloc, heap, sides.0)?;
+    let back = text_of(alloc, heap, sides.1)?;
     let text = name.as_str();
     let Some((split, rest)) = first_split(text, &front, &back, split) else {
         return Ok(None);

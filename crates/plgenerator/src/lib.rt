@@ -4,7 +4,7 @@
 //! of the arguments, and those that could not be unified with them are passed over.
 #![tactic(auto)]
 
-mod argument;
+pub mod argument;
 pub mod equation;
 pub mod generator;
 mod group;

@@ -1,13 +1,13 @@
 -- What a call of a static procedure makes of a machine.
-use Rattle.std.proofs.Common.{◌≡◌, ℕ, [], ◌∷◌, sym, ap, ap₂, ◌∙◌, subst}
+use Rattle.std.proofs.Common.{◌≡◌, ℕ, List, [], ◌∷◌, sym, ap, ap₂, ◌∙◌, subst}
 use Rattle.plterm.specs.Tree.{Tree}
 use Rattle.plterm.specs.declared.indicator.Indicator.{Indicator}
 use Rattle.plprogram.specs.Program.{Program, clauses_for}
-use Rattle.plsearch.specs.Types.{Choice}
+use Rattle.plsearch.specs.Types.{Place, Choice}
 use Rattle.plsearch.specs.Rows.{call, choose}
 use Rattle.plsearch.specs.Machines.Machine.{At}
 use Rattle.pllinks.specs.declared.link.Continuation.{Continuation}
-use Rattle.plstack.specs.State.{State, goals_of, place_of}
+use Rattle.plstack.specs.State.{State, goals_of, place_of, cases_of}
 use Rattle.plstack.specs.Places.{called}
 use Rattle.plstack.specs.Calls.{Calls, CallsNone, StaysAt}
 use Rattle.plstack.specs.StaticCalls.{statics_of}
@@ -18,6 +18,23 @@ use Rattle.plmachine.specs.declared.machine.Machine.{Machine as Reached}
 use Rattle.plmachine.specs.Machine.{cases_in, depth_of, local_of, machine, mode_of, Moved, Stays}
 use Rattle.plmachine.specs.Selected.{IsStaticCall}
 use Rattle.plmachine.proofs.Moves.{gives, goes-to, machine-is, moved-as, visit-asks}
+
+-- the first of some places is visited, in a choice of the others
+pub chooses : (P : Program) (s new : Reached) (st : State) (ps others : List Place) → s.mode ≡ modes.Visit → st.code ≡ s.stack.code → new ≡ record s { stack = st } →
+    ps ≡ place_of st ∷ others → cases_of (statics_of P) st ≡ Choice others ∷ cases_of (statics_of P) s.stack → Moved P s new (choose ps (local_of s))
+chooses P s new st ps others at code made places cases =
+    let visits : new.mode ≡ modes.Visit = ap (λ x. x.mode) made ∙ at in
+    subst (λ qs. Moved P s new (choose qs (local_of s))) (sym places)
+    (goes-to P s new (Choice others ∷ []) (place_of st) (local_of s) (ap (λ x. x.stack.code) made ∙ code) (visit-asks new visits)
+    (ap (λ m. mode_of m new.stack) visits ∙ ap (λ x. At (place_of x.stack)) made)
+    (ap (λ x. cases_in P x) made ∙ cases) (ap (λ x. local_of x) made))
+
+-- there is none
+pub chooses-none : (P : Program) (s new : Reached) (st : State) (ps : List Place) → st.code ≡ s.stack.code → new ≡ record s { stack = st; mode = modes.Back outcomes.Fail } →
+    ps ≡ [] → cases_of (statics_of P) st ≡ cases_of (statics_of P) s.stack → Moved P s new (choose ps (local_of s))
+chooses-none P s new st ps code made none cases =
+    subst (λ qs. Moved P s new (choose qs (local_of s))) (sym none)
+    (gives P s new outcomes.Fail (local_of s) (ap (λ x. x.stack.code) made ∙ code) (ap (λ x. x.mode) made) (ap (λ x. cases_in P x) made ∙ cases) (ap (λ x. local_of x) made))
 
 module _ (P : Program) (s : Reached) (st : State) (p : Indicator) (t : Tree) (i : ℕ) (rest : Continuation) (is : IsStaticCall P s p i t) (code : st.code ≡ s.stack.code) where
   goal-is : called s.stack.env.heap (statics_of P i).name s.args.items ≡ t
@@ -30,20 +47,11 @@ module _ (P : Program) (s : Reached) (st : State) (p : Indicator) (t : Tree) (i 
 
   pub calls : (new : Reached) → s.mode ≡ modes.Visit → new ≡ record s { stack = st } → Calls (statics_of P) s.stack st (called s.stack.env.heap (statics_of P i).name s.args.items) rest (statics_of P i).clauses →
       Moved P s new (call (depth_of P s) s.stack.env.count t (goals_of s.stack rest) (clauses_for P p) (local_of s))
-  calls new at made c =
-      let visits : new.mode ≡ modes.Visit = ap (λ x. x.mode) made ∙ at in
-      moved-as P s new _ _ same-call
-      (subst (λ ps. Moved P s new (choose ps (local_of s))) (sym c.places)
-      (goes-to P s new (Choice c.others ∷ []) (place_of st) (local_of s) (ap (λ x. x.stack.code) made ∙ code) (visit-asks new visits)
-      (ap (λ m. mode_of m new.stack) visits ∙ ap (λ x. At (place_of x.stack)) made)
-      (ap (λ x. cases_in P x) made ∙ c.cases) (ap (λ x. local_of x) made)))
+  calls new at made c = moved-as P s new _ _ same-call (chooses P s new st _ c.others at code made c.places c.cases)
 
   pub calls-none : (new : Reached) → new ≡ record s { stack = st; mode = modes.Back outcomes.Fail } → CallsNone (statics_of P) s.stack st (called s.stack.env.heap (statics_of P i).name s.args.items) rest (statics_of P i).clauses →
       Moved P s new (call (depth_of P s) s.stack.env.count t (goals_of s.stack rest) (clauses_for P p) (local_of s))
-  calls-none new made c =
-      moved-as P s new _ _ same-call
-      (subst (λ ps. Moved P s new (choose ps (local_of s))) (sym c.none)
-      (gives P s new outcomes.Fail (local_of s) (ap (λ x. x.stack.code) made ∙ code) (ap (λ x. x.mode) made) (ap (λ x. cases_in P x) made ∙ c.cases) (ap (λ x. local_of x) made)))
+  calls-none new made c = moved-as P s new _ _ same-call (chooses-none P s new st _ code made c.none c.cases)
 
 -- memory gave out
 pub stays-at : (P : Program) (s new : Reached) (st : State) → s.mode ≡ modes.Visit → st.code ≡ s.stack.code → new ≡ record s { stack = st } → StaysAt s.stack st → Stays P s new

@@ -4,6 +4,7 @@ pub mod Cutting
 pub mod Arounds
 pub mod Values
 pub mod Raising
+pub mod Ground
 pub mod Offers
 pub mod Calling
 pub mod Selecting

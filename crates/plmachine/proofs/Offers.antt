@@ -1,5 +1,5 @@
 -- What a built-in predicate makes of a machine.
-use Rattle.std.proofs.Common.{◌≡◌, ℕ, ◌+◌, List, [], ◌∷◌, ◌++◌, refl, sym, ap, ap₂, ◌∙◌, subst, None, option_map, arith, append-nil}
+use Rattle.std.proofs.Common.{◌≡◌, ℕ, ◌+◌, List, [], ◌∷◌, ◌++◌, filter_map, refl, sym, ap, ap₂, ◌∙◌, subst, None, option_map, arith, append-nil}
 use Rattle.plterm.specs.Tree.{Tree, var}
 use Rattle.plterm.specs.declared.indicator.Indicator.{Indicator}
 use Rattle.plcells.specs.declared.cell.Cell.{Cell}
@@ -10,12 +10,13 @@ use Rattle.plsubst.specs.Unify.{places, differ, unify_in, unify}
 use Rattle.plsubst.proofs.Unify.{bind-var}
 use Rattle.plprogram.specs.Program.{Program}
 use Rattle.plprogram.specs.declared.settings.Settings.{Settings}
-use Rattle.plbuiltin.specs.Solution.{Gives, fails, unifies as unified_to, writes, sets, decides}
+use Rattle.plbuiltin.specs.Solution.{Solution, Gives, fails, unifies as unified_to, writes, sets, decides}
 use Rattle.plbuiltin.specs.Terms.{is_none}
 use Rattle.plsearch.specs.Types.{Fail, Kind, Commit, Never, Until, Collect, Look, Await, Goal, Marker, Raise, Asking, Element, Local, Move, Give}
 use Rattle.plsearch.specs.Lists.{bind_kind, bind_goals}
 use Rattle.plsearch.specs.Machines.Machine.{At}
-use Rattle.plsearch.specs.Rows.{go_on, solved, taken, offer}
+use Rattle.plsearch.specs.Rows.{go_on, choose, solved, taken, offer}
+use Rattle.plpredicates.specs.Answers.{IsMany}
 use Rattle.pllinks.specs.declared.link.Continuation.{Continuation}
 use Rattle.plstack.specs.State.{State, IsList, cases_of, goals_of, Solves, Unifies}
 use Rattle.plstack.specs.StaticCalls.{statics_of}
@@ -106,6 +107,13 @@ offer-solves a b k settings p es n w same =
 pub offer-unifies : (a b : Tree) (settings : Settings) (p : Indicator) (es : List Element) (n : ℕ) (w : Local) → w.settings ≡ settings →
     taken (solved es n (record { left = a; right = b; new = 0 })) w ≡ offer (unified_to a b settings) p es n w
 offer-unifies a b = offer-solves a b 0
+
+-- one that has several solutions, or none
+pub offer-many : (ss : List Solution) → IsMany ss → (settings : Settings) (p : Indicator) (es : List Element) (n : ℕ) (w : Local) → w.settings ≡ settings →
+    choose (filter_map (solved es n) ss) w ≡ offer (Gives ss [] settings) p es n w
+offer-many [] many settings p es n w same = offer-fails settings p es n w same
+offer-many (s ∷ []) many settings p es n w same = absurd many
+offer-many (s ∷ t ∷ ss) many settings p es n w same = ap₂ (λ o x. choose (filter_map (solved es n) (s ∷ t ∷ ss)) (record w { out = o; settings = x })) (sym (append-nil w.out)) same
 
 -- one that is true where two terms have no unifier
 pub differs : (P : Program) (s new : Reached) (a b : Tree) (p : Indicator) (l : Continuation) → IsList s.stack l → unify a b ≡ None → new ≡ record s { stack = record s.stack { goals = l }; mode = modes.Visit } →

@@ -18,7 +18,7 @@ ghost use Rattle.plmachine.specs.Selected.{StandsFor};
 ghost use Rattle.plmachine.specs.Machine.{local_of, IsBegun, Moved, Stays};
 
 use crate::indicator::indicator_of;
-use crate::machine::{Machine, Outcome};
+use crate::machine::{Machine, Mode, Outcome};
 use crate::select::Source;
 use plcells::cell::Cell;
 use plcells::equation::Equation;
@@ -42,6 +42,7 @@ impl Machine {
         rest: Continuation,
     ) -> Result<(), AllocError>
         requires begun { IsBegun program.now self.old }
+        requires visits { self.old.mode ≡ Mode.Visit }
         requires args { AreValues self.old.stack.env.heap self.old.args.items }
         requires source { (t : Tree) × StandsFor self.old.stack source t }
         requires rest { IsList self.old.stack rest }
@@ -63,6 +64,8 @@ impl Machine {
             Answer::Differs(a, b) => self.differ(program, a, b, rest),
             Answer::Equals(v, number) => self.equal(program, v, number, rest),
             Answer::Solves(equation) => self.solve_equation(program, equation, rest),
+            Answer::Several(values, turn) => self.several(program, &values, turn, rest),
+            Answer::Groups(values, groups) => self.one_of(program, values, &groups, rest),
             Answer::Writes(bytes) => self.write_bytes(program, &bytes, rest),
             Answer::Sets(settings) => {
                 self.set(program, settings, rest);

@@ -12,5 +12,6 @@ mod predicate;
 pub mod rows;
 pub mod running;
 pub mod select;
+pub mod several;
 pub mod step;
 pub mod term;

@@ -3,7 +3,6 @@ ghost use Rattle.std.specs.Prelude.{◌≡◌, ◌+◌, ◌<◌, ◌≤◌, ◌^
 ghost use Rattle.plterm.specs.Tree.{compound, trees};
 ghost use Rattle.plread.specs.Texts.{listed};
 ghost use Rattle.plbuiltin.specs.Parts.{variables_from};
-ghost use Rattle.plbuiltin.specs.Solution.{together};
 ghost use Rattle.plbuiltin.specs.Texts.{spelled};
 
 use plnames::kind::Spelling;
@@ -48,19 +47,6 @@ pub(crate) fn compound_of_variables(
     }
     terms.push(Node::Compound(name, count))?;
     terms.finish(alloc)
-}
-
-/// Some terms at once.
-pub(crate) fn together(alloc: Global, terms: Vec<Term>) -> Result<Term, AllocError>
-    requires some { 0 < length terms.items }
-    requires few { length terms.items ≤ 1024 }
-    ensures { IfOk result (λ t. t ≡ together terms.items) }
-{
-    let name = Name::new(alloc, "-")?;
-    match Term::compound(alloc, name, terms) {
-        Ok(term) => Ok(term),
-        Err(_) => Err(AllocError),
-    }
 }
 
 /// The list that spells a text.

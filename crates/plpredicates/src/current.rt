@@ -11,11 +11,11 @@ ghost use Rattle.plbuiltin.specs.Solution.{Gives, against, together};
 ghost use Rattle.plpredicates.specs.Answers.{IsThere, meant};
 
 use crate::answer::Answer;
-use crate::build::together;
 use crate::equation::are_together;
 use crate::error::{atom, atom_error, outside_error, type_error};
 use plcells::cell::Cell;
 use plcells::heap::Heap;
+use plgenerator::equation::together;
 use plops::flag::Quotes;
 use plops::operator::Kind;
 use plops::table::CurrentOp;

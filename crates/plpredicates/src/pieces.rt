@@ -18,10 +18,11 @@ use crate::error::{
     atom, atom_error, instantiation_error, outside_error, type_error, unbound, wrong_type,
 };
 use crate::list::is_variable;
-use crate::text::{atom_of, text_of};
+use crate::text::atom_of;
 use itoa::Buffer;
 use plcells::cell::Cell;
 use plcells::heap::Heap;
+use plgenerator::argument::text_of;
 use plgenerator::equation::{part_equation, split_equation};
 use plgenerator::part::all_parts;
 use plgenerator::split::all_splits;

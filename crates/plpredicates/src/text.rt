@@ -4,7 +4,6 @@ ghost use Rattle.std.specs.Str.{chars};
 ghost use Rattle.plterm.specs.Tree.{int};
 ghost use Rattle.plcells.specs.Store.{value, IsValue};
 ghost use Rattle.plnames.specs.declared.kind.Spelling.TheVariants.{Codes};
-ghost use Rattle.plbuiltin.specs.Pieces.{text_of};
 ghost use Rattle.plbuiltin.specs.Texts.{atom_of, character_of as character_in, text_in as text_in_term};
 
 use crate::error::{atom, instantiation_error, representation_error, type_error};
@@ -101,20 +100,4 @@ pub(crate) fn atom_of(alloc: Global, text: &str) -> Result<Result<Term, Term>, A
         return Ok(Err(representation_error(alloc, "max_atom_length")?));
     }
     Ok(Ok(atom(alloc, text)?))
-}
-
-/// The text of the atomic term of a value.
-pub(crate) fn text_of(alloc: Global, heap: &Heap, v: Cell) -> Result<Option<Name>, AllocError>
-    requires { IsValue heap.now v }
-    ensures is { IfOk result (λ text. text ≡ text_of (value heap.now v)) }
-    ensures short { IfOk result (λ text. IfSome text (λ name. length name ≤ 65535)) }
-{
-    match shape_of(heap, v) {
-        Shape::Atom(a) => Ok(Some(heap.names().atom_name(a).copied()?)),
-        Shape::Integer(i) => {
-            let mut buffer = Buffer::new();
-            Ok(Some(Name::new(alloc, buffer.format(i))?))
-        }
-        _ => Ok(None),
-    }
 }

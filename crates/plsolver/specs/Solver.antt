@@ -25,7 +25,7 @@ use Rattle.plsearch.specs.Solving.{Goes}
 use Rattle.plsearch.specs.Search.{ending_of, from_start, once, start_from, start_of}
 use Rattle.pllinks.specs.declared.link.Continuation.{Continuation}
 use Rattle.plstack.specs.Places.{Statics}
-use Rattle.plstack.specs.State.{State, cases_of, goals_in, goals_of, HasBranch, HasClauses, HasCopies, IsList}
+use Rattle.plstack.specs.State.{State, cases_of, goals_in, goals_of, HasAnswers, HasBranch, HasClauses, HasCopies, IsList}
 use Rattle.plstack.specs.declared.first.First.{First}
 use Rattle.plstack.specs.declared.first.First.TheVariants as firsts
 use Rattle.plstack.specs.First.{IsFirst}
@@ -157,7 +157,7 @@ IsBack s = (r : Outcome) × (s.machine.mode ≡ modes.Back r)
 
 -- the innermost case is a choice that may have a place left
 abbrev pub HasChoice : State → Type 0
-HasChoice s = HasBranch s ⊎ HasClauses s ⊎ HasCopies s
+HasChoice s = HasBranch s ⊎ HasClauses s ⊎ HasCopies s ⊎ HasAnswers s
 
 -- a copy of a term is kept for the handler of a level, and the list fails
 abbrev pub Collects : Progress → Progress → ℕ → Tree → Type 0

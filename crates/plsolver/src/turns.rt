@@ -4,7 +4,7 @@ ghost use Rattle.std.specs.Prelude.{◌≡◌, ◌-◌, ◌≤◌, ◌↔◌, If
 ghost use Rattle.plcells.specs.Store.{IsValue, value};
 ghost use Rattle.plsearch.specs.Engine.{stop_cut, mark, deeper};
 ghost use Rattle.plstack.specs.Places.{Statics};
-ghost use Rattle.plstack.specs.State.{cases_of, HasCatcher, HasClauses, HasCopies, HasBranch, HasGatherer, HasPlain, IsList};
+ghost use Rattle.plstack.specs.State.{cases_of, HasAnswers, HasCatcher, HasClauses, HasCopies, HasBranch, HasGatherer, HasPlain, IsList};
 ghost use Rattle.plstack.specs.First.{IsFirst};
 ghost use Rattle.plstack.specs.declared.first.First.TheVariants.{Marker as MarkerFirst};
 ghost use Rattle.plmachine.specs.Machine.{depth_of};
@@ -174,10 +174,12 @@ impl Progress {
             return Ok(());
         }
         if self.machine.stack.is_clauses() {
-            self.retry(program)
-        } else {
-            self.retry_copies(program)
+            return self.retry(program);
         }
+        if self.machine.stack.is_copies() {
+            return self.retry_copies(program);
+        }
+        self.retry_answers(program)
     }
 
     /// The list of the innermost choice.
@@ -212,6 +214,19 @@ impl Progress {
         ensures err { OnErr result (Stays program.now self.old self.new) }
     {
         if self.machine.stack.retry_copies(self.machine.alloc)? {
+            self.machine.mode = Mode::Visit;
+        }
+        Ok(())
+    }
+
+    /// The next answer of the innermost case, a call of a predicate of several answers.
+    fn retry_answers(&mut self, program: &Program) -> Result<(), AllocError>
+        requires fails { self.old.machine.mode ≡ Mode.Back Outcome.Fail }
+        requires call { HasAnswers self.old.machine.stack }
+        ensures ok { OnOk result (Quiet program.now self.old self.new) }
+        ensures err { OnErr result (Stays program.now self.old self.new) }
+    {
+        if self.machine.stack.retry_answers(self.machine.alloc)? {
             self.machine.mode = Mode::Visit;
         }
         Ok(())
@@ -272,7 +287,7 @@ impl Progress {
         ensures { IsTrue result ↔ HasChoice self.now.machine.stack }
     {
         let stack = &self.machine.stack;
-        stack.is_branch() || stack.is_clauses() || stack.is_copies()
+        stack.is_branch() || stack.is_clauses() || stack.is_copies() || stack.is_answers()
     }
 
     /// The level that the choices are given up to, if that is the result that is carried.

@@ -87,6 +87,7 @@ module _ (statics : Statics) (code : Goals) (e : Env) (links : List Link) (saved
   chosen : (d : ℕ) (x : Env) (xs : List Item) (vs : List Cell) (r : Resume) → IsChosen r → IsChoiceCase (case_of statics code d x xs vs r)
   chosen d x xs vs (resumes.Clauses c) i = record { places = _; is = refl }
   chosen d x xs vs (resumes.Copies c) i = record { places = _; is = refl }
+  chosen d x xs vs (resumes.Answers a) i = record { places = _; is = refl }
   chosen d x xs vs resumes.List i = record { places = _; is = refl }
   chosen d x xs vs (resumes.Handle y) i = absurd i
 

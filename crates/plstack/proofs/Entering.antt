@@ -132,6 +132,7 @@ without s rest statics x below e (Plain n) i is = absurd i
 without s rest statics x below e (Barrier l) i is = absurd i
 without s rest statics x below e (Open p (resumes.Clauses c)) i is = ap behind_first (sym (popped-cases statics s rest (Open p (resumes.Clauses c)) is) ∙ e)
 without s rest statics x below e (Open p (resumes.Copies c)) i is = absurd i
+without s rest statics x below e (Open p (resumes.Answers a)) i is = absurd i
 without s rest statics x below e (Open p resumes.List) i is = absurd i
 without s rest statics x below e (Open p (resumes.Handle y)) i is = absurd i
 

@@ -147,14 +147,17 @@ module _ (s : State) (d : ℕ) (e : Env) (q : Equation) (u : SolvesEnv s.env e q
   pub solved-stack : IsStack (record s { env = e }) d
   solved-stack = unified-stack (record s { env = wide }) d e _ _ unified env at_first
 
+  pub solved-lists : (l : Continuation) → IsList s l → IsList (record s { env = e }) l × (goals_of (record s { env = e }) l ≡ bind_goals u.unifier (goals_of s l))
+  solved-lists l i =
+      let r = stays.lists l i in
+      let t = list-unified (record s { env = wide }) d e _ _ unified env at_first l r.0 in
+      (t.0, t.1 ∙ ap (bind_goals u.unifier) r.1)
+
   pub solves : Solves s (record s { env = e }) q
   solves = record {
     unifier = u.unifier;
     is = u.is;
-    lists = λ l i.
-        let r = stays.lists l i in
-        let t = list-unified (record s { env = wide }) d e _ _ unified env at_first l r.0 in
-        (t.0, t.1 ∙ ap (bind_goals u.unifier) r.1);
+    lists = solved-lists;
     cases = λ statics. cases-unified (record s { env = wide }) d e _ _ unified env at_first statics ∙ stays.cases statics;
     frames = refl;
     count = u.made.count;

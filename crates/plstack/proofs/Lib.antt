@@ -23,6 +23,8 @@ pub mod Hitting
 pub mod Going
 pub mod Entering
 pub mod Opened
+pub mod Taking
+pub mod Answered
 pub mod Keys
 pub mod Arguments
 pub mod Beginning

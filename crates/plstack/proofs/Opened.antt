@@ -13,10 +13,11 @@ use Rattle.pllinks.specs.Lists.{AreItems, all_elements}
 use Rattle.pllinks.specs.Links.{items_of, alone}
 use Rattle.plstack.specs.declared.frame.Point.{Point}
 use Rattle.plstack.specs.declared.frame.Clauses.{Clauses}
+use Rattle.plstack.specs.declared.frame.Resume.{Resume}
 use Rattle.plstack.specs.declared.frame.Resume.TheVariants as resumes
 use Rattle.plstack.specs.declared.frame.Frame.TheVariants.{Open}
-use Rattle.plstack.specs.Places.{Statics, called, places_left, kept_values, cases}
-use Rattle.plstack.specs.Frames.{AreOlder, IsOpen, AreFrames}
+use Rattle.plstack.specs.Places.{Statics, called, places_left, kept, kept_values, cases}
+use Rattle.plstack.specs.Frames.{AreOlder, IsOpen, IsResume, AreFrames}
 use Rattle.plstack.specs.Trials.{IsMarked}
 use Rattle.plstack.specs.State.{State, IsStack, goals_in, goals_of, cases_of, AddsList, Extends, IsList, IsClauses}
 use Rattle.plstack.specs.Calls.{places_of, Calls, CallsNone, StaysAt}
@@ -32,7 +33,7 @@ run_end : (xs vs : List Cell) → take (length vs) (drop (length xs) (xs ++ vs))
 run_end [] vs = take_all (length vs) vs (omega arith)
 run_end (x ∷ xs) vs = run_end xs vs
 
-values_stay : (h k : Store) (vs : List Cell) → ((v : Cell) → IsValue h v → IsValue k v × (value k v ≡ value h v)) → AreValues h vs → AreValues k vs × (map (value k) vs ≡ map (value h) vs)
+pub values_stay : (h k : Store) (vs : List Cell) → ((v : Cell) → IsValue h v → IsValue k v × (value k v ≡ value h v)) → AreValues h vs → AreValues k vs × (map (value k) vs ≡ map (value h) vs)
 values_stay h k [] stay a = (tt, refl)
 values_stay h k (v ∷ vs) stay a =
     let r = values_stay h k vs stay a.1 in
@@ -68,21 +69,15 @@ module _ (s : State) (d : ℕ) (is : IsStack s d) (vs : List Cell) where
       ap (λ ks. cases statics (goals_in s) s.env ks (s.saved ++ vs) (reverse s.frames)) (sym (append-nil s.links))
       ∙ cases-kept (goals_in s) s.env s.env s.links [] s.saved vs (Keeps-refl s.env) is.0.env.heap.names statics (reverse s.frames) is.0.frames
 
--- all that is there is marked, and the case of a call would be opened now
-module _ (s : State) (d : ℕ) (is : IsStack s d) (p : Point) (m : IsMarked s p.marks) (alone_is : p.list ≡ alone p.list.rest) (i : IsList s p.list) (procedure count : ℕ) (vs : List Cell) (fit : AreValues s.env.heap vs) (many : count ≡ length vs) where
-  abbrev c : Clauses
-  c = record { procedure = procedure; count = count; next = 0 }
-
-  abbrev kept : State
-  kept = with_values s d is vs
-
-  pub kept-there : kept_values (s.saved ++ vs) p (resumes.Clauses c) ≡ vs
-  kept-there = ap₂ (λ k l. take k (drop l (s.saved ++ vs))) many m.saved ∙ run_end s.saved vs
+-- all that is there is marked, and a case would be opened now
+module _ (s : State) (d : ℕ) (is : IsStack s d) (p : Point) (m : IsMarked s p.marks) (i : IsList s p.list) (r : Resume) (vs : List Cell) (fit : IsResume s.env.heap vs r) (many : kept r ≡ length vs) where
+  pub values-there : kept_values (s.saved ++ vs) p r ≡ vs
+  values-there = ap₂ (λ k l. take k (drop l (s.saved ++ vs))) many m.saved ∙ run_end s.saved vs
 
   pub older-then : AreOlder p.marks (reverse s.frames)
   older-then = older-frames (goals_in s) s.env s.links s.saved p.marks m.mark m.now m.links m.saved (reverse s.frames) is.0.frames
 
-  frame-there : IsOpen (goals_in s) s.env s.links (s.saved ++ vs) p (resumes.Clauses c) (reverse s.frames)
+  pub frame-there : IsOpen (goals_in s) s.env s.links (s.saved ++ vs) p r (reverse s.frames)
   frame-there = record {
     mark = m.mark;
     links_room = omega (arith, m.links);
@@ -90,8 +85,19 @@ module _ (s : State) (d : ℕ) (is : IsStack s d) (p : Point) (m : IsMarked s p.
     saved_room = omega (arith, m.saved, many, length-append s.saved vs);
     older = older-then;
     items = subst (λ (x : Env). AreItems (goals_in s) x.heap (length x.slots) (items_of s.links p.list)) (sym m.now) i.items;
-    resume = subst (λ (x : Env). AreValues x.heap (kept_values (s.saved ++ vs) p (resumes.Clauses c))) (sym m.now) (subst (AreValues s.env.heap) (sym kept-there) fit);
+    resume = subst (λ (x : Env). IsResume x.heap (kept_values (s.saved ++ vs) p r) r) (sym m.now) (subst (λ ws. IsResume s.env.heap ws r) (sym values-there) fit);
   }
+
+-- the case of a call
+module _ (s : State) (d : ℕ) (is : IsStack s d) (p : Point) (m : IsMarked s p.marks) (alone_is : p.list ≡ alone p.list.rest) (i : IsList s p.list) (procedure count : ℕ) (vs : List Cell) (fit : AreValues s.env.heap vs) (many : count ≡ length vs) where
+  abbrev c : Clauses
+  c = record { procedure = procedure; count = count; next = 0 }
+
+  abbrev kept-state : State
+  kept-state = with_values s d is vs
+
+  pub kept-there : kept_values (s.saved ++ vs) p (resumes.Clauses c) ≡ vs
+  kept-there = values-there s d is p m i (resumes.Clauses c) vs fit many
 
   -- the stack with that case
   abbrev pub opened : State
@@ -99,7 +105,7 @@ module _ (s : State) (d : ℕ) (is : IsStack s d) (p : Point) (m : IsMarked s p.
 
   pub call-stack : IsStack opened (d + 1)
   call-stack =
-      let o = opened-state kept d opened.frames (Open p (resumes.Clauses c)) refl (values-stack s d is vs) frame-there in
+      let o = opened-state kept-state d opened.frames (Open p (resumes.Clauses c)) refl (values-stack s d is vs) (frame-there s d is p m i (resumes.Clauses c) vs fit many) in
       (o.0, omega (arith, o.1))
 
   pub call-at : AtCall opened p c
@@ -112,7 +118,7 @@ module _ (s : State) (d : ℕ) (is : IsStack s d) (p : Point) (m : IsMarked s p.
         let name = (statics procedure).name in
         let cs = (statics procedure).clauses in
         let below = cases_of statics s in
-        opened-cases statics kept opened.frames (Open p (resumes.Clauses c)) refl
+        opened-cases statics kept-state opened.frames (Open p (resumes.Clauses c)) refl
         ∙ ap (λ xs. Choice (places_left (deeper xs 0) (cut p.marks.env s.env) (called (cut p.marks.env s.env).heap name (kept_values (s.saved ++ vs) p (resumes.Clauses c))) (all_elements (goals_in s) (cut p.marks.env s.env) (items_of s.links p.list)) cs) ∷ xs) (values-cases s d is vs statics)
         ∙ ap₂ (λ (x : Env) ws. Choice (places_left (deeper below 0) x (called x.heap name ws) (all_elements (goals_in s) x (items_of s.links p.list)) cs) ∷ below) m.now kept-there;
     place = refl;

@@ -21,7 +21,8 @@ use Rattle.plstack.specs.declared.frame.Frame.{Frame}
 use Rattle.plstack.specs.declared.frame.Frame.TheVariants.{Plain, Barrier, Open}
 use Rattle.plstack.specs.Places.{Statics, kept, kept_values, case_of}
 use Rattle.plstack.specs.Frames.{AreOlder, IsResume, IsOpen, AreFrames}
-use Rattle.plstack.specs.State.{State, IsStack, goals_in, cases_of, IsList, Extends, CountsUp, Opens, IsClauses, IsCopies, IsBranch, IsCatcher, IsGatherer}
+use Rattle.plgenerator.proofs.Staying.{turn_stays}
+use Rattle.plstack.specs.State.{State, IsStack, goals_in, cases_of, IsList, Extends, CountsUp, Opens, IsClauses, IsCopies, IsAnswers, IsBranch, IsCatcher, IsGatherer}
 use Rattle.plstack.specs.Opening.{branch_of, handler_of, closing, ClosedAs, IsHandling, OpensFrame, OpensIn, Keeps}
 use Rattle.plstack.proofs.Handled.{handled-same}
 use Rattle.plstack.proofs.Growing.{stack-env, extends-env}
@@ -73,6 +74,7 @@ module _ (s : State) (d : ℕ) (is : IsStack s d) (e : Env) (m : Marks) (mark : 
     resume-now : (q : Resume) → IsResume s.env.heap [] q → IsResume e.heap [] q
     resume-now (resumes.Clauses c) a = tt
     resume-now (resumes.Copies c) a = (extends-now.values c.goal a).0
+    resume-now (resumes.Answers x) a = (tt, turn_stays s.env.heap e.heap extends-now.values [] tt x.turn a.1)
     resume-now resumes.List a = tt
     resume-now (resumes.Handle x) a = (handled-same s.env.heap e.heap extends-now.values x a).0
 
@@ -164,9 +166,10 @@ opens-plain s frames up = record {
 
 -- a case that came back to something was closed
 pub closed-open : (statics : Statics) (s : State) (rest : List Frame) (p : Point) (r : Resume) → s.frames ≡ rest ++ Open p r ∷ [] → ClosedAs statics s (record s { frames = rest }) (closing r)
-closed-open statics s rest p (resumes.Clauses c) e = (_, popped-cases statics s rest (Open p (resumes.Clauses c)) e, λ not n m. absurd (not (has-last IsClauses s.frames rest (Open p (resumes.Clauses c)) e tt)))
-closed-open statics s rest p (resumes.Copies c) e = (_, popped-cases statics s rest (Open p (resumes.Copies c)) e, λ n not m. absurd (not (has-last IsCopies s.frames rest (Open p (resumes.Copies c)) e tt)))
-closed-open statics s rest p resumes.List e = (_, popped-cases statics s rest (Open p resumes.List) e, λ n m not. absurd (not (has-last IsBranch s.frames rest (Open p resumes.List) e tt)))
+closed-open statics s rest p (resumes.Clauses c) e = (_, popped-cases statics s rest (Open p (resumes.Clauses c)) e, λ not n m k. absurd (not (has-last IsClauses s.frames rest (Open p (resumes.Clauses c)) e tt)))
+closed-open statics s rest p (resumes.Copies c) e = (_, popped-cases statics s rest (Open p (resumes.Copies c)) e, λ n not m k. absurd (not (has-last IsCopies s.frames rest (Open p (resumes.Copies c)) e tt)))
+closed-open statics s rest p (resumes.Answers a) e = (_, popped-cases statics s rest (Open p (resumes.Answers a)) e, λ n m k not. absurd (not (has-last IsAnswers s.frames rest (Open p (resumes.Answers a)) e tt)))
+closed-open statics s rest p resumes.List e = (_, popped-cases statics s rest (Open p resumes.List) e, λ n m not k. absurd (not (has-last IsBranch s.frames rest (Open p resumes.List) e tt)))
 closed-open statics s rest p (resumes.Handle (handlers.Catch c)) e = (
   _,
   _,

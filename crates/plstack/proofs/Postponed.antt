@@ -161,7 +161,7 @@ module _ (s : State) (d : ℕ) (is : IsStack s d) (p : Point) (m : IsMarked s p.
           (retries-entered before before p c p.list.rest at (same-list before p.list p.list.rest alone_is at.list) after refl after-binds statics entered hit cases after-hits enters)
 
       pub entered-older : hit.next ≡ None → AreOlder p.marks (reverse frames)
-      entered-older none = (subst (λ o. PushesCall p c o s.frames frames) none pushes).older p.marks (older-then s d is p m alone_is i procedure count vs fit many)
+      entered-older none = (subst (λ o. PushesCall p c o s.frames frames) none pushes).older p.marks (older-then s d is p m i (resumes.Clauses c) vs fit many)
 
       -- nothing is left: no values are kept
       module _ (none : hit.next ≡ None) where

@@ -7,7 +7,10 @@ use Rattle.plcells.specs.declared.cell.Cell.{Cell}
 use Rattle.plcells.specs.Store.{AreValues, value, renamed as renamed_heap, Preserves}
 use Rattle.plcells.proofs.Renaming.{Preserves-renamed}
 use Rattle.plsearch.specs.Types.{Element, Choice, Handle}
-use Rattle.plsearch.specs.Rows.{resolve}
+use Rattle.plsearch.specs.Rows.{resolve, solved}
+use Rattle.plbuiltin.specs.Solution.{Solution}
+use Rattle.plgenerator.specs.declared.turn.Turn.{Turn}
+use Rattle.plgenerator.proofs.Staying.{turn_stays, left_stays}
 use Rattle.plenv.specs.declared.slot.Slot.{Slot}
 use Rattle.plenv.specs.declared.slot.Slot.TheVariants.{Free, Set}
 use Rattle.plenv.specs.Env.{Env, IsEnv, IsSlot, slot_at, slot_term, renamed}
@@ -17,7 +20,7 @@ use Rattle.pllinks.specs.Changing.{Agrees}
 use Rattle.pllinks.proofs.Changing.{items-agree}
 use Rattle.plstack.specs.declared.frame.Resume.{Resume}
 use Rattle.plstack.specs.declared.frame.Resume.TheVariants as resumes
-use Rattle.plstack.specs.Places.{Statics, called, places_left, case_of}
+use Rattle.plstack.specs.Places.{Statics, called, places_left, answers_left, case_of}
 use Rattle.plstack.specs.Frames.{IsResume}
 use Rattle.plstack.proofs.Handled.{handled-same}
 
@@ -46,6 +49,7 @@ module _ (e : Env) (t : Table) (is : IsEnv e) (table : IsTable t) (more : Extend
   pub resume-renamed : (vs : List Cell) (r : Resume) → IsResume e.heap vs r → IsResume (renamed_heap e.heap t) vs r
   resume-renamed vs (resumes.Clauses c) i = (values-renamed vs i).0
   resume-renamed vs (resumes.Copies c) i = (stays.values c.goal i).0
+  resume-renamed vs (resumes.Answers a) i = ((values-renamed vs i.0).0, turn_stays e.heap (renamed_heap e.heap t) stays.values vs i.0 a.turn i.1)
   resume-renamed vs resumes.List i = tt
   resume-renamed vs (resumes.Handle x) i = (handled-same e.heap (renamed_heap e.heap t) stays.values x i).0
 
@@ -56,8 +60,13 @@ module _ (e : Env) (t : Table) (is : IsEnv e) (table : IsTable t) (more : Extend
     left-renamed : (g g' : Tree) (cs : Tree → List Clause) → g ≡ g' → places_left d (renamed e t) g (all_elements code (renamed e t) xs) (cs g) ≡ places_left d e g' (all_elements code e xs) (cs g')
     left-renamed g g' cs same = ap₂ (λ (x : Tree) (es : List Element). filter_map (resolve d e.count x es) (cs x)) same goals-renamed
 
+    pub answers-renamed : (vs : List Cell) → AreValues e.heap vs → (turn : Turn) →
+        answers_left (renamed e t) vs (all_elements code (renamed e t) xs) turn ≡ answers_left e vs (all_elements code e xs) turn
+    answers-renamed vs fit turn = ap₂ (λ (es : List Element) (ss : List Solution). filter_map (solved es e.count) ss) goals-renamed (left_stays e.heap (renamed_heap e.heap t) stays.values vs fit turn)
+
     pub case-renamed : (vs : List Cell) (r : Resume) → IsResume e.heap vs r → case_of statics code d (renamed e t) xs vs r ≡ case_of statics code d e xs vs r
     case-renamed vs (resumes.Clauses c) i = ap Choice (left-renamed _ _ (λ g. drop c.next (statics c.procedure).clauses) (called-renamed (statics c.procedure).name vs i))
     case-renamed vs (resumes.Copies c) i = ap Choice (left-renamed _ _ (λ g. drop c.next c.clauses.items) (stays.values c.goal i).1)
+    case-renamed vs (resumes.Answers a) i = ap Choice (answers-renamed vs i.0 a.turn)
     case-renamed vs resumes.List i = ap (λ es. Choice (record { goals = es; variables = e.count } ∷ [])) goals-renamed
     case-renamed vs (resumes.Handle x) i = ap₂ (λ h es. Handle h (record { goals = es; variables = e.count })) (handled-same e.heap (renamed_heap e.heap t) stays.values x i).1 goals-renamed

@@ -13,9 +13,9 @@ use Rattle.plstack.specs.declared.frame.Resume.{Resume}
 use Rattle.plstack.specs.declared.frame.Resume.TheVariants as resumes
 use Rattle.plstack.specs.declared.frame.Frame.{Frame}
 use Rattle.plstack.specs.declared.frame.Frame.TheVariants.{Open}
-use Rattle.plstack.specs.Places.{Statics, kept_values, case_of, cases}
+use Rattle.plstack.specs.Places.{Statics, kept, kept_values, case_of, cases}
 use Rattle.plstack.specs.Frames.{IsOpen, IsResume, AreFrames}
-use Rattle.plstack.specs.State.{State, IsStack, goals_in, cases_of}
+use Rattle.plstack.specs.State.{State, IsStack, goals_in, cases_of, IsList}
 use Rattle.plstack.specs.StaticCalls.{AtCall}
 use Rattle.plstack.proofs.Frames.{run-take, cases-kept, AreFrames-kept}
 use Rattle.plstack.proofs.Stacks.{opened-cases, opened-state, popped-cases}
@@ -30,19 +30,16 @@ split-at zero k xs = let same : 0 + k ≡ k = omega arith in ap (λ n. take n xs
 split-at (suc m) k [] = take-nil (suc m + k) ∙ sym (take-nil k)
 split-at (suc m) k (x ∷ xs) = let more : suc m + k ≡ suc (m + k) = omega arith in ap (λ n. take n (x ∷ xs)) more ∙ ap (λ ys. x ∷ ys) (split-at m k xs)
 
-module _ (s : State) (d : ℕ) (is : IsStack s d) (rest : List Frame) (p : Point) (c : Clauses) (popped : s.frames ≡ rest ++ Open p (resumes.Clauses c) ∷ []) where
-  abbrev r : Resume
-  r = resumes.Clauses c
-
+module _ (s : State) (d : ℕ) (is : IsStack s d) (rest : List Frame) (p : Point) (r : Resume) (popped : s.frames ≡ rest ++ Open p r ∷ []) where
   abbrev e : Env
   e = cut p.marks.env s.env
 
   abbrev values : List Cell
-  values = take (p.marks.saved + c.count) s.saved
+  values = take (p.marks.saved + kept r) s.saved
 
   -- without the case, and with its values
-  abbrev without : State
-  without = record { code = s.code; env = cut p.marks.env s.env; links = take p.marks.links s.links; saved = take (p.marks.saved + c.count) s.saved; frames = rest; goals = alone 0 }
+  abbrev pub without : State
+  without = record { code = s.code; env = cut p.marks.env s.env; links = take p.marks.links s.links; saved = take (p.marks.saved + kept r) s.saved; frames = rest; goals = alone 0 }
 
   the-frame : IsOpen (goals_in s) s.env s.links s.saved p r (reverse rest)
   the-frame = at-frame s d is rest p r popped
@@ -50,47 +47,47 @@ module _ (s : State) (d : ℕ) (is : IsStack s d) (rest : List Frame) (p : Point
   was : IsStack (back s d is rest p r popped) (d - 1)
   was = back-stack s d is rest p r popped
 
-  split : values ≡ take p.marks.saved s.saved ++ take c.count (drop p.marks.saved s.saved)
-  split = split-at p.marks.saved c.count s.saved
+  split : values ≡ take p.marks.saved s.saved ++ take (kept r) (drop p.marks.saved s.saved)
+  split = split-at p.marks.saved (kept r) s.saved
 
   frames-then : AreFrames (goals_in s) e (take p.marks.links s.links) values (reverse rest)
   frames-then =
       subst (λ vs. AreFrames (goals_in s) e (take p.marks.links s.links) vs (reverse rest)) (sym split)
-      (subst (λ ks. AreFrames (goals_in s) e ks (take p.marks.saved s.saved ++ take c.count (drop p.marks.saved s.saved)) (reverse rest)) (append-nil (take p.marks.links s.links))
-      (AreFrames-kept (goals_in s) e e (take p.marks.links s.links) [] (take p.marks.saved s.saved) (take c.count (drop p.marks.saved s.saved)) (Keeps-refl e) was.0.env.heap.names (reverse rest) was.0.frames))
+      (subst (λ ks. AreFrames (goals_in s) e ks (take p.marks.saved s.saved ++ take (kept r) (drop p.marks.saved s.saved)) (reverse rest)) (append-nil (take p.marks.links s.links))
+      (AreFrames-kept (goals_in s) e e (take p.marks.links s.links) [] (take p.marks.saved s.saved) (take (kept r) (drop p.marks.saved s.saved)) (Keeps-refl e) was.0.env.heap.names (reverse rest) was.0.frames))
 
-  without-stack : IsStack without (d - 1)
+  pub without-stack : IsStack without (d - 1)
   without-stack = (
     record { env = was.0.env; names = was.0.names; none = was.0.none; chain = was.0.chain; frames = frames-then; goals = record { there = was.0.goals.there; items = was.0.goals.items } },
     was.1,
   )
 
-  without-cases : (statics : Statics) → cases_of statics without ≡ cases_of statics (record s { frames = rest })
+  pub without-cases : (statics : Statics) → cases_of statics without ≡ cases_of statics (record s { frames = rest })
   unfolding cases_of
   without-cases statics =
       ap₂ (λ ks vs. cases statics (goals_in s) e ks vs (reverse rest)) (sym (append-nil (take p.marks.links s.links))) split
-      ∙ cases-kept (goals_in s) e e (take p.marks.links s.links) [] (take p.marks.saved s.saved) (take c.count (drop p.marks.saved s.saved)) (Keeps-refl e) was.0.env.heap.names statics (reverse rest) was.0.frames
+      ∙ cases-kept (goals_in s) e e (take p.marks.links s.links) [] (take p.marks.saved s.saved) (take (kept r) (drop p.marks.saved s.saved)) (Keeps-refl e) was.0.env.heap.names statics (reverse rest) was.0.frames
       ∙ back-cases s d is rest p r popped statics
 
-  now : cut p.marks.env e ≡ e
+  pub now : cut p.marks.env e ≡ e
   now = cut-cut p.marks.env p.marks.env s.env (older-same p)
 
-  kept-then : kept_values values p r ≡ kept_values s.saved p r
-  kept-then = run-take (p.marks.saved + c.count) p.marks.saved c.count s.saved (le_refl _)
+  pub kept-then : kept_values values p r ≡ kept_values s.saved p r
+  kept-then = run-take (p.marks.saved + kept r) p.marks.saved (kept r) s.saved (le_refl _)
 
-  frame-then : IsOpen (goals_in s) e (take p.marks.links s.links) values p r (reverse rest)
+  pub frame-then : IsOpen (goals_in s) e (take p.marks.links s.links) values p r (reverse rest)
   frame-then = record {
     mark = IsMark-cut p.marks.env p.marks.env s.env the-frame.mark the-frame.mark (older-same p);
     links_room = omega (arith, length-take-le p.marks.links s.links the-frame.links_room);
     list = the-frame.list;
-    saved_room = omega (arith, length-take-le (p.marks.saved + c.count) s.saved the-frame.saved_room);
+    saved_room = omega (arith, length-take-le (p.marks.saved + kept r) s.saved the-frame.saved_room);
     older = the-frame.older;
     items = subst (λ (x : Env). AreItems (goals_in s) x.heap (length x.slots) (items_of (take p.marks.links s.links) p.list)) (sym now) (back-list s d is rest p r popped).items;
     resume = subst (λ (x : Env). IsResume x.heap (kept_values values p r) r) (sym now) (subst (λ vs. IsResume e.heap vs r) (sym kept-then) the-frame.resume);
   }
 
   abbrev pub rewound : State
-  rewound = record { code = s.code; env = cut p.marks.env s.env; links = take p.marks.links s.links; saved = take (p.marks.saved + c.count) s.saved; frames = s.frames; goals = alone 0 }
+  rewound = record { code = s.code; env = cut p.marks.env s.env; links = take p.marks.links s.links; saved = take (p.marks.saved + kept r) s.saved; frames = s.frames; goals = alone 0 }
 
   pub rewound-stack : IsStack rewound d
   rewound-stack =
@@ -105,9 +102,20 @@ module _ (s : State) (d : ℕ) (is : IsStack s d) (rest : List Frame) (p : Point
       ∙ ap (λ cs. case_of statics (goals_in s) (deeper cs 0) e (items_of s.links p.list) (kept_values s.saved p r) r ∷ cs) (without-cases statics)
       ∙ sym (popped-cases statics s rest (Open p r) popped)
 
-  pub at-call : AtCall rewound p c
+  pub list-then : IsList without p.list
+  list-then = let l = back-list s d is rest p r popped in record { there = l.there; items = l.items }
+
+  -- the case, over those below it
+  pub was-open : (statics : Statics) → cases_of statics s ≡ case_of statics (goals_in s) (deeper (cases_of statics without) 0) e (items_of (take p.marks.links s.links) p.list) (kept_values s.saved p r) r ∷ cases_of statics without
+  was-open statics =
+      popped-cases statics s rest (Open p r) popped
+      ∙ ap (λ cs. case_of statics (goals_in s) (deeper cs 0) e (items_of s.links p.list) (kept_values s.saved p r) r ∷ cs) (sym (without-cases statics))
+      ∙ ap (λ xs. case_of statics (goals_in s) (deeper (cases_of statics without) 0) e xs (kept_values s.saved p r) r ∷ cases_of statics without) (sym (same-items s d is rest p r popped))
+
+module _ (s : State) (d : ℕ) (is : IsStack s d) (rest : List Frame) (p : Point) (c : Clauses) (popped : s.frames ≡ rest ++ Open p (resumes.Clauses c) ∷ []) where
+  pub at-call : AtCall (rewound s d is rest p (resumes.Clauses c) popped) p c
   at-call = record {
     calling = record { rest = rest; top = popped };
-    now = now;
-    list = let l = back-list s d is rest p r popped in record { there = l.there; items = l.items };
+    now = now s d is rest p (resumes.Clauses c) popped;
+    list = let l = list-then s d is rest p (resumes.Clauses c) popped in record { there = l.there; items = l.items };
   }

@@ -19,6 +19,7 @@ use Rattle.plstack.specs.Opening.{Keeps}
 abbrev pub IsChosen : Resume → Type 0
 IsChosen (resumes.Clauses c) = Unit {0}
 IsChosen (resumes.Copies c) = Unit {0}
+IsChosen (resumes.Answers a) = Unit {0}
 IsChosen resumes.List = Unit {0}
 IsChosen (resumes.Handle x) = ⊥
 

@@ -3,6 +3,7 @@ use Rattle.std.specs.Prelude.{◌+◌, ◌<◌, ◌≤◌, List, [], ◌∷◌, 
 use Rattle.std.specs.Bool.{⊤}
 use Rattle.plcells.specs.declared.cell.Cell.{Cell}
 use Rattle.plcells.specs.Store.{Store, IsValue, AreValues}
+use Rattle.plgenerator.specs.Answers.{IsTurn}
 use Rattle.plenv.specs.Env.{Env, cut, IsMark}
 use Rattle.plenv.specs.Marks.{IsOlder as IsEnvOlder}
 use Rattle.pllinks.specs.declared.link.Link.{Link}
@@ -39,6 +40,7 @@ IsHandled h (handlers.Gather v) = IsValue h v
 abbrev pub IsResume : Store → List Cell → Resume → Type 0
 IsResume h vs (resumes.Clauses c) = AreValues h vs
 IsResume h vs (resumes.Copies c) = IsValue h c.goal
+IsResume h vs (resumes.Answers a) = AreValues h vs × IsTurn h vs a.turn
 IsResume h vs resumes.List = ⊤
 IsResume h vs (resumes.Handle x) = IsHandled h x
 

@@ -14,3 +14,4 @@ pub mod Calls
 pub mod StaticCalls
 pub mod Linking
 pub mod Trials
+pub mod Answering

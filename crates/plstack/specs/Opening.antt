@@ -17,7 +17,7 @@ use Rattle.plstack.specs.declared.frame.Closed.{Closed}
 use Rattle.plstack.specs.declared.frame.Closed.TheVariants as closings
 use Rattle.plstack.specs.Places.{Statics, handled, case_of, plain}
 use Rattle.plstack.specs.Frames.{IsHandled}
-use Rattle.plstack.specs.State.{State, goals_in, goals_of, place_at, cases_of, IsList, HasClauses, HasCopies, HasBranch, HasCatcher, HasGatherer}
+use Rattle.plstack.specs.State.{State, goals_in, goals_of, place_at, cases_of, IsList, HasClauses, HasCopies, HasBranch, HasAnswers, HasCatcher, HasGatherer}
 
 -- values and lists stand for what they did, whatever cases are open
 pub record Keeps (old new : State) : Type 0 where
@@ -65,12 +65,13 @@ pub record OpensIn (old new : State) (l : Continuation) (r : Resume) : Type 0 wh
 abbrev pub closing : Resume → Closed
 closing (resumes.Clauses c) = closings.Choice
 closing (resumes.Copies c) = closings.Choice
+closing (resumes.Answers a) = closings.Choice
 closing resumes.List = closings.Choice
 closing (resumes.Handle x) = closings.Handler
 
 -- the innermost case was closed
 abbrev pub ClosedAs : Statics → State → State → Closed → Type 0
-ClosedAs statics old new closings.Choice = (ps : List Place) × (cases_of statics old ≡ Choice ps ∷ cases_of statics new) × ((HasClauses old → ⊥) → (HasCopies old → ⊥) → (HasBranch old → ⊥) → ps ≡ [])
+ClosedAs statics old new closings.Choice = (ps : List Place) × (cases_of statics old ≡ Choice ps ∷ cases_of statics new) × ((HasClauses old → ⊥) → (HasCopies old → ⊥) → (HasBranch old → ⊥) → (HasAnswers old → ⊥) → ps ≡ [])
 ClosedAs statics old new (closings.Mark l) = cases_of statics old ≡ Mark l ∷ cases_of statics new
 ClosedAs statics old new closings.Handler = (h : Handler) × (p : Place) × (cases_of statics old ≡ Handle h p ∷ cases_of statics new) × ((c r : Tree) → h ≡ Catch c r → (HasCatcher old → ⊥) → ⊥) × ((l : Tree) → h ≡ Gather l → (HasGatherer old → ⊥) → ⊥)
 

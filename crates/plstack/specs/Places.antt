@@ -5,7 +5,9 @@ use Rattle.plclause.specs.Clause.{Clause}
 use Rattle.plcells.specs.declared.cell.Cell.{Cell}
 use Rattle.plcells.specs.Store.{Store, value}
 use Rattle.plsearch.specs.Types.{Element, Place, Handler, Catch, Gather, Case, Choice, Mark, Handle}
-use Rattle.plsearch.specs.Rows.{resolve}
+use Rattle.plsearch.specs.Rows.{resolve, solved}
+use Rattle.plgenerator.specs.declared.turn.Turn.{Turn}
+use Rattle.plgenerator.specs.Answers.{left}
 use Rattle.plsearch.specs.Engine.{deeper}
 use Rattle.plenv.specs.Env.{Env, cut}
 use Rattle.pllinks.specs.declared.item.Item.{Item}
@@ -42,6 +44,10 @@ called h name (v ∷ vs) = compound name (trees (map (value h) (v ∷ vs)))
 abbrev pub places_left : ℕ → Env → Tree → List Element → List Clause → List Place
 places_left d e t rest cs = filter_map (resolve d e.count t rest) cs
 
+-- what is left of a call of a predicate of several answers: over the values of its arguments, before a list, by a turn
+abbrev pub answers_left : Env → List Cell → List Element → Turn → List Place
+answers_left e vs rest turn = filter_map (solved rest e.count) (left e.heap vs turn)
+
 -- what a handler over a heap stands for
 abbrev pub handled : Store → Handles → Handler
 handled h (handlers.Catch c) = Catch (value h c.catcher) (value h c.recovery)
@@ -51,6 +57,7 @@ handled h (handlers.Gather v) = Gather (value h v)
 abbrev pub kept : Resume → ℕ
 kept (resumes.Clauses c) = c.count
 kept (resumes.Copies c) = 0
+kept (resumes.Answers a) = a.count
 kept resumes.List = 0
 kept (resumes.Handle x) = 0
 
@@ -62,6 +69,7 @@ kept_values saved p r = take (kept r) (drop p.marks.saved saved)
 abbrev pub case_of : Statics → Goals → ℕ → Env → List Item → List Cell → Resume → Case
 case_of statics code d e xs vs (resumes.Clauses c) = Choice (places_left d e (called e.heap (statics c.procedure).name vs) (all_elements code e xs) (drop c.next (statics c.procedure).clauses))
 case_of statics code d e xs vs (resumes.Copies c) = Choice (places_left d e (value e.heap c.goal) (all_elements code e xs) (drop c.next c.clauses.items))
+case_of statics code d e xs vs (resumes.Answers a) = Choice (answers_left e vs (all_elements code e xs) a.turn)
 case_of statics code d e xs vs resumes.List = Choice (place_of_items code e xs ∷ [])
 case_of statics code d e xs vs (resumes.Handle x) = Handle (handled e.heap x) (place_of_items code e xs)
 

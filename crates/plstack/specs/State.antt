@@ -127,8 +127,8 @@ pub record CountsUp (n : ℕ) (old new : List Frame) : Type 0 where
   pub older : (m : Marks) → AreOlder m old → AreOlder m new
   pub depth : depth_of new ≡ depth_of old + n
 
--- what the innermost case is: a choice of the further clauses of a static or of a dynamic procedure, a choice of a list, a choice with
--- nothing left, or a handler, of a ball or of what was kept
+-- what the innermost case is: a choice of the further clauses of a static or of a dynamic procedure, of the further answers of a
+-- predicate, or of a list, a choice with nothing left, or a handler, of a ball or of what was kept
 abbrev pub IsClauses : Frame → Type 0
 IsClauses (Open p (resumes.Clauses c)) = Unit {0}
 IsClauses f = ⊥
@@ -136,6 +136,10 @@ IsClauses f = ⊥
 abbrev pub IsCopies : Frame → Type 0
 IsCopies (Open p (resumes.Copies c)) = Unit {0}
 IsCopies f = ⊥
+
+abbrev pub IsAnswers : Frame → Type 0
+IsAnswers (Open p (resumes.Answers a)) = Unit {0}
+IsAnswers f = ⊥
 
 abbrev pub IsBranch : Frame → Type 0
 IsBranch (Open p resumes.List) = Unit {0}
@@ -174,6 +178,9 @@ HasClauses s = BeginsWith IsClauses (reverse s.frames)
 
 abbrev pub HasCopies : State → Type 0
 HasCopies s = BeginsWith IsCopies (reverse s.frames)
+
+abbrev pub HasAnswers : State → Type 0
+HasAnswers s = BeginsWith IsAnswers (reverse s.frames)
 
 abbrev pub HasBranch : State → Type 0
 HasBranch s = BeginsWith IsBranch (reverse s.frames)

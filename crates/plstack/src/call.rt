@@ -156,7 +156,7 @@ fn push_call(frames: &mut Vec<Frame>, at: &Calling, next: Option<usize>)
 }
 
 /// Keeps values behind the others, where there is room for them.
-fn keep_values(saved: &mut Vec<Cell>, values: &[Cell])
+pub(crate) fn keep_values(saved: &mut Vec<Cell>, values: &[Cell])
     requires room { vec_len saved.old + length values.now ≤ vec_capacity saved.old }
     ensures { saved.new.items ≡ saved.old.items ++ values.now }
 {

@@ -395,8 +395,8 @@ impl Stack {
     }
 
     /// No more is old any more than what is held, where a call has no clause left to try.
-    fn settle_opened(&mut self, opened: Opened)
-        requires { IsOpened self.old opened }
+    pub(crate) fn settle_opened(&mut self, opened: Opened)
+        requires { opened.is_last ≡ true → IsOpened self.old opened }
         ensures { Settles self.old self.new }
     {
         if opened.is_last {

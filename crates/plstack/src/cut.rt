@@ -139,7 +139,7 @@ fn is_chosen(resume: &Resume) -> bool
     ensures { IsTrue result ↔ IsChosen resume.now }
 {
     match resume {
-        Resume::Clauses(_) | Resume::Copies(_) | Resume::List => true,
+        Resume::Clauses(_) | Resume::Copies(_) | Resume::Answers(_) | Resume::List => true,
         Resume::Handle(_) => false,
     }
 }

@@ -5,6 +5,7 @@ use plclause::clause::Clause;
 use plenv::slot::Mark;
 use pllinks::level::Level;
 use pllinks::link::Continuation;
+use plgenerator::turn::Turn;
 
 /// How much there was: of the environment, of links, and of values that are kept for calls.
 #[derive(Clone, Copy)]
@@ -39,6 +40,13 @@ pub struct Copies {
     pub next: usize,
 }
 
+/// A call of a predicate of several answers: how many values are kept from the mark on, and which answers are left.
+#[derive(Clone, Copy)]
+pub struct Answers {
+    pub count: u32,
+    pub turn: Turn,
+}
+
 /// A catcher and its recovery.
 #[derive(Clone, Copy)]
 pub struct Catcher {
@@ -62,6 +70,8 @@ pub enum Resume {
     Clauses(Clauses),
     /// The further clauses of a dynamic procedure are tried.
     Copies(Copies),
+    /// The further answers of a predicate are tried.
+    Answers(Answers),
     /// The list is visited.
     List,
     /// It is a handler.

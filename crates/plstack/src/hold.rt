@@ -14,7 +14,7 @@ const LOOKED_AT: usize = 8;
 #[derive(Clone, Copy)]
 pub struct Held {
     pub marks: Marks,
-    pub kept: u16,
+    pub kept: u32,
 }
 
 /// The marks of nothing.
@@ -41,11 +41,12 @@ fn no_marks() -> Marks
 }
 
 /// How many values a case keeps.
-fn kept_by(resume: &Resume) -> u16
+fn kept_by(resume: &Resume) -> u32
     ensures { result ≡ kept resume.now }
 {
     match resume {
-        Resume::Clauses(clauses) => clauses.count,
+        Resume::Clauses(clauses) => clauses.count.into(),
+        Resume::Answers(answers) => answers.count,
         Resume::Copies(_) | Resume::List | Resume::Handle(_) => 0,
     }
 }

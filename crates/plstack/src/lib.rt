@@ -1,6 +1,7 @@
 //! The stack of a search: goal lists, open cases and what they come back to, over an environment.
 #![tactic(auto)]
 
+pub mod answer;
 pub mod back;
 pub mod call;
 pub mod copy;

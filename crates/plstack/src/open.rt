@@ -150,6 +150,7 @@ fn closed_as(resume: Resume) -> Closed
     match resume {
         Resume::Clauses(_) => Closed::Choice,
         Resume::Copies(_) => Closed::Choice,
+        Resume::Answers(_) => Closed::Choice,
         Resume::List => Closed::Choice,
         Resume::Handle(_) => Closed::Handler,
     }

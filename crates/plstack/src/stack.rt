@@ -5,7 +5,7 @@ ghost use Rattle.plcode.specs.Steps.{goals_from};
 ghost use Rattle.plsearch.specs.Engine.{deeper};
 ghost use Rattle.pllinks.specs.Links.{alone};
 ghost use Rattle.plstack.specs.Places.{Statics};
-ghost use Rattle.plstack.specs.State.{cases_of, HasBranch, HasCatcher, HasClauses, HasCopies, HasGatherer, HasHandler, HasPlain};
+ghost use Rattle.plstack.specs.State.{cases_of, HasAnswers, HasBranch, HasCatcher, HasClauses, HasCopies, HasGatherer, HasHandler, HasPlain};
 
 use crate::frame::{Frame, Handler, Resume};
 use plcells::cell::Cell;
@@ -109,6 +109,13 @@ impl Stack {
         ensures { IsTrue result ↔ HasCopies self.now }
     {
         matches!(self.frames.last(), Some(Frame::Open(_, Resume::Copies(_))))
+    }
+
+    /// Whether the innermost case is a choice of further answers of a predicate.
+    pub fn is_answers(&self) -> bool
+        ensures { IsTrue result ↔ HasAnswers self.now }
+    {
+        matches!(self.frames.last(), Some(Frame::Open(_, Resume::Answers(_))))
     }
 
     /// Whether the innermost case is a choice of a list that is to be tried.

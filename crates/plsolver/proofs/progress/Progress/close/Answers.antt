@@ -21,7 +21,7 @@ returns-in-Choice-clause-on c =
     let P = c.args.program.now in
     let closed = (rw c.in-Choice.is at c.in-Some.ensures.some) (statics_of P) in
     quiet-choice P c.args.self.now c.stop_cut.new.self c.close.new.self closed.0 c.requires.back c.close.ensures.code closed.1
-    (λ f. closed.2 (λ has. c.requires.tried f (inr (inl has))) (λ has. c.requires.tried f (inr (inr has))) (λ has. c.requires.tried f (inl has)))
+    (λ f. closed.2 (λ has. c.requires.tried f (inr (inl has))) (λ has. c.requires.tried f (inr (inr (inl has)))) (λ has. c.requires.tried f (inl has)) (λ has. c.requires.tried f (inr (inr (inr has)))))
     (c.stop_cut.ensures (statics_of P))
 
 pub returns-in-Handler-clause-on : goal.returns-in-Handler-clause-on

@@ -21,10 +21,10 @@ returns-in-Open-clause-some c = λ statics.
 pub returns-then-n-gt1-clause-some : goal.returns-then-n-gt1-clause-some
 returns-then-n-gt1-clause-some c = λ statics.
     let e = c.in-Some.ensures.items ∙ ap (λ f. c.pop.new.self.items ++ f ∷ []) c.in-Plain.is in
-    rw (← c.self.view_is) ([], closed-plain statics (inside c.self.inside) c.pop.new.self.items c.push_frame.new.frames.items c.in-Plain.n e c.if-n-gt1.true c.push_frame.ensures.is, λ not n m. refl)
+    rw (← c.self.view_is) ([], closed-plain statics (inside c.self.inside) c.pop.new.self.items c.push_frame.new.frames.items c.in-Plain.n e c.if-n-gt1.true c.push_frame.ensures.is, λ not n m k. refl)
 
 pub returns-else-n-gt1-clause-some : goal.returns-else-n-gt1-clause-some
 returns-else-n-gt1-clause-some c = λ statics.
     let e = c.in-Some.ensures.items ∙ ap (λ f. c.pop.new.self.items ++ f ∷ []) c.in-Plain.is in
     let some = (popped-frames (inside c.self.inside) c.self.inside.depth c.pop.new.self.items (Plain c.in-Plain.n) e c.self.invariant).0 in
-    rw (← c.self.view_is) ([], closed-last statics (inside c.self.inside) c.pop.new.self.items c.in-Plain.n e (omega (arith, some, c.if-n-gt1.false)), λ not n m. refl)
+    rw (← c.self.view_is) ([], closed-last statics (inside c.self.inside) c.pop.new.self.items c.in-Plain.n e (omega (arith, some, c.if-n-gt1.false)), λ not n m k. refl)

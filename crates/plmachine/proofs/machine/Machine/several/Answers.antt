@@ -1,0 +1,20 @@
+use Rattle.std.proofs.Common.{refl}
+use Rattle.plstack.specs.StaticCalls.{statics_of}
+use Rattle.plmachine.proofs.Moves.{on_err}
+use Rattle.plmachine.proofs.Calling.{chooses, chooses-none, stays-at}
+use Rattle.plmachine.proofs.machine.Machine.several.Goals as goal
+
+pub returns-in_err-call_answers-clause-err : goal.returns-in_err-call_answers-clause-err
+returns-in_err-call_answers-clause-err c = on_err _ (stays-at c.args.program.now c.args.self.now _ c.call_answers.new.self c.requires.visits c.call_answers.ensures.code refl c.in_err-call_answers.ensures.err)
+
+pub returns-then-branch-clause-ok : goal.returns-then-branch-clause-ok
+returns-then-branch-clause-ok c =
+    let P = c.args.program.now in
+    let a = c.in_ok-call_answers.ensures.yes c.if-branch.true (statics_of P) in
+    chooses P c.args.self.now _ c.call_answers.new.self _ a.others c.requires.visits c.call_answers.ensures.code refl a.places a.cases
+
+pub returns-clause-ok : goal.returns-clause-ok
+returns-clause-ok c =
+    let P = c.args.program.now in
+    let a = c.in_ok-call_answers.ensures.no c.if-branch.false (statics_of P) in
+    chooses-none P c.args.self.now c.give.new.self c.call_answers.new.self _ c.call_answers.ensures.code c.give.ensures a.none a.cases

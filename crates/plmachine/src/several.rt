@@ -1,0 +1,90 @@
+//! Predicates of several answers: they are tried one at a time.
+//!
+//! A row that is refused memory leaves the search where it was.
+ghost use Rattle.std.specs.Prelude.{◌≡◌, ◌+◌, ◌<◌, ◌≤◌, ◌^◌, ◌++◌, length, map, filter_map, true, IfOk, OnOk, OnErr};
+ghost use Rattle.std.specs.List.{list_all};
+ghost use Rattle.plterm.specs.Ground.{is_ground};
+ghost use Rattle.plcells.specs.Store.{value, AreValues};
+ghost use Rattle.plbuiltin.specs.Solution.{against};
+ghost use Rattle.plgenerator.specs.Answers.{left, IsTurn};
+ghost use Rattle.plsearch.specs.Rows.{choose, solved};
+ghost use Rattle.plstack.specs.State.{goals_of, IsList};
+ghost use Rattle.plmachine.specs.Lists.{Grown};
+ghost use Rattle.plmachine.specs.Machine.{local_of, Moved, Stays};
+
+use crate::machine::{Machine, Mode, Outcome};
+use plcells::cell::Cell;
+use plgenerator::turn::{Groups, Turn};
+use pllinks::link::Continuation;
+use plprogram::program::Program;
+use plterm::term::Term;
+use std::alloc::AllocError;
+
+impl Machine {
+    /// The answers of a turn over some values are tried before a list.
+    pub(crate) fn several(
+        &mut self,
+        program: &Program,
+        values: &[Cell],
+        turn: Turn,
+        rest: Continuation,
+    ) -> Result<(), AllocError>
+        requires visits { self.old.mode ≡ Mode.Visit }
+        requires values { AreValues self.old.stack.env.heap values.now }
+        requires few { length values.now < 2 ^ 32 }
+        requires turn { IsTurn self.old.stack.env.heap values.now turn }
+        requires rest { IsList self.old.stack rest }
+        ensures ok { OnOk result (Moved program.now self.old self.new (choose (filter_map (solved (goals_of self.old.stack rest) self.old.stack.env.count) (left self.old.stack.env.heap values.now turn)) (local_of self.old))) }
+        ensures err { OnErr result (Stays program.now self.old self.new) }
+    {
+        if self.stack.call_answers(self.alloc, values, turn, rest)? {
+            return Ok(());
+        }
+        self.give(Outcome::Fail);
+        Ok(())
+    }
+
+    /// Some values are unified, together, with one term after another, before a list.
+    pub(crate) fn one_of(
+        &mut self,
+        program: &Program,
+        values: Vec<Cell>,
+        groups: &[Term],
+        rest: Continuation,
+    ) -> Result<(), AllocError>
+        requires visits { self.old.mode ≡ Mode.Visit }
+        requires values { AreValues self.old.stack.env.heap values.items }
+        requires some { 0 < length values.items }
+        requires few { length values.items ≤ 1023 }
+        requires ground { list_all is_ground groups.now ≡ true }
+        requires many { length values.items + length groups.now < 2 ^ 32 }
+        requires rest { IsList self.old.stack rest }
+        ensures ok { OnOk result (Moved program.now self.old self.new (choose (filter_map (solved (goals_of self.old.stack rest) self.old.stack.env.count) (map (against (map (value self.old.stack.env.heap) values.items)) groups.now)) (local_of self.old))) }
+        ensures err { OnErr result (Stays program.now self.old self.new) }
+    {
+        let arguments = values.len() as u16;
+        let values = self.with_terms(values, groups)?;
+        let turn = Turn::Groups(Groups {
+            arguments,
+            passed: 0,
+        });
+        self.several(program, &values, turn, rest)
+    }
+
+    /// Some values, and behind them those of terms without variables.
+    fn with_terms(&mut self, values: Vec<Cell>, terms: &[Term]) -> Result<Vec<Cell>, AllocError>
+        requires values { AreValues self.old.stack.env.heap values.items }
+        requires ground { list_all is_ground terms.now ≡ true }
+        ensures there { IfOk result (λ all. AreValues self.new.stack.env.heap all.items) }
+        ensures are { IfOk result (λ all. map (value self.new.stack.env.heap) all.items ≡ map (value self.old.stack.env.heap) values.items ++ terms.now) }
+        ensures grown { Grown self.old.stack self.new.stack }
+        ensures frame { self.new ≡ record self.old { stack = self.new.stack } }
+    {
+        let mut all = values;
+        for term in terms {
+            let v = self.stack.put_copy(self.alloc, term)?;
+            all.push(v)?;
+        }
+        Ok(all)
+    }
+}

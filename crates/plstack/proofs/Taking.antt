@@ -1,0 +1,128 @@
+-- The first of the answers that are left which fits.
+use Rattle.std.proofs.Common.{◌≡◌, ℕ, ◌+◌, ◌<◌, List, [], ◌∷◌, length, filter_map, option_map, refl, sym, ap, ◌∙◌, arith, Option, Some, None, IfSome}
+use Rattle.std.specs.List.{cons_option}
+use Rattle.plterm.specs.Tree.{Tree}
+use Rattle.plsubst.specs.Unify.{unify}
+use Rattle.plcells.specs.declared.cell.Cell.{Cell}
+use Rattle.plcells.specs.Equations.{left_of, right_of}
+use Rattle.plcells.specs.Store.{AreValues}
+use Rattle.plbuiltin.specs.Solution.{Solution}
+use Rattle.plsearch.specs.Types.{Element, Place}
+use Rattle.plsearch.specs.Lists.{bind_goals}
+use Rattle.plsearch.specs.Rows.{solved}
+use Rattle.plgenerator.specs.declared.generator.Found.{Found}
+use Rattle.plgenerator.specs.declared.turn.Turn.{Turn}
+use Rattle.plgenerator.specs.Answers.{left, left_if, IsTurn, Finds, solution_of}
+use Rattle.plgenerator.specs.Fitting.{fitting, fitting_by}
+use Rattle.plgenerator.proofs.Staying.{left_stays, turn_stays, turn_stood}
+use Rattle.plenv.specs.Env.{Env, IsEnv}
+use Rattle.plenv.specs.Changes.{Stays}
+use Rattle.plenv.specs.Solving.{Solves}
+use Rattle.plenv.proofs.Putting.{Stays-refl}
+use Rattle.plstack.specs.Places.{answers_left}
+use Rattle.plstack.specs.Answering.{answers_if, TakesAnswer, TakesNone}
+use Rattle.plstack.proofs.Opened.{values_stay}
+
+-- those without a unifier give no place
+fitting-solved : (es : List Element) (n : ℕ) (ss : List Solution) → filter_map (solved es n) (fitting ss) ≡ filter_map (solved es n) ss
+fitting-solved es n [] = refl
+fitting-solved es n (s ∷ ss) = go (unify s.left s.right) refl (fitting-solved es n ss)
+  where
+    go : (o : Option (ℕ → Tree)) → unify s.left s.right ≡ o → filter_map (solved es n) (fitting ss) ≡ filter_map (solved es n) ss →
+        filter_map (solved es n) (fitting_by (unify s.left s.right) s (fitting ss)) ≡ filter_map (solved es n) (s ∷ ss)
+    go None e same =
+        ap (λ u. filter_map (solved es n) (fitting_by u s (fitting ss))) e
+        ∙ same
+        ∙ sym (ap (λ u. cons_option (option_map (λ σ. record { goals = bind_goals σ es; variables = n + s.new }) u) (filter_map (solved es n) ss)) e)
+    go (Some σ) e same = ap (λ u. filter_map (solved es n) (fitting_by u s (fitting ss))) e ∙ ap (cons_option (solved es n s)) same
+
+-- those that were passed over do not fit, and all stands for what it did
+pub record Passed (old : Env) (vs : List Cell) (turn : Turn) (now : Env) (next : Turn) : Type 0 where
+  pub stays : Stays old now
+  pub turns : IsTurn old.heap vs next
+  pub same : (es : List Element) → answers_left old vs es turn ≡ answers_left old vs es next
+
+pub passed-none : (old : Env) (vs : List Cell) (turn : Turn) → IsTurn old.heap vs turn → Passed old vs turn old turn
+passed-none old vs turn is = record { stays = Stays-refl old; turns = is; same = λ es. refl }
+
+module _ (old : Env) (vs : List Cell) (fit : AreValues old.heap vs) (turn : Turn) where
+  module _ (now : Env) (next : Turn) (p : Passed old vs turn now next) where
+    pub values-now : AreValues now.heap vs
+    values-now = (values_stay old.heap now.heap vs p.stays.extends.values fit).0
+
+    pub turn-now : IsTurn now.heap vs next
+    turn-now = turn_stays old.heap now.heap p.stays.extends.values vs fit next p.turns
+
+    -- no answer fits
+    pub takes-none : fitting (left now.heap vs next) ≡ [] → TakesNone old now vs turn
+    takes-none e = record {
+      none = λ es.
+          p.same es
+          ∙ ap (filter_map (solved es old.count)) (sym (left_stays old.heap now.heap p.stays.extends.values vs fit next))
+          ∙ sym (fitting-solved es old.count (left now.heap vs next))
+          ∙ ap (filter_map (solved es old.count)) e;
+      stays = p.stays;
+    }
+
+    module _ (f : Found) (finds : Finds now.heap vs next f) where
+      rest-if : (o : Option Turn) (es : List Element) → filter_map (solved es old.count) (left_if now.heap vs o) ≡ answers_if old vs es o
+      rest-if None es = refl
+      rest-if (Some t) es = ap (filter_map (solved es old.count)) (left_stays old.heap now.heap p.stays.extends.values vs fit t)
+
+      stood : (o : Option Turn) → IfSome o (IsTurn now.heap vs) → IfSome o (IsTurn old.heap vs)
+      stood None i = tt
+      stood (Some t) i = turn_stood old.heap now.heap p.stays.extends.values vs fit t i
+
+      pub turns-then : IfSome f.rest (IsTurn old.heap vs)
+      turns-then = stood f.rest finds.rest
+
+      pub fewer-then : IfSome f.rest (λ rest. length (left old.heap vs rest) < length (left old.heap vs next))
+      fewer-then = go f.rest finds.fewer
+        where
+          go : (o : Option Turn) → IfSome o (λ rest. length (left now.heap vs rest) < length (left now.heap vs next)) → IfSome o (λ rest. length (left old.heap vs rest) < length (left old.heap vs next))
+          go None less = tt
+          go (Some t) less = rw (sym (left_stays old.heap now.heap p.stays.extends.values vs fit t), sym (left_stays old.heap now.heap p.stays.extends.values vs fit next)) less
+
+      -- the one that was found, before those behind it
+      found-first : (es : List Element) → answers_left old vs es turn ≡ cons_option (solved es old.count (solution_of now.heap now.count f.equation)) (answers_if old vs es f.rest)
+      found-first es =
+          p.same es
+          ∙ ap (filter_map (solved es old.count)) (sym (left_stays old.heap now.heap p.stays.extends.values vs fit next))
+          ∙ sym (fitting-solved es old.count (left now.heap vs next))
+          ∙ ap (filter_map (solved es old.count)) (finds.is now.count)
+          ∙ fitting-solved es old.count (solution_of now.heap now.count f.equation ∷ left_if now.heap vs f.rest)
+          ∙ ap (cons_option (solved es old.count (solution_of now.heap now.count f.equation))) (rest-if f.rest es)
+
+      solved-by : (es : List Element) (o : Option (ℕ → Tree)) → unify (left_of now.heap now.count f.equation) (right_of now.heap now.count f.equation) ≡ o →
+          solved es old.count (solution_of now.heap now.count f.equation) ≡ option_map (λ σ. record { goals = bind_goals σ es; variables = old.count + f.equation.new }) o
+      solved-by es o e = ap (option_map (λ σ. record { goals = bind_goals σ es; variables = old.count + f.equation.new })) e
+
+      -- it fits
+      pub takes : (new : Env) → IsEnv now → Solves now new f.equation → TakesAnswer old new vs turn f.rest
+      takes new env u = record {
+        before = now;
+        equation = f.equation;
+        stays = p.stays;
+        env = env;
+        solves = u;
+        turns = turns-then;
+        places = λ es.
+            found-first es
+            ∙ ap (λ o. cons_option o (answers_if old vs es f.rest)) (solved-by es (Some u.unifier) u.is)
+            ∙ ap (λ n. record { goals = bind_goals u.unifier es; variables = n } ∷ answers_if old vs es f.rest) (ap (λ n. n + f.equation.new) (sym p.stays.count) ∙ sym u.made.count);
+      }
+
+      -- it does not fit
+      module _ (e : unify (left_of now.heap now.count f.equation) (right_of now.heap now.count f.equation) ≡ None) where
+        passed-one : (es : List Element) → answers_left old vs es turn ≡ answers_if old vs es f.rest
+        passed-one es = found-first es ∙ ap (λ o. cons_option o (answers_if old vs es f.rest)) (solved-by es None e)
+
+        pub passes-last : (new : Env) → Stays old new → f.rest ≡ None → TakesNone old new vs turn
+        passes-last new stays last = record { none = λ es. passed-one es ∙ ap (answers_if old vs es) last; stays = stays }
+
+        pub passes : (new : Env) → Stays old new → (rest : Turn) → f.rest ≡ Some rest → Passed old vs turn new rest
+        passes new stays rest is = record {
+          stays = stays;
+          turns = rw is at turns-then;
+          same = λ es. passed-one es ∙ ap (answers_if old vs es) is;
+        }

@@ -1,0 +1,10 @@
+use Rattle.std.proofs.Common.{length}
+use Rattle.plgenerator.specs.Answers.{left}
+use Rattle.plstack.proofs.Taking.{Passed}
+use Rattle.plstack.proofs.answer.first_answer.Given as goal
+
+abbrev pub invariant-answers : goal.invariant-answers
+invariant-answers l = Passed l.fn.env l.values l.fn.turn l.env l.left
+
+abbrev pub decreases-answers : goal.decreases-answers
+decreases-answers l = length (left l.fn.env.heap l.values l.left)

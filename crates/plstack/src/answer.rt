@@ -1,0 +1,221 @@
+//! Calls of predicates of several answers, which are taken one at a time: no list of them is made.
+ghost use Rattle.std.specs.Prelude.{◌≡◌, ◌<◌, ◌^◌, [], ◌∷◌, length, true, false, None, IfOk, IfSome, IfNone, IsSome, OnErr, vec_capacity, vec_len};
+ghost use Rattle.plcells.specs.Store.{AreValues};
+ghost use Rattle.plsearch.specs.Types.{Choice};
+ghost use Rattle.plgenerator.specs.Answers.{IsTurn};
+ghost use Rattle.plenv.specs.Changes.{Stays};
+ghost use Rattle.plenv.specs.Env.{IsEnv};
+ghost use Rattle.plstack.specs.Places.{Statics};
+ghost use Rattle.plstack.specs.State.{cases_of, HasAnswers, IsList, Retries};
+ghost use Rattle.plstack.specs.Calls.{StaysAt};
+ghost use Rattle.plstack.specs.Trials.{IsMarked, IsOpened};
+ghost use Rattle.plstack.specs.Answering.{Answered, PushesAnswers, TakesAnswer, TakesNone, Unanswered};
+
+use crate::call::keep_values;
+use crate::copy::Opened;
+use crate::frame::{Answers, Frame, Point, Resume};
+use crate::open::{count_up, deeper, push_frame};
+use crate::stack::Stack;
+use plcells::cell::Cell;
+use plenv::env::Environment;
+use plgenerator::generator::next;
+use plgenerator::turn::Turn;
+use pllinks::link::Continuation;
+use pllinks::list::ListId;
+use std::alloc::{AllocError, Global};
+
+/// An answer that was taken: those behind it, if there may be one.
+#[derive(Clone, Copy)]
+pub struct Taken {
+    pub rest: Option<Turn>,
+}
+
+/// The first of the answers that are left over some values which fits: its two sides are unified. Where there is none, or memory gives out,
+/// all stands for what it did.
+fn first_answer(
+    env: &mut Environment,
+    alloc: Global,
+    values: &[Cell],
+    turn: Turn,
+) -> Result<Option<Taken>, AllocError>
+    requires values { AreValues env.old.heap values.now }
+    requires turn { IsTurn env.old.heap values.now turn }
+    ensures some { IfOk result (λ o. IfSome o (λ taken. TakesAnswer env.old env.new values.now turn taken.rest)) }
+    ensures none { IfOk result (λ o. IfNone o (TakesNone env.old env.new values.now turn)) }
+    ensures err { OnErr result (Stays env.old env.new) }
+{
+    let mut left = turn;
+    let _ = env.heap();
+    'answers: loop {
+        let Some(found) = next(alloc, env.heap(), values, left)? else {
+            return Ok(None);
+        };
+        if env.solve(alloc, found.equation)? {
+            return Ok(Some(Taken { rest: found.rest }));
+        }
+        let Some(rest) = found.rest else {
+            return Ok(None);
+        };
+        left = rest;
+    }
+}
+
+/// The same, in an environment that is sound whatever comes of it.
+fn take_answer(
+    env: &mut Environment,
+    alloc: Global,
+    values: &[Cell],
+    turn: Turn,
+) -> Result<Option<Taken>, AllocError>
+    requires values { AreValues env.old.heap values.now }
+    requires turn { IsTurn env.old.heap values.now turn }
+    ensures some { IfOk result (λ o. IfSome o (λ taken. TakesAnswer env.old env.new values.now turn taken.rest)) }
+    ensures none { IfOk result (λ o. IfNone o (TakesNone env.old env.new values.now turn)) }
+    ensures err { OnErr result (Stays env.old env.new) }
+    ensures env { IsEnv env.new }
+{
+    let taken = first_answer(env, alloc, values, turn);
+    let _ = env.heap();
+    taken
+}
+
+/// Opens the case of the answers of a turn that are left, or a choice with nothing left: whether nothing is.
+fn push_answers(frames: &mut Vec<Frame>, point: Point, count: u32, rest: Option<Turn>) -> bool
+    requires room { vec_len frames.old < vec_capacity frames.old }
+    ensures pushes { PushesAnswers point count rest frames.old.items frames.new.items }
+    ensures last { result ≡ true → rest ≡ None }
+{
+    match rest {
+        Some(turn) => {
+            let answers = Answers { count, turn };
+            push_frame(frames, Frame::Open(point, Resume::Answers(answers)));
+            false
+        }
+        None => {
+            count_up(frames, 1);
+            true
+        }
+    }
+}
+
+impl Stack {
+    /// Calls a predicate by the answers of a turn over the values of its arguments, before a list: whether an answer fits. The list is visited
+    /// with the first that does, in a choice of those behind it.
+    pub fn call_answers(
+        &mut self,
+        alloc: Global,
+        values: &[Cell],
+        turn: Turn,
+        rest: Continuation,
+    ) -> Result<bool, AllocError>
+        requires values { AreValues self.old.env.heap values.now }
+        requires few { length values.now < 2 ^ 32 }
+        requires turn { IsTurn self.old.env.heap values.now turn }
+        requires rest { IsList self.old rest }
+        ensures yes { IfOk result (λ yes. yes ≡ true → (statics : Statics) → Answered statics self.old self.new values.now rest turn) }
+        ensures no { IfOk result (λ yes. yes ≡ false → (statics : Statics) → Unanswered statics self.old self.new values.now rest turn) }
+        ensures code { self.new.code ≡ self.old.code }
+        ensures err { OnErr result (StaysAt self.old self.new) }
+    {
+        let marks = self.marks();
+        let point = Point { marks, list: rest };
+        match self.open_answers(alloc, point, values, turn)? {
+            Some(opened) => {
+                self.settle_opened(opened);
+                Ok(true)
+            }
+            None => Ok(false),
+        }
+    }
+
+    /// Opens the case of a call, and visits its list with its first answer, if it has one that fits.
+    fn open_answers(
+        &mut self,
+        alloc: Global,
+        point: Point,
+        values: &[Cell],
+        turn: Turn,
+    ) -> Result<Option<Opened>, AllocError>
+        requires marks { IsMarked self.old point.marks }
+        requires values { AreValues self.old.env.heap values.now }
+        requires few { length values.now < 2 ^ 32 }
+        requires turn { IsTurn self.old.env.heap values.now turn }
+        requires list { IsList self.old point.list }
+        ensures some { IfOk result (λ o. IsSome o → (statics : Statics) → Answered statics self.old self.new values.now point.list turn) }
+        ensures none { IfOk result (λ o. IfNone o ((statics : Statics) → Unanswered statics self.old self.new values.now point.list turn)) }
+        ensures opened { IfOk result (λ o. IfSome o (λ opened. opened.is_last ≡ true → IsOpened self.new opened)) }
+        ensures code { self.new.code ≡ self.old.code }
+        ensures err { OnErr result (StaysAt self.old self.new) }
+    {
+        let depth = deeper(self.depth, 1)?;
+        self.frames.reserve(1)?;
+        self.saved.reserve(values.len())?;
+        let Some(taken) = take_answer(&mut self.env, alloc, values, turn)? else {
+            return Ok(None);
+        };
+        keep_values(&mut self.saved, values);
+        let count = values.len() as u32;
+        self.goals = point.list;
+        let marks = point.marks;
+        let is_last = push_answers(&mut self.frames, point, count, taken.rest);
+        self.depth = depth;
+        Ok(Some(Opened { marks, is_last }))
+    }
+
+    /// Goes back to where the innermost case was opened, a call of a predicate of several answers, and visits its list with the next answer:
+    /// whether one fits. Where none does the case is closed; after an `Err` it stays.
+    pub fn retry_answers(&mut self, alloc: Global) -> Result<bool, AllocError>
+        requires { HasAnswers self.old }
+        ensures yes { IfOk result (λ yes. yes ≡ true → (statics : Statics) → Retries statics self.old self.new) }
+        ensures no { IfOk result (λ yes. yes ≡ false → (statics : Statics) → cases_of statics self.old ≡ Choice [] ∷ cases_of statics self.new) }
+        ensures err { OnErr result ((statics : Statics) → cases_of statics self.new ≡ cases_of statics self.old) }
+        ensures code { self.new.code ≡ self.old.code }
+    {
+        match self.reopen_answers(alloc)? {
+            Some(opened) => {
+                self.settle_opened(opened);
+                Ok(true)
+            }
+            None => Ok(false),
+        }
+    }
+
+    /// The same, where less could be old if no answer is left.
+    fn reopen_answers(&mut self, alloc: Global) -> Result<Option<Opened>, AllocError>
+        requires { HasAnswers self.old }
+        ensures some { IfOk result (λ o. IsSome o → (statics : Statics) → Retries statics self.old self.new) }
+        ensures none { IfOk result (λ o. IfNone o ((statics : Statics) → cases_of statics self.old ≡ Choice [] ∷ cases_of statics self.new)) }
+        ensures opened { IfOk result (λ o. IfSome o (λ opened. opened.is_last ≡ true → IsOpened self.new opened)) }
+        ensures err { OnErr result ((statics : Statics) → cases_of statics self.new ≡ cases_of statics self.old) }
+        ensures code { self.new.code ≡ self.old.code }
+    {
+        let Some(Frame::Open(point, Resume::Answers(answers))) = self.frames.pop() else {
+            unreachable!()
+        };
+        self.env.undo(point.marks.env);
+        self.links.truncate(point.marks.links);
+        self.saved
+            .truncate(point.marks.saved + answers.count as usize);
+        self.goals = Continuation::alone(ListId::EMPTY);
+        let first = point.marks.saved;
+        let values = &self.saved[first..first + answers.count as usize];
+        match take_answer(&mut self.env, alloc, values, answers.turn) {
+            Ok(Some(taken)) => {
+                self.goals = point.list;
+                let marks = point.marks;
+                let is_last =
+                    push_answers(&mut self.frames, point, answers.count, taken.rest);
+                Ok(Some(Opened { marks, is_last }))
+            }
+            Ok(None) => {
+                self.depth = self.depth.down(1);
+                Ok(None)
+            }
+            Err(e) => {
+                let frame = Frame::Open(point, Resume::Answers(answers));
+                push_frame(&mut self.frames, frame);
+                Err(e)
+            }
+        }
+    }
+}
