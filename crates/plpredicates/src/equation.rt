@@ -13,9 +13,10 @@ ghost use Rattle.plpredicates.specs.Answers.{IsThere, meant};
 ghost use Rattle.plpredicates.specs.Building.{solved_by, width};
 
 use crate::answer::Answer;
-use crate::build::{compound_of_variables, list_of_variables, together};
+use crate::build::{compound_of_variables, list_of_variables};
 use plcells::cell::Cell;
 use plcells::equation::Equation;
+use plgenerator::equation::together;
 use plterm::name::Name;
 use plterm::term::Term;
 use std::alloc::{AllocError, Global};

@@ -8,12 +8,10 @@ ghost use Rattle.plbuiltin.specs.Texts.{atom_of, character_of as character_in, t
 
 use crate::error::{atom, instantiation_error, representation_error, type_error};
 use crate::list::{Tail, cell_of, tail_of};
-use itoa::Buffer;
 use plcells::cell::Cell;
 use plcells::heap::Heap;
 use plnames::kind::Spelling;
 use plorder::shape::{Shape, shape_of};
-use plterm::name::Name;
 use plterm::term::{NAME_LENGTH, Term};
 use std::alloc::{AllocError, Global};
 use std::string::String;
