@@ -13,6 +13,7 @@ seen-append (n ∷ ns) ys seen = seen-append ns ys (with_node seen n)
 
 mutual
   unfolding is_ground spelling
+
   seen-ground : (t : Tree) (seen : List ℕ) → is_ground t ≡ true → seen_after seen (spelling t) ≡ seen
   seen-ground (var v) seen g = absurd (cc)
   seen-ground (int i) seen g = refl
@@ -30,6 +31,7 @@ variables-ground t g = seen-ground t [] g
 
 mutual
   unfolding is_ground
+
   renamed-ground : (f : ℕ → ℕ) (t : Tree) → is_ground t ≡ true → renamed f t ≡ t
   renamed-ground f (var v) g = absurd (cc)
   renamed-ground f (int i) g = refl

@@ -203,8 +203,7 @@ impl Stack {
             Ok(Some(taken)) => {
                 self.goals = point.list;
                 let marks = point.marks;
-                let is_last =
-                    push_answers(&mut self.frames, point, answers.count, taken.rest);
+                let is_last = push_answers(&mut self.frames, point, answers.count, taken.rest);
                 Ok(Some(Opened { marks, is_last }))
             }
             Ok(None) => {

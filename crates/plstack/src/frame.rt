@@ -3,9 +3,9 @@
 use plcells::cell::Cell;
 use plclause::clause::Clause;
 use plenv::slot::Mark;
+use plgenerator::turn::Turn;
 use pllinks::level::Level;
 use pllinks::link::Continuation;
-use plgenerator::turn::Turn;
 
 /// How much there was: of the environment, of links, and of values that are kept for calls.
 #[derive(Clone, Copy)]

@@ -36,7 +36,10 @@ const OPERATORS: [Goal; 30] = [
         "yes",
     ),
     ("findall(O, current_op(_, yf, O), L), write(L)", "[]"),
-    ("findall(O, current_op(_, _, O), L), length(L, N), write(N)", "44"),
+    (
+        "findall(O, current_op(_, _, O), L), length(L, N), write(N)",
+        "44",
+    ),
     (
         "findall(O, current_op(_, _, O), L), msort(L, M), (L == M -> write(sorted) ; write(no))",
         "sorted",
@@ -57,10 +60,7 @@ const OPERATORS: [Goal; 30] = [
         "op(200, xf, ++), op(300, fy, ++), findall(P-T, current_op(P, T, ++), L), write(L)",
         "[300-fy,200-xf]",
     ),
-    (
-        "op(0, xfx, =), (current_op(_, _, =) ; write(no))",
-        "no",
-    ),
+    ("op(0, xfx, =), (current_op(_, _, =) ; write(no))", "no"),
     // The answers are those of the call, whatever is changed between them.
     (
         "(current_op(_, T, -), write(T), op(0, yfx, -), write(' '), fail ; true)",
@@ -85,14 +85,8 @@ const OPERATORS: [Goal; 30] = [
         "(current_op(500, T, +), current_op(P, T, mod), write(P), fail ; true)",
         "400",
     ),
-    (
-        "current_op(_, _, N), N == mod, !, write(N)",
-        "mod",
-    ),
-    (
-        "\\+ current_op(_, _, foo), write(yes)",
-        "yes",
-    ),
+    ("current_op(_, _, N), N == mod, !, write(N)", "mod"),
+    ("\\+ current_op(_, _, foo), write(yes)", "yes"),
     (
         "catch((current_op(_, fy, N), throw(N)), B, (writeq(B)))",
         "-",
@@ -166,7 +160,10 @@ const FLAGS: [Goal; 16] = [
     ("current_prolog_flag(unknown, error), write(yes)", "yes"),
     ("current_prolog_flag(unknown, fail) ; write(no)", "no"),
     ("current_prolog_flag(unknown, 1) ; write(no)", "no"),
-    ("current_prolog_flag(F, toward_zero), write(F)", "integer_rounding_function"),
+    (
+        "current_prolog_flag(F, toward_zero), write(F)",
+        "integer_rounding_function",
+    ),
     (
         "current_prolog_flag(F, true), write(F), write(' '), fail ; true",
         "bounded occurs_check ",
