@@ -32,14 +32,14 @@ copies-push : (ks : List Kept) (k : Kept) → copies_in (ks ++ k ∷ []) ≡ cop
 copies-push [] k = refl
 copies-push (x ∷ xs) k = ap (λ ts. x.copy ∷ ts) (copies-push xs k)
 
-values-kept : (old new : Store) → ((v : Cell) → IsValue old v → IsValue new v × (value new v ≡ value old v)) → (vs : List Cell) → AreValues old vs → AreValues new vs × (map (value new) vs ≡ map (value old) vs)
+pub values-kept : (old new : Store) → ((v : Cell) → IsValue old v → IsValue new v × (value new v ≡ value old v)) → (vs : List Cell) → AreValues old vs → AreValues new vs × (map (value new) vs ≡ map (value old) vs)
 values-kept old new same [] a = (tt, refl)
 values-kept old new same (v ∷ vs) a =
     let x = same v a.0 in
     let r = values-kept old new same vs a.1 in
     ((x.0, r.0), ap₂ (λ t ts. t ∷ ts) x.1 r.1)
 
-values-pushed : (h : Store) (vs : List Cell) (v : Cell) → AreValues h vs → IsValue h v → AreValues h (vs ++ v ∷ []) × (map (value h) (vs ++ v ∷ []) ≡ map (value h) vs ++ value h v ∷ [])
+pub values-pushed : (h : Store) (vs : List Cell) (v : Cell) → AreValues h vs → IsValue h v → AreValues h (vs ++ v ∷ []) × (map (value h) (vs ++ v ∷ []) ≡ map (value h) vs ++ value h v ∷ [])
 values-pushed h [] v a i = ((i, tt), refl)
 values-pushed h (w ∷ ws) v a i = let r = values-pushed h ws v a.1 i in ((a.0, r.0), ap (λ ts. value h w ∷ ts) r.1)
 

@@ -12,7 +12,7 @@ seen-append [] ys seen = refl
 seen-append (n ∷ ns) ys seen = seen-append ns ys (with_node seen n)
 
 mutual
-  unfolding is_ground spelling
+  unfolding is_ground
 
   seen-ground : (t : Tree) (seen : List ℕ) → is_ground t ≡ true → seen_after seen (spelling t) ≡ seen
   seen-ground (var v) seen g = absurd (cc)

@@ -11,3 +11,4 @@ pub mod Selecting
 pub mod Terms
 pub mod Stepping
 pub mod Gathering
+pub mod Joining

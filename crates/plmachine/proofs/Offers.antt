@@ -1,5 +1,5 @@
 -- What a built-in predicate makes of a machine.
-use Rattle.std.proofs.Common.{◌≡◌, ℕ, ◌+◌, List, [], ◌∷◌, ◌++◌, filter_map, refl, sym, ap, ap₂, ◌∙◌, subst, None, option_map, arith, append-nil}
+use Rattle.std.proofs.Common.{◌≡◌, ℕ, ◌+◌, List, [], ◌∷◌, ◌++◌, map, filter_map, refl, sym, ap, ap₂, ◌∙◌, subst, None, option_map, arith, append-nil}
 use Rattle.plterm.specs.Tree.{Tree, var}
 use Rattle.plterm.specs.declared.indicator.Indicator.{Indicator}
 use Rattle.plcells.specs.declared.cell.Cell.{Cell}
@@ -107,6 +107,11 @@ offer-solves a b k settings p es n w same =
 pub offer-unifies : (a b : Tree) (settings : Settings) (p : Indicator) (es : List Element) (n : ℕ) (w : Local) → w.settings ≡ settings →
     taken (solved es n (record { left = a; right = b; new = 0 })) w ≡ offer (unified_to a b settings) p es n w
 offer-unifies a b = offer-solves a b 0
+
+pub many-map : {A B : Type 0} (f : A → B) (xs : List A) → IsMany xs → IsMany (map f xs)
+many-map f [] many = tt
+many-map f (x ∷ []) many = many
+many-map f (x ∷ y ∷ xs) many = tt
 
 -- one that has several solutions, or none
 pub offer-many : (ss : List Solution) → IsMany ss → (settings : Settings) (p : Indicator) (es : List Element) (n : ℕ) (w : Local) → w.settings ≡ settings →

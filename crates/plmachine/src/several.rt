@@ -17,8 +17,9 @@ use plcells::cell::Cell;
 use plgenerator::turn::{Groups, Turn};
 use pllinks::link::Continuation;
 use plprogram::program::Program;
+use plstack::stack::Stack;
 use plterm::term::Term;
-use std::alloc::AllocError;
+use std::alloc::{AllocError, Global};
 
 impl Machine {
     /// The answers of a turn over some values are tried before a list.
@@ -63,28 +64,32 @@ impl Machine {
         ensures err { OnErr result (Stays program.now self.old self.new) }
     {
         let arguments = values.len() as u16;
-        let values = self.with_terms(values, groups)?;
+        let values = put_terms(&mut self.stack, self.alloc, values, groups)?;
         let turn = Turn::Groups(Groups {
             arguments,
             passed: 0,
         });
         self.several(program, &values, turn, rest)
     }
+}
 
-    /// Some values, and behind them those of terms without variables.
-    fn with_terms(&mut self, values: Vec<Cell>, terms: &[Term]) -> Result<Vec<Cell>, AllocError>
-        requires values { AreValues self.old.stack.env.heap values.items }
-        requires ground { list_all is_ground terms.now ≡ true }
-        ensures there { IfOk result (λ all. AreValues self.new.stack.env.heap all.items) }
-        ensures are { IfOk result (λ all. map (value self.new.stack.env.heap) all.items ≡ map (value self.old.stack.env.heap) values.items ++ terms.now) }
-        ensures grown { Grown self.old.stack self.new.stack }
-        ensures frame { self.new ≡ record self.old { stack = self.new.stack } }
-    {
-        let mut all = values;
-        for term in terms {
-            let v = self.stack.put_copy(self.alloc, term)?;
-            all.push(v)?;
-        }
-        Ok(all)
+/// Some values, and behind them those of terms without variables. After an `Err` all stands for what it did.
+fn put_terms(
+    stack: &mut Stack,
+    alloc: Global,
+    values: Vec<Cell>,
+    terms: &[Term],
+) -> Result<Vec<Cell>, AllocError>
+    requires values { AreValues stack.old.env.heap values.items }
+    requires ground { list_all is_ground terms.now ≡ true }
+    ensures there { IfOk result (λ all. AreValues stack.new.env.heap all.items) }
+    ensures are { IfOk result (λ all. map (value stack.new.env.heap) all.items ≡ map (value stack.old.env.heap) values.items ++ terms.now) }
+    ensures grown { Grown stack.old stack.new }
+{
+    let mut all = values;
+    for term in terms {
+        let v = stack.put_copy(alloc, term)?;
+        all.push(v)?;
     }
+    Ok(all)
 }

@@ -6,7 +6,8 @@ use Rattle.plsubst.specs.Unify.{unify}
 use Rattle.plcells.specs.Equations.{left_of, right_of}
 use Rattle.plcells.specs.Store.{value}
 use Rattle.plclause.specs.Indicators.{indicator}
-use Rattle.plbuiltin.specs.Solution.{Gives, writes, decides, unifies as unified_to}
+use Rattle.plgenerator.specs.Answers.{left}
+use Rattle.plbuiltin.specs.Solution.{Gives, against, writes, decides, unifies as unified_to}
 use Rattle.plbuiltin.specs.Terms.{is_none}
 use Rattle.plbuiltin.specs.Solutions.{solutions}
 use Rattle.plpredicates.specs.Answers.{meant}
@@ -16,7 +17,7 @@ use Rattle.plmachine.specs.declared.machine.Outcome.TheVariants as outcomes
 use Rattle.plmachine.specs.Machine.{local_of}
 use Rattle.plmachine.proofs.Lists.{holds-list, lengthened-grown, lengthened-same}
 use Rattle.plmachine.proofs.Moves.{went, gave, moved-as, on_ok_map}
-use Rattle.plmachine.proofs.Offers.{offer-writes, offer-succeeds, offer-sets, offer-fails, offer-unifies, offer-solves}
+use Rattle.plmachine.proofs.Offers.{offer-writes, offer-succeeds, offer-sets, offer-fails, offer-unifies, offer-solves, offer-many, many-map}
 use Rattle.plmachine.proofs.machine.Machine.built_in.Goals as goal
 
 pub returns-in-Raises-clause-ok : goal.returns-in-Raises-clause-ok
@@ -112,3 +113,49 @@ returns-in-Sets-clause-ok c t stands =
     let heap = c.heap-heap.ensures.is ∙ ap (λ e. e.heap) c.env.ensures in
     let is = ap (meant c.heap-heap.result.now s.settings n) (sym c.in-Sets.is) ∙ c.in_ok-error.ensures.is n ∙ ap₂ (λ h xs. solutions c.args.b (map (value h) xs) s.settings n) heap c.deref.ensures.value in
     moved-as c.args.program.now s c.set.new.self _ _ (offer-sets c.in-Sets.settings p es n (local_of s) ∙ ap (λ x. offer x p es n (local_of s)) is) c.set.ensures
+
+pub several-requires-clause-values : goal.several-requires-clause-values
+several-requires-clause-values c =
+    let heap = c.heap-heap.ensures.is ∙ ap (λ e. e.heap) c.env.ensures in
+    let there = rw (c.in-Several.is, heap) at c.in_ok-error.ensures.there in
+    rw c.deref-in-Several.ensures.value there.values
+
+pub several-requires-clause-few : goal.several-requires-clause-few
+several-requires-clause-few c =
+    let heap = c.heap-heap.ensures.is ∙ ap (λ e. e.heap) c.env.ensures in
+    let there = rw (c.in-Several.is, heap) at c.in_ok-error.ensures.there in
+    rw c.deref-in-Several.ensures.value there.few
+
+pub several-requires-clause-turn : goal.several-requires-clause-turn
+several-requires-clause-turn c =
+    let heap = c.heap-heap.ensures.is ∙ ap (λ e. e.heap) c.env.ensures in
+    let there = rw (c.in-Several.is, heap) at c.in_ok-error.ensures.there in
+    rw c.deref-in-Several.ensures.value there.is_turn
+
+pub returns-in-Several-clause-ok : goal.returns-in-Several-clause-ok
+returns-in-Several-clause-ok c t stands =
+    let s = c.args.self.now in
+    let n = s.stack.env.count in
+    let p = indicator t in
+    let es = goals_of s.stack c.args.rest in
+    let heap = c.heap-heap.ensures.is ∙ ap (λ e. e.heap) c.env.ensures in
+    let vs = c.in-Several.values.items in
+    let turn = c.in-Several.turn in
+    let there = rw (c.in-Several.is, heap) at c.in_ok-error.ensures.there in
+    let is = ap (λ h. Gives (left h vs turn) [] s.settings) (sym heap) ∙ ap (meant c.heap-heap.result.now s.settings n) (sym c.in-Several.is) ∙ c.in_ok-error.ensures.is n ∙ ap₂ (λ h xs. solutions c.args.b (map (value h) xs) s.settings n) heap c.deref.ensures.value in
+    on_ok_map c.several.result (moved-as c.args.program.now s c.several.new.self _ _ (offer-many (left s.stack.env.heap vs turn) there.many s.settings p es n (local_of s) refl ∙ ap (λ x. offer x p es n (local_of s)) is))
+    (rw c.deref-in-Several.ensures.value at c.several.ensures.ok)
+
+pub returns-in-Groups-clause-ok : goal.returns-in-Groups-clause-ok
+returns-in-Groups-clause-ok c t stands =
+    let s = c.args.self.now in
+    let n = s.stack.env.count in
+    let p = indicator t in
+    let es = goals_of s.stack c.args.rest in
+    let heap = c.heap-heap.ensures.is ∙ ap (λ e. e.heap) c.env.ensures in
+    let vs = c.in-Groups.values.items in
+    let ts = c.in-Groups.groups.items in
+    let there = rw (c.in-Groups.is, heap) at c.in_ok-error.ensures.there in
+    let is = ap (λ h. Gives (map (against (map (value h) vs)) ts) [] s.settings) (sym heap) ∙ ap (meant c.heap-heap.result.now s.settings n) (sym c.in-Groups.is) ∙ c.in_ok-error.ensures.is n ∙ ap₂ (λ h xs. solutions c.args.b (map (value h) xs) s.settings n) heap c.deref.ensures.value in
+    on_ok_map c.one_of.result (moved-as c.args.program.now s c.one_of.new.self _ _ (offer-many (map (against (map (value s.stack.env.heap) vs)) ts) (many-map _ ts there.many) s.settings p es n (local_of s) refl ∙ ap (λ x. offer x p es n (local_of s)) is))
+    (rw c.deref-in-Groups.ensures.value at c.one_of.ensures.ok)
