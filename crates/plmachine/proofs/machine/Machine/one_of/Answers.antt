@@ -1,4 +1,4 @@
-use Rattle.std.proofs.Common.{◌≡◌, List, ◌++◌, ap, ap₂, map, filter_map, length, refl, sym, ◌∙◌}
+use Rattle.std.proofs.Common.{◌≡◌, List, ◌++◌, ap, ap₂, map, filter_map, length, refl, sym, ◌∙◌, rules}
 use Rattle.std.proofs.lemmas.List.{length-map}
 use Rattle.plterm.specs.Tree.{Tree}
 use Rattle.plcells.specs.Store.{value}
@@ -26,7 +26,8 @@ returns-clause-ok c =
     let us : List Tree = map (value h) c.deref.result.now in
     let xs : List Tree = map (value s.stack.env.heap) c.args.values.items in
     let are : us ≡ xs ++ c.args.groups.now = ap (map (value h)) c.deref.ensures.value ∙ c.in_ok-values.ensures.are in
-    let many : c.len-arguments.result ≡ length xs = c.len-arguments.ensures ∙ sym (length-map c.args.values.items (value s.stack.env.heap)) in
+    let count : c.len-arguments.result ≡ length c.args.values.items = search rules in
+    let many : c.len-arguments.result ≡ length xs = count ∙ sym (length-map c.args.values.items (value s.stack.env.heap)) in
     let groups = groups-left us xs c.args.groups.now c.len-arguments.result are many in
     on_ok_map c.several.result (moved-grown c.args.program.now s t c.several.new.self _ _ g refl
     (ap₂ (λ gs n. choose (filter_map (solved gs n) (left h c.deref.result.now (Groups (record { arguments = c.len-arguments.result; passed = 0 })))) (local_of t)) (g.extends.lists c.args.rest c.requires.rest).1 g.count
