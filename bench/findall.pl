@@ -2,7 +2,7 @@
 number(X, _, X).
 number(N, High, X) :- N < High, M is N + 1, number(M, High, X).
 
-round(Last) :- findall(X, number(1, 100000, X), Xs), last(Xs, Last).
+round(Last) :- findall(X, number(1, 100000, X), Xs), final(Xs, Last).
 
-last([X], X) :- !.
-last([_|Xs], X) :- last(Xs, X).
+final([X], X) :- !.
+final([_|Xs], X) :- final(Xs, X).
