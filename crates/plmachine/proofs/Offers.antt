@@ -16,7 +16,7 @@ use Rattle.plsearch.specs.Types.{Fail, Kind, Commit, Never, Until, Collect, Look
 use Rattle.plsearch.specs.Lists.{bind_kind, bind_goals}
 use Rattle.plsearch.specs.Machines.Machine.{At}
 use Rattle.plsearch.specs.Rows.{go_on, choose, solved, taken, offer}
-use Rattle.plpredicates.specs.Answers.{IsMany}
+use Rattle.planswers.specs.Answers.{IsMany}
 use Rattle.pllinks.specs.declared.link.Continuation.{Continuation}
 use Rattle.plstack.specs.State.{State, IsList, cases_of, goals_of, Solves, Unifies}
 use Rattle.plstack.specs.StaticCalls.{statics_of}

@@ -1,11 +1,2 @@
-pub mod Roots
-pub mod Dividing
-pub mod Groups
-pub mod Cells
-pub mod Filling
-pub mod Numbered
 pub mod Arguments
-pub mod Spelled
-pub mod Forwarding
-pub mod Named
-pub mod Formatted
+pub mod Structures

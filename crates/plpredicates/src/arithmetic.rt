@@ -6,9 +6,9 @@ ghost use Rattle.plarith.specs.Evaluation.{eval as eval_of};
 ghost use Rattle.plprogram.specs.declared.settings.Settings.{Settings};
 ghost use Rattle.plbuiltin.specs.Solution.{Raises};
 ghost use Rattle.plbuiltin.specs.Arithmetic.{on_arithmetic, equals as equals_of, compared as compared_of, compares as compares_of};
-ghost use Rattle.plpredicates.specs.Answers.{IsThere, meant};
+ghost use Rattle.planswers.specs.Answers.{IsThere, meant};
 
-use crate::answer::Answer;
+use planswers::answer::Answer;
 use plarith::error::ArithError;
 use plarith::value::eval;
 use plcells::cell::Cell;

@@ -2,22 +2,22 @@
 ghost use Rattle.std.specs.Prelude.{◌≡◌, ℕ, IfOk, map};
 ghost use Rattle.plcells.specs.Store.{value, AreValues};
 ghost use Rattle.plbuiltin.specs.Solutions.{solutions};
-ghost use Rattle.plpredicates.specs.Answers.{IsThere, meant};
+ghost use Rattle.planswers.specs.Answers.{IsThere, meant};
 
-use crate::answer::Answer;
 use crate::arithmetic::arithmetic_answer;
-use crate::atoms::atoms_answer;
-use crate::flags::flags_answer;
 use crate::order::order_answer;
-use crate::output::output_answer;
 use crate::parts::parts_answer;
 use crate::sorting::sorting_answer;
 use crate::terms::terms_answer;
 use crate::tests::tests_answer;
+use planswers::answer::Answer;
 use plcells::cell::Cell;
 use plcells::heap::Heap;
 use plnames::kind::BuiltIn;
 use plprogram::settings::Settings;
+use pltexts::atoms::atoms_answer;
+use pltexts::flags::flags_answer;
+use pltexts::output::output_answer;
 use std::alloc::{AllocError, Global};
 
 /// What a call of a built-in predicate comes to, for the terms of the values of its arguments, under a thread's settings. The heap

@@ -6,11 +6,11 @@ ghost use Rattle.plcells.specs.Store.{Store, value, IsValue, AreValues};
 ghost use Rattle.plprogram.specs.declared.settings.Settings.{Settings};
 ghost use Rattle.plbuiltin.specs.Solution.{decides, unifies};
 ghost use Rattle.plbuiltin.specs.Order.{compare as compare_of, is_sign, on_order, sign, stand};
-ghost use Rattle.plpredicates.specs.Answers.{IsThere, meant};
+ghost use Rattle.planswers.specs.Answers.{IsThere, meant};
 
-use crate::answer::Answer;
-use crate::equation::is_term;
-use crate::error::{atom, outside, wrong_type};
+use planswers::answer::Answer;
+use planswers::equation::is_term;
+use planswers::error::{atom, outside, wrong_type};
 use plcells::cell::Cell;
 use plcells::heap::Heap;
 use plnames::kind::{Order, Relation};

@@ -6,13 +6,13 @@ ghost use Rattle.plcells.specs.Store.{term, terms, value, IsBlock, IsValue, AreV
 ghost use Rattle.plprogram.specs.declared.settings.Settings.{Settings};
 ghost use Rattle.plbuiltin.specs.Errors.{representation_error};
 ghost use Rattle.plbuiltin.specs.Parts.{on_parts, arg as arg_of, functor as functor_of, make as make_of, made as made_of, univ as univ_of, from_elements as from_elements_of, with_name as named_of, copy as copy_of, term_variables as term_variables_of};
-ghost use Rattle.plpredicates.specs.Answers.{IsThere, meant};
+ghost use Rattle.planswers.specs.Answers.{IsThere, meant};
 
-use crate::answer::Answer;
-use crate::build::compound_of_variables;
-use crate::equation::{are_values, is_list_of, solves};
-use crate::error::{self, outside, unbound, wrong_type};
-use crate::list::{Checked, whole_list};
+use planswers::answer::Answer;
+use planswers::build::compound_of_variables;
+use planswers::equation::{are_values, is_list_of, solves};
+use planswers::error::{self, outside, unbound, wrong_type};
+use planswers::list::{Checked, whole_list};
 use plcells::cell::Cell;
 use plcells::heap::Heap;
 use plnames::kind::Parts;

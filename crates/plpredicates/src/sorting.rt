@@ -5,12 +5,12 @@ ghost use Rattle.plcells.specs.Store.{term, value, IsBlock, IsValue, AreValues};
 ghost use Rattle.plprogram.specs.declared.settings.Settings.{Settings};
 ghost use Rattle.plbuiltin.specs.Lists.{Whole};
 ghost use Rattle.plbuiltin.specs.Sorting.{on_sorting, in_order as in_order_of, is_pair as is_pair_of, pair_fault as pair_fault_of, pairs_fault as pairs_fault_of};
-ghost use Rattle.plpredicates.specs.Answers.{IsThere, meant};
+ghost use Rattle.planswers.specs.Answers.{IsThere, meant};
 
-use crate::answer::Answer;
-use crate::equation::is_list_of;
-use crate::error::{instantiation_error, type_error};
-use crate::list::{Checked, whole_list};
+use planswers::answer::Answer;
+use planswers::equation::is_list_of;
+use planswers::error::{instantiation_error, type_error};
+use planswers::list::{Checked, whole_list};
 use plcells::cell::Cell;
 use plcells::heap::Heap;
 use plnames::kind::Sorting;

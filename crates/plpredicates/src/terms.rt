@@ -3,9 +3,9 @@ ghost use Rattle.std.specs.Prelude.{◌≡◌, ℕ, map};
 ghost use Rattle.plcells.specs.Store.{Store, value, AreValues};
 ghost use Rattle.plprogram.specs.declared.settings.Settings.{Settings};
 ghost use Rattle.plbuiltin.specs.Terms.{on_terms};
-ghost use Rattle.plpredicates.specs.Answers.{IsThere, meant};
+ghost use Rattle.planswers.specs.Answers.{IsThere, meant};
 
-use crate::answer::Answer;
+use planswers::answer::Answer;
 use plcells::cell::Cell;
 use plnames::kind::Terms;
 

@@ -3,10 +3,10 @@ ghost use Rattle.std.specs.Prelude.{◌≡◌, ℕ, map};
 ghost use Rattle.plcells.specs.Store.{value, IsValue, AreValues};
 ghost use Rattle.plprogram.specs.declared.settings.Settings.{Settings};
 ghost use Rattle.plbuiltin.specs.Tests.{on_tests, holds as holds_of, is_list as is_list_of};
-ghost use Rattle.plpredicates.specs.Answers.{IsThere, meant};
+ghost use Rattle.planswers.specs.Answers.{IsThere, meant};
 
-use crate::answer::Answer;
-use crate::list::{Tail, end_of};
+use planswers::answer::Answer;
+use planswers::list::{Tail, end_of};
 use plcells::cell::Cell;
 use plcells::heap::Heap;
 use plnames::kind::Tests;

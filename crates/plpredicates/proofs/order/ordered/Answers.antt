@@ -2,7 +2,7 @@ use Rattle.std.proofs.Common.{◌≡◌, ap, rules}
 use Rattle.plterm.specs.Tree.{atom}
 use Rattle.plcells.specs.Store.{value}
 use Rattle.plbuiltin.specs.Solution.{unifies}
-use Rattle.plpredicates.proofs.Forwarding.{forwarded}
+use Rattle.planswers.proofs.Forwarding.{forwarded}
 use Rattle.plterm.specs.Order.{order}
 use Rattle.plbuiltin.specs.Order.{sign}
 use Rattle.plpredicates.proofs.order.ordered.Goals as goal

@@ -4,11 +4,11 @@ use Rattle.plcells.specs.Equations.{filled}
 use Rattle.plcells.specs.Store.{value}
 use Rattle.plsubst.specs.Subst.{bind}
 use Rattle.plbuiltin.specs.Solution.{Gives}
-use Rattle.plpredicates.proofs.Forwarding.{forwarded}
+use Rattle.planswers.proofs.Forwarding.{forwarded}
 use Rattle.plterm.proofs.Belows.{AllBelow-copied}
 use Rattle.plbuiltin.specs.Parts.{copy}
-use Rattle.plpredicates.specs.Building.{solved_by, width}
-use Rattle.plpredicates.proofs.Filling.{bind-copied}
+use Rattle.planswers.specs.Building.{solved_by, width}
+use Rattle.planswers.proofs.Filling.{bind-copied}
 use Rattle.plpredicates.proofs.parts.copied.Goals as goal
 
 pub solves-requires : goal.solves-requires

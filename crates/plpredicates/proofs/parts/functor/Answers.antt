@@ -2,11 +2,11 @@ use Rattle.std.proofs.Common.{◌≡◌, pos, sym, ap₂, ◌∙◌, rules}
 use Rattle.plterm.specs.Tree.{int, atom}
 use Rattle.plcells.specs.Store.{value}
 use Rattle.plbuiltin.specs.Solution.{unifies}
-use Rattle.plpredicates.proofs.Forwarding.{forwarded}
+use Rattle.planswers.proofs.Forwarding.{forwarded}
 use Rattle.std.proofs.Common.{w32, to_z, of_z}
 use Rattle.platoms.specs.Names.{atom_at, functor_name}
 use Rattle.plbuiltin.specs.Parts.{both, functor}
-use Rattle.plpredicates.proofs.Forwarding.{functor-atomic, functor-compound}
+use Rattle.plpredicates.proofs.Structures.{functor-atomic, functor-compound}
 use Rattle.plpredicates.proofs.parts.functor.Goals as goal
 
 pub returns-in-Compound-clause-is : goal.returns-in-Compound-clause-is

@@ -5,11 +5,11 @@ use Rattle.plcells.specs.Equations.{filled}
 use Rattle.plcells.specs.Store.{value}
 use Rattle.plsubst.specs.Subst.{bind}
 use Rattle.plbuiltin.specs.Solution.{Gives}
-use Rattle.plpredicates.proofs.Forwarding.{forwarded}
+use Rattle.planswers.proofs.Forwarding.{forwarded}
 use Rattle.plbuiltin.specs.Parts.{made}
-use Rattle.plpredicates.specs.Building.{solved_by, width}
-use Rattle.plpredicates.proofs.Filling.{below-variables, bind-new}
-use Rattle.plpredicates.proofs.Forwarding.{made-some}
+use Rattle.planswers.specs.Building.{solved_by, width}
+use Rattle.planswers.proofs.Filling.{below-variables, bind-new}
+use Rattle.plpredicates.proofs.Structures.{made-some}
 use Rattle.plpredicates.proofs.parts.made.Goals as goal
 
 pub solves-requires : goal.solves-requires

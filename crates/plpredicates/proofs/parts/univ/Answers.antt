@@ -2,11 +2,11 @@ use Rattle.std.proofs.Common.{◌≡◌, suc, [], ◌∷◌, map, sym, ap, ◌�
 use Rattle.plterm.specs.Tree.{atom}
 use Rattle.plcells.specs.Store.{value, terms, AreValues}
 use Rattle.plbuiltin.specs.Solution.{unifies}
-use Rattle.plpredicates.proofs.Forwarding.{forwarded}
+use Rattle.planswers.proofs.Forwarding.{forwarded}
 use Rattle.platoms.specs.Names.{functor_name}
 use Rattle.plread.specs.Texts.{listed}
 use Rattle.plbuiltin.specs.Parts.{univ}
-use Rattle.plpredicates.proofs.Forwarding.{univ-atomic, univ-compound}
+use Rattle.plpredicates.proofs.Structures.{univ-atomic, univ-compound}
 use Rattle.plpredicates.proofs.parts.univ.Goals as goal
 
 pub returns-in_ok-items-in-Compound-clause-is : goal.returns-in_ok-items-in-Compound-clause-is

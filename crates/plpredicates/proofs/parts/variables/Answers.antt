@@ -3,7 +3,7 @@ use Rattle.plterm.specs.Tree.{var}
 use Rattle.plterm.specs.Variables.{variables}
 use Rattle.plcells.specs.Store.{value, AreValues}
 use Rattle.plbuiltin.specs.Solution.{unifies}
-use Rattle.plpredicates.proofs.Forwarding.{forwarded}
+use Rattle.planswers.proofs.Forwarding.{forwarded}
 use Rattle.plread.specs.Texts.{listed}
 use Rattle.plbuiltin.specs.Parts.{term_variables}
 use Rattle.plpredicates.proofs.parts.variables.Goals as goal

@@ -6,14 +6,14 @@ use Rattle.plcells.specs.Equations.{filled}
 use Rattle.plcells.specs.Store.{value}
 use Rattle.plsubst.specs.Subst.{bind}
 use Rattle.plbuiltin.specs.Solution.{unifies}
-use Rattle.plpredicates.proofs.Forwarding.{forwarded}
+use Rattle.planswers.proofs.Forwarding.{forwarded}
 use Rattle.std.proofs.lemmas.List.{length-map}
 use Rattle.platoms.specs.Names.{atom_at}
 use Rattle.plbuiltin.specs.Errors.{representation_error}
 use Rattle.plbuiltin.specs.Solution.{Raises}
 use Rattle.plbuiltin.specs.Parts.{with_name}
-use Rattle.plpredicates.specs.Building.{solved_by, width}
-use Rattle.plpredicates.proofs.Filling.{below-variables, bind-arguments, solved-as}
+use Rattle.planswers.specs.Building.{solved_by, width}
+use Rattle.planswers.proofs.Filling.{below-variables, bind-arguments, solved-as}
 use Rattle.plpredicates.proofs.parts.with_name.Goals as goal
 
 pub solves-requires : goal.solves-requires

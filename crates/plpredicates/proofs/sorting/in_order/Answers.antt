@@ -2,7 +2,7 @@ use Rattle.std.proofs.Common.{map, sym, ap, ◌∙◌, subst}
 use Rattle.plcells.specs.Store.{value, AreValues}
 use Rattle.plread.specs.Texts.{listed}
 use Rattle.plbuiltin.specs.Solution.{unifies}
-use Rattle.plpredicates.proofs.Forwarding.{forwarded}
+use Rattle.planswers.proofs.Forwarding.{forwarded}
 use Rattle.plbuiltin.specs.Lists.{Whole}
 use Rattle.plbuiltin.specs.Sorting.{in_order, keyed}
 use Rattle.plpredicates.proofs.sorting.in_order.Goals.{in-Once+in_ok-cells-in-Once, in-Each+in_ok-cells-in-Each, in-Keys+in_ok-error-in-Keys+in-None+in_ok-cells-in-None}

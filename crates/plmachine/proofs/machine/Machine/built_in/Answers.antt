@@ -10,7 +10,7 @@ use Rattle.plgenerator.specs.Answers.{left}
 use Rattle.plbuiltin.specs.Solution.{Gives, against, writes, decides, unifies as unified_to}
 use Rattle.plbuiltin.specs.Terms.{is_none}
 use Rattle.plbuiltin.specs.Solutions.{solutions}
-use Rattle.plpredicates.specs.Answers.{meant}
+use Rattle.planswers.specs.Answers.{meant}
 use Rattle.plsearch.specs.Rows.{offer}
 use Rattle.plstack.specs.State.{goals_of}
 use Rattle.plmachine.specs.declared.machine.Outcome.TheVariants as outcomes

@@ -1,5 +1,0 @@
-use Rattle.plpredicates.proofs.Forwarding.{equation-means}
-use Rattle.plpredicates.proofs.equation.solves.Goals as goal
-
-pub returns-clause-is : goal.returns-clause-is
-returns-clause-is c = λ h s n. equation-means h s n _ _ c.args.new c.in_ok-equation.equation (c.in_ok-equation.ensures.left h n) (c.in_ok-equation.ensures.right h n) c.in_ok-equation.ensures.new

@@ -1,5 +1,0 @@
-pub mod Answers
-pub mod Lists
-pub mod Building
-pub mod Flags
-pub mod Format

@@ -1,0 +1,5 @@
+pub mod Dividing
+pub mod Groups
+pub mod Named
+pub mod Formatted
+pub mod Numerals
