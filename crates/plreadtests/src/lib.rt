@@ -1,0 +1,15 @@
+//! Tests of the crates that read and write text, and of clauses and programs, from the public calls of each.
+#![tactic(auto)]
+
+#[cfg(test)]
+mod clauses;
+#[cfg(test)]
+mod made;
+#[cfg(test)]
+mod programs;
+#[cfg(test)]
+mod reading;
+#[cfg(test)]
+mod tokens;
+#[cfg(test)]
+mod writing;
