@@ -12,10 +12,10 @@ ghost use Rattle.plstack.specs.State.{goals_of, IsList};
 ghost use Rattle.plmachine.specs.Asking.{ended_with, IsNoInteger};
 ghost use Rattle.plmachine.specs.Machine.{local_of, Moved, Stays};
 
+use crate::error;
 use crate::machine::{Machine, Question, Then};
 use crate::predicate::Predicate;
 use crate::rows::is_variable;
-use planswers::error;
 use plcells::cell::Cell;
 use plcells::heap::Heap;
 use plclause::clause::Clause;

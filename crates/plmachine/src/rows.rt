@@ -11,10 +11,10 @@ ghost use Rattle.plstack.specs.Opening.{around_cases, branch_of, IsAround};
 ghost use Rattle.plmachine.specs.Lists.{at_level, elements_of, IsPart};
 ghost use Rattle.plmachine.specs.Machine.{depth_of, is_var, local_of, question_of, IsAskable, IsBegun, Moved, Stays};
 
+use crate::error;
+use crate::list::{at_level, failure, two_before, two_in_turn};
 use crate::machine::{Machine, Mode, Outcome, Question};
 use crate::predicate::Predicate;
-use planswers::error;
-use planswers::list::{at_level, failure, two_before, two_in_turn};
 use plcells::cell::Cell;
 use plcells::heap::Heap;
 use pllinks::item::{Item, MarkerKind};

@@ -16,10 +16,10 @@ ghost use Rattle.plmachine.specs.Predicates.{predicate_of, IsFew};
 ghost use Rattle.plmachine.specs.Running.{ready_as, IsReady, IsRunning, Readies};
 ghost use Rattle.plmachine.specs.Machine.{depth_of, local_of, Moved, Stays};
 
+use crate::error;
 use crate::machine::{Machine, Outcome};
 use crate::predicate::Predicate;
 use crate::rows::is_variable;
-use planswers::error;
 use plcells::cell::Cell;
 use plgoals::extend::Extended;
 use pllinks::item::{Item, MarkerKind};

@@ -8,9 +8,9 @@ ghost use Rattle.plstack.specs.State.{goals_of, IsList};
 ghost use Rattle.plmachine.specs.Machine.{depth_of, local_of, IsBegun, Moved, Stays};
 ghost use Rattle.plmachine.specs.Selected.{bound_at};
 
+use crate::list::branch;
 use crate::machine::{Machine, Mode};
 use crate::select::Source;
-use planswers::list::branch;
 use plcode::op::{Op, Step};
 use pllinks::item::Run;
 use pllinks::link::Continuation;
