@@ -1,8 +1,8 @@
 -- The equations of arguments with groups of terms, and the groups that are left.
-use Rattle.std.proofs.Common.{◌≡◌, ℕ, zero, suc, ◌+◌, ◌-◌, ◌<◌, ◌≤◌, List, [], ◌∷◌, ◌++◌, length, map, take, drop, drop-cons, get_or, refl, sym, ap, ap₂, ◌∙◌, arith, subst}
+use Rattle.std.proofs.Common.{◌≡◌, ℕ, zero, suc, ◌+◌, ◌-◌, ◌<◌, ◌≤◌, List, [], ◌∷◌, ◌++◌, length, map, take, drop, drop-cons, get_or, refl, sym, ap, ap₂, ◌∙◌, arith, subst, Option, Some, None, IfSome, IfNone}
 use Rattle.std.specs.Prelude.{codes, if◌then◌else◌}
 use Rattle.std.proofs.lemmas.Bool.{lt-ltb}
-use Rattle.std.proofs.lemmas.List.{length-map, take-map, drop-map}
+use Rattle.std.proofs.lemmas.List.{length-map, take-map, drop-map, drop_all}
 use Rattle.plterm.specs.Tree.{Tree, var, compound, trees}
 use Rattle.plterm.specs.Variables.{AllBelow, EachBelow}
 use Rattle.plsubst.specs.Subst.{bind}
@@ -14,8 +14,9 @@ use Rattle.plcells.proofs.Nodes.{bind-trees}
 use Rattle.plbuiltin.specs.Parts.{variables_from}
 use Rattle.plbuiltin.specs.Solution.{together, against}
 use Rattle.plgenerator.specs.declared.turn.Turn.TheVariants as turns
+use Rattle.plgenerator.specs.declared.turn.Turn.{Turn}
 use Rattle.plgenerator.specs.declared.turn.Groups.{Groups}
-use Rattle.plgenerator.specs.Answers.{left, IsTurn}
+use Rattle.plgenerator.specs.Answers.{left, left_if, IsTurn}
 use Rattle.plgenerator.proofs.Equations.{solved_as}
 
 -- one variable more
@@ -104,3 +105,26 @@ module _ (h : Store) (vs : List Cell) (g k : Groups) where
 
   pub next-groups : g.arguments + g.passed < length vs → k.arguments ≡ g.arguments → k.passed ≡ g.passed + 1 → 0 < g.arguments → g.arguments ≤ 1023 → IsTurn h vs (turns.Groups k)
   next-groups lt same more some few = (omega (arith, same, some), omega (arith, same, few), omega (arith, lt, same, more, length-map vs (value h)))
+
+  -- what is left behind a group, whether any is or not
+  module _ (o : Option Turn) (some : IfSome o (λ turn. turn ≡ turns.Groups k)) (none : IfNone o (length vs ≤ k.arguments + k.passed)) where
+    pub rest-left : left_if h vs o ≡ left h vs (turns.Groups k)
+    rest-left = go o some none
+      where
+        go : (q : Option Turn) → IfSome q (λ turn. turn ≡ turns.Groups k) → IfNone q (length vs ≤ k.arguments + k.passed) → left_if h vs q ≡ left h vs (turns.Groups k)
+        go None i le = sym (ap (map (against (take k.arguments (map (value h) vs)))) (drop_all (k.arguments + k.passed) (map (value h) vs) (omega (arith, le, length-map vs (value h)))))
+        go (Some turn) e n = ap (left h vs) e
+
+    pub rest-turn : IsTurn h vs (turns.Groups k) → IfSome o (IsTurn h vs)
+    rest-turn is = go o some
+      where
+        go : (q : Option Turn) → IfSome q (λ turn. turn ≡ turns.Groups k) → IfSome q (IsTurn h vs)
+        go None i = tt
+        go (Some turn) e = subst (IsTurn h vs) (sym e) is
+
+    pub rest-fewer : (n : ℕ) → length (left h vs (turns.Groups k)) < n → IfSome o (λ rest. length (left h vs rest) < n)
+    rest-fewer n less = go o some
+      where
+        go : (q : Option Turn) → IfSome q (λ turn. turn ≡ turns.Groups k) → IfSome q (λ rest. length (left h vs rest) < n)
+        go None i = tt
+        go (Some turn) e = subst (λ rest. length (left h vs rest) < n) (sym e) less

@@ -46,6 +46,17 @@ fn group_equation(alloc: Global, args: &[Cell], group: Cell) -> Result<Equation,
     })
 }
 
+/// The groups from one on, among so many values, if there are any.
+fn groups_from(arguments: u16, passed: u32, count: usize) -> Option<Turn>
+    ensures some { IfSome result (λ turn. turn ≡ Turn.Groups (record { arguments = arguments; passed = passed })) }
+    ensures none { IfNone result (count ≤ arguments + passed) }
+{
+    if arguments as usize + passed as usize >= count {
+        return None;
+    }
+    Some(Turn::Groups(Groups { arguments, passed }))
+}
+
 /// The next answer of a call whose arguments are unified with one group of terms after another.
 pub(crate) fn next_group(
     alloc: Global,
@@ -67,9 +78,6 @@ pub(crate) fn next_group(
         return Err(AllocError);
     };
     let equation = group_equation(alloc, &values[..arguments], values[place])?;
-    let rest = Some(Turn::Groups(Groups {
-        arguments: groups.arguments,
-        passed,
-    }));
+    let rest = groups_from(groups.arguments, passed, values.len());
     Ok(Some(Found { equation, rest }))
 }
