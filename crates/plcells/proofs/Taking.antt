@@ -1,10 +1,12 @@
 -- What is out and what is left on the stack, together, while the nodes of a term are taken.
-use Rattle.std.proofs.Common.{◌≡◌, ℕ, zero, suc, ◌+◌, ◌<◌, ◌≤◌, List, [], ◌∷◌, ◌++◌, length, length-append, length-drop, map, reverse, refl, sym, ap, ap₂, ◌∙◌, subst, arith, append_assoc, append-nil}
+use Rattle.std.proofs.Common.{◌≡◌, ℕ, zero, suc, ◌+◌, ◌<◌, ◌≤◌, List, [], ◌∷◌, ◌++◌, length, length-append, map, reverse, refl, sym, ap, ap₂, ◌∙◌, subst, arith, append_assoc, append-nil}
 use Rattle.std.proofs.lemmas.List.{reverse-append, map-append, take_at, drop_at}
 use Rattle.plterm.specs.Tree.{Tree, compound, trees}
 use Rattle.plterm.specs.declared.node.Node.{Node}
-use Rattle.plterm.specs.declared.node.Node.TheVariants.{Var, Int, Atom, Compound}
-use Rattle.plterm.specs.Reading.{read, reading, arity, IsName, IsForest, IsTerm, Fits as FitsNode}
+use Rattle.plterm.specs.declared.node.Node.TheVariants.{Compound}
+use Rattle.std.specs.List.{flat_map}
+use Rattle.plterm.specs.Reading.{read, reading, arity, spelling, AllFit, IsName, IsForest, Fits as FitsNode}
+use Rattle.plterm.proofs.Spellings.{spelling-read}
 use Rattle.platoms.specs.Names.{functor_at, functor_name}
 use Rattle.plcells.specs.Store.{Store, at, term, terms, spread, IsHead, IsHeap, IsBlock}
 use Rattle.plcells.specs.Walking.{run, weight, weights, AreArguments, IsTaken}
@@ -24,10 +26,6 @@ run-more items old a i k e =
     ap (λ xs. xs ++ (a + i) ∷ []) e
     ∙ append_assoc old (run (a + suc i) k) ((a + i) ∷ [])
     ∙ ap (λ m. old ++ (run m k ++ (a + i) ∷ [])) (omega arith)
-
--- whatever spells these terms spells, behind what is out, the whole term
-abbrev pub Leads : List Node → List Tree → Tree → Type 0
-Leads out left t = (rest : List Node) (ts : List Tree) → reading rest ≡ left ++ ts → reading (out ++ rest) ≡ t ∷ ts
 
 -- whatever is a forest with so many terms is one behind what is out
 abbrev pub Plants : List Node → ℕ → Type 0
@@ -54,12 +52,6 @@ spread-length : (w : ℕ → Tree) (k c : ℕ) → length (spread w c k) ≡ k
 spread-length w zero c = refl
 spread-length w (suc k) c = ap suc (spread-length w k (suc c))
 
-room-read : (n : Node) (ts : List Tree) → arity n ≤ length ts → length (read n ts) + arity n ≡ suc (length ts)
-room-read (Var x) ts le = omega arith
-room-read (Int i) ts le = omega arith
-room-read (Atom s) ts le = omega arith
-room-read (Compound s k) ts le = omega (arith, le, length-drop k ts)
-
 arguments-append : (h : Store) (xs ys : List ℕ) → AreArguments h xs → AreArguments h ys → AreArguments h (xs ++ ys)
 arguments-append h [] ys p q = q
 arguments-append h (x ∷ xs) ys p q = (p.0, arguments-append h xs ys p.1 q)
@@ -82,24 +74,20 @@ weigh-popped h stack rest d e = ap (λ ts. weights (trees ts)) (left-popped h st
 
 -- a term's node was taken
 module _ (h : Store) (before after : List Node) (left now : List ℕ) (t : Tree) (is : IsTaken h before after left now t) where
-  pub leads-taken : (u : Tree) → Leads before (t ∷ left_terms h left) u → Leads after (left_terms h now) u
-  leads-taken u l rest ts e =
-      ap (λ ns. reading (ns ++ rest)) is.nodes
-      ∙ ap reading (append_assoc before (is.node ∷ []) rest)
-      ∙ l (is.node ∷ rest) ts
-      (ap (read is.node) (e ∙ ap (λ us. us ++ ts) (ap (left_terms h) is.stack ∙ left-run h left is.count is.first) ∙ append_assoc (terms h is.first is.count) (left_terms h left) ts)
-      ∙ is.reads (left_terms h left ++ ts))
+  -- the nodes of what was left before it
+  spelled-taken : flat_map spelling (t ∷ left_terms h left) ≡ is.node ∷ flat_map spelling (left_terms h now)
+  spelled-taken =
+      let us : List Tree = terms h is.first is.count ++ left_terms h left in
+      let room : arity is.node ≤ length us = omega (arith, is.arity, spread-length (term h) is.count is.first, length-append (terms h is.first is.count) (left_terms h left)) in
+      ap (flat_map spelling) (sym (is.reads (left_terms h left))) ∙ spelling-read is.node us room
+      ∙ ap (λ (vs : List Tree). is.node ∷ flat_map spelling vs) (sym (ap (left_terms h) is.stack ∙ left-run h left is.count is.first))
 
-  now_length : length now ≡ length left + is.count
-  now_length = ap length is.stack ∙ length-append left (run is.first is.count) ∙ ap (λ k. length left + k) (run-length is.count is.first)
+  pub nodes-taken : after ++ flat_map spelling (left_terms h now) ≡ before ++ flat_map spelling (t ∷ left_terms h left)
+  nodes-taken =
+      ap (λ ns. ns ++ flat_map spelling (left_terms h now)) is.nodes ∙ append_assoc before (is.node ∷ []) (flat_map spelling (left_terms h now)) ∙ ap (λ ns. before ++ ns) (sym spelled-taken)
 
-  pub plants-taken : Plants before (suc (length left)) → Plants after (length now)
-  plants-taken p rest forest le =
-      let room : length left + is.count ≤ length (reading rest) = omega (arith, le, now_length) in
-      let some : arity is.node ≤ length (reading rest) = omega (arith, room, is.arity) in
-      subst (λ ns. IsForest (ns ++ rest)) (sym is.nodes)
-      (subst IsForest (sym (append_assoc before (is.node ∷ []) rest))
-      (p (is.node ∷ rest) (is.fits, some, forest) (omega (arith, room, is.arity, room-read is.node (reading rest) some))))
+  pub fit-taken : AllFit (flat_map spelling (left_terms h now)) → AllFit (flat_map spelling (t ∷ left_terms h left))
+  fit-taken f = subst AllFit (sym spelled-taken) (is.fits, f)
 
   pub arguments-taken : AreArguments h left → AreArguments h now
   arguments-taken are = subst (AreArguments h) (sym is.stack) (arguments-append h left (run is.first is.count) are (arguments-run h is.count is.first is.arguments))
@@ -107,12 +95,6 @@ module _ (h : Store) (before after : List Node) (left now : List ℕ) (t : Tree)
   pub weigh-taken : weigh_left h now < weight t + weigh_left h left
   unfolding weight
   weigh-taken = omega (arith, is.lighter, ap (λ us. weights (trees us)) (ap (left_terms h) is.stack ∙ left-run h left is.count is.first), weights-append (terms h is.first is.count) (left_terms h left))
-
-pub leads-end : (out : List Node) (t : Tree) → Leads out [] t → reading out ≡ t ∷ []
-leads-end out t l = ap reading (sym (append-nil out)) ∙ l [] [] refl
-
-pub term-end : (out : List Node) (t : Tree) → Leads out [] t → Plants out 0 → IsTerm out
-term-end out t l p = record { forest = subst IsForest (append-nil out) (p [] tt (omega arith)); one = ap length (leads-end out t l) }
 
 -- a term without arguments
 pub taken-leaf : (h : Store) (before after : List Node) (left : List ℕ) (t : Tree) (n : Node) → after ≡ before ++ n ∷ [] → FitsNode n → arity n ≡ 0 → ((ts : List Tree) → read n ts ≡ t ∷ ts) → IsTaken h before after left left t

@@ -83,10 +83,10 @@ impl Heap {
         Ok(())
     }
 
-    /// A value for a term that is given in prefix order from its end.
-    fn put_nodes(
+    /// A value for a term that is given in prefix order from its end. What the stack held is gone.
+    fn put_all(
         &mut self,
-        alloc: Global,
+        stack: &mut Vec<Argument>,
         nodes: &[Node],
         values: &[Cell],
     ) -> Result<Cell, AllocError>
@@ -96,14 +96,43 @@ impl Heap {
         ensures ok { IfOk result (λ v. PutsTerm self.old self.new v (bind (standing self.old values.now) (tree_of (reverse nodes.now)))) }
         ensures keeps { Keeps self.old self.new }
     {
-        let mut stack = Vec::new(alloc);
+        stack.clear();
         for node in nodes {
-            self.put_node(&mut stack, node, values)?;
+            self.put_node(stack, node, values)?;
         }
         let Some(Argument::Value(v)) = stack.pop() else {
             unreachable!()
         };
         Ok(v)
+    }
+
+    /// Puts a term that is given in prefix order from its end, whose variable x is what value number x stands for: its value. What the stack
+    /// held is gone. After an `Err` there may be more names, and nothing else.
+    pub fn put_nodes(
+        &mut self,
+        stack: &mut Vec<Argument>,
+        nodes: &[Node],
+        values: &[Cell],
+    ) -> Result<Cell, AllocError>
+        requires term { IsTerm (reverse nodes.now) }
+        requires below { AllBelow (length values.now) (tree_of (reverse nodes.now)) }
+        requires values { AreValues self.old values.now }
+        ensures ok { IfOk result (λ v. PutsTerm self.old self.new v (bind (standing self.old values.now) (tree_of (reverse nodes.now)))) }
+        ensures preserves { Preserves self.old self.new }
+        ensures err { OnErr result (self.new ≡ renamed self.old self.new.names) }
+    {
+        let boundary = self.boundary();
+        let mark = self.mark();
+        match self.put_all(stack, nodes, values) {
+            Ok(v) => {
+                self.forget(boundary);
+                Ok(v)
+            }
+            Err(e) => {
+                self.cut_back(mark, boundary);
+                Err(e)
+            }
+        }
     }
 
     /// Puts a term, whose variable x is what value number x stands for: its value. After an `Err` there may be more names, and nothing else.
@@ -114,17 +143,7 @@ impl Heap {
         ensures preserves { Preserves self.old self.new }
         ensures err { OnErr result (self.new ≡ renamed self.old self.new.names) }
     {
-        let boundary = self.boundary();
-        let mark = self.mark();
-        match self.put_nodes(alloc, term.nodes(), values) {
-            Ok(v) => {
-                self.forget(boundary);
-                Ok(v)
-            }
-            Err(e) => {
-                self.cut_back(mark, boundary);
-                Err(e)
-            }
-        }
+        let mut stack = Vec::new(alloc);
+        self.put_nodes(&mut stack, term.nodes(), values)
     }
 }

@@ -1,6 +1,7 @@
 //! Terms taken off a heap.
 
 ghost use Rattle.std.specs.Prelude.{◌≡◌, ◌+◌, ◌<◌, ◌^◌, ◌++◌, length, IfOk, OnOk};
+ghost use Rattle.plterm.specs.Reading.{spelling, AllFit};
 ghost use Rattle.plcells.specs.Store.{IsValue, value};
 ghost use Rattle.plcells.specs.Walking.{run, IsTaken};
 
@@ -52,6 +53,26 @@ fn take_value(
 }
 
 impl Heap {
+    /// Puts the nodes of a value's term behind others, in prefix order, its variables by their numbers. Parts that are shared on the heap are
+    /// written out each time. What the stack held is gone.
+    pub fn take_nodes(
+        &self,
+        nodes: &mut Vec<Node>,
+        stack: &mut Vec<u32>,
+        v: Cell,
+    ) -> Result<(), AllocError>
+        requires { IsValue self.now v }
+        ensures nodes { OnOk result (nodes.new.items ≡ nodes.old.items ++ spelling (value self.now v)) }
+        ensures fit { OnOk result (AllFit (spelling (value self.now v))) }
+    {
+        stack.clear();
+        take_value(self, nodes, stack, v)?;
+        while let Some(c) = stack.pop() {
+            take_value(self, nodes, stack, self.argument(c))?;
+        }
+        Ok(())
+    }
+
     /// The term of a value, its variables by their numbers. Parts that are shared on the heap are written out each time.
     pub fn take(&self, alloc: Global, v: Cell) -> Result<Term, AllocError>
         requires { IsValue self.now v }
@@ -59,10 +80,7 @@ impl Heap {
     {
         let mut nodes = Vec::new(alloc);
         let mut stack = Vec::new(alloc);
-        take_value(self, &mut nodes, &mut stack, v)?;
-        while let Some(c) = stack.pop() {
-            take_value(self, &mut nodes, &mut stack, self.argument(c))?;
-        }
+        self.take_nodes(&mut nodes, &mut stack, v)?;
         Ok(Term::from_prefix(nodes))
     }
 }

@@ -4,19 +4,19 @@ use Rattle.std.specs.Prelude.{filter, nat_lt, nat_le}
 use Rattle.std.proofs.lemmas.Bool.Decides.{nat_tests}
 use Rattle.std.proofs.lemmas.List.{take_all, length-drop}
 use Rattle.std.specs.List.Sorted.{IsPartitionPoint}
-use Rattle.plsearch.specs.Types.{Kept}
+use Rattle.plcollect.specs.declared.collection.Held.{Held}
 
-module _ (p : Kept → Bool) where
-  abbrev Parts : List Kept → ℕ → Type 0
+module _ (p : Held → Bool) where
+  abbrev Parts : List Held → ℕ → Type 0
   Parts ks i = IsPartitionPoint (λ k. p k ≡ true) (λ k. p k ≡ false) ks i
 
-  behind : (k : Kept) (ks : List Kept) → Parts (k ∷ ks) 0 → Parts ks 0
+  behind : (k : Held) (ks : List Held) → Parts (k ∷ ks) 0 → Parts ks 0
   behind k ks point = ((λ i d low high. absurd (omega arith)), λ i d low high. point.1 (suc i) d (omega arith) (omega arith))
 
-  after : (k : Kept) (ks : List Kept) (i : ℕ) → Parts (k ∷ ks) (suc i) → Parts ks i
+  after : (k : Held) (ks : List Held) (i : ℕ) → Parts (k ∷ ks) (suc i) → Parts ks i
   after k ks i point = ((λ j d low high. point.0 (suc j) d (omega arith) (omega arith)), λ j d low high. point.1 (suc j) d (omega arith) (omega arith))
 
-  pub before : (ks : List Kept) (i : ℕ) → i ≤ length ks → Parts ks i → filter p ks ≡ take i ks
+  pub before : (ks : List Held) (i : ℕ) → i ≤ length ks → Parts ks i → filter p ks ≡ take i ks
   before [] zero le point = refl
   before [] (suc i) le point = refl
   before (k ∷ ks) zero le point =
@@ -24,8 +24,8 @@ module _ (p : Kept → Bool) where
   before (k ∷ ks) (suc i) le point =
       ap (λ b. cond b (k ∷ filter p ks) (filter p ks)) (point.0 0 k (omega arith) (omega arith)) ∙ ap (λ xs. k ∷ xs) (before ks i (omega arith) (after k ks i point))
 
-  module _ (q : Kept → Bool) (no : (k : Kept) → p k ≡ true → q k ≡ false) (yes : (k : Kept) → p k ≡ false → q k ≡ true) where
-    pub rest : (ks : List Kept) (i : ℕ) → i ≤ length ks → Parts ks i → filter q ks ≡ drop i ks
+  module _ (q : Held → Bool) (no : (k : Held) → p k ≡ true → q k ≡ false) (yes : (k : Held) → p k ≡ false → q k ≡ true) where
+    pub rest : (ks : List Held) (i : ℕ) → i ≤ length ks → Parts ks i → filter q ks ≡ drop i ks
     rest [] zero le point = refl
     rest [] (suc i) le point = refl
     rest (k ∷ ks) zero le point =

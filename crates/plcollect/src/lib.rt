@@ -2,3 +2,6 @@
 #![tactic(auto)]
 
 pub mod collection;
+pub mod copy;
+pub mod list;
+mod seen;

@@ -1,7 +1,5 @@
 -- Equations that are put and solved.
-use Rattle.std.proofs.Common.{◌≡◌, ℕ, ◌+◌, ◌-◌, ◌<◌, ◌≤◌, List, [], ◌∷◌, ◌++◌, length, length-append, refl, sym, ap, ap₂, ◌∙◌, subst, arith, inl, inr, true, false, Bool, None}
-use Rattle.std.specs.Prelude.{Result as Outcomes, Ok, Err, IfOk, OnErr}
-use Rattle.std.specs.declared.alloc.AllocError.{AllocError}
+use Rattle.std.proofs.Common.{◌≡◌, ℕ, ◌+◌, ◌-◌, ◌<◌, ◌≤◌, List, [], ◌∷◌, ◌++◌, length, length-append, refl, sym, ap, ap₂, ◌∙◌, arith, inl, inr, None}
 use Rattle.std.proofs.lemmas.Bool.{cases_lt, cond_below, cond_above}
 use Rattle.std.proofs.lemmas.List.{get_or_append_left, get_or-append_right}
 use Rattle.plterm.specs.Tree.{Tree, var}
@@ -12,21 +10,21 @@ use Rattle.platoms.proofs.Extending.{Extends-refl}
 use Rattle.plcells.specs.declared.cell.Cell.{Cell}
 use Rattle.plcells.specs.declared.cell.Cell.TheVariants.{Atom}
 use Rattle.plcells.specs.declared.equation.Equation.{Equation}
-use Rattle.plcells.specs.Store.{Store, at, AreValues, IsValue, value, bounded_by}
+use Rattle.plcells.specs.Store.{Store, at, AreValues, value, bounded_by}
 use Rattle.plcells.specs.Equations.{filled, left_of, right_of, IsEquation}
 use Rattle.plcells.specs.Putting.{standing}
 use Rattle.plcells.proofs.Given.{value-in}
 use Rattle.plcells.proofs.Nodes.{bind-agree}
 use Rattle.plcells.proofs.Committing.{value-noted}
 use Rattle.plenv.specs.declared.slot.Mark.{Mark}
-use Rattle.plenv.specs.Env.{Env, IsEnv, IsSlot, IsWithin, slot_at, variable, cut}
+use Rattle.plenv.specs.Env.{Env, IsEnv, IsSlot, IsWithin, slot_at, cut}
 use Rattle.plcells.specs.Store.{cut as cut_heap}
 use Rattle.plenv.specs.declared.slot.Slot.{Slot}
 use Rattle.plenv.specs.declared.slot.Slot.TheVariants.{Free, Set}
-use Rattle.plenv.specs.Changes.{bounded, Extends, Keeps, Puts, PutsVariables, Substitutes, Unifies, Stays}
+use Rattle.plenv.specs.Changes.{bounded, Extends, Keeps, Puts, PutsVariables, Unifies}
 use Rattle.plenv.specs.Solving.{counted, Solves}
 use Rattle.plenv.proofs.Bounding.{variable-bounded}
-use Rattle.plenv.proofs.Keeping.{Keeps-trans, Keeps-refl}
+use Rattle.plenv.proofs.Keeping.{Keeps-trans}
 use Rattle.plenv.proofs.Marking.{keeps_under}
 use Rattle.plenv.proofs.Putting.{Extends-trans}
 use Rattle.plenv.proofs.Terms.{all_still}

@@ -1,5 +1,6 @@
 //! The heap and the slots of clauses.
-ghost use Rattle.std.specs.Prelude.{◌≡◌, ℕ, ◌+◌, ◌<◌, ◌≤◌, ◌^◌, [], ◌++◌, length, take, drop, None, true, false, IfOk, OnOk, OnErr};
+ghost use Rattle.std.specs.Prelude.{◌≡◌, ℕ, ◌+◌, ◌<◌, ◌≤◌, ◌^◌, [], ◌++◌, length, reverse, take, drop, None, true, false, IfOk, OnOk, OnErr};
+ghost use Rattle.plterm.specs.Reading.{tree_of, IsTerm};
 ghost use Rattle.plterm.specs.Variables.{AllBelow};
 ghost use Rattle.plsubst.specs.Subst.{bind, put, shift};
 ghost use Rattle.plsubst.specs.Unify.{unify as unifier_of};
@@ -15,6 +16,7 @@ use platoms::names::Names;
 use plbind::unify::{self, Scratch};
 use plcells::cell::{Argument, Cell};
 use plcells::heap::Heap;
+use plterm::node::Node;
 use plterm::term::Term;
 use std::alloc::{AllocError, Global};
 use std::marker::Model;
@@ -405,6 +407,23 @@ impl Environment {
         ensures err { OnErr result (Stays self.old self.new) }
     {
         self.heap.put(alloc, term, values)
+    }
+
+    /// Puts a term that is given by its nodes in prefix order from the end, whose variable x is what value number x stands for: its value. What
+    /// the stack held is gone.
+    pub fn put_nodes(
+        &mut self,
+        stack: &mut Vec<Argument>,
+        nodes: &[Node],
+        values: &[Cell],
+    ) -> Result<Cell, AllocError>
+        requires term { IsTerm (reverse nodes.now) }
+        requires below { AllBelow (length values.now) (tree_of (reverse nodes.now)) }
+        requires values { AreValues self.old.heap values.now }
+        ensures ok { IfOk result (λ v. Puts self.old self.new v (bind (standing self.old.heap values.now) (tree_of (reverse nodes.now)))) }
+        ensures err { OnErr result (Stays self.old self.new) }
+    {
+        self.heap.put_nodes(stack, nodes, values)
     }
 
     /// Puts a term with variables below a count, which are new. After an `Err` the variables may stay.

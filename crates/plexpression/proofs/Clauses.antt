@@ -2,15 +2,15 @@
 use Rattle.std.proofs.Common.{◌≡◌, ℕ, zero, suc, ◌+◌, ◌<◌, ◌≤◌, List, [], ◌∷◌, length, refl, sym, ap, ap₂, ◌∙◌, subst, arith, inl, inr, ℤ, Ok}
 use Rattle.std.proofs.lemmas.Bool.{cases_lt}
 use Rattle.std.proofs.lemmas.List.Elements.{All-nil, All-cons, All-head, All-tail}
-use Rattle.plterm.specs.Tree.{Tree, Trees, compound, none, more, trees, list_of, trees-list_of, list_of-trees}
+use Rattle.plterm.specs.Tree.{Tree, Trees, var, int, atom, compound, none, more, trees, list_of, trees-list_of, list_of-trees}
 use Rattle.plterm.specs.Variables.{AllBelow, EachBelow}
 use Rattle.plsubst.specs.Subst.{bind, bind_all}
-use Rattle.platoms.specs.Names.{Table, functor_name}
+use Rattle.platoms.specs.Names.{Table, functor_arity, functor_name}
 use Rattle.plcells.specs.Store.{spread}
 use Rattle.plcode.specs.declared.node.Node.{Node}
 use Rattle.plcode.specs.declared.node.Node.TheVariants as node
 use Rattle.plcode.specs.Nodes.{IsNamed, values, value as node_value, tree as value_tree}
-use Rattle.plcode.specs.Packed.{node_at}
+use Rattle.plcode.specs.Packed.{node_at, IsArgument}
 use Rattle.plenv.specs.Env.{Env, over, variable}
 use Rattle.platoms.specs.Names.{atom_at}
 use Rattle.plenv.specs.Rows.{tree_at}
@@ -23,7 +23,7 @@ use Rattle.plarith.specs.Evaluation.{not_evaluable}
 use Rattle.plarith.specs.Operands.{Opens}
 use Rattle.plarith.specs.Values.{IsOperand as IsHeapOperand, tree as heap_tree}
 use Rattle.plarith.proofs.Opening.{opens_integer, opens_atom, opens_one, opens_two, opens_many}
-use Rattle.plexpression.specs.Nodes.{IsNode, IsOperand, tree, seen_block}
+use Rattle.plexpression.specs.Nodes.{IsNode, IsOperand, IsPair, tree, seen_block}
 
 length-bind_all : (σ : ℕ → Tree) (ts : Trees) → length (list_of (bind_all σ ts)) ≡ length (list_of ts)
 unfolding bind
@@ -114,14 +114,58 @@ module _ (e : Env) (nodes : List Node) (base : ℕ) where
       opens_many (tree e nodes base) (IsOperand e nodes base) t name (list_of bound) (suc (suc (suc k))) (is ∙ ap (compound name) (sym (trees-list_of bound)))
       (length-bind_all (over e base) (trees us) ∙ ap length (list_of-trees us) ∙ length-spread (tree_at e.heap.names nodes) (suc (suc (suc k))) (suc root)) (λ h. omega arith) (λ h. omega arith)
 
-  pub opens_compound : (at root : ℕ) → IsNode e nodes base at → (c : IsCompoundAt e.heap.names nodes root (tree_at e.heap.names nodes at)) →
-      Opens (tree e nodes base) (IsOperand e nodes base) (tree e nodes base (operands.Node at)) (seen_block (functor_name e.heap.names c.functor) c.arity root)
-  opens_compound at root is c =
+  -- the arguments of a compound
+  pub argument_there : (at root : ℕ) → IsNode e nodes base at → (c : IsCompoundAt e.heap.names nodes root (tree_at e.heap.names nodes at)) → (j : ℕ) → root < j → j ≤ root + c.arity → IsNode e nodes base j
+  argument_there at root is c j above within =
       let below = subst (AllBelow is.covers.width) c.is is.covers.below in
-      by_arity root c.arity (functor_name e.heap.names c.functor) (tree e nodes base (operands.Node at)) (ap (bind (over e base)) c.is)
-      (λ j above within. record {
+      record {
         laid = is.laid;
         within = omega (arith, within, c.within);
         whole = c.whole j above within;
-        covers = record { width = is.covers.width; below = each_below (tree_at e.heap.names nodes) c.arity (suc root) is.covers.width below j (omega arith) (omega arith); within = is.covers.within };
-      })
+        covers = record { width = is.covers.width; below = each_below (tree_at e.heap.names nodes) c.arity (suc root) is.covers.width below j (omega (arith, above)) (omega (arith, within)); within = is.covers.within };
+      }
+
+  pub opens_compound : (at root : ℕ) → IsNode e nodes base at → (c : IsCompoundAt e.heap.names nodes root (tree_at e.heap.names nodes at)) →
+      Opens (tree e nodes base) (IsOperand e nodes base) (tree e nodes base (operands.Node at)) (seen_block (functor_name e.heap.names c.functor) c.arity root)
+  opens_compound at root is c = by_arity root c.arity (functor_name e.heap.names c.functor) (tree e nodes base (operands.Node at)) (ap (bind (over e base)) c.is) (argument_there at root is c)
+
+  -- a compound of two arguments, by its block
+  pub pair_there : (at from root f : ℕ) → IsNode e nodes base at → node_at nodes at ≡ node.Sub from root → node_at nodes root ≡ node.Fun f 2 → IsPair e nodes base at (record { functor = f; left = root + 1; right = root + 2 })
+  pair_there at from root f is here head =
+      let c = compound_there at from root is here in
+      let same : node.Fun c.functor c.arity ≡ node.Fun f 2 = sym c.head ∙ head in
+      let functor_is : c.functor ≡ f = cc in
+      let two : c.arity ≡ 2 = cc in
+      let w = tree_at e.heap.names nodes in
+      record {
+        left = argument_there at root is c (root + 1) (omega arith) (omega (arith, two));
+        right = argument_there at root is c (root + 2) (omega arith) (omega (arith, two));
+        known = omega (arith, functor_is, c.known);
+        arity = ap (functor_arity e.heap.names) (sym functor_is) ∙ c.arity_is ∙ two;
+        is =
+            c.is
+            ∙ ap₂ (λ g k. compound (functor_name e.heap.names g) (trees (spread w (suc root) k))) functor_is two
+            ∙ ap₂ (λ i j. compound (functor_name e.heap.names f) (trees (w i ∷ w j ∷ []))) (next root) (after_next root);
+      }
+
+  -- a compound of another number of arguments
+  pub pair_none : (at from root : ℕ) → IsNode e nodes base at → node_at nodes at ≡ node.Sub from root → ((f : ℕ) → node_at nodes root ≡ node.Fun f 2 → ⊥) → (f : List ℕ) (t u : Tree) →
+      tree_at e.heap.names nodes at ≡ compound f (trees (t ∷ u ∷ [])) → ⊥
+  pair_none at from root is here other f t u e2 =
+      let c = compound_there at from root is here in
+      let us = spread (tree_at e.heap.names nodes) (suc root) c.arity in
+      let same : compound (functor_name e.heap.names c.functor) (trees us) ≡ compound f (trees (t ∷ u ∷ [])) = sym c.is ∙ e2 in
+      let args : trees us ≡ trees (t ∷ u ∷ []) = cc in
+      let two : c.arity ≡ 2 = sym (length-spread (tree_at e.heap.names nodes) c.arity (suc root)) ∙ ap length (sym (list_of-trees us)) ∙ ap (λ ts. length (list_of ts)) args in
+      other c.functor (c.head ∙ ap (node.Fun c.functor) two)
+
+  -- a node that is no compound
+  pub leaf_none : (at : ℕ) → IsNode e nodes base at → ((from root : ℕ) → node_at nodes at ≡ node.Sub from root → ⊥) → (f : List ℕ) (t u : Tree) → tree_at e.heap.names nodes at ≡ compound f (trees (t ∷ u ∷ [])) → ⊥
+  leaf_none at is other f t u e2 = go (node_at nodes at) refl is.whole
+    where
+      go : (n : Node) → node_at nodes at ≡ n → IsArgument 0 at n → ⊥
+      go (node.Var x) here w = let d : tree_at e.heap.names nodes at ≡ var x = shows at (node.Var x) is here in absurd (cc)
+      go (node.Int i) here w = let d : tree_at e.heap.names nodes at ≡ int i = shows at (node.Int i) is here in absurd (cc)
+      go (node.Atom a) here w = let d : tree_at e.heap.names nodes at ≡ atom (atom_at e.heap.names a) = shows at (node.Atom a) is here in absurd (cc)
+      go (node.Fun g k) here w = absurd w
+      go (node.Sub from root) here w = absurd (other from root here)

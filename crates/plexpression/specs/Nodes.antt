@@ -1,6 +1,7 @@
 -- The nodes of a compiled clause as operands.
-use Rattle.std.specs.Prelude.{ℕ, zero, suc, ◌+◌, ◌<◌, List, length}
-use Rattle.plterm.specs.Tree.{Tree}
+use Rattle.std.specs.Prelude.{◌≡◌, ℕ, zero, suc, ◌+◌, ◌<◌, List, [], ◌∷◌, length}
+use Rattle.plterm.specs.Tree.{Tree, compound, trees}
+use Rattle.platoms.specs.Names.{functor_arity, functor_name}
 use Rattle.plsubst.specs.Subst.{bind}
 use Rattle.plcells.specs.Store.{IsValue, value}
 use Rattle.plcode.specs.declared.node.Node.{Node}
@@ -14,6 +15,7 @@ use Rattle.plarith.specs.declared.operand.Opened.{Opened}
 use Rattle.plarith.specs.declared.operand.Opened.TheVariants.{Known}
 use Rattle.plarith.specs.Evaluation.{not_evaluable}
 use Rattle.plarith.specs.Operands.{seen_one, seen_two}
+use Rattle.plexpression.specs.declared.pair.Pair.{Pair}
 
 -- a node that stands for a term alone, whose variables have slots from a place on
 pub record IsNode (e : Env) (nodes : List Node) (base at : ℕ) : Type 0 where
@@ -36,3 +38,11 @@ seen_block name zero root = Known (not_evaluable name 0)
 seen_block name (suc zero) root = seen_one name (operands.Node (root + 1))
 seen_block name (suc (suc zero)) root = seen_two name (operands.Node (root + 1)) (operands.Node (root + 2))
 seen_block name (suc (suc (suc k))) root = Known (not_evaluable name (suc (suc (suc k))))
+
+-- a compound of two arguments, each a node that stands for a term alone
+pub record IsPair (e : Env) (nodes : List Node) (base at : ℕ) (p : Pair) : Type 0 where
+  pub left : IsNode e nodes base p.left
+  pub right : IsNode e nodes base p.right
+  pub known : p.functor < length e.heap.names.functors
+  pub arity : functor_arity e.heap.names p.functor ≡ 2
+  pub is : tree_at e.heap.names nodes at ≡ compound (functor_name e.heap.names p.functor) (trees (tree_at e.heap.names nodes p.left ∷ tree_at e.heap.names nodes p.right ∷ []))

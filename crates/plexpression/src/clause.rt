@@ -1,5 +1,5 @@
 //! The terms of a compiled clause as expressions.
-ghost use Rattle.std.specs.Prelude.{◌≡◌, ◌<◌, ◌^◌, length, IfOk};
+ghost use Rattle.std.specs.Prelude.{◌≡◌, ◌<◌, ◌^◌, length, IfOk, IfSome};
 ghost use Rattle.plterm.specs.Tree.{Tree};
 ghost use Rattle.plsubst.specs.Subst.{bind};
 ghost use Rattle.platoms.specs.Names.{functor_name};
@@ -8,13 +8,14 @@ ghost use Rattle.plcode.specs.Packed.{node_at, IsArgument};
 ghost use Rattle.plenv.specs.Env.{over, variable, Covers};
 ghost use Rattle.plenv.specs.Rows.{tree_at};
 ghost use Rattle.plhead.specs.Fitting.{IsCompoundAt};
-ghost use Rattle.plarith.specs.Evaluation.{eval};
+ghost use Rattle.plarith.specs.Evaluation.{eval, with_two};
 ghost use Rattle.plarith.specs.Operands.{Opens};
 ghost use Rattle.plarith.specs.Values.{IsOperand as IsHeapOperand, tree as heap_tree};
 ghost use Rattle.plexpression.specs.Nodes.{IsOperand, IsNode, tree, seen_block};
 
 use plarith::error::{ArithError, Evaluated};
 use plarith::evaluate::evaluate;
+use plarith::functor::Binary;
 use plarith::operand::{Opened, Operand, Operands};
 use plarith::value::open_value;
 use plcode::node::Node;
@@ -86,6 +87,38 @@ impl Operands for ClauseTerms<'_> {
     }
 }
 
+/// What an operation comes to whose operands are numbers as they stand.
+fn of_numbers(
+    terms: &ClauseTerms,
+    f: Binary,
+    left: Operand,
+    right: Operand,
+) -> Result<Option<Evaluated>, AllocError>
+    requires left { IsOperand terms.now.env.now terms.now.nodes.now terms.now.base left }
+    requires right { IsOperand terms.now.env.now terms.now.nodes.now terms.now.base right }
+    ensures { IfOk result (λ o. IfSome o (λ found. found ≡ with_two f (eval (tree terms.now.env.now terms.now.nodes.now terms.now.base left)) (eval (tree terms.now.env.now terms.now.nodes.now terms.now.base right)))) }
+{
+    let Opened::Known(Ok(x)) = terms.open(left)? else {
+        return Ok(None);
+    };
+    let Opened::Known(Ok(y)) = terms.open(right)? else {
+        return Ok(None);
+    };
+    Ok(Some(f.apply(x, y)))
+}
+
+/// What an expression comes to that is no operation, or one of two numbers: no operation has to wait.
+fn at_once(terms: &ClauseTerms, operand: Operand) -> Result<Option<Evaluated>, AllocError>
+    requires { IsOperand terms.now.env.now terms.now.nodes.now terms.now.base operand }
+    ensures { IfOk result (λ o. IfSome o (λ found. found ≡ eval (tree terms.now.env.now terms.now.nodes.now terms.now.base operand))) }
+{
+    match terms.open(operand)? {
+        Opened::Known(found) => Ok(Some(found)),
+        Opened::Two(f, left, right) => of_numbers(terms, f, left, right),
+        Opened::One(_, _) => Ok(None),
+    }
+}
+
 /// What the term of a node, of a clause whose slots begin at a place, comes to as an expression, or its error (ISO/IEC 13211-1 7.9, 9.1.4).
 /// It takes time linear in the nodes of the term, and memory linear in its depth; it makes no cell and no term.
 pub fn eval_node(
@@ -102,5 +135,8 @@ pub fn eval_node(
     ensures { IfOk result (λ found. found ≡ eval (bind (over env.now base) (tree_at env.now.heap.names nodes.now at))) }
 {
     let terms = ClauseTerms { env, nodes, base };
-    evaluate(alloc, &terms, Operand::Node(at))
+    match at_once(&terms, Operand::Node(at))? {
+        Some(found) => Ok(found),
+        None => evaluate(alloc, &terms, Operand::Node(at)),
+    }
 }

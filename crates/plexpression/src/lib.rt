@@ -2,3 +2,5 @@
 #![tactic(auto)]
 
 pub mod clause;
+pub mod number;
+pub mod pair;

@@ -5,7 +5,7 @@ use Rattle.plterm.specs.declared.node.Node.{Node}
 use Rattle.plterm.specs.Tree.{Tree, var, int, atom, compound, Trees, none, more}
 use Rattle.plterm.specs.Ground.{is_ground, are_ground}
 use Rattle.plterm.specs.Reading.{spelling, spellings}
-use Rattle.plterm.specs.Variables.{seen_after, with_node, variables, place, renamed, all_renamed, copied}
+use Rattle.plterm.specs.Variables.{seen_after, with_node, variables, renamed, all_renamed, copied}
 
 seen-append : (xs ys : List Node) (seen : List ℕ) → seen_after seen (xs ++ ys) ≡ seen_after (seen_after seen xs) ys
 seen-append [] ys seen = refl

@@ -1,5 +1,5 @@
 -- Values of terms without variables, behind others.
-use Rattle.std.proofs.Common.{◌≡◌, ℕ, zero, suc, ◌+◌, ◌<◌, Bool, true, List, [], ◌∷◌, ◌++◌, length, map, take, drop, get_or, refl, sym, ap, ap₂, ◌∙◌, subst, arith, append-nil}
+use Rattle.std.proofs.Common.{◌≡◌, ℕ, zero, suc, ◌+◌, ◌<◌, Bool, true, List, [], ◌∷◌, ◌++◌, length, map, take, drop, get_or, sym, ap, ap₂, ◌∙◌, subst, arith, append-nil}
 use Rattle.std.specs.List.{list_all}
 use Rattle.std.proofs.lemmas.Bool.{and_parts}
 use Rattle.std.proofs.lemmas.List.{append_assoc}
@@ -7,13 +7,13 @@ use Rattle.std.proofs.Math.Seq.{take-append_seam, drop-append_seam}
 use Rattle.plbuiltin.specs.Solution.{against}
 use Rattle.plterm.specs.Tree.{Tree}
 use Rattle.plterm.specs.Ground.{is_ground}
-use Rattle.plterm.specs.Variables.{copied, variables}
+use Rattle.plterm.specs.Variables.{variables}
 use Rattle.plcells.specs.declared.cell.Cell.{Cell}
 use Rattle.plcells.specs.Store.{value, IsValue, AreValues}
 use Rattle.plstack.specs.State.{State, Extends}
 use Rattle.plmachine.specs.Lists.{Grown}
 use Rattle.plmachine.proofs.Gathering.{values-kept, values-pushed}
-use Rattle.plmachine.proofs.Ground.{copied-ground, variables-ground}
+use Rattle.plmachine.proofs.Ground.{variables-ground}
 use Rattle.plmachine.proofs.Lists.{grown-trans, lengthened-grown, lengthened-same}
 
 pub passes-at : {A : Type 0} (p : A → Bool) (xs : List A) (i : ℕ) (d : A) → i < length xs → list_all p xs ≡ true → p (get_or xs i d) ≡ true

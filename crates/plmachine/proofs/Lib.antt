@@ -12,3 +12,4 @@ pub mod Terms
 pub mod Stepping
 pub mod Gathering
 pub mod Joining
+pub mod Calculating

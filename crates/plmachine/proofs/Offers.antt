@@ -18,7 +18,7 @@ use Rattle.plsearch.specs.Machines.Machine.{At}
 use Rattle.plsearch.specs.Rows.{go_on, choose, solved, taken, offer}
 use Rattle.planswers.specs.Answers.{IsMany}
 use Rattle.pllinks.specs.declared.link.Continuation.{Continuation}
-use Rattle.plstack.specs.State.{State, IsList, cases_of, goals_of, Solves, Unifies}
+use Rattle.plstack.specs.State.{State, IsList, cases_of, goals_of, Solves, Unifies, UnifiesTerms}
 use Rattle.plstack.specs.StaticCalls.{statics_of}
 use Rattle.plmachine.specs.declared.machine.Outcome.TheVariants as outcomes
 use Rattle.plmachine.specs.declared.machine.Mode.TheVariants as modes
@@ -29,8 +29,8 @@ use Rattle.plmachine.proofs.Lists.{holds-list, lengthened-grown, lengthened-same
 use Rattle.plmachine.proofs.Moves.{gave, gives, goes-to, moved-as, moved-grown, visit-asks, went}
 
 -- a unifier was put in
-pub unifies : (P : Program) (s new : Reached) (t : State) (a b : Cell) (l : Continuation) → IsList s.stack l → Unifies s.stack t a b → new ≡ record s { stack = record t { goals = l }; mode = modes.Visit } →
-    Moved P s new (taken (solved (goals_of s.stack l) s.stack.env.count (record { left = value s.stack.env.heap a; right = value s.stack.env.heap b; new = 0 })) (local_of s))
+pub unifies : (P : Program) (s new : Reached) (t : State) (a b : Tree) (l : Continuation) → IsList s.stack l → UnifiesTerms s.stack t a b → new ≡ record s { stack = record t { goals = l }; mode = modes.Visit } →
+    Moved P s new (taken (solved (goals_of s.stack l) s.stack.env.count (record { left = a; right = b; new = 0 })) (local_of s))
 unfolding cases_of
 unifies P s new t a b l there u is =
     let count : t.env.count ≡ s.stack.env.count + 0 = omega (arith, u.count) in
@@ -39,8 +39,8 @@ unifies P s new t a b l there u is =
     (ap (λ x. mode_of x.mode x.stack) is ∙ ap₂ (λ gs n. At (record { goals = gs; variables = n })) (u.lists l there).1 count)
     (ap (λ x. cases_in P x) is ∙ u.cases (statics_of P)) (ap (λ x. local_of x) is))
 
-pub ununified : (P : Program) (s new : Reached) (a b : Cell) (l : Continuation) → unify (value s.stack.env.heap a) (value s.stack.env.heap b) ≡ None → new ≡ record s { mode = modes.Back outcomes.Fail } →
-    Moved P s new (taken (solved (goals_of s.stack l) s.stack.env.count (record { left = value s.stack.env.heap a; right = value s.stack.env.heap b; new = 0 })) (local_of s))
+pub ununified : (P : Program) (s new : Reached) (a b : Tree) (l : Continuation) → unify a b ≡ None → new ≡ record s { mode = modes.Back outcomes.Fail } →
+    Moved P s new (taken (solved (goals_of s.stack l) s.stack.env.count (record { left = a; right = b; new = 0 })) (local_of s))
 ununified P s new a b l none is =
     subst (λ o. Moved P s new (taken (option_map (λ σ. record { goals = bind_goals σ (goals_of s.stack l); variables = s.stack.env.count + 0 }) o) (local_of s))) (sym none)
     (gave P s new outcomes.Fail is)
@@ -55,11 +55,11 @@ solves P s new t q l there u is =
     (ap (λ x. mode_of x.mode x.stack) is ∙ ap₂ (λ gs n. At (record { goals = gs; variables = n })) (u.lists l there).1 u.count)
     (ap (λ x. cases_in P x) is ∙ u.cases (statics_of P)) (ap (λ x. local_of x) is))
 
-pub unsolved : (P : Program) (s t new : Reached) (q : Equation) (l : Continuation) → Grown s.stack t.stack → t ≡ record s { stack = t.stack } →
-    unify (left_of s.stack.env.heap s.stack.env.count q) (right_of s.stack.env.heap s.stack.env.count q) ≡ None → new ≡ record t { mode = modes.Back outcomes.Fail } →
-    Moved P s new (taken (solved (goals_of s.stack l) s.stack.env.count (record { left = left_of s.stack.env.heap s.stack.env.count q; right = right_of s.stack.env.heap s.stack.env.count q; new = q.new })) (local_of s))
-unsolved P s t new q l g frame none is =
-    subst (λ o. Moved P s new (taken (option_map (λ σ. record { goals = bind_goals σ (goals_of s.stack l); variables = s.stack.env.count + q.new }) o) (local_of s))) (sym none)
+-- two terms with new variables have no unifier
+pub unsolved : (P : Program) (s t new : Reached) (a b : Tree) (k : ℕ) (l : Continuation) → Grown s.stack t.stack → t ≡ record s { stack = t.stack } → unify a b ≡ None → new ≡ record t { mode = modes.Back outcomes.Fail } →
+    Moved P s new (taken (solved (goals_of s.stack l) s.stack.env.count (record { left = a; right = b; new = k })) (local_of s))
+unsolved P s t new a b k l g frame none is =
+    subst (λ o. Moved P s new (taken (option_map (λ σ. record { goals = bind_goals σ (goals_of s.stack l); variables = s.stack.env.count + k }) o) (local_of s))) (sym none)
     (moved-grown P s t new (Give Fail (local_of t)) (Give Fail (local_of s)) g frame (ap (λ x. Give Fail (local_of x)) frame) (gave P t new outcomes.Fail is))
 
 -- a substitution that changes nothing leaves a list as it is

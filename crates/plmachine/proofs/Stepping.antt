@@ -1,5 +1,5 @@
 -- A goal of a clause's body, by its step.
-use Rattle.std.proofs.Common.{◌≡◌, ℕ, suc, ◌+◌, ◌≤◌, List, [], ◌∷◌, ◌++◌, length, map, refl, sym, ap, ap₂, ◌∙◌, subst}
+use Rattle.std.proofs.Common.{◌≡◌, ℕ, suc, ◌+◌, ◌≤◌, List, [], ◌∷◌, ◌++◌, length, map, sym, ap, ap₂, ◌∙◌, subst}
 use Rattle.std.specs.Prelude.{codes}
 use Rattle.plterm.specs.Tree.{Tree, atom}
 use Rattle.plterm.specs.Variables.{AllBelow}

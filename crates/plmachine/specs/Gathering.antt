@@ -1,17 +1,13 @@
 -- The list of what was collected, over the stack.
-use Rattle.std.specs.Prelude.{◌≡◌, ℕ, ◌+◌, List, map, Some}
+use Rattle.std.specs.Prelude.{◌≡◌, ℕ, ◌+◌, List, Some}
 use Rattle.plterm.specs.Tree.{Tree}
 use Rattle.plsubst.specs.Unify.{unify}
 use Rattle.plread.specs.Texts.{listed}
-use Rattle.plsearch.specs.Types.{Kept}
 use Rattle.plsearch.specs.Lists.{bind_goals}
 use Rattle.plsearch.specs.Collecting.{count_new, renumbered}
 use Rattle.pllinks.specs.declared.link.Continuation.{Continuation}
 use Rattle.plstack.specs.Places.{Statics}
 use Rattle.plstack.specs.State.{State, cases_of, goals_of, IsList}
-
-abbrev pub copies_in : List Kept → List Tree
-copies_in = map (λ k. k.copy)
 
 -- the most general unifier of a term and the list of copies was put into all lists, and the copies' variables are in use
 pub record Gathers (old new : State) (l : Tree) (ts : List Tree) : Type 0 where

@@ -5,3 +5,4 @@ pub mod Running
 pub mod Asking
 pub mod Selected
 pub mod Gathering
+pub mod Calculating

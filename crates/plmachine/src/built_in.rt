@@ -11,8 +11,10 @@ ghost use Rattle.plclause.specs.Indicators.{indicator};
 ghost use Rattle.plbuiltin.specs.Solution.{decides};
 ghost use Rattle.plbuiltin.specs.Solutions.{solutions};
 ghost use Rattle.plbuiltin.specs.Terms.{is_none};
+ghost use Rattle.planswers.specs.Answers.{meant, IsThere};
 ghost use Rattle.plsearch.specs.Rows.{go_on as went_on, taken, solved, offer, raised};
 ghost use Rattle.plstack.specs.State.{goals_of, IsList};
+ghost use Rattle.plstack.specs.Arguments.{KeepsArguments};
 ghost use Rattle.plmachine.specs.Lists.{Grown};
 ghost use Rattle.plmachine.specs.Selected.{StandsFor};
 ghost use Rattle.plmachine.specs.Machine.{local_of, IsBegun, Moved, Stays};
@@ -50,7 +52,27 @@ impl Machine {
         ensures err { OnErr result (Stays program.now self.old self.new) }
     {
         let heap = self.stack.env().heap();
-        match answers(self.alloc, heap, &self.settings, b, &self.args)? {
+        let answer = answers(self.alloc, heap, &self.settings, b, &self.args)?;
+        self.carry_out(program, answer, source, rest)
+    }
+
+    /// What a call of a built-in predicate came to is carried out.
+    pub(crate) fn carry_out(
+        &mut self,
+        program: &Program,
+        answer: Answer,
+        source: Source,
+        rest: Continuation,
+    ) -> Result<(), AllocError>
+        requires begun { IsBegun program.now self.old }
+        requires visits { self.old.mode ≡ Mode.Visit }
+        requires answer { IsThere self.old.stack.env.heap answer }
+        requires source { (t : Tree) × StandsFor self.old.stack source t }
+        requires rest { IsList self.old.stack rest }
+        ensures ok { (t : Tree) → StandsFor self.old.stack source t → OnOk result (Moved program.now self.old self.new (offer (meant self.old.stack.env.heap self.old.settings self.old.stack.env.count answer) (indicator t) (goals_of self.old.stack rest) self.old.stack.env.count (local_of self.old))) }
+        ensures err { OnErr result (Stays program.now self.old self.new) }
+    {
+        match answer {
             Answer::Raises(error) => self.raise_of(program, error, source, rest),
             Answer::Fails => {
                 self.give(Outcome::Fail);
@@ -133,9 +155,10 @@ impl Machine {
     }
 
     /// The value of an integer.
-    fn integer(&mut self, number: i64) -> Result<Cell, AllocError>
+    pub(crate) fn integer(&mut self, number: i64) -> Result<Cell, AllocError>
         ensures fits { IfOk result (λ w. IsValue self.new.stack.env.heap w) }
         ensures is { IfOk result (λ w. value self.new.stack.env.heap w ≡ int number) }
+        ensures arguments { KeepsArguments self.old.stack self.new.stack }
         ensures grown { Grown self.old.stack self.new.stack }
         ensures frame { self.new ≡ record self.old { stack = self.new.stack } }
     {

@@ -1,32 +1,29 @@
 //! The row of findall/3, and the list of what it collects (ISO/IEC 13211-1 8.10.1).
 //!
 //! A row that is refused memory leaves the search where it was.
-ghost use Rattle.std.specs.Prelude.{◌≡◌, ◌+◌, suc, [], ◌∷◌, map, true, false, None, IfOk, OnOk, OnErr};
+ghost use Rattle.std.specs.Prelude.{◌≡◌, suc, [], ◌∷◌, true, false, None, IfOk, OnOk, OnErr};
 ghost use Rattle.plsubst.specs.Unify.{unify as unifier_of};
-ghost use Rattle.plcells.specs.Store.{value, IsValue, AreValues};
+ghost use Rattle.plcells.specs.Store.{value, IsValue};
 ghost use Rattle.plread.specs.Texts.{listed};
 ghost use Rattle.plsearch.specs.Types.{Collect, Marker};
 ghost use Rattle.plsearch.specs.Running.{runnable};
-ghost use Rattle.plsearch.specs.Collecting.{copies_from, count_new, renumbered};
+ghost use Rattle.plsearch.specs.Collecting.{copies_from, renumbered};
 ghost use Rattle.plsearch.specs.Rows.{finding as finding_of, findall_3, gathering, run as runs};
 ghost use Rattle.plstack.specs.State.{goals_of, Extends, IsList};
-ghost use Rattle.plmachine.specs.Gathering.{copies_in, Gathers};
+ghost use Rattle.plmachine.specs.Gathering.{Gathers};
 ghost use Rattle.plmachine.specs.Machine.{depth_of, local_of, Moved, Stays};
 
 use crate::machine::Machine;
 use crate::predicate::Predicate;
 use crate::running::Running;
-use planswers::equation::list_equation;
 use planswers::error::type_error;
 use planswers::list::may_be_list;
 use plcells::cell::Cell;
-use plcollect::collection::Kept;
 use pllinks::item::{Item, MarkerKind};
 use pllinks::level::Level;
 use pllinks::link::Continuation;
 use plprogram::program::Program;
 use plstack::frame::{Around, Handler, Handling};
-use plstack::stack::Stack;
 use std::alloc::{AllocError, Global};
 
 /// What findall/3 is given.
@@ -106,23 +103,7 @@ impl Machine {
         ensures err { OnErr result (Extends self.old.stack self.new.stack) }
         ensures frame { self.new ≡ record self.old { stack = self.new.stack } }
     {
-        let values = put_copies(&mut self.stack, self.alloc, self.kept.from_level(level))?;
-        let equation = list_equation(self.alloc, whole, &values)?;
-        self.stack.solve(self.alloc, equation)
+        let list = self.stack.put_list(self.alloc, &self.kept, level)?;
+        self.stack.unify(whole, list)
     }
-}
-
-/// Puts copies, their variables new and apart: their values. After an `Err` all stands for what it did.
-fn put_copies(stack: &mut Stack, alloc: Global, kept: &[Kept]) -> Result<Vec<Cell>, AllocError>
-    ensures there { IfOk result (λ vs. AreValues stack.new.env.heap vs.items) }
-    ensures are { IfOk result (λ vs. map (value stack.new.env.heap) vs.items ≡ renumbered stack.old.env.count (copies_in kept.now)) }
-    ensures count { OnOk result (stack.new.env.count ≡ stack.old.env.count + count_new (copies_in kept.now)) }
-    ensures stays { Extends stack.old stack.new }
-{
-    let mut values = Vec::with_capacity(alloc, kept.len())?;
-    for one in kept {
-        let v = stack.put_copy(alloc, one.copy())?;
-        values.push(v)?;
-    }
-    Ok(values)
 }

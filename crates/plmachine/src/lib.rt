@@ -1,6 +1,7 @@
 //! What a goal that is selected makes of the search's machine: the rows of the table of control.
 #![tactic(auto)]
 
+pub mod arithmetic;
 pub mod asking;
 pub mod built_in;
 mod error;

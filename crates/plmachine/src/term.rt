@@ -55,6 +55,9 @@ impl Machine {
         ensures ok { (t : Tree) → StandsFor self.old.stack source t → OnOk result (Moved program.now self.old self.new (row program.now (form_by_term t) level t (depth_of program.now self.old) (goals_of self.old.stack rest) self.old.stack.env.count (local_of self.old))) }
         ensures err { OnErr result (Stays program.now self.old self.new) }
     {
+        if let Some(call) = self.calculation(&source) {
+            return self.calculate(program, call, rest);
+        }
         let form = self.form(program, &source)?;
         if let Form::Call(Procedure::Static(place)) = form {
             return self.resolve(program, place, rest);

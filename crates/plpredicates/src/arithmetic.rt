@@ -9,7 +9,7 @@ ghost use Rattle.plbuiltin.specs.Arithmetic.{on_arithmetic, equals as equals_of,
 ghost use Rattle.planswers.specs.Answers.{IsThere, meant};
 
 use planswers::answer::Answer;
-use plarith::error::ArithError;
+use plarith::error::{ArithError, Evaluated};
 use plarith::value::eval;
 use plcells::cell::Cell;
 use plcells::heap::Heap;
@@ -32,7 +32,11 @@ pub(crate) fn arithmetic_answer(
     };
     match b {
         Arithmetic::Is => equals(alloc, heap, *left, *right),
-        Arithmetic::Compare(c) => compared(alloc, heap, c, *left, *right),
+        Arithmetic::Compare(c) => {
+            let left = eval(alloc, heap, *left)?;
+            let right = eval(alloc, heap, *right)?;
+            compared(alloc, c, left, right)
+        }
     }
 }
 
@@ -49,24 +53,21 @@ fn equals(alloc: Global, heap: &Heap, term: Cell, expression: Cell) -> Result<An
     }
 }
 
-/// `=:=`/2, `=\=`/2, `<`/2, `=<`/2, `>`/2 and `>=`/2 (8.7.1).
-fn compared(
+/// What `=:=`/2, `=\=`/2, `<`/2, `=<`/2, `>`/2 and `>=`/2 make of what their expressions come to; an error of the left one comes first (8.7.1).
+pub fn compared(
     alloc: Global,
-    heap: &Heap,
     c: Comparison,
-    left: Cell,
-    right: Cell,
+    left: Evaluated,
+    right: Evaluated,
 ) -> Result<Answer, AllocError>
-    requires left { IsValue heap.now left }
-    requires right { IsValue heap.now right }
-    ensures is { IfOk result (λ answer. (s : Settings) (n : ℕ) → meant heap.now s n answer ≡ compared_of c (eval_of (value heap.now left)) (eval_of (value heap.now right)) s) }
-    ensures there { IfOk result (IsThere heap.now) }
+    ensures is { IfOk result (λ answer. (h : Store) (s : Settings) (n : ℕ) → meant h s n answer ≡ compared_of c left right s) }
+    ensures there { IfOk result (λ answer. (h : Store) → IsThere h answer) }
 {
-    let x = match eval(alloc, heap, left)? {
+    let x = match left {
         Ok(x) => x,
         Err(error) => return raises(alloc, &error),
     };
-    match eval(alloc, heap, right)? {
+    match right {
         Ok(y) if compares(c, x, y) => Ok(Answer::Succeeds),
         Ok(_) => Ok(Answer::Fails),
         Err(error) => raises(alloc, &error),
@@ -74,7 +75,7 @@ fn compared(
 }
 
 /// An error of an expression is raised.
-fn raises(alloc: Global, error: &ArithError) -> Result<Answer, AllocError>
+pub fn raises(alloc: Global, error: &ArithError) -> Result<Answer, AllocError>
     ensures is { IfOk result (λ answer. (h : Store) (s : Settings) (n : ℕ) → meant h s n answer ≡ Raises (error_of error.now)) }
     ensures there { IfOk result (λ answer. (h : Store) → IsThere h answer) }
 {

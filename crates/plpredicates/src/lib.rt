@@ -3,7 +3,7 @@
 //! What each gives stands in the crate of their definitions. A further one is a row of the table of names, a clause of its topic's definition, and a function here, or in the crate of those on texts, output, operators and flags.
 #![tactic(auto)]
 
-mod arithmetic;
+pub mod arithmetic;
 pub mod built_in;
 mod order;
 mod parts;

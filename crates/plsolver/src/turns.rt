@@ -105,8 +105,8 @@ impl Progress {
         ensures err { OnErr result (self.new ≡ self.old) }
     {
         let alloc = self.machine.alloc;
-        let term = self.machine.stack.env().heap().take(alloc, v)?;
-        self.machine.kept.keep(alloc, &term, level)?;
+        let heap = self.machine.stack.env().heap();
+        self.machine.kept.keep(alloc, heap, v, level)?;
         self.machine.mode = Mode::Back(Outcome::Fail);
         Ok(())
     }

@@ -1,8 +1,8 @@
 -- The case of the answers of a call that are left, and the first of them that fits.
-use Rattle.std.proofs.Common.{◌≡◌, ℕ, suc, ◌+◌, ◌-◌, List, [], ◌∷◌, ◌++◌, length, take, drop, filter_map, refl, sym, ap, ap₂, ◌∙◌, subst, arith, reverse, append-nil, Option, Some, None, IfSome}
+use Rattle.std.proofs.Common.{◌≡◌, ℕ, ◌+◌, ◌-◌, List, [], ◌∷◌, ◌++◌, length, filter_map, refl, sym, ap, ap₂, ◌∙◌, subst, arith, reverse, append-nil, Option, Some, None}
 use Rattle.plcells.specs.declared.cell.Cell.{Cell}
 use Rattle.plcells.specs.Store.{AreValues}
-use Rattle.plsearch.specs.Types.{Place, Case, Choice}
+use Rattle.plsearch.specs.Types.{Choice}
 use Rattle.plsearch.specs.Lists.{bind_goals}
 use Rattle.plsearch.specs.Rows.{solved}
 use Rattle.plgenerator.specs.declared.turn.Turn.{Turn}
@@ -29,7 +29,7 @@ use Rattle.plstack.specs.State.{State, IsStack, goals_in, goals_of, place_of, ca
 use Rattle.plstack.specs.Calls.{StaysAt}
 use Rattle.plstack.specs.Cutting.{Settles}
 use Rattle.plstack.specs.Answering.{answers_if, TakesAnswer, TakesNone, PushesAnswers, Answered, Unanswered}
-use Rattle.plstack.proofs.Growing.{cases-grown, extends-env, frames-grown, solved-lists, solved-stack, solves, stack-env}
+use Rattle.plstack.proofs.Growing.{extends-env, frames-grown, solved-lists, solved-stack, solves, stack-env}
 use Rattle.plstack.proofs.Opened.{with_values, values-stack, values-cases, values-there, older-then, frame-there}
 use Rattle.plstack.proofs.Renaming.{answers-renamed, stays}
 use Rattle.plstack.proofs.Returning.{visiting, same-cases, back-depth}

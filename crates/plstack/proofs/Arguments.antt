@@ -1,6 +1,8 @@
 -- The terms of a clause's goals, put under their slots.
-use Rattle.std.proofs.Common.{◌≡◌, ℕ, ◌+◌, ◌<◌, ◌≤◌, List, [], ◌∷◌, length, get_or, sym, ap, ◌∙◌, subst, arith}
-use Rattle.plterm.specs.Tree.{Tree, var}
+use Rattle.std.proofs.Common.{◌≡◌, ℕ, ◌+◌, ◌<◌, ◌≤◌, List, [], ◌∷◌, length, get_or, refl, sym, ap, ◌∙◌, subst, arith}
+use Rattle.plterm.specs.Tree.{Tree, var, compound, trees}
+use Rattle.plterm.specs.Variables.{AllBelow}
+use Rattle.platoms.specs.Names.{functor_name}
 use Rattle.plcode.specs.declared.node.Node.{Node}
 use Rattle.plcode.specs.Laying.{IsLaid, IsRow}
 use Rattle.plcode.specs.Packed.{node_at, IsArgument as IsArgumentAt}
@@ -9,13 +11,16 @@ use Rattle.plcode.proofs.Values.{IsRow-more}
 use Rattle.plcode.proofs.Waiting.{IsLaid-names}
 use Rattle.plenv.specs.declared.slot.Row.{Row}
 use Rattle.plcells.proofs.Nodes.{bind-agree}
-use Rattle.plenv.specs.Changes.{Stays}
+use Rattle.plenv.specs.Changes.{Extends}
 use Rattle.plenv.specs.Env.{Env, over, Covers}
 use Rattle.plenv.specs.Rows.{row_at, tree_at}
 use Rattle.plenv.proofs.Rows.{row-tree}
+use Rattle.plhead.proofs.Trees.{row-spread, tree-names}
+use Rattle.plexpression.specs.Nodes.{IsNode, IsPair as IsPairAt}
+use Rattle.plexpression.specs.declared.pair.Pair.{Pair}
 use Rattle.pllinks.specs.declared.item.Run.{Run}
 use Rattle.plstack.specs.State.{State, IsState}
-use Rattle.plstack.specs.Arguments.{IsArgument, KeepsArguments}
+use Rattle.plstack.specs.Arguments.{IsArgument, IsPair, KeepsArguments}
 
 -- the nodes of the code, with the names of the heap
 module _ (s : State) (is : IsState s) (laid : IsLaid s.code.text.names s.code.text.nodes) (nodes : List Node) (same : nodes ≡ s.code.text.nodes) where
@@ -46,9 +51,52 @@ module _ (s : State) (is : IsState s) (laid : IsLaid s.code.text.names s.code.te
     pub one-covers : Covers s.env r.base (tree_at s.env.heap.names nodes at)
     one-covers = subst (Covers s.env r.base) (sym one-is) (record { width = is_one.width; below = is_one.below; within = omega (arith, is_one.own, is_one.slots) })
 
+    pub one-node : IsNode s.env nodes r.base at
+    one-node = record { laid = laid-now; within = one-within; whole = one-whole; covers = one-covers }
+
+  part : (r : Run) (at width : ℕ) → IsNode s.env nodes r.base at → AllBelow width (tree_at s.env.heap.names nodes at) → r.base + width ≤ r.«end» → r.«end» ≤ length s.env.slots → IsArgument s r at (tree_at s.env.heap.names nodes at)
+  part r at width node below own slots =
+      let within : at + 1 ≤ length s.code.text.nodes = omega (arith, node.within, ap length same) in
+      let named = tree-names s.code.text.names s.env.heap.names s.code.text.nodes is.names laid at in
+      record {
+        stand = record {
+          within = within;
+          terms = row-spread s.code.text.names s.code.text.nodes at 1 within ∙ ap (λ u. u ∷ []) (sym named ∙ ap (λ ns. tree_at s.env.heap.names ns at) (sym same));
+          whole = λ j low high.
+              let only : at ≡ j = omega (arith, low, high) in
+              subst (λ i. IsArgumentAt 0 i (node_at s.code.text.nodes i)) only (subst (λ ns. IsArgumentAt 0 at (node_at ns at)) same node.whole);
+        };
+        width = width;
+        below = below;
+        own = own;
+        slots = slots;
+      }
+
+  -- a compound of two arguments, or another term
+  module _ (r : Run) (at : ℕ) (t : Tree) (is_one : IsArgument s r at t) where
+    pub pair-found : (p : Pair) → IsPairAt s.env nodes r.base at p → IsPair s r t p
+    pair-found p q =
+        let name = functor_name s.env.heap.names p.functor in
+        let left = tree_at s.env.heap.names nodes p.left in
+        let right = tree_at s.env.heap.names nodes p.right in
+        let shown : t ≡ compound name (trees (left ∷ right ∷ [])) = sym (one-is r at t is_one) ∙ q.is in
+        let below = subst (AllBelow is_one.width) shown is_one.below in
+        record {
+          name = name;
+          left = left;
+          right = right;
+          left_there = part r p.left is_one.width q.left below.0 is_one.own is_one.slots;
+          right_there = part r p.right is_one.width q.right below.1.0 is_one.own is_one.slots;
+          procedure = record { within = q.known; name = refl; arity = q.arity };
+          is = shown;
+        }
+
+    pub pair-none : ((f : List ℕ) (a b : Tree) → tree_at s.env.heap.names nodes at ≡ compound f (trees (a ∷ b ∷ [])) → ⊥) → (f : List ℕ) (a b : Tree) → t ≡ compound f (trees (a ∷ b ∷ [])) → ⊥
+    pair-none never f a b e = never f a b (one-is r at t is_one ∙ e)
+
 -- a change of the environment that keeps what is there
-pub arguments-stay : (s : State) (e : Env) → Stays s.env e → KeepsArguments s (record s { env = e })
-arguments-stay s e stays r node t is = (
-  record { stand = is.stand; width = is.width; below = is.below; own = is.own; slots = omega (arith, is.slots, stays.slots) },
-  bind-agree is.width (over e r.base) (over s.env r.base) (λ x lt. stays.extends.variables (r.base + x) (omega (arith, lt, is.own, is.slots))) t is.below,
+pub arguments-stay : (s : State) (e : Env) → Extends s.env e → KeepsArguments s (record s { env = e })
+arguments-stay s e x r node t is = (
+  record { stand = is.stand; width = is.width; below = is.below; own = is.own; slots = omega (arith, is.slots, x.slots) },
+  bind-agree is.width (over e r.base) (over s.env r.base) (λ y lt. x.variables (r.base + y) (omega (arith, lt, is.own, is.slots))) t is.below,
 )

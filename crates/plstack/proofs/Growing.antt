@@ -1,7 +1,7 @@
 -- A stack whose environment and links grow.
 use Rattle.std.specs.Prelude.{Result as Outcomes}
 use Rattle.std.specs.declared.alloc.AllocError.{AllocError}
-use Rattle.std.proofs.Common.{◌≡◌, ℕ, ◌≤◌, List, [], ◌++◌, length, length-append, refl, sym, ap, ap₂, ◌∙◌, subst, arith, reverse, append-nil, le_trans, Bool, true, false, None, Ok, Err, IfOk, OnErr}
+use Rattle.std.proofs.Common.{◌≡◌, ℕ, ◌≤◌, List, [], ◌++◌, length, length-append, refl, sym, ap, ap₂, ◌∙◌, subst, arith, reverse, append-nil, le_trans, Bool, true, false, None, Some, Option, Ok, Err, IfOk, IfSome, IfNone, OnErr}
 use Rattle.plterm.specs.Tree.{Tree}
 use Rattle.plsubst.specs.Unify.{unify}
 use Rattle.platoms.specs.Names.{IsTable}
@@ -24,7 +24,7 @@ use Rattle.pllinks.proofs.Changing.{items-agree, items-bound, items-more as wide
 use Rattle.plstack.specs.declared.frame.Frame.{Frame}
 use Rattle.plstack.specs.Places.{Statics, cases}
 use Rattle.plstack.specs.Frames.{AreFrames}
-use Rattle.plstack.specs.State.{State, goals_in, goals_of, cases_of, IsList, IsState, IsStack, Extends, Solves, Unifies}
+use Rattle.plstack.specs.State.{State, goals_in, goals_of, cases_of, IsList, IsState, IsStack, Extends, Solves, Unifies, UnifiesTerms}
 use Rattle.plstack.proofs.Frames.{items-more, cases-kept, AreFrames-kept}
 
 -- the values that cases keep are as they were
@@ -112,15 +112,15 @@ module _ (s : State) (d : ℕ) (e : Env) (a b : Tree) (u : UnifiesEnv s.env e a 
   unfolding cases_of
   cases-unified statics = cases-grown (goals_in s) s.env e s.links s.links [] s.saved (sym (append-nil s.links)) u.made.keeps env.heap.names statics (reverse s.frames) is.0.frames
 
--- two values were unified
-module _ (s : State) (d : ℕ) (e : Env) (a b : Cell) (u : UnifiesEnv s.env e (value s.env.heap a) (value s.env.heap b)) (env : IsEnv e) (is : IsStack s d) where
-  pub unifies : Unifies s (record s { env = e }) a b
+-- two terms were unified
+module _ (s : State) (d : ℕ) (e : Env) (a b : Tree) (u : UnifiesEnv s.env e a b) (env : IsEnv e) (is : IsStack s d) where
+  pub unifies : UnifiesTerms s (record s { env = e }) a b
   unifies = record {
     unifier = u.unifier;
     is = u.is;
     values = u.made.values;
-    lists = list-unified s d e _ _ u env is;
-    cases = cases-unified s d e _ _ u env is;
+    lists = list-unified s d e a b u env is;
+    cases = cases-unified s d e a b u env is;
     frames = refl;
     count = u.made.count;
     code = refl;
@@ -186,9 +186,10 @@ module _ (s : State) (d : ℕ) (e : Env) (q : Equation) (env : IsEnv e) (is : Is
   solve-none (Ok answer) not = λ no. (not no).0
   solve-none (Err x) not = tt
 
-  pub solve-err : (r : Outcomes Bool AllocError) → OnErr r (Stays s.env e) → OnErr r (Extends s (record s { env = e }) × (e.count ≡ s.env.count))
-  solve-err (Ok answer) err = tt
-  solve-err (Err x) err = (extends-env s d e err.extends env is, err.count)
+-- whatever was refused memory, all stands for what it did
+pub err-extends : (s : State) (d : ℕ) (e : Env) → IsEnv e → IsStack s d → (r : Outcomes Bool AllocError) → OnErr r (Stays s.env e) → OnErr r (Extends s (record s { env = e }) × (e.count ≡ s.env.count))
+err-extends s d e env is (Ok answer) err = tt
+err-extends s d e env is (Err x) err = (extends-env s d e err.extends env is, err.count)
 
 pub extends_same : (s : State) → Extends s s
 extends_same s = record { code = refl; frames = refl; goals = refl; visited = refl; cases = λ statics. refl; lists = λ l i. (i, refl); values = λ v f. (f, refl) }
@@ -202,8 +203,23 @@ module _ (s : State) (d : ℕ) (e : Env) (a b : Cell) (env : IsEnv e) (is : IsSt
   unify-stack (Err x) fits not err = rw err is
 
   pub unify-unifies : (r : Outcomes Bool AllocError) → IfOk r (λ fits. fits ≡ true → UnifiesEnv s.env e (value s.env.heap a) (value s.env.heap b)) → IfOk r (λ fits. fits ≡ true → Unifies s (record s { env = e }) a b)
-  unify-unifies (Ok answer) fits = λ so. unifies s d e a b (fits so) env is
+  unify-unifies (Ok answer) fits = λ so. unifies s d e _ _ (fits so) env is
   unify-unifies (Err x) fits = tt
+
+-- whatever the unification of a term with an integer answers
+module _ (s : State) (d : ℕ) (e : Env) (t u : Tree) (env : IsEnv e) (is : IsStack s d) where
+  pub number-stack : (r : Outcomes Bool AllocError) → IfOk r (λ fits. fits ≡ true → UnifiesEnv s.env e t u) → IfOk r (λ fits. fits ≡ false → Stays s.env e) → OnErr r (Stays s.env e) → IsStack (record s { env = e }) d
+  number-stack (Ok true) fits not err = unified-stack s d e t u (fits refl) env is
+  number-stack (Ok false) fits not err = stack-env s d e (not refl).extends env is
+  number-stack (Err x) fits not err = stack-env s d e err.extends env is
+
+  pub number-unified : (r : Outcomes Bool AllocError) → IfOk r (λ fits. fits ≡ true → UnifiesEnv s.env e t u) → IfOk r (λ fits. fits ≡ true → UnifiesTerms s (record s { env = e }) t u)
+  number-unified (Ok answer) fits = λ so. unifies s d e t u (fits so) env is
+  number-unified (Err x) fits = tt
+
+pub number-same : (s : State) (d : ℕ) (e : Env) → IsEnv e → IsStack s d → (r : Outcomes Bool AllocError) → IfOk r (λ fits. fits ≡ false → Stays s.env e) → IfOk r (λ fits. fits ≡ false → Extends s (record s { env = e }) × (e.count ≡ s.env.count))
+number-same s d e env is (Ok answer) not = λ no. (extends-env s d e (not no).extends env is, (not no).count)
+number-same s d e env is (Err x) not = tt
 
 -- whatever came of putting a term
 pub put-extends : (old new : Env) (t : Tree) (n : ℕ) (r : Outcomes Cell AllocError) → IfOk r (λ v. PutsTerm old new v t n) → OnErr r (Stays old new) → ExtendsEnv old new
@@ -213,3 +229,11 @@ put-extends old new t n (Err x) ok err = err.extends
 pub if_ok : {A E : Type 0} (P Q : A → Type 0) (r : Outcomes A E) → ((a : A) → P a → Q a) → IfOk r P → IfOk r Q
 if_ok P Q (Ok a) f k = f a k
 if_ok P Q (Err e) f k = tt
+
+pub if_some : {A : Type 0} (P Q : A → Type 0) (r : Option A) → ((a : A) → P a → Q a) → IfSome r P → IfSome r Q
+if_some P Q (Some a) f k = f a k
+if_some P Q None f k = tt
+
+pub if_none : {A : Type 0} {P Q : Type 0} (r : Option A) → (P → Q) → IfNone r P → IfNone r Q
+if_none (Some a) f k = tt
+if_none None f k = f k

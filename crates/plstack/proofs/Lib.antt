@@ -3,7 +3,6 @@ pub mod Frames
 pub mod Growing
 pub mod Lists
 pub mod Marking
-pub mod Copying
 pub mod Stacks
 pub mod Handled
 pub mod Opening

@@ -1,7 +1,7 @@
 -- Cases that come back to what there is now.
 use Rattle.std.proofs.Common.{◌≡◌, ℕ, ◌+◌, List, [], ◌∷◌, ◌++◌, length, take, drop, refl, sym, ap, ap₂, ◌∙◌, subst, arith, reverse}
 use Rattle.plcells.specs.declared.cell.Cell.{Cell}
-use Rattle.plsearch.specs.Types.{Case, Choice, Handle, Catch}
+use Rattle.plsearch.specs.Types.{Case, Choice, Handle}
 use Rattle.plsearch.specs.Rows.{branch}
 use Rattle.plsearch.specs.Engine.{deeper}
 use Rattle.plenv.specs.Env.{Env, IsEnv, cut, IsMark}

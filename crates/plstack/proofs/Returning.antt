@@ -1,7 +1,6 @@
 -- A stack that comes back to where its newest case was opened.
 use Rattle.std.proofs.Common.{◌≡◌, ℕ, suc, ◌-◌, ◌≤◌, List, [], ◌∷◌, ◌++◌, length, take, refl, sym, ap, ap₂, ◌∙◌, subst, arith, reverse, le_refl, length-take-le}
 use Rattle.platoms.specs.Names.{Extends as ExtendsNames}
-use Rattle.plcells.specs.Store.{value}
 use Rattle.plsearch.specs.Types.{Case, Choice, Handle}
 use Rattle.plenv.specs.Env.{Env, IsEnv, IsWithin, cut}
 use Rattle.plenv.specs.Marks.{IsOlder as IsEnvOlder}

@@ -1,5 +1,5 @@
 -- The first of the answers that are left which fits.
-use Rattle.std.proofs.Common.{◌≡◌, ℕ, ◌+◌, ◌<◌, List, [], ◌∷◌, length, filter_map, option_map, refl, sym, ap, ◌∙◌, arith, Option, Some, None, IfSome}
+use Rattle.std.proofs.Common.{◌≡◌, ℕ, ◌+◌, ◌<◌, List, [], ◌∷◌, length, filter_map, option_map, refl, sym, ap, ◌∙◌, Option, Some, None, IfSome}
 use Rattle.std.specs.List.{cons_option}
 use Rattle.plterm.specs.Tree.{Tree}
 use Rattle.plsubst.specs.Unify.{unify}
@@ -7,7 +7,7 @@ use Rattle.plcells.specs.declared.cell.Cell.{Cell}
 use Rattle.plcells.specs.Equations.{left_of, right_of}
 use Rattle.plcells.specs.Store.{AreValues}
 use Rattle.plbuiltin.specs.Solution.{Solution}
-use Rattle.plsearch.specs.Types.{Element, Place}
+use Rattle.plsearch.specs.Types.{Element}
 use Rattle.plsearch.specs.Lists.{bind_goals}
 use Rattle.plsearch.specs.Rows.{solved}
 use Rattle.plgenerator.specs.declared.generator.Found.{Found}

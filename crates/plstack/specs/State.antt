@@ -98,10 +98,10 @@ pub record Opens (old new : State) (more : List Case) : Type 0 where
   pub code : new.code ≡ old.code
   pub goals : new.goals ≡ old.goals
 
--- the most general unifier was put into all values and lists
-pub record Unifies (old new : State) (a b : Cell) : Type 0 where
+-- the most general unifier of two terms was put into all values and lists
+pub record UnifiesTerms (old new : State) (t u : Tree) : Type 0 where
   pub unifier : ℕ → Tree
-  pub is : unify (value old.env.heap a) (value old.env.heap b) ≡ Some unifier
+  pub is : unify t u ≡ Some unifier
   pub values : (v : Cell) → IsValue old.env.heap v → IsValue new.env.heap v × (value new.env.heap v ≡ bind unifier (value old.env.heap v))
   pub lists : (l : Continuation) → IsList old l → IsList new l × (goals_of new l ≡ bind_goals unifier (goals_of old l))
   pub cases : (statics : Statics) → cases_of statics new ≡ cases_of statics old
@@ -109,6 +109,10 @@ pub record Unifies (old new : State) (a b : Cell) : Type 0 where
   pub count : new.env.count ≡ old.env.count
   pub code : new.code ≡ old.code
   pub goals : new.goals ≡ old.goals
+
+-- that of two values was
+abbrev pub Unifies : State → State → Cell → Cell → Type 0
+Unifies old new a b = UnifiesTerms old new (value old.env.heap a) (value old.env.heap b)
 
 -- the most general unifier of an equation's terms was put into all values and lists, and its new variables are in use
 pub record Solves (old new : State) (e : Equation) : Type 0 where

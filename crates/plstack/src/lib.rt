@@ -6,6 +6,7 @@ pub mod back;
 pub mod call;
 pub mod copy;
 pub mod cut;
+pub mod expression;
 pub mod first;
 pub mod fit;
 pub mod frame;

@@ -4,11 +4,16 @@ ghost use Rattle.plterm.specs.Variables.{copied, variables};
 ghost use Rattle.plsubst.specs.Unify.{unify as unifier_of};
 ghost use Rattle.plcells.specs.Equations.{IsEquation, left_of, right_of};
 ghost use Rattle.plcells.specs.Store.{IsValue, value};
+ghost use Rattle.plread.specs.Texts.{listed};
+ghost use Rattle.plsearch.specs.Collecting.{copies_from, count_new, renumbered};
 ghost use Rattle.plstack.specs.State.{Extends, Solves, Unifies};
+ghost use Rattle.plstack.specs.Arguments.{KeepsArguments};
 
 use crate::stack::Stack;
 use plcells::cell::Cell;
 use plcells::equation::Equation;
+use plcollect::collection::Collection;
+use pllinks::level::Level;
 use plterm::term::Term;
 use std::alloc::{AllocError, Global};
 
@@ -46,6 +51,7 @@ impl Stack {
         ensures is { IfOk result (λ v. value self.new.env.heap v ≡ copied self.old.env.count given.now) }
         ensures count { OnOk result (self.new.env.count ≡ self.old.env.count + length (variables given.now)) }
         ensures same_count { OnErr result (self.new.env.count ≡ self.old.env.count) }
+        ensures arguments { KeepsArguments self.old self.new }
         ensures stays { Extends self.old self.new }
     {
         let copy = given.copy(alloc, 0)?;
@@ -54,6 +60,24 @@ impl Stack {
             return Err(AllocError);
         };
         let put = self.env.put_term(alloc, &copy, count);
+        let _ = self.env.heap();
+        put
+    }
+
+    /// Puts the list of the copies that are kept for handlers from a level on, their variables new: its value. After an `Err` all stands for
+    /// what it did.
+    pub fn put_list(
+        &mut self,
+        alloc: Global,
+        kept: &Collection,
+        level: Level,
+    ) -> Result<Cell, AllocError>
+        ensures value { IfOk result (λ v. IsValue self.new.env.heap v) }
+        ensures is { IfOk result (λ v. value self.new.env.heap v ≡ listed (renumbered self.old.env.count (copies_from level kept.now))) }
+        ensures count { OnOk result (self.new.env.count ≡ self.old.env.count + count_new (copies_from level kept.now)) }
+        ensures stays { Extends self.old self.new }
+    {
+        let put = kept.put_list(&mut self.env, alloc, level);
         let _ = self.env.heap();
         put
     }

@@ -1,43 +1,59 @@
-use Rattle.std.proofs.Common.{length, take, reverse, sym, subst, arith}
-use Rattle.plterm.specs.Reading.{reading, read}
-use Rattle.plcells.proofs.Kept.{Keeps-trans}
-use Rattle.plcells.proofs.Nodes.{AreBelow, node-at, below-at, below-tree, reading-at}
-use Rattle.plcells.proofs.Putting.{IsPut, put-none, put-length, put-more, values-stay, has-value}
+use Rattle.std.proofs.Common.{◌∙◌, length, reverse, ap, sym, subst, arith}
+use Rattle.plterm.specs.Reading.{tree_of}
+use Rattle.plsubst.specs.Subst.{bind}
+use Rattle.platoms.specs.Names.{IsTable, Extends}
+use Rattle.plcells.specs.Store.{AreValues, Preserves, bounded_by}
+use Rattle.plcells.specs.Putting.{standing, PutsTerm}
+use Rattle.plcells.proofs.Marking.{mark-cells, marked-heap, given-back, own-names, own-heap, preserves-under, puts-under}
+use Rattle.plcells.proofs.Renaming.{Preserves-renamed}
 use Rattle.plcells.proofs.heap.Heap.put_nodes.Goals as goal
 
-pub loop-node-init : goal.loop-node-init
-loop-node-init c = rw c.new-stack.ensures.items (put-none c.args.self.now c.args.values.now)
+pub put_all-requires-clause-values : goal.put_all-requires-clause-values
+put_all-requires-clause-values c = subst (λ h. AreValues h c.args.values.now) (sym c.mark-mark.ensures.same) c.requires.values
 
-pub put_node-requires-clause-fits : goal.put_node-requires-clause-fits
-put_node-requires-clause-fits c = (node-at c.args.nodes.now c.loop-node.node-index c.node-item.result c.node-item.result c.loop-node-test.true (sym c.node-item.is) c.requires.term.forest).0
+pub forget-requires : goal.forget-requires
+forget-requires c =
+    let w = c.in-Ok.ensures.keeps.within c.mark-mark.result c.mark-mark.ensures.mark.within in
+    omega (arith, w.old, mark-cells c.mark-mark.result c.args.self.now c.mark-mark.new.self c.mark-mark.ensures.now c.mark-mark.ensures.same, c.boundary-boundary.ensures.is, c.boundary-boundary.ensures.within)
 
-pub put_node-requires-clause-room : goal.put_node-requires-clause-room
-put_node-requires-clause-room c =
-    let l = c.loop-node in
-    let n = node-at c.args.nodes.now l.node-index c.node-item.result c.node-item.result c.loop-node-test.true (sym c.node-item.is) c.requires.term.forest in
-    omega (arith, n.1, put-length c.args.self.now l.self c.args.values.now l.stack.items (reading (reverse (take l.node-index c.args.nodes.now))) l.invariant)
+pub cut_back-requires-clause-old : goal.cut_back-requires-clause-old
+cut_back-requires-clause-old c =
+    omega (arith, mark-cells c.mark-mark.result c.args.self.now c.mark-mark.new.self c.mark-mark.ensures.now c.mark-mark.ensures.same, c.boundary-boundary.ensures.within)
 
-pub put_node-requires-clause-values : goal.put_node-requires-clause-values
-put_node-requires-clause-values c = values-stay c.args.self.now c.loop-node.self c.args.values.now c.loop-node.invariant.adds.preserves c.requires.values
+pub cut_back-requires-clause-kept : goal.cut_back-requires-clause-kept
+cut_back-requires-clause-kept c = record { old = c.mark-mark.new.self; mark = c.mark-mark.ensures.mark; keeps = c.in-Err.ensures.keeps }
 
-pub put_node-requires-clause-value : goal.put_node-requires-clause-value
-put_node-requires-clause-value c =
-    let l = c.loop-node in
-    let nodes = c.args.nodes.now in
-    let n = c.node-item.result in
-    let v = length c.args.values.now in
-    has-value c.args.values.now n (reading (reverse (take l.node-index nodes))) (below-at v nodes l.node-index n n c.loop-node-test.true (sym c.node-item.is) (below-tree v (reverse nodes) c.requires.term c.requires.below))
-
-pub returns-in_err-put_node-clause-keeps : goal.returns-in_err-put_node-clause-keeps
-returns-in_err-put_node-clause-keeps c = Keeps-trans c.args.self.now c.loop-node.self c.put_node.new.self c.loop-node.invariant.adds.preserves.keeps c.in_err-put_node.ensures.keeps
-
-pub loop-node-preserved : goal.loop-node-preserved
-loop-node-preserved c =
-    let l = c.loop-node in
-    let nodes = c.args.nodes.now in
+pub returns-in-Ok-clause-ok : goal.returns-in-Ok-clause-ok
+returns-in-Ok-clause-ok c =
+    let h = c.args.self.now in
+    let new = c.put_all.new.self in
     let vs = c.args.values.now in
-    let n = c.node-item.result in
-    let ts = reading (reverse (take l.node-index nodes)) in
-    let below : AreBelow (length vs) (read n ts) = below-at (length vs) nodes l.node-index n n c.loop-node-test.true (sym c.node-item.is) (below-tree (length vs) (reverse nodes) c.requires.term c.requires.below) in
-    subst (IsPut c.args.self.now c.put_node.new.self vs c.put_node.new.stack.items) (reading-at nodes l.node-index n n c.loop-node-test.true (sym c.node-item.is))
-    (put-more c.args.self.now l.self c.put_node.new.self vs n l.stack.items c.put_node.new.stack.items ts c.requires.values l.invariant c.in_ok-put_node.ensures.ok below)
+    let b = length h.cells in
+    let v = c.in-Ok.v in
+    let t = tree_of (reverse c.args.nodes.now) in
+    let made = subst (λ s. PutsTerm s new v (bind (standing s vs) t)) c.mark-mark.ensures.same c.in-Ok.ensures.ok in
+    let whole = puts-under h new b (omega (arith, c.boundary-boundary.ensures.is, c.boundary-boundary.ensures.within)) vs v t c.requires.values c.requires.below made in
+    subst (λ s. PutsTerm h s v (bind (standing h vs) t)) (sym (c.forget.ensures ∙ ap (bounded_by new) c.boundary-boundary.ensures.is)) whole
+
+pub returns-in-Ok-clause-preserves : goal.returns-in-Ok-clause-preserves
+returns-in-Ok-clause-preserves c =
+    let h = c.args.self.now in
+    let new = c.put_all.new.self in
+    let b = length h.cells in
+    let marked = subst (λ s. Preserves s new) c.mark-mark.ensures.same c.in-Ok.ensures.ok.adds.preserves in
+    subst (Preserves h) (sym (c.forget.ensures ∙ ap (bounded_by new) c.boundary-boundary.ensures.is)) (preserves-under h new b (omega (arith, c.boundary-boundary.ensures.is, c.boundary-boundary.ensures.within)) marked)
+
+pub returns-in-Err-clause-err : goal.returns-in-Err-clause-err
+returns-in-Err-clause-err c =
+    let h = c.args.self.now in
+    let m = c.mark-mark.ensures in
+    own-names h c.cut_back.new.self c.put_all.new.self.names (given-back c.mark-mark.result h c.mark-mark.new.self m.now m.same c.put_all.new.self c.cut_back.new.self _ m.mark c.in-Err.ensures.keeps c.cut_back.ensures.cut c.boundary-boundary.ensures.is)
+
+pub returns-in-Err-clause-preserves : goal.returns-in-Err-clause-preserves
+returns-in-Err-clause-preserves c =
+    let h = c.args.self.now in
+    let m = c.mark-mark.ensures in
+    let t = c.put_all.new.self.names in
+    let e = given-back c.mark-mark.result h c.mark-mark.new.self m.now m.same c.put_all.new.self c.cut_back.new.self _ m.mark c.in-Err.ensures.keeps c.cut_back.ensures.cut c.boundary-boundary.ensures.is in
+    let table : IsTable t = subst IsTable (ap (λ x. x.names) e) c.cut_back.ensures.heap.names in
+    subst (Preserves h) (sym e) (Preserves-renamed h t (own-heap h (omega (arith, c.boundary-boundary.ensures.is, c.boundary-boundary.ensures.within)) (marked-heap c.mark-mark.result h c.mark-mark.new.self m.now m.same m.mark)) table (subst (λ s. Extends s.names t) m.same c.in-Err.ensures.keeps.names))

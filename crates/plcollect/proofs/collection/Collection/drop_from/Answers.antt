@@ -1,10 +1,17 @@
-use Rattle.std.proofs.Common.{sym, ◌∙◌}
+use Rattle.std.proofs.Common.{sym, ap, ◌∙◌, subst}
 use Rattle.std.specs.Prelude.{nat_lt}
-use Rattle.plcollect.proofs.Parting.{before}
+use Rattle.plcollect.specs.Copies.{kept_of, AreCopies}
+use Rattle.plcollect.proofs.Holding.{copies-filter, kept-filter}
 use Rattle.plcollect.proofs.collection.Collection.drop_from.Goals as goal
+
+pub trim-requires : goal.trim-requires
+trim-requires c =
+    let s = c.self.inside in
+    subst (AreCopies s.nodes.items) (sym (c.deref.ensures.value ∙ c.leave_below.ensures)) (copies-filter (λ l. nat_lt l c.args.level) s.nodes.items s.held.items c.self.invariant)
 
 pub returns : goal.returns
 returns c =
-    let within = rw c.deref.ensures.value at c.place_of-place.ensures.within in
-    let point = rw c.deref.ensures.value at c.place_of-place.ensures.point in
-    rw (← c.self.view_is) (c.truncate.ensures.items ∙ sym (before (λ k. nat_lt k.level c.args.level) c.self.inside.kept.items c.place_of-place.result within point))
+    let s = c.self.inside in
+    rw (← c.self.view_is)
+    (ap (kept_of c.trim.new.nodes.items) (sym c.deref.ensures.value) ∙ c.trim.ensures.same ∙ ap (kept_of s.nodes.items) (c.deref.ensures.value ∙ c.leave_below.ensures)
+    ∙ kept-filter (λ l. nat_lt l c.args.level) s.nodes.items s.held.items)

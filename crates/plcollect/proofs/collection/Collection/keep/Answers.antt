@@ -1,16 +1,26 @@
-use Rattle.std.proofs.Common.{◌≡◌, [], ◌∷◌, ◌++◌, take, sym, ap, ap₂, ◌∙◌}
+use Rattle.std.proofs.Common.{[], ◌∷◌, ◌++◌, ◌∙◌, ap, arith}
 use Rattle.std.specs.Prelude.{nat_le}
-use Rattle.plcollect.proofs.Parting.{before}
+use Rattle.std.specs.List.{filter}
+use Rattle.plcells.specs.Store.{value}
+use Rattle.plcollect.specs.declared.collection.Held.{Held}
+use Rattle.plcollect.proofs.Holding.{kept-more, copies-more}
 use Rattle.plcollect.proofs.collection.Collection.keep.Goals as goal
+
+pub invariant_of-self-2 : goal.invariant_of-self-2
+invariant_of-self-2 c =
+    let s = c.self.inside in
+    let made = c.copy.new.self.nodes in
+    let one : Held = record { level = c.args.level; from = c.len-from.result; count = c.len-count.result; variables = c.in_ok-variables.variables } in
+    let held = c.hold.ensures ∙ ap (λ hs. filter (λ (h : Held). nat_le h.level c.args.level) hs ++ one ∷ []) c.in_ok-reserve.ensures.items in
+    rw (c.in_ok-append.ensures.items, held)
+    (copies-more s.nodes.items made.items s.held.items one (value c.args.heap.now c.args.v) c.self.invariant c.in_ok-variables.ensures (omega (arith, c.len-from.ensures, s.nodes.ok.0)) (omega (arith, c.len-count.ensures, made.ok.0)))
 
 pub returns-clause-ok : goal.returns-clause-ok
 returns-clause-ok c =
-    let ks = c.self.inside.kept.items in
-    let place = c.place_behind-place.result in
-    let same : c.deref.result.now ≡ ks = c.deref.ensures.value ∙ c.in_ok-reserve.ensures.items in
-    let within = rw same at c.place_behind-place.ensures.within in
-    let point = rw same at c.place_behind-place.ensures.point in
+    let s = c.self.inside in
+    let made = c.copy.new.self.nodes in
+    let one : Held = record { level = c.args.level; from = c.len-from.result; count = c.len-count.result; variables = c.in_ok-variables.variables } in
+    let held = c.hold.ensures ∙ ap (λ hs. filter (λ (h : Held). nat_le h.level c.args.level) hs ++ one ∷ []) c.in_ok-reserve.ensures.items in
     rw (← c.self.view_is)
-    (c.in-Ok.ensures.items
-    ∙ ap₂ (λ xs t. xs ++ record { level = c.args.level; copy = t } ∷ [])
-    (c.truncate.ensures.items ∙ ap (take place) c.in_ok-reserve.ensures.items ∙ sym (before (λ k. nat_le k.level c.args.level) ks place within point)) c.in_ok-copy.ensures)
+    (rw (c.in_ok-append.ensures.items, held)
+    (kept-more s.nodes.items made.items s.held.items one (value c.args.heap.now c.args.v) c.self.invariant c.in_ok-variables.ensures (omega (arith, c.len-from.ensures, s.nodes.ok.0)) (omega (arith, c.len-count.ensures, made.ok.0))))

@@ -1,161 +1,24 @@
-use Rattle.std.proofs.Common.{refl, sym, ap, ap₂, map, [], ◌∷◌, ◌∙◌, rules, w64}
-use Rattle.std.specs.Prelude.{FitsSigned}
-use Rattle.std.proofs.lemmas.Int.{to_z-of_z}
-use Rattle.plterm.specs.Tree.{int}
-use Rattle.plsubst.specs.Unify.{unify}
-use Rattle.plcells.specs.Equations.{left_of, right_of}
+use Rattle.std.proofs.Common.{ap, map, ◌∙◌, subst}
 use Rattle.plcells.specs.Store.{value}
 use Rattle.plclause.specs.Indicators.{indicator}
-use Rattle.plgenerator.specs.Answers.{left}
-use Rattle.plbuiltin.specs.Solution.{Gives, against, writes, decides, unifies as unified_to}
-use Rattle.plbuiltin.specs.Terms.{is_none}
 use Rattle.plbuiltin.specs.Solutions.{solutions}
-use Rattle.planswers.specs.Answers.{meant}
+use Rattle.planswers.specs.Answers.{IsThere}
 use Rattle.plsearch.specs.Rows.{offer}
 use Rattle.plstack.specs.State.{goals_of}
-use Rattle.plmachine.specs.declared.machine.Outcome.TheVariants as outcomes
 use Rattle.plmachine.specs.Machine.{local_of}
-use Rattle.plmachine.proofs.Lists.{holds-list, lengthened-grown, lengthened-same}
-use Rattle.plmachine.proofs.Moves.{went, gave, moved-as, on_ok_map}
-use Rattle.plmachine.proofs.Offers.{offer-writes, offer-succeeds, offer-sets, offer-fails, offer-unifies, offer-solves, offer-many, many-map}
+use Rattle.plmachine.proofs.Moves.{moved-as, on_ok_map}
 use Rattle.plmachine.proofs.machine.Machine.built_in.Goals as goal
 
-pub returns-in-Raises-clause-ok : goal.returns-in-Raises-clause-ok
-returns-in-Raises-clause-ok c t stands =
+pub carry_out-requires-clause-answer : goal.carry_out-requires-clause-answer
+carry_out-requires-clause-answer c =
+    let heap = c.heap-heap.ensures.is ∙ ap (λ e. e.heap) c.env.ensures in
+    subst (λ h. IsThere h c.in_ok-answer.answer) heap c.in_ok-answer.ensures.there
+
+pub returns-clause-ok : goal.returns-clause-ok
+returns-clause-ok c t stands =
     let s = c.args.self.now in
     let n = s.stack.env.count in
-    let p = indicator t in
-    let es = goals_of s.stack c.args.rest in
     let heap = c.heap-heap.ensures.is ∙ ap (λ e. e.heap) c.env.ensures in
-    let is = ap (meant c.heap-heap.result.now s.settings n) (sym c.in-Raises.is) ∙ c.in_ok-error.ensures.is n ∙ ap₂ (λ h xs. solutions c.args.b (map (value h) xs) s.settings n) heap c.deref.ensures.value in
-    on_ok_map c.raise_of.result (moved-as c.args.program.now s c.raise_of.new.self _ _ (ap (λ x. offer x p es n (local_of s)) is)) (c.raise_of.ensures.ok t stands)
-
-pub returns-in-Fails-clause-ok : goal.returns-in-Fails-clause-ok
-returns-in-Fails-clause-ok c t stands =
-    let s = c.args.self.now in
-    let n = s.stack.env.count in
-    let p = indicator t in
-    let es = goals_of s.stack c.args.rest in
-    let heap = c.heap-heap.ensures.is ∙ ap (λ e. e.heap) c.env.ensures in
-    let is = ap (meant c.heap-heap.result.now s.settings n) (sym c.in-Fails.is) ∙ c.in_ok-error.ensures.is n ∙ ap₂ (λ h xs. solutions c.args.b (map (value h) xs) s.settings n) heap c.deref.ensures.value in
-    moved-as c.args.program.now s c.give.new.self _ _ (offer-fails s.settings p es n (local_of s) refl ∙ ap (λ x. offer x p es n (local_of s)) is) (gave c.args.program.now s c.give.new.self outcomes.Fail c.give.ensures)
-
-pub returns-in-Succeeds-clause-ok : goal.returns-in-Succeeds-clause-ok
-returns-in-Succeeds-clause-ok c t stands =
-    let s = c.args.self.now in
-    let n = s.stack.env.count in
-    let p = indicator t in
-    let es = goals_of s.stack c.args.rest in
-    let heap = c.heap-heap.ensures.is ∙ ap (λ e. e.heap) c.env.ensures in
-    let is = ap (meant c.heap-heap.result.now s.settings n) (sym c.in-Succeeds.is) ∙ c.in_ok-error.ensures.is n ∙ ap₂ (λ h xs. solutions c.args.b (map (value h) xs) s.settings n) heap c.deref.ensures.value in
-    moved-as c.args.program.now s c.go_on.new.self _ _ (offer-succeeds s.settings p es n (local_of s) refl ∙ ap (λ x. offer x p es n (local_of s)) is)
-    (went c.args.program.now s c.go_on.new.self s.stack c.args.rest es (lengthened-grown s.stack s.stack (lengthened-same s.stack)) (holds-list s.stack c.args.rest c.requires.rest) c.go_on.ensures)
-
-pub returns-in-Unifies-clause-ok : goal.returns-in-Unifies-clause-ok
-returns-in-Unifies-clause-ok c t stands =
-    let s = c.args.self.now in
-    let n = s.stack.env.count in
-    let p = indicator t in
-    let es = goals_of s.stack c.args.rest in
-    let heap = c.heap-heap.ensures.is ∙ ap (λ e. e.heap) c.env.ensures in
-    let is = ap (λ h. unified_to (value h c.in-Unifies.a) (value h c.in-Unifies.b) s.settings) (sym heap) ∙ ap (meant c.heap-heap.result.now s.settings n) (sym c.in-Unifies.is) ∙ c.in_ok-error.ensures.is n ∙ ap₂ (λ h xs. solutions c.args.b (map (value h) xs) s.settings n) heap c.deref.ensures.value in
-    on_ok_map c.unify.result (moved-as c.args.program.now s c.unify.new.self _ _ (offer-unifies (value s.stack.env.heap c.in-Unifies.a) (value s.stack.env.heap c.in-Unifies.b) s.settings p es n (local_of s) refl ∙ ap (λ x. offer x p es n (local_of s)) is)) c.unify.ensures.ok
-
-pub returns-in-Equals-clause-ok : goal.returns-in-Equals-clause-ok
-returns-in-Equals-clause-ok c t stands =
-    let s = c.args.self.now in
-    let n = s.stack.env.count in
-    let p = indicator t in
-    let es = goals_of s.stack c.args.rest in
-    let heap = c.heap-heap.ensures.is ∙ ap (λ e. e.heap) c.env.ensures in
-    let is = ap (λ h. unified_to (value h c.in-Equals.v) (int c.in-Equals.number) s.settings) (sym heap) ∙ ap (meant c.heap-heap.result.now s.settings n) (sym c.in-Equals.is) ∙ c.in_ok-error.ensures.is n ∙ ap₂ (λ h xs. solutions c.args.b (map (value h) xs) s.settings n) heap c.deref.ensures.value in
-    let fits : FitsSigned w64 c.in-Equals.number = search rules in
-    let moved = rw (to_z-of_z w64 c.in-Equals.number fits) at c.equal.ensures.ok in
-    on_ok_map c.equal.result (moved-as c.args.program.now s c.equal.new.self _ _ (offer-unifies (value s.stack.env.heap c.in-Equals.v) (int c.in-Equals.number) s.settings p es n (local_of s) refl ∙ ap (λ x. offer x p es n (local_of s)) is)) moved
-
-pub returns-in-Differs-clause-ok : goal.returns-in-Differs-clause-ok
-returns-in-Differs-clause-ok c t stands =
-    let s = c.args.self.now in
-    let n = s.stack.env.count in
-    let p = indicator t in
-    let es = goals_of s.stack c.args.rest in
-    let heap = c.heap-heap.ensures.is ∙ ap (λ e. e.heap) c.env.ensures in
-    let is = ap (λ h. decides (is_none (unify (value h c.in-Differs.a) (value h c.in-Differs.b))) s.settings) (sym heap) ∙ ap (meant c.heap-heap.result.now s.settings n) (sym c.in-Differs.is) ∙ c.in_ok-error.ensures.is n ∙ ap₂ (λ h xs. solutions c.args.b (map (value h) xs) s.settings n) heap c.deref.ensures.value in
-    on_ok_map c.differ.result (moved-as c.args.program.now s c.differ.new.self _ _ (ap (λ x. offer x p es n (local_of s)) is)) (c.differ.ensures.ok p)
-
-pub returns-in-Solves-clause-ok : goal.returns-in-Solves-clause-ok
-returns-in-Solves-clause-ok c t stands =
-    let s = c.args.self.now in
-    let n = s.stack.env.count in
-    let p = indicator t in
-    let es = goals_of s.stack c.args.rest in
-    let q = c.in-Solves.equation in
-    let heap = c.heap-heap.ensures.is ∙ ap (λ e. e.heap) c.env.ensures in
-    let is = ap (λ h. Gives (record { left = left_of h n q; right = right_of h n q; new = q.new } ∷ []) [] s.settings) (sym heap) ∙ ap (meant c.heap-heap.result.now s.settings n) (sym c.in-Solves.is) ∙ c.in_ok-error.ensures.is n ∙ ap₂ (λ h xs. solutions c.args.b (map (value h) xs) s.settings n) heap c.deref.ensures.value in
-    on_ok_map c.solve_equation.result (moved-as c.args.program.now s c.solve_equation.new.self _ _ (offer-solves (left_of s.stack.env.heap n q) (right_of s.stack.env.heap n q) q.new s.settings p es n (local_of s) refl ∙ ap (λ x. offer x p es n (local_of s)) is)) c.solve_equation.ensures.ok
-
-pub returns-in-Writes-clause-ok : goal.returns-in-Writes-clause-ok
-returns-in-Writes-clause-ok c t stands =
-    let s = c.args.self.now in
-    let n = s.stack.env.count in
-    let p = indicator t in
-    let es = goals_of s.stack c.args.rest in
-    let heap = c.heap-heap.ensures.is ∙ ap (λ e. e.heap) c.env.ensures in
-    let is = ap (λ bytes. writes bytes s.settings) c.deref-in-Writes.ensures.value ∙ ap (meant c.heap-heap.result.now s.settings n) (sym c.in-Writes.is) ∙ c.in_ok-error.ensures.is n ∙ ap₂ (λ h xs. solutions c.args.b (map (value h) xs) s.settings n) heap c.deref.ensures.value in
-    on_ok_map c.write_bytes.result (moved-as c.args.program.now s c.write_bytes.new.self _ _ (offer-writes c.deref-in-Writes.result.now s.settings p es n (local_of s) ∙ ap (λ x. offer x p es n (local_of s)) is)) c.write_bytes.ensures.ok
-
-pub returns-in-Sets-clause-ok : goal.returns-in-Sets-clause-ok
-returns-in-Sets-clause-ok c t stands =
-    let s = c.args.self.now in
-    let n = s.stack.env.count in
-    let p = indicator t in
-    let es = goals_of s.stack c.args.rest in
-    let heap = c.heap-heap.ensures.is ∙ ap (λ e. e.heap) c.env.ensures in
-    let is = ap (meant c.heap-heap.result.now s.settings n) (sym c.in-Sets.is) ∙ c.in_ok-error.ensures.is n ∙ ap₂ (λ h xs. solutions c.args.b (map (value h) xs) s.settings n) heap c.deref.ensures.value in
-    moved-as c.args.program.now s c.set.new.self _ _ (offer-sets c.in-Sets.settings p es n (local_of s) ∙ ap (λ x. offer x p es n (local_of s)) is) c.set.ensures
-
-pub several-requires-clause-values : goal.several-requires-clause-values
-several-requires-clause-values c =
-    let heap = c.heap-heap.ensures.is ∙ ap (λ e. e.heap) c.env.ensures in
-    let there = rw (c.in-Several.is, heap) at c.in_ok-error.ensures.there in
-    rw c.deref-in-Several.ensures.value there.values
-
-pub several-requires-clause-few : goal.several-requires-clause-few
-several-requires-clause-few c =
-    let heap = c.heap-heap.ensures.is ∙ ap (λ e. e.heap) c.env.ensures in
-    let there = rw (c.in-Several.is, heap) at c.in_ok-error.ensures.there in
-    rw c.deref-in-Several.ensures.value there.few
-
-pub several-requires-clause-turn : goal.several-requires-clause-turn
-several-requires-clause-turn c =
-    let heap = c.heap-heap.ensures.is ∙ ap (λ e. e.heap) c.env.ensures in
-    let there = rw (c.in-Several.is, heap) at c.in_ok-error.ensures.there in
-    rw c.deref-in-Several.ensures.value there.is_turn
-
-pub returns-in-Several-clause-ok : goal.returns-in-Several-clause-ok
-returns-in-Several-clause-ok c t stands =
-    let s = c.args.self.now in
-    let n = s.stack.env.count in
-    let p = indicator t in
-    let es = goals_of s.stack c.args.rest in
-    let heap = c.heap-heap.ensures.is ∙ ap (λ e. e.heap) c.env.ensures in
-    let vs = c.in-Several.values.items in
-    let turn = c.in-Several.turn in
-    let there = rw (c.in-Several.is, heap) at c.in_ok-error.ensures.there in
-    let is = ap (λ h. Gives (left h vs turn) [] s.settings) (sym heap) ∙ ap (meant c.heap-heap.result.now s.settings n) (sym c.in-Several.is) ∙ c.in_ok-error.ensures.is n ∙ ap₂ (λ h xs. solutions c.args.b (map (value h) xs) s.settings n) heap c.deref.ensures.value in
-    on_ok_map c.several.result (moved-as c.args.program.now s c.several.new.self _ _ (offer-many (left s.stack.env.heap vs turn) there.many s.settings p es n (local_of s) refl ∙ ap (λ x. offer x p es n (local_of s)) is))
-    (rw c.deref-in-Several.ensures.value at c.several.ensures.ok)
-
-pub returns-in-Groups-clause-ok : goal.returns-in-Groups-clause-ok
-returns-in-Groups-clause-ok c t stands =
-    let s = c.args.self.now in
-    let n = s.stack.env.count in
-    let p = indicator t in
-    let es = goals_of s.stack c.args.rest in
-    let heap = c.heap-heap.ensures.is ∙ ap (λ e. e.heap) c.env.ensures in
-    let vs = c.in-Groups.values.items in
-    let ts = c.in-Groups.groups.items in
-    let there = rw (c.in-Groups.is, heap) at c.in_ok-error.ensures.there in
-    let is = ap (λ h. Gives (map (against (map (value h) vs)) ts) [] s.settings) (sym heap) ∙ ap (meant c.heap-heap.result.now s.settings n) (sym c.in-Groups.is) ∙ c.in_ok-error.ensures.is n ∙ ap₂ (λ h xs. solutions c.args.b (map (value h) xs) s.settings n) heap c.deref.ensures.value in
-    on_ok_map c.one_of.result (moved-as c.args.program.now s c.one_of.new.self _ _ (offer-many (map (against (map (value s.stack.env.heap) vs)) ts) (many-map _ ts there.many) s.settings p es n (local_of s) refl ∙ ap (λ x. offer x p es n (local_of s)) is))
-    (rw c.deref-in-Groups.ensures.value at c.one_of.ensures.ok)
+    let is = rw heap at (c.in_ok-answer.ensures.is n) in
+    let args = ap (λ xs. solutions c.args.b (map (value s.stack.env.heap) xs) s.settings n) c.deref.ensures.value in
+    on_ok_map c.carry_out.result (moved-as c.args.program.now s c.carry_out.new.self _ _ (ap (λ x. offer x (indicator t) (goals_of s.stack c.args.rest) n (local_of s)) (is ∙ args))) (c.carry_out.ensures.ok t stands)

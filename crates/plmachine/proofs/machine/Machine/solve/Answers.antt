@@ -1,10 +1,12 @@
-use Rattle.std.proofs.Common.{ap, ap₂, ◌∙◌, subst}
+use Rattle.std.proofs.Common.{ap, ap₂, sym, ◌∙◌, subst}
 use Rattle.plclause.specs.Indicators.{indicator}
 use Rattle.plprogram.specs.Program.{clauses_for}
 use Rattle.plsearch.specs.Forms.{form as form_by_term}
 use Rattle.plsearch.specs.Rows.{row}
 use Rattle.plgoals.specs.Forms.{shown_form}
 use Rattle.plstack.specs.State.{goals_of}
+use Rattle.std.specs.Prelude.{IfSome}
+use Rattle.plmachine.specs.Calculating.{IsCalculation}
 use Rattle.plmachine.specs.Machine.{depth_of, local_of}
 use Rattle.plmachine.specs.Selected.{IsCall, IsCallOf}
 use Rattle.plmachine.proofs.Moves.{grown-depth, grown-with, moved-as, moved-with, stays-trans, on_err, on_ok_map, on_err_map}
@@ -75,3 +77,14 @@ pub returns-clause-err : goal.returns-clause-err
 returns-clause-err c =
     let s = c.args.self.now in
     on_err_map c.select.result (stays-trans c.args.program.now s c.form.new.self c.select.new.self (grown-with c.args.program.now s c.form.new.self c.form.ensures.grown c.form.ensures.frame)) c.select.ensures.err
+
+pub calculate-requires-clause-call : goal.calculate-requires-clause-call
+calculate-requires-clause-call c = (c.requires.source.0, subst (λ o. IfSome o (λ k. IsCalculation c.args.self.now.stack k c.requires.source.0)) c.in-Some.is (c.calculation.ensures c.args.program.now c.requires.source.0 c.requires.begun c.requires.source.1))
+
+pub returns-in-Some-clause-ok : goal.returns-in-Some-clause-ok
+unfolding row
+returns-in-Some-clause-ok c = λ u stands.
+    let s = c.args.self.now in
+    let P = c.args.program.now in
+    let k = subst (λ o. IfSome o (λ k. IsCalculation s.stack k u)) c.in-Some.is (c.calculation.ensures P u c.requires.begun stands) in
+    on_ok_map c.calculate.result (moved-as P s c.calculate.new.self _ _ (ap (λ f. row P f c.args.level u (depth_of P s) (goals_of s.stack c.args.rest) s.stack.env.count (local_of s)) (sym k.is))) (c.calculate.ensures.ok u k)

@@ -1,4 +1,4 @@
-use Rattle.std.proofs.Common.{refl, ap, ◌∙◌}
+use Rattle.std.proofs.Common.{refl}
 use Rattle.plmachine.specs.declared.machine.Machine.{Machine as Reached}
 use Rattle.plmachine.proofs.Moves.{grown-stays, on_err}
 use Rattle.plmachine.proofs.Offers.{solves, unsolved}
@@ -19,4 +19,4 @@ returns-clause-ok c =
     let s = c.args.self.now in
     let t : Reached = record s { stack = c.solve.new.self } in
     let same = c.in_ok-solve.ensures.same c.if-branch.false in
-    unsolved c.args.program.now s t c.give.new.self c.args.equation c.args.rest (record { extends = same.0; count = same.1 }) refl (c.in_ok-solve.ensures.no c.if-branch.false) c.give.ensures
+    unsolved c.args.program.now s t c.give.new.self _ _ _ c.args.rest (record { extends = same.0; count = same.1 }) refl (c.in_ok-solve.ensures.no c.if-branch.false) c.give.ensures

@@ -1,4 +1,3 @@
-use Rattle.std.proofs.Common.{reverse}
 use Rattle.plstack.specs.State.{State}
 use Rattle.plstack.proofs.Stacks.{inside}
 use Rattle.plstack.proofs.Reopening.{on_err}

@@ -4,7 +4,8 @@ use Rattle.plterm.proofs.Belows.{AllBelow-copied_0}
 use Rattle.plsubst.specs.Subst.{shift}
 use Rattle.plstack.proofs.Stacks.{inside}
 use Rattle.plstack.proofs.Growing.{if_ok, put-extends, stack-env, extends-env}
-use Rattle.plstack.proofs.Copying.{shift-copied}
+use Rattle.plstack.proofs.Arguments.{arguments-stay}
+use Rattle.plcollect.proofs.Copying.{shift-copied}
 use Rattle.plstack.proofs.stack.Stack.put_copy.Goals as goal
 
 pub put_term-put-requires : goal.put_term-put-requires
@@ -30,3 +31,9 @@ returns-clause-is c =
     let s = inside c.self.inside in
     let g = c.args.given.now in
     rw (← c.self.view_is) (if_ok _ _ c.put_term-put.result (λ v puts. puts.is ∙ ap (shift s.env.count) c.in_ok-copy.ensures ∙ shift-copied s.env.count g) c.put_term-put.ensures.ok)
+
+pub returns-clause-arguments : goal.returns-clause-arguments
+returns-clause-arguments c =
+    let s = inside c.self.inside in
+    let e = c.put_term-put.new.self in
+    rw (← c.self.view_is) (arguments-stay s e (put-extends s.env e _ _ c.put_term-put.result c.put_term-put.ensures.ok c.put_term-put.ensures.err))

@@ -33,7 +33,7 @@ pub returns-clause-stays : goal.returns-clause-stays
 returns-clause-stays c = rw (← c.self.view_is) (extends-env (inside c.self.inside) c.self.inside.depth c.put_goal-put.new.self c.put_goal-put.ensures.stays.extends c.heap-2.ensures.env c.self.invariant)
 
 pub returns-clause-arguments : goal.returns-clause-arguments
-returns-clause-arguments c = rw (← c.self.view_is) (arguments-stay (inside c.self.inside) c.put_goal-put.new.self c.put_goal-put.ensures.stays)
+returns-clause-arguments c = rw (← c.self.view_is) (arguments-stay (inside c.self.inside) c.put_goal-put.new.self c.put_goal-put.ensures.stays.extends)
 
 pub returns-clause-is : goal.returns-clause-is
 returns-clause-is c = rw (← c.self.view_is) (

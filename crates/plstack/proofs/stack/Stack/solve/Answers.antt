@@ -1,5 +1,5 @@
 use Rattle.plstack.proofs.Stacks.{inside}
-use Rattle.plstack.proofs.Growing.{solve-stack, solve-solves, solve-stays, solve-none, solve-err}
+use Rattle.plstack.proofs.Growing.{solve-stack, solve-solves, solve-stays, solve-none, err-extends}
 use Rattle.plstack.proofs.stack.Stack.solve.Goals as goal
 
 pub invariant_of-self : goal.invariant_of-self
@@ -21,4 +21,4 @@ returns-clause-same c =
 
 pub returns-clause-err : goal.returns-clause-err
 returns-clause-err c =
-    rw (← c.self.view_is) (solve-err (inside c.self.inside) c.self.inside.depth c.solve-solved.new.self c.args.equation c.heap.ensures.env c.self.invariant c.solve-solved.result c.solve-solved.ensures.err)
+    rw (← c.self.view_is) (err-extends (inside c.self.inside) c.self.inside.depth c.solve-solved.new.self c.heap.ensures.env c.self.invariant c.solve-solved.result c.solve-solved.ensures.err)
