@@ -1,7 +1,7 @@
 //! Arithmetic.
 use plhist::Status;
 use plload::error::RefusalKind;
-use plrow::row::{Goal, RUN, Row, first_wrong, first_wrong_goal};
+use plrow::row::{Goal, RUN, Row, first_wrong, first_wrong_body, first_wrong_goal};
 use std::test::Fail;
 
 /// What expressions come to.
@@ -165,6 +165,15 @@ fn rows_of_comparisons(rt: HostRuntime) -> Result<(), Fail> {
 #[test]
 fn rows_of_arithmetic_errors(rt: HostRuntime) -> Result<(), Fail> {
     assert_eq!(rt; first_wrong_goal(&rt, rt.alloc(), &ERRORS)?, None);
+    Ok(())
+}
+
+/// The same where they stand in the body of a clause, and are not put on the heap.
+#[test]
+fn rows_of_arithmetic_in_clauses(rt: HostRuntime) -> Result<(), Fail> {
+    assert_eq!(rt; first_wrong_body(&rt, rt.alloc(), &VALUES)?, None);
+    assert_eq!(rt; first_wrong_body(&rt, rt.alloc(), &COMPARISONS)?, None);
+    assert_eq!(rt; first_wrong_body(&rt, rt.alloc(), &ERRORS)?, None);
     Ok(())
 }
 

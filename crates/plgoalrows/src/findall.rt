@@ -17,6 +17,10 @@ const FOUND: [Goal; 46] = [
         "a/_1",
     ),
     ("findall(f(Y, Z, Y), true, [T]), writeq(T)", "f(_1,_2,_1)"),
+    (
+        "findall(f(A, B, C, D, E, F, G, H, I, J, H, I, A), true, [T]), writeq(T)",
+        "f(_1,_2,_3,_4,_5,_6,_7,_8,_9,_10,_8,_9,_1)",
+    ),
     // What the goal binds is undone.
     ("findall(X, (X = 1 ; X = 2), L), var(X), writeq(L)", "[1,2]"),
     ("Y = b, findall(X-Y, X = a, L), writeq(L)", "[a-b]"),

@@ -4,7 +4,7 @@ use plrow::row::{CHECK, Goal, LIST, RUN, Row, first_wrong, first_wrong_goal};
 use std::test::Fail;
 
 /// What its procedures give, all answers in their order.
-const ANSWERS: [Goal; 40] = [
+const ANSWERS: [Goal; 45] = [
     ("append([a,b], [c], L), writeq(L)", "[a,b,c]"),
     (
         "append(X, Y, [a,b]), writeq(X-Y), write(' '), fail ; write(end)",
@@ -25,15 +25,18 @@ const ANSWERS: [Goal; 40] = [
     ("select(b, [a,b,c,b], L), writeq(L)", "[a,c,b]"),
     ("reverse([a,b,c], L), writeq(L)", "[c,b,a]"),
     ("reverse([], L), writeq(L)", "[]"),
+    ("reverse(L, [a]), !, writeq(L)", "[a]"),
     ("maplist(=(x), [A,B]), writeq(A-B)", "x-x"),
     ("maplist(nothing, []), write(yes)", "yes"),
     ("maplist(=(x), [x,y]) ; write(no)", "no"),
+    ("maplist(=(x), L), !, writeq(L)", "[]"),
     (
         "maplist(append([a]), [[b],[c,d]], L), writeq(L)",
         "[[a,b],[a,c,d]]",
     ),
     ("maplist(atom_length, [ab,'',c], L), writeq(L)", "[2,0,1]"),
     ("maplist(=, [a,b], [c]) ; write(no)", "no"),
+    ("maplist(=, L, M), !, writeq(L-M)", "[]-[]"),
     (
         "forall(member(X, [a,b]), atom_length(X, 1)), writeq(X)",
         "_1",
@@ -53,6 +56,10 @@ const ANSWERS: [Goal; 40] = [
         "assertz(seen(a)), assertz(seen(b)), repeat, seen(X), write(X), X = b, !",
         "ab",
     ),
+    (
+        "repeat, assertz(seen), findall(x, seen, L), length(L, 3), !, writeq(L)",
+        "[x,x,x]",
+    ),
     ("length([a,b,c], N), write(N)", "3"),
     ("length([], N), write(N)", "0"),
     ("length(L, 2), writeq(L)", "[_1,_2]"),
@@ -64,6 +71,10 @@ const ANSWERS: [Goal; 40] = [
     ("between(1, 3, X), write(X), fail ; write(end)", "123end"),
     ("between(1, 3, 3), write(yes)", "yes"),
     ("between(1, 3, 4) ; write(no)", "no"),
+    (
+        "between(1, 9223372036854775807, 2), write(yes), fail ; write(end)",
+        "yesend",
+    ),
     ("between(3, 1, _) ; write(no)", "no"),
     ("between(-1, -1, X), write(X)", "-1"),
 ];

@@ -35,23 +35,54 @@ pub fn first_wrong<R: Threads + Wait + Sync>(
     Ok(None)
 }
 
-/// Runs goals, each as a program of its own: the place of the first that comes to anything else.
+/// Runs goals, each as a program of its own, whose goal it is: the place of the first that comes to anything else.
 pub fn first_wrong_goal<R: Threads + Wait + Sync>(
     rt: &R,
     alloc: Global,
     goals: &[Goal],
 ) -> Result<Option<usize>, AllocError> {
     for (place, (goal, written)) in goals.iter().enumerate() {
-        let text = format!(in alloc;
-            ":- initialization((catch(({goal}), error(Error, Of), (writeq(Error), write(' of '), writeq(Of)))))."
-        )?;
-        let output = format!(in alloc; "% thread 1 main: true\n{written}\n")?;
-        let (bytes, ended) = told(rt, alloc, RUN, text.as_bytes())?;
-        if bytes.as_slice() != output.as_bytes() || ended != Status::Done {
+        let text = caught(alloc, goal)?;
+        if !writes(rt, alloc, &text, written)? {
             return Ok(Some(place));
         }
     }
     Ok(None)
+}
+
+/// The same, where each goal is the body of a clause.
+pub fn first_wrong_body<R: Threads + Wait + Sync>(
+    rt: &R,
+    alloc: Global,
+    goals: &[Goal],
+) -> Result<Option<usize>, AllocError> {
+    for (place, (goal, written)) in goals.iter().enumerate() {
+        let directive = caught(alloc, "body")?;
+        let text = format!(in alloc; "body :- {goal}.\n{directive}")?;
+        if !writes(rt, alloc, &text, written)? {
+            return Ok(Some(place));
+        }
+    }
+    Ok(None)
+}
+
+/// A program's directive that runs a goal, and writes an error that it raises.
+fn caught(alloc: Global, goal: &str) -> Result<String, AllocError> {
+    format!(in alloc;
+        ":- initialization((catch(({goal}), error(Error, Of), (writeq(Error), write(' of '), writeq(Of)))))."
+    )
+}
+
+/// Whether a text's main thread succeeds, and writes this.
+fn writes<R: Threads + Wait + Sync>(
+    rt: &R,
+    alloc: Global,
+    text: &str,
+    written: &str,
+) -> Result<bool, AllocError> {
+    let output = format!(in alloc; "% thread 1 main: true\n{written}\n")?;
+    let (bytes, ended) = told(rt, alloc, RUN, text.as_bytes())?;
+    Ok(bytes.as_slice() == output.as_bytes() && ended == Status::Done)
 }
 
 /// What the words make of a text: the output and the status.
