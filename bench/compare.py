@@ -10,8 +10,9 @@ The same text runs on all systems, in turn, as often as --times says (3); the le
 of a run of no rounds, which is that of the start, of the loading and of what is made before, is taken off. All times
 are divided by the same count, our steps. Before that, one round's answer is written by each system and compared.
 
+A round of `upto` or of `million` is millions of steps long, and a run has one at least, so these two take minutes.
 `loop` is an endless loop, ended by --steps, for this system alone. A peak below some 15 MB is that of this script,
-before the program takes its place.
+before the program takes its place. GNU Prolog is given more room for terms than it takes by itself, where ROOM says so.
 """
 import argparse
 import os
@@ -23,8 +24,10 @@ import tempfile
 
 HERE = os.path.dirname(os.path.realpath(__file__))
 PROLOG = os.path.join(os.path.dirname(HERE), "prolog")
-NAMES = ["nrev", "tak", "queens", "zebra", "deriv", "unify", "deep", "up", "upvar", "catch", "control", "lookup", "output", "count", "itak", "iqueens", "sort", "findall", "texts", "parts"]
+NAMES = ["nrev", "tak", "queens", "zebra", "deriv", "unify", "deep", "up", "upvar", "catch", "control", "lookup", "output", "count", "itak", "iqueens", "sort", "findall", "texts", "codes", "parts", "upto", "million"]
 FACTS = 100000
+# GNU Prolog's room for terms, in kilobytes: with its own 32,768 it breaks off in long loops.
+ROOM = {"GLOBALSZ": "1000000"}
 
 
 def ours(text, goal, steps=None):
@@ -72,7 +75,7 @@ def driver(text, rounds):
 def run(words):
     """Runs a command: its output, its processor time in seconds, and the peak of its memory in kilobytes."""
     with tempfile.TemporaryFile() as out:
-        child = subprocess.Popen(words, stdin=subprocess.DEVNULL, stdout=out, stderr=subprocess.DEVNULL)
+        child = subprocess.Popen(words, stdin=subprocess.DEVNULL, stdout=out, stderr=subprocess.DEVNULL, env={**ROOM, **os.environ})
         _, status, used = os.wait4(child.pid, 0)
         child.returncode = os.waitstatus_to_exitcode(status)
         out.seek(0)
@@ -93,11 +96,11 @@ class Bench:
         return path
 
     def steps(self, rounds):
-        """How many steps a run of so many rounds takes: the least limit within which it ends."""
+        """How many steps a run of so many rounds takes: the least limit within which it ends, to one part in 10,000."""
         low, high = 0, 1000
         while not self.ends(rounds, high):
             low, high = high, high * 2
-        while high - low > 1:
+        while high - low > max(1, high // 10000):
             middle = (low + high) // 2
             if self.ends(rounds, middle):
                 high = middle
