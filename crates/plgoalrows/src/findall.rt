@@ -2,7 +2,7 @@
 use plrow::row::{Goal, first_wrong_goal};
 use std::test::Fail;
 
-const FOUND: [Goal; 46] = [
+const FOUND: [Goal; 47] = [
     ("findall(X, member(X, [a, b, c]), L), writeq(L)", "[a,b,c]"),
     ("findall(X, fail, L), writeq(L)", "[]"),
     ("findall(a, true, L), writeq(L)", "[a]"),
