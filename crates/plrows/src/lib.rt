@@ -6,6 +6,8 @@ mod calls;
 #[cfg(test)]
 mod control;
 #[cfg(test)]
+mod cuts;
+#[cfg(test)]
 mod deep;
 #[cfg(test)]
 mod ends;
