@@ -5,3 +5,5 @@ pub mod Numbered
 pub mod Necks
 pub mod Names
 pub mod Worked
+pub mod Arguments
+pub mod Each

@@ -4,3 +4,5 @@ pub mod Soundness
 pub mod Clausal
 pub mod Indicators
 pub mod Goals
+pub mod Lists
+pub mod Named

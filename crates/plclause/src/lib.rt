@@ -4,3 +4,5 @@
 pub mod clause;
 pub mod convert;
 pub mod form;
+pub mod lists;
+pub mod named;

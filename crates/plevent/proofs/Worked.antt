@@ -158,3 +158,37 @@ end_stopped = refl
 pub halt_is_asked : served (Request.Finish (ThreadEnd.Halt 44)) 1 (reading started) ≡ (Reply.NotYet (Request.Finish (ThreadEnd.Halt 44)), None)
 unfolding served reading
 halt_is_asked = refl
+
+-- a clause that is alive is erased, by a batch of its own
+abbrev erased_one : List Entry
+erased_one = published ++ record { worker = 1; thread = 1; act = Act.Batch (Erase (named 2 0) ∷ []) } ∷ []
+
+pub erase_adds : published ++ adds published 1 1 (Request.EraseOne (named 2 0)) ≡ erased_one
+unfolding served reading is_alive
+erase_adds = refl
+
+pub erase_is_told : reply_to published 1 (Request.EraseOne (named 2 0)) ≡ Reply.Erased
+unfolding served reading is_alive
+erase_is_told = refl
+
+pub erase_takes : alive (reading erased_one).updates p ≡ []
+unfolding reading living
+erase_takes = refl
+
+-- one that was erased is gone, and so is one that was never made: nothing is added
+pub second_erase : served (Request.EraseOne (named 2 0)) 1 (reading erased_one) ≡ (Reply.Gone, None)
+unfolding served reading is_alive
+second_erase = refl
+
+pub never_made : served (Request.EraseOne (named 1 0)) 1 (reading published) ≡ (Reply.Gone, None)
+unfolding served reading is_alive
+never_made = refl
+
+-- a thread that is not started is told to wait, and all are stopped where one has ended the run
+pub erase_waits : served (Request.EraseOne (named 0 0)) 1 (reading opened) ≡ (Reply.NotYet (Request.EraseOne (named 0 0)), None)
+unfolding served reading is_alive
+erase_waits = refl
+
+pub erase_stopped : served (Request.EraseOne (named 0 0)) 1 (reading halted) ≡ (Reply.Stopped, None)
+unfolding served reading is_alive
+erase_stopped = refl

@@ -8,6 +8,7 @@ use Rattle.plclause.specs.Indicators.{indicator}
 use Rattle.plevent.specs.declared.update.Update.{Update}
 use Rattle.plevent.specs.declared.update.Update.TheVariants.{First, Last, Erase, EraseOwn, Declare}
 use Rattle.plevent.specs.declared.update.ClauseName.{ClauseName}
+use Rattle.plevent.specs.declared.update.Living.{Living}
 
 -- an update and its own name
 pub record Stamped : Type 0 where
@@ -32,11 +33,6 @@ is_of p c = same_indicator (indicator c.head) p
 abbrev pub add_if : {A : Type 0} → Bool → A → A → A
 add_if true new old = new
 add_if false new old = old
-
--- a clause and its name
-pub record Living : Type 0 where
-  pub name : ClauseName
-  pub clause : Clause
 
 abbrev pub lives_as : ClauseName → Clause → Living
 lives_as x c = record { name = x; clause = c }

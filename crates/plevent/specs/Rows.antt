@@ -9,7 +9,9 @@ use Rattle.plevent.specs.declared.act.Act.{Act}
 use Rattle.plevent.specs.declared.act.Entry.{Entry}
 use Rattle.plevent.specs.declared.standing.Thread.{Thread}
 use Rattle.plevent.specs.declared.standing.Standing.{Standing}
-use Rattle.plevent.specs.Alive.{add_if}
+use Rattle.plevent.specs.declared.update.ClauseName.{ClauseName}
+use Rattle.plevent.specs.declared.update.Update.TheVariants.{Erase}
+use Rattle.plevent.specs.Alive.{add_if, is_alive}
 use Rattle.plevent.specs.Reading.{Reading, reading, is_thread}
 
 -- the reply, and the act, if any, with the thread that its entry names
@@ -48,9 +50,15 @@ finish_row (ThreadEnd.Exception b) t = (Reply.Done, Some (t, Act.End (ThreadEnd.
 finish_row ThreadEnd.Budget t = (Reply.Done, Some (t, Act.End ThreadEnd.Budget))
 finish_row (ThreadEnd.Halt n) t = (Reply.NotYet (Request.Finish (ThreadEnd.Halt n)), None)
 
-abbrev pub row : Request → ℕ → Standing → Row
-row Request.Start t r = start_row r (find is_new r.threads)
+-- a clause that is alive is erased, by a batch of its own
+abbrev pub erase_row : Bool → ClauseName → ℕ → Row
+erase_row true x t = (Reply.Erased, Some (t, Act.Batch (Erase x ∷ [])))
+erase_row false x t = (Reply.Gone, None)
+
+abbrev pub row : Request → ℕ → Reading → Row
+row Request.Start t r = start_row r.standing (find is_new r.standing.threads)
 row (Request.Publish us) t r = (Reply.Published, Some (t, Act.Batch us))
+row (Request.EraseOne x) t r = erase_row (is_alive x r.updates) x t
 row (Request.Finish e) t r = finish_row e t
 row (Request.HaltRun n) t r = (Reply.Done, Some (t, Act.Halt n))
 
@@ -58,19 +66,17 @@ row (Request.HaltRun n) t r = (Reply.Done, Some (t, Act.Halt n))
 abbrev pub is_workers : Request → Bool
 is_workers Request.Start = true
 is_workers (Request.Publish us) = false
+is_workers (Request.EraseOne x) = false
 is_workers (Request.Finish e) = false
 is_workers (Request.HaltRun n) = false
 
 -- a thread that is not started, or has ended, waits
-abbrev pub served_while : Request → ℕ → Standing → Row
-served_while q t r = add_if (is_workers q || runs t r) (row q t r) (Reply.NotYet q, None)
+abbrev pub served_while : Request → ℕ → Reading → Row
+served_while q t r = add_if (is_workers q || runs t r.standing) (row q t r) (Reply.NotYet q, None)
 
 -- where a thread has ended the run, all stop
-abbrev pub served_in : Request → ℕ → Standing → Row
-served_in q t r = add_if (is_halted r) (Reply.Stopped, None) (served_while q t r)
-
 unfoldable pub served : Request → ℕ → Reading → Row
-served q t r = served_in q t r.standing
+served q t r = add_if (is_halted r.standing) (Reply.Stopped, None) (served_while q t r)
 
 -- the entry of a row, asked by worker w
 abbrev pub entries_of : ℕ → Option (ℕ × Act) → List Entry

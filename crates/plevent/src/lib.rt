@@ -12,4 +12,4 @@ pub use act::{Act, Entry};
 pub use key::Key;
 pub use request::{Reply, Request, ThreadEnd};
 pub use standing::{Standing, Thread, Threads};
-pub use update::{Batch, ClauseName, Update};
+pub use update::{Batch, ClauseName, Living, Update};

@@ -1,7 +1,7 @@
 //! What a thread asks of the world, and what it is told.
 ghost use Rattle.std.specs.Prelude.{◌≡◌, IfOk};
 
-use crate::update::Batch;
+use crate::update::{Batch, ClauseName};
 use plterm::name::Name;
 use plterm::term::Term;
 use std::alloc::{AllocError, Global};
@@ -46,6 +46,8 @@ pub enum Request {
     Start,
     /// A thread publishes its updates as one batch.
     Publish(Batch),
+    /// A thread erases a clause that is alive.
+    EraseOne(ClauseName),
     /// A thread has ended, and not by ending the run.
     Finish(ThreadEnd),
     /// A thread ends the run, with this number as its status.
@@ -63,6 +65,7 @@ impl Request {
                 let copy = batch.copied(alloc)?;
                 return Ok(Request::Publish(copy));
             }
+            Request::EraseOne(name) => return Ok(Request::EraseOne(*name)),
             Request::Finish(end) => {
                 let copy = end.copied(alloc)?;
                 return Ok(Request::Finish(copy));
@@ -89,6 +92,10 @@ pub enum Reply {
     NotYet(Request),
     /// The batch stands in the journal.
     Published,
+    /// The clause was alive, and is erased.
+    Erased,
+    /// The clause is not alive.
+    Gone,
     /// It is done.
     Done,
 }

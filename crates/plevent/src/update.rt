@@ -15,6 +15,13 @@ pub struct ClauseName {
     pub number: u64,
 }
 
+/// A clause that was made, and its name.
+#[derive(Drop)]
+pub struct Living {
+    pub name: ClauseName,
+    pub clause: Clause,
+}
+
 /// A change of the database.
 #[derive(Drop)]
 pub enum Update {

@@ -6,6 +6,10 @@ mod arithmetic;
 #[cfg(test)]
 mod build;
 #[cfg(test)]
+mod clauses;
+#[cfg(test)]
+mod erased;
+#[cfg(test)]
 mod findall;
 #[cfg(test)]
 mod format;

@@ -3,7 +3,7 @@ use Rattle.std.specs.Prelude.{◌≡◌, ℕ, suc, ◌+◌, ◌<◌, ◌≤◌, 
 use Rattle.std.specs.Bool.{⊤}
 use Rattle.plterm.specs.Tree.{Tree, int, atom, compound, trees}
 use Rattle.plterm.specs.declared.indicator.Indicator.{Indicator}
-use Rattle.plsearch.specs.Forms.{Form, True, False, Both, Either, IfThenElse, Not, Once, Catching, FindAll, Throwing, CallWith, Cut, Halting, AddLast, BuiltIn, Call, NoGoal}
+use Rattle.plsearch.specs.Forms.{Form, True, False, Both, Either, IfThenElse, Not, Once, Catching, FindAll, Throwing, CallWith, Cut, Halting, Adding, Retrieving, Retracting, RetractingAll, Declaring, BuiltIn, Call, NoGoal}
 use Rattle.plcells.specs.declared.cell.Cell.{Cell}
 use Rattle.plcells.specs.Store.{Store, at, terms, value, IsHead, IsValue}
 use Rattle.plcode.specs.declared.callee.Callee.{Callee}
@@ -35,7 +35,11 @@ shown_form h p args found.CallWith = call_with (map (value h) args)
 shown_form h p args found.Cut = Cut
 shown_form h p args found.Halt = Halting (int (pos 0))
 shown_form h p args (found.HaltWith a) = Halting (value h a)
-shown_form h p args (found.AddLast a) = AddLast (value h a)
+shown_form h p args (found.Adding side a) = Adding side (value h a)
+shown_form h p args (found.Retrieving a b) = Retrieving (value h a) (value h b)
+shown_form h p args (found.Retracting a) = Retracting (value h a)
+shown_form h p args (found.RetractingAll a) = RetractingAll (value h a)
+shown_form h p args (found.Declaring a) = Declaring (value h a)
 shown_form h p args (found.BuiltIn b) = BuiltIn b (map (value h) args)
 shown_form h p args (found.Call q) = Call p
 shown_form h p args found.NoGoal = NoGoal
@@ -57,7 +61,11 @@ IsInside h args found.CallWith = 0 < length args
 IsInside h args found.Cut = ⊤
 IsInside h args found.Halt = ⊤
 IsInside h args (found.HaltWith a) = IsValue h a
-IsInside h args (found.AddLast a) = IsValue h a
+IsInside h args (found.Adding side a) = IsValue h a
+IsInside h args (found.Retrieving a b) = IsValue h a × IsValue h b
+IsInside h args (found.Retracting a) = IsValue h a
+IsInside h args (found.RetractingAll a) = IsValue h a
+IsInside h args (found.Declaring a) = IsValue h a
 IsInside h args (found.BuiltIn b) = ⊤
 IsInside h args (found.Call q) = ⊤
 IsInside h args found.NoGoal = ⊤

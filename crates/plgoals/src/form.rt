@@ -18,7 +18,7 @@ use plcells::cell::Cell;
 use plcells::heap::Heap;
 use plcode::callee::{Callee, Number};
 use plcode::program::ProgramCode;
-use plnames::kind::{BuiltIn, Control};
+use plnames::kind::{BuiltIn, Control, Side};
 
 /// A procedure that is no control construct and no built-in predicate.
 #[derive(Clone, Copy, Debug, PartialEq, Eq)]
@@ -59,8 +59,16 @@ pub enum Form {
     Halt,
     /// halt/1 of a number.
     HaltWith(Cell),
-    /// assertz/1 of a term.
-    AddLast(Cell),
+    /// asserta/1, assertz/1 or assert/1 of a term.
+    Adding(Side, Cell),
+    /// clause/2 of a head and a body.
+    Retrieving(Cell, Cell),
+    /// retract/1 of a term.
+    Retracting(Cell),
+    /// retractall/1 of a head.
+    RetractingAll(Cell),
+    /// dynamic/1 of what names procedures.
+    Declaring(Cell),
     /// A built-in predicate, of all the arguments.
     BuiltIn(BuiltIn),
     /// A call of a procedure, of all the arguments.
@@ -135,7 +143,11 @@ fn nullary(control: Control) -> Form
         | Control::Catch
         | Control::FindAll
         | Control::Throw
-        | Control::AddLast => Form::NoGoal,
+        | Control::Add(_)
+        | Control::Retrieve
+        | Control::Retract
+        | Control::RetractAll
+        | Control::Declare => Form::NoGoal,
     }
 }
 
@@ -149,7 +161,10 @@ fn unary(control: Control, a: Cell) -> Form
         Control::Once => Form::Once(a),
         Control::Call => Form::CallWith,
         Control::Throw => Form::Throwing(a),
-        Control::AddLast => Form::AddLast(a),
+        Control::Add(side) => Form::Adding(side, a),
+        Control::Retract => Form::Retracting(a),
+        Control::RetractAll => Form::RetractingAll(a),
+        Control::Declare => Form::Declaring(a),
         Control::Halt => Form::HaltWith(a),
         Control::True
         | Control::Fail
@@ -158,7 +173,8 @@ fn unary(control: Control, a: Cell) -> Form
         | Control::Or
         | Control::IfThen
         | Control::Catch
-        | Control::FindAll => Form::NoGoal,
+        | Control::FindAll
+        | Control::Retrieve => Form::NoGoal,
     }
 }
 
@@ -175,6 +191,7 @@ fn binary(heap: &Heap, code: &ProgramCode, control: Control, a: Cell, b: Cell) -
         Control::Or => either(heap, code, a, b),
         Control::IfThen => Form::IfThen(a, b),
         Control::Call => Form::CallWith,
+        Control::Retrieve => Form::Retrieving(a, b),
         Control::True
         | Control::Fail
         | Control::Cut
@@ -183,7 +200,10 @@ fn binary(heap: &Heap, code: &ProgramCode, control: Control, a: Cell, b: Cell) -
         | Control::Catch
         | Control::FindAll
         | Control::Throw
-        | Control::AddLast
+        | Control::Add(_)
+        | Control::Retract
+        | Control::RetractAll
+        | Control::Declare
         | Control::Halt => Form::NoGoal,
     }
 }
@@ -206,7 +226,11 @@ fn ternary(control: Control, a: Cell, b: Cell, c: Cell) -> Form
         | Control::Not
         | Control::Once
         | Control::Throw
-        | Control::AddLast
+        | Control::Add(_)
+        | Control::Retrieve
+        | Control::Retract
+        | Control::RetractAll
+        | Control::Declare
         | Control::Halt => Form::NoGoal,
     }
 }

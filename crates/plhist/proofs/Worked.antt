@@ -209,6 +209,7 @@ first_start e due = go due.asked due.thread due.made
     go : (q : Request) (t : ℕ) → (served q t (reading (opening [] ∷ []))).1 ≡ Some (e.thread, e.act) → e.thread ≡ 1
     go Request.Start t made = sym (ap named made)
     go (Request.Publish us) t made = absurd (none_is_some (e.thread, e.act) (sym (idle (Request.Publish us) t (nat_eq 1 t) refl refl) ∙ made))
+    go (Request.EraseOne x) t made = absurd (none_is_some (e.thread, e.act) (sym (idle (Request.EraseOne x) t (nat_eq 1 t) refl refl) ∙ made))
     go (Request.Finish x) t made = absurd (none_is_some (e.thread, e.act) (sym (idle (Request.Finish x) t (nat_eq 1 t) refl refl) ∙ made))
     go (Request.HaltRun n) t made = absurd (none_is_some (e.thread, e.act) (sym (idle (Request.HaltRun n) t (nat_eq 1 t) refl refl) ∙ made))
 
@@ -227,6 +228,8 @@ unfolding served reading
 ended Request.Start t b is = refl
 ended (Request.Publish us) t true is = rw is refl
 ended (Request.Publish us) t false is = rw is refl
+ended (Request.EraseOne x) t true is = rw is refl
+ended (Request.EraseOne x) t false is = rw is refl
 ended (Request.Finish e) t true is = rw is refl
 ended (Request.Finish e) t false is = rw is refl
 ended (Request.HaltRun n) t true is = rw is refl

@@ -41,6 +41,8 @@ is_not_yet Reply.RunOver = false
 is_not_yet Reply.Stopped = false
 is_not_yet (Reply.NotYet q) = true
 is_not_yet Reply.Published = false
+is_not_yet Reply.Erased = false
+is_not_yet Reply.Gone = false
 is_not_yet Reply.Done = false
 
 -- a reply at place g; where it comes with an act, the next item's place is above it

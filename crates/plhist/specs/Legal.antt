@@ -18,6 +18,7 @@ worker_of t ts = option_and_then (λ x. x.worker) (find (is_thread t) ts)
 abbrev pub MayAsk : Standing → ℕ → ℕ → Request → Type 0
 MayAsk r w t Request.Start = (1 ≤ w) × (w ≤ 16)
 MayAsk r w t (Request.Publish us) = worker_of t r.threads ≡ Some w
+MayAsk r w t (Request.EraseOne x) = worker_of t r.threads ≡ Some w
 MayAsk r w t (Request.Finish e) = worker_of t r.threads ≡ Some w
 MayAsk r w t (Request.HaltRun n) = worker_of t r.threads ≡ Some w
 

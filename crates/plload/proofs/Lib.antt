@@ -1,5 +1,3 @@
-pub mod Arguments
-pub mod Each
 pub mod Parts
 pub mod Once
 pub mod Turns

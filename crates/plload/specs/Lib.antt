@@ -1,4 +1,3 @@
-pub mod Lists
 pub mod Meaning
 pub mod Shown
 pub mod Taking

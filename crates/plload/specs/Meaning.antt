@@ -17,7 +17,8 @@ use Rattle.plprogram.specs.declared.change.FlagError.{FlagError}
 use Rattle.plload.specs.declared.error.RefusalKind.{RefusalKind}
 use Rattle.plload.specs.declared.error.RefusalKind.TheVariants.{NotCallable, StaticRedefined, BadDirective}
 use Rattle.plnames.specs.Names.{is_fixed, is_named}
-use Rattle.plload.specs.Lists.{only_argument, pair_of, elements, members, is_list, each}
+use Rattle.plclause.specs.Lists.{only_argument, elements, is_list}
+use Rattle.plclause.specs.Named.{name_of, number_to, each_of, indicators}
 
 -- a clause of its procedure, a goal of main, names of dynamic procedures, operators of a priority and kind,
 -- a flag's value, nothing, or a refusal
@@ -47,36 +48,6 @@ goal_meaning (var v) = bad
 goal_meaning (int i) = bad
 goal_meaning (atom s) = Runs (copied 0 (atom s))
 goal_meaning (compound s ts) = if is_some (converted (compound s ts)) then Runs (copied 0 (compound s ts)) else bad
-
--- `Name/Arity`, where an arity is at most 1,024
-abbrev pub name_of : Tree → Option (List ℕ)
-name_of (atom s) = Some s
-name_of t = None
-
-abbrev pub number_to : ℕ → Tree → Option ℕ
-number_to most (int (pos n)) = if nat_le n most then Some n else None
-number_to most (int (negsuc n)) = None
-number_to most t = None
-
-abbrev pub named : Option (List ℕ) → Option ℕ → Option Indicator
-named (Some s) (Some n) = Some (record { name = s; arity = n })
-named (Some s) None = None
-named None n = None
-
-abbrev pub named_by : Option (Tree × Tree) → Option Indicator
-named_by None = None
-named_by (Some (a, b)) = named (name_of a) (number_to 1024 b)
-
-abbrev pub indicator_of : Tree → Option Indicator
-indicator_of t = named_by (pair_of (codes "/") t)
-
--- indicators: one, a sequence of them, or a list
-abbrev pub each_of : {A : Type 0} → (Tree → Option A) → Option (List Tree) → Option (List A)
-each_of f None = None
-each_of f (Some ts) = each f ts
-
-abbrev pub indicators : Tree → Option (List Indicator)
-indicators t = each_of indicator_of (if is_list t then elements t else Some (members t))
 
 -- dynamic/1: control constructs and built-in predicates stay static
 abbrev pub dynamic_meaning : Option (List Indicator) → Meaning

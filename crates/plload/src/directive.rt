@@ -2,14 +2,16 @@
 ghost use Rattle.std.specs.Prelude.{◌≡◌, Some, IfOk, option_map, option_copied, is_some, if◌then◌else◌};
 ghost use Rattle.std.specs.List.{list_any};
 ghost use Rattle.plnames.specs.Names.{is_fixed};
-ghost use Rattle.plload.specs.Lists.{each, elements, members, is_list};
-ghost use Rattle.plload.specs.Meaning.{goal_meaning, directive_meaning, is_directive_name, of_args, of_one, of_two, of_three, dynamic_meaning, passes_if, is_library, flag_meaning, operator_meaning, kind_in, name_of, names_of, number_to, indicators, indicator_of};
+ghost use Rattle.plclause.specs.Lists.{each, elements, is_list};
+ghost use Rattle.plclause.specs.Named.{name_of, number_to, indicators};
+ghost use Rattle.plload.specs.Meaning.{goal_meaning, directive_meaning, is_directive_name, of_args, of_one, of_two, of_three, dynamic_meaning, passes_if, is_library, flag_meaning, operator_meaning, kind_in, names_of};
 ghost use Rattle.plload.specs.Shown.{shown};
 
 use crate::error::RefusalKind;
-use crate::lists::{argument_of, elements_of, is_list, members_of, pair_of};
 use crate::meaning::Meaning;
 use plclause::convert::convert;
+use plclause::lists::{argument_of, elements_of, is_list};
+use plclause::named::{indicators_of, name_of, number_to};
 use plnames::table::NameTable;
 use plops::operator::Kind;
 use plprogram::change::{flag_named, kind_named};
@@ -188,87 +190,6 @@ fn any_fixed(names: &NameTable, indicators: &[Indicator]) -> bool
     ensures { result ≡ list_any is_fixed indicators.now }
 {
     indicators.iter().any(|p| names.is_fixed(p))
-}
-
-/// The indicators of a directive: one, a sequence of them, or a list.
-fn indicators_of(alloc: Global, term: &TermRef<'_>) -> Result<Option<Vec<Indicator>>, AllocError>
-    ensures { IfOk result (λ o. option_map (λ v. v.items) o ≡ indicators term.now) }
-{
-    let Some(terms) = named_in(alloc, term)? else {
-        return Ok(None);
-    };
-    each_indicator(alloc, &terms)
-}
-
-/// The members of a sequence or the elements of a list.
-fn named_in<'a>(alloc: Global, term: &TermRef<'a>) -> Result<Option<Vec<TermRef<'a>>>, AllocError>
-    ensures { IfOk result (λ o. option_map (λ v. v.items) o ≡ (if is_list term.now then elements term.now else Some (members term.now))) }
-{
-    if is_list(term) {
-        return elements_of(alloc, term);
-    }
-    let terms = members_of(alloc, term)?;
-    Ok(Some(terms))
-}
-
-/// The indicator of each term, if each has one.
-fn each_indicator(
-    alloc: Global,
-    terms: &[TermRef<'_>],
-) -> Result<Option<Vec<Indicator>>, AllocError>
-    ensures { IfOk result (λ o. option_map (λ v. v.items) o ≡ each indicator_of terms.now) }
-{
-    let mut found = Vec::new(alloc);
-    for term in terms {
-        match indicator_of(term)? {
-            Some(indicator) => found.push(indicator)?,
-            None => return Ok(None),
-        }
-    }
-    Ok(Some(found))
-}
-
-/// The indicator `Name/Arity`.
-fn indicator_of(term: &TermRef<'_>) -> Result<Option<Indicator>, AllocError>
-    ensures { IfOk result (λ o. o ≡ indicator_of term.now) }
-{
-    let Some((name, arity)) = pair_of(term, "/") else {
-        return Ok(None);
-    };
-    let Some(name) = name_of(&name) else {
-        return Ok(None);
-    };
-    let Some(arity) = number_to(1024, &arity) else {
-        return Ok(None);
-    };
-    let name = name.copied()?;
-    Ok(Some(Indicator { name, arity }))
-}
-
-/// The name that an atom is.
-fn name_of<'a>(term: &TermRef<'a>) -> Option<&'a Name>
-    ensures { option_copied result ≡ name_of term.now }
-{
-    match term.shape() {
-        Shape::Atom(name) => Some(name),
-        Shape::Var(_) | Shape::Int(_) | Shape::Compound(_, _) => None,
-    }
-}
-
-/// The number that a term is, if it is from 0 to a greatest one.
-fn number_to(most: u16, term: &TermRef<'_>) -> Option<u16>
-    ensures { result ≡ number_to most term.now }
-{
-    match term.shape() {
-        Shape::Int(value) => {
-            if value >= 0 && value <= i64::from(most) {
-                Some(value as u16)
-            } else {
-                None
-            }
-        }
-        Shape::Var(_) | Shape::Atom(_) | Shape::Compound(_, _) => None,
-    }
 }
 
 /// Whether the term is `library(Name)`.

@@ -5,7 +5,6 @@ mod directive;
 mod draft;
 pub mod error;
 pub mod goal;
-mod lists;
 pub mod load;
 mod meaning;
 mod next;

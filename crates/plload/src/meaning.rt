@@ -1,15 +1,15 @@
 //! What a clause of a program's text does.
 ghost use Rattle.std.specs.Prelude.{◌≡◌, IfOk, codes};
 ghost use Rattle.plclause.specs.Clausal.{clausal};
-ghost use Rattle.plload.specs.Lists.{only_argument};
+ghost use Rattle.plclause.specs.Lists.{only_argument};
 ghost use Rattle.plload.specs.Meaning.{form_meaning, clause_or, is_reserved, meaning};
 ghost use Rattle.plload.specs.Shown.{shown};
 
 use crate::directive::{directive_of, goal_of};
 use crate::error::RefusalKind;
-use crate::lists::argument_of;
 use plclause::clause::Clause;
 use plclause::form::{ClauseForm, clause_of};
+use plclause::lists::argument_of;
 use plnames::table::NameTable;
 use plops::operator::Kind;
 use plprogram::change::Flag;

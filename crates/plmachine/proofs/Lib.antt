@@ -13,3 +13,7 @@ pub mod Stepping
 pub mod Gathering
 pub mod Joining
 pub mod Calculating
+pub mod Clausal
+pub mod Necks
+pub mod Facts
+pub mod Declaring

@@ -14,20 +14,10 @@ use Rattle.pllinks.specs.declared.link.Continuation.{Continuation}
 use Rattle.pllinks.specs.Lists.{goal_of, elements, IsItem}
 use Rattle.plstack.specs.State.{State, goals_in, goals_of, IsList, Extends, AddsList}
 use Rattle.plstack.proofs.Growing.{extends_same}
+pub use Rattle.plstack.proofs.Heads.{extends-trans}
 use Rattle.plmachine.specs.Lists.{at_level, elements_of, failing, Grown, Holds, IsPart, Lengthened}
 
 -- ---- stacks that grow
-
-pub extends-trans : (a b c : State) → Extends a b → Extends b c → Extends a c
-extends-trans a b c f g = record {
-  code = g.code ∙ f.code;
-  frames = g.frames ∙ f.frames;
-  goals = g.goals ∙ f.goals;
-  visited = g.visited ∙ f.visited;
-  cases = λ statics. g.cases statics ∙ f.cases statics;
-  lists = λ l i. let one = f.lists l i in let two = g.lists l one.0 in (two.0, two.1 ∙ one.1);
-  values = λ v i. let one = f.values v i in let two = g.values v one.0 in (two.0, two.1 ∙ one.1);
-}
 
 pub lengthened-same : (a : State) → Lengthened a a
 lengthened-same a = record { extends = extends_same a; env = refl }

@@ -8,7 +8,7 @@ use Rattle.plcells.specs.declared.cell.Cell.{Cell}
 use Rattle.plcells.specs.Store.{IsValue, value}
 use Rattle.plevent.specs.Search.{Answer}
 use Rattle.plprogram.specs.Program.{Program}
-use Rattle.plsearch.specs.Types.{Throw, Look, Await, Asking, Element, Place, Case, Local, Move, Give, Go}
+use Rattle.plsearch.specs.Types.{Throw, ToCall, ToRetrieve, ToRetract, ToRetractAll, Look, Await, Asking, Element, Place, Case, Local, Move, Give, Go}
 use Rattle.plsearch.specs.Errors.{error_term, instantiation_error}
 use Rattle.plsearch.specs.Lists.{levels}
 use Rattle.plsearch.specs.Rows.{raised, thrown, throw_1, go_on}
@@ -19,13 +19,15 @@ use Rattle.pllinks.specs.declared.link.Continuation.{Continuation}
 use Rattle.plstack.specs.State.{State, IsList, place_of, cases_of, goals_of, Opens}
 use Rattle.plstack.specs.StaticCalls.{statics_of}
 use Rattle.plmachine.specs.declared.machine.Outcome.{Outcome}
+use Rattle.plmachine.specs.declared.machine.Lookup.{Lookup}
+use Rattle.plmachine.specs.declared.machine.Lookup.TheVariants as lookups
 use Rattle.plmachine.specs.declared.machine.Question.{Question as Asked}
 use Rattle.plmachine.specs.declared.machine.Question.TheVariants as questions
 use Rattle.plmachine.specs.declared.machine.Mode.{Mode as Going}
 use Rattle.plmachine.specs.declared.machine.Mode.TheVariants as modes
 use Rattle.plmachine.specs.declared.machine.Machine.{Machine as Reached}
 use Rattle.plmachine.specs.Lists.{Grown, Holds}
-use Rattle.plmachine.specs.Machine.{result_of, then_of, question_of, mode_of, local_of, cases_in, depth_of, machine, is_var, IsAskable, MayAsk, Moved, Stays}
+use Rattle.plmachine.specs.Machine.{result_of, then_of, lookup_of, question_of, mode_of, local_of, cases_in, depth_of, machine, is_var, IsSought, IsAskable, MayAsk, Moved, Stays}
 
 -- ---- a machine by its parts
 
@@ -42,14 +44,23 @@ ValuesStay s t = (v : Cell) → IsValue s.env.heap v → IsValue t.env.heap v ×
 
 may-ask : (s t : State) (m : Going) → ValuesStay s t → MayAsk s.env.heap m → MayAsk t.env.heap m
 may-ask s t modes.Visit values may = tt
-may-ask s t (modes.Ask (questions.Look v)) values may = (values v may).0
+may-ask s t (modes.Ask (questions.Look (lookups.ToCall v))) values may = (values v may).0
+may-ask s t (modes.Ask (questions.Look (lookups.ToRetrieve v w))) values may = ((values v may.0).0, (values w may.1).0)
+may-ask s t (modes.Ask (questions.Look (lookups.ToRetract v w))) values may = ((values v may.0).0, (values w may.1).0)
+may-ask s t (modes.Ask (questions.Look (lookups.ToRetractAll v))) values may = (values v may).0
 may-ask s t (modes.Ask (questions.Await q next)) values may = may
 may-ask s t (modes.Back r) values may = tt
 
+same-lookup : (s t : State) (u : Lookup) → ValuesStay s t → IsSought s.env.heap u → lookup_of t.env.heap u ≡ lookup_of s.env.heap u
+same-lookup s t (lookups.ToCall v) values may = ap ToCall (values v may).1
+same-lookup s t (lookups.ToRetrieve v w) values may = ap₂ ToRetrieve (values v may.0).1 (values w may.1).1
+same-lookup s t (lookups.ToRetract v w) values may = ap₂ ToRetract (values v may.0).1 (values w may.1).1
+same-lookup s t (lookups.ToRetractAll v) values may = ap ToRetractAll (values v may).1
+
 same-mode : (s t : State) (m : Going) → ValuesStay s t → place_of t ≡ place_of s → MayAsk s.env.heap m → mode_of m t ≡ mode_of m s
 same-mode s t modes.Visit values place may = ap At place
-same-mode s t (modes.Ask (questions.Look v)) values place may =
-    ap₂ (λ u p. At (record { goals = Asking (Look u) ∷ p.goals; variables = p.variables })) (values v may).1 place
+same-mode s t (modes.Ask (questions.Look u)) values place may =
+    ap₂ (λ u p. At (record { goals = Asking (Look u) ∷ p.goals; variables = p.variables })) (same-lookup s t u values may) place
 same-mode s t (modes.Ask (questions.Await q next)) values place may =
     ap (λ p. At (record { goals = Asking (Await q (then_of next)) ∷ p.goals; variables = p.variables })) place
 same-mode s t (modes.Back r) values place may = refl

@@ -12,8 +12,8 @@ use Rattle.plprogram.specs.Program.{Program}
 use Rattle.plprogram.specs.declared.settings.Settings.{Settings}
 use Rattle.plbuiltin.specs.Solution.{Solution, Gives, fails, unifies as unified_to, writes, sets, decides}
 use Rattle.plbuiltin.specs.Terms.{is_none}
-use Rattle.plsearch.specs.Types.{Fail, Kind, Commit, Never, Until, Collect, Look, Await, Goal, Marker, Raise, Asking, Element, Local, Move, Give}
-use Rattle.plsearch.specs.Lists.{bind_kind, bind_goals}
+use Rattle.plsearch.specs.Types.{Fail, Kind, Commit, Never, Until, Collect, Lookup, ToCall, ToRetrieve, ToRetract, ToRetractAll, Look, Await, Goal, Marker, Raise, Asking, Element, Local, Move, Give}
+use Rattle.plsearch.specs.Lists.{bind_lookup, bind_kind, bind_goals}
 use Rattle.plsearch.specs.Machines.Machine.{At}
 use Rattle.plsearch.specs.Rows.{go_on, choose, solved, taken, offer}
 use Rattle.planswers.specs.Answers.{IsMany}
@@ -69,12 +69,18 @@ bind-kind-var Never = refl
 bind-kind-var Until = refl
 bind-kind-var (Collect t) = ap Collect (bind-var t)
 
+bind-lookup-var : (u : Lookup) → bind_lookup var u ≡ u
+bind-lookup-var (ToCall t) = ap ToCall (bind-var t)
+bind-lookup-var (ToRetrieve h b) = ap₂ ToRetrieve (bind-var h) (bind-var b)
+bind-lookup-var (ToRetract h b) = ap₂ ToRetract (bind-var h) (bind-var b)
+bind-lookup-var (ToRetractAll h) = ap ToRetractAll (bind-var h)
+
 bind-goals-var : (es : List Element) → bind_goals var es ≡ es
 bind-goals-var [] = refl
 bind-goals-var (Goal k t ∷ es) = ap₂ (λ u us. Goal k u ∷ us) (bind-var t) (bind-goals-var es)
 bind-goals-var (Marker m l ∷ es) = ap₂ (λ k us. Marker k l ∷ us) (bind-kind-var m) (bind-goals-var es)
 bind-goals-var (Raise b ∷ es) = ap (λ us. Raise b ∷ us) (bind-goals-var es)
-bind-goals-var (Asking (Look t) ∷ es) = ap₂ (λ u us. Asking (Look u) ∷ us) (bind-var t) (bind-goals-var es)
+bind-goals-var (Asking (Look u) ∷ es) = ap₂ (λ u us. Asking (Look u) ∷ us) (bind-lookup-var u) (bind-goals-var es)
 bind-goals-var (Asking (Await q next) ∷ es) = ap (λ us. Asking (Await q next) ∷ us) (bind-goals-var es)
 
 -- one that is true once it has written

@@ -94,7 +94,11 @@ module _ (P : Program) (s : Reached) (begun : IsBegun P s) (visits : s.mode ≡ 
     is-call forms.Cut known = tt
     is-call forms.Halt known = tt
     is-call (forms.HaltWith a) known = tt
-    is-call (forms.AddLast a) known = tt
+    is-call (forms.Adding side a) known = tt
+    is-call (forms.Retrieving a b) known = tt
+    is-call (forms.Retracting a) known = tt
+    is-call (forms.RetractingAll a) known = tt
+    is-call (forms.Declaring a) known = tt
     is-call (forms.BuiltIn b) known = tt
     is-call (forms.Call q) known = subst (λ p. IsCallOf P s p q t) (sym of-procedure) (call-of q (known q refl))
     is-call forms.NoGoal known = tt

@@ -6,3 +6,5 @@ pub mod Asking
 pub mod Selected
 pub mod Gathering
 pub mod Calculating
+pub mod Naming
+pub mod Clauses

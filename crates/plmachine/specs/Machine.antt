@@ -5,9 +5,9 @@ use Rattle.plterm.specs.Tree.{Tree, var, int, atom, compound}
 use Rattle.plcells.specs.Store.{Store, value, IsValue}
 use Rattle.plevent.specs.Search.{Answer, Ending}
 use Rattle.plevent.specs.declared.request.Request.{Request}
-use Rattle.plevent.specs.declared.request.Request.TheVariants.{Publish, HaltRun}
+use Rattle.plevent.specs.declared.request.Request.TheVariants.{Publish, EraseOne, HaltRun}
 use Rattle.plprogram.specs.Program.{Program}
-use Rattle.plsearch.specs.Types.{Result, Stop, Fail, CutTo, Throw, Halted, Spent, Element, Asking, Question, Look, Await, GoesOn, Ends, Case, Local, Move}
+use Rattle.plsearch.specs.Types.{Result, Stop, Fail, CutTo, Throw, Halted, Spent, Element, Asking, Lookup, ToCall, ToRetrieve, ToRetract, ToRetractAll, Question, Look, Await, GoesOn, Ends, Case, Local, Move}
 use Rattle.plsearch.specs.Types.{Then as Following}
 use Rattle.plsearch.specs.Engine.{deeper}
 use Rattle.plsearch.specs.Machines.Machine.{Mode, At, Back, Machine, Rest, move}
@@ -19,6 +19,8 @@ use Rattle.plmachine.specs.declared.machine.Outcome.{Outcome}
 use Rattle.plmachine.specs.declared.machine.Outcome.TheVariants as outcomes
 use Rattle.plmachine.specs.declared.machine.Then.{Then}
 use Rattle.plmachine.specs.declared.machine.Then.TheVariants as thens
+use Rattle.plmachine.specs.declared.machine.Lookup.{Lookup as Sought}
+use Rattle.plmachine.specs.declared.machine.Lookup.TheVariants as lookups
 use Rattle.plmachine.specs.declared.machine.Question.{Question as Asked}
 use Rattle.plmachine.specs.declared.machine.Question.TheVariants as questions
 use Rattle.plmachine.specs.declared.machine.Mode.{Mode as Going}
@@ -37,8 +39,14 @@ abbrev pub then_of : Then → Following
 then_of thens.GoesOn = GoesOn
 then_of (thens.Ends n) = Ends n
 
+abbrev pub lookup_of : Store → Sought → Lookup
+lookup_of h (lookups.ToCall v) = ToCall (value h v)
+lookup_of h (lookups.ToRetrieve v w) = ToRetrieve (value h v) (value h w)
+lookup_of h (lookups.ToRetract v w) = ToRetract (value h v) (value h w)
+lookup_of h (lookups.ToRetractAll v) = ToRetractAll (value h v)
+
 abbrev pub question_of : Store → Asked → Question
-question_of h (questions.Look v) = Look (value h v)
+question_of h (questions.Look u) = Look (lookup_of h u)
 question_of h (questions.Await q next) = Await q (then_of next)
 
 -- some elements before the visited list, as a place
@@ -81,12 +89,20 @@ IsBegun P s = IsProgramCode P s.stack.code
 -- what follows a request is what it is for
 abbrev pub IsFollowed : Request → Then → Type 0
 IsFollowed (Publish us) thens.GoesOn = ⊤
+IsFollowed (EraseOne x) thens.GoesOn = ⊤
 IsFollowed (HaltRun n) (thens.Ends m) = n ≡ m
 IsFollowed q next = ⊥
 
--- the value of what is asked is there
+-- the values of what clauses are looked up for are there
+abbrev pub IsSought : Store → Sought → Type 0
+IsSought h (lookups.ToCall v) = IsValue h v
+IsSought h (lookups.ToRetrieve v w) = IsValue h v × IsValue h w
+IsSought h (lookups.ToRetract v w) = IsValue h v × IsValue h w
+IsSought h (lookups.ToRetractAll v) = IsValue h v
+
+-- the values of what is asked are there
 abbrev pub IsAskable : Store → Asked → Type 0
-IsAskable h (questions.Look v) = IsValue h v
+IsAskable h (questions.Look u) = IsSought h u
 IsAskable h (questions.Await q next) = IsFollowed q next
 
 -- where something is asked, it can be

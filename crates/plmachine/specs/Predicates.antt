@@ -1,9 +1,9 @@
 -- The predicates whose errors the machine raises.
 use Rattle.std.specs.Prelude.{◌≤◌}
 use Rattle.plterm.specs.declared.indicator.Indicator.{Indicator}
-use Rattle.plsearch.specs.Rows.{once_1, not_1, catch_3, findall_3, throw_1, call_with, assertz_1, halt_1}
+use Rattle.plsearch.specs.Rows.{once_1, not_1, catch_3, findall_3, throw_1, call_with, halt_1}
 use Rattle.plmachine.specs.declared.predicate.Predicate.{Predicate}
-use Rattle.plmachine.specs.declared.predicate.Predicate.TheVariants.{Once, Not, Catch, FindAll, Throw, CallWith, AddLast, Halt}
+use Rattle.plmachine.specs.declared.predicate.Predicate.TheVariants.{Once, Not, Catch, FindAll, Throw, CallWith, Halt}
 
 abbrev pub predicate_of : Predicate → Indicator
 predicate_of Once = once_1
@@ -12,7 +12,6 @@ predicate_of Catch = catch_3
 predicate_of FindAll = findall_3
 predicate_of Throw = throw_1
 predicate_of (CallWith n) = call_with n
-predicate_of AddLast = assertz_1
 predicate_of Halt = halt_1
 
 -- it has no more arguments than there may be
@@ -23,5 +22,4 @@ IsFew Catch = Unit {0}
 IsFew FindAll = Unit {0}
 IsFew Throw = Unit {0}
 IsFew (CallWith n) = n ≤ 1024
-IsFew AddLast = Unit {0}
 IsFew Halt = Unit {0}

@@ -1,13 +1,12 @@
-//! The rows of the constructs that ask a request: assertz/1, halt/0 and halt/1 (ISO/IEC 13211-1 8.9, 8.17).
+//! The rows of halt/0 and halt/1 (ISO/IEC 13211-1 8.17).
 //!
 //! A row that is refused memory leaves the search where it was.
 ghost use Rattle.std.specs.Prelude.{◌≡◌, ℕ, List, ◌∷◌, Some, None, IfOk, IfSome, IfNone, OnOk, OnErr};
 ghost use Rattle.plterm.specs.Tree.{int};
 ghost use Rattle.plcells.specs.Store.{value, IsValue};
-ghost use Rattle.plclause.specs.Clausal.{clausal};
 ghost use Rattle.plevent.specs.declared.request.Request.TheVariants.{HaltRun};
 ghost use Rattle.plsearch.specs.Types.{Element, Local, Asking, Await, Ends};
-ghost use Rattle.plsearch.specs.Rows.{assertz_1, add, add_clause, halting, modulo_256, is_static, go_on as went_on};
+ghost use Rattle.plsearch.specs.Rows.{halting, modulo_256, go_on as went_on};
 ghost use Rattle.plstack.specs.State.{goals_of, IsList};
 ghost use Rattle.plmachine.specs.Asking.{ended_with, IsNoInteger};
 ghost use Rattle.plmachine.specs.Machine.{local_of, Moved, Stays};
@@ -18,13 +17,9 @@ use crate::predicate::Predicate;
 use crate::rows::is_variable;
 use plcells::cell::Cell;
 use plcells::heap::Heap;
-use plclause::clause::Clause;
-use plclause::form::{ClauseForm, clause_of};
 use plevent::request::Request;
-use plevent::update::{Batch, Update};
 use pllinks::link::Continuation;
 use plprogram::program::Program;
-use plterm::indicator::Indicator;
 use plterm::term::Term;
 use std::alloc::AllocError;
 
@@ -37,71 +32,7 @@ pub enum Status {
     Raises(Term),
 }
 
-/// Whether a procedure is static.
-fn is_static_procedure(program: &Program, p: &Indicator) -> bool
-    ensures { result ≡ is_static program.now p.now }
-{
-    program.names().is_fixed(p) || !program.clauses_of(p).is_empty()
-}
-
 impl Machine {
-    /// assertz/1.
-    #[inline(never)]
-    pub fn add_last(
-        &mut self,
-        program: &Program,
-        c: Cell,
-        rest: Continuation,
-    ) -> Result<(), AllocError>
-        requires clause { IsValue self.old.stack.env.heap c }
-        requires rest { IsList self.old.stack rest }
-        ensures ok { OnOk result (Moved program.now self.old self.new (add program.now (clausal (value self.old.stack.env.heap c)) (goals_of self.old.stack rest) self.old.stack.env.count (local_of self.old))) }
-        ensures err { OnErr result (Stays program.now self.old self.new) }
-    {
-        let term = self.stack.env().heap().take(self.alloc, c)?;
-        let p = Predicate::AddLast.indicator(self.alloc)?;
-        match clause_of(self.alloc, &term)? {
-            ClauseForm::NoHead => {
-                let error = error::instantiation(self.alloc)?;
-                self.raise(program, error, &p, rest)
-            }
-            ClauseForm::BadHead(head) => {
-                let error = error::not_callable(self.alloc, head)?;
-                self.raise(program, error, &p, rest)
-            }
-            ClauseForm::BadBody(body) => {
-                let error = error::not_callable(self.alloc, body)?;
-                self.raise(program, error, &p, rest)
-            }
-            ClauseForm::IsClause(clause) => self.add_clause(program, clause, &p, rest),
-        }
-    }
-
-    /// A clause is added last, unless its procedure is static.
-    fn add_clause(
-        &mut self,
-        program: &Program,
-        clause: Clause,
-        p: &Indicator,
-        rest: Continuation,
-    ) -> Result<(), AllocError>
-        requires p { p.now ≡ assertz_1 }
-        requires rest { IsList self.old.stack rest }
-        ensures ok { OnOk result (Moved program.now self.old self.new (add_clause program.now clause (goals_of self.old.stack rest) self.old.stack.env.count (local_of self.old))) }
-        ensures err { OnErr result (Stays program.now self.old self.new) }
-    {
-        let procedure = clause.indicator()?;
-        if is_static_procedure(program, &procedure) {
-            let error = error::is_static(self.alloc, &procedure)?;
-            return self.raise(program, error, p, rest);
-        }
-        let mut updates = Vec::new(self.alloc);
-        updates.push(Update::Last(clause))?;
-        let request = Request::Publish(Batch::new(updates));
-        self.ask(program, Question::Await(request, Then::GoesOn), rest);
-        Ok(())
-    }
-
     /// The end of the run, with a number as its status.
     pub fn halt(&mut self, program: &Program, status: u8, rest: Continuation)
         requires { IsList self.old.stack rest }
@@ -156,7 +87,7 @@ impl Machine {
 }
 
 /// The integer that the term of a value is.
-fn integer_in(heap: &Heap, v: Cell) -> Option<i64>
+pub(crate) fn integer_in(heap: &Heap, v: Cell) -> Option<i64>
     requires { IsValue heap.now v }
     ensures some { IfSome result (λ i. value heap.now v ≡ int i) }
     ensures none { IfNone result (IsNoInteger (value heap.now v)) }

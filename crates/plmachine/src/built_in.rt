@@ -97,7 +97,7 @@ impl Machine {
     }
 
     /// Raises an error of the predicate of a goal.
-    fn raise_of(
+    pub(crate) fn raise_of(
         &mut self,
         program: &Program,
         error: Term,

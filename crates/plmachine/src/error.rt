@@ -3,7 +3,7 @@
 ghost use Rattle.std.specs.Prelude.{◌≡◌, IfOk, codes, pos};
 ghost use Rattle.plterm.specs.Tree.{atom, int, compound, none, more};
 ghost use Rattle.plterm.specs.Variables.{copied};
-ghost use Rattle.plsearch.specs.Errors.{pair as pair_of, indicator_term as term_of, instantiation_error, callable_error, integer_error, procedure_error, static_error, arity_error, error_term};
+ghost use Rattle.plsearch.specs.Errors.{pair as pair_of, indicator_term as term_of, instantiation_error, callable_error, integer_error, procedure_error, static_error, private_error, naming_error, arity_error, error_term};
 
 use plterm::indicator::Indicator;
 use plterm::name::Name;
@@ -40,7 +40,8 @@ pub fn alone(alloc: Global, name: &str, a: Term) -> Result<Term, AllocError>
     }
 }
 
-fn pair(alloc: Global, name: &str, a: Term, b: Term) -> Result<Term, AllocError>
+/// A compound of two arguments.
+pub fn pair(alloc: Global, name: &str, a: Term, b: Term) -> Result<Term, AllocError>
     ensures { IfOk result (λ t. t ≡ pair_of name.now a b) }
 {
     let name = Name::new(alloc, name)?;
@@ -107,15 +108,37 @@ pub fn no_procedure(alloc: Global, p: &Indicator) -> Result<Term, AllocError>
 pub fn is_static(alloc: Global, p: &Indicator) -> Result<Term, AllocError>
     ensures { IfOk result (λ t. t ≡ static_error p.now) }
 {
+    permission(alloc, "modify", "static_procedure", p)
+}
+
+/// Something may not be done to a procedure.
+fn permission(alloc: Global, action: &str, kind: &str, p: &Indicator) -> Result<Term, AllocError>
+    ensures { IfOk result (λ t. t ≡ compound (codes "permission_error") (more (atom action.now) (more (atom kind.now) (more (term_of p.now) none)))) }
+{
     let name = Name::new(alloc, "permission_error")?;
     let mut args = Vec::new(alloc);
-    args.push(atom(alloc, "modify")?)?;
-    args.push(atom(alloc, "static_procedure")?)?;
+    args.push(atom(alloc, action)?)?;
+    args.push(atom(alloc, kind)?)?;
     args.push(indicator_term(alloc, p)?)?;
     match Term::compound(alloc, name, args) {
         Ok(term) => Ok(term),
         Err(_) => Err(AllocError),
     }
+}
+
+/// The clauses of a procedure are not told.
+pub fn is_private(alloc: Global, p: &Indicator) -> Result<Term, AllocError>
+    ensures { IfOk result (λ t. t ≡ private_error p.now) }
+{
+    permission(alloc, "access", "private_procedure", p)
+}
+
+/// A term is to name procedures, and does not.
+pub fn names_none(alloc: Global, culprit: Term) -> Result<Term, AllocError>
+    ensures { IfOk result (λ t. t ≡ naming_error culprit) }
+{
+    let kind = atom(alloc, "predicate_indicator")?;
+    pair(alloc, "type_error", kind, culprit)
 }
 
 /// The ball of an error that a predicate raises: its variables are 0, 1, .. by first occurrence.

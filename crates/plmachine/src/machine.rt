@@ -35,11 +35,24 @@ pub enum Then {
     Ends(u8),
 }
 
+/// What clauses are looked up for, by the values of its terms.
+#[derive(Clone, Copy)]
+pub enum Lookup {
+    /// A goal is called.
+    ToCall(Cell),
+    /// The clauses of a head and a body are told: clause/2.
+    ToRetrieve(Cell, Cell),
+    /// The clauses of a head and a body are erased, one for each solution: retract/1.
+    ToRetract(Cell, Cell),
+    /// All clauses of a head are erased: retractall/1.
+    ToRetractAll(Cell),
+}
+
 /// What is asked before the visited list goes on.
 #[derive(Drop)]
 pub enum Question {
-    /// The view in which the clauses of a goal, by its value, are looked up.
-    Look(Cell),
+    /// The view in which clauses are looked up.
+    Look(Lookup),
     /// The reply to a request.
     Await(Request, Then),
 }

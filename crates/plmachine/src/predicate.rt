@@ -17,8 +17,6 @@ pub enum Predicate {
     Throw,
     /// call/N with N - 1 further arguments.
     CallWith(u16),
-    /// assertz/1
-    AddLast,
     /// halt/1
     Halt,
 }
@@ -36,7 +34,6 @@ impl Predicate {
             Predicate::FindAll => ("findall", 3),
             Predicate::Throw => ("throw", 1),
             Predicate::CallWith(further) => ("call", further + 1),
-            Predicate::AddLast => ("assertz", 1),
             Predicate::Halt => ("halt", 1),
         };
         let name = Name::new(alloc, name)?;

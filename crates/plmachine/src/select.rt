@@ -5,7 +5,7 @@ ghost use Rattle.plterm.specs.declared.indicator.Indicator.{Indicator as OfIndic
 ghost use Rattle.plcells.specs.Store.{value, AreValues, IsValue};
 ghost use Rattle.plprogram.specs.Program.{clauses_for};
 ghost use Rattle.plsearch.specs.Forms.{form as form_of};
-ghost use Rattle.plsearch.specs.Types.{Asking, Look};
+ghost use Rattle.plsearch.specs.Types.{Asking, Look, ToCall};
 ghost use Rattle.plsearch.specs.Rows.{row, user, call as called, go_on as went_on};
 ghost use Rattle.plstack.specs.State.{goals_of, IsList};
 ghost use Rattle.plmachine.specs.Lists.{Grown};
@@ -13,7 +13,7 @@ ghost use Rattle.plmachine.specs.Machine.{depth_of, local_of, IsBegun, Moved, St
 ghost use Rattle.plmachine.specs.Selected.{IsCallOf, IsSelected, IsStaticCall, StandsFor};
 
 use crate::finding::Finding;
-use crate::machine::{Machine, Mode, Outcome, Question};
+use crate::machine::{Lookup, Machine, Mode, Outcome, Question};
 use plcells::cell::Cell;
 use plgoals::form::{Form, Procedure};
 use pllinks::item::{Item, Run};
@@ -88,7 +88,11 @@ impl Machine {
             Form::CallWith => self.call_with(program, rest),
             Form::Cut => self.cut(program, level, rest),
             Form::BuiltIn(b) => self.built_in(program, b, source, rest),
-            Form::AddLast(clause) => self.add_last(program, clause, rest),
+            Form::Adding(side, clause) => self.add(program, side, clause, source, rest),
+            Form::Retrieving(head, body) => self.retrieve(program, head, body, source, rest),
+            Form::Retracting(clause) => self.retract(program, clause, source, rest),
+            Form::RetractingAll(head) => self.retract_all(program, head, source, rest),
+            Form::Declaring(names) => self.declare(program, names, source, rest),
             Form::Halt => {
                 self.halt(program, 0, rest);
                 Ok(())
@@ -171,11 +175,11 @@ impl Machine {
     ) -> Result<(), AllocError>
         requires source { (t : Tree) × StandsFor self.old.stack source t }
         requires rest { IsList self.old.stack rest }
-        ensures ok { (t : Tree) → StandsFor self.old.stack source t → OnOk result (Moved program.now self.old self.new (went_on (Asking (Look t) ∷ goals_of self.old.stack rest) self.old.stack.env.count (local_of self.old))) }
+        ensures ok { (t : Tree) → StandsFor self.old.stack source t → OnOk result (Moved program.now self.old self.new (went_on (Asking (Look (ToCall t)) ∷ goals_of self.old.stack rest) self.old.stack.env.count (local_of self.old))) }
         ensures err { OnErr result (Stays program.now self.old self.new) }
     {
         let goal = self.goal(source)?;
-        self.ask(program, Question::Look(goal), rest);
+        self.ask(program, Question::Look(Lookup::ToCall(goal)), rest);
         Ok(())
     }
 }

@@ -1,7 +1,16 @@
 //! Control constructs and built-in predicates.
 
+/// Where a clause is added to its procedure (ISO/IEC 13211-1 8.9.1, 8.9.2).
+#[derive(Clone, Copy, Debug, PartialEq, Eq)]
+pub enum Side {
+    /// Before all others.
+    Front,
+    /// Behind all others.
+    Back,
+}
+
 /// A control construct (ISO/IEC 13211-1 7.8), or a predicate that asks something of the run as a control construct does:
-/// assertz/1 and halt/0, halt/1.
+/// those on clauses (8.8, 8.9), and halt/0, halt/1.
 #[derive(Clone, Copy, Debug, PartialEq, Eq)]
 pub enum Control {
     /// true/0.
@@ -28,8 +37,16 @@ pub enum Control {
     FindAll,
     /// throw/1.
     Throw,
-    /// assertz/1.
-    AddLast,
+    /// asserta/1, assertz/1 and assert/1.
+    Add(Side),
+    /// clause/2.
+    Retrieve,
+    /// retract/1.
+    Retract,
+    /// retractall/1.
+    RetractAll,
+    /// dynamic/1.
+    Declare,
     /// halt/0 and halt/1.
     Halt,
 }

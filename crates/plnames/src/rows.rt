@@ -2,7 +2,7 @@
 
 use crate::kind::{
     Arithmetic, Atoms, BuiltIn, Comparison, Control, Flags, Kind, Order, Output, Parts, Relation,
-    Sorting, Spelling, Terms, Tests,
+    Side, Sorting, Spelling, Terms, Tests,
 };
 
 /// What each name with an arity is. No program can change or define these procedures (ISO/IEC 13211-1 7.5.2).
@@ -27,7 +27,13 @@ pub static ROWS: &[(&str, u16, Kind)] = &[
     ("catch", 3, Kind::Control(Control::Catch)),
     ("findall", 3, Kind::Control(Control::FindAll)),
     ("throw", 1, Kind::Control(Control::Throw)),
-    ("assertz", 1, Kind::Control(Control::AddLast)),
+    ("asserta", 1, Kind::Control(Control::Add(Side::Front))),
+    ("assertz", 1, Kind::Control(Control::Add(Side::Back))),
+    ("assert", 1, Kind::Control(Control::Add(Side::Back))),
+    ("clause", 2, Kind::Control(Control::Retrieve)),
+    ("retract", 1, Kind::Control(Control::Retract)),
+    ("retractall", 1, Kind::Control(Control::RetractAll)),
+    ("dynamic", 1, Kind::Control(Control::Declare)),
     ("halt", 0, Kind::Control(Control::Halt)),
     ("halt", 1, Kind::Control(Control::Halt)),
     ("=", 2, Kind::BuiltIn(BuiltIn::Terms(Terms::Unify))),
@@ -230,12 +236,6 @@ pub static ROWS: &[(&str, u16, Kind)] = &[
 /// Names with arities that are kept for control constructs and built-in predicates: no program can define them, and a call of one is a call of
 /// a procedure that is not there.
 pub static KEPT: &[(&str, u16)] = &[
-    ("asserta", 1),
-    ("assert", 1),
-    ("retract", 1),
-    ("retractall", 1),
-    ("dynamic", 1),
-    ("clause", 2),
     ("transaction", 1),
     ("snapshot", 1),
     ("with_mutex", 2),

@@ -4,7 +4,7 @@ use plrow::row::{RUN, Row, first_wrong};
 use std::test::Fail;
 
 /// The examples.
-const EXAMPLES: [Row; 15] = [
+const EXAMPLES: [Row; 18] = [
     // calculator
     (
         RUN,
@@ -31,6 +31,47 @@ show(_) :- write('no expression'), nl.
 :- initialization((show(\"1+2*3\"), show(\"(1+2)*3\"), show(\"100-20-3\"), show(\"2*(3+4)*5\"), show(\"1+\"))).
 ",
         "% thread 1 main: true\n1+2*3=7\n(1+2)*3=9\n100-20-3=77\n2*(3+4)*5=70\nno expression\n",
+        Status::Done,
+    ),
+    // chain
+    (
+        RUN,
+        "% A rule base that is worked forward: each rule whose conditions are facts adds its conclusion, until nothing new comes.
+:- dynamic fact/1.
+:- dynamic why/2.
+
+rule(mammal, [hair]).
+rule(mammal, [milk]).
+rule(bird, [feathers]).
+rule(carnivore, [mammal, meat]).
+rule(ungulate, [mammal, hooves]).
+rule(tiger, [carnivore, tawny, stripes]).
+rule(zebra, [ungulate, stripes]).
+rule(penguin, [bird, swims]).
+
+holds([]).
+holds([C|Cs]) :- fact(C), holds(Cs).
+
+% One new conclusion.
+derive(What) :- rule(What, If), \\+ fact(What), holds(If), assertz(fact(What)), assertz(why(What, If)).
+
+forward :- derive(_), !, forward.
+forward.
+
+% Starts over with other observations.
+observe(Seen) :- retractall(fact(_)), retractall(why(_, _)), note(Seen).
+
+note([]).
+note([F|Fs]) :- assertz(fact(F)), note(Fs).
+
+explain :- why(What, If), format(\"~w, since ~w~n\", [What, If]), fail.
+explain.
+
+case(Seen) :- observe(Seen), forward, format(\"from ~w:~n\", [Seen]), explain.
+
+:- initialization((case([hair, meat, tawny, stripes]), case([milk, hooves, stripes]), case([feathers, swims]))).
+",
+        "% thread 1 main: true\nfrom [hair,meat,tawny,stripes]:\nmammal, since [hair]\ncarnivore, since [mammal,meat]\ntiger, since [carnivore,tawny,stripes]\nfrom [milk,hooves,stripes]:\nmammal, since [milk]\nungulate, since [mammal,hooves]\nzebra, since [ungulate,stripes]\nfrom [feathers,swims]:\nbird, since [feathers]\npenguin, since [bird,swims]\n",
         Status::Done,
     ),
     // clauses
@@ -121,6 +162,70 @@ main :- write(hello), nl.
 :- initialization(main).
 ",
         "% thread 1 main: true\nhello\n",
+        Status::Done,
+    ),
+    // inventory
+    (
+        RUN,
+        "% What is in store, kept as facts that change: goods come in, go out, and are told.
+:- dynamic stock/2.
+:- dynamic missed/1.
+
+stock(nails, 1200).
+stock(hammers, 14).
+stock(ladders, 3).
+
+% So many more of an item, which may be a new one.
+receive(Item, Count) :-
+    retract(stock(Item, Old)), !,
+    New is Old + Count,
+    assertz(stock(Item, New)).
+receive(Item, Count) :- assertz(stock(Item, Count)).
+
+% So many less, where there are enough; an order that is not met is noted.
+ship(Item, Count) :-
+    stock(Item, Old), Old >= Count, !,
+    retract(stock(Item, Old)),
+    New is Old - Count,
+    assertz(stock(Item, New)).
+ship(Item, Count) :- assertz(missed(order(Item, Count))), fail.
+
+% An item of which nothing is left is not kept.
+clear :- retract(stock(_, 0)), fail.
+clear.
+
+tell :- stock(Item, Count), format(\"~w: ~d~n\", [Item, Count]), fail.
+tell :- findall(Order, missed(Order), Orders), format(\"missed: ~w~n\", [Orders]).
+
+day :-
+    receive(hammers, 6), receive(saws, 2),
+    ship(nails, 700), ship(ladders, 3),
+    ( ship(saws, 5) ; true ), ( ship(nails, 501) ; true ),
+    clear, !.
+
+:- initialization((day, tell)).
+",
+        "% thread 1 main: true\nhammers: 20\nsaws: 2\nnails: 500\nmissed: [order(saws,5),order(nails,501)]\n",
+        Status::Done,
+    ),
+    // memo
+    (
+        RUN,
+        "% Fibonacci numbers, each of which is worked out once and then kept as a fact.
+:- dynamic known/2.
+
+fib(N, F) :- known(N, F), !.
+fib(N, F) :- fresh(N, F), asserta(known(N, F)).
+
+fresh(0, 0) :- !.
+fresh(1, 1) :- !.
+fresh(N, F) :- A is N - 1, B is N - 2, fib(A, X), fib(B, Y), F is X + Y.
+
+show(N) :- fib(N, F), format(\"fib(~d) = ~d~n\", [N, F]).
+
+:- initialization((maplist(show, [10, 50, 90]), findall(N, known(N, _), Kept), length(Kept, Count), format(\"~d are kept~n\", [Count]))).
+",
+        "% thread 1 main: true\nfib(10) = 55\nfib(50) = 12586269025\nfib(90) = 2880067194370816120\n91 are kept\n",
         Status::Done,
     ),
     // operators

@@ -8,6 +8,8 @@ mod control;
 #[cfg(test)]
 mod cuts;
 #[cfg(test)]
+mod database;
+#[cfg(test)]
 mod deep;
 #[cfg(test)]
 mod ends;

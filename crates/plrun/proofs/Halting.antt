@@ -1,5 +1,5 @@
 -- How main's search ends the run: once that is done, and no sooner.
-use Rattle.std.proofs.Common.{◌≡◌, ℕ, zero, suc, ◌+◌, ◌<◌, Bool, true, false, inl, inr, List, [], ◌∷◌, ◌++◌, min, length, Option, Some, None, refl, sym, ap, ◌∙◌, subst, arith, nat_eq, if◌then◌else◌}
+use Rattle.std.proofs.Common.{◌≡◌, ℕ, zero, suc, ◌+◌, ◌<◌, Bool, true, false, inl, inr, List, [], ◌∷◌, ◌++◌, map, min, length, Option, Some, None, refl, sym, ap, ◌∙◌, subst, arith, nat_eq, if◌then◌else◌}
 use Rattle.std.specs.Prelude.{codes}
 use Rattle.std.specs.List.{filter_map, cons_option}
 use Rattle.std.specs.Option.{option_map}
@@ -16,21 +16,24 @@ use Rattle.plclause.specs.declared.form.ClauseForm.TheVariants.{NoHead, BadHead,
 use Rattle.plevent.specs.declared.request.Request.{Request}
 use Rattle.plevent.specs.declared.request.Reply.{Reply}
 use Rattle.plevent.specs.declared.request.ThreadEnd.{ThreadEnd}
-use Rattle.plevent.specs.declared.update.Update.TheVariants.{Last}
-use Rattle.plevent.specs.Alive.{Stamped, exists, clauses_alive}
+use Rattle.plclause.specs.Named.{named_terms, indicator_of}
+use Rattle.plnames.specs.declared.kind.Side.{Side}
+use Rattle.plevent.specs.declared.update.Living.{Living}
+use Rattle.plevent.specs.declared.update.Update.{Update}
+use Rattle.plevent.specs.declared.update.Update.TheVariants.{Declare}
+use Rattle.plevent.specs.Alive.{Stamped, or_else, exists, living, clauses_alive}
 use Rattle.plevent.specs.Search.{Item, View, Ask, Answer, Seen, Got, Wants, Finishes}
 use Rattle.plprogram.specs.Program.{Program, clauses_for}
 use Rattle.plprogram.specs.declared.settings.Unknown.{Unknown}
 use Rattle.plprogram.specs.declared.settings.Unknown.TheVariants as unknown
 use Rattle.plbuiltin.specs.Solution.{Solution, Solved, Gives, Raises as Refuses}
 use Rattle.plbuiltin.specs.Solutions.{solutions}
-use Rattle.plsearch.specs.Types.{Result, Stop, Fail, CutTo, Throw, Halted, Spent, Awaits, Stopped, Unfit, Commit, Never, Until, Collect, Then, GoesOn, Ends, Question, Look, Await, Element, Goal, Marker, Raise, Asking, Place, Case, Choice, Mark, Handle, Handler, Catch, Gather, Return, Keep, Again, Anew, Local, Move, Give, Go, Run}
-use Rattle.plsearch.specs.Errors.{static_error}
+use Rattle.plsearch.specs.Types.{Result, Stop, Fail, CutTo, Throw, Halted, Spent, Awaits, Stopped, Unfit, Commit, Never, Until, Collect, Then, GoesOn, Ends, Lookup, ToCall, ToRetrieve, ToRetract, ToRetractAll, Question, Look, Await, Element, Goal, Marker, Raise, Asking, Place, Case, Choice, Mark, Handle, Handler, Catch, Gather, Return, Keep, Again, Anew, Local, Move, Give, Go, Run}
 use Rattle.plsearch.specs.Lists.{bind_element, bind_goals}
-use Rattle.plsearch.specs.Forms.{Form, True, False, Both, Either, IfThenElse, Not, Once, Catching, FindAll, Throwing, CallWith, Cut, Halting, AddLast, BuiltIn, Call, NoGoal, form}
+use Rattle.plsearch.specs.Forms.{Form, True, False, Both, Either, IfThenElse, Not, Once, Catching, FindAll, Throwing, CallWith, Cut, Halting, Adding, Retrieving, Retracting, RetractingAll, Declaring, BuiltIn, Call, NoGoal, form}
 use Rattle.plsearch.specs.Running.{Runnable, Runs, Raises, runnable, called}
-use Rattle.plsearch.specs.Rows.{is_true, before_rest, resolve, choose, call, raised, asked, once_1, not_1, catch_3, call_with, assertz_1, first_of, run, thrown, catching, finding, findall_3, gathering, branch, go_on, is_static, add, halting, user, solved, taken, offered, offer, row, select, meet}
-use Rattle.plsearch.specs.Replies.{outcome, follows, missing, walk_over, answered}
+use Rattle.plsearch.specs.Rows.{is_true, before_rest, resolve, choose, call, raised, asked, once_1, not_1, catch_3, call_with, clause_term, as_fact, first_of, run, thrown, catching, finding, findall_3, gathering, branch, go_on, publish, unless, unchangeable, added, add, no_head, no_body, unreadable, retrieving, halves, unerasable, undeclarable, halting, user, solved, taken, offered, offer, row, select, meet}
+use Rattle.plsearch.specs.Replies.{outcome, follows, missing, retract, all_erased, looked_up, answered}
 use Rattle.plsearch.specs.Handlers.{has, recovers, met_by, goes_on, resume}
 use Rattle.plbuiltin.specs.Errors.{type_error}
 use Rattle.plbuiltin.specs.Lists.{may_be_list}
@@ -44,9 +47,10 @@ use Rattle.plsearch.proofs.Turns.{Rest-turn}
 use Rattle.plsearch.proofs.Weight.{lighter-turn}
 use Rattle.plrun.specs.Halts.{HaltsWhenDone, HaltsNoSooner, IsCommon, AreCommon}
 
--- what follows the request to end the run is that end, and behind a batch the list goes on
+-- what follows the request to end the run is that end, and behind a batch or an erasure the list goes on
 abbrev IsProper : Element → Type 0
 IsProper (Asking (Await (Request.Publish us) (Ends k))) = ⊥
+IsProper (Asking (Await (Request.EraseOne x) (Ends k))) = ⊥
 IsProper (Asking (Await (Request.HaltRun n) GoesOn)) = ⊥
 IsProper (Asking (Await (Request.HaltRun n) (Ends k))) = k ≡ n
 IsProper e = Unit {0}
@@ -82,7 +86,7 @@ element_bound : (σ : ℕ → Tree) (e : Element) → IsProper e → IsProper (b
 element_bound σ (Goal k t) p = tt
 element_bound σ (Marker m l) p = tt
 element_bound σ (Raise b) p = tt
-element_bound σ (Asking (Look t)) p = tt
+element_bound σ (Asking (Look u)) p = tt
 element_bound σ (Asking (Await q next)) p = p
 
 bound : (σ : ℕ → Tree) (es : List Element) → AreProper es → AreProper (bind_goals σ es)
@@ -94,14 +98,21 @@ before true d t es p = p
 before false d t es p = (tt, p)
 
 -- the table's rows
+resolved_first : (d n : ℕ) (t : Tree) (rest : List Element) → AreProper rest → (c : Clause) (ps : List Place) → AllProper ps → AllProper (cons_option (resolve d n t rest c) ps)
+resolved_first d n t rest proper c ps all = go (unify t (shift n c.head))
+  where
+    go : (o : Option (ℕ → Tree)) → AllProper (cons_option (option_map (λ σ. record { goals = before_rest (is_true c.body) d (bind σ (shift n c.body)) (bind_goals σ rest); variables = n + c.variables }) o) ps)
+    go None = all
+    go (Some σ) = (before (is_true c.body) d (bind σ (shift n c.body)) (bind_goals σ rest) (bound σ rest proper), all)
+
 resolved : (d n : ℕ) (t : Tree) (rest : List Element) → AreProper rest → (cs : List Clause) → AllProper (filter_map (resolve d n t rest) cs)
 resolved d n t rest proper [] = tt
-resolved d n t rest proper (c ∷ cs) = go (unify t (shift n c.head)) (resolved d n t rest proper cs)
-  where
-    go : (o : Option (ℕ → Tree)) → AllProper (filter_map (resolve d n t rest) cs) →
-        AllProper (cons_option (option_map (λ σ. record { goals = before_rest (is_true c.body) d (bind σ (shift n c.body)) (bind_goals σ rest); variables = n + c.variables }) o) (filter_map (resolve d n t rest) cs))
-    go None all = all
-    go (Some σ) all = (before (is_true c.body) d (bind σ (shift n c.body)) (bind_goals σ rest) (bound σ rest proper), all)
+resolved d n t rest proper (c ∷ cs) = resolved_first d n t rest proper c (filter_map (resolve d n t rest) cs) (resolved d n t rest proper cs)
+
+retracted : (d n : ℕ) (t : Tree) (rest : List Element) → AreProper rest → (xs : List Living) → AllProper (filter_map (retract d n t rest) xs)
+retracted d n t rest proper [] = tt
+retracted d n t rest proper (x ∷ xs) =
+    resolved_first d n t (Asking (Await (Request.EraseOne x.name) GoesOn) ∷ rest) (tt, proper) (as_fact x.clause) (filter_map (retract d n t rest) xs) (retracted d n t rest proper xs)
 
 solutions_fit : (rest : List Element) (n : ℕ) → AreProper rest → (ss : List Solution) → AllProper (filter_map (solved rest n) ss)
 solutions_fit rest n proper [] = tt
@@ -139,15 +150,24 @@ halting_fits (int i) rest n w proper = (tt, (refl, proper))
 halting_fits (atom f) rest n w proper = raised_fits _ _ rest w
 halting_fits (compound f ts) rest n w proper = raised_fits _ _ rest w
 
-add_fits : (P : Program) (f : ClauseForm) (rest : List Element) (n : ℕ) (w : Local) → AreProper rest → MoveFits (add P f rest n w)
-add_fits P NoHead rest n w proper = raised_fits _ _ rest w
-add_fits P (BadHead h) rest n w proper = raised_fits _ _ rest w
-add_fits P (BadBody b) rest n w proper = raised_fits _ _ rest w
-add_fits P (IsClause c) rest n w proper = go (is_static P (indicator c.head))
-  where
-    go : (b : Bool) → MoveFits (if b then raised (static_error (indicator c.head)) assertz_1 rest w else go_on (Asking (Await (Request.Publish (Last c ∷ [])) GoesOn) ∷ rest) n w)
-    go true = raised_fits _ _ rest w
-    go false = (tt, (tt, proper))
+publish_fits : (us : List Update) (rest : List Element) (n : ℕ) (w : Local) → AreProper rest → MoveFits (publish us rest n w)
+publish_fits [] rest n w proper = (tt, proper)
+publish_fits (u ∷ us) rest n w proper = (tt, (tt, proper))
+
+unless_fits : (o : Option Tree) (p : Indicator) (rest : List Element) (w : Local) (m : Move) → MoveFits m → MoveFits (unless o p rest w m)
+unless_fits None p rest w m fits = fits
+unless_fits (Some e) p rest w m fits = raised_fits e p rest w
+
+add_fits : (P : Program) (side : Side) (p : Indicator) (f : ClauseForm) (rest : List Element) (n : ℕ) (w : Local) → AreProper rest → MoveFits (add P side p f rest n w)
+add_fits P side p NoHead rest n w proper = raised_fits _ _ rest w
+add_fits P side p (BadHead h) rest n w proper = raised_fits _ _ rest w
+add_fits P side p (BadBody b) rest n w proper = raised_fits _ _ rest w
+add_fits P side p (IsClause c) rest n w proper = unless_fits (unchangeable P (indicator c.head)) p rest w _ (publish_fits (added side c ∷ []) rest n w proper)
+
+retrieving_fits : (cs : List Clause) (d : ℕ) (h b : Tree) (rest : List Element) (n : ℕ) (w : Local) → AreProper rest → MoveFits (retrieving cs d h b rest n w)
+retrieving_fits [] d h b rest n w proper = (tt, (tt, proper))
+retrieving_fits (c ∷ cs) d h b rest n w proper =
+    choose_fits (filter_map (resolve d n (clause_term h b) rest) (map as_fact (c ∷ cs))) w (resolved d n (clause_term h b) rest proper (map as_fact (c ∷ cs)))
 
 user_fits : (cs : List Clause) (d : ℕ) (t : Tree) (rest : List Element) (n : ℕ) (w : Local) → AreProper rest → MoveFits (user cs d t rest n w)
 user_fits [] d t rest n w proper = (tt, (tt, proper))
@@ -188,7 +208,13 @@ row_fits P (Once g) k t d rest n w proper = run_fits (runnable g) once_1 [] d (M
 row_fits P (CallWith g us) k t d rest n w proper = run_fits (called g us) (call_with (length us)) [] d rest n w tt proper
 row_fits P Cut k t d rest n w proper = ((tt, tt), proper)
 row_fits P (Halting i) k t d rest n w proper = halting_fits i rest n w proper
-row_fits P (AddLast c) k t d rest n w proper = add_fits P (clausal c) rest n w proper
+row_fits P (Adding side c) k t d rest n w proper = add_fits P side (indicator t) (clausal c) rest n w proper
+row_fits P (Retrieving h b) k t d rest n w proper =
+    unless_fits (or_else (no_head h) (or_else (no_body b) (unreadable (indicator h)))) (indicator t) rest w _ (retrieving_fits (clauses_for P (indicator h)) d h b rest n w proper)
+row_fits P (Retracting c) k t d rest n w proper = unless_fits (unerasable P (halves c).0) (indicator t) rest w _ (tt, (tt, proper))
+row_fits P (RetractingAll h) k t d rest n w proper = unless_fits (unerasable P h) (indicator t) rest w _ (tt, (tt, proper))
+row_fits P (Declaring ps) k t d rest n w proper =
+    unless_fits (undeclarable P (named_terms ps)) (indicator t) rest w _ (publish_fits (map Declare (filter_map indicator_of (named_terms ps))) rest n w proper)
 row_fits P (BuiltIn b us) k t d rest n w proper = offer_fits (solutions b us w.settings n) (indicator t) rest n w proper
 row_fits P (Call p) k t d rest n w proper = user_fits (clauses_for P p) d t rest n w proper
 row_fits P NoGoal k t d rest n w proper = tt
@@ -201,8 +227,13 @@ missing_fits : (u : Unknown) (t : Tree) (rest : List Element) (w : Local) → Mo
 missing_fits unknown.Error t rest w = raised_fits _ _ rest w
 missing_fits unknown.Fail t rest w = tt
 
-walk_fits : (us : List Stamped) (d : ℕ) (t : Tree) (rest : List Element) (n : ℕ) (w : Local) → AreProper rest → MoveFits (walk_over us d t rest n w)
-walk_fits us d t rest n w proper = go (exists us (indicator t))
+looked_fits : (us : List Stamped) (u : Lookup) (d : ℕ) (rest : List Element) (n : ℕ) (w : Local) → AreProper rest → MoveFits (looked_up us u d rest n w)
+looked_fits us (ToRetrieve h b) d rest n w proper =
+    choose_fits (filter_map (resolve d n (clause_term h b) rest) (map as_fact (clauses_alive us (indicator h)))) w (resolved d n (clause_term h b) rest proper (map as_fact (clauses_alive us (indicator h))))
+looked_fits us (ToRetract h b) d rest n w proper =
+    choose_fits (filter_map (retract d n (clause_term h b) rest) (living us (indicator h))) w (retracted d n (clause_term h b) rest proper (living us (indicator h)))
+looked_fits us (ToRetractAll h) d rest n w proper = publish_fits (all_erased us n h) rest n w proper
+looked_fits us (ToCall t) d rest n w proper = go (exists us (indicator t))
   where
     go : (b : Bool) → MoveFits (if b then call d n t rest (clauses_alive us (indicator t)) w else missing w.settings.unknown t rest w)
     go true = choose_fits (filter_map (resolve d n t rest) (clauses_alive us (indicator t))) w (resolved d n t rest proper (clauses_alive us (indicator t)))
@@ -211,6 +242,18 @@ walk_fits us d t rest n w proper = go (exists us (indicator t))
 -- a reply by which nothing ends the run
 reply_fits : (q : Request) (next : Then) (r : Reply) (rest : List Element) (n : ℕ) (w : Local) → IsProper (Asking (Await q next)) → IsCommon (Got r) → AreProper rest → MoveFits (follows (outcome q r) next rest n w)
 reply_fits (Request.Publish us) GoesOn Reply.Published rest n w p common proper = (tt, proper)
+reply_fits (Request.EraseOne x) GoesOn Reply.Erased rest n w p common proper = (tt, proper)
+reply_fits (Request.EraseOne x) (Ends k) Reply.Erased rest n w p common proper = absurd p
+reply_fits (Request.EraseOne x) next Reply.Gone rest n w p common proper = tt
+reply_fits (Request.EraseOne x) next Reply.Published rest n w p common proper = tt
+reply_fits (Request.Publish us) next Reply.Erased rest n w p common proper = tt
+reply_fits (Request.Publish us) next Reply.Gone rest n w p common proper = tt
+reply_fits Request.Start next Reply.Erased rest n w p common proper = tt
+reply_fits Request.Start next Reply.Gone rest n w p common proper = tt
+reply_fits (Request.Finish e) next Reply.Erased rest n w p common proper = tt
+reply_fits (Request.Finish e) next Reply.Gone rest n w p common proper = tt
+reply_fits (Request.HaltRun k) next Reply.Erased rest n w p common proper = tt
+reply_fits (Request.HaltRun k) next Reply.Gone rest n w p common proper = tt
 reply_fits (Request.Publish us) (Ends k) Reply.Published rest n w p common proper = absurd p
 reply_fits Request.Start next Reply.Published rest n w p common proper = tt
 reply_fits (Request.Finish e) next Reply.Published rest n w p common proper = tt
@@ -223,8 +266,8 @@ reply_fits q next Reply.Done rest n w p common proper = absurd common
 
 answered_fits : (q : Question) (a : Answer) (d : ℕ) (rest : List Element) (n : ℕ) (w : Local) → IsProper (Asking q) → IsCommon a → AreProper rest → MoveFits (answered (Asking q) a d rest n w)
 unfolding answered
-answered_fits (Look t) (Seen g us) d rest n w p common proper = walk_fits us d t rest n w proper
-answered_fits (Look t) (Got r) d rest n w p common proper = tt
+answered_fits (Look u) (Seen g us) d rest n w p common proper = looked_fits us u d rest n w proper
+answered_fits (Look u) (Got r) d rest n w p common proper = tt
 answered_fits (Await q next) (Seen g us) d rest n w p common proper = tt
 answered_fits (Await q next) (Got r) d rest n w p common proper = reply_fits q next r rest n w p common proper
 
@@ -389,7 +432,7 @@ module _ (P : Program) where
   halted_by (Ends k) i d es n w same = ap (λ k. Give (Halted k) w) same
 
   halting_item : (q : Question) (i d : ℕ) (es : List Element) (n : ℕ) (w : Local) → IsProper (Asking q) → asked q ≡ Ask (Request.HaltRun i) → answered (Asking q) (Got Reply.Done) d es n w ≡ Give (Halted i) w
-  halting_item (Look t) i d es n w proper is = absurd (no_view i is)
+  halting_item (Look u) i d es n w proper is = absurd (no_view i is)
   halting_item (Await q next) i d es n w proper is =
       let same : q ≡ Request.HaltRun i = same_request q i is in
       ap (λ q. answered (Asking (Await q next)) (Got Reply.Done) d es n w) same ∙ halted_by next i d es n w (subst (λ q. IsProper (Asking (Await q next))) same proper)

@@ -1,5 +1,5 @@
 -- What a turn of a thread leaves.
-use Rattle.std.proofs.Common.{◌≡◌, ℕ, ◌≤◌, Bool, true, false, ◌||◌, not, List, [], ◌∷◌, ◌++◌, length, take, append-nil, map, Some, refl, sym, ap, ap₂, ◌∙◌, subst, arith, nat_eq, eq-eqb, eqb-true}
+use Rattle.std.proofs.Common.{◌≡◌, ℕ, ◌≤◌, Bool, true, false, ◌||◌, not, List, [], ◌∷◌, ◌++◌, length, take, append-nil, map, Some, None, refl, sym, ap, ap₂, ◌∙◌, subst, arith, nat_eq, eq-eqb, eqb-true}
 use Rattle.std.specs.List.{find, list_any}
 use Rattle.std.specs.Option.{is_some}
 use Rattle.std.proofs.Math.Seq.{take-append_seam}
@@ -10,27 +10,30 @@ use Rattle.plevent.specs.declared.update.Update.{Update}
 use Rattle.plevent.specs.declared.act.Act.{Act}
 use Rattle.plevent.specs.declared.act.Entry.{Entry}
 use Rattle.plevent.specs.declared.standing.Thread.{Thread}
-use Rattle.plevent.specs.Alive.{Stamped, before}
+use Rattle.plevent.specs.declared.update.ClauseName.{ClauseName}
+use Rattle.plevent.specs.declared.update.Update.TheVariants.{Erase}
+use Rattle.plevent.specs.Alive.{Stamped, before, is_alive}
 use Rattle.plevent.specs.Reading.{reading, is_thread, changed_first, halted_after}
-use Rattle.plevent.specs.Rows.{served, adds, reply_to, entries_of, is_settled}
+use Rattle.plevent.specs.Rows.{erase_row, served, adds, reply_to, entries_of, is_settled}
 use Rattle.plevent.specs.Search.{Item, View, Ask, Seen, Got, Wants, Finishes, Search, item_of, item_of_end}
 use Rattle.plhist.specs.declared.history.Run.{Run}
 use Rattle.plhist.specs.declared.history.RunEnd.{RunEnd}
-use Rattle.plhist.specs.Follows.{last_of}
+use Rattle.plhist.specs.Follows.{is_not_yet, last_of}
+use Rattle.plhist.specs.Legal.{IsDue}
 use Rattle.plhist.proofs.Alone.{main-alone}
 use Rattle.plhist.proofs.OneMore.{reading-push, halted-push}
 use Rattle.plworld.proofs.Push.{before-is}
 use Rattle.plprogram.specs.Program.{Program}
 use Rattle.plsearch.specs.Search.{search_of}
 use Rattle.plsearch.specs.Solving.{Goes, TakesOne, StandsAt, EndsAt}
-use Rattle.plsearch.specs.Replies.{outcome, Served}
+use Rattle.plsolver.specs.Solver.{IsReplyTo}
 use Rattle.plrun.specs.Going.{Free, Going, IsClosed, IsRunning, IsHalted, IsStarted, Runs, Halts}
-use Rattle.plrun.specs.Halts.{HaltsWhenDone, HaltsNoSooner, act_of, told, told_places}
+use Rattle.plrun.specs.Halts.{IsCommon, HaltsWhenDone, HaltsNoSooner, act_of, told, told_places}
 use Rattle.plrun.specs.Overall.{IsHistory}
 use Rattle.plrun.proofs.Grow.{sound-push}
 use Rattle.plrun.proofs.Free.{is_plain}
-use Rattle.plrun.proofs.Rows.{row-served, publish-due, last-served, last-due}
-use Rattle.plrun.proofs.Steps.{asks-same, going-goes, going-view, going-act}
+use Rattle.plrun.proofs.Rows.{row-served, publish-due, erase-due, last-served, last-due}
+use Rattle.plrun.proofs.Steps.{asks-same, going-goes, going-view, going-reply, going-act}
 use Rattle.plrun.proofs.Ends.{asked-last, ended-told}
 
 -- a view at the journal's length sees all its updates
@@ -49,23 +52,57 @@ looked first search limit old new before_used used out h t places later g us r a
           (subst (λ a. TakesOne a old before_used new used) (ap₂ Seen now seen) one) r.going);
     }
 
--- a batch
+-- a request that is answered by a batch of the thread's
+batched : (first : List Update) (search : Search) (limit : ℕ) (old new : Search) (before_used used : ℕ) (out : List ℕ) (h h' : List Entry) (t : ℕ) (places later : List ℕ) (g : ℕ) (q : Request) (us : List Update) (is reply : Reply) →
+    IsRunning first search limit old before_used h t places → StandsAt (Ask q) old before_used out → g ≡ length h → served q t (reading h) ≡ (is, Some (t, Act.Batch us)) → is_not_yet is ≡ false → IsCommon (Got is) →
+    IsDue (reading h) (record { worker = 1; thread = t; act = Act.Batch us }) →
+    reply ≡ reply_to h t q → h' ≡ h ++ adds h 1 t q → TakesOne (Got reply) old before_used new used → later ≡ places ++ g ∷ [] →
+    IsRunning first search limit new used h' t later
+unfolding is_plain
+batched first search limit old new before_used used out h h' t places later g q us is reply r at now row some common due tells grows one pushed =
+    let e : Entry = record { worker = 1; thread = t; act = Act.Batch us } in
+    let grown : h' ≡ h ++ e ∷ [] = grows ∙ ap (λ x. h ++ entries_of 1 x.1) row in
+    let told : reply ≡ is = tells ∙ ap (λ x. x.0) row in
+    subst (λ l. IsRunning first search limit new used l t later) (sym grown) (record {
+      sound = sound-push first h e r.sound due refl;
+      going = subst (Going search limit new used (h ++ e ∷ []) t) (sym (pushed ∙ ap (λ g. places ++ g ∷ []) now))
+          (going-act search limit old new before_used used h t 1 places q is (Act.Batch us) (λ n le. ap (λ e. e.next) (at n le))
+          (subst (λ x. TakesOne (Got x) old before_used new used) told one) row some refl common r.going);
+    })
+
+-- a batch that is published
 pub published : (first : List Update) (search : Search) (limit : ℕ) (old new : Search) (before_used used : ℕ) (out : List ℕ) (h h' : List Entry) (t : ℕ) (places later : List ℕ) (g : ℕ) (us : List Update) (reply : Reply) →
     IsRunning first search limit old before_used h t places → StandsAt (Ask (Request.Publish us)) old before_used out → g ≡ length h →
     reply ≡ reply_to h t (Request.Publish us) → h' ≡ h ++ adds h 1 t (Request.Publish us) → TakesOne (Got reply) old before_used new used → later ≡ places ++ g ∷ [] →
     IsRunning first search limit new used h' t later
-unfolding is_plain
 published first search limit old new before_used used out h h' t places later g us reply r at now tells grows one pushed =
-    let is : served (Request.Publish us) t (reading h) ≡ (Reply.Published, Some (t, Act.Batch us)) = row-served (Request.Publish us) t (reading h) refl r.going.free in
-    let e : Entry = record { worker = 1; thread = t; act = Act.Batch us } in
-    let grown : h' ≡ h ++ e ∷ [] = grows ∙ ap (λ x. h ++ entries_of 1 x.1) is in
-    let told : reply ≡ Reply.Published = tells ∙ ap (λ x. x.0) is in
-    subst (λ l. IsRunning first search limit new used l t later) (sym grown) (record {
-      sound = sound-push first h e r.sound (publish-due us t (reading h) r.going.free) refl;
-      going = subst (Going search limit new used (h ++ e ∷ []) t) (sym (pushed ∙ ap (λ g. places ++ g ∷ []) now))
-          (going-act search limit old new before_used used h t 1 places (Request.Publish us) Reply.Published (Act.Batch us) (λ n le. ap (λ e. e.next) (at n le))
-          (subst (λ x. TakesOne (Got x) old before_used new used) told one) is refl refl tt r.going);
-    })
+    batched first search limit old new before_used used out h h' t places later g (Request.Publish us) us Reply.Published reply r at now (row-served (Request.Publish us) t (reading h) refl r.going.free) refl tt
+    (publish-due us t (reading h) r.going.free) tells grows one pushed
+
+-- a clause that is to be erased: it goes by a batch, or is gone
+pub erased : (first : List Update) (search : Search) (limit : ℕ) (old new : Search) (before_used used : ℕ) (out : List ℕ) (h h' : List Entry) (t : ℕ) (places later : List ℕ) (g : ℕ) (x : ClauseName) (reply : Reply) →
+    IsRunning first search limit old before_used h t places → StandsAt (Ask (Request.EraseOne x)) old before_used out → g ≡ length h →
+    reply ≡ reply_to h t (Request.EraseOne x) → h' ≡ h ++ adds h 1 t (Request.EraseOne x) → TakesOne (Got reply) old before_used new used → later ≡ places ++ g ∷ [] →
+    IsRunning first search limit new used h' t later
+erased first search limit old new before_used used out h h' t places later g x reply r at now tells grows one pushed = go (is_alive x (reading h).updates) refl
+  where
+    row : served (Request.EraseOne x) t (reading h) ≡ erase_row (is_alive x (reading h).updates) x t
+    row = row-served (Request.EraseOne x) t (reading h) refl r.going.free
+
+    go : (b : Bool) → is_alive x (reading h).updates ≡ b → IsRunning first search limit new used h' t later
+    go true lives =
+        batched first search limit old new before_used used out h h' t places later g (Request.EraseOne x) (Erase x ∷ []) Reply.Erased reply r at now (row ∙ ap (λ b. erase_row b x t) lives) refl tt
+        (erase-due x t (reading h) r.going.free lives) tells grows one pushed
+    go false gone =
+        let is : served (Request.EraseOne x) t (reading h) ≡ (Reply.Gone, None) = row ∙ ap (λ b. erase_row b x t) gone in
+        let same : h' ≡ h = grows ∙ ap (λ y. h ++ entries_of 1 y.1) is ∙ append-nil h in
+        let told : reply ≡ Reply.Gone = tells ∙ ap (λ y. y.0) is in
+        subst (λ l. IsRunning first search limit new used l t later) (sym same) (record {
+          sound = r.sound;
+          going = subst (Going search limit new used h t) (sym (pushed ∙ ap (λ g. places ++ g ∷ []) now))
+              (going-reply search limit old new before_used used h t places (Request.EraseOne x) Reply.Gone (λ n le. ap (λ e. e.next) (at n le))
+              (subst (λ y. TakesOne (Got y) old before_used new used) told one) is refl tt r.going);
+        })
 
 -- the solver went on
 pub went : (first : List Update) (search : Search) (limit : ℕ) (old new : Search) (before_used used : ℕ) (h : List Entry) (t : ℕ) (places later : List ℕ) →
@@ -156,6 +193,7 @@ halted first search limit old new before_used used out h h' t places later g n r
 -- what a thread asks while it goes on
 abbrev pub MayWait : Request → Type 0
 MayWait (Request.Publish us) = Unit {0}
+MayWait (Request.EraseOne x) = Unit {0}
 MayWait (Request.HaltRun n) = Unit {0}
 MayWait q = ⊥
 
@@ -165,6 +203,8 @@ pub served-by : (first : List Update) (search : Search) (limit : ℕ) (old new :
     reply ≡ reply_to h t q → h' ≡ h ++ adds h 1 t q → TakesOne (Got reply) old before_used new used → later ≡ places ++ g ∷ [] → IsStarted first search limit new used h' t later
 served-by first search limit old new before_used used out h h' t places later g (Request.Publish us) reply halts may r at now tells grows one pushed =
     Runs (published first search limit old new before_used used out h h' t places later g us reply r at now tells grows one pushed)
+served-by first search limit old new before_used used out h h' t places later g (Request.EraseOne x) reply halts may r at now tells grows one pushed =
+    Runs (erased first search limit old new before_used used out h h' t places later g x reply r at now tells grows one pushed)
 served-by first search limit old new before_used used out h h' t places later g (Request.HaltRun n) reply halts may r at now tells grows one pushed =
     Halts n (halted first search limit old new before_used used out h h' t places later g n reply halts r at now tells grows one pushed)
 served-by first search limit old new before_used used out h h' t places later g Request.Start reply halts never r at now tells grows one pushed = absurd never
@@ -278,9 +318,17 @@ pub used-within : (first : List Update) (search : Search) (limit : ℕ) (rest : 
 used-within first search limit rest used h t places (Runs r) = r.going.within
 used-within first search limit rest used h t places (Halts n x) = x.within
 
--- the reply to a request of a thread that goes on says that it is done
-pub reply-done : (h : List Entry) (t : ℕ) (q : Request) (r : Reply) → MayWait q → Free t (reading h).standing → r ≡ reply_to h t q → outcome q r ≡ Served
-reply-done h t (Request.Publish us) r may f tells = ap (outcome (Request.Publish us)) (tells ∙ ap (λ x. x.0) (row-served (Request.Publish us) t (reading h) refl f))
-reply-done h t (Request.HaltRun n) r may f tells = ap (outcome (Request.HaltRun n)) (tells ∙ ap (λ x. x.0) (last-served (ThreadEnd.Halt n) t (reading h) f))
-reply-done h t Request.Start r never f tells = absurd never
-reply-done h t (Request.Finish e) r never f tells = absurd never
+-- the reply to a request of a thread that goes on fits it
+pub reply-fits : (h : List Entry) (t : ℕ) (q : Request) (r : Reply) → MayWait q → Free t (reading h).standing → r ≡ reply_to h t q → IsReplyTo q r
+reply-fits h t (Request.Publish us) r may f tells = subst (IsReplyTo (Request.Publish us)) (sym (tells ∙ ap (λ x. x.0) (row-served (Request.Publish us) t (reading h) refl f))) refl
+reply-fits h t (Request.EraseOne x) r may f tells = go (is_alive x (reading h).updates) refl
+  where
+    is : r ≡ (erase_row (is_alive x (reading h).updates) x t).0
+    is = tells ∙ ap (λ y. y.0) (row-served (Request.EraseOne x) t (reading h) refl f)
+
+    go : (b : Bool) → is_alive x (reading h).updates ≡ b → IsReplyTo (Request.EraseOne x) r
+    go true lives = subst (IsReplyTo (Request.EraseOne x)) (sym (is ∙ ap (λ b. (erase_row b x t).0) lives)) refl
+    go false gone = subst (IsReplyTo (Request.EraseOne x)) (sym (is ∙ ap (λ b. (erase_row b x t).0) gone)) refl
+reply-fits h t (Request.HaltRun n) r may f tells = subst (IsReplyTo (Request.HaltRun n)) (sym (tells ∙ ap (λ x. x.0) (last-served (ThreadEnd.Halt n) t (reading h) f))) refl
+reply-fits h t Request.Start r never f tells = absurd never
+reply-fits h t (Request.Finish e) r never f tells = absurd never

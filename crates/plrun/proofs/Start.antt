@@ -38,6 +38,8 @@ number_of Reply.Stopped = 0
 number_of (Reply.NotYet q) = 0
 number_of Reply.Published = 0
 number_of Reply.Done = 0
+number_of Reply.Erased = 0
+number_of Reply.Gone = 0
 
 main_begun : (first : List Update) (search : Search) (limit : ℕ) (rest : Search) (used : ℕ) → Begins search rest used → IsRunning first search limit rest used (opening first ∷ start_entry ∷ []) 1 []
 unfolding takes reading own start_entry
@@ -79,7 +81,7 @@ unfolding served
 over_served h over = go (reading h).standing.halted refl
   where
     stopped : (n : ℕ) → (reading h).standing.halted ≡ Some n → served Request.Start 0 (reading h) ≡ (Reply.Stopped, None)
-    stopped n is = ap (λ o. add_if (is_some o) (Reply.Stopped, None) (served_while Request.Start 0 (reading h).standing)) is
+    stopped n is = ap (λ o. add_if (is_some o) (Reply.Stopped, None) (served_while Request.Start 0 (reading h))) is
 
     go : (o : Option ℕ) → (reading h).standing.halted ≡ o → Unstarted h
     go (Some n) is = record { told = Reply.Stopped; row = stopped n is; never = λ n a g same. cc }

@@ -1,5 +1,5 @@
 -- The invariant of a thread, turn by turn.
-use Rattle.std.proofs.Common.{◌≡◌, ℕ, suc, ◌≤◌, true, false, List, [], ◌∷◌, ◌++◌, length, Some, refl, sym, ap, ◌∙◌, subst, arith, length-append, append_assoc, append-nil, lt-ltb, eq-eqb}
+use Rattle.std.proofs.Common.{◌≡◌, ℕ, suc, ◌≤◌, true, false, List, [], ◌∷◌, ◌++◌, length, Some, None, refl, sym, ap, ◌∙◌, subst, arith, length-append, append_assoc, append-nil, lt-ltb, eq-eqb}
 use Rattle.std.specs.Option.{option_and_then}
 use Rattle.std.proofs.Math.Seq.{take-append_seam}
 use Rattle.plevent.specs.declared.request.Request.{Request}
@@ -105,6 +105,30 @@ own-grows h t w x k made is =
     own-push t h (record { worker = w; thread = t; act = x })
     ∙ ap (λ b. own t h ++ own_if b (length h) x []) (eq-eqb t t refl)
     ∙ ap (λ l. l ++ (length h, x) ∷ []) is
+
+-- a request that makes no entry
+pub going-reply : (search : Search) (limit : ℕ) (old new : Search) (before used : ℕ) (h : List Entry) (t : ℕ) (places : List ℕ) (q : Request) (reply : Reply) →
+    ((n : ℕ) → before ≤ n → (old n []).next ≡ Wants (Ask q)) → TakesOne (Got reply) old before new used →
+    served q t (reading h) ≡ (reply, None) → is_not_yet reply ≡ false → IsCommon (Got reply) →
+    Going search limit old before h t places → Going search limit new used h t (places ++ length h ∷ [])
+going-reply search limit old new before used h t places q reply asks one row some common g =
+    let s = g.state in
+    let after : Taken = record { answers = s.answers ++ Got reply ∷ []; low = length h; made = s.made } in record {
+      start = g.start;
+      state = after;
+      common = common-push s.answers (Got reply) g.common common;
+      owns = g.owns;
+      items = λ n le.
+          let from : before ≤ n = omega (arith, le, one.0) in
+          subst (λ l. takes (asks_of search n) l t (places ++ length h ∷ []) (from_start g.start) ≡ Some after) (append-nil h)
+          (items-push search n h [] t places g.start (length h) s after (Ask q) (g.items n from)
+          (ap item_of (asks-same search old n before s.answers (Wants (Ask q)) g.rests from (asks n from)))
+          (answer-ask h [] t q s g.low ∙ ap (λ r. replied r (length h) s) row ∙ ap (λ b. noted b (length h) s reply None) some));
+      rests = λ n more le. rest-behind search old new before used n s.answers more (Got reply) g.rests one le;
+      within = omega (arith, g.within, one.0);
+      low = omega arith;
+      free = g.free;
+    }
 
 -- a request that makes an entry
 pub going-act : (search : Search) (limit : ℕ) (old new : Search) (before used : ℕ) (h : List Entry) (t w : ℕ) (places : List ℕ) (q : Request) (reply : Reply) (x : Act) →

@@ -8,10 +8,12 @@ use Rattle.plevent.specs.declared.act.Entry.{Entry}
 use Rattle.plevent.specs.Rows.{adds}
 use Rattle.plevent.specs.Search.{Ask, Answer, Seen, Got, Wants, Finishes, Search}
 
--- views and batches that were published: nothing that ends the run is done
+-- views, batches that were published, and erasures: nothing that ends the run is done
 abbrev pub IsCommon : Answer → Type 0
 IsCommon (Seen g us) = Unit {0}
 IsCommon (Got Reply.Published) = Unit {0}
+IsCommon (Got Reply.Erased) = Unit {0}
+IsCommon (Got Reply.Gone) = Unit {0}
 IsCommon (Got r) = ⊥
 
 abbrev pub AreCommon : List Answer → Type 0

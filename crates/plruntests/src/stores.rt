@@ -1,7 +1,7 @@
 //! The clauses of all batches (plstore).
 use crate::made::clause;
 use plclause::clause::Clause;
-use plevent::{Batch, ClauseName, Update};
+use plevent::{Batch, ClauseName, Living, Update};
 use plstore::record::Cursor;
 use plstore::store::Store;
 use plterm::error::TermError;
@@ -56,7 +56,7 @@ fn clauses_of_a_batch(rt: HostRuntime) -> Result<(), Fail> {
 /// How many clauses of p/0 are alive at a time.
 fn alive_at(alloc: Global, store: &Store, g: u64) -> Result<usize, AllocError> {
     let pred = indicator(alloc, 0)?;
-    Ok(store.alive_clauses(alloc, g, &pred)?.len())
+    Ok(store.living(alloc, g, &pred)?.len())
 }
 
 /// The numbers of the clauses of p/0 that are alive at 4, in their order, up to three.
@@ -80,6 +80,29 @@ fn order_of_a_batch(rt: HostRuntime) -> Result<(), Fail> {
     assert_eq!(rt; alive_at(rt.alloc(), &store, 3)?, 0);
     assert_eq!(rt; alive_at(rt.alloc(), &store, 4)?, 2);
     assert_eq!(rt; walk(rt.alloc(), &store)?.as_slice(), [2, 1].as_slice());
+    Ok(())
+}
+
+/// Whether this is the clause of a number in the batch at 3, with this body.
+fn is_one(alloc: Global, one: &Living, number: u64, body: &str) -> Result<bool, TermError> {
+    let is_named = (one.name.place, one.name.number) == (3, number);
+    Ok(is_named && has_body(alloc, &one.clause, body)?)
+}
+
+// The clauses that are alive come in that order, each with its name.
+#[test]
+fn living_of_a_batch(rt: HostRuntime) -> Result<(), Fail> {
+    let alloc = rt.alloc();
+    let store = one_batch(alloc)?;
+    let pred = indicator(alloc, 0)?;
+    let living = store.living(alloc, 4, &pred)?;
+    match living.as_slice() {
+        [first, second] => {
+            assert!(rt; is_one(alloc, first, 2, "c")?);
+            assert!(rt; is_one(alloc, second, 1, "b")?);
+        }
+        _ => return Err("another number of clauses".into()),
+    }
     Ok(())
 }
 

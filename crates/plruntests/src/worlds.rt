@@ -1,6 +1,6 @@
 //! The journal and its requests (plworld).
 use crate::made::clause;
-use plevent::{Act, Batch, Entry, Reply, Request, ThreadEnd, Update};
+use plevent::{Act, Batch, ClauseName, Entry, Reply, Request, ThreadEnd, Update};
 use plterm::error::TermError;
 use plterm::indicator::Indicator;
 use plterm::name::Name;
@@ -35,6 +35,9 @@ fn told(reply: &Reply) -> &'static str {
         Reply::RunOver => "run over",
         Reply::Stopped => "stopped",
         Reply::NotYet(Request::Start) => "no start yet",
+        Reply::NotYet(Request::EraseOne(_)) => "no erasure yet",
+        Reply::Erased => "erased",
+        Reply::Gone => "gone",
         Reply::Done => "done",
         Reply::Started { .. } | Reply::NotYet(_) | Reply::Published => "another",
     }
@@ -65,7 +68,7 @@ fn main_is_started(rt: HostRuntime) -> Result<(), Fail> {
 fn alive_at(alloc: Global, world: &World, g: u64) -> Result<usize, AllocError> {
     let name = Name::new(alloc, "p")?;
     let pred = Indicator { name, arity: 0 };
-    Ok(world.store().alive_clauses(alloc, g, &pred)?.len())
+    Ok(world.store().living(alloc, g, &pred)?.len())
 }
 
 // The clause that main published is there from place 3 on.
@@ -142,5 +145,95 @@ fn a_halt_stops_all(rt: HostRuntime) -> Result<(), Fail> {
     let replies = halted(rt.alloc(), &mut world)?;
     assert!(rt; replies == (true, ["done", "stopped", "stopped"]));
     assert!(rt; is_halted_last(world.close().as_slice()));
+    Ok(())
+}
+
+/// The name of an update.
+fn named(place: u64, number: u64) -> ClauseName {
+    ClauseName { place, number }
+}
+
+/// Asks twice for main that a clause be erased, and tells what comes of each.
+fn erased_twice(
+    alloc: Global,
+    world: &mut World,
+    name: ClauseName,
+) -> Result<(&'static str, &'static str), AllocError> {
+    let first = ask(alloc, world, (1, 1), &Request::EraseOne(name))?;
+    let second = ask(alloc, world, (1, 1), &Request::EraseOne(name))?;
+    Ok((first, second))
+}
+
+/// Whether the last of four entries is main's batch that erases the one clause, that of place 2.
+fn is_erased_last(entries: &[Entry]) -> bool {
+    match entries {
+        [_, _, _, last] => {
+            (last.worker, last.thread) == (1, 1)
+                && matches!(&last.act, Act::Batch(batch) if erases_one(batch.as_slice()))
+        }
+        _ => false,
+    }
+}
+
+/// Whether these updates are an erasure of the clause of place 2.
+fn erases_one(updates: &[Update]) -> bool {
+    match updates {
+        [Update::Erase(name)] => (name.place, name.number) == (2, 0),
+        _ => false,
+    }
+}
+
+// A clause is erased once, by one entry more, and is there up to that entry's place. The second time it is gone, and
+// nothing is added.
+#[test]
+fn a_clause_is_erased_once(rt: HostRuntime) -> Result<(), Fail> {
+    let mut world = begun(rt.alloc())?;
+    let replies = erased_twice(rt.alloc(), &mut world, named(2, 0))?;
+    assert!(rt; replies == ("erased", "gone"));
+    assert_eq!(rt; alive_at(rt.alloc(), &world, 3)?, 1);
+    assert_eq!(rt; alive_at(rt.alloc(), &world, 4)?, 0);
+    assert!(rt; is_erased_last(world.close().as_slice()));
+    Ok(())
+}
+
+/// The place and the number of names that no clause has.
+const NO_CLAUSES: [(u64, u64); 3] = [(2, 1), (1, 0), (3, 0)];
+
+// What has the name of no clause is gone, nothing is added, and the clause stays.
+#[test]
+fn no_other_clause_is_erased(rt: HostRuntime) -> Result<(), Fail> {
+    let mut world = begun(rt.alloc())?;
+    for (place, number) in NO_CLAUSES {
+        let replies = erased_twice(rt.alloc(), &mut world, named(place, number))?;
+        assert!(rt; replies == ("gone", "gone"), "{place}, {number}");
+    }
+    assert_eq!(rt; world.front(), 3);
+    assert_eq!(rt; alive_at(rt.alloc(), &world, 3)?, 1);
+    Ok(())
+}
+
+// Behind the end of the run no clause is erased.
+#[test]
+fn no_erasure_behind_a_halt(rt: HostRuntime) -> Result<(), Fail> {
+    let mut world = begun(rt.alloc())?;
+    ask(rt.alloc(), &mut world, (1, 1), &Request::HaltRun(44))?;
+    let replies = erased_twice(rt.alloc(), &mut world, named(2, 0))?;
+    assert!(rt; replies == ("stopped", "stopped"));
+    assert_eq!(rt; world.front(), 4);
+    assert_eq!(rt; alive_at(rt.alloc(), &world, 4)?, 1);
+    Ok(())
+}
+
+// A thread that is not started waits, and erases a clause of the program once it is.
+#[test]
+fn no_erasure_before_a_start(rt: HostRuntime) -> Result<(), Fail> {
+    let alloc = rt.alloc();
+    let mut world = World::open(alloc, &batch(alloc)?)?;
+    let early = erased_twice(alloc, &mut world, named(0, 0))?;
+    assert!(rt; early == ("no erasure yet", "no erasure yet"));
+    assert_eq!(rt; world.front(), 1);
+    ask(alloc, &mut world, (1, 0), &Request::Start)?;
+    let late = erased_twice(alloc, &mut world, named(0, 0))?;
+    assert!(rt; late == ("erased", "gone"));
     Ok(())
 }

@@ -1,6 +1,6 @@
 -- Levels of results: a list that names some levels is cut to these alone, and no ball that it throws has others behind it.
 use Rattle.std.specs.Prelude.{codes}
-use Rattle.std.proofs.Common.{◌≡◌, ℕ, zero, suc, ◌+◌, ◌<◌, ◌≤◌, Bool, true, false, ◌||◌, if◌then◌else◌, List, [], ◌∷◌, length, Option, Some, None, refl, sym, ap, subst, arith, nat_eq}
+use Rattle.std.proofs.Common.{◌≡◌, ℕ, zero, suc, ◌+◌, ◌<◌, ◌≤◌, Bool, true, false, ◌||◌, if◌then◌else◌, List, [], ◌∷◌, length, map, Option, Some, None, refl, sym, ap, subst, arith, nat_eq}
 use Rattle.std.proofs.lemmas.Bool.Decides.{nat_tests}
 use Rattle.std.specs.List.{filter_map, cons_option}
 use Rattle.std.specs.Option.{option_map}
@@ -14,7 +14,13 @@ use Rattle.plclause.specs.Clausal.{clausal}
 use Rattle.plclause.specs.declared.form.ClauseForm.{ClauseForm}
 use Rattle.plclause.specs.declared.form.ClauseForm.TheVariants.{NoHead, BadHead, BadBody, IsClause}
 use Rattle.plterm.specs.declared.indicator.Indicator.{Indicator}
-use Rattle.plevent.specs.Alive.{exists, clauses_alive}
+use Rattle.plclause.specs.Named.{named_terms, indicator_of}
+use Rattle.plevent.specs.declared.update.Living.{Living}
+use Rattle.plevent.specs.declared.update.Update.{Update}
+use Rattle.plevent.specs.declared.update.Update.TheVariants.{Declare}
+use Rattle.plevent.specs.declared.request.Request.TheVariants.{EraseOne}
+use Rattle.plevent.specs.Alive.{Stamped, or_else, exists, living, clauses_alive}
+use Rattle.plnames.specs.declared.kind.Side.{Side}
 use Rattle.plevent.specs.Search.{Item, Answer, Seen, Got}
 use Rattle.plprogram.specs.Program.{Program, clauses_for}
 use Rattle.plprogram.specs.declared.settings.Unknown.{Unknown}
@@ -23,14 +29,14 @@ use Rattle.plbuiltin.specs.Errors.{type_error}
 use Rattle.plbuiltin.specs.Lists.{may_be_list}
 use Rattle.plbuiltin.specs.Solution.{Solution, Solved, Gives, Raises as Refuses}
 use Rattle.plbuiltin.specs.Solutions.{solutions}
-use Rattle.plsearch.specs.Errors.{static_error, error_term}
-use Rattle.plsearch.specs.Types.{Result, Stop, Fail, CutTo, Throw, Halted, Spent, Awaits, Stopped, Unfit, Kind, Commit, Never, Until, Collect, Then, GoesOn, Ends, Question, Look, Await, Element, Goal, Marker, Raise, Asking, Place, Case, Choice, Mark, Handle, Handler, Catch, Gather, Return, Keep, Again, Anew, Local, Move, Give, Go, Run}
+use Rattle.plsearch.specs.Errors.{error_term}
+use Rattle.plsearch.specs.Types.{Result, Stop, Fail, CutTo, Throw, Halted, Spent, Awaits, Stopped, Unfit, Kind, Commit, Never, Until, Collect, Then, GoesOn, Ends, Lookup, ToCall, ToRetrieve, ToRetract, ToRetractAll, Question, Look, Await, Element, Goal, Marker, Raise, Asking, Place, Case, Choice, Mark, Handle, Handler, Catch, Gather, Return, Keep, Again, Anew, Local, Move, Give, Go, Run}
 use Rattle.plsearch.specs.Lists.{bind_kind, bind_element, bind_goals, levels}
-use Rattle.plsearch.specs.Forms.{Form, True, False, Both, Either, IfThenElse, Not, Once, Catching, FindAll, Throwing, CallWith, Cut, Halting, AddLast, BuiltIn, Call, NoGoal, form}
+use Rattle.plsearch.specs.Forms.{Form, True, False, Both, Either, IfThenElse, Not, Once, Catching, FindAll, Throwing, CallWith, Cut, Halting, Adding, Retrieving, Retracting, RetractingAll, Declaring, BuiltIn, Call, NoGoal, form}
 use Rattle.plsearch.specs.Running.{Runnable, Runs, Raises, runnable, called}
 use Rattle.plsearch.specs.Collecting.{copies_from, dropped, gathered}
-use Rattle.plsearch.specs.Rows.{finding, findall_3, gathering, is_true, before_rest, resolve, choose, call, raised, assertz_1, first_of, run, call_with, branch, catching, go_on, thrown, halting, is_static, add_clause, add, user, solved, taken, offered, offer, row, select, asked, meet}
-use Rattle.plsearch.specs.Replies.{Outcome, Served, Stops, Misfits, outcome, follows, missing, answered}
+use Rattle.plsearch.specs.Rows.{finding, findall_3, gathering, is_true, before_rest, resolve, choose, call, raised, first_of, run, call_with, branch, catching, go_on, thrown, halting, publish, unless, unchangeable, added, add, no_head, no_body, unreadable, clause_term, as_fact, retrieving, halves, unerasable, undeclarable, user, solved, taken, offered, offer, row, select, asked, meet}
+use Rattle.plsearch.specs.Replies.{Outcome, Served, Late, Stops, Misfits, outcome, follows, missing, retract, all_erased, looked_up, answered}
 use Rattle.plsearch.specs.Handlers.{has, recovers, met_by, goes_on, resume}
 use Rattle.plsearch.specs.Engine.{Ended, stop_cut, mark, deeper, choice, returned, out, outs, moved, stepped, asks, walk, left, Visit}
 use Rattle.plsearch.proofs.Fuel.{Visit-walk}
@@ -227,15 +233,22 @@ module _ (C N : Levels) (d : ℕ) (holds : Holds N d) where
   body-allowed true t es all = all
   body-allowed false t es all = (also-it C d, all)
 
-  places-allowed : (n : ℕ) (t : Tree) (rest : List Element) → AllAllow C N rest → (cs : List Clause) → PlacesAllow More N (filter_map (resolve d n t rest) cs)
+  place-allowed : (n : ℕ) (t : Tree) (rest : List Element) → AllAllow C N rest → (c : Clause) (ps : List Place) → PlacesAllow More N ps → PlacesAllow More N (cons_option (resolve d n t rest c) ps)
   unfolding PlacesAllow
-  places-allowed n t rest all [] = tt
-  places-allowed n t rest all (c ∷ cs) = go (unify t (shift n c.head)) (places-allowed n t rest all cs)
+  place-allowed n t rest all c ps others = go (unify t (shift n c.head))
     where
-      go : (o : Option (ℕ → Tree)) → PlacesAllow More N (filter_map (resolve d n t rest) cs) →
-          PlacesAllow More N (cons_option (option_map (λ σ. record { goals = before_rest (is_true c.body) d (bind σ (shift n c.body)) (bind_goals σ rest); variables = n + c.variables }) o) (filter_map (resolve d n t rest) cs))
-      go None others = others
-      go (Some σ) others = (body-allowed (is_true c.body) (bind σ (shift n c.body)) (bind_goals σ rest) (allow-more C N d (bind_goals σ rest) (allow-bound C N σ rest all)), others)
+      go : (o : Option (ℕ → Tree)) →
+          PlacesAllow More N (cons_option (option_map (λ σ. record { goals = before_rest (is_true c.body) d (bind σ (shift n c.body)) (bind_goals σ rest); variables = n + c.variables }) o) ps)
+      go None = others
+      go (Some σ) = (body-allowed (is_true c.body) (bind σ (shift n c.body)) (bind_goals σ rest) (allow-more C N d (bind_goals σ rest) (allow-bound C N σ rest all)), others)
+
+  none-allowed : PlacesAllow More N []
+  unfolding PlacesAllow
+  none-allowed = tt
+
+  places-allowed : (n : ℕ) (t : Tree) (rest : List Element) → AllAllow C N rest → (cs : List Clause) → PlacesAllow More N (filter_map (resolve d n t rest) cs)
+  places-allowed n t rest all [] = none-allowed
+  places-allowed n t rest all (c ∷ cs) = place-allowed n t rest all c (filter_map (resolve d n t rest) cs) (places-allowed n t rest all cs)
 
   calls : (n : ℕ) (t : Tree) (rest : List Element) (cs : List Clause) (w : Local) → AllAllow C N rest → MoveAllows C N d (call d n t rest cs w)
   calls n t rest cs w all = chooses (filter_map (resolve d n t rest) cs) w (places-allowed n t rest all cs)
@@ -281,15 +294,30 @@ module _ (C N : Levels) (d : ℕ) (holds : Holds N d) where
   halting-allowed (atom f) rest n w all = raises _ _ rest w all
   halting-allowed (compound f ts) rest n w all = raises _ _ rest w all
 
-  add-clause-allowed : (P : Program) (c : Clause) (rest : List Element) (n : ℕ) (w : Local) → AllAllow C N rest → MoveAllows C N d (add_clause P c rest n w)
-  add-clause-allowed P c rest n w all =
-      one-of (is_static P (indicator c.head)) (raised (static_error (indicator c.head)) assertz_1 rest w) _ (raises _ _ rest w all) (asks-first _ rest n w all)
+  -- the predicates on clauses
+  publish-allowed : (us : List Update) (rest : List Element) (n : ℕ) (w : Local) → AllAllow C N rest → MoveAllows C N d (publish us rest n w)
+  publish-allowed [] rest n w all = go-on rest n w all
+  publish-allowed (u ∷ us) rest n w all = asks-first _ rest n w all
 
-  add-allowed : (P : Program) (c : ClauseForm) (rest : List Element) (n : ℕ) (w : Local) → AllAllow C N rest → MoveAllows C N d (add P c rest n w)
-  add-allowed P NoHead rest n w all = raises _ _ rest w all
-  add-allowed P (BadHead h) rest n w all = raises _ _ rest w all
-  add-allowed P (BadBody b) rest n w all = raises _ _ rest w all
-  add-allowed P (IsClause c) rest n w all = add-clause-allowed P c rest n w all
+  unless-allowed : (o : Option Tree) (p : Indicator) (rest : List Element) (w : Local) (m : Move) → AllAllow C N rest → MoveAllows C N d m → MoveAllows C N d (unless o p rest w m)
+  unless-allowed None p rest w m all other = other
+  unless-allowed (Some e) p rest w m all other = raises e p rest w all
+
+  add-allowed : (P : Program) (side : Side) (p : Indicator) (c : ClauseForm) (rest : List Element) (n : ℕ) (w : Local) → AllAllow C N rest → MoveAllows C N d (add P side p c rest n w)
+  add-allowed P side p NoHead rest n w all = raises _ _ rest w all
+  add-allowed P side p (BadHead h) rest n w all = raises _ _ rest w all
+  add-allowed P side p (BadBody b) rest n w all = raises _ _ rest w all
+  add-allowed P side p (IsClause c) rest n w all = unless-allowed (unchangeable P (indicator c.head)) p rest w _ all (publish-allowed (added side c ∷ []) rest n w all)
+
+  retrieving-allowed : (cs : List Clause) (h b : Tree) (rest : List Element) (n : ℕ) (w : Local) → AllAllow C N rest → MoveAllows C N d (retrieving cs d h b rest n w)
+  retrieving-allowed [] h b rest n w all = asks-first _ rest n w all
+  retrieving-allowed (c ∷ cs) h b rest n w all = calls n (clause_term h b) rest (map as_fact (c ∷ cs)) w all
+
+  retracts-allowed : (n : ℕ) (t : Tree) (rest : List Element) → AllAllow C N rest → (xs : List Living) → PlacesAllow More N (filter_map (retract d n t rest) xs)
+  unfolding AllAllow Allows
+  retracts-allowed n t rest all [] = none-allowed
+  retracts-allowed n t rest all (x ∷ xs) =
+      place-allowed n t (Asking (Await (EraseOne x.name) GoesOn) ∷ rest) (tt, all) (as_fact x.clause) (filter_map (retract d n t rest) xs) (retracts-allowed n t rest all xs)
 
   user-allowed : (cs : List Clause) (t : Tree) (rest : List Element) (n : ℕ) (w : Local) → AllAllow C N rest → MoveAllows C N d (user cs d t rest n w)
   user-allowed [] t rest n w all = asks-first _ rest n w all
@@ -356,7 +384,13 @@ module _ (C N : Levels) (d : ℕ) (holds : Holds N d) where
       marks : (k : ℕ) (rest : List Element) (n : ℕ) (w : Local) → C k ≡ true → AllAllow C N rest → MoveAllows C N d (Go (Mark k ∷ []) (record { goals = rest; variables = n }) w)
       marks k rest n w is all = ((is, tt), all)
   row-allowed P (Halting i) k t rest n w is all = halting-allowed i rest n w all
-  row-allowed P (AddLast c) k t rest n w is all = add-allowed P (clausal c) rest n w all
+  row-allowed P (Adding side c) k t rest n w is all = add-allowed P side (indicator t) (clausal c) rest n w all
+  row-allowed P (Retrieving h b) k t rest n w is all =
+      unless-allowed (or_else (no_head h) (or_else (no_body b) (unreadable (indicator h)))) (indicator t) rest w _ all (retrieving-allowed (clauses_for P (indicator h)) h b rest n w all)
+  row-allowed P (Retracting c) k t rest n w is all = unless-allowed (unerasable P (halves c).0) (indicator t) rest w _ all (asks-first (Look (ToRetract (halves c).0 (halves c).1)) rest n w all)
+  row-allowed P (RetractingAll h) k t rest n w is all = unless-allowed (unerasable P h) (indicator t) rest w _ all (asks-first (Look (ToRetractAll h)) rest n w all)
+  row-allowed P (Declaring ps) k t rest n w is all =
+      unless-allowed (undeclarable P (named_terms ps)) (indicator t) rest w _ all (publish-allowed (map Declare (filter_map indicator_of (named_terms ps))) rest n w all)
   row-allowed P (BuiltIn b us) k t rest n w is all = offer-allowed (solutions b us w.settings n) (indicator t) rest n w all
   row-allowed P (Call p) k t rest n w is all = user-allowed (clauses_for P p) t rest n w all
   row-allowed P NoGoal k t rest n w is all = give-up w
@@ -372,14 +406,22 @@ module _ (C N : Levels) (d : ℕ) (holds : Holds N d) where
   follows-allowed : (o : Outcome) (t : Then) (rest : List Element) (n : ℕ) (w : Local) → AllAllow C N rest → MoveAllows C N d (follows o t rest n w)
   follows-allowed Served GoesOn rest n w all = go-on rest n w all
   follows-allowed Served (Ends k) rest n w all = halts k w
+  follows-allowed Late t rest n w all = give-up w
   follows-allowed Stops t rest n w all = stops w
   follows-allowed Misfits t rest n w all = misfits w
 
+  looked-up-allowed : (us : List Stamped) (u : Lookup) (rest : List Element) (n : ℕ) (w : Local) → AllAllow C N rest → MoveAllows C N d (looked_up us u d rest n w)
+  looked-up-allowed us (ToCall t) rest n w all =
+      one-of (exists us (indicator t)) (call d n t rest (clauses_alive us (indicator t)) w) _ (calls n t rest (clauses_alive us (indicator t)) w all) (missing-allowed w.settings.unknown t rest w all)
+  looked-up-allowed us (ToRetrieve h b) rest n w all = calls n (clause_term h b) rest (map as_fact (clauses_alive us (indicator h))) w all
+  looked-up-allowed us (ToRetract h b) rest n w all =
+      chooses (filter_map (retract d n (clause_term h b) rest) (living us (indicator h))) w (retracts-allowed n (clause_term h b) rest all (living us (indicator h)))
+  looked-up-allowed us (ToRetractAll h) rest n w all = publish-allowed (all_erased us n h) rest n w all
+
   answered-allowed : (q : Question) (a : Answer) (rest : List Element) (n : ℕ) (w : Local) → AllAllow C N rest → MoveAllows C N d (answered (Asking q) a d rest n w)
   unfolding answered
-  answered-allowed (Look t) (Seen g us) rest n w all =
-      one-of (exists us (indicator t)) (call d n t rest (clauses_alive us (indicator t)) w) _ (calls n t rest (clauses_alive us (indicator t)) w all) (missing-allowed w.settings.unknown t rest w all)
-  answered-allowed (Look t) (Got r) rest n w all = misfits w
+  answered-allowed (Look u) (Seen g us) rest n w all = looked-up-allowed us u rest n w all
+  answered-allowed (Look u) (Got r) rest n w all = misfits w
   answered-allowed (Await q t) (Got r) rest n w all = follows-allowed (outcome q r) t rest n w all
   answered-allowed (Await q t) (Seen g us) rest n w all = misfits w
 

@@ -5,3 +5,4 @@ pub mod Ends
 pub mod Levels
 pub mod Cuts
 mod Worked
+pub mod WorkedClauses

@@ -25,20 +25,20 @@ use Rattle.plsearch.specs.Engine.{choice, out, outs, moved, walk, visit_in, Visi
 use Rattle.plsearch.specs.Search.{start_from, start_of, search_of}
 
 -- all that a search computes with
-pub all : ℕ
+unfoldable pub all : ℕ
 unfolding rows kept elements_of bind occurs places differ unify_in unify living exists words others prefix_of infix_of postfix_of raised row select meet answered resume choice out outs moved walk visit_in Visit start_from start_of search_of
 all = 0
 
-abbrev name : List ℕ → Tree
+abbrev pub name : List ℕ → Tree
 name f = atom f
 
-abbrev of : List ℕ → Tree → Tree
+abbrev pub of : List ℕ → Tree → Tree
 of f t = compound f (more t none)
 
-abbrev and : Tree → Tree → Tree
+abbrev pub and : Tree → Tree → Tree
 and a b = pair (codes ",") a b
 
-abbrev with_variables : ℕ → Tree → Program
+abbrev pub with_variables : ℕ → Tree → Program
 with_variables n g = record {
   procedures =
       (record { name = codes "p"; arity = 1 }, record { head = of (codes "p") (name (codes "a")); body = name (codes "true"); variables = 0 } ∷ record { head = of (codes "p") (name (codes "b")); body = name (codes "true"); variables = 0 } ∷ [])
@@ -51,10 +51,10 @@ with_variables n g = record {
   directives = 1;
 }
 
-abbrev with_goal : Tree → Program
+abbrev pub with_goal : Tree → Program
 with_goal = with_variables 1
 
-abbrev search : Tree → ℕ → List Answer → Ending
+abbrev pub search : Tree → ℕ → List Answer → Ending
 search g = search_of (with_goal g) 1000
 
 -- main :- write(hello), nl.
@@ -100,13 +100,13 @@ unfolding all
 writes_one = refl
 
 -- main :- assertz(q(7)), q(X), write(X).
-abbrev q7 : Tree
+abbrev pub q7 : Tree
 q7 = of (codes "q") (int (pos 7))
 
 abbrev adds : Tree
 adds = and (of (codes "assertz") q7) (and (of (codes "q") (var 0)) (of (codes "write") (var 0)))
 
-abbrev added : List Stamped
+abbrev pub added : List Stamped
 added = record { at = named 2 0; update = Last (record { head = q7; body = name (codes "true"); variables = 0 }) } ∷ []
 
 publishes : search adds 1000 [] ≡ record { next = Wants (Ask (Publish (Last (record { head = q7; body = name (codes "true"); variables = 0 }) ∷ []))); used = 4; out = [] }

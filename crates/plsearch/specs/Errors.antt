@@ -25,6 +25,14 @@ procedure_error p = pair (codes "existence_error") (atom (codes "procedure")) (i
 abbrev pub static_error : Indicator → Tree
 static_error p = compound (codes "permission_error") (more (atom (codes "modify")) (more (atom (codes "static_procedure")) (more (indicator_term p) none)))
 
+-- a procedure whose clauses are not told
+abbrev pub private_error : Indicator → Tree
+private_error p = compound (codes "permission_error") (more (atom (codes "access")) (more (atom (codes "private_procedure")) (more (indicator_term p) none)))
+
+-- a term that is to name procedures, and does not
+abbrev pub naming_error : Tree → Tree
+naming_error t = pair (codes "type_error") (atom (codes "predicate_indicator")) t
+
 -- a compound with more arguments than there may be
 abbrev pub arity_error : Tree
 arity_error = compound (codes "representation_error") (more (atom (codes "max_arity")) none)

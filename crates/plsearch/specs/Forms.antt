@@ -6,6 +6,7 @@ use Rattle.plclause.specs.Indicators.{indicator}
 use Rattle.plnames.specs.Names.{kind_of}
 use Rattle.plnames.specs.declared.kind.Kind.{Kind}
 use Rattle.plnames.specs.declared.kind.Kind.TheVariants as kinds
+use Rattle.plnames.specs.declared.kind.Side.{Side}
 use Rattle.plnames.specs.declared.kind.Control.{Control}
 use Rattle.plnames.specs.declared.kind.Control.TheVariants as controls
 use Rattle.plnames.specs.declared.kind.BuiltIn.{BuiltIn as Predicate}
@@ -24,7 +25,11 @@ pub data Form : Type 0 where
   CallWith : Tree → List Tree → Form
   Cut : Form
   Halting : Tree → Form
-  AddLast : Tree → Form
+  Adding : Side → Tree → Form
+  Retrieving : Tree → Tree → Form
+  Retracting : Tree → Form
+  RetractingAll : Tree → Form
+  Declaring : Tree → Form
   BuiltIn : Predicate → List Tree → Form
   Call : Indicator → Form
   NoGoal : Form
@@ -48,7 +53,11 @@ construct controls.Call (g ∷ us) = CallWith g us
 construct controls.Catch (g ∷ c ∷ r ∷ []) = Catching g c r
 construct controls.FindAll (t ∷ g ∷ l ∷ []) = FindAll t g l
 construct controls.Throw (b ∷ []) = Throwing b
-construct controls.AddLast (c ∷ []) = AddLast c
+construct (controls.Add side) (c ∷ []) = Adding side c
+construct controls.Retrieve (h ∷ b ∷ []) = Retrieving h b
+construct controls.Retract (c ∷ []) = Retracting c
+construct controls.RetractAll (h ∷ []) = RetractingAll h
+construct controls.Declare (ps ∷ []) = Declaring ps
 construct controls.Halt [] = Halting (int (pos 0))
 construct controls.Halt (i ∷ []) = Halting i
 construct c us = NoGoal

@@ -2,10 +2,16 @@
 use Rattle.std.specs.Prelude.{ℕ, List, [], ◌∷◌, map}
 use Rattle.plterm.specs.Tree.{Tree}
 use Rattle.plsubst.specs.Subst.{bind}
-use Rattle.plsearch.specs.Types.{Kind, Commit, Never, Until, Collect, Question, Look, Await, Element, Goal, Marker, Raise, Asking}
+use Rattle.plsearch.specs.Types.{Kind, Commit, Never, Until, Collect, Lookup, ToCall, ToRetrieve, ToRetract, ToRetractAll, Question, Look, Await, Element, Goal, Marker, Raise, Asking}
+
+abbrev pub bind_lookup : (ℕ → Tree) → Lookup → Lookup
+bind_lookup σ (ToCall t) = ToCall (bind σ t)
+bind_lookup σ (ToRetrieve h b) = ToRetrieve (bind σ h) (bind σ b)
+bind_lookup σ (ToRetract h b) = ToRetract (bind σ h) (bind σ b)
+bind_lookup σ (ToRetractAll h) = ToRetractAll (bind σ h)
 
 abbrev pub bind_question : (ℕ → Tree) → Question → Question
-bind_question σ (Look t) = Look (bind σ t)
+bind_question σ (Look u) = Look (bind_lookup σ u)
 bind_question σ (Await q next) = Await q next
 
 abbrev pub bind_kind : (ℕ → Tree) → Kind → Kind

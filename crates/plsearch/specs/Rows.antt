@@ -1,29 +1,35 @@
 -- The table of control (ISO/IEC 13211-1 7.7, 7.8): one row for each form of goal and each element. No function here is recursive on goals.
-use Rattle.std.specs.Prelude.{ℕ, suc, ◌+◌, ◌-◌, ◌%◌, ℤ, pos, negsuc, Bool, true, false, ◌||◌, List, [], ◌∷◌, ◌++◌, length, filter_map, Option, Some, None, option_map, codes, bytes_eq, if◌then◌else◌}
-use Rattle.plterm.specs.Tree.{Tree, var, int, atom}
+use Rattle.std.specs.Prelude.{ℕ, suc, ◌+◌, ◌-◌, ◌%◌, ℤ, pos, negsuc, Bool, true, false, ◌||◌, List, [], ◌∷◌, ◌++◌, length, map, filter_map, find, not, Option, Some, None, is_some, option_map, codes, bytes_eq, if◌then◌else◌}
+use Rattle.std.specs.List.{list_any}
+use Rattle.plterm.specs.Tree.{Tree, var, int, atom, compound}
 use Rattle.plterm.specs.Variables.{copied}
 use Rattle.plterm.specs.declared.indicator.Indicator.{Indicator}
 use Rattle.plsubst.specs.Subst.{bind, shift}
 use Rattle.plsubst.specs.Unify.{unify}
 use Rattle.plclause.specs.Clause.{Clause}
 use Rattle.plclause.specs.Indicators.{indicator}
-use Rattle.plclause.specs.Clausal.{clausal}
+use Rattle.plclause.specs.Clausal.{clausal, neck_parts}
+use Rattle.plclause.specs.Named.{named_terms, indicator_of, is_open}
 use Rattle.plclause.specs.declared.form.ClauseForm.{ClauseForm}
 use Rattle.plclause.specs.declared.form.ClauseForm.TheVariants.{NoHead, BadHead, BadBody, IsClause}
 use Rattle.plevent.specs.Search.{Item, View, Ask}
 use Rattle.plevent.specs.declared.request.Request.TheVariants.{Publish, HaltRun}
-use Rattle.plevent.specs.declared.update.Update.TheVariants.{Last}
+use Rattle.plevent.specs.declared.update.Update.{Update}
+use Rattle.plevent.specs.declared.update.Update.TheVariants.{First, Last, Declare}
+use Rattle.plevent.specs.Alive.{or_else}
+use Rattle.plnames.specs.declared.kind.Side.{Side}
+use Rattle.plnames.specs.declared.kind.Side.TheVariants as sides
 use Rattle.plnames.specs.Names.{is_fixed}
 use Rattle.plprogram.specs.Program.{Program, clauses_for}
 use Rattle.plbuiltin.specs.Errors.{type_error}
 use Rattle.plbuiltin.specs.Lists.{may_be_list}
 use Rattle.plbuiltin.specs.Solution.{Solution, Solved, Gives, Raises as Refuses}
 use Rattle.plbuiltin.specs.Solutions.{solutions}
-use Rattle.plsearch.specs.Types.{Fail, CutTo, Throw, Commit, Never, Until, Collect, GoesOn, Ends, Question, Look, Await, Element, Goal, Marker, Raise, Asking, Place, Catch, Gather, Case, Choice, Mark, Handle, Local, Move, Give, Go, Meeting, Select, Asks, End, Pass, Marked}
-use Rattle.plsearch.specs.Errors.{instantiation_error, callable_error, integer_error, static_error, error_term}
+use Rattle.plsearch.specs.Types.{Fail, CutTo, Throw, Commit, Never, Until, Collect, GoesOn, Ends, ToCall, ToRetrieve, ToRetract, ToRetractAll, Question, Look, Await, Element, Goal, Marker, Raise, Asking, Place, Catch, Gather, Case, Choice, Mark, Handle, Local, Move, Give, Go, Meeting, Select, Asks, End, Pass, Marked}
+use Rattle.plsearch.specs.Errors.{instantiation_error, callable_error, integer_error, static_error, private_error, naming_error, pair, error_term}
 use Rattle.plsearch.specs.Lists.{bind_goals, levels}
 use Rattle.plsearch.specs.Collecting.{collected}
-use Rattle.plsearch.specs.Forms.{Form, True, False, Both, Either, IfThenElse, Not, Once, Catching, FindAll, Throwing, CallWith, Cut, Halting, AddLast, BuiltIn, Call, NoGoal, form}
+use Rattle.plsearch.specs.Forms.{Form, True, False, Both, Either, IfThenElse, Not, Once, Catching, FindAll, Throwing, CallWith, Cut, Halting, Adding, Retrieving, Retracting, RetractingAll, Declaring, BuiltIn, Call, NoGoal, form}
 use Rattle.plsearch.specs.Running.{Runnable, Runs, Raises, runnable, called}
 
 abbrev pub is_true : Tree → Bool
@@ -74,9 +80,6 @@ throw_1 = record { name = codes "throw"; arity = 1 }
 abbrev pub call_with : ℕ → Indicator
 call_with further = record { name = codes "call"; arity = suc further }
 
-abbrev pub assertz_1 : Indicator
-assertz_1 = record { name = codes "assertz"; arity = 1 }
-
 abbrev pub halt_1 : Indicator
 halt_1 = record { name = codes "halt"; arity = 1 }
 
@@ -118,18 +121,91 @@ some_of (c ∷ cs) = true
 abbrev pub is_static : Program → Indicator → Bool
 is_static P p = is_fixed p || some_of (clauses_for P p)
 
--- a clause is published as the last of its procedure, unless that is static
-abbrev pub add_clause : Program → Clause → List Element → ℕ → Local → Move
-add_clause P c rest n w =
-    if is_static P (indicator c.head) then raised (static_error (indicator c.head)) assertz_1 rest w
-    else go_on (Asking (Await (Publish (Last c ∷ [])) GoesOn) ∷ rest) n w
+-- updates are published as one batch, of which there is none without an update
+abbrev pub publish : List Update → List Element → ℕ → Local → Move
+publish [] rest n w = go_on rest n w
+publish (u ∷ us) rest n w = go_on (Asking (Await (Publish (u ∷ us)) GoesOn) ∷ rest) n w
 
--- a term is added as a clause (8.9.2)
-abbrev pub add : Program → ClauseForm → List Element → ℕ → Local → Move
-add P NoHead rest n w = raised instantiation_error assertz_1 rest w
-add P (BadHead h) rest n w = raised (callable_error h) assertz_1 rest w
-add P (BadBody b) rest n w = raised (callable_error b) assertz_1 rest w
-add P (IsClause c) rest n w = add_clause P c rest n w
+-- an error of the predicate p, if there is one, or else a move
+abbrev pub unless : Option Tree → Indicator → List Element → Local → Move → Move
+unless (Some e) p rest w m = raised e p rest w
+unless None p rest w m = m
+
+abbrev pub static_if : Bool → Indicator → Option Tree
+static_if true p = Some (static_error p)
+static_if false p = None
+
+-- a procedure that cannot be changed
+abbrev pub unchangeable : Program → Indicator → Option Tree
+unchangeable P p = static_if (is_static P p) p
+
+abbrev pub added : Side → Clause → Update
+added sides.Front c = First c
+added sides.Back c = Last c
+
+-- a term is added as a clause by the predicate p, before or behind all others of its procedure (8.9.1, 8.9.2)
+abbrev pub add : Program → Side → Indicator → ClauseForm → List Element → ℕ → Local → Move
+add P side p NoHead rest n w = raised instantiation_error p rest w
+add P side p (BadHead h) rest n w = raised (callable_error h) p rest w
+add P side p (BadBody b) rest n w = raised (callable_error b) p rest w
+add P side p (IsClause c) rest n w = unless (unchangeable P (indicator c.head)) p rest w (publish (added side c ∷ []) rest n w)
+
+-- a head that is no atom or compound
+abbrev pub no_head : Tree → Option Tree
+no_head (var x) = Some instantiation_error
+no_head (int i) = Some (callable_error (int i))
+no_head (atom f) = None
+no_head (compound f ts) = None
+
+-- a body that no clause can have: a variable may stand for any
+abbrev pub no_body : Tree → Option Tree
+no_body (var x) = None
+no_body (int i) = Some (callable_error (int i))
+no_body (atom f) = None
+no_body (compound f ts) = None
+
+abbrev pub private_if : Bool → Indicator → Option Tree
+private_if true p = Some (private_error p)
+private_if false p = None
+
+-- the clauses of control constructs and built-in predicates are not told
+abbrev pub unreadable : Indicator → Option Tree
+unreadable p = private_if (is_fixed p) p
+
+-- a head and a body as one term
+abbrev pub clause_term : Tree → Tree → Tree
+clause_term h b = pair (codes ":-") h b
+
+-- a clause as a fact: that there is a clause of this head and this body
+abbrev pub as_fact : Clause → Clause
+as_fact c = record { head = clause_term c.head c.body; body = atom (codes "true"); variables = c.variables }
+
+-- the clauses that a head and a body unify with, in their order
+abbrev pub retrieve : ℕ → ℕ → Tree → Tree → List Element → List Clause → Local → Move
+retrieve d n h b rest cs w = call d n (clause_term h b) rest (map as_fact cs) w
+
+-- clauses of the program's text need no view
+abbrev pub retrieving : List Clause → ℕ → Tree → Tree → List Element → ℕ → Local → Move
+retrieving [] d h b rest n w = go_on (Asking (Look (ToRetrieve h b)) ∷ rest) n w
+retrieving (c ∷ cs) d h b rest n w = retrieve d n h b rest (c ∷ cs) w
+
+-- a term as a head and a body: `Head :- Body`, or a head alone with the body true
+abbrev pub halves_or : Tree → Option (Tree × Tree) → Tree × Tree
+halves_or t None = (t, atom (codes "true"))
+halves_or t (Some p) = p
+
+abbrev pub halves : Tree → Tree × Tree
+halves t = halves_or t (neck_parts t)
+
+-- a head whose procedure can be changed
+abbrev pub unerasable : Program → Tree → Option Tree
+unerasable P h = or_else (no_head h) (unchangeable P (indicator h))
+
+-- procedures are declared by the terms that name them: none of these is unknown, each is an indicator, and no procedure is static
+abbrev pub undeclarable : Program → List Tree → Option Tree
+undeclarable P ts =
+    if list_any is_open ts then Some instantiation_error
+    else or_else (option_map naming_error (find (λ t. not (is_some (indicator_of t))) ts)) (option_map static_error (find (is_static P) (filter_map indicator_of ts)))
 
 -- an integer modulo 256, with the divisor's sign
 abbrev pub modulo_256 : ℤ → ℕ
@@ -144,7 +220,7 @@ halting t rest n w = raised (integer_error t) halt_1 rest w
 
 -- a call of a procedure that is not static looks for its clauses in a view
 abbrev pub user : List Clause → ℕ → Tree → List Element → ℕ → Local → Move
-user [] d t rest n w = go_on (Asking (Look t) ∷ rest) n w
+user [] d t rest n w = go_on (Asking (Look (ToCall t)) ∷ rest) n w
 user (c ∷ cs) d t rest n w = call d n t rest (c ∷ cs) w
 
 -- the unifier of a solution's sides is put into the list
@@ -187,7 +263,11 @@ row P (Once g) k t d rest n w = run (runnable g) once_1 [] d (Marker Commit d �
 row P (CallWith g us) k t d rest n w = run (called g us) (call_with (length us)) [] d rest n w
 row P Cut k t d rest n w = Go (Mark k ∷ []) (record { goals = rest; variables = n }) w
 row P (Halting i) k t d rest n w = halting i rest n w
-row P (AddLast c) k t d rest n w = add P (clausal c) rest n w
+row P (Adding side c) k t d rest n w = add P side (indicator t) (clausal c) rest n w
+row P (Retrieving h b) k t d rest n w = unless (or_else (no_head h) (or_else (no_body b) (unreadable (indicator h)))) (indicator t) rest w (retrieving (clauses_for P (indicator h)) d h b rest n w)
+row P (Retracting c) k t d rest n w = unless (unerasable P (halves c).0) (indicator t) rest w (go_on (Asking (Look (ToRetract (halves c).0 (halves c).1)) ∷ rest) n w)
+row P (RetractingAll h) k t d rest n w = unless (unerasable P h) (indicator t) rest w (go_on (Asking (Look (ToRetractAll h)) ∷ rest) n w)
+row P (Declaring ps) k t d rest n w = unless (undeclarable P (named_terms ps)) (indicator t) rest w (publish (map Declare (filter_map indicator_of (named_terms ps))) rest n w)
 row P (BuiltIn b us) k t d rest n w = offer (solutions b us w.settings n) (indicator t) rest n w
 row P (Call p) k t d rest n w = user (clauses_for P p) d t rest n w
 row P NoGoal k t d rest n w = Give Fail w
@@ -197,7 +277,7 @@ unfolding row
 select P k t d rest n w = row P (form t) k t d rest n w
 
 abbrev pub asked : Question → Item
-asked (Look t) = View
+asked (Look u) = View
 asked (Await q next) = Ask q
 
 -- what the head of a list is

@@ -32,9 +32,17 @@ pub data Then : Type 0 where
   GoesOn : Then
   Ends : ℕ → Then
 
--- what a list asks: the view in which the clauses of a goal are looked up, or a request
+-- what clauses are looked up for: to call a goal; to tell those of a head and a body; to erase these, one at a time; or to erase all of
+-- a head
+pub data Lookup : Type 0 where
+  ToCall : Tree → Lookup
+  ToRetrieve : Tree → Tree → Lookup
+  ToRetract : Tree → Tree → Lookup
+  ToRetractAll : Tree → Lookup
+
+-- what a list asks: the view in which clauses are looked up, or a request
 pub data Question : Type 0 where
-  Look : Tree → Question
+  Look : Lookup → Question
   Await : Request → Then → Question
 
 -- what a goal list holds: goals, each with its cut level; markers, each with the level of the case that put it;

@@ -1,74 +1,71 @@
--- A goal that waits for a view, over the store.
-use Rattle.std.proofs.Common.{◌≡◌, ℕ, Bool, true, false, if◌then◌else◌, List, [], ◌∷◌, refl, sym, ap, ap₂, ◌∙◌, subst, OnOk, OnErr}
+-- Look-ups of clauses in a view, over the store.
+use Rattle.std.proofs.Common.{◌≡◌, ℕ, Bool, true, false, if◌then◌else◌, List, [], ◌∷◌, map, filter, sym, ap, ◌∙◌, subst, OnOk, OnErr}
 use Rattle.std.specs.Prelude.{Result as Outcomes, Ok, Err}
-use Rattle.std.specs.List.{fold}
+use Rattle.std.specs.List.{fold, filter_map}
 use Rattle.plterm.specs.Tree.{Tree}
-use Rattle.plterm.specs.declared.indicator.Indicator.{Indicator}
-use Rattle.plcells.specs.declared.cell.Cell.{Cell}
-use Rattle.plcells.specs.Store.{value}
-use Rattle.plclause.specs.Clause.{Clause}
 use Rattle.plclause.specs.Indicators.{indicator}
-use Rattle.plevent.specs.Alive.{Stamped, before, exists, clauses_of, clauses_alive}
+use Rattle.plevent.specs.declared.update.Update.TheVariants.{Declare, Erase}
+use Rattle.plevent.specs.Alive.{Stamped, before, exists, living, names_of, clauses_of, clauses_alive}
 use Rattle.plprogram.specs.Program.{Program}
 use Rattle.plcode.specs.Callees.{IsProgramCode}
 use Rattle.plstore.specs.Kept.{Kept, keep, nothing, is_there, walk}
 use Rattle.plstore.specs.Rising.{Rises}
 use Rattle.plstore.proofs.Whole.{walk-is, there-is}
-use Rattle.plsearch.specs.Types.{Choice, Element, Move}
-use Rattle.plsearch.specs.Rows.{call, choose}
-use Rattle.plsearch.specs.Replies.{missing, walk_over}
-use Rattle.pllinks.specs.declared.link.Continuation.{Continuation}
-use Rattle.plstack.specs.State.{State, goals_of, place_of}
-use Rattle.plstack.specs.StaticCalls.{statics_of}
-use Rattle.plstack.specs.Calls.{Calls, CallsNone, KeepsValues, StaysAt}
-use Rattle.plmachine.specs.declared.machine.Outcome.TheVariants as outcomes
+use Rattle.plsearch.specs.Types.{ToCall, ToRetrieve, ToRetract, ToRetractAll, Element, Move}
+use Rattle.plsearch.specs.Rows.{call, choose, clause_term, publish, retrieve}
+use Rattle.plsearch.specs.Replies.{has_head, looked_up, missing, retract}
+use Rattle.plmachine.specs.declared.machine.Lookup.{Lookup}
+use Rattle.plmachine.specs.declared.machine.Question.TheVariants as questions
 use Rattle.plmachine.specs.declared.machine.Mode.TheVariants as modes
 use Rattle.plmachine.specs.declared.machine.Machine.{Machine as Reached}
-use Rattle.plmachine.specs.Machine.{depth_of, local_of, Moved}
+use Rattle.plmachine.specs.Machine.{local_of, IsSought, MayAsk, Moved}
 use Rattle.plmachine.specs.Machine.{Stays as StaysThere}
-use Rattle.plmachine.proofs.Moves.{goes-to, gives, stays-by}
-use Rattle.plsolver.specs.declared.progress.Progress.{Progress}
-use Rattle.plsolver.specs.Solver.{IsOf, Stays}
-use Rattle.plsolver.proofs.Quiets.{at_stack}
+use Rattle.plsolver.specs.Solver.{IsOf}
 
-module _ (P : Program) (s new : Reached) (g : ℕ) (us : List Stamped) (store : Kept) (is : store ≡ fold keep nothing us) (up : Rises 0 us) (d : ℕ) (t : Tree) (es : List Element) (n : ℕ) (p : Indicator) (of : p ≡ indicator t) where
-  there : (b : Bool) → is_there g p store ≡ b → exists (before g us) (indicator t) ≡ b
-  there b e = sym (ap₂ (is_there g) of is ∙ there-is g (indicator t) us) ∙ e
+module _ (g : ℕ) (us : List Stamped) (store : Kept) (is : store ≡ fold keep nothing us) (t : Tree) where
+  -- the clauses that the store has are those of the journal
+  pub living-is : Rises 0 us → walk g (indicator t) store.records ≡ living (before g us) (indicator t)
+  living-is up = ap (λ k. walk g (indicator t) k.records) is ∙ walk-is g (indicator t) us up
 
-  -- the move, by whether the procedure is there
-  abbrev looked : Bool → Move
-  looked b = if b then call d n t es (clauses_alive (before g us) (indicator t)) (local_of s) else missing s.settings.unknown t es (local_of s)
+  there : (b : Bool) → is_there g (indicator t) store ≡ b → exists (before g us) (indicator t) ≡ b
+  there b e = sym (ap (is_there g (indicator t)) is ∙ there-is g (indicator t) us) ∙ e
 
-  pub look-none : is_there g p store ≡ false → Moved P s new (missing s.settings.unknown t es (local_of s)) → Moved P s new (walk_over (before g us) d t es n (local_of s))
-  look-none absent m = subst (λ b. Moved P s new (looked b)) (sym (there false absent)) m
+  module _ (P : Program) (s new : Reached) (d : ℕ) (es : List Element) (n : ℕ) where
+    -- a call, by whether the procedure is there
+    abbrev called : Bool → Move
+    called b = if b then call d n t es (clauses_alive (before g us) (indicator t)) (local_of s) else missing s.settings.unknown t es (local_of s)
 
-  pub look-some : (cs : List Clause) → is_there g p store ≡ true → cs ≡ clauses_of (walk g p store.records) → Moved P s new (call d n t es cs (local_of s)) → Moved P s new (walk_over (before g us) d t es n (local_of s))
-  look-some cs present found m =
-      subst (λ b. Moved P s new (looked b)) (sym (there true present))
-      (subst (λ cs. Moved P s new (call d n t es cs (local_of s))) (found ∙ ap clauses_of (ap₂ (λ q k. walk g q k.records) of is ∙ walk-is g (indicator t) us up)) m)
+    pub called-none : is_there g (indicator t) store ≡ false → Moved P s new (missing s.settings.unknown t es (local_of s)) → Moved P s new (looked_up (before g us) (ToCall t) d es n (local_of s))
+    called-none absent m = subst (λ b. Moved P s new (called b)) (sym (there false absent)) m
 
--- a call that has a place visits it
-pub called : (P : Program) (s : Reached) (st : State) (goal : Cell) (rest : Continuation) (cs : List Clause) → st.code ≡ s.stack.code → Calls (statics_of P) s.stack st (value s.stack.env.heap goal) rest cs →
-    Moved P s (record s { stack = st; mode = modes.Visit }) (call (depth_of P s) s.stack.env.count (value s.stack.env.heap goal) (goals_of s.stack rest) cs (local_of s))
-called P s st goal rest cs code c =
-    subst (λ ps. Moved P s (record s { stack = st; mode = modes.Visit }) (choose ps (local_of s))) (sym c.places)
-    (goes-to P s (record s { stack = st; mode = modes.Visit }) (Choice c.others ∷ []) (place_of st) (local_of s) code tt refl c.cases refl)
+    pub called-some : Rises 0 us → is_there g (indicator t) store ≡ true → Moved P s new (call d n t es (clauses_of (walk g (indicator t) store.records)) (local_of s)) →
+        Moved P s new (looked_up (before g us) (ToCall t) d es n (local_of s))
+    called-some up present m =
+        subst (λ b. Moved P s new (called b)) (sym (there true present))
+        (subst (λ xs. Moved P s new (call d n t es (clauses_of xs) (local_of s))) (living-is up) m)
 
--- one that has none fails
-pub uncalled : (P : Program) (s : Reached) (st : State) (goal : Cell) (rest : Continuation) (cs : List Clause) → st.code ≡ s.stack.code → CallsNone (statics_of P) s.stack st (value s.stack.env.heap goal) rest cs →
-    Moved P s (record s { stack = st; mode = modes.Back outcomes.Fail }) (call (depth_of P s) s.stack.env.count (value s.stack.env.heap goal) (goals_of s.stack rest) cs (local_of s))
-uncalled P s st goal rest cs code c =
-    subst (λ ps. Moved P s (record s { stack = st; mode = modes.Back outcomes.Fail }) (choose ps (local_of s))) (sym c.none)
-    (gives P s (record s { stack = st; mode = modes.Back outcomes.Fail }) outcomes.Fail (local_of s) code refl c.cases refl)
+    pub retrieved : (b : Tree) → Rises 0 us → Moved P s new (retrieve d n t b es (clauses_of (walk g (indicator t) store.records)) (local_of s)) → Moved P s new (looked_up (before g us) (ToRetrieve t b) d es n (local_of s))
+    retrieved b up m = subst (λ xs. Moved P s new (retrieve d n t b es (clauses_of xs) (local_of s))) (living-is up) m
 
--- a call that was refused memory
-pub refused : (P : Program) (s : Progress) (st : State) → st.code ≡ s.machine.stack.code → StaysAt s.machine.stack st → KeepsValues s.machine.stack st → Stays P s (at_stack s st)
-refused P s st code at keeps = record {
-  used = refl;
-  limit = refl;
-  places = refl;
-  there = stays-by P s.machine (record s.machine { stack = st }) code refl keeps.values at.place (at.cases (statics_of P)) refl;
-}
+    pub retracted : (b : Tree) → Rises 0 us → Moved P s new (choose (filter_map (retract d n (clause_term t b) es) (walk g (indicator t) store.records)) (local_of s)) → Moved P s new (looked_up (before g us) (ToRetract t b) d es n (local_of s))
+    retracted b up m = subst (λ xs. Moved P s new (choose (filter_map (retract d n (clause_term t b) es) xs) (local_of s))) (living-is up) m
+
+    -- all clauses of a head, by whether the procedure is there
+    abbrev cleared : Bool → Move
+    cleared b = publish (if b then map Erase (names_of (filter (has_head n t) (living (before g us) (indicator t)))) else Declare (indicator t) ∷ []) es n (local_of s)
+
+    pub cleared-none : is_there g (indicator t) store ≡ false → Moved P s new (publish (Declare (indicator t) ∷ []) es n (local_of s)) → Moved P s new (looked_up (before g us) (ToRetractAll t) d es n (local_of s))
+    cleared-none absent m = subst (λ b. Moved P s new (cleared b)) (sym (there false absent)) m
+
+    pub cleared-some : Rises 0 us → is_there g (indicator t) store ≡ true → Moved P s new (publish (map Erase (names_of (filter (has_head n t) (walk g (indicator t) store.records)))) es n (local_of s)) →
+        Moved P s new (looked_up (before g us) (ToRetractAll t) d es n (local_of s))
+    cleared-some up present m =
+        subst (λ b. Moved P s new (cleared b)) (sym (there true present))
+        (subst (λ xs. Moved P s new (publish (map Erase (names_of (filter (has_head n t) xs))) es n (local_of s))) (living-is up) m)
+
+-- the values of what is looked up are there
+pub sought-of : (P : Program) (s : Reached) (u : Lookup) → IsOf P s → s.mode ≡ modes.Ask (questions.Look u) → IsSought s.stack.env.heap u
+sought-of P s u of at = subst (MayAsk s.stack.env.heap) at of.askable
 
 pub moved_of : (P : Program) (s new : Reached) (m : Move) → IsOf P s → Moved P s new m → IsOf P new
 moved_of P s new m of moved = record { begun = subst (IsProgramCode P) (sym moved.code) of.begun; askable = moved.askable }

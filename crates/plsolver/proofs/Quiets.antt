@@ -1,6 +1,6 @@
 -- The turns that take no step.
 use Rattle.std.specs.Option.{option_map}
-use Rattle.std.proofs.Common.{◌≡◌, ℕ, zero, suc, Bool, true, false, if◌then◌else◌, List, [], ◌∷◌, refl, sym, ap, ap₂, ◌∙◌, arith, IsTrue, ◌↔◌, Some, None, length, ◌+◌, ◌<◌, ◌≤◌, subst, inl, inr}
+use Rattle.std.proofs.Common.{◌≡◌, ℕ, zero, suc, Bool, true, false, if◌then◌else◌, List, [], ◌∷◌, refl, sym, ap, ap₂, ◌∙◌, arith, IsTrue, ◌↔◌, Option, Some, None, length, ◌+◌, ◌<◌, ◌≤◌, subst, inl, inr}
 use Rattle.plterm.specs.Tree.{Tree}
 use Rattle.plterm.specs.Variables.{copied, variables}
 use Rattle.plsubst.specs.Subst.{bind}
@@ -25,8 +25,9 @@ use Rattle.plsearch.proofs.Weight.{lighter-turn}
 use Rattle.pllinks.specs.declared.item.MarkerKind.TheVariants as markers
 use Rattle.pllinks.specs.declared.link.Continuation.{Continuation}
 use Rattle.plstack.specs.Opening.{ClosesPlain}
-use Rattle.plstack.specs.Places.{plain}
-use Rattle.plstack.specs.State.{State, place_of, cases_of, goals_of, Retries}
+use Rattle.plevent.specs.declared.update.ClauseName.{ClauseName}
+use Rattle.plstack.specs.Places.{place_asked, plain}
+use Rattle.plstack.specs.State.{State, place_of, cases_of, goals_of, Retries, RetriesBy}
 use Rattle.plstack.specs.StaticCalls.{statics_of}
 use Rattle.plstack.specs.Cutting.{Cuts}
 use Rattle.plstack.specs.First.{AtMarker}
@@ -36,7 +37,9 @@ use Rattle.plmachine.specs.declared.machine.Mode.{Mode as Going}
 use Rattle.plmachine.specs.declared.machine.Mode.TheVariants as modes
 use Rattle.plmachine.specs.declared.machine.Machine.{Machine as Reached}
 use Rattle.plmachine.specs.Machine.{result_of, mode_of, local_of, cases_in, depth_of, machine, MayAsk}
+use Rattle.plmachine.specs.Clauses.{mode_by}
 use Rattle.plmachine.proofs.Moves.{machine-is}
+use Rattle.plmachine.proofs.Clausal.{at-by, may-by}
 use Rattle.plmachine.proofs.Cutting.{cut-place, cut-rest}
 use Rattle.plsolver.specs.declared.progress.Selected.{Selected}
 use Rattle.plsolver.specs.declared.progress.Progress.{Progress}
@@ -177,6 +180,17 @@ quiet-retry P s st at code r =
     ∙ ap (λ cs. record { mode = At (place_of st); cases = cs; run = record { steps = left; answers = answers; local = local_of s.machine } }) r.cases
     ∙ sym (ap (turn P) (carried P s.machine outcomes.Fail (Choice (place_of st ∷ r.others) ∷ r.older) at r.was left answers)))
     (λ x is no. some_case _ _ _ r.was no)
+
+-- the same, where a clause may be erased before the list
+pub quiet-retry-by : (P : Program) (s : Progress) (st : State) (x : Option ClauseName) → s.machine.mode ≡ modes.Back outcomes.Fail → st.code ≡ s.machine.stack.code → RetriesBy (statics_of P) s.machine.stack st x → Quiet P s (to s st (mode_by x))
+unfolding turn
+quiet-retry-by P s st x at code r =
+    quiet P s st (mode_by x) code (may-by st.env.heap x)
+    (λ left answers few.
+    at-place P (record s.machine { stack = st; mode = mode_by x }) (place_asked x (place_of st)) (at-by st x) left answers
+    ∙ ap (λ cs. record { mode = At (place_asked x (place_of st)); cases = cs; run = record { steps = left; answers = answers; local = local_of s.machine } }) r.cases
+    ∙ sym (ap (turn P) (carried P s.machine outcomes.Fail (Choice (place_asked x (place_of st) ∷ r.others) ∷ r.older) at r.was left answers)))
+    (λ y is no. some_case _ _ _ r.was no)
 
 pub quiet-close : (P : Program) (s : Progress) (st : State) → s.machine.mode ≡ modes.Back outcomes.Fail → st.code ≡ s.machine.stack.code → cases_in P s.machine ≡ Choice [] ∷ cases_of (statics_of P) st → Quiet P s (to s st s.machine.mode)
 unfolding turn

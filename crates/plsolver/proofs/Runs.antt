@@ -3,19 +3,19 @@ use Rattle.std.proofs.Common.{◌≡◌, ℕ, suc, ◌+◌, ◌-◌, ◌<◌, �
 use Rattle.std.specs.Prelude.{codes}
 use Rattle.plterm.specs.Tree.{Tree}
 use Rattle.plsubst.specs.Subst.{bind}
-use Rattle.plcells.specs.declared.cell.Cell.{Cell}
 use Rattle.plcells.specs.Store.{IsValue, value}
 use Rattle.plevent.specs.Search.{Item, View, Ask, Answer, Search, Wants, Finishes, Seen, Got}
 use Rattle.plevent.specs.Alive.{Stamped}
 use Rattle.plevent.specs.declared.request.ThreadEnd.{ThreadEnd}
 use Rattle.plevent.specs.declared.request.Request.{Request}
-use Rattle.plevent.specs.declared.request.Request.TheVariants.{Start, Publish, Finish, HaltRun}
+use Rattle.plevent.specs.declared.request.Request.TheVariants.{Start, Publish, EraseOne, Finish, HaltRun}
 use Rattle.plevent.specs.declared.request.Reply.{Reply}
+use Rattle.plevent.specs.declared.request.Reply.TheVariants as replies
 use Rattle.plprogram.specs.Program.{Program}
 use Rattle.plsearch.specs.Types.{Awaits, Look, Await, Element, Goal, Asking, Place, Case, Choice, Mark, Handle, Catch, Gather, Local, Move, Run, Asks}
 use Rattle.plsearch.specs.Forms.{form}
 use Rattle.plsearch.specs.Rows.{select, row, meet}
-use Rattle.plsearch.specs.Replies.{Served, outcome, follows, walk_over, answered}
+use Rattle.plsearch.specs.Replies.{Outcome as Heard, Served, Late, outcome, follows, looked_up, answered}
 use Rattle.plsearch.specs.Handlers.{resume}
 use Rattle.plsearch.specs.Engine.{left, choice, out, outs, Visit}
 use Rattle.plsearch.specs.Machines.Machine.{At, Back, Rest, move, turn, meets}
@@ -32,19 +32,21 @@ use Rattle.plstack.specs.StaticCalls.{statics_of}
 use Rattle.plstack.specs.First.{AtBoth}
 use Rattle.plstack.specs.Giving.{GivesBack}
 use Rattle.plmachine.specs.declared.machine.Outcome.{Outcome}
+use Rattle.plmachine.specs.declared.machine.Outcome.TheVariants as outcomes
 use Rattle.plmachine.specs.declared.machine.Then.{Then as Following}
 use Rattle.plmachine.specs.declared.machine.Then.TheVariants as thens
+use Rattle.plmachine.specs.declared.machine.Lookup.{Lookup}
 use Rattle.plmachine.specs.declared.machine.Question.TheVariants as questions
 use Rattle.plmachine.specs.declared.machine.Mode.TheVariants as modes
 use Rattle.plmachine.specs.declared.machine.Machine.{Machine as Reached}
-use Rattle.plmachine.specs.Machine.{result_of, then_of, mode_of, local_of, cases_in, depth_of, machine, now, after, IsFollowed, MayAsk, Moved}
+use Rattle.plmachine.specs.Machine.{result_of, then_of, lookup_of, mode_of, local_of, cases_in, depth_of, machine, now, after, IsFollowed, MayAsk, Moved}
 use Rattle.plmachine.proofs.Moves.{machine-is, goes-to, visit-asks, stays-by}
 use Rattle.plsolver.specs.declared.progress.Selected.{Selected}
 use Rattle.plsolver.specs.declared.progress.Selected.TheVariants as goals
 use Rattle.plsolver.specs.declared.progress.Progress.{Progress}
 use Rattle.plsolver.specs.declared.solver.Turn.TheVariants as turns
 use Rattle.plsolver.specs.Says.{Says}
-use Rattle.plsolver.specs.Solver.{rest_of, IsOf, Stays, Quiet, Selects, IsSelected, IsAsked, WaitsForReply, WaitsForView, Waits, ReplyFits, Stepped, after_reply}
+use Rattle.plsolver.specs.Solver.{rest_of, IsOf, Stays, Quiet, Selects, IsSelected, IsAsked, WaitsForReply, WaitsForView, Waits, IsReplyTo, ReplyFits, Stepped, after_done, after_reply}
 
 -- ---- going on
 
@@ -172,10 +174,10 @@ stands P s e rest q within at asks = λ n le.
     ∙ ap (ending_of k) (asks-rest P (cases_in P s.machine) q (record { steps = k - s.used; answers = []; local = local_of s.machine }))
     ∙ ap (λ u. record { next = Wants q; used = u; out = s.machine.out.items }) few
 
-pub stands-look : (P : Program) (s : Progress) (v : Cell) → s.used ≤ s.limit → s.machine.mode ≡ modes.Ask (questions.Look v) → StandsAt View (rest_of P s) s.used s.machine.out.items
+pub stands-look : (P : Program) (s : Progress) (u : Lookup) → s.used ≤ s.limit → s.machine.mode ≡ modes.Ask (questions.Look u) → StandsAt View (rest_of P s) s.used s.machine.out.items
 unfolding turn meet
-stands-look P s v within at =
-    stands P s (Asking (Look (value s.machine.stack.env.heap v))) (goals_of s.machine.stack s.machine.stack.goals) View within (ap (λ m. mode_of m s.machine.stack) at) (λ left. refl)
+stands-look P s u within at =
+    stands P s (Asking (Look (lookup_of s.machine.stack.env.heap u))) (goals_of s.machine.stack s.machine.stack.goals) View within (ap (λ m. mode_of m s.machine.stack) at) (λ left. refl)
 
 pub stands-await : (P : Program) (s : Progress) (q : Request) (next : Following) → s.used ≤ s.limit → s.machine.mode ≡ modes.Ask (questions.Await q next) → StandsAt (Ask q) (rest_of P s) s.used s.machine.out.items
 unfolding turn meet
@@ -209,6 +211,8 @@ asked-waits s Start thens.GoesOn asked fits = absurd fits
 asked-waits s Start (thens.Ends m) asked fits = absurd fits
 asked-waits s (Publish us) thens.GoesOn asked fits = asked
 asked-waits s (Publish us) (thens.Ends m) asked fits = absurd fits
+asked-waits s (EraseOne x) thens.GoesOn asked fits = asked
+asked-waits s (EraseOne x) (thens.Ends m) asked fits = absurd fits
 asked-waits s (Finish e) thens.GoesOn asked fits = absurd fits
 asked-waits s (Finish e) (thens.Ends m) asked fits = absurd fits
 asked-waits s (HaltRun n) thens.GoesOn asked fits = absurd fits
@@ -221,6 +225,7 @@ waits-now s q next asked may = (q, asked-waits s q next asked (subst (MayAsk s.m
 pub asked-next : (s : Progress) (q : Request) → WaitsForReply s q → (next : Following) × IsAsked s q next
 asked-next s Start waits = absurd waits
 asked-next s (Publish us) waits = (thens.GoesOn, waits)
+asked-next s (EraseOne x) waits = (thens.GoesOn, waits)
 asked-next s (Finish e) waits = absurd waits
 asked-next s (HaltRun n) waits = (thens.Ends n, waits)
 
@@ -269,33 +274,55 @@ takes P s new e rest q a m at asks is used limit ends = (
       ∙ ap₂ (λ l u. ending_of (min n l) (Rest P (machine P (min n l - u) answers new.machine))) (sym limit) (sym used),
 )
 
-pub takes-look : (P : Program) (s new : Progress) (v : Cell) (g : ℕ) (us : List Stamped) → s.machine.mode ≡ modes.Ask (questions.Look v) → new.used ≡ s.used → new.limit ≡ s.limit →
-    Moved P s.machine new.machine (walk_over us (depth_of P s.machine) (value s.machine.stack.env.heap v) (goals_of s.machine.stack s.machine.stack.goals) s.machine.stack.env.count (local_of s.machine)) →
+pub takes-look : (P : Program) (s new : Progress) (u : Lookup) (g : ℕ) (us : List Stamped) → s.machine.mode ≡ modes.Ask (questions.Look u) → new.used ≡ s.used → new.limit ≡ s.limit →
+    Moved P s.machine new.machine (looked_up us (lookup_of s.machine.stack.env.heap u) (depth_of P s.machine) (goals_of s.machine.stack s.machine.stack.goals) s.machine.stack.env.count (local_of s.machine)) →
     TakesOne (Seen g us) (rest_of P s) s.used (rest_of P new) new.used
 unfolding meet answered
-takes-look P s new v g us at used limit moved =
-    takes P s new (Asking (Look (value s.machine.stack.env.heap v))) (goals_of s.machine.stack s.machine.stack.goals) View (Seen g us)
-    (walk_over us (depth_of P s.machine) (value s.machine.stack.env.heap v) (goals_of s.machine.stack s.machine.stack.goals) s.machine.stack.env.count (local_of s.machine))
+takes-look P s new u g us at used limit moved =
+    takes P s new (Asking (Look (lookup_of s.machine.stack.env.heap u))) (goals_of s.machine.stack s.machine.stack.goals) View (Seen g us)
+    (looked_up us (lookup_of s.machine.stack.env.heap u) (depth_of P s.machine) (goals_of s.machine.stack s.machine.stack.goals) s.machine.stack.env.count (local_of s.machine))
     (ap (λ m. mode_of m s.machine.stack) at) (λ w. refl) refl used limit moved.ends
 
--- a request that was served
+-- a request that was served, or came too late
 served : (P : Program) (s : Reached) (next : Following) (most left : ℕ) (answers : List Answer) →
-    after P s most left answers (follows Served (then_of next) (goals_of s.stack s.stack.goals) s.stack.env.count (local_of s)) ≡ now P (record s { mode = after_reply next }) most left answers
+    after P s most left answers (follows Served (then_of next) (goals_of s.stack s.stack.goals) s.stack.env.count (local_of s)) ≡ now P (record s { mode = after_done next }) most left answers
 unfolding machine
 served P s thens.GoesOn most left answers = refl
 served P s (thens.Ends n) most left answers = refl
 
-pub replied : (P : Program) (s new : Progress) (q : Request) (next : Following) (r : Reply) → ReplyFits s r → IsAsked s q next → new.used ≡ s.used → new.limit ≡ s.limit → new.machine ≡ record s.machine { mode = after_reply next } →
+late : (P : Program) (s : Reached) (next : Following) (most left : ℕ) (answers : List Answer) →
+    after P s most left answers (follows Late (then_of next) (goals_of s.stack s.stack.goals) s.stack.env.count (local_of s)) ≡ now P (record s { mode = modes.Back outcomes.Fail }) most left answers
+unfolding machine
+late P s next most left answers = refl
+
+follows-as : (P : Program) (s : Reached) (q : Request) (next : Following) (r : Reply) → IsReplyTo q r → (most left : ℕ) (answers : List Answer) →
+    after P s most left answers (follows (outcome q r) (then_of next) (goals_of s.stack s.stack.goals) s.stack.env.count (local_of s)) ≡ now P (record s { mode = after_reply r next }) most left answers
+follows-as P s q next r fits most left answers = go r fits
+  where
+    fitting : (r : Reply) (o : Heard) → outcome q r ≡ o →
+        after P s most left answers (follows (outcome q r) (then_of next) (goals_of s.stack s.stack.goals) s.stack.env.count (local_of s)) ≡ after P s most left answers (follows o (then_of next) (goals_of s.stack s.stack.goals) s.stack.env.count (local_of s))
+    fitting r o is = ap (λ o. after P s most left answers (follows o (then_of next) (goals_of s.stack s.stack.goals) s.stack.env.count (local_of s))) is
+
+    go : (r : Reply) → IsReplyTo q r → after P s most left answers (follows (outcome q r) (then_of next) (goals_of s.stack s.stack.goals) s.stack.env.count (local_of s)) ≡ now P (record s { mode = after_reply r next }) most left answers
+    go replies.Gone fits = fitting replies.Gone Late fits ∙ late P s next most left answers
+    go replies.Erased fits = fitting replies.Erased Served fits ∙ served P s next most left answers
+    go replies.Published fits = fitting replies.Published Served fits ∙ served P s next most left answers
+    go replies.Done fits = fitting replies.Done Served fits ∙ served P s next most left answers
+    go replies.Stopped fits = fitting replies.Stopped Served fits ∙ served P s next most left answers
+    go replies.RunOver fits = fitting replies.RunOver Served fits ∙ served P s next most left answers
+    go (replies.NotYet x) fits = fitting (replies.NotYet x) Served fits ∙ served P s next most left answers
+    go (replies.Started i a g) fits = fitting (replies.Started i a g) Served fits ∙ served P s next most left answers
+
+pub replied : (P : Program) (s new : Progress) (q : Request) (next : Following) (r : Reply) → ReplyFits s r → IsAsked s q next → new.used ≡ s.used → new.limit ≡ s.limit → new.machine ≡ record s.machine { mode = after_reply r next } →
     TakesOne (Got r) (rest_of P s) s.used (rest_of P new) new.used
 unfolding meet answered
 replied P s new q next r fits asked used limit is =
     let first = asked-next s fits.0 fits.1 in
-    let done : outcome q r ≡ Served = ap (λ q. outcome q r) (same-asked s q fits.0 next first.0 asked first.1) ∙ fits.2 in
+    let fit : IsReplyTo q r = subst (λ q. IsReplyTo q r) (sym (same-asked s q fits.0 next first.0 asked first.1)) fits.2 in
     takes P s new (Asking (Await q (then_of next))) (goals_of s.machine.stack s.machine.stack.goals) (Ask q) (Got r)
-    (follows Served (then_of next) (goals_of s.machine.stack s.machine.stack.goals) s.machine.stack.env.count (local_of s.machine))
-    (ap (λ m. mode_of m s.machine.stack) asked) (λ w. refl)
-    (ap (λ o. follows o (then_of next) (goals_of s.machine.stack s.machine.stack.goals) s.machine.stack.env.count (local_of s.machine)) (sym done)) used limit
-    (λ most left answers. served P s.machine next most left answers ∙ ap (λ m. now P m most left answers) (sym is))
+    (follows (outcome q r) (then_of next) (goals_of s.machine.stack s.machine.stack.goals) s.machine.stack.env.count (local_of s.machine))
+    (ap (λ m. mode_of m s.machine.stack) asked) (λ w. refl) refl used limit
+    (λ most left answers. follows-as P s.machine q next r fit most left answers ∙ ap (λ m. now P m most left answers) (sym is))
 
 -- ---- a goal that is selected
 

@@ -6,8 +6,9 @@ use Rattle.plcells.specs.declared.cell.Cell.{Cell}
 use Rattle.plcells.specs.Store.{value}
 use Rattle.plevent.specs.Search.{Answer, Search}
 use Rattle.plevent.specs.declared.request.Request.{Request}
-use Rattle.plevent.specs.declared.request.Request.TheVariants.{Start, Publish, Finish, HaltRun}
+use Rattle.plevent.specs.declared.request.Request.TheVariants.{Start, Publish, EraseOne, Finish, HaltRun}
 use Rattle.plevent.specs.declared.request.Reply.{Reply}
+use Rattle.plevent.specs.declared.request.Reply.TheVariants as replies
 use Rattle.plprogram.specs.Program.{Program}
 use Rattle.plsearch.specs.Types.{Result, Throw, Element, Case}
 use Rattle.plsearch.specs.Types.{Goal as GoalOf}
@@ -20,7 +21,7 @@ use Rattle.plsearch.specs.Handlers.{has, recovers}
 use Rattle.plsearch.specs.Engine.{deeper}
 use Rattle.plsearch.specs.Machines.Machine.{At, Back, Rest, return}
 use Rattle.plsearch.specs.Machines.Weight.{weight}
-use Rattle.plsearch.specs.Replies.{Served, outcome}
+use Rattle.plsearch.specs.Replies.{Served, Late, outcome}
 use Rattle.plsearch.specs.Solving.{Goes}
 use Rattle.plsearch.specs.Search.{ending_of, from_start, once, start_from, start_of}
 use Rattle.pllinks.specs.declared.link.Continuation.{Continuation}
@@ -33,6 +34,7 @@ use Rattle.plmachine.specs.declared.machine.Outcome.{Outcome}
 use Rattle.plmachine.specs.declared.machine.Outcome.TheVariants as outcomes
 use Rattle.plmachine.specs.declared.machine.Then.{Then}
 use Rattle.plmachine.specs.declared.machine.Then.TheVariants as thens
+use Rattle.plmachine.specs.declared.machine.Lookup.{Lookup}
 use Rattle.plmachine.specs.declared.machine.Question.TheVariants as questions
 use Rattle.plmachine.specs.declared.machine.Mode.{Mode as Going}
 use Rattle.plmachine.specs.declared.machine.Mode.TheVariants as modes
@@ -75,9 +77,9 @@ pub record Quiet (P : Program) (old new : Progress) : Type 0 where
 abbrev pub IsOver : Program → Progress → Type 0
 IsOver P s = (r : Outcome) × (s.machine.mode ≡ modes.Back r) × (cases_in P s.machine ≡ [])
 
--- a goal waits for a view
+-- a look-up of clauses waits for a view
 abbrev pub WaitsForView : Progress → Type 0
-WaitsForView s = (v : Cell) × (s.machine.mode ≡ modes.Ask (questions.Look v))
+WaitsForView s = (u : Lookup) × (s.machine.mode ≡ modes.Ask (questions.Look u))
 
 -- a request waits for its reply, and for what follows it
 abbrev pub IsAsked : Progress → Request → Then → Type 0
@@ -85,6 +87,7 @@ IsAsked s q next = s.machine.mode ≡ modes.Ask (questions.Await q next)
 
 abbrev pub WaitsForReply : Progress → Request → Type 0
 WaitsForReply s (Publish us) = IsAsked s (Publish us) thens.GoesOn
+WaitsForReply s (EraseOne x) = IsAsked s (EraseOne x) thens.GoesOn
 WaitsForReply s (HaltRun n) = IsAsked s (HaltRun n) (thens.Ends n)
 WaitsForReply s Start = ⊥
 WaitsForReply s (Finish e) = ⊥
@@ -92,18 +95,23 @@ WaitsForReply s (Finish e) = ⊥
 abbrev pub Waits : Progress → Type 0
 Waits s = (q : Request) × WaitsForReply s q
 
--- the reply says that the request was served
+-- the reply says that the request was served, or that it came too late
 abbrev pub IsReplyTo : Request → Reply → Type 0
+IsReplyTo q replies.Gone = outcome q replies.Gone ≡ Late
 IsReplyTo q r = outcome q r ≡ Served
 
 -- a reply is given for the request that waits
 abbrev pub ReplyFits : Progress → Reply → Type 0
 ReplyFits s r = (q : Request) × WaitsForReply s q × IsReplyTo q r
 
--- what is next where a request was served
-abbrev pub after_reply : Then → Going
-after_reply thens.GoesOn = modes.Visit
-after_reply (thens.Ends n) = modes.Back (outcomes.Halted n)
+-- what is next where a request was served, and after a reply that fits: a request that came too late fails
+abbrev pub after_done : Then → Going
+after_done thens.GoesOn = modes.Visit
+after_done (thens.Ends n) = modes.Back (outcomes.Halted n)
+
+abbrev pub after_reply : Reply → Then → Going
+after_reply replies.Gone next = modes.Back outcomes.Fail
+after_reply r next = after_done next
 
 -- a goal that is to be selected, as the first of a list
 abbrev pub first_of : Selected → First

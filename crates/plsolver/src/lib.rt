@@ -4,6 +4,7 @@
 mod answers;
 mod catch;
 mod error;
+mod look;
 pub mod progress;
 pub mod solver;
 mod start;

@@ -15,6 +15,7 @@ use plcells::cell::Cell;
 use pllinks::item::MarkerKind;
 use pllinks::level::Level;
 use pllinks::link::Continuation;
+use plmachine::clauses::mode_of;
 use plmachine::machine::{Mode, Outcome, Question};
 use plprogram::program::Program;
 use plstack::first::First;
@@ -213,8 +214,8 @@ impl Progress {
         ensures ok { OnOk result (Quiet program.now self.old self.new) }
         ensures err { OnErr result (Stays program.now self.old self.new) }
     {
-        if self.machine.stack.retry_copies(self.machine.alloc)? {
-            self.machine.mode = Mode::Visit;
+        if let Some(entered) = self.machine.stack.retry_copies(self.machine.alloc)? {
+            self.machine.mode = mode_of(entered);
         }
         Ok(())
     }

@@ -1,10 +1,10 @@
 -- What the calls of a dynamic procedure make of a stack.
-use Rattle.std.proofs.Common.{◌≡◌, ℕ, ◌+◌, ◌-◌, ◌≤◌, List, [], ◌∷◌, ◌++◌, length, length-append, take, drop, filter_map, refl, sym, ap, ap₂, ◌∙◌, subst, arith, reverse, length-take-le}
+use Rattle.std.proofs.Common.{◌≡◌, ℕ, ◌+◌, ◌-◌, ◌≤◌, List, [], ◌∷◌, ◌++◌, length, length-append, take, drop, filter_map, refl, sym, ap, ap₂, ◌∙◌, subst, arith, reverse, length-take-le, Option}
 use Rattle.std.proofs.lemmas.List.{drop_all}
 use Rattle.platoms.proofs.Extending.{Extends-trans as extends-names}
+use Rattle.plevent.specs.declared.update.ClauseName.{ClauseName}
 use Rattle.plcells.specs.Store.{IsValue, value}
 use Rattle.plsearch.specs.Types.{Choice}
-use Rattle.plsearch.specs.Rows.{resolve}
 use Rattle.plsearch.specs.Engine.{deeper}
 use Rattle.plenv.specs.Env.{Env, cut, renamed, IsMark}
 use Rattle.plenv.proofs.Cuts.{cut-cut, IsMark-cut}
@@ -21,10 +21,10 @@ use Rattle.plstack.specs.declared.frame.Resume.{Resume}
 use Rattle.plstack.specs.declared.frame.Resume.TheVariants as resumes
 use Rattle.plstack.specs.declared.frame.Frame.{Frame}
 use Rattle.plstack.specs.declared.frame.Frame.TheVariants.{Open}
-use Rattle.plstack.specs.Places.{Statics, kept, kept_values, case_of, cases}
+use Rattle.plstack.specs.Places.{Statics, tried, kept, kept_values, case_of, cases}
 use Rattle.plstack.specs.Frames.{IsResume, IsOpen}
-use Rattle.plstack.specs.State.{State, IsStack, goals_in, cases_of, IsList, CountsUp, Retries}
-use Rattle.plstack.specs.Calls.{left_of, Goes, FirstFits, OpensRest, Calls}
+use Rattle.plstack.specs.State.{State, IsStack, goals_in, cases_of, IsList, CountsUp, RetriesBy}
+use Rattle.plstack.specs.Calls.{left_of, Goes, FirstFits, OpensRest, CallsBy}
 use Rattle.plstack.proofs.Frames.{items-more, reverse-push}
 use Rattle.plstack.proofs.Renaming.{agrees-renamed, resume-renamed, case-renamed}
 use Rattle.plstack.proofs.Growing.{cases-grown, frames-grown}
@@ -99,7 +99,7 @@ pub copies-none : (statics : Statics) (old new : List Frame) (p : Point) (c : Co
 copies-none statics old new p c le up = record {
   cases = λ code e links saved.
       up.cases statics code e links saved
-      ∙ ap (λ cs. Choice (filter_map (resolve (deeper (cases statics code e links saved old) 0) (cut p.marks.env e).count (value (cut p.marks.env e).heap c.goal) (all_elements code (cut p.marks.env e) (items_of links p.list))) cs) ∷ cases statics code e links saved old)
+      ∙ ap (λ cs. Choice (filter_map (tried (deeper (cases statics code e links saved old) 0) (cut p.marks.env e).count (value (cut p.marks.env e).heap c.goal) (all_elements code (cut p.marks.env e) (items_of links p.list))) cs) ∷ cases statics code e links saved old)
       (sym (drop_all c.next c.clauses.items le));
   frames = λ code e links saved fs o. up.frames code e links saved fs;
   depth = up.depth;
@@ -114,7 +114,7 @@ copies-some statics old new p c is =
 -- a call that visits the first of some clauses that fits
 module _ (statics : Statics) (s : State) (d : ℕ) (is : IsStack s d) (m : Marks) (mark : IsMark m.env s.env) (now : cut m.env s.env ≡ s.env) (links : m.links ≡ length s.links) (saved : m.saved ≡ length s.saved)
     (rest : Continuation) (there : IsList s rest) (c : Copies) (goal : IsValue s.env.heap c.goal) (from i : ℕ) (next : c.next ≡ i + 1) (e : Env) (ls : List Link) (list : Continuation)
-    (fits : FirstFits s (record s { env = e; links = ls; goals = list }) d c.goal rest c.clauses.items from i)
+    (erased : Option ClauseName) (fits : FirstFits s (record s { env = e; links = ls; goals = list }) d c.goal rest c.clauses.items from i erased)
     (frames : List Frame) (opens : OpensRest statics (reverse s.frames) (reverse frames) (record { marks = m; list = rest }) (resumes.Copies c)) where
   goes-on : Goes s (record s { env = e; links = ls })
   goes-on = record { keeps = fits.goes.keeps; env = fits.goes.env; more = fits.goes.more; links = fits.goes.links; chain = fits.goes.chain }
@@ -130,7 +130,7 @@ module _ (statics : Statics) (s : State) (d : ℕ) (is : IsStack s d) (m : Marks
       opened-rest s d is m mark now links saved rest there (resumes.Copies c) goal refl e ls goes-on statics frames opens list (record { there = fits.there.there; items = fits.there.items })
       ∙ ap₂ (λ k n. Choice (left_of s k c.goal rest (drop n c.clauses.items)) ∷ cases_of statics s) depth-now next
 
-  pub called-calls : from ≡ 0 → Calls statics s (record { code = s.code; env = e; links = ls; saved = s.saved; frames = frames; goals = list }) (value s.env.heap c.goal) rest c.clauses.items
+  pub called-calls : from ≡ 0 → CallsBy statics s (record { code = s.code; env = e; links = ls; saved = s.saved; frames = frames; goals = list }) (value s.env.heap c.goal) rest c.clauses.items erased
   called-calls first = record {
     others = left_of s d c.goal rest (drop (i + 1) c.clauses.items);
     places =
@@ -168,7 +168,7 @@ module _ (s : State) (d : ℕ) (is : IsStack s d) (rest : List Frame) (p : Point
   pub was-left : (statics : Statics) → cases_of statics s ≡ Choice (left_of before (d - 1) c.goal p.list (drop c.next c.clauses.items)) ∷ cases_of statics before
   was-left statics =
       popped-cases statics s rest (Open p (resumes.Copies c)) popped
-      ∙ ap₂ (λ gs cs. Choice (filter_map (resolve (deeper cs 0) (cut p.marks.env s.env).count (value (cut p.marks.env s.env).heap c.goal) gs) (drop c.next c.clauses.items)) ∷ cs)
+      ∙ ap₂ (λ gs cs. Choice (filter_map (tried (deeper cs 0) (cut p.marks.env s.env).count (value (cut p.marks.env s.env).heap c.goal) gs) (drop c.next c.clauses.items)) ∷ cs)
       (sym (back-goals s d is rest p (resumes.Copies c) popped)) (sym (back-cases s d is rest p (resumes.Copies c) popped statics))
       ∙ ap (λ k. Choice (left_of before k c.goal p.list (drop c.next c.clauses.items)) ∷ cases_of statics before) (depth-then statics)
 
@@ -176,17 +176,17 @@ module _ (s : State) (d : ℕ) (is : IsStack s d) (rest : List Frame) (p : Point
   none-left statics none = was-left statics ∙ ap (λ ps. Choice ps ∷ cases_of statics before) none
 
   module _ (statics : Statics) (k : Copies) (goal : k.goal ≡ c.goal) (clauses : k.clauses.items ≡ c.clauses.items) (i : ℕ) (next : k.next ≡ i + 1) (e : Env) (ls : List Link) (list : Continuation)
-      (fits : FirstFits (back s d is rest p (resumes.Copies c) popped) (record (back s d is rest p (resumes.Copies c) popped) { env = e; links = ls; goals = list }) (d - 1) k.goal p.list k.clauses.items c.next i)
+      (erased : Option ClauseName) (fits : FirstFits (back s d is rest p (resumes.Copies c) popped) (record (back s d is rest p (resumes.Copies c) popped) { env = e; links = ls; goals = list }) (d - 1) k.goal p.list k.clauses.items c.next i erased)
       (frames : List Frame) (opens : OpensRest statics (reverse rest) (reverse frames) (record { marks = p.marks; list = p.list }) (resumes.Copies k)) where
     goal-then : IsValue (cut p.marks.env s.env).heap k.goal
     goal-then = subst (IsValue (cut p.marks.env s.env).heap) (sym goal) the-call.resume
 
     pub retried-stack : IsStack (record { code = s.code; env = e; links = ls; saved = take p.marks.saved s.saved; frames = frames; goals = list }) d
     retried-stack =
-        let r = called-stack statics before (d - 1) (back-stack s d is rest p (resumes.Copies c) popped) p.marks mark-then now-then links-then saved-then p.list (back-list s d is rest p (resumes.Copies c) popped) k goal-then c.next i next e ls list fits frames opens in
+        let r = called-stack statics before (d - 1) (back-stack s d is rest p (resumes.Copies c) popped) p.marks mark-then now-then links-then saved-then p.list (back-list s d is rest p (resumes.Copies c) popped) k goal-then c.next i next e ls list erased fits frames opens in
         (r.0, omega (arith, r.1, back-depth s d is rest p (resumes.Copies c) popped))
 
-    pub retried : Retries statics s (record { code = s.code; env = e; links = ls; saved = take p.marks.saved s.saved; frames = frames; goals = list })
+    pub retried : RetriesBy statics s (record { code = s.code; env = e; links = ls; saved = take p.marks.saved s.saved; frames = frames; goals = list }) erased
     retried = record {
       others = left_of before (d - 1) k.goal p.list (drop (i + 1) k.clauses.items);
       older = cases_of statics before;
@@ -194,5 +194,5 @@ module _ (s : State) (d : ℕ) (is : IsStack s d) (rest : List Frame) (p : Point
           was-left statics
           ∙ ap₂ (λ g cs. Choice (left_of before (d - 1) g p.list (drop c.next cs)) ∷ cases_of statics before) (sym goal) (sym clauses)
           ∙ ap (λ ps. Choice ps ∷ cases_of statics before) fits.places;
-      cases = called-cases statics before (d - 1) (back-stack s d is rest p (resumes.Copies c) popped) p.marks mark-then now-then links-then saved-then p.list (back-list s d is rest p (resumes.Copies c) popped) k goal-then c.next i next e ls list fits frames opens;
+      cases = called-cases statics before (d - 1) (back-stack s d is rest p (resumes.Copies c) popped) p.marks mark-then now-then links-then saved-then p.list (back-list s d is rest p (resumes.Copies c) popped) k goal-then c.next i next e ls list erased fits frames opens;
     }

@@ -8,7 +8,7 @@ use Rattle.platoms.specs.Names.{IsTable}
 use Rattle.platoms.proofs.Extending.{Extends-trans as extends-names}
 use Rattle.plsearch.specs.Lists.{bind_goals}
 use Rattle.plenv.specs.Env.{Env, IsEnv}
-use Rattle.plenv.specs.Changes.{Keeps, PutsTerm, Stays, Extends as ExtendsEnv, Unifies as UnifiesEnv}
+use Rattle.plenv.specs.Changes.{Keeps, Puts, PutsTerm, Stays, Extends as ExtendsEnv, Unifies as UnifiesEnv}
 use Rattle.plcells.specs.declared.cell.Cell.{Cell}
 use Rattle.plcells.specs.declared.equation.Equation.{Equation}
 use Rattle.plcells.specs.Store.{value}
@@ -225,6 +225,10 @@ number-same s d e env is (Err x) not = tt
 pub put-extends : (old new : Env) (t : Tree) (n : ℕ) (r : Outcomes Cell AllocError) → IfOk r (λ v. PutsTerm old new v t n) → OnErr r (Stays old new) → ExtendsEnv old new
 put-extends old new t n (Ok v) ok err = ok.extends
 put-extends old new t n (Err x) ok err = err.extends
+
+pub puts-stay : (old new : Env) (t : Tree) (r : Outcomes Cell AllocError) → IfOk r (λ v. Puts old new v t) → OnErr r (Stays old new) → Stays old new
+puts-stay old new t (Ok v) ok err = record { extends = ok.extends; slots = ok.slots; count = ok.count }
+puts-stay old new t (Err x) ok err = err
 
 pub if_ok : {A E : Type 0} (P Q : A → Type 0) (r : Outcomes A E) → ((a : A) → P a → Q a) → IfOk r P → IfOk r Q
 if_ok P Q (Ok a) f k = f a k

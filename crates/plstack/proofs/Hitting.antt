@@ -51,7 +51,7 @@ extends-renamed e t is table more = record {
   keeps = renamed-kept e t more;
 }
 
-pub drop-split : (i : ℕ) (xs : List Clause) (x : Clause) → take 1 (drop i xs) ≡ x ∷ [] → drop i xs ≡ x ∷ drop (suc i) xs
+pub drop-split : {A : Type 0} (i : ℕ) (xs : List A) (x : A) → take 1 (drop i xs) ≡ x ∷ [] → drop i xs ≡ x ∷ drop (suc i) xs
 drop-split zero [] x e = cc
 drop-split zero (y ∷ ys) x e = ap (λ zs. get_or zs 0 x ∷ ys) e
 drop-split (suc i) [] x e = cc

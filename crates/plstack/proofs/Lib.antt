@@ -26,6 +26,7 @@ pub mod Taking
 pub mod Answered
 pub mod Keys
 pub mod Arguments
+pub mod Pairing
 pub mod Beginning
 pub mod Program
 pub mod Finding
@@ -35,3 +36,4 @@ pub mod Passing
 pub mod Stepping
 pub mod Reopening
 pub mod Postponed
+pub mod Heads

@@ -1,30 +1,30 @@
 -- Cases of calls of dynamic procedures that are opened, tried again and put back.
 use Rattle.std.specs.Prelude.{Result as Outcomes}
-use Rattle.std.proofs.Common.{Ok, Err, OnErr, ◌≡◌, ℕ, ◌-◌, List, [], ◌∷◌, ◌++◌, take, drop, filter_map, refl, sym, ap, ap₂, ◌∙◌, subst, arith, reverse, append-nil}
+use Rattle.std.proofs.Common.{Ok, Err, OnErr, ◌≡◌, ℕ, ◌-◌, List, [], ◌∷◌, ◌++◌, take, drop, filter_map, refl, sym, ap, ap₂, ◌∙◌, subst, arith, reverse, append-nil, Option}
 use Rattle.plterm.specs.Tree.{Tree}
 use Rattle.plclause.specs.Clause.{Clause}
+use Rattle.plevent.specs.declared.update.ClauseName.{ClauseName}
 use Rattle.plcells.specs.declared.cell.Cell.{Cell}
 use Rattle.plcells.specs.Store.{IsValue, value}
 use Rattle.plsearch.specs.Types.{Choice}
-use Rattle.plsearch.specs.Rows.{resolve}
 use Rattle.plsearch.specs.Engine.{deeper}
 use Rattle.plenv.specs.Env.{Env, IsEnv, IsMark, cut}
 use Rattle.plenv.specs.Changes.{Extends as ExtendsEnv, Keeps}
 use Rattle.pllinks.specs.declared.link.Link.{Link}
 use Rattle.pllinks.specs.declared.link.Continuation.{Continuation}
 use Rattle.pllinks.specs.Links.{alone, IsChain}
+use Rattle.plstack.specs.declared.frame.Candidate.{Candidate}
 use Rattle.plstack.specs.declared.frame.Point.{Point}
 use Rattle.plstack.specs.declared.frame.Copies.{Copies}
 use Rattle.plstack.specs.declared.frame.Resume.TheVariants as resumes
 use Rattle.plstack.specs.declared.frame.Frame.{Frame}
 use Rattle.plstack.specs.declared.frame.Frame.TheVariants.{Open}
-use Rattle.plstack.specs.Places.{Statics}
+use Rattle.plstack.specs.Places.{Statics, place_asked, tried}
 use Rattle.plstack.specs.Frames.{AreOlder}
 use Rattle.plstack.specs.State.{State, IsStack, IsList, Extends, goals_of, place_of, cases_of}
-use Rattle.plstack.specs.Calls.{left_of, places_of, Goes, Calls, CallsNone, KeepsValues, StaysAt}
+use Rattle.plstack.specs.Calls.{left_of, candidates_of, Goes, Calls, CallsBy, CallsByNone, KeepsValues, StaysAt}
 use Rattle.plstack.specs.Cutting.{Settles}
-use Rattle.plstack.specs.Fits.{FindsNone}
-use Rattle.plstack.specs.Trials.{ComesBack}
+use Rattle.plstack.specs.Trials.{ComesBack, FindsNoCopy}
 use Rattle.plstack.proofs.Found.{renamed-kept}
 use Rattle.plstack.proofs.Growing.{stack-env, extends-env}
 use Rattle.plstack.proofs.Hitting.{extends-renamed}
@@ -55,7 +55,7 @@ module _ (s : State) (d : ℕ) (is : IsStack s d) (e : Env) (ls : List Link) (en
   pub unchanged-stack : IsStack unchanged d
   unchanged-stack = subst (λ ks. IsStack (record s { env = e; links = ks }) d) (sym b.same) (stack-env s d e env-extends env is)
 
-  unchanged-extends : Extends s unchanged
+  pub unchanged-extends : Extends s unchanged
   unchanged-extends = subst (λ ks. Extends s (record s { env = e; links = ks })) (sym b.same) (extends-env s d e env-extends env is)
 
   pub unchanged-at : StaysAt s unchanged
@@ -64,25 +64,29 @@ module _ (s : State) (d : ℕ) (is : IsStack s d) (e : Env) (ls : List Link) (en
   pub unchanged-values : KeepsValues s unchanged
   unchanged-values = record { values = unchanged-extends.values }
 
-  pub unchanged-none : (statics : Statics) (goal : Cell) (rest : Continuation) (cs : List Clause) (from : ℕ) → from ≡ 0 → FindsNone s.env (value s.env.heap goal) cs from → CallsNone statics s unchanged (value s.env.heap goal) rest cs
+  pub unchanged-none : (statics : Statics) (goal : Cell) (rest : Continuation) (cs : List Candidate) (from : ℕ) → from ≡ 0 → FindsNoCopy s.env (value s.env.heap goal) cs from → CallsByNone statics s unchanged (value s.env.heap goal) rest cs
   unchanged-none statics goal rest cs from first none = record {
     none = ap (λ n. left_of s (deeper (cases_of statics s) 0) goal rest (drop n cs)) (sym first) ∙ none (deeper (cases_of statics s) 0) (goals_of s rest);
     cases = unchanged-extends.cases statics;
   }
 
 -- where all was marked first
-module _ (s mid new : State) (x : Extends s mid) (count : mid.env.count ≡ s.env.count) (statics : Statics) (goal : Cell) (fits : IsValue s.env.heap goal) (rest : Continuation) (there : IsList s rest) (cs : List Clause) where
-  places-marked : places_of statics s (value s.env.heap goal) rest cs ≡ places_of statics mid (value mid.env.heap goal) rest cs
+module _ (s mid new : State) (x : Extends s mid) (count : mid.env.count ≡ s.env.count) (statics : Statics) (goal : Cell) (fits : IsValue s.env.heap goal) (rest : Continuation) (there : IsList s rest) (cs : List Candidate) where
+  places-marked : candidates_of statics s (value s.env.heap goal) rest cs ≡ candidates_of statics mid (value mid.env.heap goal) rest cs
   places-marked =
-      ap₂ (λ ks n. filter_map (resolve (deeper ks 0) n (value s.env.heap goal) (goals_of s rest)) cs) (sym (x.cases statics)) (sym count)
-      ∙ ap₂ (λ t gs. filter_map (resolve (deeper (cases_of statics mid) 0) mid.env.count t gs) cs) (sym (x.values goal fits).1) (sym (x.lists rest there).1)
+      ap₂ (λ ks n. filter_map (tried (deeper ks 0) n (value s.env.heap goal) (goals_of s rest)) cs) (sym (x.cases statics)) (sym count)
+      ∙ ap₂ (λ t gs. filter_map (tried (deeper (cases_of statics mid) 0) mid.env.count t gs) cs) (sym (x.values goal fits).1) (sym (x.lists rest there).1)
 
-  pub calls_marked : Calls statics mid new (value mid.env.heap goal) rest cs → Calls statics s new (value s.env.heap goal) rest cs
-  calls_marked c = record { others = c.others; places = places-marked ∙ c.places; cases = c.cases ∙ ap (λ ks. Choice c.others ∷ ks) (x.cases statics) }
+  pub calls_marked : (erased : Option ClauseName) → CallsBy statics mid new (value mid.env.heap goal) rest cs erased → CallsBy statics s new (value s.env.heap goal) rest cs erased
+  calls_marked erased c = record { others = c.others; places = places-marked ∙ c.places; cases = c.cases ∙ ap (λ ks. Choice c.others ∷ ks) (x.cases statics) }
 
 -- where less is old
 pub calls_settled : (statics : Statics) (s mid new : State) (t : Tree) (rest : Continuation) (cs : List Clause) → Calls statics s mid t rest cs → Settles mid new → Calls statics s new t rest cs
 calls_settled statics s mid new t rest cs c y = record { others = c.others; places = c.places ∙ ap (λ p. p ∷ c.others) (sym y.place); cases = y.cases statics ∙ c.cases }
+
+pub candidates_settled : (statics : Statics) (s mid new : State) (t : Tree) (rest : Continuation) (xs : List Candidate) (erased : Option ClauseName) → CallsBy statics s mid t rest xs erased → Settles mid new →
+    CallsBy statics s new t rest xs erased
+candidates_settled statics s mid new t rest xs erased c y = record { others = c.others; places = c.places ∙ ap (λ p. place_asked erased p ∷ c.others) (sym y.place); cases = y.cases statics ∙ c.cases }
 
 -- the call whose clauses are tried again
 module _ (s : State) (d : ℕ) (is : IsStack s d) (rest : List Frame) (p : Point) (c : Copies) (popped : s.frames ≡ rest ++ Open p (resumes.Copies c) ∷ []) where
@@ -109,7 +113,7 @@ module _ (s : State) (d : ℕ) (is : IsStack s d) (rest : List Frame) (p : Point
     pub closed-stack : IsStack (record { code = s.code; env = e; links = ls; saved = take p.marks.saved s.saved; frames = rest; goals = alone 0 }) (d - 1)
     closed-stack = unchanged-stack before (d - 1) before-stack e ls env b
 
-    pub closed-none : FindsNone (cut p.marks.env s.env) (value (cut p.marks.env s.env).heap c.goal) c.clauses.items c.next → (statics : Statics) →
+    pub closed-none : FindsNoCopy (cut p.marks.env s.env) (value (cut p.marks.env s.env).heap c.goal) c.clauses.items c.next → (statics : Statics) →
         cases_of statics s ≡ Choice [] ∷ cases_of statics (record { code = s.code; env = e; links = ls; saved = take p.marks.saved s.saved; frames = rest; goals = alone 0 })
     closed-none none statics =
         none-left s d is rest p c popped statics (none (d - 1) (goals_of before p.list))

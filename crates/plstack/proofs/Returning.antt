@@ -1,6 +1,7 @@
 -- A stack that comes back to where its newest case was opened.
-use Rattle.std.proofs.Common.{◌≡◌, ℕ, suc, ◌-◌, ◌≤◌, List, [], ◌∷◌, ◌++◌, length, take, refl, sym, ap, ap₂, ◌∙◌, subst, arith, reverse, le_refl, length-take-le}
+use Rattle.std.proofs.Common.{◌≡◌, ℕ, suc, ◌-◌, ◌≤◌, List, [], ◌∷◌, ◌++◌, length, take, refl, sym, ap, ap₂, ◌∙◌, subst, arith, reverse, le_refl, length-take-le, Option}
 use Rattle.platoms.specs.Names.{Extends as ExtendsNames}
+use Rattle.plevent.specs.declared.update.ClauseName.{ClauseName}
 use Rattle.plsearch.specs.Types.{Case, Choice, Handle}
 use Rattle.plenv.specs.Env.{Env, IsEnv, IsWithin, cut}
 use Rattle.plenv.specs.Marks.{IsOlder as IsEnvOlder}
@@ -15,9 +16,9 @@ use Rattle.plstack.specs.declared.frame.Resume.TheVariants as resumes
 use Rattle.plstack.specs.declared.frame.Handler.{Handler}
 use Rattle.plstack.specs.declared.frame.Frame.{Frame}
 use Rattle.plstack.specs.declared.frame.Frame.TheVariants.{Open}
-use Rattle.plstack.specs.Places.{Statics, handled, case_of, depth_of}
+use Rattle.plstack.specs.Places.{Statics, place_asked, handled, case_of, depth_of}
 use Rattle.plstack.specs.Frames.{IsOpen, AreOlder, IsResume, AreFrames}
-use Rattle.plstack.specs.State.{State, IsStack, goals_in, goals_of, cases_of, IsList, CountsUp, Retries, AtHandler, Leaves, Recovers, IsHandler}
+use Rattle.plstack.specs.State.{State, IsStack, goals_in, goals_of, cases_of, IsList, CountsUp, Retries, RetriesBy, AtHandler, Leaves, Recovers, IsHandler}
 use Rattle.plstack.specs.Cutting.{Settles}
 use Rattle.plstack.proofs.Frames.{items-take, cases-cut, AreFrames-cut}
 use Rattle.plstack.proofs.Lists.{empty-list}
@@ -215,6 +216,14 @@ retries_settled statics s mid new r y = record {
   others = r.others;
   older = r.older;
   was = r.was ∙ ap (λ p. Choice (p ∷ r.others) ∷ r.older) (sym y.place);
+  cases = y.cases statics ∙ r.cases;
+}
+
+pub retries_by_settled : (statics : Statics) (s mid new : State) (erased : Option ClauseName) → RetriesBy statics s mid erased → Settles mid new → RetriesBy statics s new erased
+retries_by_settled statics s mid new erased r y = record {
+  others = r.others;
+  older = r.older;
+  was = r.was ∙ ap (λ p. Choice (place_asked erased p ∷ r.others) ∷ r.older) (sym y.place);
   cases = y.cases statics ∙ r.cases;
 }
 

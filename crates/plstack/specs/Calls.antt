@@ -1,7 +1,8 @@
 -- What a call of a dynamic procedure makes of a stack.
-use Rattle.std.specs.Prelude.{◌≡◌, ℕ, ◌+◌, ◌<◌, List, [], ◌∷◌, ◌++◌, length, drop}
+use Rattle.std.specs.Prelude.{◌≡◌, ℕ, ◌+◌, ◌<◌, List, [], ◌∷◌, ◌++◌, length, drop, Option}
 use Rattle.plterm.specs.Tree.{Tree}
 use Rattle.plclause.specs.Clause.{Clause}
+use Rattle.plevent.specs.declared.update.ClauseName.{ClauseName}
 use Rattle.plcells.specs.declared.cell.Cell.{Cell}
 use Rattle.plcells.specs.Store.{IsValue, value}
 use Rattle.plsearch.specs.Types.{Place, Choice}
@@ -12,16 +13,17 @@ use Rattle.pllinks.specs.declared.link.Link.{Link}
 use Rattle.pllinks.specs.declared.link.Continuation.{Continuation}
 use Rattle.pllinks.specs.Lists.{Goals}
 use Rattle.pllinks.specs.Links.{items_of, IsChain}
+use Rattle.plstack.specs.declared.frame.Candidate.{Candidate}
 use Rattle.plstack.specs.declared.frame.Point.{Point}
 use Rattle.plstack.specs.declared.frame.Resume.{Resume}
 use Rattle.plstack.specs.declared.frame.Frame.{Frame}
-use Rattle.plstack.specs.Places.{Statics, places_left, kept_values, case_of, cases, depth_of}
+use Rattle.plstack.specs.Places.{Statics, places_left, place_asked, candidates_left, kept_values, case_of, cases, depth_of}
 use Rattle.plstack.specs.Frames.{IsOpen, AreFrames}
 use Rattle.plstack.specs.State.{State, goals_of, place_of, cases_of, IsList}
 
--- what is left of a call at a level, of a goal before a list, by some clauses
-abbrev pub left_of : State → ℕ → Cell → Continuation → List Clause → List Place
-left_of s d goal rest cs = places_left d s.env (value s.env.heap goal) (goals_of s rest) cs
+-- what is left of a call at a level, of a goal before a list, by some candidates
+abbrev pub left_of : State → ℕ → Cell → Continuation → List Candidate → List Place
+left_of s d goal rest xs = candidates_left d s.env (value s.env.heap goal) (goals_of s rest) xs
 
 -- more links, and an environment that keeps each mark
 pub record Goes (old new : State) : Type 0 where
@@ -31,10 +33,10 @@ pub record Goes (old new : State) : Type 0 where
   pub links : new.links ≡ old.links ++ more
   pub chain : IsChain new.links
 
--- the first of some clauses, from a number on, that fits a call is number i, and its list is visited
-pub record FirstFits (old new : State) (d : ℕ) (goal : Cell) (rest : Continuation) (cs : List Clause) (from i : ℕ) : Type 0 where
-  pub places : left_of old d goal rest (drop from cs) ≡ place_of new ∷ left_of old d goal rest (drop (i + 1) cs)
-  pub within : i < length cs
+-- the first of some candidates, from a number on, that fits a call is number i, its list is visited, and this clause is to be erased before
+pub record FirstFits (old new : State) (d : ℕ) (goal : Cell) (rest : Continuation) (xs : List Candidate) (from i : ℕ) (erased : Option ClauseName) : Type 0 where
+  pub places : left_of old d goal rest (drop from xs) ≡ place_asked erased (place_of new) ∷ left_of old d goal rest (drop (i + 1) xs)
+  pub within : i < length xs
   pub there : IsList new new.goals
   pub goes : Goes old new
 
@@ -58,6 +60,21 @@ pub record Calls (statics : Statics) (old new : State) (t : Tree) (rest : Contin
 -- it has no place, and the cases are as they were
 pub record CallsNone (statics : Statics) (old new : State) (t : Tree) (rest : Continuation) (cs : List Clause) : Type 0 where
   pub none : places_of statics old t rest cs ≡ []
+  pub cases : cases_of statics new ≡ cases_of statics old
+
+-- what a call of a goal has, before a list, by some candidates, as a case of the level of a new one
+abbrev pub candidates_of : Statics → State → Tree → Continuation → List Candidate → List Place
+candidates_of statics s t rest xs = candidates_left (deeper (cases_of statics s) 0) s.env t (goals_of s rest) xs
+
+-- a call by candidates has the visited list, before which this clause is to be erased, as its first place, in a choice of the others
+pub record CallsBy (statics : Statics) (old new : State) (t : Tree) (rest : Continuation) (xs : List Candidate) (erased : Option ClauseName) : Type 0 where
+  pub others : List Place
+  pub places : candidates_of statics old t rest xs ≡ place_asked erased (place_of new) ∷ others
+  pub cases : cases_of statics new ≡ Choice others ∷ cases_of statics old
+
+-- it has no place, and the cases are as they were
+pub record CallsByNone (statics : Statics) (old new : State) (t : Tree) (rest : Continuation) (xs : List Candidate) : Type 0 where
+  pub none : candidates_of statics old t rest xs ≡ []
   pub cases : cases_of statics new ≡ cases_of statics old
 
 -- the cases and the visited place stay

@@ -1,10 +1,12 @@
 -- What open cases stand for.
-use Rattle.std.specs.Prelude.{ℕ, zero, suc, ◌+◌, List, [], ◌∷◌, map, take, drop, filter_map}
+use Rattle.std.specs.Prelude.{ℕ, zero, suc, ◌+◌, List, [], ◌∷◌, map, take, drop, filter_map, Option, Some, None, option_map}
 use Rattle.plterm.specs.Tree.{Tree, atom, compound, trees}
 use Rattle.plclause.specs.Clause.{Clause}
+use Rattle.plevent.specs.declared.update.ClauseName.{ClauseName}
+use Rattle.plevent.specs.declared.request.Request.TheVariants.{EraseOne}
 use Rattle.plcells.specs.declared.cell.Cell.{Cell}
 use Rattle.plcells.specs.Store.{Store, value}
-use Rattle.plsearch.specs.Types.{Element, Place, Handler, Catch, Gather, Case, Choice, Mark, Handle}
+use Rattle.plsearch.specs.Types.{GoesOn, Await, Element, Asking, Place, Handler, Catch, Gather, Case, Choice, Mark, Handle}
 use Rattle.plsearch.specs.Rows.{resolve, solved}
 use Rattle.plgenerator.specs.declared.turn.Turn.{Turn}
 use Rattle.plgenerator.specs.Answers.{left}
@@ -15,6 +17,7 @@ use Rattle.pllinks.specs.declared.link.Link.{Link}
 use Rattle.pllinks.specs.Lists.{Goals, all_elements}
 use Rattle.pllinks.specs.Links.{items_of}
 use Rattle.plstack.specs.declared.frame.Point.{Point}
+use Rattle.plstack.specs.declared.frame.Candidate.{Candidate}
 use Rattle.plstack.specs.declared.frame.Handler.{Handler as Handles}
 use Rattle.plstack.specs.declared.frame.Handler.TheVariants as handlers
 use Rattle.plstack.specs.declared.frame.Resume.{Resume}
@@ -44,6 +47,22 @@ called h name (v ∷ vs) = compound name (trees (map (value h) (v ∷ vs)))
 abbrev pub places_left : ℕ → Env → Tree → List Element → List Clause → List Place
 places_left d e t rest cs = filter_map (resolve d e.count t rest) cs
 
+-- a list before which a clause is to be erased, if there is one
+abbrev pub first_asked : Option ClauseName → List Element → List Element
+first_asked None es = es
+first_asked (Some x) es = Asking (Await (EraseOne x) GoesOn) ∷ es
+
+abbrev pub place_asked : Option ClauseName → Place → Place
+place_asked x p = record { goals = first_asked x p.goals; variables = p.variables }
+
+-- the goal t resolved against a candidate, at the level d, where n variables are in use
+abbrev pub tried : ℕ → ℕ → Tree → List Element → Candidate → Option Place
+tried d n t rest x = option_map (place_asked x.erased) (resolve d n t rest x.clause)
+
+-- what is left of a call at the level d: of a goal, before a list, by some candidates
+abbrev pub candidates_left : ℕ → Env → Tree → List Element → List Candidate → List Place
+candidates_left d e t rest xs = filter_map (tried d e.count t rest) xs
+
 -- what is left of a call of a predicate of several answers: over the values of its arguments, before a list, by a turn
 abbrev pub answers_left : Env → List Cell → List Element → Turn → List Place
 answers_left e vs rest turn = filter_map (solved rest e.count) (left e.heap vs turn)
@@ -68,7 +87,7 @@ kept_values saved p r = take (kept r) (drop p.marks.saved saved)
 -- the case at the level d, of the environment that it comes back to, by the items of its list and the values that it keeps
 abbrev pub case_of : Statics → Goals → ℕ → Env → List Item → List Cell → Resume → Case
 case_of statics code d e xs vs (resumes.Clauses c) = Choice (places_left d e (called e.heap (statics c.procedure).name vs) (all_elements code e xs) (drop c.next (statics c.procedure).clauses))
-case_of statics code d e xs vs (resumes.Copies c) = Choice (places_left d e (value e.heap c.goal) (all_elements code e xs) (drop c.next c.clauses.items))
+case_of statics code d e xs vs (resumes.Copies c) = Choice (candidates_left d e (value e.heap c.goal) (all_elements code e xs) (drop c.next c.clauses.items))
 case_of statics code d e xs vs (resumes.Answers a) = Choice (answers_left e vs (all_elements code e xs) a.turn)
 case_of statics code d e xs vs resumes.List = Choice (place_of_items code e xs ∷ [])
 case_of statics code d e xs vs (resumes.Handle x) = Handle (handled e.heap x) (place_of_items code e xs)

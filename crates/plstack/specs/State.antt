@@ -1,9 +1,10 @@
 -- A stack's state, and what it stands for.
-use Rattle.std.specs.Prelude.{◌≡◌, ℕ, ◌+◌, List, [], ◌∷◌, ◌++◌, reverse, Some}
+use Rattle.std.specs.Prelude.{◌≡◌, ℕ, ◌+◌, List, [], ◌∷◌, ◌++◌, reverse, Option, Some}
 use Rattle.plterm.specs.Tree.{Tree}
 use Rattle.plsubst.specs.Subst.{bind}
 use Rattle.plsubst.specs.Unify.{unify}
 use Rattle.platoms.specs.Names.{Extends as ExtendsNames}
+use Rattle.plevent.specs.declared.update.ClauseName.{ClauseName}
 use Rattle.plcells.specs.declared.cell.Cell.{Cell}
 use Rattle.plcells.specs.declared.equation.Equation.{Equation}
 use Rattle.plcells.specs.Store.{IsValue, value}
@@ -23,7 +24,7 @@ use Rattle.plstack.specs.declared.frame.Marks.{Marks}
 use Rattle.plstack.specs.declared.frame.Resume.TheVariants as resumes
 use Rattle.plstack.specs.declared.frame.Frame.{Frame}
 use Rattle.plstack.specs.declared.frame.Frame.TheVariants.{Open, Plain}
-use Rattle.plstack.specs.Places.{Statics, handled, plain, cases, depth_of}
+use Rattle.plstack.specs.Places.{Statics, place_asked, handled, plain, cases, depth_of}
 use Rattle.plstack.specs.Frames.{AreOlder, IsHandled, AreFrames}
 
 -- the program's code, with the names that it was compiled with; the environment; the links; the values that open cases keep; the frames,
@@ -206,6 +207,13 @@ pub record Retries (statics : Statics) (old new : State) : Type 0 where
   pub others : List Place
   pub older : List Case
   pub was : cases_of statics old ≡ Choice (place_of new ∷ others) ∷ older
+  pub cases : cases_of statics new ≡ Choice others ∷ older
+
+-- the next place of the innermost choice is the visited list, before which this clause is to be erased
+pub record RetriesBy (statics : Statics) (old new : State) (erased : Option ClauseName) : Type 0 where
+  pub others : List Place
+  pub older : List Case
+  pub was : cases_of statics old ≡ Choice (place_asked erased (place_of new) ∷ others) ∷ older
   pub cases : cases_of statics new ≡ Choice others ∷ older
 
 -- the innermost case is this handler, and all is as it was at its opening

@@ -1,5 +1,6 @@
-//! Calls of dynamic procedures: their clauses are copied and tried in their order (ISO/IEC 13211-1 7.7.7).
-ghost use Rattle.std.specs.Prelude.{◌≡◌, ℕ, ◌+◌, ◌<◌, ◌≤◌, [], ◌∷◌, length, reverse, None, true, false, IfOk, IfSome, IfNone, IsSome, OnErr, OnOk, vec_capacity, vec_len};
+//! Calls of dynamic procedures: their clauses are copied and tried in their order (ISO/IEC 13211-1 7.7.7), and those that are to be erased
+//! (8.9.3) are named.
+ghost use Rattle.std.specs.Prelude.{◌≡◌, ◌+◌, ◌<◌, ◌≤◌, [], ◌∷◌, length, reverse, None, true, false, IfOk, IfSome, IfNone, OnErr, vec_capacity, vec_len};
 ghost use Rattle.plsubst.specs.Subst.{shift};
 ghost use Rattle.plsubst.specs.Unify.{unify};
 ghost use Rattle.plcells.specs.Store.{value, IsValue};
@@ -8,15 +9,14 @@ ghost use Rattle.plsearch.specs.Types.{Choice};
 ghost use Rattle.plenv.specs.Env.{cut, renamed, IsEnv, IsMark};
 ghost use Rattle.plenv.specs.Changes.{Keeps};
 ghost use Rattle.plstack.specs.declared.frame.Resume.TheVariants.{Copies as CopiesOf};
-ghost use Rattle.plstack.specs.Places.{Statics, depth_of};
+ghost use Rattle.plstack.specs.Places.{Statics};
 ghost use Rattle.plstack.specs.Frames.{AreOlder};
-ghost use Rattle.plstack.specs.Fits.{FindsNone};
-ghost use Rattle.plstack.specs.State.{cases_of, Extends, HasCopies, IsList, IsState, Retries, State};
-ghost use Rattle.plstack.specs.Calls.{Calls, CallsNone, FirstFits, KeepsValues, OpensRest, StaysAt};
+ghost use Rattle.plstack.specs.State.{cases_of, Extends, HasCopies, IsList, IsState, RetriesBy, State};
+ghost use Rattle.plstack.specs.Calls.{CallsBy, CallsByNone, FirstFits, KeepsValues, OpensRest, StaysAt};
 ghost use Rattle.plstack.specs.Cutting.{Settles};
-ghost use Rattle.plstack.specs.Trials.{ComesBack, FindsCopy, IsMarked, IsOpened, ListsBody, PutsHead, Resolved};
+ghost use Rattle.plstack.specs.Trials.{ComesBack, FindsCopy, FindsNoCopy, IsMarked, IsOpened, ListsBody, PutsHead, Resolved};
 
-use crate::frame::{Copies, Frame, Marks, Point, Resume};
+use crate::frame::{Candidate, Copies, Frame, Marks, Point, Resume};
 use crate::list::link_before;
 use crate::open::{count_up, deeper, push_frame};
 use crate::stack::Stack;
@@ -24,6 +24,7 @@ use plcells::cell::Cell;
 use plclause::clause::Clause;
 use plenv::env::Environment;
 use plenv::slot::Mark;
+use plevent::ClauseName;
 use pllinks::item::Item;
 use pllinks::level::Level;
 use pllinks::link::{Continuation, Link};
@@ -37,7 +38,7 @@ use std::alloc::{AllocError, Global};
 #[derive(Clone, Copy)]
 pub struct Trial<'a> {
     pub goal: Cell,
-    pub clauses: &'a [Clause],
+    pub clauses: &'a [Candidate],
     pub mark: Mark,
     pub level: Level,
     pub rest: Continuation,
@@ -57,10 +58,11 @@ pub struct Fit {
     pub body: Cell,
 }
 
-/// A clause that fits: its number among the clauses, and the list to visit.
+/// A clause that fits: its number among the clauses, its name if it is to be erased, and the list to visit.
 #[derive(Clone, Copy)]
 pub struct Step {
     pub place: usize,
+    pub erased: Option<ClauseName>,
     pub list: Continuation,
 }
 
@@ -71,8 +73,25 @@ pub struct Opened {
     pub is_last: bool,
 }
 
+/// The first place of a call that is visited: the name of its clause, if this is to be erased before the visited list goes on.
+#[derive(Clone, Copy)]
+pub struct Entered {
+    pub erased: Option<ClauseName>,
+}
+
+/// A call whose first place is visited: the case that was opened for it, and what is to be erased.
+#[derive(Clone, Copy)]
+struct Visit {
+    opened: Opened,
+    erased: Option<ClauseName>,
+}
+
 /// Puts a clause's head, its variables new.
-fn put_head(env: &mut Environment, alloc: Global, clause: &Clause) -> Result<Head, AllocError>
+pub(crate) fn put_head(
+    env: &mut Environment,
+    alloc: Global,
+    clause: &Clause,
+) -> Result<Head, AllocError>
     ensures ok { IfOk result (λ h. PutsHead env.old env.new clause.now h.values.items h.value) }
     ensures keeps { Keeps env.old env.new }
 {
@@ -117,7 +136,7 @@ fn first_copy(
     requires mark { IsMark call.now.mark env.old }
     requires now { cut call.now.mark env.old ≡ env.old }
     ensures some { IfOk result (λ o. IfSome o (λ found. FindsCopy env.old env.new (value env.old.heap call.now.goal) call.now.clauses.now from found)) }
-    ensures none { IfOk result (λ o. IfNone o (FindsNone env.old (value env.old.heap call.now.goal) call.now.clauses.now from)) }
+    ensures none { IfOk result (λ o. IfNone o (FindsNoCopy env.old (value env.old.heap call.now.goal) call.now.clauses.now from)) }
     ensures same { IfOk result (λ o. IfNone o (env.new ≡ renamed env.old env.new.heap.names)) }
     ensures keeps { Keeps env.old env.new }
 {
@@ -125,7 +144,7 @@ fn first_copy(
     let mut place = from;
     'clauses: while place < call.clauses.len() {
         let _ = env.heap();
-        if let Some(body) = try_copy(env, alloc, call.goal, &call.clauses[place])? {
+        if let Some(body) = try_copy(env, alloc, call.goal, &call.clauses[place].clause)? {
             return Ok(Some(Fit { place, body }));
         }
         let _ = env.heap();
@@ -176,8 +195,8 @@ fn first_step(
     requires mark { IsMark call.now.mark env.old }
     requires now { cut call.now.mark env.old ≡ env.old }
     requires rest { call.now.rest.rest ≤ length links.old.items }
-    ensures some { IfOk result (λ o. IfSome o (λ step. (s : State) → IsState s → s.env ≡ env.old → s.links ≡ links.old.items → IsList s call.now.rest → FirstFits s (record s { env = env.new; links = links.new.items; goals = step.list }) call.now.level call.now.goal call.now.rest call.now.clauses.now from step.place)) }
-    ensures none { IfOk result (λ o. IfNone o (FindsNone env.old (value env.old.heap call.now.goal) call.now.clauses.now from)) }
+    ensures some { IfOk result (λ o. IfSome o (λ step. (s : State) → IsState s → s.env ≡ env.old → s.links ≡ links.old.items → IsList s call.now.rest → FirstFits s (record s { env = env.new; links = links.new.items; goals = step.list }) call.now.level call.now.goal call.now.rest call.now.clauses.now from step.place step.erased)) }
+    ensures none { IfOk result (λ o. IfNone o (FindsNoCopy env.old (value env.old.heap call.now.goal) call.now.clauses.now from)) }
     ensures back { IfOk result (λ o. IfNone o (ComesBack env.old env.new links.old.items links.new.items)) }
     ensures within { IfOk result (λ o. IfSome o (λ step. step.place < length call.now.clauses.now)) }
     ensures err { OnErr result (links.new.items ≡ links.old.items) }
@@ -187,10 +206,12 @@ fn first_step(
         return Ok(None);
     };
     let _ = env.heap();
-    let none = is_true(call.clauses[found.place].body());
+    let candidate = &call.clauses[found.place];
+    let none = is_true(candidate.clause.body());
     let list = list_body(links, call, none, found.body)?;
     Ok(Some(Step {
         place: found.place,
+        erased: candidate.erased,
         list,
     }))
 }
@@ -208,8 +229,8 @@ fn resolve_first(
     requires mark { IsMark call.now.mark env.old }
     requires now { cut call.now.mark env.old ≡ env.old }
     requires rest { call.now.rest.rest ≤ length links.old.items }
-    ensures some { IfOk result (λ o. IfSome o (λ step. (s : State) → IsState s → s.env ≡ env.old → s.links ≡ links.old.items → IsList s call.now.rest → FirstFits s (record s { env = env.new; links = links.new.items; goals = step.list }) call.now.level call.now.goal call.now.rest call.now.clauses.now from step.place)) }
-    ensures none { IfOk result (λ o. IfNone o (FindsNone env.old (value env.old.heap call.now.goal) call.now.clauses.now from)) }
+    ensures some { IfOk result (λ o. IfSome o (λ step. (s : State) → IsState s → s.env ≡ env.old → s.links ≡ links.old.items → IsList s call.now.rest → FirstFits s (record s { env = env.new; links = links.new.items; goals = step.list }) call.now.level call.now.goal call.now.rest call.now.clauses.now from step.place step.erased)) }
+    ensures none { IfOk result (λ o. IfNone o (FindsNoCopy env.old (value env.old.heap call.now.goal) call.now.clauses.now from)) }
     ensures back { IfOk result (λ o. IfNone o (ComesBack env.old env.new links.old.items links.new.items)) }
     ensures within { IfOk result (λ o. IfSome o (λ step. step.place < length call.now.clauses.now)) }
     ensures env { IsEnv env.new }
@@ -228,35 +249,43 @@ fn resolve_first(
     }
 }
 
-/// Opens the case of a call, or where no clause is left to try a choice with nothing left: whether none is left.
-fn push_copies(frames: &mut Vec<Frame>, point: Point, copies: Copies) -> bool
+/// Opens the case of a call, or where no clause is left to try a choice with nothing left.
+fn push_copies(frames: &mut Vec<Frame>, point: Point, copies: Copies) -> Opened
     requires room { vec_len frames.old < vec_capacity frames.old }
     ensures opens { (statics : Statics) → OpensRest statics (reverse frames.old.items) (reverse frames.new.items) point (CopiesOf copies) }
     ensures older { AreOlder point.marks (reverse frames.old.items) → AreOlder point.marks (reverse frames.new.items) }
+    ensures marks { result.marks ≡ point.marks }
 {
+    let marks = point.marks;
     if copies.next < copies.clauses.len() {
         push_frame(frames, Frame::Open(point, Resume::Copies(copies)));
-        false
+        Opened {
+            marks,
+            is_last: false,
+        }
     } else {
         count_up(frames, 1);
-        true
+        Opened {
+            marks,
+            is_last: true,
+        }
     }
 }
 
 impl Stack {
-    /// Calls a dynamic procedure by the clauses that are alive now, before a list, and visits its first place: whether it has one. After an
+    /// Resolves a goal against candidates, before a list, and visits its first place, if it has one: what is to be erased before that. After an
     /// `Err` the cases and the visited list are as they were.
     pub fn call_copies(
         &mut self,
         alloc: Global,
         goal: Cell,
-        clauses: Vec<Clause>,
+        candidates: Vec<Candidate>,
         rest: Continuation,
-    ) -> Result<bool, AllocError>
+    ) -> Result<Option<Entered>, AllocError>
         requires goal { IsValue self.old.env.heap goal }
         requires rest { IsList self.old rest }
-        ensures yes { IfOk result (λ has. has ≡ true → (statics : Statics) → Calls statics self.old self.new (value self.old.env.heap goal) rest clauses.items) }
-        ensures no { IfOk result (λ has. has ≡ false → (statics : Statics) → CallsNone statics self.old self.new (value self.old.env.heap goal) rest clauses.items) }
+        ensures some { IfOk result (λ o. IfSome o (λ entered. (statics : Statics) → CallsBy statics self.old self.new (value self.old.env.heap goal) rest candidates.items entered.erased)) }
+        ensures none { IfOk result (λ o. IfNone o ((statics : Statics) → CallsByNone statics self.old self.new (value self.old.env.heap goal) rest candidates.items)) }
         ensures err { OnErr result (StaysAt self.old self.new) }
         ensures values { OnErr result (KeepsValues self.old self.new) }
         ensures code { self.new.code ≡ self.old.code }
@@ -264,16 +293,17 @@ impl Stack {
         let marks = self.marks();
         let copies = Copies {
             goal,
-            clauses,
+            clauses: candidates,
             next: 0,
         };
         let point = Point { marks, list: rest };
         match self.open_copies(alloc, point, copies)? {
-            Some(opened) => {
-                self.settle_opened(opened);
-                Ok(true)
+            Some(visit) => {
+                self.settle_opened(visit.opened);
+                let erased = visit.erased;
+                Ok(Some(Entered { erased }))
             }
-            None => Ok(false),
+            None => Ok(None),
         }
     }
 
@@ -297,14 +327,14 @@ impl Stack {
         alloc: Global,
         point: Point,
         mut copies: Copies,
-    ) -> Result<Option<Opened>, AllocError>
+    ) -> Result<Option<Visit>, AllocError>
         requires marks { IsMarked self.old point.marks }
         requires goal { IsValue self.old.env.heap copies.goal }
         requires list { IsList self.old point.list }
         requires first { copies.next ≡ 0 }
-        ensures some { IfOk result (λ o. IsSome o → (statics : Statics) → Calls statics self.old self.new (value self.old.env.heap copies.goal) point.list copies.clauses.items) }
-        ensures none { IfOk result (λ o. IfNone o ((statics : Statics) → CallsNone statics self.old self.new (value self.old.env.heap copies.goal) point.list copies.clauses.items)) }
-        ensures opened { IfOk result (λ o. IfSome o (λ opened. IsOpened self.new opened)) }
+        ensures some { IfOk result (λ o. IfSome o (λ visit. (statics : Statics) → CallsBy statics self.old self.new (value self.old.env.heap copies.goal) point.list copies.clauses.items visit.erased)) }
+        ensures none { IfOk result (λ o. IfNone o ((statics : Statics) → CallsByNone statics self.old self.new (value self.old.env.heap copies.goal) point.list copies.clauses.items)) }
+        ensures opened { IfOk result (λ o. IfSome o (λ visit. IsOpened self.new visit.opened)) }
         ensures err { OnErr result (StaysAt self.old self.new) }
         ensures values { OnErr result (KeepsValues self.old self.new) }
         ensures code { self.new.code ≡ self.old.code }
@@ -324,36 +354,37 @@ impl Stack {
         };
         copies.next = step.place + 1;
         self.goals = step.list;
-        let marks = point.marks;
-        let is_last = push_copies(&mut self.frames, point, copies);
+        let erased = step.erased;
+        let opened = push_copies(&mut self.frames, point, copies);
         self.depth = depth;
-        Ok(Some(Opened { marks, is_last }))
+        Ok(Some(Visit { opened, erased }))
     }
 
-    /// Goes back to where the innermost case was opened, a call of a dynamic procedure, and visits its next place: whether it has one. Where it
-    /// has none the case is closed; after an `Err` it stays.
-    pub fn retry_copies(&mut self, alloc: Global) -> Result<bool, AllocError>
+    /// Goes back to where the innermost case was opened, a call of a dynamic procedure, and visits its next place, if it has one: what is to be
+    /// erased before that. Where it has none the case is closed; after an `Err` it stays.
+    pub fn retry_copies(&mut self, alloc: Global) -> Result<Option<Entered>, AllocError>
         requires { HasCopies self.old }
-        ensures yes { IfOk result (λ has. has ≡ true → (statics : Statics) → Retries statics self.old self.new) }
-        ensures no { IfOk result (λ has. has ≡ false → (statics : Statics) → cases_of statics self.old ≡ Choice [] ∷ cases_of statics self.new) }
+        ensures some { IfOk result (λ o. IfSome o (λ entered. (statics : Statics) → RetriesBy statics self.old self.new entered.erased)) }
+        ensures none { IfOk result (λ o. IfNone o ((statics : Statics) → cases_of statics self.old ≡ Choice [] ∷ cases_of statics self.new)) }
         ensures err { OnErr result ((statics : Statics) → cases_of statics self.new ≡ cases_of statics self.old) }
         ensures code { self.new.code ≡ self.old.code }
     {
         match self.reopen_copies(alloc)? {
-            Some(opened) => {
-                self.settle_opened(opened);
-                Ok(true)
+            Some(visit) => {
+                self.settle_opened(visit.opened);
+                let erased = visit.erased;
+                Ok(Some(Entered { erased }))
             }
-            None => Ok(false),
+            None => Ok(None),
         }
     }
 
     /// The same, where less could be old if no clause is left.
-    fn reopen_copies(&mut self, alloc: Global) -> Result<Option<Opened>, AllocError>
+    fn reopen_copies(&mut self, alloc: Global) -> Result<Option<Visit>, AllocError>
         requires { HasCopies self.old }
-        ensures some { IfOk result (λ o. IsSome o → (statics : Statics) → Retries statics self.old self.new) }
+        ensures some { IfOk result (λ o. IfSome o (λ visit. (statics : Statics) → RetriesBy statics self.old self.new visit.erased)) }
         ensures none { IfOk result (λ o. IfNone o ((statics : Statics) → cases_of statics self.old ≡ Choice [] ∷ cases_of statics self.new)) }
-        ensures opened { IfOk result (λ o. IfSome o (λ opened. IsOpened self.new opened)) }
+        ensures opened { IfOk result (λ o. IfSome o (λ visit. IsOpened self.new visit.opened)) }
         ensures err { OnErr result ((statics : Statics) → cases_of statics self.new ≡ cases_of statics self.old) }
         ensures code { self.new.code ≡ self.old.code }
     {
@@ -378,9 +409,9 @@ impl Stack {
             Ok(Some(step)) => {
                 copies.next = step.place + 1;
                 self.goals = step.list;
-                let marks = point.marks;
-                let is_last = push_copies(&mut self.frames, point, copies);
-                Ok(Some(Opened { marks, is_last }))
+                let erased = step.erased;
+                let opened = push_copies(&mut self.frames, point, copies);
+                Ok(Some(Visit { opened, erased }))
             }
             Ok(None) => {
                 self.depth = self.depth.down(1);

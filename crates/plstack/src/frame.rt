@@ -3,6 +3,7 @@
 use plcells::cell::Cell;
 use plclause::clause::Clause;
 use plenv::slot::Mark;
+use plevent::ClauseName;
 use plgenerator::turn::Turn;
 use pllinks::level::Level;
 use pllinks::link::Continuation;
@@ -31,12 +32,19 @@ pub struct Clauses {
     pub next: usize,
 }
 
+/// A clause that a goal is tried with: the clause, and its name if it is to be erased before the list goes on.
+#[derive(Drop)]
+pub struct Candidate {
+    pub clause: Clause,
+    pub erased: Option<ClauseName>,
+}
+
 /// A call of a dynamic procedure: its goal, the clauses that were alive when it was called, and the number of the first one that was not
 /// tried.
 #[derive(Drop)]
 pub struct Copies {
     pub goal: Cell,
-    pub clauses: Vec<Clause>,
+    pub clauses: Vec<Candidate>,
     pub next: usize,
 }
 

@@ -3,10 +3,10 @@ use Rattle.std.proofs.Common.{◌≡◌, ◌+◌, ◌-◌, refl, sym, ◌∙◌,
 use Rattle.std.specs.Prelude.{◌&&◌}
 use Rattle.std.proofs.Math.Seq.{take-suc, take-length}
 use Rattle.std.proofs.lemmas.List.{append-nil, reverse-append, length-map}
-use Rattle.plclause.specs.Clause.{Clause}
 use Rattle.plevent.specs.declared.update.ClauseName.{ClauseName}
 use Rattle.plterm.specs.declared.indicator.Indicator.{Indicator}
-use Rattle.plevent.specs.Alive.{Living, clauses_of, names_of, add_if, named}
+use Rattle.plevent.specs.declared.update.Living.{Living}
+use Rattle.plevent.specs.Alive.{names_of, add_if, named}
 use Rattle.plterm.specs.Tree.{atom}
 use Rattle.plstore.specs.declared.record.Record.{Record}
 use Rattle.plevent.specs.declared.key.Key.{Key}
@@ -134,149 +134,31 @@ up-some p g rs (suc m) k i d s e = by-mark (get_or (backs p rs) k false) refl (�
           rest = up-step p g rs k d false (omega arith) h ∙ cons-out (seen g (get_or rs k d)) (own (get_or rs k d)) (up p g rs (suc k)) ∙ u.rest;
         }
 
--- a loop downward: what was gathered, and what is to come
-pub record Down (p : Indicator) (g : ℕ) (rs : List Record) (at : Option ℕ) (was now : List Clause) : Type 0 where
-  pub below : ℕ
-  pub within : below ≤ length rs
-  pub at_is : at ≡ last_below (fronts p rs) below
-  pub found : now ++ clauses_of (down p g rs below) ≡ was ++ clauses_of (down p g rs (length rs))
-
-pub front-last : (p : Indicator) (rs : List Record) (n i : ℕ) → last_below (fronts p rs) n ≡ Some i → LastIs (fronts p rs) n i
-front-last p rs n i e = last-some (fronts p rs) n i e
-
-pub down-within : (p : Indicator) (g : ℕ) (rs : List Record) (at : Option ℕ) (was now : List Clause) (i : ℕ) → Down p g rs at was now → at ≡ Some i → i < length rs
-down-within p g rs at was now i w e = let l = (front-last p rs w.below i (sym w.at_is ∙ e)).within in omega (arith, l, w.within)
-
--- the next one downward
-pub down-next : (p : Indicator) (g : ℕ) (rs : List Record) (next : List (Option ℕ)) (at : Option ℕ) (was now : List Clause) (i : ℕ) → IsDown p rs next → Down p g rs at was now → at ≡ Some i →
-    get_or next i None ≡ last_below (fronts p rs) i
-down-next p g rs next at was now i links w e = links.older i (front-last p rs w.below i (sym w.at_is ∙ e)).here
-
-pub down-smaller : (p : Indicator) (g : ℕ) (rs : List Record) (next : List (Option ℕ)) (at to : Option ℕ) (was now : List Clause) (i : ℕ) → IsDown p rs next → Down p g rs at was now → at ≡ Some i → to ≡ get_or next i None →
-    below to < below at
-down-smaller p g rs next at to was now i links w e t =
-    let n : to ≡ last_below (fronts p rs) i = t ∙ down-next p g rs next at was now i links w e in
-    subst (λ a. below to < below a) (sym e) (by-case to n)
-  where
-    by-case : (to : Option ℕ) → to ≡ last_below (fronts p rs) i → below to < suc i
-    by-case None n = omega arith
-    by-case (Some j) n = let l = (front-last p rs i j (sym n)).within in omega (arith, l)
-
-clauses-cons : (v : Bool) (x : Living) (xs : List Living) → clauses_of (cons_if v x xs) ≡ cond v (x.clause ∷ clauses_of xs) (clauses_of xs)
-clauses-cons true x xs = refl
-clauses-cons false x xs = refl
-
--- one more record passed: its clause was added where it is seen
-pub down-more : (p : Indicator) (g : ℕ) (rs : List Record) (next : List (Option ℕ)) (at to : Option ℕ) (was now more : List Clause) (i : ℕ) (r : Record) (v : Bool) → IsDown p rs next → Down p g rs at was now → at ≡ Some i →
-    r ≡ get_or rs i r → seen g r ≡ v → more ≡ cond v (now ++ r.clause ∷ []) now → to ≡ get_or next i None → Down p g rs to was more
-down-more p g rs next at to was now more i r v links w e er ev em et =
-    let l = front-last p rs w.below i (sym w.at_is ∙ e) in
-    record {
-      below = i;
-      within = omega (arith, l.within, w.within);
-      at_is = et ∙ down-next p g rs next at was now i links w e;
-      found = ap (λ m. m ++ clauses_of (down p g rs i)) em ∙ by-case v
-          ∙ ap (λ m. now ++ m) (sym (ap clauses_of (down-some p g rs w.below i r w.within (sym w.at_is ∙ e) ∙ ap₂ (λ q u. cons_if u (own q) (down p g rs i)) (sym er) (ap (seen g) (sym er) ∙ ev))
-          ∙ clauses-cons v (own r) (down p g rs i)))
-          ∙ w.found;
-    }
-  where
-    by-case : (v : Bool) → cond v (now ++ r.clause ∷ []) now ++ clauses_of (down p g rs i) ≡ now ++ cond v (r.clause ∷ clauses_of (down p g rs i)) (clauses_of (down p g rs i))
-    by-case true = append_assoc now (r.clause ∷ []) (clauses_of (down p g rs i))
-    by-case false = refl
-
-pub down-start : (p : Indicator) (g : ℕ) (rs : List Record) (at : Option ℕ) (was : List Clause) → at ≡ last_below (fronts p rs) (length rs) → Down p g rs at was was
-down-start p g rs at was e = record { below = length rs; within = omega arith; at_is = e; found = refl }
-
-pub down-end : (p : Indicator) (g : ℕ) (rs : List Record) (at : Option ℕ) (was now : List Clause) → Down p g rs at was now → at ≡ None → now ≡ was ++ clauses_of (reverse (picked (in_front p) g rs))
-down-end p g rs at was now w e =
-    sym (append-nil now) ∙ ap (λ l. now ++ clauses_of l) (sym (down-none p g rs w.below w.within (sym w.at_is ∙ e))) ∙ w.found
-    ∙ ap (λ l. was ++ clauses_of (reverse (picked (in_front p) g l))) (take-length rs)
-
--- a loop upward
-pub record Up (p : Indicator) (g : ℕ) (rs : List Record) (at : Option ℕ) (was now : List Clause) : Type 0 where
-  pub from : ℕ
-  pub left : ℕ
-  pub whole : from + left ≡ length rs
-  pub at_is : at ≡ first_from from (drop from (backs p rs))
-  pub found : now ++ clauses_of (up p g rs from) ≡ was ++ clauses_of (picked (behind_all p) g rs)
-
 -- how many records are left, if any is to come
 abbrev pub left_from : ℕ → Option ℕ → ℕ
 left_from n None = 0
 left_from n (Some i) = n - i
 
-pub up-is : (p : Indicator) (g : ℕ) (rs : List Record) (at : Option ℕ) (was now : List Clause) (i : ℕ) (d : Record) → (w : Up p g rs at was now) → at ≡ Some i → UpIs p g rs w.from i d
-up-is p g rs at was now i d w e = up-some p g rs w.left w.from i d w.whole (sym w.at_is ∙ e)
-
-pub up-smaller : (p : Indicator) (g : ℕ) (rs : List Record) (next : List (Option ℕ)) (at to : Option ℕ) (was now : List Clause) (i : ℕ) (d : Record) → IsUp p rs next → Up p g rs at was now → at ≡ Some i → to ≡ get_or next i None →
-    left_from (length rs) to < left_from (length rs) at
-up-smaller p g rs next at to was now i d links w e t =
-    let u = up-is p g rs at was now i d w e in
-    let n : to ≡ first_from (suc i) (drop (suc i) (backs p rs)) = t ∙ links.newer i u.mark in
-    subst (λ a. left_from (length rs) to < left_from (length rs) a) (sym e) (by-case to n u.within)
-  where
-    by-case : (to : Option ℕ) → to ≡ first_from (suc i) (drop (suc i) (backs p rs)) → i < length rs → left_from (length rs) to < length rs - i
-    by-case None n l = omega arith
-    by-case (Some j) n l =
-        let whole : suc i + (length rs - suc i) ≡ length rs = omega arith in
-        let u = up-some p g rs (length rs - suc i) (suc i) j d whole (sym n) in omega (arith, u.above, u.within)
-
-pub up-more : (p : Indicator) (g : ℕ) (rs : List Record) (next : List (Option ℕ)) (at to : Option ℕ) (was now more : List Clause) (i : ℕ) (r : Record) (v : Bool) → IsUp p rs next → Up p g rs at was now → at ≡ Some i →
-    r ≡ get_or rs i r → seen g r ≡ v → more ≡ cond v (now ++ r.clause ∷ []) now → to ≡ get_or next i None → Up p g rs to was more
-up-more p g rs next at to was now more i r v links w e er ev em et =
-    let u = up-is p g rs at was now i r w e in
-    record {
-      from = suc i;
-      left = length rs - suc i;
-      whole = omega (arith, u.within);
-      at_is = et ∙ links.newer i u.mark;
-      found = ap (λ m. m ++ clauses_of (up p g rs (suc i))) em ∙ by-case v
-          ∙ ap (λ m. now ++ m) (sym (ap clauses_of (u.rest ∙ ap₂ (λ q u. cons_if u (own q) (up p g rs (suc i))) (sym er) (ap (seen g) (sym er) ∙ ev))
-          ∙ clauses-cons v (own r) (up p g rs (suc i))))
-          ∙ w.found;
-    }
-  where
-    by-case : (v : Bool) → cond v (now ++ r.clause ∷ []) now ++ clauses_of (up p g rs (suc i)) ≡ now ++ cond v (r.clause ∷ clauses_of (up p g rs (suc i))) (clauses_of (up p g rs (suc i)))
-    by-case true = append_assoc now (r.clause ∷ []) (clauses_of (up p g rs (suc i)))
-    by-case false = refl
-
-pub up-start : (p : Indicator) (g : ℕ) (rs : List Record) (at : Option ℕ) (was : List Clause) → at ≡ first_from 0 (backs p rs) → Up p g rs at was was
-up-start p g rs at was e = record { from = 0; left = length rs; whole = omega arith; at_is = e; found = refl }
-
-pub up-end : (p : Indicator) (g : ℕ) (rs : List Record) (at : Option ℕ) (was now : List Clause) → Up p g rs at was now → at ≡ None → now ≡ was ++ clauses_of (picked (behind_all p) g rs)
-up-end p g rs at was now w e =
-    sym (append-nil now) ∙ ap (λ l. now ++ clauses_of l) (sym (up-none p g rs w.left w.from w.whole (sym w.at_is ∙ e))) ∙ w.found
-
 pub not-some : (at : Option ℕ) → ((i : ℕ) → at ≡ Some i → ⊥) → at ≡ None
 not-some None h = refl
 not-some (Some i) h = absurd (h i refl)
 
-pub down-over : (p : Indicator) (g : ℕ) (rs : List Record) (at : Option ℕ) (was now : List Clause) → Down p g rs at was now → ((i : ℕ) → at ≡ Some i → ⊥) → now ≡ was ++ clauses_of (reverse (picked (in_front p) g rs))
-down-over p g rs at was now w h = down-end p g rs at was now w (not-some at h)
-
-pub up-over : (p : Indicator) (g : ℕ) (rs : List Record) (at : Option ℕ) (was now : List Clause) → Up p g rs at was now → ((i : ℕ) → at ≡ Some i → ⊥) → now ≡ was ++ clauses_of (picked (behind_all p) g rs)
-up-over p g rs at was now w h = up-end p g rs at was now w (not-some at h)
-
 pub some-record : Record
 some-record = record { name = named 0 0; clause = record { head = atom []; body = atom []; variables = 0 }; front = true; erased = None }
 
-pub up-within : (p : Indicator) (g : ℕ) (rs : List Record) (at : Option ℕ) (was now : List Clause) (i : ℕ) → Up p g rs at was now → at ≡ Some i → i < length rs
-up-within p g rs at was now i w e = (up-is p g rs at was now i some-record w e).within
-
 -- a mark is that of a record
-mark-within : (t : Record → Bool) (rs : List Record) (i : ℕ) → get_or (map t rs) i false ≡ true → i < length rs
+pub mark-within : (t : Record → Bool) (rs : List Record) (i : ℕ) → get_or (map t rs) i false ≡ true → i < length rs
 mark-within t rs i h = let l = get-in (map t rs) i h in omega (arith, l, length-map rs t)
 
 pub marked-last : (bs : List Bool) (n : ℕ) (o : Option ℕ) → o ≡ last_below bs n → Marked bs o
 marked-last bs n None e = tt
 marked-last bs n (Some i) e = (last-some bs n i (sym e)).here
 
-marked-some : (bs : List Bool) (o : Option ℕ) (i : ℕ) → Marked bs o → o ≡ Some i → get_or bs i false ≡ true
+pub marked-some : (bs : List Bool) (o : Option ℕ) (i : ℕ) → Marked bs o → o ≡ Some i → get_or bs i false ≡ true
 marked-some bs o i m e = subst (Marked bs) e m
 
 -- what comes downward from a mark on
-down-mark : (p : Indicator) (g : ℕ) (rs : List Record) (i : ℕ) (d : Record) → get_or (fronts p rs) i false ≡ true →
+pub down-mark : (p : Indicator) (g : ℕ) (rs : List Record) (i : ℕ) (d : Record) → get_or (fronts p rs) i false ≡ true →
     down p g rs (suc i) ≡ cons_if (seen g (get_or rs i d)) (own (get_or rs i d)) (down p g rs i)
 down-mark p g rs i d h = down-step p g rs i d true (mark-within (in_front p) rs i h) h ∙ cons-in (seen g (get_or rs i d)) (own (get_or rs i d)) (down p g rs i)
 
@@ -286,7 +168,7 @@ down-below p g rs n (Some i) l e =
     let r = get_or rs i some-record in
     down-mark p g rs i some-record (last-some (fronts p rs) n i (sym e)).here ∙ sym (down-some p g rs n i some-record l (sym e))
 
-up-mark : (p : Indicator) (g : ℕ) (rs : List Record) (i : ℕ) (d : Record) → get_or (backs p rs) i false ≡ true →
+pub up-mark : (p : Indicator) (g : ℕ) (rs : List Record) (i : ℕ) (d : Record) → get_or (backs p rs) i false ≡ true →
     up p g rs i ≡ cons_if (seen g (get_or rs i d)) (own (get_or rs i d)) (up p g rs (suc i))
 up-mark p g rs i d h = up-step p g rs i d true (mark-within (behind_all p) rs i h) h ∙ cons-in (seen g (get_or rs i d)) (own (get_or rs i d)) (up p g rs (suc i))
 
@@ -330,11 +212,11 @@ seek-down-within p g k rs at all i w e = mark-within (in_front p) rs i (seek-dow
 pub end-down-within : (p : Indicator) (g : ℕ) (rs : List Record) (next : List (Option ℕ)) (i n : ℕ) → IsDown p rs next → EndDown p g rs i n → n < length next
 end-down-within p g rs next i n links end = let l = mark-within (in_front p) rs n end.mark in omega (arith, l, links.count)
 
-end-down-to : (p : Indicator) (g : ℕ) (rs : List Record) (next : List (Option ℕ)) (i n : ℕ) (to : Option ℕ) → IsDown p rs next → EndDown p g rs i n → to ≡ get_or next n None → to ≡ last_below (fronts p rs) n
+pub end-down-to : (p : Indicator) (g : ℕ) (rs : List Record) (next : List (Option ℕ)) (i n : ℕ) (to : Option ℕ) → IsDown p rs next → EndDown p g rs i n → to ≡ get_or next n None → to ≡ last_below (fronts p rs) n
 end-down-to p g rs next i n to links end t = t ∙ links.older n end.mark
 
-pub seek-down-smaller : (p : Indicator) (g : ℕ) (rs : List Record) (next : List (Option ℕ)) (at to : Option ℕ) (i n : ℕ) → IsDown p rs next → EndDown p g rs i n → at ≡ Some i → to ≡ get_or next n None → below to < below at
-seek-down-smaller p g rs next at to i n links end e t = subst (λ a. below to < below a) (sym e) (by-case to (end-down-to p g rs next i n to links end t))
+pub end-down-smaller : (p : Indicator) (g : ℕ) (rs : List Record) (next : List (Option ℕ)) (at to : Option ℕ) (i n : ℕ) → IsDown p rs next → EndDown p g rs i n → at ≡ Some i → to ≡ get_or next n None → below to < below at
+end-down-smaller p g rs next at to i n links end e t = subst (λ a. below to < below a) (sym e) (by-case to (end-down-to p g rs next i n to links end t))
   where
     by-case : (to : Option ℕ) → to ≡ last_below (fronts p rs) n → below to < suc i
     by-case None h = omega arith
@@ -380,14 +262,14 @@ end-up-in p g rs i n end = mark-within (behind_all p) rs n end.mark
 pub end-up-within : (p : Indicator) (g : ℕ) (rs : List Record) (next : List (Option ℕ)) (i n : ℕ) → IsUp p rs next → EndUp p g rs i n → n < length next
 end-up-within p g rs next i n links end = let l = end-up-in p g rs i n end in omega (arith, l, links.count)
 
-end-up-to : (p : Indicator) (g : ℕ) (rs : List Record) (next : List (Option ℕ)) (i n : ℕ) (to : Option ℕ) → IsUp p rs next → EndUp p g rs i n → to ≡ get_or next n None → to ≡ first_from (suc n) (drop (suc n) (backs p rs))
+pub end-up-to : (p : Indicator) (g : ℕ) (rs : List Record) (next : List (Option ℕ)) (i n : ℕ) (to : Option ℕ) → IsUp p rs next → EndUp p g rs i n → to ≡ get_or next n None → to ≡ first_from (suc n) (drop (suc n) (backs p rs))
 end-up-to p g rs next i n to links end t = t ∙ links.newer n end.mark
 
-end-up-left : (p : Indicator) (g : ℕ) (rs : List Record) (i n : ℕ) → EndUp p g rs i n → suc n + (length rs - suc n) ≡ length rs
+pub end-up-left : (p : Indicator) (g : ℕ) (rs : List Record) (i n : ℕ) → EndUp p g rs i n → suc n + (length rs - suc n) ≡ length rs
 end-up-left p g rs i n end = let l = end-up-in p g rs i n end in omega (arith, l)
 
-pub seek-up-smaller : (p : Indicator) (g : ℕ) (rs : List Record) (next : List (Option ℕ)) (at to : Option ℕ) (i n : ℕ) → IsUp p rs next → EndUp p g rs i n → at ≡ Some i → to ≡ get_or next n None → left_from (length rs) to < left_from (length rs) at
-seek-up-smaller p g rs next at to i n links end e t = subst (λ a. left_from (length rs) to < left_from (length rs) a) (sym e) (by-case to (end-up-to p g rs next i n to links end t))
+pub end-up-smaller : (p : Indicator) (g : ℕ) (rs : List Record) (next : List (Option ℕ)) (at to : Option ℕ) (i n : ℕ) → IsUp p rs next → EndUp p g rs i n → at ≡ Some i → to ≡ get_or next n None → left_from (length rs) to < left_from (length rs) at
+end-up-smaller p g rs next at to i n links end e t = subst (λ a. left_from (length rs) to < left_from (length rs) a) (sym e) (by-case to (end-up-to p g rs next i n to links end t))
   where
     by-case : (to : Option ℕ) → to ≡ first_from (suc n) (drop (suc n) (backs p rs)) → left_from (length rs) to < length rs - i
     by-case None h = let l = end-up-in p g rs i n end in omega (arith, l, end.order)

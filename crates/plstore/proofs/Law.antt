@@ -9,7 +9,8 @@ use Rattle.plevent.specs.declared.update.Update.TheVariants.{First, Last, Erase,
 use Rattle.plclause.specs.Clause.{Clause}
 use Rattle.plevent.specs.declared.update.ClauseName.{ClauseName}
 use Rattle.plterm.specs.declared.indicator.Indicator.{Indicator}
-use Rattle.plevent.specs.Alive.{Stamped, same_name, is_of, named, add_if, Living, lives_as, changed, change, without, living, before, lives, is_alive}
+use Rattle.plevent.specs.declared.update.Living.{Living}
+use Rattle.plevent.specs.Alive.{Stamped, same_name, is_of, named, add_if, lives_as, changed, change, without, living, before, lives, is_alive}
 use Rattle.std.specs.List.{list_any}
 use Rattle.plstore.specs.declared.record.Record.{Record}
 use Rattle.plstore.specs.Rising.{Rises, AllUnder}

@@ -10,7 +10,8 @@ use Rattle.plevent.specs.declared.update.ClauseName.{ClauseName}
 use Rattle.plevent.specs.declared.key.Key.{Key}
 use Rattle.plevent.specs.declared.key.Key.TheVariants.{Any}
 use Rattle.plevent.specs.Keys.{first_key}
-use Rattle.plevent.specs.Alive.{Living, add_if, or_else, same_name, names_of, is_of}
+use Rattle.plevent.specs.declared.update.Living.{Living}
+use Rattle.plevent.specs.Alive.{add_if, or_else, same_name, names_of, is_of}
 use Rattle.plstore.specs.declared.record.Record.{Record}
 use Rattle.plstore.specs.Kept.{seen, picked, in_front, behind_all, walk, head, behind, is_named, next_of}
 use Rattle.plstore.specs.declared.record.Declared.{Declared}

@@ -2,7 +2,8 @@
 use Rattle.std.specs.Prelude.{ℕ, Bool, ◌&&◌, List, [], ◌∷◌, filter, Option}
 use Rattle.plevent.specs.declared.update.ClauseName.{ClauseName}
 use Rattle.plevent.specs.declared.key.Key.{Key}
-use Rattle.plevent.specs.Alive.{Living, same_name, names_of, lives_as, add_if}
+use Rattle.plevent.specs.declared.update.Living.{Living}
+use Rattle.plevent.specs.Alive.{same_name, names_of, lives_as, add_if}
 use Rattle.plevent.specs.Keys.{first_key, may_fit}
 use Rattle.plstore.specs.declared.record.Record.{Record}
 use Rattle.plstore.specs.declared.record.Cursor.{Cursor}

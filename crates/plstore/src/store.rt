@@ -1,7 +1,7 @@
 //! The store: every clause ever made, so that the database can be looked at as it was at each time.
 ghost use Rattle.std.specs.Prelude.{◌≡◌, IfOk, OnOk, OnErr, fold, length};
 ghost use Rattle.std.specs.Option.{option_copied};
-ghost use Rattle.plevent.specs.Alive.{stamped, clauses_of, names_of};
+ghost use Rattle.plevent.specs.Alive.{stamped, names_of};
 ghost use Rattle.plstore.specs.Kept.{keep, nothing, here, clause_of, is_there, next_of, walk};
 ghost use Rattle.plstore.specs.Like.{next_like_of};
 ghost use Rattle.plstore.specs.Rising.{AllBelowPlace};
@@ -14,7 +14,7 @@ use crate::steps::{first_sought, sought_after};
 use crate::tables::{Tables, find, make_all};
 use crate::walk::{gather_back, gather_front};
 use plclause::clause::Clause;
-use plevent::{Batch, ClauseName, Key};
+use plevent::{Batch, ClauseName, Key, Living};
 use plterm::indicator::Indicator;
 use std::alloc::{AllocError, Global};
 use std::collections::HashMap;
@@ -125,22 +125,30 @@ impl Store {
         ends_of(&self.tables.index, pred).is_since(g)
     }
 
-    /// The clauses of a procedure that are alive after the batches below `g`, in their order, in time linear in all
-    /// clauses of it that were ever made. They share their parts with the store.
-    pub fn alive_clauses(
-        &self,
-        alloc: Global,
-        g: u64,
-        pred: &Indicator,
-    ) -> Result<Vec<Clause>, AllocError>
-        ensures { IfOk result (λ found. found.items ≡ clauses_of (walk g pred.now self.now.records)) }
+    /// The clauses of a procedure that are alive after the batches below `g`, each with its name, in their order. They share
+    /// their parts with the store. It takes time linear in those that are alive and in the runs of erased ones between them.
+    pub fn living(&self, alloc: Global, g: u64, pred: &Indicator) -> Result<Vec<Living>, AllocError>
+        ensures { IfOk result (λ found. found.items ≡ walk g pred.now self.now.records) }
     {
         let records = self.tables.records.as_slice();
         let next = self.tables.next.as_slice();
+        let places = self.tables.places.as_slice();
         let ends = ends_of(&self.tables.index, pred);
+        let sought = Sought {
+            g,
+            pred,
+            key: &Key::Any,
+        };
         let mut found = Vec::new(alloc);
-        gather_front(records, next, pred, ends.newest_front, g, &mut found)?;
-        gather_back(records, next, pred, ends.oldest_back, g, &mut found)?;
+        gather_front(
+            records,
+            next,
+            places,
+            &sought,
+            ends.newest_front,
+            &mut found,
+        )?;
+        gather_back(records, next, places, &sought, ends.oldest_back, &mut found)?;
         Ok(found)
     }
 }

@@ -1,6 +1,6 @@
 //! The walk over the clauses of a procedure, by its links.
 ghost use Rattle.std.specs.Prelude.{◌≡◌, ◌++◌, ◌<◌, ◌∷◌, [], None, cond, length, reverse, slice_index_or, OnOk};
-ghost use Rattle.plevent.specs.Alive.{clauses_of};
+ghost use Rattle.plevent.specs.Alive.{lives_as};
 ghost use Rattle.plstore.specs.Kept.{picked, seen, in_front, behind_all};
 ghost use Rattle.plstore.specs.Like.{first_like};
 ghost use Rattle.plstore.specs.Runs.{HasRuns};
@@ -9,53 +9,51 @@ ghost use Rattle.plstore.specs.Links.{below, down, onward, up, fronts, backs, la
 use crate::record::Record;
 use crate::runs::{Place, run_end};
 use crate::sought::Sought;
-use plclause::clause::Clause;
-use plevent::ClauseName;
-use plterm::indicator::Indicator;
+use plevent::{ClauseName, Living};
 use std::alloc::AllocError;
 
-/// Adds the clauses that are seen at `g`, of those put in front, the newest first.
+/// Adds the clauses that are seen at the time sought, of those put in front, the newest first: a run of erased ones is passed over in one step.
 pub(crate) fn gather_front(
     records: &[Record],
     next: &[Option<usize>],
-    pred: &Indicator,
+    places: &[Place],
+    sought: &Sought<'_>,
     newest: Option<usize>,
-    g: u64,
-    found: &mut Vec<Clause>,
+    found: &mut Vec<Living>,
 ) -> Result<(), AllocError>
-    requires links { IsDown pred.now records.now next.now }
-    requires newest { newest ≡ last_below (fronts pred.now records.now) (length records.now) }
-    ensures { OnOk result (found.new.items ≡ found.old.items ++ clauses_of (reverse (picked (in_front pred.now) g records.now))) }
+    requires links { IsDown sought.now.pred.now records.now next.now }
+    requires runs { HasRuns records.now places.now }
+    requires newest { newest ≡ last_below (fronts sought.now.pred.now records.now) (length records.now) }
+    ensures { OnOk result (found.new.items ≡ found.old.items ++ reverse (picked (in_front sought.now.pred.now) sought.now.g records.now)) }
 {
-    let _ = pred;
     let mut at = newest;
     while let Some(number) = at {
         let record = record_at(records, number);
-        add_seen(found, record, g)?;
-        at = link_at(next, number);
+        add_seen(found, record, sought.g)?;
+        at = link_at(next, run_end(places, number, sought.g));
     }
     Ok(())
 }
 
-/// Adds the clauses that are seen at `g`, of those put behind, the oldest first.
+/// The same of those put behind, the oldest first.
 pub(crate) fn gather_back(
     records: &[Record],
     next: &[Option<usize>],
-    pred: &Indicator,
+    places: &[Place],
+    sought: &Sought<'_>,
     oldest: Option<usize>,
-    g: u64,
-    found: &mut Vec<Clause>,
+    found: &mut Vec<Living>,
 ) -> Result<(), AllocError>
-    requires links { IsUp pred.now records.now next.now }
-    requires oldest { oldest ≡ first_from 0 (backs pred.now records.now) }
-    ensures { OnOk result (found.new.items ≡ found.old.items ++ clauses_of (picked (behind_all pred.now) g records.now)) }
+    requires links { IsUp sought.now.pred.now records.now next.now }
+    requires runs { HasRuns records.now places.now }
+    requires oldest { oldest ≡ first_from 0 (backs sought.now.pred.now records.now) }
+    ensures { OnOk result (found.new.items ≡ found.old.items ++ picked (behind_all sought.now.pred.now) sought.now.g records.now) }
 {
-    let _ = pred;
     let mut at = oldest;
     while let Some(number) = at {
         let record = record_at(records, number);
-        add_seen(found, record, g)?;
-        at = link_at(next, number);
+        add_seen(found, record, sought.g)?;
+        at = link_at(next, run_end(places, number, sought.g));
     }
     Ok(())
 }
@@ -122,12 +120,16 @@ pub(crate) fn link_at(next: &[Option<usize>], number: usize) -> Option<usize>
     next[number]
 }
 
-/// Adds the clause of a record where it is seen at `g`.
-fn add_seen(found: &mut Vec<Clause>, one: &Record, g: u64) -> Result<(), AllocError>
-    ensures { OnOk result (found.new.items ≡ cond (seen g one.now) (found.old.items ++ one.now.clause ∷ []) found.old.items) }
+/// Adds the clause of a record, with its name, where it is seen at `g`.
+fn add_seen(found: &mut Vec<Living>, one: &Record, g: u64) -> Result<(), AllocError>
+    ensures { OnOk result (found.new.items ≡ cond (seen g one.now) (found.old.items ++ lives_as one.now.name one.now.clause ∷ []) found.old.items) }
 {
     if one.is_seen(g) {
-        found.push(one.clause.copied()?)?;
+        let clause = one.clause.copied()?;
+        found.push(Living {
+            name: one.name,
+            clause,
+        })?;
     }
     Ok(())
 }

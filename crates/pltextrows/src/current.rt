@@ -246,8 +246,8 @@ const KEPT: [Row; 4] = [
     ),
     (
         RUN,
-        ":- initialization((catch(retract(a), error(E, _), (write(E), nl)), catch(assertz(retract(a)), error(F, _), write(F)))).",
-        "% thread 1 main: true\nexistence_error(procedure,retract/1)\npermission_error(modify,static_procedure,retract/1)\n",
+        ":- initialization((catch(snapshot(a), error(E, _), (write(E), nl)), catch(assertz(snapshot(a)), error(F, _), write(F)))).",
+        "% thread 1 main: true\nexistence_error(procedure,snapshot/1)\npermission_error(modify,static_procedure,snapshot/1)\n",
         Status::Done,
     ),
 ];

@@ -1,9 +1,8 @@
 -- One more entry of a world.
-use Rattle.std.proofs.Common.{◌≡◌, ◌++◌, ◌+◌, ◌<◌, ◌≤◌, ℕ, suc, Bool, true, false, List, [], ◌∷◌, Option, Some, None, refl, sym, ◌∙◌, ap, ap₂, subst, arith, length, length-append, fold}
-use Rattle.std.specs.Prelude.{if◌then◌else◌, ◌||◌, ◌&&◌, not, option_to_list}
-use Rattle.std.specs.List.{list_any}
+use Rattle.std.proofs.Common.{◌≡◌, ◌++◌, ◌+◌, ◌<◌, ◌≤◌, ℕ, suc, true, false, List, [], ◌∷◌, Option, Some, None, refl, sym, ◌∙◌, ap, ap₂, subst, arith, length, length-append, fold}
 use Rattle.std.proofs.lemmas.List.{append-nil, take-append-drop, length-take-le}
 use Rattle.std.proofs.lemmas.List.Sums.{fold-append}
+use Rattle.std.proofs.Math.Seq.{take-length}
 use Rattle.plevent.specs.declared.update.Update.{Update}
 use Rattle.plevent.specs.declared.update.ClauseName.{ClauseName}
 use Rattle.plevent.specs.declared.request.Request.{Request}
@@ -14,14 +13,13 @@ use Rattle.plevent.specs.declared.standing.Standing.{Standing}
 use Rattle.std.specs.Prelude.{nat_lt, cond, take, drop}
 use Rattle.std.proofs.lemmas.List.Elements.{filter-append}
 use Rattle.std.proofs.lemmas.Bool.Decides.{nat_tests}
-use Rattle.plevent.specs.Alive.{Stamped, stamped, named, before, living, exists}
+use Rattle.plevent.specs.Alive.{Stamped, stamped, named, before, living, exists, is_alive}
 use Rattle.plevent.specs.Reading.{Reading, read, reading, stand, updates_of, blank}
-use Rattle.plevent.specs.Rows.{Row, served, served_in, adds, reply_to, entries_of}
-use Rattle.plstore.specs.declared.record.Record.{Record}
-use Rattle.plstore.specs.Kept.{Kept, keep, nothing, walk, is_there}
+use Rattle.plevent.specs.Rows.{served, adds, entries_of}
+use Rattle.plstore.specs.Kept.{Kept, keep, nothing, walk, is_there, here}
 use Rattle.plstore.specs.Rising.{AllBelowPlace, Rises, AllUnder}
 use Rattle.plstore.proofs.Search.{place-keep}
-use Rattle.plstore.proofs.Whole.{walk-is, there-is}
+use Rattle.plstore.proofs.Whole.{walk-is, there-is, here-is}
 use Rattle.plterm.specs.declared.indicator.Indicator.{Indicator}
 use Rattle.plworld.specs.Worlds.{IsWorld}
 
@@ -135,11 +133,6 @@ empty = record { standing = refl; store = refl; size = refl; below = λ k d l. a
 pub IsWorld-blank : (h : List Entry) (s : Standing) (rs : Kept) → h ≡ [] → s ≡ blank.standing → rs ≡ nothing → IsWorld h s rs
 IsWorld-blank h s rs eh es er = subst (λ h. IsWorld h s rs) (sym eh) (subst (λ s. IsWorld [] s rs) (sym es) (subst (λ rs. IsWorld [] blank.standing rs) (sym er) empty))
 
--- the row of a request
-pub row-is : (h : List Entry) (s : Standing) (k : Kept) (q : Request) (t : ℕ) (x : Row) → IsWorld h s k → x ≡ served_in q t s → served q t (reading h) ≡ x
-unfolding served
-row-is h s k q t x w e = ap (served_in q t) (sym w.standing) ∙ sym e
-
 pub adds-none : (h : List Entry) (w t : ℕ) (q : Request) (r : Reply) (a : Option (ℕ × Act)) → served q t (reading h) ≡ (r, a) → a ≡ None → adds h w t q ≡ []
 adds-none h w t q r a e k = ap (λ x. entries_of w x.1) e ∙ ap (entries_of w) k
 
@@ -154,3 +147,10 @@ walk-at g p h l = walk-is g p (reading h).updates (ordered h).rises ∙ ap (λ u
 
 pub there-at : (g : ℕ) (p : Indicator) (h : List Entry) → g ≤ length h → is_there g p (fold keep nothing (reading h).updates) ≡ exists (reading (take g h)).updates p
 there-at g p h l = there-is g p (reading h).updates ∙ ap (λ us. exists us p) (before-is g h l)
+
+pub alive-at : (g : ℕ) (x : ClauseName) (h : List Entry) → g ≤ length h → here g x (fold keep nothing (reading h).updates) ≡ is_alive x (reading (take g h)).updates
+alive-at g x h l = here-is g x (reading h).updates (ordered h).rises ∙ ap (is_alive x) (before-is g h l)
+
+-- a clause that the store sees now is alive
+pub alive-now : (h : List Entry) (s : Standing) (k : Kept) (x : ClauseName) → IsWorld h s k → here s.size x k ≡ is_alive x (reading h).updates
+alive-now h s k x w = ap₂ (λ g k. here g x k) w.size w.store ∙ alive-at (length h) x h (omega arith) ∙ ap (λ l. is_alive x (reading l).updates) (take-length h)

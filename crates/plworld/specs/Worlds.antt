@@ -1,5 +1,5 @@
 -- A world: its journal, and that its parts are what the journal says.
-use Rattle.std.specs.Prelude.{◌≡◌, ℕ, List, [], ◌∷◌, length, fold, refl}
+use Rattle.std.specs.Prelude.{◌≡◌, List, [], ◌∷◌, length, fold, refl}
 use Rattle.std.specs.Coded.{Coded, code_by, coded_list}
 use Rattle.plevent.specs.declared.update.Update.{Update}
 use Rattle.plevent.specs.declared.act.Act.{Act}

@@ -2,9 +2,10 @@
 ghost use Rattle.std.specs.Prelude.{◌≡◌, ◌≤◌, ℕ, List, fold, length, take};
 ghost use Rattle.plterm.specs.declared.indicator.Indicator.{Indicator};
 ghost use Rattle.plevent.specs.declared.act.Entry.{Entry};
-ghost use Rattle.plevent.specs.Alive.{before, living, exists};
+ghost use Rattle.plevent.specs.declared.update.ClauseName.{ClauseName};
+ghost use Rattle.plevent.specs.Alive.{before, living, exists, is_alive};
 ghost use Rattle.plevent.specs.Reading.{reading};
-ghost use Rattle.plstore.specs.Kept.{keep, nothing, walk, is_there};
+ghost use Rattle.plstore.specs.Kept.{keep, nothing, walk, is_there, here};
 ghost use Rattle.plstore.specs.Rising.{Rises, AllUnder};
 
 /// The updates of a journal stand at rising places, which are below its length.
@@ -26,4 +27,9 @@ pub fn walk_law()
 /// A procedure is there at `g` in what is kept of a journal exactly where one of its first `g` entries named it.
 pub fn exists_law()
     ensures { (g : ℕ) (p : Indicator) (h : List Entry) → g ≤ length h → is_there g p (fold keep nothing (reading h).updates) ≡ exists (reading (take g h)).updates p }
+{}
+
+/// A clause is seen at `g` in what is kept of a journal exactly where it is alive after its first `g` entries.
+pub fn alive_law()
+    ensures { (g : ℕ) (x : ClauseName) (h : List Entry) → g ≤ length h → here g x (fold keep nothing (reading h).updates) ≡ is_alive x (reading (take g h)).updates }
 {}

@@ -1,8 +1,12 @@
 //! The rows of the table of requests: each computes its reply and its act, and changes nothing.
-ghost use Rattle.std.specs.Prelude.{◌≡◌, IfOk, find};
-ghost use Rattle.plevent.specs.Rows.{is_new, is_workers, start_row, finish_row, row, served_while, served_in};
+ghost use Rattle.std.specs.Prelude.{◌≡◌, IfOk, List, find};
+ghost use Rattle.plevent.specs.declared.act.Entry.{Entry};
+ghost use Rattle.plevent.specs.Reading.{reading};
+ghost use Rattle.plevent.specs.Rows.{is_new, is_workers, start_row, erase_row, finish_row, row, served_while, served};
+ghost use Rattle.plworld.specs.Worlds.{IsWorld};
 
-use plevent::{Act, Reply, Request, Standing, Thread, ThreadEnd};
+use plevent::{Act, Batch, ClauseName, Reply, Request, Standing, Thread, ThreadEnd, Update};
+use plstore::Store;
 use plterm::name::Name;
 use plterm::term::Term;
 use std::alloc::{AllocError, Global};
@@ -10,32 +14,35 @@ use std::alloc::{AllocError, Global};
 /// A reply, and the act, if any, with the thread that its entry names.
 pub type Row = (Reply, Option<(u32, Act)>);
 
-/// The row of a request of a thread: where a thread has ended the run, all stop.
+/// The row of a request of a thread, after the journal that the standing and the store are those of: where a thread has
+/// ended the run, all stop.
 pub fn serve(
     standing: &Standing,
+    store: &Store,
     alloc: Global,
     thread: u32,
     request: &Request,
 ) -> Result<Row, AllocError>
-    ensures { IfOk result (λ r. r ≡ served_in request.now thread standing.now) }
+    ensures { IfOk result (λ r. (h : List Entry) → IsWorld h standing.now store.now → r ≡ served request.now thread (reading h)) }
 {
     if standing.is_halted() {
         return Ok((Reply::Stopped, None));
     }
-    serve_while(standing, alloc, thread, request)
+    serve_while(standing, store, alloc, thread, request)
 }
 
 /// The row while no thread has ended the run: a thread that is not started, or has ended, is told to wait.
 fn serve_while(
     standing: &Standing,
+    store: &Store,
     alloc: Global,
     thread: u32,
     request: &Request,
 ) -> Result<Row, AllocError>
-    ensures { IfOk result (λ r. r ≡ served_while request.now thread standing.now) }
+    ensures { IfOk result (λ r. (h : List Entry) → IsWorld h standing.now store.now → r ≡ served_while request.now thread (reading h)) }
 {
     if is_of_workers(request) || standing.runs(thread) {
-        return row_of(standing, alloc, thread, request);
+        return row_of(standing, store, alloc, thread, request);
     }
     let again = request.copied(alloc)?;
     Ok((Reply::NotYet(again), None))
@@ -47,17 +54,19 @@ fn is_of_workers(request: &Request) -> bool
 {
     match request {
         Request::Start => true,
-        Request::Publish(_) | Request::Finish(_) | Request::HaltRun(_) => false,
+        Request::Publish(_) | Request::EraseOne(_) | Request::Finish(_) | Request::HaltRun(_) =>
+            false,
     }
 }
 
 fn row_of(
     standing: &Standing,
+    store: &Store,
     alloc: Global,
     thread: u32,
     request: &Request,
 ) -> Result<Row, AllocError>
-    ensures { IfOk result (λ r. r ≡ row request.now thread standing.now) }
+    ensures { IfOk result (λ r. (h : List Entry) → IsWorld h standing.now store.now → r ≡ row request.now thread (reading h)) }
 {
     match request {
         Request::Start => return start_of(standing, alloc),
@@ -65,11 +74,26 @@ fn row_of(
             let copy = batch.copied(alloc)?;
             return Ok((Reply::Published, Some((thread, Act::Batch(copy)))));
         }
+        Request::EraseOne(name) => {
+            let is_alive = store.alive(standing.size, *name);
+            return erase_of(is_alive, *name, alloc, thread);
+        }
         Request::Finish(end) => return finish_of(end, alloc, thread),
         Request::HaltRun(number) => {
             return Ok((Reply::Done, Some((thread, Act::Halt(*number)))));
         }
     }
+}
+
+/// The row of an erasure: a clause that is alive goes, by a batch of its own.
+fn erase_of(is_alive: bool, name: ClauseName, alloc: Global, thread: u32) -> Result<Row, AllocError>
+    ensures { IfOk result (λ r. r ≡ erase_row is_alive name thread) }
+{
+    if !is_alive {
+        return Ok((Reply::Gone, None));
+    }
+    let batch = Batch::new(vec![in alloc; Update::Erase(name)]?);
+    Ok((Reply::Erased, Some((thread, Act::Batch(batch)))))
 }
 
 /// The row of an end: one that ends the run is asked for by `HaltRun` alone.

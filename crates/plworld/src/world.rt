@@ -63,7 +63,7 @@ impl World {
         ensures entry { OnOk result (self.new ≡ record self.old { journal = self.old.journal ++ adds self.old.journal worker thread request.now }) }
         ensures refused { OnErr result (self.new ≡ self.old) }
     {
-        let (reply, act) = serve(&self.standing, alloc, thread, request)?;
+        let (reply, act) = serve(&self.standing, &self.store, alloc, thread, request)?;
         match act {
             None => return Ok(reply),
             Some((of, act)) => match self.add(alloc, worker, of, act) {

@@ -1,7 +1,7 @@
 use Rattle.std.proofs.Common.{◌≡◌, drop}
-use Rattle.plload.specs.Lists.{each}
-use Rattle.plload.specs.Meaning.{name_of}
-use Rattle.plload.proofs.Each.{behind}
+use Rattle.plclause.specs.Lists.{each}
+use Rattle.plclause.specs.Named.{name_of}
+use Rattle.plclause.proofs.Each.{behind}
 use Rattle.plload.proofs.directive.each_name.Given as goal
 
 abbrev pub invariant-loop-term : goal.invariant-loop-term

@@ -4,11 +4,12 @@ use Rattle.plsearch.specs.Search.{search_of}
 use Rattle.plsolver.specs.declared.progress.Progress.{Progress}
 use Rattle.plsolver.specs.Solver.{rest_of, WaitsForReply}
 use Rattle.plrun.proofs.Halting.{halts-when-done}
-use Rattle.plrun.proofs.Serve.{MayWait, served-by, started-same, reply-done}
+use Rattle.plrun.proofs.Serve.{MayWait, served-by, started-same, reply-fits}
 use Rattle.plrun.proofs.thread.serve.Goals as goal
 
 may_wait : (s : Progress) (q : Request) → WaitsForReply s q → MayWait q
 may_wait s (Request.Publish us) waits = tt
+may_wait s (Request.EraseOne x) waits = tt
 may_wait s (Request.HaltRun n) waits = tt
 may_wait s Request.Start never = never
 may_wait s (Request.Finish e) never = never
@@ -17,7 +18,7 @@ pub reply-requires-clause-fits : goal.reply-requires-clause-fits
 reply-requires-clause-fits c =
     let s = c.args.running.now.solver in
     let q = c.args.request.now in
-    (q, c.requires.waits, reply-done c.args.world.now.journal c.args.running.now.thread q c.in_ok-reply.reply (may_wait s q c.requires.waits) c.requires.runs.runs.going.free c.in_ok-reply.ensures.reply)
+    (q, c.requires.waits, reply-fits c.args.world.now.journal c.args.running.now.thread q c.in_ok-reply.reply (may_wait s q c.requires.waits) c.requires.runs.runs.going.free c.in_ok-reply.ensures.reply)
 
 pub returns-clause-runs : goal.returns-clause-runs
 returns-clause-runs c =

@@ -1,21 +1,34 @@
 use Rattle.std.proofs.Common.{◌<◌, arith, refl, length}
-use Rattle.plstore.proofs.Chains.{down-within, down-smaller, down-more, down-over}
+use Rattle.plstore.proofs.Chains.{end-down-smaller, end-down-within}
+use Rattle.plstore.proofs.Gather.{down-marked, down-more, down-over, down-start, down-within}
+use Rattle.plstore.proofs.Passing.{end-down}
 use Rattle.plstore.proofs.walk.gather_front.Goals as goal
+
+pub loop-at-init : goal.loop-at-init
+loop-at-init c = down-start _ _ _ _ _ c.requires.newest
 
 pub record_at-record-requires : goal.record_at-record-requires
 record_at-record-requires c = down-within _ _ _ _ _ _ c.in-Some.number c.loop-at.invariant c.in-Some.is
 
+pub run_end-requires : goal.run_end-requires
+run_end-requires c =
+    let l : c.in-Some.number < length c.args.records.now = down-within _ _ _ _ _ _ c.in-Some.number c.loop-at.invariant c.in-Some.is in
+    omega (arith, l, c.requires.runs.count)
+
 pub link_at-at-requires : goal.link_at-at-requires
 link_at-at-requires c =
-    let l : c.in-Some.number < length c.args.records.now = down-within _ _ _ _ _ _ c.in-Some.number c.loop-at.invariant c.in-Some.is in
-    omega (arith, l, c.requires.links.count)
+    end-down-within _ _ _ _ c.in-Some.number _ c.requires.links
+    (end-down _ c.args.sought.now.g _ _ _ _ c.requires.runs (down-marked _ _ _ _ _ _ c.in-Some.number c.loop-at.invariant c.in-Some.is) c.run_end.ensures)
 
 pub loop-at-smaller : goal.loop-at-smaller
-loop-at-smaller c = down-smaller _ _ _ c.args.next.now _ _ _ _ c.in-Some.number c.requires.links c.loop-at.invariant c.in-Some.is c.link_at-at.ensures
+loop-at-smaller c =
+    end-down-smaller _ _ _ _ _ _ c.in-Some.number _ c.requires.links
+    (end-down _ c.args.sought.now.g _ _ _ _ c.requires.runs (down-marked _ _ _ _ _ _ c.in-Some.number c.loop-at.invariant c.in-Some.is) c.run_end.ensures) c.in-Some.is c.link_at-at.ensures
 
 pub loop-at-preserved : goal.loop-at-preserved
 loop-at-preserved c =
-    down-more _ _ _ c.args.next.now _ _ _ _ _ c.in-Some.number c.record_at-record.result.now _ c.requires.links c.loop-at.invariant c.in-Some.is
+    down-more _ _ _ c.args.next.now _ _ _ _ _ c.in-Some.number _ c.record_at-record.result.now _ c.requires.links
+    (end-down _ c.args.sought.now.g _ _ _ _ c.requires.runs (down-marked _ _ _ _ _ _ c.in-Some.number c.loop-at.invariant c.in-Some.is) c.run_end.ensures) c.loop-at.invariant c.in-Some.is
     c.record_at-record.ensures refl c.in_ok-add_seen.ensures c.link_at-at.ensures
 
 pub returns : goal.returns

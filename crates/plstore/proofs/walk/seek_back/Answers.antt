@@ -1,5 +1,5 @@
 use Rattle.std.proofs.Common.{◌∙◌, sym, arith, ◌<◌, length}
-use Rattle.plstore.proofs.Chains.{seek-up-mark, seek-up-within, end-up-within, seek-up-smaller, seek-up-found, seek-up-more, seek-up-over}
+use Rattle.plstore.proofs.Chains.{seek-up-mark, seek-up-within, end-up-within, end-up-smaller, seek-up-found, seek-up-more, seek-up-over}
 use Rattle.plstore.proofs.Passing.{end-up}
 use Rattle.plstore.proofs.walk.seek_back.Goals as goal
 
@@ -21,7 +21,7 @@ link_at-at-requires c =
 
 pub loop-at-smaller : goal.loop-at-smaller
 loop-at-smaller c =
-    seek-up-smaller _ _ _ _ _ _ c.in-Some.number _ c.requires.links
+    end-up-smaller _ _ _ _ _ _ c.in-Some.number _ c.requires.links
     (end-up _ c.args.sought.now.g _ _ _ _ c.requires.runs (seek-up-mark _ _ _ _ _ _ c.in-Some.number c.loop-at.invariant c.in-Some.is) c.run_end.ensures) c.in-Some.is c.link_at-at.ensures
 
 pub loop-at-preserved : goal.loop-at-preserved

@@ -1,5 +1,5 @@
 use Rattle.std.proofs.Common.{◌∙◌, sym, arith, ◌<◌, length}
-use Rattle.plstore.proofs.Chains.{seek-down-mark, seek-down-within, end-down-within, seek-down-smaller, seek-down-found, seek-down-more, seek-down-over}
+use Rattle.plstore.proofs.Chains.{seek-down-mark, seek-down-within, end-down-within, end-down-smaller, seek-down-found, seek-down-more, seek-down-over}
 use Rattle.plstore.proofs.Passing.{end-down}
 use Rattle.plstore.proofs.walk.seek_front.Goals as goal
 
@@ -21,7 +21,7 @@ link_at-at-requires c =
 
 pub loop-at-smaller : goal.loop-at-smaller
 loop-at-smaller c =
-    seek-down-smaller _ _ _ _ _ _ c.in-Some.number _ c.requires.links
+    end-down-smaller _ _ _ _ _ _ c.in-Some.number _ c.requires.links
     (end-down _ c.args.sought.now.g _ _ _ _ c.requires.runs (seek-down-mark _ _ _ _ _ _ c.in-Some.number c.loop-at.invariant c.in-Some.is) c.run_end.ensures) c.in-Some.is c.link_at-at.ensures
 
 pub loop-at-preserved : goal.loop-at-preserved

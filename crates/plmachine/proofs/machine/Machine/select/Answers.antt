@@ -128,12 +128,40 @@ returns-in-Cut-clause-ok c t sel =
     let P = c.args.program.now in
     on_ok_map c.cut.result (selected P s c.cut.new.self c.args.form c.args.source t c.args.level (depth_of P s) (goals_of s.stack c.args.rest) s.stack.env.count (local_of s) _ sel (ap (shown_form s.stack.env.heap (indicator t) s.args.items) c.in-Cut.is)) c.cut.ensures.ok
 
-pub returns-in-AddLast-clause-ok : goal.returns-in-AddLast-clause-ok
+pub returns-in-Adding-clause-ok : goal.returns-in-Adding-clause-ok
 unfolding row
-returns-in-AddLast-clause-ok c t sel =
+returns-in-Adding-clause-ok c t sel =
     let s = c.args.self.now in
     let P = c.args.program.now in
-    on_ok_map c.add_last.result (selected P s c.add_last.new.self c.args.form c.args.source t c.args.level (depth_of P s) (goals_of s.stack c.args.rest) s.stack.env.count (local_of s) _ sel (ap (shown_form s.stack.env.heap (indicator t) s.args.items) c.in-AddLast.is)) c.add_last.ensures.ok
+    on_ok_map c.add.result (selected P s c.add.new.self c.args.form c.args.source t c.args.level (depth_of P s) (goals_of s.stack c.args.rest) s.stack.env.count (local_of s) _ sel (ap (shown_form s.stack.env.heap (indicator t) s.args.items) c.in-Adding.is)) (c.add.ensures.ok t sel.stands)
+
+pub returns-in-Retrieving-clause-ok : goal.returns-in-Retrieving-clause-ok
+unfolding row
+returns-in-Retrieving-clause-ok c t sel =
+    let s = c.args.self.now in
+    let P = c.args.program.now in
+    on_ok_map c.retrieve.result (selected P s c.retrieve.new.self c.args.form c.args.source t c.args.level (depth_of P s) (goals_of s.stack c.args.rest) s.stack.env.count (local_of s) _ sel (ap (shown_form s.stack.env.heap (indicator t) s.args.items) c.in-Retrieving.is)) (c.retrieve.ensures.ok t sel.stands)
+
+pub returns-in-Retracting-clause-ok : goal.returns-in-Retracting-clause-ok
+unfolding row
+returns-in-Retracting-clause-ok c t sel =
+    let s = c.args.self.now in
+    let P = c.args.program.now in
+    on_ok_map c.retract.result (selected P s c.retract.new.self c.args.form c.args.source t c.args.level (depth_of P s) (goals_of s.stack c.args.rest) s.stack.env.count (local_of s) _ sel (ap (shown_form s.stack.env.heap (indicator t) s.args.items) c.in-Retracting.is)) (c.retract.ensures.ok t sel.stands)
+
+pub returns-in-RetractingAll-clause-ok : goal.returns-in-RetractingAll-clause-ok
+unfolding row
+returns-in-RetractingAll-clause-ok c t sel =
+    let s = c.args.self.now in
+    let P = c.args.program.now in
+    on_ok_map c.retract_all.result (selected P s c.retract_all.new.self c.args.form c.args.source t c.args.level (depth_of P s) (goals_of s.stack c.args.rest) s.stack.env.count (local_of s) _ sel (ap (shown_form s.stack.env.heap (indicator t) s.args.items) c.in-RetractingAll.is)) (c.retract_all.ensures.ok t sel.stands)
+
+pub returns-in-Declaring-clause-ok : goal.returns-in-Declaring-clause-ok
+unfolding row
+returns-in-Declaring-clause-ok c t sel =
+    let s = c.args.self.now in
+    let P = c.args.program.now in
+    on_ok_map c.declare.result (selected P s c.declare.new.self c.args.form c.args.source t c.args.level (depth_of P s) (goals_of s.stack c.args.rest) s.stack.env.count (local_of s) _ sel (ap (shown_form s.stack.env.heap (indicator t) s.args.items) c.in-Declaring.is)) (c.declare.ensures.ok t sel.stands)
 
 pub returns-in-HaltWith-clause-ok : goal.returns-in-HaltWith-clause-ok
 unfolding row
@@ -223,8 +251,23 @@ find_all-requires-clause-whole c = (subst (IsInside c.args.self.now.stack.env.he
 pub throw-requires-clause-ball : goal.throw-requires-clause-ball
 throw-requires-clause-ball c = (subst (IsInside c.args.self.now.stack.env.heap c.args.self.now.args.items) c.in-Throwing.is c.requires.selected.1.inside)
 
-pub add_last-requires-clause-clause : goal.add_last-requires-clause-clause
-add_last-requires-clause-clause c = (subst (IsInside c.args.self.now.stack.env.heap c.args.self.now.args.items) c.in-AddLast.is c.requires.selected.1.inside)
+pub add-requires-clause-clause : goal.add-requires-clause-clause
+add-requires-clause-clause c = (subst (IsInside c.args.self.now.stack.env.heap c.args.self.now.args.items) c.in-Adding.is c.requires.selected.1.inside)
+
+pub retrieve-requires-clause-head : goal.retrieve-requires-clause-head
+retrieve-requires-clause-head c = (subst (IsInside c.args.self.now.stack.env.heap c.args.self.now.args.items) c.in-Retrieving.is c.requires.selected.1.inside).0
+
+pub retrieve-requires-clause-body : goal.retrieve-requires-clause-body
+retrieve-requires-clause-body c = (subst (IsInside c.args.self.now.stack.env.heap c.args.self.now.args.items) c.in-Retrieving.is c.requires.selected.1.inside).1
+
+pub retract-requires-clause-clause : goal.retract-requires-clause-clause
+retract-requires-clause-clause c = (subst (IsInside c.args.self.now.stack.env.heap c.args.self.now.args.items) c.in-Retracting.is c.requires.selected.1.inside)
+
+pub retract_all-requires-clause-head : goal.retract_all-requires-clause-head
+retract_all-requires-clause-head c = (subst (IsInside c.args.self.now.stack.env.heap c.args.self.now.args.items) c.in-RetractingAll.is c.requires.selected.1.inside)
+
+pub declare-requires-clause-names : goal.declare-requires-clause-names
+declare-requires-clause-names c = (subst (IsInside c.args.self.now.stack.env.heap c.args.self.now.args.items) c.in-Declaring.is c.requires.selected.1.inside)
 
 pub halt_with-requires-clause-number : goal.halt_with-requires-clause-number
 halt_with-requires-clause-number c = (subst (IsInside c.args.self.now.stack.env.heap c.args.self.now.args.items) c.in-HaltWith.is c.requires.selected.1.inside)

@@ -1,23 +1,39 @@
-use Rattle.std.proofs.Common.{sym}
+use Rattle.std.proofs.Common.{◌∙◌, subst}
+use Rattle.std.specs.List.{filter_map}
 use Rattle.plcells.specs.Store.{value}
+use Rattle.plevent.specs.Alive.{clauses_of}
+use Rattle.plsearch.specs.Replies.{looked_up, retract}
+use Rattle.plsearch.specs.Rows.{choose, clause_term, retrieve}
 use Rattle.plstack.specs.State.{goals_of}
-use Rattle.plmachine.specs.Machine.{depth_of}
+use Rattle.plmachine.specs.Machine.{depth_of, local_of, lookup_of, Moved}
 use Rattle.plmachine.proofs.Moves.{on_ok_map}
-use Rattle.plsolver.proofs.Looks.{look-none, look-some}
+use Rattle.plsolver.proofs.Looks.{retracted, retrieved}
 use Rattle.plsolver.proofs.progress.Progress.look.Goals as goal
 
-pub returns-then-exists-clause-ok : goal.returns-then-exists-clause-ok
-returns-then-exists-clause-ok c =
+pub returns-in_ok-clauses-in-ToRetrieve-clause-ok : goal.returns-in_ok-clauses-in-ToRetrieve-clause-ok
+returns-in_ok-clauses-in-ToRetrieve-clause-ok c =
     let s = c.args.self.now.machine in
     let P = c.args.program.now in
-    let of = rw (c.heap.ensures.is, c.env.ensures) at c.in_ok-p.ensures in
-    let there = rw c.if-exists.true at c.exists.ensures in
-    on_ok_map c.resolve.result (λ m us up is. look-some P s c.resolve.new.self.machine c.args.g us c.args.store.now is up (depth_of P s) (value s.stack.env.heap c.args.goal) (goals_of s.stack s.stack.goals) s.stack.env.count c.in_ok-p.p of c.in_ok-clauses.clauses.items (sym there) c.in_ok-clauses.ensures m) c.resolve.ensures.ok
+    let t = value s.stack.env.heap c.in-ToRetrieve.head in
+    let b = value s.stack.env.heap c.in-ToRetrieve.body in
+    let es = goals_of s.stack s.stack.goals in
+    let n = s.stack.env.count in
+    rw c.in-ToRetrieve.is
+    (on_ok_map c.retrieve_living.result
+    (λ m us up is. retrieved c.args.g us c.args.store.now is t P s c.retrieve_living.new.self (depth_of P s) es n b up
+    (subst (λ xs. Moved P s c.retrieve_living.new.self (retrieve (depth_of P s) n t b es (clauses_of xs) (local_of s))) (c.deref.ensures.value ∙ c.in_ok-clauses-in-ToRetrieve.ensures) m))
+    c.retrieve_living.ensures.ok)
 
-pub returns-clause-ok : goal.returns-clause-ok
-returns-clause-ok c =
+pub returns-in_ok-clauses-in-ToRetract-clause-ok : goal.returns-in_ok-clauses-in-ToRetract-clause-ok
+returns-in_ok-clauses-in-ToRetract-clause-ok c =
     let s = c.args.self.now.machine in
     let P = c.args.program.now in
-    let of = rw (c.heap.ensures.is, c.env.ensures) at c.in_ok-p.ensures in
-    let there = rw c.if-exists.false at c.exists.ensures in
-    on_ok_map c.missing.result (λ m us up is. look-none P s c.missing.new.self.machine c.args.g us c.args.store.now is up (depth_of P s) (value s.stack.env.heap c.args.goal) (goals_of s.stack s.stack.goals) s.stack.env.count c.in_ok-p.p of (sym there) (m (value s.stack.env.heap c.args.goal) of)) c.missing.ensures.ok
+    let t = value s.stack.env.heap c.in-ToRetract.head in
+    let b = value s.stack.env.heap c.in-ToRetract.body in
+    let es = goals_of s.stack s.stack.goals in
+    let n = s.stack.env.count in
+    rw c.in-ToRetract.is
+    (on_ok_map c.retract_living.result
+    (λ m us up is. retracted c.args.g us c.args.store.now is t P s c.retract_living.new.self (depth_of P s) es n b up
+    (subst (λ xs. Moved P s c.retract_living.new.self (choose (filter_map (retract (depth_of P s) n (clause_term t b) es) xs) (local_of s))) (c.deref-in-ToRetract.ensures.value ∙ c.in_ok-clauses-in-ToRetract.ensures) m))
+    c.retract_living.ensures.ok)

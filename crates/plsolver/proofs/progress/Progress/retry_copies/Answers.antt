@@ -1,19 +1,20 @@
 use Rattle.plstack.specs.StaticCalls.{statics_of}
 use Rattle.plmachine.proofs.Moves.{on_err}
-use Rattle.plsolver.proofs.Quiets.{quiet-retry, quiet-close, stays-back}
+use Rattle.plsolver.proofs.Quiets.{quiet-retry-by, quiet-close, stays-back}
 use Rattle.plsolver.proofs.progress.Progress.retry_copies.Goals as goal
 
-pub returns-in_err-retry_copies-clause-err : goal.returns-in_err-retry_copies-clause-err
-returns-in_err-retry_copies-clause-err c =
+pub returns-in_err-entered-clause-err : goal.returns-in_err-entered-clause-err
+returns-in_err-entered-clause-err c =
     let P = c.args.program.now in
-    on_err _ (stays-back P c.args.self.now c.retry_copies.new.self _ c.requires.fails c.retry_copies.ensures.code (c.in_err-retry_copies.ensures.err (statics_of P)))
+    on_err _ (stays-back P c.args.self.now c.retry_copies.new.self _ c.requires.fails c.retry_copies.ensures.code (c.in_err-entered.ensures.err (statics_of P)))
 
-pub returns-then-branch-clause-ok : goal.returns-then-branch-clause-ok
-returns-then-branch-clause-ok c =
+pub returns-in-Some-clause-ok : goal.returns-in-Some-clause-ok
+returns-in-Some-clause-ok c =
     let P = c.args.program.now in
-    quiet-retry P c.args.self.now c.retry_copies.new.self c.requires.fails c.retry_copies.ensures.code (c.in_ok-retry_copies.ensures.yes c.if-branch.true (statics_of P))
+    rw c.mode_of.ensures
+    (quiet-retry-by P c.args.self.now c.retry_copies.new.self c.in-Some.entered.erased c.requires.fails c.retry_copies.ensures.code (rw c.in-Some.is at c.in_ok-entered.ensures.some (statics_of P)))
 
-pub returns-else-branch-clause-ok : goal.returns-else-branch-clause-ok
-returns-else-branch-clause-ok c =
+pub returns-in_default-clause-ok : goal.returns-in_default-clause-ok
+returns-in_default-clause-ok c =
     let P = c.args.program.now in
-    quiet-close P c.args.self.now c.retry_copies.new.self c.requires.fails c.retry_copies.ensures.code (c.in_ok-retry_copies.ensures.no c.if-branch.false (statics_of P))
+    quiet-close P c.args.self.now c.retry_copies.new.self c.requires.fails c.retry_copies.ensures.code (rw c.in_default.is at c.in_ok-entered.ensures.none (statics_of P))

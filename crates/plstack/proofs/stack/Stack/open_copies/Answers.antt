@@ -44,12 +44,12 @@ invariant_of-self-2 c =
     let list = rw (← c.self.view_is) at c.requires.list in
     let first = rw (c.in-Some.is, c.deref.ensures.value) at c.in_ok-step.ensures.some in
     let fits = first s c.self.invariant.0 refl refl list in
-    let opens = rw c.reserve.ensures.items at (c.push_copies-is_last.ensures.opens no-statics) in
+    let opens = rw c.reserve.ensures.items at (c.push_copies-opened.ensures.opens no-statics) in
     rw c.in_ok-depth.ensures.ok (called-stack no-statics s c.self.inside.depth c.self.invariant p.marks m.mark m.now m.links m.saved p.list list n goal k.next c.in-Some.step.place refl
-    c.resolve_first.new.env c.resolve_first.new.links.items c.in-Some.step.list fits c.push_copies-is_last.new.frames.items opens)
+    c.resolve_first.new.env c.resolve_first.new.links.items c.in-Some.step.list c.in-Some.step.erased fits c.push_copies-opened.new.frames.items opens)
 
 pub returns-clause-some : goal.returns-clause-some
-returns-clause-some c = λ _ statics.
+returns-clause-some c = λ statics.
     let s : State = inside c.self.inside in
     let p : Point = c.args.point in
     let k : Copies = c.args.copies in
@@ -59,10 +59,10 @@ returns-clause-some c = λ _ statics.
     let list = rw (← c.self.view_is) at c.requires.list in
     let first = rw (c.in-Some.is, c.deref.ensures.value) at c.in_ok-step.ensures.some in
     let fits = first s c.self.invariant.0 refl refl list in
-    let opens = rw c.reserve.ensures.items at (c.push_copies-is_last.ensures.opens statics) in
+    let opens = rw c.reserve.ensures.items at (c.push_copies-opened.ensures.opens statics) in
     rw (← c.self.view_is)
     (called-calls statics s c.self.inside.depth c.self.invariant p.marks m.mark m.now m.links m.saved p.list list n goal k.next c.in-Some.step.place refl
-    c.resolve_first.new.env c.resolve_first.new.links.items c.in-Some.step.list fits c.push_copies-is_last.new.frames.items opens c.requires.first)
+    c.resolve_first.new.env c.resolve_first.new.links.items c.in-Some.step.list c.in-Some.step.erased fits c.push_copies-opened.new.frames.items opens c.requires.first)
 
 pub returns-clause-opened : goal.returns-clause-opened
 returns-clause-opened c =
@@ -72,7 +72,7 @@ returns-clause-opened c =
     let list = rw (← c.self.view_is) at c.requires.list in
     let first = rw (c.in-Some.is, c.deref.ensures.value) at c.in_ok-step.ensures.some in
     let fits = first s c.self.invariant.0 refl refl list in
-    record {
+    rw c.push_copies-opened.ensures.marks (record {
       within = fits.goes.keeps.within p.marks.env m.mark.within;
-      older = c.push_copies-is_last.ensures.older (rw c.reserve.ensures.items (older-frames (goals_in s) s.env s.links s.saved p.marks m.mark m.now m.links m.saved (reverse s.frames) c.self.invariant.0.frames));
-    }
+      older = c.push_copies-opened.ensures.older (rw c.reserve.ensures.items (older-frames (goals_in s) s.env s.links s.saved p.marks m.mark m.now m.links m.saved (reverse s.frames) c.self.invariant.0.frames));
+    })

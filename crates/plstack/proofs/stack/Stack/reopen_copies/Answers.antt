@@ -36,8 +36,8 @@ invariant_of-self c =
     let first = rw (c.in-Ok-Some.field-0-is, c.deref.ensures.value, c.down.ensures) at c.in-Ok-Some.ensures.some in
     let fits = first (back s c.self.inside.depth c.self.invariant c.pop.new.self.items p (resumes.Copies k) popped) (back-stack s c.self.inside.depth c.self.invariant c.pop.new.self.items p (resumes.Copies k) popped).0 (sym c.undo.ensures) (sym c.truncate.ensures.items) (back-list s c.self.inside.depth c.self.invariant c.pop.new.self.items p (resumes.Copies k) popped) in
     rw c.truncate-2.ensures.items
-    (retried-stack s c.self.inside.depth c.self.invariant c.pop.new.self.items p k popped no-statics n refl refl c.in-Ok-Some.step.place refl c.resolve_first.new.env c.resolve_first.new.links.items c.in-Ok-Some.step.list fits
-    c.push_copies-is_last.new.frames.items (c.push_copies-is_last.ensures.opens no-statics))
+    (retried-stack s c.self.inside.depth c.self.invariant c.pop.new.self.items p k popped no-statics n refl refl c.in-Ok-Some.step.place refl c.resolve_first.new.env c.resolve_first.new.links.items c.in-Ok-Some.step.list c.in-Ok-Some.step.erased fits
+    c.push_copies-opened.new.frames.items (c.push_copies-opened.ensures.opens no-statics))
 
 pub invariant_of-self-in-None-resolve_first-2 : goal.invariant_of-self-in-None-resolve_first-2
 invariant_of-self-in-None-resolve_first-2 c =
@@ -59,7 +59,7 @@ invariant_of-self-in-Err c =
     (kept-stack s c.self.inside.depth c.self.invariant c.pop.new.self.items p k popped c.resolve_first.new.env c.resolve_first.new.links.items c.resolve_first.ensures.env same c.push_frame.new.frames.items c.push_frame.ensures.is)
 
 pub returns-in-Ok-Some-clause-some : goal.returns-in-Ok-Some-clause-some
-returns-in-Ok-Some-clause-some c = λ _ statics.
+returns-in-Ok-Some-clause-some c = λ statics.
     let s : State = inside c.self.inside in
     let p : Point = c.in-Some-Open.point in
     let k : Copies = c.in-Copies.copies in
@@ -68,8 +68,8 @@ returns-in-Ok-Some-clause-some c = λ _ statics.
     let first = rw (c.in-Ok-Some.field-0-is, c.deref.ensures.value, c.down.ensures) at c.in-Ok-Some.ensures.some in
     let fits = first (back s c.self.inside.depth c.self.invariant c.pop.new.self.items p (resumes.Copies k) popped) (back-stack s c.self.inside.depth c.self.invariant c.pop.new.self.items p (resumes.Copies k) popped).0 (sym c.undo.ensures) (sym c.truncate.ensures.items) (back-list s c.self.inside.depth c.self.invariant c.pop.new.self.items p (resumes.Copies k) popped) in
     rw (← c.self.view_is, c.truncate-2.ensures.items)
-    (retried s c.self.inside.depth c.self.invariant c.pop.new.self.items p k popped statics n refl refl c.in-Ok-Some.step.place refl c.resolve_first.new.env c.resolve_first.new.links.items c.in-Ok-Some.step.list fits
-    c.push_copies-is_last.new.frames.items (c.push_copies-is_last.ensures.opens statics))
+    (retried s c.self.inside.depth c.self.invariant c.pop.new.self.items p k popped statics n refl refl c.in-Ok-Some.step.place refl c.resolve_first.new.env c.resolve_first.new.links.items c.in-Ok-Some.step.list c.in-Ok-Some.step.erased fits
+    c.push_copies-opened.new.frames.items (c.push_copies-opened.ensures.opens statics))
 
 pub returns-in-Ok-Some-clause-opened : goal.returns-in-Ok-Some-clause-opened
 returns-in-Ok-Some-clause-opened c =
@@ -80,10 +80,10 @@ returns-in-Ok-Some-clause-opened c =
     let n : Copies = record { goal = k.goal; clauses = k.clauses; next = c.in-Ok-Some.step.place + 1 } in
     let first = rw (c.in-Ok-Some.field-0-is, c.deref.ensures.value, c.down.ensures) at c.in-Ok-Some.ensures.some in
     let fits = first (back s c.self.inside.depth c.self.invariant c.pop.new.self.items p (resumes.Copies k) popped) (back-stack s c.self.inside.depth c.self.invariant c.pop.new.self.items p (resumes.Copies k) popped).0 (sym c.undo.ensures) (sym c.truncate.ensures.items) (back-list s c.self.inside.depth c.self.invariant c.pop.new.self.items p (resumes.Copies k) popped) in
-    record {
+    rw c.push_copies-opened.ensures.marks (record {
       within = fits.goes.keeps.within p.marks.env (before-mark s c.self.inside.depth c.self.invariant c.pop.new.self.items p k popped).within;
-      older = c.push_copies-is_last.ensures.older (before-older s c.self.inside.depth c.self.invariant c.pop.new.self.items p k popped);
-    }
+      older = c.push_copies-opened.ensures.older (before-older s c.self.inside.depth c.self.invariant c.pop.new.self.items p k popped);
+    })
 
 pub returns-in-Ok-None-clause-none : goal.returns-in-Ok-None-clause-none
 returns-in-Ok-None-clause-none c = λ statics.

@@ -1,0 +1,359 @@
+//! The rows of the predicates on clauses: asserta/1, assertz/1, assert/1, clause/2, retract/1, retractall/1 and dynamic/1 (ISO/IEC 13211-1 8.8, 8.9).
+//!
+//! A row that is refused memory leaves the search where it was.
+ghost use Rattle.std.specs.Prelude.{◌≡◌, ◌∷◌, [], map, filter_map, Some, None, IfOk, IfSome, IfNone, OnOk, OnErr};
+ghost use Rattle.plterm.specs.Tree.{Tree};
+ghost use Rattle.plcells.specs.Store.{value, IsValue};
+ghost use Rattle.plclause.specs.Clausal.{clausal, neck_parts};
+ghost use Rattle.plclause.specs.Indicators.{indicator};
+ghost use Rattle.plclause.specs.Named.{indicator_of as named_by, named_terms};
+ghost use Rattle.plevent.specs.Alive.{or_else};
+ghost use Rattle.plevent.specs.declared.update.Update.TheVariants.{Declare};
+ghost use Rattle.plprogram.specs.Program.{clauses_for};
+ghost use Rattle.plsearch.specs.Types.{Asking, Look, ToRetract, ToRetractAll};
+ghost use Rattle.plsearch.specs.Rows.{add, added, choose, clause_term, go_on as went_on, halves, no_body, no_head, publish, retrieving, unchangeable, undeclarable, unerasable, unless, unreadable};
+ghost use Rattle.plstack.specs.Places.{candidates_left};
+ghost use Rattle.plstack.specs.State.{goals_of, IsList};
+ghost use Rattle.plmachine.specs.Clauses.{entered_mode, IsNeck};
+ghost use Rattle.plmachine.specs.Machine.{depth_of, local_of, IsBegun, Moved, Stays};
+ghost use Rattle.plmachine.specs.Selected.{StandsFor};
+
+use crate::error;
+use crate::fact::facts;
+use crate::indicator::indicator_of;
+use crate::machine::{Lookup, Machine, Mode, Outcome, Question, Then};
+use crate::naming::{Declaration, declared};
+use crate::refusal::{no_body, no_head, unchangeable, unerasable, unreadable};
+use crate::select::Source;
+use plcells::cell::Cell;
+use plcells::heap::Heap;
+use plclause::clause::Clause;
+use plclause::form::{ClauseForm, clause_of};
+use plclause::named::named_terms;
+use plevent::request::Request;
+use plevent::update::{Batch, Update};
+use pllinks::link::Continuation;
+use plnames::kind::Side;
+use plprogram::program::Program;
+use plstack::copy::Entered;
+use plstack::frame::Candidate;
+use plterm::term::Term;
+use std::alloc::{AllocError, Global};
+
+impl Machine {
+    /// asserta/1, assertz/1 or assert/1.
+    #[inline(never)]
+    pub fn add(
+        &mut self,
+        program: &Program,
+        side: Side,
+        c: Cell,
+        source: Source,
+        rest: Continuation,
+    ) -> Result<(), AllocError>
+        requires begun { IsBegun program.now self.old }
+        requires clause { IsValue self.old.stack.env.heap c }
+        requires source { (t : Tree) × StandsFor self.old.stack source t }
+        requires rest { IsList self.old.stack rest }
+        ensures ok { (t : Tree) → StandsFor self.old.stack source t → OnOk result (Moved program.now self.old self.new (add program.now side (indicator t) (clausal (value self.old.stack.env.heap c)) (goals_of self.old.stack rest) self.old.stack.env.count (local_of self.old))) }
+        ensures err { OnErr result (Stays program.now self.old self.new) }
+    {
+        let term = self.stack.env().heap().take(self.alloc, c)?;
+        match clause_of(self.alloc, &term)? {
+            ClauseForm::NoHead => {
+                let error = error::instantiation(self.alloc)?;
+                self.raise_of(program, error, source, rest)
+            }
+            ClauseForm::BadHead(culprit) | ClauseForm::BadBody(culprit) => {
+                let error = error::not_callable(self.alloc, culprit)?;
+                self.raise_of(program, error, source, rest)
+            }
+            ClauseForm::IsClause(clause) => self.add_clause(program, side, clause, source, rest),
+        }
+    }
+
+    /// A clause is added at a side, unless its procedure is static.
+    fn add_clause(
+        &mut self,
+        program: &Program,
+        side: Side,
+        clause: Clause,
+        source: Source,
+        rest: Continuation,
+    ) -> Result<(), AllocError>
+        requires begun { IsBegun program.now self.old }
+        requires source { (t : Tree) × StandsFor self.old.stack source t }
+        requires rest { IsList self.old.stack rest }
+        ensures ok { (t : Tree) → StandsFor self.old.stack source t → OnOk result (Moved program.now self.old self.new (unless (unchangeable program.now (indicator clause.head)) (indicator t) (goals_of self.old.stack rest) (local_of self.old) (publish (added side clause ∷ []) (goals_of self.old.stack rest) self.old.stack.env.count (local_of self.old)))) }
+        ensures err { OnErr result (Stays program.now self.old self.new) }
+    {
+        let procedure = clause.indicator()?;
+        if let Some(error) = unchangeable(self.alloc, program, &procedure)? {
+            return self.raise_of(program, error, source, rest);
+        }
+        let mut updates = Vec::new(self.alloc);
+        updates.push(update_of(side, clause))?;
+        self.publish(program, updates, rest);
+        Ok(())
+    }
+
+    /// Updates are published as one batch, of which there is none without an update.
+    pub fn publish(&mut self, program: &Program, updates: Vec<Update>, rest: Continuation)
+        requires { IsList self.old.stack rest }
+        ensures { Moved program.now self.old self.new (publish updates.items (goals_of self.old.stack rest) self.old.stack.env.count (local_of self.old)) }
+    {
+        if updates.is_empty() {
+            self.go_on(rest);
+            return;
+        }
+        let request = Request::Publish(Batch::new(updates));
+        self.ask(program, Question::Await(request, Then::GoesOn), rest);
+    }
+
+    /// clause/2.
+    #[inline(never)]
+    pub fn retrieve(
+        &mut self,
+        program: &Program,
+        head: Cell,
+        body: Cell,
+        source: Source,
+        rest: Continuation,
+    ) -> Result<(), AllocError>
+        requires begun { IsBegun program.now self.old }
+        requires head { IsValue self.old.stack.env.heap head }
+        requires body { IsValue self.old.stack.env.heap body }
+        requires source { (t : Tree) × StandsFor self.old.stack source t }
+        requires rest { IsList self.old.stack rest }
+        ensures ok { (t : Tree) → StandsFor self.old.stack source t → OnOk result (Moved program.now self.old self.new (unless (or_else (no_head (value self.old.stack.env.heap head)) (or_else (no_body (value self.old.stack.env.heap body)) (unreadable (indicator (value self.old.stack.env.heap head))))) (indicator t) (goals_of self.old.stack rest) (local_of self.old) (retrieving (clauses_for program.now (indicator (value self.old.stack.env.heap head))) (depth_of program.now self.old) (value self.old.stack.env.heap head) (value self.old.stack.env.heap body) (goals_of self.old.stack rest) self.old.stack.env.count (local_of self.old)))) }
+        ensures err { OnErr result (Stays program.now self.old self.new) }
+    {
+        let heap = self.stack.env().heap();
+        if let Some(error) = not_told(self.alloc, program, heap, head, body)? {
+            return self.raise_of(program, error, source, rest);
+        }
+        self.retrieve_all(program, head, body, rest)
+    }
+
+    /// The clauses of a head and a body, of the program's text or of a view.
+    fn retrieve_all(
+        &mut self,
+        program: &Program,
+        head: Cell,
+        body: Cell,
+        rest: Continuation,
+    ) -> Result<(), AllocError>
+        requires head { IsValue self.old.stack.env.heap head }
+        requires body { IsValue self.old.stack.env.heap body }
+        requires rest { IsList self.old.stack rest }
+        ensures ok { OnOk result (Moved program.now self.old self.new (retrieving (clauses_for program.now (indicator (value self.old.stack.env.heap head))) (depth_of program.now self.old) (value self.old.stack.env.heap head) (value self.old.stack.env.heap body) (goals_of self.old.stack rest) self.old.stack.env.count (local_of self.old))) }
+        ensures err { OnErr result (Stays program.now self.old self.new) }
+    {
+        let p = indicator_of(self.alloc, self.stack.env().heap(), head)?;
+        let clauses = program.clauses_of(&p);
+        if clauses.is_empty() {
+            self.ask(
+                program,
+                Question::Look(Lookup::ToRetrieve(head, body)),
+                rest,
+            );
+            return Ok(());
+        }
+        let candidates = facts(self.alloc, clauses)?;
+        self.match_clauses(program, head, body, candidates, rest)
+    }
+
+    /// A head and a body, as one term, are resolved with candidates.
+    pub fn match_clauses(
+        &mut self,
+        program: &Program,
+        head: Cell,
+        body: Cell,
+        candidates: Vec<Candidate>,
+        rest: Continuation,
+    ) -> Result<(), AllocError>
+        requires head { IsValue self.old.stack.env.heap head }
+        requires body { IsValue self.old.stack.env.heap body }
+        requires rest { IsList self.old.stack rest }
+        ensures ok { OnOk result (Moved program.now self.old self.new (choose (candidates_left (depth_of program.now self.old) self.old.stack.env (clause_term (value self.old.stack.env.heap head) (value self.old.stack.env.heap body)) (goals_of self.old.stack rest) candidates.items) (local_of self.old))) }
+        ensures err { OnErr result (Stays program.now self.old self.new) }
+    {
+        let goal = self.stack.put_clause_term(self.alloc, head, body)?;
+        self.try_candidates(program, goal, candidates, rest)
+    }
+
+    /// A goal is resolved with candidates, in their order.
+    pub fn try_candidates(
+        &mut self,
+        program: &Program,
+        goal: Cell,
+        candidates: Vec<Candidate>,
+        rest: Continuation,
+    ) -> Result<(), AllocError>
+        requires goal { IsValue self.old.stack.env.heap goal }
+        requires rest { IsList self.old.stack rest }
+        ensures ok { OnOk result (Moved program.now self.old self.new (choose (candidates_left (depth_of program.now self.old) self.old.stack.env (value self.old.stack.env.heap goal) (goals_of self.old.stack rest) candidates.items) (local_of self.old))) }
+        ensures err { OnErr result (Stays program.now self.old self.new) }
+    {
+        match self.stack.call_copies(self.alloc, goal, candidates, rest)? {
+            Some(entered) => self.mode = mode_of(entered),
+            None => self.mode = Mode::Back(Outcome::Fail),
+        }
+        Ok(())
+    }
+
+    /// retract/1.
+    #[inline(never)]
+    pub fn retract(
+        &mut self,
+        program: &Program,
+        c: Cell,
+        source: Source,
+        rest: Continuation,
+    ) -> Result<(), AllocError>
+        requires begun { IsBegun program.now self.old }
+        requires clause { IsValue self.old.stack.env.heap c }
+        requires source { (t : Tree) × StandsFor self.old.stack source t }
+        requires rest { IsList self.old.stack rest }
+        ensures ok { (t : Tree) → StandsFor self.old.stack source t → OnOk result (Moved program.now self.old self.new (unless (unerasable program.now (halves (value self.old.stack.env.heap c)).0) (indicator t) (goals_of self.old.stack rest) (local_of self.old) (went_on (Asking (Look (ToRetract (halves (value self.old.stack.env.heap c)).0 (halves (value self.old.stack.env.heap c)).1)) ∷ goals_of self.old.stack rest) self.old.stack.env.count (local_of self.old)))) }
+        ensures err { OnErr result (Stays program.now self.old self.new) }
+    {
+        let heap = self.stack.env().heap();
+        let neck = neck_of(heap, c);
+        let head = neck.map_or(c, |neck| neck.head);
+        if let Some(error) = unerasable(self.alloc, program, heap, head)? {
+            return self.raise_of(program, error, source, rest);
+        }
+        let body = match neck {
+            Some(neck) => neck.body,
+            None => self.stack.put_true(self.alloc)?,
+        };
+        self.ask(program, Question::Look(Lookup::ToRetract(head, body)), rest);
+        Ok(())
+    }
+
+    /// retractall/1.
+    #[inline(never)]
+    pub fn retract_all(
+        &mut self,
+        program: &Program,
+        head: Cell,
+        source: Source,
+        rest: Continuation,
+    ) -> Result<(), AllocError>
+        requires begun { IsBegun program.now self.old }
+        requires head { IsValue self.old.stack.env.heap head }
+        requires source { (t : Tree) × StandsFor self.old.stack source t }
+        requires rest { IsList self.old.stack rest }
+        ensures ok { (t : Tree) → StandsFor self.old.stack source t → OnOk result (Moved program.now self.old self.new (unless (unerasable program.now (value self.old.stack.env.heap head)) (indicator t) (goals_of self.old.stack rest) (local_of self.old) (went_on (Asking (Look (ToRetractAll (value self.old.stack.env.heap head))) ∷ goals_of self.old.stack rest) self.old.stack.env.count (local_of self.old)))) }
+        ensures err { OnErr result (Stays program.now self.old self.new) }
+    {
+        let heap = self.stack.env().heap();
+        if let Some(error) = unerasable(self.alloc, program, heap, head)? {
+            return self.raise_of(program, error, source, rest);
+        }
+        self.ask(program, Question::Look(Lookup::ToRetractAll(head)), rest);
+        Ok(())
+    }
+
+    /// dynamic/1.
+    #[inline(never)]
+    pub fn declare(
+        &mut self,
+        program: &Program,
+        names: Cell,
+        source: Source,
+        rest: Continuation,
+    ) -> Result<(), AllocError>
+        requires begun { IsBegun program.now self.old }
+        requires names { IsValue self.old.stack.env.heap names }
+        requires source { (t : Tree) × StandsFor self.old.stack source t }
+        requires rest { IsList self.old.stack rest }
+        ensures ok { (t : Tree) → StandsFor self.old.stack source t → OnOk result (Moved program.now self.old self.new (unless (undeclarable program.now (named_terms (value self.old.stack.env.heap names))) (indicator t) (goals_of self.old.stack rest) (local_of self.old) (publish (map Declare (filter_map named_by (named_terms (value self.old.stack.env.heap names)))) (goals_of self.old.stack rest) self.old.stack.env.count (local_of self.old)))) }
+        ensures err { OnErr result (Stays program.now self.old self.new) }
+    {
+        let term = self.stack.env().heap().take(self.alloc, names)?;
+        let terms = named_terms(self.alloc, &term.root())?;
+        match declared(self.alloc, program, &terms)? {
+            Declaration::Refused(error) => self.raise_of(program, error, source, rest),
+            Declaration::Updates(updates) => {
+                self.publish(program, updates, rest);
+                Ok(())
+            }
+        }
+    }
+}
+
+/// What comes first, where a goal was resolved with a candidate: the candidate is erased, or its list goes on.
+pub fn mode_of(entered: Entered) -> Mode
+    ensures { result ≡ entered_mode entered }
+{
+    match entered.erased {
+        Some(name) => Mode::Ask(Question::Await(Request::EraseOne(name), Then::GoesOn)),
+        None => Mode::Visit,
+    }
+}
+
+/// The update that adds a clause at a side.
+fn update_of(side: Side, clause: Clause) -> Update
+    ensures { result ≡ added side clause }
+{
+    match side {
+        Side::Front => Update::First(clause),
+        Side::Back => Update::Last(clause),
+    }
+}
+
+/// A head and a body, as they stand in a term.
+#[derive(Clone, Copy)]
+struct Neck {
+    head: Cell,
+    body: Cell,
+}
+
+/// The head and the body of a term `Head :- Body`.
+fn neck_of(heap: &Heap, c: Cell) -> Option<Neck>
+    requires { IsValue heap.now c }
+    ensures some { IfSome result (IsNeck heap.now c) }
+    ensures none { IfNone result (neck_parts (value heap.now c) ≡ None) }
+{
+    let Cell::Str(p) = heap.root(c) else {
+        return None;
+    };
+    let (f, arity) = heap.block(p);
+    if arity != 2 {
+        return None;
+    }
+    let functor = heap.names().functor_of(f);
+    if heap.names().atom_name(functor.name).as_str() != ":-" {
+        return None;
+    }
+    Some(Neck {
+        head: heap.argument(p + 1),
+        body: heap.argument(p + 2),
+    })
+}
+
+/// The error where the clauses of a head and a body are not told.
+fn not_told(
+    alloc: Global,
+    program: &Program,
+    heap: &Heap,
+    head: Cell,
+    body: Cell,
+) -> Result<Option<Term>, AllocError>
+    requires head { IsValue heap.now head }
+    requires body { IsValue heap.now body }
+    ensures { IfOk result (λ o. o ≡ or_else (no_head (value heap.now head)) (or_else (no_body (value heap.now body)) (unreadable (indicator (value heap.now head))))) }
+{
+    let error = no_head(alloc, heap, head)?;
+    if error.is_some() {
+        return Ok(error);
+    }
+    let error = no_body(alloc, heap, body)?;
+    if error.is_some() {
+        return Ok(error);
+    }
+    let p = indicator_of(alloc, heap, head)?;
+    unreadable(alloc, program, &p)
+}

@@ -1,0 +1,5 @@
+use Rattle.plenv.proofs.Keeping.{Keeps-trans}
+use Rattle.plstack.proofs.head.try_head.Goals as goal
+
+pub returns-clause-keeps : goal.returns-clause-keeps
+returns-clause-keeps c = Keeps-trans _ _ _ c.in_ok-head.ensures.keeps c.unify_in_choice.ensures.keeps
