@@ -1,6 +1,7 @@
 //! The journal and its requests (plworld).
 use crate::made::clause;
-use plevent::{Act, Batch, ClauseName, Entry, Reply, Request, ThreadEnd, Update};
+use plevent::{Act, Batch, ClauseName, Entry, Key, Reply, Request, ThreadEnd, Update};
+use plstore::{Cursor, Found, Query};
 use plterm::error::TermError;
 use plterm::indicator::Indicator;
 use plterm::name::Name;
@@ -193,6 +194,58 @@ fn a_clause_is_erased_once(rt: HostRuntime) -> Result<(), Fail> {
     assert_eq!(rt; alive_at(rt.alloc(), &world, 3)?, 1);
     assert_eq!(rt; alive_at(rt.alloc(), &world, 4)?, 0);
     assert!(rt; is_erased_last(world.close().as_slice()));
+    Ok(())
+}
+
+/// The procedure p/0.
+fn pred(alloc: Global) -> Result<Indicator, AllocError> {
+    let name = Name::new(alloc, "p")?;
+    Ok(Indicator { name, arity: 0 })
+}
+
+/// Whether p/0 exists at a time.
+fn exists_at(alloc: Global, world: &World, g: u64) -> Result<bool, AllocError> {
+    match world.look(g, &Query::Exists(pred(alloc)?))? {
+        Found::Exists(there) => Ok(there),
+        Found::Next(_) | Found::Clause(_) => Ok(false),
+    }
+}
+
+/// The place of the first clause of p/0 at a time.
+fn first_at(alloc: Global, world: &World, g: u64) -> Result<Option<u64>, AllocError> {
+    let query = Query::NextLike(pred(alloc)?, Key::Any, Cursor::Start);
+    match world.look(g, &query)? {
+        Found::Next(Some(name)) => Ok(Some(name.place)),
+        Found::Next(None) | Found::Clause(_) | Found::Exists(_) => Ok(None),
+    }
+}
+
+/// Whether the clause of place 2 is found at a time.
+fn is_found_at(world: &World, g: u64) -> Result<bool, AllocError> {
+    match world.look(g, &Query::Clause(named(2, 0)))? {
+        Found::Clause(clause) => Ok(clause.is_some()),
+        Found::Next(_) | Found::Exists(_) => Ok(false),
+    }
+}
+
+/// A time, and what is found then: whether p/0 exists, the place of its first clause, and whether that of place 2 is found.
+const LOOKS: [(u64, bool, Option<u64>, bool); 3] = [
+    (2, false, None, false),
+    (3, true, Some(2), true),
+    (4, true, None, false),
+];
+
+// Each query is answered as of its time: main's clause is there at 3 alone, and its procedure from then on.
+#[test]
+fn looks_by_time(rt: HostRuntime) -> Result<(), Fail> {
+    let alloc = rt.alloc();
+    let mut world = begun(alloc)?;
+    ask(alloc, &mut world, (1, 1), &Request::EraseOne(named(2, 0)))?;
+    for (g, exists, first, is_found) in LOOKS {
+        assert!(rt; exists_at(alloc, &world, g)? == exists, "at {g}");
+        assert!(rt; first_at(alloc, &world, g)? == first, "at {g}");
+        assert!(rt; is_found_at(&world, g)? == is_found, "at {g}");
+    }
     Ok(())
 }
 
