@@ -9,12 +9,12 @@ use Rattle.plevent.specs.declared.request.Request.TheVariants.{Publish, EraseOne
 use Rattle.plprogram.specs.Program.{Program}
 use Rattle.plsearch.specs.Types.{Result, Stop, Fail, CutTo, Throw, Halted, Spent, Element, Asking, Lookup, ToCall, ToRetrieve, ToRetract, ToRetractAll, Question, Look, Await, GoesOn, Ends, Case, Local, Move}
 use Rattle.plsearch.specs.Types.{Then as Following}
-use Rattle.plsearch.specs.Engine.{deeper}
 use Rattle.plsearch.specs.Machines.Machine.{Mode, At, Back, Machine, Rest, move}
 use Rattle.plsearch.specs.Search.{ending_of}
 use Rattle.plcode.specs.Callees.{IsProgramCode}
-use Rattle.plstack.specs.State.{State, cases_of, goals_of}
-use Rattle.plstack.specs.StaticCalls.{statics_of}
+use Rattle.plstack.specs.State.{State, cases_of, depth_in, goals_of}
+use Rattle.plstack.specs.Places.{Views}
+use Rattle.plstack.specs.StaticCalls.{database_of}
 use Rattle.plmachine.specs.declared.machine.Outcome.{Outcome}
 use Rattle.plmachine.specs.declared.machine.Outcome.TheVariants as outcomes
 use Rattle.plmachine.specs.declared.machine.Then.{Then}
@@ -61,26 +61,27 @@ mode_of (modes.Back r) s = Back (result_of r)
 abbrev pub local_of : Reached → Local
 local_of s = record { out = s.out.items; settings = s.settings; kept = s.kept }
 
-abbrev pub cases_in : Program → Reached → List Case
-cases_in P s = cases_of (statics_of P) s.stack
+abbrev pub cases_in : Program → Views → Reached → List Case
+cases_in P v s = cases_of (database_of P v) s.stack
 
--- the machine of the definition, with so many steps and these answers left
-unfoldable pub machine : Program → ℕ → List Answer → Reached → Machine
-machine P left answers s = record {
+-- the machine of the definition, where the views are these, with so many steps and these answers left
+unfoldable pub machine : Program → Views → ℕ → List Answer → Reached → Machine
+machine P v left answers s = record {
   mode = mode_of s.mode s.stack;
-  cases = cases_in P s;
+  cases = cases_in P v s;
   run = record { steps = left; answers = answers; local = local_of s };
 }
 
-abbrev pub depth_of : Program → Reached → ℕ
-depth_of P s = deeper (cases_in P s) 0
+-- how many cases are open
+abbrev pub depth_of : Reached → ℕ
+depth_of s = depth_in s.stack
 
 -- what the search ends with from here, and after a move
-abbrev pub now : Program → Reached → ℕ → ℕ → List Answer → Ending
-now P s most left answers = ending_of most (Rest P (machine P left answers s))
+abbrev pub now : Program → Views → Reached → ℕ → ℕ → List Answer → Ending
+now P v s most left answers = ending_of most (Rest P (machine P v left answers s))
 
-abbrev pub after : Program → Reached → ℕ → ℕ → List Answer → Move → Ending
-after P s most left answers m = ending_of most (Rest P (move (cases_in P s) (record { steps = left; answers = answers; local = local_of s }) m))
+abbrev pub after : Program → Views → Reached → ℕ → ℕ → List Answer → Move → Ending
+after P v s most left answers m = ending_of most (Rest P (move (cases_in P v s) (record { steps = left; answers = answers; local = local_of s }) m))
 
 -- its code is that of the program
 abbrev pub IsBegun : Program → Reached → Type 0
@@ -115,15 +116,15 @@ MayAsk h (modes.Back r) = ⊤
 pub record Moved (P : Program) (old new : Reached) (m : Move) : Type 0 where
   pub code : new.stack.code ≡ old.stack.code
   pub askable : MayAsk new.stack.env.heap new.mode
-  pub ends : (most left : ℕ) (answers : List Answer) → after P old most left answers m ≡ now P new most left answers
+  pub ends : (v : Views) (most left : ℕ) (answers : List Answer) → after P v old most left answers m ≡ now P v new most left answers
 
 -- it stands where it stood
 pub record Stays (P : Program) (old new : Reached) : Type 0 where
   pub code : new.stack.code ≡ old.stack.code
-  pub cases : cases_in P new ≡ cases_in P old
+  pub cases : (v : Views) → cases_in P v new ≡ cases_in P v old
   pub local : local_of new ≡ local_of old
   pub askable : MayAsk old.stack.env.heap old.mode → MayAsk new.stack.env.heap new.mode
-  pub same : MayAsk old.stack.env.heap old.mode → (left : ℕ) (answers : List Answer) → machine P left answers new ≡ machine P left answers old
+  pub same : MayAsk old.stack.env.heap old.mode → (v : Views) (left : ℕ) (answers : List Answer) → machine P v left answers new ≡ machine P v left answers old
 
 abbrev pub is_var : Tree → Bool
 is_var (var x) = true

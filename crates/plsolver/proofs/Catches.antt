@@ -22,7 +22,7 @@ use Rattle.plstack.specs.declared.frame.Handler.TheVariants as handlers
 use Rattle.plstack.specs.declared.frame.Handling.{Handling}
 use Rattle.plstack.specs.declared.frame.Closed.{Closed}
 use Rattle.plstack.specs.declared.frame.Closed.TheVariants as closes
-use Rattle.plstack.specs.Places.{Statics}
+use Rattle.plstack.specs.Places.{Database}
 use Rattle.plstack.specs.State.{State, IsList, IsHandler, BeginsWith, HasHandler, AtHandler, Extends, Unifies, Recovers, cases_of, goals_of, place_of}
 use Rattle.plstack.specs.StaticCalls.{statics_of}
 use Rattle.plstack.specs.Opening.{ClosedAs}
@@ -40,12 +40,12 @@ tail_is : (x y : Case) (xs ys : List Case) → x ∷ xs ≡ y ∷ ys → xs ≡ 
 tail_is x y xs ys e = cc
 
 -- the innermost case was closed
-pub closed-below : (statics : Statics) (s new : State) (h : Case) (below : List Case) (r : Option Closed) → IfSome r (λ k. (statics : Statics) → ClosedAs statics s new k) → IfNone r ((statics : Statics) → cases_of statics s ≡ []) →
-    cases_of statics s ≡ h ∷ below → cases_of statics new ≡ below
-closed-below statics s new h below None some none was = let e : h ∷ below ≡ [] = sym was ∙ none statics in absurd cc
-closed-below statics s new h below (Some closes.Choice) some none was = tail_is _ h _ below (sym (some statics).1 ∙ was)
-closed-below statics s new h below (Some (closes.Mark l)) some none was = tail_is _ h _ below (sym (some statics) ∙ was)
-closed-below statics s new h below (Some closes.Handler) some none was = tail_is _ h _ below (sym (some statics).2 ∙ was)
+pub closed-below : (db : Database) (s new : State) (h : Case) (below : List Case) (r : Option Closed) → IfSome r (λ k. (db : Database) → ClosedAs db s new k) → IfNone r ((db : Database) → cases_of db s ≡ []) →
+    cases_of db s ≡ h ∷ below → cases_of db new ≡ below
+closed-below db s new h below None some none was = let e : h ∷ below ≡ [] = sym was ∙ none db in absurd cc
+closed-below db s new h below (Some closes.Choice) some none was = tail_is _ h _ below (sym (some db).1 ∙ was)
+closed-below db s new h below (Some (closes.Mark l)) some none was = tail_is _ h _ below (sym (some db) ∙ was)
+closed-below db s new h below (Some closes.Handler) some none was = tail_is _ h _ below (sym (some db).2 ∙ was)
 
 pub rethrows : (P : Program) (s new : Progress) (st : State) (e : Tree) (list : Continuation) (o : Outcome) → result_of o ≡ Throw (copied 0 (error_term e catch_3)) (levels (goals_of s.machine.stack list)) → st.code ≡ s.machine.stack.code →
     ((h : Case) (below : List Case) → cases_in P s.machine ≡ h ∷ below → cases_of (statics_of P) st ≡ below) → new ≡ to s st (modes.Back o) → Rethrown P s new e list
@@ -84,7 +84,7 @@ recovered-raises P s new st e recovery list g l runs did = record {
 
 -- the recovery is run
 pub recovered-runs : (P : Program) (s : Progress) (st linked last : State) (recovery : Cell) (list : Continuation) (goal : Cell) (level : ℕ) (made : Continuation) → Grown s.machine.stack st → IsList s.machine.stack list →
-    runnable (value s.machine.stack.env.heap recovery) ≡ Runs (value st.env.heap goal) → ((statics : Statics) → deeper (cases_of statics st) 0 ≡ level + 1) → Extends st linked → linked.env ≡ st.env →
+    runnable (value s.machine.stack.env.heap recovery) ≡ Runs (value st.env.heap goal) → ((db : Database) → deeper (cases_of db st) 0 ≡ level + 1) → Extends st linked → linked.env ≡ st.env →
     goals_of linked made ≡ Goal level (value st.env.heap goal) ∷ goals_of st list → Recovers linked last made → last.code ≡ linked.code → (kept : List Kept) → kept ≡ kept_below level s.machine.kept →
     Recovered P s (record s { machine = record s.machine { stack = last; mode = modes.Visit; kept = kept } }) recovery list
 recovered-runs P s st linked last recovery list goal level made g l runs at e env goals did code kept kept_is = record {
@@ -111,7 +111,7 @@ handler-stays s t same has = subst (λ fs. BeginsWith IsHandler (reverse fs)) (s
 
 -- the ball at its catcher
 module _ (P : Program) (s : Progress) (o : Outcome) (ball : Tree) (found : List ℕ) (at : s.machine.mode ≡ modes.Back o) (carries : result_of o ≡ Throw ball found) (st : State) (k : Handling) (code : st.code ≡ s.machine.stack.code)
-    (same : (statics : Statics) → cases_of statics st ≡ cases_of statics s.machine.stack) (x : Catcher) (here : AtHandler st (handlers.Catch x) k.list) (active : has (depth_of P s.machine - 1) found ≡ true) (put : State) (grew : Extends st put) (v : Cell)
+    (same : (db : Database) → cases_of db st ≡ cases_of db s.machine.stack) (x : Catcher) (here : AtHandler st (handlers.Catch x) k.list) (active : has (depth_of s.machine - 1) found ≡ true) (put : State) (grew : Extends st put) (v : Cell)
     (copy : value put.env.heap v ≡ copied st.env.count ball) where
   -- the handler that the frame stands for
   abbrev catcher : Tree
@@ -125,7 +125,7 @@ module _ (P : Program) (s : Progress) (o : Outcome) (ball : Tree) (found : List 
 
   is-active : has (deeper (here.below (statics_of P)) 0) found ≡ true
   is-active =
-      let d : depth_of P s.machine - 1 ≡ deeper (here.below (statics_of P)) 0 = omega (arith, ap (λ cs. deeper cs 0) cases-are) in
+      let d : depth_of s.machine - 1 ≡ deeper (here.below (statics_of P)) 0 = omega (arith, ap (λ cs. deeper cs 0) cases-are) in
       subst (λ d. has d found ≡ true) d active
 
   sides : unify catcher (copied st.env.count ball) ≡ unify (value put.env.heap x.catcher) (value put.env.heap v)

@@ -5,7 +5,7 @@ use Rattle.plsearch.specs.Types.{Case, Choice, Mark, Handle}
 use Rattle.plsearch.specs.Machines.Levels.{AreAtMost, emptied}
 use Rattle.plsearch.specs.Machines.Weight.{case_weight, cases_weight}
 use Rattle.pllinks.specs.declared.link.Continuation.{Continuation}
-use Rattle.plstack.specs.Places.{Statics}
+use Rattle.plstack.specs.Places.{Database}
 use Rattle.plstack.specs.State.{State, cases_of, goals_of}
 use Rattle.plstack.specs.StaticCalls.{statics_of}
 use Rattle.plstack.specs.Cutting.{Empties, Cuts}
@@ -24,7 +24,7 @@ emptied-weight (c ∷ cs) base base' le = omega (arith, some-weight c, emptied-w
 pub cut-weight : (P : Program) (old new : State) (level : ℕ) (list : Continuation) → Cuts old new level list → cases_weight (cases_of (statics_of P) new) ≤ cases_weight (cases_of (statics_of P) old) + 1
 cut-weight P old new level list cut = go cut.cases
   where
-    go : ((statics : Statics) → cases_of statics new ≡ Mark level ∷ cases_of statics old) ⊎ (AreAtMost level (goals_of old list) × ((statics : Statics) → Empties statics old new level)) →
+    go : ((db : Database) → cases_of db new ≡ Mark level ∷ cases_of db old) ⊎ (AreAtMost level (goals_of old list) × ((db : Database) → Empties db old new level)) →
         cases_weight (cases_of (statics_of P) new) ≤ cases_weight (cases_of (statics_of P) old) + 1
     go (inl marked) = rw (marked (statics_of P)) (omega arith)
     go (inr both) =

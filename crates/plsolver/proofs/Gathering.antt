@@ -12,7 +12,7 @@ use Rattle.plsearch.specs.Rows.{gathering}
 use Rattle.plsearch.specs.Engine.{deeper}
 use Rattle.pllinks.specs.declared.link.Continuation.{Continuation}
 use Rattle.plstack.specs.declared.frame.Handler.TheVariants as handlers
-use Rattle.plstack.specs.Places.{Statics}
+use Rattle.plstack.specs.Places.{Database}
 use Rattle.plstack.specs.State.{State, IsList, HasHandler, AtHandler, Extends, Leaves, cases_of, goals_of}
 use Rattle.plstack.specs.StaticCalls.{statics_of}
 use Rattle.plmachine.specs.declared.machine.Outcome.TheVariants as outcomes
@@ -25,7 +25,7 @@ use Rattle.plsolver.proofs.Quiets.{quiet-unlike, quiet-gathered}
 use Rattle.plsolver.proofs.Catches.{handler-stays}
 
 module _ (P : Program) (s : Progress) (at : s.machine.mode ≡ modes.Back outcomes.Fail) (st : State) (list : Continuation) (v : Cell) (code : st.code ≡ s.machine.stack.code)
-    (same : (statics : Statics) → cases_of statics st ≡ cases_of statics s.machine.stack) (here : AtHandler st (handlers.Gather v) list) (level : ℕ) (up : (statics : Statics) → deeper (cases_of statics st) 0 ≡ level + 1) where
+    (same : (db : Database) → cases_of db st ≡ cases_of db s.machine.stack) (here : AtHandler st (handlers.Gather v) list) (level : ℕ) (up : (db : Database) → deeper (cases_of db st) 0 ≡ level + 1) where
   abbrev whole : Tree
   whole = value st.env.heap v
 

@@ -111,7 +111,7 @@ unfolding turn machine meet
 spends P s k t rest at goals all =
     quiet P s s.machine.stack (modes.Back outcomes.Spent) refl tt
     (λ left answers few.
-    spent P (cases_in P s.machine) (select P k t (depth_of P s.machine) rest s.machine.stack.env.count) (record { steps = left; answers = answers; local = local_of s.machine }) left (omega (arith, few, all))
+    spent P (cases_in P s.machine) (select P k t (depth_of s.machine) rest s.machine.stack.env.count) (record { steps = left; answers = answers; local = local_of s.machine }) left (omega (arith, few, all))
     ∙ sym (ap (turn P) (at-goals P s.machine (Goal k t ∷ rest) at goals left answers)))
     (λ r is no. not_back s.machine r at is)
 

@@ -106,7 +106,7 @@ visit-place s es at goals = ap (λ m. mode_of m s.stack) at ∙ ap (λ gs. At (r
 
 -- the turn of a goal that is due
 due-turn : (P : Program) (s : Reached) (k : ℕ) (t : Tree) (rest : List Element) → s.mode ≡ modes.Visit → goals_of s.stack s.stack.goals ≡ Goal k t ∷ rest → (left : ℕ) (answers : List Answer) →
-    turn P (machine P (suc left) answers s) ≡ move (cases_in P s) (record { steps = left; answers = answers; local = local_of s }) (select P k t (depth_of P s) rest s.stack.env.count (local_of s))
+    turn P (machine P (suc left) answers s) ≡ move (cases_in P s) (record { steps = left; answers = answers; local = local_of s }) (select P k t (depth_of s) rest s.stack.env.count (local_of s))
 unfolding turn meet
 due-turn P s k t rest at goals left answers =
     ap (turn P) (at-place P s (record { goals = Goal k t ∷ rest; variables = s.stack.env.count }) (visit-place s (Goal k t ∷ rest) at goals) (suc left) answers)
@@ -252,14 +252,14 @@ says-ended P s e r within at none is = ends P s e r within at none is
 -- the next answer, at what is asked before a list
 answer-turn : (P : Program) (s : Reached) (e : Element) (rest : List Element) (q : Item) (a : Answer) → mode_of s.mode s.stack ≡ At (record { goals = e ∷ rest; variables = s.stack.env.count }) →
     ((w : Local) → meet e rest w ≡ Asks q) → (left : ℕ) (answers : List Answer) →
-    turn P (machine P left (a ∷ answers) s) ≡ move (cases_in P s) (record { steps = left; answers = answers; local = local_of s }) (answered e a (depth_of P s) rest s.stack.env.count (local_of s))
+    turn P (machine P left (a ∷ answers) s) ≡ move (cases_in P s) (record { steps = left; answers = answers; local = local_of s }) (answered e a (depth_of s) rest s.stack.env.count (local_of s))
 unfolding turn
 answer-turn P s e rest q a at asks left answers =
     ap (turn P) (at-place P s (record { goals = e ∷ rest; variables = s.stack.env.count }) at left (a ∷ answers))
     ∙ ap (meets P (cases_in P s) e rest s.stack.env.count (record { steps = left; answers = a ∷ answers; local = local_of s })) (asks (local_of s))
 
 takes : (P : Program) (s new : Progress) (e : Element) (rest : List Element) (q : Item) (a : Answer) (m : Move) → mode_of s.machine.mode s.machine.stack ≡ At (record { goals = e ∷ rest; variables = s.machine.stack.env.count }) →
-    ((w : Local) → meet e rest w ≡ Asks q) → m ≡ answered e a (depth_of P s.machine) rest s.machine.stack.env.count (local_of s.machine) → new.used ≡ s.used → new.limit ≡ s.limit →
+    ((w : Local) → meet e rest w ≡ Asks q) → m ≡ answered e a (depth_of s.machine) rest s.machine.stack.env.count (local_of s.machine) → new.used ≡ s.used → new.limit ≡ s.limit →
     ((most left : ℕ) (answers : List Answer) → after P s.machine most left answers m ≡ now P new.machine most left answers) →
     TakesOne a (rest_of P s) s.used (rest_of P new) new.used
 unfolding rest_of
@@ -275,12 +275,12 @@ takes P s new e rest q a m at asks is used limit ends = (
 )
 
 pub takes-look : (P : Program) (s new : Progress) (u : Lookup) (g : ℕ) (us : List Stamped) → s.machine.mode ≡ modes.Ask (questions.Look u) → new.used ≡ s.used → new.limit ≡ s.limit →
-    Moved P s.machine new.machine (looked_up us (lookup_of s.machine.stack.env.heap u) (depth_of P s.machine) (goals_of s.machine.stack s.machine.stack.goals) s.machine.stack.env.count (local_of s.machine)) →
+    Moved P s.machine new.machine (looked_up us (lookup_of s.machine.stack.env.heap u) (depth_of s.machine) (goals_of s.machine.stack s.machine.stack.goals) s.machine.stack.env.count (local_of s.machine)) →
     TakesOne (Seen g us) (rest_of P s) s.used (rest_of P new) new.used
 unfolding meet answered
 takes-look P s new u g us at used limit moved =
     takes P s new (Asking (Look (lookup_of s.machine.stack.env.heap u))) (goals_of s.machine.stack s.machine.stack.goals) View (Seen g us)
-    (looked_up us (lookup_of s.machine.stack.env.heap u) (depth_of P s.machine) (goals_of s.machine.stack s.machine.stack.goals) s.machine.stack.env.count (local_of s.machine))
+    (looked_up us (lookup_of s.machine.stack.env.heap u) (depth_of s.machine) (goals_of s.machine.stack s.machine.stack.goals) s.machine.stack.env.count (local_of s.machine))
     (ap (λ m. mode_of m s.machine.stack) at) (λ w. refl) refl used limit moved.ends
 
 -- a request that was served, or came too late
@@ -327,7 +327,7 @@ replied P s new q next r fits asked used limit is =
 -- ---- a goal that is selected
 
 -- the row of the goal that stands first
-pub selects-row : (P : Program) (s new : Reached) (k : ℕ) (t : Tree) (rest : List Element) → goals_of s.stack s.stack.goals ≡ Goal k t ∷ rest → Moved P s new (row P (form t) k t (depth_of P s) rest s.stack.env.count (local_of s)) → Selects P s new
+pub selects-row : (P : Program) (s new : Reached) (k : ℕ) (t : Tree) (rest : List Element) → goals_of s.stack s.stack.goals ≡ Goal k t ∷ rest → Moved P s new (row P (form t) k t (depth_of s) rest s.stack.env.count (local_of s)) → Selects P s new
 unfolding select
 selects-row P s new k t rest is moved k' t' rest' goals =
     let same : Goal k t ∷ rest ≡ Goal k' t' ∷ rest' = sym is ∙ goals in
@@ -335,7 +335,7 @@ selects-row P s new k t rest is moved k' t' rest' goals =
     let goal : t ≡ t' = cc in
     let behind : rest ≡ rest' = cc in
     subst (λ m. Moved P s new m)
-    (ap₂ (λ k t. row P (form t) k t (depth_of P s) rest s.stack.env.count (local_of s)) level goal ∙ ap (λ es. row P (form t') k' t' (depth_of P s) es s.stack.env.count (local_of s)) behind) moved
+    (ap₂ (λ k t. row P (form t) k t (depth_of s) rest s.stack.env.count (local_of s)) level goal ∙ ap (λ es. row P (form t') k' t' (depth_of s) es s.stack.env.count (local_of s)) behind) moved
 
 pub selects-both : (P : Program) (s new : Reached) (next : Continuation) → AtBoth s.stack (goals_of s.stack s.stack.goals) next → new ≡ record s { stack = record s.stack { goals = next }; mode = modes.Visit } → Selects P s new
 unfolding row cases_of
@@ -343,7 +343,7 @@ selects-both P s new next b is =
     let n : ℕ = s.stack.env.count in
     let w : Local = local_of s in
     selects-row P s new b.level (of_two (codes ",") b.left b.right) b.rest b.goals
-    (subst (λ f. Moved P s new (row P f b.level (of_two (codes ",") b.left b.right) (depth_of P s) b.rest n w)) (sym b.form_is)
+    (subst (λ f. Moved P s new (row P f b.level (of_two (codes ",") b.left b.right) (depth_of s) b.rest n w)) (sym b.form_is)
     (goes-to P s new [] (record { goals = Goal b.level b.left ∷ Goal b.level b.right ∷ b.rest; variables = n }) w (ap (λ x. x.stack.code) is) (visit-asks new (ap (λ x. x.mode) is))
     (ap (λ x. mode_of x.mode x.stack) is ∙ ap (λ gs. At (record { goals = gs; variables = n })) b.next_goals) (ap (λ x. cases_in P x) is) (ap (λ x. local_of x) is)))
 

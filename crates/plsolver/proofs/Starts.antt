@@ -43,7 +43,7 @@ starts-more old new list made g gs s one =
     record {
       list_there = one.list_there;
       place = ap₂ (λ gs n. record { goals = gs; variables = n }) (one.goals ∙ ap₂ (λ n es. Goal 0 (once (copied n g)) ∷ es) count goals) (one.count ∙ ap (λ n. n + length (variables g)) count);
-      cases = λ statics. one.cases statics ∙ s.cases statics;
+      cases = λ db. one.cases db ∙ s.cases db;
     }
 
 empty-goals : (s : State) → IsEmpty s → goals_of s (alone 0) ≡ []
@@ -55,7 +55,7 @@ unfolding start_from
 starts-empty s is = record {
   list_there = empty-list (goals_in s) is.none s.env s.links;
   place = ap₂ (λ gs n. record { goals = gs; variables = n }) (empty-goals s is) is.count;
-  cases = λ statics. no-cases statics s is.frames;
+  cases = λ db. no-cases db s is.frames;
 }
 
 pub starts-goal : (old st new : State) (list made : Continuation) (v : Cell) (g t : Tree) → Extends old st → value st.env.heap v ≡ copied old.env.count t → t ≡ once g → st.env.count ≡ old.env.count + length (variables t) →
@@ -64,7 +64,7 @@ starts-goal old st new list made v g t e is same grown l adds = record {
   list_there = adds.there;
   goals = adds.is ∙ ap₂ (λ t es. Goal 0 t ∷ es) (is ∙ ap (copied old.env.count) same ∙ copied-once old.env.count g) (e.lists list l).1;
   count = ap (λ e. e.count) adds.env ∙ grown ∙ ap (λ vs. old.env.count + length vs) (ap variables same ∙ once-variables g);
-  cases = λ statics. adds.stays.cases statics ∙ e.cases statics;
+  cases = λ db. adds.stays.cases db ∙ e.cases db;
 }
 
 -- a machine at the start

@@ -25,7 +25,7 @@ use Rattle.plsearch.specs.Replies.{Served, Late, outcome}
 use Rattle.plsearch.specs.Solving.{Goes}
 use Rattle.plsearch.specs.Search.{ending_of, from_start, once, start_from, start_of}
 use Rattle.pllinks.specs.declared.link.Continuation.{Continuation}
-use Rattle.plstack.specs.Places.{Statics}
+use Rattle.plstack.specs.Places.{Database}
 use Rattle.plstack.specs.State.{State, cases_of, goals_in, goals_of, HasAnswers, HasBranch, HasClauses, HasCopies, IsList}
 use Rattle.plstack.specs.declared.first.First.{First}
 use Rattle.plstack.specs.declared.first.First.TheVariants as firsts
@@ -131,7 +131,7 @@ Settled P s dues.Over = IsOver P s
 
 -- the goal that stands first was selected
 abbrev pub Selects : Program → Reached → Reached → Type 0
-Selects P old new = (k : ℕ) (t : Tree) (rest : List Element) → goals_of old.stack old.stack.goals ≡ GoalOf k t ∷ rest → Moved P old new (select P k t (depth_of P old) rest old.stack.env.count (local_of old))
+Selects P old new = (k : ℕ) (t : Tree) (rest : List Element) → goals_of old.stack old.stack.goals ≡ GoalOf k t ∷ rest → Moved P old new (select P k t (depth_of old) rest old.stack.env.count (local_of old))
 
 -- a step was taken
 pub record Stepped (P : Program) (old new : Progress) : Type 0 where
@@ -201,14 +201,14 @@ pub record IsEmpty (s : State) : Type 0 where
 pub record Starts (s : State) (list : Continuation) (goals : List Tree) : Type 0 where
   pub list_there : IsList s list
   pub place : record { goals = goals_of s list; variables = s.env.count } ≡ start_from goals
-  pub cases : (statics : Statics) → cases_of statics s ≡ []
+  pub cases : (db : Database) → cases_of db s ≡ []
 
 -- one more goal before a list
 pub record StartsGoal (old new : State) (list made : Continuation) (g : Tree) : Type 0 where
   pub list_there : IsList new made
   pub goals : goals_of new made ≡ GoalOf 0 (once (copied old.env.count g)) ∷ goals_of old list
   pub count : new.env.count ≡ old.env.count + length (variables g)
-  pub cases : (statics : Statics) → cases_of statics new ≡ cases_of statics old
+  pub cases : (db : Database) → cases_of db new ≡ cases_of db old
 
 -- a machine at the start of a program's search
 pub record IsStart (P : Program) (s : Reached) : Type 0 where

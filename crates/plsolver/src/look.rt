@@ -68,7 +68,7 @@ impl Progress {
     ) -> Result<(), AllocError>
         requires of { IsOf program.now self.old.machine }
         requires asks { self.old.machine.mode ≡ Asks (Looks lookup.now) }
-        ensures ok { OnOk result ((us : List Stamped) → Rises 0 us → store.now ≡ fold keep nothing us → Moved program.now self.old.machine self.new.machine (looked_up (before g us) (lookup_of self.old.machine.stack.env.heap lookup.now) (depth_of program.now self.old.machine) (goals_of self.old.machine.stack self.old.machine.stack.goals) self.old.machine.stack.env.count (local_of self.old.machine))) }
+        ensures ok { OnOk result ((us : List Stamped) → Rises 0 us → store.now ≡ fold keep nothing us → Moved program.now self.old.machine self.new.machine (looked_up (before g us) (lookup_of self.old.machine.stack.env.heap lookup.now) (depth_of self.old.machine) (goals_of self.old.machine.stack self.old.machine.stack.goals) self.old.machine.stack.env.count (local_of self.old.machine))) }
         ensures of { IsOf program.now self.new.machine }
         ensures frame { self.new ≡ record self.old { machine = self.new.machine } }
         ensures err { OnErr result (Stays program.now self.old self.new) }
@@ -108,7 +108,7 @@ impl Progress {
     ) -> Result<(), AllocError>
         requires of { IsOf program.now self.old.machine }
         requires goal { IsValue self.old.machine.stack.env.heap goal }
-        ensures ok { OnOk result ((us : List Stamped) → Rises 0 us → store.now ≡ fold keep nothing us → Moved program.now self.old.machine self.new.machine (looked_up (before g us) (ToCall (value self.old.machine.stack.env.heap goal)) (depth_of program.now self.old.machine) (goals_of self.old.machine.stack self.old.machine.stack.goals) self.old.machine.stack.env.count (local_of self.old.machine))) }
+        ensures ok { OnOk result ((us : List Stamped) → Rises 0 us → store.now ≡ fold keep nothing us → Moved program.now self.old.machine self.new.machine (looked_up (before g us) (ToCall (value self.old.machine.stack.env.heap goal)) (depth_of self.old.machine) (goals_of self.old.machine.stack self.old.machine.stack.goals) self.old.machine.stack.env.count (local_of self.old.machine))) }
         ensures of { IsOf program.now self.new.machine }
         ensures frame { self.new ≡ record self.old { machine = self.new.machine } }
         ensures err { OnErr result (Stays program.now self.old self.new) }
@@ -132,7 +132,7 @@ impl Progress {
     ) -> Result<(), AllocError>
         requires of { IsOf program.now self.old.machine }
         requires head { IsValue self.old.machine.stack.env.heap head }
-        ensures ok { OnOk result ((us : List Stamped) → Rises 0 us → store.now ≡ fold keep nothing us → Moved program.now self.old.machine self.new.machine (looked_up (before g us) (ToRetractAll (value self.old.machine.stack.env.heap head)) (depth_of program.now self.old.machine) (goals_of self.old.machine.stack self.old.machine.stack.goals) self.old.machine.stack.env.count (local_of self.old.machine))) }
+        ensures ok { OnOk result ((us : List Stamped) → Rises 0 us → store.now ≡ fold keep nothing us → Moved program.now self.old.machine self.new.machine (looked_up (before g us) (ToRetractAll (value self.old.machine.stack.env.heap head)) (depth_of self.old.machine) (goals_of self.old.machine.stack self.old.machine.stack.goals) self.old.machine.stack.env.count (local_of self.old.machine))) }
         ensures of { IsOf program.now self.new.machine }
         ensures frame { self.new ≡ record self.old { machine = self.new.machine } }
         ensures err { OnErr result (Stays program.now self.old self.new) }

@@ -3,7 +3,7 @@
 ghost use Rattle.std.specs.Prelude.{◌≡◌, ◌-◌, ◌≤◌, ◌↔◌, IfOk, OnOk, OnErr, IfSome, IfNone, IsTrue, true, ℕ};
 ghost use Rattle.plcells.specs.Store.{IsValue, value};
 ghost use Rattle.plsearch.specs.Engine.{stop_cut, mark, deeper};
-ghost use Rattle.plstack.specs.Places.{Statics};
+ghost use Rattle.plstack.specs.Places.{Database};
 ghost use Rattle.plstack.specs.State.{cases_of, HasAnswers, HasCatcher, HasClauses, HasCopies, HasBranch, HasGatherer, HasPlain, IsList};
 ghost use Rattle.plstack.specs.First.{IsFirst};
 ghost use Rattle.plstack.specs.declared.first.First.TheVariants.{Marker as MarkerFirst};
@@ -237,7 +237,7 @@ impl Progress {
     fn close(&mut self, program: &Program) -> Option<Due>
         requires back { IsBack self.old }
         requires tried { self.old.machine.mode ≡ Mode.Back Outcome.Fail → HasChoice self.old.machine.stack → ⊥ }
-        requires caught { HasCatcher self.old.machine.stack → throws_to (depth_of program.now self.old.machine - 1) self.old.machine.mode ≡ true → ⊥ }
+        requires caught { HasCatcher self.old.machine.stack → throws_to (depth_of self.old.machine - 1) self.old.machine.mode ≡ true → ⊥ }
         requires gathered { HasGatherer self.old.machine.stack → self.old.machine.mode ≡ Mode.Back Outcome.Fail → ⊥ }
         ensures on { IfNone result (Quiet program.now self.old self.new) }
         ensures due { IfSome result (λ due. Settled program.now self.new due × (self.new ≡ self.old)) }
@@ -260,7 +260,7 @@ impl Progress {
 
     /// Whether a ball is carried to the innermost case, and that is a catcher that is active.
     fn catches(&self) -> bool
-        ensures { (statics : Statics) → IsTrue result ↔ (HasCatcher self.now.machine.stack × (throws_to (deeper (cases_of statics self.now.machine.stack) 0 - 1) self.now.machine.mode ≡ true)) }
+        ensures { (db : Database) → IsTrue result ↔ (HasCatcher self.now.machine.stack × (throws_to (deeper (cases_of db self.now.machine.stack) 0 - 1) self.now.machine.mode ≡ true)) }
     {
         if !self.machine.stack.is_catcher() {
             return false;
@@ -321,7 +321,7 @@ impl Progress {
 
     /// A cut to the level of a choice ends there.
     fn stop_cut(&mut self)
-        ensures { (statics : Statics) → Becomes self.old self.new (stop_cut (deeper (cases_of statics self.old.machine.stack) 0)) }
+        ensures { (db : Database) → Becomes self.old self.new (stop_cut (deeper (cases_of db self.old.machine.stack) 0)) }
     {
         let depth = self.machine.stack.depth();
         let Some(level) = self.cut_level() else {

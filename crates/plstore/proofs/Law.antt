@@ -294,7 +294,7 @@ made-here true l s e = refl
 made-here false l true e = ap (λ v. v || false) (and-true l) ∙ or-false l ∙ e
 made-here false l false e = refl
 
-same-swap : (a b y : ClauseName) → same_name a b ≡ true → same_name a y ≡ same_name b y
+pub same-swap : (a b y : ClauseName) → same_name a b ≡ true → same_name a y ≡ same_name b y
 same-swap a b y h = let p : a.place ≡ b.place = grind (arith, nat_tests) in let q : a.number ≡ b.number = grind (arith, nat_tests) in ap₂ (λ m n. nat_eq m y.place && nat_eq n y.number) p q
 
 here-erased : (g b : ℕ) (x y : ClauseName) (r : Record) → b < g → ErasedBy b r.erased → (v n : Bool) → is_named x r ≡ v → same_name r.name y ≡ n →

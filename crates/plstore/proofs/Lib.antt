@@ -11,3 +11,5 @@ pub mod Passing
 pub mod Keys
 mod Worked
 pub mod Visible
+pub mod Names
+pub mod Looking

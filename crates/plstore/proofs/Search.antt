@@ -119,8 +119,8 @@ order-erase t b x rs o = record {
 less-next : (b k : ℕ) (y : ClauseName) → less y (named b k) ≡ true → less y (named b (suc k)) ≡ true
 less-next b k y h = grind (arith, nat_tests)
 
-less-self : (b k : ℕ) → less (named b k) (named b (suc k)) ≡ true
-less-self b k = grind (arith, nat_tests)
+pub less-number : (b j k : ℕ) → j < k → less (named b j) (named b k) ≡ true
+less-number b j k h = grind (arith, nat_tests)
 
 order-next : (b k : ℕ) (rs : List Record) → InOrder (named b k) rs → InOrder (named b (suc k)) rs
 order-next b k rs o = record { rising = o.rising; below = λ i d l. less-next b k (get_or rs i d).name (o.below i d l) }
@@ -142,7 +142,7 @@ order-push b k rs r e o =
       ];
       below = λ i d l. let l2 : i < suc (length rs) = omega (arith, length-push rs r) in elim (cases i (length rs)) [
         | inl il ↦ ap (λ q. less q.name (named b (suc k))) (at i d il) ∙ less-next b k (get_or rs i d).name (o.below i d il)
-        | inr q ↦ elim q [ inl ie ↦ ap (λ q. less q.name (named b (suc k))) (end i d ie) ∙ ap (λ n. less n (named b (suc k))) e ∙ less-self b k | inr ig ↦ absurd (omega arith) ]
+        | inr q ↦ elim q [ inl ie ↦ ap (λ q. less q.name (named b (suc k))) (end i d ie) ∙ ap (λ n. less n (named b (suc k))) e ∙ less-number b k (suc k) (omega arith) | inr ig ↦ absurd (omega arith) ]
       ];
     }
 
@@ -153,11 +153,11 @@ order-keep b k (Erase y) rs o = order-next b k _ (order-erase (is_named y) b (na
 order-keep b k (EraseOwn n) rs o = order-next b k _ (order-erase (is_named (named b n)) b (named b k) rs o)
 order-keep b k (Declare q) rs o = order-next b k rs o
 
-less-place : (b : ℕ) (y : ClauseName) → y.place < b → less y (named b 0) ≡ true
-less-place b y h = grind (arith, nat_tests)
+pub less-place : (b k : ℕ) (y : ClauseName) → y.place < b → less y (named b k) ≡ true
+less-place b k y h = grind (arith, nat_tests)
 
 pub order-start : (b : ℕ) (rs : List Record) → IsRising rs → AllBelowPlace b rs → InOrder (named b 0) rs
-order-start b rs up h = record { rising = up; below = λ k d l. less-place b (get_or rs k d).name (h k d l) }
+order-start b rs up h = record { rising = up; below = λ k d l. less-place b 0 (get_or rs k d).name (h k d l) }
 
 -- the records after the updates passed, and one more
 stamped-append : (b k : ℕ) (us : List Update) (u : Update) → stamped b k (us ++ u ∷ []) ≡ stamped b k us ++ record { at = named b (k + length us); update = u } ∷ []

@@ -43,7 +43,7 @@ like-append k xs ys =
 name-false : (x y : ClauseName) → same_name y x ≡ false → same_name x y ≡ false
 name-false x y h = grind (arith, nat_tests)
 
-name-true : (x y : ClauseName) → same_name y x ≡ true → same_name x y ≡ true
+pub name-true : (x y : ClauseName) → same_name y x ≡ true → same_name x y ≡ true
 name-true x y h = grind (arith, nat_tests)
 
 -- the record m is none that is in the walk under the name x

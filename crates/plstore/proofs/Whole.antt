@@ -122,7 +122,7 @@ find-append t [] r = refl
 find-append t (q ∷ rs) r = elim (t q) as (λ v. option_map (λ (r : Record). r.clause) (cond v (Some q) (find t (rs ++ r ∷ []))) ≡ or_else (option_map (λ (r : Record). r.clause) (cond v (Some q) (find t rs))) (option_map (λ (r : Record). r.clause) (find t (r ∷ []))))
     [ true ↦ refl | false ↦ find-append t rs r ]
 
-or-none : (b : Bool) (o : Option Clause) → o ≡ or_else o (add_if b None None)
+pub or-none : (b : Bool) (o : Option Clause) → o ≡ or_else o (add_if b None None)
 or-none true None = refl
 or-none false None = refl
 or-none b (Some c) = refl
@@ -165,11 +165,11 @@ clause-keep x k s = by-case s.update
     by-case (EraseOwn n) = find-erased s.at.place x (named s.at.place n) k.records ∙ or-none (same_name s.at x) (clause_of x k)
     by-case (Declare q) = or-none (same_name s.at x) (clause_of x k)
 
-or-assoc-3 : (a b c : Option Clause) → or_else (or_else a b) c ≡ or_else a (or_else b c)
+pub or-assoc-3 : (a b c : Option Clause) → or_else (or_else a b) c ≡ or_else a (or_else b c)
 or-assoc-3 None b c = refl
 or-assoc-3 (Some a) b c = refl
 
-or-nothing : (a : Option Clause) → a ≡ or_else a None
+pub or-nothing : (a : Option Clause) → a ≡ or_else a None
 or-nothing None = refl
 or-nothing (Some a) = refl
 

@@ -9,6 +9,9 @@ use Rattle.plevent.specs.declared.key.Key.TheVariants.{Any, Int, Functor}
 use Rattle.plstore.specs.declared.record.Cursor.TheVariants.{Start, After}
 use Rattle.plstore.specs.Kept.{Kept, nothing, keep, walk, here, is_there, clause_of, next_of}
 use Rattle.plstore.specs.Like.{next_like_of}
+use Rattle.plstore.specs.declared.query.Query.{Query}
+use Rattle.plstore.specs.declared.query.Found.{Found}
+use Rattle.plstore.specs.Looking.{found_in}
 
 abbrev p : Indicator
 p = record { name = 112 ∷ []; arity = 0 }
@@ -133,3 +136,17 @@ like_other_arity = refl
 pub like_any : next_like_of Any Start (walk 1 q four.records) ≡ Some (named 0 1)
 unfolding walk
 like_any = refl
+
+-- queries: an erased clause is told before its erasure, and not after it
+pub query_next : found_in 5 (Query.NextLike p Any Start) both ≡ Found.Next (Some (named 4 1))
+unfolding walk
+query_next = refl
+
+pub query_before : found_in 4 (Query.Clause (named 0 1)) both ≡ Found.Clause (Some c1)
+query_before = refl
+
+pub query_erased : found_in 5 (Query.Clause (named 0 1)) both ≡ Found.Clause None
+query_erased = refl
+
+pub query_there : found_in 1 (Query.Exists p) both ≡ Found.Exists true
+query_there = refl

@@ -1,5 +1,6 @@
 pub mod Kept
 pub mod Like
+pub mod Looking
 pub mod Rising
 pub mod Links
 pub mod Runs

@@ -40,3 +40,13 @@ Rises b (s ∷ ss) = (b ≤ s.at.place) × Rises s.at.place ss
 abbrev pub AllUnder : ℕ → List Stamped → Type 0
 AllUnder g [] = Unit {0}
 AllUnder g (s ∷ ss) = (s.at.place < g) × AllUnder g ss
+
+-- each update's name is above x
+abbrev pub AllAfter : ClauseName → List Stamped → Type 0
+AllAfter x [] = Unit {0}
+AllAfter x (s ∷ ss) = (less x s.at ≡ true) × AllAfter x ss
+
+-- updates whose names rise
+abbrev pub Ordered : List Stamped → Type 0
+Ordered [] = Unit {0}
+Ordered (s ∷ ss) = AllAfter s.at ss × Ordered ss

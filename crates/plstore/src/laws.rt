@@ -1,5 +1,5 @@
 //! What a store keeps is the database at every time.
-ghost use Rattle.std.specs.Prelude.{◌≡◌, ℕ, List, None, fold, false};
+ghost use Rattle.std.specs.Prelude.{◌≡◌, ℕ, List, ◌∷◌, None, fold, false, true};
 ghost use Rattle.plterm.specs.Tree.{Tree};
 ghost use Rattle.plsubst.specs.Subst.{shift};
 ghost use Rattle.plsubst.specs.Unify.{unify};
@@ -9,7 +9,10 @@ ghost use Rattle.plterm.specs.declared.indicator.Indicator.{Indicator};
 ghost use Rattle.plevent.specs.declared.update.ClauseName.{ClauseName};
 ghost use Rattle.plevent.specs.Alive.{Stamped, before, living, is_alive, exists, clause_named};
 ghost use Rattle.plstore.specs.Kept.{Kept, keep, nothing, walk, here, is_there, clause_of};
-ghost use Rattle.plstore.specs.Rising.{Rises};
+ghost use Rattle.plstore.specs.Looking.{found, found_in, clause_alive, Apart, Tells};
+ghost use Rattle.plstore.specs.Rising.{Rises, Ordered};
+ghost use Rattle.plstore.specs.declared.query.Query.{Query};
+ghost use Rattle.plevent.specs.declared.update.Living.{Living};
 
 /// Updates at rising places leave a store whose walk at each `g` is the clauses alive after the batches below `g`.
 pub fn walk_law()
@@ -40,4 +43,29 @@ pub fn clause_law()
 /// over has no solution there.
 pub fn passed_over_law()
     ensures { (goal head : Tree) → may_fit (first_key goal) (first_key head) ≡ false → (n : ℕ) → unify goal (shift n head) ≡ None }
+{}
+
+/// What is found at `g` in what is kept of updates at rising places is what is found after the batches below `g`.
+pub fn look_law()
+    ensures { (g : ℕ) (q : Query) (us : List Stamped) → Rises 0 us → found_in g q (fold keep nothing us) ≡ found (before g us) q }
+{}
+
+/// No two clauses alive have one name.
+pub fn apart_law()
+    ensures { (p : Indicator) (us : List Stamped) → Ordered us → Apart (living us p) }
+{}
+
+/// The clause that is found under a name is the one that is alive under it.
+pub fn tells_law()
+    ensures { (x : ClauseName) (p : Indicator) (us : List Stamped) → Ordered us → Tells x (clause_alive x us) (living us p) }
+{}
+
+/// A procedure that has a clause is there.
+pub fn exists_alive_law()
+    ensures { (p : Indicator) (y : Living) (ys : List Living) (us : List Stamped) → living us p ≡ y ∷ ys → exists us p ≡ true }
+{}
+
+/// Where the names of updates rise, those of the batches below `g` do.
+pub fn before_ordered_law()
+    ensures { (g : ℕ) (us : List Stamped) → Ordered us → Ordered (before g us) }
 {}

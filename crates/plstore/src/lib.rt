@@ -4,6 +4,7 @@
 mod ends;
 pub mod laws;
 mod plan;
+pub mod query;
 pub mod record;
 mod runs;
 mod sought;
@@ -12,5 +13,6 @@ pub mod store;
 mod tables;
 mod walk;
 
+pub use query::{Found, Query};
 pub use record::{Cursor, Declared, Record};
 pub use store::Store;

@@ -4,10 +4,12 @@ ghost use Rattle.std.specs.Option.{option_copied};
 ghost use Rattle.plevent.specs.Alive.{stamped, names_of};
 ghost use Rattle.plstore.specs.Kept.{keep, nothing, here, clause_of, is_there, next_of, walk};
 ghost use Rattle.plstore.specs.Like.{next_like_of};
+ghost use Rattle.plstore.specs.Looking.{clause_seen, found_in};
 ghost use Rattle.plstore.specs.Rising.{AllBelowPlace};
 
 use crate::ends::ends_of;
 use crate::plan::plan;
+use crate::query::{Found, Query};
 use crate::record::{Cursor, Declared, Record};
 use crate::sought::Sought;
 use crate::steps::{first_sought, sought_after};
@@ -150,5 +152,38 @@ impl Store {
         )?;
         gather_back(records, next, places, &sought, ends.oldest_back, &mut found)?;
         Ok(found)
+    }
+
+    /// What a query finds in the database after the batches below `g`.
+    pub fn look(&self, g: u64, query: &Query) -> Result<Found, AllocError>
+        ensures { IfOk result (λ f. f ≡ found_in g query.now self.now) }
+    {
+        match query {
+            Query::NextLike(pred, key, cursor) => {
+                let next = self.next_like(g, pred, key, *cursor);
+                Ok(Found::Next(next))
+            }
+            Query::Clause(name) => {
+                let clause = self.clause_seen(g, *name)?;
+                Ok(Found::Clause(clause))
+            }
+            Query::Exists(pred) => {
+                let exists = self.exists(g, pred);
+                Ok(Found::Exists(exists))
+            }
+        }
+    }
+
+    /// The clause of a name, where it is alive after the batches below `g`.
+    fn clause_seen(&self, g: u64, name: ClauseName) -> Result<Option<Clause>, AllocError>
+        ensures { IfOk result (λ c. c ≡ clause_seen g name self.now) }
+    {
+        if !self.alive(g, name) {
+            return Ok(None);
+        }
+        match self.clause(name) {
+            None => Ok(None),
+            Some(clause) => Ok(Some(clause.copied()?)),
+        }
     }
 }

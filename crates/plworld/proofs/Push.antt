@@ -1,6 +1,6 @@
 -- One more entry of a world.
 use Rattle.std.proofs.Common.{◌≡◌, ◌++◌, ◌+◌, ◌<◌, ◌≤◌, ℕ, suc, true, false, List, [], ◌∷◌, Option, Some, None, refl, sym, ◌∙◌, ap, ap₂, subst, arith, length, length-append, fold}
-use Rattle.std.proofs.lemmas.List.{append-nil, take-append-drop, length-take-le}
+use Rattle.std.proofs.lemmas.List.{append-nil, take-append-drop, take-append-le, length-take-le}
 use Rattle.std.proofs.lemmas.List.Sums.{fold-append}
 use Rattle.std.proofs.Math.Seq.{take-length}
 use Rattle.plevent.specs.declared.update.Update.{Update}
@@ -17,11 +17,15 @@ use Rattle.plevent.specs.Alive.{Stamped, stamped, named, before, living, exists,
 use Rattle.plevent.specs.Reading.{Reading, read, reading, stand, updates_of, blank}
 use Rattle.plevent.specs.Rows.{served, adds, entries_of}
 use Rattle.plstore.specs.Kept.{Kept, keep, nothing, walk, is_there, here}
-use Rattle.plstore.specs.Rising.{AllBelowPlace, Rises, AllUnder}
+use Rattle.plstore.specs.Rising.{AllBelowPlace, Rises, AllUnder, Ordered}
 use Rattle.plstore.proofs.Search.{place-keep}
 use Rattle.plstore.proofs.Whole.{walk-is, there-is, here-is}
+use Rattle.plstore.specs.declared.query.Query.{Query}
+use Rattle.plstore.specs.Looking.{found, found_in}
+use Rattle.plstore.proofs.Looking.{look-is}
 use Rattle.plterm.specs.declared.indicator.Indicator.{Indicator}
 use Rattle.plworld.specs.Worlds.{IsWorld}
+use Rattle.plworld.proofs.Names.{ordered-append}
 
 rises-stamped : (a b k : ℕ) (vs : List Update) → a ≤ b → Rises a (stamped b k vs)
 rises-stamped a b k [] h = tt
@@ -39,23 +43,25 @@ under-append : (b k : ℕ) (us : List Stamped) (vs : List Update) → AllUnder b
 under-append b k [] vs un = under-stamped b k vs
 under-append b k (s ∷ us) vs un = let l : s.at.place < suc b = omega (arith, un.0) in (l, under-append b k us vs un.1)
 
-pub record Ordered (r : Reading) : Type 0 where
+pub record Placed (r : Reading) : Type 0 where
   pub rises : Rises 0 r.updates
+  pub names : Ordered r.updates
   pub under : AllUnder r.standing.size r.updates
 
-ordered-read : (r : Reading) (e : Entry) → Ordered r → Ordered (read r e)
-ordered-read r e o = record {
+placed-read : (r : Reading) (e : Entry) → Placed r → Placed (read r e)
+placed-read r e o = record {
   rises = rises-append 0 r.standing.size 0 r.updates (updates_of e.act) (omega arith) o.rises o.under;
+  names = ordered-append r.standing.size 0 r.updates (updates_of e.act) o.under o.names;
   under = under-append r.standing.size 0 r.updates (updates_of e.act) o.under;
 }
 
-ordered-fold : (r : Reading) (es : List Entry) → Ordered r → Ordered (fold read r es)
-ordered-fold r [] o = o
-ordered-fold r (e ∷ es) o = ordered-fold (read r e) es (ordered-read r e o)
+placed-fold : (r : Reading) (es : List Entry) → Placed r → Placed (fold read r es)
+placed-fold r [] o = o
+placed-fold r (e ∷ es) o = placed-fold (read r e) es (placed-read r e o)
 
-pub ordered : (h : List Entry) → Ordered (reading h)
+pub ordered : (h : List Entry) → Placed (reading h)
 unfolding reading
-ordered h = ordered-fold blank h (record { rises = tt; under = tt })
+ordered h = placed-fold blank h (record { rises = tt; names = tt; under = tt })
 
 -- the reading of one more entry
 pub reading-push : (h : List Entry) (e : Entry) → reading (h ++ e ∷ []) ≡ read (reading h) e
@@ -154,3 +160,16 @@ alive-at g x h l = here-is g x (reading h).updates (ordered h).rises ∙ ap (is_
 -- a clause that the store sees now is alive
 pub alive-now : (h : List Entry) (s : Standing) (k : Kept) (x : ClauseName) → IsWorld h s k → here s.size x k ≡ is_alive x (reading h).updates
 alive-now h s k x w = ap₂ (λ g k. here g x k) w.size w.store ∙ alive-at (length h) x h (omega arith) ∙ ap (λ l. is_alive x (reading l).updates) (take-length h)
+
+-- what a query finds in the store is what it finds in the journal's updates
+pub look-now : (g : ℕ) (q : Query) (h : List Entry) (s : Standing) (k : Kept) → IsWorld h s k → found_in g q k ≡ found (before g (reading h).updates) q
+look-now g q h s k w = ap (found_in g q) w.store ∙ look-is g q (reading h).updates (ordered h).rises
+
+-- later entries change nothing below an earlier place
+pub view-stays : (g : ℕ) (h more : List Entry) → g ≤ length h → before g (reading (h ++ more)).updates ≡ before g (reading h).updates
+view-stays g h more l =
+    let w : g ≤ length (h ++ more) = omega (arith, length-append h more) in
+    before-is g (h ++ more) w ∙ ap (λ es. (reading es).updates) (take-append-le g h more l) ∙ sym (before-is g h l)
+
+pub names-rise : (h : List Entry) → Ordered (reading h).updates
+names-rise h = (ordered h).names

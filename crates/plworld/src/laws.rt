@@ -1,12 +1,12 @@
 //! What holds of every journal, and of the store that keeps its updates.
-ghost use Rattle.std.specs.Prelude.{◌≡◌, ◌≤◌, ℕ, List, fold, length, take};
+ghost use Rattle.std.specs.Prelude.{◌≡◌, ◌≤◌, ◌++◌, ℕ, List, fold, length, take};
 ghost use Rattle.plterm.specs.declared.indicator.Indicator.{Indicator};
 ghost use Rattle.plevent.specs.declared.act.Entry.{Entry};
 ghost use Rattle.plevent.specs.declared.update.ClauseName.{ClauseName};
 ghost use Rattle.plevent.specs.Alive.{before, living, exists, is_alive};
 ghost use Rattle.plevent.specs.Reading.{reading};
 ghost use Rattle.plstore.specs.Kept.{keep, nothing, walk, is_there, here};
-ghost use Rattle.plstore.specs.Rising.{Rises, AllUnder};
+ghost use Rattle.plstore.specs.Rising.{Rises, AllUnder, Ordered};
 
 /// The updates of a journal stand at rising places, which are below its length.
 pub fn places_law()
@@ -32,4 +32,14 @@ pub fn exists_law()
 /// A clause is seen at `g` in what is kept of a journal exactly where it is alive after its first `g` entries.
 pub fn alive_law()
     ensures { (g : ℕ) (x : ClauseName) (h : List Entry) → g ≤ length h → here g x (fold keep nothing (reading h).updates) ≡ is_alive x (reading (take g h)).updates }
+{}
+
+/// The names of a journal's updates rise.
+pub fn ordered_law()
+    ensures { (h : List Entry) → Ordered (reading h).updates }
+{}
+
+/// Later entries change nothing below an earlier place.
+pub fn view_stays_law()
+    ensures { (g : ℕ) (h more : List Entry) → g ≤ length h → before g (reading (h ++ more)).updates ≡ before g (reading h).updates }
 {}

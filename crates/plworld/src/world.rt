@@ -1,15 +1,16 @@
 //! All that the threads of a run share.
 ghost use Rattle.std.specs.Prelude.{◌≡◌, ◌<◌, ◌^◌, ◌++◌, ◌∷◌, [], IfOk, OnOk, OnErr, length, fold};
-ghost use Rattle.plevent.specs.Alive.{stamped};
+ghost use Rattle.plevent.specs.Alive.{before, stamped};
 ghost use Rattle.plevent.specs.Reading.{stand, updates_of, reading};
 ghost use Rattle.plevent.specs.Rows.{adds, reply_to, is_over};
 ghost use Rattle.plstore.specs.Kept.{keep, nothing};
+ghost use Rattle.plstore.specs.Looking.{found};
 ghost use Rattle.plstore.specs.Rising.{AllBelowPlace};
 ghost use Rattle.plworld.specs.Worlds.{opening};
 
 use crate::rows::serve;
 use plevent::{Act, Batch, Entry, Reply, Request, Standing};
-use plstore::Store;
+use plstore::{Found, Query, Store};
 use std::alloc::{AllocError, Global};
 use std::marker::Model;
 
@@ -92,6 +93,13 @@ impl World {
         ensures { result.now ≡ fold keep nothing (reading self.now.journal).updates }
     {
         &self.store
+    }
+
+    /// What a query finds in the database as it was after the entries below `g`.
+    pub fn look(&self, g: u64, query: &Query) -> Result<Found, AllocError>
+        ensures { IfOk result (λ f. f ≡ found (before g (reading self.now.journal).updates) query.now) }
+    {
+        self.store.look(g, query)
     }
 
     /// The entries, in order.

@@ -40,7 +40,7 @@ returns-in_ok-recover-clause-ok c =
     let s = c.args.self.now in
     let P = c.args.program.now in
     let at : s.machine.mode ≡ modes.Back (outcomes.Throw c.in-Throw.ball c.in-Throw.field-1) = c.in-Back.is ∙ ap modes.Back c.in-Throw.is in
-    let active : has (depth_of P s.machine - 1) c.in-Throw.field-1.items ≡ true = subst (λ m. throws_to (depth_of P s.machine - 1) m ≡ true) at c.requires.throws in
+    let active : has (depth_of s.machine - 1) c.in-Throw.field-1.items ≡ true = subst (λ m. throws_to (depth_of s.machine - 1) m ≡ true) at c.requires.throws in
     catches-it P s _ c.in-Throw.ball c.in-Throw.field-1.items at refl c.rewind-handler.new.self c.rewind-handler.result c.rewind-handler.ensures.code c.rewind-handler.ensures.cases c.in-Catch.catcher (subst (λ x. AtHandler c.rewind-handler.new.self x c.rewind-handler.result.list) c.in-Catch.is c.rewind-handler.ensures.at) active
     c.put_copy.new.self c.put_copy.ensures.stays c.in_ok-v.v c.in_ok-v.ensures.is c.in_ok-v.ensures.count c.unify.new.self (c.in_ok-unify.ensures.yes c.if-branch.true) c.recover.new.self c.in_ok-recover.ensures.ok
 
@@ -49,7 +49,7 @@ returns-else-branch-clause-ok c =
     let s = c.args.self.now in
     let P = c.args.program.now in
     let at : s.machine.mode ≡ modes.Back (outcomes.Throw c.in-Throw.ball c.in-Throw.field-1) = c.in-Back.is ∙ ap modes.Back c.in-Throw.is in
-    let active : has (depth_of P s.machine - 1) c.in-Throw.field-1.items ≡ true = subst (λ m. throws_to (depth_of P s.machine - 1) m ≡ true) at c.requires.throws in
+    let active : has (depth_of s.machine - 1) c.in-Throw.field-1.items ≡ true = subst (λ m. throws_to (depth_of s.machine - 1) m ≡ true) at c.requires.throws in
     let no = c.in_ok-unify.ensures.no c.if-branch.false in
     catches-other P s _ c.in-Throw.ball c.in-Throw.field-1.items at refl c.rewind-handler.new.self c.rewind-handler.result c.rewind-handler.ensures.code c.rewind-handler.ensures.cases c.in-Catch.catcher (subst (λ x. AtHandler c.rewind-handler.new.self x c.rewind-handler.result.list) c.in-Catch.is c.rewind-handler.ensures.at) active
     c.put_copy.new.self c.put_copy.ensures.stays c.in_ok-v.v c.in_ok-v.ensures.is c.close.new.self (c.close.ensures.code ∙ ap (λ x. x.code) no.1) no.0

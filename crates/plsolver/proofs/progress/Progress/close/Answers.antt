@@ -29,7 +29,7 @@ returns-in-Handler-clause-on c =
     let s = c.args.self.now in
     let P = c.args.program.now in
     let closed = (rw c.in-Handler.is at c.in-Some.ensures.some) (statics_of P) in
-    let deep : depth_of P s.machine - 1 ≡ deeper (cases_of (statics_of P) c.close.new.self) 0 = omega (arith, ap (λ cs. deeper cs 0) closed.2) in
+    let deep : depth_of s.machine - 1 ≡ deeper (cases_of (statics_of P) c.close.new.self) 0 = omega (arith, ap (λ cs. deeper cs 0) closed.2) in
     quiet-handler P s c.close.new.self closed.0 closed.1 c.requires.back c.close.ensures.code closed.2
     (λ k x is yes. closed.3 k x is (λ has. c.requires.caught has (ap (λ d. throws_to d s.machine.mode) deep ∙ yes)))
     (λ l is fails. closed.4 l is (λ has. c.requires.gathered has fails))

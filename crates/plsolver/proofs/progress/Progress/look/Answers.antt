@@ -20,8 +20,8 @@ returns-in_ok-clauses-in-ToRetrieve-clause-ok c =
     let n = s.stack.env.count in
     rw c.in-ToRetrieve.is
     (on_ok_map c.retrieve_living.result
-    (λ m us up is. retrieved c.args.g us c.args.store.now is t P s c.retrieve_living.new.self (depth_of P s) es n b up
-    (subst (λ xs. Moved P s c.retrieve_living.new.self (retrieve (depth_of P s) n t b es (clauses_of xs) (local_of s))) (c.deref.ensures.value ∙ c.in_ok-clauses-in-ToRetrieve.ensures) m))
+    (λ m us up is. retrieved c.args.g us c.args.store.now is t P s c.retrieve_living.new.self (depth_of s) es n b up
+    (subst (λ xs. Moved P s c.retrieve_living.new.self (retrieve (depth_of s) n t b es (clauses_of xs) (local_of s))) (c.deref.ensures.value ∙ c.in_ok-clauses-in-ToRetrieve.ensures) m))
     c.retrieve_living.ensures.ok)
 
 pub returns-in_ok-clauses-in-ToRetract-clause-ok : goal.returns-in_ok-clauses-in-ToRetract-clause-ok
@@ -34,6 +34,6 @@ returns-in_ok-clauses-in-ToRetract-clause-ok c =
     let n = s.stack.env.count in
     rw c.in-ToRetract.is
     (on_ok_map c.retract_living.result
-    (λ m us up is. retracted c.args.g us c.args.store.now is t P s c.retract_living.new.self (depth_of P s) es n b up
-    (subst (λ xs. Moved P s c.retract_living.new.self (choose (filter_map (retract (depth_of P s) n (clause_term t b) es) xs) (local_of s))) (c.deref-in-ToRetract.ensures.value ∙ c.in_ok-clauses-in-ToRetract.ensures) m))
+    (λ m us up is. retracted c.args.g us c.args.store.now is t P s c.retract_living.new.self (depth_of s) es n b up
+    (subst (λ xs. Moved P s c.retract_living.new.self (choose (filter_map (retract (depth_of s) n (clause_term t b) es) xs) (local_of s))) (c.deref-in-ToRetract.ensures.value ∙ c.in_ok-clauses-in-ToRetract.ensures) m))
     c.retract_living.ensures.ok)

@@ -22,8 +22,8 @@ returns-then-exists-clause-ok c =
     let there = ap (λ q. is_there g q k) (sym of) ∙ sym (rw c.if-exists.true at c.exists.ensures) in
     let found = c.in_ok-clauses.ensures ∙ ap (λ q. walk g q k.records) of in
     on_ok_map c.call_living.result
-    (λ m us up is. called-some g us k is t P s c.call_living.new.self (depth_of P s) es n up there
-    (subst (λ xs. Moved P s c.call_living.new.self (call (depth_of P s) n t es (clauses_of xs) (local_of s))) found m))
+    (λ m us up is. called-some g us k is t P s c.call_living.new.self (depth_of s) es n up there
+    (subst (λ xs. Moved P s c.call_living.new.self (call (depth_of s) n t es (clauses_of xs) (local_of s))) found m))
     c.call_living.ensures.ok
 
 pub returns-clause-ok : goal.returns-clause-ok
@@ -36,5 +36,5 @@ returns-clause-ok c =
     let of = rw (c.heap.ensures.is, c.env.ensures) at c.in_ok-p.ensures in
     let there = ap (λ q. is_there g q k) (sym of) ∙ sym (rw c.if-exists.false at c.exists.ensures) in
     on_ok_map c.missing.result
-    (λ m us up is. called-none g us k is t P s c.missing.new.self.machine (depth_of P s) (goals_of s.stack s.stack.goals) s.stack.env.count there (m t of))
+    (λ m us up is. called-none g us k is t P s c.missing.new.self.machine (depth_of s) (goals_of s.stack s.stack.goals) s.stack.env.count there (m t of))
     c.missing.ensures.ok

@@ -24,7 +24,7 @@ returns-then-exists-clause-ok c =
     let there = ap (λ q. is_there g q k) (sym of) ∙ sym (rw c.if-exists.true at c.exists.ensures) in
     let found = c.deref.ensures.value ∙ c.in_ok-clauses.ensures ∙ ap (λ q. walk g q k.records) of in
     on_ok_map c.retract_all_living.result
-    (λ m us up is. cleared-some g us k is t P s c.retract_all_living.new.self (depth_of P s) es n up there
+    (λ m us up is. cleared-some g us k is t P s c.retract_all_living.new.self (depth_of s) es n up there
     (subst (λ xs. Moved P s c.retract_all_living.new.self (publish (map Erase (names_of (filter (has_head n t) xs))) es n (local_of s))) found m))
     c.retract_all_living.ensures.ok
 
@@ -40,6 +40,6 @@ returns-clause-ok c =
     let of = rw (c.heap.ensures.is, c.env.ensures) at c.in_ok-p.ensures in
     let there = ap (λ q. is_there g q k) (sym of) ∙ sym (rw c.if-exists.false at c.exists.ensures) in
     on_ok_map c.declare_one.result
-    (λ m us up is. cleared-none g us k is t P s c.declare_one.new.self (depth_of P s) es n there
+    (λ m us up is. cleared-none g us k is t P s c.declare_one.new.self (depth_of s) es n there
     (subst (λ q. Moved P s c.declare_one.new.self (publish (Declare q ∷ []) es n (local_of s))) of m))
     c.declare_one.ensures.ok
