@@ -17,7 +17,7 @@ use Rattle.plstack.proofs.Stacks.{depth-in}
 use Rattle.plmachine.specs.declared.machine.Outcome.TheVariants as outcomes
 use Rattle.plmachine.specs.declared.machine.Mode.TheVariants as modes
 use Rattle.plmachine.specs.declared.machine.Machine.{Machine as Reached}
-use Rattle.plmachine.specs.Machine.{after, cases_in, depth_of, local_of, machine, mode_of, Moved, Stays}
+use Rattle.plmachine.specs.Machine.{IsPlain, after, cases_in, depth_of, local_of, machine, mode_of, Moved, Stays}
 use Rattle.plmachine.specs.Selected.{IsStaticCall}
 use Rattle.plmachine.proofs.Moves.{gives, goes-at, machine-is, moved-as, visit-asks}
 
@@ -32,7 +32,7 @@ chooses P s new st ps at code made chosen =
       ends = λ v most left answers.
           let c = chosen v in
           ap (λ qs. after P v s most left answers (choose qs (local_of s))) c.1
-          ∙ goes-at P v s new (Choice c.0 ∷ []) (place_of st) (local_of s) (ap (λ m. mode_of m new.stack) visits ∙ ap (λ x. At (place_of x.stack)) made) (ap (λ x. cases_in P v x) made ∙ c.2) (ap (λ x. local_of x) made) most left answers;
+          ∙ goes-at P v s new (Choice c.0 ∷ []) (place_of st) (local_of s) (subst IsPlain (sym visits) tt) (ap (λ m. mode_of m new.stack) visits ∙ ap (λ x. At (place_of x.stack)) made) (ap (λ x. cases_in P v x) made ∙ c.2) (ap (λ x. local_of x) made) most left answers;
     }
 
 -- there is none
@@ -77,6 +77,7 @@ stays-at P s new st at code made stays =
       local = local;
       askable = λ may. visit-asks new visits;
       same = λ may v left answers.
-          machine-is P v new (mode_of s.mode s.stack) (cases_in P v s) (local_of s)
-          (ap (λ m. mode_of m new.stack) visits ∙ ap (λ x. At (place_of x.stack)) made ∙ ap At stays.place ∙ ap (λ m. mode_of m s.stack) (sym at)) (cases v) local left answers;
+          machine-is P v new (mode_of modes.Visit s.stack) (cases_in P v s) (local_of s) (subst IsPlain (sym visits) tt)
+          (ap (λ m. mode_of m new.stack) visits ∙ ap (λ x. At (place_of x.stack)) made ∙ ap At stays.place) (cases v) local left answers
+          ∙ sym (machine-is P v s (mode_of modes.Visit s.stack) (cases_in P v s) (local_of s) (subst IsPlain (sym at) tt) (ap (λ m. mode_of m s.stack) at) refl refl left answers);
     }

@@ -80,7 +80,7 @@ walks P s st w rest o = record {
       let run : Run = record { steps = left; answers = answers; local = local_of s } in
       ap (ending_of most) (walks-rest P (cases_in P v s) (ps (depth_of s)) run)
       ∙ ap (λ d. ending_of most (Rest P (record { mode = Back Fail; cases = Choice (ps d) ∷ cases_in P v s; run = run }))) (sym (depth-in (database_of P v) s.stack))
-      ∙ ap (λ m. ending_of most (Rest P m)) (sym (machine-is P v (record s { stack = st; mode = modes.Back outcomes.Fail }) (Back Fail) _ (local_of s) refl (o.cases (database_of P v)) refl left answers));
+      ∙ ap (λ m. ending_of most (Rest P m)) (sym (machine-is P v (record s { stack = st; mode = modes.Back outcomes.Fail }) (Back Fail) _ (local_of s) tt refl (o.cases (database_of P v)) refl left answers));
 }
 
 -- where values were added first

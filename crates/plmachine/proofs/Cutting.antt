@@ -1,5 +1,5 @@
 -- A cut that empties what it gives up leaves the search as a mark does.
-use Rattle.std.proofs.Common.{◌≡◌, ℕ, ◌⊎◌, inl, inr, [], ◌∷◌, sym, ap, ap₂, ◌∙◌}
+use Rattle.std.proofs.Common.{◌≡◌, ℕ, ◌⊎◌, inl, inr, [], ◌∷◌, sym, ap, ap₂, ◌∙◌, subst}
 use Rattle.plprogram.specs.Program.{Program}
 use Rattle.plsearch.specs.Types.{Go, Place, Mark, Run}
 use Rattle.plsearch.specs.Machines.Levels.{AreAtMost}
@@ -13,7 +13,7 @@ use Rattle.plstack.specs.StaticCalls.{database_of}
 use Rattle.plstack.specs.Cutting.{Empties, Cuts}
 use Rattle.plmachine.specs.declared.machine.Mode.TheVariants as modes
 use Rattle.plmachine.specs.declared.machine.Machine.{Machine as Reached}
-use Rattle.plmachine.specs.Machine.{local_of, mode_of, cases_in, Moved}
+use Rattle.plmachine.specs.Machine.{IsPlain, local_of, mode_of, cases_in, Moved}
 use Rattle.plmachine.proofs.Moves.{machine-is, visit-asks}
 
 module _ (P : Program) (old new : State) (level : ℕ) (list : Continuation) (there : IsList old list) (cut : Cuts old new level list) where
@@ -44,7 +44,7 @@ cuts P s new st level list there cut is = record {
   askable = visit-asks new (ap (λ x. x.mode) is);
   ends = λ v most left answers.
       ap (ending_of most) (sym (cut-rest P s.stack st level list there cut v (record { steps = left; answers = answers; local = local_of s })))
-      ∙ ap (λ m. ending_of most (Rest P m)) (sym (machine-is P v new (At (record { goals = goals_of s.stack list; variables = s.stack.env.count })) (cases_of (database_of P v) st) (local_of s)
+      ∙ ap (λ m. ending_of most (Rest P m)) (sym (machine-is P v new (At (record { goals = goals_of s.stack list; variables = s.stack.env.count })) (cases_of (database_of P v) st) (local_of s) (subst (λ x. IsPlain x.mode) (sym is) tt)
       (ap (λ x. mode_of x.mode x.stack) is ∙ ap At (cut-place P s.stack st level list there cut))
       (ap (λ x. cases_in P v x) is) (ap (λ x. local_of x) is) left answers));
 }

@@ -6,7 +6,9 @@ use Rattle.plterm.specs.Variables.{copied}
 use Rattle.plterm.specs.declared.indicator.Indicator.{Indicator}
 use Rattle.plcells.specs.declared.cell.Cell.{Cell}
 use Rattle.plcells.specs.Store.{IsValue, value}
-use Rattle.plevent.specs.Search.{Answer}
+use Rattle.plclause.specs.Indicators.{indicator}
+use Rattle.plevent.specs.Alive.{exists}
+use Rattle.plevent.specs.Search.{Answer, Seen}
 use Rattle.plprogram.specs.Program.{Program}
 use Rattle.plsearch.specs.Types.{Throw, ToCall, ToRetrieve, ToRetract, ToRetractAll, Look, Await, Asking, Element, Place, Case, Local, Move, Give, Go}
 use Rattle.plsearch.specs.Errors.{error_term, instantiation_error}
@@ -23,19 +25,29 @@ use Rattle.plmachine.specs.declared.machine.Lookup.{Lookup}
 use Rattle.plmachine.specs.declared.machine.Lookup.TheVariants as lookups
 use Rattle.plmachine.specs.declared.machine.Question.{Question as Asked}
 use Rattle.plmachine.specs.declared.machine.Question.TheVariants as questions
+use Rattle.plmachine.specs.declared.machine.Find.{Find}
+use Rattle.plmachine.specs.declared.machine.Find.TheVariants as finds
 use Rattle.plmachine.specs.declared.machine.Mode.{Mode as Going}
 use Rattle.plmachine.specs.declared.machine.Mode.TheVariants as modes
 use Rattle.plmachine.specs.declared.machine.Machine.{Machine as Reached}
 use Rattle.plmachine.specs.Lists.{Grown, Holds}
-use Rattle.plmachine.specs.Machine.{result_of, then_of, lookup_of, question_of, mode_of, local_of, after, cases_in, depth_of, machine, now, is_var, IsSought, IsAskable, MayAsk, Moved, Stays}
+use Rattle.plmachine.specs.Machine.{result_of, then_of, lookup_of, question_of, bare, find_answers, find_mode, machine_in, mode_of, published, swept, local_of, after, cases_in, depth_of, machine, now, is_var, IsAskable, IsFound, IsPlain, IsSought, MayAsk, Moved, Stays}
 
 -- ---- a machine by its parts
 
-pub machine-is : (P : Program) (v : Views) (s : Reached) (m : Mode) (cs : List Case) (w : Local) → mode_of s.mode s.stack ≡ m → cases_in P v s ≡ cs → local_of s ≡ w →
+pub plain-machine : (P : Program) (v : Views) (s : Reached) (left : ℕ) (answers : List Answer) (m : Going) → IsPlain m →
+    machine_in P v left answers s m ≡ record { mode = mode_of m s.stack; cases = cases_in P v s; run = record { steps = left; answers = answers; local = local_of s } }
+plain-machine P v s left answers modes.Visit plain = refl
+plain-machine P v s left answers (modes.Ask q) plain = refl
+plain-machine P v s left answers (modes.Find f) plain = absurd plain
+plain-machine P v s left answers (modes.Back r) plain = refl
+
+pub machine-is : (P : Program) (v : Views) (s : Reached) (m : Mode) (cs : List Case) (w : Local) → IsPlain s.mode → mode_of s.mode s.stack ≡ m → cases_in P v s ≡ cs → local_of s ≡ w →
     (left : ℕ) (answers : List Answer) → machine P v left answers s ≡ record { mode = m; cases = cs; run = record { steps = left; answers = answers; local = w } }
 unfolding machine
-machine-is P v s m cs w at cases local left answers =
-    ap (λ x. record { mode = x; cases = cases_in P v s; run = record { steps = left; answers = answers; local = local_of s } }) at
+machine-is P v s m cs w plain at cases local left answers =
+    plain-machine P v s left answers s.mode plain
+    ∙ ap (λ x. record { mode = x; cases = cases_in P v s; run = record { steps = left; answers = answers; local = local_of s } }) at
     ∙ ap₂ (λ cs w. record { mode = m; cases = cs; run = record { steps = left; answers = answers; local = w } }) cases local
 
 -- values that are there stand for what they did
@@ -49,6 +61,12 @@ may-ask s t (modes.Ask (questions.Look (lookups.ToRetrieve v w))) values may = (
 may-ask s t (modes.Ask (questions.Look (lookups.ToRetract v w))) values may = ((values v may.0).0, (values w may.1).0)
 may-ask s t (modes.Ask (questions.Look (lookups.ToRetractAll v))) values may = (values v may).0
 may-ask s t (modes.Ask (questions.Await q next)) values may = may
+may-ask s t (modes.Find (finds.First (lookups.ToCall v) g)) values may = (values v may).0
+may-ask s t (modes.Find (finds.First (lookups.ToRetrieve v w) g)) values may = ((values v may.0).0, (values w may.1).0)
+may-ask s t (modes.Find (finds.First (lookups.ToRetract v w) g)) values may = ((values v may.0).0, (values w may.1).0)
+may-ask s t (modes.Find (finds.First (lookups.ToRetractAll v) g)) values may = (values v may).0
+may-ask s t (modes.Find (finds.Exists v g)) values may = (values v may).0
+may-ask s t (modes.Find (finds.Sweep v w)) values may = (values v may).0
 may-ask s t (modes.Back r) values may = tt
 
 same-lookup : (s t : State) (u : Lookup) → ValuesStay s t → IsSought s.env.heap u → lookup_of t.env.heap u ≡ lookup_of s.env.heap u
@@ -63,7 +81,38 @@ same-mode s t (modes.Ask (questions.Look u)) values place may =
     ap₂ (λ u p. At (record { goals = Asking (Look u) ∷ p.goals; variables = p.variables })) (same-lookup s t u values may) place
 same-mode s t (modes.Ask (questions.Await q next)) values place may =
     ap (λ p. At (record { goals = Asking (Await q (then_of next)) ∷ p.goals; variables = p.variables })) place
+same-mode s t (modes.Find f) values place may = ap At place
 same-mode s t (modes.Back r) values place may = refl
+
+same-plain : (P : Program) (v : Views) (s new : Reached) (left : ℕ) (answers : List Answer) (m : Going) → mode_of m new.stack ≡ mode_of m s.stack → cases_in P v new ≡ cases_in P v s → local_of new ≡ local_of s →
+    IsPlain m → machine_in P v left answers new m ≡ machine_in P v left answers s m
+same-plain P v s new left answers m at cases local plain =
+    plain-machine P v new left answers m plain
+    ∙ ap (λ x. record { mode = x; cases = cases_in P v new; run = record { steps = left; answers = answers; local = local_of new } }) at
+    ∙ ap₂ (λ cs w. record { mode = mode_of m s.stack; cases = cs; run = record { steps = left; answers = answers; local = w } }) cases local
+    ∙ sym (plain-machine P v s left answers m plain)
+
+-- what is sought is the same
+same-find : (v : Views) (s t : State) (f : Find) → ValuesStay s t → place_of t ≡ place_of s → IsFound s.env.heap f → (find_mode v f t ≡ find_mode v f s) × (find_answers v f t.env.heap ≡ find_answers v f s.env.heap)
+same-find v s t (finds.First u g) values place may = (ap₂ (λ u p. At (record { goals = Asking (Look u) ∷ p.goals; variables = p.variables })) (same-lookup s t u values may) place, refl)
+same-find v s t (finds.Exists c g) values place may =
+    let same = (values c may).1 in (
+      ap₂ (λ u p. At (record { goals = Asking (Look (ToCall u)) ∷ p.goals; variables = p.variables })) same place,
+      ap (λ u. Seen g (bare (exists (v g) (indicator u)) (indicator u)) ∷ []) same,
+    )
+same-find v s t (finds.Sweep c w) values place may =
+    (ap₂ (λ u (p : Place). At (record { goals = published (swept (v w.view) p.variables u w) p.goals; variables = p.variables })) (values c may).1 place, refl)
+
+-- where values and the place stay, the machine is the same
+same-machine : (P : Program) (v : Views) (s new : Reached) (left : ℕ) (answers : List Answer) (m : Going) → ValuesStay s.stack new.stack → place_of new.stack ≡ place_of s.stack →
+    cases_in P v new ≡ cases_in P v s → local_of new ≡ local_of s → MayAsk s.stack.env.heap m → machine_in P v left answers new m ≡ machine_in P v left answers s m
+same-machine P v s new left answers modes.Visit values place cases local may = same-plain P v s new left answers modes.Visit (same-mode s.stack new.stack modes.Visit values place may) cases local tt
+same-machine P v s new left answers (modes.Ask q) values place cases local may = same-plain P v s new left answers (modes.Ask q) (same-mode s.stack new.stack (modes.Ask q) values place may) cases local tt
+same-machine P v s new left answers (modes.Back r) values place cases local may = same-plain P v s new left answers (modes.Back r) refl cases local tt
+same-machine P v s new left answers (modes.Find f) values place cases local may =
+    let same = same-find v s.stack new.stack f values place may in
+    ap₂ (λ x as. record { mode = x; cases = cases_in P v new; run = record { steps = left; answers = as ++ answers; local = local_of new } }) same.0 same.1
+    ∙ ap₂ (λ cs w. record { mode = find_mode v f s.stack; cases = cs; run = record { steps = left; answers = find_answers v f s.stack.env.heap ++ answers; local = w } }) cases local
 
 -- ---- where it stays
 
@@ -76,7 +125,7 @@ stays-by P s new code at values place cases local = record {
   local = local;
   askable = λ may. subst (MayAsk new.stack.env.heap) (sym at) (may-ask s.stack new.stack s.mode values may);
   same = λ may v left answers.
-      machine-is P v new (mode_of s.mode s.stack) (cases_in P v s) (local_of s) (ap (λ m. mode_of m new.stack) at ∙ same-mode s.stack new.stack s.mode values place may) (cases v) local left answers;
+      ap (machine_in P v left answers new) at ∙ same-machine P v s new left answers s.mode values place (cases v) local may;
 }
 
 pub stays_put : (P : Program) (s : Reached) → Stays P s s
@@ -127,16 +176,16 @@ pub moved-grown : (P : Program) (s t new : Reached) (m m' : Move) → Grown s.st
 moved-grown P s t new m m' g is same moved = subst (Moved P s new) same (moved-from P s t new m (grown-stays P s t g is) moved)
 
 -- a list is visited, in more cases
-pub goes-at : (P : Program) (v : Views) (s new : Reached) (cs : List Case) (p : Place) (w : Local) → mode_of new.mode new.stack ≡ At p → cases_in P v new ≡ cs ++ cases_in P v s → local_of new ≡ w →
+pub goes-at : (P : Program) (v : Views) (s new : Reached) (cs : List Case) (p : Place) (w : Local) → IsPlain new.mode → mode_of new.mode new.stack ≡ At p → cases_in P v new ≡ cs ++ cases_in P v s → local_of new ≡ w →
     (most left : ℕ) (answers : List Answer) → after P v s most left answers (Go cs p w) ≡ now P v new most left answers
-goes-at P v s new cs p w at cases local most left answers = ap (λ m. ending_of most (Rest P m)) (sym (machine-is P v new (At p) (cs ++ cases_in P v s) w at cases local left answers))
+goes-at P v s new cs p w plain at cases local most left answers = ap (λ m. ending_of most (Rest P m)) (sym (machine-is P v new (At p) (cs ++ cases_in P v s) w plain at cases local left answers))
 
-pub goes-to : (P : Program) (s new : Reached) (cs : List Case) (p : Place) (w : Local) → new.stack.code ≡ s.stack.code → MayAsk new.stack.env.heap new.mode →
+pub goes-to : (P : Program) (s new : Reached) (cs : List Case) (p : Place) (w : Local) → new.stack.code ≡ s.stack.code → MayAsk new.stack.env.heap new.mode → IsPlain new.mode →
     mode_of new.mode new.stack ≡ At p → ((v : Views) → cases_in P v new ≡ cs ++ cases_in P v s) → local_of new ≡ w → Moved P s new (Go cs p w)
-goes-to P s new cs p w code may at cases local = record {
+goes-to P s new cs p w code may plain at cases local = record {
   code = code;
   askable = may;
-  ends = λ v. goes-at P v s new cs p w at (cases v) local;
+  ends = λ v. goes-at P v s new cs p w plain at (cases v) local;
 }
 
 pub visit-asks : (s : Reached) → s.mode ≡ modes.Visit → MayAsk s.stack.env.heap s.mode
@@ -149,7 +198,7 @@ back-asks s r at = subst (MayAsk s.stack.env.heap) (sym at) tt
 pub gives-at : (P : Program) (v : Views) (s new : Reached) (r : Outcome) (w : Local) → new.mode ≡ modes.Back r → cases_in P v new ≡ cases_in P v s → local_of new ≡ w →
     (most left : ℕ) (answers : List Answer) → after P v s most left answers (Give (result_of r) w) ≡ now P v new most left answers
 gives-at P v s new r w at cases local most left answers =
-    ap (λ m. ending_of most (Rest P m)) (sym (machine-is P v new (Back (result_of r)) (cases_in P v s) w (ap (λ m. mode_of m new.stack) at) cases local left answers))
+    ap (λ m. ending_of most (Rest P m)) (sym (machine-is P v new (Back (result_of r)) (cases_in P v s) w (subst IsPlain (sym at) tt) (ap (λ m. mode_of m new.stack) at) cases local left answers))
 
 pub gives : (P : Program) (s new : Reached) (r : Outcome) (w : Local) → new.stack.code ≡ s.stack.code → new.mode ≡ modes.Back r → ((v : Views) → cases_in P v new ≡ cases_in P v s) → local_of new ≡ w → Moved P s new (Give (result_of r) w)
 gives P s new r w code at cases local = record {
@@ -166,7 +215,7 @@ pub visits : (P : Program) (s new : Reached) (t : State) (l : Continuation) (es 
     local_of new ≡ w → Moved P s new (go_on es s.stack.env.count w)
 unfolding cases_of
 visits P s new t l es w g h is at wrote =
-    goes-to P s new [] (record { goals = es; variables = s.stack.env.count }) w (ap (λ x. x.code) is ∙ g.extends.code) (visit-asks new at)
+    goes-to P s new [] (record { goals = es; variables = s.stack.env.count }) w (ap (λ x. x.code) is ∙ g.extends.code) (visit-asks new at) (subst IsPlain (sym at) tt)
     (ap₂ mode_of at is ∙ ap₂ (λ gs n. At (record { goals = gs; variables = n })) h.is g.count)
     (λ v. ap (cases_of (database_of P v)) is ∙ g.extends.cases (database_of P v)) wrote
 
@@ -179,7 +228,7 @@ pub enters : (P : Program) (s new : Reached) (t : State) (more : List Case) (l :
     Moved P s new (Go more (record { goals = goals_of s.stack l; variables = s.stack.env.count }) (local_of s))
 unfolding cases_of
 enters P s new t more l i o is =
-    goes-to P s new more (record { goals = goals_of s.stack l; variables = s.stack.env.count }) (local_of s) (ap (λ x. x.stack.code) is ∙ o.code) (visit-asks new (ap (λ x. x.mode) is))
+    goes-to P s new more (record { goals = goals_of s.stack l; variables = s.stack.env.count }) (local_of s) (ap (λ x. x.stack.code) is ∙ o.code) (visit-asks new (ap (λ x. x.mode) is)) (subst IsPlain (sym (ap (λ x. x.mode) is)) tt)
     (ap (λ x. mode_of x.mode x.stack) is ∙ ap₂ (λ gs n. At (record { goals = gs; variables = n })) (o.lists l i).1 o.count)
     (λ v. ap (λ x. cases_in P v x) is ∙ o.cases (database_of P v)) (ap (λ x. local_of x) is)
 
@@ -189,7 +238,7 @@ pub asks : (P : Program) (s new : Reached) (q : Asked) (l : Continuation) → Is
 unfolding cases_of
 asks P s new q l may is =
     goes-to P s new [] (record { goals = Asking (question_of s.stack.env.heap q) ∷ goals_of s.stack l; variables = s.stack.env.count }) (local_of s) (ap (λ x. x.stack.code) is)
-    (subst (λ x. MayAsk x.stack.env.heap x.mode) (sym is) may)
+    (subst (λ x. MayAsk x.stack.env.heap x.mode) (sym is) may) (subst (λ x. IsPlain x.mode) (sym is) tt)
     (ap (λ x. mode_of x.mode x.stack) is) (λ v. ap (λ x. cases_in P v x) is) (ap (λ x. local_of x) is)
 
 -- the same move, by its parts

@@ -24,7 +24,7 @@ use Rattle.plmachine.specs.declared.machine.Outcome.TheVariants as outcomes
 use Rattle.plmachine.specs.declared.machine.Mode.TheVariants as modes
 use Rattle.plmachine.specs.declared.machine.Machine.{Machine as Reached}
 use Rattle.plmachine.specs.Lists.{Grown}
-use Rattle.plmachine.specs.Machine.{mode_of, cases_in, local_of, Moved}
+use Rattle.plmachine.specs.Machine.{IsPlain, mode_of, cases_in, local_of, Moved}
 use Rattle.plmachine.proofs.Lists.{holds-list, lengthened-grown, lengthened-same}
 use Rattle.plmachine.proofs.Moves.{gave, gives, goes-to, moved-as, moved-grown, visit-asks, went}
 
@@ -35,7 +35,7 @@ unfolding cases_of
 unifies P s new t a b l there u is =
     let count : t.env.count ≡ s.stack.env.count + 0 = omega (arith, u.count) in
     subst (λ o. Moved P s new (taken (option_map (λ σ. record { goals = bind_goals σ (goals_of s.stack l); variables = s.stack.env.count + 0 }) o) (local_of s))) (sym u.is)
-    (goes-to P s new [] _ (local_of s) (ap (λ x. x.stack.code) is ∙ u.code) (visit-asks new (ap (λ x. x.mode) is))
+    (goes-to P s new [] _ (local_of s) (ap (λ x. x.stack.code) is ∙ u.code) (visit-asks new (ap (λ x. x.mode) is)) (subst IsPlain (sym (ap (λ x. x.mode) is)) tt)
     (ap (λ x. mode_of x.mode x.stack) is ∙ ap₂ (λ gs n. At (record { goals = gs; variables = n })) (u.lists l there).1 count)
     (λ v. ap (λ x. cases_in P v x) is ∙ u.cases (database_of P v)) (ap (λ x. local_of x) is))
 
@@ -51,7 +51,7 @@ pub solves : (P : Program) (s new : Reached) (t : State) (q : Equation) (l : Con
 unfolding cases_of
 solves P s new t q l there u is =
     subst (λ o. Moved P s new (taken (option_map (λ σ. record { goals = bind_goals σ (goals_of s.stack l); variables = s.stack.env.count + q.new }) o) (local_of s))) (sym u.is)
-    (goes-to P s new [] _ (local_of s) (ap (λ x. x.stack.code) is ∙ u.code) (visit-asks new (ap (λ x. x.mode) is))
+    (goes-to P s new [] _ (local_of s) (ap (λ x. x.stack.code) is ∙ u.code) (visit-asks new (ap (λ x. x.mode) is)) (subst IsPlain (sym (ap (λ x. x.mode) is)) tt)
     (ap (λ x. mode_of x.mode x.stack) is ∙ ap₂ (λ gs n. At (record { goals = gs; variables = n })) (u.lists l there).1 u.count)
     (λ v. ap (λ x. cases_in P v x) is ∙ u.cases (database_of P v)) (ap (λ x. local_of x) is))
 

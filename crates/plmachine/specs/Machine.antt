@@ -1,19 +1,27 @@
 -- What a machine stands for.
-use Rattle.std.specs.Prelude.{◌≡◌, ℕ, Bool, true, false, List, ◌∷◌}
+use Rattle.std.specs.Prelude.{◌≡◌, ℕ, Bool, true, false, List, [], ◌∷◌, ◌++◌, map, filter}
 use Rattle.std.specs.Bool.{⊤}
 use Rattle.plterm.specs.Tree.{Tree, var, int, atom, compound}
 use Rattle.plcells.specs.Store.{Store, value, IsValue}
-use Rattle.plevent.specs.Search.{Answer, Ending}
+use Rattle.plterm.specs.declared.indicator.Indicator.{Indicator}
+use Rattle.plclause.specs.Indicators.{indicator}
+use Rattle.plevent.specs.declared.update.Living.{Living}
+use Rattle.plevent.specs.declared.update.Update.{Update}
+use Rattle.plevent.specs.declared.update.Update.TheVariants.{Erase, Declare}
+use Rattle.plevent.specs.Alive.{Stamped, exists, living, named, names_of}
+use Rattle.plevent.specs.Search.{Answer, Seen, Ending}
 use Rattle.plevent.specs.declared.request.Request.{Request}
 use Rattle.plevent.specs.declared.request.Request.TheVariants.{Publish, EraseOne, HaltRun}
 use Rattle.plprogram.specs.Program.{Program}
 use Rattle.plsearch.specs.Types.{Result, Stop, Fail, CutTo, Throw, Halted, Spent, Element, Asking, Lookup, ToCall, ToRetrieve, ToRetract, ToRetractAll, Question, Look, Await, GoesOn, Ends, Case, Local, Move}
 use Rattle.plsearch.specs.Types.{Then as Following}
 use Rattle.plsearch.specs.Machines.Machine.{Mode, At, Back, Machine, Rest, move}
+use Rattle.plsearch.specs.Replies.{has_head}
 use Rattle.plsearch.specs.Search.{ending_of}
+use Rattle.plstore.specs.Like.{rest}
 use Rattle.plcode.specs.Callees.{IsProgramCode}
 use Rattle.plstack.specs.State.{State, cases_of, depth_in, goals_of}
-use Rattle.plstack.specs.Places.{Views}
+use Rattle.plstack.specs.Places.{Views, onward}
 use Rattle.plstack.specs.StaticCalls.{database_of}
 use Rattle.plmachine.specs.declared.machine.Outcome.{Outcome}
 use Rattle.plmachine.specs.declared.machine.Outcome.TheVariants as outcomes
@@ -23,6 +31,11 @@ use Rattle.plmachine.specs.declared.machine.Lookup.{Lookup as Sought}
 use Rattle.plmachine.specs.declared.machine.Lookup.TheVariants as lookups
 use Rattle.plmachine.specs.declared.machine.Question.{Question as Asked}
 use Rattle.plmachine.specs.declared.machine.Question.TheVariants as questions
+use Rattle.plmachine.specs.declared.machine.Reach.{Reach}
+use Rattle.plmachine.specs.declared.machine.Reach.TheVariants as reaches
+use Rattle.plmachine.specs.declared.machine.Sweep.{Sweep}
+use Rattle.plmachine.specs.declared.machine.Find.{Find}
+use Rattle.plmachine.specs.declared.machine.Find.TheVariants as finds
 use Rattle.plmachine.specs.declared.machine.Mode.{Mode as Going}
 use Rattle.plmachine.specs.declared.machine.Mode.TheVariants as modes
 use Rattle.plmachine.specs.declared.machine.Machine.{Machine as Reached}
@@ -56,7 +69,45 @@ place_behind s es = At (record { goals = es; variables = s.env.count })
 abbrev pub mode_of : Going → State → Mode
 mode_of modes.Visit s = place_behind s (goals_of s s.goals)
 mode_of (modes.Ask q) s = place_behind s (Asking (question_of s.env.heap q) ∷ goals_of s s.goals)
+mode_of (modes.Find f) s = place_behind s (goals_of s s.goals)
 mode_of (modes.Back r) s = Back (result_of r)
+
+-- nothing is sought
+abbrev pub IsPlain : Going → Type 0
+IsPlain modes.Visit = ⊤
+IsPlain (modes.Ask q) = ⊤
+IsPlain (modes.Find f) = ⊥
+IsPlain (modes.Back r) = ⊤
+
+-- a view in which a procedure has no clause, and exists or not
+abbrev pub bare : Bool → Indicator → List Stamped
+bare true p = record { at = named 0 0; update = Declare p } ∷ []
+bare false p = []
+
+-- the clauses of a procedure that are still to be looked through
+abbrev pub to_reach : List Stamped → Indicator → Reach → List Living
+to_reach us p (reaches.Behind c) = rest c (living us p)
+to_reach us p (reaches.At x) = onward us p x
+
+-- the erasures of a sweep over the clauses of the head h, where n variables are in use
+abbrev pub swept : List Stamped → ℕ → Tree → Sweep → List Update
+swept us n h w = w.updates.items ++ map Erase (names_of (filter (has_head n h) (to_reach us (indicator h) w.reach)))
+
+-- updates that are published before a list, of which there are none without an update
+abbrev pub published : List Update → List Element → List Element
+published [] es = es
+published (u ∷ us) es = Asking (Await (Publish (u ∷ us)) GoesOn) ∷ es
+
+-- what is sought is a look-up that was answered with its view, or the publication of what is swept
+abbrev pub find_mode : Views → Find → State → Mode
+find_mode v (finds.First u g) s = place_behind s (Asking (Look (lookup_of s.env.heap u)) ∷ goals_of s s.goals)
+find_mode v (finds.Exists c g) s = place_behind s (Asking (Look (ToCall (value s.env.heap c))) ∷ goals_of s s.goals)
+find_mode v (finds.Sweep c w) s = place_behind s (published (swept (v w.view) s.env.count (value s.env.heap c) w) (goals_of s s.goals))
+
+abbrev pub find_answers : Views → Find → Store → List Answer
+find_answers v (finds.First u g) h = Seen g (v g) ∷ []
+find_answers v (finds.Exists c g) h = Seen g (bare (exists (v g) (indicator (value h c))) (indicator (value h c))) ∷ []
+find_answers v (finds.Sweep c w) h = []
 
 abbrev pub local_of : Reached → Local
 local_of s = record { out = s.out.items; settings = s.settings; kept = s.kept }
@@ -65,12 +116,20 @@ abbrev pub cases_in : Program → Views → Reached → List Case
 cases_in P v s = cases_of (database_of P v) s.stack
 
 -- the machine of the definition, where the views are these, with so many steps and these answers left
-unfoldable pub machine : Program → Views → ℕ → List Answer → Reached → Machine
-machine P v left answers s = record {
-  mode = mode_of s.mode s.stack;
+abbrev pub machine_in : Program → Views → ℕ → List Answer → Reached → Going → Machine
+machine_in P v left answers s (modes.Find f) = record {
+  mode = find_mode v f s.stack;
+  cases = cases_in P v s;
+  run = record { steps = left; answers = find_answers v f s.stack.env.heap ++ answers; local = local_of s };
+}
+machine_in P v left answers s m = record {
+  mode = mode_of m s.stack;
   cases = cases_in P v s;
   run = record { steps = left; answers = answers; local = local_of s };
 }
+
+unfoldable pub machine : Program → Views → ℕ → List Answer → Reached → Machine
+machine P v left answers s = machine_in P v left answers s s.mode
 
 -- how many cases are open
 abbrev pub depth_of : Reached → ℕ
@@ -106,10 +165,17 @@ abbrev pub IsAskable : Store → Asked → Type 0
 IsAskable h (questions.Look u) = IsSought h u
 IsAskable h (questions.Await q next) = IsFollowed q next
 
--- where something is asked, it can be
+-- the values of what is sought are there
+abbrev pub IsFound : Store → Find → Type 0
+IsFound h (finds.First u g) = IsSought h u
+IsFound h (finds.Exists c g) = IsValue h c
+IsFound h (finds.Sweep c w) = IsValue h c
+
+-- where something is asked or sought, it can be
 abbrev pub MayAsk : Store → Going → Type 0
 MayAsk h modes.Visit = ⊤
 MayAsk h (modes.Ask q) = IsAskable h q
+MayAsk h (modes.Find f) = IsFound h f
 MayAsk h (modes.Back r) = ⊤
 
 -- it made a move

@@ -3,7 +3,12 @@ use Rattle.std.specs.Prelude.{◌≡◌, ◌⊎◌, ℕ, ◌+◌, ◌-◌, ◌<�
 use Rattle.plterm.specs.Tree.{Tree}
 use Rattle.plterm.specs.Variables.{copied, variables}
 use Rattle.plcells.specs.declared.cell.Cell.{Cell}
-use Rattle.plcells.specs.Store.{value}
+use Rattle.plcells.specs.Store.{Store, value}
+use Rattle.plclause.specs.Indicators.{indicator}
+use Rattle.plevent.specs.Keys.{first_key}
+use Rattle.plstore.specs.declared.record.Cursor.{Cursor}
+use Rattle.plstore.specs.declared.query.Query.{Query}
+use Rattle.plstore.specs.declared.query.Found.{Found}
 use Rattle.plevent.specs.Search.{Answer, Search}
 use Rattle.plevent.specs.declared.request.Request.{Request}
 use Rattle.plevent.specs.declared.request.Request.TheVariants.{Start, Publish, EraseOne, Finish, HaltRun}
@@ -25,8 +30,14 @@ use Rattle.plsearch.specs.Replies.{Served, Late, outcome}
 use Rattle.plsearch.specs.Solving.{Goes}
 use Rattle.plsearch.specs.Search.{ending_of, from_start, once, start_from, start_of}
 use Rattle.pllinks.specs.declared.link.Continuation.{Continuation}
-use Rattle.plstack.specs.Places.{Database}
-use Rattle.plstack.specs.State.{State, cases_of, goals_in, goals_of, HasAnswers, HasBranch, HasClauses, HasCopies, IsList}
+use Rattle.plstack.specs.Places.{Database, Views, head_in}
+use Rattle.plstack.specs.Walks.{AtWalk}
+use Rattle.plstack.specs.declared.frame.Point.{Point}
+use Rattle.plstack.specs.declared.frame.Use.{Use}
+use Rattle.plstack.specs.declared.frame.Spot.{Spot}
+use Rattle.plstack.specs.declared.frame.Spot.TheVariants as spots
+use Rattle.plstack.specs.declared.frame.Walk.{Walk}
+use Rattle.plstack.specs.State.{State, cases_of, goals_in, goals_of, HasAnswers, HasBranch, HasClauses, IsList}
 use Rattle.plstack.specs.declared.first.First.{First}
 use Rattle.plstack.specs.declared.first.First.TheVariants as firsts
 use Rattle.plstack.specs.First.{IsFirst}
@@ -35,7 +46,12 @@ use Rattle.plmachine.specs.declared.machine.Outcome.TheVariants as outcomes
 use Rattle.plmachine.specs.declared.machine.Then.{Then}
 use Rattle.plmachine.specs.declared.machine.Then.TheVariants as thens
 use Rattle.plmachine.specs.declared.machine.Lookup.{Lookup}
+use Rattle.plmachine.specs.declared.machine.Lookup.TheVariants as lookups
 use Rattle.plmachine.specs.declared.machine.Question.TheVariants as questions
+use Rattle.plmachine.specs.declared.machine.Reach.{Reach}
+use Rattle.plmachine.specs.declared.machine.Reach.TheVariants as reaches
+use Rattle.plmachine.specs.declared.machine.Find.{Find}
+use Rattle.plmachine.specs.declared.machine.Find.TheVariants as finds
 use Rattle.plmachine.specs.declared.machine.Mode.{Mode as Going}
 use Rattle.plmachine.specs.declared.machine.Mode.TheVariants as modes
 use Rattle.plmachine.specs.declared.machine.Machine.{Machine as Reached}
@@ -47,9 +63,9 @@ use Rattle.plsolver.specs.declared.progress.Due.{Due}
 use Rattle.plsolver.specs.declared.progress.Due.TheVariants as dues
 use Rattle.plsolver.specs.declared.progress.Progress.{Progress}
 
--- the rest of its search, by a limit of steps from the start and the answers to come
-unfoldable pub rest_of : Program → Progress → Search
-rest_of P s n answers = ending_of (min n s.limit) (Rest P (machine P (min n s.limit - s.used) answers s.machine))
+-- the rest of its search, where the views are these, by a limit of steps from the start and the answers to come
+unfoldable pub rest_of : Program → Views → Progress → Search
+rest_of P v s n answers = ending_of (min n s.limit) (Rest P (machine P v (min n s.limit - s.used) answers s.machine))
 
 -- the machine was begun with the program, and what it asks can be asked
 pub record IsOf (P : Program) (s : Reached) : Type 0 where
@@ -63,6 +79,10 @@ pub record Stays (P : Program) (old new : Progress) : Type 0 where
   pub places : new.places.items ≡ old.places.items
   pub there : StaysThere P old.machine new.machine
 
+-- views without updates, by which turns are counted
+abbrev pub no_views : Views
+no_views g = []
+
 -- without a step or an answer it came to where the same is left of its search, with less before it
 pub record Quiet (P : Program) (old new : Progress) : Type 0 where
   pub used : new.used ≡ old.used
@@ -70,16 +90,72 @@ pub record Quiet (P : Program) (old new : Progress) : Type 0 where
   pub places : new.places.items ≡ old.places.items
   pub code : new.machine.stack.code ≡ old.machine.stack.code
   pub askable : MayAsk new.machine.stack.env.heap new.machine.mode
-  pub rest : (left : ℕ) (answers : List Answer) → left + old.used ≤ old.limit → Rest P (machine P left answers new.machine) ≡ Rest P (machine P left answers old.machine)
-  pub lighter : old.used ≤ old.limit → weight (machine P 0 [] new.machine) < weight (machine P 0 [] old.machine)
+  pub rest : (v : Views) (left : ℕ) (answers : List Answer) → left + old.used ≤ old.limit → Rest P (machine P v left answers new.machine) ≡ Rest P (machine P v left answers old.machine)
+  pub lighter : old.used ≤ old.limit → weight (machine P no_views 0 [] new.machine) < weight (machine P no_views 0 [] old.machine)
 
 -- it carries a result, and no case is open
 abbrev pub IsOver : Program → Progress → Type 0
-IsOver P s = (r : Outcome) × (s.machine.mode ≡ modes.Back r) × (cases_in P s.machine ≡ [])
+IsOver P s = (r : Outcome) × (s.machine.mode ≡ modes.Back r) × ((v : Views) → cases_in P v s.machine ≡ [])
 
 -- a look-up of clauses waits for a view
 abbrev pub WaitsForView : Progress → Type 0
 WaitsForView s = (u : Lookup) × (s.machine.mode ≡ modes.Ask (questions.Look u))
+
+-- the first thing that a look-up asks in its view: by the head's procedure, and the key of its first argument
+abbrev pub like : Tree → Cursor → Query
+like h c = Query.NextLike (indicator h) (first_key h) c
+
+abbrev pub first_query : Store → Lookup → Query
+first_query h (lookups.ToCall c) = like (value h c) Cursor.Start
+first_query h (lookups.ToRetrieve c b) = like (value h c) Cursor.Start
+first_query h (lookups.ToRetract c b) = like (value h c) Cursor.Start
+first_query h (lookups.ToRetractAll c) = Query.Exists (indicator (value h c))
+
+abbrev pub reach_query : Tree → Reach → Query
+reach_query h (reaches.Behind c) = like h c
+reach_query h (reaches.At x) = Query.Clause x
+
+abbrev pub find_query : Store → Find → Query
+find_query h (finds.First u g) = first_query h u
+find_query h (finds.Exists c g) = Query.Exists (indicator (value h c))
+find_query h (finds.Sweep c w) = reach_query (value h c) w.reach
+
+abbrev pub find_view : Find → ℕ
+find_view (finds.First u g) = g
+find_view (finds.Exists c g) = g
+find_view (finds.Sweep c w) = w.view
+
+-- what a walk of the goal t asks at a spot, in the view g
+abbrev pub SpotAsks : Use → Tree → Spot → ℕ → Query → Type 0
+SpotAsks u t (spots.Text k) g q = ⊥
+SpotAsks u t (spots.At b x) g q = (g ≡ b) × (q ≡ like (head_in u t) (Cursor.After x))
+SpotAsks u t (spots.Known b x y) g q = (g ≡ b) × (q ≡ Query.Clause x)
+
+-- a look-up asks in its view
+abbrev pub Seeks : Reached → ℕ → Query → Type 0
+Seeks s g q = (f : Find) × (s.mode ≡ modes.Find f) × (g ≡ find_view f) × (q ≡ find_query s.stack.env.heap f)
+
+-- a walk, the innermost case, is to go on, and asks in its view
+pub record WalksOn (s : Reached) (g : ℕ) (q : Query) : Type 0 where
+  pub point : Point
+  pub walk : Walk
+  pub at : AtWalk s.stack point walk
+  pub fails : s.mode ≡ modes.Back outcomes.Fail
+  pub asks : SpotAsks walk.uses (value s.stack.env.heap walk.goal) walk.spot g q
+
+-- something is asked in the view g
+abbrev pub Fetches : Progress → ℕ → Query → Type 0
+Fetches s g q = Seeks s.machine g q ⊎ WalksOn s.machine g q
+
+abbrev pub IsFetching : Progress → Type 0
+IsFetching s = (g : ℕ) × (q : Query) × Fetches s g q
+
+-- an answer of the kind of its query
+abbrev pub IsFoundFor : Query → Found → Type 0
+IsFoundFor (Query.NextLike p k c) (Found.Next x) = Unit {0}
+IsFoundFor (Query.Clause x) (Found.Clause c) = Unit {0}
+IsFoundFor (Query.Exists p) (Found.Exists b) = Unit {0}
+IsFoundFor q f = ⊥
 
 -- a request waits for its reply, and for what follows it
 abbrev pub IsAsked : Progress → Request → Then → Type 0
@@ -126,6 +202,7 @@ IsSelected s x = (s.mode ≡ modes.Visit) × IsFirst s.stack (first_of x)
 unfoldable pub Settled : Program → Progress → Due → Type 0
 Settled P s (dues.Goal x) = IsSelected s.machine x × (s.used + 1 ≤ s.limit)
 Settled P s dues.Look = WaitsForView s
+Settled P s dues.Fetch = IsFetching s
 Settled P s dues.Await = Waits s
 Settled P s dues.Over = IsOver P s
 
@@ -135,7 +212,7 @@ Selects P old new = (k : ℕ) (t : Tree) (rest : List Element) → goals_of old.
 
 -- a step was taken
 pub record Stepped (P : Program) (old new : Progress) : Type 0 where
-  pub goes : Goes old.limit (rest_of P old) old.used (rest_of P new) new.used
+  pub goes : (v : Views) → Goes old.limit (rest_of P v old) old.used (rest_of P v new) new.used
   pub used : new.used ≡ old.used + 1
   pub limit : new.limit ≡ old.limit
   pub places : new.places.items ≡ old.places.items
@@ -157,6 +234,7 @@ result_throws d outcomes.Spent = false
 abbrev pub throws_to : ℕ → Going → Bool
 throws_to d modes.Visit = false
 throws_to d (modes.Ask q) = false
+throws_to d (modes.Find f) = false
 throws_to d (modes.Back r) = result_throws d r
 
 -- it carries a result
@@ -165,7 +243,7 @@ IsBack s = (r : Outcome) × (s.machine.mode ≡ modes.Back r)
 
 -- the innermost case is a choice that may have a place left
 abbrev pub HasChoice : State → Type 0
-HasChoice s = HasBranch s ⊎ HasClauses s ⊎ HasCopies s ⊎ HasAnswers s
+HasChoice s = HasBranch s ⊎ HasClauses s ⊎ HasAnswers s
 
 -- a copy of a term is kept for the handler of a level, and the list fails
 abbrev pub Collects : Progress → Progress → ℕ → Tree → Type 0
@@ -176,8 +254,8 @@ pub record Rethrown (P : Program) (old new : Progress) (e : Tree) (list : Contin
   pub frame : new ≡ record old { machine = record old.machine { stack = new.machine.stack; mode = new.machine.mode } }
   pub code : new.machine.stack.code ≡ old.machine.stack.code
   pub askable : MayAsk new.machine.stack.env.heap new.machine.mode
-  pub is : (h : Case) (below : List Case) → cases_in P old.machine ≡ h ∷ below → (left : ℕ) (answers : List Answer) →
-      machine P left answers new.machine
+  pub is : (v : Views) (h : Case) (below : List Case) → cases_in P v old.machine ≡ h ∷ below → (left : ℕ) (answers : List Answer) →
+      machine P v left answers new.machine
       ≡ record { mode = Back (Throw (copied 0 (error_term e catch_3)) (levels (goals_of old.machine.stack list))); cases = below; run = record { steps = left; answers = answers; local = local_of old.machine } }
 
 -- the recovery was run in place of the innermost case, before a list, or is no goal
@@ -185,8 +263,8 @@ pub record Recovered (P : Program) (old new : Progress) (recovery : Cell) (list 
   pub frame : new ≡ record old { machine = record old.machine { stack = new.machine.stack; mode = new.machine.mode; kept = new.machine.kept } }
   pub code : new.machine.stack.code ≡ old.machine.stack.code
   pub askable : MayAsk new.machine.stack.env.heap new.machine.mode
-  pub is : (h : Case) (below : List Case) → cases_in P old.machine ≡ h ∷ below → (left : ℕ) (answers : List Answer) →
-      machine P left answers new.machine
+  pub is : (v : Views) (h : Case) (below : List Case) → cases_in P v old.machine ≡ h ∷ below → (left : ℕ) (answers : List Answer) →
+      machine P v left answers new.machine
       ≡ return below (record { steps = left; answers = answers; local = local_of old.machine })
       (recovers (runnable (value old.machine.stack.env.heap recovery)) (deeper below 0) (goals_of old.machine.stack list) old.machine.stack.env.count (local_of old.machine))
 
@@ -213,4 +291,4 @@ pub record StartsGoal (old new : State) (list made : Continuation) (g : Tree) : 
 -- a machine at the start of a program's search
 pub record IsStart (P : Program) (s : Reached) : Type 0 where
   pub of : IsOf P s
-  pub is : (left : ℕ) (answers : List Answer) → machine P left answers s ≡ record { mode = At (start_of P); cases = []; run = from_start P left answers }
+  pub is : (v : Views) (left : ℕ) (answers : List Answer) → machine P v left answers s ≡ record { mode = At (start_of P); cases = []; run = from_start P left answers }

@@ -4,7 +4,7 @@ ghost use Rattle.std.specs.Prelude.{◌≡◌, ◌-◌, ◌≤◌, ◌↔◌, If
 ghost use Rattle.plcells.specs.Store.{IsValue, value};
 ghost use Rattle.plsearch.specs.Engine.{stop_cut, mark, deeper};
 ghost use Rattle.plstack.specs.Places.{Database};
-ghost use Rattle.plstack.specs.State.{cases_of, HasAnswers, HasCatcher, HasClauses, HasCopies, HasBranch, HasGatherer, HasPlain, IsList};
+ghost use Rattle.plstack.specs.State.{cases_of, HasAnswers, HasCatcher, HasClauses, HasWalk, HasBranch, HasGatherer, HasPlain, IsList};
 ghost use Rattle.plstack.specs.First.{IsFirst};
 ghost use Rattle.plstack.specs.declared.first.First.TheVariants.{Marker as MarkerFirst};
 ghost use Rattle.plmachine.specs.Machine.{depth_of};
@@ -15,7 +15,6 @@ use plcells::cell::Cell;
 use pllinks::item::MarkerKind;
 use pllinks::level::Level;
 use pllinks::link::Continuation;
-use plmachine::clauses::mode_of;
 use plmachine::machine::{Mode, Outcome, Question};
 use plprogram::program::Program;
 use plstack::first::First;
@@ -28,12 +27,13 @@ impl Progress {
         requires within { self.old.used ≤ self.old.limit }
         requires of { IsOf program.now self.old.machine }
         ensures on { IfOk result (λ o. IfNone o (Quiet program.now self.old self.new)) }
-        ensures due { IfOk result (λ o. IfSome o (λ due. Settled program.now self.new due × (self.new ≡ self.old))) }
+        ensures due { IfOk result (λ o. IfSome o (λ due. Settled program.now self.new due × Stays program.now self.old self.new)) }
         ensures err { OnErr result (Stays program.now self.old self.new) }
     {
         match &self.machine.mode {
             Mode::Visit => self.pass(program),
             Mode::Ask(Question::Look(_)) => Ok(Some(Due::Look)),
+            Mode::Find(_) => Ok(Some(Due::Fetch)),
             Mode::Ask(Question::Await(_, _)) => Ok(Some(Due::Await)),
             Mode::Back(_) => self.back(program),
         }
@@ -44,7 +44,7 @@ impl Progress {
         requires visits { self.old.machine.mode ≡ Mode.Visit }
         requires within { self.old.used ≤ self.old.limit }
         ensures on { IfOk result (λ o. IfNone o (Quiet program.now self.old self.new)) }
-        ensures due { IfOk result (λ o. IfSome o (λ due. Settled program.now self.new due × (self.new ≡ self.old))) }
+        ensures due { IfOk result (λ o. IfSome o (λ due. Settled program.now self.new due × Stays program.now self.old self.new)) }
         ensures err { OnErr result (Stays program.now self.old self.new) }
     {
         let selected = match self.machine.stack.first() {
@@ -117,7 +117,7 @@ impl Progress {
         requires back { IsBack self.old }
         requires of { IsOf program.now self.old.machine }
         ensures on { IfOk result (λ o. IfNone o (Quiet program.now self.old self.new)) }
-        ensures due { IfOk result (λ o. IfSome o (λ due. Settled program.now self.new due × (self.new ≡ self.old))) }
+        ensures due { IfOk result (λ o. IfSome o (λ due. Settled program.now self.new due × Stays program.now self.old self.new)) }
         ensures err { OnErr result (Stays program.now self.old self.new) }
     {
         if self.fails() {
@@ -135,12 +135,15 @@ impl Progress {
         requires fails { self.old.machine.mode ≡ Mode.Back Outcome.Fail }
         requires of { IsOf program.now self.old.machine }
         ensures on { IfOk result (λ o. IfNone o (Quiet program.now self.old self.new)) }
-        ensures due { IfOk result (λ o. IfSome o (λ due. Settled program.now self.new due × (self.new ≡ self.old))) }
+        ensures due { IfOk result (λ o. IfSome o (λ due. Settled program.now self.new due × Stays program.now self.old self.new)) }
         ensures err { OnErr result (Stays program.now self.old self.new) }
     {
         if self.machine.stack.is_plain() {
             self.close_plain(program);
             return Ok(None);
+        }
+        if self.machine.stack.is_walk() {
+            return self.next_clause(program);
         }
         if self.is_choice() {
             self.try_next(program)?;
@@ -177,9 +180,6 @@ impl Progress {
         if self.machine.stack.is_clauses() {
             return self.retry(program);
         }
-        if self.machine.stack.is_copies() {
-            return self.retry_copies(program);
-        }
         self.retry_answers(program)
     }
 
@@ -203,19 +203,6 @@ impl Progress {
     {
         if self.machine.stack.retry()? {
             self.machine.mode = Mode::Visit;
-        }
-        Ok(())
-    }
-
-    /// The next clause of the innermost case, a call of a dynamic procedure.
-    fn retry_copies(&mut self, program: &Program) -> Result<(), AllocError>
-        requires fails { self.old.machine.mode ≡ Mode.Back Outcome.Fail }
-        requires call { HasCopies self.old.machine.stack }
-        ensures ok { OnOk result (Quiet program.now self.old self.new) }
-        ensures err { OnErr result (Stays program.now self.old self.new) }
-    {
-        if let Some(entered) = self.machine.stack.retry_copies(self.machine.alloc)? {
-            self.machine.mode = mode_of(entered);
         }
         Ok(())
     }
@@ -269,6 +256,7 @@ impl Progress {
             Mode::Back(Outcome::Throw(_, levels)) => levels.contains(&self.machine.stack.level()),
             Mode::Visit
             | Mode::Ask(_)
+            | Mode::Find(_)
             | Mode::Back(Outcome::Stop)
             | Mode::Back(Outcome::Fail)
             | Mode::Back(Outcome::CutTo(_))
@@ -288,7 +276,7 @@ impl Progress {
         ensures { IsTrue result ↔ HasChoice self.now.machine.stack }
     {
         let stack = &self.machine.stack;
-        stack.is_branch() || stack.is_clauses() || stack.is_copies() || stack.is_answers()
+        stack.is_branch() || stack.is_clauses() || stack.is_answers()
     }
 
     /// The level that the choices are given up to, if that is the result that is carried.

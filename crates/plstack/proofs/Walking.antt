@@ -33,7 +33,7 @@ use Rattle.plstack.specs.Calls.{Goes}
 use Rattle.plstack.specs.Cutting.{Settles}
 use Rattle.plstack.specs.Opening.{OpensFrame}
 use Rattle.plstack.specs.Trials.{ComesBack}
-use Rattle.plstack.specs.Walks.{IsWalking, AtWalk, WalksAt, Stands, OpensWalk, goal_at, walk_left, GoesOn, Finds, FitsCall}
+use Rattle.plstack.specs.Walks.{IsWalking, AtWalk, OpensWalk, goal_at, walk_left, GoesOn, Finds, FitsCall}
 use Rattle.plstack.proofs.Renaming.{stays, candidates-renamed}
 use Rattle.plstack.proofs.Frames.{reverse-push, items-more}
 use Rattle.plstack.proofs.Growing.{cases-grown, frames-grown}
@@ -95,21 +95,6 @@ module _ (s : State) (d : ℕ) (is : IsStack s d) (rest : List Frame) (p : Point
     list = let l = back-list s d is rest p (resumes.Walk w) popped in record { there = l.there; items = l.items };
     goal = (at-frame s d is rest p (resumes.Walk w) popped).resume;
   }
-
-  pub gone-stands : (w' : Walk) (t : Tree) → WalksAt s w' t → Stands gone w w' t
-  gone-stands w' t at = same-walk (resumes-same at.point w' (at.walking.rest) at.walking.top) at
-    where
-      resumes-same : (q : Point) (v : Walk) (behind : List Frame) → s.frames ≡ behind ++ Open q (resumes.Walk v) ∷ [] → Open p (resumes.Walk w) ≡ Open q (resumes.Walk v)
-      resumes-same q v behind e = first-is (Open p (resumes.Walk w)) (Open q (resumes.Walk v)) (reverse rest) (reverse behind) (sym (ap reverse popped ∙ reverse-push rest (Open p (resumes.Walk w))) ∙ ap reverse e ∙ reverse-push behind (Open q (resumes.Walk v)))
-        where
-          first-is : (x y : Frame) (xs ys : List Frame) → x ∷ xs ≡ y ∷ ys → x ≡ y
-          first-is x y xs ys e = cc
-
-      same-walk : Open p (resumes.Walk w) ≡ Open at.point (resumes.Walk w') → WalksAt s w' t → Stands gone w w' t
-      same-walk e a =
-          let points : p ≡ at.point = cc in
-          let walks : w ≡ w' = cc in
-          record { same = walks; goal = ap₂ (λ (q : Point) (v : Walk). value (cut q.marks.env s.env).heap v.goal) points walks ∙ at.goal }
 
 -- ---- going on
 

@@ -34,17 +34,6 @@ pub record AtWalk (s : State) (p : Point) (w : Walk) : Type 0 where
   pub list : IsList s p.list
   pub goal : IsValue s.env.heap w.goal
 
--- the innermost case is this walk, whose goal was t at its opening
-pub record WalksAt (s : State) (w : Walk) (t : Tree) : Type 0 where
-  pub point : Point
-  pub walking : IsWalking s point w
-  pub goal : value (cut point.marks.env s.env).heap w.goal ≡ t
-
--- a walk is that of the goal t, which it stands for now
-pub record Stands (s : State) (found w : Walk) (t : Tree) : Type 0 where
-  pub same : found ≡ w
-  pub goal : value s.env.heap found.goal ≡ t
-
 -- a walk is opened before a list
 pub record OpensWalk (old new : State) (w : Walk) (rest : Continuation) : Type 0 where
   pub cases : (db : Database) → cases_of db new ≡ Choice (candidates_left (deeper (cases_of db old) 0) old.env (value old.env.heap w.goal) (goals_of old rest) (left_at db w.uses (value old.env.heap w.goal) w.spot)) ∷ cases_of db old

@@ -14,7 +14,7 @@ ghost use Rattle.plstack.specs.Frames.{AreOlder};
 ghost use Rattle.plstack.specs.State.{cases_of, goals_of, place_of, Extends, HasWalk, IsList, IsState, RetriesBy, State};
 ghost use Rattle.plstack.specs.Cutting.{Settles};
 ghost use Rattle.plstack.specs.Trials.{ComesBack, IsMarked, IsOpened, ListsBody, PutsHead, Resolved};
-ghost use Rattle.plstack.specs.Walks.{AtWalk, Finds, FitsCall, GoesOn, IsWalking, LeftSame, OpensWalk, Stands, WalksAt};
+ghost use Rattle.plstack.specs.Walks.{AtWalk, Finds, FitsCall, GoesOn, IsWalking, LeftSame, OpensWalk};
 
 use crate::frame::{Frame, Marks, Point, Resume, Spot, Walk};
 use crate::list::link_before;
@@ -216,12 +216,25 @@ impl Stack {
         self.open_frame(rest, Resume::Walk(walk))
     }
 
+    /// The innermost case, if it is a walk.
+    pub fn walking(&self) -> Option<Walking>
+        ensures some { IfSome result (λ at. IsWalking self.now at.point at.walk) }
+        ensures none { IfNone result (HasWalk self.now → ⊥) }
+    {
+        match self.frames.last() {
+            Some(Frame::Open(point, Resume::Walk(walk))) => Some(Walking {
+                point: *point,
+                walk: *walk,
+            }),
+            _ => None,
+        }
+    }
+
     /// Goes back to where the innermost case was opened, which is a walk and stays open.
     pub fn rewind_walk(&mut self) -> Walking
         requires { HasWalk self.old }
         ensures cases { (db : Database) → cases_of db self.new ≡ cases_of db self.old }
         ensures at { AtWalk self.new result.point result.walk }
-        ensures goal { (w : Walk) (t : Tree) → WalksAt self.old w t → Stands self.new result.walk w t }
         ensures code { self.new.code ≡ self.old.code }
     {
         let Some(Frame::Open(point, Resume::Walk(walk))) = self.frames.pop() else {
@@ -251,6 +264,8 @@ impl Stack {
         requires at { AtWalk self.old at.point at.walk }
         ensures some { IfOk result (λ o. IfSome o (λ entered. (db : Database) → Finds db at.walk (value self.old.env.heap at.walk.goal) next.now rest → RetriesBy db self.old self.new entered.erased)) }
         ensures none { IfOk result (λ o. IfNone o ((db : Database) → Finds db at.walk (value self.old.env.heap at.walk.goal) next.now rest → cases_of db self.new ≡ cases_of db self.old)) }
+        ensures at_next { IfOk result (λ o. IfNone o ((spot : Spot) → rest ≡ Some spot → AtWalk self.new at.point (record at.walk { spot = spot }))) }
+        ensures values { IfOk result (λ o. IfNone o (KeepsValue self.old self.new at.walk.goal)) }
         ensures err { OnErr result ((db : Database) → cases_of db self.new ≡ cases_of db self.old) }
         ensures code { self.new.code ≡ self.old.code }
     {
