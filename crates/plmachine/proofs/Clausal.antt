@@ -34,7 +34,7 @@ use Rattle.plstack.proofs.Stacks.{depth-in}
 use Rattle.plmachine.specs.declared.machine.Outcome.TheVariants as outcomes
 use Rattle.plmachine.specs.declared.machine.Mode.TheVariants as modes
 use Rattle.plmachine.specs.declared.machine.Machine.{Machine as Reached}
-use Rattle.plmachine.specs.Machine.{after, cases_in, depth_of, local_of, mode_of, MayAsk, Moved}
+use Rattle.plmachine.specs.Machine.{after, cases_in, depth_of, local_of, mode_of, IsPlain, MayAsk, Moved}
 use Rattle.plmachine.specs.Lists.{Grown}
 use Rattle.plmachine.specs.Clauses.{mode_by, Walks}
 use Rattle.plmachine.proofs.Moves.{back-asks, grown-depth, grown-stays, machine-is}
@@ -56,6 +56,10 @@ publish-none (u ∷ us) rest n w none = absurd (omega (arith, none))
 pub may-by : (h : Store) (x : Option ClauseName) → MayAsk h (mode_by x)
 may-by h None = tt
 may-by h (Some x) = tt
+
+pub plain-by : (x : Option ClauseName) → IsPlain (mode_by x)
+plain-by None = tt
+plain-by (Some x) = tt
 
 pub at-by : (st : State) (x : Option ClauseName) → mode_of (mode_by x) st ≡ At (place_asked x (place_of st))
 at-by st None = refl

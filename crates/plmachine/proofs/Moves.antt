@@ -31,7 +31,7 @@ use Rattle.plmachine.specs.declared.machine.Mode.{Mode as Going}
 use Rattle.plmachine.specs.declared.machine.Mode.TheVariants as modes
 use Rattle.plmachine.specs.declared.machine.Machine.{Machine as Reached}
 use Rattle.plmachine.specs.Lists.{Grown, Holds}
-use Rattle.plmachine.specs.Machine.{result_of, then_of, lookup_of, question_of, bare, find_answers, find_mode, machine_in, mode_of, published, swept, local_of, after, cases_in, depth_of, machine, now, is_var, IsAskable, IsFound, IsPlain, IsSought, MayAsk, Moved, Stays}
+use Rattle.plmachine.specs.Machine.{result_of, then_of, lookup_of, question_of, bare, find_answers, find_mode, lookup_by, machine_in, mode_of, published, swept, local_of, after, cases_in, depth_of, machine, now, is_var, IsAskable, IsFound, IsPlain, IsSought, IsTold, MayAsk, Moved, Stays}
 
 -- ---- a machine by its parts
 
@@ -61,11 +61,9 @@ may-ask s t (modes.Ask (questions.Look (lookups.ToRetrieve v w))) values may = (
 may-ask s t (modes.Ask (questions.Look (lookups.ToRetract v w))) values may = ((values v may.0).0, (values w may.1).0)
 may-ask s t (modes.Ask (questions.Look (lookups.ToRetractAll v))) values may = (values v may).0
 may-ask s t (modes.Ask (questions.Await q next)) values may = may
-may-ask s t (modes.Find (finds.First (lookups.ToCall v) g)) values may = (values v may).0
-may-ask s t (modes.Find (finds.First (lookups.ToRetrieve v w) g)) values may = ((values v may.0).0, (values w may.1).0)
-may-ask s t (modes.Find (finds.First (lookups.ToRetract v w) g)) values may = ((values v may.0).0, (values w may.1).0)
-may-ask s t (modes.Find (finds.First (lookups.ToRetractAll v) g)) values may = (values v may).0
+may-ask s t (modes.Find (finds.First x g)) values may = ((values x.goal may.0).0, subst (IsTold x.uses) (sym (values x.goal may.0).1) may.1)
 may-ask s t (modes.Find (finds.Exists v g)) values may = (values v may).0
+may-ask s t (modes.Find (finds.All v g)) values may = (values v may).0
 may-ask s t (modes.Find (finds.Sweep v w)) values may = (values v may).0
 may-ask s t (modes.Back r) values may = tt
 
@@ -94,12 +92,13 @@ same-plain P v s new left answers m at cases local plain =
 
 -- what is sought is the same
 same-find : (v : Views) (s t : State) (f : Find) → ValuesStay s t → place_of t ≡ place_of s → IsFound s.env.heap f → (find_mode v f t ≡ find_mode v f s) × (find_answers v f t.env.heap ≡ find_answers v f s.env.heap)
-same-find v s t (finds.First u g) values place may = (ap₂ (λ u p. At (record { goals = Asking (Look u) ∷ p.goals; variables = p.variables })) (same-lookup s t u values may) place, refl)
+same-find v s t (finds.First x g) values place may = (ap₂ (λ u (p : Place). At (record { goals = Asking (Look (lookup_by x.uses u)) ∷ p.goals; variables = p.variables })) (values x.goal may.0).1 place, refl)
 same-find v s t (finds.Exists c g) values place may =
     let same = (values c may).1 in (
-      ap₂ (λ u p. At (record { goals = Asking (Look (ToCall u)) ∷ p.goals; variables = p.variables })) same place,
+      ap₂ (λ u (p : Place). At (record { goals = Asking (Look (ToCall u)) ∷ p.goals; variables = p.variables })) same place,
       ap (λ u. Seen g (bare (exists (v g) (indicator u)) (indicator u)) ∷ []) same,
     )
+same-find v s t (finds.All c g) values place may = (ap₂ (λ u (p : Place). At (record { goals = Asking (Look (ToRetractAll u)) ∷ p.goals; variables = p.variables })) (values c may).1 place, refl)
 same-find v s t (finds.Sweep c w) values place may =
     (ap₂ (λ u (p : Place). At (record { goals = published (swept (v w.view) p.variables u w) p.goals; variables = p.variables })) (values c may).1 place, refl)
 

@@ -1,7 +1,7 @@
 -- What a machine stands for.
 use Rattle.std.specs.Prelude.{◌≡◌, ℕ, Bool, true, false, List, [], ◌∷◌, ◌++◌, map, filter}
 use Rattle.std.specs.Bool.{⊤}
-use Rattle.plterm.specs.Tree.{Tree, var, int, atom, compound}
+use Rattle.plterm.specs.Tree.{Tree, var, int, atom, compound, Trees, more}
 use Rattle.plcells.specs.Store.{Store, value, IsValue}
 use Rattle.plterm.specs.declared.indicator.Indicator.{Indicator}
 use Rattle.plclause.specs.Indicators.{indicator}
@@ -21,7 +21,10 @@ use Rattle.plsearch.specs.Search.{ending_of}
 use Rattle.plstore.specs.Like.{rest}
 use Rattle.plcode.specs.Callees.{IsProgramCode}
 use Rattle.plstack.specs.State.{State, cases_of, depth_in, goals_of}
-use Rattle.plstack.specs.Places.{Views, onward}
+use Rattle.plsearch.specs.Rows.{clause_term}
+use Rattle.plstack.specs.declared.frame.Use.{Use}
+use Rattle.plstack.specs.declared.frame.Use.TheVariants as uses
+use Rattle.plstack.specs.Places.{Views, head_told, onward}
 use Rattle.plstack.specs.StaticCalls.{database_of}
 use Rattle.plmachine.specs.declared.machine.Outcome.{Outcome}
 use Rattle.plmachine.specs.declared.machine.Outcome.TheVariants as outcomes
@@ -98,15 +101,36 @@ abbrev pub published : List Update → List Element → List Element
 published [] es = es
 published (u ∷ us) es = Asking (Await (Publish (u ∷ us)) GoesOn) ∷ es
 
+-- what a goal's clauses are looked up for, by what is done with one that fits: it is the term of a head and a body, or is called
+abbrev pub body_or : Tree → Trees → Tree
+body_or t (more h (more b ts)) = b
+body_or t ts = t
+
+abbrev pub body_told : Tree → Tree
+body_told (compound f ts) = body_or (compound f ts) ts
+body_told t = t
+
+abbrev pub lookup_by : Use → Tree → Lookup
+lookup_by uses.Call t = ToCall t
+lookup_by uses.Tell t = ToRetrieve (head_told t) (body_told t)
+lookup_by uses.Erase t = ToRetract (head_told t) (body_told t)
+
+abbrev pub IsTold : Use → Tree → Type 0
+IsTold uses.Call t = ⊤
+IsTold uses.Tell t = clause_term (head_told t) (body_told t) ≡ t
+IsTold uses.Erase t = clause_term (head_told t) (body_told t) ≡ t
+
 -- what is sought is a look-up that was answered with its view, or the publication of what is swept
 abbrev pub find_mode : Views → Find → State → Mode
-find_mode v (finds.First u g) s = place_behind s (Asking (Look (lookup_of s.env.heap u)) ∷ goals_of s s.goals)
+find_mode v (finds.First x g) s = place_behind s (Asking (Look (lookup_by x.uses (value s.env.heap x.goal))) ∷ goals_of s s.goals)
 find_mode v (finds.Exists c g) s = place_behind s (Asking (Look (ToCall (value s.env.heap c))) ∷ goals_of s s.goals)
+find_mode v (finds.All c g) s = place_behind s (Asking (Look (ToRetractAll (value s.env.heap c))) ∷ goals_of s s.goals)
 find_mode v (finds.Sweep c w) s = place_behind s (published (swept (v w.view) s.env.count (value s.env.heap c) w) (goals_of s s.goals))
 
 abbrev pub find_answers : Views → Find → Store → List Answer
-find_answers v (finds.First u g) h = Seen g (v g) ∷ []
+find_answers v (finds.First x g) h = Seen g (v g) ∷ []
 find_answers v (finds.Exists c g) h = Seen g (bare (exists (v g) (indicator (value h c))) (indicator (value h c))) ∷ []
+find_answers v (finds.All c g) h = Seen g (v g) ∷ []
 find_answers v (finds.Sweep c w) h = []
 
 abbrev pub local_of : Reached → Local
@@ -167,8 +191,9 @@ IsAskable h (questions.Await q next) = IsFollowed q next
 
 -- the values of what is sought are there
 abbrev pub IsFound : Store → Find → Type 0
-IsFound h (finds.First u g) = IsSought h u
+IsFound h (finds.First x g) = IsValue h x.goal × IsTold x.uses (value h x.goal)
 IsFound h (finds.Exists c g) = IsValue h c
+IsFound h (finds.All c g) = IsValue h c
 IsFound h (finds.Sweep c w) = IsValue h c
 
 -- where something is asked or sought, it can be

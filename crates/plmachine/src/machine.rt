@@ -6,6 +6,7 @@ use plevent::request::Request;
 use plevent::{ClauseName, Update};
 use pllinks::level::Level;
 use plprogram::settings::Settings;
+use plstack::frame::Use;
 use plstack::stack::Stack;
 use plstore::Cursor;
 use plterm::term::Term;
@@ -76,13 +77,22 @@ pub struct Sweep {
     pub updates: Vec<Update>,
 }
 
+/// A goal that is to be resolved against clauses, and what is done with one that fits.
+#[derive(Clone, Copy)]
+pub struct Sought {
+    pub goal: Cell,
+    pub uses: Use,
+}
+
 /// What is sought in a view that was taken.
 #[derive(Drop)]
 pub enum Find {
-    /// The first clause that a look-up may be for, in the view of a place.
-    First(Lookup, u64),
+    /// The first clause that may be for a goal, in the view of a place.
+    First(Sought, u64),
     /// Whether the procedure of a goal exists, in the view of a place in which no clause may be for the goal.
     Exists(Cell, u64),
+    /// Whether the procedure of a head exists, all of whose clauses are to be erased, in the view of a place.
+    All(Cell, u64),
     /// The clauses of a head, all of which are to be erased.
     Sweep(Cell, Sweep),
 }

@@ -4,4 +4,4 @@ pub mod Quiets
 pub mod Catches
 pub mod Gathering
 pub mod Starts
-pub mod Looks
+pub mod Looking

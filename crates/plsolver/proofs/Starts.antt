@@ -17,12 +17,13 @@ use Rattle.pllinks.specs.Lists.{goal_of, all_elements}
 use Rattle.pllinks.specs.Links.{alone, done}
 use Rattle.pllinks.proofs.Arena.{list_at-none}
 use Rattle.plstack.specs.State.{State, IsList, Extends, AddsList, goals_in, goals_of, cases_of}
-use Rattle.plstack.specs.StaticCalls.{statics_of}
+use Rattle.plstack.specs.Places.{Views}
+use Rattle.plstack.specs.StaticCalls.{database_of}
 use Rattle.plstack.proofs.Lists.{empty-list}
 use Rattle.plstack.proofs.Stacks.{no-cases}
 use Rattle.plmachine.specs.declared.machine.Mode.TheVariants as modes
 use Rattle.plmachine.specs.declared.machine.Machine.{Machine as Reached}
-use Rattle.plmachine.specs.Machine.{machine, mode_of, MayAsk}
+use Rattle.plmachine.specs.Machine.{machine, mode_of, IsPlain, MayAsk}
 use Rattle.plmachine.proofs.Moves.{machine-is}
 use Rattle.plsolver.specs.declared.progress.Progress.{Progress}
 use Rattle.plsolver.specs.Solver.{IsStart, IsEmpty, Starts, StartsGoal, rest_of}
@@ -72,20 +73,20 @@ pub is-start : (P : Program) (s : Reached) (stack : State) (list : Continuation)
 unfolding start_of cases_of
 is-start P s stack list code starts is at out settings kept = record {
   of = record { begun = subst (λ st. IsProgramCode P st.code) (sym is) code; askable = subst (λ m. MayAsk s.stack.env.heap m) (sym at) tt };
-  is = λ left answers.
-      machine-is P s (At (start_of P)) [] (record { out = []; settings = P.settings; kept = [] }) (ap₂ mode_of at is ∙ ap At starts.place) (ap (cases_of (statics_of P)) is ∙ starts.cases (statics_of P)) (ap₂ (λ o x. record { out = o; settings = x; kept = s.kept }) out settings ∙ ap (λ k. record { out = []; settings = P.settings; kept = k }) kept) left answers;
+  is = λ v left answers.
+      machine-is P v s (At (start_of P)) [] (record { out = []; settings = P.settings; kept = [] }) (subst IsPlain (sym at) tt) (ap₂ mode_of at is ∙ ap At starts.place) (ap (cases_of (database_of P v)) is ∙ starts.cases (database_of P v)) (ap₂ (λ o x. record { out = o; settings = x; kept = s.kept }) out settings ∙ ap (λ k. record { out = []; settings = P.settings; kept = k }) kept) left answers;
 }
 
 -- a solver at the start
-pub begins : (P : Program) (s : Progress) → IsStart P s.machine → s.used ≡ 0 → Begins (search_of P s.limit) (rest_of P s) s.used
+pub begins : (P : Program) (v : Views) (s : Progress) → IsStart P s.machine → s.used ≡ 0 → Begins (search_of P s.limit) (rest_of P v s) s.used
 unfolding search_of rest_of Rest outs start_of
-begins P s start used = (
+begins P v s start used = (
   used,
   λ n answers.
       let k : ℕ = min n s.limit in
       let all : k - 0 ≡ k = omega arith in
       sym
-      (ap (λ u. ending_of k (Rest P (machine P (k - u) answers s.machine))) used
-      ∙ ap (λ m. ending_of k (Rest P (machine P m answers s.machine))) all
-      ∙ ap (λ m. ending_of k (Rest P m)) (start.is k answers)),
+      (ap (λ u. ending_of k (Rest P (machine P v (k - u) answers s.machine))) used
+      ∙ ap (λ m. ending_of k (Rest P (machine P v m answers s.machine))) all
+      ∙ ap (λ m. ending_of k (Rest P m)) (start.is v k answers)),
 )

@@ -46,7 +46,6 @@ use Rattle.plmachine.specs.declared.machine.Outcome.TheVariants as outcomes
 use Rattle.plmachine.specs.declared.machine.Then.{Then}
 use Rattle.plmachine.specs.declared.machine.Then.TheVariants as thens
 use Rattle.plmachine.specs.declared.machine.Lookup.{Lookup}
-use Rattle.plmachine.specs.declared.machine.Lookup.TheVariants as lookups
 use Rattle.plmachine.specs.declared.machine.Question.TheVariants as questions
 use Rattle.plmachine.specs.declared.machine.Reach.{Reach}
 use Rattle.plmachine.specs.declared.machine.Reach.TheVariants as reaches
@@ -55,7 +54,7 @@ use Rattle.plmachine.specs.declared.machine.Find.TheVariants as finds
 use Rattle.plmachine.specs.declared.machine.Mode.{Mode as Going}
 use Rattle.plmachine.specs.declared.machine.Mode.TheVariants as modes
 use Rattle.plmachine.specs.declared.machine.Machine.{Machine as Reached}
-use Rattle.plmachine.specs.Machine.{result_of, local_of, cases_in, depth_of, machine, IsBegun, MayAsk, Moved}
+use Rattle.plmachine.specs.Machine.{result_of, local_of, cases_in, depth_of, machine, now, IsBegun, MayAsk, Moved}
 use Rattle.plmachine.specs.Machine.{Stays as StaysThere}
 use Rattle.plsolver.specs.declared.progress.Selected.{Selected}
 use Rattle.plsolver.specs.declared.progress.Selected.TheVariants as goals
@@ -79,19 +78,19 @@ pub record Stays (P : Program) (old new : Progress) : Type 0 where
   pub places : new.places.items ≡ old.places.items
   pub there : StaysThere P old.machine new.machine
 
--- views without updates, by which turns are counted
-abbrev pub no_views : Views
-no_views g = []
-
 -- without a step or an answer it came to where the same is left of its search, with less before it
-pub record Quiet (P : Program) (old new : Progress) : Type 0 where
+pub record QuietIn (P : Program) (v : Views) (old new : Progress) : Type 0 where
   pub used : new.used ≡ old.used
   pub limit : new.limit ≡ old.limit
   pub places : new.places.items ≡ old.places.items
   pub code : new.machine.stack.code ≡ old.machine.stack.code
   pub askable : MayAsk new.machine.stack.env.heap new.machine.mode
-  pub rest : (v : Views) (left : ℕ) (answers : List Answer) → left + old.used ≤ old.limit → Rest P (machine P v left answers new.machine) ≡ Rest P (machine P v left answers old.machine)
-  pub lighter : old.used ≤ old.limit → weight (machine P no_views 0 [] new.machine) < weight (machine P no_views 0 [] old.machine)
+  pub rest : (left : ℕ) (answers : List Answer) → left + old.used ≤ old.limit → Rest P (machine P v left answers new.machine) ≡ Rest P (machine P v left answers old.machine)
+  pub lighter : old.used ≤ old.limit → weight (machine P v 0 [] new.machine) < weight (machine P v 0 [] old.machine)
+
+-- whatever the views are
+abbrev pub Quiet : Program → Progress → Progress → Type 0
+Quiet P old new = (v : Views) → QuietIn P v old new
 
 -- it carries a result, and no case is open
 abbrev pub IsOver : Program → Progress → Type 0
@@ -105,24 +104,20 @@ WaitsForView s = (u : Lookup) × (s.machine.mode ≡ modes.Ask (questions.Look u
 abbrev pub like : Tree → Cursor → Query
 like h c = Query.NextLike (indicator h) (first_key h) c
 
-abbrev pub first_query : Store → Lookup → Query
-first_query h (lookups.ToCall c) = like (value h c) Cursor.Start
-first_query h (lookups.ToRetrieve c b) = like (value h c) Cursor.Start
-first_query h (lookups.ToRetract c b) = like (value h c) Cursor.Start
-first_query h (lookups.ToRetractAll c) = Query.Exists (indicator (value h c))
-
 abbrev pub reach_query : Tree → Reach → Query
 reach_query h (reaches.Behind c) = like h c
 reach_query h (reaches.At x) = Query.Clause x
 
 abbrev pub find_query : Store → Find → Query
-find_query h (finds.First u g) = first_query h u
+find_query h (finds.First x g) = like (head_in x.uses (value h x.goal)) Cursor.Start
 find_query h (finds.Exists c g) = Query.Exists (indicator (value h c))
+find_query h (finds.All c g) = Query.Exists (indicator (value h c))
 find_query h (finds.Sweep c w) = reach_query (value h c) w.reach
 
 abbrev pub find_view : Find → ℕ
-find_view (finds.First u g) = g
+find_view (finds.First x g) = g
 find_view (finds.Exists c g) = g
+find_view (finds.All c g) = g
 find_view (finds.Sweep c w) = w.view
 
 -- what a walk of the goal t asks at a spot, in the view g
@@ -292,3 +287,9 @@ pub record StartsGoal (old new : State) (list made : Continuation) (g : Tree) : 
 pub record IsStart (P : Program) (s : Reached) : Type 0 where
   pub of : IsOf P s
   pub is : (v : Views) (left : ℕ) (answers : List Answer) → machine P v left answers s ≡ record { mode = At (start_of P); cases = []; run = from_start P left answers }
+
+-- without a step or an answer it came to where the same is left of its search, where the views are these
+pub record KeepsRest (P : Program) (v : Views) (old new : Progress) : Type 0 where
+  pub used : new.used ≡ old.used
+  pub limit : new.limit ≡ old.limit
+  pub rest : (most left : ℕ) (answers : List Answer) → now P v old.machine most left answers ≡ now P v new.machine most left answers

@@ -224,6 +224,7 @@ impl Progress {
     fn close(&mut self, program: &Program) -> Option<Due>
         requires back { IsBack self.old }
         requires tried { self.old.machine.mode ≡ Mode.Back Outcome.Fail → HasChoice self.old.machine.stack → ⊥ }
+        requires walked { self.old.machine.mode ≡ Mode.Back Outcome.Fail → HasWalk self.old.machine.stack → ⊥ }
         requires caught { HasCatcher self.old.machine.stack → throws_to (depth_of self.old.machine - 1) self.old.machine.mode ≡ true → ⊥ }
         requires gathered { HasGatherer self.old.machine.stack → self.old.machine.mode ≡ Mode.Back Outcome.Fail → ⊥ }
         ensures on { IfNone result (Quiet program.now self.old self.new) }
