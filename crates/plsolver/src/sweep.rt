@@ -1,5 +1,24 @@
 //! The erasure of all clauses of a head (ISO/IEC 13211-1 8.9.5): they are looked through one at a time.
 
+ghost use Rattle.std.specs.Prelude.{◌≡◌, ℕ, ◌++◌, OnErr, OnOk, IfOk, Option, is_some, map};
+ghost use Rattle.plcells.specs.Store.{value, IsValue};
+ghost use Rattle.plclause.specs.Clause.{Clause as OfClause};
+ghost use Rattle.plclause.specs.Indicators.{indicator};
+ghost use Rattle.plevent.specs.declared.update.ClauseName.{ClauseName as Named};
+ghost use Rattle.plevent.specs.Alive.{exists as exists_of, living};
+ghost use Rattle.plevent.specs.Keys.{first_key};
+ghost use Rattle.plprogram.specs.Program.{Program as Given};
+ghost use Rattle.plstore.specs.Like.{next_like_of};
+ghost use Rattle.plstore.specs.Looking.{clause_alive};
+ghost use Rattle.plstore.specs.Rising.{Ordered};
+ghost use Rattle.plstore.specs.declared.record.Cursor.{Cursor as OfCursor};
+ghost use Rattle.plstack.specs.Places.{Views};
+ghost use Rattle.plmachine.specs.declared.machine.Find.TheVariants.{All as AllOf, Sweep as SweepOf};
+ghost use Rattle.plmachine.specs.declared.machine.Mode.TheVariants.{Find as Finds};
+ghost use Rattle.plmachine.specs.declared.machine.Reach.TheVariants.{At as AtOf, Behind as BehindOf};
+ghost use Rattle.plmachine.specs.declared.machine.Sweep.{Sweep as OfSweep};
+ghost use Rattle.plsolver.specs.Solver.{has_if, IsOf, KeepsRest, Stays, erased_if};
+
 use crate::progress::Progress;
 use plcells::cell::Cell;
 use plclause::clause::Clause;
@@ -9,6 +28,7 @@ use plmachine::machine::{Find, Mode, Reach, Sweep};
 use plprogram::program::Program;
 use plstore::Cursor;
 use std::alloc::AllocError;
+use std::mem;
 
 impl Progress {
     /// Whether the procedure of a head exists was asked: its clauses are looked through, or it is declared.
@@ -18,7 +38,14 @@ impl Progress {
         head: Cell,
         g: u64,
         exists: bool,
-    ) -> Result<(), AllocError> {
+    ) -> Result<(), AllocError>
+        requires of { IsOf program.now self.old.machine }
+        requires finds { self.old.machine.mode ≡ Finds (AllOf head g) }
+        ensures ok { OnOk result ((v : Views) → exists ≡ exists_of (v g) (indicator (value self.old.machine.stack.env.heap head)) → KeepsRest program.now v self.old self.new) }
+        ensures of { IsOf program.now self.new.machine }
+        ensures frame { self.new ≡ record self.old { machine = self.new.machine } }
+        ensures err { OnErr result (Stays program.now self.old self.new) }
+    {
         if exists {
             let sweep = Sweep {
                 view: g,
@@ -33,16 +60,32 @@ impl Progress {
     }
 
     /// The next clause that may have the head was sought: it is looked at next, or the erasures are published.
-    pub(crate) fn swept_to(&mut self, program: &Program, next: Option<ClauseName>) {
-        let rest = self.machine.stack.visited();
-        let Mode::Find(Find::Sweep(_, sweep)) = &mut self.machine.mode else {
+    pub(crate) fn swept_to(&mut self, program: &Program, next: Option<ClauseName>)
+        requires of { IsOf program.now self.old.machine }
+        requires sweeps { (head : Cell) × (w : OfSweep) × (c : OfCursor) × (self.old.machine.mode ≡ Finds (SweepOf head w)) × (w.reach ≡ BehindOf c) }
+        ensures ok { (v : Views) (head : Cell) (w : OfSweep) (c : OfCursor) → self.old.machine.mode ≡ Finds (SweepOf head w) → w.reach ≡ BehindOf c → Ordered (v w.view) → next ≡ next_like_of (first_key (value self.old.machine.stack.env.heap head)) c (living (v w.view) (indicator (value self.old.machine.stack.env.heap head))) → KeepsRest program.now v self.old self.new }
+        ensures of { IsOf program.now self.new.machine }
+        ensures frame { self.new ≡ record self.old { machine = self.new.machine } }
+    {
+        let mode = mem::replace(&mut self.machine.mode, Mode::Visit);
+        let Mode::Find(find) = mode else {
+            unreachable!()
+        };
+        let Find::Sweep(head, sweep) = find else {
             unreachable!()
         };
         match next {
-            Some(name) => sweep.reach = Reach::At(name),
+            Some(name) => {
+                let sweep = Sweep {
+                    view: sweep.view,
+                    reach: Reach::At(name),
+                    updates: sweep.updates,
+                };
+                self.machine.mode = Mode::Find(Find::Sweep(head, sweep));
+            }
             None => {
-                let updates = std::mem::replace(&mut sweep.updates, Vec::new(self.machine.alloc));
-                self.machine.publish(program, updates, rest);
+                let rest = self.machine.stack.visited();
+                self.machine.publish(program, sweep.updates, rest);
             }
         }
     }
@@ -51,25 +94,42 @@ impl Progress {
     pub(crate) fn swept(
         &mut self,
         program: &Program,
-        head: Cell,
         name: ClauseName,
-        clause: Option<&Clause>,
-    ) -> Result<(), AllocError> {
-        let has = self.has_head(head, clause)?;
-        let Mode::Find(Find::Sweep(_, sweep)) = &mut self.machine.mode else {
+        clause: Option<Clause>,
+    ) -> Result<(), AllocError>
+        requires of { IsOf program.now self.old.machine }
+        requires sweeps { (head : Cell) × (w : OfSweep) × (self.old.machine.mode ≡ Finds (SweepOf head w)) × (w.reach ≡ AtOf name) }
+        ensures ok { OnOk result ((v : Views) (head : Cell) (w : OfSweep) → self.old.machine.mode ≡ Finds (SweepOf head w) → w.reach ≡ AtOf name → clause ≡ clause_alive name (v w.view) → KeepsRest program.now v self.old self.new) }
+        ensures of { IsOf program.now self.new.machine }
+        ensures frame { self.new ≡ record self.old { machine = self.new.machine } }
+        ensures err { OnErr result (Stays program.now self.old self.new) }
+    {
+        let Mode::Find(find) = &self.machine.mode else {
             unreachable!()
         };
-        if has {
-            sweep.updates.push(Update::Erase(name))?;
-        }
-        sweep.reach = Reach::Behind(Cursor::After(name));
-        Ok(())
+        let Find::Sweep(head, _) = find else {
+            unreachable!()
+        };
+        let head = *head;
+        let has = self.has_head(head, &clause)?;
+        let mode = mem::replace(&mut self.machine.mode, Mode::Visit);
+        let (mode, outcome) = swept_mode(mode, name, has);
+        self.machine.mode = mode;
+        outcome
     }
 
-    /// Whether a clause, if there is one, has a head that unifies with a head.
-    fn has_head(&mut self, head: Cell, clause: Option<&Clause>) -> Result<bool, AllocError> {
+    /// Whether there is a clause and its head unifies with a head.
+    fn has_head(&mut self, head: Cell, clause: &Option<Clause>) -> Result<bool, AllocError>
+        requires { IsValue self.old.machine.stack.env.heap head }
+        ensures is { IfOk result (λ has. has ≡ has_if self.old.machine.stack.env.count (value self.old.machine.stack.env.heap head) clause.now) }
+        ensures stays { (P : Given) → Stays P self.old self.new }
+        ensures frame { self.new ≡ record self.old { machine = record self.old.machine { stack = self.new.machine.stack } } }
+    {
         match clause {
-            Some(clause) => self.machine.stack.has_head(self.machine.alloc, head, clause),
+            Some(clause) => {
+                let alloc = self.machine.alloc;
+                self.machine.stack.has_head(alloc, head, clause)
+            }
             None => Ok(false),
         }
     }

@@ -18,7 +18,7 @@ use Rattle.plenv.specs.Changes.{Keeps}
 use Rattle.pllinks.specs.declared.link.Link.{Link}
 use Rattle.pllinks.specs.declared.link.Continuation.{Continuation}
 use Rattle.pllinks.specs.Lists.{all_elements}
-use Rattle.pllinks.specs.Links.{alone, items_of}
+use Rattle.pllinks.specs.Links.{alone, items_of, IsChain}
 use Rattle.plstack.specs.declared.walk.Candidate.{Candidate}
 use Rattle.plstack.specs.declared.frame.Point.{Point}
 use Rattle.plstack.specs.declared.frame.Walk.{Walk}
@@ -33,13 +33,14 @@ use Rattle.plstack.specs.Calls.{Goes}
 use Rattle.plstack.specs.Cutting.{Settles}
 use Rattle.plstack.specs.Opening.{OpensFrame}
 use Rattle.plstack.specs.Trials.{ComesBack}
-use Rattle.plstack.specs.Walks.{IsWalking, AtWalk, OpensWalk, goal_at, walk_left, GoesOn, Finds, FitsCall}
+use Rattle.plstack.specs.Walks.{IsWalking, AtWalk, OpensWalk, goal_at, walk_left, GoesOn, EndsPlain, Finds, FitsCall, LeftSame}
 use Rattle.plstack.proofs.Renaming.{stays, candidates-renamed}
 use Rattle.plstack.proofs.Frames.{reverse-push, items-more}
 use Rattle.plstack.proofs.Growing.{cases-grown, frames-grown}
 use Rattle.plstack.proofs.Found.{renamed-kept}
 use Rattle.plstack.proofs.Hitting.{place-with}
 use Rattle.plstack.proofs.Going.{level-of}
+use Rattle.plstack.proofs.Reopening.{unchanged-extends}
 use Rattle.plstack.proofs.Returning.{at-frame, back-depth, back-list}
 use Rattle.plstack.proofs.Rewinding.{rewound, rewound-stack, rewound-cases, now, list-then}
 use Rattle.plstack.proofs.Stacks.{opened-cases, opened-state, counted, counted-cases, popped-cases, popped-stack}
@@ -161,7 +162,7 @@ module _ (s : State) (d : ℕ) (is : IsStack s d) (p : Point) (w : Walk) (at : A
   the-frame : IsOpen (goals_in s) s.env s.links s.saved p (resumes.Walk w) (reverse at.walking.rest)
   the-frame = at-frame s d is at.walking.rest p (resumes.Walk w) at.walking.top
 
-  then-cut : cut p.marks.env e ≡ renamed s.env e.heap.names
+  pub then-cut : cut p.marks.env e ≡ renamed s.env e.heap.names
   then-cut = goes.keeps.kept p.marks.env the-frame.mark.within ∙ ap (λ x. renamed x e.heap.names) at.now
 
   same-items : items_of ls p.list ≡ items_of s.links p.list
@@ -246,3 +247,77 @@ module _ (db : Database) (s mid new : State) (p : Point) (w : Walk) (at : AtWalk
         ∙ ap (λ q. Choice (place_asked x.erased q ∷ others) ∷ goes.below) (sym place);
     cases = is-left;
   }
+
+-- a spot that is there is the one
+pub same-spot : (x y : Spot) → Some x ≡ Some y → x ≡ y
+same-spot x y e = cc
+
+-- ---- where a walk is tried
+
+-- what a clause that fits changes
+pub fits-goes : (s : State) (e : Env) (ls : List Link) (list : Continuation) (d : ℕ) (goal : Cell) (rest : Continuation) (x : Clause) → FitsCall s (record s { env = e; links = ls; goals = list }) d goal rest x → Goes s (record s { env = e; links = ls })
+fits-goes s e ls list d goal rest x f = record { keeps = f.goes.keeps; env = f.goes.env; more = f.goes.more; links = f.goes.links; chain = f.goes.chain }
+
+module _ (s : State) (d : ℕ) (is : IsStack s d) (p : Point) (w : Walk) (at : AtWalk s p w) where
+  pub mark-there : IsMark p.marks.env s.env
+  mark-there = (at-frame s d is at.walking.rest p (resumes.Walk w) at.walking.top).mark
+
+  module _ (e : Env) (ls : List Link) (env : IsEnv e) (b : ComesBack s.env e s.links ls) where
+    -- all is as it was but for more names
+    pub back-goes : Goes s (record s { env = e; links = ls })
+    back-goes = record {
+      keeps = subst (Keeps s.env) (sym b.env) (renamed-kept s.env e.heap.names b.names);
+      env = env;
+      more = [];
+      links = b.same ∙ sym (append-nil s.links);
+      chain = subst IsChain (sym b.same) is.0.chain;
+    }
+
+    pub back-at : AtWalk (record s { env = e; links = ls }) p w
+    back-at =
+        let x = unchanged-extends s d is e ls env b in
+        let kept : cut p.marks.env e ≡ e = then-cut s d is p w at e ls back-goes ∙ sym b.env in
+        record {
+          walking = record { rest = at.walking.rest; top = at.walking.top };
+          now = kept;
+          list = let l = (x.lists p.list at.list).0 in record { there = l.there; items = l.items };
+          goal = (x.values w.goal at.goal).0;
+        }
+
+    pub back-value : value e.heap w.goal ≡ value s.env.heap w.goal
+    back-value = ((unchanged-extends s d is e ls env b).values w.goal at.goal).1
+
+-- what is left of a walk is what was, whatever list is visited
+pub left-same : (s : State) (d : ℕ) (is : IsStack s d) (p : Point) (w : Walk) (at : AtWalk s p w) (e : Env) (ls : List Link) (list : Continuation) → Goes s (record s { env = e; links = ls }) → LeftSame s (record s { env = e; links = ls; goals = list }) p w
+left-same s d is p w at e ls list goes = record {
+  walking = record { rest = at.walking.rest; top = at.walking.top };
+  left = λ k xs. left-kept s d is p w at e ls goes k xs;
+}
+
+pub listed-cases : (db : Database) (s : State) (e : Env) (ls : List Link) (list : Continuation) → cases_of db (record s { env = e; links = ls; goals = list }) ≡ cases_of db (record s { env = e; links = ls })
+unfolding cases_of
+listed-cases db s e ls list = refl
+
+-- where nothing is left of a walk, it is a choice with nothing left
+pub plain-end : (db : Database) (mid new : State) (p : Point) (w : Walk) (next : Option Spot) → next ≡ None → GoesOn db mid new p w next → EndsPlain db new
+plain-end db mid new p w next none goes = record {
+  below = goes.below;
+  cases = goes.cases ∙ ap (λ (n : Option Spot). Choice (walk_left mid (deeper goes.below 0) p w (left_if db w.uses (goal_at mid p w) n)) ∷ goes.below) none;
+}
+
+-- where it stands at another spot, all else is as it was
+pub at-framed : (mid new : State) (p : Point) (w : Walk) (spot : Spot) → new ≡ record mid { frames = new.frames } → IsWalking new p (record w { spot = spot }) → AtWalk mid p w → AtWalk new p (record w { spot = spot })
+at-framed mid new p w spot same walking at = record {
+  walking = walking;
+  now = let e : new.env ≡ mid.env = ap (λ (x : State). x.env) same in ap (cut p.marks.env) e ∙ at.now ∙ sym e;
+  list = subst (λ (x : State). IsList x p.list) (sym same) (record { there = at.list.there; items = at.list.items });
+  goal = subst (λ (x : State). IsValue x.env.heap w.goal) (sym same) at.goal;
+}
+
+pub value-framed : (mid new : State) (v : Cell) → new ≡ record mid { frames = new.frames } → value new.env.heap v ≡ value mid.env.heap v
+value-framed mid new v same = ap (λ (x : State). value x.env.heap v) same
+
+-- the place of a clause that fits, by its level
+pub fitted-at : (s mid : State) (p : Point) (w : Walk) (d k : ℕ) → d ≡ k → (x : Clause) → resolve d s.env.count (value s.env.heap w.goal) (goals_of s p.list) x ≡ Some (place_of mid) →
+    resolve k s.env.count (value s.env.heap w.goal) (goals_of s p.list) x ≡ Some (place_of mid)
+fitted-at s mid p w d k same x e = subst (λ n. resolve n s.env.count (value s.env.heap w.goal) (goals_of s p.list) x ≡ Some (place_of mid)) same e

@@ -67,3 +67,8 @@ pub record FitsCall (old new : State) (d : ℕ) (goal : Cell) (rest : Continuati
 pub record LeftSame (old new : State) (p : Point) (w : Walk) : Type 0 where
   pub walking : IsWalking new p w
   pub left : (d : ℕ) (xs : Tree → List Candidate) → walk_left new d p w (xs (goal_at new p w)) ≡ walk_left old d p w (xs (goal_at old p w))
+
+-- the innermost case is a choice with nothing left
+pub record EndsPlain (db : Database) (s : State) : Type 0 where
+  pub below : List Case
+  pub cases : cases_of db s ≡ Choice [] ∷ below

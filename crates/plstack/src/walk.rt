@@ -14,7 +14,7 @@ ghost use Rattle.plstack.specs.Frames.{AreOlder};
 ghost use Rattle.plstack.specs.State.{cases_of, goals_of, place_of, Extends, HasWalk, IsList, IsState, RetriesBy, State};
 ghost use Rattle.plstack.specs.Cutting.{Settles};
 ghost use Rattle.plstack.specs.Trials.{ComesBack, IsMarked, IsOpened, ListsBody, PutsHead, Resolved};
-ghost use Rattle.plstack.specs.Walks.{AtWalk, Finds, FitsCall, GoesOn, IsWalking, LeftSame, OpensWalk};
+ghost use Rattle.plstack.specs.Walks.{AtWalk, EndsPlain, Finds, FitsCall, GoesOn, IsWalking, LeftSame, OpensWalk};
 
 use crate::frame::{Frame, Marks, Point, Resume, Spot, Walk};
 use crate::list::link_before;
@@ -264,8 +264,9 @@ impl Stack {
         requires at { AtWalk self.old at.point at.walk }
         ensures some { IfOk result (λ o. IfSome o (λ entered. (db : Database) → Finds db at.walk (value self.old.env.heap at.walk.goal) next.now rest → RetriesBy db self.old self.new entered.erased)) }
         ensures none { IfOk result (λ o. IfNone o ((db : Database) → Finds db at.walk (value self.old.env.heap at.walk.goal) next.now rest → cases_of db self.new ≡ cases_of db self.old)) }
+        ensures last { IfOk result (λ o. IfNone o (rest ≡ None → (db : Database) → EndsPlain db self.new)) }
         ensures at_next { IfOk result (λ o. IfNone o ((spot : Spot) → rest ≡ Some spot → AtWalk self.new at.point (record at.walk { spot = spot }))) }
-        ensures values { IfOk result (λ o. IfNone o (KeepsValue self.old self.new at.walk.goal)) }
+        ensures values { IfOk result (λ o. IfNone o ((spot : Spot) → rest ≡ Some spot → value self.new.env.heap at.walk.goal ≡ value self.old.env.heap at.walk.goal)) }
         ensures err { OnErr result ((db : Database) → cases_of db self.new ≡ cases_of db self.old) }
         ensures code { self.new.code ≡ self.old.code }
     {
@@ -292,6 +293,8 @@ impl Stack {
         ensures yes { IfOk result (λ fits. fits ≡ true → resolve level self.old.env.count (value self.old.env.heap at.now.walk.goal) (goals_of self.old at.now.point.list) clause.now ≡ Some (place_of self.new)) }
         ensures no { IfOk result (λ fits. fits ≡ false → unify (value self.old.env.heap at.now.walk.goal) (shift self.old.env.count clause.now.head) ≡ None) }
         ensures left { OnOk result (LeftSame self.old self.new at.now.point at.now.walk) }
+        ensures at { IfOk result (λ fits. fits ≡ false → AtWalk self.new at.now.point at.now.walk) }
+        ensures value { IfOk result (λ fits. fits ≡ false → value self.new.env.heap at.now.walk.goal ≡ value self.old.env.heap at.now.walk.goal) }
         ensures cases { (db : Database) → cases_of db self.new ≡ cases_of db self.old }
         ensures code { self.new.code ≡ self.old.code }
     {
@@ -315,6 +318,8 @@ impl Stack {
         requires { IsWalking self.old at.point at.walk }
         ensures goes { (db : Database) → GoesOn db self.old self.new at.point at.walk next }
         ensures place { place_of self.new ≡ place_of self.old }
+        ensures same { (spot : Spot) → next ≡ Some spot → self.new ≡ record self.old { frames = self.new.frames } }
+        ensures walking { (spot : Spot) → next ≡ Some spot → IsWalking self.new at.point (record at.walk { spot = spot }) }
         ensures code { self.new.code ≡ self.old.code }
     {
         match next {
@@ -331,8 +336,8 @@ impl Stack {
     fn replace_walk(&mut self, at: Walking, spot: Spot)
         requires { IsWalking self.old at.point at.walk }
         ensures goes { (db : Database) → GoesOn db self.old self.new at.point at.walk (Some spot) }
-        ensures place { place_of self.new ≡ place_of self.old }
-        ensures code { self.new.code ≡ self.old.code }
+        ensures walking { IsWalking self.new at.point (record at.walk { spot = spot }) }
+        ensures same { self.new ≡ record self.old { frames = self.new.frames } }
     {
         let Walking { point, walk } = at;
         let Some(_) = self.frames.pop() else {
