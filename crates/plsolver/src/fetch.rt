@@ -1,5 +1,19 @@
 //! What is asked in a view, and what is made of the answers.
 
+ghost use Rattle.std.specs.Prelude.{◌≡◌, ℕ, IfOk, OnErr, OnOk};
+ghost use Rattle.plcells.specs.Store.{value, IsValue};
+ghost use Rattle.plclause.specs.Indicators.{indicator};
+ghost use Rattle.plsearch.specs.Solving.{Goes};
+ghost use Rattle.plstore.specs.Looking.{found as found_of};
+ghost use Rattle.plstore.specs.Rising.{Ordered};
+ghost use Rattle.plstore.specs.declared.query.Query.{Query as Asked};
+ghost use Rattle.plstore.specs.declared.query.Query.TheVariants.{Exists as ExistsOf};
+ghost use Rattle.plstack.specs.Places.{Views};
+ghost use Rattle.plstack.specs.Walks.{AtWalk};
+ghost use Rattle.plmachine.specs.Machine.{IsFound};
+ghost use Rattle.plsolver.specs.Says.{Says, IsSlice};
+ghost use Rattle.plsolver.specs.Solver.{Fetches, find_query, find_view, IsFetching, IsFoundFor, IsOf, KeepsRest, like, rest_of, Stays, WalksOn};
+
 use crate::progress::Progress;
 use crate::solver::Turn;
 use plcells::cell::Cell;
@@ -8,13 +22,17 @@ use plmachine::machine::{Find, Mode, Reach};
 use plmachine::sought::{first_key, head_of};
 use plprogram::program::Program;
 use plstack::frame::Spot;
-use plstack::walk::Walking;
 use plstore::{Cursor, Found, Query};
 use std::alloc::AllocError;
 
 impl Progress {
     /// The query that is due.
-    pub(crate) fn wanted(&self, program: &Program) -> Result<Turn, AllocError> {
+    pub(crate) fn wanted(&self, program: &Program) -> Result<Turn, AllocError>
+        requires of { IsOf program.now self.now.machine }
+        requires fetching { IsFetching self.now }
+        ensures says { IfOk result (λ turn. Says program.now self.now turn) }
+        ensures other { IfOk result (λ turn. IsSlice turn → ⊥) }
+    {
         let query = match &self.machine.mode {
             Mode::Find(find) => self.find_query(find)?,
             Mode::Visit | Mode::Ask(_) | Mode::Back(_) => self.walk_query()?,
@@ -23,7 +41,10 @@ impl Progress {
     }
 
     /// The next clause of the procedure of a head, behind a cursor, by the key of its first argument.
-    fn like(&self, head: Cell, cursor: Cursor) -> Result<Query, AllocError> {
+    fn like(&self, head: Cell, cursor: Cursor) -> Result<Query, AllocError>
+        requires { IsValue self.now.machine.stack.env.heap head }
+        ensures { IfOk result (λ q. q ≡ like (value self.now.machine.stack.env.heap head) cursor) }
+    {
         let heap = self.machine.stack.env().heap();
         let p = indicator_of(self.machine.alloc, heap, head)?;
         let key = first_key(heap, head)?;
@@ -31,14 +52,20 @@ impl Progress {
     }
 
     /// Whether the procedure of a head exists.
-    fn exists(&self, head: Cell) -> Result<Query, AllocError> {
+    fn exists(&self, head: Cell) -> Result<Query, AllocError>
+        requires { IsValue self.now.machine.stack.env.heap head }
+        ensures { IfOk result (λ q. q ≡ ExistsOf (indicator (value self.now.machine.stack.env.heap head))) }
+    {
         let heap = self.machine.stack.env().heap();
         let p = indicator_of(self.machine.alloc, heap, head)?;
         Ok(Query::Exists(p))
     }
 
     /// What a look-up asks.
-    fn find_query(&self, find: &Find) -> Result<Query, AllocError> {
+    fn find_query(&self, find: &Find) -> Result<Query, AllocError>
+        requires { IsFound self.now.machine.stack.env.heap find.now }
+        ensures { IfOk result (λ q. q ≡ find_query self.now.machine.stack.env.heap find.now) }
+    {
         match find {
             Find::First(sought, _) => {
                 let heap = self.machine.stack.env().heap();
@@ -54,7 +81,10 @@ impl Progress {
     }
 
     /// What the innermost case asks, a walk.
-    fn walk_query(&self) -> Result<Query, AllocError> {
+    fn walk_query(&self) -> Result<Query, AllocError>
+        requires { (g : ℕ) × (q : Asked) × WalksOn self.now.machine g q }
+        ensures { IfOk result (λ q. (g : ℕ) × WalksOn self.now.machine g q) }
+    {
         let Some(at) = self.machine.stack.walking() else {
             unreachable!()
         };
@@ -70,7 +100,10 @@ impl Progress {
     }
 
     /// The place of the view in which something is asked.
-    pub(crate) fn view(&self) -> u64 {
+    pub(crate) fn view(&self) -> u64
+        requires { IsFetching self.now }
+        ensures { (g : ℕ) (q : Asked) → Fetches self.now g q → result ≡ g }
+    {
         match &self.machine.mode {
             Mode::Find(find) => view_of(find),
             Mode::Visit | Mode::Ask(_) | Mode::Back(_) => self.walk_view(),
@@ -78,7 +111,10 @@ impl Progress {
     }
 
     /// That of a walk.
-    fn walk_view(&self) -> u64 {
+    fn walk_view(&self) -> u64
+        requires { (g : ℕ) × (q : Asked) × WalksOn self.now.machine g q }
+        ensures { (g : ℕ) (q : Asked) → WalksOn self.now.machine g q → result ≡ g }
+    {
         let Some(at) = self.machine.stack.walking() else {
             unreachable!()
         };
@@ -89,74 +125,20 @@ impl Progress {
     }
 
     /// What was asked in a view, and found there.
-    pub(crate) fn fetched(&mut self, program: &Program, found: Found) -> Result<(), AllocError> {
+    pub(crate) fn fetched(&mut self, program: &Program, found: Found) -> Result<(), AllocError>
+        requires of { IsOf program.now self.old.machine }
+        requires fits { (g : ℕ) × (q : Asked) × Fetches self.old g q × IsFoundFor q found }
+        ensures ok { OnOk result ((v : Views) (g : ℕ) (q : Asked) → Fetches self.old g q → Ordered (v g) → found ≡ found_of (v g) q → KeepsRest program.now v self.old self.new) }
+        ensures of { IsOf program.now self.new.machine }
+        ensures frame { self.new ≡ record self.old { machine = self.new.machine } }
+        ensures err { OnErr result (Stays program.now self.old self.new) }
+    {
         match &self.machine.mode {
-            Mode::Find(Find::First(sought, g)) => {
-                let Found::Next(first) = found else {
-                    unreachable!()
-                };
-                self.found_first(program, *sought, *g, first)
+            Mode::Find(find) => {
+                let step = step_of(find);
+                self.found(program, step, found)
             }
-            Mode::Find(Find::Exists(goal, g)) => {
-                let Found::Exists(exists) = found else {
-                    unreachable!()
-                };
-                self.found_exists(program, *goal, *g, exists)
-            }
-            Mode::Find(Find::All(head, g)) => {
-                let Found::Exists(exists) = found else {
-                    unreachable!()
-                };
-                self.found_all(program, *head, *g, exists)
-            }
-            Mode::Find(Find::Sweep(head, sweep)) => {
-                let (head, reach) = (*head, sweep.reach);
-                self.fetched_sweep(program, head, reach, found)
-            }
-            Mode::Visit | Mode::Ask(_) | Mode::Back(_) => self.fetched_walk(found),
+            Mode::Visit | Mode::Ask(_) | Mode::Back(_) => self.fetched_walk(program, found),
         }
-    }
-
-    /// The same for the erasure of all clauses of a head.
-    fn fetched_sweep(
-        &mut self,
-        program: &Program,
-        head: Cell,
-        reach: Reach,
-        found: Found,
-    ) -> Result<(), AllocError> {
-        match (reach, found) {
-            (Reach::Behind(_), Found::Next(next)) => {
-                self.swept_to(program, next);
-                Ok(())
-            }
-            (Reach::At(name), Found::Clause(clause)) => {
-                self.swept(program, head, name, clause.as_ref())
-            }
-            _ => unreachable!(),
-        }
-    }
-
-    /// The same for a walk, the innermost case.
-    fn fetched_walk(&mut self, found: Found) -> Result<(), AllocError> {
-        let Some(at) = self.machine.stack.walking() else {
-            unreachable!()
-        };
-        match found {
-            Found::Next(next) => {
-                self.walked_to(at, next);
-                Ok(())
-            }
-            Found::Clause(clause) => self.walked(at, clause.as_ref()),
-            Found::Exists(_) => unreachable!(),
-        }
-    }
-}
-
-/// The view in which a look-up seeks.
-fn view_of(find: &Find) -> u64 {
-    match find {
-        Find::First(_, g) | Find::Exists(_, g) | Find::All(_, g) => *g,
-        Find::Sweep(_, sweep) => sweep.view,
     }
 }

@@ -1,7 +1,7 @@
 use Rattle.std.proofs.Common.{◌≡◌, arith}
 use Rattle.plenv.proofs.Keeping.{Keeps-refl}
 use Rattle.plstack.proofs.Resolving.{puts-head}
-use Rattle.plstack.proofs.copy.put_head.Goals as goal
+use Rattle.plstack.proofs.walk.put_head.Goals as goal
 
 pub returns-in_default-clause-keeps : goal.returns-in_default-clause-keeps
 returns-in_default-clause-keeps c = Keeps-refl _

@@ -1,5 +1,5 @@
 use Rattle.plenv.proofs.Renaming.{IsMark-kept}
-use Rattle.plstack.proofs.copy.resolve_first.Goals as goal
+use Rattle.plstack.proofs.walk.resolve_clause.Goals as goal
 
 pub undo-requires : goal.undo-requires
 undo-requires c = IsMark-kept _ _ _ c.in-Err.ensures.keeps c.heap-in-Err.ensures.env.heap.names c.requires.mark

@@ -2,7 +2,7 @@ use Rattle.std.proofs.Common.{sym, subst}
 use Rattle.plcells.specs.Store.{AreValues}
 use Rattle.plenv.proofs.Keeping.{Keeps-trans}
 use Rattle.plstack.proofs.Resolving.{values-bound, resolved}
-use Rattle.plstack.proofs.copy.try_copy.Goals as goal
+use Rattle.plstack.proofs.walk.try_copy.Goals as goal
 
 pub returns-in_err-unify_in_choice-clause-keeps : goal.returns-in_err-unify_in_choice-clause-keeps
 returns-in_err-unify_in_choice-clause-keeps c = Keeps-trans _ _ _ c.in_ok-head.ensures.keeps c.unify_in_choice.ensures.keeps
