@@ -133,7 +133,7 @@ module _ (s : State) (d : ℕ) (is : IsStack s d) (vs : List Cell) (fit : AreVal
               opened-cases db entered frames (Open p r') pushed
               ∙ ap₂ (λ (x : Env) ws. Choice (answers_left x ws (all_elements (goals_in s) x (items_of s.links p.list)) next) ∷ cases_of db entered) then-cut there
               ∙ ap (λ q. Choice (answers_left (renamed s.env e.heap.names) vs (all_elements (goals_in s) (renamed s.env e.heap.names) (items_of s.links q)) next) ∷ cases_of db entered) l_is
-              ∙ ap (λ ps. Choice ps ∷ cases_of db entered) (answers-renamed s.env e.heap.names is.0.env env.heap.names keeps-all.names db (goals_in s) 0 (items_of s.links l) i.items vs fit next)
+              ∙ ap (λ ps. Choice ps ∷ cases_of db entered) (answers-renamed s.env e.heap.names is.0.env env.heap.names keeps-all.names (goals_in s) (items_of s.links l) i.items vs fit next)
               ∙ ap (λ cs. Choice (answers_left s.env vs (goals_of s l) next) ∷ cs) (entered-cases db);
         }
 

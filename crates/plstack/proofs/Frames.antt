@@ -80,7 +80,7 @@ module _ (code : Goals) (old new : Env) (links more : List Link) (saved further 
     case-kept db d =
         ap (λ e. case_of db code d e (items_of (links ++ more) p.list) (kept_values (saved ++ further) p r) r) same-cut
         ∙ ap₂ (λ xs vs. case_of db code d (renamed (cut p.marks.env old) new.heap.names) xs vs r) same-items same-values
-        ∙ case-renamed (cut p.marks.env old) new.heap.names is.mark.env table more-names db code d (items_of links p.list) is.items (kept_values saved p r) r is.resume
+        ∙ case-renamed (cut p.marks.env old) new.heap.names is.mark.env table more-names code (items_of links p.list) is.items db d (kept_values saved p r) r is.resume
 
     items-kept : AreItems code (cut p.marks.env new).heap (length (cut p.marks.env new).slots) (items_of (links ++ more) p.list)
     items-kept =

@@ -36,3 +36,4 @@ pub mod Reopening
 pub mod Walking
 pub mod Postponed
 pub mod Heads
+pub mod Looking

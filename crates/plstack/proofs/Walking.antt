@@ -63,8 +63,8 @@ undone-back e after m then links mark same kept back =
 
 -- ---- opening
 
-pub opens-walk : (s new : State) (w : Walk) (rest : Continuation) → IsValue s.env.heap w.goal → IsList s rest → OpensFrame s new rest (resumes.Walk w) → OpensWalk s new w rest
-opens-walk s new w rest goal there o = record {
+pub opens_walk : (s new : State) (w : Walk) (rest : Continuation) → IsValue s.env.heap w.goal → IsList s rest → OpensFrame s new rest (resumes.Walk w) → OpensWalk s new w rest
+opens_walk s new w rest goal there o = record {
   cases = λ db.
       o.cases db
       ∙ ap₂ (λ t n. Choice (filter_map (tried (deeper (cases_of db s) 0) n t (goals_of new rest)) (left_at db w.uses t w.spot)) ∷ cases_of db s) (o.keeps.values w.goal goal).1 o.keeps.count
@@ -75,8 +75,6 @@ opens-walk s new w rest goal there o = record {
 -- ---- going back
 
 module _ (s : State) (d : ℕ) (is : IsStack s d) (rest : List Frame) (p : Point) (w : Walk) (popped : s.frames ≡ rest ++ Open p (resumes.Walk w) ∷ []) where
-  abbrev r = resumes.Walk w
-
   none-kept : p.marks.saved + 0 ≡ p.marks.saved
   none-kept = omega arith
 
@@ -172,7 +170,7 @@ module _ (s : State) (d : ℕ) (is : IsStack s d) (p : Point) (w : Walk) (at : A
   pub left-kept : (k : ℕ) (xs : Tree → List Candidate) → walk_left (record s { env = e; links = ls }) k p w (xs (goal_at (record s { env = e; links = ls }) p w)) ≡ walk_left s k p w (xs (goal_at s p w))
   left-kept k xs =
       ap₂ (λ (x : Env) is. candidates_left k x (value x.heap w.goal) (all_elements (goals_in s) x is) (xs (value x.heap w.goal))) then-cut same-items
-      ∙ candidates-renamed s.env e.heap.names is.0.env goes.env.heap.names goes.keeps.names k (goals_in s) (items_of s.links p.list) at.list.items _ _ xs ((stays s.env e.heap.names is.0.env goes.env.heap.names goes.keeps.names).values w.goal at.goal).1
+      ∙ candidates-renamed s.env e.heap.names is.0.env goes.env.heap.names goes.keeps.names (goals_in s) (items_of s.links p.list) at.list.items k _ _ xs ((stays s.env e.heap.names is.0.env goes.env.heap.names goes.keeps.names).values w.goal at.goal).1
       ∙ ap (λ (x : Env). candidates_left k x (value x.heap w.goal) (all_elements (goals_in s) x (items_of s.links p.list)) (xs (value x.heap w.goal))) (sym at.now)
 
   pub fitted-cases : (db : Database) → cases_of db (record s { env = e; links = ls }) ≡ cases_of db s

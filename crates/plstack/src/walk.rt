@@ -207,6 +207,7 @@ fn resolve_clause(
 
 impl Stack {
     /// Opens the case of a walk before a list.
+    #[tactic(auto, using(crate::proofs::Walking::opens_walk))]
     pub fn open_walk(&mut self, walk: Walk, rest: Continuation) -> Result<(), AllocError>
         requires goal { IsValue self.old.env.heap walk.goal }
         requires rest { IsList self.old rest }
