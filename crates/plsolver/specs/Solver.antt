@@ -1,5 +1,5 @@
 -- What a solver stands for.
-use Rattle.std.specs.Prelude.{◌≡◌, ◌⊎◌, ℕ, ◌+◌, ◌-◌, ◌<◌, ◌≤◌, Bool, false, List, [], ◌∷◌, length, min}
+use Rattle.std.specs.Prelude.{◌≡◌, ◌⊎◌, ℕ, ◌+◌, ◌-◌, ◌<◌, ◌≤◌, Bool, true, false, List, [], ◌∷◌, ◌++◌, length, min, Option, Some, None, is_some}
 use Rattle.plterm.specs.Tree.{Tree}
 use Rattle.plterm.specs.Variables.{copied, variables}
 use Rattle.plcells.specs.declared.cell.Cell.{Cell}
@@ -9,7 +9,13 @@ use Rattle.plevent.specs.Keys.{first_key}
 use Rattle.plstore.specs.declared.record.Cursor.{Cursor}
 use Rattle.plstore.specs.declared.query.Query.{Query}
 use Rattle.plstore.specs.declared.query.Found.{Found}
-use Rattle.plevent.specs.Search.{Answer, Search}
+use Rattle.plsubst.specs.Subst.{shift}
+use Rattle.plsubst.specs.Unify.{unify}
+use Rattle.plclause.specs.Clause.{Clause}
+use Rattle.plevent.specs.declared.update.ClauseName.{ClauseName}
+use Rattle.plevent.specs.declared.update.Update.{Update}
+use Rattle.plevent.specs.declared.update.Update.TheVariants.{Erase}
+use Rattle.plevent.specs.Search.{Answer, Search, Seen}
 use Rattle.plevent.specs.declared.request.Request.{Request}
 use Rattle.plevent.specs.declared.request.Request.TheVariants.{Start, Publish, EraseOne, Finish, HaltRun}
 use Rattle.plevent.specs.declared.request.Reply.{Reply}
@@ -34,6 +40,7 @@ use Rattle.plstack.specs.Places.{Database, Views, head_in}
 use Rattle.plstack.specs.Walks.{AtWalk}
 use Rattle.plstack.specs.declared.frame.Point.{Point}
 use Rattle.plstack.specs.declared.frame.Use.{Use}
+use Rattle.plstack.specs.declared.frame.Use.TheVariants as uses
 use Rattle.plstack.specs.declared.frame.Spot.{Spot}
 use Rattle.plstack.specs.declared.frame.Spot.TheVariants as spots
 use Rattle.plstack.specs.declared.frame.Walk.{Walk}
@@ -47,6 +54,8 @@ use Rattle.plmachine.specs.declared.machine.Then.{Then}
 use Rattle.plmachine.specs.declared.machine.Then.TheVariants as thens
 use Rattle.plmachine.specs.declared.machine.Lookup.{Lookup}
 use Rattle.plmachine.specs.declared.machine.Question.TheVariants as questions
+use Rattle.plmachine.specs.declared.machine.Sought.{Sought}
+use Rattle.plmachine.specs.declared.machine.Sweep.{Sweep}
 use Rattle.plmachine.specs.declared.machine.Reach.{Reach}
 use Rattle.plmachine.specs.declared.machine.Reach.TheVariants as reaches
 use Rattle.plmachine.specs.declared.machine.Find.{Find}
@@ -54,7 +63,7 @@ use Rattle.plmachine.specs.declared.machine.Find.TheVariants as finds
 use Rattle.plmachine.specs.declared.machine.Mode.{Mode as Going}
 use Rattle.plmachine.specs.declared.machine.Mode.TheVariants as modes
 use Rattle.plmachine.specs.declared.machine.Machine.{Machine as Reached}
-use Rattle.plmachine.specs.Machine.{result_of, local_of, cases_in, depth_of, machine, now, IsBegun, MayAsk, Moved}
+use Rattle.plmachine.specs.Machine.{result_of, local_of, cases_in, depth_of, find_answers, find_mode, machine, mode_of, now, IsBegun, IsFound, MayAsk, Moved}
 use Rattle.plmachine.specs.Machine.{Stays as StaysThere}
 use Rattle.plsolver.specs.declared.progress.Selected.{Selected}
 use Rattle.plsolver.specs.declared.progress.Selected.TheVariants as goals
@@ -293,3 +302,57 @@ pub record KeepsRest (P : Program) (v : Views) (old new : Progress) : Type 0 whe
   pub used : new.used ≡ old.used
   pub limit : new.limit ≡ old.limit
   pub rest : (most left : ℕ) (answers : List Answer) → now P v old.machine most left answers ≡ now P v new.machine most left answers
+
+-- this look-up waits
+abbrev pub LooksUp : Progress → Lookup → Type 0
+LooksUp s u = s.machine.mode ≡ modes.Ask (questions.Look u)
+
+-- what a look-up seeks in the view of a place, in a stack that has grown
+pub record FindsBy (old new : Reached) (u : Lookup) (g : ℕ) (f : Find) : Type 0 where
+  pub there : IsFound new.stack.env.heap f
+  pub mode : (v : Views) → find_mode v f new.stack ≡ mode_of (modes.Ask (questions.Look u)) old.stack
+  pub answers : (v : Views) → find_answers v f new.stack.env.heap ≡ Seen g (v g) ∷ []
+
+-- what is next where no clause may be for a goal
+abbrev pub mode_none : Sought → ℕ → Going
+mode_none x g = none_by x.uses x.goal g
+  where
+    none_by : Use → Cell → ℕ → Going
+    none_by uses.Call c g = modes.Find (finds.Exists c g)
+    none_by uses.Tell c g = modes.Back outcomes.Fail
+    none_by uses.Erase c g = modes.Back outcomes.Fail
+
+-- the spot at a clause, if there is one
+abbrev pub spot_if : ℕ → Option ClauseName → Option Spot
+spot_if g None = None
+spot_if g (Some x) = Some (spots.At g x)
+
+-- whether there is a clause and its head unifies with a head
+abbrev pub has_if : ℕ → Tree → Option Clause → Bool
+has_if n h None = false
+has_if n h (Some c) = is_some (unify h (shift n c.head))
+
+abbrev pub erased_if : Bool → ClauseName → List Update
+erased_if true x = Erase x ∷ []
+erased_if false x = []
+
+-- a sweep behind the clause of a name
+abbrev pub swept_by : Sweep → ClauseName → Bool → Sweep → Type 0
+swept_by w x has new = (new.view ≡ w.view) × (new.reach ≡ reaches.Behind (Cursor.After x)) × (new.updates.items ≡ w.updates.items ++ erased_if has x)
+
+-- all clauses of a head are looked through
+abbrev pub Sweeping : Progress → Reach → Type 0
+Sweeping s r = (c : Cell) × (w : Sweep) × (s.machine.mode ≡ modes.Find (finds.Sweep c w)) × (w.reach ≡ r)
+
+-- an answer's kind
+abbrev pub IsNext : Found → Type 0
+IsNext (Found.Next x) = Unit {0}
+IsNext f = ⊥
+
+abbrev pub IsClause : Found → Type 0
+IsClause (Found.Clause c) = Unit {0}
+IsClause f = ⊥
+
+abbrev pub IsExists : Found → Type 0
+IsExists (Found.Exists b) = Unit {0}
+IsExists f = ⊥

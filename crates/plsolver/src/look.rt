@@ -1,10 +1,10 @@
 //! Look-ups of clauses in a view.
 
-ghost use Rattle.std.specs.Prelude.{◌≡◌, [], ◌∷◌, ◌++◌, OnOk, OnErr};
+ghost use Rattle.std.specs.Prelude.{◌≡◌, [], ◌∷◌, ◌++◌, IfOk, OnOk, OnErr};
 ghost use Rattle.plterm.specs.Tree.{Tree};
 ghost use Rattle.plcells.specs.Store.{value};
 ghost use Rattle.plclause.specs.Indicators.{indicator};
-ghost use Rattle.plevent.specs.Alive.{exists, living};
+ghost use Rattle.plevent.specs.Alive.{exists as exists_of, living};
 ghost use Rattle.plevent.specs.Keys.{first_key};
 ghost use Rattle.plevent.specs.Search.{Seen};
 ghost use Rattle.plsearch.specs.Replies.{missing};
@@ -17,7 +17,7 @@ ghost use Rattle.plstack.specs.State.{goals_of};
 ghost use Rattle.plmachine.specs.Machine.{local_of, Moved};
 ghost use Rattle.plmachine.specs.declared.machine.Find.TheVariants.{Exists as ExistsOf, First as FirstOf};
 ghost use Rattle.plmachine.specs.declared.machine.Mode.TheVariants.{Find as Finds};
-ghost use Rattle.plsolver.specs.Solver.{IsOf, KeepsRest, LooksUp, Stays, rest_of, WaitsForView};
+ghost use Rattle.plsolver.specs.Solver.{FindsBy, IsOf, KeepsRest, LooksUp, mode_none, Stays, rest_of, WaitsForView};
 
 use crate::error;
 use crate::progress::Progress;
@@ -62,7 +62,7 @@ impl Progress {
     fn find_of(&mut self, program: &Program, lookup: Lookup, g: u64) -> Result<Find, AllocError>
         requires of { IsOf program.now self.old.machine }
         requires looks { LooksUp self.old lookup }
-        ensures ok { IfOk result (λ f. Finds self.old.machine self.new.machine lookup g f) }
+        ensures ok { IfOk result (λ f. FindsBy self.old.machine self.new.machine lookup g f) }
         ensures of { IsOf program.now self.new.machine }
         ensures frame { self.new ≡ record self.old { machine = self.new.machine } }
         ensures stays { Stays program.now self.old self.new }

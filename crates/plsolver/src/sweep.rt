@@ -17,7 +17,7 @@ ghost use Rattle.plmachine.specs.declared.machine.Find.TheVariants.{All as AllOf
 ghost use Rattle.plmachine.specs.declared.machine.Mode.TheVariants.{Find as Finds};
 ghost use Rattle.plmachine.specs.declared.machine.Reach.TheVariants.{At as AtOf, Behind as BehindOf};
 ghost use Rattle.plmachine.specs.declared.machine.Sweep.{Sweep as OfSweep};
-ghost use Rattle.plsolver.specs.Solver.{has_if, IsOf, KeepsRest, Stays, erased_if};
+ghost use Rattle.plsolver.specs.Solver.{erased_if, has_if, IsOf, KeepsRest, Stays, swept_by};
 
 use crate::progress::Progress;
 use plcells::cell::Cell;
@@ -133,4 +133,44 @@ impl Progress {
             None => Ok(false),
         }
     }
+}
+
+/// A mode that sweeps, behind the clause of a name: whether it is to be erased.
+fn swept_mode(mode: Mode, name: ClauseName, has: bool) -> (Mode, Result<(), AllocError>)
+    requires { (head : Cell) × (w : OfSweep) × (mode ≡ Finds (SweepOf head w)) }
+    ensures ok { OnOk result.1 ((head : Cell) (w : OfSweep) → mode ≡ Finds (SweepOf head w) → (x : OfSweep) × (result.0 ≡ Finds (SweepOf head x)) × swept_by w name has x) }
+    ensures err { OnErr result.1 (result.0 ≡ mode) }
+{
+    let Mode::Find(find) = mode else {
+        unreachable!()
+    };
+    let Find::Sweep(head, sweep) = find else {
+        unreachable!()
+    };
+    let Sweep {
+        view,
+        reach,
+        mut updates,
+    } = sweep;
+    let (reach, outcome) = match add_erasure(&mut updates, name, has) {
+        Ok(()) => (Reach::Behind(Cursor::After(name)), Ok(())),
+        Err(e) => (reach, Err(e)),
+    };
+    let sweep = Sweep {
+        view,
+        reach,
+        updates,
+    };
+    (Mode::Find(Find::Sweep(head, sweep)), outcome)
+}
+
+/// One more erasure, if there is one.
+fn add_erasure(updates: &mut Vec<Update>, name: ClauseName, has: bool) -> Result<(), AllocError>
+    ensures ok { OnOk result (updates.new.items ≡ updates.old.items ++ erased_if has name) }
+    ensures err { OnErr result (updates.new.items ≡ updates.old.items) }
+{
+    if has {
+        updates.push(Update::Erase(name))?;
+    }
+    Ok(())
 }

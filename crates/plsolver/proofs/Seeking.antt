@@ -1,0 +1,89 @@
+-- What is sought in a view: look-ups that were answered with it.
+use Rattle.std.proofs.Common.{◌≡◌, ℕ, Bool, true, false, if◌then◌else◌, List, [], ◌∷◌, ◌++◌, map, filter, Option, Some, None, refl, sym, ap, ap₂, ◌∙◌, subst}
+use Rattle.std.specs.List.{filter_map}
+use Rattle.plterm.specs.Tree.{Tree}
+use Rattle.plterm.specs.declared.indicator.Indicator.{Indicator}
+use Rattle.plcells.specs.declared.cell.Cell.{Cell}
+use Rattle.plcells.specs.Store.{value}
+use Rattle.plclause.specs.Indicators.{indicator}
+use Rattle.plevent.specs.declared.update.ClauseName.{ClauseName}
+use Rattle.plevent.specs.declared.update.Living.{Living}
+use Rattle.plevent.specs.Alive.{Stamped, exists, living, clauses_of, clauses_alive}
+use Rattle.plevent.specs.Keys.{first_key}
+use Rattle.plevent.specs.Search.{Answer, Seen, Search}
+use Rattle.plprogram.specs.Program.{Program}
+use Rattle.plsearch.specs.Types.{Lookup as Wanted, ToCall, ToRetrieve, ToRetract, ToRetractAll, Look, Asking, Element, Place, Local, Move, Run, Give, Fail}
+use Rattle.plsearch.specs.Rows.{call, choose, clause_term, as_fact, meet}
+use Rattle.plsearch.specs.Replies.{answered, looked_up, missing, retract}
+use Rattle.plsearch.specs.Machines.Machine.{At, Back, Rest, move, turn, meets}
+use Rattle.plsearch.specs.Engine.{deeper}
+use Rattle.plsearch.specs.Search.{ending_of}
+use Rattle.plsearch.specs.Solving.{TakesOne}
+use Rattle.plsearch.proofs.Turns.{Rest-turn}
+use Rattle.plstore.specs.Like.{next_like_of}
+use Rattle.plstore.specs.Rising.{Ordered}
+use Rattle.plstore.specs.declared.record.Cursor.TheVariants.{Start}
+use Rattle.plstore.proofs.Names.{exists-alive}
+use Rattle.plstack.specs.declared.frame.Use.{Use}
+use Rattle.plstack.specs.declared.frame.Use.TheVariants as uses
+use Rattle.plstack.specs.declared.frame.Spot.TheVariants as spots
+use Rattle.plstack.specs.Places.{Views, candidate_of, head_in, onward, tried}
+use Rattle.plstack.specs.State.{State, goals_of}
+use Rattle.plstack.specs.StaticCalls.{database_of}
+use Rattle.plstack.proofs.Looking.{first-none, first-some}
+use Rattle.plstack.proofs.Stacks.{depth-in}
+use Rattle.plmachine.specs.declared.machine.Lookup.{Lookup}
+use Rattle.plmachine.specs.declared.machine.Question.TheVariants as questions
+use Rattle.plmachine.specs.declared.machine.Outcome.TheVariants as outcomes
+use Rattle.plmachine.specs.declared.machine.Sought.{Sought}
+use Rattle.plmachine.specs.declared.machine.Find.{Find}
+use Rattle.plmachine.specs.declared.machine.Find.TheVariants as finds
+use Rattle.plmachine.specs.declared.machine.Mode.TheVariants as modes
+use Rattle.plmachine.specs.declared.machine.Machine.{Machine as Reached}
+use Rattle.plmachine.specs.Clauses.{Walks}
+use Rattle.plmachine.specs.Machine.{after, bare, cases_in, depth_of, find_answers, find_mode, local_of, lookup_by, machine, machine_in, mode_of, now, IsPlain, IsTold}
+use Rattle.plmachine.proofs.Clausal.{called-left, erased-left, told-left}
+use Rattle.plmachine.proofs.Moves.{machine-is}
+use Rattle.plsolver.specs.declared.progress.Progress.{Progress}
+use Rattle.plsolver.specs.Solver.{FindsBy, KeepsRest, rest_of}
+
+-- the machine of what is sought
+pub find-machine : (P : Program) (v : Views) (s : Reached) (f : Find) → s.mode ≡ modes.Find f → (left : ℕ) (answers : List Answer) →
+    machine P v left answers s ≡ record { mode = find_mode v f s.stack; cases = cases_in P v s; run = record { steps = left; answers = find_answers v f s.stack.env.heap ++ answers; local = local_of s } }
+unfolding machine
+find-machine P v s f at left answers = ap (machine_in P v left answers s) at
+
+-- a look-up that was answered with a view
+module _ (P : Program) (v : Views) (s : Reached) (f : Find) (at : s.mode ≡ modes.Find f) (u : Wanted) (g : ℕ) (us : List Stamped)
+    (mode : find_mode v f s.stack ≡ At (record { goals = Asking (Look u) ∷ goals_of s.stack s.stack.goals; variables = s.stack.env.count })) (answers_are : find_answers v f s.stack.env.heap ≡ Seen g us ∷ []) where
+  pub looked : (most left : ℕ) (answers : List Answer) → now P v s most left answers ≡ after P v s most left answers (looked_up us u (depth_of s) (goals_of s.stack s.stack.goals) s.stack.env.count (local_of s))
+  unfolding turn meet answered
+  looked most left answers =
+      let run : List Answer → Run = λ as. record { steps = left; answers = as; local = local_of s } in
+      ap (λ m. ending_of most (Rest P m)) (find-machine P v s f at left answers)
+      ∙ ap₂ (λ m as. ending_of most (Rest P (record { mode = m; cases = cases_in P v s; run = run (as ++ answers) }))) mode answers_are
+      ∙ ap (ending_of most) (Rest-turn P (record { mode = At (record { goals = Asking (Look u) ∷ goals_of s.stack s.stack.goals; variables = s.stack.env.count }); cases = cases_in P v s; run = run (Seen g us ∷ answers) }))
+      ∙ ap (λ d. after P v s most left answers (looked_up us u d (goals_of s.stack s.stack.goals) s.stack.env.count (local_of s))) (depth-in (database_of P v) s.stack)
+
+-- ---- what clauses are looked up for
+
+-- a goal that is called has the clauses of its procedure, and so have a head and a body
+pub looked-call : (us : List Stamped) (d n : ℕ) (t : Tree) (rest : List Element) (w : Local) → exists us (indicator t) ≡ true →
+    looked_up us (ToCall t) d rest n w ≡ choose (filter_map (tried d n t rest) (map (candidate_of uses.Call) (living us (indicator t)))) w
+looked-call us d n t rest w there =
+    ap (λ b. if b then call d n t rest (clauses_alive us (indicator t)) w else missing w.settings.unknown t rest w) there
+    ∙ ap (λ ps. choose ps w) (sym (called-left d n t rest (living us (indicator t))))
+
+pub looked-told : (us : List Stamped) (d n : ℕ) (t : Tree) (rest : List Element) (w : Local) → IsTold uses.Tell t →
+    looked_up us (lookup_by uses.Tell t) d rest n w ≡ choose (filter_map (tried d n t rest) (map (candidate_of uses.Tell) (living us (indicator (head_in uses.Tell t))))) w
+looked-told us d n t rest w told =
+    let L : List Living = living us (indicator (head_in uses.Tell t)) in
+    ap (λ g. call d n g rest (map as_fact (clauses_of L)) w) told
+    ∙ ap (λ ps. choose ps w) (sym (told-left d n t rest L))
+
+pub looked-erased : (us : List Stamped) (d n : ℕ) (t : Tree) (rest : List Element) (w : Local) → IsTold uses.Erase t →
+    looked_up us (lookup_by uses.Erase t) d rest n w ≡ choose (filter_map (tried d n t rest) (map (candidate_of uses.Erase) (living us (indicator (head_in uses.Erase t))))) w
+looked-erased us d n t rest w told =
+    let L : List Living = living us (indicator (head_in uses.Erase t)) in
+    ap (λ g. choose (filter_map (retract d n g rest) L) w) told
+    ∙ ap (λ ps. choose ps w) (sym (erased-left d n t rest L))
