@@ -1,5 +1,5 @@
 -- What is sought in a view: look-ups that were answered with it.
-use Rattle.std.proofs.Common.{◌≡◌, ℕ, Bool, true, false, if◌then◌else◌, List, [], ◌∷◌, ◌++◌, map, filter, Option, Some, None, refl, sym, ap, ap₂, ◌∙◌, subst}
+use Rattle.std.proofs.Common.{◌≡◌, ℕ, ◌-◌, Bool, true, false, ◌||◌, min, if◌then◌else◌, List, [], ◌∷◌, ◌++◌, map, filter, Option, Some, None, refl, sym, ap, ap₂, ◌∙◌, subst}
 use Rattle.std.specs.List.{filter_map}
 use Rattle.plterm.specs.Tree.{Tree}
 use Rattle.plterm.specs.declared.indicator.Indicator.{Indicator}
@@ -24,6 +24,7 @@ use Rattle.plstore.specs.Like.{next_like_of}
 use Rattle.plstore.specs.Rising.{Ordered}
 use Rattle.plstore.specs.declared.record.Cursor.TheVariants.{Start}
 use Rattle.plstore.proofs.Names.{exists-alive}
+use Rattle.plcode.proofs.Numbers.{indicator_same}
 use Rattle.plstack.specs.declared.frame.Use.{Use}
 use Rattle.plstack.specs.declared.frame.Use.TheVariants as uses
 use Rattle.plstack.specs.declared.frame.Spot.TheVariants as spots
@@ -41,7 +42,7 @@ use Rattle.plmachine.specs.declared.machine.Find.TheVariants as finds
 use Rattle.plmachine.specs.declared.machine.Mode.TheVariants as modes
 use Rattle.plmachine.specs.declared.machine.Machine.{Machine as Reached}
 use Rattle.plmachine.specs.Clauses.{Walks}
-use Rattle.plmachine.specs.Machine.{after, bare, cases_in, depth_of, find_answers, find_mode, local_of, lookup_by, machine, machine_in, mode_of, now, IsPlain, IsTold}
+use Rattle.plmachine.specs.Machine.{after, bare, cases_in, depth_of, find_answers, find_mode, local_of, lookup_by, machine, machine_in, mode_of, now, IsPlain, IsTold, Stays}
 use Rattle.plmachine.proofs.Clausal.{called-left, erased-left, told-left}
 use Rattle.plmachine.proofs.Moves.{machine-is}
 use Rattle.plsolver.specs.declared.progress.Progress.{Progress}
@@ -52,6 +53,26 @@ pub find-machine : (P : Program) (v : Views) (s : Reached) (f : Find) → s.mode
     machine P v left answers s ≡ record { mode = find_mode v f s.stack; cases = cases_in P v s; run = record { steps = left; answers = find_answers v f s.stack.env.heap ++ answers; local = local_of s } }
 unfolding machine
 find-machine P v s f at left answers = ap (machine_in P v left answers s) at
+
+-- a look-up takes its view
+module _ (P : Program) (v : Views) (s t : Reached) (u : Lookup) (g : ℕ) (f : Find) (at : s.mode ≡ modes.Ask (questions.Look u)) (by : FindsBy s t u g f) (stay : Stays P s t) where
+  refreshed-machine : (left : ℕ) (answers : List Answer) → machine P v left (Seen g (v g) ∷ answers) s ≡ machine P v left answers (record t { mode = modes.Find f })
+  refreshed-machine left answers =
+      machine-is P v s (mode_of (modes.Ask (questions.Look u)) s.stack) (cases_in P v s) (local_of s) (subst IsPlain (sym at) tt) (ap (λ m. mode_of m s.stack) at) refl refl left (Seen g (v g) ∷ answers)
+      ∙ ap₂ (λ m as. record { mode = m; cases = cases_in P v s; run = record { steps = left; answers = as ++ answers; local = local_of s } }) (sym (by.mode v)) (sym (by.answers v))
+      ∙ ap₂ (λ cs w. record { mode = find_mode v f t.stack; cases = cs; run = record { steps = left; answers = find_answers v f t.stack.env.heap ++ answers; local = w } }) (sym (stay.cases v)) (sym stay.local)
+      ∙ sym (find-machine P v (record t { mode = modes.Find f }) f refl left answers)
+
+pub takes-view : (P : Program) (v : Views) (s new : Progress) (t : Reached) (u : Lookup) (g : ℕ) (f : Find) → s.machine.mode ≡ modes.Ask (questions.Look u) → FindsBy s.machine t u g f → Stays P s.machine t →
+    new.machine ≡ record t { mode = modes.Find f } → new.used ≡ s.used → new.limit ≡ s.limit → TakesOne (Seen g (v g)) (rest_of P v s) s.used (rest_of P v new) new.used
+unfolding rest_of
+takes-view P v s new t u g f at by stay is used limit = (
+  used,
+  λ n answers le.
+      ap (λ m. ending_of (min n s.limit) (Rest P m)) (refreshed-machine P v s.machine t u g f at by stay (min n s.limit - s.used) answers)
+      ∙ ap (λ m. now P v m (min n s.limit) (min n s.limit - s.used) answers) (sym is)
+      ∙ ap₂ (λ l k. now P v new.machine (min n l) (min n l - k) answers) (sym limit) (sym used),
+)
 
 -- a look-up that was answered with a view
 module _ (P : Program) (v : Views) (s : Reached) (f : Find) (at : s.mode ≡ modes.Find f) (u : Wanted) (g : ℕ) (us : List Stamped)
@@ -87,3 +108,26 @@ looked-erased us d n t rest w told =
     let L : List Living = living us (indicator (head_in uses.Erase t)) in
     ap (λ g. choose (filter_map (retract d n g rest) L) w) told
     ∙ ap (λ ps. choose ps w) (sym (erased-left d n t rest L))
+
+-- where no clause is, only whether the procedure exists counts
+pub looked-bare : (us : List Stamped) (d n : ℕ) (t : Tree) (rest : List Element) (w : Local) (b : Bool) → b ≡ exists us (indicator t) →
+    (b ≡ true → filter_map (tried d n t rest) (map (candidate_of uses.Call) (living us (indicator t))) ≡ []) →
+    looked_up us (ToCall t) d rest n w ≡ (if b then Give Fail w else missing w.settings.unknown t rest w)
+looked-bare us d n t rest w true there none = looked-call us d n t rest w (sym there) ∙ ap (λ ps. choose ps w) (none refl)
+looked-bare us d n t rest w false there none = ap (λ b. if b then call d n t rest (clauses_alive us (indicator t)) w else missing w.settings.unknown t rest w) (sym there)
+
+-- a view without clauses, in which a procedure exists or not
+bare-exists : (b : Bool) (p : Indicator) → exists (bare b p) p ≡ b
+unfolding exists
+bare-exists true p = ap (λ v. v || false) (indicator_same p p refl)
+bare-exists false p = refl
+
+bare-living : (b : Bool) (p : Indicator) → living (bare b p) p ≡ []
+unfolding living
+bare-living true p = refl
+bare-living false p = refl
+
+pub looked-in-bare : (b : Bool) (d n : ℕ) (t : Tree) (rest : List Element) (w : Local) → looked_up (bare b (indicator t)) (ToCall t) d rest n w ≡ (if b then Give Fail w else missing w.settings.unknown t rest w)
+looked-in-bare b d n t rest w =
+    looked-bare (bare b (indicator t)) d n t rest w b (sym (bare-exists b (indicator t)))
+    (λ is. ap (λ xs. filter_map (tried d n t rest) (map (candidate_of uses.Call) xs)) (bare-living b (indicator t)))
