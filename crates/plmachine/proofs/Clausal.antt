@@ -95,7 +95,7 @@ walks-grown P s t new g u spot l grown is there w =
     let local : local_of t ≡ local_of s = stay.local in
     record {
       code = w.code ∙ stay.code;
-      frame = w.frame ∙ ap (λ x. record x { stack = new.stack; mode = modes.Back outcomes.Fail }) is;
+      frame = w.frame ∙ ap (λ (x : Reached). record x { stack = new.stack; mode = modes.Back outcomes.Fail }) is;
       ends = λ v most left answers.
           let xs = left_at (database_of P v) u g spot in
           ap₂ (λ d n. after P v s most left answers (choose (filter_map (tried d n g (goals_of s.stack l)) xs) (local_of s))) (sym (grown-depth s t grown)) (sym grown.count)

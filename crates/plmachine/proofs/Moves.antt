@@ -110,7 +110,7 @@ same-machine P v s new left answers (modes.Ask q) values place cases local may =
 same-machine P v s new left answers (modes.Back r) values place cases local may = same-plain P v s new left answers (modes.Back r) refl cases local tt
 same-machine P v s new left answers (modes.Find f) values place cases local may =
     let same = same-find v s.stack new.stack f values place may in
-    ap₂ (λ x as. record { mode = x; cases = cases_in P v new; run = record { steps = left; answers = as ++ answers; local = local_of new } }) same.0 same.1
+    ap₂ (λ x ans. record { mode = x; cases = cases_in P v new; run = record { steps = left; answers = ans ++ answers; local = local_of new } }) same.0 same.1
     ∙ ap₂ (λ cs w. record { mode = find_mode v f s.stack; cases = cs; run = record { steps = left; answers = find_answers v f s.stack.env.heap ++ answers; local = w } }) cases local
 
 -- ---- where it stays
@@ -284,4 +284,4 @@ on_err_map (Err e) f k = f k
 
 -- the arguments of the goal that is selected are others
 pub args-stay : (P : Program) (s new : Reached) → new ≡ record s { args = new.args } → Stays P s new
-args-stay P s new is = subst (Stays P s) (sym is) (stays-by P s (record s { args = new.args }) refl refl (λ v i. (i, refl)) refl refl refl)
+args-stay P s new is = subst (Stays P s) (sym is) (stays-by P s (record s { args = new.args }) refl refl (λ v i. (i, refl)) refl (λ v. refl) refl)

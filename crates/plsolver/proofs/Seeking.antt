@@ -59,7 +59,7 @@ module _ (P : Program) (v : Views) (s t : Reached) (u : Lookup) (g : ℕ) (f : F
   refreshed-machine : (left : ℕ) (answers : List Answer) → machine P v left (Seen g (v g) ∷ answers) s ≡ machine P v left answers (record t { mode = modes.Find f })
   refreshed-machine left answers =
       machine-is P v s (mode_of (modes.Ask (questions.Look u)) s.stack) (cases_in P v s) (local_of s) (subst IsPlain (sym at) tt) (ap (λ m. mode_of m s.stack) at) refl refl left (Seen g (v g) ∷ answers)
-      ∙ ap₂ (λ m as. record { mode = m; cases = cases_in P v s; run = record { steps = left; answers = as ++ answers; local = local_of s } }) (sym (by.mode v)) (sym (by.answers v))
+      ∙ ap₂ (λ m ans. record { mode = m; cases = cases_in P v s; run = record { steps = left; answers = ans ++ answers; local = local_of s } }) (sym (by.mode v)) (sym (by.answers v))
       ∙ ap₂ (λ cs w. record { mode = find_mode v f t.stack; cases = cs; run = record { steps = left; answers = find_answers v f t.stack.env.heap ++ answers; local = w } }) (sym (stay.cases v)) (sym stay.local)
       ∙ sym (find-machine P v (record t { mode = modes.Find f }) f refl left answers)
 
@@ -80,9 +80,9 @@ module _ (P : Program) (v : Views) (s : Reached) (f : Find) (at : s.mode ≡ mod
   pub looked : (most left : ℕ) (answers : List Answer) → now P v s most left answers ≡ after P v s most left answers (looked_up us u (depth_of s) (goals_of s.stack s.stack.goals) s.stack.env.count (local_of s))
   unfolding turn meet answered
   looked most left answers =
-      let run : List Answer → Run = λ as. record { steps = left; answers = as; local = local_of s } in
+      let run : List Answer → Run = λ ans. record { steps = left; answers = ans; local = local_of s } in
       ap (λ m. ending_of most (Rest P m)) (find-machine P v s f at left answers)
-      ∙ ap₂ (λ m as. ending_of most (Rest P (record { mode = m; cases = cases_in P v s; run = run (as ++ answers) }))) mode answers_are
+      ∙ ap₂ (λ m ans. ending_of most (Rest P (record { mode = m; cases = cases_in P v s; run = run (ans ++ answers) }))) mode answers_are
       ∙ ap (ending_of most) (Rest-turn P (record { mode = At (record { goals = Asking (Look u) ∷ goals_of s.stack s.stack.goals; variables = s.stack.env.count }); cases = cases_in P v s; run = run (Seen g us ∷ answers) }))
       ∙ ap (λ d. after P v s most left answers (looked_up us u d (goals_of s.stack s.stack.goals) s.stack.env.count (local_of s))) (depth-in (database_of P v) s.stack)
 
