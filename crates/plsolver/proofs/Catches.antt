@@ -112,8 +112,8 @@ handler-stays s t same has = subst (λ fs. BeginsWith IsHandler (reverse fs)) (s
 
 -- the ball at its catcher
 module _ (P : Program) (v : Views) (s : Progress) (o : Outcome) (ball : Tree) (found : List ℕ) (at : s.machine.mode ≡ modes.Back o) (carries : result_of o ≡ Throw ball found) (st : State) (k : Handling) (code : st.code ≡ s.machine.stack.code)
-    (same : (db : Database) → cases_of db st ≡ cases_of db s.machine.stack) (x : Catcher) (here : AtHandler st (handlers.Catch x) k.list) (active : has (depth_of s.machine - 1) found ≡ true) (put : State) (grew : Extends st put) (v : Cell)
-    (copy : value put.env.heap v ≡ copied st.env.count ball) where
+    (same : (db : Database) → cases_of db st ≡ cases_of db s.machine.stack) (x : Catcher) (here : AtHandler st (handlers.Catch x) k.list) (active : has (depth_of s.machine - 1) found ≡ true) (put : State) (grew : Extends st put) (b : Cell)
+    (copy : value put.env.heap b ≡ copied st.env.count ball) where
   -- the handler that the frame stands for
   abbrev catcher : Tree
   catcher = value st.env.heap x.catcher
@@ -129,16 +129,16 @@ module _ (P : Program) (v : Views) (s : Progress) (o : Outcome) (ball : Tree) (f
       let d : depth_of s.machine - 1 ≡ deeper (here.below (database_of P v)) 0 = omega (arith, depth-in (database_of P v) s.machine.stack, ap (λ cs. deeper cs 0) cases-are) in
       subst (λ d. has d found ≡ true) d active
 
-  sides : unify catcher (copied st.env.count ball) ≡ unify (value put.env.heap x.catcher) (value put.env.heap v)
+  sides : unify catcher (copied st.env.count ball) ≡ unify (value put.env.heap x.catcher) (value put.env.heap b)
   sides = ap₂ unify (sym (grew.values x.catcher here.there.0).1) (sym copy)
 
-  pub catches-other : (last : State) → last.code ≡ put.code → unify (value put.env.heap x.catcher) (value put.env.heap v) ≡ None →
+  pub catches-other : (last : State) → last.code ≡ put.code → unify (value put.env.heap x.catcher) (value put.env.heap b) ≡ None →
       ((h : Case) (below : List Case) → cases_of (database_of P v) put ≡ h ∷ below → cases_of (database_of P v) last ≡ below) → QuietIn P v s (at_stack s last)
   catches-other last stays none closed =
       quiet-other P v s o ball found at carries catcher recovery (goals_of st k.list) st.env.count (here.below (database_of P v)) cases-are is-active last (stays ∙ grew.code ∙ code) (sides ∙ none)
       (closed _ (here.below (database_of P v)) (grew.cases (database_of P v) ∙ here.cases (database_of P v)))
 
-  module _ (count : put.env.count ≡ st.env.count + length (variables ball)) (last : State) (u : Unifies put last x.catcher v) where
+  module _ (count : put.env.count ≡ st.env.count + length (variables ball)) (last : State) (u : Unifies put last x.catcher b) where
     pub recovery-there : IsValue last.env.heap x.recovery
     recovery-there = (u.values x.recovery (grew.values x.recovery here.there.1).0).0
 

@@ -117,13 +117,13 @@ module _ (P : Program) (v : Views) (s : Reached) (c : Cell) (g : ℕ) (at : s.mo
       ∙ ap (after P v s most left answers) (looked-in-bare there (depth_of s) s.stack.env.count goal (goals_of s.stack s.stack.goals) (local_of s))
 
   pub there-fails : there ≡ true → (most left : ℕ) (answers : List Answer) → now P v s most left answers ≡ now P v (record s { mode = modes.Back outcomes.Fail }) most left answers
-  there-fails yes most left answers =
+  there-fails present most left answers =
       exists-looked most left answers
-      ∙ ap (λ b. after P v s most left answers (if b then Give Fail (local_of s) else missing s.settings.unknown goal (goals_of s.stack s.stack.goals) (local_of s))) yes
+      ∙ ap (λ b. after P v s most left answers (if b then Give Fail (local_of s) else missing s.settings.unknown goal (goals_of s.stack s.stack.goals) (local_of s))) present
       ∙ gives-at P v s (record s { mode = modes.Back outcomes.Fail }) outcomes.Fail (local_of s) refl refl refl most left answers
 
   pub not-there : (new : Reached) → there ≡ false → Moved P s new (missing s.settings.unknown goal (goals_of s.stack s.stack.goals) (local_of s)) → (most left : ℕ) (answers : List Answer) → now P v s most left answers ≡ now P v new most left answers
-  not-there new no moved most left answers =
+  not-there new absent moved most left answers =
       exists-looked most left answers
-      ∙ ap (λ b. after P v s most left answers (if b then Give Fail (local_of s) else missing s.settings.unknown goal (goals_of s.stack s.stack.goals) (local_of s))) no
+      ∙ ap (λ b. after P v s most left answers (if b then Give Fail (local_of s) else missing s.settings.unknown goal (goals_of s.stack s.stack.goals) (local_of s))) absent
       ∙ moved.ends v most left answers

@@ -24,10 +24,10 @@ use Rattle.plsolver.specs.Solver.{QuietIn}
 use Rattle.plsolver.proofs.Quiets.{quiet-unlike, quiet-gathered}
 use Rattle.plsolver.proofs.Catches.{handler-stays}
 
-module _ (P : Program) (v : Views) (s : Progress) (at : s.machine.mode ≡ modes.Back outcomes.Fail) (st : State) (list : Continuation) (v : Cell) (code : st.code ≡ s.machine.stack.code)
-    (same : (db : Database) → cases_of db st ≡ cases_of db s.machine.stack) (here : AtHandler st (handlers.Gather v) list) (level : ℕ) (up : (db : Database) → deeper (cases_of db st) 0 ≡ level + 1) where
+module _ (P : Program) (v : Views) (s : Progress) (at : s.machine.mode ≡ modes.Back outcomes.Fail) (st : State) (list : Continuation) (c : Cell) (code : st.code ≡ s.machine.stack.code)
+    (same : (db : Database) → cases_of db st ≡ cases_of db s.machine.stack) (here : AtHandler st (handlers.Gather c) list) (level : ℕ) (up : (db : Database) → deeper (cases_of db st) 0 ≡ level + 1) where
   abbrev whole : Tree
-  whole = value st.env.heap v
+  whole = value st.env.heap c
 
   abbrev below : List Case
   below = here.below (database_of P v)

@@ -18,6 +18,7 @@ use Rattle.plsearch.specs.Collecting.{copies_from, count_new, dropped, gathered,
 use Rattle.plsearch.specs.Rows.{select, meet, catching, gathering, solved}
 use Rattle.plsearch.specs.Handlers.{resume, has, met_by, recovers, goes_on}
 use Rattle.plsearch.specs.Engine.{deeper, mark, stop_cut}
+use Rattle.plsearch.specs.Engine.{left as left_of}
 use Rattle.plsearch.specs.Machines.Machine.{At, Back, Machine, Rest, return, turn, step}
 use Rattle.plsearch.specs.Machines.Weight.{cases_weight, weight, Lighter}
 use Rattle.plsearch.proofs.Turns.{Rest-turn}
@@ -39,7 +40,7 @@ use Rattle.plmachine.specs.declared.machine.Mode.TheVariants as modes
 use Rattle.plmachine.specs.declared.machine.Machine.{Machine as Reached}
 use Rattle.plmachine.specs.Machine.{result_of, mode_of, local_of, cases_in, depth_of, machine, IsPlain, MayAsk}
 use Rattle.plmachine.specs.Clauses.{mode_by}
-use Rattle.plmachine.proofs.Moves.{machine-is}
+use Rattle.plmachine.proofs.Moves.{machine-is, plain-machine}
 use Rattle.plmachine.proofs.Clausal.{at-by, may-by, plain-by}
 use Rattle.plmachine.proofs.Cutting.{cut-place, cut-rest}
 use Rattle.plsolver.specs.declared.progress.Selected.{Selected}
@@ -63,28 +64,31 @@ some_case : (c : Case) (cs all : List Case) → all ≡ c ∷ cs → all ≡ [] 
 some_case c cs all is none = let e : c ∷ cs ≡ [] = sym is ∙ none in cc
 
 -- the machine makes one turn, and had not ended
-quiet-at : (P : Program) (v : Views) (s : Progress) (t : Reached) → t.stack.code ≡ s.machine.stack.code → MayAsk t.stack.env.heap t.mode →
+quiet-at : (P : Program) (v : Views) (s : Progress) → IsPlain s.machine.mode → (t : Reached) → t.stack.code ≡ s.machine.stack.code → MayAsk t.stack.env.heap t.mode →
     ((left : ℕ) (answers : List Answer) → left + s.used ≤ s.limit → machine P v left answers t ≡ turn P (machine P v left answers s.machine)) →
     ((r : Result) → mode_of s.machine.mode s.machine.stack ≡ Back r → cases_in P v s.machine ≡ [] → ⊥) → QuietIn P v s (record s { machine = t })
 unfolding machine
-quiet-at P v s t code may turned goes = record {
+quiet-at P v s plain t code may turned goes = record {
   used = refl;
   limit = refl;
   places = refl;
   code = code;
   askable = may;
   rest = λ left answers few. ap (Rest P) (turned left answers few) ∙ sym (Rest-turn P (machine P v left answers s.machine));
-  lighter = λ within. fin (subst (λ m. Lighter (machine P v 0 [] s.machine) m) (sym (turned 0 [] (omega (arith, within)))) (lighter-turn P (machine P v 0 [] s.machine) goes));
+  lighter = λ within. fin (subst (λ m. Lighter (machine P v 0 [] s.machine) m) (sym (turned 0 [] (omega (arith, within)))) (lighter-turn P (machine P v 0 [] s.machine) (λ r is none. goes r (sym (ap (λ m. m.mode) here) ∙ is) (sym (ap (λ m. m.cases) here) ∙ none))));
 }
   where
+    here : machine P v 0 [] s.machine ≡ record { mode = mode_of s.machine.mode s.machine.stack; cases = cases_in P v s.machine; run = record { steps = 0; answers = []; local = local_of s.machine } }
+    here = plain-machine P v s.machine 0 [] s.machine.mode plain
+
     fin : Lighter (machine P v 0 [] s.machine) (machine P v 0 [] t) → weight (machine P v 0 [] t) < weight (machine P v 0 [] s.machine)
-    fin (inl less) = absurd (omega (arith, less))
+    fin (inl less) = absurd (omega (arith, less, ap (λ m. left_of m.run) here))
     fin (inr both) = both.1
 
-quiet : (P : Program) (v : Views) (s : Progress) (st : State) (m : Going) → st.code ≡ s.machine.stack.code → MayAsk st.env.heap m →
+quiet : (P : Program) (v : Views) (s : Progress) → IsPlain s.machine.mode → (st : State) (m : Going) → st.code ≡ s.machine.stack.code → MayAsk st.env.heap m →
     ((left : ℕ) (answers : List Answer) → left + s.used ≤ s.limit → machine P v left answers (record s.machine { stack = st; mode = m }) ≡ turn P (machine P v left answers s.machine)) →
     ((r : Result) → mode_of s.machine.mode s.machine.stack ≡ Back r → cases_in P v s.machine ≡ [] → ⊥) → QuietIn P v s (to s st m)
-quiet P v s st m = quiet-at P v s (record s.machine { stack = st; mode = m })
+quiet P v s plain st m = quiet-at P v s plain (record s.machine { stack = st; mode = m })
 
 pub quiet-as : (P : Program) (v : Views) (s new : Progress) (st : State) (m : Going) → new ≡ to s st m → QuietIn P v s (to s st m) → QuietIn P v s new
 quiet-as P v s new st m is q = subst (QuietIn P v s) (sym is) q
@@ -98,7 +102,7 @@ at-goals P v s es at goals left answers = at-place P v s (record { goals = es; v
 pub quiet-stop : (P : Program) (v : Views) (s : Progress) → s.machine.mode ≡ modes.Visit → goals_of s.machine.stack s.machine.stack.goals ≡ [] → QuietIn P v s (to s s.machine.stack (modes.Back outcomes.Stop))
 unfolding turn machine
 quiet-stop P v s at none =
-    quiet P v s s.machine.stack (modes.Back outcomes.Stop) refl tt
+    quiet P v s (subst IsPlain (sym at) tt) s.machine.stack (modes.Back outcomes.Stop) refl tt
     (λ left answers few. sym (ap (turn P) (at-goals P v s.machine [] at none left answers)))
     (λ r is no. not_back s.machine r at is)
 
@@ -110,9 +114,9 @@ spends : (P : Program) (v : Views) (s : Progress) (k : ℕ) (t : Tree) (rest : L
     QuietIn P v s (to s s.machine.stack (modes.Back outcomes.Spent))
 unfolding turn machine meet
 spends P v s k t rest at goals all =
-    quiet P v s s.machine.stack (modes.Back outcomes.Spent) refl tt
+    quiet P v s (subst IsPlain (sym at) tt) s.machine.stack (modes.Back outcomes.Spent) refl tt
     (λ left answers few.
-    spent P (cases_in P v s.machine) (select P k t (depth_of s.machine) rest s.machine.stack.env.count) (record { steps = left; answers = answers; local = local_of s.machine }) left (omega (arith, few, all))
+    spent P (cases_in P v s.machine) (select P k t (deeper (cases_in P v s.machine) 0) rest s.machine.stack.env.count) (record { steps = left; answers = answers; local = local_of s.machine }) left (omega (arith, few, all))
     ∙ sym (ap (turn P) (at-goals P v s.machine (Goal k t ∷ rest) at goals left answers)))
     (λ r is no. not_back s.machine r at is)
 
@@ -147,7 +151,7 @@ pub quiet-never : (P : Program) (v : Views) (s : Progress) (level : ℕ) (rest :
     QuietIn P v s (to s s.machine.stack (modes.Back (outcomes.CutTo level)))
 unfolding turn meet machine
 quiet-never P v s level rest at never =
-    quiet P v s s.machine.stack (modes.Back (outcomes.CutTo level)) refl tt
+    quiet P v s (subst IsPlain (sym at) tt) s.machine.stack (modes.Back (outcomes.CutTo level)) refl tt
     (λ left answers few. sym (ap (turn P) (at-goals P v s.machine (Marker Never level ∷ goals_of s.machine.stack rest) at never.goals left answers)))
     (λ r is no. not_back s.machine r at is)
 
@@ -155,19 +159,19 @@ pub quiet-until : (P : Program) (v : Views) (s : Progress) (level : ℕ) (rest :
     QuietIn P v s (to s (record s.machine.stack { goals = rest }) s.machine.mode)
 unfolding turn meet cases_of
 quiet-until P v s level rest at until =
-    quiet P v s (record s.machine.stack { goals = rest }) s.machine.mode refl (subst (MayAsk s.machine.stack.env.heap) (sym at) tt)
+    quiet P v s (subst IsPlain (sym at) tt) (record s.machine.stack { goals = rest }) s.machine.mode refl (subst (MayAsk s.machine.stack.env.heap) (sym at) tt)
     (λ left answers few.
     at-goals P v (record s.machine { stack = record s.machine.stack { goals = rest } }) (goals_of s.machine.stack rest) at refl left answers
     ∙ sym (ap (turn P) (at-goals P v s.machine (Marker Until level ∷ goals_of s.machine.stack rest) at until.goals left answers)))
     (λ r is no. not_back s.machine r at is)
 
-pub quiet-collect : (P : Program) (v : Views) (s new : Progress) (v : Cell) (level : ℕ) (rest : Continuation) → s.machine.mode ≡ modes.Visit → AtMarker s.machine.stack (goals_of s.machine.stack s.machine.stack.goals) (markers.Collect v) level rest →
-    Collects s new level (value s.machine.stack.env.heap v) → QuietIn P v s new
+pub quiet-collect : (P : Program) (v : Views) (s new : Progress) (c : Cell) (level : ℕ) (rest : Continuation) → s.machine.mode ≡ modes.Visit → AtMarker s.machine.stack (goals_of s.machine.stack s.machine.stack.goals) (markers.Collect c) level rest →
+    Collects s new level (value s.machine.stack.env.heap c) → QuietIn P v s new
 unfolding turn meet machine
-quiet-collect P v s new v level rest at collect did =
+quiet-collect P v s new c level rest at collect did =
     subst (QuietIn P v s) (sym did)
-    (quiet-at P v s (record s.machine { kept = with_copy level (value s.machine.stack.env.heap v) s.machine.kept; mode = modes.Back outcomes.Fail }) refl tt
-    (λ left answers few. sym (ap (turn P) (at-goals P v s.machine (Marker (Collect (value s.machine.stack.env.heap v)) level ∷ goals_of s.machine.stack rest) at collect.goals left answers)))
+    (quiet-at P v s (subst IsPlain (sym at) tt) (record s.machine { kept = with_copy level (value s.machine.stack.env.heap c) s.machine.kept; mode = modes.Back outcomes.Fail }) refl tt
+    (λ left answers few. sym (ap (turn P) (at-goals P v s.machine (Marker (Collect (value s.machine.stack.env.heap c)) level ∷ goals_of s.machine.stack rest) at collect.goals left answers)))
     (λ r is no. not_back s.machine r at is))
 
 -- ---- with a result
@@ -175,7 +179,7 @@ quiet-collect P v s new v level rest at collect did =
 pub quiet-retry : (P : Program) (v : Views) (s : Progress) (st : State) → s.machine.mode ≡ modes.Back outcomes.Fail → st.code ≡ s.machine.stack.code → Retries (database_of P v) s.machine.stack st → QuietIn P v s (to s st modes.Visit)
 unfolding turn
 quiet-retry P v s st at code r =
-    quiet P v s st modes.Visit code tt
+    quiet P v s (subst IsPlain (sym at) tt) st modes.Visit code tt
     (λ left answers few.
     at-place P v (record s.machine { stack = st; mode = modes.Visit }) (place_of st) tt refl left answers
     ∙ ap (λ cs. record { mode = At (place_of st); cases = cs; run = record { steps = left; answers = answers; local = local_of s.machine } }) r.cases
@@ -186,7 +190,7 @@ quiet-retry P v s st at code r =
 pub quiet-retry-by : (P : Program) (v : Views) (s : Progress) (st : State) (x : Option ClauseName) → s.machine.mode ≡ modes.Back outcomes.Fail → st.code ≡ s.machine.stack.code → RetriesBy (database_of P v) s.machine.stack st x → QuietIn P v s (to s st (mode_by x))
 unfolding turn
 quiet-retry-by P v s st x at code r =
-    quiet P v s st (mode_by x) code (may-by st.env.heap x)
+    quiet P v s (subst IsPlain (sym at) tt) st (mode_by x) code (may-by st.env.heap x)
     (λ left answers few.
     at-place P v (record s.machine { stack = st; mode = mode_by x }) (place_asked x (place_of st)) (plain-by x) (at-by st x) left answers
     ∙ ap (λ cs. record { mode = At (place_asked x (place_of st)); cases = cs; run = record { steps = left; answers = answers; local = local_of s.machine } }) r.cases
@@ -196,7 +200,7 @@ quiet-retry-by P v s st x at code r =
 pub quiet-close : (P : Program) (v : Views) (s : Progress) (st : State) → s.machine.mode ≡ modes.Back outcomes.Fail → st.code ≡ s.machine.stack.code → cases_in P v s.machine ≡ Choice [] ∷ cases_of (database_of P v) st → QuietIn P v s (to s st s.machine.mode)
 unfolding turn
 quiet-close P v s st at code was =
-    quiet P v s st s.machine.mode code (subst (MayAsk st.env.heap) (sym at) tt)
+    quiet P v s (subst IsPlain (sym at) tt) st s.machine.mode code (subst (MayAsk st.env.heap) (sym at) tt)
     (λ left answers few.
     carried P v (record s.machine { stack = st }) outcomes.Fail (cases_of (database_of P v) st) at refl left answers
     ∙ sym (ap (turn P) (carried P v s.machine outcomes.Fail (Choice [] ∷ cases_of (database_of P v) st) at was left answers)))
@@ -244,7 +248,7 @@ quiet-mark P v s new st l back code was b =
     let r : Outcome = back.0 in
     let made = b.is r back.1 in
     quiet-as P v s new st (modes.Back made.0) (b.frame ∙ ap (λ m. to s st m) made.1)
-    (quiet P v s st (modes.Back made.0) code tt
+    (quiet P v s (subst IsPlain (sym back.1) tt) st (modes.Back made.0) code tt
     (λ left answers few.
     carried P v (record s.machine { stack = st; mode = modes.Back made.0 }) made.0 (cases_of (database_of P v) st) refl refl left answers
     ∙ ap (λ x. record { mode = Back x; cases = cases_of (database_of P v) st; run = record { steps = left; answers = answers; local = local_of s.machine } }) made.2
@@ -273,7 +277,7 @@ quiet-choice P v s new st ps back code was none b =
     let d : ℕ = deeper (cases_of (database_of P v) st) 0 in
     let made = b.is r back.1 in
     quiet-as P v s new st (modes.Back made.0) (b.frame ∙ ap (λ m. to s st m) made.1)
-    (quiet P v s st (modes.Back made.0) code tt
+    (quiet P v s (subst IsPlain (sym back.1) tt) st (modes.Back made.0) code tt
     (λ left answers few.
     carried P v (record s.machine { stack = st; mode = modes.Back made.0 }) made.0 (cases_of (database_of P v) st) refl refl left answers
     ∙ ap (λ x. record { mode = Back x; cases = cases_of (database_of P v) st; run = record { steps = left; answers = answers; local = local_of s.machine } }) made.2
@@ -332,7 +336,7 @@ quiet-handler P v s st h p back code was not fails =
     let r : Outcome = back.0 in
     let e : s.machine.mode ≡ modes.Back r = back.1 in
     let d : ℕ = deeper (cases_of (database_of P v) st) 0 in
-    quiet P v s st s.machine.mode code (subst (MayAsk st.env.heap) (sym e) tt)
+    quiet P v s (subst IsPlain (sym e) tt) st s.machine.mode code (subst (MayAsk st.env.heap) (sym e) tt)
     (λ left answers few.
     carried P v (record s.machine { stack = st }) r (cases_of (database_of P v) st) e refl left answers
     ∙ sym (ap (turn P) (carried P v s.machine r (Handle h p ∷ cases_of (database_of P v) st) e was left answers)
@@ -353,7 +357,7 @@ module _ (P : Program) (v : Views) (s : Progress) (o : Outcome) (ball : Tree) (f
   -- the ball is another
   pub quiet-other : (st : State) → st.code ≡ s.machine.stack.code → unify c (copied n ball) ≡ None → cases_of (database_of P v) st ≡ below → QuietIn P v s (at_stack s st)
   quiet-other st code none below_is =
-      quiet P v s st s.machine.mode code (subst (MayAsk st.env.heap) (sym at) tt)
+      quiet P v s (subst IsPlain (sym at) tt) st s.machine.mode code (subst (MayAsk st.env.heap) (sym at) tt)
       (λ left answers few.
       let run : Run = record { steps = left; answers = answers; local = local_of s.machine } in
       carried P v (record s.machine { stack = st }) o below at below_is left answers
@@ -366,7 +370,7 @@ module _ (P : Program) (v : Views) (s : Progress) (o : Outcome) (ball : Tree) (f
       goals_of st list ≡ bind_goals σ gs → st.env.count ≡ n + length (variables ball) → cases_of (database_of P v) st ≡ h ∷ below → Recovered P (at_stack s st) new recovery list → QuietIn P v s new
   quiet-caught st new σ recovery list h code some runs goals count was_st did =
       subst (QuietIn P v s) (sym did.frame)
-      (quiet-at P v s (record s.machine { stack = new.machine.stack; mode = new.machine.mode; kept = new.machine.kept }) (did.code ∙ code) did.askable
+      (quiet-at P v s (subst IsPlain (sym at) tt) (record s.machine { stack = new.machine.stack; mode = new.machine.mode; kept = new.machine.kept }) (did.code ∙ code) did.askable
       (λ left answers few.
       let w : Local = local_of s.machine in
       let run : Run = record { steps = left; answers = answers; local = w } in
@@ -400,7 +404,7 @@ module _ (P : Program) (v : Views) (s : Progress) (at : s.machine.mode ≡ modes
     -- the list has no unifier with the term
     pub quiet-unlike : unify l (listed (renumbered n copies)) ≡ None → QuietIn P v s (record s { machine = record s.machine { stack = st; kept = kept } })
     quiet-unlike none =
-        quiet-at P v s (record s.machine { stack = st; kept = kept }) code (subst (MayAsk st.env.heap) (sym at) tt)
+        quiet-at P v s (subst IsPlain (sym at) tt) (record s.machine { stack = st; kept = kept }) code (subst (MayAsk st.env.heap) (sym at) tt)
         (λ left answers few.
         machine-is P v (record s.machine { stack = st; kept = kept }) (Back Fail) below left_over (subst IsPlain (sym at) tt) (ap (λ m. mode_of m st) at) below_is local-is left answers
         ∙ sym (gather-turn left answers ∙ ap (λ o. return below (record { steps = left; answers = answers; local = local_of s.machine }) (goes_on (option_map (λ σ. record { goals = bind_goals σ gs; variables = n + count_new copies }) o) left_over)) none))
@@ -410,7 +414,7 @@ module _ (P : Program) (v : Views) (s : Progress) (at : s.machine.mode ≡ modes
     pub quiet-gathered : (σ : ℕ → Tree) → unify l (listed (renumbered n copies)) ≡ Some σ → place_of st ≡ record { goals = bind_goals σ gs; variables = n + count_new copies } →
         QuietIn P v s (record s { machine = record s.machine { stack = st; mode = modes.Visit; kept = kept } })
     quiet-gathered σ some place =
-        quiet-at P v s (record s.machine { stack = st; mode = modes.Visit; kept = kept }) code tt
+        quiet-at P v s (subst IsPlain (sym at) tt) (record s.machine { stack = st; mode = modes.Visit; kept = kept }) code tt
         (λ left answers few.
         machine-is P v (record s.machine { stack = st; mode = modes.Visit; kept = kept }) (At (record { goals = bind_goals σ gs; variables = n + count_new copies })) below left_over tt (ap At place) below_is local-is left answers
         ∙ sym (gather-turn left answers ∙ ap (λ o. return below (record { steps = left; answers = answers; local = local_of s.machine }) (goes_on (option_map (λ σ. record { goals = bind_goals σ gs; variables = n + count_new copies }) o) left_over)) some))

@@ -30,6 +30,7 @@ use Rattle.pllinks.specs.declared.link.Continuation.{Continuation}
 use Rattle.plstack.specs.Places.{Views}
 use Rattle.plstack.specs.StaticCalls.{database_of}
 use Rattle.plstack.specs.First.{AtBoth}
+use Rattle.plstack.proofs.Stacks.{depth-in}
 use Rattle.plstack.specs.Giving.{GivesBack}
 use Rattle.plmachine.specs.declared.machine.Outcome.{Outcome}
 use Rattle.plmachine.specs.declared.machine.Outcome.TheVariants as outcomes
@@ -116,6 +117,7 @@ due-turn : (P : Program) (v : Views) (s : Reached) (k : ℕ) (t : Tree) (rest : 
 unfolding turn meet
 due-turn P v s k t rest at goals left answers =
     ap (turn P) (at-place P v s (record { goals = Goal k t ∷ rest; variables = s.stack.env.count }) (subst IsPlain (sym at) tt) (visit-place s (Goal k t ∷ rest) at goals) (suc left) answers)
+    ∙ ap (λ d. move (cases_in P v s) (record { steps = left; answers = answers; local = local_of s }) (select P k t d rest s.stack.env.count (local_of s))) (depth-in (database_of P v) s.stack)
 
 pub steps : (P : Program) (s new : Progress) (k : ℕ) (t : Tree) (rest : List Element) → s.machine.mode ≡ modes.Visit → goals_of s.machine.stack s.machine.stack.goals ≡ Goal k t ∷ rest → s.used + 1 ≤ s.limit →
     Selects P s.machine new.machine → new.used ≡ s.used + 1 → new.limit ≡ s.limit → new.places ≡ s.places → Stepped P s new
@@ -263,6 +265,7 @@ unfolding turn
 answer-turn P v s e rest q a plain at asks left answers =
     ap (turn P) (at-place P v s (record { goals = e ∷ rest; variables = s.stack.env.count }) plain at left (a ∷ answers))
     ∙ ap (meets P (cases_in P v s) e rest s.stack.env.count (record { steps = left; answers = a ∷ answers; local = local_of s })) (asks (local_of s))
+    ∙ ap (λ d. move (cases_in P v s) (record { steps = left; answers = answers; local = local_of s }) (answered e a d rest s.stack.env.count (local_of s))) (depth-in (database_of P v) s.stack)
 
 takes : (P : Program) (v : Views) (s new : Progress) (e : Element) (rest : List Element) (q : Item) (a : Answer) (m : Move) → IsPlain s.machine.mode → mode_of s.machine.mode s.machine.stack ≡ At (record { goals = e ∷ rest; variables = s.machine.stack.env.count }) →
     ((w : Local) → meet e rest w ≡ Asks q) → m ≡ answered e a (depth_of s.machine) rest s.machine.stack.env.count (local_of s.machine) → new.used ≡ s.used → new.limit ≡ s.limit →

@@ -58,7 +58,7 @@ module _ (us : List Stamped) (n : ℕ) (h : Tree) where
       ap (λ r. swept us n h (record w { reach = r })) at
       ∙ ap (λ es. w.updates.items ++ es) (kept x (clause_alive x us) (past x (living us (indicator h))))
       ∙ ap (λ b. w.updates.items ++ (erased_if b x ++ map Erase (names_of (filter (has_head n h) (past x (living us (indicator h))))))) (sym is)
-      ∙ append_assoc w.updates.items (erased_if has x) (map Erase (names_of (filter (has_head n h) (past x (living us (indicator h))))))
+      ∙ sym (append_assoc w.updates.items (erased_if has x) (map Erase (names_of (filter (has_head n h) (past x (living us (indicator h)))))))
       ∙ ap (λ es. es ++ map Erase (names_of (filter (has_head n h) (past x (living us (indicator h)))))) (sym by.2)
       ∙ ap (λ r. swept us n h (record w' { reach = r })) (sym by.1)
 
@@ -137,17 +137,17 @@ module _ (P : Program) (v : Views) (s : Reached) (c : Cell) (g : ℕ) (at : s.mo
 
   pub all-swept : (w : Sweep) → w.view ≡ g → w.reach ≡ reaches.Behind Start → w.updates.items ≡ [] → there ≡ true →
       (most left : ℕ) (answers : List Answer) → now P v s most left answers ≡ now P v (record s { mode = modes.Find (finds.Sweep c w) }) most left answers
-  all-swept w view reach none yes most left answers =
+  all-swept w view reach none present most left answers =
       all-looked most left answers
-      ∙ ap (λ b. after P v s most left answers (publish (if b then erasures else Declare (indicator all-head) ∷ []) goals s.stack.env.count (local_of s))) yes
+      ∙ ap (λ b. after P v s most left answers (publish (if b then erasures else Declare (indicator all-head) ∷ []) goals s.stack.env.count (local_of s))) present
       ∙ ap (λ us. after P v s most left answers (publish us goals s.stack.env.count (local_of s)))
       (ap (λ us. us ++ erasures) (sym none) ∙ ap₂ (λ k r. swept (v k) s.stack.env.count all-head (record w { reach = r })) (sym view) (sym reach))
       ∙ sym (swept-now P v (record s { mode = modes.Find (finds.Sweep c w) }) c w refl most left answers)
 
   pub all-declared : (new : Reached) (p : Indicator) → p ≡ indicator all-head → there ≡ false → Moved P s new (publish (Declare p ∷ []) goals s.stack.env.count (local_of s)) →
       (most left : ℕ) (answers : List Answer) → now P v s most left answers ≡ now P v new most left answers
-  all-declared new p named no moved most left answers =
+  all-declared new p named absent moved most left answers =
       all-looked most left answers
-      ∙ ap (λ b. after P v s most left answers (publish (if b then erasures else Declare (indicator all-head) ∷ []) goals s.stack.env.count (local_of s))) no
+      ∙ ap (λ b. after P v s most left answers (publish (if b then erasures else Declare (indicator all-head) ∷ []) goals s.stack.env.count (local_of s))) absent
       ∙ ap (λ q. after P v s most left answers (publish (Declare q ∷ []) goals s.stack.env.count (local_of s))) (sym named)
       ∙ moved.ends v most left answers

@@ -1,8 +1,9 @@
 //! Walks over clauses that go on: the next clause is tried, or what it takes to try it is asked.
 
-ghost use Rattle.std.specs.Prelude.{◌≡◌, ◌∷◌, [], List, IfNone, IfOk, IfSome, OnErr, OnOk};
+ghost use Rattle.std.specs.Prelude.{◌≡◌, ℕ, ◌+◌, ◌≤◌, ◌∷◌, [], List, Option, length, IfNone, IfOk, IfSome, OnErr, OnOk};
 ghost use Rattle.plcells.specs.Store.{value};
 ghost use Rattle.plclause.specs.Indicators.{indicator};
+ghost use Rattle.plevent.specs.declared.update.ClauseName.{ClauseName as Named};
 ghost use Rattle.plevent.specs.Alive.{living};
 ghost use Rattle.plevent.specs.Keys.{first_key};
 ghost use Rattle.plprogram.specs.Program.{Program as Given, clauses_for};
@@ -16,7 +17,7 @@ ghost use Rattle.plstack.specs.Places.{head_in, Views};
 ghost use Rattle.plstack.specs.State.{cases_of, HasWalk, RetriesBy};
 ghost use Rattle.plstack.specs.StaticCalls.{database_of};
 ghost use Rattle.plstack.specs.Walks.{AtWalk};
-ghost use Rattle.plsolver.specs.Solver.{IsOf, KeepsRest, Quiet, Settled, Stays};
+ghost use Rattle.plsolver.specs.Solver.{IsOf, KeepsRest, Quiet, Settled, spot_if, Stays};
 
 use crate::progress::{Due, Progress};
 use plclause::clause::Clause;
@@ -141,8 +142,8 @@ impl Progress {
     pub(crate) fn walked_to(&mut self, at: Walking, next: Option<ClauseName>)
         requires fails { self.old.machine.mode ≡ Mode.Back Outcome.Fail }
         requires at { AtWalk self.old.machine.stack at.point at.walk }
-        requires spot { (g : ℕ) × (name : ClauseName) × (at.walk.spot ≡ AtOf g name) }
-        ensures { (P : Given) (v : Views) (g : ℕ) (name : Named) → at.walk.spot ≡ AtOf g name → Ordered (v g) → next ≡ next_like_of (first_key (head_in at.walk.uses (value self.old.machine.stack.env.heap at.walk.goal))) (AfterOf name) (living (v g) (indicator (head_in at.walk.uses (value self.old.machine.stack.env.heap at.walk.goal)))) → KeepsRest P v self.old self.new }
+        requires spot { (g : ℕ) × (name : Named) × (at.walk.spot ≡ AtOf g name) }
+        ensures keeps { (P : Given) (v : Views) (g : ℕ) (name : Named) → at.walk.spot ≡ AtOf g name → Ordered (v g) → next ≡ next_like_of (first_key (head_in at.walk.uses (value self.old.machine.stack.env.heap at.walk.goal))) (AfterOf name) (living (v g) (indicator (head_in at.walk.uses (value self.old.machine.stack.env.heap at.walk.goal)))) → KeepsRest P v self.old self.new }
         ensures of { (P : Given) → IsOf P self.old.machine → IsOf P self.new.machine }
         ensures frame { self.new ≡ record self.old { machine = self.new.machine } }
     {

@@ -5,13 +5,12 @@ use Rattle.plstack.specs.StaticCalls.{database_of}
 use Rattle.plmachine.specs.Machine.{depth_of}
 use Rattle.plsolver.specs.Solver.{Settled, throws_to}
 use Rattle.plsolver.proofs.Quiets.{quiet-mark, quiet-handler, quiet-choice, over-now}
-use Rattle.plsolver.proofs.Runs.{stays-same}
 use Rattle.plstack.proofs.Stacks.{depth-in}
 use Rattle.plsolver.proofs.progress.Progress.close.Goals as goal
 
 pub returns-in_default-clause-due : goal.returns-in_default-clause-due
 unfolding Settled
-returns-in_default-clause-due c = rw c.in_default.ensures.same (over-now c.args.program.now c.args.self.now c.requires.back (λ v. c.in_default.ensures.none (database_of c.args.program.now v)), stays-same c.args.program.now c.args.self.now)
+returns-in_default-clause-due c = rw c.in_default.ensures.same (over-now c.args.program.now c.args.self.now c.requires.back (λ v. c.in_default.ensures.none (database_of c.args.program.now v)), refl)
 
 pub returns-in-Mark-clause-on : goal.returns-in-Mark-clause-on
 returns-in-Mark-clause-on c = λ v.

@@ -1,7 +1,6 @@
-use Rattle.std.proofs.Common.{arith}
+use Rattle.std.proofs.Common.{arith, refl}
 use Rattle.plsolver.specs.Solver.{Settled}
 use Rattle.plsolver.proofs.Quiets.{quiet-spent}
-use Rattle.plsolver.proofs.Runs.{stays-same}
 use Rattle.plsolver.proofs.progress.Progress.due.Goals as goal
 
 pub returns-then-self-clause-on : goal.returns-then-self-clause-on
@@ -9,4 +8,4 @@ returns-then-self-clause-on c = λ v. quiet-spent c.args.program.now v c.args.se
 
 pub returns-clause-due : goal.returns-clause-due
 unfolding Settled
-returns-clause-due c = ((c.requires.first, omega (arith, c.requires.within, c.if-self.false)), stays-same c.args.program.now c.args.self.now)
+returns-clause-due c = ((c.requires.first, omega (arith, c.requires.within, c.if-self.false)), refl)
