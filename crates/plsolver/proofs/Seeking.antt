@@ -1,10 +1,12 @@
 -- What is sought in a view: look-ups that were answered with it.
-use Rattle.std.proofs.Common.{◌≡◌, ℕ, ◌-◌, Bool, true, false, ◌||◌, min, if◌then◌else◌, List, [], ◌∷◌, ◌++◌, map, filter, Option, Some, None, refl, sym, ap, ap₂, ◌∙◌, subst}
+use Rattle.std.specs.Prelude.{Result as Outcomes, Ok, Err}
+use Rattle.std.proofs.Common.{OnOk, OnErr, reverse, ◌⊎◌, inl, inr, ◌≡◌, ℕ, ◌-◌, Bool, true, false, ◌||◌, min, if◌then◌else◌, List, [], ◌∷◌, ◌++◌, map, filter, Option, Some, None, refl, sym, ap, ap₂, ◌∙◌, subst}
 use Rattle.std.specs.List.{filter_map}
 use Rattle.plterm.specs.Tree.{Tree}
 use Rattle.plterm.specs.declared.indicator.Indicator.{Indicator}
 use Rattle.plcells.specs.declared.cell.Cell.{Cell}
 use Rattle.plcells.specs.Store.{value}
+use Rattle.plclause.specs.Clause.{Clause}
 use Rattle.plclause.specs.Indicators.{indicator}
 use Rattle.plevent.specs.declared.update.ClauseName.{ClauseName}
 use Rattle.plevent.specs.declared.update.Living.{Living}
@@ -22,18 +24,32 @@ use Rattle.plsearch.specs.Solving.{TakesOne}
 use Rattle.plsearch.proofs.Turns.{Rest-turn}
 use Rattle.plstore.specs.Like.{next_like_of}
 use Rattle.plstore.specs.Rising.{Ordered}
+use Rattle.plstore.specs.declared.record.Cursor.{Cursor}
 use Rattle.plstore.specs.declared.record.Cursor.TheVariants.{Start}
+use Rattle.plstore.specs.declared.query.Query.{Query}
+use Rattle.plstore.specs.declared.query.Found.{Found}
+use Rattle.plstore.specs.declared.query.Found.TheVariants.{Next as NextFound, Clause as ClauseFound}
+use Rattle.plstore.specs.Looking.{clause_alive, found}
 use Rattle.plstore.proofs.Names.{exists-alive}
 use Rattle.plcode.proofs.Numbers.{indicator_same}
 use Rattle.plstack.specs.declared.frame.Use.{Use}
 use Rattle.plstack.specs.declared.frame.Use.TheVariants as uses
 use Rattle.plstack.specs.declared.frame.Spot.TheVariants as spots
 use Rattle.plstack.specs.Places.{Views, candidate_of, head_in, onward, tried}
-use Rattle.plstack.specs.State.{State, goals_of}
+use Rattle.plstack.specs.State.{State, goals_of, Extends}
+use Rattle.plstack.specs.Walks.{IsWalking}
+use Rattle.plstack.specs.declared.frame.Point.{Point}
+use Rattle.plstack.specs.declared.frame.Walk.{Walk}
+use Rattle.plstack.specs.declared.frame.Resume.TheVariants as resumes
+use Rattle.plstack.specs.declared.frame.Frame.TheVariants.{Open}
+use Rattle.plstack.proofs.Frames.{reverse-push}
 use Rattle.plstack.specs.StaticCalls.{database_of}
 use Rattle.plstack.proofs.Looking.{first-none, first-some}
 use Rattle.plstack.proofs.Stacks.{depth-in}
 use Rattle.plmachine.specs.declared.machine.Lookup.{Lookup}
+use Rattle.plmachine.specs.declared.machine.Question.{Question}
+use Rattle.plmachine.specs.declared.machine.Outcome.{Outcome}
+use Rattle.plmachine.specs.declared.machine.Mode.{Mode as Going}
 use Rattle.plmachine.specs.declared.machine.Question.TheVariants as questions
 use Rattle.plmachine.specs.declared.machine.Outcome.TheVariants as outcomes
 use Rattle.plmachine.specs.declared.machine.Sought.{Sought}
@@ -44,9 +60,10 @@ use Rattle.plmachine.specs.declared.machine.Machine.{Machine as Reached}
 use Rattle.plmachine.specs.Clauses.{Walks}
 use Rattle.plmachine.specs.Machine.{after, bare, cases_in, depth_of, find_answers, find_mode, local_of, lookup_by, machine, machine_in, mode_of, now, IsPlain, IsTold, Stays}
 use Rattle.plmachine.proofs.Clausal.{called-left, erased-left, told-left}
-use Rattle.plmachine.proofs.Moves.{machine-is}
+use Rattle.plmachine.proofs.Moves.{machine-is, stays-by}
 use Rattle.plsolver.specs.declared.progress.Progress.{Progress}
-use Rattle.plsolver.specs.Solver.{FindsBy, KeepsRest, rest_of}
+use Rattle.plsolver.specs.Solver.{FindsBy, IsClause, IsFoundFor, IsNext, KeepsRest, like, rest_of}
+use Rattle.plsolver.specs.Solver.{Stays as Stands}
 
 -- the machine of what is sought
 pub find-machine : (P : Program) (v : Views) (s : Reached) (f : Find) → s.mode ≡ modes.Find f → (left : ℕ) (answers : List Answer) →
@@ -131,3 +148,47 @@ pub looked-in-bare : (b : Bool) (d n : ℕ) (t : Tree) (rest : List Element) (w 
 looked-in-bare b d n t rest w =
     looked-bare (bare b (indicator t)) d n t rest w b (sym (bare-exists b (indicator t)))
     (λ is. ap (λ xs. filter_map (tried d n t rest) (map (candidate_of uses.Call) xs)) (bare-living b (indicator t)))
+
+-- ---- answers
+
+pub ok_or_err : {T E A B C : Type 0} (r : Outcomes T E) → OnOk r A → OnErr r B → (A → C) → (B → C) → C
+ok_or_err (Ok x) a b f g = f a
+ok_or_err (Err e) a b f g = g b
+
+-- values were added
+pub put-stays : (P : Program) (s : Progress) (st : State) → Extends s.machine.stack st → st.env.count ≡ s.machine.stack.env.count → Stands P s (record s { machine = record s.machine { stack = st } })
+put-stays P s st e count = record {
+  used = refl;
+  limit = refl;
+  places = refl;
+  there = stays-by P s.machine (record s.machine { stack = st }) e.code refl e.values (ap₂ (λ es n. record { goals = es; variables = n }) e.visited count) (λ v. e.cases (database_of P v)) refl;
+}
+
+-- what an answer tells, by its query
+pub next-told : (v : Views) (g : ℕ) (q : Query) (h : Tree) (c : Cursor) (f : Found) (x : Option ClauseName) → q ≡ like h c → f ≡ found (v g) q → f ≡ NextFound x → x ≡ next_like_of (first_key h) c (living (v g) (indicator h))
+next-told v g q h c f x asked told is = let e : NextFound x ≡ NextFound (next_like_of (first_key h) c (living (v g) (indicator h))) = sym is ∙ told ∙ ap (found (v g)) asked in cc
+
+pub clause-told : (v : Views) (g : ℕ) (q : Query) (x : ClauseName) (f : Found) (c : Option Clause) → q ≡ Query.Clause x → f ≡ found (v g) q → f ≡ ClauseFound c → c ≡ clause_alive x (v g)
+clause-told v g q x f c asked told is = let e : ClauseFound c ≡ ClauseFound (clause_alive x (v g)) = sym is ∙ told ∙ ap (found (v g)) asked in cc
+
+pub next-kind : (h : Tree) (c : Cursor) (f : Found) → IsFoundFor (like h c) f → IsNext f
+next-kind h c (NextFound x) fits = tt
+next-kind h c (ClauseFound x) fits = absurd fits
+next-kind h c (Found.Exists b) fits = absurd fits
+
+pub clause-kind : (x : ClauseName) (f : Found) → IsFoundFor (Query.Clause x) f → IsClause f
+clause-kind x (NextFound y) fits = absurd fits
+clause-kind x (ClauseFound y) fits = tt
+clause-kind x (Found.Exists b) fits = absurd fits
+
+-- the innermost walk is the one
+pub same-walking : (s : State) (p q : Point) (w u : Walk) → IsWalking s p w → IsWalking s q u → w ≡ u
+same-walking s p q w u a b =
+    let e : Open p (resumes.Walk w) ∷ reverse a.rest ≡ Open q (resumes.Walk u) ∷ reverse b.rest =
+    sym (ap reverse a.top ∙ reverse-push a.rest (Open p (resumes.Walk w))) ∙ ap reverse b.top ∙ reverse-push b.rest (Open q (resumes.Walk u)) in cc
+
+-- a mode that seeks nothing
+pub finds-none : (m : Going) (f : Find) → m ≡ modes.Find f → (m ≡ modes.Visit) ⊎ (((q : Question) × (m ≡ modes.Ask q)) ⊎ ((r : Outcome) × (m ≡ modes.Back r))) → ⊥
+finds-none m f is (inl at) = let e : modes.Find f ≡ modes.Visit = sym is ∙ at in cc
+finds-none m f is (inr (inl at)) = let e : modes.Find f ≡ modes.Ask at.0 = sym is ∙ at.1 in cc
+finds-none m f is (inr (inr at)) = let e : modes.Find f ≡ modes.Back at.0 = sym is ∙ at.1 in cc

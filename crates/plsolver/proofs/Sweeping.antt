@@ -35,8 +35,9 @@ use Rattle.plmachine.specs.declared.machine.Find.TheVariants as finds
 use Rattle.plmachine.specs.declared.machine.Mode.{Mode}
 use Rattle.plmachine.specs.declared.machine.Mode.TheVariants as modes
 use Rattle.plmachine.specs.declared.machine.Machine.{Machine as Reached}
-use Rattle.plmachine.specs.Machine.{after, cases_in, local_of, now, published, swept, Moved}
-use Rattle.plsolver.specs.Solver.{erased_if, has_if, swept_by}
+use Rattle.plcells.specs.Store.{IsValue}
+use Rattle.plmachine.specs.Machine.{after, cases_in, local_of, machine, machine_in, now, place_behind, published, swept, to_reach, MayAsk, Moved, Stays}
+use Rattle.plsolver.specs.Solver.{as_swept, erased_if, has_if, swept_by}
 use Rattle.plsolver.proofs.Seeking.{find-machine, looked}
 
 -- ---- what is left to be erased
@@ -151,3 +152,25 @@ module _ (P : Program) (v : Views) (s : Reached) (c : Cell) (g : ℕ) (at : s.mo
       ∙ ap (λ b. after P v s most left answers (publish (if b then erasures else Declare (indicator all-head) ∷ []) goals s.stack.env.count (local_of s))) absent
       ∙ ap (λ q. after P v s most left answers (publish (Declare q ∷ []) goals s.stack.env.count (local_of s))) (sym named)
       ∙ moved.ends v most left answers
+
+-- ---- the sweep that is carried
+
+pub same-sweep : (c d : Cell) (w u : Sweep) → modes.Find (finds.Sweep c w) ≡ modes.Find (finds.Sweep d u) → (c ≡ d) × (w ≡ u)
+same-sweep c d w u e = (cc, cc)
+
+-- where it has come as far, all stands where it stood
+pub sweep-stays : (P : Program) (s : Reached) (c : Cell) (w x : Sweep) → s.mode ≡ modes.Find (finds.Sweep c w) → as_swept w x → Stays P s (record s { mode = modes.Find (finds.Sweep c x) })
+unfolding machine
+sweep-stays P s c w x at far = record {
+  code = refl;
+  cases = λ v. refl;
+  local = refl;
+  askable = λ may. subst (MayAsk s.stack.env.heap) at may;
+  same = λ may v left answers.
+      let head : Tree = value s.stack.env.heap c in
+      let same : swept (v x.view) s.stack.env.count head x ≡ swept (v w.view) s.stack.env.count head w =
+      ap (λ g. swept (v g) s.stack.env.count head x) far.0
+      ∙ ap₂ (λ r us. us ++ map Erase (names_of (filter (has_head s.stack.env.count head) (to_reach (v w.view) (indicator head) r)))) far.1 far.2 in
+      ap (λ us. record { mode = place_behind s.stack (published us (goals_of s.stack s.stack.goals)); cases = cases_in P v s; run = record { steps = left; answers = answers; local = local_of s } }) same
+      ∙ sym (ap (machine_in P v left answers s) at);
+}

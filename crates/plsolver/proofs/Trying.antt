@@ -1,5 +1,6 @@
 -- Walks that go on: what is left of one stays, or its next clause is visited.
-use Rattle.std.proofs.Common.{◌≡◌, ℕ, ◌+◌, ◌<◌, ◌≤◌, List, [], ◌∷◌, map, drop, Option, Some, None, refl, sym, ap, ap₂, ◌∙◌, subst, arith}
+use Rattle.std.specs.Prelude.{Result as Outcomes, Ok, Err, IfOk, IfNone, IfSome, slice_index_or}
+use Rattle.std.proofs.Common.{zero, suc, length, min, ◌-◌, ◌⊎◌, inl, inr, ◌≡◌, ℕ, ◌+◌, ◌<◌, ◌≤◌, List, [], ◌∷◌, map, drop, Option, Some, None, refl, sym, ap, ap₂, ◌∙◌, subst, arith}
 use Rattle.std.specs.List.{filter_map}
 use Rattle.plterm.specs.Tree.{Tree}
 use Rattle.plcells.specs.Store.{value}
@@ -28,6 +29,9 @@ use Rattle.plstack.specs.declared.frame.Use.{Use}
 use Rattle.plstack.specs.declared.frame.Spot.{Spot}
 use Rattle.plstack.specs.declared.frame.Spot.TheVariants as spots
 use Rattle.plstack.specs.declared.walk.Candidate.{Candidate}
+use Rattle.plstack.specs.declared.walk.Walking.{Walking}
+use Rattle.plstore.specs.declared.query.Query.{Query}
+use Rattle.plsearch.specs.Solving.{Goes}
 use Rattle.plstack.specs.Places.{Database, Views, candidate_of, head_in, left_at, left_if, onward_if, text_candidate, tried}
 use Rattle.plstack.specs.State.{State, cases_of, goals_in, RetriesBy}
 use Rattle.plstack.specs.StaticCalls.{database_of}
@@ -40,7 +44,7 @@ use Rattle.plmachine.specs.Clauses.{mode_by}
 use Rattle.plmachine.specs.Machine.{cases_in, machine, now, MayAsk}
 use Rattle.plmachine.specs.Machine.{Stays as StaysThere}
 use Rattle.plsolver.specs.declared.progress.Progress.{Progress}
-use Rattle.plsolver.specs.Solver.{spot_if, QuietIn, Stays}
+use Rattle.plsolver.specs.Solver.{KeepsRest, like, rest_of, Seeks, SpotAsks, spot_if, QuietIn, Stays, WalksOn}
 use Rattle.plsolver.proofs.Quiets.{carried, quiet-retry-by, to}
 
 -- ---- what is left
@@ -142,3 +146,88 @@ last-ends db s st same ends = (ends.below, sym same ∙ ends.cases, ends.cases)
 -- a clause before others
 pub retries-same : (db : Database) (s mid new : State) (x : Option ClauseName) → cases_of db mid ≡ cases_of db s → RetriesBy db mid new x → RetriesBy db s new x
 retries-same db s mid new x same r = record { others = r.others; older = r.older; was = sym same ∙ r.was; cases = r.cases }
+
+-- ---- spots
+
+pub same-at : (g k : ℕ) (x y : ClauseName) → spots.At g x ≡ spots.At k y → (g ≡ k) × (x ≡ y)
+same-at g k x y e = (cc, cc)
+
+pub same-known : (g k : ℕ) (x y : ClauseName) (a b : Option ClauseName) → spots.Known g x a ≡ spots.Known k y b → (g ≡ k) × (x ≡ y) × (a ≡ b)
+same-known g k x y a b e = (cc, cc, cc)
+
+-- ---- lists and results
+
+pub drop-at : {A : Type 0} (xs : List A) (i : ℕ) (d : A) → i < length xs → drop i xs ≡ slice_index_or xs i d ∷ drop (suc i) xs
+drop-at [] i d lt = absurd (omega (arith, lt))
+drop-at (x ∷ xs) zero d lt = refl
+drop-at (x ∷ xs) (suc i) d lt = drop-at xs i d (omega (arith, lt))
+
+pub drop-none : {A : Type 0} (xs : List A) (i : ℕ) → length xs ≤ i → drop i xs ≡ []
+drop-none [] zero le = refl
+drop-none [] (suc i) le = refl
+drop-none (x ∷ xs) zero le = absurd (omega (arith, le))
+drop-none (x ∷ xs) (suc i) le = drop-none xs i (omega (arith, le))
+
+pub if_none_both : {T E A B C : Type 0} (r : Outcomes (Option T) E) → IfOk r (λ o. IfNone o A) → IfOk r (λ o. IfNone o B) → (A → B → C) → IfOk r (λ o. IfNone o C)
+if_none_both (Ok None) a b f = f a b
+if_none_both (Ok (Some x)) a b f = tt
+if_none_both (Err e) a b f = tt
+
+pub if_none_map : {T E A B : Type 0} (r : Outcomes (Option T) E) → IfOk r (λ o. IfNone o A) → (A → B) → IfOk r (λ o. IfNone o B)
+if_none_map (Ok None) a f = f a
+if_none_map (Ok (Some x)) a f = tt
+if_none_map (Err e) a f = tt
+
+pub if_some_map : {T E : Type 0} {A B : T → Type 0} (r : Outcomes (Option T) E) → IfOk r (λ o. IfSome o A) → ((x : T) → A x → B x) → IfOk r (λ o. IfSome o B)
+if_some_map (Ok None) a f = tt
+if_some_map (Ok (Some x)) a f = f x a
+if_some_map (Err e) a f = tt
+
+-- ---- over the text
+
+-- a walk over a procedure's clauses has come to a number, and what is left of it is what was
+pub record AtText (old new : Progress) (from to : Walking) (k : ℕ) (cs : List Clause) : Type 0 where
+  pub at : AtWalk new.machine.stack to.point to.walk
+  pub text : to.walk.spot ≡ spots.Text k
+  pub uses : to.walk.uses ≡ from.walk.uses
+  pub goal : value new.machine.stack.env.heap to.walk.goal ≡ value old.machine.stack.env.heap from.walk.goal
+  pub cases : (P : Program) (v : Views) → cs ≡ clauses_for P (indicator (head_in from.walk.uses (value old.machine.stack.env.heap from.walk.goal))) → cases_of (database_of P v) new.machine.stack ≡ cases_of (database_of P v) old.machine.stack
+  pub code : new.machine.stack.code ≡ old.machine.stack.code
+  pub frame : new ≡ record old { machine = record old.machine { stack = new.machine.stack } }
+
+-- they are still the procedure's
+pub whole-now : (P : Program) (old new : Progress) (from to : Walking) (k : ℕ) (cs : List Clause) → AtText old new from to k cs →
+    cs ≡ clauses_for P (indicator (head_in from.walk.uses (value old.machine.stack.env.heap from.walk.goal))) → cs ≡ clauses_for P (indicator (head_in to.walk.uses (value new.machine.stack.env.heap to.walk.goal)))
+whole-now P old new from to k cs i whole = whole ∙ ap₂ (λ u t. clauses_for P (indicator (head_in u t))) (sym i.uses) (sym i.goal)
+
+-- the clause at the number is the next candidate, and behind it there is the next number
+pub text-next : (P : Program) (v : Views) (w : Walk) (t : Tree) (k : ℕ) (cs : List Clause) (c : Clause) (next : Candidate) → w.spot ≡ spots.Text k → cs ≡ clauses_for P (indicator (head_in w.uses t)) → drop k cs ≡ c ∷ drop (suc k) cs →
+    next ≡ text_candidate w.uses c → Finds (database_of P v) w t next (Some (spots.Text (k + 1)))
+text-next P v w t k cs c next at whole e is =
+    let one : k + 1 ≡ suc k = omega arith in
+    text-found P v w t k c (drop (suc k) cs) (Some (spots.Text (k + 1))) next at (ap (drop k) (sym whole) ∙ e) is
+    (ap₂ (λ n l. map (text_candidate w.uses) (drop n l)) one (sym whole))
+
+-- ---- what a walk asks
+
+pub walk-asks : (s : Reached) (p : Point) (w : Walk) → AtWalk s.stack p w → s.mode ≡ modes.Back outcomes.Fail →
+    ((g : ℕ) × (x : ClauseName) × (w.spot ≡ spots.At g x)) ⊎ ((g : ℕ) × (x : ClauseName) × (y : Option ClauseName) × (w.spot ≡ spots.Known g x y)) → (g : ℕ) × (q : Query) × (Seeks s g q ⊎ WalksOn s g q)
+walk-asks s p w at fails (inl i) =
+    let t : Tree = value s.stack.env.heap w.goal in
+    let q : Query = like (head_in w.uses t) (After i.1) in
+    (i.0, q, inr (record { point = p; walk = w; at = at; fails = fails; asks = subst (λ (x : Spot). SpotAsks w.uses t x i.0 q) (sym i.2) (refl, refl) }))
+walk-asks s p w at fails (inr i) =
+    let t : Tree = value s.stack.env.heap w.goal in
+    let q : Query = Query.Clause i.1 in
+    (i.0, q, inr (record { point = p; walk = w; at = at; fails = fails; asks = subst (λ (x : Spot). SpotAsks w.uses t x i.0 q) (sym i.3) (refl, refl) }))
+
+-- what is left stays, whatever the limit
+pub keeps-goes : (P : Program) (v : Views) (old new : Progress) → old.used ≤ old.limit → KeepsRest P v old new → Goes old.limit (rest_of P v old) old.used (rest_of P v new) new.used
+unfolding rest_of
+keeps-goes P v old new within k = (
+  omega (arith, k.used),
+  (λ le. omega (arith, k.used, le)),
+  λ n answers le.
+      k.rest (min n old.limit) (min n old.limit - old.used) answers
+      ∙ ap₂ (λ l u. now P v new.machine (min n l) (min n l - u) answers) (sym k.limit) (sym k.used),
+)

@@ -340,6 +340,10 @@ erased_if false x = []
 abbrev pub swept_by : Sweep → ClauseName → Bool → Sweep → Type 0
 swept_by w x has new = (new.view ≡ w.view) × (new.reach ≡ reaches.Behind (Cursor.After x)) × (new.updates.items ≡ w.updates.items ++ erased_if has x)
 
+-- a sweep that has come as far
+abbrev pub as_swept : Sweep → Sweep → Type 0
+as_swept w new = (new.view ≡ w.view) × (new.reach ≡ w.reach) × (new.updates.items ≡ w.updates.items)
+
 -- all clauses of a head are looked through
 abbrev pub Sweeping : Progress → Reach → Type 0
 Sweeping s r = (c : Cell) × (w : Sweep) × (s.machine.mode ≡ modes.Find (finds.Sweep c w)) × (w.reach ≡ r)

@@ -120,7 +120,7 @@ impl Solver {
         ensures places { OnOk result (self.new.places.items ≡ self.old.places.items ++ g ∷ []) }
         ensures of { IsOf program.now self.new.machine }
         ensures limit { self.new.limit ≡ self.old.limit }
-        ensures err { OnErr result (self.new ≡ self.old) }
+        ensures err { OnErr result (Stays program.now self.old self.new) }
     {
         self.progress.refreshed(program, g)
     }

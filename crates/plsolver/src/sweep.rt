@@ -17,7 +17,7 @@ ghost use Rattle.plmachine.specs.declared.machine.Find.TheVariants.{All as AllOf
 ghost use Rattle.plmachine.specs.declared.machine.Mode.TheVariants.{Find as Finds};
 ghost use Rattle.plmachine.specs.declared.machine.Reach.TheVariants.{At as AtOf, Behind as BehindOf};
 ghost use Rattle.plmachine.specs.declared.machine.Sweep.{Sweep as OfSweep};
-ghost use Rattle.plsolver.specs.Solver.{erased_if, has_if, IsOf, KeepsRest, Stays, swept_by};
+ghost use Rattle.plsolver.specs.Solver.{as_swept, erased_if, has_if, IsOf, KeepsRest, Stays, swept_by};
 
 use crate::progress::Progress;
 use plcells::cell::Cell;
@@ -121,7 +121,7 @@ impl Progress {
     /// Whether there is a clause and its head unifies with a head.
     fn has_head(&mut self, head: Cell, clause: &Option<Clause>) -> Result<bool, AllocError>
         requires { IsValue self.old.machine.stack.env.heap head }
-        ensures is { IfOk result (λ has. has ≡ has_if self.old.machine.stack.env.count (value self.old.machine.stack.env.heap head) clause.now) }
+        ensures is { IfOk result (λ has. has ≡ has_if self.new.machine.stack.env.count (value self.new.machine.stack.env.heap head) clause.now) }
         ensures stays { (P : Given) → Stays P self.old self.new }
         ensures frame { self.new ≡ record self.old { machine = record self.old.machine { stack = self.new.machine.stack } } }
     {
@@ -139,7 +139,7 @@ impl Progress {
 fn swept_mode(mode: Mode, name: ClauseName, has: bool) -> (Mode, Result<(), AllocError>)
     requires { (head : Cell) × (w : OfSweep) × (mode ≡ Finds (SweepOf head w)) }
     ensures ok { OnOk result.1 ((head : Cell) (w : OfSweep) → mode ≡ Finds (SweepOf head w) → (x : OfSweep) × (result.0 ≡ Finds (SweepOf head x)) × swept_by w name has x) }
-    ensures err { OnErr result.1 (result.0 ≡ mode) }
+    ensures err { OnErr result.1 ((head : Cell) (w : OfSweep) → mode ≡ Finds (SweepOf head w) → (x : OfSweep) × (result.0 ≡ Finds (SweepOf head x)) × as_swept w x) }
 {
     let Mode::Find(find) = mode else {
         unreachable!()

@@ -1,6 +1,6 @@
 //! Walks over clauses that go on: the next clause is tried, or what it takes to try it is asked.
 
-ghost use Rattle.std.specs.Prelude.{◌≡◌, ℕ, ◌+◌, ◌≤◌, ◌∷◌, [], List, Option, length, IfNone, IfOk, IfSome, OnErr, OnOk};
+ghost use Rattle.std.specs.Prelude.{◌≡◌, ◌↔◌, ℕ, ◌+◌, ◌<◌, ◌≤◌, IsTrue, ◌∷◌, [], List, Option, length, IfNone, IfOk, IfSome, OnErr, OnOk};
 ghost use Rattle.plcells.specs.Store.{value};
 ghost use Rattle.plclause.specs.Indicators.{indicator};
 ghost use Rattle.plevent.specs.declared.update.ClauseName.{ClauseName as Named};
@@ -28,7 +28,7 @@ use plmachine::indicator::indicator_of;
 use plmachine::machine::{Mode, Outcome};
 use plmachine::sought::head_of;
 use plprogram::program::Program;
-use plstack::frame::Spot;
+use plstack::frame::{Spot, Walk};
 use plstack::walk::{Entered, Walking};
 use std::alloc::AllocError;
 
@@ -69,12 +69,11 @@ impl Progress {
         let head = head_of(heap, at.walk.uses, at.walk.goal);
         let p = indicator_of(self.machine.alloc, heap, head)?;
         let clauses = program.clauses_of(&p);
-        match self.first_of_text(clauses, at, number)? {
-            Some(entered) => self.machine.mode = mode_of(entered),
-            None => {
-                self.machine.stack.close();
-            }
-        }
+        let Some(entered) = self.first_of_text(clauses, at, number)? else {
+            self.machine.stack.close();
+            return Ok(());
+        };
+        self.machine.mode = mode_of(entered);
         Ok(())
     }
 
@@ -95,15 +94,16 @@ impl Progress {
     {
         let mut at = at;
         let mut number = number;
-        while number + 1 < clauses.len() {
+        'clauses: while is_before_last(clauses, number) {
             let next = candidate::of_text(self.machine.alloc, at.walk.uses, &clauses[number])?;
             let spot = Spot::Text(number + 1);
             let rest = Some(spot);
+            let behind = at_spot(&at, spot);
             let stack = &mut self.machine.stack;
             if let Some(entered) = stack.try_walk(self.machine.alloc, at, &next, rest)? {
                 return Ok(Some(entered));
             }
-            at.walk.spot = spot;
+            at = behind;
             number += 1;
         }
         self.last_of_text(clauses, at, number)
@@ -180,10 +180,33 @@ impl Progress {
         };
         let alloc = self.machine.alloc;
         let next = candidate::of_name(alloc, at.walk.uses, name, &clause)?;
-        if let Some(entered) = self.machine.stack.try_walk(alloc, at, &next, rest)? {
-            self.machine.mode = mode_of(entered);
-        }
+        let Some(entered) = self.machine.stack.try_walk(alloc, at, &next, rest)? else {
+            return Ok(());
+        };
+        self.machine.mode = mode_of(entered);
         Ok(())
+    }
+}
+
+/// Whether a number is that of a clause, and not of the last one.
+fn is_before_last(clauses: &[Clause], number: usize) -> bool
+    ensures { IsTrue result ↔ (number + 1 < length clauses.now) }
+{
+    number < clauses.len() && clauses.len() - number > 1
+}
+
+/// A walk that stands at another spot.
+fn at_spot(at: &Walking, spot: Spot) -> Walking
+    ensures { result ≡ record at.now { walk = record at.now.walk { spot = spot } } }
+{
+    let walk = Walk {
+        goal: at.walk.goal,
+        uses: at.walk.uses,
+        spot,
+    };
+    Walking {
+        point: at.point,
+        walk,
     }
 }
 
