@@ -303,6 +303,9 @@ stays-back P s st r at code same = record {
   };
 }
 
+pub none_are : {A : Type 0} (b : Bool) → (IsTrue b ↔ A) → b ≡ false → A → ⊥
+none_are b iff is a = grind (arith, is, iff.1 a)
+
 pub both_are : {A B : Type 0} (b : Bool) → (IsTrue b ↔ (A × B)) → b ≡ true → A × B
 both_are b iff is = grind (arith, is, iff.0)
 

@@ -20,7 +20,7 @@ use Rattle.plsearch.specs.Engine.{left, choice, out, outs, Visit}
 use Rattle.plsearch.specs.Machines.Machine.{At, Back, Rest, move, turn, meets}
 use Rattle.plsearch.specs.Machines.Weight.{weight}
 use Rattle.plsearch.specs.Search.{ending_of, next_of}
-use Rattle.plsearch.specs.Solving.{Goes, TakesOne, StandsAt, EndsAt}
+use Rattle.plsearch.specs.Solving.{TakesOne, StandsAt, EndsAt}
 use Rattle.plsearch.proofs.Turns.{Rest-turn}
 use Rattle.plcode.specs.Callees.{IsProgramCode}
 use Rattle.plcode.specs.Steps.{of_two}
@@ -48,23 +48,27 @@ use Rattle.plsolver.specs.declared.progress.Selected.TheVariants as goals
 use Rattle.plsolver.specs.declared.progress.Progress.{Progress}
 use Rattle.plsolver.specs.declared.solver.Turn.TheVariants as turns
 use Rattle.plsolver.specs.Says.{Says}
-use Rattle.plsolver.specs.Solver.{rest_of, IsOf, Stays, Quiet, Selects, IsSelected, IsAsked, WaitsForReply, WaitsForView, Waits, IsReplyTo, ReplyFits, Stepped, after_done, after_reply}
+use Rattle.plsolver.specs.Solver.{GoesTo, rest_of, IsOf, Stays, Quiet, Selects, IsSelected, IsAsked, WaitsForReply, WaitsForView, Waits, IsReplyTo, ReplyFits, Stepped, after_done, after_reply}
 
 -- ---- going on
 
-pub goes_on : (limit limit' : ℕ) (a b c : Search) (x y z : ℕ) → limit' ≡ limit → Goes limit a x b y → Goes limit' b y c z → Goes limit a x c z
-goes_on limit limit' a b c x y z same f g = (
-  omega (arith, f.0, g.0),
-  (λ le. omega (arith, same, g.1 (omega (arith, same, f.1 le)))),
-  (λ n answers le. f.2 n answers (omega (arith, g.0, le)) ∙ g.2 n answers le),
-)
+pub goes_on : (P : Program) (a b c : Progress) → b.limit ≡ a.limit → GoesTo P a b → GoesTo P b c → GoesTo P a c
+unfolding GoesTo
+goes_on P a b c same f g v =
+    let f = f v in
+    let g = g v in (
+      omega (arith, f.0, g.0),
+      (λ le. omega (arith, same, g.1 (omega (arith, same, f.1 le)))),
+      (λ n answers le. f.2 n answers (omega (arith, g.0, le)) ∙ g.2 n answers le),
+    )
 
-pub goes_nowhere : (limit : ℕ) (a : Search) (x : ℕ) → Goes limit a x a x
-goes_nowhere limit a x = (le_refl _, (λ le. le), λ n answers le. refl)
+pub goes_nowhere : (P : Program) (a : Progress) → GoesTo P a a
+unfolding GoesTo
+goes_nowhere P a v = (le_refl _, (λ le. le), λ n answers le. refl)
 
-pub stays_goes : (P : Program) (v : Views) (s new : Progress) → IsOf P s.machine → Stays P s new → Goes s.limit (rest_of P v s) s.used (rest_of P v new) new.used
-unfolding rest_of
-stays_goes P v s new of t = (
+pub stays_goes : (P : Program) (s new : Progress) → IsOf P s.machine → Stays P s new → GoesTo P s new
+unfolding rest_of GoesTo
+stays_goes P s new of t v = (
   omega (arith, t.used),
   (λ le. omega (arith, t.used, le)),
   λ n answers le.
@@ -75,9 +79,9 @@ stays_goes P v s new of t = (
 pub stays_of : (P : Program) (s new : Progress) → IsOf P s.machine → Stays P s new → IsOf P new.machine
 stays_of P s new of t = record { begun = subst (IsProgramCode P) (sym t.there.code) of.begun; askable = t.there.askable of.askable }
 
-pub quiet_goes : (P : Program) (v : Views) (s new : Progress) → s.used ≤ s.limit → Quiet P s new → Goes s.limit (rest_of P v s) s.used (rest_of P v new) new.used
-unfolding rest_of
-quiet_goes P v s new within quiet =
+pub quiet_goes : (P : Program) (s new : Progress) → s.used ≤ s.limit → Quiet P s new → GoesTo P s new
+unfolding rest_of GoesTo
+quiet_goes P s new within quiet v =
     let q = quiet v in (
       omega (arith, q.used),
       (λ le. omega (arith, q.used, le)),
@@ -121,7 +125,7 @@ due-turn P v s k t rest at goals left answers =
 
 pub steps : (P : Program) (s new : Progress) (k : ℕ) (t : Tree) (rest : List Element) → s.machine.mode ≡ modes.Visit → goals_of s.machine.stack s.machine.stack.goals ≡ Goal k t ∷ rest → s.used + 1 ≤ s.limit →
     Selects P s.machine new.machine → new.used ≡ s.used + 1 → new.limit ≡ s.limit → new.places ≡ s.places → Stepped P s new
-unfolding rest_of
+unfolding rest_of GoesTo
 steps P s new k t rest at goals some did used limit places = record {
   used = used;
   limit = limit;
@@ -144,7 +148,7 @@ steps P s new k t rest at goals some did used limit places = record {
 -- a step, and then no more than it gave back
 pub steps_on : (P : Program) (s t new : Progress) → IsOf P t.machine → Stepped P s t → Stays P t new → Stepped P s new
 steps_on P s t new of a b = record {
-  goes = λ v. goes_on s.limit t.limit (rest_of P v s) (rest_of P v t) (rest_of P v new) s.used t.used new.used a.limit (a.goes v) (stays_goes P v t new of b);
+  goes = goes_on P s t new a.limit a.goes (stays_goes P t new of b);
   used = b.used ∙ a.used;
   limit = b.limit ∙ a.limit;
   places = b.places ∙ a.places;

@@ -80,6 +80,10 @@ pub record IsOf (P : Program) (s : Reached) : Type 0 where
   pub begun : IsBegun P s
   pub askable : MayAsk s.stack.env.heap s.mode
 
+-- what is left of its search stays, where any views are, whatever the limit of steps and the answers to come
+unfoldable pub GoesTo : Program → Progress → Progress → Type 0
+GoesTo P old new = (v : Views) → Goes old.limit (rest_of P v old) old.used (rest_of P v new) new.used
+
 -- it stands where it stood
 pub record Stays (P : Program) (old new : Progress) : Type 0 where
   pub used : new.used ≡ old.used
@@ -216,7 +220,7 @@ Selects P old new = (k : ℕ) (t : Tree) (rest : List Element) → goals_of old.
 
 -- a step was taken
 pub record Stepped (P : Program) (old new : Progress) : Type 0 where
-  pub goes : (v : Views) → Goes old.limit (rest_of P v old) old.used (rest_of P v new) new.used
+  pub goes : GoesTo P old new
   pub used : new.used ≡ old.used + 1
   pub limit : new.limit ≡ old.limit
   pub places : new.places.items ≡ old.places.items

@@ -4,8 +4,8 @@ ghost use Rattle.std.specs.Prelude.{◌≡◌, ◌+◌, ◌≤◌, [], IfOk, OnO
 ghost use Rattle.plprogram.specs.Program.{Program as Given};
 ghost use Rattle.plstack.specs.Places.{Views};
 ghost use Rattle.plsearch.specs.Search.{search_of};
-ghost use Rattle.plsearch.specs.Solving.{Begins, Goes};
-ghost use Rattle.plsolver.specs.Solver.{IsOf, IsSelected, Selects, Stays, Stepped, rest_of, Settled};
+ghost use Rattle.plsearch.specs.Solving.{Begins};
+ghost use Rattle.plsolver.specs.Solver.{GoesTo, IsOf, IsSelected, Selects, Stays, Stepped, rest_of, Settled};
 ghost use Rattle.plsolver.specs.Says.{Says, IsSlice};
 
 use crate::solver::Turn;
@@ -79,7 +79,7 @@ impl Progress {
     pub fn advance(&mut self, program: &Program, fuel: u64) -> Result<Turn, AllocError>
         requires within { self.old.used ≤ self.old.limit }
         requires of { IsOf program.now self.old.machine }
-        ensures goes { (v : Views) → Goes self.old.limit (rest_of program.now v self.old) self.old.used (rest_of program.now v self.new) self.new.used }
+        ensures goes { GoesTo program.now self.old self.new }
         ensures of { IsOf program.now self.new.machine }
         ensures limit { self.new.limit ≡ self.old.limit }
         ensures places { self.new.places.items ≡ self.old.places.items }
@@ -154,7 +154,7 @@ impl Progress {
     fn settle(&mut self, program: &Program) -> Result<Due, AllocError>
         requires within { self.old.used ≤ self.old.limit }
         requires of { IsOf program.now self.old.machine }
-        ensures goes { (v : Views) → Goes self.old.limit (rest_of program.now v self.old) self.old.used (rest_of program.now v self.new) self.new.used }
+        ensures goes { GoesTo program.now self.old self.new }
         ensures of { IsOf program.now self.new.machine }
         ensures used { self.new.used ≡ self.old.used }
         ensures limit { self.new.limit ≡ self.old.limit }

@@ -7,7 +7,7 @@ ghost use Rattle.plstore.specs.Rising.{Ordered};
 ghost use Rattle.plstack.specs.Places.{Views};
 ghost use Rattle.plsearch.specs.Search.{search_of};
 ghost use Rattle.plsearch.specs.Solving.{Begins, Goes, TakesOne};
-ghost use Rattle.plsolver.specs.Solver.{Fetches, IsFoundFor, IsOf, Stays, rest_of, WaitsForView, ReplyFits};
+ghost use Rattle.plsolver.specs.Solver.{Fetches, GoesTo, IsFoundFor, IsOf, Stays, rest_of, WaitsForView, ReplyFits};
 ghost use Rattle.plsolver.specs.Says.{Says, IsSlice};
 
 use crate::progress::Progress;
@@ -87,7 +87,7 @@ impl Solver {
     pub fn advance(&mut self, program: &Program, fuel: u64) -> Result<Turn, AllocError>
         requires of { IsOf program.now self.old.machine }
         requires within { self.old.used ≤ self.old.limit }
-        ensures goes { (v : Views) → Goes self.old.limit (rest_of program.now v self.old) self.old.used (rest_of program.now v self.new) self.new.used }
+        ensures goes { GoesTo program.now self.old self.new }
         ensures of { IsOf program.now self.new.machine }
         ensures limit { self.new.limit ≡ self.old.limit }
         ensures places { self.new.places.items ≡ self.old.places.items }

@@ -24,7 +24,7 @@ pub try_walk-requires : goal.try_walk-requires
 try_walk-requires c = record { at = c.clauses.invariant.at }
 
 pub returns-in_err-entered-clause-err : goal.returns-in_err-entered-clause-err
-returns-in_err-entered-clause-err c = on_err _ (λ P v whole. c.in_err-entered.ensures.err (database_of P v) ∙ c.clauses.invariant.cases P v whole)
+returns-in_err-entered-clause-err c = on_err c.from_residual-in_err-entered.result (λ P v whole. c.in_err-entered.ensures.err (database_of P v) ∙ c.clauses.invariant.cases P v whole)
 
 pub returns-in_err-entered-clause-code : goal.returns-in_err-entered-clause-code
 returns-in_err-entered-clause-code c = c.try_walk.ensures.code ∙ c.clauses.invariant.code
