@@ -1,4 +1,4 @@
-use Rattle.std.proofs.Common.{◌≡◌, ap, sym, subst, ◌∙◌, arith}
+use Rattle.std.proofs.Common.{◌≡◌, ◌≤◌, List, length, ap, sym, subst, ◌∙◌, arith}
 use Rattle.plevent.specs.Alive.{Stamped, before}
 use Rattle.plevent.specs.Reading.{reading}
 use Rattle.plsearch.specs.Search.{search_of}
@@ -16,12 +16,9 @@ found-for us (Query.NextLike p k c) = tt
 found-for us (Query.Clause x) = tt
 found-for us (Query.Exists p) = tt
 
-pub view-requires : goal.view-requires
-view-requires c = (c.requires.fetches.0, (c.args.query.now, c.requires.fetches.1))
-
 pub fetched-requires-clause-fits : goal.fetched-requires-clause-fits
 fetched-requires-clause-fits c =
-    (c.requires.fetches.0, (c.args.query.now, (c.requires.fetches.1, subst (IsFoundFor c.args.query.now) (sym c.in_ok-found.ensures) (found-for (before c.view-view.result (reading c.args.world.now.journal).updates) c.args.query.now))))
+    (c.requires.fetches.0, c.args.query.now, c.requires.fetches.1, subst (IsFoundFor c.args.query.now) (sym c.in_ok-found.ensures) (found-for (before c.view-view.result (reading c.args.world.now.journal).updates) c.args.query.now))
 
 pub fetched-requires-clause-within : goal.fetched-requires-clause-within
 fetched-requires-clause-within c =
@@ -38,7 +35,7 @@ returns-clause-runs c =
     let q = c.args.query.now in
     let g = c.requires.fetches.0 in
     let at : c.view-view.result ≡ g = c.view-view.ensures g q c.requires.fetches.1 in
-    let within : g ≤ length h = omega (arith, at, c.if-front.false, c.front.ensures) in
+    let within : g ≤ length h = omega (arith, at, c.if-front-view.false, c.front.ensures) in
     record {
       of = c.fetched.ensures.of;
       started = started-gone P old.limit new.limit (λ v. rest_of P v old) (λ v. rest_of P v new) old.used new.used h c.args.running.now.thread old.places.items new.places.items c.requires.runs.started

@@ -1,7 +1,7 @@
 use Rattle.plevent.specs.Search.{View, Ask}
 use Rattle.plsearch.specs.Search.{search_of}
 use Rattle.plsolver.specs.Says.{Says}
-use Rattle.plsolver.specs.Solver.{rest_of}
+use Rattle.plsolver.specs.Solver.{GoesTo, rest_of}
 use Rattle.plrun.proofs.Serve.{started-gone, still-runs, used-within}
 use Rattle.plrun.proofs.thread.turn.Goals as goal
 
@@ -12,6 +12,7 @@ advance-requires-clause-within c =
     used-within P.first (search_of P s.limit) s.limit (λ v. rest_of P v s) s.used c.args.world.now.journal c.args.running.now.thread s.places.items c.requires.started
 
 pub returns-in-Slice-clause-runs : goal.returns-in-Slice-clause-runs
+unfolding GoesTo
 returns-in-Slice-clause-runs c =
     let P = c.args.program.now in
     let old = c.args.running.now.solver in
@@ -22,6 +23,7 @@ returns-in-Slice-clause-runs c =
     }
 
 pub returns-in-Ended-clause-runs : goal.returns-in-Ended-clause-runs
+unfolding GoesTo
 returns-in-Ended-clause-runs c =
     let P = c.args.program.now in
     let old = c.args.running.now.solver in
@@ -32,7 +34,7 @@ returns-in-Ended-clause-runs c =
     }
 
 pub look-requires-clause-runs : goal.look-requires-clause-runs
-unfolding Says
+unfolding Says GoesTo
 look-requires-clause-runs c =
     let P = c.args.program.now in
     let old = c.args.running.now.solver in
@@ -47,7 +49,7 @@ look-requires-clause-runs c =
     }
 
 pub serve-requires-clause-runs : goal.serve-requires-clause-runs
-unfolding Says
+unfolding Says GoesTo
 serve-requires-clause-runs c =
     let P = c.args.program.now in
     let old = c.args.running.now.solver in
@@ -62,6 +64,7 @@ serve-requires-clause-runs c =
     }
 
 pub fetch-requires-clause-runs : goal.fetch-requires-clause-runs
+unfolding GoesTo
 fetch-requires-clause-runs c =
     let P = c.args.program.now in
     let old = c.args.running.now.solver in
