@@ -1,71 +1,83 @@
 -- What a call of a static procedure makes of a machine.
-use Rattle.std.proofs.Common.{◌≡◌, ℕ, List, [], ◌∷◌, sym, ap, ap₂, ◌∙◌, subst}
+use Rattle.std.proofs.Common.{◌≡◌, ℕ, List, [], ◌∷◌, refl, sym, ap, ap₂, ◌∙◌, subst}
 use Rattle.plterm.specs.Tree.{Tree}
 use Rattle.plterm.specs.declared.indicator.Indicator.{Indicator}
 use Rattle.plprogram.specs.Program.{Program, clauses_for}
 use Rattle.plsearch.specs.Types.{Place, Choice}
 use Rattle.plsearch.specs.Rows.{call, choose}
+use Rattle.plsearch.specs.Engine.{deeper}
 use Rattle.plsearch.specs.Machines.Machine.{At}
 use Rattle.pllinks.specs.declared.link.Continuation.{Continuation}
 use Rattle.plstack.specs.State.{State, goals_of, place_of, cases_of}
-use Rattle.plstack.specs.Places.{called}
+use Rattle.plstack.specs.Places.{Views, called, places_left}
 use Rattle.plstack.specs.Calls.{Calls, CallsNone, StaysAt}
-use Rattle.plstack.specs.StaticCalls.{statics_of}
+use Rattle.plstack.specs.StaticCalls.{statics_of, database_of}
 use Rattle.plstack.proofs.Program.{static-clauses, static-name}
+use Rattle.plstack.proofs.Stacks.{depth-in}
 use Rattle.plmachine.specs.declared.machine.Outcome.TheVariants as outcomes
 use Rattle.plmachine.specs.declared.machine.Mode.TheVariants as modes
 use Rattle.plmachine.specs.declared.machine.Machine.{Machine as Reached}
-use Rattle.plmachine.specs.Machine.{cases_in, depth_of, local_of, machine, mode_of, Moved, Stays}
+use Rattle.plmachine.specs.Machine.{IsPlain, after, cases_in, depth_of, local_of, machine, mode_of, Moved, Stays}
 use Rattle.plmachine.specs.Selected.{IsStaticCall}
-use Rattle.plmachine.proofs.Moves.{gives, goes-to, machine-is, moved-as, visit-asks}
+use Rattle.plmachine.proofs.Moves.{gives, goes-at, machine-is, moved-as, visit-asks}
 
 -- the first of some places is visited, in a choice of the others
-pub chooses : (P : Program) (s new : Reached) (st : State) (ps others : List Place) → s.mode ≡ modes.Visit → st.code ≡ s.stack.code → new ≡ record s { stack = st } →
-    ps ≡ place_of st ∷ others → cases_of (statics_of P) st ≡ Choice others ∷ cases_of (statics_of P) s.stack → Moved P s new (choose ps (local_of s))
-chooses P s new st ps others at code made places cases =
+pub chooses : (P : Program) (s new : Reached) (st : State) (ps : List Place) → s.mode ≡ modes.Visit → st.code ≡ s.stack.code → new ≡ record s { stack = st } →
+    ((v : Views) → (others : List Place) × (ps ≡ place_of st ∷ others) × (cases_of (database_of P v) st ≡ Choice others ∷ cases_of (database_of P v) s.stack)) → Moved P s new (choose ps (local_of s))
+chooses P s new st ps at code made chosen =
     let visits : new.mode ≡ modes.Visit = ap (λ x. x.mode) made ∙ at in
-    subst (λ qs. Moved P s new (choose qs (local_of s))) (sym places)
-    (goes-to P s new (Choice others ∷ []) (place_of st) (local_of s) (ap (λ x. x.stack.code) made ∙ code) (visit-asks new visits)
-    (ap (λ m. mode_of m new.stack) visits ∙ ap (λ x. At (place_of x.stack)) made)
-    (ap (λ x. cases_in P x) made ∙ cases) (ap (λ x. local_of x) made))
+    record {
+      code = ap (λ x. x.stack.code) made ∙ code;
+      askable = visit-asks new visits;
+      ends = λ v most left answers.
+          let c = chosen v in
+          ap (λ qs. after P v s most left answers (choose qs (local_of s))) c.1
+          ∙ goes-at P v s new (Choice c.0 ∷ []) (place_of st) (local_of s) (subst IsPlain (sym visits) tt) (ap (λ m. mode_of m new.stack) visits ∙ ap (λ x. At (place_of x.stack)) made) (ap (λ x. cases_in P v x) made ∙ c.2) (ap (λ x. local_of x) made) most left answers;
+    }
 
 -- there is none
 pub chooses-none : (P : Program) (s new : Reached) (st : State) (ps : List Place) → st.code ≡ s.stack.code → new ≡ record s { stack = st; mode = modes.Back outcomes.Fail } →
-    ps ≡ [] → cases_of (statics_of P) st ≡ cases_of (statics_of P) s.stack → Moved P s new (choose ps (local_of s))
+    ps ≡ [] → ((v : Views) → cases_of (database_of P v) st ≡ cases_of (database_of P v) s.stack) → Moved P s new (choose ps (local_of s))
 chooses-none P s new st ps code made none cases =
     subst (λ qs. Moved P s new (choose qs (local_of s))) (sym none)
-    (gives P s new outcomes.Fail (local_of s) (ap (λ x. x.stack.code) made ∙ code) (ap (λ x. x.mode) made) (ap (λ x. cases_in P x) made ∙ cases) (ap (λ x. local_of x) made))
+    (gives P s new outcomes.Fail (local_of s) (ap (λ x. x.stack.code) made ∙ code) (ap (λ x. x.mode) made) (λ v. ap (λ x. cases_in P v x) made ∙ cases v) (ap (λ x. local_of x) made))
 
 module _ (P : Program) (s : Reached) (st : State) (p : Indicator) (t : Tree) (i : ℕ) (rest : Continuation) (is : IsStaticCall P s p i t) (code : st.code ≡ s.stack.code) where
   goal-is : called s.stack.env.heap (statics_of P i).name s.args.items ≡ t
   goal-is = ap (λ n. called s.stack.env.heap n s.args.items) (static-name _ _ P p i is.static) ∙ is.goal
 
   -- the call of the procedure at the place is that of the clauses for p
-  same-call : call (depth_of P s) s.stack.env.count (called s.stack.env.heap (statics_of P i).name s.args.items) (goals_of s.stack rest) (statics_of P i).clauses (local_of s)
-      ≡ call (depth_of P s) s.stack.env.count t (goals_of s.stack rest) (clauses_for P p) (local_of s)
-  same-call = ap₂ (λ u cs. call (depth_of P s) s.stack.env.count u (goals_of s.stack rest) cs (local_of s)) goal-is (static-clauses _ _ P p i is.static)
+  same-call : call (depth_of s) s.stack.env.count (called s.stack.env.heap (statics_of P i).name s.args.items) (goals_of s.stack rest) (statics_of P i).clauses (local_of s)
+      ≡ call (depth_of s) s.stack.env.count t (goals_of s.stack rest) (clauses_for P p) (local_of s)
+  same-call = ap₂ (λ u cs. call (depth_of s) s.stack.env.count u (goals_of s.stack rest) cs (local_of s)) goal-is (static-clauses _ _ P p i is.static)
 
-  pub calls : (new : Reached) → s.mode ≡ modes.Visit → new ≡ record s { stack = st } → Calls (statics_of P) s.stack st (called s.stack.env.heap (statics_of P i).name s.args.items) rest (statics_of P i).clauses →
-      Moved P s new (call (depth_of P s) s.stack.env.count t (goals_of s.stack rest) (clauses_for P p) (local_of s))
-  calls new at made c = moved-as P s new _ _ same-call (chooses P s new st _ c.others at code made c.places c.cases)
+  -- the level of a new case, whatever the views are
+  level-is : (v : Views) → places_left (deeper (cases_of (database_of P v) s.stack) 0) s.stack.env (called s.stack.env.heap (statics_of P i).name s.args.items) (goals_of s.stack rest) (statics_of P i).clauses
+      ≡ places_left (depth_of s) s.stack.env (called s.stack.env.heap (statics_of P i).name s.args.items) (goals_of s.stack rest) (statics_of P i).clauses
+  level-is v = ap (λ d. places_left d s.stack.env (called s.stack.env.heap (statics_of P i).name s.args.items) (goals_of s.stack rest) (statics_of P i).clauses) (depth-in (database_of P v) s.stack)
 
-  pub calls-none : (new : Reached) → new ≡ record s { stack = st; mode = modes.Back outcomes.Fail } → CallsNone (statics_of P) s.stack st (called s.stack.env.heap (statics_of P i).name s.args.items) rest (statics_of P i).clauses →
-      Moved P s new (call (depth_of P s) s.stack.env.count t (goals_of s.stack rest) (clauses_for P p) (local_of s))
-  calls-none new made c = moved-as P s new _ _ same-call (chooses-none P s new st _ code made c.none c.cases)
+  pub calls : (new : Reached) → s.mode ≡ modes.Visit → new ≡ record s { stack = st } → ((v : Views) → Calls (database_of P v) s.stack st (called s.stack.env.heap (statics_of P i).name s.args.items) rest (statics_of P i).clauses) →
+      Moved P s new (call (depth_of s) s.stack.env.count t (goals_of s.stack rest) (clauses_for P p) (local_of s))
+  calls new at made c = moved-as P s new _ _ same-call (chooses P s new st _ at code made (λ v. ((c v).others, sym (level-is v) ∙ (c v).places, (c v).cases)))
+
+  pub calls-none : (new : Reached) → new ≡ record s { stack = st; mode = modes.Back outcomes.Fail } → ((v : Views) → CallsNone (database_of P v) s.stack st (called s.stack.env.heap (statics_of P i).name s.args.items) rest (statics_of P i).clauses) → Views →
+      Moved P s new (call (depth_of s) s.stack.env.count t (goals_of s.stack rest) (clauses_for P p) (local_of s))
+  calls-none new made c v = moved-as P s new _ _ same-call (chooses-none P s new st _ code made (sym (level-is v) ∙ (c v).none) (λ u. (c u).cases))
 
 -- memory gave out
 pub stays-at : (P : Program) (s new : Reached) (st : State) → s.mode ≡ modes.Visit → st.code ≡ s.stack.code → new ≡ record s { stack = st } → StaysAt s.stack st → Stays P s new
 unfolding machine
 stays-at P s new st at code made stays =
     let visits : new.mode ≡ modes.Visit = ap (λ x. x.mode) made ∙ at in
-    let cases = ap (λ x. cases_in P x) made ∙ stays.cases (statics_of P) in
+    let cases : (v : Views) → cases_in P v new ≡ cases_in P v s = λ v. ap (λ x. cases_in P v x) made ∙ stays.cases (database_of P v) in
     let local = ap (λ x. local_of x) made in
     record {
       code = ap (λ x. x.stack.code) made ∙ code;
       cases = cases;
       local = local;
       askable = λ may. visit-asks new visits;
-      same = λ may left answers.
-          machine-is P new (mode_of s.mode s.stack) (cases_in P s) (local_of s)
-          (ap (λ m. mode_of m new.stack) visits ∙ ap (λ x. At (place_of x.stack)) made ∙ ap At stays.place ∙ ap (λ m. mode_of m s.stack) (sym at)) cases local left answers;
+      same = λ may v left answers.
+          machine-is P v new (mode_of modes.Visit s.stack) (cases_in P v s) (local_of s) (subst IsPlain (sym visits) tt)
+          (ap (λ m. mode_of m new.stack) visits ∙ ap (λ x. At (place_of x.stack)) made ∙ ap At stays.place) (cases v) local left answers
+          ∙ sym (machine-is P v s (mode_of modes.Visit s.stack) (cases_in P v s) (local_of s) (subst IsPlain (sym at) tt) (ap (λ m. mode_of m s.stack) at) refl refl left answers);
     }

@@ -1,43 +1,43 @@
 -- The predicates on clauses.
-use Rattle.std.proofs.Common.{◌≡◌, ℕ, ◌+◌, List, [], ◌∷◌, ◌++◌, length, get_or, map, filter, take, Option, Some, None, option_map, refl, sym, ap, ap₂, ◌∙◌, subst, arith, suc, ◌<◌}
-use Rattle.std.specs.Option.{is_some}
+use Rattle.std.proofs.Common.{◌≡◌, ℕ, ◌+◌, List, [], ◌∷◌, length, map, Option, Some, None, option_map, refl, sym, ap, ap₂, ◌∙◌, arith}
 use Rattle.std.specs.List.{filter_map, cons_option}
-use Rattle.std.proofs.Math.Seq.{take-suc}
-use Rattle.std.proofs.lemmas.List.{map-append}
-use Rattle.std.proofs.lemmas.List.Elements.{filter-append}
-use Rattle.plterm.specs.Tree.{Tree, var, int, atom, compound}
+use Rattle.plterm.specs.Tree.{Tree}
 use Rattle.plterm.specs.declared.indicator.Indicator.{Indicator}
-use Rattle.plsubst.specs.Subst.{bind, shift}
+use Rattle.plsubst.specs.Subst.{shift}
 use Rattle.plsubst.specs.Unify.{unify}
 use Rattle.plclause.specs.Clause.{Clause}
 use Rattle.plevent.specs.declared.update.ClauseName.{ClauseName}
 use Rattle.plevent.specs.declared.update.Living.{Living}
 use Rattle.plevent.specs.declared.update.Update.{Update}
 use Rattle.plevent.specs.declared.request.Request.TheVariants.{EraseOne}
-use Rattle.plevent.specs.declared.update.Update.TheVariants.{Erase}
-use Rattle.plevent.specs.Alive.{clauses_of, names_of}
+use Rattle.plevent.specs.Alive.{clauses_of}
 use Rattle.plprogram.specs.Program.{Program}
-use Rattle.plsearch.specs.Types.{Choice, Element, Asking, Await, GoesOn, Place, Local, Move}
-use Rattle.plsearch.specs.Machines.Machine.{At}
+use Rattle.plsearch.specs.Types.{Fail, Case, Choice, Element, Asking, Await, GoesOn, Place, Local, Move, Run}
+use Rattle.plsearch.specs.Machines.Machine.{At, Back, Rest, move, turn}
 use Rattle.plsearch.specs.Lists.{bind_goals}
-use Rattle.plsearch.specs.Rows.{resolve, before_rest, is_true, as_fact, call, choose, raised, retrieve, retrieving, unless, publish, go_on}
-use Rattle.plsearch.specs.Replies.{has_head, retract}
-use Rattle.plcells.specs.declared.cell.Cell.{Cell}
-use Rattle.plcells.specs.Store.{Store, IsValue, value}
+use Rattle.plsearch.specs.Rows.{resolve, as_fact, choose, raised, retrieve, retrieving, unless, publish, go_on}
+use Rattle.plsearch.specs.Replies.{retract}
+use Rattle.plsearch.specs.Search.{ending_of}
+use Rattle.plsearch.proofs.Turns.{Rest-turn}
+use Rattle.plcells.specs.Store.{Store, value}
 use Rattle.plenv.specs.Env.{Env}
 use Rattle.pllinks.specs.declared.link.Continuation.{Continuation}
-use Rattle.plstack.specs.declared.frame.Candidate.{Candidate}
-use Rattle.plstack.specs.Places.{place_asked, tried, candidates_left}
-use Rattle.plstack.specs.Calls.{CallsBy, CallsByNone, KeepsValues, StaysAt}
-use Rattle.plstack.specs.State.{State, goals_of, place_of}
-use Rattle.plstack.specs.StaticCalls.{statics_of}
+use Rattle.plstack.specs.declared.frame.Use.{Use}
+use Rattle.plstack.specs.declared.frame.Use.TheVariants as uses
+use Rattle.plstack.specs.declared.frame.Spot.{Spot}
+use Rattle.plstack.specs.declared.frame.Walk.{Walk}
+use Rattle.plstack.specs.Places.{Views, candidate_of, candidates_left, clause_by, left_at, place_asked, text_candidate, tried}
+use Rattle.plstack.specs.State.{State, IsList, goals_of, place_of}
+use Rattle.plstack.specs.StaticCalls.{database_of}
+use Rattle.plstack.specs.Walks.{OpensWalk}
+use Rattle.plstack.proofs.Stacks.{depth-in}
 use Rattle.plmachine.specs.declared.machine.Outcome.TheVariants as outcomes
 use Rattle.plmachine.specs.declared.machine.Mode.TheVariants as modes
 use Rattle.plmachine.specs.declared.machine.Machine.{Machine as Reached}
-use Rattle.plmachine.specs.Machine.{depth_of, local_of, mode_of, MayAsk, Moved, Stays}
+use Rattle.plmachine.specs.Machine.{after, cases_in, depth_of, local_of, mode_of, IsPlain, MayAsk, Moved}
 use Rattle.plmachine.specs.Lists.{Grown}
-use Rattle.plmachine.specs.Clauses.{mode_by, unerased, erased}
-use Rattle.plmachine.proofs.Moves.{goes-to, gives, stays-by}
+use Rattle.plmachine.specs.Clauses.{mode_by, Walks}
+use Rattle.plmachine.proofs.Moves.{back-asks, grown-depth, grown-stays, machine-is}
 
 -- an error, if there is one
 pub unless-some : (o : Option Tree) (e : Tree) (p : Indicator) (rest : List Element) (w : Local) (m : Move) → o ≡ Some e → raised e p rest w ≡ unless o p rest w m
@@ -57,45 +57,86 @@ pub may-by : (h : Store) (x : Option ClauseName) → MayAsk h (mode_by x)
 may-by h None = tt
 may-by h (Some x) = tt
 
+pub plain-by : (x : Option ClauseName) → IsPlain (mode_by x)
+plain-by None = tt
+plain-by (Some x) = tt
+
 pub at-by : (st : State) (x : Option ClauseName) → mode_of (mode_by x) st ≡ At (place_asked x (place_of st))
 at-by st None = refl
 at-by st (Some x) = refl
 
--- a goal that has a place among candidates
-pub called-by : (P : Program) (s : Reached) (st : State) (goal : Cell) (rest : Continuation) (xs : List Candidate) (x : Option ClauseName) → st.code ≡ s.stack.code →
-    CallsBy (statics_of P) s.stack st (value s.stack.env.heap goal) rest xs x →
-    Moved P s (record s { stack = st; mode = mode_by x }) (choose (candidates_left (depth_of P s) s.stack.env (value s.stack.env.heap goal) (goals_of s.stack rest) xs) (local_of s))
-called-by P s st goal rest xs x code c =
-    subst (λ ps. Moved P s (record s { stack = st; mode = mode_by x }) (choose ps (local_of s))) (sym c.places)
-    (goes-to P s (record s { stack = st; mode = mode_by x }) (Choice c.others ∷ []) (place_asked x (place_of st)) (local_of s) code (may-by st.env.heap x) (at-by st x) c.cases refl)
+-- ---- walks
 
--- one that has none fails
-pub uncalled-by : (P : Program) (s : Reached) (st : State) (goal : Cell) (rest : Continuation) (xs : List Candidate) → st.code ≡ s.stack.code →
-    CallsByNone (statics_of P) s.stack st (value s.stack.env.heap goal) rest xs →
-    Moved P s (record s { stack = st; mode = modes.Back outcomes.Fail }) (choose (candidates_left (depth_of P s) s.stack.env (value s.stack.env.heap goal) (goals_of s.stack rest) xs) (local_of s))
-uncalled-by P s st goal rest xs code c =
-    subst (λ ps. Moved P s (record s { stack = st; mode = modes.Back outcomes.Fail }) (choose ps (local_of s))) (sym c.none)
-    (gives P s (record s { stack = st; mode = modes.Back outcomes.Fail }) outcomes.Fail (local_of s) code refl c.cases refl)
+-- a walk of which no clause was tried is the choice of its places
+pub walks-rest : (P : Program) (cs : List Case) (ps : List Place) (run : Run) → Rest P (move cs run (choose ps run.local)) ≡ Rest P (record { mode = Back Fail; cases = Choice ps ∷ cs; run = run })
+unfolding turn
+walks-rest P cs [] run = sym (Rest-turn P (record { mode = Back Fail; cases = Choice [] ∷ cs; run = run }))
+walks-rest P cs (p ∷ ps) run = sym (Rest-turn P (record { mode = Back Fail; cases = Choice (p ∷ ps) ∷ cs; run = run }))
 
--- one that was refused memory
-pub refused-by : (P : Program) (s : Reached) (st : State) → st.code ≡ s.stack.code → StaysAt s.stack st → KeepsValues s.stack st → Stays P s (record s { stack = st })
-refused-by P s st code at keeps = stays-by P s (record s { stack = st }) code refl keeps.values at.place (at.cases (statics_of P)) refl
+pub walks : (P : Program) (s : Reached) (st : State) (w : Walk) (rest : Continuation) → OpensWalk s.stack st w rest →
+    Walks P s (record s { stack = st; mode = modes.Back outcomes.Fail }) (value s.stack.env.heap w.goal) w.uses w.spot (goals_of s.stack rest)
+walks P s st w rest o = record {
+  code = o.code;
+  frame = refl;
+  ends = λ v most left answers.
+      let t = value s.stack.env.heap w.goal in
+      let ps : ℕ → List Place = λ d. candidates_left d s.stack.env t (goals_of s.stack rest) (left_at (database_of P v) w.uses t w.spot) in
+      let run : Run = record { steps = left; answers = answers; local = local_of s } in
+      ap (ending_of most) (walks-rest P (cases_in P v s) (ps (depth_of s)) run)
+      ∙ ap (λ d. ending_of most (Rest P (record { mode = Back Fail; cases = Choice (ps d) ∷ cases_in P v s; run = run }))) (sym (depth-in (database_of P v) s.stack))
+      ∙ ap (λ m. ending_of most (Rest P m)) (sym (machine-is P v (record s { stack = st; mode = modes.Back outcomes.Fail }) (Back Fail) _ (local_of s) tt refl (o.cases (database_of P v)) refl left answers));
+}
+
+-- where values were added first
+pub walks-grown : (P : Program) (s t new : Reached) (g : Tree) (u : Use) (spot : Spot) (l : Continuation) → Grown s.stack t.stack → t ≡ record s { stack = t.stack } → IsList s.stack l →
+    Walks P t new g u spot (goals_of t.stack l) → Walks P s new g u spot (goals_of s.stack l)
+walks-grown P s t new g u spot l grown is there w =
+    let stay = grown-stays P s t grown is in
+    let local : local_of t ≡ local_of s = stay.local in
+    record {
+      code = w.code ∙ stay.code;
+      frame = w.frame ∙ ap (λ (x : Reached). record x { stack = new.stack; mode = modes.Back outcomes.Fail }) is;
+      ends = λ v most left answers.
+          let xs = left_at (database_of P v) u g spot in
+          ap₂ (λ d n. after P v s most left answers (choose (filter_map (tried d n g (goals_of s.stack l)) xs) (local_of s))) (sym (grown-depth s t grown)) (sym grown.count)
+          ∙ ap (λ es. after P v s most left answers (choose (candidates_left (depth_of t) t.stack.env g es xs) (local_of s))) (sym (grown.extends.lists l there).1)
+          ∙ ap₂ (λ cs w. ending_of most (Rest P (move cs (record { steps = left; answers = answers; local = w }) (choose (candidates_left (depth_of t) t.stack.env g (goals_of t.stack l) xs) w)))) (sym (stay.cases v)) (sym local)
+          ∙ w.ends v most left answers;
+    }
+
+-- a walk that has the same places as a move in each view
+pub walks-moved : (P : Program) (s new : Reached) (t : Tree) (u : Use) (spot : Spot) (es : List Element) (m : Move) → Walks P s new t u spot es →
+    ((v : Views) → choose (candidates_left (depth_of s) s.stack.env t es (left_at (database_of P v) u t spot)) (local_of s) ≡ m) → Moved P s new m
+walks-moved P s new t u spot es m w same = record {
+  code = w.code;
+  askable = back-asks new outcomes.Fail (ap (λ x. x.mode) w.frame);
+  ends = λ v most left answers. ap (after P v s most left answers) (sym (same v)) ∙ w.ends v most left answers;
+}
 
 -- ---- candidates
 
-tried-unerased : (d n : ℕ) (t : Tree) (rest : List Element) (c : Clause) → tried d n t rest (unerased c) ≡ resolve d n t rest c
-tried-unerased d n t rest c = go (resolve d n t rest c)
+tried-none : (d n : ℕ) (t : Tree) (rest : List Element) (c : Clause) → tried d n t rest (record { clause = c; erased = None }) ≡ resolve d n t rest c
+tried-none d n t rest c = go (resolve d n t rest c)
   where
     go : (o : Option Place) → option_map (place_asked None) o ≡ o
     go None = refl
     go (Some p) = refl
 
-pub unerased-left : {A : Type 0} (d : ℕ) (e : Env) (t : Tree) (rest : List Element) (f : A → Clause) (xs : List A) →
-    candidates_left d e t rest (map (λ x. unerased (f x)) xs) ≡ filter_map (resolve d e.count t rest) (map f xs)
-unerased-left d e t rest f [] = refl
-unerased-left d e t rest f (x ∷ xs) = ap₂ cons_option (tried-unerased d e.count t rest (f x)) (unerased-left d e t rest f xs)
+-- clauses of the program's text
+pub text-left : (d : ℕ) (e : Env) (t : Tree) (rest : List Element) (u : Use) (cs : List Clause) → candidates_left d e t rest (map (text_candidate u) cs) ≡ filter_map (resolve d e.count t rest) (map (clause_by u) cs)
+text-left d e t rest u [] = refl
+text-left d e t rest u (c ∷ cs) = ap₂ cons_option (tried-none d e.count t rest (clause_by u c)) (text-left d e t rest u cs)
 
-tried-erased : (d n : ℕ) (t : Tree) (rest : List Element) (x : Living) → tried d n t rest (erased x) ≡ retract d n t rest x
+-- clauses that are alive
+pub called-left : (d n : ℕ) (t : Tree) (rest : List Element) (xs : List Living) → filter_map (tried d n t rest) (map (candidate_of uses.Call) xs) ≡ filter_map (resolve d n t rest) (clauses_of xs)
+called-left d n t rest [] = refl
+called-left d n t rest (x ∷ xs) = ap₂ cons_option (tried-none d n t rest x.clause) (called-left d n t rest xs)
+
+pub told-left : (d n : ℕ) (t : Tree) (rest : List Element) (xs : List Living) → filter_map (tried d n t rest) (map (candidate_of uses.Tell) xs) ≡ filter_map (resolve d n t rest) (map as_fact (clauses_of xs))
+told-left d n t rest [] = refl
+told-left d n t rest (x ∷ xs) = ap₂ cons_option (tried-none d n t rest (as_fact x.clause)) (told-left d n t rest xs)
+
+tried-erased : (d n : ℕ) (t : Tree) (rest : List Element) (x : Living) → tried d n t rest (candidate_of uses.Erase x) ≡ retract d n t rest x
 tried-erased d n t rest x = go (unify t (shift n (as_fact x.clause).head))
   where
     go : (o : Option (ℕ → Tree)) →
@@ -104,51 +145,11 @@ tried-erased d n t rest x = go (unify t (shift n (as_fact x.clause).head))
     go None = refl
     go (Some σ) = refl
 
-pub erased-left : (d : ℕ) (e : Env) (t : Tree) (rest : List Element) (xs : List Living) → candidates_left d e t rest (map erased xs) ≡ filter_map (retract d e.count t rest) xs
-erased-left d e t rest [] = refl
-erased-left d e t rest (x ∷ xs) = ap₂ cons_option (tried-erased d e.count t rest x) (erased-left d e t rest xs)
-
-map-map : {A B C : Type 0} (f : B → C) (g : A → B) (xs : List A) → map (λ x. f (g x)) xs ≡ map f (map g xs)
-map-map f g [] = refl
-map-map f g (x ∷ xs) = ap (λ ys. f (g x) ∷ ys) (map-map f g xs)
-
--- the moves of candidates, before a list that is the one given
-module _ (d : ℕ) (s : State) (t : Tree) (l m : Continuation) (same : l ≡ m) (w : Local) (xs : List Candidate) where
-  pub calls-unerased : {A : Type 0} (f : A → Clause) (ys : List A) → xs ≡ map (λ y. unerased (f y)) ys →
-      choose (candidates_left d s.env t (goals_of s l) xs) w ≡ call d s.env.count t (goals_of s m) (map f ys) w
-  calls-unerased f ys is =
-      ap₂ (λ k zs. choose (candidates_left d s.env t (goals_of s k) zs) w) same is
-      ∙ ap (λ ps. choose ps w) (unerased-left d s.env t (goals_of s m) f ys)
-
-  pub retrieves-unerased : (ys : List Living) → xs ≡ map (λ y. unerased (as_fact y.clause)) ys →
-      choose (candidates_left d s.env t (goals_of s l) xs) w ≡ call d s.env.count t (goals_of s m) (map as_fact (clauses_of ys)) w
-  retrieves-unerased ys is =
-      calls-unerased (λ y. as_fact y.clause) ys is
-      ∙ ap (λ cs. call d s.env.count t (goals_of s m) cs w) (map-map as_fact (λ (y : Living). y.clause) ys)
-
-  pub retracts-erased : (ys : List Living) → xs ≡ map erased ys → choose (candidates_left d s.env t (goals_of s l) xs) w ≡ choose (filter_map (retract d s.env.count t (goals_of s m)) ys) w
-  retracts-erased ys is =
-      ap₂ (λ k zs. choose (candidates_left d s.env t (goals_of s k) zs) w) same is
-      ∙ ap (λ ps. choose ps w) (erased-left d s.env t (goals_of s m) ys)
+pub erased-left : (d n : ℕ) (t : Tree) (rest : List Element) (xs : List Living) → filter_map (tried d n t rest) (map (candidate_of uses.Erase) xs) ≡ filter_map (retract d n t rest) xs
+erased-left d n t rest [] = refl
+erased-left d n t rest (x ∷ xs) = ap₂ cons_option (tried-erased d n t rest x) (erased-left d n t rest xs)
 
 -- clauses of the program's text, of which there are some
 pub retrieving-some : (cs : List Clause) (d : ℕ) (h b : Tree) (rest : List Element) (n : ℕ) (w : Local) → (length cs ≡ 0 → ⊥) → retrieve d n h b rest cs w ≡ retrieving cs d h b rest n w
 retrieving-some [] d h b rest n w some = absurd (some refl)
 retrieving-some (c ∷ cs) d h b rest n w some = refl
-
--- ---- erasures
-
--- one more clause looked at, in a stack that has grown
-pub erasures-more : (old mid : State) (head : Cell) → Grown old mid → IsValue old.env.heap head → (us vs : List Update) (xs : List Living) (i : ℕ) (x : Living) → i < length xs → x ≡ get_or xs i x →
-    us ≡ map Erase (names_of (filter (has_head old.env.count (value old.env.heap head)) (take i xs))) →
-    vs ≡ us ++ map Erase (names_of (filter (has_head mid.env.count (value mid.env.heap head)) (x ∷ []))) →
-    vs ≡ map Erase (names_of (filter (has_head old.env.count (value old.env.heap head)) (take (suc i) xs)))
-erasures-more old mid head g is us vs xs i x lt at so_far more =
-    let f = has_head old.env.count (value old.env.heap head) in
-    more
-    ∙ ap₂ (λ n t. us ++ map Erase (names_of (filter (has_head n t) (x ∷ [])))) g.count (g.extends.values head is).1
-    ∙ ap₂ (λ ws y. ws ++ map Erase (names_of (filter f (y ∷ [])))) so_far at
-    ∙ sym (map-append Erase (names_of (filter f (take i xs))) (names_of (filter f (get_or xs i x ∷ []))))
-    ∙ ap (map Erase) (sym (map-append (λ (y : Living). y.name) (filter f (take i xs)) (filter f (get_or xs i x ∷ []))))
-    ∙ ap (λ ys. map Erase (names_of ys)) (sym (filter-append f (take i xs) (get_or xs i x ∷ [])))
-    ∙ ap (λ ys. map Erase (names_of (filter f ys))) (sym (take-suc xs i x lt))

@@ -1,5 +1,5 @@
 -- A cut that empties what it gives up leaves the search as a mark does.
-use Rattle.std.proofs.Common.{◌≡◌, ℕ, ◌⊎◌, inl, inr, [], ◌∷◌, sym, ap, ap₂, ◌∙◌}
+use Rattle.std.proofs.Common.{◌≡◌, ℕ, ◌⊎◌, inl, inr, [], ◌∷◌, sym, ap, ap₂, ◌∙◌, subst}
 use Rattle.plprogram.specs.Program.{Program}
 use Rattle.plsearch.specs.Types.{Go, Place, Mark, Run}
 use Rattle.plsearch.specs.Machines.Levels.{AreAtMost}
@@ -7,13 +7,13 @@ use Rattle.plsearch.specs.Machines.Machine.{At, Rest}
 use Rattle.plsearch.specs.Search.{ending_of}
 use Rattle.plsearch.proofs.Cuts.{cuts-empty}
 use Rattle.pllinks.specs.declared.link.Continuation.{Continuation}
-use Rattle.plstack.specs.Places.{Statics}
+use Rattle.plstack.specs.Places.{Database, Views}
 use Rattle.plstack.specs.State.{State, place_of, cases_of, goals_of, IsList}
-use Rattle.plstack.specs.StaticCalls.{statics_of}
+use Rattle.plstack.specs.StaticCalls.{database_of}
 use Rattle.plstack.specs.Cutting.{Empties, Cuts}
 use Rattle.plmachine.specs.declared.machine.Mode.TheVariants as modes
 use Rattle.plmachine.specs.declared.machine.Machine.{Machine as Reached}
-use Rattle.plmachine.specs.Machine.{local_of, mode_of, cases_in, Moved}
+use Rattle.plmachine.specs.Machine.{IsPlain, local_of, mode_of, cases_in, Moved}
 use Rattle.plmachine.proofs.Moves.{machine-is, visit-asks}
 
 module _ (P : Program) (old new : State) (level : ℕ) (list : Continuation) (there : IsList old list) (cut : Cuts old new level list) where
@@ -23,15 +23,15 @@ module _ (P : Program) (old new : State) (level : ℕ) (list : Continuation) (th
   pub cut-place : place_of new ≡ record { goals = goals_of old list; variables = old.env.count }
   cut-place = ap₂ (λ gs n. record { goals = gs; variables = n }) (ap (goals_of new) cut.goals ∙ (cut.keeps.lists list there).1) cut.keeps.count
 
-  pub cut-rest : (run : Run) →
-      Rest P (record { mode = At place; cases = cases_of (statics_of P) new; run = run }) ≡ Rest P (record { mode = At place; cases = Mark level ∷ cases_of (statics_of P) old; run = run })
-  cut-rest run = go cut.cases
+  pub cut-rest : (v : Views) (run : Run) →
+      Rest P (record { mode = At place; cases = cases_of (database_of P v) new; run = run }) ≡ Rest P (record { mode = At place; cases = Mark level ∷ cases_of (database_of P v) old; run = run })
+  cut-rest v run = go cut.cases
     where
-      go : ((statics : Statics) → cases_of statics new ≡ Mark level ∷ cases_of statics old) ⊎ (AreAtMost level (goals_of old list) × ((statics : Statics) → Empties statics old new level)) →
-          Rest P (record { mode = At place; cases = cases_of (statics_of P) new; run = run }) ≡ Rest P (record { mode = At place; cases = Mark level ∷ cases_of (statics_of P) old; run = run })
-      go (inl marked) = ap (λ cs. Rest P (record { mode = At place; cases = cs; run = run })) (marked (statics_of P))
+      go : ((db : Database) → cases_of db new ≡ Mark level ∷ cases_of db old) ⊎ (AreAtMost level (goals_of old list) × ((db : Database) → Empties db old new level)) →
+          Rest P (record { mode = At place; cases = cases_of (database_of P v) new; run = run }) ≡ Rest P (record { mode = At place; cases = Mark level ∷ cases_of (database_of P v) old; run = run })
+      go (inl marked) = ap (λ cs. Rest P (record { mode = At place; cases = cs; run = run })) (marked (database_of P v))
       go (inr both) =
-          let e = both.1 (statics_of P) in
+          let e = both.1 (database_of P v) in
           ap (λ cs. Rest P (record { mode = At place; cases = cs; run = run })) e.cases
           ∙ sym (cuts-empty P level e.inside e.below e.places place run e.at both.0)
           ∙ ap (λ cs. Rest P (record { mode = At place; cases = Mark level ∷ cs; run = run })) (sym e.was)
@@ -42,9 +42,9 @@ pub cuts : (P : Program) (s new : Reached) (st : State) (level : ℕ) (list : Co
 cuts P s new st level list there cut is = record {
   code = ap (λ x. x.stack.code) is ∙ cut.keeps.code;
   askable = visit-asks new (ap (λ x. x.mode) is);
-  ends = λ most left answers.
-      ap (ending_of most) (sym (cut-rest P s.stack st level list there cut (record { steps = left; answers = answers; local = local_of s })))
-      ∙ ap (λ m. ending_of most (Rest P m)) (sym (machine-is P new (At (record { goals = goals_of s.stack list; variables = s.stack.env.count })) (cases_of (statics_of P) st) (local_of s)
+  ends = λ v most left answers.
+      ap (ending_of most) (sym (cut-rest P s.stack st level list there cut v (record { steps = left; answers = answers; local = local_of s })))
+      ∙ ap (λ m. ending_of most (Rest P m)) (sym (machine-is P v new (At (record { goals = goals_of s.stack list; variables = s.stack.env.count })) (cases_of (database_of P v) st) (local_of s) (subst (λ x. IsPlain x.mode) (sym is) tt)
       (ap (λ x. mode_of x.mode x.stack) is ∙ ap At (cut-place P s.stack st level list there cut))
-      (ap (λ x. cases_in P x) is) (ap (λ x. local_of x) is) left answers));
+      (ap (λ x. cases_in P v x) is) (ap (λ x. local_of x) is) left answers));
 }

@@ -43,7 +43,7 @@ module _ (old put new : State) (l v : Cell) (ts : List Tree) (fits : IsValue old
         let x = p.stays.lists c i in
         let y = u.lists c x.0 in
         (y.0, y.1 ∙ ap (bind_goals u.unifier) x.1);
-    cases = λ statics. u.cases statics ∙ p.stays.cases statics;
+    cases = λ db. u.cases db ∙ p.stays.cases db;
     frames = u.frames ∙ p.stays.frames;
     count = u.count ∙ p.count;
     code = u.code ∙ p.stays.code;

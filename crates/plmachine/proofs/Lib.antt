@@ -17,3 +17,4 @@ pub mod Clausal
 pub mod Necks
 pub mod Facts
 pub mod Declaring
+pub mod Firsts

@@ -19,12 +19,12 @@ use Rattle.plsearch.specs.Rows.{go_on, choose, solved, taken, offer}
 use Rattle.planswers.specs.Answers.{IsMany}
 use Rattle.pllinks.specs.declared.link.Continuation.{Continuation}
 use Rattle.plstack.specs.State.{State, IsList, cases_of, goals_of, Solves, Unifies, UnifiesTerms}
-use Rattle.plstack.specs.StaticCalls.{statics_of}
+use Rattle.plstack.specs.StaticCalls.{database_of}
 use Rattle.plmachine.specs.declared.machine.Outcome.TheVariants as outcomes
 use Rattle.plmachine.specs.declared.machine.Mode.TheVariants as modes
 use Rattle.plmachine.specs.declared.machine.Machine.{Machine as Reached}
 use Rattle.plmachine.specs.Lists.{Grown}
-use Rattle.plmachine.specs.Machine.{mode_of, cases_in, local_of, Moved}
+use Rattle.plmachine.specs.Machine.{IsPlain, mode_of, cases_in, local_of, Moved}
 use Rattle.plmachine.proofs.Lists.{holds-list, lengthened-grown, lengthened-same}
 use Rattle.plmachine.proofs.Moves.{gave, gives, goes-to, moved-as, moved-grown, visit-asks, went}
 
@@ -35,9 +35,9 @@ unfolding cases_of
 unifies P s new t a b l there u is =
     let count : t.env.count ≡ s.stack.env.count + 0 = omega (arith, u.count) in
     subst (λ o. Moved P s new (taken (option_map (λ σ. record { goals = bind_goals σ (goals_of s.stack l); variables = s.stack.env.count + 0 }) o) (local_of s))) (sym u.is)
-    (goes-to P s new [] _ (local_of s) (ap (λ x. x.stack.code) is ∙ u.code) (visit-asks new (ap (λ x. x.mode) is))
+    (goes-to P s new [] _ (local_of s) (ap (λ x. x.stack.code) is ∙ u.code) (visit-asks new (ap (λ x. x.mode) is)) (subst IsPlain (sym (ap (λ x. x.mode) is)) tt)
     (ap (λ x. mode_of x.mode x.stack) is ∙ ap₂ (λ gs n. At (record { goals = gs; variables = n })) (u.lists l there).1 count)
-    (ap (λ x. cases_in P x) is ∙ u.cases (statics_of P)) (ap (λ x. local_of x) is))
+    (λ v. ap (λ x. cases_in P v x) is ∙ u.cases (database_of P v)) (ap (λ x. local_of x) is))
 
 pub ununified : (P : Program) (s new : Reached) (a b : Tree) (l : Continuation) → unify a b ≡ None → new ≡ record s { mode = modes.Back outcomes.Fail } →
     Moved P s new (taken (solved (goals_of s.stack l) s.stack.env.count (record { left = a; right = b; new = 0 })) (local_of s))
@@ -51,9 +51,9 @@ pub solves : (P : Program) (s new : Reached) (t : State) (q : Equation) (l : Con
 unfolding cases_of
 solves P s new t q l there u is =
     subst (λ o. Moved P s new (taken (option_map (λ σ. record { goals = bind_goals σ (goals_of s.stack l); variables = s.stack.env.count + q.new }) o) (local_of s))) (sym u.is)
-    (goes-to P s new [] _ (local_of s) (ap (λ x. x.stack.code) is ∙ u.code) (visit-asks new (ap (λ x. x.mode) is))
+    (goes-to P s new [] _ (local_of s) (ap (λ x. x.stack.code) is ∙ u.code) (visit-asks new (ap (λ x. x.mode) is)) (subst IsPlain (sym (ap (λ x. x.mode) is)) tt)
     (ap (λ x. mode_of x.mode x.stack) is ∙ ap₂ (λ gs n. At (record { goals = gs; variables = n })) (u.lists l there).1 u.count)
-    (ap (λ x. cases_in P x) is ∙ u.cases (statics_of P)) (ap (λ x. local_of x) is))
+    (λ v. ap (λ x. cases_in P v x) is ∙ u.cases (database_of P v)) (ap (λ x. local_of x) is))
 
 -- two terms with new variables have no unifier
 pub unsolved : (P : Program) (s t new : Reached) (a b : Tree) (k : ℕ) (l : Continuation) → Grown s.stack t.stack → t ≡ record s { stack = t.stack } → unify a b ≡ None → new ≡ record t { mode = modes.Back outcomes.Fail } →
@@ -140,4 +140,4 @@ unfolding cases_of
 unified P s new t a b p es n u is =
     subst (λ o. Moved P s new (offer (decides (is_none o) s.settings) p es n (local_of s))) (sym u.is)
     (moved-as P s new _ _ (offer-fails s.settings p es n (local_of s) refl)
-    (gives P s new outcomes.Fail (local_of s) (ap (λ x. x.stack.code) is ∙ u.code) (ap (λ x. x.mode) is) (ap (λ x. cases_in P x) is ∙ u.cases (statics_of P)) (ap (λ x. local_of x) is)))
+    (gives P s new outcomes.Fail (local_of s) (ap (λ x. x.stack.code) is ∙ u.code) (ap (λ x. x.mode) is) (λ v. ap (λ x. cases_in P v x) is ∙ u.cases (database_of P v)) (ap (λ x. local_of x) is)))

@@ -1,5 +1,5 @@
 -- An error that is raised in more cases.
-use Rattle.std.proofs.Common.{◌≡◌, List, ◌∷◌, ◌++◌, sym, ap, ◌∙◌}
+use Rattle.std.proofs.Common.{◌≡◌, List, ◌∷◌, ◌++◌, sym, ap, ◌∙◌, subst}
 use Rattle.plterm.specs.Tree.{Tree}
 use Rattle.plprogram.specs.Program.{Program}
 use Rattle.plsearch.specs.Types.{Throw, Raise, Case, Go, Run}
@@ -10,11 +10,11 @@ use Rattle.plsearch.proofs.Turns.{Rest-turn}
 use Rattle.plsearch.specs.Search.{ending_of}
 use Rattle.pllinks.specs.declared.link.Continuation.{Continuation}
 use Rattle.plstack.specs.State.{State, goals_of, Opens}
-use Rattle.plstack.specs.StaticCalls.{statics_of}
+use Rattle.plstack.specs.StaticCalls.{database_of}
 use Rattle.plmachine.specs.declared.machine.Outcome.{Outcome}
 use Rattle.plmachine.specs.declared.machine.Mode.TheVariants as modes
 use Rattle.plmachine.specs.declared.machine.Machine.{Machine as Reached}
-use Rattle.plmachine.specs.Machine.{result_of, mode_of, local_of, cases_in, Moved}
+use Rattle.plmachine.specs.Machine.{IsPlain, result_of, mode_of, local_of, cases_in, Moved}
 use Rattle.plmachine.proofs.Moves.{machine-is, back-asks}
 
 pub raises-in : (P : Program) (s new : Reached) (st : State) (more : List Case) (list : Continuation) (ball : Tree) (r : Outcome) → result_of r ≡ Throw ball (levels (goals_of s.stack list)) → Opens s.stack st more →
@@ -24,11 +24,11 @@ unfolding turn meet
 raises-in P s new st more list ball r is o made = record {
   code = ap (λ x. x.stack.code) made ∙ o.code;
   askable = back-asks new r (ap (λ x. x.mode) made);
-  ends = λ most left answers.
+  ends = λ v most left answers.
       let run : Run = record { steps = left; answers = answers; local = local_of s } in
-      let all : List Case = more ++ cases_in P s in
+      let all : List Case = more ++ cases_in P v s in
       ap (ending_of most) (Rest-turn P (record { mode = At (record { goals = Raise ball ∷ goals_of s.stack list; variables = s.stack.env.count }); cases = all; run = run }))
       ∙ ap (λ m. ending_of most (Rest P m)) (sym
-      (machine-is P new (Back (result_of r)) all (local_of s) (ap (λ x. mode_of x.mode x.stack) made) (ap (λ x. cases_in P x) made ∙ o.cases (statics_of P)) (ap (λ x. local_of x) made) left answers
+      (machine-is P v new (Back (result_of r)) all (local_of s) (subst (λ x. IsPlain x.mode) (sym made) tt) (ap (λ x. mode_of x.mode x.stack) made) (ap (λ x. cases_in P v x) made ∙ o.cases (database_of P v)) (ap (λ x. local_of x) made) left answers
       ∙ ap (λ x. record { mode = Back x; cases = all; run = run }) is));
 }

@@ -1,28 +1,28 @@
 -- The predicates on clauses.
-use Rattle.std.specs.Prelude.{◌≡◌, Option, Some, None}
-use Rattle.plclause.specs.Clause.{Clause}
+use Rattle.std.specs.Prelude.{◌≡◌, ℕ, List, Option, Some, None}
+use Rattle.plterm.specs.Tree.{Tree}
 use Rattle.plclause.specs.Clausal.{neck_parts}
 use Rattle.plevent.specs.declared.request.Request.TheVariants.{EraseOne}
 use Rattle.plevent.specs.declared.update.ClauseName.{ClauseName}
-use Rattle.plevent.specs.declared.update.Living.{Living}
-use Rattle.plsearch.specs.Rows.{as_fact}
+use Rattle.plevent.specs.Search.{Answer}
+use Rattle.plprogram.specs.Program.{Program}
+use Rattle.plsearch.specs.Types.{Element}
+use Rattle.plsearch.specs.Rows.{choose}
 use Rattle.plcells.specs.declared.cell.Cell.{Cell}
 use Rattle.plcells.specs.Store.{Store, IsValue, value}
-use Rattle.plstack.specs.declared.frame.Candidate.{Candidate}
-use Rattle.plstack.specs.declared.copy.Entered.{Entered}
-use Rattle.plmachine.specs.declared.clauses.Neck.{Neck}
+use Rattle.plstack.specs.declared.frame.Use.{Use}
+use Rattle.plstack.specs.declared.frame.Spot.{Spot}
+use Rattle.plstack.specs.declared.walk.Entered.{Entered}
+use Rattle.plstack.specs.Places.{Views, candidates_left, left_at}
+use Rattle.plstack.specs.StaticCalls.{database_of}
+use Rattle.plmachine.specs.declared.walk.Neck.{Neck}
+use Rattle.plmachine.specs.declared.machine.Machine.{Machine as Reached}
+use Rattle.plmachine.specs.declared.machine.Outcome.TheVariants as outcomes
 use Rattle.plmachine.specs.declared.machine.Mode.{Mode}
 use Rattle.plmachine.specs.declared.machine.Mode.TheVariants as modes
 use Rattle.plmachine.specs.declared.machine.Question.TheVariants as questions
 use Rattle.plmachine.specs.declared.machine.Then.TheVariants as thens
-
--- a clause as a candidate that is not erased
-abbrev pub unerased : Clause → Candidate
-unerased c = record { clause = c; erased = None }
-
--- a clause that is alive, as a fact that is erased
-abbrev pub erased : Living → Candidate
-erased x = record { clause = as_fact x.clause; erased = Some x.name }
+use Rattle.plmachine.specs.Machine.{after, depth_of, local_of, now}
 
 -- the values of a head and a body that stand in the term of a value
 pub record IsNeck (h : Store) (c : Cell) (n : Neck) : Type 0 where
@@ -37,3 +37,10 @@ mode_by (Some x) = modes.Ask (questions.Await (EraseOne x) thens.GoesOn)
 
 abbrev pub entered_mode : Entered → Mode
 entered_mode e = mode_by e.erased
+
+-- a walk of the goal t before a list stands at a spot: what is left of it is still to be tried
+pub record Walks (P : Program) (old new : Reached) (t : Tree) (u : Use) (spot : Spot) (es : List Element) : Type 0 where
+  pub code : new.stack.code ≡ old.stack.code
+  pub frame : new ≡ record old { stack = new.stack; mode = modes.Back outcomes.Fail }
+  pub ends : (v : Views) (most left : ℕ) (answers : List Answer) →
+      after P v old most left answers (choose (candidates_left (depth_of old) old.stack.env t es (left_at (database_of P v) u t spot)) (local_of old)) ≡ now P v new most left answers

@@ -8,3 +8,4 @@ pub mod Gathering
 pub mod Calculating
 pub mod Naming
 pub mod Clauses
+pub mod Sought

@@ -11,20 +11,19 @@ ghost use Rattle.plevent.specs.Alive.{or_else};
 ghost use Rattle.plevent.specs.declared.update.Update.TheVariants.{Declare};
 ghost use Rattle.plprogram.specs.Program.{clauses_for};
 ghost use Rattle.plsearch.specs.Types.{Asking, Look, ToRetract, ToRetractAll};
-ghost use Rattle.plsearch.specs.Rows.{add, added, choose, clause_term, go_on as went_on, halves, no_body, no_head, publish, retrieving, unchangeable, undeclarable, unerasable, unless, unreadable};
-ghost use Rattle.plstack.specs.Places.{candidates_left};
+ghost use Rattle.plsearch.specs.Rows.{add, added, go_on as went_on, halves, no_body, no_head, publish, retrieving, unchangeable, undeclarable, unerasable, unless, unreadable};
 ghost use Rattle.plstack.specs.State.{goals_of, IsList};
 ghost use Rattle.plmachine.specs.Clauses.{entered_mode, IsNeck};
 ghost use Rattle.plmachine.specs.Machine.{depth_of, local_of, IsBegun, Moved, Stays};
 ghost use Rattle.plmachine.specs.Selected.{StandsFor};
 
 use crate::error;
-use crate::fact::facts;
 use crate::indicator::indicator_of;
 use crate::machine::{Lookup, Machine, Mode, Outcome, Question, Then};
 use crate::naming::{Declaration, declared};
 use crate::refusal::{no_body, no_head, unchangeable, unerasable, unreadable};
 use crate::select::Source;
+use crate::walk::Neck;
 use plcells::cell::Cell;
 use plcells::heap::Heap;
 use plclause::clause::Clause;
@@ -35,8 +34,8 @@ use plevent::update::{Batch, Update};
 use pllinks::link::Continuation;
 use plnames::kind::Side;
 use plprogram::program::Program;
-use plstack::copy::Entered;
-use plstack::frame::Candidate;
+use plstack::frame::{Spot, Use};
+use plstack::walk::Entered;
 use plterm::term::Term;
 use std::alloc::{AllocError, Global};
 
@@ -125,7 +124,7 @@ impl Machine {
         requires body { IsValue self.old.stack.env.heap body }
         requires source { (t : Tree) × StandsFor self.old.stack source t }
         requires rest { IsList self.old.stack rest }
-        ensures ok { (t : Tree) → StandsFor self.old.stack source t → OnOk result (Moved program.now self.old self.new (unless (or_else (no_head (value self.old.stack.env.heap head)) (or_else (no_body (value self.old.stack.env.heap body)) (unreadable (indicator (value self.old.stack.env.heap head))))) (indicator t) (goals_of self.old.stack rest) (local_of self.old) (retrieving (clauses_for program.now (indicator (value self.old.stack.env.heap head))) (depth_of program.now self.old) (value self.old.stack.env.heap head) (value self.old.stack.env.heap body) (goals_of self.old.stack rest) self.old.stack.env.count (local_of self.old)))) }
+        ensures ok { (t : Tree) → StandsFor self.old.stack source t → OnOk result (Moved program.now self.old self.new (unless (or_else (no_head (value self.old.stack.env.heap head)) (or_else (no_body (value self.old.stack.env.heap body)) (unreadable (indicator (value self.old.stack.env.heap head))))) (indicator t) (goals_of self.old.stack rest) (local_of self.old) (retrieving (clauses_for program.now (indicator (value self.old.stack.env.heap head))) (depth_of self.old) (value self.old.stack.env.heap head) (value self.old.stack.env.heap body) (goals_of self.old.stack rest) self.old.stack.env.count (local_of self.old)))) }
         ensures err { OnErr result (Stays program.now self.old self.new) }
     {
         let heap = self.stack.env().heap();
@@ -146,12 +145,11 @@ impl Machine {
         requires head { IsValue self.old.stack.env.heap head }
         requires body { IsValue self.old.stack.env.heap body }
         requires rest { IsList self.old.stack rest }
-        ensures ok { OnOk result (Moved program.now self.old self.new (retrieving (clauses_for program.now (indicator (value self.old.stack.env.heap head))) (depth_of program.now self.old) (value self.old.stack.env.heap head) (value self.old.stack.env.heap body) (goals_of self.old.stack rest) self.old.stack.env.count (local_of self.old))) }
+        ensures ok { OnOk result (Moved program.now self.old self.new (retrieving (clauses_for program.now (indicator (value self.old.stack.env.heap head))) (depth_of self.old) (value self.old.stack.env.heap head) (value self.old.stack.env.heap body) (goals_of self.old.stack rest) self.old.stack.env.count (local_of self.old))) }
         ensures err { OnErr result (Stays program.now self.old self.new) }
     {
         let p = indicator_of(self.alloc, self.stack.env().heap(), head)?;
-        let clauses = program.clauses_of(&p);
-        if clauses.is_empty() {
+        if program.clauses_of(&p).is_empty() {
             self.ask(
                 program,
                 Question::Look(Lookup::ToRetrieve(head, body)),
@@ -159,47 +157,7 @@ impl Machine {
             );
             return Ok(());
         }
-        let candidates = facts(self.alloc, clauses)?;
-        self.match_clauses(program, head, body, candidates, rest)
-    }
-
-    /// A head and a body, as one term, are resolved with candidates.
-    pub fn match_clauses(
-        &mut self,
-        program: &Program,
-        head: Cell,
-        body: Cell,
-        candidates: Vec<Candidate>,
-        rest: Continuation,
-    ) -> Result<(), AllocError>
-        requires head { IsValue self.old.stack.env.heap head }
-        requires body { IsValue self.old.stack.env.heap body }
-        requires rest { IsList self.old.stack rest }
-        ensures ok { OnOk result (Moved program.now self.old self.new (choose (candidates_left (depth_of program.now self.old) self.old.stack.env (clause_term (value self.old.stack.env.heap head) (value self.old.stack.env.heap body)) (goals_of self.old.stack rest) candidates.items) (local_of self.old))) }
-        ensures err { OnErr result (Stays program.now self.old self.new) }
-    {
-        let goal = self.stack.put_clause_term(self.alloc, head, body)?;
-        self.try_candidates(program, goal, candidates, rest)
-    }
-
-    /// A goal is resolved with candidates, in their order.
-    pub fn try_candidates(
-        &mut self,
-        program: &Program,
-        goal: Cell,
-        candidates: Vec<Candidate>,
-        rest: Continuation,
-    ) -> Result<(), AllocError>
-        requires goal { IsValue self.old.stack.env.heap goal }
-        requires rest { IsList self.old.stack rest }
-        ensures ok { OnOk result (Moved program.now self.old self.new (choose (candidates_left (depth_of program.now self.old) self.old.stack.env (value self.old.stack.env.heap goal) (goals_of self.old.stack rest) candidates.items) (local_of self.old))) }
-        ensures err { OnErr result (Stays program.now self.old self.new) }
-    {
-        match self.stack.call_copies(self.alloc, goal, candidates, rest)? {
-            Some(entered) => self.mode = mode_of(entered),
-            None => self.mode = Mode::Back(Outcome::Fail),
-        }
-        Ok(())
+        self.tell(program, Neck { head, body }, Use::Tell, Spot::Text(0), rest)
     }
 
     /// retract/1.
@@ -302,13 +260,6 @@ fn update_of(side: Side, clause: Clause) -> Update
         Side::Front => Update::First(clause),
         Side::Back => Update::Last(clause),
     }
-}
-
-/// A head and a body, as they stand in a term.
-#[derive(Clone, Copy)]
-struct Neck {
-    head: Cell,
-    body: Cell,
 }
 
 /// The head and the body of a term `Head :- Body`.

@@ -49,7 +49,7 @@ impl Machine {
         requires goal { IsValue self.old.stack.env.heap finding.goal }
         requires whole { IsValue self.old.stack.env.heap finding.whole }
         requires rest { IsList self.old.stack rest }
-        ensures ok { OnOk result (Moved program.now self.old self.new (finding_of (value self.old.stack.env.heap finding.template) (value self.old.stack.env.heap finding.goal) (value self.old.stack.env.heap finding.whole) (depth_of program.now self.old) (goals_of self.old.stack rest) self.old.stack.env.count (local_of self.old))) }
+        ensures ok { OnOk result (Moved program.now self.old self.new (finding_of (value self.old.stack.env.heap finding.template) (value self.old.stack.env.heap finding.goal) (value self.old.stack.env.heap finding.whole) (depth_of self.old) (goals_of self.old.stack rest) self.old.stack.env.count (local_of self.old))) }
         ensures err { OnErr result (Stays program.now self.old self.new) }
     {
         let heap = self.stack.env().heap();
@@ -72,7 +72,7 @@ impl Machine {
         requires goal { IsValue self.old.stack.env.heap finding.goal }
         requires whole { IsValue self.old.stack.env.heap finding.whole }
         requires rest { IsList self.old.stack rest }
-        ensures ok { OnOk result (Moved program.now self.old self.new (runs (runnable (value self.old.stack.env.heap finding.goal)) findall_3 (gathering (value self.old.stack.env.heap finding.whole) (goals_of self.old.stack rest) self.old.stack.env.count ∷ []) (suc (depth_of program.now self.old)) (Marker (Collect (value self.old.stack.env.heap finding.template)) (depth_of program.now self.old) ∷ goals_of self.old.stack rest) self.old.stack.env.count (local_of self.old))) }
+        ensures ok { OnOk result (Moved program.now self.old self.new (runs (runnable (value self.old.stack.env.heap finding.goal)) findall_3 (gathering (value self.old.stack.env.heap finding.whole) (goals_of self.old.stack rest) self.old.stack.env.count ∷ []) (suc (depth_of self.old)) (Marker (Collect (value self.old.stack.env.heap finding.template)) (depth_of self.old) ∷ goals_of self.old.stack rest) self.old.stack.env.count (local_of self.old))) }
         ensures err { OnErr result (Stays program.now self.old self.new) }
     {
         let depth = self.stack.depth();

@@ -3,9 +3,12 @@
 use plcells::cell::Cell;
 use plcollect::collection::Collection;
 use plevent::request::Request;
+use plevent::{ClauseName, Update};
 use pllinks::level::Level;
 use plprogram::settings::Settings;
+use plstack::frame::Use;
 use plstack::stack::Stack;
+use plstore::Cursor;
 use plterm::term::Term;
 use std::alloc::Global;
 
@@ -57,11 +60,49 @@ pub enum Question {
     Await(Request, Then),
 }
 
-/// What is next: the visited list is gone through, something is asked before it, or a result is carried outward.
+/// How far the clauses of a head, all of which are to be erased, are looked through.
+#[derive(Clone, Copy)]
+pub enum Reach {
+    /// Behind a cursor.
+    Behind(Cursor),
+    /// At the clause of a name.
+    At(ClauseName),
+}
+
+/// The erasure of all clauses of a head: the place of its view, how far these are looked through, and the erasures so far.
+#[derive(Drop)]
+pub struct Sweep {
+    pub view: u64,
+    pub reach: Reach,
+    pub updates: Vec<Update>,
+}
+
+/// A goal that is to be resolved against clauses, and what is done with one that fits.
+#[derive(Clone, Copy)]
+pub struct Sought {
+    pub goal: Cell,
+    pub uses: Use,
+}
+
+/// What is sought in a view that was taken.
+#[derive(Drop)]
+pub enum Find {
+    /// The first clause that may be for a goal, in the view of a place.
+    First(Sought, u64),
+    /// Whether the procedure of a goal exists, in the view of a place in which no clause may be for the goal.
+    Exists(Cell, u64),
+    /// Whether the procedure of a head exists, all of whose clauses are to be erased, in the view of a place.
+    All(Cell, u64),
+    /// The clauses of a head, all of which are to be erased.
+    Sweep(Cell, Sweep),
+}
+
+/// What is next: the visited list is gone through, something is asked or sought before it, or a result is carried outward.
 #[derive(Drop)]
 pub enum Mode {
     Visit,
     Ask(Question),
+    Find(Find),
     Back(Outcome),
 }
 

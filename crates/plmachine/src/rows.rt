@@ -159,7 +159,7 @@ impl Machine {
         requires then { IsPart self.old.stack then }
         requires other { IsPart self.old.stack other }
         requires rest { IsList self.old.stack rest }
-        ensures ok { OnOk result (Moved program.now self.old self.new (Go (Choice [] ∷ branch (elements_of self.old.stack other ++ goals_of self.old.stack rest) self.old.stack.env.count ∷ []) (record { goals = elements_of self.old.stack (at_level (suc (depth_of program.now self.old)) condition) ++ (Marker Commit (depth_of program.now self.old) ∷ (elements_of self.old.stack then ++ goals_of self.old.stack rest)); variables = self.old.stack.env.count }) (local_of self.old))) }
+        ensures ok { OnOk result (Moved program.now self.old self.new (Go (Choice [] ∷ branch (elements_of self.old.stack other ++ goals_of self.old.stack rest) self.old.stack.env.count ∷ []) (record { goals = elements_of self.old.stack (at_level (suc (depth_of self.old)) condition) ++ (Marker Commit (depth_of self.old) ∷ (elements_of self.old.stack then ++ goals_of self.old.stack rest)); variables = self.old.stack.env.count }) (local_of self.old))) }
         ensures err { OnErr result (Stays program.now self.old self.new) }
     {
         let depth = self.stack.depth();
@@ -190,7 +190,7 @@ impl Machine {
         requires condition { IsPart self.old.stack condition }
         requires then { IsPart self.old.stack then }
         requires rest { IsList self.old.stack rest }
-        ensures ok { OnOk result (Moved program.now self.old self.new (Go (Choice [] ∷ branch (Goal level (atom (codes "fail")) ∷ goals_of self.old.stack rest) self.old.stack.env.count ∷ []) (record { goals = elements_of self.old.stack (at_level (suc (depth_of program.now self.old)) condition) ++ (Marker Commit (depth_of program.now self.old) ∷ (elements_of self.old.stack then ++ goals_of self.old.stack rest)); variables = self.old.stack.env.count }) (local_of self.old))) }
+        ensures ok { OnOk result (Moved program.now self.old self.new (Go (Choice [] ∷ branch (Goal level (atom (codes "fail")) ∷ goals_of self.old.stack rest) self.old.stack.env.count ∷ []) (record { goals = elements_of self.old.stack (at_level (suc (depth_of self.old)) condition) ++ (Marker Commit (depth_of self.old) ∷ (elements_of self.old.stack then ++ goals_of self.old.stack rest)); variables = self.old.stack.env.count }) (local_of self.old))) }
         ensures err { OnErr result (Stays program.now self.old self.new) }
     {
         self.then_else(program, condition, then, failure(level), rest)

@@ -106,7 +106,7 @@ impl Machine {
     ) -> Result<(), AllocError>
         requires goal { IsValue self.old.stack.env.heap goal }
         requires rest { IsList self.old.stack rest }
-        ensures ok { OnOk result (Moved program.now self.old self.new (runs (runnable (value self.old.stack.env.heap goal)) once_1 [] (depth_of program.now self.old) (Marker Commit (depth_of program.now self.old) ∷ goals_of self.old.stack rest) self.old.stack.env.count (local_of self.old))) }
+        ensures ok { OnOk result (Moved program.now self.old self.new (runs (runnable (value self.old.stack.env.heap goal)) once_1 [] (depth_of self.old) (Marker Commit (depth_of self.old) ∷ goals_of self.old.stack rest) self.old.stack.env.count (local_of self.old))) }
         ensures err { OnErr result (Stays program.now self.old self.new) }
     {
         let depth = self.stack.depth();
@@ -131,7 +131,7 @@ impl Machine {
     ) -> Result<(), AllocError>
         requires goal { IsValue self.old.stack.env.heap goal }
         requires rest { IsList self.old.stack rest }
-        ensures ok { OnOk result (Moved program.now self.old self.new (runs (runnable (value self.old.stack.env.heap goal)) not_1 (branch (goals_of self.old.stack rest) self.old.stack.env.count ∷ []) (suc (depth_of program.now self.old)) (Marker Never (depth_of program.now self.old) ∷ goals_of self.old.stack rest) self.old.stack.env.count (local_of self.old))) }
+        ensures ok { OnOk result (Moved program.now self.old self.new (runs (runnable (value self.old.stack.env.heap goal)) not_1 (branch (goals_of self.old.stack rest) self.old.stack.env.count ∷ []) (suc (depth_of self.old)) (Marker Never (depth_of self.old) ∷ goals_of self.old.stack rest) self.old.stack.env.count (local_of self.old))) }
         ensures err { OnErr result (Stays program.now self.old self.new) }
     {
         let depth = self.stack.depth();
@@ -162,7 +162,7 @@ impl Machine {
         requires catcher { IsValue self.old.stack.env.heap catcher.catcher }
         requires recovery { IsValue self.old.stack.env.heap catcher.recovery }
         requires rest { IsList self.old.stack rest }
-        ensures ok { OnOk result (Moved program.now self.old self.new (runs (runnable (value self.old.stack.env.heap goal)) catch_3 (catching (value self.old.stack.env.heap catcher.catcher) (value self.old.stack.env.heap catcher.recovery) (goals_of self.old.stack rest) self.old.stack.env.count ∷ []) (suc (depth_of program.now self.old)) (Marker Until (depth_of program.now self.old) ∷ goals_of self.old.stack rest) self.old.stack.env.count (local_of self.old))) }
+        ensures ok { OnOk result (Moved program.now self.old self.new (runs (runnable (value self.old.stack.env.heap goal)) catch_3 (catching (value self.old.stack.env.heap catcher.catcher) (value self.old.stack.env.heap catcher.recovery) (goals_of self.old.stack rest) self.old.stack.env.count ∷ []) (suc (depth_of self.old)) (Marker Until (depth_of self.old) ∷ goals_of self.old.stack rest) self.old.stack.env.count (local_of self.old))) }
         ensures err { OnErr result (Stays program.now self.old self.new) }
     {
         let depth = self.stack.depth();
@@ -190,7 +190,7 @@ impl Machine {
         requires some { 0 < length self.old.args.items }
         requires few { length self.old.args.items ≤ 1024 }
         requires rest { IsList self.old.stack rest }
-        ensures ok { (v : OfCell) (vs : List OfCell) → self.old.args.items ≡ v ∷ vs → OnOk result (Moved program.now self.old self.new (runs (called (value self.old.stack.env.heap v) (map (value self.old.stack.env.heap) vs)) (call_n (length vs)) [] (depth_of program.now self.old) (goals_of self.old.stack rest) self.old.stack.env.count (local_of self.old))) }
+        ensures ok { (v : OfCell) (vs : List OfCell) → self.old.args.items ≡ v ∷ vs → OnOk result (Moved program.now self.old self.new (runs (called (value self.old.stack.env.heap v) (map (value self.old.stack.env.heap) vs)) (call_n (length vs)) [] (depth_of self.old) (goals_of self.old.stack rest) self.old.stack.env.count (local_of self.old))) }
         ensures err { OnErr result (Stays program.now self.old self.new) }
     {
         let level = self.stack.depth();

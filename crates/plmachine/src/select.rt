@@ -44,7 +44,7 @@ impl Machine {
     ) -> Result<(), AllocError>
         requires selected { (t : Tree) × IsSelected program.now self.old form source t }
         requires rest { IsList self.old.stack rest }
-        ensures ok { (t : Tree) → IsSelected program.now self.old form source t → OnOk result (Moved program.now self.old self.new (row program.now (form_of t) level t (depth_of program.now self.old) (goals_of self.old.stack rest) self.old.stack.env.count (local_of self.old))) }
+        ensures ok { (t : Tree) → IsSelected program.now self.old form source t → OnOk result (Moved program.now self.old self.new (row program.now (form_of t) level t (depth_of self.old) (goals_of self.old.stack rest) self.old.stack.env.count (local_of self.old))) }
         ensures err { OnErr result (Stays program.now self.old self.new) }
     {
         match form {
@@ -134,7 +134,7 @@ impl Machine {
         requires few { length self.old.args.items ≤ 1024 }
         requires source { (t : Tree) × StandsFor self.old.stack source t }
         requires rest { IsList self.old.stack rest }
-        ensures ok { (p : OfIndicator) (t : Tree) → StandsFor self.old.stack source t → IsCallOf program.now self.old p procedure t → OnOk result (Moved program.now self.old self.new (user (clauses_for program.now p) (depth_of program.now self.old) t (goals_of self.old.stack rest) self.old.stack.env.count (local_of self.old))) }
+        ensures ok { (p : OfIndicator) (t : Tree) → StandsFor self.old.stack source t → IsCallOf program.now self.old p procedure t → OnOk result (Moved program.now self.old self.new (user (clauses_for program.now p) (depth_of self.old) t (goals_of self.old.stack rest) self.old.stack.env.count (local_of self.old))) }
         ensures err { OnErr result (Stays program.now self.old self.new) }
     {
         match procedure {
@@ -155,7 +155,7 @@ impl Machine {
         requires args { AreValues self.old.stack.env.heap self.old.args.items }
         requires few { length self.old.args.items ≤ 1024 }
         requires rest { IsList self.old.stack rest }
-        ensures ok { (p : OfIndicator) (t : Tree) → IsStaticCall program.now self.old p place t → OnOk result (Moved program.now self.old self.new (called (depth_of program.now self.old) self.old.stack.env.count t (goals_of self.old.stack rest) (clauses_for program.now p) (local_of self.old))) }
+        ensures ok { (p : OfIndicator) (t : Tree) → IsStaticCall program.now self.old p place t → OnOk result (Moved program.now self.old self.new (called (depth_of self.old) self.old.stack.env.count t (goals_of self.old.stack rest) (clauses_for program.now p) (local_of self.old))) }
         ensures err { OnErr result (Stays program.now self.old self.new) }
     {
         if self.stack.call(place, &self.args, rest)? {

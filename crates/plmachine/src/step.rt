@@ -29,7 +29,7 @@ impl Machine {
         requires begun { IsBegun program.now self.old }
         requires visits { self.old.mode ≡ Mode.Visit }
         requires at { (es : List Element) × AtStep self.old.stack es run step rest }
-        ensures ok { (es : List Element) (at : AtStep self.old.stack es run step rest) → OnOk result (Moved program.now self.old self.new (row program.now (form_by_term (bound_at self.old.stack run at.goal)) run.level (bound_at self.old.stack run at.goal) (depth_of program.now self.old) (goals_of self.old.stack rest) self.old.stack.env.count (local_of self.old))) }
+        ensures ok { (es : List Element) (at : AtStep self.old.stack es run step rest) → OnOk result (Moved program.now self.old self.new (row program.now (form_by_term (bound_at self.old.stack run at.goal)) run.level (bound_at self.old.stack run at.goal) (depth_of self.old) (goals_of self.old.stack rest) self.old.stack.env.count (local_of self.old))) }
         ensures err { OnErr result (Stays program.now self.old self.new) }
     {
         match step.op {

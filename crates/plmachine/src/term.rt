@@ -34,7 +34,7 @@ impl Machine {
         requires visits { self.old.mode ≡ Mode.Visit }
         requires goal { IsValue self.old.stack.env.heap goal }
         requires rest { IsList self.old.stack rest }
-        ensures ok { OnOk result (Moved program.now self.old self.new (row program.now (form_by_term (value self.old.stack.env.heap goal)) level (value self.old.stack.env.heap goal) (depth_of program.now self.old) (goals_of self.old.stack rest) self.old.stack.env.count (local_of self.old))) }
+        ensures ok { OnOk result (Moved program.now self.old self.new (row program.now (form_by_term (value self.old.stack.env.heap goal)) level (value self.old.stack.env.heap goal) (depth_of self.old) (goals_of self.old.stack rest) self.old.stack.env.count (local_of self.old))) }
         ensures err { OnErr result (Stays program.now self.old self.new) }
     {
         self.solve(program, Source::Value(goal), level, rest)
@@ -52,7 +52,7 @@ impl Machine {
         requires visits { self.old.mode ≡ Mode.Visit }
         requires source { (t : Tree) × StandsFor self.old.stack source t }
         requires rest { IsList self.old.stack rest }
-        ensures ok { (t : Tree) → StandsFor self.old.stack source t → OnOk result (Moved program.now self.old self.new (row program.now (form_by_term t) level t (depth_of program.now self.old) (goals_of self.old.stack rest) self.old.stack.env.count (local_of self.old))) }
+        ensures ok { (t : Tree) → StandsFor self.old.stack source t → OnOk result (Moved program.now self.old self.new (row program.now (form_by_term t) level t (depth_of self.old) (goals_of self.old.stack rest) self.old.stack.env.count (local_of self.old))) }
         ensures err { OnErr result (Stays program.now self.old self.new) }
     {
         if let Some(call) = self.calculation(&source) {

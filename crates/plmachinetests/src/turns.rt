@@ -1,6 +1,6 @@
 //! Searches turn by turn (plsolver).
-ghost use Rattle.std.specs.Prelude.{◌≡◌, ◌≤◌, true, IfOk, OnOk};
-ghost use Rattle.plsolver.specs.Solver.{IsOf, IsReplyTo, WaitsForReply};
+ghost use Rattle.std.specs.Prelude.{◌≡◌, ◌≤◌, ℕ, true, IfOk, OnOk};
+ghost use Rattle.plsolver.specs.Solver.{Fetches, IsOf, IsReplyTo, WaitsForReply};
 
 use plevent::{Reply, Request, ThreadEnd};
 use plload::goal::read_goal;
@@ -8,6 +8,7 @@ use plload::load::load;
 use plops::table::OpTable;
 use plprogram::program::Program;
 use plsolver::solver::{Solver, Turn};
+use plstore::Query;
 use plterm::term::Term;
 use plworld::World;
 use plwrite::style::Style;
@@ -60,6 +61,21 @@ fn serve(alloc: Global, program: &Program, going: &mut Going, request: &Request)
     Ok(())
 }
 
+/// Finds what was asked in a view.
+fn fetch(program: &Program, going: &mut Going, query: &Query) -> Result<(), Fail>
+    requires of { IsOf program.now going.old.solver.machine }
+    requires fetches { (g : ℕ) × Fetches going.old.solver g query.now }
+    requires within { going.old.solver.used ≤ going.old.solver.limit }
+    ensures of { OnOk result (IsOf program.now going.new.solver.machine) }
+    ensures solver { OnOk result (going.new.solver.limit ≡ going.old.solver.limit) }
+    ensures limit { going.new.limit ≡ going.old.limit }
+{
+    let view = going.solver.view();
+    let found = going.world.look(view, query)?;
+    going.solver.fetched(program, found)?;
+    Ok(())
+}
+
 /// A turn of so much fuel.
 #[tactic(auto, unfolding(plsolver::specs::Says::Says))]
 fn turn(
@@ -85,7 +101,11 @@ fn turn(
         Turn::Slice => Ok(None),
         Turn::Refresh => {
             let g = going.world.front();
-            going.solver.refreshed(program, g, going.world.store())?;
+            going.solver.refreshed(program, g)?;
+            Ok(None)
+        }
+        Turn::Fetch(query) => {
+            fetch(program, going, &query)?;
             Ok(None)
         }
         Turn::Ask(request) => {

@@ -9,14 +9,15 @@ use Rattle.plevent.specs.Search.{Ask, Got, Search, item_of, item_of_end}
 use Rattle.plhist.specs.declared.history.RunEnd.{RunEnd}
 use Rattle.plhist.specs.Follows.{replied, HasAsked, HasEnded, from_start, asks_of, last_of}
 use Rattle.plsearch.specs.Solving.{EndsAt}
-use Rattle.plrun.specs.Going.{Going}
+use Rattle.plstack.specs.Places.{Views}
+use Rattle.plrun.specs.Going.{Going, views_of}
 use Rattle.plrun.specs.Halts.{act_of}
 use Rattle.plrun.proofs.Grow.{takes-grow}
-use Rattle.plrun.proofs.Steps.{asks-same, answer-ask, own-grows}
+use Rattle.plrun.proofs.Steps.{asks-same, answer-ask, own-grows, own-views}
 
 -- the last request was answered Done, at the journal's length
-unfoldable pub asked-last : (search : Search) (limit : ℕ) (rest : Search) (used : ℕ) (h : List Entry) (t w : ℕ) (places : List ℕ) (e : ThreadEnd) →
-    item_of (rest limit []).next ≡ Some (Ask (last_of e)) → served (last_of e) t (reading h) ≡ (Reply.Done, Some (t, act_of e)) → Going search limit rest used h t places →
+unfoldable pub asked-last : (search : Search) (limit : ℕ) (rest : Views → Search) (used : ℕ) (h : List Entry) (t w : ℕ) (places : List ℕ) (e : ThreadEnd) →
+    item_of (rest (views_of h) limit []).next ≡ Some (Ask (last_of e)) → served (last_of e) t (reading h) ≡ (Reply.Done, Some (t, act_of e)) → Going search limit rest used h t places →
     HasAsked search limit (h ++ record { worker = w; thread = t; act = act_of e } ∷ []) t (places ++ length h ∷ []) e
 asked-last search limit rest used h t w places e asks row g =
     let s = g.state in
@@ -27,7 +28,7 @@ asked-last search limit rest used h t w places e asks row g =
       start = g.start;
       before = s;
       items = takes-grow (asks_of search limit) h more t places (from_start g.start) s (g.items limit g.within);
-      asks = ap item_of (asks-same search rest limit used s.answers (rest limit []).next g.rests g.within refl) ∙ asks;
+      asks = ap item_of (asks-same search (rest (views_of h)) limit used s.answers (rest (views_of h) limit []).next (g.rests (views_of h) (own-views h)) g.within refl) ∙ asks;
       last = record { answers = s.answers ++ Got Reply.Done ∷ []; low = suc (length h); made = s.made ++ (length h, act_of e) ∷ [] };
       finished = answer-ask h more t (last_of e) s g.low ∙ ap (λ r. replied r (length h) s) row;
       told = refl;
@@ -35,11 +36,11 @@ asked-last search limit rest used h t w places e asks row g =
     }
 
 -- the end was told
-pub ended-told : (search : Search) (limit : ℕ) (rest : Search) (used : ℕ) (h : List Entry) (t w : ℕ) (places : List ℕ) (e : ThreadEnd) (out : List ℕ) →
-    item_of_end e ≡ Some (Ask (last_of e)) → EndsAt limit e rest used out → served (last_of e) t (reading h) ≡ (Reply.Done, Some (t, act_of e)) → Going search limit rest used h t places →
+pub ended-told : (search : Search) (limit : ℕ) (rest : Views → Search) (used : ℕ) (h : List Entry) (t w : ℕ) (places : List ℕ) (e : ThreadEnd) (out : List ℕ) →
+    item_of_end e ≡ Some (Ask (last_of e)) → ((v : Views) → EndsAt limit e (rest v) used out) → served (last_of e) t (reading h) ≡ (Reply.Done, Some (t, act_of e)) → Going search limit rest used h t places →
     HasEnded search limit (h ++ record { worker = w; thread = t; act = act_of e } ∷ []) (record { thread = t; places = places ++ length h ∷ []; steps = used; «end» = RunEnd.Ended e; output = out }) e
 unfolding asked-last
 ended-told search limit rest used h t w places e out item says row g = record {
-  asked = asked-last search limit rest used h t w places e (ap (λ x. item_of x.next) (says.1 []) ∙ item) row g;
-  ends = g.rests limit (Got Reply.Done ∷ []) g.within ∙ says.1 (Got Reply.Done ∷ []);
+  asked = asked-last search limit rest used h t w places e (ap (λ x. item_of x.next) ((says (views_of h)).1 []) ∙ item) row g;
+  ends = g.rests (views_of h) (own-views h) limit (Got Reply.Done ∷ []) g.within ∙ (says (views_of h)).1 (Got Reply.Done ∷ []);
 }

@@ -22,18 +22,19 @@ use Rattle.plhist.specs.Follows.{is_not_yet, last_of}
 use Rattle.plhist.specs.Legal.{IsDue}
 use Rattle.plhist.proofs.Alone.{main-alone}
 use Rattle.plhist.proofs.OneMore.{reading-push, halted-push}
-use Rattle.plworld.proofs.Push.{before-is}
+use Rattle.plworld.proofs.Push.{before-is, view-stays}
 use Rattle.plprogram.specs.Program.{Program}
 use Rattle.plsearch.specs.Search.{search_of}
 use Rattle.plsearch.specs.Solving.{Goes, TakesOne, StandsAt, EndsAt}
 use Rattle.plsolver.specs.Solver.{IsReplyTo}
-use Rattle.plrun.specs.Going.{Free, Going, IsClosed, IsRunning, IsHalted, IsStarted, Runs, Halts}
+use Rattle.plstack.specs.Places.{Views}
+use Rattle.plrun.specs.Going.{Free, Going, IsClosed, IsRunning, IsHalted, IsStarted, Runs, Halts, views_of}
 use Rattle.plrun.specs.Halts.{IsCommon, HaltsWhenDone, HaltsNoSooner, act_of, told, told_places}
 use Rattle.plrun.specs.Overall.{IsHistory}
 use Rattle.plrun.proofs.Grow.{sound-push}
 use Rattle.plrun.proofs.Free.{is_plain}
 use Rattle.plrun.proofs.Rows.{row-served, publish-due, erase-due, last-served, last-due}
-use Rattle.plrun.proofs.Steps.{asks-same, going-goes, going-view, going-reply, going-act}
+use Rattle.plrun.proofs.Steps.{GoesAt, TakesAt, asks-same, going-goes, going-view, going-reply, going-act, own-views}
 use Rattle.plrun.proofs.Ends.{asked-last, ended-told}
 
 -- a view at the journal's length sees all its updates
@@ -41,22 +42,23 @@ pub before-length : (h : List Entry) → before (length h) (reading h).updates �
 before-length h = before-is (length h) h (omega arith) ∙ ap (λ l. (reading l).updates) (ap (take (length h)) (sym (append-nil h)) ∙ take-append_seam h [])
 
 -- a view
-pub looked : (first : List Update) (search : Search) (limit : ℕ) (old new : Search) (before_used used : ℕ) (out : List ℕ) (h : List Entry) (t : ℕ) (places later : List ℕ) (g : ℕ) (us : List Stamped) →
-    IsRunning first search limit old before_used h t places → StandsAt View old before_used out → g ≡ length h → us ≡ (reading h).updates →
-    TakesOne (Seen g (before g us)) old before_used new used → later ≡ places ++ g ∷ [] → IsRunning first search limit new used h t later
-looked first search limit old new before_used used out h t places later g us r at now all one pushed =
-    let seen : before g us ≡ (reading h).updates = ap₂ before now all ∙ before-length h in record {
-      sound = r.sound;
-      going = subst (Going search limit new used h t) (sym (pushed ∙ ap (λ g. places ++ g ∷ []) now))
-          (going-view search limit old new before_used used h t places (λ n le. ap (λ e. e.next) (at n le))
-          (subst (λ a. TakesOne a old before_used new used) (ap₂ Seen now seen) one) r.going);
-    }
+pub looked : (first : List Update) (search : Search) (limit : ℕ) (old new : Views → Search) (before_used used : ℕ) (out : List ℕ) (h : List Entry) (t : ℕ) (places later : List ℕ) (g : ℕ) →
+    IsRunning first search limit old before_used h t places → ((v : Views) → StandsAt View (old v) before_used out) → g ≡ length h →
+    ((v : Views) → TakesOne (Seen g (v g)) (old v) before_used (new v) used) → later ≡ places ++ g ∷ [] → IsRunning first search limit new used h t later
+looked first search limit old new before_used used out h t places later g r at now one pushed = record {
+  sound = r.sound;
+  going = subst (Going search limit new used h t) (sym (pushed ∙ ap (λ g. places ++ g ∷ []) now))
+      (going-view search limit old new before_used used h t places (λ n le. ap (λ e. e.next) (at (views_of h) n le))
+      (λ v are.
+      let seen : v g ≡ (reading h).updates = are g (omega (arith, now)) ∙ ap (λ k. before k (reading h).updates) now ∙ before-length h in
+      subst (λ a. TakesOne a (old v) before_used (new v) used) (ap₂ Seen now seen) (one v)) r.going);
+}
 
 -- a request that is answered by a batch of the thread's
-batched : (first : List Update) (search : Search) (limit : ℕ) (old new : Search) (before_used used : ℕ) (out : List ℕ) (h h' : List Entry) (t : ℕ) (places later : List ℕ) (g : ℕ) (q : Request) (us : List Update) (is reply : Reply) →
-    IsRunning first search limit old before_used h t places → StandsAt (Ask q) old before_used out → g ≡ length h → served q t (reading h) ≡ (is, Some (t, Act.Batch us)) → is_not_yet is ≡ false → IsCommon (Got is) →
+batched : (first : List Update) (search : Search) (limit : ℕ) (old new : Views → Search) (before_used used : ℕ) (out : List ℕ) (h h' : List Entry) (t : ℕ) (places later : List ℕ) (g : ℕ) (q : Request) (us : List Update) (is reply : Reply) →
+    IsRunning first search limit old before_used h t places → ((v : Views) → StandsAt (Ask q) (old v) before_used out) → g ≡ length h → served q t (reading h) ≡ (is, Some (t, Act.Batch us)) → is_not_yet is ≡ false → IsCommon (Got is) →
     IsDue (reading h) (record { worker = 1; thread = t; act = Act.Batch us }) →
-    reply ≡ reply_to h t q → h' ≡ h ++ adds h 1 t q → TakesOne (Got reply) old before_used new used → later ≡ places ++ g ∷ [] →
+    reply ≡ reply_to h t q → h' ≡ h ++ adds h 1 t q → TakesAt h (Got reply) old before_used new used → later ≡ places ++ g ∷ [] →
     IsRunning first search limit new used h' t later
 unfolding is_plain
 batched first search limit old new before_used used out h h' t places later g q us is reply r at now row some common due tells grows one pushed =
@@ -66,23 +68,23 @@ batched first search limit old new before_used used out h h' t places later g q 
     subst (λ l. IsRunning first search limit new used l t later) (sym grown) (record {
       sound = sound-push first h e r.sound due refl;
       going = subst (Going search limit new used (h ++ e ∷ []) t) (sym (pushed ∙ ap (λ g. places ++ g ∷ []) now))
-          (going-act search limit old new before_used used h t 1 places q is (Act.Batch us) (λ n le. ap (λ e. e.next) (at n le))
-          (subst (λ x. TakesOne (Got x) old before_used new used) told one) row some refl common r.going);
+          (going-act search limit old new before_used used h t 1 places q is (Act.Batch us) (λ n le. ap (λ e. e.next) (at (views_of h) n le))
+          (subst (λ x. TakesAt h (Got x) old before_used new used) told one) row some refl common r.going);
     })
 
 -- a batch that is published
-pub published : (first : List Update) (search : Search) (limit : ℕ) (old new : Search) (before_used used : ℕ) (out : List ℕ) (h h' : List Entry) (t : ℕ) (places later : List ℕ) (g : ℕ) (us : List Update) (reply : Reply) →
-    IsRunning first search limit old before_used h t places → StandsAt (Ask (Request.Publish us)) old before_used out → g ≡ length h →
-    reply ≡ reply_to h t (Request.Publish us) → h' ≡ h ++ adds h 1 t (Request.Publish us) → TakesOne (Got reply) old before_used new used → later ≡ places ++ g ∷ [] →
+pub published : (first : List Update) (search : Search) (limit : ℕ) (old new : Views → Search) (before_used used : ℕ) (out : List ℕ) (h h' : List Entry) (t : ℕ) (places later : List ℕ) (g : ℕ) (us : List Update) (reply : Reply) →
+    IsRunning first search limit old before_used h t places → ((v : Views) → StandsAt (Ask (Request.Publish us)) (old v) before_used out) → g ≡ length h →
+    reply ≡ reply_to h t (Request.Publish us) → h' ≡ h ++ adds h 1 t (Request.Publish us) → TakesAt h (Got reply) old before_used new used → later ≡ places ++ g ∷ [] →
     IsRunning first search limit new used h' t later
 published first search limit old new before_used used out h h' t places later g us reply r at now tells grows one pushed =
     batched first search limit old new before_used used out h h' t places later g (Request.Publish us) us Reply.Published reply r at now (row-served (Request.Publish us) t (reading h) refl r.going.free) refl tt
     (publish-due us t (reading h) r.going.free) tells grows one pushed
 
 -- a clause that is to be erased: it goes by a batch, or is gone
-pub erased : (first : List Update) (search : Search) (limit : ℕ) (old new : Search) (before_used used : ℕ) (out : List ℕ) (h h' : List Entry) (t : ℕ) (places later : List ℕ) (g : ℕ) (x : ClauseName) (reply : Reply) →
-    IsRunning first search limit old before_used h t places → StandsAt (Ask (Request.EraseOne x)) old before_used out → g ≡ length h →
-    reply ≡ reply_to h t (Request.EraseOne x) → h' ≡ h ++ adds h 1 t (Request.EraseOne x) → TakesOne (Got reply) old before_used new used → later ≡ places ++ g ∷ [] →
+pub erased : (first : List Update) (search : Search) (limit : ℕ) (old new : Views → Search) (before_used used : ℕ) (out : List ℕ) (h h' : List Entry) (t : ℕ) (places later : List ℕ) (g : ℕ) (x : ClauseName) (reply : Reply) →
+    IsRunning first search limit old before_used h t places → ((v : Views) → StandsAt (Ask (Request.EraseOne x)) (old v) before_used out) → g ≡ length h →
+    reply ≡ reply_to h t (Request.EraseOne x) → h' ≡ h ++ adds h 1 t (Request.EraseOne x) → TakesAt h (Got reply) old before_used new used → later ≡ places ++ g ∷ [] →
     IsRunning first search limit new used h' t later
 erased first search limit old new before_used used out h h' t places later g x reply r at now tells grows one pushed = go (is_alive x (reading h).updates) refl
   where
@@ -100,13 +102,13 @@ erased first search limit old new before_used used out h h' t places later g x r
         subst (λ l. IsRunning first search limit new used l t later) (sym same) (record {
           sound = r.sound;
           going = subst (Going search limit new used h t) (sym (pushed ∙ ap (λ g. places ++ g ∷ []) now))
-              (going-reply search limit old new before_used used h t places (Request.EraseOne x) Reply.Gone (λ n le. ap (λ e. e.next) (at n le))
-              (subst (λ y. TakesOne (Got y) old before_used new used) told one) is refl tt r.going);
+              (going-reply search limit old new before_used used h t places (Request.EraseOne x) Reply.Gone (λ n le. ap (λ e. e.next) (at (views_of h) n le))
+              (subst (λ y. TakesAt h (Got y) old before_used new used) told one) is refl tt r.going);
         })
 
 -- the solver went on
-pub went : (first : List Update) (search : Search) (limit : ℕ) (old new : Search) (before_used used : ℕ) (h : List Entry) (t : ℕ) (places later : List ℕ) →
-    IsRunning first search limit old before_used h t places → Goes limit old before_used new used → later ≡ places → IsRunning first search limit new used h t later
+pub went : (first : List Update) (search : Search) (limit : ℕ) (old new : Views → Search) (before_used used : ℕ) (h : List Entry) (t : ℕ) (places later : List ℕ) →
+    IsRunning first search limit old before_used h t places → GoesAt h limit old before_used new used → later ≡ places → IsRunning first search limit new used h t later
 went first search limit old new before_used used h t places later r goes same = record {
   sound = r.sound;
   going = subst (Going search limit new used h t) (sym same) (going-goes search limit old new before_used used h t places goes r.going);
@@ -163,9 +165,9 @@ last_closed h t ThreadEnd.Budget f = told_closed h t ThreadEnd.Budget f
 last_closed h t (ThreadEnd.Halt n) f = halt_closed h t n f
 
 -- the request that ends the run
-pub halted : (first : List Update) (search : Search) (limit : ℕ) (old new : Search) (before_used used : ℕ) (out : List ℕ) (h h' : List Entry) (t : ℕ) (places later : List ℕ) (g n : ℕ) (reply : Reply) →
-    HaltsWhenDone search → IsRunning first search limit old before_used h t places → StandsAt (Ask (Request.HaltRun n)) old before_used out → g ≡ length h →
-    reply ≡ reply_to h t (Request.HaltRun n) → h' ≡ h ++ adds h 1 t (Request.HaltRun n) → TakesOne (Got reply) old before_used new used → later ≡ places ++ g ∷ [] →
+pub halted : (first : List Update) (search : Search) (limit : ℕ) (old new : Views → Search) (before_used used : ℕ) (out : List ℕ) (h h' : List Entry) (t : ℕ) (places later : List ℕ) (g n : ℕ) (reply : Reply) →
+    HaltsWhenDone search → IsRunning first search limit old before_used h t places → ((v : Views) → StandsAt (Ask (Request.HaltRun n)) (old v) before_used out) → g ≡ length h →
+    reply ≡ reply_to h t (Request.HaltRun n) → h' ≡ h ++ adds h 1 t (Request.HaltRun n) → TakesAt h (Got reply) old before_used new used → later ≡ places ++ g ∷ [] →
     IsHalted first search limit new used h' t later n
 unfolding asked-last
 halted first search limit old new before_used used out h h' t places later g n reply halts r at now tells grows one pushed =
@@ -175,10 +177,11 @@ halted first search limit old new before_used used out h h' t places later g n r
     let e : Entry = record { worker = 1; thread = t; act = Act.Halt n } in
     let grown : h' ≡ h ++ e ∷ [] = grows ∙ ap (λ x. h ++ entries_of 1 x.1) is in
     let tells_done : reply ≡ Reply.Done = tells ∙ ap (λ x. x.0) is in
-    let done : TakesOne (Got Reply.Done) old before_used new used = subst (λ x. TakesOne (Got x) old before_used new used) tells_done one in
+    let v : Views = views_of (h ++ e ∷ []) in
+    let done = subst (λ x. TakesAt h (Got x) old before_used new used) tells_done one v (λ k le. view-stays k h (e ∷ []) le) in
     let within : used ≤ limit = omega (arith, r.going.within, done.0) in
-    let waits : (old limit []).next ≡ Wants (Ask (Request.HaltRun n)) = ap (λ x. x.next) (at limit r.going.within) in
-    let rests : search limit (s.answers ++ Got Reply.Done ∷ []) ≡ new limit [] = r.going.rests limit (Got Reply.Done ∷ []) r.going.within ∙ done.1 limit [] within in
+    let waits : (old (views_of h) limit []).next ≡ Wants (Ask (Request.HaltRun n)) = ap (λ x. x.next) (at (views_of h) limit r.going.within) in
+    let rests : search limit (s.answers ++ Got Reply.Done ∷ []) ≡ new v limit [] = r.going.rests v (λ k le. view-stays k h (e ∷ []) le) limit (Got Reply.Done ∷ []) r.going.within ∙ done.1 limit [] within in
     subst (λ l. IsHalted first search limit new used l t later n) (sym grown)
     (subst (λ p. IsHalted first search limit new used (h ++ e ∷ []) t p n) (sym (pushed ∙ ap (λ g. places ++ g ∷ []) now)) (record {
       sound = sound-push first h e r.sound (last-due (ThreadEnd.Halt n) t (reading h) f) refl;
@@ -186,7 +189,7 @@ halted first search limit old new before_used used out h h' t places later g n r
       asked = asked-last search limit old before_used h t 1 places (ThreadEnd.Halt n) (ap item_of waits) is r.going;
       rests = rests;
       ends = sym (ap (λ x. x.next) rests)
-          ∙ halts limit n s.answers r.going.common (asks-same search old limit before_used s.answers (Wants (Ask (Request.HaltRun n))) r.going.rests r.going.within waits);
+          ∙ halts limit n s.answers r.going.common (asks-same search (old (views_of h)) limit before_used s.answers (Wants (Ask (Request.HaltRun n))) (r.going.rests (views_of h) (own-views h)) r.going.within waits);
       within = within;
     }))
 
@@ -198,9 +201,9 @@ MayWait (Request.HaltRun n) = Unit {0}
 MayWait q = ⊥
 
 -- a request that a thread asks
-pub served-by : (first : List Update) (search : Search) (limit : ℕ) (old new : Search) (before_used used : ℕ) (out : List ℕ) (h h' : List Entry) (t : ℕ) (places later : List ℕ) (g : ℕ) (q : Request) (reply : Reply) →
-    HaltsWhenDone search → MayWait q → IsRunning first search limit old before_used h t places → StandsAt (Ask q) old before_used out → g ≡ length h →
-    reply ≡ reply_to h t q → h' ≡ h ++ adds h 1 t q → TakesOne (Got reply) old before_used new used → later ≡ places ++ g ∷ [] → IsStarted first search limit new used h' t later
+pub served-by : (first : List Update) (search : Search) (limit : ℕ) (old new : Views → Search) (before_used used : ℕ) (out : List ℕ) (h h' : List Entry) (t : ℕ) (places later : List ℕ) (g : ℕ) (q : Request) (reply : Reply) →
+    HaltsWhenDone search → MayWait q → IsRunning first search limit old before_used h t places → ((v : Views) → StandsAt (Ask q) (old v) before_used out) → g ≡ length h →
+    reply ≡ reply_to h t q → h' ≡ h ++ adds h 1 t q → TakesAt h (Got reply) old before_used new used → later ≡ places ++ g ∷ [] → IsStarted first search limit new used h' t later
 served-by first search limit old new before_used used out h h' t places later g (Request.Publish us) reply halts may r at now tells grows one pushed =
     Runs (published first search limit old new before_used used out h h' t places later g us reply r at now tells grows one pushed)
 served-by first search limit old new before_used used out h h' t places later g (Request.EraseOne x) reply halts may r at now tells grows one pushed =
@@ -211,17 +214,17 @@ served-by first search limit old new before_used used out h h' t places later g 
 served-by first search limit old new before_used used out h h' t places later g (Request.Finish e) reply halts never r at now tells grows one pushed = absurd never
 
 -- a thread that asks has not ended the run
-pub still-runs : (first : List Update) (search : Search) (limit : ℕ) (rest : Search) (used : ℕ) (out : List ℕ) (h : List Entry) (t : ℕ) (places : List ℕ) (q : Item) →
-    StandsAt q rest used out → IsStarted first search limit rest used h t places → IsRunning first search limit rest used h t places
+pub still-runs : (first : List Update) (search : Search) (limit : ℕ) (rest : Views → Search) (used : ℕ) (out : List ℕ) (h : List Entry) (t : ℕ) (places : List ℕ) (q : Item) →
+    ((v : Views) → StandsAt q (rest v) used out) → IsStarted first search limit rest used h t places → IsRunning first search limit rest used h t places
 still-runs first search limit rest used out h t places q at (Runs r) = r
-still-runs first search limit rest used out h t places q at (Halts n x) = absurd (apart q n (sym (ap (λ e. e.next) (at limit x.within)) ∙ x.ends))
+still-runs first search limit rest used out h t places q at (Halts n x) = absurd (apart q n (sym (ap (λ e. e.next) (at (views_of h) limit x.within)) ∙ x.ends))
   where
     apart : (q : Item) (n : ℕ) → Wants q ≡ Finishes (ThreadEnd.Halt n) → ⊥
     apart q n is = cc
 
 -- the journal with main's last entry
-ended_last : (first : List Update) (search : Search) (limit : ℕ) (rest : Search) (used : ℕ) (out : List ℕ) (h h' : List Entry) (t : ℕ) (places : List ℕ) (e : ThreadEnd) (run : Run) →
-    item_of_end e ≡ Some (Ask (last_of e)) → IsRunning first search limit rest used h t places → EndsAt limit e rest used out → h' ≡ h ++ adds h 1 t (last_of e) →
+ended_last : (first : List Update) (search : Search) (limit : ℕ) (rest : Views → Search) (used : ℕ) (out : List ℕ) (h h' : List Entry) (t : ℕ) (places : List ℕ) (e : ThreadEnd) (run : Run) →
+    item_of_end e ≡ Some (Ask (last_of e)) → IsRunning first search limit rest used h t places → ((v : Views) → EndsAt limit e (rest v) used out) → h' ≡ h ++ adds h 1 t (last_of e) →
     run ≡ record { thread = t; places = places ++ length h ∷ []; steps = used; «end» = RunEnd.Ended e; output = out } → IsHistory first (λ t. search) limit h' (run ∷ [])
 ended_last first search limit rest used out h h' t places e run item r says grows made =
     let f = r.going.free in
@@ -240,23 +243,23 @@ ended_last first search limit rest used out h h' t places e run item r says grow
     }))
 
 -- a thread that goes on comes to an end of its own, of which it tells
-running_ends : (first : List Update) (search : Search) (limit : ℕ) (rest : Search) (used : ℕ) (out : List ℕ) (h h' : List Entry) (t : ℕ) (places : List ℕ) (e : ThreadEnd) (run : Run) →
-    HaltsNoSooner search → IsRunning first search limit rest used h t places → EndsAt limit e rest used out → h' ≡ told e t h →
+running_ends : (first : List Update) (search : Search) (limit : ℕ) (rest : Views → Search) (used : ℕ) (out : List ℕ) (h h' : List Entry) (t : ℕ) (places : List ℕ) (e : ThreadEnd) (run : Run) →
+    HaltsNoSooner search → IsRunning first search limit rest used h t places → ((v : Views) → EndsAt limit e (rest v) used out) → h' ≡ told e t h →
     run ≡ record { thread = t; places = told_places e h places; steps = used; «end» = RunEnd.Ended e; output = out } → IsHistory first (λ t. search) limit h' (run ∷ [])
 running_ends first search limit rest used out h h' t places (ThreadEnd.Halt n) run sooner r says grows made =
     let g = r.going in
-    absurd (sooner limit n g.state.answers g.common (asks-same search rest limit used g.state.answers (Finishes (ThreadEnd.Halt n)) g.rests g.within (ap (λ e. e.next) (says.1 []))))
+    absurd (sooner limit n g.state.answers g.common (asks-same search (rest (views_of h)) limit used g.state.answers (Finishes (ThreadEnd.Halt n)) (g.rests (views_of h) (own-views h)) g.within (ap (λ e. e.next) ((says (views_of h)).1 []))))
 running_ends first search limit rest used out h h' t places ThreadEnd.True run sooner r says grows made = ended_last first search limit rest used out h h' t places ThreadEnd.True run refl r says grows made
 running_ends first search limit rest used out h h' t places ThreadEnd.False run sooner r says grows made = ended_last first search limit rest used out h h' t places ThreadEnd.False run refl r says grows made
 running_ends first search limit rest used out h h' t places (ThreadEnd.Exception b) run sooner r says grows made = ended_last first search limit rest used out h h' t places (ThreadEnd.Exception b) run refl r says grows made
 running_ends first search limit rest used out h h' t places ThreadEnd.Budget run sooner r says grows made = ended_last first search limit rest used out h h' t places ThreadEnd.Budget run refl r says grows made
 
 -- one that has ended the run comes to that end
-halted_ends : (first : List Update) (search : Search) (limit : ℕ) (rest : Search) (used : ℕ) (out : List ℕ) (h h' : List Entry) (t : ℕ) (places : List ℕ) (n : ℕ) (e : ThreadEnd) (run : Run) →
-    e ≡ ThreadEnd.Halt n → IsHalted first search limit rest used h t places n → EndsAt limit e rest used out → h' ≡ told e t h →
+halted_ends : (first : List Update) (search : Search) (limit : ℕ) (rest : Views → Search) (used : ℕ) (out : List ℕ) (h h' : List Entry) (t : ℕ) (places : List ℕ) (n : ℕ) (e : ThreadEnd) (run : Run) →
+    e ≡ ThreadEnd.Halt n → IsHalted first search limit rest used h t places n → ((v : Views) → EndsAt limit e (rest v) used out) → h' ≡ told e t h →
     run ≡ record { thread = t; places = told_places e h places; steps = used; «end» = RunEnd.Ended e; output = out } → IsHistory first (λ t. search) limit h' (run ∷ [])
 halted_ends first search limit rest used out h h' t places n e run same x says grows made =
-    let ended : EndsAt limit (ThreadEnd.Halt n) rest used out = subst (λ e. EndsAt limit e rest used out) same says in
+    let ended : EndsAt limit (ThreadEnd.Halt n) (rest (views_of h)) used out = subst (λ e. EndsAt limit e (rest (views_of h)) used out) same (says (views_of h)) in
     let is : run ≡ record { thread = t; places = places; steps = used; «end» = RunEnd.Ended (ThreadEnd.Halt n); output = out } =
     made ∙ ap (λ e. record { thread = t; places = told_places e h places; steps = used; «end» = RunEnd.Ended e; output = out }) same in
     subst (λ l. IsHistory first (λ t. search) limit l (run ∷ [])) (sym (grows ∙ ap (λ e. told e t h) same))
@@ -269,35 +272,36 @@ halted_ends first search limit rest used out h h' t places n e run same x says g
     }))
 
 -- main's end
-pub finished : (first : List Update) (search : Search) (limit : ℕ) (rest : Search) (used : ℕ) (out : List ℕ) (h h' : List Entry) (t : ℕ) (places : List ℕ) (e : ThreadEnd) (run : Run) →
-    HaltsNoSooner search → IsStarted first search limit rest used h t places → EndsAt limit e rest used out → h' ≡ told e t h →
+pub finished : (first : List Update) (search : Search) (limit : ℕ) (rest : Views → Search) (used : ℕ) (out : List ℕ) (h h' : List Entry) (t : ℕ) (places : List ℕ) (e : ThreadEnd) (run : Run) →
+    HaltsNoSooner search → IsStarted first search limit rest used h t places → ((v : Views) → EndsAt limit e (rest v) used out) → h' ≡ told e t h →
     run ≡ record { thread = t; places = told_places e h places; steps = used; «end» = RunEnd.Ended e; output = out } → IsHistory first (λ t. search) limit h' (run ∷ [])
 finished first search limit rest used out h h' t places e run sooner (Runs r) says grows made = running_ends first search limit rest used out h h' t places e run sooner r says grows made
 finished first search limit rest used out h h' t places e run sooner (Halts n x) says grows made =
-    halted_ends first search limit rest used out h h' t places n e run (same_end e n (sym (ap (λ e. e.next) (says.1 [])) ∙ x.ends)) x says grows made
+    halted_ends first search limit rest used out h h' t places n e run (same_end e n (sym (ap (λ e. e.next) ((says (views_of h)).1 [])) ∙ x.ends)) x says grows made
   where
     same_end : (e : ThreadEnd) (n : ℕ) → Finishes e ≡ Finishes (ThreadEnd.Halt n) → e ≡ ThreadEnd.Halt n
     same_end e n is = cc
 
 -- the same for another name of the limit
-pub relimit : (P : Program) (m n : ℕ) (rest : Search) (used : ℕ) (h : List Entry) (t : ℕ) (places : List ℕ) → n ≡ m → IsRunning P.first (search_of P m) m rest used h t places → IsRunning P.first (search_of P n) n rest used h t places
+pub relimit : (P : Program) (m n : ℕ) (rest : Views → Search) (used : ℕ) (h : List Entry) (t : ℕ) (places : List ℕ) → n ≡ m → IsRunning P.first (search_of P m) m rest used h t places → IsRunning P.first (search_of P n) n rest used h t places
 relimit P m n rest used h t places is r = subst (λ k. IsRunning P.first (search_of P k) k rest used h t places) (sym is) r
 
 -- the solver went on, by its limit
-pub gone : (P : Program) (m n : ℕ) (old new : Search) (before_used used : ℕ) (h : List Entry) (t : ℕ) (places later : List ℕ) →
-    IsRunning P.first (search_of P m) m old before_used h t places → Goes m old before_used new used → later ≡ places → n ≡ m → IsRunning P.first (search_of P n) n new used h t later
+pub gone : (P : Program) (m n : ℕ) (old new : Views → Search) (before_used used : ℕ) (h : List Entry) (t : ℕ) (places later : List ℕ) →
+    IsRunning P.first (search_of P m) m old before_used h t places → GoesAt h m old before_used new used → later ≡ places → n ≡ m → IsRunning P.first (search_of P n) n new used h t later
 gone P m n old new before_used used h t places later r goes same is = relimit P m n new used h t later is (went P.first (search_of P m) m old new before_used used h t places later r goes same)
 
 -- the same for another name of the limit
-pub started-same : (P : Program) (m n : ℕ) (rest : Search) (used : ℕ) (h : List Entry) (t : ℕ) (places : List ℕ) → n ≡ m → IsStarted P.first (search_of P m) m rest used h t places → IsStarted P.first (search_of P n) n rest used h t places
+pub started-same : (P : Program) (m n : ℕ) (rest : Views → Search) (used : ℕ) (h : List Entry) (t : ℕ) (places : List ℕ) → n ≡ m → IsStarted P.first (search_of P m) m rest used h t places → IsStarted P.first (search_of P n) n rest used h t places
 started-same P m n rest used h t places is r = subst (λ k. IsStarted P.first (search_of P k) k rest used h t places) (sym is) r
 
 -- one that has ended the run stays so
-halted_gone : (first : List Update) (search : Search) (limit : ℕ) (old new : Search) (before_used used : ℕ) (h : List Entry) (t : ℕ) (places : List ℕ) (k : ℕ) →
-    IsHalted first search limit old before_used h t places k → Goes limit old before_used new used → IsHalted first search limit new used h t places k
+halted_gone : (first : List Update) (search : Search) (limit : ℕ) (old new : Views → Search) (before_used used : ℕ) (h : List Entry) (t : ℕ) (places : List ℕ) (k : ℕ) →
+    IsHalted first search limit old before_used h t places k → GoesAt h limit old before_used new used → IsHalted first search limit new used h t places k
 halted_gone first search limit old new before_used used h t places k x goes =
-    let within : used ≤ limit = goes.1 x.within in
-    let same : old limit [] ≡ new limit [] = goes.2 limit [] within in record {
+    let went_on = goes (views_of h) (own-views h) in
+    let within : used ≤ limit = went_on.1 x.within in
+    let same : old (views_of h) limit [] ≡ new (views_of h) limit [] = went_on.2 limit [] within in record {
       sound = x.sound;
       closed = x.closed;
       asked = x.asked;
@@ -307,14 +311,14 @@ halted_gone first search limit old new before_used used h t places k x goes =
     }
 
 -- the solver of a thread that was started went on
-pub started-gone : (P : Program) (m n : ℕ) (old new : Search) (before_used used : ℕ) (h : List Entry) (t : ℕ) (places later : List ℕ) →
-    IsStarted P.first (search_of P m) m old before_used h t places → Goes m old before_used new used → later ≡ places → n ≡ m → IsStarted P.first (search_of P n) n new used h t later
+pub started-gone : (P : Program) (m n : ℕ) (old new : Views → Search) (before_used used : ℕ) (h : List Entry) (t : ℕ) (places later : List ℕ) →
+    IsStarted P.first (search_of P m) m old before_used h t places → GoesAt h m old before_used new used → later ≡ places → n ≡ m → IsStarted P.first (search_of P n) n new used h t later
 started-gone P m n old new before_used used h t places later (Runs r) goes same is = Runs (gone P m n old new before_used used h t places later r goes same is)
 started-gone P m n old new before_used used h t places later (Halts k x) goes same is =
     subst (λ j. IsStarted P.first (search_of P j) j new used h t later) (sym is)
     (subst (IsStarted P.first (search_of P m) m new used h t) (sym same) (Halts k (halted_gone P.first (search_of P m) m old new before_used used h t places k x goes)))
 
-pub used-within : (first : List Update) (search : Search) (limit : ℕ) (rest : Search) (used : ℕ) (h : List Entry) (t : ℕ) (places : List ℕ) → IsStarted first search limit rest used h t places → used ≤ limit
+pub used-within : (first : List Update) (search : Search) (limit : ℕ) (rest : Views → Search) (used : ℕ) (h : List Entry) (t : ℕ) (places : List ℕ) → IsStarted first search limit rest used h t places → used ≤ limit
 used-within first search limit rest used h t places (Runs r) = r.going.within
 used-within first search limit rest used h t places (Halts n x) = x.within
 

@@ -19,6 +19,7 @@ use Rattle.plhist.specs.Follows.{own, takes, from_start}
 use Rattle.plhist.specs.Legal.{opening, Over}
 use Rattle.plhist.proofs.Alone.{main-alone}
 use Rattle.plsearch.specs.Solving.{Begins}
+use Rattle.plstack.specs.Places.{Views}
 use Rattle.plrun.specs.Going.{IsRunning}
 use Rattle.plrun.specs.Overall.{IsHistory, Stage, Before, Behind}
 use Rattle.plrun.proofs.Grow.{one-worker}
@@ -41,7 +42,7 @@ number_of Reply.Done = 0
 number_of Reply.Erased = 0
 number_of Reply.Gone = 0
 
-main_begun : (first : List Update) (search : Search) (limit : ℕ) (rest : Search) (used : ℕ) → Begins search rest used → IsRunning first search limit rest used (opening first ∷ start_entry ∷ []) 1 []
+main_begun : (first : List Update) (search : Search) (limit : ℕ) (rest : Views → Search) (used : ℕ) → ((v : Views) → Begins search (rest v) used) → IsRunning first search limit rest used (opening first ∷ start_entry ∷ []) 1 []
 unfolding takes reading own start_entry
 main_begun first search limit rest used begins = record {
   sound = record {
@@ -54,8 +55,8 @@ main_begun first search limit rest used begins = record {
     common = tt;
     owns = refl;
     items = λ n le. refl;
-    rests = λ n answers le. begins.1 n answers;
-    within = omega (arith, begins.0);
+    rests = λ v are n answers le. (begins v).1 n answers;
+    within = omega (arith, (begins (λ g. [])).0);
     low = omega arith;
     free = record { row = record (new_thread 1 (Some main)) { worker = Some 1 }; found = refl; started = refl; lives = refl; goes = refl };
   };
@@ -88,8 +89,8 @@ over_served h over = go (reading h).standing.halted refl
     go None is = let m = main-alone h in record { told = Reply.RunOver; row = start-served 0 (reading h) is ∙ over_row (reading h).standing m.row m.threads is over; never = λ n a g same. cc }
 
 -- Start was answered Started: main runs
-pub begun : (first : List Update) (search : Search) (limit : ℕ) (rest : Search) (used : ℕ) (h h' : List Entry) (reply : Reply) (n : ℕ) (a : Option (List ℕ)) (g : Option Tree) →
-    (h ≡ opening first ∷ []) ⊎ Over h → reply ≡ reply_to h 0 Request.Start → h' ≡ h ++ adds h 1 0 Request.Start → reply ≡ Reply.Started n a g → Begins search rest used →
+pub begun : (first : List Update) (search : Search) (limit : ℕ) (rest : Views → Search) (used : ℕ) (h h' : List Entry) (reply : Reply) (n : ℕ) (a : Option (List ℕ)) (g : Option Tree) →
+    (h ≡ opening first ∷ []) ⊎ Over h → reply ≡ reply_to h 0 Request.Start → h' ≡ h ++ adds h 1 0 Request.Start → reply ≡ Reply.Started n a g → ((v : Views) → Begins search (rest v) used) →
     IsRunning first search limit rest used h' n [] × (h ≡ opening first ∷ [])
 unfolding number_of start_entry
 begun first search limit rest used h h' reply n a g (inl opens) tells grows is begins =

@@ -11,22 +11,38 @@ use Rattle.plevent.specs.Rows.{served}
 use Rattle.plevent.specs.Search.{Item, View, Ask, Answer, Seen, Got, Next, Wants, Search, item_of}
 use Rattle.plhist.specs.Follows.{own, own_if, Taken, is_not_yet, noted, guarded, not_below, replied, answered, answer_at, item_at, takes, from_start, asks_of}
 use Rattle.plsearch.specs.Solving.{Goes, TakesOne}
-use Rattle.plrun.specs.Going.{Going}
+use Rattle.plstack.specs.Places.{Views}
+use Rattle.plworld.proofs.Push.{view-stays}
+use Rattle.plrun.specs.Going.{AreViews, Going, views_of}
 use Rattle.plrun.specs.Halts.{IsCommon, AreCommon}
 use Rattle.plrun.proofs.Grow.{own-push, takes-grow, takes-push}
 use Rattle.plrun.proofs.Free.{free-plain, is_plain}
 
+-- what holds of two searches where the views are those of a journal
+abbrev pub GoesAt : List Entry → ℕ → (Views → Search) → ℕ → (Views → Search) → ℕ → Type 0
+GoesAt h limit old before new used = (v : Views) → AreViews h v → Goes limit (old v) before (new v) used
+
+abbrev pub TakesAt : List Entry → Answer → (Views → Search) → ℕ → (Views → Search) → ℕ → Type 0
+TakesAt h a old before new used = (v : Views) → AreViews h v → TakesOne a (old v) before (new v) used
+
+pub own-views : (h : List Entry) → AreViews h (views_of h)
+own-views h g le = refl
+
+-- those of a longer journal are its views
+pub older-views : (h : List Entry) (e : Entry) (v : Views) → AreViews (h ++ e ∷ []) v → AreViews h v
+older-views h e v are g le = are g (omega (arith, le, length-append h (e ∷ []))) ∙ view-stays g h (e ∷ []) le
+
 -- the solver's own steps
-pub going-goes : (search : Search) (limit : ℕ) (old new : Search) (before used : ℕ) (h : List Entry) (t : ℕ) (places : List ℕ) →
-    Goes limit old before new used → Going search limit old before h t places → Going search limit new used h t places
+pub going-goes : (search : Search) (limit : ℕ) (old new : Views → Search) (before used : ℕ) (h : List Entry) (t : ℕ) (places : List ℕ) →
+    GoesAt h limit old before new used → Going search limit old before h t places → Going search limit new used h t places
 going-goes search limit old new before used h t places goes g = record {
   start = g.start;
   state = g.state;
   common = g.common;
   owns = g.owns;
-  items = λ n le. g.items n (omega (arith, le, goes.0));
-  rests = λ n answers le. g.rests n answers (omega (arith, le, goes.0)) ∙ goes.2 n answers le;
-  within = goes.1 g.within;
+  items = λ n le. g.items n (omega (arith, le, (goes (views_of h) (own-views h)).0));
+  rests = λ v are n answers le. g.rests v are n answers (omega (arith, le, (goes v are).0)) ∙ (goes v are).2 n answers le;
+  within = (goes (views_of h) (own-views h)).1 g.within;
   low = g.low;
   free = g.free;
 }
@@ -78,8 +94,8 @@ common-push [] a all one = (one, tt)
 common-push (x ∷ xs) a all one = (all.0, common-push xs a all.1 one)
 
 -- a view at the journal's length
-pub going-view : (search : Search) (limit : ℕ) (old new : Search) (before used : ℕ) (h : List Entry) (t : ℕ) (places : List ℕ) →
-    ((n : ℕ) → before ≤ n → (old n []).next ≡ Wants View) → TakesOne (Seen (length h) (reading h).updates) old before new used →
+pub going-view : (search : Search) (limit : ℕ) (old new : Views → Search) (before used : ℕ) (h : List Entry) (t : ℕ) (places : List ℕ) →
+    ((n : ℕ) → before ≤ n → (old (views_of h) n []).next ≡ Wants View) → TakesAt h (Seen (length h) (reading h).updates) old before new used →
     Going search limit old before h t places → Going search limit new used h t (places ++ length h ∷ [])
 going-view search limit old new before used h t places asks one g =
     let s = g.state in
@@ -89,11 +105,11 @@ going-view search limit old new before used h t places asks one g =
       common = common-push s.answers (Seen (length h) (reading h).updates) g.common tt;
       owns = g.owns;
       items = λ n le.
-          let from : before ≤ n = omega (arith, le, one.0) in
+          let from : before ≤ n = omega (arith, le, (one (views_of h) (own-views h)).0) in
           subst (λ l. takes (asks_of search n) l t (places ++ length h ∷ []) (from_start g.start) ≡ Some after) (append-nil h)
-          (items-push search n h [] t places g.start (length h) s after View (g.items n from) (ap item_of (asks-same search old n before s.answers (Wants View) g.rests from (asks n from))) (answer-view h [] t s g.low));
-      rests = λ n more le. rest-behind search old new before used n s.answers more (Seen (length h) (reading h).updates) g.rests one le;
-      within = omega (arith, g.within, one.0);
+          (items-push search n h [] t places g.start (length h) s after View (g.items n from) (ap item_of (asks-same search (old (views_of h)) n before s.answers (Wants View) (g.rests (views_of h) (own-views h)) from (asks n from))) (answer-view h [] t s g.low));
+      rests = λ v are n more le. rest-behind search (old v) (new v) before used n s.answers more (Seen (length h) (reading h).updates) (g.rests v are) (one v are) le;
+      within = omega (arith, g.within, (one (views_of h) (own-views h)).0);
       low = omega arith;
       free = g.free;
     }
@@ -107,8 +123,8 @@ own-grows h t w x k made is =
     ∙ ap (λ l. l ++ (length h, x) ∷ []) is
 
 -- a request that makes no entry
-pub going-reply : (search : Search) (limit : ℕ) (old new : Search) (before used : ℕ) (h : List Entry) (t : ℕ) (places : List ℕ) (q : Request) (reply : Reply) →
-    ((n : ℕ) → before ≤ n → (old n []).next ≡ Wants (Ask q)) → TakesOne (Got reply) old before new used →
+pub going-reply : (search : Search) (limit : ℕ) (old new : Views → Search) (before used : ℕ) (h : List Entry) (t : ℕ) (places : List ℕ) (q : Request) (reply : Reply) →
+    ((n : ℕ) → before ≤ n → (old (views_of h) n []).next ≡ Wants (Ask q)) → TakesAt h (Got reply) old before new used →
     served q t (reading h) ≡ (reply, None) → is_not_yet reply ≡ false → IsCommon (Got reply) →
     Going search limit old before h t places → Going search limit new used h t (places ++ length h ∷ [])
 going-reply search limit old new before used h t places q reply asks one row some common g =
@@ -119,20 +135,20 @@ going-reply search limit old new before used h t places q reply asks one row som
       common = common-push s.answers (Got reply) g.common common;
       owns = g.owns;
       items = λ n le.
-          let from : before ≤ n = omega (arith, le, one.0) in
+          let from : before ≤ n = omega (arith, le, (one (views_of h) (own-views h)).0) in
           subst (λ l. takes (asks_of search n) l t (places ++ length h ∷ []) (from_start g.start) ≡ Some after) (append-nil h)
           (items-push search n h [] t places g.start (length h) s after (Ask q) (g.items n from)
-          (ap item_of (asks-same search old n before s.answers (Wants (Ask q)) g.rests from (asks n from)))
+          (ap item_of (asks-same search (old (views_of h)) n before s.answers (Wants (Ask q)) (g.rests (views_of h) (own-views h)) from (asks n from)))
           (answer-ask h [] t q s g.low ∙ ap (λ r. replied r (length h) s) row ∙ ap (λ b. noted b (length h) s reply None) some));
-      rests = λ n more le. rest-behind search old new before used n s.answers more (Got reply) g.rests one le;
-      within = omega (arith, g.within, one.0);
+      rests = λ v are n more le. rest-behind search (old v) (new v) before used n s.answers more (Got reply) (g.rests v are) (one v are) le;
+      within = omega (arith, g.within, (one (views_of h) (own-views h)).0);
       low = omega arith;
       free = g.free;
     }
 
 -- a request that makes an entry
-pub going-act : (search : Search) (limit : ℕ) (old new : Search) (before used : ℕ) (h : List Entry) (t w : ℕ) (places : List ℕ) (q : Request) (reply : Reply) (x : Act) →
-    ((n : ℕ) → before ≤ n → (old n []).next ≡ Wants (Ask q)) → TakesOne (Got reply) old before new used →
+pub going-act : (search : Search) (limit : ℕ) (old new : Views → Search) (before used : ℕ) (h : List Entry) (t w : ℕ) (places : List ℕ) (q : Request) (reply : Reply) (x : Act) →
+    ((n : ℕ) → before ≤ n → (old (views_of h) n []).next ≡ Wants (Ask q)) → TakesAt h (Got reply) old before new used →
     served q t (reading h) ≡ (reply, Some (t, x)) → is_not_yet reply ≡ false → is_plain x ≡ true → IsCommon (Got reply) →
     Going search limit old before h t places → Going search limit new used (h ++ record { worker = w; thread = t; act = x } ∷ []) t (places ++ length h ∷ [])
 going-act search limit old new before used h t w places q reply x asks one row some plain common g =
@@ -144,12 +160,14 @@ going-act search limit old new before used h t w places q reply x asks one row s
       common = common-push s.answers (Got reply) g.common common;
       owns = own-grows h t w x g.start s.made g.owns;
       items = λ n le.
-          let from : before ≤ n = omega (arith, le, one.0) in
+          let from : before ≤ n = omega (arith, le, (one (views_of h) (own-views h)).0) in
           items-push search n h (e ∷ []) t places g.start (length h) s after (Ask q) (g.items n from)
-          (ap item_of (asks-same search old n before s.answers (Wants (Ask q)) g.rests from (asks n from)))
+          (ap item_of (asks-same search (old (views_of h)) n before s.answers (Wants (Ask q)) (g.rests (views_of h) (own-views h)) from (asks n from)))
           (answer-ask h (e ∷ []) t q s g.low ∙ ap (λ r. replied r (length h) s) row ∙ ap (λ b. noted b (length h) s reply (Some (t, x))) some);
-      rests = λ n more le. rest-behind search old new before used n s.answers more (Got reply) g.rests one le;
-      within = omega (arith, g.within, one.0);
+      rests = λ v are n more le.
+          let was = older-views h e v are in
+          rest-behind search (old v) (new v) before used n s.answers more (Got reply) (g.rests v was) (one v was) le;
+      within = omega (arith, g.within, (one (views_of h) (own-views h)).0);
       low = omega (arith, length-append h (e ∷ []));
       free = free-plain t h e plain g.free;
     }

@@ -14,12 +14,12 @@ use Rattle.plrun.specs.Halts.{told_places}
 -- it was begun with the program, follows main's search within the limit of steps of its solver, and goes on
 pub record GoesOn (P : Program) (h : List Entry) (r : Running) : Type 0 where
   pub of : IsOf P r.solver.machine
-  pub runs : let s = r.solver in IsRunning P.first (search_of P s.limit) s.limit (rest_of P s) s.used h r.thread s.places.items
+  pub runs : let s = r.solver in IsRunning P.first (search_of P s.limit) s.limit (λ v. rest_of P v s) s.used h r.thread s.places.items
 
 -- it goes on, or has ended the run
 pub record IsThread (P : Program) (h : List Entry) (r : Running) : Type 0 where
   pub of : IsOf P r.solver.machine
-  pub started : let s = r.solver in IsStarted P.first (search_of P s.limit) s.limit (rest_of P s) s.used h r.thread s.places.items
+  pub started : let s = r.solver in IsStarted P.first (search_of P s.limit) s.limit (λ v. rest_of P v s) s.used h r.thread s.places.items
 
 -- the run of a thread that comes to this end now
 abbrev pub run_now : List Entry → Running → ThreadEnd → Run

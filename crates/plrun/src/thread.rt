@@ -1,9 +1,10 @@
 //! One thread's turns.
-ghost use Rattle.std.specs.Prelude.{◌≡◌, IfOk, OnOk, IfSome, [], ◌∷◌};
+ghost use Rattle.std.specs.Prelude.{◌≡◌, ℕ, IfOk, OnOk, IfSome, [], ◌∷◌};
 ghost use Rattle.plevent.specs.Search.{View, Ask};
 ghost use Rattle.plsearch.specs.Solving.{StandsAt, EndsAt};
 ghost use Rattle.plsearch.specs.Search.{search_of};
-ghost use Rattle.plsolver.specs.Solver.{rest_of, WaitsForView, WaitsForReply};
+ghost use Rattle.plstack.specs.Places.{Views};
+ghost use Rattle.plsolver.specs.Solver.{Fetches, rest_of, WaitsForView, WaitsForReply};
 ghost use Rattle.plrun.specs.Halts.{told, told_places};
 ghost use Rattle.plrun.specs.Threads.{GoesOn, IsThread, run_now};
 ghost use Rattle.plrun.specs.Overall.{IsHistory};
@@ -12,6 +13,7 @@ use plevent::{Request, ThreadEnd};
 use plhist::{Output, Places, Run, RunEnd};
 use plprogram::program::Program;
 use plsolver::solver::{Solver, Turn};
+use plstore::Query;
 use plworld::World;
 use std::alloc::{AllocError, Global};
 
@@ -29,13 +31,32 @@ pub struct Running {
 fn look(program: &Program, world: &World, running: &mut Running) -> Result<(), AllocError>
     requires runs { GoesOn program.now world.now.journal running.old }
     requires waits { WaitsForView running.old.solver }
-    requires at { StandsAt View (rest_of program.now running.old.solver) running.old.solver.used running.old.solver.machine.out.items }
+    requires at { (v : Views) → StandsAt View (rest_of program.now v running.old.solver) running.old.solver.used running.old.solver.machine.out.items }
     ensures runs { OnOk result (GoesOn program.now world.now.journal running.new) }
     ensures limit { running.new.solver.limit ≡ running.old.solver.limit }
 {
-    running
-        .solver
-        .refreshed(program, world.front(), world.store())?;
+    running.solver.refreshed(program, world.front())?;
+    Ok(())
+}
+
+/// Finds what the thread asks in a view that it has.
+fn fetch(
+    program: &Program,
+    world: &World,
+    running: &mut Running,
+    query: &Query,
+) -> Result<(), AllocError>
+    requires runs { IsThread program.now world.now.journal running.old }
+    requires fetches { (g : ℕ) × Fetches running.old.solver g query.now }
+    ensures runs { OnOk result (IsThread program.now world.now.journal running.new) }
+    ensures limit { running.new.solver.limit ≡ running.old.solver.limit }
+{
+    let view = running.solver.view();
+    if world.front() < view {
+        return Err(AllocError);
+    }
+    let found = world.look(view, query)?;
+    running.solver.fetched(program, found)?;
     Ok(())
 }
 
@@ -49,7 +70,7 @@ fn serve(
 ) -> Result<(), AllocError>
     requires runs { GoesOn program.now world.old.journal running.old }
     requires waits { WaitsForReply running.old.solver request.now }
-    requires at { StandsAt (Ask request.now) (rest_of program.now running.old.solver) running.old.solver.used running.old.solver.machine.out.items }
+    requires at { (v : Views) → StandsAt (Ask request.now) (rest_of program.now v running.old.solver) running.old.solver.used running.old.solver.machine.out.items }
     ensures runs { OnOk result (IsThread program.now world.new.journal running.new) }
     ensures limit { running.new.solver.limit ≡ running.old.solver.limit }
 {
@@ -69,13 +90,17 @@ fn turn(
 ) -> Result<Option<ThreadEnd>, AllocError>
     requires { IsThread program.now world.old.journal running.old }
     ensures runs { OnOk result (IsThread program.now world.new.journal running.new) }
-    ensures ended { IfOk result (λ o. IfSome o (λ e. EndsAt running.new.solver.limit e (rest_of program.now running.new.solver) running.new.solver.used running.new.solver.machine.out.items)) }
+    ensures ended { IfOk result (λ o. IfSome o (λ e. (v : Views) → EndsAt running.new.solver.limit e (rest_of program.now v running.new.solver) running.new.solver.used running.new.solver.machine.out.items)) }
     ensures limit { running.new.solver.limit ≡ running.old.solver.limit }
 {
     match running.solver.advance(program, SLICE)? {
         Turn::Slice => Ok(None),
         Turn::Refresh => {
             look(program, world, running)?;
+            Ok(None)
+        }
+        Turn::Fetch(query) => {
+            fetch(program, world, running, &query)?;
             Ok(None)
         }
         Turn::Ask(request) => {

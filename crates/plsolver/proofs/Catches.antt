@@ -22,17 +22,18 @@ use Rattle.plstack.specs.declared.frame.Handler.TheVariants as handlers
 use Rattle.plstack.specs.declared.frame.Handling.{Handling}
 use Rattle.plstack.specs.declared.frame.Closed.{Closed}
 use Rattle.plstack.specs.declared.frame.Closed.TheVariants as closes
-use Rattle.plstack.specs.Places.{Statics}
+use Rattle.plstack.specs.Places.{Database, Views}
 use Rattle.plstack.specs.State.{State, IsList, IsHandler, BeginsWith, HasHandler, AtHandler, Extends, Unifies, Recovers, cases_of, goals_of, place_of}
-use Rattle.plstack.specs.StaticCalls.{statics_of}
+use Rattle.plstack.specs.StaticCalls.{database_of}
 use Rattle.plstack.specs.Opening.{ClosedAs}
+use Rattle.plstack.proofs.Stacks.{depth-in}
 use Rattle.plmachine.specs.declared.machine.Outcome.{Outcome}
 use Rattle.plmachine.specs.declared.machine.Mode.TheVariants as modes
 use Rattle.plmachine.specs.Machine.{result_of, local_of, cases_in, depth_of}
 use Rattle.plmachine.specs.Lists.{Grown}
 use Rattle.plmachine.proofs.Moves.{machine-is, stays-trans, grown-stays as grown-there}
 use Rattle.plsolver.specs.declared.progress.Progress.{Progress}
-use Rattle.plsolver.specs.Solver.{Stays, Quiet, Recovered, Rethrown}
+use Rattle.plsolver.specs.Solver.{Stays, QuietIn, Recovered, Rethrown}
 use Rattle.plsolver.proofs.Runs.{at-place}
 use Rattle.plsolver.proofs.Quiets.{to, at_stack, carried, quiet-other, quiet-caught}
 
@@ -40,21 +41,21 @@ tail_is : (x y : Case) (xs ys : List Case) → x ∷ xs ≡ y ∷ ys → xs ≡ 
 tail_is x y xs ys e = cc
 
 -- the innermost case was closed
-pub closed-below : (statics : Statics) (s new : State) (h : Case) (below : List Case) (r : Option Closed) → IfSome r (λ k. (statics : Statics) → ClosedAs statics s new k) → IfNone r ((statics : Statics) → cases_of statics s ≡ []) →
-    cases_of statics s ≡ h ∷ below → cases_of statics new ≡ below
-closed-below statics s new h below None some none was = let e : h ∷ below ≡ [] = sym was ∙ none statics in absurd cc
-closed-below statics s new h below (Some closes.Choice) some none was = tail_is _ h _ below (sym (some statics).1 ∙ was)
-closed-below statics s new h below (Some (closes.Mark l)) some none was = tail_is _ h _ below (sym (some statics) ∙ was)
-closed-below statics s new h below (Some closes.Handler) some none was = tail_is _ h _ below (sym (some statics).2 ∙ was)
+pub closed-below : (db : Database) (s new : State) (h : Case) (below : List Case) (r : Option Closed) → IfSome r (λ k. (db : Database) → ClosedAs db s new k) → IfNone r ((db : Database) → cases_of db s ≡ []) →
+    cases_of db s ≡ h ∷ below → cases_of db new ≡ below
+closed-below db s new h below None some none was = let e : h ∷ below ≡ [] = sym was ∙ none db in absurd cc
+closed-below db s new h below (Some closes.Choice) some none was = tail_is _ h _ below (sym (some db).1 ∙ was)
+closed-below db s new h below (Some (closes.Mark l)) some none was = tail_is _ h _ below (sym (some db) ∙ was)
+closed-below db s new h below (Some closes.Handler) some none was = tail_is _ h _ below (sym (some db).2 ∙ was)
 
 pub rethrows : (P : Program) (s new : Progress) (st : State) (e : Tree) (list : Continuation) (o : Outcome) → result_of o ≡ Throw (copied 0 (error_term e catch_3)) (levels (goals_of s.machine.stack list)) → st.code ≡ s.machine.stack.code →
-    ((h : Case) (below : List Case) → cases_in P s.machine ≡ h ∷ below → cases_of (statics_of P) st ≡ below) → new ≡ to s st (modes.Back o) → Rethrown P s new e list
+    ((v : Views) (h : Case) (below : List Case) → cases_in P v s.machine ≡ h ∷ below → cases_of (database_of P v) st ≡ below) → new ≡ to s st (modes.Back o) → Rethrown P s new e list
 rethrows P s new st e list o is code closed made = subst (λ x. Rethrown P s x e list) (sym made) (record {
   frame = refl;
   code = code;
   askable = tt;
-  is = λ h below was left answers.
-      carried P (record s.machine { stack = st; mode = modes.Back o }) o below refl (closed h below was) left answers
+  is = λ v h below was left answers.
+      carried P v (record s.machine { stack = st; mode = modes.Back o }) o below refl (closed v h below was) left answers
       ∙ ap (λ x. record { mode = Back x; cases = below; run = record { steps = left; answers = answers; local = local_of s.machine } }) is;
 })
 
@@ -76,24 +77,24 @@ recovered-raises P s new st e recovery list g l runs did = record {
       did.frame ∙ ap (λ k. record s { machine = record s.machine { stack = new.machine.stack; mode = new.machine.mode; kept = k } }) (sym same);
   code = did.code ∙ g.extends.code;
   askable = did.askable;
-  is = λ h below was left answers.
-      did.is h below (g.extends.cases (statics_of P) ∙ was) left answers
+  is = λ v h below was left answers.
+      did.is v h below (g.extends.cases (database_of P v) ∙ was) left answers
       ∙ ap (λ es. record { mode = Back (Throw (copied 0 (error_term e catch_3)) (levels es)); cases = below; run = record { steps = left; answers = answers; local = local_of s.machine } }) (g.extends.lists list l).1
       ∙ ap (λ x. return below (record { steps = left; answers = answers; local = local_of s.machine }) (recovers x (deeper below 0) (goals_of s.machine.stack list) s.machine.stack.env.count (local_of s.machine))) (sym runs);
 }
 
 -- the recovery is run
 pub recovered-runs : (P : Program) (s : Progress) (st linked last : State) (recovery : Cell) (list : Continuation) (goal : Cell) (level : ℕ) (made : Continuation) → Grown s.machine.stack st → IsList s.machine.stack list →
-    runnable (value s.machine.stack.env.heap recovery) ≡ Runs (value st.env.heap goal) → ((statics : Statics) → deeper (cases_of statics st) 0 ≡ level + 1) → Extends st linked → linked.env ≡ st.env →
+    runnable (value s.machine.stack.env.heap recovery) ≡ Runs (value st.env.heap goal) → ((db : Database) → deeper (cases_of db st) 0 ≡ level + 1) → Extends st linked → linked.env ≡ st.env →
     goals_of linked made ≡ Goal level (value st.env.heap goal) ∷ goals_of st list → Recovers linked last made → last.code ≡ linked.code → (kept : List Kept) → kept ≡ kept_below level s.machine.kept →
     Recovered P s (record s { machine = record s.machine { stack = last; mode = modes.Visit; kept = kept } }) recovery list
 recovered-runs P s st linked last recovery list goal level made g l runs at e env goals did code kept kept_is = record {
   frame = refl;
   code = code ∙ e.code ∙ g.extends.code;
   askable = tt;
-  is = λ h below was left answers.
-      let was_st : cases_of (statics_of P) st ≡ h ∷ below = g.extends.cases (statics_of P) ∙ was in
-      let deep : level ≡ deeper below 0 = omega (arith, at (statics_of P), ap (λ cs. deeper cs 0) was_st) in
+  is = λ v h below was left answers.
+      let was_st : cases_of (database_of P v) st ≡ h ∷ below = g.extends.cases (database_of P v) ∙ was in
+      let deep : level ≡ deeper below 0 = omega (arith, at (database_of P v), ap (λ cs. deeper cs 0) was_st) in
       let rest : goals_of st list ≡ goals_of s.machine.stack list = (g.extends.lists list l).1 in
       let count : linked.env.count ≡ s.machine.stack.env.count = ap (λ e. e.count) env ∙ g.count in
       let gs : List Element = Goal (deeper below 0) (value st.env.heap goal) ∷ goals_of s.machine.stack list in
@@ -101,8 +102,8 @@ recovered-runs P s st linked last recovery list goal level made g l runs at e en
       did.place ∙ ap₂ (λ gs n. record { goals = gs; variables = n }) (goals ∙ ap₂ (λ k es. Goal k (value st.env.heap goal) ∷ es) deep rest) count in
       let local : local_of (record s.machine { kept = kept }) ≡ dropped (deeper below 0) (local_of s.machine) =
       ap (λ k. record (local_of s.machine) { kept = k }) (kept_is ∙ ap (λ d. kept_below d s.machine.kept) deep) in
-      machine-is P (record s.machine { stack = last; mode = modes.Visit; kept = kept }) (At (record { goals = gs; variables = s.machine.stack.env.count })) (Choice [] ∷ below) (dropped (deeper below 0) (local_of s.machine)) (ap At place)
-      (did.cases (statics_of P) h below (e.cases (statics_of P) ∙ was_st)) local left answers
+      machine-is P v (record s.machine { stack = last; mode = modes.Visit; kept = kept }) (At (record { goals = gs; variables = s.machine.stack.env.count })) (Choice [] ∷ below) (dropped (deeper below 0) (local_of s.machine)) tt (ap At place)
+      (did.cases (database_of P v) h below (e.cases (database_of P v) ∙ was_st)) local left answers
       ∙ ap (λ x. return below (record { steps = left; answers = answers; local = local_of s.machine }) (recovers x (deeper below 0) (goals_of s.machine.stack list) s.machine.stack.env.count (local_of s.machine))) (sym runs);
 }
 
@@ -110,9 +111,9 @@ pub handler-stays : (s t : State) → t.frames ≡ s.frames → HasHandler s →
 handler-stays s t same has = subst (λ fs. BeginsWith IsHandler (reverse fs)) (sym same) has
 
 -- the ball at its catcher
-module _ (P : Program) (s : Progress) (o : Outcome) (ball : Tree) (found : List ℕ) (at : s.machine.mode ≡ modes.Back o) (carries : result_of o ≡ Throw ball found) (st : State) (k : Handling) (code : st.code ≡ s.machine.stack.code)
-    (same : (statics : Statics) → cases_of statics st ≡ cases_of statics s.machine.stack) (x : Catcher) (here : AtHandler st (handlers.Catch x) k.list) (active : has (depth_of P s.machine - 1) found ≡ true) (put : State) (grew : Extends st put) (v : Cell)
-    (copy : value put.env.heap v ≡ copied st.env.count ball) where
+module _ (P : Program) (v : Views) (s : Progress) (o : Outcome) (ball : Tree) (found : List ℕ) (at : s.machine.mode ≡ modes.Back o) (carries : result_of o ≡ Throw ball found) (st : State) (k : Handling) (code : st.code ≡ s.machine.stack.code)
+    (same : (db : Database) → cases_of db st ≡ cases_of db s.machine.stack) (x : Catcher) (here : AtHandler st (handlers.Catch x) k.list) (active : has (depth_of s.machine - 1) found ≡ true) (put : State) (grew : Extends st put) (b : Cell)
+    (copy : value put.env.heap b ≡ copied st.env.count ball) where
   -- the handler that the frame stands for
   abbrev catcher : Tree
   catcher = value st.env.heap x.catcher
@@ -120,24 +121,24 @@ module _ (P : Program) (s : Progress) (o : Outcome) (ball : Tree) (found : List 
   abbrev recovery : Tree
   recovery = value st.env.heap x.recovery
 
-  cases-are : cases_in P s.machine ≡ catching catcher recovery (goals_of st k.list) st.env.count ∷ here.below (statics_of P)
-  cases-are = sym (same (statics_of P)) ∙ here.cases (statics_of P)
+  cases-are : cases_in P v s.machine ≡ catching catcher recovery (goals_of st k.list) st.env.count ∷ here.below (database_of P v)
+  cases-are = sym (same (database_of P v)) ∙ here.cases (database_of P v)
 
-  is-active : has (deeper (here.below (statics_of P)) 0) found ≡ true
+  is-active : has (deeper (here.below (database_of P v)) 0) found ≡ true
   is-active =
-      let d : depth_of P s.machine - 1 ≡ deeper (here.below (statics_of P)) 0 = omega (arith, ap (λ cs. deeper cs 0) cases-are) in
+      let d : depth_of s.machine - 1 ≡ deeper (here.below (database_of P v)) 0 = omega (arith, depth-in (database_of P v) s.machine.stack, ap (λ cs. deeper cs 0) cases-are) in
       subst (λ d. has d found ≡ true) d active
 
-  sides : unify catcher (copied st.env.count ball) ≡ unify (value put.env.heap x.catcher) (value put.env.heap v)
+  sides : unify catcher (copied st.env.count ball) ≡ unify (value put.env.heap x.catcher) (value put.env.heap b)
   sides = ap₂ unify (sym (grew.values x.catcher here.there.0).1) (sym copy)
 
-  pub catches-other : (last : State) → last.code ≡ put.code → unify (value put.env.heap x.catcher) (value put.env.heap v) ≡ None →
-      ((h : Case) (below : List Case) → cases_of (statics_of P) put ≡ h ∷ below → cases_of (statics_of P) last ≡ below) → Quiet P s (at_stack s last)
+  pub catches-other : (last : State) → last.code ≡ put.code → unify (value put.env.heap x.catcher) (value put.env.heap b) ≡ None →
+      ((h : Case) (below : List Case) → cases_of (database_of P v) put ≡ h ∷ below → cases_of (database_of P v) last ≡ below) → QuietIn P v s (at_stack s last)
   catches-other last stays none closed =
-      quiet-other P s o ball found at carries catcher recovery (goals_of st k.list) st.env.count (here.below (statics_of P)) cases-are is-active last (stays ∙ grew.code ∙ code) (sides ∙ none)
-      (closed _ (here.below (statics_of P)) (grew.cases (statics_of P) ∙ here.cases (statics_of P)))
+      quiet-other P v s o ball found at carries catcher recovery (goals_of st k.list) st.env.count (here.below (database_of P v)) cases-are is-active last (stays ∙ grew.code ∙ code) (sides ∙ none)
+      (closed _ (here.below (database_of P v)) (grew.cases (database_of P v) ∙ here.cases (database_of P v)))
 
-  module _ (count : put.env.count ≡ st.env.count + length (variables ball)) (last : State) (u : Unifies put last x.catcher v) where
+  module _ (count : put.env.count ≡ st.env.count + length (variables ball)) (last : State) (u : Unifies put last x.catcher b) where
     pub recovery-there : IsValue last.env.heap x.recovery
     recovery-there = (u.values x.recovery (grew.values x.recovery here.there.1).0).0
 
@@ -147,17 +148,17 @@ module _ (P : Program) (s : Progress) (o : Outcome) (ball : Tree) (found : List 
     pub handler-there : HasHandler last
     handler-there = handler-stays st last (u.frames ∙ grew.frames) here.has
 
-    pub catches-it : (new : Progress) → Recovered P (at_stack s last) new x.recovery k.list → Quiet P s new
+    pub catches-it : (new : Progress) → Recovered P (at_stack s last) new x.recovery k.list → QuietIn P v s new
     catches-it new did =
         let list = grew.lists k.list here.list_there in
         let r = grew.values x.recovery here.there.1 in
-        quiet-caught P s o ball found at carries catcher recovery (goals_of st k.list) st.env.count (here.below (statics_of P)) cases-are is-active
+        quiet-caught P v s o ball found at carries catcher recovery (goals_of st k.list) st.env.count (here.below (database_of P v)) cases-are is-active
         last new u.unifier x.recovery k.list (catching catcher recovery (goals_of st k.list) st.env.count) (u.code ∙ grew.code ∙ code)
         (sides ∙ u.is)
         ((u.values x.recovery r.0).1 ∙ ap (bind u.unifier) r.1)
         ((u.lists k.list list.0).1 ∙ ap (bind_goals u.unifier) list.1)
         (u.count ∙ count)
-        (u.cases (statics_of P) ∙ grew.cases (statics_of P) ∙ here.cases (statics_of P))
+        (u.cases (database_of P v) ∙ grew.cases (database_of P v) ∙ here.cases (database_of P v))
         did
 
 -- what stays from where it stayed

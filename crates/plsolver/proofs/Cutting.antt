@@ -5,9 +5,9 @@ use Rattle.plsearch.specs.Types.{Case, Choice, Mark, Handle}
 use Rattle.plsearch.specs.Machines.Levels.{AreAtMost, emptied}
 use Rattle.plsearch.specs.Machines.Weight.{case_weight, cases_weight}
 use Rattle.pllinks.specs.declared.link.Continuation.{Continuation}
-use Rattle.plstack.specs.Places.{Statics}
+use Rattle.plstack.specs.Places.{Database, Views}
 use Rattle.plstack.specs.State.{State, cases_of, goals_of}
-use Rattle.plstack.specs.StaticCalls.{statics_of}
+use Rattle.plstack.specs.StaticCalls.{database_of}
 use Rattle.plstack.specs.Cutting.{Empties, Cuts}
 
 -- each case weighs as much as an empty choice, or more
@@ -21,13 +21,13 @@ emptied-weight : (cs base base' : List Case) → cases_weight base' ≤ cases_we
 emptied-weight [] base base' le = le
 emptied-weight (c ∷ cs) base base' le = omega (arith, some-weight c, emptied-weight cs base base' le)
 
-pub cut-weight : (P : Program) (old new : State) (level : ℕ) (list : Continuation) → Cuts old new level list → cases_weight (cases_of (statics_of P) new) ≤ cases_weight (cases_of (statics_of P) old) + 1
-cut-weight P old new level list cut = go cut.cases
+pub cut-weight : (P : Program) (v : Views) (old new : State) (level : ℕ) (list : Continuation) → Cuts old new level list → cases_weight (cases_of (database_of P v) new) ≤ cases_weight (cases_of (database_of P v) old) + 1
+cut-weight P v old new level list cut = go cut.cases
   where
-    go : ((statics : Statics) → cases_of statics new ≡ Mark level ∷ cases_of statics old) ⊎ (AreAtMost level (goals_of old list) × ((statics : Statics) → Empties statics old new level)) →
-        cases_weight (cases_of (statics_of P) new) ≤ cases_weight (cases_of (statics_of P) old) + 1
-    go (inl marked) = rw (marked (statics_of P)) (omega arith)
+    go : ((db : Database) → cases_of db new ≡ Mark level ∷ cases_of db old) ⊎ (AreAtMost level (goals_of old list) × ((db : Database) → Empties db old new level)) →
+        cases_weight (cases_of (database_of P v) new) ≤ cases_weight (cases_of (database_of P v) old) + 1
+    go (inl marked) = rw (marked (database_of P v)) (omega arith)
     go (inr both) =
-        let e = both.1 (statics_of P) in
+        let e = both.1 (database_of P v) in
         let less = emptied-weight (Mark level ∷ e.inside) (Choice e.places ∷ e.below) (Choice [] ∷ e.below) (omega (arith, some-weight (Choice e.places))) in
         rw (e.cases, e.was) (omega (arith, less))

@@ -12,38 +12,38 @@ use Rattle.plsearch.specs.Rows.{gathering}
 use Rattle.plsearch.specs.Engine.{deeper}
 use Rattle.pllinks.specs.declared.link.Continuation.{Continuation}
 use Rattle.plstack.specs.declared.frame.Handler.TheVariants as handlers
-use Rattle.plstack.specs.Places.{Statics}
+use Rattle.plstack.specs.Places.{Database, Views}
 use Rattle.plstack.specs.State.{State, IsList, HasHandler, AtHandler, Extends, Leaves, cases_of, goals_of}
-use Rattle.plstack.specs.StaticCalls.{statics_of}
+use Rattle.plstack.specs.StaticCalls.{database_of}
 use Rattle.plmachine.specs.declared.machine.Outcome.TheVariants as outcomes
 use Rattle.plmachine.specs.declared.machine.Mode.TheVariants as modes
 use Rattle.plmachine.specs.Machine.{cases_in}
 use Rattle.plmachine.specs.Gathering.{Gathers}
 use Rattle.plsolver.specs.declared.progress.Progress.{Progress}
-use Rattle.plsolver.specs.Solver.{Quiet}
+use Rattle.plsolver.specs.Solver.{QuietIn}
 use Rattle.plsolver.proofs.Quiets.{quiet-unlike, quiet-gathered}
 use Rattle.plsolver.proofs.Catches.{handler-stays}
 
-module _ (P : Program) (s : Progress) (at : s.machine.mode ≡ modes.Back outcomes.Fail) (st : State) (list : Continuation) (v : Cell) (code : st.code ≡ s.machine.stack.code)
-    (same : (statics : Statics) → cases_of statics st ≡ cases_of statics s.machine.stack) (here : AtHandler st (handlers.Gather v) list) (level : ℕ) (up : (statics : Statics) → deeper (cases_of statics st) 0 ≡ level + 1) where
+module _ (P : Program) (v : Views) (s : Progress) (at : s.machine.mode ≡ modes.Back outcomes.Fail) (st : State) (list : Continuation) (c : Cell) (code : st.code ≡ s.machine.stack.code)
+    (same : (db : Database) → cases_of db st ≡ cases_of db s.machine.stack) (here : AtHandler st (handlers.Gather c) list) (level : ℕ) (up : (db : Database) → deeper (cases_of db st) 0 ≡ level + 1) where
   abbrev whole : Tree
-  whole = value st.env.heap v
+  whole = value st.env.heap c
 
   abbrev below : List Case
-  below = here.below (statics_of P)
+  below = here.below (database_of P v)
 
-  cases-are : cases_in P s.machine ≡ gathering whole (goals_of st list) st.env.count ∷ below
-  cases-are = sym (same (statics_of P)) ∙ here.cases (statics_of P)
+  cases-are : cases_in P v s.machine ≡ gathering whole (goals_of st list) st.env.count ∷ below
+  cases-are = sym (same (database_of P v)) ∙ here.cases (database_of P v)
 
   at-level : level ≡ deeper below 0
-  at-level = omega (arith, up (statics_of P), ap (λ cs. deeper cs 0) (here.cases (statics_of P)))
+  at-level = omega (arith, up (database_of P v), ap (λ cs. deeper cs 0) (here.cases (database_of P v)))
 
   pub gathers-other : (put last : State) (kept : List Kept) → Extends st put → unify whole (listed (renumbered st.env.count (copies_from level s.machine.kept))) ≡ None →
-      ((h : Case) (below : List Case) → cases_of (statics_of P) put ≡ h ∷ below → cases_of (statics_of P) last ≡ below) → last.code ≡ put.code → kept ≡ kept_below level s.machine.kept →
-      Quiet P s (record s { machine = record s.machine { stack = last; kept = kept } })
+      ((h : Case) (below : List Case) → cases_of (database_of P v) put ≡ h ∷ below → cases_of (database_of P v) last ≡ below) → last.code ≡ put.code → kept ≡ kept_below level s.machine.kept →
+      QuietIn P v s (record s { machine = record s.machine { stack = last; kept = kept } })
   gathers-other put last kept grew none closed stays dropped =
-      quiet-unlike P s at whole (goals_of st list) st.env.count below cases-are last (stays ∙ grew.code ∙ code)
-      (closed _ below (grew.cases (statics_of P) ∙ here.cases (statics_of P))) kept (dropped ∙ ap (λ d. kept_below d s.machine.kept) at-level)
+      quiet-unlike P v s at whole (goals_of st list) st.env.count below cases-are last (stays ∙ grew.code ∙ code)
+      (closed _ below (grew.cases (database_of P v) ∙ here.cases (database_of P v))) kept (dropped ∙ ap (λ d. kept_below d s.machine.kept) at-level)
       (subst (λ d. unify whole (listed (renumbered st.env.count (copies_from d s.machine.kept))) ≡ None) at-level none)
 
   module _ (put : State) (g : Gathers st put whole (copies_from level s.machine.kept)) where
@@ -54,9 +54,9 @@ module _ (P : Program) (s : Progress) (at : s.machine.mode ≡ modes.Back outcom
     handler-there = handler-stays st put g.frames here.has
 
     pub gathers-it : (last : State) (kept : List Kept) → Leaves put last list → last.code ≡ put.code → kept ≡ kept_below level s.machine.kept →
-        Quiet P s (record s { machine = record s.machine { stack = last; mode = modes.Visit; kept = kept } })
+        QuietIn P v s (record s { machine = record s.machine { stack = last; mode = modes.Visit; kept = kept } })
     gathers-it last kept did stays dropped =
-        quiet-gathered P s at whole (goals_of st list) st.env.count below cases-are last (stays ∙ g.code ∙ code)
-        (did.cases (statics_of P) _ below (g.cases (statics_of P) ∙ here.cases (statics_of P))) kept (dropped ∙ ap (λ d. kept_below d s.machine.kept) at-level)
+        quiet-gathered P v s at whole (goals_of st list) st.env.count below cases-are last (stays ∙ g.code ∙ code)
+        (did.cases (database_of P v) _ below (g.cases (database_of P v) ∙ here.cases (database_of P v))) kept (dropped ∙ ap (λ d. kept_below d s.machine.kept) at-level)
         g.unifier (subst (λ d. unify whole (listed (renumbered st.env.count (copies_from d s.machine.kept))) ≡ Some g.unifier) at-level g.is)
         (did.place ∙ ap₂ (λ gs n. record { goals = gs; variables = n }) (g.lists list here.list_there).1 (g.count ∙ ap (λ d. st.env.count + count_new (copies_from d s.machine.kept)) at-level))

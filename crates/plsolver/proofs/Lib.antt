@@ -4,4 +4,7 @@ pub mod Quiets
 pub mod Catches
 pub mod Gathering
 pub mod Starts
-pub mod Looks
+pub mod Seeking
+pub mod Finding
+pub mod Sweeping
+pub mod Trying

@@ -17,12 +17,13 @@ use Rattle.pllinks.specs.Lists.{goal_of, all_elements}
 use Rattle.pllinks.specs.Links.{alone, done}
 use Rattle.pllinks.proofs.Arena.{list_at-none}
 use Rattle.plstack.specs.State.{State, IsList, Extends, AddsList, goals_in, goals_of, cases_of}
-use Rattle.plstack.specs.StaticCalls.{statics_of}
+use Rattle.plstack.specs.Places.{Views}
+use Rattle.plstack.specs.StaticCalls.{database_of}
 use Rattle.plstack.proofs.Lists.{empty-list}
 use Rattle.plstack.proofs.Stacks.{no-cases}
 use Rattle.plmachine.specs.declared.machine.Mode.TheVariants as modes
 use Rattle.plmachine.specs.declared.machine.Machine.{Machine as Reached}
-use Rattle.plmachine.specs.Machine.{machine, mode_of, MayAsk}
+use Rattle.plmachine.specs.Machine.{machine, mode_of, IsPlain, MayAsk}
 use Rattle.plmachine.proofs.Moves.{machine-is}
 use Rattle.plsolver.specs.declared.progress.Progress.{Progress}
 use Rattle.plsolver.specs.Solver.{IsStart, IsEmpty, Starts, StartsGoal, rest_of}
@@ -43,7 +44,7 @@ starts-more old new list made g gs s one =
     record {
       list_there = one.list_there;
       place = ap₂ (λ gs n. record { goals = gs; variables = n }) (one.goals ∙ ap₂ (λ n es. Goal 0 (once (copied n g)) ∷ es) count goals) (one.count ∙ ap (λ n. n + length (variables g)) count);
-      cases = λ statics. one.cases statics ∙ s.cases statics;
+      cases = λ db. one.cases db ∙ s.cases db;
     }
 
 empty-goals : (s : State) → IsEmpty s → goals_of s (alone 0) ≡ []
@@ -55,7 +56,7 @@ unfolding start_from
 starts-empty s is = record {
   list_there = empty-list (goals_in s) is.none s.env s.links;
   place = ap₂ (λ gs n. record { goals = gs; variables = n }) (empty-goals s is) is.count;
-  cases = λ statics. no-cases statics s is.frames;
+  cases = λ db. no-cases db s is.frames;
 }
 
 pub starts-goal : (old st new : State) (list made : Continuation) (v : Cell) (g t : Tree) → Extends old st → value st.env.heap v ≡ copied old.env.count t → t ≡ once g → st.env.count ≡ old.env.count + length (variables t) →
@@ -64,7 +65,7 @@ starts-goal old st new list made v g t e is same grown l adds = record {
   list_there = adds.there;
   goals = adds.is ∙ ap₂ (λ t es. Goal 0 t ∷ es) (is ∙ ap (copied old.env.count) same ∙ copied-once old.env.count g) (e.lists list l).1;
   count = ap (λ e. e.count) adds.env ∙ grown ∙ ap (λ vs. old.env.count + length vs) (ap variables same ∙ once-variables g);
-  cases = λ statics. adds.stays.cases statics ∙ e.cases statics;
+  cases = λ db. adds.stays.cases db ∙ e.cases db;
 }
 
 -- a machine at the start
@@ -72,20 +73,20 @@ pub is-start : (P : Program) (s : Reached) (stack : State) (list : Continuation)
 unfolding start_of cases_of
 is-start P s stack list code starts is at out settings kept = record {
   of = record { begun = subst (λ st. IsProgramCode P st.code) (sym is) code; askable = subst (λ m. MayAsk s.stack.env.heap m) (sym at) tt };
-  is = λ left answers.
-      machine-is P s (At (start_of P)) [] (record { out = []; settings = P.settings; kept = [] }) (ap₂ mode_of at is ∙ ap At starts.place) (ap (cases_of (statics_of P)) is ∙ starts.cases (statics_of P)) (ap₂ (λ o x. record { out = o; settings = x; kept = s.kept }) out settings ∙ ap (λ k. record { out = []; settings = P.settings; kept = k }) kept) left answers;
+  is = λ v left answers.
+      machine-is P v s (At (start_of P)) [] (record { out = []; settings = P.settings; kept = [] }) (subst IsPlain (sym at) tt) (ap₂ mode_of at is ∙ ap At starts.place) (ap (cases_of (database_of P v)) is ∙ starts.cases (database_of P v)) (ap₂ (λ o x. record { out = o; settings = x; kept = s.kept }) out settings ∙ ap (λ k. record { out = []; settings = P.settings; kept = k }) kept) left answers;
 }
 
 -- a solver at the start
-pub begins : (P : Program) (s : Progress) → IsStart P s.machine → s.used ≡ 0 → Begins (search_of P s.limit) (rest_of P s) s.used
+pub begins : (P : Program) (v : Views) (s : Progress) → IsStart P s.machine → s.used ≡ 0 → Begins (search_of P s.limit) (rest_of P v s) s.used
 unfolding search_of rest_of Rest outs start_of
-begins P s start used = (
+begins P v s start used = (
   used,
   λ n answers.
       let k : ℕ = min n s.limit in
       let all : k - 0 ≡ k = omega arith in
       sym
-      (ap (λ u. ending_of k (Rest P (machine P (k - u) answers s.machine))) used
-      ∙ ap (λ m. ending_of k (Rest P (machine P m answers s.machine))) all
-      ∙ ap (λ m. ending_of k (Rest P m)) (start.is k answers)),
+      (ap (λ u. ending_of k (Rest P (machine P v (k - u) answers s.machine))) used
+      ∙ ap (λ m. ending_of k (Rest P (machine P v m answers s.machine))) all
+      ∙ ap (λ m. ending_of k (Rest P m)) (start.is v k answers)),
 )

@@ -4,6 +4,7 @@ ghost use Rattle.std.specs.Prelude.{◌≡◌, ◌≤◌, [], ◌∷◌, ◌++�
 ghost use Rattle.plevent.specs.Search.{Got, Finishes};
 ghost use Rattle.plsearch.specs.Search.{next_of};
 ghost use Rattle.plsearch.specs.Solving.{TakesOne};
+ghost use Rattle.plstack.specs.Places.{Views};
 ghost use Rattle.plmachine.specs.Machine.{result_of};
 ghost use Rattle.plsolver.specs.Solver.{IsOf, Stays, rest_of, Waits, ReplyFits, IsOver, after_done, after_reply};
 ghost use Rattle.plsolver.specs.Says.{Says, IsSlice};
@@ -21,7 +22,7 @@ impl Progress {
         requires of { IsOf program.now self.old.machine }
         requires fits { ReplyFits self.old reply }
         requires within { self.old.used ≤ self.old.limit }
-        ensures ok { OnOk result (TakesOne (Got reply) (rest_of program.now self.old) self.old.used (rest_of program.now self.new) self.new.used) }
+        ensures ok { OnOk result ((v : Views) → TakesOne (Got reply) (rest_of program.now v self.old) self.old.used (rest_of program.now v self.new) self.new.used) }
         ensures of { IsOf program.now self.new.machine }
         ensures places { OnOk result (self.new.places.items ≡ self.old.places.items ++ place ∷ []) }
         ensures limit { self.new.limit ≡ self.old.limit }

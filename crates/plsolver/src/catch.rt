@@ -24,7 +24,7 @@ impl Progress {
     /// The ball that is carried, at the innermost case, which is a catcher that is active.
     pub(crate) fn catch(&mut self, program: &Program) -> Result<(), AllocError>
         requires catch { HasCatcher self.old.machine.stack }
-        requires throws { throws_to (depth_of program.now self.old.machine - 1) self.old.machine.mode ≡ true }
+        requires throws { throws_to (depth_of self.old.machine - 1) self.old.machine.mode ≡ true }
         ensures ok { OnOk result (Quiet program.now self.old self.new) }
         ensures err { OnErr result (Stays program.now self.old self.new) }
     {

@@ -4,8 +4,11 @@
 mod answers;
 mod catch;
 mod error;
+mod fetch;
 mod look;
 pub mod progress;
 pub mod solver;
 mod start;
+mod sweep;
 mod turns;
+mod walk;

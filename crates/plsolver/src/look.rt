@@ -1,41 +1,42 @@
 //! Look-ups of clauses in a view.
 
-ghost use Rattle.std.specs.Prelude.{◌≡◌, ◌≤◌, [], ◌∷◌, ◌++◌, List, IfOk, OnOk, OnErr, fold};
+ghost use Rattle.std.specs.Prelude.{◌≡◌, [], ◌∷◌, ◌++◌, IfOk, OnOk, OnErr};
 ghost use Rattle.plterm.specs.Tree.{Tree};
-ghost use Rattle.plcells.specs.Store.{value, IsValue};
+ghost use Rattle.plcells.specs.Store.{value};
 ghost use Rattle.plclause.specs.Indicators.{indicator};
-ghost use Rattle.plevent.specs.Alive.{Stamped, before};
+ghost use Rattle.plevent.specs.Alive.{exists as exists_of, living};
+ghost use Rattle.plevent.specs.Keys.{first_key};
 ghost use Rattle.plevent.specs.Search.{Seen};
-ghost use Rattle.plstore.specs.Kept.{keep, nothing, walk};
-ghost use Rattle.plstore.specs.Rising.{Rises};
-ghost use Rattle.plsearch.specs.Types.{ToCall, ToRetractAll};
-ghost use Rattle.plsearch.specs.Replies.{looked_up, missing};
+ghost use Rattle.plsearch.specs.Replies.{missing};
 ghost use Rattle.plsearch.specs.Solving.{TakesOne};
+ghost use Rattle.plstore.specs.Like.{next_like_of};
+ghost use Rattle.plstore.specs.Rising.{Ordered};
+ghost use Rattle.plstore.specs.declared.record.Cursor.TheVariants.{Start as StartOf};
+ghost use Rattle.plstack.specs.Places.{head_in, Views};
 ghost use Rattle.plstack.specs.State.{goals_of};
-ghost use Rattle.plmachine.specs.Machine.{depth_of, local_of, lookup_of, Moved};
-ghost use Rattle.plmachine.specs.declared.machine.Mode.TheVariants.{Ask as Asks};
-ghost use Rattle.plmachine.specs.declared.machine.Question.TheVariants.{Look as Looks};
-ghost use Rattle.plsolver.specs.Solver.{IsOf, Stays, rest_of, WaitsForView};
+ghost use Rattle.plmachine.specs.Machine.{local_of, Moved};
+ghost use Rattle.plmachine.specs.declared.machine.Find.TheVariants.{Exists as ExistsOf, First as FirstOf};
+ghost use Rattle.plmachine.specs.declared.machine.Mode.TheVariants.{Find as Finds};
+ghost use Rattle.plsolver.specs.Solver.{FindsBy, IsOf, KeepsRest, LooksUp, mode_none, Stays, rest_of, WaitsForView};
 
 use crate::error;
 use crate::progress::Progress;
 use plcells::cell::Cell;
-use plevent::update::Living;
+use plevent::ClauseName;
 use plmachine::indicator::indicator_of;
-use plmachine::machine::{Lookup, Mode, Outcome, Question};
+use plmachine::machine::{Find, Lookup, Mode, Outcome, Question, Sought};
 use plprogram::program::Program;
 use plprogram::settings::Unknown;
-use plstore::store::Store;
+use plstack::frame::{Spot, Use, Walk};
 use plterm::indicator::Indicator;
 use std::alloc::AllocError;
 
 impl Progress {
-    /// The database after the batches below a place, for the look-up that waits for it.
-    pub fn refreshed(&mut self, program: &Program, g: u64, store: &Store) -> Result<(), AllocError>
+    /// The place of the view that the look-up which waits has from now on.
+    pub fn refreshed(&mut self, program: &Program, g: u64) -> Result<(), AllocError>
         requires of { IsOf program.now self.old.machine }
         requires waits { WaitsForView self.old }
-        requires within { self.old.used ≤ self.old.limit }
-        ensures ok { OnOk result ((us : List Stamped) → Rises 0 us → store.now ≡ fold keep nothing us → TakesOne (Seen g (before g us)) (rest_of program.now self.old) self.old.used (rest_of program.now self.new) self.new.used) }
+        ensures ok { OnOk result ((v : Views) → TakesOne (Seen g (v g)) (rest_of program.now v self.old) self.old.used (rest_of program.now v self.new) self.new.used) }
         ensures of { IsOf program.now self.new.machine }
         ensures places { OnOk result (self.new.places.items ≡ self.old.places.items ++ g ∷ []) }
         ensures limit { self.new.limit ≡ self.old.limit }
@@ -48,102 +49,96 @@ impl Progress {
             unreachable!()
         };
         let lookup = *lookup;
-        self.places.push(g)?;
-        match self.look(program, g, store, &lookup) {
+        self.places.reserve(1)?;
+        let find = self.find_of(program, lookup, g)?;
+        self.machine.mode = Mode::Find(find);
+        match self.places.push(g) {
             Ok(()) => Ok(()),
-            Err(e) => {
-                self.places.pop();
-                Err(e)
-            }
+            Err(_) => unreachable!(),
         }
     }
 
-    /// The clauses that are looked up, of those that are alive after the batches below a place.
-    fn look(
-        &mut self,
-        program: &Program,
-        g: u64,
-        store: &Store,
-        lookup: &Lookup,
-    ) -> Result<(), AllocError>
+    /// What a look-up seeks in the view of a place.
+    fn find_of(&mut self, program: &Program, lookup: Lookup, g: u64) -> Result<Find, AllocError>
         requires of { IsOf program.now self.old.machine }
-        requires asks { self.old.machine.mode ≡ Asks (Looks lookup.now) }
-        ensures ok { OnOk result ((us : List Stamped) → Rises 0 us → store.now ≡ fold keep nothing us → Moved program.now self.old.machine self.new.machine (looked_up (before g us) (lookup_of self.old.machine.stack.env.heap lookup.now) (depth_of program.now self.old.machine) (goals_of self.old.machine.stack self.old.machine.stack.goals) self.old.machine.stack.env.count (local_of self.old.machine))) }
+        requires looks { LooksUp self.old lookup }
+        ensures ok { IfOk result (λ f. FindsBy self.old.machine self.new.machine lookup g f) }
         ensures of { IsOf program.now self.new.machine }
         ensures frame { self.new ≡ record self.old { machine = self.new.machine } }
-        ensures err { OnErr result (Stays program.now self.old self.new) }
+        ensures stays { Stays program.now self.old self.new }
     {
         match lookup {
-            Lookup::ToCall(goal) => self.look_to_call(program, g, store, *goal),
+            Lookup::ToCall(goal) => {
+                let uses = Use::Call;
+                Ok(Find::First(Sought { goal, uses }, g))
+            }
             Lookup::ToRetrieve(head, body) => {
-                let clauses = self.living(g, store, *head)?;
-                self.machine
-                    .retrieve_living(program, *head, *body, &clauses)
+                let goal = self.machine.stack.put_clause_term(self.machine.alloc, head, body)?;
+                let uses = Use::Tell;
+                Ok(Find::First(Sought { goal, uses }, g))
             }
             Lookup::ToRetract(head, body) => {
-                let clauses = self.living(g, store, *head)?;
-                self.machine.retract_living(program, *head, *body, &clauses)
+                let goal = self.machine.stack.put_clause_term(self.machine.alloc, head, body)?;
+                let uses = Use::Erase;
+                Ok(Find::First(Sought { goal, uses }, g))
             }
-            Lookup::ToRetractAll(head) => self.look_to_retract_all(program, g, store, *head),
+            Lookup::ToRetractAll(head) => Ok(Find::All(head, g)),
         }
     }
 
-    /// The clauses of a head's procedure that are alive after the batches below a place.
-    fn living(&self, g: u64, store: &Store, head: Cell) -> Result<Vec<Living>, AllocError>
-        requires { IsValue self.now.machine.stack.env.heap head }
-        ensures { IfOk result (λ xs. xs.items ≡ walk g (indicator (value self.now.machine.stack.env.heap head)) store.now.records) }
-    {
-        let alloc = self.machine.alloc;
-        let p = indicator_of(alloc, self.machine.stack.env().heap(), head)?;
-        store.living(alloc, g, &p)
-    }
-
-    /// A goal is called by the clauses that are alive after the batches below a place.
-    fn look_to_call(
+    /// The first clause that may be for a goal was sought: it is walked from there, or there is none.
+    pub(crate) fn found_first(
         &mut self,
         program: &Program,
+        sought: Sought,
         g: u64,
-        store: &Store,
+        first: Option<ClauseName>,
+    ) -> Result<(), AllocError>
+        requires of { IsOf program.now self.old.machine }
+        requires finds { self.old.machine.mode ≡ Finds (FirstOf sought g) }
+        ensures ok { OnOk result ((v : Views) → Ordered (v g) → first ≡ next_like_of (first_key (head_in sought.uses (value self.old.machine.stack.env.heap sought.goal))) StartOf (living (v g) (indicator (head_in sought.uses (value self.old.machine.stack.env.heap sought.goal)))) → KeepsRest program.now v self.old self.new) }
+        ensures of { IsOf program.now self.new.machine }
+        ensures frame { self.new ≡ record self.old { machine = self.new.machine } }
+        ensures err { OnErr result (Stays program.now self.old self.new) }
+    {
+        match first {
+            Some(name) => {
+                let rest = self.machine.stack.visited();
+                let walk = Walk {
+                    goal: sought.goal,
+                    uses: sought.uses,
+                    spot: Spot::At(g, name),
+                };
+                self.machine.walk(program, walk, rest)
+            }
+            None => {
+                self.machine.mode = mode_without(sought, g);
+                Ok(())
+            }
+        }
+    }
+
+    /// Whether the procedure of a goal exists was asked, where no clause may be for the goal: the goal fails, or that is an error.
+    pub(crate) fn found_exists(
+        &mut self,
+        program: &Program,
         goal: Cell,
-    ) -> Result<(), AllocError>
-        requires of { IsOf program.now self.old.machine }
-        requires goal { IsValue self.old.machine.stack.env.heap goal }
-        ensures ok { OnOk result ((us : List Stamped) → Rises 0 us → store.now ≡ fold keep nothing us → Moved program.now self.old.machine self.new.machine (looked_up (before g us) (ToCall (value self.old.machine.stack.env.heap goal)) (depth_of program.now self.old.machine) (goals_of self.old.machine.stack self.old.machine.stack.goals) self.old.machine.stack.env.count (local_of self.old.machine))) }
-        ensures of { IsOf program.now self.new.machine }
-        ensures frame { self.new ≡ record self.old { machine = self.new.machine } }
-        ensures err { OnErr result (Stays program.now self.old self.new) }
-    {
-        let alloc = self.machine.alloc;
-        let p = indicator_of(alloc, self.machine.stack.env().heap(), goal)?;
-        if store.exists(g, &p) {
-            let clauses = store.living(alloc, g, &p)?;
-            return self.machine.call_living(program, goal, clauses);
-        }
-        self.missing(program, &p)
-    }
-
-    /// All clauses of a head that are alive after the batches below a place are erased, or its procedure is declared.
-    fn look_to_retract_all(
-        &mut self,
-        program: &Program,
         g: u64,
-        store: &Store,
-        head: Cell,
+        exists: bool,
     ) -> Result<(), AllocError>
         requires of { IsOf program.now self.old.machine }
-        requires head { IsValue self.old.machine.stack.env.heap head }
-        ensures ok { OnOk result ((us : List Stamped) → Rises 0 us → store.now ≡ fold keep nothing us → Moved program.now self.old.machine self.new.machine (looked_up (before g us) (ToRetractAll (value self.old.machine.stack.env.heap head)) (depth_of program.now self.old.machine) (goals_of self.old.machine.stack self.old.machine.stack.goals) self.old.machine.stack.env.count (local_of self.old.machine))) }
+        requires finds { self.old.machine.mode ≡ Finds (ExistsOf goal g) }
+        ensures ok { OnOk result ((v : Views) → exists ≡ exists_of (v g) (indicator (value self.old.machine.stack.env.heap goal)) → KeepsRest program.now v self.old self.new) }
         ensures of { IsOf program.now self.new.machine }
         ensures frame { self.new ≡ record self.old { machine = self.new.machine } }
         ensures err { OnErr result (Stays program.now self.old self.new) }
     {
-        let alloc = self.machine.alloc;
-        let p = indicator_of(alloc, self.machine.stack.env().heap(), head)?;
-        if store.exists(g, &p) {
-            let clauses = store.living(alloc, g, &p)?;
-            return self.machine.retract_all_living(program, head, &clauses);
+        if exists {
+            self.machine.mode = Mode::Back(Outcome::Fail);
+            return Ok(());
         }
-        self.machine.declare_one(program, p)
+        let p = indicator_of(self.machine.alloc, self.machine.stack.env().heap(), goal)?;
+        self.missing(program, &p)
     }
 
     /// A call of a procedure that does not exist: an error or failure, by the flag `unknown`.
@@ -165,5 +160,15 @@ impl Progress {
                 self.machine.raise(program, error, p, rest)
             }
         }
+    }
+}
+
+/// What is next where no clause may be for a goal: of one that is called it is asked whether its procedure exists.
+fn mode_without(sought: Sought, g: u64) -> Mode
+    ensures { result ≡ mode_none sought g }
+{
+    match sought.uses {
+        Use::Call => Mode::Find(Find::Exists(sought.goal, g)),
+        Use::Tell | Use::Erase => Mode::Back(Outcome::Fail),
     }
 }

@@ -2,9 +2,10 @@
 
 ghost use Rattle.std.specs.Prelude.{◌≡◌, ◌+◌, ◌≤◌, [], IfOk, OnOk, OnErr};
 ghost use Rattle.plprogram.specs.Program.{Program as Given};
+ghost use Rattle.plstack.specs.Places.{Views};
 ghost use Rattle.plsearch.specs.Search.{search_of};
-ghost use Rattle.plsearch.specs.Solving.{Begins, Goes};
-ghost use Rattle.plsolver.specs.Solver.{IsOf, IsSelected, Selects, Stays, Stepped, rest_of, Settled};
+ghost use Rattle.plsearch.specs.Solving.{Begins};
+ghost use Rattle.plsolver.specs.Solver.{GoesTo, IsOf, IsSelected, Selects, Stays, Stepped, rest_of, Settled};
 ghost use Rattle.plsolver.specs.Says.{Says, IsSlice};
 
 use crate::solver::Turn;
@@ -46,8 +47,10 @@ pub enum Selected {
 pub enum Due {
     /// A goal is to be selected.
     Goal(Selected),
-    /// A goal waits for a view.
+    /// A look-up waits for a view.
     Look,
+    /// A look-up or a walk asks something in its view.
+    Fetch,
     /// A request waits for its reply.
     Await,
     /// The search has ended.
@@ -57,7 +60,7 @@ pub enum Due {
 impl Progress {
     /// The search of main: the program's goals in order, each once, with at most so many steps.
     pub fn new(alloc: Global, program: &Program, limit: u64) -> Result<Self, AllocError>
-        ensures begins { IfOk result (λ s. Begins (search_of program.now limit) (rest_of program.now s) s.used) }
+        ensures begins { IfOk result (λ s. (v : Views) → Begins (search_of program.now limit) (rest_of program.now v s) s.used) }
         ensures of { IfOk result (λ s. IsOf program.now s.machine) }
         ensures limit { IfOk result (λ s. s.limit ≡ limit) }
         ensures places { IfOk result (λ s. s.places.items ≡ []) }
@@ -76,7 +79,7 @@ impl Progress {
     pub fn advance(&mut self, program: &Program, fuel: u64) -> Result<Turn, AllocError>
         requires within { self.old.used ≤ self.old.limit }
         requires of { IsOf program.now self.old.machine }
-        ensures goes { Goes self.old.limit (rest_of program.now self.old) self.old.used (rest_of program.now self.new) self.new.used }
+        ensures goes { GoesTo program.now self.old self.new }
         ensures of { IsOf program.now self.new.machine }
         ensures limit { self.new.limit ≡ self.old.limit }
         ensures places { self.new.places.items ≡ self.old.places.items }
@@ -95,6 +98,7 @@ impl Progress {
                     left -= 1;
                 }
                 Due::Look => return Ok(Turn::Refresh),
+                Due::Fetch => return self.wanted(program),
                 Due::Await => return self.asked(program),
                 Due::Over => return self.ended(program),
             }
@@ -150,7 +154,7 @@ impl Progress {
     fn settle(&mut self, program: &Program) -> Result<Due, AllocError>
         requires within { self.old.used ≤ self.old.limit }
         requires of { IsOf program.now self.old.machine }
-        ensures goes { Goes self.old.limit (rest_of program.now self.old) self.old.used (rest_of program.now self.new) self.new.used }
+        ensures goes { GoesTo program.now self.old self.new }
         ensures of { IsOf program.now self.new.machine }
         ensures used { self.new.used ≡ self.old.used }
         ensures limit { self.new.limit ≡ self.old.limit }

@@ -1,19 +1,19 @@
 //! The solver.
 
-ghost use Rattle.std.specs.Prelude.{◌≡◌, ◌+◌, ◌≤◌, List, [], ◌∷◌, ◌++◌, IfOk, OnOk, OnErr, fold};
-ghost use Rattle.plevent.specs.Alive.{Stamped, before};
+ghost use Rattle.std.specs.Prelude.{◌≡◌, ℕ, ◌+◌, ◌≤◌, [], ◌∷◌, ◌++◌, IfOk, OnOk, OnErr};
 ghost use Rattle.plevent.specs.Search.{Seen, Got};
-ghost use Rattle.plstore.specs.Kept.{keep, nothing};
-ghost use Rattle.plstore.specs.Rising.{Rises};
+ghost use Rattle.plstore.specs.Looking.{found as found_of};
+ghost use Rattle.plstore.specs.Rising.{Ordered};
+ghost use Rattle.plstack.specs.Places.{Views};
 ghost use Rattle.plsearch.specs.Search.{search_of};
 ghost use Rattle.plsearch.specs.Solving.{Begins, Goes, TakesOne};
-ghost use Rattle.plsolver.specs.Solver.{IsOf, Stays, rest_of, WaitsForView, ReplyFits};
+ghost use Rattle.plsolver.specs.Solver.{Fetches, GoesTo, IsFoundFor, IsOf, Stays, rest_of, WaitsForView, ReplyFits};
 ghost use Rattle.plsolver.specs.Says.{Says, IsSlice};
 
 use crate::progress::Progress;
 use plevent::request::{Reply, Request, ThreadEnd};
 use plprogram::program::Program;
-use plstore::store::Store;
+use plstore::{Found, Query};
 use std::alloc::{AllocError, Global};
 use std::marker::Model;
 
@@ -42,6 +42,8 @@ pub enum Turn {
     Ask(Request),
     /// It asks for a view of the database.
     Refresh,
+    /// It asks something in a view that it has.
+    Fetch(Query),
     /// The fuel is used.
     Slice,
     /// The search has ended.
@@ -51,7 +53,7 @@ pub enum Turn {
 impl Solver {
     /// The search of main: the program's goals in order, each once, with at most so many steps.
     pub fn new(alloc: Global, program: &Program, limit: u64) -> Result<Solver, AllocError>
-        ensures begins { IfOk result (λ s. Begins (search_of program.now limit) (rest_of program.now s) s.used) }
+        ensures begins { IfOk result (λ s. (v : Views) → Begins (search_of program.now limit) (rest_of program.now v s) s.used) }
         ensures of { IfOk result (λ s. IsOf program.now s.machine) }
         ensures limit { IfOk result (λ s. s.limit ≡ limit) }
         ensures places { IfOk result (λ s. s.places.items ≡ []) }
@@ -85,7 +87,7 @@ impl Solver {
     pub fn advance(&mut self, program: &Program, fuel: u64) -> Result<Turn, AllocError>
         requires of { IsOf program.now self.old.machine }
         requires within { self.old.used ≤ self.old.limit }
-        ensures goes { Goes self.old.limit (rest_of program.now self.old) self.old.used (rest_of program.now self.new) self.new.used }
+        ensures goes { GoesTo program.now self.old self.new }
         ensures of { IsOf program.now self.new.machine }
         ensures limit { self.new.limit ≡ self.old.limit }
         ensures places { self.new.places.items ≡ self.old.places.items }
@@ -101,7 +103,7 @@ impl Solver {
         requires of { IsOf program.now self.old.machine }
         requires fits { ReplyFits self.old reply }
         requires within { self.old.used ≤ self.old.limit }
-        ensures ok { OnOk result (TakesOne (Got reply) (rest_of program.now self.old) self.old.used (rest_of program.now self.new) self.new.used) }
+        ensures ok { OnOk result ((v : Views) → TakesOne (Got reply) (rest_of program.now v self.old) self.old.used (rest_of program.now v self.new) self.new.used) }
         ensures places { OnOk result (self.new.places.items ≡ self.old.places.items ++ place ∷ []) }
         ensures of { IsOf program.now self.new.machine }
         ensures limit { self.new.limit ≡ self.old.limit }
@@ -110,17 +112,39 @@ impl Solver {
         self.progress.reply(program, place, reply)
     }
 
-    /// The database after the batches below a place, for the goal that waits for it. A refused growth leaves the solver as it was.
-    pub fn refreshed(&mut self, program: &Program, g: u64, store: &Store) -> Result<(), AllocError>
+    /// The place of the view that the look-up which waits has from now on. A refused growth leaves the solver as it was.
+    pub fn refreshed(&mut self, program: &Program, g: u64) -> Result<(), AllocError>
         requires of { IsOf program.now self.old.machine }
         requires waits { WaitsForView self.old }
-        requires within { self.old.used ≤ self.old.limit }
-        ensures ok { OnOk result ((us : List Stamped) → Rises 0 us → store.now ≡ fold keep nothing us → TakesOne (Seen g (before g us)) (rest_of program.now self.old) self.old.used (rest_of program.now self.new) self.new.used) }
+        ensures ok { OnOk result ((v : Views) → TakesOne (Seen g (v g)) (rest_of program.now v self.old) self.old.used (rest_of program.now v self.new) self.new.used) }
         ensures places { OnOk result (self.new.places.items ≡ self.old.places.items ++ g ∷ []) }
         ensures of { IsOf program.now self.new.machine }
         ensures limit { self.new.limit ≡ self.old.limit }
         ensures err { OnErr result (Stays program.now self.old self.new) }
     {
-        self.progress.refreshed(program, g, store)
+        self.progress.refreshed(program, g)
+    }
+
+    /// The place of the view in which something is asked.
+    pub fn view(&self) -> u64
+        requires { (g : ℕ) × (q : Query) × Fetches self.now g q }
+        ensures { (g : ℕ) (q : Query) → Fetches self.now g q → result ≡ g }
+    {
+        self.progress.view()
+    }
+
+    /// What was asked in a view, and found there. A refused growth leaves the solver as it was.
+    pub fn fetched(&mut self, program: &Program, found: Found) -> Result<(), AllocError>
+        requires of { IsOf program.now self.old.machine }
+        requires fits { (g : ℕ) × (q : Query) × Fetches self.old g q × IsFoundFor q found }
+        requires within { self.old.used ≤ self.old.limit }
+        ensures ok { OnOk result ((v : Views) (g : ℕ) (q : Query) → Fetches self.old g q → Ordered (v g) → found ≡ found_of (v g) q → Goes self.old.limit (rest_of program.now v self.old) self.old.used (rest_of program.now v self.new) self.new.used) }
+        ensures of { IsOf program.now self.new.machine }
+        ensures used { self.new.used ≡ self.old.used }
+        ensures places { self.new.places.items ≡ self.old.places.items }
+        ensures limit { self.new.limit ≡ self.old.limit }
+        ensures err { OnErr result (Stays program.now self.old self.new) }
+    {
+        self.progress.fetched(program, found)
     }
 }

@@ -3,8 +3,8 @@
 ghost use Rattle.std.specs.Prelude.{◌≡◌, ◌-◌, ◌≤◌, ◌↔◌, IfOk, OnOk, OnErr, IfSome, IfNone, IsTrue, true, ℕ};
 ghost use Rattle.plcells.specs.Store.{IsValue, value};
 ghost use Rattle.plsearch.specs.Engine.{stop_cut, mark, deeper};
-ghost use Rattle.plstack.specs.Places.{Statics};
-ghost use Rattle.plstack.specs.State.{cases_of, HasAnswers, HasCatcher, HasClauses, HasCopies, HasBranch, HasGatherer, HasPlain, IsList};
+ghost use Rattle.plstack.specs.Places.{Database};
+ghost use Rattle.plstack.specs.State.{cases_of, HasAnswers, HasCatcher, HasClauses, HasWalk, HasBranch, HasGatherer, HasPlain, IsList};
 ghost use Rattle.plstack.specs.First.{IsFirst};
 ghost use Rattle.plstack.specs.declared.first.First.TheVariants.{Marker as MarkerFirst};
 ghost use Rattle.plmachine.specs.Machine.{depth_of};
@@ -15,7 +15,6 @@ use plcells::cell::Cell;
 use pllinks::item::MarkerKind;
 use pllinks::level::Level;
 use pllinks::link::Continuation;
-use plmachine::clauses::mode_of;
 use plmachine::machine::{Mode, Outcome, Question};
 use plprogram::program::Program;
 use plstack::first::First;
@@ -28,12 +27,13 @@ impl Progress {
         requires within { self.old.used ≤ self.old.limit }
         requires of { IsOf program.now self.old.machine }
         ensures on { IfOk result (λ o. IfNone o (Quiet program.now self.old self.new)) }
-        ensures due { IfOk result (λ o. IfSome o (λ due. Settled program.now self.new due × (self.new ≡ self.old))) }
+        ensures due { IfOk result (λ o. IfSome o (λ due. Settled program.now self.new due × Stays program.now self.old self.new)) }
         ensures err { OnErr result (Stays program.now self.old self.new) }
     {
         match &self.machine.mode {
             Mode::Visit => self.pass(program),
             Mode::Ask(Question::Look(_)) => Ok(Some(Due::Look)),
+            Mode::Find(_) => Ok(Some(Due::Fetch)),
             Mode::Ask(Question::Await(_, _)) => Ok(Some(Due::Await)),
             Mode::Back(_) => self.back(program),
         }
@@ -44,7 +44,7 @@ impl Progress {
         requires visits { self.old.machine.mode ≡ Mode.Visit }
         requires within { self.old.used ≤ self.old.limit }
         ensures on { IfOk result (λ o. IfNone o (Quiet program.now self.old self.new)) }
-        ensures due { IfOk result (λ o. IfSome o (λ due. Settled program.now self.new due × (self.new ≡ self.old))) }
+        ensures due { IfOk result (λ o. IfSome o (λ due. Settled program.now self.new due × Stays program.now self.old self.new)) }
         ensures err { OnErr result (Stays program.now self.old self.new) }
     {
         let selected = match self.machine.stack.first() {
@@ -117,7 +117,7 @@ impl Progress {
         requires back { IsBack self.old }
         requires of { IsOf program.now self.old.machine }
         ensures on { IfOk result (λ o. IfNone o (Quiet program.now self.old self.new)) }
-        ensures due { IfOk result (λ o. IfSome o (λ due. Settled program.now self.new due × (self.new ≡ self.old))) }
+        ensures due { IfOk result (λ o. IfSome o (λ due. Settled program.now self.new due × Stays program.now self.old self.new)) }
         ensures err { OnErr result (Stays program.now self.old self.new) }
     {
         if self.fails() {
@@ -135,12 +135,15 @@ impl Progress {
         requires fails { self.old.machine.mode ≡ Mode.Back Outcome.Fail }
         requires of { IsOf program.now self.old.machine }
         ensures on { IfOk result (λ o. IfNone o (Quiet program.now self.old self.new)) }
-        ensures due { IfOk result (λ o. IfSome o (λ due. Settled program.now self.new due × (self.new ≡ self.old))) }
+        ensures due { IfOk result (λ o. IfSome o (λ due. Settled program.now self.new due × Stays program.now self.old self.new)) }
         ensures err { OnErr result (Stays program.now self.old self.new) }
     {
         if self.machine.stack.is_plain() {
             self.close_plain(program);
             return Ok(None);
+        }
+        if self.machine.stack.is_walk() {
+            return self.next_clause(program);
         }
         if self.is_choice() {
             self.try_next(program)?;
@@ -177,9 +180,6 @@ impl Progress {
         if self.machine.stack.is_clauses() {
             return self.retry(program);
         }
-        if self.machine.stack.is_copies() {
-            return self.retry_copies(program);
-        }
         self.retry_answers(program)
     }
 
@@ -207,19 +207,6 @@ impl Progress {
         Ok(())
     }
 
-    /// The next clause of the innermost case, a call of a dynamic procedure.
-    fn retry_copies(&mut self, program: &Program) -> Result<(), AllocError>
-        requires fails { self.old.machine.mode ≡ Mode.Back Outcome.Fail }
-        requires call { HasCopies self.old.machine.stack }
-        ensures ok { OnOk result (Quiet program.now self.old self.new) }
-        ensures err { OnErr result (Stays program.now self.old self.new) }
-    {
-        if let Some(entered) = self.machine.stack.retry_copies(self.machine.alloc)? {
-            self.machine.mode = mode_of(entered);
-        }
-        Ok(())
-    }
-
     /// The next answer of the innermost case, a call of a predicate of several answers.
     fn retry_answers(&mut self, program: &Program) -> Result<(), AllocError>
         requires fails { self.old.machine.mode ≡ Mode.Back Outcome.Fail }
@@ -237,7 +224,8 @@ impl Progress {
     fn close(&mut self, program: &Program) -> Option<Due>
         requires back { IsBack self.old }
         requires tried { self.old.machine.mode ≡ Mode.Back Outcome.Fail → HasChoice self.old.machine.stack → ⊥ }
-        requires caught { HasCatcher self.old.machine.stack → throws_to (depth_of program.now self.old.machine - 1) self.old.machine.mode ≡ true → ⊥ }
+        requires walked { self.old.machine.mode ≡ Mode.Back Outcome.Fail → HasWalk self.old.machine.stack → ⊥ }
+        requires caught { HasCatcher self.old.machine.stack → throws_to (depth_of self.old.machine - 1) self.old.machine.mode ≡ true → ⊥ }
         requires gathered { HasGatherer self.old.machine.stack → self.old.machine.mode ≡ Mode.Back Outcome.Fail → ⊥ }
         ensures on { IfNone result (Quiet program.now self.old self.new) }
         ensures due { IfSome result (λ due. Settled program.now self.new due × (self.new ≡ self.old)) }
@@ -260,7 +248,7 @@ impl Progress {
 
     /// Whether a ball is carried to the innermost case, and that is a catcher that is active.
     fn catches(&self) -> bool
-        ensures { (statics : Statics) → IsTrue result ↔ (HasCatcher self.now.machine.stack × (throws_to (deeper (cases_of statics self.now.machine.stack) 0 - 1) self.now.machine.mode ≡ true)) }
+        ensures { (db : Database) → IsTrue result ↔ (HasCatcher self.now.machine.stack × (throws_to (deeper (cases_of db self.now.machine.stack) 0 - 1) self.now.machine.mode ≡ true)) }
     {
         if !self.machine.stack.is_catcher() {
             return false;
@@ -269,6 +257,7 @@ impl Progress {
             Mode::Back(Outcome::Throw(_, levels)) => levels.contains(&self.machine.stack.level()),
             Mode::Visit
             | Mode::Ask(_)
+            | Mode::Find(_)
             | Mode::Back(Outcome::Stop)
             | Mode::Back(Outcome::Fail)
             | Mode::Back(Outcome::CutTo(_))
@@ -288,7 +277,7 @@ impl Progress {
         ensures { IsTrue result ↔ HasChoice self.now.machine.stack }
     {
         let stack = &self.machine.stack;
-        stack.is_branch() || stack.is_clauses() || stack.is_copies() || stack.is_answers()
+        stack.is_branch() || stack.is_clauses() || stack.is_answers()
     }
 
     /// The level that the choices are given up to, if that is the result that is carried.
@@ -321,7 +310,7 @@ impl Progress {
 
     /// A cut to the level of a choice ends there.
     fn stop_cut(&mut self)
-        ensures { (statics : Statics) → Becomes self.old self.new (stop_cut (deeper (cases_of statics self.old.machine.stack) 0)) }
+        ensures { (db : Database) → Becomes self.old self.new (stop_cut (deeper (cases_of db self.old.machine.stack) 0)) }
     {
         let depth = self.machine.stack.depth();
         let Some(level) = self.cut_level() else {

@@ -22,7 +22,7 @@ use Rattle.plstack.specs.declared.frame.Resume.{Resume}
 use Rattle.plstack.specs.declared.frame.Resume.TheVariants as resumes
 use Rattle.plstack.specs.declared.frame.Frame.{Frame}
 use Rattle.plstack.specs.declared.frame.Frame.TheVariants.{Open}
-use Rattle.plstack.specs.Places.{Statics, answers_left, kept_values}
+use Rattle.plstack.specs.Places.{Database, answers_left, kept_values}
 use Rattle.plstack.specs.Frames.{AreOlder, IsOpen}
 use Rattle.plstack.specs.Trials.{IsMarked}
 use Rattle.plstack.specs.State.{State, IsStack, goals_in, goals_of, place_of, cases_of, IsList, Extends, Solves, Retries, CountsUp}
@@ -72,8 +72,8 @@ module _ (s : State) (d : ℕ) (is : IsStack s d) (vs : List Cell) (fit : AreVal
     entered-stack : IsStack entered d
     entered-stack = visiting (record s { env = e }) d l bound-stack list-there
 
-    entered-cases : (statics : Statics) → cases_of statics entered ≡ cases_of statics s
-    entered-cases statics = same-cases statics (record s { env = e }) l ∙ bound.cases statics ∙ before-extends.cases statics
+    entered-cases : (db : Database) → cases_of db entered ≡ cases_of db s
+    entered-cases db = same-cases db (record s { env = e }) l ∙ bound.cases db ∙ before-extends.cases db
 
     entered-places : answers_left s.env vs (goals_of s l) turn ≡ place_of entered ∷ answers_if s.env vs (goals_of s l) rest
     entered-places = t.places (goals_of s l) ∙ ap (λ gs. record { goals = gs; variables = e.count } ∷ answers_if s.env vs (goals_of s l) rest) (sym list-goals)
@@ -83,11 +83,11 @@ module _ (s : State) (d : ℕ) (is : IsStack s d) (vs : List Cell) (fit : AreVal
       pub last-stack : IsStack (record { code = s.code; env = e; links = s.links; saved = s.saved; frames = frames; goals = l }) (d + 1)
       last-stack = counted 1 entered d frames up entered-stack
 
-      pub last-answered : (statics : Statics) → Answered statics s (record { code = s.code; env = e; links = s.links; saved = s.saved; frames = frames; goals = l }) vs l turn
-      last-answered statics = record {
+      pub last-answered : (db : Database) → Answered db s (record { code = s.code; env = e; links = s.links; saved = s.saved; frames = frames; goals = l }) vs l turn
+      last-answered db = record {
         others = [];
         places = entered-places ∙ ap (λ o. place_of entered ∷ answers_if s.env vs (goals_of s l) o) none;
-        cases = counted-cases 1 statics entered frames up ∙ ap (λ cs. Choice [] ∷ cs) (entered-cases statics);
+        cases = counted-cases 1 db entered frames up ∙ ap (λ cs. Choice [] ∷ cs) (entered-cases db);
       }
 
     -- others are left
@@ -125,16 +125,16 @@ module _ (s : State) (d : ℕ) (is : IsStack s d) (vs : List Cell) (fit : AreVal
             let o = opened-state entered d frames (Open p r') pushed entered-stack next-frame in
             (o.0, omega (arith, o.1))
 
-        pub next-answered : (statics : Statics) → Answered statics s (record { code = s.code; env = e; links = s.links; saved = s.saved; frames = frames; goals = l }) vs l turn
-        next-answered statics = record {
+        pub next-answered : (db : Database) → Answered db s (record { code = s.code; env = e; links = s.links; saved = s.saved; frames = frames; goals = l }) vs l turn
+        next-answered db = record {
           others = answers_left s.env vs (goals_of s l) next;
           places = entered-places ∙ ap (λ o. place_of entered ∷ answers_if s.env vs (goals_of s l) o) some;
           cases =
-              opened-cases statics entered frames (Open p r') pushed
-              ∙ ap₂ (λ (x : Env) ws. Choice (answers_left x ws (all_elements (goals_in s) x (items_of s.links p.list)) next) ∷ cases_of statics entered) then-cut there
-              ∙ ap (λ q. Choice (answers_left (renamed s.env e.heap.names) vs (all_elements (goals_in s) (renamed s.env e.heap.names) (items_of s.links q)) next) ∷ cases_of statics entered) l_is
-              ∙ ap (λ ps. Choice ps ∷ cases_of statics entered) (answers-renamed s.env e.heap.names is.0.env env.heap.names keeps-all.names statics (goals_in s) 0 (items_of s.links l) i.items vs fit next)
-              ∙ ap (λ cs. Choice (answers_left s.env vs (goals_of s l) next) ∷ cs) (entered-cases statics);
+              opened-cases db entered frames (Open p r') pushed
+              ∙ ap₂ (λ (x : Env) ws. Choice (answers_left x ws (all_elements (goals_in s) x (items_of s.links p.list)) next) ∷ cases_of db entered) then-cut there
+              ∙ ap (λ q. Choice (answers_left (renamed s.env e.heap.names) vs (all_elements (goals_in s) (renamed s.env e.heap.names) (items_of s.links q)) next) ∷ cases_of db entered) l_is
+              ∙ ap (λ ps. Choice ps ∷ cases_of db entered) (answers-renamed s.env e.heap.names is.0.env env.heap.names keeps-all.names (goals_in s) (items_of s.links l) i.items vs fit next)
+              ∙ ap (λ cs. Choice (answers_left s.env vs (goals_of s l) next) ∷ cs) (entered-cases db);
         }
 
 -- none of the answers fits
@@ -142,8 +142,8 @@ module _ (s : State) (d : ℕ) (is : IsStack s d) (vs : List Cell) (turn : Turn)
   pub none-stack : IsStack (record s { env = e }) d
   none-stack = stack-env s d e t.stays.extends env is
 
-  pub none-answered : (l : Continuation) (statics : Statics) → Unanswered statics s (record s { env = e }) vs l turn
-  none-answered l statics = record { none = t.none (goals_of s l); cases = (extends-env s d e t.stays.extends env is).cases statics }
+  pub none-answered : (l : Continuation) (db : Database) → Unanswered db s (record s { env = e }) vs l turn
+  none-answered l db = record { none = t.none (goals_of s l); cases = (extends-env s d e t.stays.extends env is).cases db }
 
 -- memory gave out
 module _ (s : State) (d : ℕ) (is : IsStack s d) (e : Env) (env : IsEnv e) (y : Stays s.env e) where
@@ -156,20 +156,20 @@ module _ (s : State) (d : ℕ) (is : IsStack s d) (e : Env) (env : IsEnv e) (y :
       record { cases = x.cases; place = ap₂ (λ gs n. record { goals = gs; variables = n }) x.visited y.count }
 
 -- before a call all was marked
-module _ (s t new : State) (x : Extends s t) (count : t.env.count ≡ s.env.count) (statics : Statics) (vs : List Cell) (fit : AreValues s.env.heap vs) (l : Continuation) (i : IsList s l) (turn : Turn) where
+module _ (s t new : State) (x : Extends s t) (count : t.env.count ≡ s.env.count) (db : Database) (vs : List Cell) (fit : AreValues s.env.heap vs) (l : Continuation) (i : IsList s l) (turn : Turn) where
   marked-places : answers_left s.env vs (goals_of s l) turn ≡ answers_left t.env vs (goals_of t l) turn
   marked-places =
       ap (λ n. filter_map (solved (goals_of s l) n) (left s.env.heap vs turn)) (sym count)
       ∙ ap₂ (λ gs ss. filter_map (solved gs t.env.count) ss) (sym (x.lists l i).1) (sym (left_stays s.env.heap t.env.heap x.values vs fit turn))
 
-  pub answered_marked : Answered statics t new vs l turn → Answered statics s new vs l turn
-  answered_marked a = record { others = a.others; places = marked-places ∙ a.places; cases = a.cases ∙ ap (λ cs. Choice a.others ∷ cs) (x.cases statics) }
+  pub answered_marked : Answered db t new vs l turn → Answered db s new vs l turn
+  answered_marked a = record { others = a.others; places = marked-places ∙ a.places; cases = a.cases ∙ ap (λ cs. Choice a.others ∷ cs) (x.cases db) }
 
-  pub unanswered_marked : Unanswered statics t new vs l turn → Unanswered statics s new vs l turn
-  unanswered_marked a = record { none = marked-places ∙ a.none; cases = a.cases ∙ x.cases statics }
+  pub unanswered_marked : Unanswered db t new vs l turn → Unanswered db s new vs l turn
+  unanswered_marked a = record { none = marked-places ∙ a.none; cases = a.cases ∙ x.cases db }
 
-pub answered_settled : (statics : Statics) (s t new : State) (vs : List Cell) (l : Continuation) (turn : Turn) → Answered statics s t vs l turn → Settles t new → Answered statics s new vs l turn
-answered_settled statics s t new vs l turn a y = record { others = a.others; places = a.places ∙ ap (λ p. p ∷ a.others) (sym y.place); cases = y.cases statics ∙ a.cases }
+pub answered_settled : (db : Database) (s t new : State) (vs : List Cell) (l : Continuation) (turn : Turn) → Answered db s t vs l turn → Settles t new → Answered db s new vs l turn
+answered_settled db s t new vs l turn a y = record { others = a.others; places = a.places ∙ ap (λ p. p ∷ a.others) (sym y.place); cases = y.cases db ∙ a.cases }
 
 -- a call that is opened: whatever its first answer leaves
 module _ (s : State) (d : ℕ) (is : IsStack s d) (p : Point) (m : IsMarked s p.marks) (i : IsList s p.list) (vs : List Cell) (fit : AreValues s.env.heap vs) (turn : Turn) (turns : IsTurn s.env.heap vs turn)
@@ -189,7 +189,7 @@ module _ (s : State) (d : ℕ) (is : IsStack s d) (p : Point) (m : IsMarked s p.
   abbrev c : Answers
   c = record { count = length vs; turn = turn }
 
-  both : (o : Option Turn) → rest ≡ o → PushesAnswers p (length vs) o s.frames frames → IsStack called (d + 1) × ((statics : Statics) → Answered statics kept called vs p.list turn)
+  both : (o : Option Turn) → rest ≡ o → PushesAnswers p (length vs) o s.frames frames → IsStack called (d + 1) × ((db : Database) → Answered db kept called vs p.list turn)
   both None none up = (
     last-stack kept d kept-stack vs fit turn e env rest t p.list list-kept none frames up,
     last-answered kept d kept-stack vs fit turn e env rest t p.list list-kept none frames up,
@@ -202,10 +202,10 @@ module _ (s : State) (d : ℕ) (is : IsStack s d) (p : Point) (m : IsMarked s p.
   pub called-stack : IsStack called (d + 1)
   called-stack = (both rest refl pushes).0
 
-  pub called-answered : (statics : Statics) → Answered statics s called vs p.list turn
-  called-answered statics =
-      let a = (both rest refl pushes).1 statics in
-      record { others = a.others; places = a.places; cases = a.cases ∙ ap (λ cs. Choice a.others ∷ cs) (values-cases s d is vs statics) }
+  pub called-answered : (db : Database) → Answered db s called vs p.list turn
+  called-answered db =
+      let a = (both rest refl pushes).1 db in
+      record { others = a.others; places = a.places; cases = a.cases ∙ ap (λ cs. Choice a.others ∷ cs) (values-cases s d is vs db) }
 
   -- where nothing is left, no case is newer than the marks
   pub called-within : IsWithin p.marks.env e
@@ -240,15 +240,15 @@ module _ (s : State) (d : ℕ) (is : IsStack s d) (below : List Frame) (p : Poin
   pub turn-again : IsTurn at.env.heap vs a.turn
   turn-again = the-resume.1
 
-  was : (statics : Statics) → cases_of statics s ≡ Choice (answers_left at.env vs (goals_of at p.list) a.turn) ∷ cases_of statics at
-  was statics = was-open s d is below p (resumes.Answers a) popped statics
+  was : (db : Database) → cases_of db s ≡ Choice (answers_left at.env vs (goals_of at p.list) a.turn) ∷ cases_of db at
+  was db = was-open s d is below p (resumes.Answers a) popped db
 
   module _ (e : Env) (env : IsEnv e) where
     module _ (rest : Option Turn) (t : TakesAnswer at.env e vs a.turn rest) (frames : List Frame) (pushes : PushesAnswers p a.count rest below frames) where
       abbrev again : State
       again = record { code = s.code; env = e; links = at.links; saved = at.saved; frames = frames; goals = p.list }
 
-      both-again : (o : Option Turn) → rest ≡ o → PushesAnswers p a.count o below frames → IsStack again (d - 1 + 1) × ((statics : Statics) → Answered statics at again vs p.list a.turn)
+      both-again : (o : Option Turn) → rest ≡ o → PushesAnswers p a.count o below frames → IsStack again (d - 1 + 1) × ((db : Database) → Answered db at again vs p.list a.turn)
       both-again None none up = (
         last-stack at (d - 1) at-stack vs values-again a.turn e env rest t p.list (list-then s d is below p (resumes.Answers a) popped) none frames up,
         last-answered at (d - 1) at-stack vs values-again a.turn e env rest t p.list (list-then s d is below p (resumes.Answers a) popped) none frames up,
@@ -263,10 +263,10 @@ module _ (s : State) (d : ℕ) (is : IsStack s d) (below : List Frame) (p : Poin
           let q = (both-again rest refl pushes).0 in
           (q.0, omega (arith, q.1, back-depth s d is below p (resumes.Answers a) popped))
 
-      pub again-retries : (statics : Statics) → Retries statics s again
-      again-retries statics =
-          let q = (both-again rest refl pushes).1 statics in
-          record { others = q.others; older = cases_of statics at; was = was statics ∙ ap (λ ps. Choice ps ∷ cases_of statics at) q.places; cases = q.cases }
+      pub again-retries : (db : Database) → Retries db s again
+      again-retries db =
+          let q = (both-again rest refl pushes).1 db in
+          record { others = q.others; older = cases_of db at; was = was db ∙ ap (λ ps. Choice ps ∷ cases_of db at) q.places; cases = q.cases }
 
       pub again-within : IsWithin p.marks.env e
       again-within = (keeps-all at (d - 1) at-stack vs values-again a.turn e env rest t).within p.marks.env the-frame.mark.within
@@ -277,15 +277,15 @@ module _ (s : State) (d : ℕ) (is : IsStack s d) (below : List Frame) (p : Poin
     pub closed-stack : TakesNone at.env e vs a.turn → IsStack (record { code = s.code; env = e; links = at.links; saved = at.saved; frames = below; goals = alone 0 }) (d - 1)
     closed-stack t = none-stack at (d - 1) at-stack vs a.turn e env t
 
-    pub closed-cases : (t : TakesNone at.env e vs a.turn) (statics : Statics) → cases_of statics s ≡ Choice [] ∷ cases_of statics (record { code = s.code; env = e; links = at.links; saved = at.saved; frames = below; goals = alone 0 })
-    closed-cases t statics =
-        let u = none-answered at (d - 1) at-stack vs a.turn e env t p.list statics in
-        was statics ∙ ap₂ (λ ps cs. Choice ps ∷ cs) u.none (sym u.cases)
+    pub closed-cases : (t : TakesNone at.env e vs a.turn) (db : Database) → cases_of db s ≡ Choice [] ∷ cases_of db (record { code = s.code; env = e; links = at.links; saved = at.saved; frames = below; goals = alone 0 })
+    closed-cases t db =
+        let u = none-answered at (d - 1) at-stack vs a.turn e env t p.list db in
+        was db ∙ ap₂ (λ ps cs. Choice ps ∷ cs) u.none (sym u.cases)
 
     -- the case is put back
     module _ (y : Stays at.env e) where
       pub back-again : IsStack (record (rewound s d is below p (resumes.Answers a) popped) { env = e }) d
       back-again = stays-stack (rewound s d is below p (resumes.Answers a) popped) d (rewound-stack s d is below p (resumes.Answers a) popped) e env y
 
-      pub back-again-cases : (statics : Statics) → cases_of statics (record (rewound s d is below p (resumes.Answers a) popped) { env = e }) ≡ cases_of statics s
-      back-again-cases statics = (stays-at (rewound s d is below p (resumes.Answers a) popped) d (rewound-stack s d is below p (resumes.Answers a) popped) e env y).cases statics ∙ rewound-cases s d is below p (resumes.Answers a) popped statics
+      pub back-again-cases : (db : Database) → cases_of db (record (rewound s d is below p (resumes.Answers a) popped) { env = e }) ≡ cases_of db s
+      back-again-cases db = (stays-at (rewound s d is below p (resumes.Answers a) popped) d (rewound-stack s d is below p (resumes.Answers a) popped) e env y).cases db ∙ rewound-cases s d is below p (resumes.Answers a) popped db

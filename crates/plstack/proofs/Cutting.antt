@@ -20,7 +20,7 @@ use Rattle.plstack.specs.declared.frame.Resume.{Resume}
 use Rattle.plstack.specs.declared.frame.Resume.TheVariants as resumes
 use Rattle.plstack.specs.declared.frame.Frame.{Frame}
 use Rattle.plstack.specs.declared.frame.Frame.TheVariants.{Plain, Barrier, Open}
-use Rattle.plstack.specs.Places.{Statics, plain, kept_values, case_of, opened, cases, size, depth_of}
+use Rattle.plstack.specs.Places.{Database, plain, kept_values, case_of, opened, cases, size, depth_of}
 use Rattle.plstack.specs.Frames.{AreFrames}
 use Rattle.plstack.specs.State.{State, IsStack, CountsUp, goals_in, cases_of}
 use Rattle.plstack.specs.Cutting.{IsChosen, IsChoice, frame_at, ChoiceAt, EmptiesFrom, GivesUp, Empties}
@@ -83,15 +83,15 @@ record IsChoiceCase (c : Case) : Type 0 where
   places : List Place
   is : c ≡ Choice places
 
-module _ (statics : Statics) (code : Goals) (e : Env) (links : List Link) (saved : List Cell) where
-  chosen : (d : ℕ) (x : Env) (xs : List Item) (vs : List Cell) (r : Resume) → IsChosen r → IsChoiceCase (case_of statics code d x xs vs r)
+module _ (db : Database) (code : Goals) (e : Env) (links : List Link) (saved : List Cell) where
+  chosen : (d : ℕ) (x : Env) (xs : List Item) (vs : List Cell) (r : Resume) → IsChosen r → IsChoiceCase (case_of db code d x xs vs r)
   chosen d x xs vs (resumes.Clauses c) i = record { places = _; is = refl }
-  chosen d x xs vs (resumes.Copies c) i = record { places = _; is = refl }
+  chosen d x xs vs (resumes.Walk w) i = record { places = _; is = refl }
   chosen d x xs vs (resumes.Answers a) i = record { places = _; is = refl }
   chosen d x xs vs resumes.List i = record { places = _; is = refl }
   chosen d x xs vs (resumes.Handle y) i = absurd i
 
-  one-splits : (f : Frame) (base : List Case) (level : ℕ) → IsChoice f → deeper base 0 ≤ level → level < deeper base 0 + size f → Splits (opened statics code e links saved f base) level (plain (level - deeper base 0) base)
+  one-splits : (f : Frame) (base : List Case) (level : ℕ) → IsChoice f → deeper base 0 ≤ level → level < deeper base 0 + size f → Splits (opened db code e links saved f base) level (plain (level - deeper base 0) base)
   one-splits (Plain n) base level choice low high =
       let k : ℕ = level - deeper base 0 in
       let m : ℕ = n - suc k in
@@ -115,7 +115,7 @@ module _ (statics : Statics) (code : Goals) (e : Env) (links : List Link) (saved
   behind : (c : Case) (all : List Case) (level : ℕ) (low : List Case) → Splits all level low → Splits (c ∷ all) level low
   behind c all level low s = record { inside = c ∷ s.inside; places = s.places; is = ap (λ cs. c ∷ cs) s.is; count = omega (arith, s.count) }
 
-  more-splits : (f : Frame) (all : List Case) (level : ℕ) (low : List Case) → Splits all level low → Splits (opened statics code e links saved f all) level low
+  more-splits : (f : Frame) (all : List Case) (level : ℕ) (low : List Case) → Splits all level low → Splits (opened db code e links saved f all) level low
   more-splits (Plain n) all level low s = record {
     inside = plain n [] ++ s.inside;
     places = s.places;
@@ -123,13 +123,13 @@ module _ (statics : Statics) (code : Goals) (e : Env) (links : List Link) (saved
     count = omega (arith, plain-deeper n all, length-append (plain n []) s.inside, plain-length n, s.count);
   }
   more-splits (Barrier l) all level low s = behind (MarkOf l) all level low s
-  more-splits (Open p r) all level low s = behind (case_of statics code (deeper all 0) (cut p.marks.env e) (items_of links p.list) (kept_values saved p r) r) all level low s
+  more-splits (Open p r) all level low s = behind (case_of db code (deeper all 0) (cut p.marks.env e) (items_of links p.list) (kept_values saved p r) r) all level low s
 
-  all-split : (front : List Frame) (f : Frame) (under : List Frame) (level : ℕ) → IsChoice f → deeper (cases statics code e links saved under) 0 ≤ level → level < deeper (cases statics code e links saved under) 0 + size f →
-      Splits (cases statics code e links saved (front ++ f ∷ under)) level (plain (level - deeper (cases statics code e links saved under) 0) (cases statics code e links saved under))
-  all-split [] f under level choice low high = one-splits f (cases statics code e links saved under) level choice low high
+  all-split : (front : List Frame) (f : Frame) (under : List Frame) (level : ℕ) → IsChoice f → deeper (cases db code e links saved under) 0 ≤ level → level < deeper (cases db code e links saved under) 0 + size f →
+      Splits (cases db code e links saved (front ++ f ∷ under)) level (plain (level - deeper (cases db code e links saved under) 0) (cases db code e links saved under))
+  all-split [] f under level choice low high = one-splits f (cases db code e links saved under) level choice low high
   all-split (g ∷ front) f under level choice low high =
-      more-splits g (cases statics code e links saved (front ++ f ∷ under)) level (plain (level - deeper (cases statics code e links saved under) 0) (cases statics code e links saved under)) (all-split front f under level choice low high)
+      more-splits g (cases db code e links saved (front ++ f ∷ under)) level (plain (level - deeper (cases db code e links saved under) 0) (cases db code e links saved under)) (all-split front f under level choice low high)
 
 -- the frames before one, that one, and those behind it
 pub reversed-at : (fs : List Frame) (i : ℕ) → i < length fs → reverse fs ≡ reverse (drop (suc i) fs) ++ frame_at fs i ∷ reverse (take i fs)
@@ -169,20 +169,20 @@ module _ (s : State) (d : ℕ) (is : IsStack s d) (i below n : ℕ) (lt : i < le
   pub empties-from : EmptiesFrom s (record s { frames = frames }) i below
   unfolding cases_of
   empties-from = record {
-    cases = λ statics. up.cases statics (goals_in s) s.env s.links s.saved ∙ ap (λ k. plain k (cases statics (goals_in s) s.env s.links s.saved (reverse (take i s.frames)))) (omega (arith, count, is.1));
+    cases = λ db. up.cases db (goals_in s) s.env s.links s.saved ∙ ap (λ k. plain k (cases db (goals_in s) s.env s.links s.saved (reverse (take i s.frames)))) (omega (arith, count, is.1));
     same = refl;
     older = up.older;
   }
 
 -- so the choice at the level and all inside of it are
-pub empties : (s new : State) (level i below : ℕ) → ChoiceAt s.frames level i below → GivesUp s new i below → (statics : Statics) → Empties statics s new level
+pub empties : (s new : State) (level i below : ℕ) → ChoiceAt s.frames level i below → GivesUp s new i below → (db : Database) → Empties db s new level
 unfolding cases_of
-empties s new level i below at from statics =
+empties s new level i below at from db =
     let under : List Frame = reverse (take i s.frames) in
-    let base : List Case = cases statics (goals_in s) s.env s.links s.saved under in
-    let all : List Case = cases statics (goals_in s) s.env s.links s.saved (reverse s.frames) in
-    let b : deeper base 0 ≡ below = depth-cases statics (goals_in s) s.env s.links s.saved under ∙ at.depth in
-    let split : Splits all level (plain (level - deeper base 0) base) = rw (reversed-at s.frames i at.there) (all-split statics (goals_in s) s.env s.links s.saved (reverse (drop (suc i) s.frames)) (frame_at s.frames i) under level at.choice (omega (arith, b, at.low)) (omega (arith, b, at.high))) in
+    let base : List Case = cases db (goals_in s) s.env s.links s.saved under in
+    let all : List Case = cases db (goals_in s) s.env s.links s.saved (reverse s.frames) in
+    let b : deeper base 0 ≡ below = depth-cases db (goals_in s) s.env s.links s.saved under ∙ at.depth in
+    let split : Splits all level (plain (level - deeper base 0) base) = rw (reversed-at s.frames i at.there) (all-split db (goals_in s) s.env s.links s.saved (reverse (drop (suc i) s.frames)) (frame_at s.frames i) under level at.choice (omega (arith, b, at.low)) (omega (arith, b, at.high))) in
     let k : ℕ = level - deeper base 0 in
     record {
       inside = split.inside;
@@ -191,8 +191,8 @@ empties s new level i below at from statics =
       was = split.is;
       at = plain-deeper k base ∙ omega (arith, b, at.low);
       cases =
-          from.cases statics
-          ∙ ap (λ j. plain j base) (omega (arith, depth-cases statics (goals_in s) s.env s.links s.saved (reverse s.frames), split.count, b, at.low))
+          from.cases db
+          ∙ ap (λ j. plain j base) (omega (arith, depth-cases db (goals_in s) s.env s.links s.saved (reverse s.frames), split.count, b, at.low))
           ∙ sym (plain-plus (suc (length split.inside)) (suc k) base)
           ∙ sym (emptied-plain (MarkOf level ∷ split.inside) (plain (suc k) base));
     }

@@ -19,7 +19,7 @@ use Rattle.plstack.specs.declared.frame.Resume.TheVariants as resumes
 use Rattle.plstack.specs.declared.frame.Frame.{Frame}
 use Rattle.plstack.specs.declared.frame.Frame.TheVariants.{Plain, Barrier, Open}
 use Rattle.plstack.specs.declared.fit.Hit.{Hit}
-use Rattle.plstack.specs.Places.{Statics, called, places_left}
+use Rattle.plstack.specs.Places.{Database, called, places_left}
 use Rattle.plstack.specs.State.{State, goals_of, place_of, cases_of, IsList, AddsList, Retries, IsClauses, BeginsWith, HasClauses}
 use Rattle.plstack.specs.Calls.{places_of, Calls, CallsNone, StaysAt}
 use Rattle.plstack.specs.StaticCalls.{AtCall, IsCalling, further, onward, Binds, Enters, Hits, OpensCall}
@@ -52,16 +52,16 @@ module _ (s t : State) (p : Point) (c : Clauses) (n : ℕ) (at : AtCall s p c) (
     pub code-found : (hit : Hit) (x : Clause) → IsCodeOf t.code.text hit.clause x → IsCodeOf u.code.text hit.clause x
     code-found hit x code = subst (λ (m : Compiled). IsCodeOf m.text hit.clause x) (sym (ap (λ (y : State). y.code) same)) code
 
-    pub retries-entered : (statics : Statics) (new : State) (hit : Hit) → cases_of statics u ≡ cases_of statics t → Hits statics t u p c hit → Enters statics u new p c hit n → Retries statics s new
-    retries-entered statics new hit cases hits enters =
+    pub retries-entered : (db : Database) (new : State) (hit : Hit) → cases_of db u ≡ cases_of db t → Hits db t u p c hit → Enters db u new p c hit n → Retries db s new
+    retries-entered db new hit cases hits enters =
         let d : ℕ = deeper enters.goes.below 0 in
-        let left : List Place = further statics u d p c (onward hit.next (statics c.procedure).clauses) in
+        let left : List Place = further db u d p c (onward hit.next (db.statics c.procedure).clauses) in
         let body : Tree = bind (over u.env hit.base) hits.clause.body in
         record {
           others = left;
           older = enters.goes.below;
           was =
-              sym (cases ∙ adds.stays.cases statics)
+              sym (cases ∙ adds.stays.cases db)
               ∙ enters.goes.was
               ∙ ap (λ ps. Choice ps ∷ enters.goes.below) (hits.left d)
               ∙ ap (λ es. Choice (record { goals = before_rest (is_true hits.clause.body) d body es; variables = u.env.count } ∷ left) ∷ enters.goes.below) (sym list-found)
@@ -70,11 +70,11 @@ module _ (s t : State) (p : Point) (c : Clauses) (n : ℕ) (at : AtCall s p c) (
         }
 
 -- no clause of the innermost call is left
-pub none-entered : (statics : Statics) (s : State) (p : Point) (c : Clauses) → IsCalling s p c → ((d : ℕ) → further statics s d p c (drop c.next (statics c.procedure).clauses) ≡ []) →
-    (below : List Case) × (cases_of statics s ≡ Choice [] ∷ below)
-none-entered statics s p c calling none =
-    let below = cases_of statics (record s { frames = calling.rest }) in
-    (below, popped-cases statics s calling.rest (Open p (resumes.Clauses c)) calling.top ∙ ap (λ ps. Choice ps ∷ below) (none (deeper below 0)))
+pub none-entered : (db : Database) (s : State) (p : Point) (c : Clauses) → IsCalling s p c → ((d : ℕ) → further db s d p c (drop c.next (db.statics c.procedure).clauses) ≡ []) →
+    (below : List Case) × (cases_of db s ≡ Choice [] ∷ below)
+none-entered db s p c calling none =
+    let below = cases_of db (record s { frames = calling.rest }) in
+    (below, popped-cases db s calling.rest (Open p (resumes.Clauses c)) calling.top ∙ ap (λ ps. Choice ps ∷ below) (none (deeper below 0)))
 
 places_in : List Place → Case → List Place
 places_in d (Choice ps) = ps
@@ -94,29 +94,29 @@ unfolding places_in first_case behind_first
 choices-same ps qs xs ys e = (ap (λ zs. places_in ps (first_case (Choice ps) zs)) e, ap behind_first e)
 
 -- a call of a goal before a list
-module _ (s t u : State) (procedure n : ℕ) (values : List Cell) (rest : Continuation) (adds : AddsList s t (alone n) (goals_of s rest)) (opens : OpensCall t u procedure values (alone n)) (statics : Statics) where
+module _ (s t u : State) (procedure n : ℕ) (values : List Cell) (rest : Continuation) (adds : AddsList s t (alone n) (goals_of s rest)) (opens : OpensCall t u procedure values (alone n)) (db : Database) where
   abbrev goal : Tree
-  goal = called s.env.heap (statics procedure).name values
+  goal = called s.env.heap (db.statics procedure).name values
 
   abbrev cs : List Clause
-  cs = (statics procedure).clauses
+  cs = (db.statics procedure).clauses
 
-  numbered-places : places_of statics t (called t.env.heap (statics procedure).name values) (alone n) cs ≡ places_of statics s goal rest cs
+  numbered-places : places_of db t (called t.env.heap (db.statics procedure).name values) (alone n) cs ≡ places_of db s goal rest cs
   numbered-places =
-      ap₂ (λ (xs : List Case) (e : Env). places_left (deeper xs 0) e (called e.heap (statics procedure).name values) (goals_of t (alone n)) cs) (adds.stays.cases statics) adds.env
-      ∙ ap (λ es. places_left (deeper (cases_of statics s) 0) s.env goal es cs) adds.is
+      ap₂ (λ (xs : List Case) (e : Env). places_left (deeper xs 0) e (called e.heap (db.statics procedure).name values) (goals_of t (alone n)) cs) (adds.stays.cases db) adds.env
+      ∙ ap (λ es. places_left (deeper (cases_of db s) 0) s.env goal es cs) adds.is
 
-  opened : cases_of statics u ≡ Choice (places_of statics s goal rest cs) ∷ cases_of statics s
-  opened = opens.cases statics ∙ ap₂ (λ ps xs. Choice ps ∷ xs) numbered-places (adds.stays.cases statics)
+  opened : cases_of db u ≡ Choice (places_of db s goal rest cs) ∷ cases_of db s
+  opened = opens.cases db ∙ ap₂ (λ ps xs. Choice ps ∷ xs) numbered-places (adds.stays.cases db)
 
-  pub calls-entered : (new : State) → Retries statics u new → Calls statics s new goal rest cs
+  pub calls-entered : (new : State) → Retries db u new → Calls db s new goal rest cs
   calls-entered new r =
-      let same = choices-same (places_of statics s goal rest cs) (place_of new ∷ r.others) (cases_of statics s) r.older (sym opened ∙ r.was) in
+      let same = choices-same (places_of db s goal rest cs) (place_of new ∷ r.others) (cases_of db s) r.older (sym opened ∙ r.was) in
       record { others = r.others; places = same.0; cases = r.cases ∙ ap (λ xs. Choice r.others ∷ xs) (sym same.1) }
 
-  pub calls-none : (new : State) → cases_of statics u ≡ Choice [] ∷ cases_of statics new → CallsNone statics s new goal rest cs
+  pub calls-none : (new : State) → cases_of db u ≡ Choice [] ∷ cases_of db new → CallsNone db s new goal rest cs
   calls-none new e =
-      let same = choices-same (places_of statics s goal rest cs) [] (cases_of statics s) (cases_of statics new) (sym opened ∙ e) in
+      let same = choices-same (places_of db s goal rest cs) [] (cases_of db s) (cases_of db new) (sym opened ∙ e) in
       record { none = same.0; cases = sym same.1 }
 
 pub stays-numbered : (s t : State) (n : ℕ) (es : List Element) → AddsList s t (alone n) es → StaysAt s t
@@ -125,18 +125,18 @@ stays-numbered s t n es adds = record {
   place = ap₂ (λ gs k. record { goals = gs; variables = k }) adds.stays.visited (ap (λ (e : Env). e.count) adds.env);
 }
 
-without : (s : State) (rest : List Frame) (statics : Statics) (x : Case) (below : List Case) → cases_of statics s ≡ x ∷ below → (f : Frame) → IsClauses f → s.frames ≡ rest ++ f ∷ [] →
-    cases_of statics (record s { frames = rest }) ≡ below
+without : (s : State) (rest : List Frame) (db : Database) (x : Case) (below : List Case) → cases_of db s ≡ x ∷ below → (f : Frame) → IsClauses f → s.frames ≡ rest ++ f ∷ [] →
+    cases_of db (record s { frames = rest }) ≡ below
 unfolding behind_first
-without s rest statics x below e (Plain n) i is = absurd i
-without s rest statics x below e (Barrier l) i is = absurd i
-without s rest statics x below e (Open p (resumes.Clauses c)) i is = ap behind_first (sym (popped-cases statics s rest (Open p (resumes.Clauses c)) is) ∙ e)
-without s rest statics x below e (Open p (resumes.Copies c)) i is = absurd i
-without s rest statics x below e (Open p (resumes.Answers a)) i is = absurd i
-without s rest statics x below e (Open p resumes.List) i is = absurd i
-without s rest statics x below e (Open p (resumes.Handle y)) i is = absurd i
+without s rest db x below e (Plain n) i is = absurd i
+without s rest db x below e (Barrier l) i is = absurd i
+without s rest db x below e (Open p (resumes.Clauses c)) i is = ap behind_first (sym (popped-cases db s rest (Open p (resumes.Clauses c)) is) ∙ e)
+without s rest db x below e (Open p (resumes.Walk w)) i is = absurd i
+without s rest db x below e (Open p (resumes.Answers a)) i is = absurd i
+without s rest db x below e (Open p resumes.List) i is = absurd i
+without s rest db x below e (Open p (resumes.Handle y)) i is = absurd i
 
 -- without the innermost case, a call
-pub left-call : (s : State) (rest : List Frame) (f : Frame) → s.frames ≡ rest ++ f ∷ [] → HasClauses s → (statics : Statics) (x : Case) (below : List Case) → cases_of statics s ≡ x ∷ below →
-    cases_of statics (record s { frames = rest }) ≡ below
-left-call s rest f popped has statics x below e = without s rest statics x below e f (subst (BeginsWith IsClauses) (ap reverse popped ∙ reverse-push rest f) has) popped
+pub left-call : (s : State) (rest : List Frame) (f : Frame) → s.frames ≡ rest ++ f ∷ [] → HasClauses s → (db : Database) (x : Case) (below : List Case) → cases_of db s ≡ x ∷ below →
+    cases_of db (record s { frames = rest }) ≡ below
+left-call s rest f popped has db x below e = without s rest db x below e f (subst (BeginsWith IsClauses) (ap reverse popped ∙ reverse-push rest f) has) popped

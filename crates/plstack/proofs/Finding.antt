@@ -20,7 +20,7 @@ use Rattle.plstack.specs.declared.fit.Found.{Found}
 use Rattle.plstack.specs.declared.frame.Point.{Point}
 use Rattle.plstack.specs.declared.frame.Clauses.{Clauses}
 use Rattle.plstack.specs.declared.frame.Resume.TheVariants as resumes
-use Rattle.plstack.specs.Places.{Statics, called, kept_values}
+use Rattle.plstack.specs.Places.{Database, called, kept_values}
 use Rattle.plstack.specs.Fits.{Finds, FindsNone}
 use Rattle.plstack.specs.Attempts.{IsAttempt}
 use Rattle.plstack.specs.State.{State, IsStack, place_of, cases_of, Extends as ExtendsStack}
@@ -64,55 +64,55 @@ module _ (s : State) (d : ℕ) (is : IsStack s d) (p : Point) (c : Clauses) (at 
     pub undone-stack : IsStack (record s { env = renamed s.env t }) d
     undone-stack = renamed-stack s d is p c at t table more env
 
-    pub undone-cases : (statics : Statics) → cases_of statics (record s { env = renamed s.env t }) ≡ cases_of statics s
-    undone-cases statics = cases-stay s d is p c at (renamed s.env t) (renamed-kept s.env t more) env statics
+    pub undone-cases : (db : Database) → cases_of db (record s { env = renamed s.env t }) ≡ cases_of db s
+    undone-cases db = cases-stay s d is p c at (renamed s.env t) (renamed-kept s.env t more) env db
 
     pub undone-place : place_of (record s { env = renamed s.env t }) ≡ place_of s
     undone-place =
         let x : ExtendsStack s (record s { env = renamed s.env t }) = extends-env s d (renamed s.env t) (extends-renamed s.env t is.0.env table more) env is in
         ap (λ gs. record { goals = gs; variables = s.env.count }) x.visited
 
-  module _ (statics : Statics) (own : AreStatics s.code statics) (lt : c.procedure < length s.code.procedures) where
+  module _ (db : Database) (own : AreStatics s.code db) (lt : c.procedure < length s.code.procedures) where
     -- no clause is left
-    pub past-all : length (get_or s.code.procedures c.procedure []) < c.next → (l : ℕ) → further statics s l p c (drop c.next (statics c.procedure).clauses) ≡ []
+    pub past-all : length (get_or s.code.procedures c.procedure []) < c.next → (l : ℕ) → further db s l p c (drop c.next (db.statics c.procedure).clauses) ≡ []
     past-all past l =
-        let xs = (statics c.procedure).clauses in
-        let many = own-length s.code.text (statics c.procedure).name (get_or s.code.procedures c.procedure []) xs (own.own c.procedure lt) in
-        ap (λ cs. further statics s l p c cs) (drop_all c.next xs (omega (arith, past, many)))
+        let xs = (db.statics c.procedure).clauses in
+        let many = own-length s.code.text (db.statics c.procedure).name (get_or s.code.procedures c.procedure []) xs (own.own c.procedure lt) in
+        ap (λ cs. further db s l p c cs) (drop_all c.next xs (omega (arith, past, many)))
 
     module _ (key : Key) (key_is : IsFirstKey s.env.heap.names key (map (value s.env.heap) vs)) (laid : IsLaid s.code.text.names s.code.text.nodes) where
       abbrev name : List ℕ
-      name = (statics c.procedure).name
+      name = (db.statics c.procedure).name
 
       abbrev xs : List Clause
-      xs = (statics c.procedure).clauses
+      xs = (db.statics c.procedure).clauses
 
       abbrev ks : List ClauseCode
       ks = get_or s.code.procedures c.procedure []
 
       pub the-attempt : IsAttempt s.code.text s.env name vs key s.code.text.nodes ks xs
-      the-attempt = attempt s d is p c at statics own key key_is lt laid
+      the-attempt = attempt s d is p c at db own key key_is lt laid
 
       module _ (e : Env) (keeps : Keeps s.env e) (env : IsEnv e) where
-        pub nothing-left : FindsNone s.env (called s.env.heap name vs) xs c.next → (l : ℕ) → further statics (record s { env = e }) l p c (drop c.next xs) ≡ []
-        nothing-left = none-left s d is p c at statics own key key_is lt laid e keeps env
+        pub nothing-left : FindsNone s.env (called s.env.heap name vs) xs c.next → (l : ℕ) → further db (record s { env = e }) l p c (drop c.next xs) ≡ []
+        nothing-left = none-left s d is p c at db own key key_is lt laid e keeps env
 
         module _ (hit : Hit) (h : FindsHit s.env e (called s.env.heap name vs) key ks xs c.next hit) where
           pub hit-stack : IsStack (record s { env = e }) d
-          hit-stack = fitted-stack s d is p c at statics own key key_is lt laid e keeps env h.found h.finds
+          hit-stack = fitted-stack s d is p c at db own key key_is lt laid e keeps env h.found h.finds
 
           pub hit-binds : Binds s (record s { env = e })
-          hit-binds = record { unifier = h.finds.fitted.unifier; lists = list-bound s d is p c at statics own key key_is lt laid e keeps env h.found h.finds }
+          hit-binds = record { unifier = h.finds.fitted.unifier; lists = list-bound s d is p c at db own key key_is lt laid e keeps env h.found h.finds }
 
           hit-code : IsCodeOf s.code.text hit.clause h.finds.clause
-          hit-code = subst (λ k. IsCodeOf s.code.text k h.finds.clause) (h.clause nothing) (code-is s d is p c at statics own key key_is lt laid e keeps env h.found h.finds nothing hit.next h.next)
+          hit-code = subst (λ k. IsCodeOf s.code.text k h.finds.clause) (h.clause nothing) (code-is s d is p c at db own key key_is lt laid e keeps env h.found h.finds nothing hit.next h.next)
 
-          pub hits : Hits statics s (record s { env = e }) p c hit
+          pub hits : Hits db s (record s { env = e }) p c hit
           hits = record {
             clause = h.finds.clause;
             code = hit-code;
-            slots = rw (h.base, ← h.clause nothing) (slots-there s d is p c at statics own key key_is lt laid e keeps env h.found h.finds nothing hit.next h.next);
-            left = rw h.base (left s d is p c at statics own key key_is lt laid e keeps env h.found h.finds nothing hit.next h.next);
+            slots = rw (h.base, ← h.clause nothing) (slots-there s d is p c at db own key key_is lt laid e keeps env h.found h.finds nothing hit.next h.next);
+            left = rw h.base (left s d is p c at db own key key_is lt laid e keeps env h.found h.finds nothing hit.next h.next);
           }
 
         -- whether one was found or not

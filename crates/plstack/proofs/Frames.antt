@@ -21,7 +21,7 @@ use Rattle.plstack.specs.declared.frame.Point.{Point}
 use Rattle.plstack.specs.declared.frame.Resume.{Resume}
 use Rattle.plstack.specs.declared.frame.Frame.{Frame}
 use Rattle.plstack.specs.declared.frame.Frame.TheVariants.{Plain, Barrier, Open}
-use Rattle.plstack.specs.Places.{Statics, kept, kept_values, case_of, plain, cases, depth_of}
+use Rattle.plstack.specs.Places.{Database, kept, kept_values, case_of, plain, cases, depth_of}
 use Rattle.plstack.specs.Frames.{IsOlder, AreOlder, IsResume, IsOpen, AreFrames}
 use Rattle.plstack.proofs.Renaming.{agrees-renamed, resume-renamed, case-renamed}
 
@@ -30,11 +30,11 @@ pub plain-deeper : (n : ℕ) (below : List Case) → deeper (plain n below) 0 �
 plain-deeper zero below = omega arith
 plain-deeper (suc n) below = omega (arith, plain-deeper n below)
 
-pub depth-cases : (statics : Statics) (code : Goals) (e : Env) (links : List Link) (saved : List Cell) (fs : List Frame) → deeper (cases statics code e links saved fs) 0 ≡ depth_of fs
-depth-cases statics code e links saved [] = refl
-depth-cases statics code e links saved (Plain n ∷ fs) = omega (arith, plain-deeper n (cases statics code e links saved fs), depth-cases statics code e links saved fs)
-depth-cases statics code e links saved (Barrier l ∷ fs) = omega (arith, depth-cases statics code e links saved fs)
-depth-cases statics code e links saved (Open p r ∷ fs) = omega (arith, depth-cases statics code e links saved fs)
+pub depth-cases : (db : Database) (code : Goals) (e : Env) (links : List Link) (saved : List Cell) (fs : List Frame) → deeper (cases db code e links saved fs) 0 ≡ depth_of fs
+depth-cases db code e links saved [] = refl
+depth-cases db code e links saved (Plain n ∷ fs) = omega (arith, plain-deeper n (cases db code e links saved fs), depth-cases db code e links saved fs)
+depth-cases db code e links saved (Barrier l ∷ fs) = omega (arith, depth-cases db code e links saved fs)
+depth-cases db code e links saved (Open p r ∷ fs) = omega (arith, depth-cases db code e links saved fs)
 
 -- a list among the first links
 pub items-more : (links more : List Link) (l : Continuation) → l.rest ≤ length links → items_of (links ++ more) l ≡ items_of links l
@@ -75,12 +75,12 @@ module _ (code : Goals) (old new : Env) (links more : List Link) (saved further 
     same-values : kept_values (saved ++ further) p r ≡ kept_values saved p r
     same-values = run-more p.marks.saved (kept r) saved further is.saved_room
 
-    case-kept : (statics : Statics) (d : ℕ) →
-        case_of statics code d (cut p.marks.env new) (items_of (links ++ more) p.list) (kept_values (saved ++ further) p r) r ≡ case_of statics code d (cut p.marks.env old) (items_of links p.list) (kept_values saved p r) r
-    case-kept statics d =
-        ap (λ e. case_of statics code d e (items_of (links ++ more) p.list) (kept_values (saved ++ further) p r) r) same-cut
-        ∙ ap₂ (λ xs vs. case_of statics code d (renamed (cut p.marks.env old) new.heap.names) xs vs r) same-items same-values
-        ∙ case-renamed (cut p.marks.env old) new.heap.names is.mark.env table more-names statics code d (items_of links p.list) is.items (kept_values saved p r) r is.resume
+    case-kept : (db : Database) (d : ℕ) →
+        case_of db code d (cut p.marks.env new) (items_of (links ++ more) p.list) (kept_values (saved ++ further) p r) r ≡ case_of db code d (cut p.marks.env old) (items_of links p.list) (kept_values saved p r) r
+    case-kept db d =
+        ap (λ e. case_of db code d e (items_of (links ++ more) p.list) (kept_values (saved ++ further) p r) r) same-cut
+        ∙ ap₂ (λ xs vs. case_of db code d (renamed (cut p.marks.env old) new.heap.names) xs vs r) same-items same-values
+        ∙ case-renamed (cut p.marks.env old) new.heap.names is.mark.env table more-names code (items_of links p.list) is.items db d (kept_values saved p r) r is.resume
 
     items-kept : AreItems code (cut p.marks.env new).heap (length (cut p.marks.env new).slots) (items_of (links ++ more) p.list)
     items-kept =
@@ -106,13 +106,13 @@ module _ (code : Goals) (old new : Env) (links more : List Link) (saved further 
       resume = resume-kept;
     }
 
-  pub cases-kept : (statics : Statics) (fs : List Frame) → AreFrames code old links saved fs → cases statics code new (links ++ more) (saved ++ further) fs ≡ cases statics code old links saved fs
-  cases-kept statics [] a = refl
-  cases-kept statics (Plain n ∷ fs) a = ap (plain n) (cases-kept statics fs a.1)
-  cases-kept statics (Barrier l ∷ fs) a = ap (λ cs. MarkOf l ∷ cs) (cases-kept statics fs a.1)
-  cases-kept statics (Open p r ∷ fs) a =
-      ap (λ cs. case_of statics code (deeper cs 0) (cut p.marks.env new) (items_of (links ++ more) p.list) (kept_values (saved ++ further) p r) r ∷ cs) (cases-kept statics fs a.1)
-      ∙ ap (λ c. c ∷ cases statics code old links saved fs) (case-kept p r fs a.0 statics (deeper (cases statics code old links saved fs) 0))
+  pub cases-kept : (db : Database) (fs : List Frame) → AreFrames code old links saved fs → cases db code new (links ++ more) (saved ++ further) fs ≡ cases db code old links saved fs
+  cases-kept db [] a = refl
+  cases-kept db (Plain n ∷ fs) a = ap (plain n) (cases-kept db fs a.1)
+  cases-kept db (Barrier l ∷ fs) a = ap (λ cs. MarkOf l ∷ cs) (cases-kept db fs a.1)
+  cases-kept db (Open p r ∷ fs) a =
+      ap (λ cs. case_of db code (deeper cs 0) (cut p.marks.env new) (items_of (links ++ more) p.list) (kept_values (saved ++ further) p r) r ∷ cs) (cases-kept db fs a.1)
+      ∙ ap (λ c. c ∷ cases db code old links saved fs) (case-kept p r fs a.0 db (deeper (cases db code old links saved fs) 0))
 
   pub AreFrames-kept : (fs : List Frame) → AreFrames code old links saved fs → AreFrames code new (links ++ more) (saved ++ further) fs
   AreFrames-kept [] a = tt
@@ -132,11 +132,11 @@ module _ (code : Goals) (e : Env) (links : List Link) (saved : List Cell) (m : M
     first-values : kept_values (take m.saved saved) p r ≡ kept_values saved p r
     first-values = run-take m.saved p.marks.saved (kept r) saved o.saved
 
-    case-cut : (statics : Statics) (d : ℕ) →
-        case_of statics code d (cut p.marks.env (cut m.env e)) (items_of (take m.links links) p.list) (kept_values (take m.saved saved) p r) r ≡ case_of statics code d (cut p.marks.env e) (items_of links p.list) (kept_values saved p r) r
-    case-cut statics d =
-        ap (λ c. case_of statics code d c (items_of (take m.links links) p.list) (kept_values (take m.saved saved) p r) r) again
-        ∙ ap₂ (λ xs vs. case_of statics code d (cut p.marks.env e) xs vs r) first-items first-values
+    case-cut : (db : Database) (d : ℕ) →
+        case_of db code d (cut p.marks.env (cut m.env e)) (items_of (take m.links links) p.list) (kept_values (take m.saved saved) p r) r ≡ case_of db code d (cut p.marks.env e) (items_of links p.list) (kept_values saved p r) r
+    case-cut db d =
+        ap (λ c. case_of db code d c (items_of (take m.links links) p.list) (kept_values (take m.saved saved) p r) r) again
+        ∙ ap₂ (λ xs vs. case_of db code d (cut p.marks.env e) xs vs r) first-items first-values
 
     open-cut : IsOpen code (cut m.env e) (take m.links links) (take m.saved saved) p r fs
     open-cut = record {
@@ -151,14 +151,14 @@ module _ (code : Goals) (e : Env) (links : List Link) (saved : List Cell) (m : M
           (subst (λ (c : Env). IsResume c.heap (kept_values saved p r) r) (sym again) is.resume);
     }
 
-  pub cases-cut : (statics : Statics) (fs : List Frame) → AreOlder m fs → AreFrames code e links saved fs →
-      cases statics code (cut m.env e) (take m.links links) (take m.saved saved) fs ≡ cases statics code e links saved fs
-  cases-cut statics [] o a = refl
-  cases-cut statics (Plain n ∷ fs) o a = ap (plain n) (cases-cut statics fs o a.1)
-  cases-cut statics (Barrier l ∷ fs) o a = ap (λ cs. MarkOf l ∷ cs) (cases-cut statics fs o a.1)
-  cases-cut statics (Open p r ∷ fs) o a =
-      ap (λ cs. case_of statics code (deeper cs 0) (cut p.marks.env (cut m.env e)) (items_of (take m.links links) p.list) (kept_values (take m.saved saved) p r) r ∷ cs) (cases-cut statics fs o.1 a.1)
-      ∙ ap (λ c. c ∷ cases statics code e links saved fs) (case-cut p r fs o.0 a.0 statics (deeper (cases statics code e links saved fs) 0))
+  pub cases-cut : (db : Database) (fs : List Frame) → AreOlder m fs → AreFrames code e links saved fs →
+      cases db code (cut m.env e) (take m.links links) (take m.saved saved) fs ≡ cases db code e links saved fs
+  cases-cut db [] o a = refl
+  cases-cut db (Plain n ∷ fs) o a = ap (plain n) (cases-cut db fs o a.1)
+  cases-cut db (Barrier l ∷ fs) o a = ap (λ cs. MarkOf l ∷ cs) (cases-cut db fs o a.1)
+  cases-cut db (Open p r ∷ fs) o a =
+      ap (λ cs. case_of db code (deeper cs 0) (cut p.marks.env (cut m.env e)) (items_of (take m.links links) p.list) (kept_values (take m.saved saved) p r) r ∷ cs) (cases-cut db fs o.1 a.1)
+      ∙ ap (λ c. c ∷ cases db code e links saved fs) (case-cut p r fs o.0 a.0 db (deeper (cases db code e links saved fs) 0))
 
   pub AreFrames-cut : (fs : List Frame) → AreOlder m fs → AreFrames code e links saved fs → AreFrames code (cut m.env e) (take m.links links) (take m.saved saved) fs
   AreFrames-cut [] o a = tt

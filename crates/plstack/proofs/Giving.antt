@@ -17,7 +17,7 @@ use Rattle.plstack.specs.declared.frame.Resume.{Resume}
 use Rattle.plstack.specs.declared.frame.Frame.{Frame}
 use Rattle.plstack.specs.declared.frame.Frame.TheVariants.{Plain, Barrier, Open}
 use Rattle.plstack.specs.declared.frame.Marks.{Marks}
-use Rattle.plstack.specs.Places.{Statics, kept_values, case_of, plain, cases}
+use Rattle.plstack.specs.Places.{Database, kept_values, case_of, plain, cases}
 use Rattle.plstack.specs.Frames.{AreOlder, IsOpen, AreFrames}
 use Rattle.plstack.specs.State.{State, IsStack, goals_in, cases_of}
 use Rattle.plstack.specs.Holding.{held}
@@ -59,12 +59,12 @@ module _ (code : Goals) (e : Env) (links ls : List Link) (saved : List Cell) (n 
       resume = is.resume;
     }
 
-  cases-same : (statics : Statics) (fs : List Frame) → AreWithin n fs → AreFrames code e links saved fs → cases statics code e ls saved fs ≡ cases statics code e links saved fs
-  cases-same statics [] o a = refl
-  cases-same statics (Plain i ∷ fs) o a = ap (plain i) (cases-same statics fs o a.1)
-  cases-same statics (Barrier l ∷ fs) o a = ap (λ cs. MarkOf l ∷ cs) (cases-same statics fs o a.1)
-  cases-same statics (Open p r ∷ fs) o a =
-      ap₂ (λ xs cs. case_of statics code (deeper cs 0) (cut p.marks.env e) xs (kept_values saved p r) r ∷ cs) (same-items p r fs o.0 a.0) (cases-same statics fs o.1 a.1)
+  cases-same : (db : Database) (fs : List Frame) → AreWithin n fs → AreFrames code e links saved fs → cases db code e ls saved fs ≡ cases db code e links saved fs
+  cases-same db [] o a = refl
+  cases-same db (Plain i ∷ fs) o a = ap (plain i) (cases-same db fs o a.1)
+  cases-same db (Barrier l ∷ fs) o a = ap (λ cs. MarkOf l ∷ cs) (cases-same db fs o a.1)
+  cases-same db (Open p r ∷ fs) o a =
+      ap₂ (λ xs cs. case_of db code (deeper cs 0) (cut p.marks.env e) xs (kept_values saved p r) r ∷ cs) (same-items p r fs o.0 a.0) (cases-same db fs o.1 a.1)
 
   frames-same : (fs : List Frame) → AreWithin n fs → AreFrames code e links saved fs → AreFrames code e ls saved fs
   frames-same [] o a = tt
@@ -105,7 +105,7 @@ module _ (s : State) (d : ℕ) (is : IsStack s d) (ls : List Link) (g : ℕ) (ch
   pub given-back : GivesBack s (record s { links = ls; goals = record { run = s.goals.run; rest = g } })
   unfolding cases_of
   given-back = record {
-    cases = λ statics. cases-same (goals_in s) s.env s.links ls s.saved (held_links s) room same statics (reverse s.frames) within is.0.frames;
+    cases = λ db. cases-same (goals_in s) s.env s.links ls s.saved (held_links s) room same db (reverse s.frames) within is.0.frames;
     place = ap (λ xs. record { goals = all_elements (goals_in s) s.env xs; variables = s.env.count }) visited-items;
     heap = refl;
     frames = refl;
@@ -197,7 +197,7 @@ module _ (s : State) (d : ℕ) (is : IsStack s d) (n : ℕ) (many : length s.lin
 
 pub back_trans : (a b c : State) → GivesBack a b → GivesBack b c → GivesBack a c
 back_trans a b c x y = record {
-  cases = λ statics. y.cases statics ∙ x.cases statics;
+  cases = λ db. y.cases db ∙ x.cases db;
   place = y.place ∙ x.place;
   heap = y.heap ∙ x.heap;
   frames = y.frames ∙ x.frames;
@@ -205,7 +205,7 @@ back_trans a b c x y = record {
 }
 
 pub back_refl : (a : State) → GivesBack a a
-back_refl a = record { cases = λ statics. refl; place = refl; heap = refl; frames = refl; code = refl }
+back_refl a = record { cases = λ db. refl; place = refl; heap = refl; frames = refl; code = refl }
 
 -- the last list, read where it stands
 pub next_of : (links : List Link) (n i : ℕ) (l : Link) → i ≡ n + 1 → length links ≡ n + 2 → l ≡ get_or links i l → l.next ≤ n → (link_at links (n + 1)).next ≤ n

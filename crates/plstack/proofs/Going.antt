@@ -20,7 +20,7 @@ use Rattle.plstack.specs.declared.frame.Resume.TheVariants as resumes
 use Rattle.plstack.specs.declared.frame.Frame.{Frame}
 use Rattle.plstack.specs.declared.frame.Frame.TheVariants.{Open}
 use Rattle.plstack.specs.declared.fit.Hit.{Hit}
-use Rattle.plstack.specs.Places.{Statics}
+use Rattle.plstack.specs.Places.{Database}
 use Rattle.plstack.specs.Frames.{AreOlder, IsOpen}
 use Rattle.plstack.specs.State.{State, IsStack, goals_in, goals_of, place_of, cases_of, IsList, CountsUp}
 use Rattle.plstack.specs.Cutting.{Settles}
@@ -59,11 +59,11 @@ module _ (s : State) (d : ℕ) (is : IsStack s d) (p : Point) (c : Clauses) (cal
         let o = opened-state (record s { frames = rest }) (d - 1) frames (Open p (resumes.Clauses c')) pushed below-stack frame in
         (o.0, omega (arith, o.1, back-depth s d is rest p (resumes.Clauses c) popped))
 
-    pub replaced : (statics : Statics) → GoesOn statics s (record s { frames = frames }) p c (Some next)
-    replaced statics = record {
-      below = cases_of statics (record s { frames = rest });
-      was = popped-cases statics s rest (Open p (resumes.Clauses c)) popped;
-      cases = opened-cases statics (record s { frames = rest }) frames (Open p (resumes.Clauses c')) pushed;
+    pub replaced : (db : Database) → GoesOn db s (record s { frames = frames }) p c (Some next)
+    replaced db = record {
+      below = cases_of db (record s { frames = rest });
+      was = popped-cases db s rest (Open p (resumes.Clauses c)) popped;
+      cases = opened-cases db (record s { frames = rest }) frames (Open p (resumes.Clauses c')) pushed;
     }
 
   -- no clause is left
@@ -73,18 +73,18 @@ module _ (s : State) (d : ℕ) (is : IsStack s d) (p : Point) (c : Clauses) (cal
         let u = counted 1 (record s { frames = rest }) (d - 1) frames up below-stack in
         (u.0, omega (arith, u.1, back-depth s d is rest p (resumes.Clauses c) popped))
 
-    pub emptied : (statics : Statics) → GoesOn statics s (record s { frames = frames }) p c None
-    emptied statics = record {
-      below = cases_of statics (record s { frames = rest });
-      was = popped-cases statics s rest (Open p (resumes.Clauses c)) popped;
-      cases = counted-cases 1 statics (record s { frames = rest }) frames up;
+    pub emptied : (db : Database) → GoesOn db s (record s { frames = frames }) p c None
+    emptied db = record {
+      below = cases_of db (record s { frames = rest });
+      was = popped-cases db s rest (Open p (resumes.Clauses c)) popped;
+      cases = counted-cases 1 db (record s { frames = rest }) frames up;
     }
 
     pub emptied-older : AreOlder p.marks (reverse frames)
     emptied-older = up.older p.marks the-call.older
 
-pub goes_settled : (statics : Statics) (s mid new : State) (p : Point) (c : Clauses) (next : Option ℕ) → GoesOn statics s mid p c next → Settles mid new → GoesOn statics s new p c next
-goes_settled statics s mid new p c next g y = record { below = g.below; was = g.was; cases = y.cases statics ∙ g.cases }
+pub goes_settled : (db : Database) (s mid new : State) (p : Point) (c : Clauses) (next : Option ℕ) → GoesOn db s mid p c next → Settles mid new → GoesOn db s new p c next
+goes_settled db s mid new p c next g y = record { below = g.below; was = g.was; cases = y.cases db ∙ g.cases }
 
 pub place-framed : (s new : State) → new ≡ record s { frames = new.frames } → place_of new ≡ place_of s
 place-framed s new e = ap (λ (x : State). place_of x) e
@@ -120,12 +120,12 @@ module _ (s : State) (d : ℕ) (is : IsStack s d) (hit : Hit) (x : Clause) (code
   body-goals = goals-if hit.clause.is_fact ∙ ap (λ f. before_rest f level (bind (over s.env hit.base) x.body) (goals_of s rest)) code.fact
 
 -- another list is visited
-pub goes_visited : (statics : Statics) (s new : State) (l : Continuation) (p : Point) (c : Clauses) (next : Option ℕ) → GoesOn statics (record s { goals = l }) new p c next → GoesOn statics s new p c next
+pub goes_visited : (db : Database) (s new : State) (l : Continuation) (p : Point) (c : Clauses) (next : Option ℕ) → GoesOn db (record s { goals = l }) new p c next → GoesOn db s new p c next
 unfolding cases_of
-goes_visited statics s new l p c next g = record { below = g.below; was = g.was; cases = g.cases }
+goes_visited db s new l p c next g = record { below = g.below; was = g.was; cases = g.cases }
 
 -- the level of the innermost case
-pub level-of : (statics : Statics) (s t : State) (d : ℕ) → IsStack s d → s ≡ t → (x : Case) (below : List Case) → cases_of statics t ≡ x ∷ below → d - 1 ≡ deeper below 0
-level-of statics s t d is same x below e =
-    let inner : d ≡ suc (deeper below 0) = depth_is statics s d is.1 ∙ ap (λ y. deeper (cases_of statics y) 0) same ∙ ap (λ cs. deeper cs 0) e in
+pub level-of : (db : Database) (s t : State) (d : ℕ) → IsStack s d → s ≡ t → (x : Case) (below : List Case) → cases_of db t ≡ x ∷ below → d - 1 ≡ deeper below 0
+level-of db s t d is same x below e =
+    let inner : d ≡ suc (deeper below 0) = depth_is db s d is.1 ∙ ap (λ y. deeper (cases_of db y) 0) same ∙ ap (λ cs. deeper cs 0) e in
     omega (arith, inner)

@@ -22,16 +22,16 @@ use Rattle.pllinks.specs.Links.{items_of, IsChain}
 use Rattle.pllinks.specs.Changing.{Agrees}
 use Rattle.pllinks.proofs.Changing.{items-agree, items-bound, items-more as wider-items}
 use Rattle.plstack.specs.declared.frame.Frame.{Frame}
-use Rattle.plstack.specs.Places.{Statics, cases}
+use Rattle.plstack.specs.Places.{Database, cases}
 use Rattle.plstack.specs.Frames.{AreFrames}
 use Rattle.plstack.specs.State.{State, goals_in, goals_of, cases_of, IsList, IsState, IsStack, Extends, Solves, Unifies, UnifiesTerms}
 use Rattle.plstack.proofs.Frames.{items-more, cases-kept, AreFrames-kept}
 
 -- the values that cases keep are as they were
 module _ (code : Goals) (old new : Env) (links ls more : List Link) (saved : List Cell) (is : ls ≡ links ++ more) (k : Keeps old new) (table : IsTable new.heap.names) where
-  pub cases-grown : (statics : Statics) (fs : List Frame) → AreFrames code old links saved fs → cases statics code new ls saved fs ≡ cases statics code old links saved fs
-  cases-grown statics fs a =
-      ap₂ (λ ks vs. cases statics code new ks vs fs) is (sym (append-nil saved)) ∙ cases-kept code old new links more saved [] k table statics fs a
+  pub cases-grown : (db : Database) (fs : List Frame) → AreFrames code old links saved fs → cases db code new ls saved fs ≡ cases db code old links saved fs
+  cases-grown db fs a =
+      ap₂ (λ ks vs. cases db code new ks vs fs) is (sym (append-nil saved)) ∙ cases-kept code old new links more saved [] k table db fs a
 
   pub frames-grown : (fs : List Frame) → AreFrames code old links saved fs → AreFrames code new ls saved fs
   frames-grown fs a =
@@ -77,7 +77,7 @@ module _ (s : State) (e : Env) (ls more : List Link) (links : ls ≡ s.links ++ 
     frames = refl;
     goals = refl;
     visited = (list-grown s.goals is.goals).1;
-    cases = λ statics. cases-grown (goals_in s) s.env e s.links ls more s.saved links x.keeps env.heap.names statics (reverse s.frames) is.frames;
+    cases = λ db. cases-grown (goals_in s) s.env e s.links ls more s.saved links x.keeps env.heap.names db (reverse s.frames) is.frames;
     lists = list-grown;
     values = x.values;
   }
@@ -108,9 +108,9 @@ module _ (s : State) (d : ℕ) (e : Env) (a b : Tree) (u : UnifiesEnv s.env e a 
     is.1,
   )
 
-  cases-unified : (statics : Statics) → cases_of statics (record s { env = e }) ≡ cases_of statics s
+  cases-unified : (db : Database) → cases_of db (record s { env = e }) ≡ cases_of db s
   unfolding cases_of
-  cases-unified statics = cases-grown (goals_in s) s.env e s.links s.links [] s.saved (sym (append-nil s.links)) u.made.keeps env.heap.names statics (reverse s.frames) is.0.frames
+  cases-unified db = cases-grown (goals_in s) s.env e s.links s.links [] s.saved (sym (append-nil s.links)) u.made.keeps env.heap.names db (reverse s.frames) is.0.frames
 
 -- two terms were unified
 module _ (s : State) (d : ℕ) (e : Env) (a b : Tree) (u : UnifiesEnv s.env e a b) (env : IsEnv e) (is : IsStack s d) where
@@ -158,7 +158,7 @@ module _ (s : State) (d : ℕ) (e : Env) (q : Equation) (u : SolvesEnv s.env e q
     unifier = u.unifier;
     is = u.is;
     lists = solved-lists;
-    cases = λ statics. cases-unified (record s { env = wide }) d e _ _ unified env at_first statics ∙ stays.cases statics;
+    cases = λ db. cases-unified (record s { env = wide }) d e _ _ unified env at_first db ∙ stays.cases db;
     frames = refl;
     count = u.made.count;
     code = refl;
@@ -192,7 +192,7 @@ err-extends s d e env is (Ok answer) err = tt
 err-extends s d e env is (Err x) err = (extends-env s d e err.extends env is, err.count)
 
 pub extends_same : (s : State) → Extends s s
-extends_same s = record { code = refl; frames = refl; goals = refl; visited = refl; cases = λ statics. refl; lists = λ l i. (i, refl); values = λ v f. (f, refl) }
+extends_same s = record { code = refl; frames = refl; goals = refl; visited = refl; cases = λ db. refl; lists = λ l i. (i, refl); values = λ v f. (f, refl) }
 
 -- whatever a unification answers, the stack stays one
 module _ (s : State) (d : ℕ) (e : Env) (a b : Cell) (env : IsEnv e) (is : IsStack s d) where

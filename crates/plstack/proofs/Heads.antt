@@ -21,7 +21,7 @@ extends-trans a b c x y = record {
   frames = y.frames ∙ x.frames;
   goals = y.goals ∙ x.goals;
   visited = y.visited ∙ x.visited;
-  cases = λ statics. y.cases statics ∙ x.cases statics;
+  cases = λ db. y.cases db ∙ x.cases db;
   lists = λ l i. let p = x.lists l i in let q = y.lists l p.0 in (q.0, q.1 ∙ p.1);
   values = λ v f. let p = x.values v f in let q = y.values v p.0 in (q.0, q.1 ∙ p.1);
 }

@@ -29,7 +29,7 @@ use Rattle.plstack.specs.declared.fit.Found.{Found}
 use Rattle.plstack.specs.declared.frame.Point.{Point}
 use Rattle.plstack.specs.declared.frame.Clauses.{Clauses}
 use Rattle.plstack.specs.declared.frame.Resume.TheVariants as resumes
-use Rattle.plstack.specs.Places.{Statics, called, places_left, kept_values}
+use Rattle.plstack.specs.Places.{Database, called, places_left, kept_values}
 use Rattle.plstack.specs.Frames.{IsOpen}
 use Rattle.plstack.specs.State.{State, IsStack, goals_in, goals_of, cases_of, IsList}
 use Rattle.plstack.specs.Fits.{Finds, FindsNone}
@@ -75,24 +75,24 @@ module _ (s : State) (d : ℕ) (is : IsStack s d) (p : Point) (c : Clauses) (at 
     pub then-cut : cut p.marks.env e ≡ renamed s.env e.heap.names
     then-cut = keeps.kept p.marks.env the-call.mark.within ∙ ap (λ x. renamed x e.heap.names) at.now
 
-    pub cases-stay : (statics : Statics) → cases_of statics (record s { env = e }) ≡ cases_of statics s
+    pub cases-stay : (db : Database) → cases_of db (record s { env = e }) ≡ cases_of db s
     unfolding cases_of
-    cases-stay statics = cases-grown (goals_in s) s.env e s.links s.links [] s.saved (sym (append-nil s.links)) keeps env.heap.names statics (reverse s.frames) is.0.frames
+    cases-stay db = cases-grown (goals_in s) s.env e s.links s.links [] s.saved (sym (append-nil s.links)) keeps env.heap.names db (reverse s.frames) is.0.frames
 
   -- with more names alone
   pub renamed-stack : (t : Table) → IsTable t → Extends s.env.heap.names t → IsEnv (renamed s.env t) → IsStack (record s { env = renamed s.env t }) d
   renamed-stack t table more env = stack-env s d (renamed s.env t) (extends-renamed s.env t is.0.env table more) env is
 
-  module _ (statics : Statics) (own : AreStatics s.code statics) (key : Key) (key_is : IsFirstKey s.env.heap.names key (map (value s.env.heap) vs))
+  module _ (db : Database) (own : AreStatics s.code db) (key : Key) (key_is : IsFirstKey s.env.heap.names key (map (value s.env.heap) vs))
       (lt : c.procedure < length s.code.procedures) (laid : IsLaid s.code.text.names s.code.text.nodes) where
     abbrev ks : List ClauseCode
     ks = get_or s.code.procedures c.procedure []
 
     abbrev xs : List Clause
-    xs = (statics c.procedure).clauses
+    xs = (db.statics c.procedure).clauses
 
     abbrev name : List ℕ
-    name = (statics c.procedure).name
+    name = (db.statics c.procedure).name
 
     abbrev goal : Tree
     goal = called s.env.heap name vs
@@ -107,14 +107,14 @@ module _ (s : State) (d : ℕ) (is : IsStack s d) (p : Point) (c : Clauses) (at 
     same-count = own-length s.code.text name ks xs (own.own c.procedure lt)
 
     module _ (e : Env) (keeps : Keeps s.env e) (env : IsEnv e) where
-      same-further : (l : ℕ) (cs : List Clause) → further statics (record s { env = e }) l p c cs ≡ places_left l s.env goal es cs
+      same-further : (l : ℕ) (cs : List Clause) → further db (record s { env = e }) l p c cs ≡ places_left l s.env goal es cs
       same-further l cs =
           ap (λ (x : Env). places_left l x (called x.heap name vs) (all_elements (goals_in s) x (items_of s.links p.list)) cs) (then-cut e keeps env)
           ∙ ap₂ (λ g gs. filter_map (resolve l s.env.count g gs) cs)
           (called-renamed s.env e.heap.names is.0.env env.heap.names keeps.names name vs values-there)
           (items-agree (goals_in s) (length s.env.slots) s.env (renamed s.env e.heap.names) (agrees-renamed s.env e.heap.names is.0.env env.heap.names keeps.names) (items_of s.links p.list) at.list.items).1
 
-      pub none-left : FindsNone s.env goal xs c.next → (l : ℕ) → further statics (record s { env = e }) l p c (drop c.next xs) ≡ []
+      pub none-left : FindsNone s.env goal xs c.next → (l : ℕ) → further db (record s { env = e }) l p c (drop c.next xs) ≡ []
       none-left none l = same-further l (drop c.next xs) ∙ none l es
 
       module _ (found : Found) (finds : Finds s.env e goal xs c.next found) where
@@ -174,9 +174,9 @@ module _ (s : State) (d : ℕ) (is : IsStack s d) (p : Point) (c : Clauses) (at 
           next-place : suc found.place ≡ found.place + 1
           next-place = omega arith
 
-          pub left : (l : ℕ) → further statics (record s { env = e }) l p c (drop c.next xs)
+          pub left : (l : ℕ) → further db (record s { env = e }) l p c (drop c.next xs)
               ≡ record { goals = before_rest (is_true finds.clause.body) l (bind (over e found.base) finds.clause.body) (goals_of (record s { env = e }) p.list); variables = e.count }
-              ∷ further statics (record s { env = e }) l p c (onward next xs)
+              ∷ further db (record s { env = e }) l p c (onward next xs)
           unfolding place-with
           left l =
               let others = places_left l s.env goal es (drop (suc found.place) xs) in

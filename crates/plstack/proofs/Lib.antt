@@ -16,7 +16,6 @@ pub mod Fitting
 pub mod Trying
 pub mod Searching
 pub mod Found
-pub mod Calling
 pub mod Rewinding
 pub mod Hitting
 pub mod Going
@@ -32,8 +31,9 @@ pub mod Program
 pub mod Finding
 pub mod Linking
 pub mod Resolving
-pub mod Passing
 pub mod Stepping
 pub mod Reopening
+pub mod Walking
 pub mod Postponed
 pub mod Heads
+pub mod Looking

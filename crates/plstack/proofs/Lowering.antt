@@ -89,7 +89,7 @@ module _ (s : State) (d : ℕ) (is : IsStack s d) (at : ℕ) (down : at ≤ s.go
     down-back : GivesBack s (with_base s at (s.goals.run.«end» - (s.goals.run.base - at)))
     unfolding cases_of
     down-back = record {
-      cases = λ statics. cases-marked (goals_in s) s.env (lowered at s.goals.run.base s.env) s.links s.saved kept statics (reverse s.frames) is.0.frames;
+      cases = λ db. cases-marked (goals_in s) s.env (lowered at s.goals.run.base s.env) s.links s.saved kept db (reverse s.frames) is.0.frames;
       place = ap (λ es. record { goals = es; variables = s.env.count }) items-same;
       heap = refl;
       frames = refl;

@@ -16,7 +16,7 @@ use Rattle.plstack.specs.declared.frame.Clauses.{Clauses}
 use Rattle.plstack.specs.declared.frame.Resume.{Resume}
 use Rattle.plstack.specs.declared.frame.Resume.TheVariants as resumes
 use Rattle.plstack.specs.declared.frame.Frame.TheVariants.{Open}
-use Rattle.plstack.specs.Places.{Statics, called, places_left, kept, kept_values, cases}
+use Rattle.plstack.specs.Places.{Database, called, places_left, kept, kept_values, cases}
 use Rattle.plstack.specs.Frames.{AreOlder, IsOpen, IsResume, AreFrames}
 use Rattle.plstack.specs.Trials.{IsMarked}
 use Rattle.plstack.specs.State.{State, IsStack, goals_in, goals_of, cases_of, AddsList, Extends, IsList, IsClauses}
@@ -63,11 +63,11 @@ module _ (s : State) (d : ℕ) (is : IsStack s d) (vs : List Cell) where
     is.1,
   )
 
-  pub values-cases : (statics : Statics) → cases_of statics with_values ≡ cases_of statics s
+  pub values-cases : (db : Database) → cases_of db with_values ≡ cases_of db s
   unfolding cases_of
-  values-cases statics =
-      ap (λ ks. cases statics (goals_in s) s.env ks (s.saved ++ vs) (reverse s.frames)) (sym (append-nil s.links))
-      ∙ cases-kept (goals_in s) s.env s.env s.links [] s.saved vs (Keeps-refl s.env) is.0.env.heap.names statics (reverse s.frames) is.0.frames
+  values-cases db =
+      ap (λ ks. cases db (goals_in s) s.env ks (s.saved ++ vs) (reverse s.frames)) (sym (append-nil s.links))
+      ∙ cases-kept (goals_in s) s.env s.env s.links [] s.saved vs (Keeps-refl s.env) is.0.env.heap.names db (reverse s.frames) is.0.frames
 
 -- all that is there is marked, and a case would be opened now
 module _ (s : State) (d : ℕ) (is : IsStack s d) (p : Point) (m : IsMarked s p.marks) (i : IsList s p.list) (r : Resume) (vs : List Cell) (fit : IsResume s.env.heap vs r) (many : kept r ≡ length vs) where
@@ -114,12 +114,12 @@ module _ (s : State) (d : ℕ) (is : IsStack s d) (p : Point) (m : IsMarked s p.
   pub call-opens : OpensCall s opened procedure vs p.list
   call-opens = record {
     has = has-last IsClauses opened.frames s.frames (Open p (resumes.Clauses c)) refl tt;
-    cases = λ statics.
-        let name = (statics procedure).name in
-        let cs = (statics procedure).clauses in
-        let below = cases_of statics s in
-        opened-cases statics kept-state opened.frames (Open p (resumes.Clauses c)) refl
-        ∙ ap (λ xs. Choice (places_left (deeper xs 0) (cut p.marks.env s.env) (called (cut p.marks.env s.env).heap name (kept_values (s.saved ++ vs) p (resumes.Clauses c))) (all_elements (goals_in s) (cut p.marks.env s.env) (items_of s.links p.list)) cs) ∷ xs) (values-cases s d is vs statics)
+    cases = λ db.
+        let name = (db.statics procedure).name in
+        let cs = (db.statics procedure).clauses in
+        let below = cases_of db s in
+        opened-cases db kept-state opened.frames (Open p (resumes.Clauses c)) refl
+        ∙ ap (λ xs. Choice (places_left (deeper xs 0) (cut p.marks.env s.env) (called (cut p.marks.env s.env).heap name (kept_values (s.saved ++ vs) p (resumes.Clauses c))) (all_elements (goals_in s) (cut p.marks.env s.env) (items_of s.links p.list)) cs) ∷ xs) (values-cases s d is vs db)
         ∙ ap₂ (λ (x : Env) ws. Choice (places_left (deeper below 0) x (called x.heap name ws) (all_elements (goals_in s) x (items_of s.links p.list)) cs) ∷ below) m.now kept-there;
     place = refl;
     code = refl;
@@ -133,34 +133,34 @@ module _ (s t u new : State) (n : ℕ) (rest : Continuation) (adds : AddsList s 
   pub marked-values : (vs : List Cell) → AreValues s.env.heap vs → AreValues u.env.heap vs
   marked-values vs fit = (values_stay t.env.heap u.env.heap vs x.values (subst (λ (e : Env). AreValues e.heap vs) (sym adds.env) fit)).0
 
-  cases-then : (statics : Statics) → cases_of statics u ≡ cases_of statics s
-  cases-then statics = x.cases statics ∙ adds.stays.cases statics
+  cases-then : (db : Database) → cases_of db u ≡ cases_of db s
+  cases-then db = x.cases db ∙ adds.stays.cases db
 
   count-then : u.env.count ≡ s.env.count
   count-then = count ∙ ap (λ (e : Env). e.count) adds.env
 
-  module _ (statics : Statics) (procedure : ℕ) (vs : List Cell) (fit : AreValues s.env.heap vs) where
+  module _ (db : Database) (procedure : ℕ) (vs : List Cell) (fit : AreValues s.env.heap vs) where
     abbrev name : List ℕ
-    name = (statics procedure).name
+    name = (db.statics procedure).name
 
     abbrev cs : List Clause
-    cs = (statics procedure).clauses
+    cs = (db.statics procedure).clauses
 
-    places-then : places_of statics s (called s.env.heap name vs) rest cs ≡ places_of statics u (called u.env.heap name vs) (alone n) cs
+    places-then : places_of db s (called s.env.heap name vs) rest cs ≡ places_of db u (called u.env.heap name vs) (alone n) cs
     places-then =
         let there = subst (λ (e : Env). AreValues e.heap vs) (sym adds.env) fit in
         let goal = called_stay t.env.heap u.env.heap name vs x.values there ∙ ap (λ (e : Env). called e.heap name vs) adds.env in
-        ap₂ (λ ks k. filter_map (resolve (deeper ks 0) k (called s.env.heap name vs) (goals_of s rest)) cs) (sym (cases-then statics)) (sym count-then)
-        ∙ ap₂ (λ g gs. filter_map (resolve (deeper (cases_of statics u) 0) u.env.count g gs) cs) (sym goal) (sym ((x.lists (alone n) adds.there).1 ∙ adds.is))
+        ap₂ (λ ks k. filter_map (resolve (deeper ks 0) k (called s.env.heap name vs) (goals_of s rest)) cs) (sym (cases-then db)) (sym count-then)
+        ∙ ap₂ (λ g gs. filter_map (resolve (deeper (cases_of db u) 0) u.env.count g gs) cs) (sym goal) (sym ((x.lists (alone n) adds.there).1 ∙ adds.is))
 
-    pub calls-then : Calls statics u new (called u.env.heap name vs) (alone n) cs → Calls statics s new (called s.env.heap name vs) rest cs
-    calls-then c = record { others = c.others; places = places-then ∙ c.places; cases = c.cases ∙ ap (λ ks. Choice c.others ∷ ks) (cases-then statics) }
+    pub calls-then : Calls db u new (called u.env.heap name vs) (alone n) cs → Calls db s new (called s.env.heap name vs) rest cs
+    calls-then c = record { others = c.others; places = places-then ∙ c.places; cases = c.cases ∙ ap (λ ks. Choice c.others ∷ ks) (cases-then db) }
 
-    pub calls-none-then : CallsNone statics u new (called u.env.heap name vs) (alone n) cs → CallsNone statics s new (called s.env.heap name vs) rest cs
-    calls-none-then c = record { none = places-then ∙ c.none; cases = c.cases ∙ cases-then statics }
+    pub calls-none-then : CallsNone db u new (called u.env.heap name vs) (alone n) cs → CallsNone db s new (called s.env.heap name vs) rest cs
+    calls-none-then c = record { none = places-then ∙ c.none; cases = c.cases ∙ cases-then db }
 
   pub stays-then : StaysAt u new → StaysAt s new
   stays-then y = record {
-    cases = λ statics. y.cases statics ∙ cases-then statics;
+    cases = λ db. y.cases db ∙ cases-then db;
     place = y.place ∙ ap₂ (λ gs k. record { goals = gs; variables = k }) (x.visited ∙ adds.stays.visited) count-then;
   }

@@ -19,10 +19,10 @@ use Rattle.plstack.specs.declared.frame.Handler.TheVariants as handlers
 use Rattle.plstack.specs.declared.frame.Handling.{Handling}
 use Rattle.plstack.specs.declared.frame.Frame.{Frame}
 use Rattle.plstack.specs.declared.frame.Frame.TheVariants.{Plain, Barrier, Open}
-use Rattle.plstack.specs.Places.{Statics, kept, kept_values, case_of}
+use Rattle.plstack.specs.Places.{Database, kept, kept_values, case_of}
 use Rattle.plstack.specs.Frames.{AreOlder, IsResume, IsOpen, AreFrames}
 use Rattle.plgenerator.proofs.Staying.{turn_stays}
-use Rattle.plstack.specs.State.{State, IsStack, goals_in, cases_of, IsList, Extends, CountsUp, Opens, IsClauses, IsCopies, IsAnswers, IsBranch, IsCatcher, IsGatherer}
+use Rattle.plstack.specs.State.{State, IsStack, goals_in, cases_of, IsList, Extends, CountsUp, Opens, IsClauses, IsWalk, IsAnswers, IsBranch, IsCatcher, IsGatherer}
 use Rattle.plstack.specs.Opening.{branch_of, handler_of, closing, ClosedAs, IsHandling, OpensFrame, OpensIn, Keeps}
 use Rattle.plstack.proofs.Handled.{handled-same}
 use Rattle.plstack.proofs.Growing.{stack-env, extends-env}
@@ -73,7 +73,7 @@ module _ (s : State) (d : ℕ) (is : IsStack s d) (e : Env) (m : Marks) (mark : 
 
     resume-now : (q : Resume) → IsResume s.env.heap [] q → IsResume e.heap [] q
     resume-now (resumes.Clauses c) a = tt
-    resume-now (resumes.Copies c) a = (extends-now.values c.goal a).0
+    resume-now (resumes.Walk w) a = (extends-now.values w.goal a).0
     resume-now (resumes.Answers x) a = (tt, turn_stays s.env.heap e.heap extends-now.values [] tt x.turn a.1)
     resume-now resumes.List a = tt
     resume-now (resumes.Handle x) a = (handled-same s.env.heap e.heap extends-now.values x a).0
@@ -90,9 +90,9 @@ module _ (s : State) (d : ℕ) (is : IsStack s d) (e : Env) (m : Marks) (mark : 
           (subst (λ vs. IsResume e.heap vs r) (sym (no-values m.saved (kept r) s.saved none)) (resume-now r resume));
     }
 
-    case-now : (statics : Statics) (k : ℕ) →
-        case_of statics (goals_in s) k (cut m.env e) (items_of s.links l) (kept_values s.saved point r) r ≡ case_of statics (goals_in s) k e (items_of s.links l) [] r
-    case-now statics k = ap₂ (λ x vs. case_of statics (goals_in s) k x (items_of s.links l) vs r) now (no-values m.saved (kept r) s.saved none)
+    case-now : (db : Database) (k : ℕ) →
+        case_of db (goals_in s) k (cut m.env e) (items_of s.links l) (kept_values s.saved point r) r ≡ case_of db (goals_in s) k e (items_of s.links l) [] r
+    case-now db k = ap₂ (λ x vs. case_of db (goals_in s) k x (items_of s.links l) vs r) now (no-values m.saved (kept r) s.saved none)
 
     module _ (frames : List Frame) (pushed : frames ≡ s.frames ++ Open (record { marks = m; list = l }) r ∷ []) where
       pub framed-stack : IsStack (record s { env = e; frames = frames }) (d + 1)
@@ -100,11 +100,11 @@ module _ (s : State) (d : ℕ) (is : IsStack s d) (e : Env) (m : Marks) (mark : 
           let o = opened-state marked d frames (Open point r) pushed marked-stack frame-now in
           (o.0, omega (arith, o.1))
 
-      framed-cases : (statics : Statics) → cases_of statics (record s { env = e; frames = frames }) ≡ case_of statics (goals_in s) (deeper (cases_of statics s) 0) e (items_of s.links l) [] r ∷ cases_of statics s
-      framed-cases statics =
-          opened-cases statics marked frames (Open point r) pushed
-          ∙ ap (λ cs. case_of statics (goals_in s) (deeper cs 0) (cut m.env e) (items_of s.links l) (kept_values s.saved point r) r ∷ cs) (marked-extends.cases statics)
-          ∙ ap (λ c. c ∷ cases_of statics s) (case-now statics (deeper (cases_of statics s) 0))
+      framed-cases : (db : Database) → cases_of db (record s { env = e; frames = frames }) ≡ case_of db (goals_in s) (deeper (cases_of db s) 0) e (items_of s.links l) [] r ∷ cases_of db s
+      framed-cases db =
+          opened-cases db marked frames (Open point r) pushed
+          ∙ ap (λ cs. case_of db (goals_in s) (deeper cs 0) (cut m.env e) (items_of s.links l) (kept_values s.saved point r) r ∷ cs) (marked-extends.cases db)
+          ∙ ap (λ c. c ∷ cases_of db s) (case-now db (deeper (cases_of db s) 0))
 
       framed-keeps : (more : List Frame) → Keeps s (record s { env = e; frames = more })
       framed-keeps more = record {
@@ -125,7 +125,7 @@ module _ (s : State) (d : ℕ) (is : IsStack s d) (e : Env) (m : Marks) (mark : 
 
         pub in-opens : OpensIn s (record s { env = e; frames = more }) l r
         in-opens = record {
-          cases = λ statics. counted-cases 1 statics (record s { env = e; frames = frames }) more up ∙ ap (λ cs. Choice [] ∷ cs) (framed-cases statics);
+          cases = λ db. counted-cases 1 db (record s { env = e; frames = frames }) more up ∙ ap (λ cs. Choice [] ∷ cs) (framed-cases db);
           keeps = framed-keeps more;
           goals = refl;
         }
@@ -141,22 +141,22 @@ module _ (s new : State) where
       (ap₂ (λ gs n. record { goals = gs; variables = n }) (y.lists h.list i.list).1 y.count)
 
   -- all else stays
-  opens-these : (more : List Case) → ((statics : Statics) → cases_of statics new ≡ more ++ cases_of statics s) → Keeps s new → new.goals ≡ s.goals → Opens s new more
+  opens-these : (more : List Case) → ((db : Database) → cases_of db new ≡ more ++ cases_of db s) → Keeps s new → new.goals ≡ s.goals → Opens s new more
   opens-these more cases y goals = record { cases = cases; values = y.values; lists = y.lists; count = y.count; code = y.code; goals = goals }
 
   pub opens_branch : (l : Continuation) → IsList s l → OpensFrame s new l resumes.List → Opens s new (branch_of s l ∷ [])
-  opens_branch l i o = opens-these (branch_of s l ∷ []) (λ statics. o.cases statics ∙ ap (λ c. c ∷ cases_of statics s) (branch-same l i o.keeps)) o.keeps o.goals
+  opens_branch l i o = opens-these (branch_of s l ∷ []) (λ db. o.cases db ∙ ap (λ c. c ∷ cases_of db s) (branch-same l i o.keeps)) o.keeps o.goals
 
   pub opens_in_branch : (l : Continuation) → IsList s l → OpensIn s new l resumes.List → Opens s new (Choice [] ∷ branch_of s l ∷ [])
-  opens_in_branch l i o = opens-these (Choice [] ∷ branch_of s l ∷ []) (λ statics. o.cases statics ∙ ap (λ c. Choice [] ∷ c ∷ cases_of statics s) (branch-same l i o.keeps)) o.keeps o.goals
+  opens_in_branch l i o = opens-these (Choice [] ∷ branch_of s l ∷ []) (λ db. o.cases db ∙ ap (λ c. Choice [] ∷ c ∷ cases_of db s) (branch-same l i o.keeps)) o.keeps o.goals
 
   pub opens_in_handler : (h : Handling) → IsHandling s h → OpensIn s new h.list (resumes.Handle h.handler) → Opens s new (Choice [] ∷ handler_of s h ∷ [])
-  opens_in_handler h i o = opens-these (Choice [] ∷ handler_of s h ∷ []) (λ statics. o.cases statics ∙ ap (λ c. Choice [] ∷ c ∷ cases_of statics s) (handler-same h i o.keeps)) o.keeps o.goals
+  opens_in_handler h i o = opens-these (Choice [] ∷ handler_of s h ∷ []) (λ db. o.cases db ∙ ap (λ c. Choice [] ∷ c ∷ cases_of db s) (handler-same h i o.keeps)) o.keeps o.goals
 
 -- more choices with nothing left
 pub opens-plain : (s : State) (frames : List Frame) → CountsUp 1 (reverse s.frames) (reverse frames) → Opens s (record s { frames = frames }) (Choice [] ∷ [])
 opens-plain s frames up = record {
-  cases = λ statics. counted-cases 1 statics s frames up;
+  cases = λ db. counted-cases 1 db s frames up;
   values = λ v f. (f, refl);
   lists = λ l i. (record { there = i.there; items = i.items }, refl);
   count = refl;
@@ -165,22 +165,22 @@ opens-plain s frames up = record {
 }
 
 -- a case that came back to something was closed
-pub closed-open : (statics : Statics) (s : State) (rest : List Frame) (p : Point) (r : Resume) → s.frames ≡ rest ++ Open p r ∷ [] → ClosedAs statics s (record s { frames = rest }) (closing r)
-closed-open statics s rest p (resumes.Clauses c) e = (_, popped-cases statics s rest (Open p (resumes.Clauses c)) e, λ not n m k. absurd (not (has-last IsClauses s.frames rest (Open p (resumes.Clauses c)) e tt)))
-closed-open statics s rest p (resumes.Copies c) e = (_, popped-cases statics s rest (Open p (resumes.Copies c)) e, λ n not m k. absurd (not (has-last IsCopies s.frames rest (Open p (resumes.Copies c)) e tt)))
-closed-open statics s rest p (resumes.Answers a) e = (_, popped-cases statics s rest (Open p (resumes.Answers a)) e, λ n m k not. absurd (not (has-last IsAnswers s.frames rest (Open p (resumes.Answers a)) e tt)))
-closed-open statics s rest p resumes.List e = (_, popped-cases statics s rest (Open p resumes.List) e, λ n m not k. absurd (not (has-last IsBranch s.frames rest (Open p resumes.List) e tt)))
-closed-open statics s rest p (resumes.Handle (handlers.Catch c)) e = (
+pub closed-open : (db : Database) (s : State) (rest : List Frame) (p : Point) (r : Resume) → s.frames ≡ rest ++ Open p r ∷ [] → ClosedAs db s (record s { frames = rest }) (closing r)
+closed-open db s rest p (resumes.Clauses c) e = (_, popped-cases db s rest (Open p (resumes.Clauses c)) e, λ not n m k. absurd (not (has-last IsClauses s.frames rest (Open p (resumes.Clauses c)) e tt)))
+closed-open db s rest p (resumes.Walk w) e = (_, popped-cases db s rest (Open p (resumes.Walk w)) e, λ n not m k. absurd (not (has-last IsWalk s.frames rest (Open p (resumes.Walk w)) e tt)))
+closed-open db s rest p (resumes.Answers a) e = (_, popped-cases db s rest (Open p (resumes.Answers a)) e, λ n m k not. absurd (not (has-last IsAnswers s.frames rest (Open p (resumes.Answers a)) e tt)))
+closed-open db s rest p resumes.List e = (_, popped-cases db s rest (Open p resumes.List) e, λ n m not k. absurd (not (has-last IsBranch s.frames rest (Open p resumes.List) e tt)))
+closed-open db s rest p (resumes.Handle (handlers.Catch c)) e = (
   _,
   _,
-  popped-cases statics s rest (Open p (resumes.Handle (handlers.Catch c))) e,
+  popped-cases db s rest (Open p (resumes.Handle (handlers.Catch c))) e,
   (λ a b is not. not (has-last IsCatcher s.frames rest (Open p (resumes.Handle (handlers.Catch c))) e tt)),
   λ l is not. absurd (cc),
 )
-closed-open statics s rest p (resumes.Handle (handlers.Gather v)) e = (
+closed-open db s rest p (resumes.Handle (handlers.Gather v)) e = (
   _,
   _,
-  popped-cases statics s rest (Open p (resumes.Handle (handlers.Gather v))) e,
+  popped-cases db s rest (Open p (resumes.Handle (handlers.Gather v))) e,
   (λ a b is not. absurd (cc)),
   λ l is not. not (has-last IsGatherer s.frames rest (Open p (resumes.Handle (handlers.Gather v))) e tt),
 )

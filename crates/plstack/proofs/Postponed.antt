@@ -21,7 +21,7 @@ use Rattle.plstack.specs.declared.frame.Frame.TheVariants.{Open}
 use Rattle.plstack.specs.Calls.{Calls, CallsNone, StaysAt}
 use Rattle.plstack.specs.Fits.{FindsNone}
 use Rattle.plstack.specs.Frames.{AreFrames, AreOlder}
-use Rattle.plstack.specs.Places.{Statics, called, kept_values, cases}
+use Rattle.plstack.specs.Places.{Database, called, kept_values, cases}
 use Rattle.plstack.specs.State.{State, IsStack, goals_in, goals_of, place_of, cases_of, AddsList, CountsUp, IsList}
 use Rattle.plstack.specs.StaticCalls.{body_at, AreStatics, AtCall, IsCalling, Binds, Enters, FindsHit, FitsFirst, GoesOn, Hits, OpensCall, PushesCall}
 use Rattle.plstack.specs.Trials.{IsMarked}
@@ -46,10 +46,10 @@ module _ (s : State) (d : ℕ) (is : IsStack s d) (p : Point) (m : IsMarked s p.
     unchanged-stack = subst (λ (x : Env). IsStack (record s { env = x }) d) (sym same)
         (stack-env s d (renamed s.env e.heap.names) (extends-renamed s.env e.heap.names is.0.env env.heap.names names) (subst IsEnv same env) is)
 
-    same-cases : (statics : Statics) → cases_of statics unchanged ≡ cases_of statics s
-    same-cases statics =
-        ap (λ (x : Env). cases_of statics (record s { env = x })) same
-        ∙ (extends-env s d (renamed s.env e.heap.names) (extends-renamed s.env e.heap.names is.0.env env.heap.names names) (subst IsEnv same env) is).cases statics
+    same-cases : (db : Database) → cases_of db unchanged ≡ cases_of db s
+    same-cases db =
+        ap (λ (x : Env). cases_of db (record s { env = x })) same
+        ∙ (extends-env s d (renamed s.env e.heap.names) (extends-renamed s.env e.heap.names is.0.env env.heap.names names) (subst IsEnv same env) is).cases db
 
     pub unchanged-at : StaysAt s unchanged
     unchanged-at = record {
@@ -59,11 +59,11 @@ module _ (s : State) (d : ℕ) (is : IsStack s d) (p : Point) (m : IsMarked s p.
           ∙ ap (λ gs. record { goals = gs; variables = s.env.count }) (extends-env s d (renamed s.env e.heap.names) (extends-renamed s.env e.heap.names is.0.env env.heap.names names) (subst IsEnv same env) is).visited;
     }
 
-    pub unchanged-none : (statics : Statics) → FindsNone s.env (called s.env.heap (statics procedure).name vs) (statics procedure).clauses 0 → CallsNone statics s unchanged (called s.env.heap (statics procedure).name vs) p.list (statics procedure).clauses
-    unchanged-none statics none = record { none = none (deeper (cases_of statics s) 0) (goals_of s p.list); cases = same-cases statics }
+    pub unchanged-none : (db : Database) → FindsNone s.env (called s.env.heap (db.statics procedure).name vs) (db.statics procedure).clauses 0 → CallsNone db s unchanged (called s.env.heap (db.statics procedure).name vs) p.list (db.statics procedure).clauses
+    unchanged-none db none = record { none = none (deeper (cases_of db s) 0) (goals_of s p.list); cases = same-cases db }
 
   -- a clause fits
-  module _ (statics : Statics) (own : AreStatics s.code statics) (e : Env) (keeps : Keeps s.env e) (env : IsEnv e) (hit : Hit) (f : FitsFirst s.code statics procedure vs s.env e hit) where
+  module _ (db : Database) (own : AreStatics s.code db) (e : Env) (keeps : Keeps s.env e) (env : IsEnv e) (hit : Hit) (f : FitsFirst s.code db procedure vs s.env e hit) where
     abbrev c : Clauses
     c = record { procedure = procedure; count = count; next = 0 }
 
@@ -79,8 +79,8 @@ module _ (s : State) (d : ℕ) (is : IsStack s d) (p : Point) (m : IsMarked s p.
     key-then : IsFirstKey s.env.heap.names f.key (map (value s.env.heap) (kept_values before.saved p (resumes.Clauses c)))
     key-then = subst (λ ws. IsFirstKey s.env.heap.names f.key (map (value s.env.heap) ws)) (sym there) f.key_is
 
-    finds-then : FindsHit s.env e (called s.env.heap (statics procedure).name (kept_values before.saved p (resumes.Clauses c))) f.key (get_or s.code.procedures procedure []) (statics procedure).clauses 0 hit
-    finds-then = subst (λ ws. FindsHit s.env e (called s.env.heap (statics procedure).name ws) f.key (get_or s.code.procedures procedure []) (statics procedure).clauses 0 hit) (sym there) f.finds
+    finds-then : FindsHit s.env e (called s.env.heap (db.statics procedure).name (kept_values before.saved p (resumes.Clauses c))) f.key (get_or s.code.procedures procedure []) (db.statics procedure).clauses 0 hit
+    finds-then = subst (λ ws. FindsHit s.env e (called s.env.heap (db.statics procedure).name ws) f.key (get_or s.code.procedures procedure []) (db.statics procedure).clauses 0 hit) (sym there) f.finds
 
     at : AtCall before p c
     at = call-at s d is p m alone_is i procedure count vs fit many
@@ -90,13 +90,13 @@ module _ (s : State) (d : ℕ) (is : IsStack s d) (p : Point) (m : IsMarked s p.
     after = record before { env = e }
 
     after-stack : IsStack after (d + 1)
-    after-stack = hit-stack before (d + 1) before-stack p c at statics own f.within f.key key-then f.laid e keeps env hit finds-then
+    after-stack = hit-stack before (d + 1) before-stack p c at db own f.within f.key key-then f.laid e keeps env hit finds-then
 
-    after-hits : Hits statics before after p c hit
-    after-hits = hits before (d + 1) before-stack p c at statics own f.within f.key key-then f.laid e keeps env hit finds-then
+    after-hits : Hits db before after p c hit
+    after-hits = hits before (d + 1) before-stack p c at db own f.within f.key key-then f.laid e keeps env hit finds-then
 
     after-binds : Binds before after
-    after-binds = hit-binds before (d + 1) before-stack p c at statics own f.within f.key key-then f.laid e keeps env hit finds-then
+    after-binds = hit-binds before (d + 1) before-stack p c at db own f.within f.key key-then f.laid e keeps env hit finds-then
 
     pub own-slots : hit.base + hit.clause.variables ≤ length e.slots
     own-slots = after-hits.slots
@@ -108,20 +108,20 @@ module _ (s : State) (d : ℕ) (is : IsStack s d) (p : Point) (m : IsMarked s p.
       calling : IsCalling after p c
       calling = record { rest = s.frames; top = refl }
 
-      framed-is : (o : Option ℕ) → PushesCall p c o s.frames frames → IsStack framed (d + 1) × GoesOn statics after framed p c o
+      framed-is : (o : Option ℕ) → PushesCall p c o s.frames frames → IsStack framed (d + 1) × GoesOn db after framed p c o
       framed-is (Some next) pushed = (
         replaced-stack after (d + 1) after-stack p c calling s.frames (Open p (resumes.Clauses c)) refl next frames pushed,
-        replaced after (d + 1) after-stack p c calling s.frames (Open p (resumes.Clauses c)) refl next frames pushed statics,
+        replaced after (d + 1) after-stack p c calling s.frames (Open p (resumes.Clauses c)) refl next frames pushed db,
       )
       framed-is None up = (
         emptied-stack after (d + 1) after-stack p c calling s.frames (Open p (resumes.Clauses c)) refl frames up,
-        emptied after (d + 1) after-stack p c calling s.frames (Open p (resumes.Clauses c)) refl frames up statics,
+        emptied after (d + 1) after-stack p c calling s.frames (Open p (resumes.Clauses c)) refl frames up db,
       )
 
       framed-stack : IsStack framed (d + 1)
       framed-stack = (framed-is hit.next pushes).0
 
-      goes : GoesOn statics after framed p c hit.next
+      goes : GoesOn db after framed p c hit.next
       goes = (framed-is hit.next pushes).1
 
       behind-there : IsList framed (alone p.list.rest)
@@ -140,9 +140,9 @@ module _ (s : State) (d : ℕ) (is : IsStack s d) (p : Point) (m : IsMarked s p.
           (record { env = t.env; names = t.names; none = t.none; chain = t.chain; frames = t.frames; goals = record { there = l.there; items = l.items } }, framed-stack.1)
 
       level : d ≡ deeper goes.below 0
-      level = let e : d + 1 - 1 ≡ deeper goes.below 0 = level-of statics framed framed (d + 1) framed-stack refl _ goes.below goes.cases in omega (arith, e)
+      level = let e : d + 1 - 1 ≡ deeper goes.below 0 = level-of db framed framed (d + 1) framed-stack refl _ goes.below goes.cases in omega (arith, e)
 
-      enters : Enters statics after entered p c hit p.list.rest
+      enters : Enters db after entered p c hit p.list.rest
       unfolding cases_of
       enters = record {
         goes = record { below = goes.below; was = goes.was; cases = goes.cases };
@@ -153,12 +153,12 @@ module _ (s : State) (d : ℕ) (is : IsStack s d) (p : Point) (m : IsMarked s p.
             (body-goals framed (d + 1) framed-stack hit x code after-hits.slots (alone p.list.rest) p.list.rest behind-there refl d ∙ ap (λ l. before_rest (is_true x.body) l body rest) level);
       }
 
-      pub entered-calls : Calls statics s entered (called s.env.heap (statics procedure).name vs) p.list (statics procedure).clauses
+      pub entered-calls : Calls db s entered (called s.env.heap (db.statics procedure).name vs) p.list (db.statics procedure).clauses
       entered-calls =
           let opens : OpensCall s before procedure vs (alone p.list.rest) = subst (OpensCall s before procedure vs) alone_is (call-opens s d is p m alone_is i procedure count vs fit many) in
-          let cases = cases-stay before (d + 1) before-stack p c at e keeps env statics in
-          calls-entered s s before procedure p.list.rest vs p.list (same-list s p.list p.list.rest alone_is i) opens statics entered
-          (retries-entered before before p c p.list.rest at (same-list before p.list p.list.rest alone_is at.list) after refl after-binds statics entered hit cases after-hits enters)
+          let cases = cases-stay before (d + 1) before-stack p c at e keeps env db in
+          calls-entered s s before procedure p.list.rest vs p.list (same-list s p.list p.list.rest alone_is i) opens db entered
+          (retries-entered before before p c p.list.rest at (same-list before p.list p.list.rest alone_is at.list) after refl after-binds db entered hit cases after-hits enters)
 
       pub entered-older : hit.next ≡ None → AreOlder p.marks (reverse frames)
       entered-older none = (subst (λ o. PushesCall p c o s.frames frames) none pushes).older p.marks (older-then s d is p m i (resumes.Clauses c) vs fit many)
@@ -188,18 +188,18 @@ module _ (s : State) (d : ℕ) (is : IsStack s d) (p : Point) (m : IsMarked s p.
               entered-stack.1,
             )
 
-        last-cases : cases_of statics entered-last ≡ Choice [] ∷ cases_of statics s
+        last-cases : cases_of db entered-last ≡ Choice [] ∷ cases_of db s
         unfolding cases_of
         last-cases =
-            up.cases statics (goals_in s) e s.links s.saved
-            ∙ ap (λ cs. Choice [] ∷ cs) (cases-grown (goals_in s) s.env e s.links s.links [] s.saved (sym (append-nil s.links)) keeps env.heap.names statics (reverse s.frames) is.0.frames)
+            up.cases db (goals_in s) e s.links s.saved
+            ∙ ap (λ cs. Choice [] ∷ cs) (cases-grown (goals_in s) s.env e s.links s.links [] s.saved (sym (append-nil s.links)) keeps env.heap.names db (reverse s.frames) is.0.frames)
 
-        entered-cases : cases_of statics entered ≡ Choice [] ∷ cases statics (goals_in s) e s.links (s.saved ++ vs) (reverse s.frames)
+        entered-cases : cases_of db entered ≡ Choice [] ∷ cases db (goals_in s) e s.links (s.saved ++ vs) (reverse s.frames)
         unfolding cases_of
-        entered-cases = up.cases statics (goals_in s) e s.links (s.saved ++ vs)
+        entered-cases = up.cases db (goals_in s) e s.links (s.saved ++ vs)
 
-        pub last-calls : Calls statics s entered-last (called s.env.heap (statics procedure).name vs) p.list (statics procedure).clauses
+        pub last-calls : Calls db s entered-last (called s.env.heap (db.statics procedure).name vs) p.list (db.statics procedure).clauses
         last-calls =
             let both = sym entered-calls.cases ∙ entered-cases in
             let empty : entered-calls.others ≡ [] = cc in
-            record { others = entered-calls.others; places = entered-calls.places; cases = last-cases ∙ ap (λ ps. Choice ps ∷ cases_of statics s) (sym empty) }
+            record { others = entered-calls.others; places = entered-calls.places; cases = last-cases ∙ ap (λ ps. Choice ps ∷ cases_of db s) (sym empty) }

@@ -24,7 +24,7 @@ use Rattle.plstack.specs.declared.frame.Point.{Point}
 use Rattle.plstack.specs.declared.frame.Resume.{Resume}
 use Rattle.plstack.specs.declared.frame.Frame.{Frame}
 use Rattle.plstack.specs.declared.frame.Frame.TheVariants.{Plain, Barrier, Open}
-use Rattle.plstack.specs.Places.{Statics, kept_values, case_of, plain, cases}
+use Rattle.plstack.specs.Places.{Database, kept_values, case_of, plain, cases}
 use Rattle.plstack.specs.Frames.{IsResume, IsOpen, AreFrames}
 use Rattle.plstack.specs.State.{State, IsStack, goals_in, cases_of}
 use Rattle.plstack.specs.Giving.{GivesBack, IsShort}
@@ -75,12 +75,12 @@ taken-below (suc i) (suc n) (x ∷ xs) lt = let r = taken-below i n xs (omega ar
 
 -- frames stand for what they did where each mark is one still, and comes back to the same
 module _ (code : Goals) (e later : Env) (links : List Link) (saved : List Cell) (kept : (m : Mark) → IsMark m e → IsMark m later × (cut m later ≡ cut m e)) where
-  pub cases-marked : (statics : Statics) (fs : List Frame) → AreFrames code e links saved fs → cases statics code later links saved fs ≡ cases statics code e links saved fs
-  cases-marked statics [] a = refl
-  cases-marked statics (Plain i ∷ fs) a = ap (plain i) (cases-marked statics fs a.1)
-  cases-marked statics (Barrier l ∷ fs) a = ap (λ cs. MarkOf l ∷ cs) (cases-marked statics fs a.1)
-  cases-marked statics (Open p r ∷ fs) a =
-      ap₂ (λ x cs. case_of statics code (deeper cs 0) x (items_of links p.list) (kept_values saved p r) r ∷ cs) (kept p.marks.env a.0.mark).1 (cases-marked statics fs a.1)
+  pub cases-marked : (db : Database) (fs : List Frame) → AreFrames code e links saved fs → cases db code later links saved fs ≡ cases db code e links saved fs
+  cases-marked db [] a = refl
+  cases-marked db (Plain i ∷ fs) a = ap (plain i) (cases-marked db fs a.1)
+  cases-marked db (Barrier l ∷ fs) a = ap (λ cs. MarkOf l ∷ cs) (cases-marked db fs a.1)
+  cases-marked db (Open p r ∷ fs) a =
+      ap₂ (λ x cs. case_of db code (deeper cs 0) x (items_of links p.list) (kept_values saved p r) r ∷ cs) (kept p.marks.env a.0.mark).1 (cases-marked db fs a.1)
 
   open-marked : (p : Point) (r : Resume) (fs : List Frame) → IsOpen code e links saved p r fs → IsOpen code later links saved p r fs
   open-marked p r fs is = record {
@@ -141,7 +141,7 @@ module _ (s : State) (d : ℕ) (is : IsStack s d) (base : ℕ) (base_is : base �
   pub released-back : GivesBack s (record s { env = released base s.env })
   unfolding cases_of
   released-back = record {
-    cases = λ statics. cases-marked (goals_in s) s.env (released base s.env) s.links s.saved kept statics (reverse s.frames) is.0.frames;
+    cases = λ db. cases-marked (goals_in s) s.env (released base s.env) s.links s.saved kept db (reverse s.frames) is.0.frames;
     place = ap (λ es. record { goals = es; variables = s.env.count }) (items-agree (goals_in s) left s.env (released base s.env) agrees (items_of s.links s.goals) items-left).1;
     heap = refl;
     frames = refl;

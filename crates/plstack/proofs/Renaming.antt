@@ -18,10 +18,10 @@ use Rattle.pllinks.specs.declared.item.Item.{Item}
 use Rattle.pllinks.specs.Lists.{Goals, all_elements, AreItems}
 use Rattle.pllinks.specs.Changing.{Agrees}
 use Rattle.pllinks.proofs.Changing.{items-agree}
-use Rattle.plstack.specs.declared.frame.Candidate.{Candidate}
+use Rattle.plstack.specs.declared.walk.Candidate.{Candidate}
 use Rattle.plstack.specs.declared.frame.Resume.{Resume}
 use Rattle.plstack.specs.declared.frame.Resume.TheVariants as resumes
-use Rattle.plstack.specs.Places.{Statics, called, places_left, tried, candidates_left, answers_left, case_of}
+use Rattle.plstack.specs.Places.{Database, called, places_left, tried, candidates_left, left_at, answers_left, case_of}
 use Rattle.plstack.specs.Frames.{IsResume}
 use Rattle.plstack.proofs.Handled.{handled-same}
 
@@ -49,28 +49,29 @@ module _ (e : Env) (t : Table) (is : IsEnv e) (table : IsTable t) (more : Extend
 
   pub resume-renamed : (vs : List Cell) (r : Resume) → IsResume e.heap vs r → IsResume (renamed_heap e.heap t) vs r
   resume-renamed vs (resumes.Clauses c) i = (values-renamed vs i).0
-  resume-renamed vs (resumes.Copies c) i = (stays.values c.goal i).0
+  resume-renamed vs (resumes.Walk w) i = (stays.values w.goal i).0
   resume-renamed vs (resumes.Answers a) i = ((values-renamed vs i.0).0, turn_stays e.heap (renamed_heap e.heap t) stays.values vs i.0 a.turn i.1)
   resume-renamed vs resumes.List i = tt
   resume-renamed vs (resumes.Handle x) i = (handled-same e.heap (renamed_heap e.heap t) stays.values x i).0
 
-  module _ (statics : Statics) (code : Goals) (d : ℕ) (xs : List Item) (items : AreItems code e.heap (length e.slots) xs) where
+  module _ (code : Goals) (xs : List Item) (items : AreItems code e.heap (length e.slots) xs) where
     goals-renamed : all_elements code (renamed e t) xs ≡ all_elements code e xs
     goals-renamed = (items-agree code (length e.slots) e (renamed e t) agrees-renamed xs items).1
 
-    left-renamed : (g g' : Tree) (cs : Tree → List Clause) → g ≡ g' → places_left d (renamed e t) g (all_elements code (renamed e t) xs) (cs g) ≡ places_left d e g' (all_elements code e xs) (cs g')
-    left-renamed g g' cs same = ap₂ (λ (x : Tree) (es : List Element). filter_map (resolve d e.count x es) (cs x)) same goals-renamed
-
-    candidates-renamed : (g g' : Tree) (ys : List Candidate) → g ≡ g' → candidates_left d (renamed e t) g (all_elements code (renamed e t) xs) ys ≡ candidates_left d e g' (all_elements code e xs) ys
-    candidates-renamed g g' ys same = ap₂ (λ (x : Tree) (es : List Element). filter_map (tried d e.count x es) ys) same goals-renamed
+    pub candidates-renamed : (d : ℕ) (g g' : Tree) (ys : Tree → List Candidate) → g ≡ g' → candidates_left d (renamed e t) g (all_elements code (renamed e t) xs) (ys g) ≡ candidates_left d e g' (all_elements code e xs) (ys g')
+    candidates-renamed d g g' ys same = ap₂ (λ (x : Tree) (es : List Element). filter_map (tried d e.count x es) (ys x)) same goals-renamed
 
     pub answers-renamed : (vs : List Cell) → AreValues e.heap vs → (turn : Turn) →
         answers_left (renamed e t) vs (all_elements code (renamed e t) xs) turn ≡ answers_left e vs (all_elements code e xs) turn
     answers-renamed vs fit turn = ap₂ (λ (es : List Element) (ss : List Solution). filter_map (solved es e.count) ss) goals-renamed (left_stays e.heap (renamed_heap e.heap t) stays.values vs fit turn)
 
-    pub case-renamed : (vs : List Cell) (r : Resume) → IsResume e.heap vs r → case_of statics code d (renamed e t) xs vs r ≡ case_of statics code d e xs vs r
-    case-renamed vs (resumes.Clauses c) i = ap Choice (left-renamed _ _ (λ g. drop c.next (statics c.procedure).clauses) (called-renamed (statics c.procedure).name vs i))
-    case-renamed vs (resumes.Copies c) i = ap Choice (candidates-renamed _ _ (drop c.next c.clauses.items) (stays.values c.goal i).1)
-    case-renamed vs (resumes.Answers a) i = ap Choice (answers-renamed vs i.0 a.turn)
-    case-renamed vs resumes.List i = ap (λ es. Choice (record { goals = es; variables = e.count } ∷ [])) goals-renamed
-    case-renamed vs (resumes.Handle x) i = ap₂ (λ h es. Handle h (record { goals = es; variables = e.count })) (handled-same e.heap (renamed_heap e.heap t) stays.values x i).1 goals-renamed
+    module _ (db : Database) (d : ℕ) where
+      left-renamed : (g g' : Tree) (cs : Tree → List Clause) → g ≡ g' → places_left d (renamed e t) g (all_elements code (renamed e t) xs) (cs g) ≡ places_left d e g' (all_elements code e xs) (cs g')
+      left-renamed g g' cs same = ap₂ (λ (x : Tree) (es : List Element). filter_map (resolve d e.count x es) (cs x)) same goals-renamed
+
+      pub case-renamed : (vs : List Cell) (r : Resume) → IsResume e.heap vs r → case_of db code d (renamed e t) xs vs r ≡ case_of db code d e xs vs r
+      case-renamed vs (resumes.Clauses c) i = ap Choice (left-renamed _ _ (λ g. drop c.next (db.statics c.procedure).clauses) (called-renamed (db.statics c.procedure).name vs i))
+      case-renamed vs (resumes.Walk w) i = ap Choice (candidates-renamed d _ _ (λ g. left_at db w.uses g w.spot) (stays.values w.goal i).1)
+      case-renamed vs (resumes.Answers a) i = ap Choice (answers-renamed vs i.0 a.turn)
+      case-renamed vs resumes.List i = ap (λ es. Choice (record { goals = es; variables = e.count } ∷ [])) goals-renamed
+      case-renamed vs (resumes.Handle x) i = ap₂ (λ h es. Handle h (record { goals = es; variables = e.count })) (handled-same e.heap (renamed_heap e.heap t) stays.values x i).1 goals-renamed

@@ -16,7 +16,7 @@ use Rattle.plstack.specs.declared.frame.Resume.TheVariants as resumes
 use Rattle.plstack.specs.declared.frame.Handler.{Handler}
 use Rattle.plstack.specs.declared.frame.Frame.{Frame}
 use Rattle.plstack.specs.declared.frame.Frame.TheVariants.{Open}
-use Rattle.plstack.specs.Places.{Statics, place_asked, handled, case_of, depth_of}
+use Rattle.plstack.specs.Places.{Database, place_asked, handled, case_of, depth_of}
 use Rattle.plstack.specs.Frames.{IsOpen, AreOlder, IsResume, AreFrames}
 use Rattle.plstack.specs.State.{State, IsStack, goals_in, goals_of, cases_of, IsList, CountsUp, Retries, RetriesBy, AtHandler, Leaves, Recovers, IsHandler}
 use Rattle.plstack.specs.Cutting.{Settles}
@@ -69,9 +69,9 @@ module _ (s : State) (d : ℕ) (is : IsStack s d) (rest : List Frame) (p : Point
     omega (arith, back-depth),
   )
 
-  pub back-cases : (statics : Statics) → cases_of statics back ≡ cases_of statics (record s { frames = rest })
+  pub back-cases : (db : Database) → cases_of db back ≡ cases_of db (record s { frames = rest })
   unfolding cases_of
-  back-cases statics = cases-cut (goals_in s) s.env s.links s.saved p.marks at-frame.mark at-frame.links_room saved-room statics (reverse rest) at-frame.older (popped-frames s d rest (Open p r) popped is).1
+  back-cases db = cases-cut (goals_in s) s.env s.links s.saved p.marks at-frame.mark at-frame.links_room saved-room db (reverse rest) at-frame.older (popped-frames s d rest (Open p r) popped is).1
 
   pub same-items : items_of (take p.marks.links s.links) p.list ≡ items_of s.links p.list
   same-items = items-take s.links p.marks.links p.list at-frame.list at-frame.links_room
@@ -89,9 +89,9 @@ module _ (s : State) (d : ℕ) (is : IsStack s d) (rest : List Frame) (p : Point
 pub visiting : (s : State) (d : ℕ) (l : Continuation) → IsStack s d → IsList s l → IsStack (record s { goals = l }) d
 visiting s d l is i = (record { env = is.0.env; names = is.0.names; none = is.0.none; chain = is.0.chain; frames = is.0.frames; goals = record { there = i.there; items = i.items } }, is.1)
 
-pub same-cases : (statics : Statics) (s : State) (l : Continuation) → cases_of statics (record s { goals = l }) ≡ cases_of statics s
+pub same-cases : (db : Database) (s : State) (l : Continuation) → cases_of db (record s { goals = l }) ≡ cases_of db s
 unfolding cases_of
-same-cases statics s l = refl
+same-cases db s l = refl
 
 -- the list of a choice is visited
 module _ (s : State) (d : ℕ) (is : IsStack s d) (rest : List Frame) (p : Point) (popped : s.frames ≡ rest ++ Open p resumes.List ∷ []) (frames : List Frame) (up : CountsUp 1 (reverse rest) (reverse frames)) where
@@ -107,16 +107,16 @@ module _ (s : State) (d : ℕ) (is : IsStack s d) (rest : List Frame) (p : Point
       let c = counted 1 (record was { goals = p.list }) (d - 1) frames up v in
       (c.0, omega (arith, c.1, back-depth s d is rest p resumes.List popped))
 
-  pub taken : (statics : Statics) → Retries statics s taken-state
-  taken statics = record {
+  pub taken : (db : Database) → Retries db s taken-state
+  taken db = record {
     others = [];
-    older = cases_of statics (record s { frames = rest });
+    older = cases_of db (record s { frames = rest });
     was =
-        popped-cases statics s rest (Open p resumes.List) popped
-        ∙ ap (λ gs. Choice (record { goals = gs; variables = (cut p.marks.env s.env).count } ∷ []) ∷ cases_of statics (record s { frames = rest })) (sym (back-goals s d is rest p resumes.List popped));
+        popped-cases db s rest (Open p resumes.List) popped
+        ∙ ap (λ gs. Choice (record { goals = gs; variables = (cut p.marks.env s.env).count } ∷ []) ∷ cases_of db (record s { frames = rest })) (sym (back-goals s d is rest p resumes.List popped));
     cases =
-        counted-cases 1 statics (record was { goals = p.list }) frames up
-        ∙ ap (λ cs. Choice [] ∷ cs) (same-cases statics was p.list ∙ back-cases s d is rest p resumes.List popped statics);
+        counted-cases 1 db (record was { goals = p.list }) frames up
+        ∙ ap (λ cs. Choice [] ∷ cs) (same-cases db was p.list ∙ back-cases s d is rest p resumes.List popped db);
   }
 
 -- all is as it was where a handler was opened, which stays open
@@ -149,22 +149,22 @@ module _ (s : State) (d : ℕ) (is : IsStack s d) (rest : List Frame) (p : Point
       let o = opened-state none-visited (d - 1) s.frames (Open p (resumes.Handle x)) popped (back-stack s d is rest p (resumes.Handle x) popped) frame-then in
       (o.0, omega (arith, o.1, back-depth s d is rest p (resumes.Handle x) popped))
 
-  rewound-open : (statics : Statics) → cases_of statics rewound ≡
-      Handle (handled (cut p.marks.env s.env).heap x) (record { goals = goals_of none-visited p.list; variables = (cut p.marks.env s.env).count }) ∷ cases_of statics none-visited
-  rewound-open statics =
-      opened-cases statics none-visited s.frames (Open p (resumes.Handle x)) popped
-      ∙ ap (λ e. case_of statics (goals_in s) 0 e (items_of (take p.marks.links s.links) p.list) [] (resumes.Handle x) ∷ cases_of statics none-visited) now
+  rewound-open : (db : Database) → cases_of db rewound ≡
+      Handle (handled (cut p.marks.env s.env).heap x) (record { goals = goals_of none-visited p.list; variables = (cut p.marks.env s.env).count }) ∷ cases_of db none-visited
+  rewound-open db =
+      opened-cases db none-visited s.frames (Open p (resumes.Handle x)) popped
+      ∙ ap (λ e. case_of db (goals_in s) 0 e (items_of (take p.marks.links s.links) p.list) [] (resumes.Handle x) ∷ cases_of db none-visited) now
 
-  pub rewound-cases : (statics : Statics) → cases_of statics rewound ≡ cases_of statics s
-  rewound-cases statics =
-      rewound-open statics
+  pub rewound-cases : (db : Database) → cases_of db rewound ≡ cases_of db s
+  rewound-cases db =
+      rewound-open db
       ∙ ap₂ (λ gs cs. Handle (handled (cut p.marks.env s.env).heap x) (record { goals = gs; variables = (cut p.marks.env s.env).count }) ∷ cs)
-      (back-goals s d is rest p (resumes.Handle x) popped) (back-cases s d is rest p (resumes.Handle x) popped statics)
-      ∙ sym (popped-cases statics s rest (Open p (resumes.Handle x)) popped)
+      (back-goals s d is rest p (resumes.Handle x) popped) (back-cases s d is rest p (resumes.Handle x) popped db)
+      ∙ sym (popped-cases db s rest (Open p (resumes.Handle x)) popped)
 
   pub rewound-at : AtHandler rewound x p.list
   rewound-at = record {
-    below = λ statics. cases_of statics none-visited;
+    below = λ db. cases_of db none-visited;
     cases = rewound-open;
     there = the-frame.resume;
     list_there = let l = back-list s d is rest p (resumes.Handle x) popped in record { there = l.there; items = l.items };
@@ -189,9 +189,9 @@ module _ (s : State) (d : ℕ) (is : IsStack s d) (rest : List Frame) (p : Point
 
   pub recovers : Recovers s (record s { frames = frames; goals = list }) list
   recovers = record {
-    cases = λ statics h below was.
-        let split = sym (popped-cases statics s rest (Open p (resumes.Handle x)) popped) ∙ was in
-        counted-cases 1 statics without frames up ∙ ap (λ cs. Choice [] ∷ cs) (same-cases statics (record s { frames = rest }) list ∙ tail_is _ _ _ _ split);
+    cases = λ db h below was.
+        let split = sym (popped-cases db s rest (Open p (resumes.Handle x)) popped) ∙ was in
+        counted-cases 1 db without frames up ∙ ap (λ cs. Choice [] ∷ cs) (same-cases db (record s { frames = rest }) list ∙ tail_is _ _ _ _ split);
     place = refl;
   }
 
@@ -205,37 +205,29 @@ module _ (s : State) (d : ℕ) (is : IsStack s d) (rest : List Frame) (p : Point
 
   pub leaves : Leaves s (record s { frames = rest; goals = list }) list
   leaves = record {
-    cases = λ statics h below was.
-        same-cases statics (record s { frames = rest }) list ∙ tail_is _ _ _ _ (sym (popped-cases statics s rest (Open p (resumes.Handle x)) popped) ∙ was);
+    cases = λ db h below was.
+        same-cases db (record s { frames = rest }) list ∙ tail_is _ _ _ _ (sym (popped-cases db s rest (Open p (resumes.Handle x)) popped) ∙ was);
     place = refl;
   }
 
 -- so they are where less is old
-pub retries_settled : (statics : Statics) (s mid new : State) → Retries statics s mid → Settles mid new → Retries statics s new
-retries_settled statics s mid new r y = record {
+pub retries_settled : (db : Database) (s mid new : State) → Retries db s mid → Settles mid new → Retries db s new
+retries_settled db s mid new r y = record {
   others = r.others;
   older = r.older;
   was = r.was ∙ ap (λ p. Choice (p ∷ r.others) ∷ r.older) (sym y.place);
-  cases = y.cases statics ∙ r.cases;
-}
-
-pub retries_by_settled : (statics : Statics) (s mid new : State) (erased : Option ClauseName) → RetriesBy statics s mid erased → Settles mid new → RetriesBy statics s new erased
-retries_by_settled statics s mid new erased r y = record {
-  others = r.others;
-  older = r.older;
-  was = r.was ∙ ap (λ p. Choice (place_asked erased p ∷ r.others) ∷ r.older) (sym y.place);
-  cases = y.cases statics ∙ r.cases;
+  cases = y.cases db ∙ r.cases;
 }
 
 pub recovers_settled : (s mid new : State) (list : Continuation) → Recovers s mid list → Settles mid new → Recovers s new list
 recovers_settled s mid new list r y = record {
-  cases = λ statics h below was. y.cases statics ∙ r.cases statics h below was;
+  cases = λ db h below was. y.cases db ∙ r.cases db h below was;
   place = y.place ∙ r.place;
 }
 
 pub leaves_settled : (s mid new : State) (list : Continuation) → Leaves s mid list → Settles mid new → Leaves s new list
 leaves_settled s mid new list r y = record {
-  cases = λ statics h below was. y.cases statics ∙ r.cases statics h below was;
+  cases = λ db h below was. y.cases db ∙ r.cases db h below was;
   place = y.place ∙ r.place;
 }
 

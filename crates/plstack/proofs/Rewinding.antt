@@ -13,7 +13,7 @@ use Rattle.plstack.specs.declared.frame.Resume.{Resume}
 use Rattle.plstack.specs.declared.frame.Resume.TheVariants as resumes
 use Rattle.plstack.specs.declared.frame.Frame.{Frame}
 use Rattle.plstack.specs.declared.frame.Frame.TheVariants.{Open}
-use Rattle.plstack.specs.Places.{Statics, kept, kept_values, case_of, cases}
+use Rattle.plstack.specs.Places.{Database, kept, kept_values, case_of, cases}
 use Rattle.plstack.specs.Frames.{IsOpen, IsResume, AreFrames}
 use Rattle.plstack.specs.State.{State, IsStack, goals_in, cases_of, IsList}
 use Rattle.plstack.specs.StaticCalls.{AtCall}
@@ -62,12 +62,12 @@ module _ (s : State) (d : ℕ) (is : IsStack s d) (rest : List Frame) (p : Point
     was.1,
   )
 
-  pub without-cases : (statics : Statics) → cases_of statics without ≡ cases_of statics (record s { frames = rest })
+  pub without-cases : (db : Database) → cases_of db without ≡ cases_of db (record s { frames = rest })
   unfolding cases_of
-  without-cases statics =
-      ap₂ (λ ks vs. cases statics (goals_in s) e ks vs (reverse rest)) (sym (append-nil (take p.marks.links s.links))) split
-      ∙ cases-kept (goals_in s) e e (take p.marks.links s.links) [] (take p.marks.saved s.saved) (take (kept r) (drop p.marks.saved s.saved)) (Keeps-refl e) was.0.env.heap.names statics (reverse rest) was.0.frames
-      ∙ back-cases s d is rest p r popped statics
+  without-cases db =
+      ap₂ (λ ks vs. cases db (goals_in s) e ks vs (reverse rest)) (sym (append-nil (take p.marks.links s.links))) split
+      ∙ cases-kept (goals_in s) e e (take p.marks.links s.links) [] (take p.marks.saved s.saved) (take (kept r) (drop p.marks.saved s.saved)) (Keeps-refl e) was.0.env.heap.names db (reverse rest) was.0.frames
+      ∙ back-cases s d is rest p r popped db
 
   pub now : cut p.marks.env e ≡ e
   now = cut-cut p.marks.env p.marks.env s.env (older-same p)
@@ -94,23 +94,23 @@ module _ (s : State) (d : ℕ) (is : IsStack s d) (rest : List Frame) (p : Point
       let o = opened-state without (d - 1) s.frames (Open p r) popped without-stack frame-then in
       (o.0, omega (arith, o.1, back-depth s d is rest p r popped))
 
-  pub rewound-cases : (statics : Statics) → cases_of statics rewound ≡ cases_of statics s
-  rewound-cases statics =
-      opened-cases statics without s.frames (Open p r) popped
-      ∙ ap (λ x. case_of statics (goals_in s) (deeper (cases_of statics without) 0) x (items_of (take p.marks.links s.links) p.list) (kept_values values p r) r ∷ cases_of statics without) now
-      ∙ ap₂ (λ xs vs. case_of statics (goals_in s) (deeper (cases_of statics without) 0) e xs vs r ∷ cases_of statics without) (same-items s d is rest p r popped) kept-then
-      ∙ ap (λ cs. case_of statics (goals_in s) (deeper cs 0) e (items_of s.links p.list) (kept_values s.saved p r) r ∷ cs) (without-cases statics)
-      ∙ sym (popped-cases statics s rest (Open p r) popped)
+  pub rewound-cases : (db : Database) → cases_of db rewound ≡ cases_of db s
+  rewound-cases db =
+      opened-cases db without s.frames (Open p r) popped
+      ∙ ap (λ x. case_of db (goals_in s) (deeper (cases_of db without) 0) x (items_of (take p.marks.links s.links) p.list) (kept_values values p r) r ∷ cases_of db without) now
+      ∙ ap₂ (λ xs vs. case_of db (goals_in s) (deeper (cases_of db without) 0) e xs vs r ∷ cases_of db without) (same-items s d is rest p r popped) kept-then
+      ∙ ap (λ cs. case_of db (goals_in s) (deeper cs 0) e (items_of s.links p.list) (kept_values s.saved p r) r ∷ cs) (without-cases db)
+      ∙ sym (popped-cases db s rest (Open p r) popped)
 
   pub list-then : IsList without p.list
   list-then = let l = back-list s d is rest p r popped in record { there = l.there; items = l.items }
 
   -- the case, over those below it
-  pub was-open : (statics : Statics) → cases_of statics s ≡ case_of statics (goals_in s) (deeper (cases_of statics without) 0) e (items_of (take p.marks.links s.links) p.list) (kept_values s.saved p r) r ∷ cases_of statics without
-  was-open statics =
-      popped-cases statics s rest (Open p r) popped
-      ∙ ap (λ cs. case_of statics (goals_in s) (deeper cs 0) e (items_of s.links p.list) (kept_values s.saved p r) r ∷ cs) (sym (without-cases statics))
-      ∙ ap (λ xs. case_of statics (goals_in s) (deeper (cases_of statics without) 0) e xs (kept_values s.saved p r) r ∷ cases_of statics without) (sym (same-items s d is rest p r popped))
+  pub was-open : (db : Database) → cases_of db s ≡ case_of db (goals_in s) (deeper (cases_of db without) 0) e (items_of (take p.marks.links s.links) p.list) (kept_values s.saved p r) r ∷ cases_of db without
+  was-open db =
+      popped-cases db s rest (Open p r) popped
+      ∙ ap (λ cs. case_of db (goals_in s) (deeper cs 0) e (items_of s.links p.list) (kept_values s.saved p r) r ∷ cs) (sym (without-cases db))
+      ∙ ap (λ xs. case_of db (goals_in s) (deeper (cases_of db without) 0) e xs (kept_values s.saved p r) r ∷ cases_of db without) (sym (same-items s d is rest p r popped))
 
 module _ (s : State) (d : ℕ) (is : IsStack s d) (rest : List Frame) (p : Point) (c : Clauses) (popped : s.frames ≡ rest ++ Open p (resumes.Clauses c) ∷ []) where
   pub at-call : AtCall (rewound s d is rest p (resumes.Clauses c) popped) p c

@@ -20,7 +20,7 @@ use Rattle.plstack.specs.declared.frame.Point.{Point}
 use Rattle.plstack.specs.declared.frame.Resume.{Resume}
 use Rattle.plstack.specs.declared.frame.Frame.{Frame}
 use Rattle.plstack.specs.declared.frame.Frame.TheVariants.{Plain, Barrier, Open}
-use Rattle.plstack.specs.Places.{Statics, kept, kept_values, case_of, plain, cases}
+use Rattle.plstack.specs.Places.{Database, kept, kept_values, case_of, plain, cases}
 use Rattle.plstack.specs.Frames.{IsOlder, AreOlder, IsResume, IsOpen, IsFrame, AreFrames}
 use Rattle.plstack.specs.State.{State, IsState, IsStack, goals_in, goals_of, cases_of, IsList}
 use Rattle.plstack.specs.Opening.{Keeps}
@@ -95,9 +95,9 @@ module _ (code : Goals) (old new : Env) (links : List Link) (saved : List Cell) 
     first-values : kept_values (take k saved) p r ≡ kept_values saved p r
     first-values = run-take k p.marks.saved (kept r) saved values
 
-    case-settled : (statics : Statics) (d : ℕ) →
-        case_of statics code d (cut p.marks.env new) (items_of links p.list) (kept_values (take k saved) p r) r ≡ case_of statics code d (cut p.marks.env old) (items_of links p.list) (kept_values saved p r) r
-    case-settled statics d = ap₂ (λ x vs. case_of statics code d x (items_of links p.list) vs r) same first-values
+    case-settled : (db : Database) (d : ℕ) →
+        case_of db code d (cut p.marks.env new) (items_of links p.list) (kept_values (take k saved) p r) r ≡ case_of db code d (cut p.marks.env old) (items_of links p.list) (kept_values saved p r) r
+    case-settled db d = ap₂ (λ x vs. case_of db code d x (items_of links p.list) vs r) same first-values
 
     open-settled : IsOpen code new links (take k saved) p r fs
     open-settled = record {
@@ -110,13 +110,13 @@ module _ (code : Goals) (old new : Env) (links : List Link) (saved : List Cell) 
       resume = subst (λ vs. IsResume (cut p.marks.env new).heap vs r) (sym first-values) (subst (λ (x : Env). IsResume x.heap (kept_values saved p r) r) (sym same) is.resume);
     }
 
-  cases-settled : (statics : Statics) (fs : List Frame) → AreOlder since fs → AreWithin c n k fs → AreFrames code old links saved fs → cases statics code new links (take k saved) fs ≡ cases statics code old links saved fs
-  cases-settled statics [] o w a = refl
-  cases-settled statics (Plain m ∷ fs) o w a = ap (plain m) (cases-settled statics fs o w a.1)
-  cases-settled statics (Barrier l ∷ fs) o w a = ap (λ cs. MarkOf l ∷ cs) (cases-settled statics fs o w a.1)
-  cases-settled statics (Open p r ∷ fs) o w a =
-      ap (λ cs. case_of statics code (deeper cs 0) (cut p.marks.env new) (items_of links p.list) (kept_values (take k saved) p r) r ∷ cs) (cases-settled statics fs o.1 w.3 a.1)
-      ∙ ap (λ x. x ∷ cases statics code old links saved fs) (case-settled p r fs a.0 o.0 w.0 w.1 w.2 statics (deeper (cases statics code old links saved fs) 0))
+  cases-settled : (db : Database) (fs : List Frame) → AreOlder since fs → AreWithin c n k fs → AreFrames code old links saved fs → cases db code new links (take k saved) fs ≡ cases db code old links saved fs
+  cases-settled db [] o w a = refl
+  cases-settled db (Plain m ∷ fs) o w a = ap (plain m) (cases-settled db fs o w a.1)
+  cases-settled db (Barrier l ∷ fs) o w a = ap (λ cs. MarkOf l ∷ cs) (cases-settled db fs o w a.1)
+  cases-settled db (Open p r ∷ fs) o w a =
+      ap (λ cs. case_of db code (deeper cs 0) (cut p.marks.env new) (items_of links p.list) (kept_values (take k saved) p r) r ∷ cs) (cases-settled db fs o.1 w.3 a.1)
+      ∙ ap (λ x. x ∷ cases db code old links saved fs) (case-settled p r fs a.0 o.0 w.0 w.1 w.2 db (deeper (cases db code old links saved fs) 0))
 
   frames-settled : (fs : List Frame) → AreOlder since fs → AreWithin c n k fs → AreFrames code old links saved fs → AreFrames code new links (take k saved) fs
   frames-settled [] o w a = tt
@@ -167,7 +167,7 @@ module _ (s : State) (d : ℕ) (is : IsStack s d) (since : Marks) (older : AreOl
     pub settles : Settles s settled-state
     unfolding cases_of
     settles = record {
-      cases = λ statics. cases-settled (goals_in s) s.env e s.links s.saved since marks.env.heap.cells marks.env.slots count made room.saved statics (reverse s.frames) older within is.0.frames;
+      cases = λ db. cases-settled (goals_in s) s.env e s.links s.saved since marks.env.heap.cells marks.env.slots count made room.saved db (reverse s.frames) older within is.0.frames;
       keeps = record { values = made.values; lists = list-settled; count = made.count; code = refl };
       place = ap₂ (λ gs n. record { goals = gs; variables = n }) (list-settled s.goals is.0.goals).1 made.count;
       goals = refl;
@@ -177,7 +177,7 @@ pub keeps_refl : (s : State) → Keeps s s
 keeps_refl s = record { values = λ v f. (f, refl); lists = λ l i. (i, refl); count = refl; code = refl }
 
 pub settles_refl : (s : State) → Settles s s
-settles_refl s = record { cases = λ statics. refl; keeps = keeps_refl s; place = refl; goals = refl }
+settles_refl s = record { cases = λ db. refl; keeps = keeps_refl s; place = refl; goals = refl }
 
 pub Keeps-trans : (a b c : State) → Keeps a b → Keeps b c → Keeps a c
 Keeps-trans a b c x y = record {
@@ -202,7 +202,7 @@ gives_up s new i below from = record { cases = from.cases; keeps = keeps-frames 
 
 pub gives_settled : (s mid new : State) (i below : ℕ) → EmptiesFrom s mid i below → Settles mid new → GivesUp s new i below
 gives_settled s mid new i below from y = record {
-  cases = λ statics. y.cases statics ∙ from.cases statics;
+  cases = λ db. y.cases db ∙ from.cases db;
   keeps = Keeps-trans s mid new (keeps-frames s mid from.same) y.keeps;
   goals = y.goals ∙ ap (λ (x : State). x.goals) from.same;
 }
@@ -214,11 +214,11 @@ keeps-visiting s mid list k = record { values = k.values; lists = λ l i. let r 
 pub cuts_emptied : (s mid new : State) (level : ℕ) (list : Continuation) (i low : ℕ) → AreAtMost level (goals_of s list) → ChoiceAt s.frames level i low → GivesUp s mid i low → new ≡ record mid { goals = list } → Cuts s new level list
 unfolding cases_of
 cuts_emptied s mid new level list i low most at from is = rw is (record {
-  cases = inr (most, λ statics. let e = empties s mid level i low at from statics in record { inside = e.inside; places = e.places; below = e.below; was = e.was; at = e.at; cases = e.cases });
+  cases = inr (most, λ db. let e = empties s mid level i low at from db in record { inside = e.inside; places = e.places; below = e.below; was = e.was; at = e.at; cases = e.cases });
   keeps = keeps-visiting s mid list from.keeps;
   goals = refl;
 })
 
-pub cuts_marked : (s mid new : State) (level : ℕ) (list : Continuation) → ((statics : Statics) → cases_of statics mid ≡ MarkOf level ∷ cases_of statics s) → mid ≡ record s { frames = mid.frames } → new ≡ record mid { goals = list } → Cuts s new level list
+pub cuts_marked : (s mid new : State) (level : ℕ) (list : Continuation) → ((db : Database) → cases_of db mid ≡ MarkOf level ∷ cases_of db s) → mid ≡ record s { frames = mid.frames } → new ≡ record mid { goals = list } → Cuts s new level list
 unfolding cases_of
 cuts_marked s mid new level list cases same is = rw is (record { cases = inl cases; keeps = keeps-visiting s mid list (keeps-frames s mid same); goals = refl })

@@ -12,15 +12,18 @@ use Rattle.pllinks.proofs.Arena.{chain-none}
 use Rattle.plstack.specs.declared.stack.Stack.TheInside.{Inside}
 use Rattle.plstack.specs.declared.frame.Frame.{Frame}
 use Rattle.plstack.specs.declared.frame.Frame.TheVariants.{Plain, Barrier, Open}
-use Rattle.plstack.specs.Places.{Statics, plain, opened, cases, size, depth_of}
+use Rattle.plstack.specs.Places.{Database, plain, opened, cases, size, depth_of}
 use Rattle.plstack.specs.Frames.{IsFrame, AreFrames}
-use Rattle.plstack.specs.State.{State, IsState, IsStack, CountsUp, goals_in, cases_of, HasHandler, IsHandler, BeginsWith}
+use Rattle.plstack.specs.State.{State, IsState, IsStack, CountsUp, goals_in, cases_of, depth_in, HasHandler, IsHandler, BeginsWith}
 use Rattle.plstack.proofs.Lists.{empty-list}
 use Rattle.plstack.proofs.Frames.{depth-cases, reverse-push, plain-more}
 
-pub depth_is : (statics : Statics) (s : State) (d : ℕ) → d ≡ depth_of (reverse s.frames) → d ≡ deeper (cases_of statics s) 0
+pub depth_is : (db : Database) (s : State) (d : ℕ) → d ≡ depth_of (reverse s.frames) → d ≡ deeper (cases_of db s) 0
 unfolding cases_of
-depth_is statics s d e = e ∙ sym (depth-cases statics (goals_in s) s.env s.links s.saved (reverse s.frames))
+depth_is db s d e = e ∙ sym (depth-cases db (goals_in s) s.env s.links s.saved (reverse s.frames))
+
+pub depth-in : (db : Database) (s : State) → deeper (cases_of db s) 0 ≡ depth_in s
+depth-in db s = sym (depth_is db s (depth_in s) refl)
 
 -- the state of a stack's fields
 abbrev pub inside : Inside → State
@@ -41,8 +44,8 @@ empty-stack code e env names none = (
 )
 
 -- a handler's level
-pub level_is : (s : State) (d : ℕ) → IsStack s d → HasHandler s → (statics : Statics) → deeper (cases_of statics s) 0 ≡ (d - 1) + 1
-level_is s d is has statics = sym (depth_is statics s d is.1) ∙ go (reverse s.frames) has is.1
+pub level_is : (s : State) (d : ℕ) → IsStack s d → HasHandler s → (db : Database) → deeper (cases_of db s) 0 ≡ (d - 1) + 1
+level_is s d is has db = sym (depth_is db s d is.1) ∙ go (reverse s.frames) has is.1
   where
     go : (fs : List Frame) → BeginsWith IsHandler fs → d ≡ depth_of fs → d ≡ (d - 1) + 1
     go [] has e = absurd has
@@ -51,10 +54,10 @@ level_is s d is has statics = sym (depth_is statics s d is.1) ∙ go (reverse s.
     go (Open p r ∷ fs) has e = omega (arith, e)
 
 -- a new frame
-pub opened-cases : (statics : Statics) (s : State) (frames : List Frame) (f : Frame) → frames ≡ s.frames ++ f ∷ [] →
-    cases_of statics (record s { frames = frames }) ≡ opened statics (goals_in s) s.env s.links s.saved f (cases_of statics s)
+pub opened-cases : (db : Database) (s : State) (frames : List Frame) (f : Frame) → frames ≡ s.frames ++ f ∷ [] →
+    cases_of db (record s { frames = frames }) ≡ opened db (goals_in s) s.env s.links s.saved f (cases_of db s)
 unfolding cases_of
-opened-cases statics s frames f e = ap (λ fs. cases statics (goals_in s) s.env s.links s.saved (reverse fs)) e ∙ ap (cases statics (goals_in s) s.env s.links s.saved) (reverse-push s.frames f)
+opened-cases db s frames f e = ap (λ fs. cases db (goals_in s) s.env s.links s.saved (reverse fs)) e ∙ ap (cases db (goals_in s) s.env s.links s.saved) (reverse-push s.frames f)
 
 -- other frames
 pub with-frames : (s : State) (frames : List Frame) → IsState s → AreFrames (goals_in s) s.env s.links s.saved (reverse frames) → IsState (record s { frames = frames })
@@ -70,19 +73,19 @@ opened-state s d frames f e is frame =
 pub counted : (n : ℕ) (s : State) (d : ℕ) (frames : List Frame) → CountsUp n (reverse s.frames) (reverse frames) → IsStack s d → IsStack (record s { frames = frames }) (d + n)
 counted n s d frames c is = (with-frames s frames is.0 (c.frames (goals_in s) s.env s.links s.saved is.0.frames), omega (arith, is.1, c.depth))
 
-pub counted-cases : (n : ℕ) (statics : Statics) (s : State) (frames : List Frame) → CountsUp n (reverse s.frames) (reverse frames) → cases_of statics (record s { frames = frames }) ≡ plain n (cases_of statics s)
+pub counted-cases : (n : ℕ) (db : Database) (s : State) (frames : List Frame) → CountsUp n (reverse s.frames) (reverse frames) → cases_of db (record s { frames = frames }) ≡ plain n (cases_of db s)
 unfolding cases_of
-counted-cases n statics s frames c = c.cases statics (goals_in s) s.env s.links s.saved
+counted-cases n db s frames c = c.cases db (goals_in s) s.env s.links s.saved
 
 -- a frame that was taken off
-pub popped-cases : (statics : Statics) (s : State) (rest : List Frame) (f : Frame) → s.frames ≡ rest ++ f ∷ [] →
-    cases_of statics s ≡ opened statics (goals_in s) s.env s.links s.saved f (cases_of statics (record s { frames = rest }))
+pub popped-cases : (db : Database) (s : State) (rest : List Frame) (f : Frame) → s.frames ≡ rest ++ f ∷ [] →
+    cases_of db s ≡ opened db (goals_in s) s.env s.links s.saved f (cases_of db (record s { frames = rest }))
 unfolding cases_of
-popped-cases statics s rest f e = ap (cases statics (goals_in s) s.env s.links s.saved) (ap reverse e ∙ reverse-push rest f)
+popped-cases db s rest f e = ap (cases db (goals_in s) s.env s.links s.saved) (ap reverse e ∙ reverse-push rest f)
 
-pub no-cases : (statics : Statics) (s : State) → s.frames ≡ [] → cases_of statics s ≡ []
+pub no-cases : (db : Database) (s : State) → s.frames ≡ [] → cases_of db s ≡ []
 unfolding cases_of
-no-cases statics s e = ap (λ fs. cases statics (goals_in s) s.env s.links s.saved (reverse fs)) e
+no-cases db s e = ap (λ fs. cases db (goals_in s) s.env s.links s.saved (reverse fs)) e
 
 pub popped-frames : (s : State) (d : ℕ) (rest : List Frame) (f : Frame) → s.frames ≡ rest ++ f ∷ [] → IsStack s d →
     IsFrame (goals_in s) s.env s.links s.saved f (reverse rest) × AreFrames (goals_in s) s.env s.links s.saved (reverse rest) × (d ≡ size f + depth_of (reverse rest))
@@ -108,16 +111,16 @@ pub is-last : (Is : Frame → Type 0) (frames rest : List Frame) (f : Frame) →
 is-last Is frames rest f e begins = subst (BeginsWith Is) (ap reverse e ∙ reverse-push rest f) begins
 
 -- closing a choice of so many
-pub closed-plain : (statics : Statics) (s : State) (rest frames : List Frame) (n : ℕ) → s.frames ≡ rest ++ Plain n ∷ [] → 1 < n → frames ≡ rest ++ Plain (n - 1) ∷ [] →
-    cases_of statics s ≡ Choice [] ∷ cases_of statics (record s { frames = frames })
-closed-plain statics s rest frames n e lt e' =
-    popped-cases statics s rest (Plain n) e
-    ∙ plain-more (n - 1) n (cases_of statics (record s { frames = rest })) (omega (arith, lt))
-    ∙ ap (λ cs. Choice [] ∷ cs) (sym (popped-cases statics (record s { frames = frames }) rest (Plain (n - 1)) e'))
+pub closed-plain : (db : Database) (s : State) (rest frames : List Frame) (n : ℕ) → s.frames ≡ rest ++ Plain n ∷ [] → 1 < n → frames ≡ rest ++ Plain (n - 1) ∷ [] →
+    cases_of db s ≡ Choice [] ∷ cases_of db (record s { frames = frames })
+closed-plain db s rest frames n e lt e' =
+    popped-cases db s rest (Plain n) e
+    ∙ plain-more (n - 1) n (cases_of db (record s { frames = rest })) (omega (arith, lt))
+    ∙ ap (λ cs. Choice [] ∷ cs) (sym (popped-cases db (record s { frames = frames }) rest (Plain (n - 1)) e'))
 
-pub closed-last : (statics : Statics) (s : State) (rest : List Frame) (n : ℕ) → s.frames ≡ rest ++ Plain n ∷ [] → n ≡ 1 →
-    cases_of statics s ≡ Choice [] ∷ cases_of statics (record s { frames = rest })
-closed-last statics s rest n e one = popped-cases statics s rest (Plain n) e ∙ ap (λ i. plain i (cases_of statics (record s { frames = rest }))) one
+pub closed-last : (db : Database) (s : State) (rest : List Frame) (n : ℕ) → s.frames ≡ rest ++ Plain n ∷ [] → n ≡ 1 →
+    cases_of db s ≡ Choice [] ∷ cases_of db (record s { frames = rest })
+closed-last db s rest n e one = popped-cases db s rest (Plain n) e ∙ ap (λ i. plain i (cases_of db (record s { frames = rest }))) one
 
 -- a smaller choice in place of one
 pub smaller-stack : (s : State) (d : ℕ) (rest frames : List Frame) (n : ℕ) → s.frames ≡ rest ++ Plain n ∷ [] → 1 < n → frames ≡ rest ++ Plain (n - 1) ∷ [] → IsStack s d → IsStack (record s { frames = frames }) (d - 1)
@@ -139,7 +142,7 @@ counts-in-place rest old new m n was is =
     let before : reverse old ≡ Plain m ∷ reverse rest = ap reverse was ∙ reverse-push rest (Plain m) in
     let after : reverse new ≡ Plain (m + n) ∷ reverse rest = ap reverse is ∙ reverse-push rest (Plain (m + n)) in
     rw (before, after) (record {
-      cases = λ statics code e links saved. ap (λ k. plain k (cases statics code e links saved (reverse rest))) (omega arith) ∙ sym (plain-plus n m (cases statics code e links saved (reverse rest)));
+      cases = λ db code e links saved. ap (λ k. plain k (cases db code e links saved (reverse rest))) (omega arith) ∙ sym (plain-plus n m (cases db code e links saved (reverse rest)));
       frames = λ code e links saved a. (omega (arith, a.0), a.1);
       older = λ m o. o;
       depth = omega arith;
@@ -154,7 +157,7 @@ pub counts-new : (old new : List Frame) (n : ℕ) → 0 < n → new ≡ old ++ P
 counts-new old new n some is =
     let after : reverse new ≡ Plain n ∷ reverse old = ap reverse is ∙ reverse-push old (Plain n) in
     rw after (record {
-      cases = λ statics code e links saved. refl;
+      cases = λ db code e links saved. refl;
       frames = λ code e links saved a. (some, a);
       older = λ m o. o;
       depth = omega arith;

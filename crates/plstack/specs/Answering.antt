@@ -14,7 +14,7 @@ use Rattle.plstack.specs.declared.frame.Point.{Point}
 use Rattle.plstack.specs.declared.frame.Resume.TheVariants as resumes
 use Rattle.plstack.specs.declared.frame.Frame.{Frame}
 use Rattle.plstack.specs.declared.frame.Frame.TheVariants.{Open}
-use Rattle.plstack.specs.Places.{Statics, answers_left}
+use Rattle.plstack.specs.Places.{Database, answers_left}
 use Rattle.plstack.specs.State.{State, goals_of, place_of, cases_of, CountsUp}
 
 abbrev pub answers_if : Env → List Cell → List Element → Option Turn → List Place
@@ -42,12 +42,12 @@ PushesAnswers p count (Some turn) old new = new ≡ old ++ Open p (resumes.Answe
 PushesAnswers p count None old new = CountsUp 1 (reverse old) (reverse new)
 
 -- a call visits the list of its first answer, in a choice of the others
-pub record Answered (statics : Statics) (old new : State) (vs : List Cell) (list : Continuation) (turn : Turn) : Type 0 where
+pub record Answered (db : Database) (old new : State) (vs : List Cell) (list : Continuation) (turn : Turn) : Type 0 where
   pub others : List Place
   pub places : answers_left old.env vs (goals_of old list) turn ≡ place_of new ∷ others
-  pub cases : cases_of statics new ≡ Choice others ∷ cases_of statics old
+  pub cases : cases_of db new ≡ Choice others ∷ cases_of db old
 
 -- it has no answer that fits, and the cases are as they were
-pub record Unanswered (statics : Statics) (old new : State) (vs : List Cell) (list : Continuation) (turn : Turn) : Type 0 where
+pub record Unanswered (db : Database) (old new : State) (vs : List Cell) (list : Continuation) (turn : Turn) : Type 0 where
   pub none : answers_left old.env vs (goals_of old list) turn ≡ []
-  pub cases : cases_of statics new ≡ cases_of statics old
+  pub cases : cases_of db new ≡ cases_of db old

@@ -10,7 +10,7 @@ use Rattle.plstack.specs.declared.frame.Resume.{Resume}
 use Rattle.plstack.specs.declared.frame.Resume.TheVariants as resumes
 use Rattle.plstack.specs.declared.frame.Frame.{Frame}
 use Rattle.plstack.specs.declared.frame.Frame.TheVariants.{Plain, Barrier, Open}
-use Rattle.plstack.specs.Places.{Statics, size, depth_of, plain, cases}
+use Rattle.plstack.specs.Places.{Database, size, depth_of, plain, cases}
 use Rattle.plstack.specs.Frames.{AreOlder}
 use Rattle.plstack.specs.State.{State, place_of, goals_in, goals_of, cases_of}
 use Rattle.plstack.specs.Opening.{Keeps}
@@ -18,7 +18,7 @@ use Rattle.plstack.specs.Opening.{Keeps}
 -- the case is a choice, and no handler
 abbrev pub IsChosen : Resume → Type 0
 IsChosen (resumes.Clauses c) = Unit {0}
-IsChosen (resumes.Copies c) = Unit {0}
+IsChosen (resumes.Walk w) = Unit {0}
 IsChosen (resumes.Answers a) = Unit {0}
 IsChosen resumes.List = Unit {0}
 IsChosen (resumes.Handle x) = ⊥
@@ -41,7 +41,7 @@ pub record ChoiceAt (frames : List Frame) (level i below : ℕ) : Type 0 where
 
 -- the cases from the frame of a number on are emptied, with so many cases below it, and there is one case more
 pub record EmptiesFrom (old new : State) (i below : ℕ) : Type 0 where
-  pub cases : (statics : Statics) → cases_of statics new ≡ plain (depth_of (reverse old.frames) - below + 1) (cases statics (goals_in old) old.env old.links old.saved (reverse (take i old.frames)))
+  pub cases : (db : Database) → cases_of db new ≡ plain (depth_of (reverse old.frames) - below + 1) (cases db (goals_in old) old.env old.links old.saved (reverse (take i old.frames)))
   pub same : new ≡ record old { frames = new.frames }
   pub older : (m : Marks) → AreOlder m (reverse (take i old.frames)) → AreOlder m (reverse new.frames)
 
@@ -51,24 +51,24 @@ pub record IsGivenUp (s : State) (i : ℕ) (m : Marks) : Type 0 where
   pub older : AreOlder m (reverse (take i s.frames))
 
 -- the choice at the level and all cases inside of it are emptied, and so is the mark
-pub record Empties (statics : Statics) (old new : State) (level : ℕ) : Type 0 where
+pub record Empties (db : Database) (old new : State) (level : ℕ) : Type 0 where
   pub inside : List Case
   pub places : List Place
   pub below : List Case
-  pub was : cases_of statics old ≡ inside ++ Choice places ∷ below
+  pub was : cases_of db old ≡ inside ++ Choice places ∷ below
   pub at : deeper below 0 ≡ level
-  pub cases : cases_of statics new ≡ emptied (Mark level ∷ inside) (Choice [] ∷ below)
+  pub cases : cases_of db new ≡ emptied (Mark level ∷ inside) (Choice [] ∷ below)
 
 -- so they are, and all stands for what it did
 pub record GivesUp (old new : State) (i below : ℕ) : Type 0 where
-  pub cases : (statics : Statics) → cases_of statics new ≡ plain (depth_of (reverse old.frames) - below + 1) (cases statics (goals_in old) old.env old.links old.saved (reverse (take i old.frames)))
+  pub cases : (db : Database) → cases_of db new ≡ plain (depth_of (reverse old.frames) - below + 1) (cases db (goals_in old) old.env old.links old.saved (reverse (take i old.frames)))
   pub keeps : Keeps old new
   pub goals : new.goals ≡ old.goals
 
 -- what a cut to a level makes of the cases: a mark of the level, or where the list to be visited names no level above this one, all that
 -- the mark gives up is emptied
 abbrev pub CutsCases : State → State → ℕ → Continuation → Type 0
-CutsCases old new level list = ((statics : Statics) → cases_of statics new ≡ Mark level ∷ cases_of statics old) ⊎ (AreAtMost level (goals_of old list) × ((statics : Statics) → Empties statics old new level))
+CutsCases old new level list = ((db : Database) → cases_of db new ≡ Mark level ∷ cases_of db old) ⊎ (AreAtMost level (goals_of old list) × ((db : Database) → Empties db old new level))
 
 -- a list is visited behind a cut to the level
 pub record Cuts (old new : State) (level : ℕ) (list : Continuation) : Type 0 where
@@ -78,7 +78,7 @@ pub record Cuts (old new : State) (level : ℕ) (list : Continuation) : Type 0 w
 
 -- no more than this is old any more, where a choice is given up: all stands for what it did
 pub record Settles (old new : State) : Type 0 where
-  pub cases : (statics : Statics) → cases_of statics new ≡ cases_of statics old
+  pub cases : (db : Database) → cases_of db new ≡ cases_of db old
   pub keeps : Keeps old new
   pub place : place_of new ≡ place_of old
   pub goals : new.goals ≡ old.goals

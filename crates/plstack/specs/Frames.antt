@@ -39,7 +39,7 @@ IsHandled h (handlers.Gather v) = IsValue h v
 -- the values of a case are those of the heap that it comes back to
 abbrev pub IsResume : Store → List Cell → Resume → Type 0
 IsResume h vs (resumes.Clauses c) = AreValues h vs
-IsResume h vs (resumes.Copies c) = IsValue h c.goal
+IsResume h vs (resumes.Walk w) = IsValue h w.goal
 IsResume h vs (resumes.Answers a) = AreValues h vs × IsTurn h vs a.turn
 IsResume h vs resumes.List = ⊤
 IsResume h vs (resumes.Handle x) = IsHandled h x

@@ -14,4 +14,5 @@ pub mod Calls
 pub mod StaticCalls
 pub mod Linking
 pub mod Trials
+pub mod Walks
 pub mod Answering

@@ -15,9 +15,9 @@ use Rattle.plstack.specs.declared.frame.Around.{Around}
 use Rattle.plstack.specs.declared.frame.Around.TheVariants as arounds
 use Rattle.plstack.specs.declared.frame.Closed.{Closed}
 use Rattle.plstack.specs.declared.frame.Closed.TheVariants as closings
-use Rattle.plstack.specs.Places.{Statics, handled, case_of, plain}
+use Rattle.plstack.specs.Places.{Database, handled, case_of, plain}
 use Rattle.plstack.specs.Frames.{IsHandled}
-use Rattle.plstack.specs.State.{State, goals_in, goals_of, place_at, cases_of, IsList, HasClauses, HasCopies, HasBranch, HasAnswers, HasCatcher, HasGatherer}
+use Rattle.plstack.specs.State.{State, goals_in, goals_of, place_at, cases_of, IsList, HasClauses, HasWalk, HasBranch, HasAnswers, HasCatcher, HasGatherer}
 
 -- values and lists stand for what they did, whatever cases are open
 pub record Keeps (old new : State) : Type 0 where
@@ -51,32 +51,32 @@ IsAround s (arounds.Handle h) = IsHandling s h
 
 -- the case that comes back to a list, and all else as it was
 pub record OpensFrame (old new : State) (l : Continuation) (r : Resume) : Type 0 where
-  pub cases : (statics : Statics) → cases_of statics new ≡ case_of statics (goals_in new) (deeper (cases_of statics old) 0) new.env (items_of new.links l) [] r ∷ cases_of statics old
+  pub cases : (db : Database) → cases_of db new ≡ case_of db (goals_in new) (deeper (cases_of db old) 0) new.env (items_of new.links l) [] r ∷ cases_of db old
   pub keeps : Keeps old new
   pub goals : new.goals ≡ old.goals
 
 -- and in it a choice with nothing left
 pub record OpensIn (old new : State) (l : Continuation) (r : Resume) : Type 0 where
-  pub cases : (statics : Statics) → cases_of statics new ≡ Choice [] ∷ case_of statics (goals_in new) (deeper (cases_of statics old) 0) new.env (items_of new.links l) [] r ∷ cases_of statics old
+  pub cases : (db : Database) → cases_of db new ≡ Choice [] ∷ case_of db (goals_in new) (deeper (cases_of db old) 0) new.env (items_of new.links l) [] r ∷ cases_of db old
   pub keeps : Keeps old new
   pub goals : new.goals ≡ old.goals
 
 -- what is closed with a case that does this
 abbrev pub closing : Resume → Closed
 closing (resumes.Clauses c) = closings.Choice
-closing (resumes.Copies c) = closings.Choice
+closing (resumes.Walk w) = closings.Choice
 closing (resumes.Answers a) = closings.Choice
 closing resumes.List = closings.Choice
 closing (resumes.Handle x) = closings.Handler
 
 -- the innermost case was closed
-abbrev pub ClosedAs : Statics → State → State → Closed → Type 0
-ClosedAs statics old new closings.Choice = (ps : List Place) × (cases_of statics old ≡ Choice ps ∷ cases_of statics new) × ((HasClauses old → ⊥) → (HasCopies old → ⊥) → (HasBranch old → ⊥) → (HasAnswers old → ⊥) → ps ≡ [])
-ClosedAs statics old new (closings.Mark l) = cases_of statics old ≡ Mark l ∷ cases_of statics new
-ClosedAs statics old new closings.Handler = (h : Handler) × (p : Place) × (cases_of statics old ≡ Handle h p ∷ cases_of statics new) × ((c r : Tree) → h ≡ Catch c r → (HasCatcher old → ⊥) → ⊥) × ((l : Tree) → h ≡ Gather l → (HasGatherer old → ⊥) → ⊥)
+abbrev pub ClosedAs : Database → State → State → Closed → Type 0
+ClosedAs db old new closings.Choice = (ps : List Place) × (cases_of db old ≡ Choice ps ∷ cases_of db new) × ((HasClauses old → ⊥) → (HasWalk old → ⊥) → (HasBranch old → ⊥) → (HasAnswers old → ⊥) → ps ≡ [])
+ClosedAs db old new (closings.Mark l) = cases_of db old ≡ Mark l ∷ cases_of db new
+ClosedAs db old new closings.Handler = (h : Handler) × (p : Place) × (cases_of db old ≡ Handle h p ∷ cases_of db new) × ((c r : Tree) → h ≡ Catch c r → (HasCatcher old → ⊥) → ⊥) × ((l : Tree) → h ≡ Gather l → (HasGatherer old → ⊥) → ⊥)
 
 -- so many choices with nothing left were closed, the innermost cases
 pub record ClosesPlain (old new : State) : Type 0 where
   pub count : ℕ
   pub some : 0 < count
-  pub was : (statics : Statics) → cases_of statics old ≡ plain count (cases_of statics new)
+  pub was : (db : Database) → cases_of db old ≡ plain count (cases_of db new)

@@ -1,13 +1,19 @@
 -- What open cases stand for.
-use Rattle.std.specs.Prelude.{ℕ, zero, suc, ◌+◌, List, [], ◌∷◌, map, take, drop, filter_map, Option, Some, None, option_map}
-use Rattle.plterm.specs.Tree.{Tree, atom, compound, trees}
+use Rattle.std.specs.Prelude.{ℕ, zero, suc, ◌+◌, List, [], ◌∷◌, ◌++◌, map, take, drop, filter_map, Option, Some, None, option_map}
+use Rattle.plterm.specs.Tree.{Tree, var, int, atom, compound, Trees, none, more, trees}
+use Rattle.plterm.specs.declared.indicator.Indicator.{Indicator}
 use Rattle.plclause.specs.Clause.{Clause}
+use Rattle.plclause.specs.Indicators.{indicator}
 use Rattle.plevent.specs.declared.update.ClauseName.{ClauseName}
+use Rattle.plevent.specs.declared.update.Living.{Living}
+use Rattle.plevent.specs.Alive.{Stamped, living, lives_as}
+use Rattle.plstore.specs.Like.{past}
+use Rattle.plstore.specs.Looking.{clause_alive}
 use Rattle.plevent.specs.declared.request.Request.TheVariants.{EraseOne}
 use Rattle.plcells.specs.declared.cell.Cell.{Cell}
 use Rattle.plcells.specs.Store.{Store, value}
 use Rattle.plsearch.specs.Types.{GoesOn, Await, Element, Asking, Place, Handler, Catch, Gather, Case, Choice, Mark, Handle}
-use Rattle.plsearch.specs.Rows.{resolve, solved}
+use Rattle.plsearch.specs.Rows.{resolve, solved, as_fact}
 use Rattle.plgenerator.specs.declared.turn.Turn.{Turn}
 use Rattle.plgenerator.specs.Answers.{left}
 use Rattle.plsearch.specs.Engine.{deeper}
@@ -17,7 +23,11 @@ use Rattle.pllinks.specs.declared.link.Link.{Link}
 use Rattle.pllinks.specs.Lists.{Goals, all_elements}
 use Rattle.pllinks.specs.Links.{items_of}
 use Rattle.plstack.specs.declared.frame.Point.{Point}
-use Rattle.plstack.specs.declared.frame.Candidate.{Candidate}
+use Rattle.plstack.specs.declared.walk.Candidate.{Candidate}
+use Rattle.plstack.specs.declared.frame.Use.{Use}
+use Rattle.plstack.specs.declared.frame.Use.TheVariants as uses
+use Rattle.plstack.specs.declared.frame.Spot.{Spot}
+use Rattle.plstack.specs.declared.frame.Spot.TheVariants as spots
 use Rattle.plstack.specs.declared.frame.Handler.{Handler as Handles}
 use Rattle.plstack.specs.declared.frame.Handler.TheVariants as handlers
 use Rattle.plstack.specs.declared.frame.Resume.{Resume}
@@ -30,9 +40,15 @@ pub record Static : Type 0 where
   pub name : List ℕ
   pub clauses : List Clause
 
--- the procedures by their places
-abbrev pub Statics : Type 0
-Statics = ℕ → Static
+-- the updates of the batches below each place of a journal
+abbrev pub Views : Type 0
+Views = ℕ → List Stamped
+
+-- where clauses are found: the procedures of the program's text, by their places and by their names, and the views
+pub record Database : Type 0 where
+  pub statics : ℕ → Static
+  pub text : Indicator → List Clause
+  pub views : Views
 
 -- the place of a list, by its items
 abbrev pub place_of_items : Goals → Env → List Item → Place
@@ -63,6 +79,66 @@ tried d n t rest x = option_map (place_asked x.erased) (resolve d n t rest x.cla
 abbrev pub candidates_left : ℕ → Env → Tree → List Element → List Candidate → List Place
 candidates_left d e t rest xs = filter_map (tried d e.count t rest) xs
 
+-- a clause, by what is done with it
+abbrev pub clause_by : Use → Clause → Clause
+clause_by uses.Call c = c
+clause_by uses.Tell c = as_fact c
+clause_by uses.Erase c = as_fact c
+
+abbrev pub erased_by : Use → ClauseName → Option ClauseName
+erased_by uses.Call x = None
+erased_by uses.Tell x = None
+erased_by uses.Erase x = Some x
+
+-- a clause of the program's text, and one that is alive, as candidates
+abbrev pub text_candidate : Use → Clause → Candidate
+text_candidate u c = record { clause = clause_by u c; erased = None }
+
+abbrev pub candidate_of : Use → Living → Candidate
+candidate_of u x = record { clause = clause_by u x.clause; erased = erased_by u x.name }
+
+-- the head for which clauses are looked up: the goal, or the head of the clause that is asked for
+abbrev pub first_or : Tree → Trees → Tree
+first_or t none = t
+first_or t (more h ts) = h
+
+abbrev pub head_told : Tree → Tree
+head_told (var x) = var x
+head_told (int i) = int i
+head_told (atom f) = atom f
+head_told (compound f ts) = first_or (compound f ts) ts
+
+abbrev pub head_in : Use → Tree → Tree
+head_in uses.Call t = t
+head_in uses.Tell t = head_told t
+head_in uses.Erase t = head_told t
+
+-- the clause of a name, if it is alive
+abbrev pub named_so : ClauseName → Option Clause → List Living
+named_so x None = []
+named_so x (Some c) = lives_as x c ∷ []
+
+abbrev pub alive_as : List Stamped → ClauseName → List Living
+alive_as us x = named_so x (clause_alive x us)
+
+-- it, and those of a procedure that are behind it
+abbrev pub onward : List Stamped → Indicator → ClauseName → List Living
+onward us p x = alive_as us x ++ past x (living us p)
+
+abbrev pub onward_if : List Stamped → Indicator → Option ClauseName → List Living
+onward_if us p None = []
+onward_if us p (Some x) = onward us p x
+
+-- what is left of a walk of the goal t, as candidates
+abbrev pub left_at : Database → Use → Tree → Spot → List Candidate
+left_at db u t (spots.Text k) = map (text_candidate u) (drop k (db.text (indicator (head_in u t))))
+left_at db u t (spots.At g x) = map (candidate_of u) (onward (db.views g) (indicator (head_in u t)) x)
+left_at db u t (spots.Known g x y) = map (candidate_of u) (alive_as (db.views g) x ++ onward_if (db.views g) (indicator (head_in u t)) y)
+
+abbrev pub left_if : Database → Use → Tree → Option Spot → List Candidate
+left_if db u t None = []
+left_if db u t (Some x) = left_at db u t x
+
 -- what is left of a call of a predicate of several answers: over the values of its arguments, before a list, by a turn
 abbrev pub answers_left : Env → List Cell → List Element → Turn → List Place
 answers_left e vs rest turn = filter_map (solved rest e.count) (left e.heap vs turn)
@@ -75,7 +151,7 @@ handled h (handlers.Gather v) = Gather (value h v)
 -- how many values a case keeps
 abbrev pub kept : Resume → ℕ
 kept (resumes.Clauses c) = c.count
-kept (resumes.Copies c) = 0
+kept (resumes.Walk w) = 0
 kept (resumes.Answers a) = a.count
 kept resumes.List = 0
 kept (resumes.Handle x) = 0
@@ -85,28 +161,28 @@ abbrev pub kept_values : List Cell → Point → Resume → List Cell
 kept_values saved p r = take (kept r) (drop p.marks.saved saved)
 
 -- the case at the level d, of the environment that it comes back to, by the items of its list and the values that it keeps
-abbrev pub case_of : Statics → Goals → ℕ → Env → List Item → List Cell → Resume → Case
-case_of statics code d e xs vs (resumes.Clauses c) = Choice (places_left d e (called e.heap (statics c.procedure).name vs) (all_elements code e xs) (drop c.next (statics c.procedure).clauses))
-case_of statics code d e xs vs (resumes.Copies c) = Choice (candidates_left d e (value e.heap c.goal) (all_elements code e xs) (drop c.next c.clauses.items))
-case_of statics code d e xs vs (resumes.Answers a) = Choice (answers_left e vs (all_elements code e xs) a.turn)
-case_of statics code d e xs vs resumes.List = Choice (place_of_items code e xs ∷ [])
-case_of statics code d e xs vs (resumes.Handle x) = Handle (handled e.heap x) (place_of_items code e xs)
+abbrev pub case_of : Database → Goals → ℕ → Env → List Item → List Cell → Resume → Case
+case_of db code d e xs vs (resumes.Clauses c) = Choice (places_left d e (called e.heap (db.statics c.procedure).name vs) (all_elements code e xs) (drop c.next (db.statics c.procedure).clauses))
+case_of db code d e xs vs (resumes.Walk w) = Choice (candidates_left d e (value e.heap w.goal) (all_elements code e xs) (left_at db w.uses (value e.heap w.goal) w.spot))
+case_of db code d e xs vs (resumes.Answers a) = Choice (answers_left e vs (all_elements code e xs) a.turn)
+case_of db code d e xs vs resumes.List = Choice (place_of_items code e xs ∷ [])
+case_of db code d e xs vs (resumes.Handle x) = Handle (handled e.heap x) (place_of_items code e xs)
 
 abbrev pub plain : ℕ → List Case → List Case
 plain zero below = below
 plain (suc n) below = Choice [] ∷ plain n below
 
 -- the cases of a frame, over those below it
-abbrev pub opened : Statics → Goals → Env → List Link → List Cell → Frame → List Case → List Case
-opened statics code e links saved (Plain n) below = plain n below
-opened statics code e links saved (Barrier l) below = Mark l ∷ below
-opened statics code e links saved (Open p r) below =
-    case_of statics code (deeper below 0) (cut p.marks.env e) (items_of links p.list) (kept_values saved p r) r ∷ below
+abbrev pub opened : Database → Goals → Env → List Link → List Cell → Frame → List Case → List Case
+opened db code e links saved (Plain n) below = plain n below
+opened db code e links saved (Barrier l) below = Mark l ∷ below
+opened db code e links saved (Open p r) below =
+    case_of db code (deeper below 0) (cut p.marks.env e) (items_of links p.list) (kept_values saved p r) r ∷ below
 
 -- of frames, the newest first
-abbrev pub cases : Statics → Goals → Env → List Link → List Cell → List Frame → List Case
-cases statics code e links saved [] = []
-cases statics code e links saved (f ∷ fs) = opened statics code e links saved f (cases statics code e links saved fs)
+abbrev pub cases : Database → Goals → Env → List Link → List Cell → List Frame → List Case
+cases db code e links saved [] = []
+cases db code e links saved (f ∷ fs) = opened db code e links saved f (cases db code e links saved fs)
 
 -- how many cases they are
 abbrev pub size : Frame → ℕ

@@ -24,7 +24,7 @@ use Rattle.plstack.specs.declared.frame.Marks.{Marks}
 use Rattle.plstack.specs.declared.frame.Resume.TheVariants as resumes
 use Rattle.plstack.specs.declared.frame.Frame.{Frame}
 use Rattle.plstack.specs.declared.frame.Frame.TheVariants.{Open, Plain}
-use Rattle.plstack.specs.Places.{Statics, place_asked, handled, plain, cases, depth_of}
+use Rattle.plstack.specs.Places.{Database, place_asked, handled, plain, cases, depth_of}
 use Rattle.plstack.specs.Frames.{AreOlder, IsHandled, AreFrames}
 
 -- the program's code, with the names that it was compiled with; the environment; the links; the values that open cases keep; the frames,
@@ -53,8 +53,12 @@ abbrev pub place_of : State → Place
 place_of s = place_at s s.goals
 
 -- the open cases, the innermost first
-unfoldable pub cases_of : Statics → State → List Case
-cases_of statics s = cases statics (goals_in s) s.env s.links s.saved (reverse s.frames)
+unfoldable pub cases_of : Database → State → List Case
+cases_of db s = cases db (goals_in s) s.env s.links s.saved (reverse s.frames)
+
+-- how many there are
+abbrev pub depth_in : State → ℕ
+depth_in s = depth_of (reverse s.frames)
 
 -- a list that is there, with its slots and values
 abbrev pub IsList : State → Continuation → Type 0
@@ -78,7 +82,7 @@ pub record Extends (old new : State) : Type 0 where
   pub frames : new.frames ≡ old.frames
   pub goals : new.goals ≡ old.goals
   pub visited : goals_of new new.goals ≡ goals_of old old.goals
-  pub cases : (statics : Statics) → cases_of statics new ≡ cases_of statics old
+  pub cases : (db : Database) → cases_of db new ≡ cases_of db old
   pub lists : (l : Continuation) → IsList old l → IsList new l × (goals_of new l ≡ goals_of old l)
   pub values : (v : Cell) → IsValue old.env.heap v → IsValue new.env.heap v × (value new.env.heap v ≡ value old.env.heap v)
 
@@ -92,7 +96,7 @@ pub record AddsList (old new : State) (l : Continuation) (es : List Element) : T
 
 -- more cases, and all else as it was
 pub record Opens (old new : State) (more : List Case) : Type 0 where
-  pub cases : (statics : Statics) → cases_of statics new ≡ more ++ cases_of statics old
+  pub cases : (db : Database) → cases_of db new ≡ more ++ cases_of db old
   pub values : (v : Cell) → IsValue old.env.heap v → IsValue new.env.heap v × (value new.env.heap v ≡ value old.env.heap v)
   pub lists : (l : Continuation) → IsList old l → IsList new l × (goals_of new l ≡ goals_of old l)
   pub count : new.env.count ≡ old.env.count
@@ -105,7 +109,7 @@ pub record UnifiesTerms (old new : State) (t u : Tree) : Type 0 where
   pub is : unify t u ≡ Some unifier
   pub values : (v : Cell) → IsValue old.env.heap v → IsValue new.env.heap v × (value new.env.heap v ≡ bind unifier (value old.env.heap v))
   pub lists : (l : Continuation) → IsList old l → IsList new l × (goals_of new l ≡ bind_goals unifier (goals_of old l))
-  pub cases : (statics : Statics) → cases_of statics new ≡ cases_of statics old
+  pub cases : (db : Database) → cases_of db new ≡ cases_of db old
   pub frames : new.frames ≡ old.frames
   pub count : new.env.count ≡ old.env.count
   pub code : new.code ≡ old.code
@@ -120,27 +124,27 @@ pub record Solves (old new : State) (e : Equation) : Type 0 where
   pub unifier : ℕ → Tree
   pub is : unify (left_of old.env.heap old.env.count e) (right_of old.env.heap old.env.count e) ≡ Some unifier
   pub lists : (l : Continuation) → IsList old l → IsList new l × (goals_of new l ≡ bind_goals unifier (goals_of old l))
-  pub cases : (statics : Statics) → cases_of statics new ≡ cases_of statics old
+  pub cases : (db : Database) → cases_of db new ≡ cases_of db old
   pub frames : new.frames ≡ old.frames
   pub count : new.env.count ≡ old.env.count + e.new
   pub code : new.code ≡ old.code
 
 -- so many more choices with nothing left, whatever the others are
 pub record CountsUp (n : ℕ) (old new : List Frame) : Type 0 where
-  pub cases : (statics : Statics) (code : Goals) (e : Env) (links : List Link) (saved : List Cell) → cases statics code e links saved new ≡ plain n (cases statics code e links saved old)
+  pub cases : (db : Database) (code : Goals) (e : Env) (links : List Link) (saved : List Cell) → cases db code e links saved new ≡ plain n (cases db code e links saved old)
   pub frames : (code : Goals) (e : Env) (links : List Link) (saved : List Cell) → AreFrames code e links saved old → AreFrames code e links saved new
   pub older : (m : Marks) → AreOlder m old → AreOlder m new
   pub depth : depth_of new ≡ depth_of old + n
 
--- what the innermost case is: a choice of the further clauses of a static or of a dynamic procedure, of the further answers of a
+-- what the innermost case is: a choice of the further clauses of a static procedure, of those of a walk, of the further answers of a
 -- predicate, or of a list, a choice with nothing left, or a handler, of a ball or of what was kept
 abbrev pub IsClauses : Frame → Type 0
 IsClauses (Open p (resumes.Clauses c)) = Unit {0}
 IsClauses f = ⊥
 
-abbrev pub IsCopies : Frame → Type 0
-IsCopies (Open p (resumes.Copies c)) = Unit {0}
-IsCopies f = ⊥
+abbrev pub IsWalk : Frame → Type 0
+IsWalk (Open p (resumes.Walk w)) = Unit {0}
+IsWalk f = ⊥
 
 abbrev pub IsAnswers : Frame → Type 0
 IsAnswers (Open p (resumes.Answers a)) = Unit {0}
@@ -181,8 +185,8 @@ BeginsWith Is (f ∷ fs) = Is f
 abbrev pub HasClauses : State → Type 0
 HasClauses s = BeginsWith IsClauses (reverse s.frames)
 
-abbrev pub HasCopies : State → Type 0
-HasCopies s = BeginsWith IsCopies (reverse s.frames)
+abbrev pub HasWalk : State → Type 0
+HasWalk s = BeginsWith IsWalk (reverse s.frames)
 
 abbrev pub HasAnswers : State → Type 0
 HasAnswers s = BeginsWith IsAnswers (reverse s.frames)
@@ -203,33 +207,33 @@ abbrev pub HasGatherer : State → Type 0
 HasGatherer s = BeginsWith IsGatherer (reverse s.frames)
 
 -- the next place of the innermost choice is visited
-pub record Retries (statics : Statics) (old new : State) : Type 0 where
+pub record Retries (db : Database) (old new : State) : Type 0 where
   pub others : List Place
   pub older : List Case
-  pub was : cases_of statics old ≡ Choice (place_of new ∷ others) ∷ older
-  pub cases : cases_of statics new ≡ Choice others ∷ older
+  pub was : cases_of db old ≡ Choice (place_of new ∷ others) ∷ older
+  pub cases : cases_of db new ≡ Choice others ∷ older
 
 -- the next place of the innermost choice is the visited list, before which this clause is to be erased
-pub record RetriesBy (statics : Statics) (old new : State) (erased : Option ClauseName) : Type 0 where
+pub record RetriesBy (db : Database) (old new : State) (erased : Option ClauseName) : Type 0 where
   pub others : List Place
   pub older : List Case
-  pub was : cases_of statics old ≡ Choice (place_asked erased (place_of new) ∷ others) ∷ older
-  pub cases : cases_of statics new ≡ Choice others ∷ older
+  pub was : cases_of db old ≡ Choice (place_asked erased (place_of new) ∷ others) ∷ older
+  pub cases : cases_of db new ≡ Choice others ∷ older
 
 -- the innermost case is this handler, and all is as it was at its opening
 pub record AtHandler (s : State) (x : Handler) (list : Continuation) : Type 0 where
-  pub below : Statics → List Case
-  pub cases : (statics : Statics) → cases_of statics s ≡ Handle (handled s.env.heap x) (place_at s list) ∷ below statics
+  pub below : Database → List Case
+  pub cases : (db : Database) → cases_of db s ≡ Handle (handled s.env.heap x) (place_at s list) ∷ below db
   pub there : IsHandled s.env.heap x
   pub list_there : IsList s list
   pub has : HasHandler s
 
 -- the innermost case was a handler, and a list is visited in a choice with nothing left in its place
 pub record Recovers (old new : State) (list : Continuation) : Type 0 where
-  pub cases : (statics : Statics) (h : Case) (below : List Case) → cases_of statics old ≡ h ∷ below → cases_of statics new ≡ Choice [] ∷ below
+  pub cases : (db : Database) (h : Case) (below : List Case) → cases_of db old ≡ h ∷ below → cases_of db new ≡ Choice [] ∷ below
   pub place : place_of new ≡ place_at old list
 
 -- the innermost case was a handler, and is closed, and a list is visited
 pub record Leaves (old new : State) (list : Continuation) : Type 0 where
-  pub cases : (statics : Statics) (h : Case) (below : List Case) → cases_of statics old ≡ h ∷ below → cases_of statics new ≡ below
+  pub cases : (db : Database) (h : Case) (below : List Case) → cases_of db old ≡ h ∷ below → cases_of db new ≡ below
   pub place : place_of new ≡ place_at old list

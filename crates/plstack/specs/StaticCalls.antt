@@ -4,7 +4,7 @@ use Rattle.plterm.specs.Tree.{Tree}
 use Rattle.plterm.specs.declared.indicator.Indicator.{Indicator}
 use Rattle.plsubst.specs.Subst.{bind}
 use Rattle.plclause.specs.Clause.{Clause}
-use Rattle.plprogram.specs.Program.{Program}
+use Rattle.plprogram.specs.Program.{Program, clauses_for}
 use Rattle.plcells.specs.declared.cell.Cell.{Cell}
 use Rattle.plcells.specs.Store.{value}
 use Rattle.plsearch.specs.Types.{Place, Case, Choice}
@@ -29,7 +29,7 @@ use Rattle.plstack.specs.declared.frame.Frame.{Frame}
 use Rattle.plstack.specs.declared.frame.Frame.TheVariants.{Open}
 use Rattle.plstack.specs.declared.fit.Found.{Found}
 use Rattle.plstack.specs.declared.fit.Hit.{Hit}
-use Rattle.plstack.specs.Places.{Static, Statics, called, places_left, kept_values}
+use Rattle.plstack.specs.Places.{Static, Views, Database, called, places_left, kept_values}
 use Rattle.plstack.specs.Fits.{AreOwn, Finds}
 use Rattle.plstack.specs.State.{State, goals_in, goals_of, place_of, cases_of, CountsUp, HasClauses, IsList}
 use Rattle.plstack.specs.Calls.{places_of}
@@ -38,13 +38,17 @@ abbrev pub static_of : Indicator × List Clause → Static
 static_of e = record { name = e.0.name; clauses = e.1 }
 
 -- the procedures of a program, by their places
-abbrev pub statics_of : Program → Statics
+abbrev pub statics_of : Program → ℕ → Static
 statics_of P i = static_of (get_or P.procedures i (record { name = []; arity = 0 }, []))
 
+-- with views
+abbrev pub database_of : Program → Views → Database
+database_of P v = record { statics = statics_of P; text = clauses_for P; views = v }
+
 -- the procedures of a program's code, by their places
-pub record AreStatics (m : Compiled) (statics : Statics) : Type 0 where
-  pub own : (i : ℕ) → i < length m.procedures → AreOwn m.text (statics i).name (get_or m.procedures i []) (statics i).clauses
-  pub none : (i : ℕ) → length m.procedures ≤ i → (statics i).clauses ≡ []
+pub record AreStatics (m : Compiled) (db : Database) : Type 0 where
+  pub own : (i : ℕ) → i < length m.procedures → AreOwn m.text (db.statics i).name (get_or m.procedures i []) (db.statics i).clauses
+  pub none : (i : ℕ) → length m.procedures ≤ i → (db.statics i).clauses ≡ []
 
 -- the innermost case is this call
 pub record IsCalling (s : State) (p : Point) (c : Clauses) : Type 0 where
@@ -58,12 +62,12 @@ pub record AtCall (s : State) (p : Point) (c : Clauses) : Type 0 where
   pub list : IsList s p.list
 
 -- the goal of a call, as things were at its opening
-abbrev pub goal_at : Statics → State → Point → Clauses → Tree
-goal_at statics s p c = called (cut p.marks.env s.env).heap (statics c.procedure).name (kept_values s.saved p (resumes.Clauses c))
+abbrev pub goal_at : Database → State → Point → Clauses → Tree
+goal_at db s p c = called (cut p.marks.env s.env).heap (db.statics c.procedure).name (kept_values s.saved p (resumes.Clauses c))
 
 -- what a call has left by some clauses, as a case of the level d
-abbrev pub further : Statics → State → ℕ → Point → Clauses → List Clause → List Place
-further statics s d p c cs = places_left d (cut p.marks.env s.env) (goal_at statics s p c) (all_elements (goals_in s) (cut p.marks.env s.env) (items_of s.links p.list)) cs
+abbrev pub further : Database → State → ℕ → Point → Clauses → List Clause → List Place
+further db s d p c cs = places_left d (cut p.marks.env s.env) (goal_at db s p c) (all_elements (goals_in s) (cut p.marks.env s.env) (items_of s.links p.list)) cs
 
 -- the clauses from a number on, if there is one
 abbrev pub onward : Option ℕ → List Clause → List Clause
@@ -72,13 +76,13 @@ onward (Some i) cs = drop i cs
 
 -- a clause of the innermost call fits, the first that is left: it has slots of its own, and the places left are that of its body and those
 -- of the clauses behind it
-pub record Hits (statics : Statics) (old new : State) (p : Point) (c : Clauses) (hit : Hit) : Type 0 where
+pub record Hits (db : Database) (old new : State) (p : Point) (c : Clauses) (hit : Hit) : Type 0 where
   pub clause : Clause
   pub code : IsCodeOf old.code.text hit.clause clause
   pub slots : hit.base + hit.clause.variables ≤ length new.env.slots
-  pub left : (d : ℕ) → further statics new d p c (drop c.next (statics c.procedure).clauses)
+  pub left : (d : ℕ) → further db new d p c (drop c.next (db.statics c.procedure).clauses)
       ≡ record { goals = before_rest (is_true clause.body) d (bind (over new.env hit.base) clause.body) (goals_of new p.list); variables = new.env.count }
-      ∷ further statics new d p c (onward hit.next (statics c.procedure).clauses)
+      ∷ further db new d p c (onward hit.next (db.statics c.procedure).clauses)
 
 -- what was put for variables is in each list
 pub record Binds (old new : State) : Type 0 where
@@ -86,10 +90,10 @@ pub record Binds (old new : State) : Type 0 where
   pub lists : (l : Continuation) → IsList old l → IsList new l × (goals_of new l ≡ bind_goals unifier (goals_of old l))
 
 -- of the innermost case, a call, the clauses from a number on are left
-pub record GoesOn (statics : Statics) (old new : State) (p : Point) (c : Clauses) (next : Option ℕ) : Type 0 where
+pub record GoesOn (db : Database) (old new : State) (p : Point) (c : Clauses) (next : Option ℕ) : Type 0 where
   pub below : List Case
-  pub was : cases_of statics old ≡ Choice (further statics old (deeper below 0) p c (drop c.next (statics c.procedure).clauses)) ∷ below
-  pub cases : cases_of statics new ≡ Choice (further statics old (deeper below 0) p c (onward next (statics c.procedure).clauses)) ∷ below
+  pub was : cases_of db old ≡ Choice (further db old (deeper below 0) p c (drop c.next (db.statics c.procedure).clauses)) ∷ below
+  pub cases : cases_of db new ≡ Choice (further db old (deeper below 0) p c (onward next (db.statics c.procedure).clauses)) ∷ below
 
 -- the first clause that fits, with the next one that may
 pub record FindsHit (old new : Env) (t : Tree) (key : Key) (ks : List ClauseCode) (xs : List Clause) (from : ℕ) (hit : Hit) : Type 0 where
@@ -102,13 +106,13 @@ pub record FindsHit (old new : Env) (t : Tree) (key : Key) (ks : List ClauseCode
 -- the case of a call is opened, and no clause is tried
 pub record OpensCall (old new : State) (procedure : ℕ) (values : List Cell) (list : Continuation) : Type 0 where
   pub has : HasClauses new
-  pub cases : (statics : Statics) → cases_of statics new ≡ Choice (places_of statics old (called old.env.heap (statics procedure).name values) list (statics procedure).clauses) ∷ cases_of statics old
+  pub cases : (db : Database) → cases_of db new ≡ Choice (places_of db old (called old.env.heap (db.statics procedure).name values) list (db.statics procedure).clauses) ∷ cases_of db old
   pub place : place_of new ≡ place_of old
   pub code : new.code ≡ old.code
 
 -- a clause of the innermost call is entered: its body is visited before a list, and the clauses behind it are left
-pub record Enters (statics : Statics) (old new : State) (p : Point) (c : Clauses) (hit : Hit) (behind : ℕ) : Type 0 where
-  pub goes : GoesOn statics old new p c hit.next
+pub record Enters (db : Database) (old new : State) (p : Point) (c : Clauses) (hit : Hit) (behind : ℕ) : Type 0 where
+  pub goes : GoesOn db old new p c hit.next
   pub place : (x : Clause) → IsCodeOf old.code.text hit.clause x → place_of new ≡ record {
     goals = before_rest (is_true x.body) (deeper goes.below 0) (bind (over old.env hit.base) x.body) (goals_of old (alone behind));
     variables = old.env.count;
@@ -121,12 +125,12 @@ body_at hit behind level =
     else record { run = record { position = hit.clause.body; owed = 0; base = hit.base; «end» = hit.base + hit.clause.variables; level = level }; rest = behind }
 
 -- the first clause of a procedure that fits a goal's values, by their key
-pub record FitsFirst (m : Compiled) (statics : Statics) (procedure : ℕ) (vs : List Cell) (old new : Env) (hit : Hit) : Type 0 where
+pub record FitsFirst (m : Compiled) (db : Database) (procedure : ℕ) (vs : List Cell) (old new : Env) (hit : Hit) : Type 0 where
   pub key : Key
   pub key_is : IsFirstKey old.heap.names key (map (value old.heap) vs)
   pub within : procedure < length m.procedures
   pub laid : IsLaid m.text.names m.text.nodes
-  pub finds : FindsHit old new (called old.heap (statics procedure).name vs) key (get_or m.procedures procedure []) (statics procedure).clauses 0 hit
+  pub finds : FindsHit old new (called old.heap (db.statics procedure).name vs) key (get_or m.procedures procedure []) (db.statics procedure).clauses 0 hit
 
 -- the case of the clauses of a call from a number on, or one more choice with nothing left
 abbrev pub PushesCall : Point → Clauses → Option ℕ → List Frame → List Frame → Type 0

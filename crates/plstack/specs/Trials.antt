@@ -1,5 +1,5 @@
--- The clauses of a dynamic procedure, tried in their order.
-use Rattle.std.specs.Prelude.{◌≡◌, ℕ, ◌+◌, ◌<◌, Bool, List, [], ◌∷◌, ◌++◌, length, take, drop, reverse, Some}
+-- A clause that is copied and tried.
+use Rattle.std.specs.Prelude.{◌≡◌, ℕ, ◌+◌, ◌<◌, Bool, List, ◌++◌, length, reverse, Some}
 use Rattle.plterm.specs.Tree.{Tree, var}
 use Rattle.plsubst.specs.Subst.{bind, shift}
 use Rattle.plsubst.specs.Unify.{unify}
@@ -7,18 +7,14 @@ use Rattle.platoms.specs.Names.{Extends as ExtendsNames}
 use Rattle.plclause.specs.Clause.{Clause}
 use Rattle.plcells.specs.declared.cell.Cell.{Cell}
 use Rattle.plcells.specs.Store.{IsValue, AreValues, at, value}
-use Rattle.plsearch.specs.Types.{Element}
 use Rattle.plsearch.specs.Rows.{before_rest}
 use Rattle.plenv.specs.Env.{Env, variable, cut, renamed, IsMark, IsWithin}
 use Rattle.plenv.specs.Changes.{Extends}
 use Rattle.pllinks.specs.declared.link.Link.{Link}
 use Rattle.pllinks.specs.declared.link.Continuation.{Continuation}
 use Rattle.pllinks.specs.Links.{IsChain}
-use Rattle.plstack.specs.declared.copy.Fit.{Fit}
-use Rattle.plstack.specs.declared.copy.Opened.{Opened}
-use Rattle.plstack.specs.declared.frame.Candidate.{Candidate}
+use Rattle.plstack.specs.declared.walk.Opened.{Opened}
 use Rattle.plstack.specs.declared.frame.Marks.{Marks}
-use Rattle.plstack.specs.Places.{candidates_left}
 use Rattle.plstack.specs.Frames.{AreOlder}
 use Rattle.plstack.specs.State.{State, IsState, goals_of, IsList}
 
@@ -43,18 +39,6 @@ pub record Resolved (old new : Env) (t : Tree) (x : Clause) (body : Cell) : Type
   pub body_is : value new.heap body ≡ bind unifier (shift old.count x.body)
   pub slots : length new.slots ≡ length old.slots
   pub count : new.count ≡ old.count + x.variables
-
--- of some candidates, from a place on, the first one that fits
-pub record FindsCopy (old new : Env) (t : Tree) (xs : List Candidate) (from : ℕ) (found : Fit) : Type 0 where
-  pub candidate : Candidate
-  pub is : take 1 (drop found.place xs) ≡ candidate ∷ []
-  pub within : found.place < length xs
-  pub resolved : Resolved old new t candidate.clause found.body
-  pub before : (d : ℕ) (es : List Element) → candidates_left d old t es (drop from xs) ≡ candidates_left d old t es (drop found.place xs)
-
--- no candidate fits from a place on
-abbrev pub FindsNoCopy : Env → Tree → List Candidate → ℕ → Type 0
-FindsNoCopy old t xs from = (d : ℕ) (es : List Element) → candidates_left d old t es (drop from xs) ≡ []
 
 -- a list of a body's value before another, unless the body is no goal
 pub record ListsBody (old new : List Link) (none : Bool) (level : ℕ) (body : Cell) (rest list : Continuation) : Type 0 where

@@ -5,14 +5,14 @@ ghost use Rattle.plsearch.specs.Types.{Choice};
 ghost use Rattle.plgenerator.specs.Answers.{IsTurn};
 ghost use Rattle.plenv.specs.Changes.{Stays};
 ghost use Rattle.plenv.specs.Env.{IsEnv};
-ghost use Rattle.plstack.specs.Places.{Statics};
+ghost use Rattle.plstack.specs.Places.{Database};
 ghost use Rattle.plstack.specs.State.{cases_of, HasAnswers, IsList, Retries};
 ghost use Rattle.plstack.specs.Calls.{StaysAt};
 ghost use Rattle.plstack.specs.Trials.{IsMarked, IsOpened};
 ghost use Rattle.plstack.specs.Answering.{Answered, PushesAnswers, TakesAnswer, TakesNone, Unanswered};
 
 use crate::call::keep_values;
-use crate::copy::Opened;
+use crate::walk::Opened;
 use crate::frame::{Answers, Frame, Point, Resume};
 use crate::open::{count_up, deeper, push_frame};
 use crate::stack::Stack;
@@ -112,8 +112,8 @@ impl Stack {
         requires few { length values.now < 2 ^ 32 }
         requires turn { IsTurn self.old.env.heap values.now turn }
         requires rest { IsList self.old rest }
-        ensures yes { IfOk result (λ yes. yes ≡ true → (statics : Statics) → Answered statics self.old self.new values.now rest turn) }
-        ensures no { IfOk result (λ yes. yes ≡ false → (statics : Statics) → Unanswered statics self.old self.new values.now rest turn) }
+        ensures yes { IfOk result (λ yes. yes ≡ true → (db : Database) → Answered db self.old self.new values.now rest turn) }
+        ensures no { IfOk result (λ yes. yes ≡ false → (db : Database) → Unanswered db self.old self.new values.now rest turn) }
         ensures code { self.new.code ≡ self.old.code }
         ensures err { OnErr result (StaysAt self.old self.new) }
     {
@@ -141,8 +141,8 @@ impl Stack {
         requires few { length values.now < 2 ^ 32 }
         requires turn { IsTurn self.old.env.heap values.now turn }
         requires list { IsList self.old point.list }
-        ensures some { IfOk result (λ o. IsSome o → (statics : Statics) → Answered statics self.old self.new values.now point.list turn) }
-        ensures none { IfOk result (λ o. IfNone o ((statics : Statics) → Unanswered statics self.old self.new values.now point.list turn)) }
+        ensures some { IfOk result (λ o. IsSome o → (db : Database) → Answered db self.old self.new values.now point.list turn) }
+        ensures none { IfOk result (λ o. IfNone o ((db : Database) → Unanswered db self.old self.new values.now point.list turn)) }
         ensures opened { IfOk result (λ o. IfSome o (λ opened. opened.is_last ≡ true → IsOpened self.new opened)) }
         ensures code { self.new.code ≡ self.old.code }
         ensures err { OnErr result (StaysAt self.old self.new) }
@@ -166,9 +166,9 @@ impl Stack {
     /// whether one fits. Where none does the case is closed; after an `Err` it stays.
     pub fn retry_answers(&mut self, alloc: Global) -> Result<bool, AllocError>
         requires { HasAnswers self.old }
-        ensures yes { IfOk result (λ yes. yes ≡ true → (statics : Statics) → Retries statics self.old self.new) }
-        ensures no { IfOk result (λ yes. yes ≡ false → (statics : Statics) → cases_of statics self.old ≡ Choice [] ∷ cases_of statics self.new) }
-        ensures err { OnErr result ((statics : Statics) → cases_of statics self.new ≡ cases_of statics self.old) }
+        ensures yes { IfOk result (λ yes. yes ≡ true → (db : Database) → Retries db self.old self.new) }
+        ensures no { IfOk result (λ yes. yes ≡ false → (db : Database) → cases_of db self.old ≡ Choice [] ∷ cases_of db self.new) }
+        ensures err { OnErr result ((db : Database) → cases_of db self.new ≡ cases_of db self.old) }
         ensures code { self.new.code ≡ self.old.code }
     {
         match self.reopen_answers(alloc)? {
@@ -183,10 +183,10 @@ impl Stack {
     /// The same, where less could be old if no answer is left.
     fn reopen_answers(&mut self, alloc: Global) -> Result<Option<Opened>, AllocError>
         requires { HasAnswers self.old }
-        ensures some { IfOk result (λ o. IsSome o → (statics : Statics) → Retries statics self.old self.new) }
-        ensures none { IfOk result (λ o. IfNone o ((statics : Statics) → cases_of statics self.old ≡ Choice [] ∷ cases_of statics self.new)) }
+        ensures some { IfOk result (λ o. IsSome o → (db : Database) → Retries db self.old self.new) }
+        ensures none { IfOk result (λ o. IfNone o ((db : Database) → cases_of db self.old ≡ Choice [] ∷ cases_of db self.new)) }
         ensures opened { IfOk result (λ o. IfSome o (λ opened. opened.is_last ≡ true → IsOpened self.new opened)) }
-        ensures err { OnErr result ((statics : Statics) → cases_of statics self.new ≡ cases_of statics self.old) }
+        ensures err { OnErr result ((db : Database) → cases_of db self.new ≡ cases_of db self.old) }
         ensures code { self.new.code ≡ self.old.code }
     {
         let Some(Frame::Open(point, Resume::Answers(answers))) = self.frames.pop() else {

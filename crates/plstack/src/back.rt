@@ -1,7 +1,7 @@
 //! Coming back to open cases.
 ghost use Rattle.std.specs.Prelude.{◌≡◌, reverse};
 ghost use Rattle.plenv.specs.Env.{IsWithin};
-ghost use Rattle.plstack.specs.Places.{Statics};
+ghost use Rattle.plstack.specs.Places.{Database};
 ghost use Rattle.plstack.specs.Frames.{AreOlder};
 ghost use Rattle.plstack.specs.State.{cases_of, AtHandler, Catches, Gathers, HasBranch, HasCatcher, HasGatherer, HasHandler, IsList, Leaves, Recovers, Retries};
 
@@ -15,7 +15,7 @@ impl Stack {
     /// Comes back to the innermost choice, which has one list to be tried: visits it.
     pub fn take_branch(&mut self)
         requires { HasBranch self.old }
-        ensures retries { (statics : Statics) → Retries statics self.old self.new }
+        ensures retries { (db : Database) → Retries db self.old self.new }
         ensures code { self.new.code ≡ self.old.code }
     {
         let marks = self.come_back();
@@ -25,7 +25,7 @@ impl Stack {
     /// Visits the list of the innermost choice: its marks.
     fn come_back(&mut self) -> Marks
         requires { HasBranch self.old }
-        ensures retries { (statics : Statics) → Retries statics self.old self.new }
+        ensures retries { (db : Database) → Retries db self.old self.new }
         ensures code { self.new.code ≡ self.old.code }
         ensures within { IsWithin result.env self.new.env }
         ensures older { AreOlder result (reverse self.new.frames) }
@@ -45,7 +45,7 @@ impl Stack {
     /// Goes back to where the innermost case was opened, which is a handler and stays open: the handler, and the list behind its goal.
     pub fn rewind(&mut self) -> Handling
         requires { HasHandler self.old }
-        ensures cases { (statics : Statics) → cases_of statics self.new ≡ cases_of statics self.old }
+        ensures cases { (db : Database) → cases_of db self.new ≡ cases_of db self.old }
         ensures at { AtHandler self.new result.handler result.list }
         ensures catches { HasCatcher self.old → Catches result.handler }
         ensures gathers { HasGatherer self.old → Gathers result.handler }

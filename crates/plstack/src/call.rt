@@ -11,7 +11,7 @@ ghost use Rattle.platoms.specs.Names.{Extends as ExtendsNames};
 ghost use Rattle.plenv.specs.Env.{cut, over, renamed, IsEnv, IsMark, IsWithin};
 ghost use Rattle.plenv.specs.Changes.{Keeps};
 ghost use Rattle.pllinks.specs.Links.{alone};
-ghost use Rattle.plstack.specs.Places.{Statics, called};
+ghost use Rattle.plstack.specs.Places.{Database, called};
 ghost use Rattle.plstack.specs.Frames.{AreOlder};
 ghost use Rattle.plstack.specs.Fits.{FindsNone};
 ghost use Rattle.plstack.specs.Attempts.{IsAttempt};
@@ -87,12 +87,12 @@ fn fit_first(
     mark: Mark,
 ) -> Result<Option<Hit>, AllocError>
     requires names { ExtendsNames code.now.text.names env.old.heap.names }
-    requires statics { (statics : Statics) × AreStatics code.now statics }
+    requires statics { (db : Database) × AreStatics code.now db }
     requires values { AreValues env.old.heap goal.now.values.now }
     requires mark { IsMark mark env.old }
     requires now { cut mark env.old ≡ env.old }
-    ensures some { IfOk result (λ o. IfSome o (λ hit. (statics : Statics) → AreStatics code.now statics → FitsFirst code.now statics goal.now.procedure goal.now.values.now env.old env.new hit)) }
-    ensures none { IfOk result (λ o. IfNone o ((statics : Statics) → AreStatics code.now statics → FindsNone env.old (called env.old.heap (statics goal.now.procedure).name goal.now.values.now) (statics goal.now.procedure).clauses 0)) }
+    ensures some { IfOk result (λ o. IfSome o (λ hit. (db : Database) → AreStatics code.now db → FitsFirst code.now db goal.now.procedure goal.now.values.now env.old env.new hit)) }
+    ensures none { IfOk result (λ o. IfNone o ((db : Database) → AreStatics code.now db → FindsNone env.old (called env.old.heap (db.statics goal.now.procedure).name goal.now.values.now) (db.statics goal.now.procedure).clauses 0)) }
     ensures back { IfOk result (λ o. IfNone o (env.new ≡ renamed env.old env.new.heap.names)) }
     ensures err { OnErr result (env.new ≡ renamed env.old env.new.heap.names) }
     ensures keeps { Keeps env.old env.new }
@@ -174,12 +174,12 @@ impl Stack {
         values: &[Cell],
         rest: Continuation,
     ) -> Result<bool, AllocError>
-        requires statics { (statics : Statics) × AreStatics self.old.code statics }
+        requires statics { (db : Database) × AreStatics self.old.code db }
         requires values { AreValues self.old.env.heap values.now }
         requires few { length values.now < 2 ^ 16 }
         requires rest { IsList self.old rest }
-        ensures yes { IfOk result (λ yes. yes ≡ true → (statics : Statics) → AreStatics self.old.code statics → Calls statics self.old self.new (called self.old.env.heap (statics procedure).name values.now) rest (statics procedure).clauses) }
-        ensures no { IfOk result (λ yes. yes ≡ false → (statics : Statics) → AreStatics self.old.code statics → CallsNone statics self.old self.new (called self.old.env.heap (statics procedure).name values.now) rest (statics procedure).clauses) }
+        ensures yes { IfOk result (λ yes. yes ≡ true → (db : Database) → AreStatics self.old.code db → Calls db self.old self.new (called self.old.env.heap (db.statics procedure).name values.now) rest (db.statics procedure).clauses) }
+        ensures no { IfOk result (λ yes. yes ≡ false → (db : Database) → AreStatics self.old.code db → CallsNone db self.old self.new (called self.old.env.heap (db.statics procedure).name values.now) rest (db.statics procedure).clauses) }
         ensures code { self.new.code ≡ self.old.code }
         ensures err { OnErr result (StaysAt self.old self.new) }
     {
@@ -196,11 +196,11 @@ impl Stack {
     /// After an `Err` the cases are as they were.
     pub fn retry(&mut self) -> Result<bool, AllocError>
         requires call { HasClauses self.old }
-        requires statics { (statics : Statics) × AreStatics self.old.code statics }
-        ensures yes { IfOk result (λ yes. yes ≡ true → (statics : Statics) → AreStatics self.old.code statics → Retries statics self.old self.new) }
-        ensures no { IfOk result (λ yes. yes ≡ false → (statics : Statics) → AreStatics self.old.code statics → cases_of statics self.old ≡ Choice [] ∷ cases_of statics self.new) }
+        requires statics { (db : Database) × AreStatics self.old.code db }
+        ensures yes { IfOk result (λ yes. yes ≡ true → (db : Database) → AreStatics self.old.code db → Retries db self.old self.new) }
+        ensures no { IfOk result (λ yes. yes ≡ false → (db : Database) → AreStatics self.old.code db → cases_of db self.old ≡ Choice [] ∷ cases_of db self.new) }
         ensures code { self.new.code ≡ self.old.code }
-        ensures err { OnErr result ((statics : Statics) → cases_of statics self.new ≡ cases_of statics self.old) }
+        ensures err { OnErr result ((db : Database) → cases_of db self.new ≡ cases_of db self.old) }
     {
         let at = self.rewind_call();
         self.try_next(at)
@@ -215,13 +215,13 @@ impl Stack {
         point: &Point,
     ) -> Result<bool, AllocError>
         requires marks { IsMarked self.old point.now.marks }
-        requires statics { (statics : Statics) × AreStatics self.old.code statics }
+        requires statics { (db : Database) × AreStatics self.old.code db }
         requires values { AreValues self.old.env.heap values.now }
         requires few { length values.now < 2 ^ 16 }
         requires alone { point.now.list ≡ alone point.now.list.rest }
         requires list { IsList self.old point.now.list }
-        ensures yes { IfOk result (λ yes. yes ≡ true → (statics : Statics) → AreStatics self.old.code statics → Calls statics self.old self.new (called self.old.env.heap (statics procedure).name values.now) point.now.list (statics procedure).clauses) }
-        ensures no { IfOk result (λ yes. yes ≡ false → (statics : Statics) → AreStatics self.old.code statics → CallsNone statics self.old self.new (called self.old.env.heap (statics procedure).name values.now) point.now.list (statics procedure).clauses) }
+        ensures yes { IfOk result (λ yes. yes ≡ true → (db : Database) → AreStatics self.old.code db → Calls db self.old self.new (called self.old.env.heap (db.statics procedure).name values.now) point.now.list (db.statics procedure).clauses) }
+        ensures no { IfOk result (λ yes. yes ≡ false → (db : Database) → AreStatics self.old.code db → CallsNone db self.old self.new (called self.old.env.heap (db.statics procedure).name values.now) point.now.list (db.statics procedure).clauses) }
         ensures code { self.new.code ≡ self.old.code }
         ensures err { OnErr result (StaysAt self.old self.new) }
     {
@@ -255,7 +255,7 @@ impl Stack {
     /// Goes back to where the innermost case was opened, which is a call of a static procedure and stays open.
     fn rewind_call(&mut self) -> Calling
         requires { HasClauses self.old }
-        ensures cases { (statics : Statics) → cases_of statics self.new ≡ cases_of statics self.old }
+        ensures cases { (db : Database) → cases_of db self.new ≡ cases_of db self.old }
         ensures at { AtCall self.new result.point result.call }
         ensures code { self.new.code ≡ self.old.code }
     {
@@ -277,9 +277,9 @@ impl Stack {
     /// Tries the further clauses of the innermost call, where all is as it was at its opening.
     fn try_next(&mut self, at: Calling) -> Result<bool, AllocError>
         requires at { AtCall self.old at.point at.call }
-        requires statics { (statics : Statics) × AreStatics self.old.code statics }
-        ensures yes { IfOk result (λ yes. yes ≡ true → (statics : Statics) → AreStatics self.old.code statics → Retries statics self.old self.new) }
-        ensures no { IfOk result (λ yes. yes ≡ false → (statics : Statics) → AreStatics self.old.code statics → cases_of statics self.old ≡ Choice [] ∷ cases_of statics self.new) }
+        requires statics { (db : Database) × AreStatics self.old.code db }
+        ensures yes { IfOk result (λ yes. yes ≡ true → (db : Database) → AreStatics self.old.code db → Retries db self.old self.new) }
+        ensures no { IfOk result (λ yes. yes ≡ false → (db : Database) → AreStatics self.old.code db → cases_of db self.old ≡ Choice [] ∷ cases_of db self.new) }
         ensures code { self.new.code ≡ self.old.code }
         ensures err { OnErr result (StaysAt self.old self.new) }
         ensures has { OnErr result (HasClauses self.new) }
@@ -300,11 +300,11 @@ impl Stack {
     /// The first clause that is left of the innermost call and fits: it has slots of its own, and the unifier is put into all.
     fn find(&mut self, at: &Calling) -> Result<Option<Hit>, AllocError>
         requires at { AtCall self.old at.now.point at.now.call }
-        requires statics { (statics : Statics) × AreStatics self.old.code statics }
-        ensures some { IfOk result (λ o. IfSome o (λ hit. (statics : Statics) → AreStatics self.old.code statics → Hits statics self.old self.new at.now.point at.now.call hit)) }
+        requires statics { (db : Database) × AreStatics self.old.code db }
+        ensures some { IfOk result (λ o. IfSome o (λ hit. (db : Database) → AreStatics self.old.code db → Hits db self.old self.new at.now.point at.now.call hit)) }
         ensures binds { IfOk result (λ o. IfSome o (λ hit. Binds self.old self.new)) }
-        ensures none { IfOk result (λ o. IfNone o ((statics : Statics) → AreStatics self.old.code statics → (d : ℕ) → further statics self.new d at.now.point at.now.call (drop at.now.call.next (statics at.now.call.procedure).clauses) ≡ [])) }
-        ensures cases { (statics : Statics) → cases_of statics self.new ≡ cases_of statics self.old }
+        ensures none { IfOk result (λ o. IfNone o ((db : Database) → AreStatics self.old.code db → (d : ℕ) → further db self.new d at.now.point at.now.call (drop at.now.call.next (db.statics at.now.call.procedure).clauses) ≡ [])) }
+        ensures cases { (db : Database) → cases_of db self.new ≡ cases_of db self.old }
         ensures place { OnErr result (place_of self.new ≡ place_of self.old) }
         ensures same { self.new ≡ record self.old { env = self.new.env } }
     {
@@ -343,7 +343,7 @@ impl Stack {
         requires calling { IsCalling self.old at.point at.call }
         requires hit { (x : Clause) × IsCodeOf self.old.code.text hit.clause x × (hit.base + hit.clause.variables ≤ length self.old.env.slots) }
         requires behind { IsList self.old (alone behind) }
-        ensures enters { (statics : Statics) → Enters statics self.old self.new at.point at.call hit behind }
+        ensures enters { (db : Database) → Enters db self.old self.new at.point at.call hit behind }
         ensures code { self.new.code ≡ self.old.code }
     {
         let level = self.depth.down(1);
@@ -366,7 +366,7 @@ impl Stack {
     /// Of the innermost call the clauses from a number on are left, or none.
     fn go_on(&mut self, at: Calling, next: Option<usize>)
         requires { IsCalling self.old at.point at.call }
-        ensures goes { (statics : Statics) → GoesOn statics self.old self.new at.point at.call next }
+        ensures goes { (db : Database) → GoesOn db self.old self.new at.point at.call next }
         ensures place { place_of self.new ≡ place_of self.old }
         ensures code { self.new.code ≡ self.old.code }
     {
@@ -383,7 +383,7 @@ impl Stack {
     /// Of the innermost call the clauses from a number on are left.
     fn replace_call(&mut self, at: Calling, next: usize)
         requires { IsCalling self.old at.point at.call }
-        ensures goes { (statics : Statics) → GoesOn statics self.old self.new at.point at.call (Some next) }
+        ensures goes { (db : Database) → GoesOn db self.old self.new at.point at.call (Some next) }
         ensures place { place_of self.new ≡ place_of self.old }
         ensures code { self.new.code ≡ self.old.code }
     {
@@ -402,7 +402,7 @@ impl Stack {
     /// Of the innermost call nothing is left.
     fn empty_call(&mut self, at: Calling)
         requires { IsCalling self.old at.point at.call }
-        ensures goes { (statics : Statics) → GoesOn statics self.old self.new at.point at.call None }
+        ensures goes { (db : Database) → GoesOn db self.old self.new at.point at.call None }
         ensures same { self.new ≡ record self.old { frames = self.new.frames } }
         ensures within { IsWithin at.point.marks.env self.new.env }
         ensures older { AreOlder at.point.marks (reverse self.new.frames) }
@@ -416,7 +416,7 @@ impl Stack {
     /// Closes the innermost case, a call.
     fn leave_call(&mut self)
         requires { HasClauses self.old }
-        ensures cases { (statics : Statics) (c : Case) (below : List Case) → cases_of statics self.old ≡ c ∷ below → cases_of statics self.new ≡ below }
+        ensures cases { (db : Database) (c : Case) (below : List Case) → cases_of db self.old ≡ c ∷ below → cases_of db self.new ≡ below }
         ensures same { self.new ≡ record self.old { frames = self.new.frames } }
     {
         let Some(_) = self.frames.pop() else {

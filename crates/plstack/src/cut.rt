@@ -3,7 +3,7 @@ ghost use Rattle.std.specs.Prelude.{◌≡◌, ◌+◌, ◌<◌, ◌≤◌, ◌�
 ghost use Rattle.plsearch.specs.Machines.Levels.{AreAtMost};
 ghost use Rattle.plsearch.specs.Types.{Mark};
 ghost use Rattle.plenv.specs.Env.{IsWithin};
-ghost use Rattle.plstack.specs.Places.{Statics, depth_of, size};
+ghost use Rattle.plstack.specs.Places.{Database, depth_of, size};
 ghost use Rattle.plstack.specs.Frames.{AreFrames, AreOlder};
 ghost use Rattle.plstack.specs.State.{cases_of, goals_in, goals_of, IsList};
 ghost use Rattle.plstack.specs.Cutting.{ChoiceAt, Cuts, EmptiesFrom, GivesUp, IsChoice, IsChosen, IsGivenUp, Settles};
@@ -52,7 +52,7 @@ impl Stack {
 
     /// Opens a case behind which Fail is a cut to a level.
     fn open_barrier(&mut self, level: Level) -> Result<(), AllocError>
-        ensures ok { OnOk result ((statics : Statics) → cases_of statics self.new ≡ Mark level ∷ cases_of statics self.old) }
+        ensures ok { OnOk result ((db : Database) → cases_of db self.new ≡ Mark level ∷ cases_of db self.old) }
         ensures same { self.new ≡ record self.old { frames = self.new.frames } }
         ensures err { OnErr result (self.new ≡ self.old) }
     {
@@ -139,7 +139,7 @@ fn is_chosen(resume: &Resume) -> bool
     ensures { IsTrue result ↔ IsChosen resume.now }
 {
     match resume {
-        Resume::Clauses(_) | Resume::Copies(_) | Resume::Answers(_) | Resume::List => true,
+        Resume::Clauses(_) | Resume::Walk(_) | Resume::Answers(_) | Resume::List => true,
         Resume::Handle(_) => false,
     }
 }

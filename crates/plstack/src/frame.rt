@@ -39,13 +39,34 @@ pub struct Candidate {
     pub erased: Option<ClauseName>,
 }
 
-/// A call of a dynamic procedure: its goal, the clauses that were alive when it was called, and the number of the first one that was not
-/// tried.
-#[derive(Drop)]
-pub struct Copies {
+/// What is done with a clause that fits.
+#[derive(Clone, Copy)]
+pub enum Use {
+    /// It is entered.
+    Call,
+    /// That there is such a clause is told.
+    Tell,
+    /// It is told and erased.
+    Erase,
+}
+
+/// Where a walk over the clauses of a procedure stands.
+#[derive(Clone, Copy)]
+pub enum Spot {
+    /// At a clause of a procedure of the program's text, by its number.
+    Text(usize),
+    /// At the clause of a name, in the view of a place.
+    At(u64, ClauseName),
+    /// The same, where the next clause behind it that may fit is known, or that there is none.
+    Known(u64, ClauseName, Option<ClauseName>),
+}
+
+/// A walk over clauses: the goal that is resolved against them, what is done with one that fits, and where it stands.
+#[derive(Clone, Copy)]
+pub struct Walk {
     pub goal: Cell,
-    pub clauses: Vec<Candidate>,
-    pub next: usize,
+    pub uses: Use,
+    pub spot: Spot,
 }
 
 /// A call of a predicate of several answers: how many values are kept from the mark on, and which answers are left.
@@ -72,12 +93,12 @@ pub enum Handler {
 }
 
 /// What an open case does with what it comes back to.
-#[derive(Drop)]
+#[derive(Clone, Copy)]
 pub enum Resume {
     /// The further clauses of a static procedure are tried.
     Clauses(Clauses),
-    /// The further clauses of a dynamic procedure are tried.
-    Copies(Copies),
+    /// The clauses that are left of a walk are tried.
+    Walk(Walk),
     /// The further answers of a predicate are tried.
     Answers(Answers),
     /// The list is visited.
@@ -87,7 +108,7 @@ pub enum Resume {
 }
 
 /// Open cases.
-#[derive(Drop)]
+#[derive(Clone, Copy)]
 pub enum Frame {
     /// So many choices with nothing left to try.
     Plain(u64),

@@ -7,7 +7,7 @@ ghost use Rattle.plenv.specs.Changes.{Keeps};
 ghost use Rattle.plenv.specs.Env.{cut, renamed, IsEnv, IsMark};
 ghost use Rattle.plstack.specs.State.{Extends};
 
-use crate::copy::put_head;
+use crate::walk::put_head;
 use crate::stack::Stack;
 use plcells::cell::Cell;
 use plclause::clause::Clause;

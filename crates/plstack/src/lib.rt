@@ -4,7 +4,6 @@
 pub mod answer;
 pub mod back;
 pub mod call;
-pub mod copy;
 pub mod cut;
 pub mod expression;
 pub mod first;
@@ -20,3 +19,4 @@ pub mod pair;
 pub mod stack;
 pub mod term;
 pub mod value;
+pub mod walk;

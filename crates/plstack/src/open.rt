@@ -1,7 +1,7 @@
 //! Cases that are opened and closed.
 ghost use Rattle.std.specs.Prelude.{◌≡◌, ◌+◌, ◌<◌, ◌≤◌, ◌^◌, [], ◌∷◌, ◌++◌, List, reverse, IfNone, IfOk, IfSome, OnErr, OnOk, vec_capacity, vec_len};
 ghost use Rattle.plsearch.specs.Types.{Choice};
-ghost use Rattle.plstack.specs.Places.{Statics, kept};
+ghost use Rattle.plstack.specs.Places.{Database, kept};
 ghost use Rattle.plstack.specs.Frames.{IsResume};
 ghost use Rattle.plstack.specs.declared.frame.Frame.{Frame};
 ghost use Rattle.plstack.specs.State.{cases_of, CountsUp, HasPlain, IsList, Opens};
@@ -53,7 +53,7 @@ impl Stack {
     }
 
     /// Opens a case that comes back to a list.
-    fn open_frame(&mut self, list: Continuation, resume: Resume) -> Result<(), AllocError>
+    pub(crate) fn open_frame(&mut self, list: Continuation, resume: Resume) -> Result<(), AllocError>
         requires list { IsList self.old list }
         requires resume { IsResume self.old.env.heap [] resume }
         requires none { kept resume ≡ 0 }
@@ -96,8 +96,8 @@ impl Stack {
     /// Closes the innermost case, if one is open.
     #[inline(always)]
     pub fn close(&mut self) -> Option<Closed>
-        ensures some { IfSome result (λ c. (statics : Statics) → ClosedAs statics self.old self.new c) }
-        ensures none { IfNone result ((statics : Statics) → cases_of statics self.old ≡ []) }
+        ensures some { IfSome result (λ c. (db : Database) → ClosedAs db self.old self.new c) }
+        ensures none { IfNone result ((db : Database) → cases_of db self.old ≡ []) }
         ensures same { IfNone result (self.new ≡ self.old) }
         ensures code { self.new.code ≡ self.old.code }
     {
@@ -149,7 +149,7 @@ fn closed_as(resume: Resume) -> Closed
 {
     match resume {
         Resume::Clauses(_) => Closed::Choice,
-        Resume::Copies(_) => Closed::Choice,
+        Resume::Walk(_) => Closed::Choice,
         Resume::Answers(_) => Closed::Choice,
         Resume::List => Closed::Choice,
         Resume::Handle(_) => Closed::Handler,

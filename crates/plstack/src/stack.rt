@@ -4,8 +4,8 @@ ghost use Rattle.platoms.specs.Names.{Extends as ExtendsNames};
 ghost use Rattle.plcode.specs.Steps.{goals_from};
 ghost use Rattle.plsearch.specs.Engine.{deeper};
 ghost use Rattle.pllinks.specs.Links.{alone};
-ghost use Rattle.plstack.specs.Places.{Statics};
-ghost use Rattle.plstack.specs.State.{cases_of, HasAnswers, HasBranch, HasCatcher, HasClauses, HasCopies, HasGatherer, HasHandler, HasPlain};
+ghost use Rattle.plstack.specs.Places.{Database};
+ghost use Rattle.plstack.specs.State.{cases_of, depth_in, HasAnswers, HasBranch, HasCatcher, HasClauses, HasWalk, HasGatherer, HasHandler, HasPlain};
 
 use crate::frame::{Frame, Handler, Resume};
 use plcells::cell::Cell;
@@ -84,7 +84,8 @@ impl Stack {
     /// The level above all open cases.
     #[tactic(auto, using(crate::proofs::Stacks::depth_is))]
     pub fn depth(&self) -> Level
-        ensures { (statics : Statics) → result ≡ deeper (cases_of statics self.now) 0 }
+        ensures is { result ≡ depth_in self.now }
+        ensures cases { (db : Database) → result ≡ deeper (cases_of db self.now) 0 }
     {
         self.depth
     }
@@ -92,7 +93,7 @@ impl Stack {
     /// The level of the innermost case, which is a handler.
     pub fn level(&self) -> Level
         requires { HasHandler self.now }
-        ensures { (statics : Statics) → deeper (cases_of statics self.now) 0 ≡ result + 1 }
+        ensures { (db : Database) → deeper (cases_of db self.now) 0 ≡ result + 1 }
     {
         self.depth.down(1)
     }
@@ -104,11 +105,11 @@ impl Stack {
         matches!(self.frames.last(), Some(Frame::Open(_, Resume::Clauses(_))))
     }
 
-    /// Whether the innermost case is a choice of further clauses of a dynamic procedure.
-    pub fn is_copies(&self) -> bool
-        ensures { IsTrue result ↔ HasCopies self.now }
+    /// Whether the innermost case is a walk.
+    pub fn is_walk(&self) -> bool
+        ensures { IsTrue result ↔ HasWalk self.now }
     {
-        matches!(self.frames.last(), Some(Frame::Open(_, Resume::Copies(_))))
+        matches!(self.frames.last(), Some(Frame::Open(_, Resume::Walk(_))))
     }
 
     /// Whether the innermost case is a choice of further answers of a predicate.

@@ -13,12 +13,12 @@ returns-in-Started-clause-begun c =
     let s = c.in_ok-solver-in-Started.solver in
     let h = c.step.new.self.journal in
     let t = c.in-Started.number in
-    let all = begun P.first (search_of P n) n (rest_of P s) s.used c.args.world.now.journal h c.in_ok-number.field-0 t _ _
+    let all = begun P.first (search_of P n) n (λ v. rest_of P v s) s.used c.args.world.now.journal h c.in_ok-number.field-0 t _ _
     c.requires c.in_ok-number.ensures.reply (ap (λ w. w.journal) c.in_ok-number.ensures.entry) c.in-Started.is c.in_ok-solver-in-Started.ensures.begins in
     record {
       of = c.in_ok-solver-in-Started.ensures.of;
-      started = Runs (relimit P n s.limit (rest_of P s) s.used h t s.places.items c.in_ok-solver-in-Started.ensures.limit
-          (subst (IsRunning P.first (search_of P n) n (rest_of P s) s.used h t) (sym c.in_ok-solver-in-Started.ensures.places) all.0));
+      started = Runs (relimit P n s.limit (λ v. rest_of P v s) s.used h t s.places.items c.in_ok-solver-in-Started.ensures.limit
+          (subst (IsRunning P.first (search_of P n) n (λ v. rest_of P v s) s.used h t) (sym c.in_ok-solver-in-Started.ensures.places) all.0));
     }
 
 pub returns-in-Started-clause-first : goal.returns-in-Started-clause-first
@@ -26,7 +26,7 @@ returns-in-Started-clause-first c =
     let P = c.args.program.now in
     let n = c.args.steps in
     let s = c.in_ok-solver-in-Started.solver in
-    let all = begun P.first (search_of P n) n (rest_of P s) s.used c.args.world.now.journal c.step.new.self.journal c.in_ok-number.field-0 c.in-Started.number _ _
+    let all = begun P.first (search_of P n) n (λ v. rest_of P v s) s.used c.args.world.now.journal c.step.new.self.journal c.in_ok-number.field-0 c.in-Started.number _ _
     c.requires c.in_ok-number.ensures.reply (ap (λ w. w.journal) c.in_ok-number.ensures.entry) c.in-Started.is c.in_ok-solver-in-Started.ensures.begins in all.1
 
 pub returns : goal.returns

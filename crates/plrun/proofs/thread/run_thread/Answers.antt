@@ -20,5 +20,5 @@ returns-in-Some c =
     if_both c.finish.result c.finish.ensures.journal c.finish.ensures.run
     (λ run grows made.
     subst (λ n. IsHistory P.first (λ t. search_of P n) n later (run ∷ [])) (c.in_ok-end.ensures.limit ∙ c.turns.invariant.limit)
-    (finished P.first (search_of P s.limit) s.limit (rest_of P s) s.used s.machine.out.items h later r.thread s.places.items c.in-Some.«end» run
+    (finished P.first (search_of P s.limit) s.limit (λ v. rest_of P v s) s.used s.machine.out.items h later r.thread s.places.items c.in-Some.«end» run
     (halts-no-sooner P s.limit) c.in_ok-end.ensures.runs.started (rw c.in-Some.is at c.in_ok-end.ensures.ended) grows made))

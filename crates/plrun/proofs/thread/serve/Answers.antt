@@ -29,8 +29,8 @@ returns-clause-runs c =
     let h = c.args.world.now.journal in
     let later = c.step.new.self.journal in
     let t = c.args.running.now.thread in
-    let started = started-same P old.limit new.limit (rest_of P new) new.used later t new.places.items c.reply.ensures.limit
-    (served-by P.first (search_of P old.limit) old.limit (rest_of P old) (rest_of P new) old.used new.used old.machine.out.items h later t old.places.items new.places.items c.front-place.result q c.in_ok-reply.reply
+    let started = started-same P old.limit new.limit (λ v. rest_of P v new) new.used later t new.places.items c.reply.ensures.limit
+    (served-by P.first (search_of P old.limit) old.limit (λ v. rest_of P v old) (λ v. rest_of P v new) old.used new.used old.machine.out.items h later t old.places.items new.places.items c.front-place.result q c.in_ok-reply.reply
     (halts-when-done P old.limit) (may_wait old q c.requires.waits) c.requires.runs.runs c.requires.at c.front-place.ensures
-    c.in_ok-reply.ensures.reply (ap (λ w. w.journal) c.in_ok-reply.ensures.entry) c.in_ok-reply-2.ensures.ok c.in_ok-reply-2.ensures.places) in
+    c.in_ok-reply.ensures.reply (ap (λ w. w.journal) c.in_ok-reply.ensures.entry) (λ v are. c.in_ok-reply-2.ensures.ok v) c.in_ok-reply-2.ensures.places) in
     record { of = c.reply.ensures.of; started = started }

@@ -1,7 +1,7 @@
 use Rattle.plevent.specs.Search.{View, Ask}
 use Rattle.plsearch.specs.Search.{search_of}
 use Rattle.plsolver.specs.Says.{Says}
-use Rattle.plsolver.specs.Solver.{rest_of}
+use Rattle.plsolver.specs.Solver.{GoesTo, rest_of}
 use Rattle.plrun.proofs.Serve.{started-gone, still-runs, used-within}
 use Rattle.plrun.proofs.thread.turn.Goals as goal
 
@@ -9,30 +9,32 @@ pub advance-requires-clause-within : goal.advance-requires-clause-within
 advance-requires-clause-within c =
     let P = c.args.program.now in
     let s = c.args.running.now.solver in
-    used-within P.first (search_of P s.limit) s.limit (rest_of P s) s.used c.args.world.now.journal c.args.running.now.thread s.places.items c.requires.started
+    used-within P.first (search_of P s.limit) s.limit (λ v. rest_of P v s) s.used c.args.world.now.journal c.args.running.now.thread s.places.items c.requires.started
 
 pub returns-in-Slice-clause-runs : goal.returns-in-Slice-clause-runs
+unfolding GoesTo
 returns-in-Slice-clause-runs c =
     let P = c.args.program.now in
     let old = c.args.running.now.solver in
     let new = c.advance.new.self in
     record {
       of = c.advance.ensures.of;
-      started = started-gone P old.limit new.limit (rest_of P old) (rest_of P new) old.used new.used c.args.world.now.journal c.args.running.now.thread old.places.items new.places.items c.requires.started c.advance.ensures.goes c.advance.ensures.places c.advance.ensures.limit;
+      started = started-gone P old.limit new.limit (λ v. rest_of P v old) (λ v. rest_of P v new) old.used new.used c.args.world.now.journal c.args.running.now.thread old.places.items new.places.items c.requires.started (λ v are. c.advance.ensures.goes v) c.advance.ensures.places c.advance.ensures.limit;
     }
 
 pub returns-in-Ended-clause-runs : goal.returns-in-Ended-clause-runs
+unfolding GoesTo
 returns-in-Ended-clause-runs c =
     let P = c.args.program.now in
     let old = c.args.running.now.solver in
     let new = c.advance.new.self in
     record {
       of = c.advance.ensures.of;
-      started = started-gone P old.limit new.limit (rest_of P old) (rest_of P new) old.used new.used c.args.world.now.journal c.args.running.now.thread old.places.items new.places.items c.requires.started c.advance.ensures.goes c.advance.ensures.places c.advance.ensures.limit;
+      started = started-gone P old.limit new.limit (λ v. rest_of P v old) (λ v. rest_of P v new) old.used new.used c.args.world.now.journal c.args.running.now.thread old.places.items new.places.items c.requires.started (λ v are. c.advance.ensures.goes v) c.advance.ensures.places c.advance.ensures.limit;
     }
 
 pub look-requires-clause-runs : goal.look-requires-clause-runs
-unfolding Says
+unfolding Says GoesTo
 look-requires-clause-runs c =
     let P = c.args.program.now in
     let old = c.args.running.now.solver in
@@ -42,12 +44,12 @@ look-requires-clause-runs c =
     let says = rw c.in-Refresh.is at c.in_ok-advance.ensures.says in
     record {
       of = c.advance.ensures.of;
-      runs = still-runs P.first (search_of P new.limit) new.limit (rest_of P new) new.used new.machine.out.items h t new.places.items View says.1
-          (started-gone P old.limit new.limit (rest_of P old) (rest_of P new) old.used new.used h t old.places.items new.places.items c.requires.started c.advance.ensures.goes c.advance.ensures.places c.advance.ensures.limit);
+      runs = still-runs P.first (search_of P new.limit) new.limit (λ v. rest_of P v new) new.used new.machine.out.items h t new.places.items View says.1
+          (started-gone P old.limit new.limit (λ v. rest_of P v old) (λ v. rest_of P v new) old.used new.used h t old.places.items new.places.items c.requires.started (λ v are. c.advance.ensures.goes v) c.advance.ensures.places c.advance.ensures.limit);
     }
 
 pub serve-requires-clause-runs : goal.serve-requires-clause-runs
-unfolding Says
+unfolding Says GoesTo
 serve-requires-clause-runs c =
     let P = c.args.program.now in
     let old = c.args.running.now.solver in
@@ -57,6 +59,17 @@ serve-requires-clause-runs c =
     let says = rw c.in-Ask.is at c.in_ok-advance.ensures.says in
     record {
       of = c.advance.ensures.of;
-      runs = still-runs P.first (search_of P new.limit) new.limit (rest_of P new) new.used new.machine.out.items h t new.places.items (Ask c.in-Ask.request) says.1
-          (started-gone P old.limit new.limit (rest_of P old) (rest_of P new) old.used new.used h t old.places.items new.places.items c.requires.started c.advance.ensures.goes c.advance.ensures.places c.advance.ensures.limit);
+      runs = still-runs P.first (search_of P new.limit) new.limit (λ v. rest_of P v new) new.used new.machine.out.items h t new.places.items (Ask c.in-Ask.request) says.1
+          (started-gone P old.limit new.limit (λ v. rest_of P v old) (λ v. rest_of P v new) old.used new.used h t old.places.items new.places.items c.requires.started (λ v are. c.advance.ensures.goes v) c.advance.ensures.places c.advance.ensures.limit);
+    }
+
+pub fetch-requires-clause-runs : goal.fetch-requires-clause-runs
+unfolding GoesTo
+fetch-requires-clause-runs c =
+    let P = c.args.program.now in
+    let old = c.args.running.now.solver in
+    let new = c.advance.new.self in
+    record {
+      of = c.advance.ensures.of;
+      started = started-gone P old.limit new.limit (λ v. rest_of P v old) (λ v. rest_of P v new) old.used new.used c.args.world.now.journal c.args.running.now.thread old.places.items new.places.items c.requires.started (λ v are. c.advance.ensures.goes v) c.advance.ensures.places c.advance.ensures.limit;
     }

@@ -13,11 +13,11 @@ returns-in-Static-clause-ok c p t stands is =
     let s = c.args.self.now in
     let P = c.args.program.now in
     let i = subst (λ q. IsCallOf P s p q t) c.in-Static.is is in
-    on_ok_map c.resolve.result (moved-as P s c.resolve.new.self _ _ (user-some (clauses_for P p) (depth_of P s) t (goals_of s.stack c.args.rest) s.stack.env.count (local_of s) i.static.some)) (c.resolve.ensures.ok p t i)
+    on_ok_map c.resolve.result (moved-as P s c.resolve.new.self _ _ (user-some (clauses_for P p) (depth_of s) t (goals_of s.stack c.args.rest) s.stack.env.count (local_of s) i.static.some)) (c.resolve.ensures.ok p t i)
 
 pub returns-in-Unknown-clause-ok : goal.returns-in-Unknown-clause-ok
 returns-in-Unknown-clause-ok c p t stands is =
     let s = c.args.self.now in
     let P = c.args.program.now in
     let none = subst (λ q. IsCallOf P s p q t) c.in-Unknown.is is in
-    on_ok_map c.look.result (moved-as P s c.look.new.self _ _ (ap (λ cs. user cs (depth_of P s) t (goals_of s.stack c.args.rest) s.stack.env.count (local_of s)) (sym none))) (c.look.ensures.ok t stands)
+    on_ok_map c.look.result (moved-as P s c.look.new.self _ _ (ap (λ cs. user cs (depth_of s) t (goals_of s.stack c.args.rest) s.stack.env.count (local_of s)) (sym none))) (c.look.ensures.ok t stands)

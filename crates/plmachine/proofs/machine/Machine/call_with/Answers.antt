@@ -1,6 +1,5 @@
 use Rattle.std.proofs.Common.{◌≡◌, ◌-◌, refl, ap, sym, length, arith}
 use Rattle.plsearch.specs.Rows.{call_with}
-use Rattle.plstack.specs.StaticCalls.{statics_of}
 use Rattle.plmachine.specs.Machine.{local_of}
 use Rattle.plmachine.proofs.Moves.{grown-stays, moved-grown, stays-trans, on_err, on_ok_map, on_err_map}
 use Rattle.plmachine.proofs.Arounds.{run-same}
@@ -20,7 +19,7 @@ returns-clause-ok c v vs is =
     let s = c.args.self.now in
     let t = c.ready_with.new.self in
     let g = c.ready_with.ensures.grown in
-    let depth = c.depth-level.ensures (statics_of c.args.program.now) in
+    let depth = c.depth-level.ensures.is in
     let ready = c.in_ok-ready.ensures.ok v vs is in
     let further : c.len.result - 1 ≡ length vs = omega (arith, c.len.ensures, ap length is) in
     let list = g.extends.lists c.args.rest c.requires.rest in

@@ -2,7 +2,6 @@ use Rattle.std.proofs.Common.{◌≡◌, refl, ap, sym, ◌∙◌, ◌∷◌, su
 use Rattle.plsearch.specs.Types.{Until, Marker}
 use Rattle.plsearch.specs.Rows.{catch_3}
 use Rattle.plstack.specs.State.{goals_of}
-use Rattle.plstack.specs.StaticCalls.{statics_of}
 use Rattle.plstack.specs.declared.frame.Around.TheVariants as arounds
 use Rattle.plstack.specs.declared.frame.Handler.TheVariants as handlers
 use Rattle.plmachine.specs.Machine.{local_of}
@@ -21,7 +20,7 @@ returns-clause-ok c =
     let s = c.args.self.now in
     let t = c.ready_before.new.self in
     let g = c.ready_before.ensures.grown in
-    let depth = c.depth-depth.ensures (statics_of c.args.program.now) in
+    let depth = c.depth-depth.ensures.is in
     let next : c.in-Some.level ≡ suc c.depth-depth.result = omega (arith, c.in-Some.ensures.some) in
     let goals = c.in_ok-ready.ensures.list.is ∙ ap (λ d. Marker Until d ∷ goals_of s.stack c.args.rest) depth in
     on_ok_map c.run.result (moved-grown c.args.program.now s t c.run.new.self _ _ g c.ready_before.ensures.frame

@@ -2,7 +2,6 @@ use Rattle.std.proofs.Common.{refl, ap, sym, ◌∙◌, ◌∷◌}
 use Rattle.plsearch.specs.Types.{Commit, Marker}
 use Rattle.plsearch.specs.Rows.{once_1}
 use Rattle.plstack.specs.State.{goals_of}
-use Rattle.plstack.specs.StaticCalls.{statics_of}
 use Rattle.plmachine.specs.Machine.{local_of}
 use Rattle.plmachine.proofs.Moves.{grown-stays, moved-grown, stays-trans, on_err, on_ok_map, on_err_map}
 use Rattle.plmachine.proofs.Arounds.{run-same}
@@ -19,7 +18,7 @@ returns-clause-ok c =
     let s = c.args.self.now in
     let t = c.ready_before.new.self in
     let g = c.ready_before.ensures.grown in
-    let depth = c.depth-depth.ensures (statics_of c.args.program.now) in
+    let depth = c.depth-depth.ensures.is in
     let goals = c.in_ok-ready.ensures.list.is ∙ ap (λ d. Marker Commit d ∷ goals_of s.stack c.args.rest) depth in
     on_ok_map c.run.result (moved-grown c.args.program.now s t c.run.new.self _ _ g c.ready_before.ensures.frame
     (run-same once_1 once_1 refl _ _ _ _ _ _ _ _ _ _ _ _ (sym c.in_ok-ready.ensures.ready.is) refl (depth) goals g.count (ap (λ x. local_of x) c.ready_before.ensures.frame))) c.run.ensures.ok

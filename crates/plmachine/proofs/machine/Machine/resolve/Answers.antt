@@ -1,14 +1,14 @@
-use Rattle.std.proofs.Common.{refl, subst}
-use Rattle.plstack.specs.Places.{called}
+use Rattle.std.proofs.Common.{[], refl, subst}
+use Rattle.plstack.specs.Places.{Views, called}
 use Rattle.plstack.specs.Calls.{Calls, CallsNone}
-use Rattle.plstack.specs.StaticCalls.{statics_of}
+use Rattle.plstack.specs.StaticCalls.{statics_of, database_of}
 use Rattle.plstack.proofs.Program.{code-statics}
 use Rattle.plmachine.proofs.Moves.{on_err}
 use Rattle.plmachine.proofs.Calling.{calls, calls-none, stays-at}
 use Rattle.plmachine.proofs.machine.Machine.resolve.Goals as goal
 
 pub call-requires-clause-statics : goal.call-requires-clause-statics
-call-requires-clause-statics c = (statics_of c.args.program.now, code-statics c.args.program.now c.args.self.now.stack.code c.requires.begun)
+call-requires-clause-statics c = (database_of c.args.program.now (λ g. []), code-statics c.args.program.now (λ g. []) c.args.self.now.stack.code c.requires.begun)
 
 pub returns-in_err-call-clause-err : goal.returns-in_err-call-clause-err
 returns-in_err-call-clause-err c = on_err _ (stays-at c.args.program.now c.args.self.now _ c.call.new.self c.requires.visits c.call.ensures.code refl c.in_err-call.ensures.err)
@@ -18,15 +18,13 @@ returns-then-branch-clause-ok c p t is =
     let s = c.args.self.now in
     let P = c.args.program.now in
     let i = c.args.place in
-    let yes = c.in_ok-call.ensures.yes c.if-branch.true (statics_of P) (code-statics P s.stack.code c.requires.begun) in
     calls P s c.call.new.self p t i c.args.rest is c.call.ensures.code _ c.requires.visits refl
-    (subst (λ vs. Calls (statics_of P) s.stack c.call.new.self (called s.stack.env.heap (statics_of P i).name vs) c.args.rest (statics_of P i).clauses) c.deref.ensures.value yes)
+    (λ v. subst (λ vs. Calls (database_of P v) s.stack c.call.new.self (called s.stack.env.heap (statics_of P i).name vs) c.args.rest (statics_of P i).clauses) c.deref.ensures.value (c.in_ok-call.ensures.yes c.if-branch.true (database_of P v) (code-statics P v s.stack.code c.requires.begun)))
 
 pub returns-clause-ok : goal.returns-clause-ok
 returns-clause-ok c p t is =
     let s = c.args.self.now in
     let P = c.args.program.now in
     let i = c.args.place in
-    let no = c.in_ok-call.ensures.no c.if-branch.false (statics_of P) (code-statics P s.stack.code c.requires.begun) in
     calls-none P s c.call.new.self p t i c.args.rest is c.call.ensures.code c.give.new.self c.give.ensures
-    (subst (λ vs. CallsNone (statics_of P) s.stack c.call.new.self (called s.stack.env.heap (statics_of P i).name vs) c.args.rest (statics_of P i).clauses) c.deref.ensures.value no)
+    (λ v. subst (λ vs. CallsNone (database_of P v) s.stack c.call.new.self (called s.stack.env.heap (statics_of P i).name vs) c.args.rest (statics_of P i).clauses) c.deref.ensures.value (c.in_ok-call.ensures.no c.if-branch.false (database_of P v) (code-statics P v s.stack.code c.requires.begun))) (λ g. [])

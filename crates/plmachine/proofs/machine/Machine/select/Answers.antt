@@ -22,7 +22,7 @@ unfolding row
 returns-in-True-clause-ok c t sel =
     let s = c.args.self.now in
     let P = c.args.program.now in
-    selected P s c.go_on.new.self c.args.form c.args.source t c.args.level (depth_of P s) (goals_of s.stack c.args.rest) s.stack.env.count (local_of s) _ sel (ap (shown_form s.stack.env.heap (indicator t) s.args.items) c.in-True.is)
+    selected P s c.go_on.new.self c.args.form c.args.source t c.args.level (depth_of s) (goals_of s.stack c.args.rest) s.stack.env.count (local_of s) _ sel (ap (shown_form s.stack.env.heap (indicator t) s.args.items) c.in-True.is)
     (went P s c.go_on.new.self s.stack c.args.rest (goals_of s.stack c.args.rest) (lengthened-grown s.stack s.stack (lengthened-same s.stack)) (holds-list s.stack c.args.rest c.requires.rest) c.go_on.ensures)
 
 pub returns-in-False-clause-ok : goal.returns-in-False-clause-ok
@@ -30,21 +30,21 @@ unfolding row
 returns-in-False-clause-ok c t sel =
     let s = c.args.self.now in
     let P = c.args.program.now in
-    selected P s c.give.new.self c.args.form c.args.source t c.args.level (depth_of P s) (goals_of s.stack c.args.rest) s.stack.env.count (local_of s) _ sel (ap (shown_form s.stack.env.heap (indicator t) s.args.items) c.in-False.is) (gave P s c.give.new.self outcomes.Fail c.give.ensures)
+    selected P s c.give.new.self c.args.form c.args.source t c.args.level (depth_of s) (goals_of s.stack c.args.rest) s.stack.env.count (local_of s) _ sel (ap (shown_form s.stack.env.heap (indicator t) s.args.items) c.in-False.is) (gave P s c.give.new.self outcomes.Fail c.give.ensures)
 
 pub returns-in-NoGoal-clause-ok : goal.returns-in-NoGoal-clause-ok
 unfolding row
 returns-in-NoGoal-clause-ok c t sel =
     let s = c.args.self.now in
     let P = c.args.program.now in
-    selected P s c.give-in-NoGoal.new.self c.args.form c.args.source t c.args.level (depth_of P s) (goals_of s.stack c.args.rest) s.stack.env.count (local_of s) _ sel (ap (shown_form s.stack.env.heap (indicator t) s.args.items) c.in-NoGoal.is) (gave P s c.give-in-NoGoal.new.self outcomes.Fail c.give-in-NoGoal.ensures)
+    selected P s c.give-in-NoGoal.new.self c.args.form c.args.source t c.args.level (depth_of s) (goals_of s.stack c.args.rest) s.stack.env.count (local_of s) _ sel (ap (shown_form s.stack.env.heap (indicator t) s.args.items) c.in-NoGoal.is) (gave P s c.give-in-NoGoal.new.self outcomes.Fail c.give-in-NoGoal.ensures)
 
 pub returns-in-Halt-clause-ok : goal.returns-in-Halt-clause-ok
 unfolding row
 returns-in-Halt-clause-ok c t sel =
     let s = c.args.self.now in
     let P = c.args.program.now in
-    selected P s c.halt.new.self c.args.form c.args.source t c.args.level (depth_of P s) (goals_of s.stack c.args.rest) s.stack.env.count (local_of s) _ sel (ap (shown_form s.stack.env.heap (indicator t) s.args.items) c.in-Halt.is) c.halt.ensures
+    selected P s c.halt.new.self c.args.form c.args.source t c.args.level (depth_of s) (goals_of s.stack c.args.rest) s.stack.env.count (local_of s) _ sel (ap (shown_form s.stack.env.heap (indicator t) s.args.items) c.in-Halt.is) c.halt.ensures
 
 pub returns-in-Both-clause-ok : goal.returns-in-Both-clause-ok
 unfolding row
@@ -52,8 +52,8 @@ returns-in-Both-clause-ok c t sel =
     let s = c.args.self.now in
     let P = c.args.program.now in
     on_ok_map c.both.result
-    (λ moved. selected P s c.both.new.self c.args.form c.args.source t c.args.level (depth_of P s) (goals_of s.stack c.args.rest) s.stack.env.count (local_of s) _ sel (ap (shown_form s.stack.env.heap (indicator t) s.args.items) c.in-Both.is)
-    (moved-as P s c.both.new.self _ _ (both-is P c.args.level t (depth_of P s) (goals_of s.stack c.args.rest) s.stack.env.count (local_of s) (value s.stack.env.heap c.in-Both.a) (value s.stack.env.heap c.in-Both.b)) moved))
+    (λ moved. selected P s c.both.new.self c.args.form c.args.source t c.args.level (depth_of s) (goals_of s.stack c.args.rest) s.stack.env.count (local_of s) _ sel (ap (shown_form s.stack.env.heap (indicator t) s.args.items) c.in-Both.is)
+    (moved-as P s c.both.new.self _ _ (both-is P c.args.level t (depth_of s) (goals_of s.stack c.args.rest) s.stack.env.count (local_of s) (value s.stack.env.heap c.in-Both.a) (value s.stack.env.heap c.in-Both.b)) moved))
     c.both.ensures.ok
 
 pub returns-in-Either-clause-ok : goal.returns-in-Either-clause-ok
@@ -62,8 +62,8 @@ returns-in-Either-clause-ok c t sel =
     let s = c.args.self.now in
     let P = c.args.program.now in
     on_ok_map c.either.result
-    (λ moved. selected P s c.either.new.self c.args.form c.args.source t c.args.level (depth_of P s) (goals_of s.stack c.args.rest) s.stack.env.count (local_of s) _ sel (ap (shown_form s.stack.env.heap (indicator t) s.args.items) c.in-Either.is)
-    (moved-as P s c.either.new.self _ _ (either-is P c.args.level t (depth_of P s) (goals_of s.stack c.args.rest) s.stack.env.count (local_of s) (value s.stack.env.heap c.in-Either.a) (value s.stack.env.heap c.in-Either.b)) moved))
+    (λ moved. selected P s c.either.new.self c.args.form c.args.source t c.args.level (depth_of s) (goals_of s.stack c.args.rest) s.stack.env.count (local_of s) _ sel (ap (shown_form s.stack.env.heap (indicator t) s.args.items) c.in-Either.is)
+    (moved-as P s c.either.new.self _ _ (either-is P c.args.level t (depth_of s) (goals_of s.stack c.args.rest) s.stack.env.count (local_of s) (value s.stack.env.heap c.in-Either.a) (value s.stack.env.heap c.in-Either.b)) moved))
     c.either.ensures.ok
 
 pub returns-in-IfThen-clause-ok : goal.returns-in-IfThen-clause-ok
@@ -72,8 +72,8 @@ returns-in-IfThen-clause-ok c t sel =
     let s = c.args.self.now in
     let P = c.args.program.now in
     on_ok_map c.then.result
-    (λ moved. selected P s c.then.new.self c.args.form c.args.source t c.args.level (depth_of P s) (goals_of s.stack c.args.rest) s.stack.env.count (local_of s) _ sel (ap (shown_form s.stack.env.heap (indicator t) s.args.items) c.in-IfThen.is)
-    (moved-as P s c.then.new.self _ _ (then-is P c.args.level t (depth_of P s) (goals_of s.stack c.args.rest) s.stack.env.count (local_of s) (value s.stack.env.heap c.in-IfThen.condition) (value s.stack.env.heap c.in-IfThen.then) (atom (codes "fail"))) moved))
+    (λ moved. selected P s c.then.new.self c.args.form c.args.source t c.args.level (depth_of s) (goals_of s.stack c.args.rest) s.stack.env.count (local_of s) _ sel (ap (shown_form s.stack.env.heap (indicator t) s.args.items) c.in-IfThen.is)
+    (moved-as P s c.then.new.self _ _ (then-is P c.args.level t (depth_of s) (goals_of s.stack c.args.rest) s.stack.env.count (local_of s) (value s.stack.env.heap c.in-IfThen.condition) (value s.stack.env.heap c.in-IfThen.then) (atom (codes "fail"))) moved))
     c.then.ensures.ok
 
 pub returns-in-IfThenElse-clause-ok : goal.returns-in-IfThenElse-clause-ok
@@ -82,8 +82,8 @@ returns-in-IfThenElse-clause-ok c t sel =
     let s = c.args.self.now in
     let P = c.args.program.now in
     on_ok_map c.then_else.result
-    (λ moved. selected P s c.then_else.new.self c.args.form c.args.source t c.args.level (depth_of P s) (goals_of s.stack c.args.rest) s.stack.env.count (local_of s) _ sel (ap (shown_form s.stack.env.heap (indicator t) s.args.items) c.in-IfThenElse.is)
-    (moved-as P s c.then_else.new.self _ _ (then-else-is P c.args.level t (depth_of P s) (goals_of s.stack c.args.rest) s.stack.env.count (local_of s) (value s.stack.env.heap c.in-IfThenElse.condition) (value s.stack.env.heap c.in-IfThenElse.then) (value s.stack.env.heap c.in-IfThenElse.other)) moved))
+    (λ moved. selected P s c.then_else.new.self c.args.form c.args.source t c.args.level (depth_of s) (goals_of s.stack c.args.rest) s.stack.env.count (local_of s) _ sel (ap (shown_form s.stack.env.heap (indicator t) s.args.items) c.in-IfThenElse.is)
+    (moved-as P s c.then_else.new.self _ _ (then-else-is P c.args.level t (depth_of s) (goals_of s.stack c.args.rest) s.stack.env.count (local_of s) (value s.stack.env.heap c.in-IfThenElse.condition) (value s.stack.env.heap c.in-IfThenElse.then) (value s.stack.env.heap c.in-IfThenElse.other)) moved))
     c.then_else.ensures.ok
 
 pub returns-in-Not-clause-ok : goal.returns-in-Not-clause-ok
@@ -91,98 +91,98 @@ unfolding row
 returns-in-Not-clause-ok c t sel =
     let s = c.args.self.now in
     let P = c.args.program.now in
-    on_ok_map c.not.result (selected P s c.not.new.self c.args.form c.args.source t c.args.level (depth_of P s) (goals_of s.stack c.args.rest) s.stack.env.count (local_of s) _ sel (ap (shown_form s.stack.env.heap (indicator t) s.args.items) c.in-Not.is)) c.not.ensures.ok
+    on_ok_map c.not.result (selected P s c.not.new.self c.args.form c.args.source t c.args.level (depth_of s) (goals_of s.stack c.args.rest) s.stack.env.count (local_of s) _ sel (ap (shown_form s.stack.env.heap (indicator t) s.args.items) c.in-Not.is)) c.not.ensures.ok
 
 pub returns-in-Once-clause-ok : goal.returns-in-Once-clause-ok
 unfolding row
 returns-in-Once-clause-ok c t sel =
     let s = c.args.self.now in
     let P = c.args.program.now in
-    on_ok_map c.once.result (selected P s c.once.new.self c.args.form c.args.source t c.args.level (depth_of P s) (goals_of s.stack c.args.rest) s.stack.env.count (local_of s) _ sel (ap (shown_form s.stack.env.heap (indicator t) s.args.items) c.in-Once.is)) c.once.ensures.ok
+    on_ok_map c.once.result (selected P s c.once.new.self c.args.form c.args.source t c.args.level (depth_of s) (goals_of s.stack c.args.rest) s.stack.env.count (local_of s) _ sel (ap (shown_form s.stack.env.heap (indicator t) s.args.items) c.in-Once.is)) c.once.ensures.ok
 
 pub returns-in-Catching-clause-ok : goal.returns-in-Catching-clause-ok
 unfolding row
 returns-in-Catching-clause-ok c t sel =
     let s = c.args.self.now in
     let P = c.args.program.now in
-    on_ok_map c.catching.result (selected P s c.catching.new.self c.args.form c.args.source t c.args.level (depth_of P s) (goals_of s.stack c.args.rest) s.stack.env.count (local_of s) _ sel (ap (shown_form s.stack.env.heap (indicator t) s.args.items) c.in-Catching.is)) c.catching.ensures.ok
+    on_ok_map c.catching.result (selected P s c.catching.new.self c.args.form c.args.source t c.args.level (depth_of s) (goals_of s.stack c.args.rest) s.stack.env.count (local_of s) _ sel (ap (shown_form s.stack.env.heap (indicator t) s.args.items) c.in-Catching.is)) c.catching.ensures.ok
 
 pub returns-in-FindAll-clause-ok : goal.returns-in-FindAll-clause-ok
 unfolding row
 returns-in-FindAll-clause-ok c t sel =
     let s = c.args.self.now in
     let P = c.args.program.now in
-    on_ok_map c.find_all.result (selected P s c.find_all.new.self c.args.form c.args.source t c.args.level (depth_of P s) (goals_of s.stack c.args.rest) s.stack.env.count (local_of s) _ sel (ap (shown_form s.stack.env.heap (indicator t) s.args.items) c.in-FindAll.is)) c.find_all.ensures.ok
+    on_ok_map c.find_all.result (selected P s c.find_all.new.self c.args.form c.args.source t c.args.level (depth_of s) (goals_of s.stack c.args.rest) s.stack.env.count (local_of s) _ sel (ap (shown_form s.stack.env.heap (indicator t) s.args.items) c.in-FindAll.is)) c.find_all.ensures.ok
 
 pub returns-in-Throwing-clause-ok : goal.returns-in-Throwing-clause-ok
 unfolding row
 returns-in-Throwing-clause-ok c t sel =
     let s = c.args.self.now in
     let P = c.args.program.now in
-    on_ok_map c.throw.result (selected P s c.throw.new.self c.args.form c.args.source t c.args.level (depth_of P s) (goals_of s.stack c.args.rest) s.stack.env.count (local_of s) _ sel (ap (shown_form s.stack.env.heap (indicator t) s.args.items) c.in-Throwing.is)) c.throw.ensures.ok
+    on_ok_map c.throw.result (selected P s c.throw.new.self c.args.form c.args.source t c.args.level (depth_of s) (goals_of s.stack c.args.rest) s.stack.env.count (local_of s) _ sel (ap (shown_form s.stack.env.heap (indicator t) s.args.items) c.in-Throwing.is)) c.throw.ensures.ok
 
 pub returns-in-Cut-clause-ok : goal.returns-in-Cut-clause-ok
 unfolding row
 returns-in-Cut-clause-ok c t sel =
     let s = c.args.self.now in
     let P = c.args.program.now in
-    on_ok_map c.cut.result (selected P s c.cut.new.self c.args.form c.args.source t c.args.level (depth_of P s) (goals_of s.stack c.args.rest) s.stack.env.count (local_of s) _ sel (ap (shown_form s.stack.env.heap (indicator t) s.args.items) c.in-Cut.is)) c.cut.ensures.ok
+    on_ok_map c.cut.result (selected P s c.cut.new.self c.args.form c.args.source t c.args.level (depth_of s) (goals_of s.stack c.args.rest) s.stack.env.count (local_of s) _ sel (ap (shown_form s.stack.env.heap (indicator t) s.args.items) c.in-Cut.is)) c.cut.ensures.ok
 
 pub returns-in-Adding-clause-ok : goal.returns-in-Adding-clause-ok
 unfolding row
 returns-in-Adding-clause-ok c t sel =
     let s = c.args.self.now in
     let P = c.args.program.now in
-    on_ok_map c.add.result (selected P s c.add.new.self c.args.form c.args.source t c.args.level (depth_of P s) (goals_of s.stack c.args.rest) s.stack.env.count (local_of s) _ sel (ap (shown_form s.stack.env.heap (indicator t) s.args.items) c.in-Adding.is)) (c.add.ensures.ok t sel.stands)
+    on_ok_map c.add.result (selected P s c.add.new.self c.args.form c.args.source t c.args.level (depth_of s) (goals_of s.stack c.args.rest) s.stack.env.count (local_of s) _ sel (ap (shown_form s.stack.env.heap (indicator t) s.args.items) c.in-Adding.is)) (c.add.ensures.ok t sel.stands)
 
 pub returns-in-Retrieving-clause-ok : goal.returns-in-Retrieving-clause-ok
 unfolding row
 returns-in-Retrieving-clause-ok c t sel =
     let s = c.args.self.now in
     let P = c.args.program.now in
-    on_ok_map c.retrieve.result (selected P s c.retrieve.new.self c.args.form c.args.source t c.args.level (depth_of P s) (goals_of s.stack c.args.rest) s.stack.env.count (local_of s) _ sel (ap (shown_form s.stack.env.heap (indicator t) s.args.items) c.in-Retrieving.is)) (c.retrieve.ensures.ok t sel.stands)
+    on_ok_map c.retrieve.result (selected P s c.retrieve.new.self c.args.form c.args.source t c.args.level (depth_of s) (goals_of s.stack c.args.rest) s.stack.env.count (local_of s) _ sel (ap (shown_form s.stack.env.heap (indicator t) s.args.items) c.in-Retrieving.is)) (c.retrieve.ensures.ok t sel.stands)
 
 pub returns-in-Retracting-clause-ok : goal.returns-in-Retracting-clause-ok
 unfolding row
 returns-in-Retracting-clause-ok c t sel =
     let s = c.args.self.now in
     let P = c.args.program.now in
-    on_ok_map c.retract.result (selected P s c.retract.new.self c.args.form c.args.source t c.args.level (depth_of P s) (goals_of s.stack c.args.rest) s.stack.env.count (local_of s) _ sel (ap (shown_form s.stack.env.heap (indicator t) s.args.items) c.in-Retracting.is)) (c.retract.ensures.ok t sel.stands)
+    on_ok_map c.retract.result (selected P s c.retract.new.self c.args.form c.args.source t c.args.level (depth_of s) (goals_of s.stack c.args.rest) s.stack.env.count (local_of s) _ sel (ap (shown_form s.stack.env.heap (indicator t) s.args.items) c.in-Retracting.is)) (c.retract.ensures.ok t sel.stands)
 
 pub returns-in-RetractingAll-clause-ok : goal.returns-in-RetractingAll-clause-ok
 unfolding row
 returns-in-RetractingAll-clause-ok c t sel =
     let s = c.args.self.now in
     let P = c.args.program.now in
-    on_ok_map c.retract_all.result (selected P s c.retract_all.new.self c.args.form c.args.source t c.args.level (depth_of P s) (goals_of s.stack c.args.rest) s.stack.env.count (local_of s) _ sel (ap (shown_form s.stack.env.heap (indicator t) s.args.items) c.in-RetractingAll.is)) (c.retract_all.ensures.ok t sel.stands)
+    on_ok_map c.retract_all.result (selected P s c.retract_all.new.self c.args.form c.args.source t c.args.level (depth_of s) (goals_of s.stack c.args.rest) s.stack.env.count (local_of s) _ sel (ap (shown_form s.stack.env.heap (indicator t) s.args.items) c.in-RetractingAll.is)) (c.retract_all.ensures.ok t sel.stands)
 
 pub returns-in-Declaring-clause-ok : goal.returns-in-Declaring-clause-ok
 unfolding row
 returns-in-Declaring-clause-ok c t sel =
     let s = c.args.self.now in
     let P = c.args.program.now in
-    on_ok_map c.declare.result (selected P s c.declare.new.self c.args.form c.args.source t c.args.level (depth_of P s) (goals_of s.stack c.args.rest) s.stack.env.count (local_of s) _ sel (ap (shown_form s.stack.env.heap (indicator t) s.args.items) c.in-Declaring.is)) (c.declare.ensures.ok t sel.stands)
+    on_ok_map c.declare.result (selected P s c.declare.new.self c.args.form c.args.source t c.args.level (depth_of s) (goals_of s.stack c.args.rest) s.stack.env.count (local_of s) _ sel (ap (shown_form s.stack.env.heap (indicator t) s.args.items) c.in-Declaring.is)) (c.declare.ensures.ok t sel.stands)
 
 pub returns-in-HaltWith-clause-ok : goal.returns-in-HaltWith-clause-ok
 unfolding row
 returns-in-HaltWith-clause-ok c t sel =
     let s = c.args.self.now in
     let P = c.args.program.now in
-    on_ok_map c.halt_with.result (selected P s c.halt_with.new.self c.args.form c.args.source t c.args.level (depth_of P s) (goals_of s.stack c.args.rest) s.stack.env.count (local_of s) _ sel (ap (shown_form s.stack.env.heap (indicator t) s.args.items) c.in-HaltWith.is)) c.halt_with.ensures.ok
+    on_ok_map c.halt_with.result (selected P s c.halt_with.new.self c.args.form c.args.source t c.args.level (depth_of s) (goals_of s.stack c.args.rest) s.stack.env.count (local_of s) _ sel (ap (shown_form s.stack.env.heap (indicator t) s.args.items) c.in-HaltWith.is)) c.halt_with.ensures.ok
 
 pub returns-in-BuiltIn-clause-ok : goal.returns-in-BuiltIn-clause-ok
 unfolding row
 returns-in-BuiltIn-clause-ok c t sel =
     let s = c.args.self.now in
     let P = c.args.program.now in
-    on_ok_map c.built_in.result (selected P s c.built_in.new.self c.args.form c.args.source t c.args.level (depth_of P s) (goals_of s.stack c.args.rest) s.stack.env.count (local_of s) _ sel (ap (shown_form s.stack.env.heap (indicator t) s.args.items) c.in-BuiltIn.is)) (c.built_in.ensures.ok t sel.stands)
+    on_ok_map c.built_in.result (selected P s c.built_in.new.self c.args.form c.args.source t c.args.level (depth_of s) (goals_of s.stack c.args.rest) s.stack.env.count (local_of s) _ sel (ap (shown_form s.stack.env.heap (indicator t) s.args.items) c.in-BuiltIn.is)) (c.built_in.ensures.ok t sel.stands)
 
 pub returns-in-Call-clause-ok : goal.returns-in-Call-clause-ok
 unfolding row
 returns-in-Call-clause-ok c t sel =
     let s = c.args.self.now in
     let P = c.args.program.now in
-    on_ok_map c.call.result (selected P s c.call.new.self c.args.form c.args.source t c.args.level (depth_of P s) (goals_of s.stack c.args.rest) s.stack.env.count (local_of s) _ sel (ap (shown_form s.stack.env.heap (indicator t) s.args.items) c.in-Call.is)) (c.call.ensures.ok _ t sel.stands (subst (λ f. IsCall P s f t) c.in-Call.is sel.call))
+    on_ok_map c.call.result (selected P s c.call.new.self c.args.form c.args.source t c.args.level (depth_of s) (goals_of s.stack c.args.rest) s.stack.env.count (local_of s) _ sel (ap (shown_form s.stack.env.heap (indicator t) s.args.items) c.in-Call.is)) (c.call.ensures.ok _ t sel.stands (subst (λ f. IsCall P s f t) c.in-Call.is sel.call))
 
 pub returns-in-CallWith-clause-ok : goal.returns-in-CallWith-clause-ok
 unfolding row
@@ -192,9 +192,9 @@ returns-in-CallWith-clause-ok c t sel =
     let h = s.stack.env.heap in
     let x = some-first s.args.items (subst (IsInside h s.args.items) c.in-CallWith.is sel.inside) in
     on_ok_map c.call_with.result
-    (λ moved. selected P s c.call_with.new.self c.args.form c.args.source t c.args.level (depth_of P s) (goals_of s.stack c.args.rest) s.stack.env.count (local_of s) _ sel
+    (λ moved. selected P s c.call_with.new.self c.args.form c.args.source t c.args.level (depth_of s) (goals_of s.stack c.args.rest) s.stack.env.count (local_of s) _ sel
     (ap (shown_form h (indicator t) s.args.items) c.in-CallWith.is ∙ ap (λ xs. call_with (map (value h) xs)) x.2)
-    (moved-as P s c.call_with.new.self _ _ (ap (λ k. run (called (value h x.0) (map (value h) x.1)) (call_n k) [] (depth_of P s) (goals_of s.stack c.args.rest) s.stack.env.count (local_of s)) (sym (length-map x.1 (value h)))) moved))
+    (moved-as P s c.call_with.new.self _ _ (ap (λ k. run (called (value h x.0) (map (value h) x.1)) (call_n k) [] (depth_of s) (goals_of s.stack c.args.rest) s.stack.env.count (local_of s)) (sym (length-map x.1 (value h)))) moved))
     (c.call_with.ensures.ok x.0 x.1 x.2)
 
 pub both-requires-clause-first : goal.both-requires-clause-first

@@ -1,5 +1,5 @@
-use Rattle.std.proofs.Common.{refl}
-use Rattle.plstack.specs.StaticCalls.{statics_of}
+use Rattle.std.proofs.Common.{[], refl}
+use Rattle.plstack.specs.StaticCalls.{database_of}
 use Rattle.plmachine.proofs.Moves.{on_err}
 use Rattle.plmachine.proofs.Calling.{chooses, chooses-none, stays-at}
 use Rattle.plmachine.proofs.machine.Machine.several.Goals as goal
@@ -10,11 +10,11 @@ returns-in_err-call_answers-clause-err c = on_err _ (stays-at c.args.program.now
 pub returns-then-branch-clause-ok : goal.returns-then-branch-clause-ok
 returns-then-branch-clause-ok c =
     let P = c.args.program.now in
-    let a = c.in_ok-call_answers.ensures.yes c.if-branch.true (statics_of P) in
-    chooses P c.args.self.now _ c.call_answers.new.self _ a.others c.requires.visits c.call_answers.ensures.code refl a.places a.cases
+    let a = c.in_ok-call_answers.ensures.yes c.if-branch.true in
+    chooses P c.args.self.now _ c.call_answers.new.self _ c.requires.visits c.call_answers.ensures.code refl (λ v. ((a (database_of P v)).others, (a (database_of P v)).places, (a (database_of P v)).cases))
 
 pub returns-clause-ok : goal.returns-clause-ok
 returns-clause-ok c =
     let P = c.args.program.now in
-    let a = c.in_ok-call_answers.ensures.no c.if-branch.false (statics_of P) in
-    chooses-none P c.args.self.now c.give.new.self c.call_answers.new.self _ c.call_answers.ensures.code c.give.ensures a.none a.cases
+    let a = c.in_ok-call_answers.ensures.no c.if-branch.false in
+    chooses-none P c.args.self.now c.give.new.self c.call_answers.new.self _ c.call_answers.ensures.code c.give.ensures (a (database_of P (λ g. []))).none (λ v. (a (database_of P v)).cases)

@@ -50,10 +50,10 @@ returns-in-Call-Static-clause-ok c u stands =
     let i = subst (λ q. IsCallOf P t (indicator u) q u) {x = c.in-Call-Static.field-0} (rw c.in-Call-Static.is at c.in-Call-Static.field-0-is) (subst (λ f. IsCall P t f u) c.in-Call-Static.is sel.call) in
     on_ok_map c.resolve.result
     (λ moved. moved-with P s t c.resolve.new.self _ _ grown c.form.ensures.frame
-    (ap₂ (λ d es. row P (form_by_term u) k u d es t.stack.env.count (local_of t)) (grown-depth P s t grown) goals
-    ∙ ap₂ (λ n w. row P (form_by_term u) k u (depth_of P s) (goals_of s.stack c.args.rest) n w) grown.count (ap (λ x. local_of x) c.form.ensures.frame))
-    (selected P t c.resolve.new.self _ c.args.source u k (depth_of P t) (goals_of t.stack c.args.rest) t.stack.env.count (local_of t) _ sel (ap (shown_form t.stack.env.heap (indicator u) t.args.items) c.in-Call-Static.is)
-    (moved-as P t c.resolve.new.self _ _ (user-some (clauses_for P (indicator u)) (depth_of P t) u (goals_of t.stack c.args.rest) t.stack.env.count (local_of t) i.static.some) moved)))
+    (ap₂ (λ d es. row P (form_by_term u) k u d es t.stack.env.count (local_of t)) (grown-depth s t grown) goals
+    ∙ ap₂ (λ n w. row P (form_by_term u) k u (depth_of s) (goals_of s.stack c.args.rest) n w) grown.count (ap (λ x. local_of x) c.form.ensures.frame))
+    (selected P t c.resolve.new.self _ c.args.source u k (depth_of t) (goals_of t.stack c.args.rest) t.stack.env.count (local_of t) _ sel (ap (shown_form t.stack.env.heap (indicator u) t.args.items) c.in-Call-Static.is)
+    (moved-as P t c.resolve.new.self _ _ (user-some (clauses_for P (indicator u)) (depth_of t) u (goals_of t.stack c.args.rest) t.stack.env.count (local_of t) i.static.some) moved)))
     (c.resolve.ensures.ok (indicator u) u i)
 
 pub returns-in-Call-Static-clause-err : goal.returns-in-Call-Static-clause-err
@@ -70,8 +70,8 @@ returns-clause-ok c u stands =
     let grown = c.form.ensures.grown in
     let goals = (grown.extends.lists c.args.rest c.requires.rest).1 in
     on_ok_map c.select.result (moved-with P s t c.select.new.self _ _ grown c.form.ensures.frame
-    (ap₂ (λ d es. row P (form_by_term u) k u d es t.stack.env.count (local_of t)) (grown-depth P s t grown) goals
-    ∙ ap₂ (λ n w. row P (form_by_term u) k u (depth_of P s) (goals_of s.stack c.args.rest) n w) grown.count (ap (λ x. local_of x) c.form.ensures.frame))) (c.select.ensures.ok u (c.in_ok-form.ensures.ok u stands))
+    (ap₂ (λ d es. row P (form_by_term u) k u d es t.stack.env.count (local_of t)) (grown-depth s t grown) goals
+    ∙ ap₂ (λ n w. row P (form_by_term u) k u (depth_of s) (goals_of s.stack c.args.rest) n w) grown.count (ap (λ x. local_of x) c.form.ensures.frame))) (c.select.ensures.ok u (c.in_ok-form.ensures.ok u stands))
 
 pub returns-clause-err : goal.returns-clause-err
 returns-clause-err c =
@@ -87,4 +87,4 @@ returns-in-Some-clause-ok c = λ u stands.
     let s = c.args.self.now in
     let P = c.args.program.now in
     let k = subst (λ o. IfSome o (λ k. IsCalculation s.stack k u)) c.in-Some.is (c.calculation.ensures P u c.requires.begun stands) in
-    on_ok_map c.calculate.result (moved-as P s c.calculate.new.self _ _ (ap (λ f. row P f c.args.level u (depth_of P s) (goals_of s.stack c.args.rest) s.stack.env.count (local_of s)) (sym k.is))) (c.calculate.ensures.ok u k)
+    on_ok_map c.calculate.result (moved-as P s c.calculate.new.self _ _ (ap (λ f. row P f c.args.level u (depth_of s) (goals_of s.stack c.args.rest) s.stack.env.count (local_of s)) (sym k.is))) (c.calculate.ensures.ok u k)

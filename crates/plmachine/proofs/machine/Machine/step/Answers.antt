@@ -15,7 +15,7 @@ returns-in-Or-clause-ok c es at =
     let r = c.args.run in
     let e = subst (λ o. IsFor s.stack.code.text r.position o c.args.step.goal at.goal) c.in-Or.is at.is in
     on_ok_map c.either.result (moved-as P s c.either.new.self _ _
-    (either-move P s.stack r (depth_of P s) (goals_of s.stack c.args.rest) s.stack.env.count (local_of s) at.goal at.is_converted e.left e.right _ _ e.form_is
+    (either-move P s.stack r (depth_of s) (goals_of s.stack c.args.rest) s.stack.env.count (local_of s) at.goal at.is_converted e.left e.right _ _ e.form_is
     (ap (elements_of s.stack) c.branch-left.ensures ∙ branch-is s.stack r at.width at.own at.slots c.in-Or.left e.left e.left_begins.goals)
     (ap (elements_of s.stack) c.branch-right.ensures ∙ branch-is s.stack r at.width at.own at.slots c.in-Or.right e.right e.right_begins.goals))) c.either.ensures.ok
 
@@ -24,7 +24,7 @@ returns-in-IfThen-clause-ok c es at =
     let s = c.args.self.now in
     let P = c.args.program.now in
     let r = c.args.run in
-    let d = depth_of P s in
+    let d = depth_of s in
     let e = subst (λ o. IsFor s.stack.code.text r.position o c.args.step.goal at.goal) c.in-IfThen.is at.is in
     on_ok_map c.then.result (moved-as P s c.then.new.self _ _
     (then-move P s.stack r d (goals_of s.stack c.args.rest) s.stack.env.count (local_of s) at.goal at.is_converted e.condition e.success _ _ e.form_is
@@ -36,7 +36,7 @@ returns-in-IfThenElse-clause-ok c es at =
     let s = c.args.self.now in
     let P = c.args.program.now in
     let r = c.args.run in
-    let d = depth_of P s in
+    let d = depth_of s in
     let e = subst (λ o. IsFor s.stack.code.text r.position o c.args.step.goal at.goal) c.in-IfThenElse.is at.is in
     on_ok_map c.then_else.result (moved-as P s c.then_else.new.self _ _
     (then-else-move P s.stack r d (goals_of s.stack c.args.rest) s.stack.env.count (local_of s) at.goal at.is_converted e.condition e.success e.failure _ _ _ e.form_is

@@ -2,7 +2,6 @@ use Rattle.std.proofs.Common.{◌≡◌, refl, suc, sym, ap, ap₂, ◌∙◌, �
 use Rattle.plsearch.specs.Types.{Choice}
 use Rattle.plsearch.specs.Rows.{branch}
 use Rattle.plstack.specs.State.{goals_of}
-use Rattle.plstack.specs.StaticCalls.{statics_of}
 use Rattle.plmachine.specs.Lists.{IsPart}
 use Rattle.plmachine.specs.Machine.{depth_of}
 use Rattle.plmachine.proofs.Lists.{lengthened-grown, lengthened-trans, part-level, part-there, then-list}
@@ -32,11 +31,11 @@ returns-clause-ok c =
     let b = c.two_in_turn.new.stack in
     let f = lengthened-trans s.stack a b c.two_before.ensures.grows c.two_in_turn.ensures.grows in
     let g = lengthened-grown s.stack b f in
-    let depth = c.depth-depth.ensures (statics_of c.args.program.now) in
+    let depth = c.depth-depth.ensures.is in
     let next : c.in-Some.inner ≡ suc c.depth-depth.result = omega (arith, c.in-Some.ensures.some) in
     let failing = c.two_in_turn.ensures.grows.extends.lists c.in_ok-following.failing c.in_ok-following.ensures.second.there in
     let list = then-list s.stack a b c.args.condition c.args.then c.in_ok-following.following c.in_ok-list.list (goals_of s.stack c.args.rest) c.two_before.ensures.grows c.in_ok-following.ensures.first
-    c.at_level.result c.in-Some.inner (suc (depth_of c.args.program.now s)) c.depth-depth.result (depth_of c.args.program.now s) c.at_level.ensures (next ∙ ap suc depth) depth c.in_ok-list.ensures.ok in
+    c.at_level.result c.in-Some.inner (suc (depth_of s)) c.depth-depth.result (depth_of s) c.at_level.ensures (next ∙ ap suc depth) depth c.in_ok-list.ensures.ok in
     on_ok_map c.enter.result (moved-grown c.args.program.now s _ c.enter.new.self _ _ g refl
     (go-same _ _ _ _ _ _ _ _
     (ap₂ (λ gs n. Choice [] ∷ branch gs n ∷ []) (failing.1 ∙ c.in_ok-following.ensures.second.is) g.count)

@@ -1,7 +1,7 @@
-use Rattle.std.proofs.Common.{arith}
+use Rattle.std.proofs.Common.{◌∙◌, arith}
 use Rattle.plsolver.specs.Solver.{Settled}
 use Rattle.plsolver.specs.Says.{Says}
-use Rattle.plsolver.proofs.Runs.{says-look}
+use Rattle.plsolver.proofs.Runs.{goes_on, says-look}
 use Rattle.plsolver.proofs.progress.Progress.advance.Goals as goal
 
 pub returns-then-left-eq0-clause-says : goal.returns-then-left-eq0-clause-says
@@ -28,3 +28,25 @@ asked-requires-clause-waits c = rw c.in-Await.is at c.in_ok-selected.ensures.due
 pub ended-requires-clause-over : goal.ended-requires-clause-over
 unfolding Settled
 ended-requires-clause-over c = rw c.in-Over.is at c.in_ok-selected.ensures.due
+
+pub wanted-requires-clause-fetching : goal.wanted-requires-clause-fetching
+unfolding Settled
+wanted-requires-clause-fetching c = rw c.in-Fetch.is at c.in_ok-selected.ensures.due
+
+pub loop-selected-preserved : goal.loop-selected-preserved
+unfolding Settled
+loop-selected-preserved c =
+    let P = c.args.program.now in
+    let s = c.args.self.now in
+    let t = c.settle.new.self in
+    let i = c.loop-selected.invariant in
+    let step = c.in_ok-step-in-Goal.ensures.ok in
+    let more = (rw c.in-Goal.is at c.in_ok-selected.ensures.due).1 in
+    record {
+      goes = goes_on P s t c.step.new.self (c.settle.ensures.limit ∙ i.limit) (goes_on P s c.loop-selected.self t i.limit i.goes c.settle.ensures.goes) step.goes;
+      of = c.step.ensures.of;
+      used = omega (arith, step.used, c.settle.ensures.used, i.used, c.if-left-eq0.false);
+      within = omega (arith, step.used, more, c.settle.ensures.limit, i.limit);
+      limit = step.limit ∙ c.settle.ensures.limit ∙ i.limit;
+      places = step.places ∙ c.settle.ensures.places ∙ i.places;
+    }

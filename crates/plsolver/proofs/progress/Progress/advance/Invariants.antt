@@ -1,11 +1,10 @@
 use Rattle.std.proofs.Common.{◌≡◌, ◌+◌, ◌≤◌}
-use Rattle.plsearch.specs.Solving.{Goes}
-use Rattle.plsolver.specs.Solver.{IsOf, rest_of}
+use Rattle.plsolver.specs.Solver.{GoesTo, IsOf}
 use Rattle.plsolver.proofs.progress.Progress.advance.Given as goal
 
 abbrev pub invariant-loop-selected : goal.invariant-loop-selected
 invariant-loop-selected l = record {
-  goes : Goes l.fn.self.limit (rest_of l.program l.fn.self) l.fn.self.used (rest_of l.program l.self) l.self.used;
+  goes : GoesTo l.program l.fn.self l.self;
   of : IsOf l.program l.self.machine;
   used : l.self.used + l.left ≡ l.fn.self.used + l.fuel;
   within : l.self.used ≤ l.fn.self.limit;

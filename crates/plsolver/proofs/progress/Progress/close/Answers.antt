@@ -1,35 +1,36 @@
 use Rattle.std.proofs.Common.{◌≡◌, ◌-◌, inl, inr, refl, ap, ◌∙◌, arith}
 use Rattle.plsearch.specs.Engine.{deeper}
 use Rattle.plstack.specs.State.{cases_of}
-use Rattle.plstack.specs.StaticCalls.{statics_of}
+use Rattle.plstack.specs.StaticCalls.{database_of}
 use Rattle.plmachine.specs.Machine.{depth_of}
 use Rattle.plsolver.specs.Solver.{Settled, throws_to}
 use Rattle.plsolver.proofs.Quiets.{quiet-mark, quiet-handler, quiet-choice, over-now}
+use Rattle.plstack.proofs.Stacks.{depth-in}
 use Rattle.plsolver.proofs.progress.Progress.close.Goals as goal
 
 pub returns-in_default-clause-due : goal.returns-in_default-clause-due
 unfolding Settled
-returns-in_default-clause-due c = rw c.in_default.ensures.same (over-now c.args.program.now c.args.self.now c.requires.back (c.in_default.ensures.none (statics_of c.args.program.now)), refl)
+returns-in_default-clause-due c = rw c.in_default.ensures.same (over-now c.args.program.now c.args.self.now c.requires.back (λ v. c.in_default.ensures.none (database_of c.args.program.now v)), refl)
 
 pub returns-in-Mark-clause-on : goal.returns-in-Mark-clause-on
-returns-in-Mark-clause-on c =
-    let closed = (rw c.in-Mark.is at c.in-Some.ensures.some) (statics_of c.args.program.now) in
-    quiet-mark c.args.program.now c.args.self.now c.pass_mark.new.self c.close.new.self c.in-Mark.level c.requires.back c.close.ensures.code closed c.pass_mark.ensures
+returns-in-Mark-clause-on c = λ v.
+    let closed = (rw c.in-Mark.is at c.in-Some.ensures.some) (database_of c.args.program.now v) in
+    quiet-mark c.args.program.now v c.args.self.now c.pass_mark.new.self c.close.new.self c.in-Mark.level c.requires.back c.close.ensures.code closed c.pass_mark.ensures
 
 pub returns-in-Choice-clause-on : goal.returns-in-Choice-clause-on
-returns-in-Choice-clause-on c =
+returns-in-Choice-clause-on c = λ v.
     let P = c.args.program.now in
-    let closed = (rw c.in-Choice.is at c.in-Some.ensures.some) (statics_of P) in
-    quiet-choice P c.args.self.now c.stop_cut.new.self c.close.new.self closed.0 c.requires.back c.close.ensures.code closed.1
-    (λ f. closed.2 (λ has. c.requires.tried f (inr (inl has))) (λ has. c.requires.tried f (inr (inr (inl has)))) (λ has. c.requires.tried f (inl has)) (λ has. c.requires.tried f (inr (inr (inr has)))))
-    (c.stop_cut.ensures (statics_of P))
+    let closed = (rw c.in-Choice.is at c.in-Some.ensures.some) (database_of P v) in
+    quiet-choice P v c.args.self.now c.stop_cut.new.self c.close.new.self closed.0 c.requires.back c.close.ensures.code closed.1
+    (λ f. closed.2 (λ has. c.requires.tried f (inr (inl has))) (λ has. c.requires.walked f has) (λ has. c.requires.tried f (inl has)) (λ has. c.requires.tried f (inr (inr has))))
+    (c.stop_cut.ensures (database_of P v))
 
 pub returns-in-Handler-clause-on : goal.returns-in-Handler-clause-on
-returns-in-Handler-clause-on c =
+returns-in-Handler-clause-on c = λ v.
     let s = c.args.self.now in
     let P = c.args.program.now in
-    let closed = (rw c.in-Handler.is at c.in-Some.ensures.some) (statics_of P) in
-    let deep : depth_of P s.machine - 1 ≡ deeper (cases_of (statics_of P) c.close.new.self) 0 = omega (arith, ap (λ cs. deeper cs 0) closed.2) in
-    quiet-handler P s c.close.new.self closed.0 closed.1 c.requires.back c.close.ensures.code closed.2
+    let closed = (rw c.in-Handler.is at c.in-Some.ensures.some) (database_of P v) in
+    let deep : depth_of s.machine - 1 ≡ deeper (cases_of (database_of P v) c.close.new.self) 0 = omega (arith, depth-in (database_of P v) s.machine.stack, ap (λ cs. deeper cs 0) closed.2) in
+    quiet-handler P v s c.close.new.self closed.0 closed.1 c.requires.back c.close.ensures.code closed.2
     (λ k x is yes. closed.3 k x is (λ has. c.requires.caught has (ap (λ d. throws_to d s.machine.mode) deep ∙ yes)))
     (λ l is fails. closed.4 l is (λ has. c.requires.gathered has fails))

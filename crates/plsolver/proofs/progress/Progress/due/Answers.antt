@@ -1,10 +1,10 @@
-use Rattle.std.proofs.Common.{refl, arith}
+use Rattle.std.proofs.Common.{arith, refl}
 use Rattle.plsolver.specs.Solver.{Settled}
 use Rattle.plsolver.proofs.Quiets.{quiet-spent}
 use Rattle.plsolver.proofs.progress.Progress.due.Goals as goal
 
 pub returns-then-self-clause-on : goal.returns-then-self-clause-on
-returns-then-self-clause-on c = quiet-spent c.args.program.now c.args.self.now c.args.selected c.requires.first c.if-self.true
+returns-then-self-clause-on c = λ v. quiet-spent c.args.program.now v c.args.self.now c.args.selected c.requires.first c.if-self.true
 
 pub returns-clause-due : goal.returns-clause-due
 unfolding Settled

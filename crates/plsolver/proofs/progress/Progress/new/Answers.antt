@@ -3,4 +3,4 @@ use Rattle.plsolver.proofs.Starts.{begins}
 use Rattle.plsolver.proofs.progress.Progress.new.Goals as goal
 
 pub returns-clause-begins : goal.returns-clause-begins
-returns-clause-begins c = begins c.args.program.now _ c.in_ok-machine.ensures refl
+returns-clause-begins c = λ v. begins c.args.program.now v _ c.in_ok-machine.ensures refl

@@ -9,20 +9,20 @@ returns-in_ok-cut-in-Commit-clause-ok c =
     let s = c.args.self.now in
     let st = s.machine.stack in
     let marker = subst (λ m. AtMarker st (goals_of st st.goals) m c.args.level c.args.rest) c.in-Commit.is c.requires.marker in
-    quiet-commit c.args.program.now s c.cut.new.self c.args.level c.args.rest c.requires.visits marker c.in_ok-cut-in-Commit.ensures.ok
+    λ v. quiet-commit c.args.program.now v s c.cut.new.self c.args.level c.args.rest c.requires.visits marker c.in_ok-cut-in-Commit.ensures.ok
 
 pub returns-in-Never-clause-ok : goal.returns-in-Never-clause-ok
 returns-in-Never-clause-ok c =
     let s = c.args.self.now in
     let st = s.machine.stack in
-    quiet-never c.args.program.now s c.args.level c.args.rest c.requires.visits (subst (λ m. AtMarker st (goals_of st st.goals) m c.args.level c.args.rest) c.in-Never.is c.requires.marker)
+    λ v. quiet-never c.args.program.now v s c.args.level c.args.rest c.requires.visits (subst (λ m. AtMarker st (goals_of st st.goals) m c.args.level c.args.rest) c.in-Never.is c.requires.marker)
 
 pub returns-in-Until-clause-ok : goal.returns-in-Until-clause-ok
 returns-in-Until-clause-ok c =
     let s = c.args.self.now in
     let st = s.machine.stack in
     let marker = subst (λ m. AtMarker st (goals_of st st.goals) m c.args.level c.args.rest) c.in-Until.is c.requires.marker in
-    rw c.visit.ensures (quiet-until c.args.program.now s c.args.level c.args.rest c.requires.visits marker)
+    rw c.visit.ensures (λ v. quiet-until c.args.program.now v s c.args.level c.args.rest c.requires.visits marker)
 
 pub collect-requires : goal.collect-requires
 collect-requires c =
@@ -35,4 +35,4 @@ returns-in_ok-collect-in-Collect-clause-ok c =
     let s = c.args.self.now in
     let st = s.machine.stack in
     let marker = subst (λ m. AtMarker st (goals_of st st.goals) m c.args.level c.args.rest) c.in-Collect.is c.requires.marker in
-    quiet-collect c.args.program.now s c.collect.new.self c.in-Collect.v c.args.level c.args.rest c.requires.visits marker c.in_ok-collect-in-Collect.ensures.ok
+    λ v. quiet-collect c.args.program.now v s c.collect.new.self c.in-Collect.v c.args.level c.args.rest c.requires.visits marker c.in_ok-collect-in-Collect.ensures.ok

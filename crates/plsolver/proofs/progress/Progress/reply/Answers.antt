@@ -6,4 +6,4 @@ use Rattle.plsolver.proofs.progress.Progress.reply.Goals as goal
 pub returns-clause-ok : goal.returns-clause-ok
 returns-clause-ok c =
     let s = c.args.self.now in
-    replied c.args.program.now s _ c.in-Await.field-0 c.in-Await.next c.args.reply c.requires.fits (c.in-Ask.is ∙ ap modes.Ask c.in-Await.is) refl refl (ap (λ m. record s.machine { mode = m }) c.mode_after.ensures)
+    λ v. replied c.args.program.now v s _ c.in-Await.field-0 c.in-Await.next c.args.reply c.requires.fits (c.in-Ask.is ∙ ap modes.Ask c.in-Await.is) refl refl (ap (λ m. record s.machine { mode = m }) c.mode_after.ensures)

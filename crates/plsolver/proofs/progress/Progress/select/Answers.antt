@@ -4,7 +4,7 @@ use Rattle.plstack.specs.State.{goals_of}
 use Rattle.plmachine.specs.Selected.{bound_at}
 use Rattle.plmachine.proofs.Moves.{on_ok_map}
 use Rattle.plsolver.specs.Solver.{IsSelected}
-use Rattle.plsolver.proofs.Looks.{either_of}
+use Rattle.plsolver.proofs.Runs.{either_of}
 use Rattle.plsolver.proofs.Runs.{selects-both, selects-row}
 use Rattle.plsolver.proofs.progress.Progress.select.Goals as goal
 

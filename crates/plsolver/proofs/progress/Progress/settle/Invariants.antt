@@ -1,12 +1,11 @@
 use Rattle.std.proofs.Common.{◌≡◌}
-use Rattle.plsearch.specs.Solving.{Goes}
-use Rattle.plsolver.specs.Solver.{IsOf, rest_of}
+use Rattle.plsolver.specs.Solver.{GoesTo, IsOf}
 use Rattle.plsolver.proofs.Runs.{load}
 use Rattle.plsolver.proofs.progress.Progress.settle.Given as goal
 
 abbrev pub invariant-loop-due : goal.invariant-loop-due
 invariant-loop-due l = record {
-  goes : Goes l.fn.self.limit (rest_of l.program l.fn.self) l.fn.self.used (rest_of l.program l.self) l.self.used;
+  goes : GoesTo l.program l.fn.self l.self;
   of : IsOf l.program l.self.machine;
   used : l.self.used ≡ l.fn.self.used;
   limit : l.self.limit ≡ l.fn.self.limit;

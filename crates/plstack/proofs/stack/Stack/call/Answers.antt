@@ -12,17 +12,17 @@ open_call-requires-clause-values c =
 pub returns-clause-yes : goal.returns-clause-yes
 returns-clause-yes c =
     if_ok _ _ c.open_call.result
-    (λ yes calls is statics own.
-    let then = subst (λ (m : Compiled). AreStatics m statics) (sym (c.marks.ensures.stays.code ∙ c.in_ok-behind.ensures.ok.stays.code)) own in
-    calls-then c.args.self.now c.number_of.new.self c.marks.new.self c.open_call.new.self c.in_ok-behind.behind c.args.rest c.in_ok-behind.ensures.ok c.marks.ensures.stays c.marks.ensures.count statics c.args.procedure c.args.values.now c.requires.values
-    (rw c.alone.ensures at (calls is statics then)))
+    (λ yes calls is db own.
+    let then = subst (λ (m : Compiled). AreStatics m db) (sym (c.marks.ensures.stays.code ∙ c.in_ok-behind.ensures.ok.stays.code)) own in
+    calls-then c.args.self.now c.number_of.new.self c.marks.new.self c.open_call.new.self c.in_ok-behind.behind c.args.rest c.in_ok-behind.ensures.ok c.marks.ensures.stays c.marks.ensures.count db c.args.procedure c.args.values.now c.requires.values
+    (rw c.alone.ensures at (calls is db then)))
     c.open_call.ensures.yes
 
 pub returns-clause-no : goal.returns-clause-no
 returns-clause-no c =
     if_ok _ _ c.open_call.result
-    (λ no calls is statics own.
-    let then = subst (λ (m : Compiled). AreStatics m statics) (sym (c.marks.ensures.stays.code ∙ c.in_ok-behind.ensures.ok.stays.code)) own in
-    calls-none-then c.args.self.now c.number_of.new.self c.marks.new.self c.open_call.new.self c.in_ok-behind.behind c.args.rest c.in_ok-behind.ensures.ok c.marks.ensures.stays c.marks.ensures.count statics c.args.procedure c.args.values.now c.requires.values
-    (rw c.alone.ensures at (calls is statics then)))
+    (λ no calls is db own.
+    let then = subst (λ (m : Compiled). AreStatics m db) (sym (c.marks.ensures.stays.code ∙ c.in_ok-behind.ensures.ok.stays.code)) own in
+    calls-none-then c.args.self.now c.number_of.new.self c.marks.new.self c.open_call.new.self c.in_ok-behind.behind c.args.rest c.in_ok-behind.ensures.ok c.marks.ensures.stays c.marks.ensures.count db c.args.procedure c.args.values.now c.requires.values
+    (rw c.alone.ensures at (calls is db then)))
     c.open_call.ensures.no

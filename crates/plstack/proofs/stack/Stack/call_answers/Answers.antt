@@ -11,12 +11,12 @@ pub open_answers-requires-clause-turn : goal.open_answers-requires-clause-turn
 open_answers-requires-clause-turn c = turn_stays c.args.self.now.env.heap c.marks-marks.new.self.env.heap c.marks-marks.ensures.stays.values c.args.values.now c.requires.values c.args.turn c.requires.turn
 
 pub returns-in-Some-clause-yes : goal.returns-in-Some-clause-yes
-returns-in-Some-clause-yes c = λ _ statics.
+returns-in-Some-clause-yes c = λ _ db.
     let opens = rw c.in-Some.is at c.in_ok-opened.ensures.some in
-    answered_marked c.args.self.now c.marks-marks.new.self c.settle_opened.new.self c.marks-marks.ensures.stays c.marks-marks.ensures.count statics c.args.values.now c.requires.values c.args.rest c.requires.rest c.args.turn
-    (answered_settled statics c.marks-marks.new.self c.open_answers.new.self c.settle_opened.new.self c.args.values.now c.args.rest c.args.turn (opens refl statics) c.settle_opened.ensures)
+    answered_marked c.args.self.now c.marks-marks.new.self c.settle_opened.new.self c.marks-marks.ensures.stays c.marks-marks.ensures.count db c.args.values.now c.requires.values c.args.rest c.requires.rest c.args.turn
+    (answered_settled db c.marks-marks.new.self c.open_answers.new.self c.settle_opened.new.self c.args.values.now c.args.rest c.args.turn (opens refl db) c.settle_opened.ensures)
 
 pub returns-in-None-clause-no : goal.returns-in-None-clause-no
-returns-in-None-clause-no c = λ _ statics.
+returns-in-None-clause-no c = λ _ db.
     let none = rw c.in-None.is at c.in_ok-opened.ensures.none in
-    unanswered_marked c.args.self.now c.marks-marks.new.self c.open_answers.new.self c.marks-marks.ensures.stays c.marks-marks.ensures.count statics c.args.values.now c.requires.values c.args.rest c.requires.rest c.args.turn (none statics)
+    unanswered_marked c.args.self.now c.marks-marks.new.self c.open_answers.new.self c.marks-marks.ensures.stays c.marks-marks.ensures.count db c.args.values.now c.requires.values c.args.rest c.requires.rest c.args.turn (none db)

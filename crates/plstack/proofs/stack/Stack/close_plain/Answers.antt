@@ -9,5 +9,5 @@ returns-clause-closes c =
     rw (← c.self.view_is) (record {
       count = c.in-Some-Plain.n;
       some = (popped-frames (inside c.self.inside) c.self.inside.depth c.pop.new.self.items (Plain c.in-Some-Plain.n) e c.self.invariant).0;
-      was = λ statics. popped-cases statics (inside c.self.inside) c.pop.new.self.items (Plain c.in-Some-Plain.n) e;
+      was = λ db. popped-cases db (inside c.self.inside) c.pop.new.self.items (Plain c.in-Some-Plain.n) e;
     })

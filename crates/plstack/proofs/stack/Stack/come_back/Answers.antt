@@ -15,11 +15,11 @@ invariant_of-self c =
     rw (c.undo.ensures, c.truncate.ensures.items, c.truncate-2.ensures.items) (taken-stack s c.self.inside.depth c.self.invariant c.pop.new.self.items p popped c.count_up.new.frames.items c.count_up.ensures)
 
 pub returns-clause-retries : goal.returns-clause-retries
-returns-clause-retries c = λ statics.
+returns-clause-retries c = λ db.
     let s : State = inside c.self.inside in
     let p : Point = c.in-Some-Open.point in
     let popped : s.frames ≡ c.pop.new.self.items ++ Open p resumes.List ∷ [] = c.in-Some-Open.ensures.items ∙ ap (λ f. c.pop.new.self.items ++ f ∷ []) (c.in-Some-Open.field-0-is ∙ ap (Open p) c.in-List.is) in
-    rw (← c.self.view_is) (rw (c.undo.ensures, c.truncate.ensures.items, c.truncate-2.ensures.items) (taken s c.self.inside.depth c.self.invariant c.pop.new.self.items p popped c.count_up.new.frames.items c.count_up.ensures statics))
+    rw (← c.self.view_is) (rw (c.undo.ensures, c.truncate.ensures.items, c.truncate-2.ensures.items) (taken s c.self.inside.depth c.self.invariant c.pop.new.self.items p popped c.count_up.new.frames.items c.count_up.ensures db))
 
 pub returns-clause-within : goal.returns-clause-within
 returns-clause-within c =

@@ -8,9 +8,9 @@ invariant_of-self c =
     emptied-stack (inside c.self.inside) c.self.inside.depth c.self.invariant c.args.at.point c.args.at.call calling c.pop.new.self.items c.in-Some.field-0 c.in-Some.ensures.items c.count_up.new.frames.items c.count_up.ensures
 
 pub returns-clause-goes : goal.returns-clause-goes
-returns-clause-goes c = λ statics.
+returns-clause-goes c = λ db.
     let calling = rw (← c.self.view_is) at c.requires in
-    rw (← c.self.view_is) (emptied (inside c.self.inside) c.self.inside.depth c.self.invariant c.args.at.point c.args.at.call calling c.pop.new.self.items c.in-Some.field-0 c.in-Some.ensures.items c.count_up.new.frames.items c.count_up.ensures statics)
+    rw (← c.self.view_is) (emptied (inside c.self.inside) c.self.inside.depth c.self.invariant c.args.at.point c.args.at.call calling c.pop.new.self.items c.in-Some.field-0 c.in-Some.ensures.items c.count_up.new.frames.items c.count_up.ensures db)
 
 pub returns-clause-older : goal.returns-clause-older
 returns-clause-older c =

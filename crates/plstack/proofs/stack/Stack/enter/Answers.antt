@@ -9,10 +9,10 @@ use Rattle.plstack.proofs.Going.{goes_visited, level-of}
 use Rattle.plstack.proofs.stack.Stack.enter.Goals as goal
 
 pub returns-clause-enters : goal.returns-clause-enters
-returns-clause-enters c = λ statics.
+returns-clause-enters c = λ db.
     let s : State = c.args.self.now in
-    let goes = goes_visited statics s c.go_on.new.self c.body_list-list.result c.args.at.point c.args.at.call c.args.hit.next (rw c.visit.ensures at (c.go_on.ensures.goes statics)) in
-    let level = level-of statics (inside c.self.inside) s c.self.inside.depth c.self.invariant c.self.view_is _ goes.below goes.was in
+    let goes = goes_visited db s c.go_on.new.self c.body_list-list.result c.args.at.point c.args.at.call c.args.hit.next (rw c.visit.ensures at (c.go_on.ensures.goes db)) in
+    let level = level-of db (inside c.self.inside) s c.self.inside.depth c.self.invariant c.self.view_is _ goes.below goes.was in
     record {
       goes = goes;
       place = λ x code.

@@ -7,11 +7,11 @@ use Rattle.plstack.proofs.Finding.{if_some, if_none, run-kept, undone-stack, und
 use Rattle.plstack.proofs.stack.Stack.find.Goals as goal
 
 pub returns-then-call-clauses-clause-none : goal.returns-then-call-clauses-clause-none
-returns-then-call-clauses-clause-none c = λ statics own l.
+returns-then-call-clauses-clause-none c = λ db own l.
     let at = rw (← c.self.view_is) at c.requires.at in
     let o = rw (← c.self.view_is) at own in
     let past = rw (c.clauses.ensures, c.in-Some.ensures.some.1) at c.if-call-clauses.true in
-    rw (← c.self.view_is) (past-all (inside c.self.inside) c.self.inside.depth c.self.invariant c.args.at.now.point c.args.at.now.call at statics o c.in-Some.ensures.some.0 past l)
+    rw (← c.self.view_is) (past-all (inside c.self.inside) c.self.inside.depth c.self.invariant c.args.at.now.point c.args.at.now.call at db o c.in-Some.ensures.some.0 past l)
 
 pub first_hit-requires-clause-attempt : goal.first_hit-requires-clause-attempt
 first_hit-requires-clause-attempt c =
@@ -22,8 +22,8 @@ first_hit-requires-clause-attempt c =
     let key_is = rw (c.heap.ensures.is, c.deref.ensures.value, kept) at c.first_key.ensures in
     let laid = c.nodes.ensures.laid in (
       s.code.text,
-      (o.0 c.args.at.now.call.procedure).name,
-      (o.0 c.args.at.now.call.procedure).clauses,
+      (o.0.statics c.args.at.now.call.procedure).name,
+      (o.0.statics c.args.at.now.call.procedure).clauses,
       rw (c.deref.ensures.value, kept, c.nodes.ensures.is, c.in-Some.ensures.some.1) (the-attempt s c.self.inside.depth c.self.invariant c.args.at.now.point c.args.at.now.call at o.0 o.1 c.in-Some.ensures.some.0 c.first_key.result key_is laid),
     )
 
@@ -35,7 +35,7 @@ invariant_of-self c =
     let kept = run-kept c.args.at.now.point.marks.saved c.args.at.now.call.count s.saved in
     let key_is = rw (c.heap.ensures.is, c.deref.ensures.value, kept) at c.first_key.ensures in
     let some = rw (c.deref.ensures.value, kept, c.nodes.ensures.is, c.in-Some.ensures.some.1) at c.in-Ok.ensures.some in
-    found-stack s c.self.inside.depth c.self.invariant c.args.at.now.point c.args.at.now.call at o.0 o.1 c.in-Some.ensures.some.0 c.first_key.result key_is c.nodes.ensures.laid c.first_hit.new.env c.first_hit.ensures.keeps c.heap-in-Ok.ensures.env c.in-Ok.hit (if_some _ _ c.in-Ok.hit (λ hit f. f s.code.text (o.0 c.args.at.now.call.procedure).name (o.0 c.args.at.now.call.procedure).clauses (the-attempt s c.self.inside.depth c.self.invariant c.args.at.now.point c.args.at.now.call at o.0 o.1 c.in-Some.ensures.some.0 c.first_key.result key_is c.nodes.ensures.laid)) some) c.in-Ok.ensures.same
+    found-stack s c.self.inside.depth c.self.invariant c.args.at.now.point c.args.at.now.call at o.0 o.1 c.in-Some.ensures.some.0 c.first_key.result key_is c.nodes.ensures.laid c.first_hit.new.env c.first_hit.ensures.keeps c.heap-in-Ok.ensures.env c.in-Ok.hit (if_some _ _ c.in-Ok.hit (λ hit f. f s.code.text (o.0.statics c.args.at.now.call.procedure).name (o.0.statics c.args.at.now.call.procedure).clauses (the-attempt s c.self.inside.depth c.self.invariant c.args.at.now.point c.args.at.now.call at o.0 o.1 c.in-Some.ensures.some.0 c.first_key.result key_is c.nodes.ensures.laid)) some) c.in-Ok.ensures.same
 
 pub undo-requires : goal.undo-requires
 undo-requires c =
@@ -57,8 +57,8 @@ returns-in-Ok-clause-some c =
     let kept = run-kept c.args.at.now.point.marks.saved c.args.at.now.call.count s.saved in
     let key_is = rw (c.heap.ensures.is, c.deref.ensures.value, kept) at c.first_key.ensures in
     let some = rw (c.deref.ensures.value, kept, c.nodes.ensures.is, c.in-Some.ensures.some.1) at c.in-Ok.ensures.some in
-    rw (← c.self.view_is) (if_some _ _ c.in-Ok.hit (λ hit f. λ statics own.
-    hits s c.self.inside.depth c.self.invariant c.args.at.now.point c.args.at.now.call at statics own c.in-Some.ensures.some.0 c.first_key.result key_is c.nodes.ensures.laid c.first_hit.new.env c.first_hit.ensures.keeps c.heap-in-Ok.ensures.env hit (f s.code.text (statics c.args.at.now.call.procedure).name (statics c.args.at.now.call.procedure).clauses (the-attempt s c.self.inside.depth c.self.invariant c.args.at.now.point c.args.at.now.call at statics own c.in-Some.ensures.some.0 c.first_key.result key_is c.nodes.ensures.laid))) some)
+    rw (← c.self.view_is) (if_some _ _ c.in-Ok.hit (λ hit f. λ db own.
+    hits s c.self.inside.depth c.self.invariant c.args.at.now.point c.args.at.now.call at db own c.in-Some.ensures.some.0 c.first_key.result key_is c.nodes.ensures.laid c.first_hit.new.env c.first_hit.ensures.keeps c.heap-in-Ok.ensures.env hit (f s.code.text (db.statics c.args.at.now.call.procedure).name (db.statics c.args.at.now.call.procedure).clauses (the-attempt s c.self.inside.depth c.self.invariant c.args.at.now.point c.args.at.now.call at db own c.in-Some.ensures.some.0 c.first_key.result key_is c.nodes.ensures.laid))) some)
 
 pub returns-in-Ok-clause-binds : goal.returns-in-Ok-clause-binds
 returns-in-Ok-clause-binds c =
@@ -68,7 +68,7 @@ returns-in-Ok-clause-binds c =
     let kept = run-kept c.args.at.now.point.marks.saved c.args.at.now.call.count s.saved in
     let key_is = rw (c.heap.ensures.is, c.deref.ensures.value, kept) at c.first_key.ensures in
     let some = rw (c.deref.ensures.value, kept, c.nodes.ensures.is, c.in-Some.ensures.some.1) at c.in-Ok.ensures.some in
-    rw (← c.self.view_is) (if_some _ _ c.in-Ok.hit (λ hit f. hit-binds s c.self.inside.depth c.self.invariant c.args.at.now.point c.args.at.now.call at o.0 o.1 c.in-Some.ensures.some.0 c.first_key.result key_is c.nodes.ensures.laid c.first_hit.new.env c.first_hit.ensures.keeps c.heap-in-Ok.ensures.env hit (f s.code.text (o.0 c.args.at.now.call.procedure).name (o.0 c.args.at.now.call.procedure).clauses (the-attempt s c.self.inside.depth c.self.invariant c.args.at.now.point c.args.at.now.call at o.0 o.1 c.in-Some.ensures.some.0 c.first_key.result key_is c.nodes.ensures.laid))) some)
+    rw (← c.self.view_is) (if_some _ _ c.in-Ok.hit (λ hit f. hit-binds s c.self.inside.depth c.self.invariant c.args.at.now.point c.args.at.now.call at o.0 o.1 c.in-Some.ensures.some.0 c.first_key.result key_is c.nodes.ensures.laid c.first_hit.new.env c.first_hit.ensures.keeps c.heap-in-Ok.ensures.env hit (f s.code.text (o.0.statics c.args.at.now.call.procedure).name (o.0.statics c.args.at.now.call.procedure).clauses (the-attempt s c.self.inside.depth c.self.invariant c.args.at.now.point c.args.at.now.call at o.0 o.1 c.in-Some.ensures.some.0 c.first_key.result key_is c.nodes.ensures.laid))) some)
 
 pub returns-in-Ok-clause-none : goal.returns-in-Ok-clause-none
 returns-in-Ok-clause-none c =
@@ -77,20 +77,20 @@ returns-in-Ok-clause-none c =
     let kept = run-kept c.args.at.now.point.marks.saved c.args.at.now.call.count s.saved in
     let key_is = rw (c.heap.ensures.is, c.deref.ensures.value, kept) at c.first_key.ensures in
     let none = rw (c.deref.ensures.value, kept, c.nodes.ensures.is, c.in-Some.ensures.some.1) at c.in-Ok.ensures.none in
-    rw (← c.self.view_is) (if_none _ _ c.in-Ok.hit (λ f. λ statics own l. nothing-left s c.self.inside.depth c.self.invariant c.args.at.now.point c.args.at.now.call at statics own c.in-Some.ensures.some.0 c.first_key.result key_is c.nodes.ensures.laid c.first_hit.new.env c.first_hit.ensures.keeps c.heap-in-Ok.ensures.env (f s.code.text (statics c.args.at.now.call.procedure).name (statics c.args.at.now.call.procedure).clauses (the-attempt s c.self.inside.depth c.self.invariant c.args.at.now.point c.args.at.now.call at statics own c.in-Some.ensures.some.0 c.first_key.result key_is c.nodes.ensures.laid)) l) none)
+    rw (← c.self.view_is) (if_none _ _ c.in-Ok.hit (λ f. λ db own l. nothing-left s c.self.inside.depth c.self.invariant c.args.at.now.point c.args.at.now.call at db own c.in-Some.ensures.some.0 c.first_key.result key_is c.nodes.ensures.laid c.first_hit.new.env c.first_hit.ensures.keeps c.heap-in-Ok.ensures.env (f s.code.text (db.statics c.args.at.now.call.procedure).name (db.statics c.args.at.now.call.procedure).clauses (the-attempt s c.self.inside.depth c.self.invariant c.args.at.now.point c.args.at.now.call at db own c.in-Some.ensures.some.0 c.first_key.result key_is c.nodes.ensures.laid)) l) none)
 
 pub returns-in-Ok-clause-cases : goal.returns-in-Ok-clause-cases
-returns-in-Ok-clause-cases c = λ statics.
+returns-in-Ok-clause-cases c = λ db.
     let s : State = inside c.self.inside in
     let at = rw (← c.self.view_is) at c.requires.at in
-    rw (← c.self.view_is) (cases-stay s c.self.inside.depth c.self.invariant c.args.at.now.point c.args.at.now.call at c.first_hit.new.env c.first_hit.ensures.keeps c.heap-in-Ok.ensures.env statics)
+    rw (← c.self.view_is) (cases-stay s c.self.inside.depth c.self.invariant c.args.at.now.point c.args.at.now.call at c.first_hit.new.env c.first_hit.ensures.keeps c.heap-in-Ok.ensures.env db)
 
 pub returns-in-Err-clause-cases : goal.returns-in-Err-clause-cases
-returns-in-Err-clause-cases c = λ statics.
+returns-in-Err-clause-cases c = λ db.
     let s : State = inside c.self.inside in
     let at = rw (← c.self.view_is) at c.requires.at in
     let then = c.undo.ensures ∙ then-cut s c.self.inside.depth c.self.invariant c.args.at.now.point c.args.at.now.call at c.first_hit.new.env c.first_hit.ensures.keeps c.heap-in-Err.ensures.env in
-    rw (← c.self.view_is) (rw then (undone-cases s c.self.inside.depth c.self.invariant c.args.at.now.point c.args.at.now.call at c.first_hit.new.env.heap.names c.heap-in-Err.ensures.env.heap.names c.first_hit.ensures.keeps.names (rw then at c.heap-in-Err-2.ensures.env) statics))
+    rw (← c.self.view_is) (rw then (undone-cases s c.self.inside.depth c.self.invariant c.args.at.now.point c.args.at.now.call at c.first_hit.new.env.heap.names c.heap-in-Err.ensures.env.heap.names c.first_hit.ensures.keeps.names (rw then at c.heap-in-Err-2.ensures.env) db))
 
 pub returns-in-Err-clause-place : goal.returns-in-Err-clause-place
 returns-in-Err-clause-place c =

@@ -3,5 +3,5 @@ use Rattle.plstack.proofs.Going.{goes_settled}
 use Rattle.plstack.proofs.stack.Stack.go_on.Goals as goal
 
 pub returns-in-None-clause-goes : goal.returns-in-None-clause-goes
-returns-in-None-clause-goes c = λ statics.
-    rw c.in-None.is (goes_settled statics c.args.self.now c.empty_call.new.self c.settle.new.self c.args.at.point c.args.at.call None (c.empty_call.ensures.goes statics) c.settle.ensures)
+returns-in-None-clause-goes c = λ db.
+    rw c.in-None.is (goes_settled db c.args.self.now c.empty_call.new.self c.settle.new.self c.args.at.point c.args.at.call None (c.empty_call.ensures.goes db) c.settle.ensures)

@@ -3,5 +3,5 @@ use Rattle.plstack.proofs.Entering.{left-call}
 use Rattle.plstack.proofs.stack.Stack.leave_call.Goals as goal
 
 pub returns-clause-cases : goal.returns-clause-cases
-returns-clause-cases c = λ statics x below.
-    rw (← c.self.view_is) (left-call (inside c.self.inside) c.pop.new.self.items _ c.in-Some.ensures.items (rw (← c.self.view_is) at c.requires) statics x below)
+returns-clause-cases c = λ db x below.
+    rw (← c.self.view_is) (left-call (inside c.self.inside) c.pop.new.self.items _ c.in-Some.ensures.items (rw (← c.self.view_is) at c.requires) db x below)

@@ -18,9 +18,9 @@ invariant_of-self-in_default c =
     rw (c.reserve-2.ensures.items, c.reserve.ensures.items) (none-stack (inside c.self.inside) c.self.inside.depth c.self.invariant c.args.values.now c.args.turn c.take_answer.new.env c.take_answer.ensures.env (rw c.in_default.is at c.in_ok-taken.ensures.none))
 
 pub returns-in_default-clause-none : goal.returns-in_default-clause-none
-returns-in_default-clause-none c = λ statics.
+returns-in_default-clause-none c = λ db.
     rw (← c.self.view_is, c.reserve-2.ensures.items, c.reserve.ensures.items)
-    (none-answered (inside c.self.inside) c.self.inside.depth c.self.invariant c.args.values.now c.args.turn c.take_answer.new.env c.take_answer.ensures.env (rw c.in_default.is at c.in_ok-taken.ensures.none) c.args.point.list statics)
+    (none-answered (inside c.self.inside) c.self.inside.depth c.self.invariant c.args.values.now c.args.turn c.take_answer.new.env c.take_answer.ensures.env (rw c.in_default.is at c.in_ok-taken.ensures.none) c.args.point.list db)
 
 pub invariant_of-self-2 : goal.invariant_of-self-2
 invariant_of-self-2 c =
@@ -35,7 +35,7 @@ invariant_of-self-2 c =
     (called-stack s c.self.inside.depth c.self.invariant c.args.point m i c.args.values.now fit c.args.turn turns c.take_answer.new.env c.take_answer.ensures.env c.in-Some.taken.rest t c.push_answers-is_last.new.frames.items pushes)
 
 pub returns-clause-some : goal.returns-clause-some
-returns-clause-some c = λ _ statics.
+returns-clause-some c = λ _ db.
     let s : State = inside c.self.inside in
     let m = rw (← c.self.view_is) at c.requires.marks in
     let i = rw (← c.self.view_is) at c.requires.list in
@@ -44,7 +44,7 @@ returns-clause-some c = λ _ statics.
     let t = rw c.in-Some.is at c.in_ok-taken.ensures.some in
     let pushes = rw c.reserve.ensures.items at c.push_answers-is_last.ensures.pushes in
     rw (← c.self.view_is, c.keep_values.ensures, c.reserve-2.ensures.items)
-    (called-answered s c.self.inside.depth c.self.invariant c.args.point m i c.args.values.now fit c.args.turn turns c.take_answer.new.env c.take_answer.ensures.env c.in-Some.taken.rest t c.push_answers-is_last.new.frames.items pushes statics)
+    (called-answered s c.self.inside.depth c.self.invariant c.args.point m i c.args.values.now fit c.args.turn turns c.take_answer.new.env c.take_answer.ensures.env c.in-Some.taken.rest t c.push_answers-is_last.new.frames.items pushes db)
 
 pub returns-clause-opened : goal.returns-clause-opened
 returns-clause-opened c = λ last.

@@ -3,4 +3,4 @@ use Rattle.plstack.proofs.Stacks.{inside, opened-cases}
 use Rattle.plstack.proofs.stack.Stack.open_barrier.Goals as goal
 
 pub returns-clause-ok : goal.returns-clause-ok
-returns-clause-ok c = λ statics. rw (← c.self.view_is) (opened-cases statics (inside c.self.inside) c.push.new.self.items (Barrier c.args.level) c.in_ok-push.ensures.items)
+returns-clause-ok c = λ db. rw (← c.self.view_is) (opened-cases db (inside c.self.inside) c.push.new.self.items (Barrier c.args.level) c.in_ok-push.ensures.items)

@@ -31,14 +31,14 @@ invariant_of-self-in_default c =
     rw (c.reserve-2.ensures.items, c.reserve.ensures.items) (unchanged-stack s c.self.inside.depth c.self.invariant c.args.point.now m c.requires.alone i c.args.procedure _ c.args.values.now fit refl c.fit_first.new.env c.fit_first.ensures.env c.fit_first.ensures.keeps.names (rw c.in_default.is at c.in_ok-hit.ensures.back))
 
 pub returns-in_default-clause-no : goal.returns-in_default-clause-no
-returns-in_default-clause-no c = λ _ statics own.
+returns-in_default-clause-no c = λ _ db own.
     let s : State = inside c.self.inside in
     let m = rw (← c.self.view_is) at c.requires.marks in
     let i = rw (← c.self.view_is) at c.requires.list in
     let fit = rw (← c.self.view_is) at c.requires.values in
     let k = rw (← c.self.view_is) at own in
-    let none = (rw c.in_default.is at c.in_ok-hit.ensures.none) statics k in
-    rw (← c.self.view_is, c.reserve-2.ensures.items, c.reserve.ensures.items) (unchanged-none s c.self.inside.depth c.self.invariant c.args.point.now m c.requires.alone i c.args.procedure _ c.args.values.now fit refl c.fit_first.new.env c.fit_first.ensures.env c.fit_first.ensures.keeps.names (rw c.in_default.is at c.in_ok-hit.ensures.back) statics none)
+    let none = (rw c.in_default.is at c.in_ok-hit.ensures.none) db k in
+    rw (← c.self.view_is, c.reserve-2.ensures.items, c.reserve.ensures.items) (unchanged-none s c.self.inside.depth c.self.invariant c.args.point.now m c.requires.alone i c.args.procedure _ c.args.values.now fit refl c.fit_first.new.env c.fit_first.ensures.env c.fit_first.ensures.keeps.names (rw c.in_default.is at c.in_ok-hit.ensures.back) db none)
 
 pub body_of-self-inside-requires : goal.body_of-self-inside-requires
 body_of-self-inside-requires c =
@@ -80,16 +80,16 @@ settle-requires-clause-older c =
     entered-older s c.self.inside.depth c.self.invariant c.args.point.now m c.requires.alone i c.args.procedure _ c.args.values.now fit refl o.0 o.1 c.fit_first.new.env c.fit_first.ensures.keeps c.fit_first.ensures.env c.in-Some.hit first c.push_call.new.frames.items pushes c.in-None.is
 
 pub returns-in-None-clause-yes : goal.returns-in-None-clause-yes
-returns-in-None-clause-yes c = λ _ statics own.
+returns-in-None-clause-yes c = λ _ db own.
     let s : State = inside c.self.inside in
     let m = rw (← c.self.view_is) at c.requires.marks in
     let i = rw (← c.self.view_is) at c.requires.list in
     let fit = rw (← c.self.view_is) at c.requires.values in
     let k = rw (← c.self.view_is) at own in
-    let first = (rw c.in-Some.is at c.in_ok-hit.ensures.some) statics k in
+    let first = (rw c.in-Some.is at c.in_ok-hit.ensures.some) db k in
     let pushes = rw c.reserve.ensures.items at c.push_call.ensures in
     let settles = rw (c.reserve-2.ensures.items, c.body_of-self-inside.ensures) at c.settle.ensures in
-    rw (← c.self.view_is) (calls_settled statics s _ c.settle.new.self _ c.args.point.now.list _ (last-calls s c.self.inside.depth c.self.invariant c.args.point.now m c.requires.alone i c.args.procedure _ c.args.values.now fit refl statics k c.fit_first.new.env c.fit_first.ensures.keeps c.fit_first.ensures.env c.in-Some.hit first c.push_call.new.frames.items pushes c.in-None.is) settles)
+    rw (← c.self.view_is) (calls_settled db s _ c.settle.new.self _ c.args.point.now.list _ (last-calls s c.self.inside.depth c.self.invariant c.args.point.now m c.requires.alone i c.args.procedure _ c.args.values.now fit refl db k c.fit_first.new.env c.fit_first.ensures.keeps c.fit_first.ensures.env c.in-Some.hit first c.push_call.new.frames.items pushes c.in-None.is) settles)
 
 pub invariant_of-self-in-Some-next : goal.invariant_of-self-in-Some-next
 invariant_of-self-in-Some-next c =
@@ -103,13 +103,13 @@ invariant_of-self-in-Some-next c =
     rw (c.keep_values.ensures, c.reserve-2.ensures.items, c.body_of-self-inside.ensures, c.in_ok-depth.ensures.ok) (entered-stack s c.self.inside.depth c.self.invariant c.args.point.now m c.requires.alone i c.args.procedure _ c.args.values.now fit refl o.0 o.1 c.fit_first.new.env c.fit_first.ensures.keeps c.fit_first.ensures.env c.in-Some.hit first c.push_call.new.frames.items pushes)
 
 pub returns-in-Some-next-clause-yes : goal.returns-in-Some-next-clause-yes
-returns-in-Some-next-clause-yes c = λ _ statics own.
+returns-in-Some-next-clause-yes c = λ _ db own.
     let s : State = inside c.self.inside in
     let m = rw (← c.self.view_is) at c.requires.marks in
     let i = rw (← c.self.view_is) at c.requires.list in
     let fit = rw (← c.self.view_is) at c.requires.values in
     let k = rw (← c.self.view_is) at own in
-    let first = (rw c.in-Some.is at c.in_ok-hit.ensures.some) statics k in
+    let first = (rw c.in-Some.is at c.in_ok-hit.ensures.some) db k in
     let pushes = rw c.reserve.ensures.items at c.push_call.ensures in
     rw (← c.self.view_is, c.keep_values.ensures, c.reserve-2.ensures.items, c.body_of-self-inside.ensures)
-    (entered-calls s c.self.inside.depth c.self.invariant c.args.point.now m c.requires.alone i c.args.procedure _ c.args.values.now fit refl statics k c.fit_first.new.env c.fit_first.ensures.keeps c.fit_first.ensures.env c.in-Some.hit first c.push_call.new.frames.items pushes)
+    (entered-calls s c.self.inside.depth c.self.invariant c.args.point.now m c.requires.alone i c.args.procedure _ c.args.values.now fit refl db k c.fit_first.new.env c.fit_first.ensures.keeps c.fit_first.ensures.env c.in-Some.hit first c.push_call.new.frames.items pushes)

@@ -61,14 +61,14 @@ invariant_of-self-in-Err c =
     rw (c.truncate.ensures.items, c.truncate-2.ensures.items, c.alone-self-inside.ensures, back) (back-again s c.self.inside.depth c.self.invariant c.pop.new.self.items p k popped c.take_answer.new.env c.take_answer.ensures.env y)
 
 pub returns-in-Ok-Some-clause-some : goal.returns-in-Ok-Some-clause-some
-returns-in-Ok-Some-clause-some c = λ _ statics.
+returns-in-Ok-Some-clause-some c = λ _ db.
     let s : State = inside c.self.inside in
     let p : Point = c.in-Some-Open-default-Answers.point in
     let k : Answers = c.in-Some-Open-default-Answers.answers in
     let popped : s.frames ≡ c.pop.new.self.items ++ Open p (resumes.Answers k) ∷ [] = c.in-Some-Open-default-Answers.ensures.items ∙ ap (λ f. c.pop.new.self.items ++ f ∷ []) (c.in-Some-Open-default-Answers.field-0-is ∙ ap (Open p) c.in-Some-Open-default-Answers.field-0-1-is) in
     let kept = ap (λ (xs : List Cell). take (p.marks.saved + k.count - p.marks.saved) (drop p.marks.saved xs)) (c.deref.ensures.value ∙ c.truncate-2.ensures.items) ∙ run-kept p.marks.saved k.count (take (p.marks.saved + k.count) s.saved) ∙ kept-then s c.self.inside.depth c.self.invariant c.pop.new.self.items p (resumes.Answers k) popped in
     let t = rw (c.in-Ok-Some.field-0-is, kept, c.undo.ensures) at c.in-Ok-Some.ensures.some in
-    rw (← c.self.view_is, c.truncate.ensures.items, c.truncate-2.ensures.items) (again-retries s c.self.inside.depth c.self.invariant c.pop.new.self.items p k popped c.take_answer.new.env c.take_answer.ensures.env c.in-Ok-Some.taken.rest t c.push_answers-is_last.new.frames.items c.push_answers-is_last.ensures.pushes statics)
+    rw (← c.self.view_is, c.truncate.ensures.items, c.truncate-2.ensures.items) (again-retries s c.self.inside.depth c.self.invariant c.pop.new.self.items p k popped c.take_answer.new.env c.take_answer.ensures.env c.in-Ok-Some.taken.rest t c.push_answers-is_last.new.frames.items c.push_answers-is_last.ensures.pushes db)
 
 pub returns-in-Ok-Some-clause-opened : goal.returns-in-Ok-Some-clause-opened
 returns-in-Ok-Some-clause-opened c = λ last.
@@ -84,17 +84,17 @@ returns-in-Ok-Some-clause-opened c = λ last.
     }
 
 pub returns-in-Ok-None-clause-none : goal.returns-in-Ok-None-clause-none
-returns-in-Ok-None-clause-none c = λ statics.
+returns-in-Ok-None-clause-none c = λ db.
     let s : State = inside c.self.inside in
     let p : Point = c.in-Some-Open-default-Answers.point in
     let k : Answers = c.in-Some-Open-default-Answers.answers in
     let popped : s.frames ≡ c.pop.new.self.items ++ Open p (resumes.Answers k) ∷ [] = c.in-Some-Open-default-Answers.ensures.items ∙ ap (λ f. c.pop.new.self.items ++ f ∷ []) (c.in-Some-Open-default-Answers.field-0-is ∙ ap (Open p) c.in-Some-Open-default-Answers.field-0-1-is) in
     let kept = ap (λ (xs : List Cell). take (p.marks.saved + k.count - p.marks.saved) (drop p.marks.saved xs)) (c.deref.ensures.value ∙ c.truncate-2.ensures.items) ∙ run-kept p.marks.saved k.count (take (p.marks.saved + k.count) s.saved) ∙ kept-then s c.self.inside.depth c.self.invariant c.pop.new.self.items p (resumes.Answers k) popped in
     let t = rw (c.in-Ok-None.field-0-is, kept, c.undo.ensures) at c.in-Ok-None.ensures.none in
-    rw (← c.self.view_is, c.truncate.ensures.items, c.truncate-2.ensures.items, c.alone-self-inside.ensures) (closed-cases s c.self.inside.depth c.self.invariant c.pop.new.self.items p k popped c.take_answer.new.env c.take_answer.ensures.env t statics)
+    rw (← c.self.view_is, c.truncate.ensures.items, c.truncate-2.ensures.items, c.alone-self-inside.ensures) (closed-cases s c.self.inside.depth c.self.invariant c.pop.new.self.items p k popped c.take_answer.new.env c.take_answer.ensures.env t db)
 
 pub returns-in-Err-clause-err : goal.returns-in-Err-clause-err
-returns-in-Err-clause-err c = λ statics.
+returns-in-Err-clause-err c = λ db.
     let s : State = inside c.self.inside in
     let p : Point = c.in-Some-Open-default-Answers.point in
     let k : Answers = c.in-Some-Open-default-Answers.answers in
@@ -102,4 +102,4 @@ returns-in-Err-clause-err c = λ statics.
     let kept = ap (λ (xs : List Cell). take (p.marks.saved + k.count - p.marks.saved) (drop p.marks.saved xs)) (c.deref.ensures.value ∙ c.truncate-2.ensures.items) ∙ run-kept p.marks.saved k.count (take (p.marks.saved + k.count) s.saved) ∙ kept-then s c.self.inside.depth c.self.invariant c.pop.new.self.items p (resumes.Answers k) popped in
     let back : c.push_frame.new.frames.items ≡ s.frames = c.push_frame.ensures.is ∙ sym popped in
     let y = rw c.undo.ensures at c.in-Err.ensures.err in
-    rw (← c.self.view_is, c.truncate.ensures.items, c.truncate-2.ensures.items, c.alone-self-inside.ensures, back) (back-again-cases s c.self.inside.depth c.self.invariant c.pop.new.self.items p k popped c.take_answer.new.env c.take_answer.ensures.env y statics)
+    rw (← c.self.view_is, c.truncate.ensures.items, c.truncate-2.ensures.items, c.alone-self-inside.ensures, back) (back-again-cases s c.self.inside.depth c.self.invariant c.pop.new.self.items p k popped c.take_answer.new.env c.take_answer.ensures.env y db)

@@ -3,6 +3,6 @@ use Rattle.plstack.proofs.Going.{replaced}
 use Rattle.plstack.proofs.stack.Stack.replace_call.Goals as goal
 
 pub returns-clause-goes : goal.returns-clause-goes
-returns-clause-goes c = λ statics.
+returns-clause-goes c = λ db.
     let calling = rw (← c.self.view_is) at c.requires in
-    rw (← c.self.view_is) (replaced (inside c.self.inside) c.self.inside.depth c.self.invariant c.args.at.point c.args.at.call calling c.pop.new.self.items c.in-Some.field-0 c.in-Some.ensures.items c.args.next c.push_frame.new.frames.items c.push_frame.ensures.is statics)
+    rw (← c.self.view_is) (replaced (inside c.self.inside) c.self.inside.depth c.self.invariant c.args.at.point c.args.at.call calling c.pop.new.self.items c.in-Some.field-0 c.in-Some.ensures.items c.args.next c.push_frame.new.frames.items c.push_frame.ensures.is db)

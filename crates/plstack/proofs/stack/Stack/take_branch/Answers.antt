@@ -2,4 +2,4 @@ use Rattle.plstack.proofs.Returning.{retries_settled}
 use Rattle.plstack.proofs.stack.Stack.take_branch.Goals as goal
 
 pub returns-clause-retries : goal.returns-clause-retries
-returns-clause-retries c = λ statics. retries_settled statics c.args.self.now c.come_back-marks.new.self c.settle.new.self (c.come_back-marks.ensures.retries statics) c.settle.ensures
+returns-clause-retries c = λ db. retries_settled db c.args.self.now c.come_back-marks.new.self c.settle.new.self (c.come_back-marks.ensures.retries db) c.settle.ensures

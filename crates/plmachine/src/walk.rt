@@ -1,0 +1,78 @@
+//! Walks over clauses that are opened, and procedures that are declared (ISO/IEC 13211-1 7.7.7, 8.8, 8.9).
+//!
+//! What is refused memory leaves the search where it was.
+ghost use Rattle.std.specs.Prelude.{◌≡◌, ◌∷◌, [], OnOk, OnErr};
+ghost use Rattle.plcells.specs.Store.{value, IsValue};
+ghost use Rattle.plevent.specs.declared.update.Update.TheVariants.{Declare};
+ghost use Rattle.plsearch.specs.Rows.{clause_term, publish};
+ghost use Rattle.plstack.specs.State.{goals_of, IsList};
+ghost use Rattle.plmachine.specs.Clauses.{Walks};
+ghost use Rattle.plmachine.specs.Machine.{local_of, Moved, Stays};
+
+use crate::machine::{Machine, Mode, Outcome};
+use plcells::cell::Cell;
+use plevent::update::Update;
+use pllinks::link::Continuation;
+use plprogram::program::Program;
+use plstack::frame::{Spot, Use, Walk};
+use plterm::indicator::Indicator;
+use std::alloc::AllocError;
+
+impl Machine {
+    /// A walk before a list, of which no clause was tried.
+    pub fn walk(
+        &mut self,
+        program: &Program,
+        walk: Walk,
+        rest: Continuation,
+    ) -> Result<(), AllocError>
+        requires goal { IsValue self.old.stack.env.heap walk.goal }
+        requires rest { IsList self.old.stack rest }
+        ensures ok { OnOk result (Walks program.now self.old self.new (value self.old.stack.env.heap walk.goal) walk.uses walk.spot (goals_of self.old.stack rest)) }
+        ensures err { OnErr result (Stays program.now self.old self.new) }
+    {
+        self.stack.open_walk(walk, rest)?;
+        self.mode = Mode::Back(Outcome::Fail);
+        Ok(())
+    }
+
+    /// A walk over clauses that are told: a head and a body, as one term, are unified with them.
+    pub fn tell(
+        &mut self,
+        program: &Program,
+        neck: Neck,
+        uses: Use,
+        spot: Spot,
+        rest: Continuation,
+    ) -> Result<(), AllocError>
+        requires head { IsValue self.old.stack.env.heap neck.head }
+        requires body { IsValue self.old.stack.env.heap neck.body }
+        requires rest { IsList self.old.stack rest }
+        ensures ok { OnOk result (Walks program.now self.old self.new (clause_term (value self.old.stack.env.heap neck.head) (value self.old.stack.env.heap neck.body)) uses spot (goals_of self.old.stack rest)) }
+        ensures err { OnErr result (Stays program.now self.old self.new) }
+    {
+        let goal = self
+            .stack
+            .put_clause_term(self.alloc, neck.head, neck.body)?;
+        self.walk(program, Walk { goal, uses, spot }, rest)
+    }
+
+    /// A procedure that does not exist is declared: retractall/1.
+    pub fn declare_one(&mut self, program: &Program, p: Indicator) -> Result<(), AllocError>
+        ensures ok { OnOk result (Moved program.now self.old self.new (publish (Declare p ∷ []) (goals_of self.old.stack self.old.stack.goals) self.old.stack.env.count (local_of self.old))) }
+        ensures err { OnErr result (Stays program.now self.old self.new) }
+    {
+        let mut updates = Vec::new(self.alloc);
+        updates.push(Update::Declare(p))?;
+        let rest = self.stack.visited();
+        self.publish(program, updates, rest);
+        Ok(())
+    }
+}
+
+/// A head and a body.
+#[derive(Clone, Copy)]
+pub struct Neck {
+    pub head: Cell,
+    pub body: Cell,
+}

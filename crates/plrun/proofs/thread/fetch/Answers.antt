@@ -1,0 +1,46 @@
+use Rattle.std.proofs.Common.{◌≡◌, ◌≤◌, List, length, ap, sym, subst, ◌∙◌, arith}
+use Rattle.plevent.specs.Alive.{Stamped, before}
+use Rattle.plevent.specs.Reading.{reading}
+use Rattle.plsearch.specs.Search.{search_of}
+use Rattle.plstore.specs.declared.query.Query.{Query}
+use Rattle.plstore.specs.Looking.{found}
+use Rattle.plstore.specs.Rising.{Ordered}
+use Rattle.plstore.proofs.Names.{before-ordered}
+use Rattle.plworld.proofs.Push.{names-rise}
+use Rattle.plsolver.specs.Solver.{IsFoundFor, rest_of}
+use Rattle.plrun.proofs.Serve.{started-gone, used-within}
+use Rattle.plrun.proofs.thread.fetch.Goals as goal
+
+found-for : (us : List Stamped) (q : Query) → IsFoundFor q (found us q)
+found-for us (Query.NextLike p k c) = tt
+found-for us (Query.Clause x) = tt
+found-for us (Query.Exists p) = tt
+
+pub fetched-requires-clause-fits : goal.fetched-requires-clause-fits
+fetched-requires-clause-fits c =
+    (c.requires.fetches.0, c.args.query.now, c.requires.fetches.1, subst (IsFoundFor c.args.query.now) (sym c.in_ok-found.ensures) (found-for (before c.view-view.result (reading c.args.world.now.journal).updates) c.args.query.now))
+
+pub fetched-requires-clause-within : goal.fetched-requires-clause-within
+fetched-requires-clause-within c =
+    let P = c.args.program.now in
+    let s = c.args.running.now.solver in
+    used-within P.first (search_of P s.limit) s.limit (λ v. rest_of P v s) s.used c.args.world.now.journal c.args.running.now.thread s.places.items c.requires.runs.started
+
+pub returns-clause-runs : goal.returns-clause-runs
+returns-clause-runs c =
+    let P = c.args.program.now in
+    let old = c.args.running.now.solver in
+    let new = c.fetched.new.self in
+    let h = c.args.world.now.journal in
+    let q = c.args.query.now in
+    let g = c.requires.fetches.0 in
+    let at : c.view-view.result ≡ g = c.view-view.ensures g q c.requires.fetches.1 in
+    let within : g ≤ length h = omega (arith, at, c.if-front-view.false, c.front.ensures) in
+    record {
+      of = c.fetched.ensures.of;
+      started = started-gone P old.limit new.limit (λ v. rest_of P v old) (λ v. rest_of P v new) old.used new.used h c.args.running.now.thread old.places.items new.places.items c.requires.runs.started
+          (λ v are.
+          c.in_ok-fetched.ensures.ok v g q c.requires.fetches.1 (subst Ordered (sym (are g within)) (before-ordered g (reading h).updates (names-rise h)))
+          (c.in_ok-found.ensures ∙ ap (λ us. found us q) (ap (λ k. before k (reading h).updates) at ∙ sym (are g within))))
+          c.fetched.ensures.places c.fetched.ensures.limit;
+    }

@@ -1,0 +1,108 @@
+use Rattle.std.proofs.Common.{◌≡◌, ◌+◌, suc, Some, refl, sym, subst, ap, ◌∙◌, arith, drop, ◌∷◌}
+use Rattle.plcells.specs.Store.{value}
+use Rattle.plstack.specs.declared.frame.Spot.TheVariants as spots
+use Rattle.plstack.specs.declared.walk.Walking.{Walking}
+use Rattle.plstack.specs.StaticCalls.{database_of}
+use Rattle.plmachine.proofs.Moves.{on_err, on_err_map}
+use Rattle.plsolver.specs.declared.progress.Progress.{Progress}
+use Rattle.plsolver.proofs.Trying.{AtText, drop-at, if_none_map, if_some_map, retries-same, text-next, whole-now}
+use Rattle.plsolver.proofs.progress.Progress.first_of_text.Goals as goal
+
+pub clauses-init : goal.clauses-init
+clauses-init c = record { at = c.requires.at; text = c.requires.text; uses = refl; goal = refl; cases = λ P v whole. refl; code = refl; frame = refl }
+
+pub returns-in_err-next-clause-err : goal.returns-in_err-next-clause-err
+returns-in_err-next-clause-err c = on_err c.from_residual.result c.clauses.invariant.cases
+
+pub returns-in_err-next-clause-code : goal.returns-in_err-next-clause-code
+returns-in_err-next-clause-code c = c.clauses.invariant.code
+
+pub returns-in_err-next-clause-frame : goal.returns-in_err-next-clause-frame
+returns-in_err-next-clause-frame c = c.clauses.invariant.frame
+
+pub try_walk-requires : goal.try_walk-requires
+try_walk-requires c = record { at = c.clauses.invariant.at }
+
+pub returns-in_err-entered-clause-err : goal.returns-in_err-entered-clause-err
+returns-in_err-entered-clause-err c = on_err c.from_residual-in_err-entered.result (λ P v whole. c.in_err-entered.ensures.err (database_of P v) ∙ c.clauses.invariant.cases P v whole)
+
+pub returns-in_err-entered-clause-code : goal.returns-in_err-entered-clause-code
+returns-in_err-entered-clause-code c = c.try_walk.ensures.code ∙ c.clauses.invariant.code
+
+pub returns-in_err-entered-clause-frame : goal.returns-in_err-entered-clause-frame
+returns-in_err-entered-clause-frame c = ap (λ (x : Progress). record x { machine = record x.machine { stack = c.try_walk.new.self } }) c.clauses.invariant.frame
+
+pub returns-in-Some-clause-some : goal.returns-in-Some-clause-some
+returns-in-Some-clause-some c = λ P v whole.
+    let s = c.clauses.self.machine.stack in
+    let k = c.clauses.number in
+    let i = c.clauses.invariant in
+    let w = c.clauses.at.walk in
+    let all = whole-now P c.args.self.now c.clauses.self c.args.at c.clauses.at k c.args.clauses.now i whole in
+    retries-same (database_of P v) c.args.self.now.machine.stack s c.try_walk.new.self c.in-Some.entered.erased (i.cases P v whole)
+    ((rw c.in-Some.is at c.in_ok-entered.ensures.some) (database_of P v)
+    (text-next P v w (value s.env.heap w.goal) k c.args.clauses.now c.index-clauses-number.result c.in_ok-next.next i.text all
+    (drop-at c.args.clauses.now k _ (omega (arith, c.clauses-test.true)) ∙ ap (λ x. x ∷ drop (suc k) c.args.clauses.now) (sym c.index-clauses-number.is)) c.in_ok-next.ensures))
+
+pub returns-in-Some-clause-code : goal.returns-in-Some-clause-code
+returns-in-Some-clause-code c = c.try_walk.ensures.code ∙ c.clauses.invariant.code
+
+pub returns-in-Some-clause-frame : goal.returns-in-Some-clause-frame
+returns-in-Some-clause-frame c = ap (λ (x : Progress). record x { machine = record x.machine { stack = c.try_walk.new.self } }) c.clauses.invariant.frame
+
+pub clauses-preserved : goal.clauses-preserved
+clauses-preserved c =
+    let s = c.clauses.self.machine.stack in
+    let k = c.clauses.number in
+    let i = c.clauses.invariant in
+    let w = c.clauses.at.walk in
+    let spot = spots.Text (k + 1) in
+    let none = rw c.in_default.is at c.in_ok-entered.ensures.none in
+    let there = (rw c.in_default.is at c.in_ok-entered.ensures.at_next) spot refl in
+    let values = (rw c.in_default.is at c.in_ok-entered.ensures.values) spot refl in
+    subst (λ (a : Walking). AtText c.args.self.now (record c.clauses.self { machine = record c.clauses.self.machine { stack = c.try_walk.new.self } }) c.args.at a (k + 1) c.args.clauses.now) (sym c.at_spot-behind.ensures) (record {
+      at = there;
+      text = refl;
+      uses = i.uses;
+      goal = values ∙ i.goal;
+      cases = λ P v whole.
+          let all = whole-now P c.args.self.now c.clauses.self c.args.at c.clauses.at k c.args.clauses.now i whole in
+          none (database_of P v)
+          (text-next P v w (value s.env.heap w.goal) k c.args.clauses.now c.index-clauses-number.result c.in_ok-next.next i.text all
+          (drop-at c.args.clauses.now k _ (omega (arith, c.clauses-test.true)) ∙ ap (λ x. x ∷ drop (suc k) c.args.clauses.now) (sym c.index-clauses-number.is)) c.in_ok-next.ensures)
+          ∙ i.cases P v whole;
+      code = c.try_walk.ensures.code ∙ i.code;
+      frame = ap (λ (x : Progress). record x { machine = record x.machine { stack = c.try_walk.new.self } }) i.frame;
+    })
+
+pub last_of_text-requires-clause-at : goal.last_of_text-requires-clause-at
+last_of_text-requires-clause-at c = c.clauses.invariant.at
+
+pub last_of_text-requires-clause-text : goal.last_of_text-requires-clause-text
+last_of_text-requires-clause-text c = c.clauses.invariant.text
+
+pub returns-clause-some : goal.returns-clause-some
+returns-clause-some c =
+    let i = c.clauses.invariant in
+    if_some_map c.last_of_text.result c.last_of_text.ensures.some
+    (λ e f P v whole.
+    retries-same (database_of P v) c.args.self.now.machine.stack c.clauses.self.machine.stack c.last_of_text.new.self.machine.stack e.erased (i.cases P v whole)
+    (f P v (whole-now P c.args.self.now c.clauses.self c.args.at c.clauses.at c.clauses.number c.args.clauses.now i whole)))
+
+pub returns-clause-none : goal.returns-clause-none
+returns-clause-none c =
+    let i = c.clauses.invariant in
+    if_none_map c.last_of_text.result c.last_of_text.ensures.none
+    (λ f P v whole.
+    let x = f P v (whole-now P c.args.self.now c.clauses.self c.args.at c.clauses.at c.clauses.number c.args.clauses.now i whole) in
+    (x.0, sym (i.cases P v whole) ∙ x.1, x.2))
+
+pub returns-clause-err : goal.returns-clause-err
+returns-clause-err c = on_err_map c.last_of_text.result (λ f P v whole. f P v ∙ c.clauses.invariant.cases P v whole) c.last_of_text.ensures.err
+
+pub returns-clause-code : goal.returns-clause-code
+returns-clause-code c = c.last_of_text.ensures.code ∙ c.clauses.invariant.code
+
+pub returns-clause-frame : goal.returns-clause-frame
+returns-clause-frame c =
+    c.last_of_text.ensures.frame ∙ ap (λ (x : Progress). record x { machine = record x.machine { stack = c.last_of_text.new.self.machine.stack } }) c.clauses.invariant.frame

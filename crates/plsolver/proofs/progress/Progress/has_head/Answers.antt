@@ -1,0 +1,5 @@
+use Rattle.plsolver.proofs.Seeking.{put-stays}
+use Rattle.plsolver.proofs.progress.Progress.has_head.Goals as goal
+
+pub returns-in-Some-clause-stays : goal.returns-in-Some-clause-stays
+returns-in-Some-clause-stays c = λ P. put-stays P c.args.self.now c.has_head.new.self c.has_head.ensures.stays c.has_head.ensures.count

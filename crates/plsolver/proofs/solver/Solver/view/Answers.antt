@@ -1,0 +1,4 @@
+use Rattle.plsolver.proofs.solver.Solver.view.Goals as goal
+
+pub returns : goal.returns
+returns c = rw (← c.self.view_is) c.view.ensures

@@ -1,0 +1,81 @@
+use Rattle.std.proofs.Common.{refl, ◌∙◌}
+use Rattle.plstack.specs.State.{State}
+use Rattle.plstack.proofs.Reopening.{unchanged-stack, unchanged-extends}
+use Rattle.plstack.proofs.Stacks.{inside}
+use Rattle.plstack.proofs.Walking.{fits-goes, fitted-stack, fitted-cases, left-same, listed-cases, mark-there, back-at, back-goes, back-value}
+use Rattle.plstack.proofs.stack.Stack.fit_walk.Goals as goal
+
+pub resolve_clause-requires-clause-goal : goal.resolve_clause-requires-clause-goal
+resolve_clause-requires-clause-goal c = (rw (← c.self.view_is) at c.requires.at).goal
+
+pub resolve_clause-requires-clause-mark : goal.resolve_clause-requires-clause-mark
+resolve_clause-requires-clause-mark c = mark-there (inside c.self.inside) c.self.inside.depth c.self.invariant c.args.at.now.point c.args.at.now.walk (rw (← c.self.view_is) at c.requires.at)
+
+pub resolve_clause-requires-clause-now : goal.resolve_clause-requires-clause-now
+resolve_clause-requires-clause-now c = (rw (← c.self.view_is) at c.requires.at).now
+
+pub resolve_clause-requires-clause-rest : goal.resolve_clause-requires-clause-rest
+resolve_clause-requires-clause-rest c = (rw (← c.self.view_is) at c.requires.at).list.there
+
+pub invariant_of-self-in-Some : goal.invariant_of-self-in-Some
+invariant_of-self-in-Some c =
+    let s : State = inside c.self.inside in
+    let at = rw (← c.self.view_is) at c.requires.at in
+    let fits = (rw c.in-Some.is at c.in_ok-list.ensures.some) s c.self.invariant.0 refl refl at.list in
+    fitted-stack s c.self.inside.depth c.self.invariant c.args.at.now.point c.args.at.now.walk at c.resolve_clause.new.env c.resolve_clause.new.links.items (fits-goes s _ _ _ _ _ _ _ fits) c.in-Some.list fits.there
+
+pub invariant_of-self-in-None : goal.invariant_of-self-in-None
+invariant_of-self-in-None c = unchanged-stack (inside c.self.inside) c.self.inside.depth c.self.invariant c.resolve_clause.new.env c.resolve_clause.new.links.items c.resolve_clause.ensures.env (rw c.in-None.is at c.in_ok-list.ensures.back)
+
+pub returns-in_err-list-clause-cases : goal.returns-in_err-list-clause-cases
+returns-in_err-list-clause-cases c = λ db.
+    rw (← c.self.view_is) ((unchanged-extends (inside c.self.inside) c.self.inside.depth c.self.invariant c.resolve_clause.new.env c.resolve_clause.new.links.items c.resolve_clause.ensures.env c.in_err-list.ensures.err).cases db)
+
+pub invariant_of-self : goal.invariant_of-self
+invariant_of-self c = unchanged-stack (inside c.self.inside) c.self.inside.depth c.self.invariant c.resolve_clause.new.env c.resolve_clause.new.links.items c.resolve_clause.ensures.env c.in_err-list.ensures.err
+
+pub returns-in-Some-clause-yes : goal.returns-in-Some-clause-yes
+returns-in-Some-clause-yes c _ =
+    let s : State = inside c.self.inside in
+    let at = rw (← c.self.view_is) at c.requires.at in
+    let fits = (rw c.in-Some.is at c.in_ok-list.ensures.some) s c.self.invariant.0 refl refl at.list in
+    rw (← c.self.view_is) fits.place
+
+pub returns-in-Some-clause-left : goal.returns-in-Some-clause-left
+returns-in-Some-clause-left c =
+    let s : State = inside c.self.inside in
+    let at = rw (← c.self.view_is) at c.requires.at in
+    let fits = (rw c.in-Some.is at c.in_ok-list.ensures.some) s c.self.invariant.0 refl refl at.list in
+    rw (← c.self.view_is) (left-same s c.self.inside.depth c.self.invariant c.args.at.now.point c.args.at.now.walk at c.resolve_clause.new.env c.resolve_clause.new.links.items c.in-Some.list (fits-goes s _ _ _ _ _ _ _ fits))
+
+pub returns-in-Some-clause-cases : goal.returns-in-Some-clause-cases
+returns-in-Some-clause-cases c = λ db.
+    let s : State = inside c.self.inside in
+    let at = rw (← c.self.view_is) at c.requires.at in
+    let fits = (rw c.in-Some.is at c.in_ok-list.ensures.some) s c.self.invariant.0 refl refl at.list in
+    rw (← c.self.view_is) (listed-cases db s c.resolve_clause.new.env c.resolve_clause.new.links.items c.in-Some.list ∙ fitted-cases s c.self.inside.depth c.self.invariant c.args.at.now.point c.args.at.now.walk at c.resolve_clause.new.env c.resolve_clause.new.links.items (fits-goes s _ _ _ _ _ _ _ fits) db)
+
+pub returns-in-None-clause-no : goal.returns-in-None-clause-no
+returns-in-None-clause-no c _ = rw (← c.self.view_is) (rw c.in-None.is at c.in_ok-list.ensures.none)
+
+pub returns-in-None-clause-left : goal.returns-in-None-clause-left
+returns-in-None-clause-left c =
+    let s : State = inside c.self.inside in
+    let at = rw (← c.self.view_is) at c.requires.at in
+    rw (← c.self.view_is) (left-same s c.self.inside.depth c.self.invariant c.args.at.now.point c.args.at.now.walk at c.resolve_clause.new.env c.resolve_clause.new.links.items s.goals (back-goes s c.self.inside.depth c.self.invariant c.args.at.now.point c.args.at.now.walk at c.resolve_clause.new.env c.resolve_clause.new.links.items c.resolve_clause.ensures.env (rw c.in-None.is at c.in_ok-list.ensures.back)))
+
+pub returns-in-None-clause-at : goal.returns-in-None-clause-at
+returns-in-None-clause-at c _ =
+    let s : State = inside c.self.inside in
+    let at = rw (← c.self.view_is) at c.requires.at in
+    back-at s c.self.inside.depth c.self.invariant c.args.at.now.point c.args.at.now.walk at c.resolve_clause.new.env c.resolve_clause.new.links.items c.resolve_clause.ensures.env (rw c.in-None.is at c.in_ok-list.ensures.back)
+
+pub returns-in-None-clause-value : goal.returns-in-None-clause-value
+returns-in-None-clause-value c _ =
+    let s : State = inside c.self.inside in
+    let at = rw (← c.self.view_is) at c.requires.at in
+    rw (← c.self.view_is) (back-value s c.self.inside.depth c.self.invariant c.args.at.now.point c.args.at.now.walk at c.resolve_clause.new.env c.resolve_clause.new.links.items c.resolve_clause.ensures.env (rw c.in-None.is at c.in_ok-list.ensures.back))
+
+pub returns-in-None-clause-cases : goal.returns-in-None-clause-cases
+returns-in-None-clause-cases c = λ db.
+    rw (← c.self.view_is) ((unchanged-extends (inside c.self.inside) c.self.inside.depth c.self.invariant c.resolve_clause.new.env c.resolve_clause.new.links.items c.resolve_clause.ensures.env (rw c.in-None.is at c.in_ok-list.ensures.back)).cases db)

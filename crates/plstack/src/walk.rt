@@ -1,0 +1,392 @@
+//! Walks over the clauses of a procedure: each is copied and tried in its turn (ISO/IEC 13211-1 7.7.7), and one that is to be erased (8.9.3)
+//! is named.
+ghost use Rattle.std.specs.Prelude.{◌≡◌, ◌+◌, ◌≤◌, [], ◌∷◌, ◌++◌, length, reverse, true, false, None, Some, Option, List, IfOk, IfSome, IfNone, OnErr, OnOk};
+ghost use Rattle.plterm.specs.Tree.{Tree};
+ghost use Rattle.plsubst.specs.Subst.{shift};
+ghost use Rattle.plsubst.specs.Unify.{unify};
+ghost use Rattle.plcells.specs.Store.{value, IsValue};
+ghost use Rattle.plsearch.specs.Rows.{is_true as is_true_of, resolve};
+ghost use Rattle.plsearch.specs.Types.{Choice};
+ghost use Rattle.plenv.specs.Env.{cut, IsEnv, IsMark, IsWithin};
+ghost use Rattle.plenv.specs.Changes.{Keeps};
+ghost use Rattle.plstack.specs.Places.{Database};
+ghost use Rattle.plstack.specs.Frames.{AreOlder};
+ghost use Rattle.plstack.specs.State.{cases_of, goals_of, place_of, Extends, HasWalk, IsList, IsState, RetriesBy, State};
+ghost use Rattle.plstack.specs.Cutting.{Settles};
+ghost use Rattle.plstack.specs.Trials.{ComesBack, IsMarked, IsOpened, ListsBody, PutsHead, Resolved};
+ghost use Rattle.plstack.specs.Walks.{AtWalk, EndsPlain, Finds, FitsCall, GoesOn, IsWalking, LeftSame, OpensWalk};
+
+use crate::frame::{Frame, Marks, Point, Resume, Spot, Walk};
+use crate::list::link_before;
+use crate::open::{count_up, push_frame};
+use crate::stack::Stack;
+use plcells::cell::Cell;
+use plclause::clause::Clause;
+use plenv::env::Environment;
+use plenv::slot::Mark;
+use plevent::ClauseName;
+use pllinks::item::Item;
+use pllinks::level::Level;
+use pllinks::link::{Continuation, Link};
+use pllinks::list::ListId;
+use plterm::term::Term;
+use plterm::walk::Shape;
+use std::alloc::{AllocError, Global};
+
+/// A clause that a goal is tried with: the clause, and its name if it is to be erased before the list goes on.
+#[derive(Drop)]
+pub struct Candidate {
+    pub clause: Clause,
+    pub erased: Option<ClauseName>,
+}
+
+/// The innermost case, a walk: what it comes back to, and the walk.
+#[derive(Clone, Copy)]
+pub struct Walking {
+    pub point: Point,
+    pub walk: Walk,
+}
+
+/// A goal that is resolved: its value, the mark of the environment at its call, the level of a clause's body, and the list behind the goal.
+#[derive(Clone, Copy)]
+pub struct Trial {
+    pub goal: Cell,
+    pub mark: Mark,
+    pub level: Level,
+    pub rest: Continuation,
+}
+
+/// A clause's head, and the values of the clause's variables.
+#[derive(Drop)]
+pub struct Head {
+    pub values: Vec<Cell>,
+    pub value: Cell,
+}
+
+/// A case of a call that was opened: the marks of the call, and whether no clause is left to try.
+#[derive(Clone, Copy)]
+pub struct Opened {
+    pub marks: Marks,
+    pub is_last: bool,
+}
+
+/// A place of a call that is visited: the name of its clause, if this is to be erased before the visited list goes on.
+#[derive(Clone, Copy)]
+pub struct Entered {
+    pub erased: Option<ClauseName>,
+}
+
+/// Puts a clause's head, its variables new.
+pub(crate) fn put_head(
+    env: &mut Environment,
+    alloc: Global,
+    clause: &Clause,
+) -> Result<Head, AllocError>
+    ensures ok { IfOk result (λ h. PutsHead env.old env.new clause.now h.values.items h.value) }
+    ensures keeps { Keeps env.old env.new }
+{
+    let Ok(count) = u32::try_from(clause.variables()) else {
+        return Err(AllocError);
+    };
+    let values = env.new_values(alloc, count)?;
+    let value = env.put_over(alloc, clause.head(), &values)?;
+    Ok(Head { values, value })
+}
+
+/// Resolves a goal against a clause, its variables new: the value of the clause's body, if they fit. Where they do not, or memory gives out,
+/// an undo to a mark in use gives back what was changed.
+fn try_copy(
+    env: &mut Environment,
+    alloc: Global,
+    goal: Cell,
+    clause: &Clause,
+) -> Result<Option<Cell>, AllocError>
+    requires { IsValue env.old.heap goal }
+    ensures some { IfOk result (λ o. IfSome o (λ body. Resolved env.old env.new (value env.old.heap goal) clause.now body)) }
+    ensures none { IfOk result (λ o. IfNone o (unify (value env.old.heap goal) (shift env.old.count clause.now.head) ≡ None)) }
+    ensures keeps { Keeps env.old env.new }
+{
+    let head = put_head(env, alloc, clause)?;
+    if !env.unify_in_choice(goal, head.value)? {
+        return Ok(None);
+    }
+    let body = env.put_over(alloc, clause.body(), &head.values)?;
+    Ok(Some(body))
+}
+
+/// Whether a body is the atom true, which is no goal.
+fn is_true(body: &Term) -> bool
+    ensures { result ≡ is_true_of body.now }
+{
+    match body.root().shape() {
+        Shape::Atom(name) => name.as_str() == "true",
+        Shape::Var(_) | Shape::Int(_) | Shape::Compound(_, _) => false,
+    }
+}
+
+/// The list of a body's value before the list of a call; of a body that is no goal that list alone.
+fn list_body(
+    links: &mut Vec<Link>,
+    call: &Trial,
+    none: bool,
+    body: Cell,
+) -> Result<Continuation, AllocError>
+    requires { call.now.rest.rest ≤ length links.old.items }
+    ensures ok { IfOk result (λ list. ListsBody links.old.items links.new.items none call.now.level body call.now.rest list) }
+    ensures err { OnErr result (links.new.items ≡ links.old.items) }
+{
+    if none {
+        return Ok(call.rest);
+    }
+    let list = link_before(links, Item::Goal(call.level, body), call.rest)?;
+    Ok(list)
+}
+
+/// Resolves a goal against a clause, its variables new, and puts the body before the list behind the goal. Where they do not fit, all is as it was
+/// but for more names; where memory gives out, an undo to the call's mark gives back what was changed.
+fn first_step(
+    env: &mut Environment,
+    links: &mut Vec<Link>,
+    alloc: Global,
+    call: &Trial,
+    clause: &Clause,
+) -> Result<Option<Continuation>, AllocError>
+    requires goal { IsValue env.old.heap call.now.goal }
+    requires mark { IsMark call.now.mark env.old }
+    requires now { cut call.now.mark env.old ≡ env.old }
+    requires rest { call.now.rest.rest ≤ length links.old.items }
+    ensures some { IfOk result (λ o. IfSome o (λ list. (s : State) → IsState s → s.env ≡ env.old → s.links ≡ links.old.items → IsList s call.now.rest → FitsCall s (record s { env = env.new; links = links.new.items; goals = list }) call.now.level call.now.goal call.now.rest clause.now)) }
+    ensures none { IfOk result (λ o. IfNone o (unify (value env.old.heap call.now.goal) (shift env.old.count clause.now.head) ≡ None)) }
+    ensures back { IfOk result (λ o. IfNone o (ComesBack env.old env.new links.old.items links.new.items)) }
+    ensures env { IfOk result (λ o. IfNone o (IsEnv env.new)) }
+    ensures err { OnErr result (links.new.items ≡ links.old.items) }
+    ensures keeps { Keeps env.old env.new }
+{
+    let Some(body) = try_copy(env, alloc, call.goal, clause)? else {
+        let _ = env.heap();
+        env.undo(call.mark);
+        let _ = env.heap();
+        return Ok(None);
+    };
+    let _ = env.heap();
+    let none = is_true(clause.body());
+    let list = list_body(links, call, none, body)?;
+    Ok(Some(list))
+}
+
+/// The same, where all is as it was but for more names also where memory gives out.
+fn resolve_clause(
+    env: &mut Environment,
+    links: &mut Vec<Link>,
+    alloc: Global,
+    call: &Trial,
+    clause: &Clause,
+) -> Result<Option<Continuation>, AllocError>
+    requires goal { IsValue env.old.heap call.now.goal }
+    requires mark { IsMark call.now.mark env.old }
+    requires now { cut call.now.mark env.old ≡ env.old }
+    requires rest { call.now.rest.rest ≤ length links.old.items }
+    ensures some { IfOk result (λ o. IfSome o (λ list. (s : State) → IsState s → s.env ≡ env.old → s.links ≡ links.old.items → IsList s call.now.rest → FitsCall s (record s { env = env.new; links = links.new.items; goals = list }) call.now.level call.now.goal call.now.rest clause.now)) }
+    ensures none { IfOk result (λ o. IfNone o (unify (value env.old.heap call.now.goal) (shift env.old.count clause.now.head) ≡ None)) }
+    ensures back { IfOk result (λ o. IfNone o (ComesBack env.old env.new links.old.items links.new.items)) }
+    ensures env { IsEnv env.new }
+    ensures err { OnErr result (ComesBack env.old env.new links.old.items links.new.items) }
+{
+    match first_step(env, links, alloc, call, clause) {
+        Ok(list) => {
+            let _ = env.heap();
+            Ok(list)
+        }
+        Err(e) => {
+            let _ = env.heap();
+            env.undo(call.mark);
+            Err(e)
+        }
+    }
+}
+
+impl Stack {
+    /// Opens the case of a walk before a list.
+    #[tactic(auto, using(crate::proofs::Walking::opens_walk))]
+    pub fn open_walk(&mut self, walk: Walk, rest: Continuation) -> Result<(), AllocError>
+        requires goal { IsValue self.old.env.heap walk.goal }
+        requires rest { IsList self.old rest }
+        ensures ok { OnOk result (OpensWalk self.old self.new walk rest) }
+        ensures err { OnErr result (self.new ≡ self.old) }
+    {
+        self.open_frame(rest, Resume::Walk(walk))
+    }
+
+    /// The innermost case, if it is a walk.
+    pub fn walking(&self) -> Option<Walking>
+        ensures some { IfSome result (λ at. IsWalking self.now at.point at.walk) }
+        ensures none { IfNone result (HasWalk self.now → ⊥) }
+    {
+        match self.frames.last() {
+            Some(Frame::Open(point, Resume::Walk(walk))) => Some(Walking {
+                point: *point,
+                walk: *walk,
+            }),
+            _ => None,
+        }
+    }
+
+    /// Goes back to where the innermost case was opened, which is a walk and stays open.
+    pub fn rewind_walk(&mut self) -> Walking
+        requires { HasWalk self.old }
+        ensures cases { (db : Database) → cases_of db self.new ≡ cases_of db self.old }
+        ensures at { AtWalk self.new result.point result.walk }
+        ensures code { self.new.code ≡ self.old.code }
+    {
+        let Some(Frame::Open(point, Resume::Walk(walk))) = self.frames.pop() else {
+            unreachable!()
+        };
+        self.env.undo(point.marks.env);
+        self.links.truncate(point.marks.links);
+        self.saved.truncate(point.marks.saved);
+        self.goals = Continuation::alone(ListId::EMPTY);
+        let at = Walking { point, walk };
+        push_frame(
+            &mut self.frames,
+            Frame::Open(at.point, Resume::Walk(at.walk)),
+        );
+        at
+    }
+
+    /// Tries the next clause of the innermost case, a walk where all is as it was at its opening: what is to be erased before the visited list goes
+    /// on, if it fits. The walk stands then behind it, or nothing is left of it. After an `Err` the cases are as they were.
+    pub fn try_walk(
+        &mut self,
+        alloc: Global,
+        at: Walking,
+        next: &Candidate,
+        rest: Option<Spot>,
+    ) -> Result<Option<Entered>, AllocError>
+        requires at { AtWalk self.old at.point at.walk }
+        ensures some { IfOk result (λ o. IfSome o (λ entered. (db : Database) → Finds db at.walk (value self.old.env.heap at.walk.goal) next.now rest → RetriesBy db self.old self.new entered.erased)) }
+        ensures none { IfOk result (λ o. IfNone o ((db : Database) → Finds db at.walk (value self.old.env.heap at.walk.goal) next.now rest → cases_of db self.new ≡ cases_of db self.old)) }
+        ensures last { IfOk result (λ o. IfNone o (rest ≡ None → (db : Database) → EndsPlain db self.new)) }
+        ensures at_next { IfOk result (λ o. IfNone o ((spot : Spot) → rest ≡ Some spot → AtWalk self.new at.point (record at.walk { spot = spot }))) }
+        ensures values { IfOk result (λ o. IfNone o ((spot : Spot) → rest ≡ Some spot → value self.new.env.heap at.walk.goal ≡ value self.old.env.heap at.walk.goal)) }
+        ensures err { OnErr result ((db : Database) → cases_of db self.new ≡ cases_of db self.old) }
+        ensures code { self.new.code ≡ self.old.code }
+    {
+        let level = self.depth.down(1);
+        let fits = self.fit_walk(alloc, &at, level, &next.clause)?;
+        self.go_on_walk(at, rest);
+        if !fits {
+            return Ok(None);
+        }
+        let erased = next.erased;
+        Ok(Some(Entered { erased }))
+    }
+
+    /// Resolves the goal of the innermost case, a walk, against a clause: whether they fit. The clause's body is visited then before the list
+    /// behind the goal, and the unifier is put into all. Else all stands for what it did.
+    fn fit_walk(
+        &mut self,
+        alloc: Global,
+        at: &Walking,
+        level: Level,
+        clause: &Clause,
+    ) -> Result<bool, AllocError>
+        requires at { AtWalk self.old at.now.point at.now.walk }
+        ensures yes { IfOk result (λ fits. fits ≡ true → resolve level self.old.env.count (value self.old.env.heap at.now.walk.goal) (goals_of self.old at.now.point.list) clause.now ≡ Some (place_of self.new)) }
+        ensures no { IfOk result (λ fits. fits ≡ false → unify (value self.old.env.heap at.now.walk.goal) (shift self.old.env.count clause.now.head) ≡ None) }
+        ensures left { OnOk result (LeftSame self.old self.new at.now.point at.now.walk) }
+        ensures at { IfOk result (λ fits. fits ≡ false → AtWalk self.new at.now.point at.now.walk) }
+        ensures value { IfOk result (λ fits. fits ≡ false → value self.new.env.heap at.now.walk.goal ≡ value self.old.env.heap at.now.walk.goal) }
+        ensures cases { (db : Database) → cases_of db self.new ≡ cases_of db self.old }
+        ensures code { self.new.code ≡ self.old.code }
+    {
+        let call = Trial {
+            goal: at.walk.goal,
+            mark: at.point.marks.env,
+            level,
+            rest: at.point.list,
+        };
+        match resolve_clause(&mut self.env, &mut self.links, alloc, &call, clause)? {
+            Some(list) => {
+                self.goals = list;
+                Ok(true)
+            }
+            None => Ok(false),
+        }
+    }
+
+    /// The innermost case, a walk, stands at another spot, or nothing is left of it.
+    pub fn go_on_walk(&mut self, at: Walking, next: Option<Spot>)
+        requires { IsWalking self.old at.point at.walk }
+        ensures goes { (db : Database) → GoesOn db self.old self.new at.point at.walk next }
+        ensures place { place_of self.new ≡ place_of self.old }
+        ensures same { (spot : Spot) → next ≡ Some spot → self.new ≡ record self.old { frames = self.new.frames } }
+        ensures walking { (spot : Spot) → next ≡ Some spot → IsWalking self.new at.point (record at.walk { spot = spot }) }
+        ensures code { self.new.code ≡ self.old.code }
+    {
+        match next {
+            Some(spot) => self.replace_walk(at, spot),
+            None => {
+                let marks = at.point.marks;
+                self.empty_walk(at);
+                self.settle(marks);
+            }
+        }
+    }
+
+    /// The innermost case, a walk, stands at another spot.
+    fn replace_walk(&mut self, at: Walking, spot: Spot)
+        requires { IsWalking self.old at.point at.walk }
+        ensures goes { (db : Database) → GoesOn db self.old self.new at.point at.walk (Some spot) }
+        ensures walking { IsWalking self.new at.point (record at.walk { spot = spot }) }
+        ensures same { self.new ≡ record self.old { frames = self.new.frames } }
+    {
+        let Walking { point, walk } = at;
+        let Some(_) = self.frames.pop() else {
+            unreachable!()
+        };
+        let left = Walk {
+            goal: walk.goal,
+            uses: walk.uses,
+            spot,
+        };
+        push_frame(&mut self.frames, Frame::Open(point, Resume::Walk(left)));
+    }
+
+    /// Of the innermost case, a walk, nothing is left.
+    fn empty_walk(&mut self, at: Walking)
+        requires { IsWalking self.old at.point at.walk }
+        ensures goes { (db : Database) → GoesOn db self.old self.new at.point at.walk None }
+        ensures same { self.new ≡ record self.old { frames = self.new.frames } }
+        ensures within { IsWithin at.point.marks.env self.new.env }
+        ensures older { AreOlder at.point.marks (reverse self.new.frames) }
+    {
+        let Some(_) = self.frames.pop() else {
+            unreachable!()
+        };
+        count_up(&mut self.frames, 1);
+    }
+
+    /// How much there is, as marks in use.
+    pub(crate) fn marks(&mut self) -> Marks
+        ensures marked { IsMarked self.new result }
+        ensures stays { Extends self.old self.new }
+        ensures count { self.new.env.count ≡ self.old.env.count }
+    {
+        let env = self.env.mark();
+        Marks {
+            env,
+            links: self.links.len(),
+            saved: self.saved.len(),
+        }
+    }
+
+    /// No more is old any more than what is held, where a call has no clause left to try.
+    pub(crate) fn settle_opened(&mut self, opened: Opened)
+        requires { opened.is_last ≡ true → IsOpened self.old opened }
+        ensures { Settles self.old self.new }
+    {
+        if opened.is_last {
+            self.settle(opened.marks);
+        }
+    }
+}
