@@ -9,7 +9,8 @@ use Rattle.plsearch.specs.Engine.{deeper}
 use Rattle.plsearch.specs.Machines.Machine.{At}
 use Rattle.pllinks.specs.declared.link.Continuation.{Continuation}
 use Rattle.plstack.specs.State.{State, goals_of, place_of, cases_of}
-use Rattle.plstack.specs.Places.{Views, called, places_left}
+use Rattle.plstore.specs.Looking.{Views}
+use Rattle.plstack.specs.Places.{called, places_left}
 use Rattle.plstack.specs.Calls.{Calls, CallsNone, StaysAt}
 use Rattle.plstack.specs.StaticCalls.{statics_of, database_of}
 use Rattle.plstack.proofs.Program.{static-clauses, static-name}

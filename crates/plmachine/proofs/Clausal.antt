@@ -26,7 +26,8 @@ use Rattle.plstack.specs.declared.frame.Use.{Use}
 use Rattle.plstack.specs.declared.frame.Use.TheVariants as uses
 use Rattle.plstack.specs.declared.frame.Spot.{Spot}
 use Rattle.plstack.specs.declared.frame.Walk.{Walk}
-use Rattle.plstack.specs.Places.{Views, candidate_of, candidates_left, clause_by, left_at, place_asked, text_candidate, tried}
+use Rattle.plstore.specs.Looking.{Views}
+use Rattle.plstack.specs.Places.{candidate_of, candidates_left, clause_by, left_at, place_asked, text_candidate, tried}
 use Rattle.plstack.specs.State.{State, IsList, goals_of, place_of}
 use Rattle.plstack.specs.StaticCalls.{database_of}
 use Rattle.plstack.specs.Walks.{OpensWalk}

@@ -7,7 +7,8 @@ use Rattle.plsearch.specs.Machines.Machine.{At, Rest}
 use Rattle.plsearch.specs.Search.{ending_of}
 use Rattle.plsearch.proofs.Cuts.{cuts-empty}
 use Rattle.pllinks.specs.declared.link.Continuation.{Continuation}
-use Rattle.plstack.specs.Places.{Database, Views}
+use Rattle.plstore.specs.Looking.{Views}
+use Rattle.plstack.specs.Places.{Database}
 use Rattle.plstack.specs.State.{State, place_of, cases_of, goals_of, IsList}
 use Rattle.plstack.specs.StaticCalls.{database_of}
 use Rattle.plstack.specs.Cutting.{Empties, Cuts}

@@ -18,7 +18,8 @@ use Rattle.plsearch.specs.Machines.Machine.{Mode, At, Back, Rest, move}
 use Rattle.plsearch.specs.Search.{ending_of}
 use Rattle.pllinks.specs.declared.link.Continuation.{Continuation}
 use Rattle.plstack.specs.State.{State, IsList, place_of, cases_of, goals_of, Opens}
-use Rattle.plstack.specs.Places.{Views, depth_of as frames_depth}
+use Rattle.plstore.specs.Looking.{Views}
+use Rattle.plstack.specs.Places.{depth_of as frames_depth}
 use Rattle.plstack.specs.StaticCalls.{database_of}
 use Rattle.plmachine.specs.declared.machine.Outcome.{Outcome}
 use Rattle.plmachine.specs.declared.machine.Lookup.{Lookup}

@@ -13,7 +13,8 @@ use Rattle.plcells.specs.Store.{Store, IsValue, value}
 use Rattle.plstack.specs.declared.frame.Use.{Use}
 use Rattle.plstack.specs.declared.frame.Spot.{Spot}
 use Rattle.plstack.specs.declared.walk.Entered.{Entered}
-use Rattle.plstack.specs.Places.{Views, candidates_left, left_at}
+use Rattle.plstore.specs.Looking.{Views}
+use Rattle.plstack.specs.Places.{candidates_left, left_at}
 use Rattle.plstack.specs.StaticCalls.{database_of}
 use Rattle.plmachine.specs.declared.walk.Neck.{Neck}
 use Rattle.plmachine.specs.declared.machine.Machine.{Machine as Reached}

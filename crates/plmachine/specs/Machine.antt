@@ -24,7 +24,8 @@ use Rattle.plstack.specs.State.{State, cases_of, depth_in, goals_of}
 use Rattle.plsearch.specs.Rows.{clause_term}
 use Rattle.plstack.specs.declared.frame.Use.{Use}
 use Rattle.plstack.specs.declared.frame.Use.TheVariants as uses
-use Rattle.plstack.specs.Places.{Views, head_told, onward}
+use Rattle.plstore.specs.Looking.{Views}
+use Rattle.plstack.specs.Places.{head_told, onward}
 use Rattle.plstack.specs.StaticCalls.{database_of}
 use Rattle.plmachine.specs.declared.machine.Outcome.{Outcome}
 use Rattle.plmachine.specs.declared.machine.Outcome.TheVariants as outcomes

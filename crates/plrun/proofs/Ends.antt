@@ -9,7 +9,7 @@ use Rattle.plevent.specs.Search.{Ask, Got, Search, item_of, item_of_end}
 use Rattle.plhist.specs.declared.history.RunEnd.{RunEnd}
 use Rattle.plhist.specs.Follows.{replied, HasAsked, HasEnded, from_start, asks_of, last_of}
 use Rattle.plsearch.specs.Solving.{EndsAt}
-use Rattle.plstack.specs.Places.{Views}
+use Rattle.plstore.specs.Looking.{Views}
 use Rattle.plrun.specs.Going.{Going, views_of}
 use Rattle.plrun.specs.Halts.{act_of}
 use Rattle.plrun.proofs.Grow.{takes-grow}

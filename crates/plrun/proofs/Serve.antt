@@ -27,7 +27,7 @@ use Rattle.plprogram.specs.Program.{Program}
 use Rattle.plsearch.specs.Search.{search_of}
 use Rattle.plsearch.specs.Solving.{Goes, TakesOne, StandsAt, EndsAt}
 use Rattle.plsolver.specs.Solver.{IsReplyTo}
-use Rattle.plstack.specs.Places.{Views}
+use Rattle.plstore.specs.Looking.{Views}
 use Rattle.plrun.specs.Going.{Free, Going, IsClosed, IsRunning, IsHalted, IsStarted, Runs, Halts, views_of}
 use Rattle.plrun.specs.Halts.{IsCommon, HaltsWhenDone, HaltsNoSooner, act_of, told, told_places}
 use Rattle.plrun.specs.Overall.{IsHistory}

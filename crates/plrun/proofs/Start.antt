@@ -19,7 +19,7 @@ use Rattle.plhist.specs.Follows.{own, takes, from_start}
 use Rattle.plhist.specs.Legal.{opening, Over}
 use Rattle.plhist.proofs.Alone.{main-alone}
 use Rattle.plsearch.specs.Solving.{Begins}
-use Rattle.plstack.specs.Places.{Views}
+use Rattle.plstore.specs.Looking.{Views}
 use Rattle.plrun.specs.Going.{IsRunning}
 use Rattle.plrun.specs.Overall.{IsHistory, Stage, Before, Behind}
 use Rattle.plrun.proofs.Grow.{one-worker}

@@ -11,7 +11,7 @@ use Rattle.plevent.specs.Rows.{served}
 use Rattle.plevent.specs.Search.{Item, View, Ask, Answer, Seen, Got, Next, Wants, Search, item_of}
 use Rattle.plhist.specs.Follows.{own, own_if, Taken, is_not_yet, noted, guarded, not_below, replied, answered, answer_at, item_at, takes, from_start, asks_of}
 use Rattle.plsearch.specs.Solving.{Goes, TakesOne}
-use Rattle.plstack.specs.Places.{Views}
+use Rattle.plstore.specs.Looking.{Views}
 use Rattle.plworld.proofs.Push.{view-stays}
 use Rattle.plrun.specs.Going.{AreViews, Going, views_of}
 use Rattle.plrun.specs.Halts.{IsCommon, AreCommon}

@@ -11,7 +11,7 @@ use Rattle.plevent.specs.Reading.{reading, is_thread}
 use Rattle.plevent.specs.Search.{Answer, Finishes, Search}
 use Rattle.plhist.specs.Follows.{own, Taken, takes, from_start, asks_of, HasAsked}
 use Rattle.plhist.specs.Legal.{Legal, ByOneWorker, Over}
-use Rattle.plstack.specs.Places.{Views}
+use Rattle.plstore.specs.Looking.{Views}
 use Rattle.plrun.specs.Halts.{AreCommon}
 
 -- worker 1 started it, it has not ended, and no thread has ended the run

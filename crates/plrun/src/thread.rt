@@ -3,7 +3,7 @@ ghost use Rattle.std.specs.Prelude.{◌≡◌, ℕ, IfOk, OnOk, IfSome, [], ◌�
 ghost use Rattle.plevent.specs.Search.{View, Ask};
 ghost use Rattle.plsearch.specs.Solving.{StandsAt, EndsAt};
 ghost use Rattle.plsearch.specs.Search.{search_of};
-ghost use Rattle.plstack.specs.Places.{Views};
+ghost use Rattle.plstore.specs.Looking.{Views};
 ghost use Rattle.plsolver.specs.Solver.{Fetches, rest_of, WaitsForView, WaitsForReply};
 ghost use Rattle.plrun.specs.Halts.{told, told_places};
 ghost use Rattle.plrun.specs.Threads.{GoesOn, IsThread, run_now};

@@ -1,7 +1,7 @@
 //! The clauses of all batches (plstore).
 use crate::made::clause;
 use plclause::clause::Clause;
-use plevent::{Batch, ClauseName, Living, Update};
+use plevent::{Batch, ClauseName, Update};
 use plstore::record::Cursor;
 use plstore::store::Store;
 use plterm::error::TermError;
@@ -53,19 +53,13 @@ fn clauses_of_a_batch(rt: HostRuntime) -> Result<(), Fail> {
     Ok(())
 }
 
-/// How many clauses of p/0 are alive at a time.
-fn alive_at(alloc: Global, store: &Store, g: u64) -> Result<usize, AllocError> {
-    let pred = indicator(alloc, 0)?;
-    Ok(store.living(alloc, g, &pred)?.len())
-}
-
-/// The numbers of the clauses of p/0 that are alive at 4, in their order, up to three.
-fn walk(alloc: Global, store: &Store) -> Result<Vec<u64>, AllocError> {
+/// The numbers of the clauses of p/0 that are alive at a time, in their order, up to three.
+fn walk(alloc: Global, store: &Store, g: u64) -> Result<Vec<u64>, AllocError> {
     let pred = indicator(alloc, 0)?;
     let mut walk = Vec::new(alloc);
     let mut cursor = Cursor::Start;
     for _ in 0..3 {
-        if let Some(name) = store.next_visible(4, &pred, cursor) {
+        if let Some(name) = store.next_visible(g, &pred, cursor) {
             walk.push(name.number)?;
             cursor = Cursor::After(name);
         }
@@ -77,32 +71,8 @@ fn walk(alloc: Global, store: &Store) -> Result<Vec<u64>, AllocError> {
 #[test]
 fn order_of_a_batch(rt: HostRuntime) -> Result<(), Fail> {
     let store = one_batch(rt.alloc())?;
-    assert_eq!(rt; alive_at(rt.alloc(), &store, 3)?, 0);
-    assert_eq!(rt; alive_at(rt.alloc(), &store, 4)?, 2);
-    assert_eq!(rt; walk(rt.alloc(), &store)?.as_slice(), [2, 1].as_slice());
-    Ok(())
-}
-
-/// Whether this is the clause of a number in the batch at 3, with this body.
-fn is_one(alloc: Global, one: &Living, number: u64, body: &str) -> Result<bool, TermError> {
-    let is_named = (one.name.place, one.name.number) == (3, number);
-    Ok(is_named && has_body(alloc, &one.clause, body)?)
-}
-
-// The clauses that are alive come in that order, each with its name.
-#[test]
-fn living_of_a_batch(rt: HostRuntime) -> Result<(), Fail> {
-    let alloc = rt.alloc();
-    let store = one_batch(alloc)?;
-    let pred = indicator(alloc, 0)?;
-    let living = store.living(alloc, 4, &pred)?;
-    match living.as_slice() {
-        [first, second] => {
-            assert!(rt; is_one(alloc, first, 2, "c")?);
-            assert!(rt; is_one(alloc, second, 1, "b")?);
-        }
-        _ => return Err("another number of clauses".into()),
-    }
+    assert_eq!(rt; walk(rt.alloc(), &store, 3)?.len(), 0);
+    assert_eq!(rt; walk(rt.alloc(), &store, 4)?.as_slice(), [2, 1].as_slice());
     Ok(())
 }
 

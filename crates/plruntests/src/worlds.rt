@@ -65,19 +65,25 @@ fn main_is_started(rt: HostRuntime) -> Result<(), Fail> {
     Ok(())
 }
 
-/// How many clauses of p/0 are alive at a time.
-fn alive_at(alloc: Global, world: &World, g: u64) -> Result<usize, AllocError> {
-    let name = Name::new(alloc, "p")?;
-    let pred = Indicator { name, arity: 0 };
-    Ok(world.store().living(alloc, g, &pred)?.len())
+/// The name of an update.
+fn named(place: u64, number: u64) -> ClauseName {
+    ClauseName { place, number }
+}
+
+/// Whether the clause of place 2 is found at a time.
+fn is_found_at(world: &World, g: u64) -> Result<bool, AllocError> {
+    match world.look(g, &Query::Clause(named(2, 0)))? {
+        Found::Clause(clause) => Ok(clause.is_some()),
+        Found::Next(_) | Found::Exists(_) => Ok(false),
+    }
 }
 
 // The clause that main published is there from place 3 on.
 #[test]
 fn clauses_by_time(rt: HostRuntime) -> Result<(), Fail> {
     let world = begun(rt.alloc())?;
-    assert_eq!(rt; alive_at(rt.alloc(), &world, 2)?, 0);
-    assert_eq!(rt; alive_at(rt.alloc(), &world, 3)?, 1);
+    assert!(rt; !is_found_at(&world, 2)?);
+    assert!(rt; is_found_at(&world, 3)?);
     assert_eq!(rt; world.entries().len(), 3);
     assert_eq!(rt; world.front(), 3);
     Ok(())
@@ -149,11 +155,6 @@ fn a_halt_stops_all(rt: HostRuntime) -> Result<(), Fail> {
     Ok(())
 }
 
-/// The name of an update.
-fn named(place: u64, number: u64) -> ClauseName {
-    ClauseName { place, number }
-}
-
 /// Asks twice for main that a clause be erased, and tells what comes of each.
 fn erased_twice(
     alloc: Global,
@@ -191,8 +192,8 @@ fn a_clause_is_erased_once(rt: HostRuntime) -> Result<(), Fail> {
     let mut world = begun(rt.alloc())?;
     let replies = erased_twice(rt.alloc(), &mut world, named(2, 0))?;
     assert!(rt; replies == ("erased", "gone"));
-    assert_eq!(rt; alive_at(rt.alloc(), &world, 3)?, 1);
-    assert_eq!(rt; alive_at(rt.alloc(), &world, 4)?, 0);
+    assert!(rt; is_found_at(&world, 3)?);
+    assert!(rt; !is_found_at(&world, 4)?);
     assert!(rt; is_erased_last(world.close().as_slice()));
     Ok(())
 }
@@ -217,14 +218,6 @@ fn first_at(alloc: Global, world: &World, g: u64) -> Result<Option<u64>, AllocEr
     match world.look(g, &query)? {
         Found::Next(Some(name)) => Ok(Some(name.place)),
         Found::Next(None) | Found::Clause(_) | Found::Exists(_) => Ok(None),
-    }
-}
-
-/// Whether the clause of place 2 is found at a time.
-fn is_found_at(world: &World, g: u64) -> Result<bool, AllocError> {
-    match world.look(g, &Query::Clause(named(2, 0)))? {
-        Found::Clause(clause) => Ok(clause.is_some()),
-        Found::Next(_) | Found::Exists(_) => Ok(false),
     }
 }
 
@@ -261,7 +254,7 @@ fn no_other_clause_is_erased(rt: HostRuntime) -> Result<(), Fail> {
         assert!(rt; replies == ("gone", "gone"), "{place}, {number}");
     }
     assert_eq!(rt; world.front(), 3);
-    assert_eq!(rt; alive_at(rt.alloc(), &world, 3)?, 1);
+    assert!(rt; is_found_at(&world, 3)?);
     Ok(())
 }
 
@@ -273,7 +266,7 @@ fn no_erasure_behind_a_halt(rt: HostRuntime) -> Result<(), Fail> {
     let replies = erased_twice(rt.alloc(), &mut world, named(2, 0))?;
     assert!(rt; replies == ("stopped", "stopped"));
     assert_eq!(rt; world.front(), 4);
-    assert_eq!(rt; alive_at(rt.alloc(), &world, 4)?, 1);
+    assert!(rt; is_found_at(&world, 4)?);
     Ok(())
 }
 

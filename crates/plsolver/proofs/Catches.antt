@@ -22,7 +22,8 @@ use Rattle.plstack.specs.declared.frame.Handler.TheVariants as handlers
 use Rattle.plstack.specs.declared.frame.Handling.{Handling}
 use Rattle.plstack.specs.declared.frame.Closed.{Closed}
 use Rattle.plstack.specs.declared.frame.Closed.TheVariants as closes
-use Rattle.plstack.specs.Places.{Database, Views}
+use Rattle.plstore.specs.Looking.{Views}
+use Rattle.plstack.specs.Places.{Database}
 use Rattle.plstack.specs.State.{State, IsList, IsHandler, BeginsWith, HasHandler, AtHandler, Extends, Unifies, Recovers, cases_of, goals_of, place_of}
 use Rattle.plstack.specs.StaticCalls.{database_of}
 use Rattle.plstack.specs.Opening.{ClosedAs}

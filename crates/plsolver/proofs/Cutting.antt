@@ -5,7 +5,8 @@ use Rattle.plsearch.specs.Types.{Case, Choice, Mark, Handle}
 use Rattle.plsearch.specs.Machines.Levels.{AreAtMost, emptied}
 use Rattle.plsearch.specs.Machines.Weight.{case_weight, cases_weight}
 use Rattle.pllinks.specs.declared.link.Continuation.{Continuation}
-use Rattle.plstack.specs.Places.{Database, Views}
+use Rattle.plstore.specs.Looking.{Views}
+use Rattle.plstack.specs.Places.{Database}
 use Rattle.plstack.specs.State.{State, cases_of, goals_of}
 use Rattle.plstack.specs.StaticCalls.{database_of}
 use Rattle.plstack.specs.Cutting.{Empties, Cuts}

@@ -21,7 +21,8 @@ use Rattle.plstore.proofs.Names.{exists-alive}
 use Rattle.plstack.specs.declared.frame.Use.{Use}
 use Rattle.plstack.specs.declared.frame.Use.TheVariants as uses
 use Rattle.plstack.specs.declared.frame.Spot.TheVariants as spots
-use Rattle.plstack.specs.Places.{Views, candidate_of, head_in, onward, tried}
+use Rattle.plstore.specs.Looking.{Views}
+use Rattle.plstack.specs.Places.{candidate_of, head_in, onward, tried}
 use Rattle.plstack.specs.State.{goals_of}
 use Rattle.plstack.proofs.Looking.{first-none, first-some}
 use Rattle.plmachine.specs.declared.machine.Outcome.TheVariants as outcomes

@@ -12,7 +12,8 @@ use Rattle.plsearch.specs.Rows.{gathering}
 use Rattle.plsearch.specs.Engine.{deeper}
 use Rattle.pllinks.specs.declared.link.Continuation.{Continuation}
 use Rattle.plstack.specs.declared.frame.Handler.TheVariants as handlers
-use Rattle.plstack.specs.Places.{Database, Views}
+use Rattle.plstore.specs.Looking.{Views}
+use Rattle.plstack.specs.Places.{Database}
 use Rattle.plstack.specs.State.{State, IsList, HasHandler, AtHandler, Extends, Leaves, cases_of, goals_of}
 use Rattle.plstack.specs.StaticCalls.{database_of}
 use Rattle.plmachine.specs.declared.machine.Outcome.TheVariants as outcomes

@@ -29,7 +29,7 @@ use Rattle.plstack.specs.Opening.{ClosesPlain}
 use Rattle.plevent.specs.declared.update.ClauseName.{ClauseName}
 use Rattle.plstack.specs.Places.{place_asked, plain}
 use Rattle.plstack.specs.State.{State, place_of, cases_of, goals_of, Retries, RetriesBy}
-use Rattle.plstack.specs.Places.{Views}
+use Rattle.plstore.specs.Looking.{Views}
 use Rattle.plstack.specs.StaticCalls.{database_of}
 use Rattle.plstack.specs.Cutting.{Cuts}
 use Rattle.plstack.specs.First.{AtMarker}

@@ -27,7 +27,7 @@ use Rattle.plcode.specs.Steps.{of_two}
 use Rattle.plenv.specs.Env.{over}
 use Rattle.plstack.specs.State.{State, cases_of, goals_of}
 use Rattle.pllinks.specs.declared.link.Continuation.{Continuation}
-use Rattle.plstack.specs.Places.{Views}
+use Rattle.plstore.specs.Looking.{Views}
 use Rattle.plstack.specs.StaticCalls.{database_of}
 use Rattle.plstack.specs.First.{AtBoth}
 use Rattle.plstack.proofs.Stacks.{depth-in}

@@ -29,13 +29,13 @@ use Rattle.plstore.specs.declared.record.Cursor.TheVariants.{Start}
 use Rattle.plstore.specs.declared.query.Query.{Query}
 use Rattle.plstore.specs.declared.query.Found.{Found}
 use Rattle.plstore.specs.declared.query.Found.TheVariants.{Next as NextFound, Clause as ClauseFound}
-use Rattle.plstore.specs.Looking.{clause_alive, found}
+use Rattle.plstore.specs.Looking.{Views, clause_alive, found}
 use Rattle.plstore.proofs.Names.{exists-alive}
 use Rattle.plcode.proofs.Numbers.{indicator_same}
 use Rattle.plstack.specs.declared.frame.Use.{Use}
 use Rattle.plstack.specs.declared.frame.Use.TheVariants as uses
 use Rattle.plstack.specs.declared.frame.Spot.TheVariants as spots
-use Rattle.plstack.specs.Places.{Views, candidate_of, head_in, onward, tried}
+use Rattle.plstack.specs.Places.{candidate_of, head_in, onward, tried}
 use Rattle.plstack.specs.State.{State, goals_of, Extends}
 use Rattle.plstack.specs.Walks.{IsWalking}
 use Rattle.plstack.specs.declared.frame.Point.{Point}

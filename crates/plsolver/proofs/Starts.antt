@@ -17,7 +17,7 @@ use Rattle.pllinks.specs.Lists.{goal_of, all_elements}
 use Rattle.pllinks.specs.Links.{alone, done}
 use Rattle.pllinks.proofs.Arena.{list_at-none}
 use Rattle.plstack.specs.State.{State, IsList, Extends, AddsList, goals_in, goals_of, cases_of}
-use Rattle.plstack.specs.Places.{Views}
+use Rattle.plstore.specs.Looking.{Views}
 use Rattle.plstack.specs.StaticCalls.{database_of}
 use Rattle.plstack.proofs.Lists.{empty-list}
 use Rattle.plstack.proofs.Stacks.{no-cases}

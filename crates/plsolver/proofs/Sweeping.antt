@@ -24,9 +24,9 @@ use Rattle.plsearch.specs.Search.{ending_of}
 use Rattle.plstore.specs.declared.record.Cursor.{Cursor}
 use Rattle.plstore.specs.declared.record.Cursor.TheVariants.{Start, After}
 use Rattle.plstore.specs.Like.{next_like_of, past}
-use Rattle.plstore.specs.Looking.{clause_alive}
+use Rattle.plstore.specs.Looking.{Views, clause_alive}
 use Rattle.plstore.specs.Rising.{Ordered}
-use Rattle.plstack.specs.Places.{Views, named_so, onward}
+use Rattle.plstack.specs.Places.{named_so, onward}
 use Rattle.plstack.specs.State.{goals_of}
 use Rattle.plstack.proofs.Looking.{heads-first-none, heads-first-some, heads-next-none, heads-next-some}
 use Rattle.plmachine.specs.declared.machine.Reach.TheVariants as reaches

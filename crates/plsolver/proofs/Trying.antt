@@ -18,7 +18,7 @@ use Rattle.plsearch.specs.Machines.Weight.{weight}
 use Rattle.plsearch.specs.Search.{ending_of}
 use Rattle.plstore.specs.declared.record.Cursor.TheVariants.{After}
 use Rattle.plstore.specs.Like.{next_like_of}
-use Rattle.plstore.specs.Looking.{clause_alive}
+use Rattle.plstore.specs.Looking.{Views, clause_alive}
 use Rattle.plstore.specs.Rising.{Ordered}
 use Rattle.plenv.specs.Env.{cut}
 use Rattle.pllinks.specs.Lists.{all_elements}
@@ -32,7 +32,7 @@ use Rattle.plstack.specs.declared.walk.Candidate.{Candidate}
 use Rattle.plstack.specs.declared.walk.Walking.{Walking}
 use Rattle.plstore.specs.declared.query.Query.{Query}
 use Rattle.plsearch.specs.Solving.{Goes}
-use Rattle.plstack.specs.Places.{Database, Views, candidate_of, head_in, left_at, left_if, onward_if, text_candidate, tried}
+use Rattle.plstack.specs.Places.{Database, candidate_of, head_in, left_at, left_if, onward_if, text_candidate, tried}
 use Rattle.plstack.specs.State.{State, cases_of, goals_in, RetriesBy}
 use Rattle.plstack.specs.StaticCalls.{database_of}
 use Rattle.plstack.specs.Walks.{AtWalk, EndsPlain, Finds, GoesOn, goal_at}

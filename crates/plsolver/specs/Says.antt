@@ -8,7 +8,7 @@ use Rattle.plsolver.specs.declared.progress.Progress.{Progress}
 use Rattle.plsolver.specs.declared.solver.Turn.{Turn}
 use Rattle.plsolver.specs.declared.solver.Turn.TheVariants as turns
 use Rattle.plsolver.specs.declared.progress.Due.TheVariants as dues
-use Rattle.plstack.specs.Places.{Views}
+use Rattle.plstore.specs.Looking.{Views}
 use Rattle.plsolver.specs.Solver.{Fetches, rest_of, Settled, WaitsForView, WaitsForReply}
 
 -- it waits for a reply or for a view, a goal is to be selected with a step that is left, or it has ended

@@ -36,7 +36,8 @@ use Rattle.plsearch.specs.Replies.{Served, Late, outcome}
 use Rattle.plsearch.specs.Solving.{Goes}
 use Rattle.plsearch.specs.Search.{ending_of, from_start, once, start_from, start_of}
 use Rattle.pllinks.specs.declared.link.Continuation.{Continuation}
-use Rattle.plstack.specs.Places.{Database, Views, head_in}
+use Rattle.plstore.specs.Looking.{Views}
+use Rattle.plstack.specs.Places.{Database, head_in}
 use Rattle.plstack.specs.Walks.{AtWalk}
 use Rattle.plstack.specs.declared.frame.Point.{Point}
 use Rattle.plstack.specs.declared.frame.Use.{Use}

@@ -4,7 +4,7 @@ ghost use Rattle.std.specs.Prelude.{◌≡◌, ◌≤◌, [], ◌∷◌, ◌++�
 ghost use Rattle.plevent.specs.Search.{Got, Finishes};
 ghost use Rattle.plsearch.specs.Search.{next_of};
 ghost use Rattle.plsearch.specs.Solving.{TakesOne};
-ghost use Rattle.plstack.specs.Places.{Views};
+ghost use Rattle.plstore.specs.Looking.{Views};
 ghost use Rattle.plmachine.specs.Machine.{result_of};
 ghost use Rattle.plsolver.specs.Solver.{IsOf, Stays, rest_of, Waits, ReplyFits, IsOver, after_done, after_reply};
 ghost use Rattle.plsolver.specs.Says.{Says, IsSlice};

@@ -3,12 +3,11 @@
 ghost use Rattle.std.specs.Prelude.{◌≡◌, ℕ, IfOk, OnErr, OnOk};
 ghost use Rattle.plcells.specs.Store.{value, IsValue};
 ghost use Rattle.plclause.specs.Indicators.{indicator};
-ghost use Rattle.plstore.specs.Looking.{found as found_of};
+ghost use Rattle.plstore.specs.Looking.{Views, found as found_of};
 ghost use Rattle.plstore.specs.Rising.{Ordered};
 ghost use Rattle.plstore.specs.declared.query.Query.{Query as Asked};
 ghost use Rattle.plstore.specs.declared.query.Query.TheVariants.{Exists as ExistsOf};
 ghost use Rattle.plstore.specs.declared.query.Found.TheVariants.{Clause as ClauseOf, Exists as ExistsFound, Next as NextOf};
-ghost use Rattle.plstack.specs.Places.{Views};
 ghost use Rattle.plterm.specs.Tree.{Tree};
 ghost use Rattle.plmachine.specs.Machine.{IsFound};
 ghost use Rattle.plmachine.specs.declared.machine.Find.TheVariants.{Sweep as SweepOf};

@@ -2,7 +2,7 @@
 
 ghost use Rattle.std.specs.Prelude.{◌≡◌, ◌+◌, ◌≤◌, [], IfOk, OnOk, OnErr};
 ghost use Rattle.plprogram.specs.Program.{Program as Given};
-ghost use Rattle.plstack.specs.Places.{Views};
+ghost use Rattle.plstore.specs.Looking.{Views};
 ghost use Rattle.plsearch.specs.Search.{search_of};
 ghost use Rattle.plsearch.specs.Solving.{Begins};
 ghost use Rattle.plsolver.specs.Solver.{GoesTo, IsOf, IsSelected, Selects, Stays, Stepped, rest_of, Settled};

@@ -2,9 +2,8 @@
 
 ghost use Rattle.std.specs.Prelude.{◌≡◌, ℕ, ◌+◌, ◌≤◌, [], ◌∷◌, ◌++◌, IfOk, OnOk, OnErr};
 ghost use Rattle.plevent.specs.Search.{Seen, Got};
-ghost use Rattle.plstore.specs.Looking.{found as found_of};
+ghost use Rattle.plstore.specs.Looking.{Views, found as found_of};
 ghost use Rattle.plstore.specs.Rising.{Ordered};
-ghost use Rattle.plstack.specs.Places.{Views};
 ghost use Rattle.plsearch.specs.Search.{search_of};
 ghost use Rattle.plsearch.specs.Solving.{Begins, Goes, TakesOne};
 ghost use Rattle.plsolver.specs.Solver.{Fetches, GoesTo, IsFoundFor, IsOf, Stays, rest_of, WaitsForView, ReplyFits};

@@ -9,7 +9,7 @@ use Rattle.plcode.specs.Steps.{Text}
 use Rattle.plcode.specs.Clauses.{AreCodeOf, AreProcedures}
 use Rattle.plcode.specs.Callees.{Compiled, IsStatic, IsProgramCode}
 use Rattle.plstack.specs.Fits.{AreOwn}
-use Rattle.plstack.specs.Places.{Views}
+use Rattle.plstore.specs.Looking.{Views}
 use Rattle.plstack.specs.StaticCalls.{statics_of, database_of, AreStatics}
 
 abbrev nothing : Indicator × List Clause

@@ -8,7 +8,7 @@ use Rattle.plevent.specs.declared.update.ClauseName.{ClauseName}
 use Rattle.plevent.specs.declared.update.Living.{Living}
 use Rattle.plevent.specs.Alive.{Stamped, living, lives_as}
 use Rattle.plstore.specs.Like.{past}
-use Rattle.plstore.specs.Looking.{clause_alive}
+use Rattle.plstore.specs.Looking.{Views, clause_alive}
 use Rattle.plevent.specs.declared.request.Request.TheVariants.{EraseOne}
 use Rattle.plcells.specs.declared.cell.Cell.{Cell}
 use Rattle.plcells.specs.Store.{Store, value}
@@ -39,10 +39,6 @@ use Rattle.plstack.specs.declared.frame.Frame.TheVariants.{Plain, Barrier, Open}
 pub record Static : Type 0 where
   pub name : List ℕ
   pub clauses : List Clause
-
--- the updates of the batches below each place of a journal
-abbrev pub Views : Type 0
-Views = ℕ → List Stamped
 
 -- where clauses are found: the procedures of the program's text, by their places and by their names, and the views
 pub record Database : Type 0 where

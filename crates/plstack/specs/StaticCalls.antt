@@ -29,7 +29,8 @@ use Rattle.plstack.specs.declared.frame.Frame.{Frame}
 use Rattle.plstack.specs.declared.frame.Frame.TheVariants.{Open}
 use Rattle.plstack.specs.declared.fit.Found.{Found}
 use Rattle.plstack.specs.declared.fit.Hit.{Hit}
-use Rattle.plstack.specs.Places.{Static, Views, Database, called, places_left, kept_values}
+use Rattle.plstore.specs.Looking.{Views}
+use Rattle.plstack.specs.Places.{Static, Database, called, places_left, kept_values}
 use Rattle.plstack.specs.Fits.{AreOwn, Finds}
 use Rattle.plstack.specs.State.{State, goals_in, goals_of, place_of, cases_of, CountsUp, HasClauses, IsList}
 use Rattle.plstack.specs.Calls.{places_of}

@@ -2,7 +2,6 @@ pub mod Law
 pub mod Search
 pub mod Whole
 pub mod Look
-pub mod Gather
 pub mod Bits
 pub mod Index
 pub mod Plans

@@ -9,6 +9,10 @@ use Rattle.plstore.specs.declared.query.Found.{Found}
 use Rattle.plstore.specs.Kept.{Kept, walk, here, is_there, clause_of}
 use Rattle.plstore.specs.Like.{next_like_of}
 
+-- the updates of the batches below each place of a journal
+abbrev pub Views : Type 0
+Views = ℕ → List Stamped
+
 -- the clause of a name, where it is alive
 abbrev pub clause_alive : ClauseName → List Stamped → Option Clause
 clause_alive x us = add_if (is_alive x us) (clause_named x us) None

@@ -14,9 +14,8 @@ use crate::record::{Cursor, Declared, Record};
 use crate::sought::Sought;
 use crate::steps::{first_sought, sought_after};
 use crate::tables::{Tables, find, make_all};
-use crate::walk::{gather_back, gather_front};
 use plclause::clause::Clause;
-use plevent::{Batch, ClauseName, Key, Living};
+use plevent::{Batch, ClauseName, Key};
 use plterm::indicator::Indicator;
 use std::alloc::{AllocError, Global};
 use std::collections::HashMap;
@@ -125,33 +124,6 @@ impl Store {
         ensures { result ≡ is_there g pred.now self.now }
     {
         ends_of(&self.tables.index, pred).is_since(g)
-    }
-
-    /// The clauses of a procedure that are alive after the batches below `g`, each with its name, in their order. They share
-    /// their parts with the store. It takes time linear in those that are alive and in the runs of erased ones between them.
-    pub fn living(&self, alloc: Global, g: u64, pred: &Indicator) -> Result<Vec<Living>, AllocError>
-        ensures { IfOk result (λ found. found.items ≡ walk g pred.now self.now.records) }
-    {
-        let records = self.tables.records.as_slice();
-        let next = self.tables.next.as_slice();
-        let places = self.tables.places.as_slice();
-        let ends = ends_of(&self.tables.index, pred);
-        let sought = Sought {
-            g,
-            pred,
-            key: &Key::Any,
-        };
-        let mut found = Vec::new(alloc);
-        gather_front(
-            records,
-            next,
-            places,
-            &sought,
-            ends.newest_front,
-            &mut found,
-        )?;
-        gather_back(records, next, places, &sought, ends.oldest_back, &mut found)?;
-        Ok(found)
     }
 
     /// What a query finds in the database after the batches below `g`.

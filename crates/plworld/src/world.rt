@@ -3,7 +3,7 @@ ghost use Rattle.std.specs.Prelude.{◌≡◌, ◌<◌, ◌^◌, ◌++◌, ◌�
 ghost use Rattle.plevent.specs.Alive.{before, stamped};
 ghost use Rattle.plevent.specs.Reading.{stand, updates_of, reading};
 ghost use Rattle.plevent.specs.Rows.{adds, reply_to, is_over};
-ghost use Rattle.plstore.specs.Kept.{keep, nothing};
+ghost use Rattle.plstore.specs.Kept.{keep};
 ghost use Rattle.plstore.specs.Looking.{found};
 ghost use Rattle.plstore.specs.Rising.{AllBelowPlace};
 ghost use Rattle.plworld.specs.Worlds.{opening};
@@ -86,13 +86,6 @@ impl World {
         ensures { result ≡ is_over (reading self.now.journal).standing }
     {
         self.standing.is_over()
-    }
-
-    /// The database: it keeps the updates of the journal's batches.
-    pub fn store(&self) -> &Store
-        ensures { result.now ≡ fold keep nothing (reading self.now.journal).updates }
-    {
-        &self.store
     }
 
     /// What a query finds in the database as it was after the entries below `g`.
