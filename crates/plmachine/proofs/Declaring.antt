@@ -1,5 +1,5 @@
 -- Terms that are to name procedures.
-use Rattle.std.proofs.Common.{◌≡◌, Bool, true, false, List, map, Option, Some, None, option_map, sym, ap, ap₂, ◌∙◌, if◌then◌else◌}
+use Rattle.std.proofs.Common.{◌≡◌, Bool, false, List, map, Option, Some, None, option_map, sym, ap, ap₂, ◌∙◌}
 use Rattle.std.specs.Prelude.{not, is_some}
 use Rattle.std.specs.List.{filter_map, find, list_any}
 use Rattle.plterm.specs.Tree.{Tree}
@@ -10,10 +10,9 @@ use Rattle.plevent.specs.declared.update.Update.TheVariants.{Declare}
 use Rattle.plprogram.specs.Program.{Program}
 use Rattle.plsearch.specs.Errors.{instantiation_error, naming_error, static_error}
 use Rattle.plsearch.specs.Rows.{is_static, undeclarable}
-use Rattle.plmachine.specs.declared.naming.Names.TheVariants.{All}
 use Rattle.plmachine.specs.declared.naming.Declaration.{Declaration}
 use Rattle.plmachine.specs.declared.naming.Declaration.TheVariants.{Updates, Refused}
-use Rattle.plmachine.specs.Naming.{AreDeclared, IsDeclared, IsNaming}
+use Rattle.plmachine.specs.Naming.{AreDeclared, IsDeclared}
 
 module _ (P : Program) (ts : List Tree) (known : list_any is_open ts ≡ false) where
   abbrev refused : Option Tree → List Indicator → Option Tree

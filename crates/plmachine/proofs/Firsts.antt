@@ -1,11 +1,10 @@
 -- The first argument of the term of a value.
-use Rattle.std.proofs.Common.{◌≡◌, ℕ, suc, ◌+◌, ◌<◌, List, [], ◌∷◌, length, refl, sym, ap, ap₂, ◌∙◌, arith}
-use Rattle.plterm.specs.Tree.{Tree, compound, trees, list_of}
+use Rattle.std.proofs.Common.{◌≡◌, ℕ, suc, ◌+◌, List, [], ◌∷◌, refl, sym, ap, ap₂, ◌∙◌, arith}
+use Rattle.plterm.specs.Tree.{Tree, compound, trees}
 use Rattle.platoms.specs.Names.{functor_name}
 use Rattle.plcells.specs.declared.cell.Cell.{Cell}
 use Rattle.plcells.specs.declared.cell.Cell.TheVariants.{Free, Lone, Ref, Int, Wide, Atom, Str, Fun, Ground}
 use Rattle.plcells.specs.Store.{Store, term, terms, value, IsBlock, IsEnd, IsHeap, IsValue}
-use Rattle.plevent.specs.declared.key.Key.{Key}
 use Rattle.plevent.specs.declared.key.Key.TheVariants.{Any, Functor}
 use Rattle.plevent.specs.Keys.{first_key, key_of}
 use Rattle.plgoals.proofs.Converting.{terms-length}

@@ -1,7 +1,7 @@
 //! Arithmetic over the expressions of clauses: they are evaluated where they stand, and nothing is put (ISO/IEC 13211-1 8.6, 8.7).
 //!
 //! A row that is refused memory leaves the search where it was.
-ghost use Rattle.std.specs.Prelude.{◌≡◌, ℕ, List, IfSome, OnOk, OnErr};
+ghost use Rattle.std.specs.Prelude.{◌≡◌, IfSome, OnOk, OnErr};
 ghost use Rattle.plterm.specs.Tree.{int, Tree};
 ghost use Rattle.plclause.specs.Indicators.{indicator};
 ghost use Rattle.plarith.specs.Evaluation.{eval};
@@ -10,7 +10,6 @@ ghost use Rattle.plbuiltin.specs.Arithmetic.{compared as compared_of, equals, of
 ghost use Rattle.plsearch.specs.Rows.{offer, solved, taken};
 ghost use Rattle.plstack.specs.Arguments.{IsArgument};
 ghost use Rattle.plstack.specs.State.{goals_of, IsList};
-ghost use Rattle.plmachine.specs.declared.select.Source.TheVariants.{Node as AtNode};
 ghost use Rattle.plmachine.specs.Calculating.{IsCalculation};
 ghost use Rattle.plmachine.specs.Machine.{local_of, IsBegun, Moved, Stays};
 ghost use Rattle.plmachine.specs.Selected.{bound_at, StandsFor};

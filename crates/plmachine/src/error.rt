@@ -1,6 +1,6 @@
 //! The error terms (ISO/IEC 13211-1 7.12.2).
 
-ghost use Rattle.std.specs.Prelude.{◌≡◌, IfOk, codes, pos};
+ghost use Rattle.std.specs.Prelude.{◌≡◌, IfOk, codes};
 ghost use Rattle.plterm.specs.Tree.{atom, int, compound, none, more};
 ghost use Rattle.plterm.specs.Variables.{copied};
 ghost use Rattle.plsearch.specs.Errors.{pair as pair_of, indicator_term as term_of, instantiation_error, callable_error, integer_error, procedure_error, static_error, private_error, naming_error, arity_error, error_term};

@@ -1,6 +1,5 @@
 //! Goal lists that a row puts together.
-ghost use Rattle.std.specs.Prelude.{◌≡◌, ◌++◌, IfOk, OnErr};
-ghost use Rattle.pllinks.specs.Links.{IsDone};
+ghost use Rattle.std.specs.Prelude.{◌≡◌, ◌++◌, IfOk};
 ghost use Rattle.plstack.specs.State.{goals_of, IsList};
 ghost use Rattle.plmachine.specs.Lists.{at_level, branch_at, elements_of, failing, Holds, IsPart, Lengthened};
 

@@ -1,6 +1,6 @@
 //! The predicates whose errors the machine raises.
 
-ghost use Rattle.std.specs.Prelude.{◌≡◌, ◌≤◌, IfOk};
+ghost use Rattle.std.specs.Prelude.{◌≡◌, IfOk};
 ghost use Rattle.plmachine.specs.Predicates.{predicate_of, IsFew};
 
 use plterm::indicator::Indicator;

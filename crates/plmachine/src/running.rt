@@ -12,7 +12,7 @@ ghost use Rattle.plsearch.specs.Rows.{run as runs, once_1, not_1, catch_3, call_
 ghost use Rattle.plstack.specs.State.{goals_of, IsList};
 ghost use Rattle.plstack.specs.Opening.{around_cases, IsAround};
 ghost use Rattle.plmachine.specs.Lists.{elements_of, Grown, Holds, IsPart};
-ghost use Rattle.plmachine.specs.Predicates.{predicate_of, IsFew};
+ghost use Rattle.plmachine.specs.Predicates.{predicate_of};
 ghost use Rattle.plmachine.specs.Running.{ready_as, IsReady, IsRunning, Readies};
 ghost use Rattle.plmachine.specs.Machine.{depth_of, local_of, Moved, Stays};
 

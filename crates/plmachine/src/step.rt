@@ -4,7 +4,7 @@ ghost use Rattle.plsearch.specs.Types.{Element};
 ghost use Rattle.plsearch.specs.Forms.{form as form_by_term};
 ghost use Rattle.plsearch.specs.Rows.{row};
 ghost use Rattle.plstack.specs.First.{AtStep};
-ghost use Rattle.plstack.specs.State.{goals_of, IsList};
+ghost use Rattle.plstack.specs.State.{goals_of};
 ghost use Rattle.plmachine.specs.Machine.{depth_of, local_of, IsBegun, Moved, Stays};
 ghost use Rattle.plmachine.specs.Selected.{bound_at};
 

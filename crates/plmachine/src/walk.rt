@@ -1,7 +1,7 @@
 //! Walks over clauses that are opened, and procedures that are declared (ISO/IEC 13211-1 7.7.7, 8.8, 8.9).
 //!
 //! What is refused memory leaves the search where it was.
-ghost use Rattle.std.specs.Prelude.{◌≡◌, ◌∷◌, [], OnOk, OnErr};
+ghost use Rattle.std.specs.Prelude.{◌∷◌, [], OnOk, OnErr};
 ghost use Rattle.plcells.specs.Store.{value, IsValue};
 ghost use Rattle.plevent.specs.declared.update.Update.TheVariants.{Declare};
 ghost use Rattle.plsearch.specs.Rows.{clause_term, publish};

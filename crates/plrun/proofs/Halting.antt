@@ -1,5 +1,5 @@
 -- How main's search ends the run: once that is done, and no sooner.
-use Rattle.std.proofs.Common.{◌≡◌, ℕ, zero, suc, ◌+◌, ◌<◌, Bool, true, false, inl, inr, List, [], ◌∷◌, ◌++◌, map, min, length, Option, Some, None, refl, sym, ap, ◌∙◌, subst, arith, nat_eq, if◌then◌else◌}
+use Rattle.std.proofs.Common.{◌≡◌, ℕ, zero, suc, ◌+◌, ◌<◌, Bool, true, false, inl, inr, List, [], ◌∷◌, ◌++◌, map, min, length, Option, Some, None, refl, sym, ap, ◌∙◌, subst, arith, nat_eq}
 use Rattle.std.specs.Prelude.{codes}
 use Rattle.std.specs.List.{filter_map, cons_option}
 use Rattle.std.specs.Option.{option_map}
@@ -32,7 +32,7 @@ use Rattle.plsearch.specs.Types.{Result, Stop, Fail, CutTo, Throw, Halted, Spent
 use Rattle.plsearch.specs.Lists.{bind_element, bind_goals}
 use Rattle.plsearch.specs.Forms.{Form, True, False, Both, Either, IfThenElse, Not, Once, Catching, FindAll, Throwing, CallWith, Cut, Halting, Adding, Retrieving, Retracting, RetractingAll, Declaring, BuiltIn, Call, NoGoal, form}
 use Rattle.plsearch.specs.Running.{Runnable, Runs, Raises, runnable, called}
-use Rattle.plsearch.specs.Rows.{is_true, before_rest, resolve, choose, call, raised, asked, once_1, not_1, catch_3, call_with, clause_term, as_fact, first_of, run, thrown, catching, finding, findall_3, gathering, branch, go_on, publish, unless, unchangeable, added, add, no_head, no_body, unreadable, retrieving, halves, unerasable, undeclarable, halting, user, solved, taken, offered, offer, row, select, meet}
+use Rattle.plsearch.specs.Rows.{is_true, before_rest, resolve, choose, call, raised, asked, once_1, not_1, catch_3, call_with, clause_term, as_fact, first_of, run, thrown, catching, finding, findall_3, gathering, branch, publish, unless, unchangeable, added, add, no_head, no_body, unreadable, retrieving, halves, unerasable, undeclarable, halting, user, solved, taken, offered, offer, row, select, meet}
 use Rattle.plsearch.specs.Replies.{outcome, follows, missing, retract, all_erased, looked_up, answered}
 use Rattle.plsearch.specs.Handlers.{has, recovers, met_by, goes_on, resume}
 use Rattle.plbuiltin.specs.Errors.{type_error}

@@ -12,7 +12,7 @@ use Rattle.plevent.specs.declared.act.Entry.{Entry}
 use Rattle.plevent.specs.declared.standing.Thread.{Thread}
 use Rattle.plevent.specs.declared.update.ClauseName.{ClauseName}
 use Rattle.plevent.specs.declared.update.Update.TheVariants.{Erase}
-use Rattle.plevent.specs.Alive.{Stamped, before, is_alive}
+use Rattle.plevent.specs.Alive.{before, is_alive}
 use Rattle.plevent.specs.Reading.{reading, is_thread, changed_first, halted_after}
 use Rattle.plevent.specs.Rows.{erase_row, served, adds, reply_to, entries_of, is_settled}
 use Rattle.plevent.specs.Search.{Item, View, Ask, Seen, Got, Wants, Finishes, Search, item_of, item_of_end}
@@ -25,7 +25,7 @@ use Rattle.plhist.proofs.OneMore.{reading-push, halted-push}
 use Rattle.plworld.proofs.Push.{before-is, view-stays}
 use Rattle.plprogram.specs.Program.{Program}
 use Rattle.plsearch.specs.Search.{search_of}
-use Rattle.plsearch.specs.Solving.{Goes, TakesOne, StandsAt, EndsAt}
+use Rattle.plsearch.specs.Solving.{TakesOne, StandsAt, EndsAt}
 use Rattle.plsolver.specs.Solver.{IsReplyTo}
 use Rattle.plstore.specs.Looking.{Views}
 use Rattle.plrun.specs.Going.{Free, Going, IsClosed, IsRunning, IsHalted, IsStarted, Runs, Halts, views_of}

@@ -35,7 +35,6 @@ use Rattle.plmachine.specs.Lists.{Grown}
 use Rattle.plmachine.proofs.Moves.{machine-is, stays-trans, grown-stays as grown-there}
 use Rattle.plsolver.specs.declared.progress.Progress.{Progress}
 use Rattle.plsolver.specs.Solver.{Stays, QuietIn, Recovered, Rethrown}
-use Rattle.plsolver.proofs.Runs.{at-place}
 use Rattle.plsolver.proofs.Quiets.{to, at_stack, carried, quiet-other, quiet-caught}
 
 tail_is : (x y : Case) (xs ys : List Case) → x ∷ xs ≡ y ∷ ys → xs ≡ ys

@@ -1,5 +1,5 @@
 -- Clauses that are sought first, and procedures that may not exist.
-use Rattle.std.proofs.Common.{◌≡◌, ℕ, Bool, true, false, if◌then◌else◌, List, [], ◌∷◌, map, Option, Some, None, refl, sym, ap, ap₂, ◌∙◌, subst}
+use Rattle.std.proofs.Common.{◌≡◌, ℕ, Bool, true, false, List, [], ◌∷◌, map, Option, Some, None, refl, sym, ap, ◌∙◌, subst}
 use Rattle.std.specs.List.{filter_map}
 use Rattle.plterm.specs.Tree.{Tree}
 use Rattle.plcells.specs.declared.cell.Cell.{Cell}
@@ -11,7 +11,7 @@ use Rattle.plevent.specs.Alive.{Stamped, exists, living}
 use Rattle.plevent.specs.Keys.{first_key}
 use Rattle.plevent.specs.Search.{Answer}
 use Rattle.plprogram.specs.Program.{Program}
-use Rattle.plsearch.specs.Types.{ToCall, Element, Place, Local, Give, Fail}
+use Rattle.plsearch.specs.Types.{ToCall, Element, Local, Give, Fail}
 use Rattle.plsearch.specs.Rows.{choose}
 use Rattle.plsearch.specs.Replies.{looked_up, missing}
 use Rattle.plstore.specs.Like.{next_like_of}

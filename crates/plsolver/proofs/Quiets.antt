@@ -1,6 +1,6 @@
 -- The turns that take no step.
 use Rattle.std.specs.Option.{option_map}
-use Rattle.std.proofs.Common.{◌≡◌, ℕ, zero, suc, Bool, true, false, if◌then◌else◌, List, [], ◌∷◌, refl, sym, ap, ap₂, ◌∙◌, arith, IsTrue, ◌↔◌, Option, Some, None, length, ◌+◌, ◌<◌, ◌≤◌, subst, inl, inr}
+use Rattle.std.proofs.Common.{◌≡◌, ℕ, zero, suc, Bool, true, false, List, [], ◌∷◌, refl, sym, ap, ap₂, ◌∙◌, arith, IsTrue, ◌↔◌, Option, Some, None, length, ◌+◌, ◌<◌, ◌≤◌, subst, inl, inr}
 use Rattle.plterm.specs.Tree.{Tree}
 use Rattle.plterm.specs.Variables.{copied, variables}
 use Rattle.plsubst.specs.Subst.{bind}
@@ -13,7 +13,6 @@ use Rattle.plsearch.specs.Types.{Result, Fail, Spent, Throw, Commit, Never, Unti
 use Rattle.plread.specs.Texts.{listed}
 use Rattle.plsearch.specs.Lists.{bind_goals}
 use Rattle.plsearch.specs.Running.{runnable}
-use Rattle.plbuiltin.specs.Solution.{Solution}
 use Rattle.plsearch.specs.Collecting.{copies_from, count_new, dropped, gathered, kept_below, renumbered, with_copy}
 use Rattle.plsearch.specs.Rows.{select, meet, catching, gathering, solved}
 use Rattle.plsearch.specs.Handlers.{resume, has, met_by, recovers, goes_on}
@@ -38,7 +37,7 @@ use Rattle.plmachine.specs.declared.machine.Outcome.TheVariants as outcomes
 use Rattle.plmachine.specs.declared.machine.Mode.{Mode as Going}
 use Rattle.plmachine.specs.declared.machine.Mode.TheVariants as modes
 use Rattle.plmachine.specs.declared.machine.Machine.{Machine as Reached}
-use Rattle.plmachine.specs.Machine.{result_of, mode_of, local_of, cases_in, depth_of, machine, IsPlain, MayAsk}
+use Rattle.plmachine.specs.Machine.{result_of, mode_of, local_of, cases_in, machine, IsPlain, MayAsk}
 use Rattle.plmachine.specs.Clauses.{mode_by}
 use Rattle.plmachine.proofs.Moves.{machine-is, plain-machine}
 use Rattle.plmachine.proofs.Clausal.{at-by, may-by, plain-by}

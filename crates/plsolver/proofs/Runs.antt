@@ -4,7 +4,7 @@ use Rattle.std.specs.Prelude.{codes, Result as Outcomes, Ok, Err}
 use Rattle.plterm.specs.Tree.{Tree}
 use Rattle.plsubst.specs.Subst.{bind}
 use Rattle.plcells.specs.Store.{IsValue, value}
-use Rattle.plevent.specs.Search.{Item, View, Ask, Answer, Search, Wants, Finishes, Got}
+use Rattle.plevent.specs.Search.{Item, View, Ask, Answer, Wants, Finishes, Got}
 use Rattle.plevent.specs.declared.request.ThreadEnd.{ThreadEnd}
 use Rattle.plevent.specs.declared.request.Request.{Request}
 use Rattle.plevent.specs.declared.request.Request.TheVariants.{Start, Publish, EraseOne, Finish, HaltRun}

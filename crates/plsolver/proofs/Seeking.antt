@@ -1,41 +1,33 @@
 -- What is sought in a view: look-ups that were answered with it.
 use Rattle.std.specs.Prelude.{Result as Outcomes, Ok, Err}
-use Rattle.std.proofs.Common.{OnOk, OnErr, reverse, ◌⊎◌, inl, inr, ◌≡◌, ℕ, ◌-◌, Bool, true, false, ◌||◌, min, if◌then◌else◌, List, [], ◌∷◌, ◌++◌, map, filter, Option, Some, None, refl, sym, ap, ap₂, ◌∙◌, subst}
+use Rattle.std.proofs.Common.{OnOk, OnErr, reverse, ◌⊎◌, inl, inr, ◌≡◌, ℕ, ◌-◌, Bool, true, false, ◌||◌, min, List, [], ◌∷◌, ◌++◌, map, Option, refl, sym, ap, ap₂, ◌∙◌, subst}
 use Rattle.std.specs.List.{filter_map}
 use Rattle.plterm.specs.Tree.{Tree}
 use Rattle.plterm.specs.declared.indicator.Indicator.{Indicator}
-use Rattle.plcells.specs.declared.cell.Cell.{Cell}
-use Rattle.plcells.specs.Store.{value}
 use Rattle.plclause.specs.Clause.{Clause}
 use Rattle.plclause.specs.Indicators.{indicator}
 use Rattle.plevent.specs.declared.update.ClauseName.{ClauseName}
 use Rattle.plevent.specs.declared.update.Living.{Living}
 use Rattle.plevent.specs.Alive.{Stamped, exists, living, clauses_of, clauses_alive}
 use Rattle.plevent.specs.Keys.{first_key}
-use Rattle.plevent.specs.Search.{Answer, Seen, Search}
+use Rattle.plevent.specs.Search.{Answer, Seen}
 use Rattle.plprogram.specs.Program.{Program}
-use Rattle.plsearch.specs.Types.{Lookup as Wanted, ToCall, ToRetrieve, ToRetract, ToRetractAll, Look, Asking, Element, Place, Local, Move, Run, Give, Fail}
-use Rattle.plsearch.specs.Rows.{call, choose, clause_term, as_fact, meet}
+use Rattle.plsearch.specs.Types.{Lookup as Wanted, ToCall, Look, Asking, Element, Local, Run, Give, Fail}
+use Rattle.plsearch.specs.Rows.{call, choose, as_fact, meet}
 use Rattle.plsearch.specs.Replies.{answered, looked_up, missing, retract}
-use Rattle.plsearch.specs.Machines.Machine.{At, Back, Rest, move, turn, meets}
-use Rattle.plsearch.specs.Engine.{deeper}
+use Rattle.plsearch.specs.Machines.Machine.{At, Back, Rest, turn}
 use Rattle.plsearch.specs.Search.{ending_of}
 use Rattle.plsearch.specs.Solving.{TakesOne}
 use Rattle.plsearch.proofs.Turns.{Rest-turn}
 use Rattle.plstore.specs.Like.{next_like_of}
-use Rattle.plstore.specs.Rising.{Ordered}
 use Rattle.plstore.specs.declared.record.Cursor.{Cursor}
-use Rattle.plstore.specs.declared.record.Cursor.TheVariants.{Start}
 use Rattle.plstore.specs.declared.query.Query.{Query}
 use Rattle.plstore.specs.declared.query.Found.{Found}
 use Rattle.plstore.specs.declared.query.Found.TheVariants.{Next as NextFound, Clause as ClauseFound}
 use Rattle.plstore.specs.Looking.{Views, clause_alive, found}
-use Rattle.plstore.proofs.Names.{exists-alive}
 use Rattle.plcode.proofs.Numbers.{indicator_same}
-use Rattle.plstack.specs.declared.frame.Use.{Use}
 use Rattle.plstack.specs.declared.frame.Use.TheVariants as uses
-use Rattle.plstack.specs.declared.frame.Spot.TheVariants as spots
-use Rattle.plstack.specs.Places.{candidate_of, head_in, onward, tried}
+use Rattle.plstack.specs.Places.{candidate_of, head_in, tried}
 use Rattle.plstack.specs.State.{State, goals_of, Extends}
 use Rattle.plstack.specs.Walks.{IsWalking}
 use Rattle.plstack.specs.declared.frame.Point.{Point}
@@ -44,25 +36,20 @@ use Rattle.plstack.specs.declared.frame.Resume.TheVariants as resumes
 use Rattle.plstack.specs.declared.frame.Frame.TheVariants.{Open}
 use Rattle.plstack.proofs.Frames.{reverse-push}
 use Rattle.plstack.specs.StaticCalls.{database_of}
-use Rattle.plstack.proofs.Looking.{first-none, first-some}
 use Rattle.plstack.proofs.Stacks.{depth-in}
 use Rattle.plmachine.specs.declared.machine.Lookup.{Lookup}
 use Rattle.plmachine.specs.declared.machine.Question.{Question}
 use Rattle.plmachine.specs.declared.machine.Outcome.{Outcome}
 use Rattle.plmachine.specs.declared.machine.Mode.{Mode as Going}
 use Rattle.plmachine.specs.declared.machine.Question.TheVariants as questions
-use Rattle.plmachine.specs.declared.machine.Outcome.TheVariants as outcomes
-use Rattle.plmachine.specs.declared.machine.Sought.{Sought}
 use Rattle.plmachine.specs.declared.machine.Find.{Find}
-use Rattle.plmachine.specs.declared.machine.Find.TheVariants as finds
 use Rattle.plmachine.specs.declared.machine.Mode.TheVariants as modes
 use Rattle.plmachine.specs.declared.machine.Machine.{Machine as Reached}
-use Rattle.plmachine.specs.Clauses.{Walks}
 use Rattle.plmachine.specs.Machine.{after, bare, cases_in, depth_of, find_answers, find_mode, local_of, lookup_by, machine, machine_in, mode_of, now, IsPlain, IsTold, Stays}
 use Rattle.plmachine.proofs.Clausal.{called-left, erased-left, told-left}
 use Rattle.plmachine.proofs.Moves.{machine-is, stays-by}
 use Rattle.plsolver.specs.declared.progress.Progress.{Progress}
-use Rattle.plsolver.specs.Solver.{FindsBy, IsClause, IsFoundFor, IsNext, KeepsRest, like, rest_of}
+use Rattle.plsolver.specs.Solver.{FindsBy, IsClause, IsFoundFor, IsNext, like, rest_of}
 use Rattle.plsolver.specs.Solver.{Stays as Stands}
 
 -- the machine of what is sought

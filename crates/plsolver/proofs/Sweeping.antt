@@ -1,11 +1,11 @@
 -- The erasure of all clauses of a head, looked through one at a time.
-use Rattle.std.proofs.Common.{◌≡◌, ℕ, Bool, true, false, cond, if◌then◌else◌, List, [], ◌∷◌, ◌++◌, map, filter, Option, Some, None, is_some, refl, sym, ap, ap₂, ◌∙◌, subst, append-nil, append_assoc}
+use Rattle.std.proofs.Common.{◌≡◌, ℕ, Bool, true, false, cond, List, [], ◌∷◌, ◌++◌, map, filter, Option, Some, None, is_some, refl, sym, ap, ap₂, ◌∙◌, subst, append-nil, append_assoc}
 use Rattle.plterm.specs.Tree.{Tree}
 use Rattle.plterm.specs.declared.indicator.Indicator.{Indicator}
 use Rattle.plsubst.specs.Subst.{shift}
 use Rattle.plsubst.specs.Unify.{unify}
 use Rattle.plcells.specs.declared.cell.Cell.{Cell}
-use Rattle.plcells.specs.Store.{value}
+use Rattle.plcells.specs.Store.{Store, value}
 use Rattle.plclause.specs.Clause.{Clause}
 use Rattle.plclause.specs.Indicators.{indicator}
 use Rattle.plevent.specs.declared.update.ClauseName.{ClauseName}
@@ -26,7 +26,7 @@ use Rattle.plstore.specs.declared.record.Cursor.TheVariants.{Start, After}
 use Rattle.plstore.specs.Like.{next_like_of, past}
 use Rattle.plstore.specs.Looking.{Views, clause_alive}
 use Rattle.plstore.specs.Rising.{Ordered}
-use Rattle.plstack.specs.Places.{named_so, onward}
+use Rattle.plstack.specs.Places.{named_so}
 use Rattle.plstack.specs.State.{goals_of}
 use Rattle.plstack.proofs.Looking.{heads-first-none, heads-first-some, heads-next-none, heads-next-some}
 use Rattle.plmachine.specs.declared.machine.Reach.TheVariants as reaches
@@ -35,7 +35,6 @@ use Rattle.plmachine.specs.declared.machine.Find.TheVariants as finds
 use Rattle.plmachine.specs.declared.machine.Mode.{Mode}
 use Rattle.plmachine.specs.declared.machine.Mode.TheVariants as modes
 use Rattle.plmachine.specs.declared.machine.Machine.{Machine as Reached}
-use Rattle.plcells.specs.Store.{IsValue}
 use Rattle.plmachine.specs.Machine.{after, cases_in, local_of, machine, machine_in, now, place_behind, published, swept, to_reach, MayAsk, Moved, Stays}
 use Rattle.plsolver.specs.Solver.{as_swept, erased_if, has_if, swept_by}
 use Rattle.plsolver.proofs.Seeking.{find-machine, looked}
@@ -157,6 +156,13 @@ module _ (P : Program) (v : Views) (s : Reached) (c : Cell) (g : ℕ) (at : s.mo
 
 pub same-sweep : (c d : Cell) (w u : Sweep) → modes.Find (finds.Sweep c w) ≡ modes.Find (finds.Sweep d u) → (c ≡ d) × (w ≡ u)
 same-sweep c d w u e = (cc, cc)
+
+-- what was sought by a sweep, by the head and the sweep that it has in two ways
+pub sweep-sought : (v : Views) (h : Store) (c d : Cell) (w u : Sweep) (cur : Cursor) (o : Option ClauseName) → modes.Find (finds.Sweep c w) ≡ modes.Find (finds.Sweep d u) →
+    o ≡ next_like_of (first_key (value h c)) cur (living (v w.view) (indicator (value h c))) → next_like_of (first_key (value h d)) cur (living (v u.view) (indicator (value h d))) ≡ o
+sweep-sought v h c d w u cur o e is =
+    let same = same-sweep c d w u e in
+    sym (is ∙ ap₂ (λ a b. next_like_of (first_key (value h a)) cur (living (v b.view) (indicator (value h a)))) same.0 same.1)
 
 -- where it has come as far, all stands where it stood
 pub sweep-stays : (P : Program) (s : Reached) (c : Cell) (w x : Sweep) → s.mode ≡ modes.Find (finds.Sweep c w) → as_swept w x → Stays P s (record s { mode = modes.Find (finds.Sweep c x) })

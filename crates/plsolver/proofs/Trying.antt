@@ -42,7 +42,6 @@ use Rattle.plmachine.specs.declared.machine.Mode.TheVariants as modes
 use Rattle.plmachine.specs.declared.machine.Machine.{Machine as Reached}
 use Rattle.plmachine.specs.Clauses.{mode_by}
 use Rattle.plmachine.specs.Machine.{cases_in, machine, now, MayAsk}
-use Rattle.plmachine.specs.Machine.{Stays as StaysThere}
 use Rattle.plsolver.specs.declared.progress.Progress.{Progress}
 use Rattle.plsolver.specs.Solver.{KeepsRest, like, rest_of, Seeks, SpotAsks, spot_if, QuietIn, Stays, WalksOn}
 use Rattle.plsolver.proofs.Quiets.{carried, quiet-retry-by, to}
@@ -135,8 +134,8 @@ pub text-ends : (P : Program) (v : Views) (s st : State) (p : Point) (w : Walk) 
     drop k (clauses_for P (indicator (head_in w.uses (value s.env.heap w.goal)))) ≡ [] → (below : List Case) × (cases_of (database_of P v) s ≡ Choice [] ∷ below) × (cases_of (database_of P v) st ≡ Choice [] ∷ below)
 text-ends P v s st p w k at goes is none =
     let same : SameLeft (database_of P v) w.uses (value s.env.heap w.goal) w.spot None = λ d n es.
-        ap (λ x. filter_map (tried d n (value s.env.heap w.goal) es) (left_at (database_of P v) w.uses (value s.env.heap w.goal) x)) is
-        ∙ ap (λ l. filter_map (tried d n (value s.env.heap w.goal) es) (map (text_candidate w.uses) l)) none in
+    ap (λ x. filter_map (tried d n (value s.env.heap w.goal) es) (left_at (database_of P v) w.uses (value s.env.heap w.goal) x)) is
+    ∙ ap (λ l. filter_map (tried d n (value s.env.heap w.goal) es) (map (text_candidate w.uses) l)) none in
     (goes.below, sym (same-cases (database_of P v) s st p w None at goes same) ∙ goes.cases, goes.cases)
 
 -- the last of it does not fit
@@ -152,8 +151,20 @@ retries-same db s mid new x same r = record { others = r.others; older = r.older
 pub same-at : (g k : ℕ) (x y : ClauseName) → spots.At g x ≡ spots.At k y → (g ≡ k) × (x ≡ y)
 same-at g k x y e = (cc, cc)
 
-pub same-known : (g k : ℕ) (x y : ClauseName) (a b : Option ClauseName) → spots.Known g x a ≡ spots.Known k y b → (g ≡ k) × (x ≡ y) × (a ≡ b)
-same-known g k x y a b e = (cc, cc, cc)
+same-known : (g k : ℕ) (x y : ClauseName) (a b : Option ClauseName) → spots.Known g x a ≡ spots.Known k y b → (g ≡ k) × (x ≡ y)
+same-known g k x y a b e = (cc, cc)
+
+-- what was sought at a spot, by the names that it has in two ways
+pub next-sought : (v : Views) (h : Tree) (g k : ℕ) (x y : ClauseName) (o : Option ClauseName) → spots.At g x ≡ spots.At k y → o ≡ next_like_of (first_key h) (After x) (living (v g) (indicator h)) →
+    next_like_of (first_key h) (After y) (living (v k) (indicator h)) ≡ o
+next-sought v h g k x y o e is =
+    let same = same-at g k x y e in
+    sym (is ∙ ap₂ (λ j z. next_like_of (first_key h) (After z) (living (v j) (indicator h))) same.0 same.1)
+
+pub clause-sought : (v : Views) (g k : ℕ) (x y : ClauseName) (a b : Option ClauseName) (o : Option Clause) → spots.Known g x a ≡ spots.Known k y b → o ≡ clause_alive x (v g) → clause_alive y (v k) ≡ o
+clause-sought v g k x y a b o e is =
+    let same = same-known g k x y a b e in
+    sym (is ∙ ap₂ (λ j z. clause_alive z (v j)) same.0 same.1)
 
 -- ---- lists and results
 

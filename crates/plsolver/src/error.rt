@@ -1,6 +1,6 @@
 //! The errors that a search raises besides those of its goals (ISO/IEC 13211-1 7.12.2).
 
-ghost use Rattle.std.specs.Prelude.{◌≡◌, IfOk, codes};
+ghost use Rattle.std.specs.Prelude.{◌≡◌, IfOk};
 ghost use Rattle.plterm.specs.Tree.{atom};
 ghost use Rattle.plterm.specs.Variables.{copied};
 ghost use Rattle.plsearch.specs.Errors.{pair as pair_of, indicator_term as term_of, procedure_error, error_term};

@@ -74,12 +74,18 @@ impl Progress {
                 Ok(Find::First(Sought { goal, uses }, g))
             }
             Lookup::ToRetrieve(head, body) => {
-                let goal = self.machine.stack.put_clause_term(self.machine.alloc, head, body)?;
+                let goal = self
+                    .machine
+                    .stack
+                    .put_clause_term(self.machine.alloc, head, body)?;
                 let uses = Use::Tell;
                 Ok(Find::First(Sought { goal, uses }, g))
             }
             Lookup::ToRetract(head, body) => {
-                let goal = self.machine.stack.put_clause_term(self.machine.alloc, head, body)?;
+                let goal = self
+                    .machine
+                    .stack
+                    .put_clause_term(self.machine.alloc, head, body)?;
                 let uses = Use::Erase;
                 Ok(Find::First(Sought { goal, uses }, g))
             }

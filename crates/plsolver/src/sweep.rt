@@ -1,10 +1,8 @@
 //! The erasure of all clauses of a head (ISO/IEC 13211-1 8.9.5): they are looked through one at a time.
 
-ghost use Rattle.std.specs.Prelude.{◌≡◌, ℕ, ◌++◌, OnErr, OnOk, IfOk, Option, is_some, map};
+ghost use Rattle.std.specs.Prelude.{◌≡◌, ◌++◌, OnErr, OnOk, IfOk, Option};
 ghost use Rattle.plcells.specs.Store.{value, IsValue};
-ghost use Rattle.plclause.specs.Clause.{Clause as OfClause};
 ghost use Rattle.plclause.specs.Indicators.{indicator};
-ghost use Rattle.plevent.specs.declared.update.ClauseName.{ClauseName as Named};
 ghost use Rattle.plevent.specs.Alive.{exists as exists_of, living};
 ghost use Rattle.plevent.specs.Keys.{first_key};
 ghost use Rattle.plprogram.specs.Program.{Program as Given};

@@ -4,7 +4,7 @@ ghost use Rattle.std.specs.Prelude.{◌≡◌, ◌-◌, ◌≤◌, ◌↔◌, If
 ghost use Rattle.plcells.specs.Store.{IsValue, value};
 ghost use Rattle.plsearch.specs.Engine.{stop_cut, mark, deeper};
 ghost use Rattle.plstack.specs.Places.{Database};
-ghost use Rattle.plstack.specs.State.{cases_of, HasAnswers, HasCatcher, HasClauses, HasWalk, HasBranch, HasGatherer, HasPlain, IsList};
+ghost use Rattle.plstack.specs.State.{cases_of, HasAnswers, HasCatcher, HasClauses, HasWalk, HasBranch, HasGatherer, HasPlain};
 ghost use Rattle.plstack.specs.First.{IsFirst};
 ghost use Rattle.plstack.specs.declared.first.First.TheVariants.{Marker as MarkerFirst};
 ghost use Rattle.plmachine.specs.Machine.{depth_of};

@@ -1,6 +1,6 @@
 -- Cases of calls that are opened, and where nothing changed but names.
 use Rattle.std.specs.Prelude.{Result as Outcomes}
-use Rattle.std.proofs.Common.{Ok, Err, OnErr, ◌≡◌, ℕ, List, [], ◌∷◌, refl, sym, ap, ap₂, ◌∙◌, subst}
+use Rattle.std.proofs.Common.{Ok, Err, OnErr, ◌≡◌, ℕ, List, ◌∷◌, sym, ap, ap₂, ◌∙◌, subst}
 use Rattle.plterm.specs.Tree.{Tree}
 use Rattle.plclause.specs.Clause.{Clause}
 use Rattle.plenv.specs.Env.{Env, IsEnv}
@@ -8,7 +8,7 @@ use Rattle.plenv.specs.Changes.{Extends as ExtendsEnv}
 use Rattle.pllinks.specs.declared.link.Link.{Link}
 use Rattle.pllinks.specs.declared.link.Continuation.{Continuation}
 use Rattle.plstack.specs.Places.{Database}
-use Rattle.plstack.specs.State.{State, IsStack, Extends, place_of, cases_of}
+use Rattle.plstack.specs.State.{State, IsStack, Extends, place_of}
 use Rattle.plstack.specs.Calls.{Calls, StaysAt}
 use Rattle.plstack.specs.Cutting.{Settles}
 use Rattle.plstack.specs.Trials.{ComesBack}

@@ -1,7 +1,6 @@
 -- A stack that comes back to where its newest case was opened.
-use Rattle.std.proofs.Common.{◌≡◌, ℕ, suc, ◌-◌, ◌≤◌, List, [], ◌∷◌, ◌++◌, length, take, refl, sym, ap, ap₂, ◌∙◌, subst, arith, reverse, le_refl, length-take-le, Option}
+use Rattle.std.proofs.Common.{◌≡◌, ℕ, suc, ◌-◌, ◌≤◌, List, [], ◌∷◌, ◌++◌, length, take, refl, sym, ap, ap₂, ◌∙◌, subst, arith, reverse, le_refl, length-take-le}
 use Rattle.platoms.specs.Names.{Extends as ExtendsNames}
-use Rattle.plevent.specs.declared.update.ClauseName.{ClauseName}
 use Rattle.plsearch.specs.Types.{Case, Choice, Handle}
 use Rattle.plenv.specs.Env.{Env, IsEnv, IsWithin, cut}
 use Rattle.plenv.specs.Marks.{IsOlder as IsEnvOlder}
@@ -16,9 +15,9 @@ use Rattle.plstack.specs.declared.frame.Resume.TheVariants as resumes
 use Rattle.plstack.specs.declared.frame.Handler.{Handler}
 use Rattle.plstack.specs.declared.frame.Frame.{Frame}
 use Rattle.plstack.specs.declared.frame.Frame.TheVariants.{Open}
-use Rattle.plstack.specs.Places.{Database, place_asked, handled, case_of, depth_of}
+use Rattle.plstack.specs.Places.{Database, handled, case_of, depth_of}
 use Rattle.plstack.specs.Frames.{IsOpen, AreOlder, IsResume, AreFrames}
-use Rattle.plstack.specs.State.{State, IsStack, goals_in, goals_of, cases_of, IsList, CountsUp, Retries, RetriesBy, AtHandler, Leaves, Recovers, IsHandler}
+use Rattle.plstack.specs.State.{State, IsStack, goals_in, goals_of, cases_of, IsList, CountsUp, Retries, AtHandler, Leaves, Recovers, IsHandler}
 use Rattle.plstack.specs.Cutting.{Settles}
 use Rattle.plstack.proofs.Frames.{items-take, cases-cut, AreFrames-cut}
 use Rattle.plstack.proofs.Lists.{empty-list}

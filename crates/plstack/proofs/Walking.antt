@@ -1,5 +1,5 @@
 -- Walks over clauses: they are opened, gone back to, tried and moved on.
-use Rattle.std.proofs.Common.{◌≡◌, ℕ, ◌+◌, ◌-◌, List, [], ◌∷◌, ◌++◌, length, take, filter_map, option_map, refl, sym, ap, ap₂, ◌∙◌, subst, arith, reverse, append-nil, Option, Some, None}
+use Rattle.std.proofs.Common.{◌≡◌, ℕ, ◌+◌, ◌-◌, List, [], ◌∷◌, ◌++◌, take, filter_map, option_map, refl, sym, ap, ap₂, ◌∙◌, subst, arith, reverse, append-nil, Option, Some, None}
 use Rattle.std.specs.List.{cons_option}
 use Rattle.plterm.specs.Tree.{Tree}
 use Rattle.plsubst.specs.Subst.{bind, shift}
@@ -8,7 +8,7 @@ use Rattle.platoms.proofs.Extending.{Extends-trans as extends-names}
 use Rattle.plclause.specs.Clause.{Clause}
 use Rattle.plcells.specs.declared.cell.Cell.{Cell}
 use Rattle.plcells.specs.Store.{IsValue, value}
-use Rattle.plsearch.specs.Types.{Element, Place, Case, Choice}
+use Rattle.plsearch.specs.Types.{Element, Place, Choice}
 use Rattle.plsearch.specs.Lists.{bind_goals}
 use Rattle.plsearch.specs.Rows.{before_rest, is_true, resolve}
 use Rattle.plsearch.specs.Engine.{deeper}
@@ -38,11 +38,9 @@ use Rattle.plstack.proofs.Renaming.{stays, candidates-renamed}
 use Rattle.plstack.proofs.Frames.{reverse-push, items-more}
 use Rattle.plstack.proofs.Growing.{cases-grown, frames-grown}
 use Rattle.plstack.proofs.Found.{renamed-kept}
-use Rattle.plstack.proofs.Hitting.{place-with}
-use Rattle.plstack.proofs.Going.{level-of}
 use Rattle.plstack.proofs.Reopening.{unchanged-extends}
 use Rattle.plstack.proofs.Returning.{at-frame, back-depth, back-list}
-use Rattle.plstack.proofs.Rewinding.{rewound, rewound-stack, rewound-cases, now, list-then}
+use Rattle.plstack.proofs.Rewinding.{rewound-stack, rewound-cases, now}
 use Rattle.plstack.proofs.Stacks.{opened-cases, opened-state, counted, counted-cases, popped-cases, popped-stack}
 
 -- what was changed since a mark of then is given back, but for names

@@ -1,25 +1,16 @@
 -- What a call makes of a stack.
-use Rattle.std.specs.Prelude.{◌≡◌, ℕ, ◌+◌, ◌<◌, List, [], ◌∷◌, ◌++◌, length, drop, Option}
+use Rattle.std.specs.Prelude.{◌≡◌, ◌+◌, List, [], ◌∷◌, ◌++◌}
 use Rattle.plterm.specs.Tree.{Tree}
 use Rattle.plclause.specs.Clause.{Clause}
-use Rattle.plevent.specs.declared.update.ClauseName.{ClauseName}
-use Rattle.plcells.specs.declared.cell.Cell.{Cell}
-use Rattle.plcells.specs.Store.{IsValue, value}
 use Rattle.plsearch.specs.Types.{Place, Choice}
 use Rattle.plsearch.specs.Engine.{deeper}
-use Rattle.plenv.specs.Env.{Env, IsEnv, cut}
+use Rattle.plenv.specs.Env.{IsEnv}
 use Rattle.plenv.specs.Changes.{Keeps as KeepsEnv}
 use Rattle.pllinks.specs.declared.link.Link.{Link}
 use Rattle.pllinks.specs.declared.link.Continuation.{Continuation}
-use Rattle.pllinks.specs.Lists.{Goals}
-use Rattle.pllinks.specs.Links.{items_of, IsChain}
-use Rattle.plstack.specs.declared.frame.Candidate.{Candidate}
-use Rattle.plstack.specs.declared.frame.Point.{Point}
-use Rattle.plstack.specs.declared.frame.Resume.{Resume}
-use Rattle.plstack.specs.declared.frame.Frame.{Frame}
-use Rattle.plstack.specs.Places.{Database, places_left, place_asked, candidates_left, kept_values, case_of, cases, depth_of}
-use Rattle.plstack.specs.Frames.{IsOpen, AreFrames}
-use Rattle.plstack.specs.State.{State, goals_of, place_of, cases_of, IsList}
+use Rattle.pllinks.specs.Links.{IsChain}
+use Rattle.plstack.specs.Places.{Database, places_left, cases}
+use Rattle.plstack.specs.State.{State, goals_of, place_of, cases_of}
 
 -- more links, and an environment that keeps each mark
 pub record Goes (old new : State) : Type 0 where

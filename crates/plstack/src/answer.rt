@@ -12,10 +12,10 @@ ghost use Rattle.plstack.specs.Trials.{IsMarked, IsOpened};
 ghost use Rattle.plstack.specs.Answering.{Answered, PushesAnswers, TakesAnswer, TakesNone, Unanswered};
 
 use crate::call::keep_values;
-use crate::walk::Opened;
 use crate::frame::{Answers, Frame, Point, Resume};
 use crate::open::{count_up, deeper, push_frame};
 use crate::stack::Stack;
+use crate::walk::Opened;
 use plcells::cell::Cell;
 use plenv::env::Environment;
 use plgenerator::generator::next;

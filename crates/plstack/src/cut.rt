@@ -1,11 +1,11 @@
 //! What a cut gives up.
-ghost use Rattle.std.specs.Prelude.{◌≡◌, ◌+◌, ◌<◌, ◌≤◌, ◌↔◌, ◌∷◌, take, length, reverse, IfNone, IfSome, IsSome, IsTrue, OnErr, OnOk};
+ghost use Rattle.std.specs.Prelude.{◌≡◌, ◌+◌, ◌<◌, ◌≤◌, ◌↔◌, ◌∷◌, take, length, reverse, IfSome, IsSome, IsTrue, OnErr, OnOk};
 ghost use Rattle.plsearch.specs.Machines.Levels.{AreAtMost};
 ghost use Rattle.plsearch.specs.Types.{Mark};
 ghost use Rattle.plenv.specs.Env.{IsWithin};
 ghost use Rattle.plstack.specs.Places.{Database, depth_of, size};
-ghost use Rattle.plstack.specs.Frames.{AreFrames, AreOlder};
-ghost use Rattle.plstack.specs.State.{cases_of, goals_in, goals_of, IsList};
+ghost use Rattle.plstack.specs.Frames.{AreOlder};
+ghost use Rattle.plstack.specs.State.{cases_of, goals_of, IsList};
 ghost use Rattle.plstack.specs.Cutting.{ChoiceAt, Cuts, EmptiesFrom, GivesUp, IsChoice, IsChosen, IsGivenUp, Settles};
 
 use crate::frame::{Frame, Marks, Resume};

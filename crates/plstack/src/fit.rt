@@ -1,18 +1,14 @@
 //! The clauses of a static procedure, tried in their order.
-ghost use Rattle.std.specs.Prelude.{◌≡◌, ℕ, ◌≤◌, List, [], length, map, None, IfOk, IfSome, IfNone, OnOk};
-ghost use Rattle.platoms.specs.Names.{Table};
-ghost use Rattle.plterm.specs.Tree.{Tree};
+ghost use Rattle.std.specs.Prelude.{◌≡◌, ℕ, ◌≤◌, List, length, None, IfOk, IfSome, IfNone};
 ghost use Rattle.plsubst.specs.Subst.{shift};
 ghost use Rattle.plsubst.specs.Unify.{unify};
 ghost use Rattle.plclause.specs.Clause.{Clause};
-ghost use Rattle.plcells.specs.Store.{AreValues};
 ghost use Rattle.plsearch.specs.Forms.{arguments};
-ghost use Rattle.plcode.specs.Keys.{IsFirstKey};
 ghost use Rattle.plcode.specs.Steps.{Text};
 ghost use Rattle.plenv.specs.Env.{cut, renamed, IsMark};
 ghost use Rattle.plenv.specs.Changes.{Keeps};
 ghost use Rattle.plstack.specs.Places.{called};
-ghost use Rattle.plstack.specs.Fits.{AreOwn, IsOwn, Fitted, Finds, FindsNone};
+ghost use Rattle.plstack.specs.Fits.{Fitted, Finds, FindsNone};
 ghost use Rattle.plstack.specs.Attempts.{IsAttempt, IsTried};
 
 use plcells::cell::Cell;

@@ -7,8 +7,8 @@ ghost use Rattle.plenv.specs.Changes.{Keeps};
 ghost use Rattle.plenv.specs.Env.{cut, renamed, IsEnv, IsMark};
 ghost use Rattle.plstack.specs.State.{Extends};
 
-use crate::walk::put_head;
 use crate::stack::Stack;
+use crate::walk::put_head;
 use plcells::cell::Cell;
 use plclause::clause::Clause;
 use plenv::env::Environment;

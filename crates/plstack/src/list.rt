@@ -1,7 +1,7 @@
 //! Goal lists of a stack.
 ghost use Rattle.std.specs.Prelude.{◌≡◌, ◌≤◌, ◌-◌, [], ◌∷◌, ◌++◌, length, take, IfOk, OnErr, OnOk};
 ghost use Rattle.plsearch.specs.Lists.{levels};
-ghost use Rattle.pllinks.specs.Lists.{elements, IsItem, IsRun};
+ghost use Rattle.pllinks.specs.Lists.{elements, IsItem};
 ghost use Rattle.pllinks.specs.Links.{alone, link_at, IsDone};
 ghost use Rattle.pllinks.specs.declared.item.Item.TheVariants.{Run as RunOf};
 ghost use Rattle.plstack.specs.State.{goals_in, goals_of, IsList, AddsList};

@@ -53,7 +53,11 @@ impl Stack {
     }
 
     /// Opens a case that comes back to a list.
-    pub(crate) fn open_frame(&mut self, list: Continuation, resume: Resume) -> Result<(), AllocError>
+    pub(crate) fn open_frame(
+        &mut self,
+        list: Continuation,
+        resume: Resume,
+    ) -> Result<(), AllocError>
         requires list { IsList self.old list }
         requires resume { IsResume self.old.env.heap [] resume }
         requires none { kept resume ≡ 0 }

@@ -1,12 +1,10 @@
 //! Walks over the clauses of a procedure: each is copied and tried in its turn (ISO/IEC 13211-1 7.7.7), and one that is to be erased (8.9.3)
 //! is named.
-ghost use Rattle.std.specs.Prelude.{◌≡◌, ◌+◌, ◌≤◌, [], ◌∷◌, ◌++◌, length, reverse, true, false, None, Some, Option, List, IfOk, IfSome, IfNone, OnErr, OnOk};
-ghost use Rattle.plterm.specs.Tree.{Tree};
+ghost use Rattle.std.specs.Prelude.{◌≡◌, ◌≤◌, length, reverse, true, false, None, Some, Option, IfOk, IfSome, IfNone, OnErr, OnOk};
 ghost use Rattle.plsubst.specs.Subst.{shift};
 ghost use Rattle.plsubst.specs.Unify.{unify};
 ghost use Rattle.plcells.specs.Store.{value, IsValue};
 ghost use Rattle.plsearch.specs.Rows.{is_true as is_true_of, resolve};
-ghost use Rattle.plsearch.specs.Types.{Choice};
 ghost use Rattle.plenv.specs.Env.{cut, IsEnv, IsMark, IsWithin};
 ghost use Rattle.plenv.specs.Changes.{Keeps};
 ghost use Rattle.plstack.specs.Places.{Database};

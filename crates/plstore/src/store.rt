@@ -1,5 +1,5 @@
 //! The store: every clause ever made, so that the database can be looked at as it was at each time.
-ghost use Rattle.std.specs.Prelude.{◌≡◌, IfOk, OnOk, OnErr, fold, length};
+ghost use Rattle.std.specs.Prelude.{◌≡◌, IfOk, OnOk, OnErr, fold};
 ghost use Rattle.std.specs.Option.{option_copied};
 ghost use Rattle.plevent.specs.Alive.{stamped, names_of};
 ghost use Rattle.plstore.specs.Kept.{keep, nothing, here, clause_of, is_there, next_of, walk};

@@ -1,4 +1,4 @@
-use Rattle.std.proofs.Common.{ap, sym, ◌∙◌}
+use Rattle.std.proofs.Common.{ap, ◌∙◌}
 use Rattle.platoms.specs.Names.{atom_at, functor_at}
 use Rattle.plcells.specs.Store.{value}
 use Rattle.plmachine.proofs.Firsts.{block-key, end-any}

@@ -1,8 +1,4 @@
-use Rattle.std.proofs.Common.{ap, ◌∙◌, sym, subst}
-use Rattle.plenv.specs.Env.{IsEnv, renamed}
-use Rattle.plenv.specs.Changes.{Keeps}
 use Rattle.plenv.proofs.Renaming.{IsMark-kept}
-use Rattle.plstack.proofs.Found.{renamed-kept}
 use Rattle.plstack.proofs.Stepping.{fits-call}
 use Rattle.plstack.proofs.Walking.{undone, undone-back}
 use Rattle.plstack.proofs.walk.first_step.Goals as goal

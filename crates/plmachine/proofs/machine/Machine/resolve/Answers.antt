@@ -1,5 +1,4 @@
 use Rattle.std.proofs.Common.{[], refl, subst}
-use Rattle.plstore.specs.Looking.{Views}
 use Rattle.plstack.specs.Places.{called}
 use Rattle.plstack.specs.Calls.{Calls, CallsNone}
 use Rattle.plstack.specs.StaticCalls.{statics_of, database_of}

@@ -1,4 +1,4 @@
-use Rattle.std.proofs.Common.{◌∙◌, ap, eq-eqb, length, refl, sym, true≢false}
+use Rattle.std.proofs.Common.{◌∙◌, ap, eq-eqb, length, sym, true≢false}
 use Rattle.plclause.specs.Indicators.{indicator}
 use Rattle.plcells.specs.Store.{value}
 use Rattle.plprogram.specs.Program.{clauses_for}

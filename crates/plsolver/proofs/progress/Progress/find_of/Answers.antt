@@ -1,4 +1,3 @@
-use Rattle.plmachine.proofs.Moves.{on_err}
 use Rattle.plsolver.proofs.Seeking.{put-stays}
 use Rattle.plsolver.proofs.progress.Progress.find_of.Goals as goal
 

@@ -1,4 +1,4 @@
-use Rattle.std.proofs.Common.{◌≡◌, ◌+◌, suc, Some, refl, sym, subst, ap, ◌∙◌, arith, drop, ◌∷◌}
+use Rattle.std.proofs.Common.{◌+◌, suc, refl, sym, subst, ap, ◌∙◌, arith, drop, ◌∷◌}
 use Rattle.plcells.specs.Store.{value}
 use Rattle.plstack.specs.declared.frame.Spot.TheVariants as spots
 use Rattle.plstack.specs.declared.walk.Walking.{Walking}

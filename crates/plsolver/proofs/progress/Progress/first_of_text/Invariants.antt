@@ -1,5 +1,4 @@
 use Rattle.std.proofs.Common.{length, ◌-◌}
-use Rattle.plstack.specs.declared.walk.Walking.{Walking}
 use Rattle.plsolver.proofs.Trying.{AtText}
 use Rattle.plsolver.proofs.progress.Progress.first_of_text.Given as goal
 

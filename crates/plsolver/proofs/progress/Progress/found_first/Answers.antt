@@ -1,8 +1,7 @@
-use Rattle.std.proofs.Common.{◌≡◌, ap, sym, subst, refl, ◌∙◌}
+use Rattle.std.proofs.Common.{ap, sym, subst, refl, ◌∙◌}
 use Rattle.plcells.specs.Store.{value}
 use Rattle.plstack.specs.declared.frame.Spot.TheVariants as spots
 use Rattle.plstack.specs.State.{goals_of}
-use Rattle.plmachine.specs.declared.machine.Mode.TheVariants as modes
 use Rattle.plmachine.specs.Clauses.{Walks}
 use Rattle.plmachine.specs.Machine.{now, MayAsk}
 use Rattle.plmachine.proofs.Moves.{on_ok_map}

@@ -1,4 +1,4 @@
-use Rattle.std.proofs.Common.{◌≡◌, suc, None, refl, sym, subst, ap, ap₂, ◌∙◌, arith, drop, [], ◌∷◌}
+use Rattle.std.proofs.Common.{◌≡◌, suc, None, refl, sym, ap, ap₂, ◌∙◌, arith, drop, [], ◌∷◌}
 use Rattle.plcells.specs.Store.{value}
 use Rattle.plstack.specs.StaticCalls.{database_of}
 use Rattle.plsolver.proofs.Trying.{drop-at, drop-none, if_none_both, last-ends, text-ends, text-found}

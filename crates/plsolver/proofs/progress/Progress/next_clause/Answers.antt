@@ -1,7 +1,5 @@
-use Rattle.std.proofs.Common.{sym, subst}
 use Rattle.plstack.specs.StaticCalls.{database_of}
 use Rattle.plmachine.specs.declared.machine.Outcome.TheVariants as outcomes
-use Rattle.plmachine.specs.Machine.{MayAsk}
 use Rattle.plmachine.proofs.Moves.{on_err}
 use Rattle.plsolver.specs.Solver.{Settled}
 use Rattle.plsolver.proofs.Catches.{stays-after}

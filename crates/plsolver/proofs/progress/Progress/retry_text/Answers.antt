@@ -1,4 +1,4 @@
-use Rattle.std.proofs.Common.{◌≡◌, [], ◌∷◌, ap, sym, subst, ◌∙◌}
+use Rattle.std.proofs.Common.{[], ◌∷◌, ap, sym, subst, ◌∙◌}
 use Rattle.plclause.specs.Indicators.{indicator}
 use Rattle.plprogram.specs.Program.{clauses_for}
 use Rattle.plsearch.specs.Types.{Choice}

@@ -1,15 +1,14 @@
-use Rattle.std.proofs.Common.{◌≡◌, ap, ap₂, sym, subst, refl, ◌∙◌}
+use Rattle.std.proofs.Common.{◌≡◌, ap, ap₂, sym, subst, ◌∙◌}
 use Rattle.plcells.specs.Store.{IsValue, value}
 use Rattle.plsearch.specs.Machines.Machine.{Rest}
 use Rattle.plsearch.specs.Search.{ending_of}
 use Rattle.plmachine.specs.declared.machine.Mode.{Mode}
 use Rattle.plmachine.specs.declared.machine.Mode.TheVariants as modes
 use Rattle.plmachine.specs.declared.machine.Find.TheVariants as finds
-use Rattle.plmachine.specs.declared.machine.Machine.{Machine as Reached}
 use Rattle.plmachine.specs.Machine.{now, MayAsk}
 use Rattle.plmachine.proofs.Moves.{on_err, on_err_map, on_ok_map, stays-trans}
 use Rattle.plmachine.specs.Machine.{Stays as StaysThere}
-use Rattle.plsolver.specs.Solver.{has_if, IsOf}
+use Rattle.plsolver.specs.Solver.{has_if}
 use Rattle.plsolver.proofs.Runs.{stays_of}
 use Rattle.plsolver.proofs.Seeking.{ok_or_err}
 use Rattle.plsolver.proofs.Sweeping.{same-sweep, sweep-stays, swept-past, swept-same}

@@ -1,20 +1,13 @@
 use Rattle.std.proofs.Common.{◌≡◌, ap, sym, subst, refl, ◌∙◌}
-use Rattle.plcells.specs.declared.cell.Cell.{Cell}
 use Rattle.plcells.specs.Store.{value}
-use Rattle.plclause.specs.Indicators.{indicator}
-use Rattle.plevent.specs.Alive.{living}
-use Rattle.plevent.specs.Keys.{first_key}
 use Rattle.plsearch.specs.Rows.{publish}
-use Rattle.plstore.specs.declared.record.Cursor.{Cursor}
-use Rattle.plstore.specs.Like.{next_like_of}
 use Rattle.plstore.specs.Rising.{Ordered}
 use Rattle.plstack.specs.State.{goals_of}
 use Rattle.plmachine.specs.declared.machine.Reach.TheVariants as reaches
 use Rattle.plmachine.specs.declared.machine.Sweep.{Sweep}
 use Rattle.plmachine.specs.declared.machine.Mode.TheVariants as modes
 use Rattle.plmachine.specs.Machine.{local_of, Moved}
-use Rattle.plsolver.specs.Solver.{KeepsRest}
-use Rattle.plsolver.proofs.Sweeping.{same-sweep, swept-all, swept-done, swept-next, swept-same}
+use Rattle.plsolver.proofs.Sweeping.{same-sweep, sweep-sought, swept-all, swept-done, swept-next, swept-same}
 use Rattle.plsolver.proofs.progress.Progress.swept_to.Goals as goal
 
 pub returns-in-Some-clause-ok : goal.returns-in-Some-clause-ok
@@ -26,9 +19,7 @@ returns-in-Some-clause-ok c = λ v head w cur at reach ordered is.
     let same = same-sweep head c.in-Sweep.head w x (sym at ∙ here) in
     let h = value s.stack.env.heap c.in-Sweep.head in
     let to = record x { reach = reaches.At c.in-Some.name } in
-    let next : next_like_of (first_key h) cur (living (v x.view) (indicator h)) ≡ c.args.next =
-    sym (subst (λ (d : Cell). c.args.next ≡ next_like_of (first_key (value s.stack.env.heap d)) cur (living (v x.view) (indicator (value s.stack.env.heap d)))) same.0
-    (subst (λ (y : Sweep). c.args.next ≡ next_like_of (first_key (value s.stack.env.heap head)) cur (living (v y.view) (indicator (value s.stack.env.heap head)))) same.1 is)) in
+    let next = sweep-sought v s.stack.env.heap head c.in-Sweep.head w x cur c.args.next (sym at ∙ here) is in
     record {
       used = refl;
       limit = refl;
@@ -44,9 +35,7 @@ returns-in-None-clause-ok c = λ v head w cur at reach ordered is.
     let here = sym c.replace-mode.ensures.value ∙ c.in-Find.is ∙ ap modes.Find c.in-Sweep.is in
     let same = same-sweep head c.in-Sweep.head w x (sym at ∙ here) in
     let h = value s.stack.env.heap c.in-Sweep.head in
-    let next : next_like_of (first_key h) cur (living (v x.view) (indicator h)) ≡ c.args.next =
-    sym (subst (λ (d : Cell). c.args.next ≡ next_like_of (first_key (value s.stack.env.heap d)) cur (living (v x.view) (indicator (value s.stack.env.heap d)))) same.0
-    (subst (λ (y : Sweep). c.args.next ≡ next_like_of (first_key (value s.stack.env.heap head)) cur (living (v y.view) (indicator (value s.stack.env.heap head)))) same.1 is)) in
+    let next = sweep-sought v s.stack.env.heap head c.in-Sweep.head w x cur c.args.next (sym at ∙ here) is in
     record {
       used = refl;
       limit = refl;

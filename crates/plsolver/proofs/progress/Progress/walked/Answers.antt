@@ -1,14 +1,12 @@
-use Rattle.std.proofs.Common.{◌≡◌, ℕ, Some, ap, sym, subst, refl, ◌∙◌}
+use Rattle.std.proofs.Common.{ap, sym, subst, refl, ◌∙◌}
 use Rattle.plcells.specs.Store.{value}
-use Rattle.plevent.specs.declared.update.ClauseName.{ClauseName}
-use Rattle.plstore.specs.Looking.{clause_alive}
 use Rattle.plstack.specs.StaticCalls.{database_of}
 use Rattle.plstack.specs.Walks.{Finds, GoesOn}
 use Rattle.plmachine.specs.declared.machine.Outcome.TheVariants as outcomes
 use Rattle.plmachine.specs.Machine.{now}
 use Rattle.plmachine.proofs.Moves.{on_err}
 use Rattle.plsolver.proofs.Quiets.{stays-back}
-use Rattle.plsolver.proofs.Trying.{clause-found, gone-left, same-cases, same-known, went-into, went-on}
+use Rattle.plsolver.proofs.Trying.{clause-found, clause-sought, gone-left, same-cases, went-into, went-on}
 use Rattle.plsolver.proofs.progress.Progress.walked.Goals as goal
 
 pub returns-in_default-clause-clause-ok : goal.returns-in_default-clause-clause-ok
@@ -18,8 +16,7 @@ returns-in_default-clause-clause-ok c = λ v g name y at is.
     let st = c.go_on_walk.new.self in
     let w = c.args.at.walk in
     let k = c.in-Known in
-    let same = same-known g k.g name k.name y k.next (sym at ∙ k.is) in
-    let none = sym (subst (λ (x : ClauseName). c.args.clause ≡ clause_alive x (v k.g)) same.1 (subst (λ (j : ℕ). c.args.clause ≡ clause_alive name (v j)) same.0 is)) ∙ c.in_default-clause.is in
+    let none = clause-sought v g k.g name k.name y k.next c.args.clause (sym at ∙ k.is) is ∙ c.in_default-clause.is in
     record {
       used = refl;
       limit = refl;
@@ -40,8 +37,7 @@ returns-in_default-2-clause-ok c = λ v g name y at is.
     let s = c.args.self.now.machine in
     let w = c.args.at.walk in
     let k = c.in-Known in
-    let same = same-known g k.g name k.name y k.next (sym at ∙ k.is) in
-    let some = sym (subst (λ (x : ClauseName). c.args.clause ≡ clause_alive x (v k.g)) same.1 (subst (λ (j : ℕ). c.args.clause ≡ clause_alive name (v j)) same.0 is)) ∙ c.in-Some.is in
+    let some = clause-sought v g k.g name k.name y k.next c.args.clause (sym at ∙ k.is) is ∙ c.in-Some.is in
     let finds = clause-found (database_of P v) w (value s.stack.env.heap w.goal) k.g k.name k.next c.in-Some.clause c.in_ok-next.next k.is some c.in_ok-next.ensures in
     record {
       used = refl;
@@ -57,8 +53,7 @@ returns-clause-ok c = λ v g name y at is.
     let st = c.try_walk.new.self in
     let w = c.args.at.walk in
     let k = c.in-Known in
-    let same = same-known g k.g name k.name y k.next (sym at ∙ k.is) in
-    let some = sym (subst (λ (x : ClauseName). c.args.clause ≡ clause_alive x (v k.g)) same.1 (subst (λ (j : ℕ). c.args.clause ≡ clause_alive name (v j)) same.0 is)) ∙ c.in-Some.is in
+    let some = clause-sought v g k.g name k.name y k.next c.args.clause (sym at ∙ k.is) is ∙ c.in-Some.is in
     let finds = clause-found (database_of P v) w (value s.stack.env.heap w.goal) k.g k.name k.next c.in-Some.clause c.in_ok-next.next k.is some c.in_ok-next.ensures in
     record {
       used = refl;

@@ -1,17 +1,10 @@
-use Rattle.std.proofs.Common.{◌≡◌, ℕ, Some, ap, sym, subst, refl, ◌∙◌}
+use Rattle.std.proofs.Common.{ℕ, Some, sym, subst, refl, ◌∙◌}
 use Rattle.plcells.specs.Store.{value}
-use Rattle.plclause.specs.Indicators.{indicator}
-use Rattle.plevent.specs.declared.update.ClauseName.{ClauseName}
-use Rattle.plevent.specs.Alive.{living}
-use Rattle.plevent.specs.Keys.{first_key}
-use Rattle.plstore.specs.declared.record.Cursor.TheVariants.{After}
-use Rattle.plstore.specs.Like.{next_like_of}
 use Rattle.plstore.specs.Rising.{Ordered}
 use Rattle.plstack.specs.declared.frame.Spot.TheVariants as spots
 use Rattle.plstack.specs.Places.{head_in}
 use Rattle.plstack.specs.StaticCalls.{database_of}
-use Rattle.plsolver.specs.Solver.{KeepsRest}
-use Rattle.plsolver.proofs.Trying.{next-left, same-at, same-cases, went-on}
+use Rattle.plsolver.proofs.Trying.{next-left, next-sought, same-at, same-cases, went-on}
 use Rattle.plsolver.proofs.progress.Progress.walked_to.Goals as goal
 
 pub returns-clause-keeps : goal.returns-clause-keeps
@@ -21,8 +14,7 @@ returns-clause-keeps c = λ P v g name at ordered is.
     let w = c.args.at.walk in
     let h = head_in w.uses (value s.stack.env.heap w.goal) in
     let same = same-at g c.in-At.g name c.in-At.name (sym at ∙ c.in-At.is) in
-    let next = sym (subst (λ (x : ClauseName). c.args.next ≡ next_like_of (first_key h) (After x) (living (v c.in-At.g) (indicator h))) same.1
-    (subst (λ (k : ℕ). c.args.next ≡ next_like_of (first_key h) (After name) (living (v k) (indicator h))) same.0 is)) in
+    let next = next-sought v h g c.in-At.g name c.in-At.name c.args.next (sym at ∙ c.in-At.is) is in
     record {
       used = refl;
       limit = refl;
