@@ -1,27 +1,31 @@
-//! The walk over the clauses of a procedure, by its links.
+//! The walk over the clauses of a chain, by its links.
 ghost use Rattle.std.specs.Prelude.{◌≡◌, ◌<◌, None, length, slice_index_or};
-ghost use Rattle.plstore.specs.Like.{first_like};
-ghost use Rattle.plstore.specs.Runs.{HasRuns};
-ghost use Rattle.plstore.specs.Links.{below, down, onward, up, fronts, backs, IsDown, IsUp, Marked};
+ghost use Rattle.plstore.specs.Like.{first_where, suits};
+ghost use Rattle.plstore.specs.Links.{below, down, onward, up, fronts, backs, Marked};
+ghost use Rattle.plstore.specs.Tables.{in_chain, Chained};
 
+use crate::chain::Chain;
 use crate::record::Record;
-use crate::runs::{Place, run_end};
+use crate::runs::run_end;
 use crate::sought::Sought;
+use crate::tables::Tables;
 use plevent::ClauseName;
 
 /// The name of the first clause that is sought, of those put in front, from one on, the newest first.
 pub(crate) fn seek_front(
-    records: &[Record],
-    next: &[Option<usize>],
-    places: &[Place],
+    tables: &Tables,
     sought: &Sought<'_>,
+    chain: Chain,
     newest: Option<usize>,
 ) -> Option<ClauseName>
-    requires links { IsDown sought.now.pred.now records.now next.now }
-    requires runs { HasRuns records.now places.now }
-    requires newest { Marked (fronts sought.now.pred.now records.now) newest }
-    ensures { result ≡ first_like sought.now.key.now (down sought.now.pred.now sought.now.g records.now (below newest)) }
+    requires chained { Chained tables.now }
+    requires newest { Marked (fronts (in_chain sought.now.pred.now chain) tables.now.records.items) newest }
+    ensures { result ≡ first_where (suits sought.now.pred.now sought.now.key.now) (down (in_chain sought.now.pred.now chain) sought.now.g tables.now.records.items (below newest)) }
 {
+    let records = tables.records.as_slice();
+    let links = chain.links(tables);
+    let next = links.next.as_slice();
+    let places = links.places.as_slice();
     let mut at = newest;
     while let Some(number) = at {
         let record = record_at(records, number);
@@ -35,17 +39,19 @@ pub(crate) fn seek_front(
 
 /// The same of those put behind, the oldest first.
 pub(crate) fn seek_back(
-    records: &[Record],
-    next: &[Option<usize>],
-    places: &[Place],
+    tables: &Tables,
     sought: &Sought<'_>,
+    chain: Chain,
     oldest: Option<usize>,
 ) -> Option<ClauseName>
-    requires links { IsUp sought.now.pred.now records.now next.now }
-    requires runs { HasRuns records.now places.now }
-    requires oldest { Marked (backs sought.now.pred.now records.now) oldest }
-    ensures { result ≡ first_like sought.now.key.now (up sought.now.pred.now sought.now.g records.now (onward (length records.now) oldest)) }
+    requires chained { Chained tables.now }
+    requires oldest { Marked (backs (in_chain sought.now.pred.now chain) tables.now.records.items) oldest }
+    ensures { result ≡ first_where (suits sought.now.pred.now sought.now.key.now) (up (in_chain sought.now.pred.now chain) sought.now.g tables.now.records.items (onward (length tables.now.records.items) oldest)) }
 {
+    let records = tables.records.as_slice();
+    let links = chain.links(tables);
+    let next = links.next.as_slice();
+    let places = links.places.as_slice();
     let mut at = oldest;
     while let Some(number) = at {
         let record = record_at(records, number);
