@@ -10,7 +10,7 @@ use Rattle.plstore.specs.Kept.{made, changed_where, erase_at, is_named}
 use Rattle.plstore.specs.Links.{backs, ends_after, links_after, no_ends, Class, class_at, IsIndexed, IsLinked}
 use Rattle.plstore.specs.Runs.{HasRuns, IsGone}
 use Rattle.plstore.specs.Tables.{IsChain}
-use Rattle.plstore.proofs.Index.{any-put, erase-keeps, no-records, newest-within}
+use Rattle.plstore.proofs.Index.{any-put, ends-alike, erase-keeps, no-records, newest-within}
 use Rattle.plstore.proofs.Passing.{linked, runs-erase, no-runs}
 
 -- keys that are equal only where they are the same
@@ -82,3 +82,18 @@ chain-empty p l e next places ends = record {
   indexed = subst (λ ns. IsIndexed p [] ns e) (sym next) (no-records p e ends);
   runs = subst (HasRuns p []) (sym places) (no-runs p);
 }
+
+-- ends that differ in the place alone
+pub chain-noted : {K : Type 0} (eq : K → K → Bool) (same : (a b : K) → eq a b ≡ true → a ≡ b) (own : K) (p : Class) (k : K) (rs : List Record) (l : Links) (E E' : K → Ends) (d : Ends) → E' k ≡ cond (eq own k) d (E k) →
+    (e : Ends) → e ≡ E own → d.newest_front ≡ e.newest_front → d.oldest_back ≡ e.oldest_back → d.newest_back ≡ e.newest_back → IsChain p rs l (E k) → IsChain p rs l (E' k)
+chain-noted eq same own p k rs l E E' d law e is f o n was = record {
+  indexed = ends-alike p rs l.next.items (E' k) (E k) (at (λ d. d.newest_front) f) (at (λ d. d.oldest_back) o) (at (λ d. d.newest_back) n) was.indexed;
+  runs = was.runs;
+}
+  where
+    at : {A : Type 0} (get : Ends → A) → get d ≡ get e → get (E' k) ≡ get (E k)
+    at get h = ap get law ∙ by-case (eq own k) refl
+      where
+        by-case : (v : Bool) → eq own k ≡ v → get (cond v d (E k)) ≡ get (E k)
+        by-case true w = h ∙ ap get is ∙ ap (λ z. get (E z)) (same own k w)
+        by-case false w = refl

@@ -199,7 +199,7 @@ module _ (x : ClauseName) (c : Clause) (rs : List Record) (next : List (Option �
       elim (cases i (length bs)) [
         | inl l ↦ before-end v f (mark-old bs v i l h) l ∙ sym (first-drop-snoc bs v i l)
         | inr o ↦ elim o [
-          | inl k ↦ link-other e.newest_back (length rs) (next ++ None ∷ []) i (λ j w _. let b = (last-of j w).within in absurd (omega (arith, b, m)))
+          | inl k ↦ link-other e.newest_back (length rs) (next ++ None ∷ []) i (λ j w eq. let b = (last-of j w).within in absurd (omega (arith, b, m)))
               ∙ get_or_at next None [] None i (omega (arith, m, k, ip.count))
               ∙ sym (ap (first_from (suc i)) (drop-whole (bs ++ v ∷ []) (suc i) (omega (arith, length-push bs v))))
           | inr l ↦ absurd (mark-over bs v i l h)

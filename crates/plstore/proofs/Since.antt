@@ -1,15 +1,19 @@
 -- Since when a procedure is named.
-use Rattle.std.proofs.Common.{◌≡◌, refl, sym, ◌∙◌, ap, ap₂, arith, ℕ, Bool, true, false, cond, Option, Some, None, nat_lt}
+use Rattle.std.proofs.Common.{◌≡◌, refl, sym, ◌∙◌, ap, ap₂, arith, ℕ, Bool, true, false, cond, List, Option, Some, None, nat_lt}
 use Rattle.std.specs.Prelude.{◌||◌, ◌&&◌}
+use Rattle.std.specs.List.{list_any}
 use Rattle.std.proofs.lemmas.Bool.Decides.{nat_tests}
 use Rattle.plterm.specs.declared.indicator.Indicator.{Indicator}
 use Rattle.plterm.specs.Indicators.{same_indicator}
+use Rattle.plevent.specs.declared.update.ClauseName.{ClauseName}
 use Rattle.plevent.specs.Alive.{Stamped, names, add_if}
 use Rattle.plstore.specs.declared.ends.Ends.{Ends}
-use Rattle.plstore.specs.Kept.{Kept, is_there, keep}
+use Rattle.plstore.specs.declared.record.Record.{Record}
+use Rattle.plstore.specs.declared.record.Declared.{Declared}
+use Rattle.plstore.specs.Kept.{Kept, is_there, keep, changed_where, declared_names, erase_at, is_named, record_names}
 use Rattle.plstore.specs.Links.{earlier, ends_after, since_below}
 use Rattle.plstore.proofs.Same.{same-is}
-use Rattle.plstore.proofs.Whole.{there-keep}
+use Rattle.plstore.proofs.Whole.{there-keep, any-erased}
 
 since-or : (s b g : ℕ) → nat_lt (add_if (nat_lt s b) s b) g ≡ nat_lt s g || nat_lt b g
 since-or s b g = by-test (nat_lt s b) refl
@@ -46,3 +50,8 @@ since-kept q k k' s d E E' old law noted named kept p g =
     by-case : (v : Bool) → same_indicator q p ≡ v → since_below g (cond v d (E p)).since ≡ since_below g (E p).since || (nat_lt s.at.place g && v)
     by-case true e = ap (since_below g) noted ∙ earlier-below (E q).since s.at.place g ∙ ap₂ (λ u w. u || w) (ap (λ z. since_below g (E z).since) (same-is q p e)) (and-true (nat_lt s.at.place g))
     by-case false e = or-and-false (since_below g (E p).since) (nat_lt s.at.place g)
+
+-- an erasure names none
+pub since-erased : (p : Indicator) (g : ℕ) (y : ClauseName) (b : ℕ) (rs rs' : List Record) (ds : List Declared) → rs' ≡ changed_where (is_named y) (erase_at b) rs →
+    is_there g p (record { records = rs; declared = ds }) ≡ is_there g p (record { records = rs'; declared = ds })
+since-erased p g y b rs rs' ds e = ap (λ v. v || list_any (declared_names g p) ds) (sym (any-erased g p b y rs) ∙ ap (list_any (record_names g p)) (sym e))

@@ -58,7 +58,7 @@ key-any (Functor s n) = inr (λ e. absurd (cc))
 
 pub slot-covers : (p : Indicator) (k : Key) (rs : List Record) (next : List (Option ℕ)) (e : Ends) (any n : ℕ) → k ≢ Any → any ≡ slot_behind (pred_hash p) Any → n ≡ slot_behind (pred_hash p) k →
     IsIndexed (in_slot any) rs next e → e.newest_front ≡ None → e.oldest_back ≡ None → Covers (in_slot n) p k rs
-unfolding Covers, slot
+unfolding Covers slot
 slot-covers p k rs next e any n not-any is-any is-n ix f o i d l h =
     let c = (get_or rs i d).clause in
     let of : indicator c.head ≡ p = same-is (indicator c.head) p (right-true (may_fit k (first_key c.head)) (is_of p c) h) in
@@ -71,3 +71,10 @@ slot-covers p k rs next e any n not-any is-any is-n ix f o i d l h =
           let same : slot_of c ≡ n = ap₂ (λ q k. slot_behind (pred_hash q) k) of (sym fit) ∙ sym is-n in
           ap (λ m. nat_eq m n) same ∙ nat-self n
     ]
+
+-- a record that is sought is in a class that has all of them
+pub covers-one : (c : Class) (p : Indicator) (k : Key) (rs : List Record) (i : ℕ) (r : Record) → Covers c p k rs → i < length rs → r ≡ get_or rs i r → may_fit k (first_key r.clause.head) ≡ true → is_of p r.clause ≡ true → c r.clause ≡ true
+unfolding Covers
+covers-one c p k rs i r all l e fit of =
+    ap (λ (r : Record). c r.clause) e
+    ∙ all i r l (ap (λ (r : Record). may_fit k (first_key r.clause.head) && is_of p r.clause) (sym e) ∙ ap₂ (λ u v. u && v) fit of)

@@ -1,5 +1,6 @@
 //! What links the clauses that a walk passes.
-ghost use Rattle.std.specs.Prelude.{◌≡◌};
+ghost use Rattle.std.specs.Prelude.{◌≡◌, ◌<◌, ℕ, length, slice_index_or, true};
+ghost use Rattle.plevent.specs.Alive.{is_of};
 ghost use Rattle.plstore.specs.Tables.{chain_ends, in_chain, links_in, Chained, Covers};
 
 use crate::ends::{Ends, ends_of};
@@ -57,8 +58,13 @@ pub(crate) fn chain_of(tables: &Tables, sought: &Sought<'_>) -> Chain
     }
 }
 
-/// The same behind a record: it has that record too.
-pub(crate) fn chain_behind(tables: &Tables, sought: &Sought<'_>, one: &Record) -> Chain {
+/// The same behind a clause of the procedure, which it has too.
+pub(crate) fn chain_behind(tables: &Tables, sought: &Sought<'_>, one: &Record) -> Chain
+    requires { Chained tables.now }
+    ensures covers { Covers (in_chain sought.now.pred.now result) sought.now.pred.now sought.now.key.now tables.now.records.items }
+    ensures held { (i : ℕ) → i < length tables.now.records.items → one.now ≡ slice_index_or tables.now.records.items i one.now → is_of sought.now.pred.now one.now.clause ≡ true →
+        in_chain sought.now.pred.now result one.now.clause ≡ true }
+{
     if sought.key.fits(&one.clause.head().root()) {
         chain_of(tables, sought)
     } else {

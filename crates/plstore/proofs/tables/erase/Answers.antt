@@ -1,0 +1,35 @@
+use Rattle.std.proofs.Common.{◌≡◌, ◌∙◌, sym, ap, subst, arith, get_or, ℕ}
+use Rattle.plterm.specs.Indicators.{same_indicator}
+use Rattle.plevent.specs.Alive.{is_of}
+use Rattle.plstore.specs.declared.record.Record.{Record}
+use Rattle.plstore.specs.Kept.{changed_where, erase_at, is_named}
+use Rattle.plstore.specs.Links.{ends_in}
+use Rattle.plstore.specs.Runs.{IsGone}
+use Rattle.plstore.specs.Slots.{in_slot}
+use Rattle.plstore.specs.Tables.{IsChain}
+use Rattle.plstore.proofs.Classes.{chain-erased, chain-kept}
+use Rattle.plstore.proofs.Since.{since-erased}
+use Rattle.plstore.proofs.tables.erase.Goals as goal
+
+pub returns-in-Some-clause-chained : goal.returns-in-Some-clause-chained
+returns-in-Some-clause-chained c =
+    let t = c.args.tables.now in
+    let e = c.in-Some.ensures.erased in
+    let gone = subst (λ rs. (d : Record) → IsGone c.args.place (get_or rs c.in-Some.number d).erased) e c.in-Some.ensures.gone in
+    record {
+      procedures = λ p. subst (λ rs. IsChain (is_of p) rs c.bury.new.self (ends_in same_indicator t.index p)) (sym e)
+          (chain-erased (is_of p) c.args.of c.args.place c.in-Some.number t.records.items t.by_procedure c.bury.new.self _ (c.requires.chained.procedures p) gone c.bury.ensures.next c.bury.ensures.runs);
+      slots = λ n. subst (λ rs. IsChain (in_slot n) rs c.bury-in-Some.new.self _) (sym e)
+          (chain-erased (in_slot n) c.args.of c.args.place c.in-Some.number t.records.items t.by_slot c.bury-in-Some.new.self _ (c.requires.chained.slots n) gone c.bury-in-Some.ensures.next c.bury-in-Some.ensures.runs);
+      since = λ p g. c.requires.chained.since p g ∙ since-erased p g c.args.of c.args.place t.records.items c.erase_record.new.records.items t.declared.items e;
+    }
+
+pub returns-in_default-clause-chained : goal.returns-in_default-clause-chained
+returns-in_default-clause-chained c =
+    let t = c.args.tables.now in
+    let e = c.in_default.ensures.erased in
+    record {
+      procedures = λ p. subst (λ rs. IsChain (is_of p) rs t.by_procedure (ends_in same_indicator t.index p)) (sym e) (chain-kept (is_of p) c.args.of c.args.place t.records.items t.by_procedure _ (c.requires.chained.procedures p));
+      slots = λ n. subst (λ rs. IsChain (in_slot n) rs t.by_slot _) (sym e) (chain-kept (in_slot n) c.args.of c.args.place t.records.items t.by_slot _ (c.requires.chained.slots n));
+      since = λ p g. c.requires.chained.since p g ∙ since-erased p g c.args.of c.args.place t.records.items c.erase_record.new.records.items t.declared.items e;
+    }
