@@ -1,15 +1,20 @@
 -- The chains of all keys, as those of procedures and those of slots, stay those of the records.
 use Rattle.std.proofs.Common.{◌≡◌, ◌+◌, refl, sym, ◌∙◌, ap, ap₂, subst, arith, ℕ, suc, zero, ◌<◌, Bool, true, false, cond, List, [], ◌∷◌, ◌++◌, Option, Some, None, length, get_or}
-use Rattle.std.specs.Prelude.{◌&&◌, not}
+use Rattle.std.specs.Prelude.{◌&&◌, not, nat_eq}
+use Rattle.plterm.specs.declared.indicator.Indicator.{Indicator}
+use Rattle.plterm.specs.Indicators.{same_indicator}
+use Rattle.plevent.specs.Alive.{is_of}
 use Rattle.plclause.specs.Clause.{Clause}
 use Rattle.plevent.specs.declared.update.ClauseName.{ClauseName}
 use Rattle.plstore.specs.declared.record.Record.{Record}
 use Rattle.plstore.specs.declared.ends.Ends.{Ends}
 use Rattle.plstore.specs.declared.links.Links.{Links}
-use Rattle.plstore.specs.Kept.{made, changed_where, erase_at, is_named}
-use Rattle.plstore.specs.Links.{backs, ends_after, links_after, no_ends, Class, class_at, IsIndexed, IsLinked}
+use Rattle.plstore.specs.Kept.{made, changed_where, erase_at, is_named, is_there}
+use Rattle.plstore.specs.Links.{backs, ends_after, links_after, no_ends, Class, class_at, ends_in, since_below, IsIndexed, IsLinked}
 use Rattle.plstore.specs.Runs.{HasRuns, IsGone}
-use Rattle.plstore.specs.Tables.{IsChain}
+use Rattle.plstore.specs.Slots.{in_slot}
+use Rattle.plstore.specs.Tables.{Chained, IsChain}
+use Rattle.plstore.specs.declared.tables.Tables.{Tables}
 use Rattle.plstore.proofs.Index.{any-put, ends-alike, erase-keeps, no-records, newest-within}
 use Rattle.plstore.proofs.Passing.{linked, runs-erase, no-runs}
 
@@ -97,3 +102,15 @@ chain-noted eq same own p k rs l E E' d law e is f o n was = record {
         by-case : (v : Bool) → eq own k ≡ v → get (cond v d (E k)) ≡ get (E k)
         by-case true w = h ∙ ap get is ∙ ap (λ z. get (E z)) (same own k w)
         by-case false w = refl
+
+-- tables that have the same in another memory
+pub chained-same : (t u : Tables) → Chained t → u.records.items ≡ t.records.items → u.declared.items ≡ t.declared.items → ((p : Indicator) → ends_in same_indicator u.index p ≡ ends_in same_indicator t.index p) →
+    u.by_procedure.next.items ≡ t.by_procedure.next.items → u.by_procedure.places.items ≡ t.by_procedure.places.items → ((n : ℕ) → ends_in nat_eq u.slots n ≡ ends_in nat_eq t.slots n) →
+    u.by_slot.next.items ≡ t.by_slot.next.items → u.by_slot.places.items ≡ t.by_slot.places.items → Chained u
+chained-same t u was records declared index next places slots next2 places2 = record {
+  procedures = λ p. subst (λ rs. IsChain (is_of p) rs u.by_procedure (ends_in same_indicator u.index p)) (sym records)
+      (chain-same (is_of p) t.records.items t.by_procedure u.by_procedure (ends_in same_indicator u.index p) (ends_in same_indicator t.index p) (was.procedures p) next places (index p));
+  slots = λ n. subst (λ rs. IsChain (in_slot n) rs u.by_slot (ends_in nat_eq u.slots n)) (sym records)
+      (chain-same (in_slot n) t.records.items t.by_slot u.by_slot (ends_in nat_eq u.slots n) (ends_in nat_eq t.slots n) (was.slots n) next2 places2 (slots n));
+  since = λ p g. ap (λ (e : Ends). since_below g e.since) (index p) ∙ was.since p g ∙ ap₂ (λ rs ds. is_there g p (record { records = rs; declared = ds })) (sym records) (sym declared);
+}

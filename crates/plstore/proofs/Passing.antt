@@ -1,6 +1,7 @@
 -- Runs of erased records: how they are joined, and that a walk may pass over them.
-use Rattle.std.proofs.Common.{◌≡◌, ◌⊎◌, ◌+◌, ◌-◌, inl, inr, refl, sym, ◌∙◌, ap, subst, arith, ℕ, suc, zero, ◌<◌, ◌≤◌, Bool, true, false, List, [], ◌∷◌, ◌++◌, Option, Some, None, length, get_or, set, drop, map, nat_lt}
+use Rattle.std.proofs.Common.{◌≡◌, ◌⊎◌, ◌+◌, ◌-◌, inl, inr, refl, sym, ◌∙◌, ap, subst, arith, ℕ, suc, zero, ◌<◌, ◌≤◌, Bool, true, false, List, [], ◌∷◌, ◌++◌, Option, Some, None, length, get_or, set, take, drop, map, nat_lt}
 use Rattle.std.specs.Prelude.{◌&&◌, not}
+use Rattle.std.proofs.Math.Seq.{take-append_seam}
 use Rattle.std.proofs.lemmas.List.{get_or_append_left, get_or_at, get_or-set_same, get_or-set_other, length-map, length-set, map-append}
 use Rattle.std.proofs.lemmas.Bool.Decides.{nat_tests}
 use Rattle.plevent.specs.declared.update.ClauseName.{ClauseName}
@@ -229,6 +230,10 @@ linked p rs next e ix = record { count = ix.count; older = ix.older; newer = ix.
 
 pub no-runs : (p : Class) → HasRuns p [] []
 no-runs p = record { count = refl; each = λ i r h. absurd (cc) }
+
+-- what is written back into a list of the same length
+pub written : {A : Type 0} (n : ℕ) (xs ys : List A) → n ≡ length xs → take n (xs ++ ys) ≡ xs
+written n xs ys e = ap (λ n. take n (xs ++ ys)) e ∙ take-append_seam xs ys
 
 -- what was erased below a place is not seen there
 hidden : (b g : ℕ) (r : Record) → b < g → IsGone b r.erased → seen g r ≡ false

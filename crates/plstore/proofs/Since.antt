@@ -1,16 +1,18 @@
 -- Since when a procedure is named.
-use Rattle.std.proofs.Common.{◌≡◌, refl, sym, ◌∙◌, ap, ap₂, arith, ℕ, Bool, true, false, cond, List, Option, Some, None, nat_lt}
+use Rattle.std.proofs.Common.{◌≡◌, refl, sym, ◌∙◌, ap, ap₂, arith, ℕ, Bool, true, false, cond, List, [], ◌∷◌, ◌++◌, Option, Some, None, nat_lt}
 use Rattle.std.specs.Prelude.{◌||◌, ◌&&◌}
 use Rattle.std.specs.List.{list_any}
 use Rattle.std.proofs.lemmas.Bool.Decides.{nat_tests}
 use Rattle.plterm.specs.declared.indicator.Indicator.{Indicator}
 use Rattle.plterm.specs.Indicators.{same_indicator}
+use Rattle.plclause.specs.Clause.{Clause}
 use Rattle.plevent.specs.declared.update.ClauseName.{ClauseName}
-use Rattle.plevent.specs.Alive.{Stamped, names, add_if}
+use Rattle.plevent.specs.Alive.{Stamped, names, add_if, is_of}
 use Rattle.plstore.specs.declared.ends.Ends.{Ends}
 use Rattle.plstore.specs.declared.record.Record.{Record}
 use Rattle.plstore.specs.declared.record.Declared.{Declared}
-use Rattle.plstore.specs.Kept.{Kept, is_there, keep, changed_where, declared_names, erase_at, is_named, record_names}
+use Rattle.plstore.specs.Kept.{Kept, is_there, keep, made, changed_where, declared_names, erase_at, is_named, record_names}
+use Rattle.plstore.specs.Plan.{put_update}
 use Rattle.plstore.specs.Links.{earlier, ends_after, since_below}
 use Rattle.plstore.proofs.Same.{same-is}
 use Rattle.plstore.proofs.Whole.{there-keep, any-erased}
@@ -50,6 +52,16 @@ since-kept q k k' s d E E' old law noted named kept p g =
     by-case : (v : Bool) → same_indicator q p ≡ v → since_below g (cond v d (E p)).since ≡ since_below g (E p).since || (nat_lt s.at.place g && v)
     by-case true e = ap (since_below g) noted ∙ earlier-below (E q).since s.at.place g ∙ ap₂ (λ u w. u || w) (ap (λ z. since_below g (E z).since) (same-is q p e)) (and-true (nat_lt s.at.place g))
     by-case false e = or-and-false (since_below g (E p).since) (nat_lt s.at.place g)
+
+-- a clause that is put names its procedure
+pub put-names : (f : Bool) (c : Clause) (p : Indicator) → names p (put_update f c) ≡ is_of p c
+put-names true c p = refl
+put-names false c p = refl
+
+pub put-kept : (f : Bool) (x : ClauseName) (c : Clause) (rs : List Record) (ds : List Declared) (rs' : List Record) → rs' ≡ rs ++ made x c f ∷ [] →
+    record { records = rs'; declared = ds } ≡ keep (record { records = rs; declared = ds }) (record { at = x; update = put_update f c })
+put-kept true x c rs ds rs' e = ap (λ rs. record { records = rs; declared = ds }) e
+put-kept false x c rs ds rs' e = ap (λ rs. record { records = rs; declared = ds }) e
 
 -- an erasure names none
 pub since-erased : (p : Indicator) (g : ℕ) (y : ClauseName) (b : ℕ) (rs rs' : List Record) (ds : List Declared) → rs' ≡ changed_where (is_named y) (erase_at b) rs →

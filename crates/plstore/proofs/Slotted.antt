@@ -3,6 +3,8 @@ use Rattle.std.proofs.Common.{◌≡◌, ◌≢◌, ◌⊎◌, inl, inr, refl, s
 use Rattle.std.specs.Prelude.{◌&&◌, not}
 use Rattle.std.proofs.lemmas.List.{length-map}
 use Rattle.std.proofs.lemmas.Slice.Eq.{bytes_eq-Decides}
+use Rattle.std.specs.declared.hash.FoldHasher.{FoldHasher}
+use Rattle.plterm.specs.Tree.{Tree}
 use Rattle.plterm.specs.declared.indicator.Indicator.{Indicator}
 use Rattle.plclause.specs.Clause.{Clause}
 use Rattle.plclause.specs.Indicators.{indicator}
@@ -78,3 +80,8 @@ unfolding Covers
 covers-one c p k rs i r all l e fit of =
     ap (λ (r : Record). c r.clause) e
     ∙ all i r l (ap (λ (r : Record). may_fit k (first_key r.clause.head) && is_of p r.clause) (sym e) ∙ ap₂ (λ u v. u && v) fit of)
+
+-- the slot of a clause, as it is computed
+pub slot-is : (h : FoldHasher) (p : Indicator) (c : Clause) (n : ℕ) → h ≡ pred_hash p → p ≡ indicator c.head → (t : Tree) → t ≡ c.head → n ≡ slot_behind h (first_key t) → n ≡ slot_of c
+unfolding slot
+slot-is h p c n is_hash is_pred t is_head e = e ∙ ap₂ (λ h t. slot_behind h (first_key t)) (is_hash ∙ ap pred_hash is_pred) is_head

@@ -1,4 +1,5 @@
-use Rattle.std.proofs.Common.{◌≡◌, ◌∙◌, sym, ap, subst, arith, get_or, ℕ}
+use Rattle.std.proofs.Common.{◌∙◌, sym, subst, arith, get_or, ◌+◌, ◌≤◌}
+use Rattle.std.specs.Prelude.{nat_eq}
 use Rattle.plterm.specs.Indicators.{same_indicator}
 use Rattle.plevent.specs.Alive.{is_of}
 use Rattle.plstore.specs.declared.record.Record.{Record}
@@ -19,7 +20,7 @@ returns-in-Some-clause-chained c =
     record {
       procedures = λ p. subst (λ rs. IsChain (is_of p) rs c.bury.new.self (ends_in same_indicator t.index p)) (sym e)
           (chain-erased (is_of p) c.args.of c.args.place c.in-Some.number t.records.items t.by_procedure c.bury.new.self _ (c.requires.chained.procedures p) gone c.bury.ensures.next c.bury.ensures.runs);
-      slots = λ n. subst (λ rs. IsChain (in_slot n) rs c.bury-in-Some.new.self _) (sym e)
+      slots = λ n. subst (λ rs. IsChain (in_slot n) rs c.bury-in-Some.new.self (ends_in nat_eq t.slots n)) (sym e)
           (chain-erased (in_slot n) c.args.of c.args.place c.in-Some.number t.records.items t.by_slot c.bury-in-Some.new.self _ (c.requires.chained.slots n) gone c.bury-in-Some.ensures.next c.bury-in-Some.ensures.runs);
       since = λ p g. c.requires.chained.since p g ∙ since-erased p g c.args.of c.args.place t.records.items c.erase_record.new.records.items t.declared.items e;
     }
@@ -30,6 +31,16 @@ returns-in_default-clause-chained c =
     let e = c.in_default.ensures.erased in
     record {
       procedures = λ p. subst (λ rs. IsChain (is_of p) rs t.by_procedure (ends_in same_indicator t.index p)) (sym e) (chain-kept (is_of p) c.args.of c.args.place t.records.items t.by_procedure _ (c.requires.chained.procedures p));
-      slots = λ n. subst (λ rs. IsChain (in_slot n) rs t.by_slot _) (sym e) (chain-kept (in_slot n) c.args.of c.args.place t.records.items t.by_slot _ (c.requires.chained.slots n));
+      slots = λ n. subst (λ rs. IsChain (in_slot n) rs t.by_slot (ends_in nat_eq t.slots n)) (sym e) (chain-kept (in_slot n) c.args.of c.args.place t.records.items t.by_slot _ (c.requires.chained.slots n));
       since = λ p g. c.requires.chained.since p g ∙ since-erased p g c.args.of c.args.place t.records.items c.erase_record.new.records.items t.declared.items e;
     }
+
+pub returns-in-Some-clause-room : goal.returns-in-Some-clause-room
+returns-in-Some-clause-room c = λ n room. record {
+  records = omega (arith, room.records, c.in-Some.ensures.room, c.in-Some.ensures.len);
+  declared = omega (arith, room.declared);
+  index = omega (arith, room.index);
+  by_procedure = c.bury.ensures.room n (record { next = omega (arith, room.by_procedure.next); places = omega (arith, room.by_procedure.places) });
+  slots = omega (arith, room.slots);
+  by_slot = c.bury-in-Some.ensures.room n (record { next = omega (arith, room.by_slot.next); places = omega (arith, room.by_slot.places) });
+}
