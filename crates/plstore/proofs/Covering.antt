@@ -1,5 +1,5 @@
 -- A chain that has each clause that is sought is walked as that of the procedure is.
-use Rattle.std.proofs.Common.{◌≡◌, ◌+◌, ◌-◌, refl, sym, ◌∙◌, ap, ap₂, arith, ℕ, suc, zero, ◌<◌, ◌≤◌, Bool, true, false, cond, List, [], Option, Some, None, length, get_or}
+use Rattle.std.proofs.Common.{◌≡◌, ◌+◌, ◌-◌, refl, sym, ◌∙◌, ap, ap₂, subst, arith, ℕ, suc, zero, ◌<◌, ◌≤◌, Bool, true, false, cond, List, [], Option, Some, None, length, get_or}
 use Rattle.std.specs.Prelude.{◌&&◌, not}
 use Rattle.plterm.specs.declared.indicator.Indicator.{Indicator}
 use Rattle.plevent.specs.declared.key.Key.{Key}
@@ -7,6 +7,7 @@ use Rattle.plevent.specs.Alive.{is_of}
 use Rattle.plstore.specs.declared.chain.Chain.{Chain}
 use Rattle.plstore.specs.declared.chain.Chain.TheVariants.{Procedure, Slot}
 use Rattle.plstore.specs.declared.ends.Ends.{Ends}
+use Rattle.plstore.specs.declared.links.Links.{Links}
 use Rattle.plstore.specs.declared.record.Record.{Record}
 use Rattle.plstore.specs.declared.tables.Tables.{Tables}
 use Rattle.plstore.specs.Kept.{seen, picked}
@@ -20,6 +21,9 @@ use Rattle.plstore.proofs.Visible.{down-list, up-list, front-is, back-is}
 pub chain-is : (t : Tables) (p : Indicator) (ch : Chain) → Chained t → IsChain (in_chain p ch) t.records.items (links_in t ch) (chain_ends t p ch)
 chain-is t p Procedure h = h.procedures p
 chain-is t p (Slot n) h = h.slots n
+
+pub chain-at : (t : Tables) (p : Indicator) (ch : Chain) (l : Links) → Chained t → l ≡ links_in t ch → IsChain (in_chain p ch) t.records.items l (chain_ends t p ch)
+chain-at t p ch l h e = subst (λ l. IsChain (in_chain p ch) t.records.items l (chain_ends t p ch)) (sym e) (chain-is t p ch h)
 
 -- the same are met
 same-met : (s f x o t : Bool) → (t && o ≡ true → x ≡ true) → (s && (f && x)) && (t && o) ≡ (s && (f && o)) && t

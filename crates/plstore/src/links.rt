@@ -1,13 +1,13 @@
 //! Links of records with those of their class: of their procedures, or of their slots.
-ghost use Rattle.std.specs.Prelude.{◌≡◌, ◌+◌, ◌<◌, ◌≤◌, ◌++◌, ◌∷◌, [], ℕ, List, OnOk, Some, cond, length, slice_index_or};
+ghost use Rattle.std.specs.Prelude.{◌≡◌, ◌+◌, ◌<◌, ◌≤◌, ◌++◌, ◌∷◌, [], ℕ, List, None, OnOk, Some, cond, length, slice_index_or};
 ghost use Rattle.std.specs.HashMap.{spare};
 ghost use Rattle.plstore.specs.declared.record.Record.{Record};
 ghost use Rattle.plstore.specs.Links.{ends_after, ends_in, links_after, Class, IsLinked};
 ghost use Rattle.plstore.specs.Room.{HasLinkRoom};
-ghost use Rattle.plstore.specs.Runs.{HasRuns, IsGone};
+ghost use Rattle.plstore.specs.Runs.{end_at, no_place, HasRuns, IsGone};
 
 use crate::ends::{Ends, ends_of, grown, link, set_ends};
-use crate::runs::{Place, add_place, bury};
+use crate::runs::{Place, add_place, bury, run_end};
 use std::alloc::{AllocError, Global};
 use std::collections::HashMap;
 use std::hash::Hash;
@@ -71,6 +71,25 @@ impl Links {
         ensures room { (n : ℕ) → HasLinkRoom n self.old → HasLinkRoom n self.new }
     {
         bury(&mut self.places, self.next.as_slice(), number, place);
+    }
+}
+
+impl Links {
+    /// The record that is next to one on its side.
+    pub(crate) fn next_to(&self, number: usize) -> Option<usize>
+        requires { number < length self.now.next.items }
+        ensures { result ≡ slice_index_or self.now.next.items number None }
+    {
+        self.next[number]
+    }
+
+    /// The same, behind the run that begins there, as far as a walk at `g` passes over it.
+    pub(crate) fn next_behind(&self, number: usize, g: u64) -> Option<usize>
+        requires within { number < length self.now.places.items }
+        requires end { end_at g number (slice_index_or self.now.places.items number no_place).run < length self.now.next.items }
+        ensures { result ≡ slice_index_or self.now.next.items (end_at g number (slice_index_or self.now.places.items number no_place).run) None }
+    {
+        self.next_to(run_end(self.places.as_slice(), number, g))
     }
 }
 

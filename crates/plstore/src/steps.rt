@@ -11,7 +11,7 @@ ghost use Rattle.plstore.specs.Tables.{in_chain, Chained};
 use crate::chain::{Chain, chain_behind, chain_of};
 use crate::sought::Sought;
 use crate::tables::{Tables, find};
-use crate::walk::{link_at, record_at, seek_back, seek_front};
+use crate::walk::{record_at, seek_back, seek_front};
 use plevent::ClauseName;
 
 /// The name of the first clause that is sought.
@@ -74,7 +74,7 @@ fn sought_behind(tables: &Tables, sought: &Sought<'_>, number: usize) -> Option<
         return None;
     }
     let chain = chain_behind(tables, sought, one);
-    let link = link_at(chain.links(tables).next.as_slice(), number);
+    let link = chain.links(tables).next_to(number);
     if one.front {
         return sought_from(tables, sought, chain, link);
     }

@@ -1,12 +1,11 @@
 //! The walk over the clauses of a chain, by its links.
-ghost use Rattle.std.specs.Prelude.{◌≡◌, ◌<◌, None, length, slice_index_or};
+ghost use Rattle.std.specs.Prelude.{◌≡◌, ◌<◌, length, slice_index_or};
 ghost use Rattle.plstore.specs.Like.{first_where, suits};
 ghost use Rattle.plstore.specs.Links.{below, down, onward, up, fronts, backs, Marked};
 ghost use Rattle.plstore.specs.Tables.{in_chain, Chained};
 
 use crate::chain::Chain;
 use crate::record::Record;
-use crate::runs::run_end;
 use crate::sought::Sought;
 use crate::tables::Tables;
 use plevent::ClauseName;
@@ -24,15 +23,13 @@ pub(crate) fn seek_front(
 {
     let records = tables.records.as_slice();
     let links = chain.links(tables);
-    let next = links.next.as_slice();
-    let places = links.places.as_slice();
     let mut at = newest;
     while let Some(number) = at {
         let record = record_at(records, number);
         if sought.is_met(record) {
             return Some(record.name);
         }
-        at = link_at(next, run_end(places, number, sought.g));
+        at = links.next_behind(number, sought.g);
     }
     None
 }
@@ -50,15 +47,13 @@ pub(crate) fn seek_back(
 {
     let records = tables.records.as_slice();
     let links = chain.links(tables);
-    let next = links.next.as_slice();
-    let places = links.places.as_slice();
     let mut at = oldest;
     while let Some(number) = at {
         let record = record_at(records, number);
         if sought.is_met(record) {
             return Some(record.name);
         }
-        at = link_at(next, run_end(places, number, sought.g));
+        at = links.next_behind(number, sought.g);
     }
     None
 }
@@ -68,11 +63,4 @@ pub(crate) fn record_at(records: &[Record], number: usize) -> &Record
     ensures { result.now ≡ slice_index_or records.now number result.now }
 {
     &records[number]
-}
-
-pub(crate) fn link_at(next: &[Option<usize>], number: usize) -> Option<usize>
-    requires { number < length next.now }
-    ensures { result ≡ slice_index_or next.now number None }
-{
-    next[number]
 }
