@@ -1,7 +1,7 @@
 -- The links of a class pass all its clauses.
-use Rattle.std.proofs.Common.{◌≡◌, ◌+◌, ◌-◌, refl, sym, ◌∙◌, ap, ap₂, subst, arith, ℕ, suc, zero, ◌<◌, ◌≤◌, Bool, true, false, cond, List, [], ◌∷◌, ◌++◌, Option, Some, None, length, get_or, take, drop, map, filter, reverse, drop-cons, append_assoc}
+use Rattle.std.proofs.Common.{◌≡◌, ◌+◌, ◌-◌, refl, sym, ◌∙◌, ap, subst, arith, ℕ, suc, zero, ◌<◌, ◌≤◌, Bool, true, false, cond, List, [], ◌∷◌, ◌++◌, Option, Some, None, length, get_or, take, drop, map, filter, reverse, drop-cons}
 use Rattle.std.specs.Prelude.{◌&&◌}
-use Rattle.std.proofs.Math.Seq.{take-suc, take-length}
+use Rattle.std.proofs.Math.Seq.{take-suc}
 use Rattle.std.proofs.lemmas.List.{append-nil, reverse-append, length-map}
 use Rattle.plevent.specs.declared.update.ClauseName.{ClauseName}
 use Rattle.plevent.specs.declared.update.Living.{Living}
@@ -12,7 +12,7 @@ use Rattle.plstore.specs.Kept.{seen, picked, head}
 use Rattle.plstore.specs.Like.{first_where}
 use Rattle.plstore.specs.Links.{below, onward, last_below, first_from, front_of, back_of, fronts, backs, down, up, Class, IsLinked, Marked}
 use Rattle.plstore.proofs.Law.{picked-append, picked-cons, cons_if, own}
-use Rattle.plstore.proofs.Bits.{LastIs, get-in, last-some, drop-whole, drop-mark}
+use Rattle.plstore.proofs.Bits.{get-in, last-some, drop-whole, drop-mark}
 
 get-map : (t : Record → Bool) (rs : List Record) (i : ℕ) (d : Record) → i < length rs → get_or (map t rs) i false ≡ t (get_or rs i d)
 get-map t [] i d l = absurd (omega arith)

@@ -1,5 +1,5 @@
 -- The chains of all keys, as those of procedures and those of slots, stay those of the records.
-use Rattle.std.proofs.Common.{◌≡◌, ◌+◌, refl, sym, ◌∙◌, ap, ap₂, subst, arith, ℕ, suc, zero, ◌<◌, Bool, true, false, cond, List, [], ◌∷◌, ◌++◌, Option, Some, None, length, get_or}
+use Rattle.std.proofs.Common.{◌≡◌, refl, sym, ◌∙◌, ap, ap₂, subst, ℕ, suc, zero, Bool, true, false, cond, List, [], ◌∷◌, ◌++◌, length, get_or}
 use Rattle.std.specs.Prelude.{◌&&◌, not, nat_eq}
 use Rattle.plterm.specs.declared.indicator.Indicator.{Indicator}
 use Rattle.plterm.specs.Indicators.{same_indicator}
@@ -15,7 +15,7 @@ use Rattle.plstore.specs.Runs.{HasRuns, IsGone}
 use Rattle.plstore.specs.Slots.{in_slot}
 use Rattle.plstore.specs.Tables.{Chained, IsChain}
 use Rattle.plstore.specs.declared.tables.Tables.{Tables}
-use Rattle.plstore.proofs.Index.{any-put, ends-alike, erase-keeps, no-records, newest-within}
+use Rattle.plstore.proofs.Index.{any-put, ends-alike, erase-keeps, no-records}
 use Rattle.plstore.proofs.Passing.{linked, runs-erase, no-runs}
 
 -- keys that are equal only where they are the same
@@ -38,7 +38,7 @@ module _ {K : Type 0} (eq : K → K → Bool) (same : (a b : K) → eq a b ≡ t
         let p = class_at eq key k in
         let q = class_at eq key (key c) in
         let put = any-put x c rs old.next.items p q (E k) (E (key c)) (was k).indexed (was (key c)).indexed (λ e. ap E (same (key c) k e))
-            (λ o i g h. let e : true ≡ false = sym (alone k i g h) ∙ o in absurd (cc)) f in
+        (λ o i g h. let e : true ≡ false = sym (alone k i g h) ∙ o in absurd (cc)) f in
         let links : new.next.items ≡ links_after f (length rs) (E (key c)) old.next.items = next ∙ ap₂ (λ n o. links_after f n (E o) old.next.items) count is_own in
         let to : E' k ≡ cond (p c) (ends_after f (length rs) x.place (E (key c))) (E k) = ends k ∙ ap₂ (λ n o. cond (eq o k) (ends_after f n x.place (E o)) (E k)) count is_own in
         subst (λ ns. IsIndexed p (rs ++ made x c f ∷ []) ns (E' k)) (sym links) (subst (IsIndexed p (rs ++ made x c f ∷ []) (links_after f (length rs) (E (key c)) old.next.items)) (sym to) put)

@@ -1,5 +1,5 @@
 -- A chain that has each clause that is sought is walked as that of the procedure is.
-use Rattle.std.proofs.Common.{◌≡◌, ◌+◌, ◌-◌, refl, sym, ◌∙◌, ap, ap₂, subst, arith, ℕ, suc, zero, ◌<◌, ◌≤◌, Bool, true, false, cond, List, [], Option, Some, None, length, get_or}
+use Rattle.std.proofs.Common.{◌≡◌, ◌+◌, ◌-◌, refl, sym, ◌∙◌, ap, ap₂, subst, arith, ℕ, suc, zero, ◌<◌, ◌≤◌, Bool, true, false, cond, List, Option, Some, None, length, get_or}
 use Rattle.std.specs.Prelude.{◌&&◌, not}
 use Rattle.plterm.specs.declared.indicator.Indicator.{Indicator}
 use Rattle.plevent.specs.declared.key.Key.{Key}
@@ -14,7 +14,7 @@ use Rattle.plstore.specs.Kept.{seen, picked}
 use Rattle.plstore.specs.Like.{fits, first_like, first_where, suits}
 use Rattle.plstore.specs.Links.{below, onward, front_of, back_of, fronts, backs, down, up, Class, IsIndexed, Marked}
 use Rattle.plstore.specs.Tables.{chain_ends, in_chain, links_in, Chained, Covers, IsChain}
-use Rattle.plstore.proofs.Law.{cons_if, own}
+use Rattle.plstore.proofs.Law.{own}
 use Rattle.plstore.proofs.Chains.{drop-records, like-cons, some-record, marked-last, marked-first, down-below, up-onward}
 use Rattle.plstore.proofs.Visible.{down-list, up-list, front-is, back-is}
 

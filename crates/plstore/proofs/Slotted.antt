@@ -1,5 +1,5 @@
 -- Where no clause of a procedure may be for goals of any key, the slot of a key has each that may be for a goal of it.
-use Rattle.std.proofs.Common.{◌≡◌, ◌≢◌, ◌⊎◌, inl, inr, refl, sym, ◌∙◌, ap, ap₂, subst, arith, ℕ, ◌<◌, Bool, true, false, List, Option, Some, None, length, get_or, nat_eq, bytes_eq}
+use Rattle.std.proofs.Common.{◌≡◌, ◌≢◌, ◌⊎◌, inl, inr, refl, sym, ◌∙◌, ap, ap₂, arith, ℕ, ◌<◌, Bool, true, false, List, Option, None, length, get_or, nat_eq, bytes_eq}
 use Rattle.std.specs.Prelude.{◌&&◌, not}
 use Rattle.std.proofs.lemmas.List.{length-map}
 use Rattle.std.proofs.lemmas.Slice.Eq.{bytes_eq-Decides}
@@ -15,8 +15,7 @@ use Rattle.plevent.specs.Alive.{is_of}
 use Rattle.plsubst.proofs.Unify.{same_int}
 use Rattle.plstore.specs.declared.ends.Ends.{Ends}
 use Rattle.plstore.specs.declared.record.Record.{Record}
-use Rattle.plstore.specs.Like.{suits}
-use Rattle.plstore.specs.Links.{front_of, back_of, fronts, backs, last_below, first_from, Class, IsIndexed}
+use Rattle.plstore.specs.Links.{back_of, fronts, backs, Class, IsIndexed}
 use Rattle.plstore.specs.Slots.{in_slot, pred_hash, slot, slot_behind, slot_of}
 use Rattle.plstore.specs.Tables.{Covers}
 use Rattle.plstore.proofs.Same.{left-true, right-true, nat-self, nat-same, same-is}

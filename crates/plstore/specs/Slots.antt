@@ -1,5 +1,5 @@
 -- Slots: numbers under which the clauses of a procedure are found whose first arguments have a key. Others may share them.
-use Rattle.std.specs.Prelude.{ℕ, List, ◌++◌, fold, length, nat_eq}
+use Rattle.std.specs.Prelude.{ℕ, List, ◌++◌, fold, nat_eq}
 use Rattle.std.specs.Hash as fed
 use Rattle.std.specs.Hash.FoldHasher as folding
 use Rattle.std.specs.declared.hash.FoldHasher.{FoldHasher}

@@ -111,5 +111,9 @@ pub(crate) fn add<K: Eq + Hash + Drop>(
 {
     let ends = ends_of(index, &key);
     links.add(added, ends);
-    set_ends(index, key, grown(ends, added.front, added.number, added.place));
+    set_ends(
+        index,
+        key,
+        grown(ends, added.front, added.number, added.place),
+    );
 }

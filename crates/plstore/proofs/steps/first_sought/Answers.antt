@@ -1,4 +1,4 @@
-use Rattle.std.proofs.Common.{◌∙◌, ap, ap₂, arith, length, ◌≤◌, ◌+◌}
+use Rattle.std.proofs.Common.{◌∙◌, ap, ap₂, arith, length}
 use Rattle.plevent.specs.Alive.{or_else}
 use Rattle.plstore.specs.Like.{first_where, suits}
 use Rattle.plstore.specs.Tables.{in_chain}
@@ -19,6 +19,6 @@ returns c =
     let class = in_chain p c.chain_of-chain.result in
     first-is q.g p k rs c.sought_from.result
     (c.sought_from.ensures ∙ ap₂ or_else
-      (ap (first_where (suits p k)) (newest-whole _ _ _ _ (chain-is c.args.tables.now p c.chain_of-chain.result c.requires.chained).indexed q.g c.ends-ends.result c.ends-ends.ensures)
-      ∙ like-down class p k q.g rs c.chain_of-chain.ensures (length rs) (omega arith))
-      (like-up class p k q.g rs c.chain_of-chain.ensures (length rs) 0 (omega arith)))
+    (ap (first_where (suits p k)) (newest-whole _ _ _ _ (chain-is c.args.tables.now p c.chain_of-chain.result c.requires.chained).indexed q.g c.ends-ends.result c.ends-ends.ensures)
+    ∙ like-down class p k q.g rs c.chain_of-chain.ensures (length rs) (omega arith))
+    (like-up class p k q.g rs c.chain_of-chain.ensures (length rs) 0 (omega arith)))

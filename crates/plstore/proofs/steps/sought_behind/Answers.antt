@@ -1,4 +1,4 @@
-use Rattle.std.proofs.Common.{◌≡◌, ◌∙◌, ◌<◌, ◌≤◌, ◌+◌, ◌-◌, sym, ap, ap₂, arith, get_or, length, suc}
+use Rattle.std.proofs.Common.{◌∙◌, ◌<◌, ◌-◌, sym, ap, ap₂, arith, get_or, length, suc}
 use Rattle.plevent.specs.Alive.{is_of, or_else}
 use Rattle.plstore.specs.Kept.{seen}
 use Rattle.plstore.specs.Like.{first_where, suits}
@@ -44,9 +44,9 @@ returns-then-one c = λ x one.
     let rs = t.records.items in
     shown-front q.g q.pred.now q.key.now x rs c.args.number r c.sought_from.result one is shown c.if-one.true
     (c.sought_from.ensures ∙ ap₂ or_else
-      (ap (first_where (suits q.pred.now q.key.now)) (down-linked _ _ _ _ ch.indexed c.args.number r c.next_to-link.result c.requires.within is held c.next_to-link.ensures q.g c.if-one.true)
-      ∙ like-down class q.pred.now q.key.now q.g rs c.chain_behind-chain.ensures.covers c.args.number (omega (arith, c.requires.within)))
-      (like-up class q.pred.now q.key.now q.g rs c.chain_behind-chain.ensures.covers (length rs) 0 (omega arith)))
+    (ap (first_where (suits q.pred.now q.key.now)) (down-linked _ _ _ _ ch.indexed c.args.number r c.next_to-link.result c.requires.within is held c.next_to-link.ensures q.g c.if-one.true)
+    ∙ like-down class q.pred.now q.key.now q.g rs c.chain_behind-chain.ensures.covers c.args.number (omega (arith, c.requires.within)))
+    (like-up class q.pred.now q.key.now q.g rs c.chain_behind-chain.ensures.covers (length rs) 0 (omega arith)))
 
 pub seek_back-requires-clause-oldest : goal.seek_back-requires-clause-oldest
 seek_back-requires-clause-oldest c =

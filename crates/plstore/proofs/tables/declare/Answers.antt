@@ -1,5 +1,4 @@
-use Rattle.std.proofs.Common.{◌≡◌, ◌∙◌, refl, sym, ap, ap₂, cond, Bool, true, false}
-use Rattle.plterm.specs.declared.indicator.Indicator.{Indicator}
+use Rattle.std.proofs.Common.{◌∙◌, refl, sym, ap}
 use Rattle.plterm.specs.Indicators.{same_indicator}
 use Rattle.plevent.specs.declared.update.Update.TheVariants.{Declare}
 use Rattle.plevent.specs.Alive.{is_of, named}

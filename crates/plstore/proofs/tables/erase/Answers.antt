@@ -1,9 +1,8 @@
-use Rattle.std.proofs.Common.{◌∙◌, sym, subst, arith, get_or, ◌+◌, ◌≤◌}
+use Rattle.std.proofs.Common.{◌∙◌, sym, subst, arith, get_or}
 use Rattle.std.specs.Prelude.{nat_eq}
 use Rattle.plterm.specs.Indicators.{same_indicator}
 use Rattle.plevent.specs.Alive.{is_of}
 use Rattle.plstore.specs.declared.record.Record.{Record}
-use Rattle.plstore.specs.Kept.{changed_where, erase_at, is_named}
 use Rattle.plstore.specs.Links.{ends_in}
 use Rattle.plstore.specs.Runs.{IsGone}
 use Rattle.plstore.specs.Slots.{in_slot}

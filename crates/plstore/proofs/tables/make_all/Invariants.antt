@@ -1,4 +1,4 @@
-use Rattle.std.proofs.Common.{◌≡◌, ◌≤◌, ◌+◌, ◌++◌, List, length, fold, vec_len}
+use Rattle.std.proofs.Common.{◌≡◌, ◌++◌, List, length, fold}
 use Rattle.plevent.specs.Alive.{stamped, named}
 use Rattle.plstore.specs.declared.plan.Planned.{Planned}
 use Rattle.plstore.specs.Kept.{keep}

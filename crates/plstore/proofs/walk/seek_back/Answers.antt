@@ -1,5 +1,4 @@
 use Rattle.std.proofs.Common.{◌∙◌, sym, ap, refl, arith, ◌<◌, length, get_or}
-use Rattle.plstore.specs.Tables.{chain_ends}
 use Rattle.plstore.proofs.Chains.{seek-up-mark, seek-up-within, end-up-within, end-up-smaller, seek-up-found, seek-up-more, seek-up-over}
 use Rattle.plstore.proofs.Covering.{chain-at}
 use Rattle.plstore.proofs.Passing.{end-up, linked}

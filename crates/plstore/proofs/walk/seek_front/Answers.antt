@@ -1,5 +1,4 @@
 use Rattle.std.proofs.Common.{◌∙◌, sym, ap, refl, arith, ◌<◌, length, get_or}
-use Rattle.plstore.specs.Tables.{chain_ends}
 use Rattle.plstore.proofs.Chains.{seek-down-mark, seek-down-within, end-down-within, end-down-smaller, seek-down-found, seek-down-more, seek-down-over}
 use Rattle.plstore.proofs.Covering.{chain-at}
 use Rattle.plstore.proofs.Passing.{end-down, linked}
