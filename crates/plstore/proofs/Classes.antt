@@ -13,7 +13,8 @@ use Rattle.plstore.specs.Kept.{made, changed_where, erase_at, is_named, is_there
 use Rattle.plstore.specs.Links.{backs, ends_after, links_after, no_ends, Class, class_at, ends_in, since_below, IsIndexed, IsLinked}
 use Rattle.plstore.specs.Runs.{HasRuns, IsGone}
 use Rattle.plstore.specs.Slots.{in_slot}
-use Rattle.plstore.specs.Tables.{Chained, IsChain}
+use Rattle.plstore.specs.Chains.{IsChain}
+use Rattle.plstore.specs.Tables.{Chained}
 use Rattle.plstore.specs.declared.tables.Tables.{Tables}
 use Rattle.plstore.proofs.Index.{any-put, ends-alike, erase-keeps, no-records}
 use Rattle.plstore.proofs.Passing.{linked, runs-erase, no-runs}

@@ -13,7 +13,8 @@ use Rattle.plstore.specs.declared.tables.Tables.{Tables}
 use Rattle.plstore.specs.Kept.{seen, picked}
 use Rattle.plstore.specs.Like.{fits, first_like, first_where, suits}
 use Rattle.plstore.specs.Links.{below, onward, front_of, back_of, fronts, backs, down, up, Class, IsIndexed, Marked}
-use Rattle.plstore.specs.Tables.{chain_ends, in_chain, links_in, Chained, Covers, IsChain}
+use Rattle.plstore.specs.Chains.{in_chain, Covers, IsChain}
+use Rattle.plstore.specs.Tables.{chain_ends, links_in, Chained}
 use Rattle.plstore.proofs.Law.{own}
 use Rattle.plstore.proofs.Chains.{drop-records, like-cons, some-record, marked-last, marked-first, down-below, up-onward}
 use Rattle.plstore.proofs.Visible.{down-list, up-list, front-is, back-is}

@@ -17,7 +17,7 @@ use Rattle.plstore.specs.declared.ends.Ends.{Ends}
 use Rattle.plstore.specs.declared.record.Record.{Record}
 use Rattle.plstore.specs.Links.{back_of, fronts, backs, Class, IsIndexed}
 use Rattle.plstore.specs.Slots.{in_slot, pred_hash, slot, slot_behind, slot_of}
-use Rattle.plstore.specs.Tables.{Covers}
+use Rattle.plstore.specs.Chains.{Covers}
 use Rattle.plstore.proofs.Same.{left-true, right-true, nat-self, nat-same, same-is}
 use Rattle.plstore.proofs.Bits.{last-none, none-first}
 use Rattle.plstore.proofs.Visible.{front-is, back-is}

@@ -7,4 +7,5 @@ pub mod Runs
 pub mod Slots
 pub mod Plan
 pub mod Room
+pub mod Chains
 pub mod Tables

@@ -1,7 +1,8 @@
 //! What links the clauses that a walk passes.
 ghost use Rattle.std.specs.Prelude.{◌≡◌, ◌<◌, ℕ, length, slice_index_or, true};
 ghost use Rattle.plevent.specs.Alive.{is_of};
-ghost use Rattle.plstore.specs.Tables.{chain_ends, in_chain, links_in, Chained, Covers};
+ghost use Rattle.plstore.specs.Chains.{in_chain, Covers};
+ghost use Rattle.plstore.specs.Tables.{chain_ends, links_in, Chained};
 
 use crate::ends::{Ends, ends_of};
 use crate::links::Links;

@@ -7,8 +7,8 @@ ghost use Rattle.plstore.specs.Links.{earlier, ends_after, ends_in, links_after,
 use std::collections::HashMap;
 use std::hash::Hash;
 
-/// Where the two sides of a class begin and end, as numbers of records, and, of a procedure, the place of the first batch
-/// that named it.
+/// Where the two sides of a class begin and end, as numbers of records, and the place of the first batch that named it or
+/// made a clause of it.
 #[derive(Clone, Copy)]
 pub(crate) struct Ends {
     pub(crate) since: Option<u64>,

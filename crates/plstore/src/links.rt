@@ -72,9 +72,7 @@ impl Links {
     {
         bury(&mut self.places, self.next.as_slice(), number, place);
     }
-}
 
-impl Links {
     /// The record that is next to one on its side.
     pub(crate) fn next_to(&self, number: usize) -> Option<usize>
         requires { number < length self.now.next.items }

@@ -2,11 +2,12 @@
 ghost use Rattle.std.specs.Prelude.{◌≡◌, ◌<◌, length};
 ghost use Rattle.plevent.specs.declared.update.ClauseName.{ClauseName as Named};
 ghost use Rattle.plevent.specs.Alive.{or_else};
+ghost use Rattle.plstore.specs.Chains.{found_down, found_up, in_chain};
 ghost use Rattle.plstore.specs.Kept.{walk};
-ghost use Rattle.plstore.specs.Like.{first_like, first_where, past, suits};
-ghost use Rattle.plstore.specs.Links.{below, down, fronts, up, Marked};
+ghost use Rattle.plstore.specs.Like.{first_like, past};
+ghost use Rattle.plstore.specs.Links.{below, fronts, Marked};
 ghost use Rattle.plstore.specs.Rising.{IsRising, OneIs};
-ghost use Rattle.plstore.specs.Tables.{in_chain, Chained};
+ghost use Rattle.plstore.specs.Tables.{Chained};
 
 use crate::chain::{Chain, chain_behind, chain_of};
 use crate::sought::Sought;
@@ -33,8 +34,7 @@ fn sought_from(
 ) -> Option<ClauseName>
     requires chained { Chained tables.now }
     requires newest { Marked (fronts (in_chain sought.now.pred.now chain) tables.now.records.items) newest }
-    ensures { result ≡ or_else (first_where (suits sought.now.pred.now sought.now.key.now) (down (in_chain sought.now.pred.now chain) sought.now.g tables.now.records.items (below newest)))
-        (first_where (suits sought.now.pred.now sought.now.key.now) (up (in_chain sought.now.pred.now chain) sought.now.g tables.now.records.items 0)) }
+    ensures { result ≡ or_else (found_down sought.now chain tables.now.records.items (below newest)) (found_up sought.now chain tables.now.records.items 0) }
 {
     match seek_front(tables, sought, chain, newest) {
         Some(name) => return Some(name),

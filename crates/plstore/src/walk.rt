@@ -1,8 +1,8 @@
 //! The walk over the clauses of a chain, by its links.
 ghost use Rattle.std.specs.Prelude.{◌≡◌, ◌<◌, length, slice_index_or};
-ghost use Rattle.plstore.specs.Like.{first_where, suits};
-ghost use Rattle.plstore.specs.Links.{below, down, onward, up, fronts, backs, Marked};
-ghost use Rattle.plstore.specs.Tables.{in_chain, Chained};
+ghost use Rattle.plstore.specs.Chains.{found_down, found_up, in_chain};
+ghost use Rattle.plstore.specs.Links.{below, onward, fronts, backs, Marked};
+ghost use Rattle.plstore.specs.Tables.{Chained};
 
 use crate::chain::Chain;
 use crate::record::Record;
@@ -19,7 +19,7 @@ pub(crate) fn seek_front(
 ) -> Option<ClauseName>
     requires chained { Chained tables.now }
     requires newest { Marked (fronts (in_chain sought.now.pred.now chain) tables.now.records.items) newest }
-    ensures { result ≡ first_where (suits sought.now.pred.now sought.now.key.now) (down (in_chain sought.now.pred.now chain) sought.now.g tables.now.records.items (below newest)) }
+    ensures { result ≡ found_down sought.now chain tables.now.records.items (below newest) }
 {
     let records = tables.records.as_slice();
     let links = chain.links(tables);
@@ -43,7 +43,7 @@ pub(crate) fn seek_back(
 ) -> Option<ClauseName>
     requires chained { Chained tables.now }
     requires oldest { Marked (backs (in_chain sought.now.pred.now chain) tables.now.records.items) oldest }
-    ensures { result ≡ first_where (suits sought.now.pred.now sought.now.key.now) (up (in_chain sought.now.pred.now chain) sought.now.g tables.now.records.items (onward (length tables.now.records.items) oldest)) }
+    ensures { result ≡ found_up sought.now chain tables.now.records.items (onward (length tables.now.records.items) oldest) }
 {
     let records = tables.records.as_slice();
     let links = chain.links(tables);

@@ -1,6 +1,6 @@
 use Rattle.std.proofs.Common.{◌∙◌, sym, ap}
 use Rattle.plevent.specs.Keys.{first_key, may_fit}
-use Rattle.plstore.specs.Tables.{in_chain}
+use Rattle.plstore.specs.Chains.{in_chain}
 use Rattle.plstore.proofs.Slotted.{covers-one, procedure-covers}
 use Rattle.plstore.proofs.chain.chain_behind.Goals as goal
 

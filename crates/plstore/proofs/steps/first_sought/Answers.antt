@@ -1,7 +1,7 @@
 use Rattle.std.proofs.Common.{◌∙◌, ap, ap₂, arith, length}
 use Rattle.plevent.specs.Alive.{or_else}
 use Rattle.plstore.specs.Like.{first_where, suits}
-use Rattle.plstore.specs.Tables.{in_chain}
+use Rattle.plstore.specs.Chains.{in_chain}
 use Rattle.plstore.proofs.Covering.{chain-is, like-down, like-up, newest-marked, newest-whole}
 use Rattle.plstore.proofs.Visible.{first-is}
 use Rattle.plstore.proofs.steps.first_sought.Goals as goal

@@ -2,7 +2,7 @@ use Rattle.std.proofs.Common.{◌∙◌, ◌<◌, ◌-◌, sym, ap, ap₂, arith
 use Rattle.plevent.specs.Alive.{is_of, or_else}
 use Rattle.plstore.specs.Kept.{seen}
 use Rattle.plstore.specs.Like.{first_where, suits}
-use Rattle.plstore.specs.Tables.{in_chain}
+use Rattle.plstore.specs.Chains.{in_chain}
 use Rattle.plstore.proofs.Covering.{chain-at, like-down, like-up, down-marked, down-linked, up-marked, up-linked}
 use Rattle.plstore.proofs.Same.{right-true}
 use Rattle.plstore.proofs.Visible.{not-shown, shown-front, shown-back}

@@ -2,7 +2,7 @@ use Rattle.std.proofs.Common.{◌∙◌, sym, ap}
 use Rattle.plevent.specs.Alive.{or_else}
 use Rattle.plstore.specs.Like.{first_where, suits}
 use Rattle.plstore.specs.Links.{up}
-use Rattle.plstore.specs.Tables.{in_chain}
+use Rattle.plstore.specs.Chains.{in_chain}
 use Rattle.plstore.proofs.Covering.{chain-is, oldest-marked, oldest-whole}
 use Rattle.plstore.proofs.steps.sought_from.Goals as goal
 

@@ -6,7 +6,7 @@ use Rattle.plstore.specs.declared.record.Record.{Record}
 use Rattle.plstore.specs.Links.{ends_in}
 use Rattle.plstore.specs.Runs.{IsGone}
 use Rattle.plstore.specs.Slots.{in_slot}
-use Rattle.plstore.specs.Tables.{IsChain}
+use Rattle.plstore.specs.Chains.{IsChain}
 use Rattle.plstore.proofs.Classes.{chain-erased, chain-kept}
 use Rattle.plstore.proofs.Since.{since-erased}
 use Rattle.plstore.proofs.tables.erase.Goals as goal
