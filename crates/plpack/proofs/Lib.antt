@@ -1,0 +1,3 @@
+pub mod Widths
+pub mod Names
+pub mod Nodes

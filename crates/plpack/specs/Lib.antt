@@ -1,0 +1,4 @@
+pub mod Packing
+pub mod Items
+pub mod Unpacking
+pub mod Faults
