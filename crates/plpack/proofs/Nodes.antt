@@ -38,7 +38,7 @@ no_variable k bytes short (Int i) rest h = absurd cc
 no_variable k bytes short (Atom s) rest h = absurd cc
 no_variable k bytes short (Compound s a) rest h = absurd cc
 
-pub variable_too_far : (k v : ℕ) (bytes after : List ℕ) → k < 2 ^ 63 → k < v → IsNumberAt w64 bytes v after → NoItem k (0 ∷ bytes)
+pub variable_too_far : (k v : ℕ) (bytes after : List ℕ) → k < 2 ^ 64 → k < v → IsNumberAt w64 bytes v after → NoItem k (0 ∷ bytes)
 unfolding NoItem
 variable_too_far k v bytes after few far at (Var w) rest h =
     let le : w ≤ k = h.number in

@@ -1,6 +1,6 @@
 //! Nodes at the front of bytes.
-ghost use Rattle.std.specs.Prelude.{◌≡◌, ◌<◌, ◌^◌, ◌∷◌, IfOk, MatchOption};
-ghost use Rattle.plpack.specs.Items.{IsItemAt, NoItem};
+ghost use Rattle.std.specs.Prelude.{◌∷◌, IfOk};
+ghost use Rattle.plpack.specs.Finding.{Finds};
 
 use crate::parts::{long_of, name_of, short_of};
 use crate::tag::{ATOM, COMPOUND, INTEGER, VARIABLE};
@@ -9,14 +9,16 @@ use plterm::node::Node;
 use plterm::term::ARITY;
 use std::alloc::{AllocError, Global};
 
-/// The node whose item begins the bytes, where so many variables were seen before it, and the bytes behind it.
-pub fn node_at(
-    alloc: Global,
-    bytes: &[u8],
-    seen: u64,
-) -> Result<Option<(Node, &[u8])>, AllocError>
-    requires { seen < 2 ^ 63 }
-    ensures { IfOk result (λ found. MatchOption found (NoItem seen bytes.now) (λ p. IsItemAt seen bytes.now p.0 p.1.now)) }
+/// A node, and the bytes behind its own.
+#[derive(Drop)]
+pub struct Item<'a> {
+    pub node: Node,
+    pub behind: &'a [u8],
+}
+
+/// The node whose bytes begin the bytes, if it may stand where so many variables were seen.
+pub fn item_at(alloc: Global, bytes: &[u8], seen: u64) -> Result<Option<Item<'_>>, AllocError>
+    ensures { IfOk result (Finds seen bytes.now) }
 {
     match bytes {
         [VARIABLE, rest @ ..] => Ok(variable_at(rest, seen)),
@@ -28,54 +30,51 @@ pub fn node_at(
     }
 }
 
-/// The variable whose number begins the bytes.
-fn variable_at(bytes: &[u8], seen: u64) -> Option<(Node, &[u8])>
-    requires { seen < 2 ^ 63 }
-    ensures { MatchOption result (NoItem seen (VARIABLE ∷ bytes.now)) (λ p. IsItemAt seen (VARIABLE ∷ bytes.now) p.0 p.1.now) }
+/// The variable whose number begins the bytes, if it is one of those seen or the next.
+fn variable_at(bytes: &[u8], seen: u64) -> Option<Item<'_>>
+    ensures { Finds seen (VARIABLE ∷ bytes.now) result }
 {
-    let (number, after) = long_of(bytes)?;
+    let (number, behind) = long_of(bytes)?;
     if number > seen {
         return None;
     }
-    Some((Node::Var(number), after))
+    let node = Node::Var(number);
+    Some(Item { node, behind })
 }
 
 /// The integer whose value begins the bytes.
-fn integer_at(bytes: &[u8], seen: u64) -> Option<(Node, &[u8])>
-    ensures { MatchOption result (NoItem seen (INTEGER ∷ bytes.now)) (λ p. IsItemAt seen (INTEGER ∷ bytes.now) p.0 p.1.now) }
+fn integer_at(bytes: &[u8], seen: u64) -> Option<Item<'_>>
+    ensures { Finds seen (INTEGER ∷ bytes.now) result }
 {
-    let (value, after) = long_of(bytes)?;
-    Some((Node::Int(value.cast_signed()), after))
+    let (value, behind) = long_of(bytes)?;
+    let node = Node::Int(value.cast_signed());
+    Some(Item { node, behind })
 }
 
 /// The atom whose name begins the bytes.
-fn atom_at(alloc: Global, bytes: &[u8], seen: u64) -> Result<Option<(Node, &[u8])>, AllocError>
-    ensures { IfOk result (λ found. MatchOption found (NoItem seen (ATOM ∷ bytes.now)) (λ p. IsItemAt seen (ATOM ∷ bytes.now) p.0 p.1.now)) }
+fn atom_at(alloc: Global, bytes: &[u8], seen: u64) -> Result<Option<Item<'_>>, AllocError>
+    ensures { IfOk result (Finds seen (ATOM ∷ bytes.now)) }
 {
-    let Some((text, after)) = name_of(bytes) else {
+    let Some((text, behind)) = name_of(bytes) else {
         return Ok(None);
     };
-    let name = Name::new(alloc, text)?;
-    Ok(Some((Node::Atom(name), after)))
+    let node = Node::Atom(Name::new(alloc, text)?);
+    Ok(Some(Item { node, behind }))
 }
 
 /// The compound whose arity and name begin the bytes.
-fn compound_at(
-    alloc: Global,
-    bytes: &[u8],
-    seen: u64,
-) -> Result<Option<(Node, &[u8])>, AllocError>
-    ensures { IfOk result (λ found. MatchOption found (NoItem seen (COMPOUND ∷ bytes.now)) (λ p. IsItemAt seen (COMPOUND ∷ bytes.now) p.0 p.1.now)) }
+fn compound_at(alloc: Global, bytes: &[u8], seen: u64) -> Result<Option<Item<'_>>, AllocError>
+    ensures { IfOk result (Finds seen (COMPOUND ∷ bytes.now)) }
 {
-    let Some((arity, behind)) = short_of(bytes) else {
+    let Some((arity, rest)) = short_of(bytes) else {
         return Ok(None);
     };
     if arity == 0 || arity as usize > ARITY {
         return Ok(None);
     }
-    let Some((text, after)) = name_of(behind) else {
+    let Some((text, behind)) = name_of(rest) else {
         return Ok(None);
     };
-    let name = Name::new(alloc, text)?;
-    Ok(Some((Node::Compound(name, arity), after)))
+    let node = Node::Compound(Name::new(alloc, text)?, arity);
+    Ok(Some(Item { node, behind }))
 }

@@ -6,7 +6,7 @@ ghost use Rattle.plpack.specs.Items.{after};
 ghost use Rattle.plpack.specs.Faults.{Tells, TellsNone};
 ghost use Rattle.plpack.specs.declared.unpacking.UnpackError.TheVariants.{NoMemory};
 
-use crate::item::node_at;
+use crate::item::{Item, item_at};
 use plterm::node::Node;
 use plterm::term::Term;
 use std::alloc::{AllocError, AllocFailed, Global};
@@ -58,10 +58,11 @@ pub fn unpack(alloc: Global, bytes: &[u8]) -> Result<Unpacked, UnpackError>
 {
     let mut nodes = Vec::new(alloc);
     let mut seen: u64 = 0;
+    // Each item may ask for 1,024 more: 64 bits need not hold them.
     let mut missing: u128 = 1;
     let mut rest = bytes;
     'items: while missing > 0 {
-        let Some((node, behind)) = node_at(alloc, rest, seen)? else {
+        let Some(Item { node, behind }) = item_at(alloc, rest, seen)? else {
             return Err(UnpackError::BadPack(bytes.len() - rest.len()));
         };
         seen = seen_with(seen, &node);

@@ -14,8 +14,8 @@ returns-then-arity-eq0 c =
       | then-arity-eq0-via-then-arity-eq0 w ↦ inl (omega arith)
       | then-arity-eq0-via-else-arity-eq0+then-arity-gt-ARITY w ↦ inr (omega arith)
     ] in
-    bad_arity c.args.seen c.in-Some.arity c.args.bytes.now c.in-Some.behind.now c.in-Some.ensures bad
+    bad_arity c.args.seen c.in-Some.arity c.args.bytes.now c.in-Some.rest.now c.in-Some.ensures bad
 
 pub returns-in_default-name_of : goal.returns-in_default-name_of
 returns-in_default-name_of c =
-    no_functor c.args.seen c.in-Some.arity c.args.bytes.now c.in-Some.behind.now c.in-Some.ensures c.in_default-name_of.ensures
+    no_functor c.args.seen c.in-Some.arity c.args.bytes.now c.in-Some.rest.now c.in-Some.ensures c.in_default-name_of.ensures

@@ -7,4 +7,4 @@ returns-in_err-number c = rw c.from_residual.ensures (no_variable c.args.seen c.
 
 pub returns-then-number-seen : goal.returns-then-number-seen
 returns-then-number-seen c =
-    variable_too_far c.args.seen c.in_ok-number.number c.args.bytes.now c.in_ok-number.after.now c.requires c.if-number-seen.true c.in_ok-number.ensures
+    variable_too_far c.args.seen c.in_ok-number.number c.args.bytes.now c.in_ok-number.behind.now (omega arith) c.if-number-seen.true c.in_ok-number.ensures

@@ -1,6 +1,6 @@
 use Rattle.std.proofs.Common.{rules, arith}
 use Rattle.plpack.proofs.Nodes.{no_tag, other_tag}
-use Rattle.plpack.proofs.item.node_at.Goals as goal
+use Rattle.plpack.proofs.item.item_at.Goals as goal
 
 pub returns-in-empty : goal.returns-in-empty
 returns-in-empty c = no_tag c.args.seen c.args.bytes.now c.in-empty.len_below
