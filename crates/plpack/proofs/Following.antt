@@ -1,16 +1,15 @@
 -- Which nodes may follow, and what stands in the way of a term.
-use Rattle.std.proofs.Common.{◌≡◌, ℕ, zero, suc, ◌+◌, ◌-◌, ◌^◌, ◌<◌, ◌≤◌, ◌⊎◌, pos, rules, List, [], ◌∷◌, ◌++◌, length, take, drop, refl, sym, ap, subst, ◌∙◌, append_assoc, append-nil, arith, inl, inr}
+use Rattle.std.proofs.Common.{◌≡◌, ℕ, zero, suc, ◌+◌, ◌-◌, ◌^◌, ◌<◌, ◌≤◌, ◌⊎◌, pos, rules, List, [], ◌∷◌, ◌++◌, length, drop, refl, sym, ap, subst, ◌∙◌, append_assoc, append-nil, arith, inl, inr}
 use Rattle.std.specs.List.{flat_map}
 use Rattle.std.proofs.lemmas.List.{length-append, take-append-drop}
-use Rattle.std.proofs.lemmas.List.Concat.{flat_map-append}
 use Rattle.plterm.specs.declared.node.Node.{Node}
 use Rattle.plterm.specs.declared.node.Node.TheVariants.{Int}
 use Rattle.plterm.specs.Tree.{Tree}
-use Rattle.plterm.specs.Reading.{arity, reading, tree_of, spelling, Fits, AllFit}
+use Rattle.plterm.specs.Reading.{arity, tree_of, spelling, Fits, AllFit}
 use Rattle.plterm.specs.Variables.{copied, seen_after}
 use Rattle.plterm.proofs.Forests.{IsTerm-spelling}
 use Rattle.plterm.proofs.Spellings.{numbering, spelling-tree_of}
-use Rattle.plpack.specs.Packing.{item, packed}
+use Rattle.plpack.specs.Packing.{item}
 use Rattle.plpack.specs.Items.{IsNumbered, after}
 use Rattle.plpack.specs.Unpacking.{Follows, IsFault, NonePacked}
 use Rattle.plpack.proofs.Nodes.{same_item}

@@ -1,5 +1,5 @@
 -- What nodes lead to: how many terms are still to come, and how many variables were seen.
-use Rattle.std.proofs.Common.{◌≡◌, ◌==◌, ℕ, zero, suc, ◌+◌, ◌-◌, ◌^◌, ◌<◌, ◌≤◌, pos, min, Bool, true, false, cond, eqb, not, List, [], ◌∷◌, ◌++◌, length, refl, sym, ap, subst, ◌∙◌, arith, inl, inr, add-one, length-append}
+use Rattle.std.proofs.Common.{◌≡◌, ◌==◌, ℕ, zero, suc, ◌+◌, ◌-◌, ◌^◌, ◌<◌, ◌≤◌, min, Bool, true, false, cond, eqb, not, List, [], ◌∷◌, ◌++◌, length, refl, sym, ap, subst, ◌∙◌, arith, inl, inr, add-one, length-append}
 use Rattle.std.proofs.lemmas.List.Sums.{prefix_len-le-length}
 use Rattle.std.proofs.lemmas.Bool.Decides.{eqb_tells, nat_tests}
 use Rattle.std.proofs.lemmas.List.Folds.{position_or_len_push}
@@ -9,8 +9,7 @@ use Rattle.plterm.specs.Reading.{arity, reading, Fits, AllFit, IsForest, IsTerm}
 use Rattle.plterm.specs.Variables.{place, added, with_node, seen_after, numbered}
 use Rattle.plterm.proofs.Forests.{length-read, Fits-numbered}
 use Rattle.plterm.proofs.Spellings.{numbering}
-use Rattle.plpack.specs.Items.{IsNumbered, after}
-use Rattle.plpack.proofs.Nodes.{IsLong}
+use Rattle.plpack.specs.Items.{IsLong, IsNumbered, after}
 
 -- From where p terms are to come and k variables were seen, the nodes lead to q terms and m variables.
 abbrev pub Leads : ℕ → ℕ → List Node → ℕ → ℕ → Type 0

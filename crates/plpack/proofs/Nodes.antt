@@ -1,90 +1,79 @@
 -- Nodes at the front of bytes.
-use Rattle.std.proofs.Common.{◌≡◌, ◌≢◌, ℕ, ◌^◌, ◌<◌, ◌≤◌, List, ◌∷◌, ◌++◌, length, get_or, refl, sym, ap, ◌∙◌, append_assoc, arith}
+use Rattle.std.proofs.Common.{◌≡◌, ◌≢◌, ℕ, ◌^◌, ◌<◌, List, ◌∷◌, ◌++◌, length, get_or, sym, ap, ◌∙◌, append_assoc, arith}
 use Rattle.std.specs.Int.{w16, w64, to_be_bytes, cast_signed, cast_unsigned}
-use Rattle.std.proofs.lemmas.Int.{to_z-of_z, of_z-to_z}
-use Rattle.std.proofs.Math.Facts.{Fits-of_z, sfits_to_z}
+use Rattle.std.proofs.lemmas.Int.{to_z-of_z}
+use Rattle.std.proofs.Math.Facts.{Fits-of_z}
 use Rattle.plterm.specs.declared.node.Node.{Node}
 use Rattle.plterm.specs.declared.node.Node.TheVariants.{Var, Int, Atom, Compound}
 use Rattle.plterm.specs.Reading.{Fits, IsBadArity}
 use Rattle.plpack.specs.Packing.{item, name_item}
-use Rattle.plpack.specs.Items.{IsNumberAt, IsItemAt, NoItem, IsNameAt, NoName}
+use Rattle.plpack.specs.Items.{IsNumberAt, IsLong, IsItemAt, NoItem, NoName}
 use Rattle.plpack.proofs.Widths.{wide16, wide64, same_number}
 use Rattle.plpack.proofs.Names.{same_name}
 
 -- ---- no node stands at the front
 
-pub no_tag : (k : ℕ) (bytes : List ℕ) → length bytes < 1 → NoItem k bytes
+pub no_tag : (bytes : List ℕ) → length bytes < 1 → NoItem bytes
 unfolding NoItem
-no_tag k bytes short (Var v) rest h = omega (arith, ap length h.parts)
-no_tag k bytes short (Int i) rest h = omega (arith, ap length h.parts)
-no_tag k bytes short (Atom s) rest h = omega (arith, ap length h.parts)
-no_tag k bytes short (Compound s a) rest h = omega (arith, ap length h.parts)
+no_tag bytes short (Var v) rest h = omega (arith, ap length h.parts)
+no_tag bytes short (Int i) rest h = omega (arith, ap length h.parts)
+no_tag bytes short (Atom s) rest h = omega (arith, ap length h.parts)
+no_tag bytes short (Compound s a) rest h = omega (arith, ap length h.parts)
 
 -- the first byte is no tag
 abbrev IsOther : List ℕ → Type 0
 IsOther bytes = (get_or bytes 0 0 ≢ 0) × (get_or bytes 0 0 ≢ 1) × (get_or bytes 0 0 ≢ 2) × (get_or bytes 0 0 ≢ 3)
 
-pub other_tag : (k : ℕ) (bytes : List ℕ) → IsOther bytes → NoItem k bytes
+pub other_tag : (bytes : List ℕ) → IsOther bytes → NoItem bytes
 unfolding NoItem
-other_tag k bytes other (Var v) rest h = other.0 (ap (λ (x : List ℕ). get_or x 0 0) h.parts)
-other_tag k bytes other (Int i) rest h = other.1 (ap (λ (x : List ℕ). get_or x 0 0) h.parts)
-other_tag k bytes other (Atom s) rest h = other.2 (ap (λ (x : List ℕ). get_or x 0 0) h.parts)
-other_tag k bytes other (Compound s a) rest h = other.3 (ap (λ (x : List ℕ). get_or x 0 0) h.parts)
+other_tag bytes other (Var v) rest h = other.0 (ap (λ (x : List ℕ). get_or x 0 0) h.parts)
+other_tag bytes other (Int i) rest h = other.1 (ap (λ (x : List ℕ). get_or x 0 0) h.parts)
+other_tag bytes other (Atom s) rest h = other.2 (ap (λ (x : List ℕ). get_or x 0 0) h.parts)
+other_tag bytes other (Compound s a) rest h = other.3 (ap (λ (x : List ℕ). get_or x 0 0) h.parts)
 
-pub no_variable : (k : ℕ) (bytes : List ℕ) → length bytes < 8 → NoItem k (0 ∷ bytes)
+pub no_variable : (bytes : List ℕ) → length bytes < 8 → NoItem (0 ∷ bytes)
 unfolding NoItem
-no_variable k bytes short (Var v) rest h = omega (arith, ap length h.parts)
-no_variable k bytes short (Int i) rest h = absurd cc
-no_variable k bytes short (Atom s) rest h = absurd cc
-no_variable k bytes short (Compound s a) rest h = absurd cc
+no_variable bytes short (Var v) rest h = omega (arith, ap length h.parts)
+no_variable bytes short (Int i) rest h = absurd cc
+no_variable bytes short (Atom s) rest h = absurd cc
+no_variable bytes short (Compound s a) rest h = absurd cc
 
-pub variable_too_far : (k v : ℕ) (bytes after : List ℕ) → k < 2 ^ 64 → k < v → IsNumberAt w64 bytes v after → NoItem k (0 ∷ bytes)
+pub no_integer : (bytes : List ℕ) → length bytes < 8 → NoItem (1 ∷ bytes)
 unfolding NoItem
-variable_too_far k v bytes after few far at (Var w) rest h =
-    let le : w ≤ k = h.number in
-    let behind : bytes ≡ to_be_bytes w64 w ++ rest = cc in
-    let n = same_number w64 (2 ^ 64) wide64 v w after rest (omega (arith, at.fits)) (omega arith) (sym at.parts ∙ behind) in
-    omega (arith, n.0)
-variable_too_far k v bytes after few far at (Int i) rest h = absurd cc
-variable_too_far k v bytes after few far at (Atom s) rest h = absurd cc
-variable_too_far k v bytes after few far at (Compound s a) rest h = absurd cc
+no_integer bytes short (Var v) rest h = absurd cc
+no_integer bytes short (Int i) rest h = omega (arith, ap length h.parts)
+no_integer bytes short (Atom s) rest h = absurd cc
+no_integer bytes short (Compound s a) rest h = absurd cc
 
-pub no_integer : (k : ℕ) (bytes : List ℕ) → length bytes < 8 → NoItem k (1 ∷ bytes)
-unfolding NoItem
-no_integer k bytes short (Var v) rest h = absurd cc
-no_integer k bytes short (Int i) rest h = omega (arith, ap length h.parts)
-no_integer k bytes short (Atom s) rest h = absurd cc
-no_integer k bytes short (Compound s a) rest h = absurd cc
-
-pub no_atom : (k : ℕ) (bytes : List ℕ) → NoName bytes → NoItem k (2 ∷ bytes)
+pub no_atom : (bytes : List ℕ) → NoName bytes → NoItem (2 ∷ bytes)
 unfolding NoItem NoName
-no_atom k bytes none (Var v) rest h = absurd cc
-no_atom k bytes none (Int i) rest h = absurd cc
-no_atom k bytes none (Atom s) rest h = none s rest (record { name = h.fits; parts = cc })
-no_atom k bytes none (Compound s a) rest h = absurd cc
+no_atom bytes none (Var v) rest h = absurd cc
+no_atom bytes none (Int i) rest h = absurd cc
+no_atom bytes none (Atom s) rest h = none s rest (record { name = h.fits; parts = cc })
+no_atom bytes none (Compound s a) rest h = absurd cc
 
-pub no_arity : (k : ℕ) (bytes : List ℕ) → length bytes < 2 → NoItem k (3 ∷ bytes)
+pub no_arity : (bytes : List ℕ) → length bytes < 2 → NoItem (3 ∷ bytes)
 unfolding NoItem
-no_arity k bytes short (Var v) rest h = absurd cc
-no_arity k bytes short (Int i) rest h = absurd cc
-no_arity k bytes short (Atom s) rest h = absurd cc
-no_arity k bytes short (Compound s a) rest h = omega (arith, ap length h.parts)
+no_arity bytes short (Var v) rest h = absurd cc
+no_arity bytes short (Int i) rest h = absurd cc
+no_arity bytes short (Atom s) rest h = absurd cc
+no_arity bytes short (Compound s a) rest h = omega (arith, ap length h.parts)
 
 -- behind the arity at the front stands the name
-module _ (k arity : ℕ) (bytes behind : List ℕ) (at : IsNumberAt w16 bytes arity behind) where
-  arity_of_node : (s rest : List ℕ) (a : ℕ) → IsItemAt k (3 ∷ bytes) (Compound s a) rest → (arity ≡ a) × (behind ≡ name_item s ++ rest)
+module _ (arity : ℕ) (bytes behind : List ℕ) (at : IsNumberAt w16 bytes arity behind) where
+  arity_of_node : (s rest : List ℕ) (a : ℕ) → IsItemAt (3 ∷ bytes) (Compound s a) rest → (arity ≡ a) × (behind ≡ name_item s ++ rest)
   arity_of_node s rest a h =
       let parts : bytes ≡ (to_be_bytes w16 a ++ name_item s) ++ rest = cc in
       same_number w16 (2 ^ 16) wide16 arity a behind (name_item s ++ rest) (omega (arith, at.fits)) (omega (arith, h.fits.2)) (sym at.parts ∙ parts ∙ append_assoc (to_be_bytes w16 a) (name_item s) rest)
 
-  pub bad_arity : IsBadArity arity → NoItem k (3 ∷ bytes)
+  pub bad_arity : IsBadArity arity → NoItem (3 ∷ bytes)
   unfolding NoItem
   bad_arity bad (Var v) rest h = absurd cc
   bad_arity bad (Int i) rest h = absurd cc
   bad_arity bad (Atom s) rest h = absurd cc
   bad_arity bad (Compound s a) rest h = let n = arity_of_node s rest a h in omega (arith, n.0, h.fits.1, h.fits.2)
 
-  pub no_functor : NoName behind → NoItem k (3 ∷ bytes)
+  pub no_functor : NoName behind → NoItem (3 ∷ bytes)
   unfolding NoItem NoName
   no_functor none (Var v) rest h = absurd cc
   no_functor none (Int i) rest h = absurd cc
@@ -92,13 +81,6 @@ module _ (k arity : ℕ) (bytes behind : List ℕ) (at : IsNumberAt w16 bytes ar
   no_functor none (Compound s a) rest h = let n = arity_of_node s rest a h in none s rest (record { name = h.fits.0; parts = n.1 })
 
 -- ---- the same bytes
-
--- a variable's number has eight bytes
-abbrev pub IsLong : Node → Type 0
-IsLong (Var v) = v < 2 ^ 64
-IsLong (Int i) = Unit {0}
-IsLong (Atom s) = Unit {0}
-IsLong (Compound s k) = Unit {0}
 
 -- at the front of the same bytes stands the same node
 pub same_item : (m n : Node) (r q : List ℕ) → Fits m → Fits n → IsLong m → IsLong n → item m ++ r ≡ item n ++ q → (m ≡ n) × (r ≡ q)

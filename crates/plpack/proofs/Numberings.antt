@@ -4,8 +4,8 @@ use Rattle.std.specs.List.{flat_map}
 use Rattle.plterm.specs.declared.node.Node.{Node}
 use Rattle.plterm.specs.declared.node.Node.TheVariants.{Var, Int, Atom, Compound}
 use Rattle.plterm.specs.Tree.{Tree}
-use Rattle.plterm.specs.Reading.{spelling, Fits, AllFit}
-use Rattle.plterm.specs.Variables.{place, added, with_node, seen_after, variables, copied, rename, numbered}
+use Rattle.plterm.specs.Reading.{spelling, AllFit}
+use Rattle.plterm.specs.Variables.{place, with_node, seen_after, variables, copied, rename, numbered}
 use Rattle.plterm.specs.Walking.{Enters}
 use Rattle.plterm.proofs.Spellings.{numbering, numbering_is, spelling-renamed}
 use Rattle.plpack.specs.Packing.{item, packed, IsPackable}

@@ -1,5 +1,5 @@
 -- Numbers of two and of eight bytes.
-use Rattle.std.proofs.Common.{◌≡◌, ℕ, suc, ◌^◌, ◌<◌, ◌≤◌, List, ◌∷◌, ◌++◌, length, get_or, take, drop, refl, sym, ap, ◌∙◌, arith, inl, inr}
+use Rattle.std.proofs.Common.{◌≡◌, ℕ, ◌^◌, ◌<◌, ◌≤◌, List, ◌++◌, length, get_or, take, drop, refl, sym, ap, ◌∙◌, arith, inl, inr}
 use Rattle.std.specs.Int.{Width, w16, w64, byte_len, from_be_bytes, to_be_bytes}
 use Rattle.std.proofs.lemmas.Bool.{cases_lt}
 use Rattle.std.proofs.lemmas.List.{take_at, drop_at, take-append-drop, length-take, get_or-take, get_or_past}
@@ -43,7 +43,7 @@ number_at_front w limit wide bytes front after n fits long is_front is_after sma
     record {
       fits = small;
       parts = rw (is, is_after, is_front)
-      (sym (ap (λ (x : List ℕ). x ++ drop (byte_len w) bytes) (wide.back (take (byte_len w) bytes) (omega (arith, length-take (byte_len w) bytes)) (IsBytes-take (byte_len w) bytes fits)) ∙ take-append-drop (byte_len w) bytes));
+          (sym (ap (λ (x : List ℕ). x ++ drop (byte_len w) bytes) (wide.back (take (byte_len w) bytes) (omega (arith, length-take (byte_len w) bytes)) (IsBytes-take (byte_len w) bytes fits)) ∙ take-append-drop (byte_len w) bytes));
     }
 
 -- at the front of the same bytes stands the same number

@@ -20,6 +20,23 @@ pub record IsNameAt (bytes s rest : List ℕ) : Type 0 where
 unfoldable pub NoName : List ℕ → Type 0
 NoName bytes = (s rest : List ℕ) → IsNameAt bytes s rest → ⊥
 
+-- a variable's number has eight bytes
+abbrev pub IsLong : Node → Type 0
+IsLong (Var v) = v < 2 ^ 64
+IsLong (Int i) = Unit {0}
+IsLong (Atom s) = Unit {0}
+IsLong (Compound s k) = Unit {0}
+
+-- the bytes are a node's and those behind it
+pub record IsItemAt (bytes : List ℕ) (n : Node) (rest : List ℕ) : Type 0 where
+  pub fits : Fits n
+  pub long : IsLong n
+  pub parts : bytes ≡ item n ++ rest
+
+-- no node's bytes begin the bytes
+unfoldable pub NoItem : List ℕ → Type 0
+NoItem bytes = (n : Node) (rest : List ℕ) → IsItemAt bytes n rest → ⊥
+
 -- a variable is one of the k that were seen, or the next
 abbrev pub IsNumbered : ℕ → Node → Type 0
 IsNumbered k (Var v) = v ≤ k
@@ -33,13 +50,3 @@ after k (Var v) = if v == k then k + 1 else k
 after k (Int i) = k
 after k (Atom s) = k
 after k (Compound s n) = k
-
--- the bytes are those of a node that may stand where k variables were seen, and those behind it
-pub record IsItemAt (k : ℕ) (bytes : List ℕ) (n : Node) (rest : List ℕ) : Type 0 where
-  pub fits : Fits n
-  pub number : IsNumbered k n
-  pub parts : bytes ≡ item n ++ rest
-
--- no such node's bytes begin the bytes
-unfoldable pub NoItem : ℕ → List ℕ → Type 0
-NoItem k bytes = (n : Node) (rest : List ℕ) → IsItemAt k bytes n rest → ⊥

@@ -1,5 +1,5 @@
 -- Bytes that no term's begin.
-use Rattle.std.specs.Prelude.{◌≡◌, ℕ, ◌≤◌, List, [], ◌∷◌, ◌++◌, length, take, drop}
+use Rattle.std.specs.Prelude.{◌≡◌, ℕ, ◌≤◌, List, ◌∷◌, ◌++◌, length, take, drop}
 use Rattle.std.specs.List.{flat_map}
 use Rattle.plterm.specs.declared.node.Node.{Node}
 use Rattle.plterm.specs.Tree.{Tree}

@@ -16,35 +16,32 @@ pub struct Item<'a> {
     pub behind: &'a [u8],
 }
 
-/// The node whose bytes begin the bytes, if it may stand where so many variables were seen.
-pub fn item_at(alloc: Global, bytes: &[u8], seen: u64) -> Result<Option<Item<'_>>, AllocError>
-    ensures { IfOk result (Finds seen bytes.now) }
+/// The node whose bytes begin the bytes.
+pub fn item_at(alloc: Global, bytes: &[u8]) -> Result<Option<Item<'_>>, AllocError>
+    ensures { IfOk result (Finds bytes.now) }
 {
     match bytes {
-        [VARIABLE, rest @ ..] => Ok(variable_at(rest, seen)),
-        [INTEGER, rest @ ..] => Ok(integer_at(rest, seen)),
-        [ATOM, rest @ ..] => atom_at(alloc, rest, seen),
-        [COMPOUND, rest @ ..] => compound_at(alloc, rest, seen),
+        [VARIABLE, rest @ ..] => Ok(variable_at(rest)),
+        [INTEGER, rest @ ..] => Ok(integer_at(rest)),
+        [ATOM, rest @ ..] => atom_at(alloc, rest),
+        [COMPOUND, rest @ ..] => compound_at(alloc, rest),
         [_, ..] => Ok(None),
         [] => Ok(None),
     }
 }
 
-/// The variable whose number begins the bytes, if it is one of those seen or the next.
-fn variable_at(bytes: &[u8], seen: u64) -> Option<Item<'_>>
-    ensures { Finds seen (VARIABLE ∷ bytes.now) result }
+/// The variable whose number begins the bytes.
+fn variable_at(bytes: &[u8]) -> Option<Item<'_>>
+    ensures { Finds (VARIABLE ∷ bytes.now) result }
 {
     let (number, behind) = long_of(bytes)?;
-    if number > seen {
-        return None;
-    }
     let node = Node::Var(number);
     Some(Item { node, behind })
 }
 
 /// The integer whose value begins the bytes.
-fn integer_at(bytes: &[u8], seen: u64) -> Option<Item<'_>>
-    ensures { Finds seen (INTEGER ∷ bytes.now) result }
+fn integer_at(bytes: &[u8]) -> Option<Item<'_>>
+    ensures { Finds (INTEGER ∷ bytes.now) result }
 {
     let (value, behind) = long_of(bytes)?;
     let node = Node::Int(value.cast_signed());
@@ -52,8 +49,8 @@ fn integer_at(bytes: &[u8], seen: u64) -> Option<Item<'_>>
 }
 
 /// The atom whose name begins the bytes.
-fn atom_at(alloc: Global, bytes: &[u8], seen: u64) -> Result<Option<Item<'_>>, AllocError>
-    ensures { IfOk result (Finds seen (ATOM ∷ bytes.now)) }
+fn atom_at(alloc: Global, bytes: &[u8]) -> Result<Option<Item<'_>>, AllocError>
+    ensures { IfOk result (Finds (ATOM ∷ bytes.now)) }
 {
     let Some((text, behind)) = name_of(bytes) else {
         return Ok(None);
@@ -63,8 +60,8 @@ fn atom_at(alloc: Global, bytes: &[u8], seen: u64) -> Result<Option<Item<'_>>, A
 }
 
 /// The compound whose arity and name begin the bytes.
-fn compound_at(alloc: Global, bytes: &[u8], seen: u64) -> Result<Option<Item<'_>>, AllocError>
-    ensures { IfOk result (Finds seen (COMPOUND ∷ bytes.now)) }
+fn compound_at(alloc: Global, bytes: &[u8]) -> Result<Option<Item<'_>>, AllocError>
+    ensures { IfOk result (Finds (COMPOUND ∷ bytes.now)) }
 {
     let Some((arity, rest)) = short_of(bytes) else {
         return Ok(None);

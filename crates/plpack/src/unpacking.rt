@@ -1,8 +1,9 @@
 //! Terms from bytes.
 ghost use Rattle.std.specs.Prelude.{◌≡◌, ◌<◌, ◌≤◌, ◌^◌, length, take, IfErr, IfOk};
+ghost use Rattle.std.specs.Option.{SomeIff};
 ghost use Rattle.plterm.specs.Variables.{copied};
 ghost use Rattle.plpack.specs.Packing.{packed, IsPackable};
-ghost use Rattle.plpack.specs.Items.{after};
+ghost use Rattle.plpack.specs.Items.{after, IsNumbered};
 ghost use Rattle.plpack.specs.Faults.{Tells, TellsNone};
 ghost use Rattle.plpack.specs.declared.unpacking.UnpackError.TheVariants.{NoMemory};
 
@@ -62,10 +63,9 @@ pub fn unpack(alloc: Global, bytes: &[u8]) -> Result<Unpacked, UnpackError>
     let mut missing: u128 = 1;
     let mut rest = bytes;
     'items: while missing > 0 {
-        let Some(Item { node, behind }) = item_at(alloc, rest, seen)? else {
-            return Err(UnpackError::BadPack(bytes.len() - rest.len()));
-        };
-        seen = seen_with(seen, &node);
+        let bad = UnpackError::BadPack(bytes.len() - rest.len());
+        let Item { node, behind } = item_at(alloc, rest)?.ok_or(bad)?;
+        seen = seen_with(seen, &node).ok_or(bad)?;
         missing = missing - 1 + node.arity() as u128;
         rest = behind;
         nodes.push(node)?;
@@ -76,13 +76,14 @@ pub fn unpack(alloc: Global, bytes: &[u8]) -> Result<Unpacked, UnpackError>
     })
 }
 
-/// How many variables were seen with the node.
-fn seen_with(seen: u64, node: &Node) -> u64
+/// How many variables were seen with the node, if it is no variable that leaves out a number.
+fn seen_with(seen: u64, node: &Node) -> Option<u64>
     requires { seen < 2 ^ 63 }
-    ensures { result ≡ after seen node.now }
+    ensures { SomeIff result (IsNumbered seen node.now) (after seen node.now) }
 {
     match node {
-        Node::Var(number) if *number == seen => seen + 1,
-        _ => seen,
+        Node::Var(number) if *number > seen => None,
+        Node::Var(number) if *number == seen => Some(seen + 1),
+        _ => Some(seen),
     }
 }

@@ -1,4 +1,3 @@
-use Rattle.std.proofs.Common.{arith}
 use Rattle.plpack.proofs.Names.{no_length, name_cut_off, name_no_text, name_is_at}
 use Rattle.plpack.proofs.parts.name_of.Goals as goal
 
