@@ -1,11 +1,11 @@
 -- Nodes at the front of bytes.
-use Rattle.std.proofs.Common.{◌≡◌, ◌≢◌, ℕ, ◌^◌, ◌<◌, List, ◌∷◌, ◌++◌, length, get_or, sym, ap, ◌∙◌, append_assoc, arith}
+use Rattle.std.proofs.Common.{◌≡◌, ◌≢◌, ℕ, ◌^◌, ◌<◌, ◌≤◌, List, ◌∷◌, ◌++◌, length, get_or, sym, ap, ◌∙◌, append_assoc, arith}
 use Rattle.std.specs.Int.{w16, w64, to_be_bytes, cast_signed, cast_unsigned}
 use Rattle.std.proofs.lemmas.Int.{to_z-of_z}
 use Rattle.std.proofs.Math.Facts.{Fits-of_z}
 use Rattle.plterm.specs.declared.node.Node.{Node}
 use Rattle.plterm.specs.declared.node.Node.TheVariants.{Var, Int, Atom, Compound}
-use Rattle.plterm.specs.Reading.{Fits, IsBadArity}
+use Rattle.plterm.specs.Reading.{Fits}
 use Rattle.plpack.specs.Packing.{item, name_item}
 use Rattle.plpack.specs.Items.{IsNumberAt, IsLong, IsItemAt, NoItem, NoName}
 use Rattle.plpack.proofs.Widths.{wide16, wide64, same_number}
@@ -66,12 +66,12 @@ module _ (arity : ℕ) (bytes behind : List ℕ) (at : IsNumberAt w16 bytes arit
       let parts : bytes ≡ (to_be_bytes w16 a ++ name_item s) ++ rest = cc in
       same_number w16 (2 ^ 16) wide16 arity a behind (name_item s ++ rest) (omega (arith, at.fits)) (omega (arith, h.fits.2)) (sym at.parts ∙ parts ∙ append_assoc (to_be_bytes w16 a) (name_item s) rest)
 
-  pub bad_arity : IsBadArity arity → NoItem (3 ∷ bytes)
+  pub bad_arity : ((0 < arity) × (arity ≤ 1024) → ⊥) → NoItem (3 ∷ bytes)
   unfolding NoItem
   bad_arity bad (Var v) rest h = absurd cc
   bad_arity bad (Int i) rest h = absurd cc
   bad_arity bad (Atom s) rest h = absurd cc
-  bad_arity bad (Compound s a) rest h = let n = arity_of_node s rest a h in omega (arith, n.0, h.fits.1, h.fits.2)
+  bad_arity bad (Compound s a) rest h = let n = arity_of_node s rest a h in bad (omega (arith, n.0, h.fits.1), omega (arith, n.0, h.fits.2))
 
   pub no_functor : NoName behind → NoItem (3 ∷ bytes)
   unfolding NoItem NoName

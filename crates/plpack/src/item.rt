@@ -1,5 +1,5 @@
 //! Nodes at the front of bytes.
-ghost use Rattle.std.specs.Prelude.{◌∷◌, IfOk};
+ghost use Rattle.std.specs.Prelude.{◌<◌, ◌≤◌, ◌↔◌, ◌∷◌, IfOk, IsTrue};
 ghost use Rattle.plpack.specs.Finding.{Finds};
 
 use crate::parts::{long_of, name_of, short_of};
@@ -66,7 +66,7 @@ fn compound_at(alloc: Global, bytes: &[u8]) -> Result<Option<Item<'_>>, AllocErr
     let Some((arity, rest)) = short_of(bytes) else {
         return Ok(None);
     };
-    if arity == 0 || arity as usize > ARITY {
+    if !is_arity(arity) {
         return Ok(None);
     }
     let Some((text, behind)) = name_of(rest) else {
@@ -74,4 +74,11 @@ fn compound_at(alloc: Global, bytes: &[u8]) -> Result<Option<Item<'_>>, AllocErr
     };
     let node = Node::Compound(Name::new(alloc, text)?, arity);
     Ok(Some(Item { node, behind }))
+}
+
+/// Whether a compound may have so many arguments.
+fn is_arity(count: u16) -> bool
+    ensures { IsTrue result ↔ ((0 < count) × (count ≤ 1024)) }
+{
+    count > 0 && count as usize <= ARITY
 }
