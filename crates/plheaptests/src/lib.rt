@@ -4,13 +4,11 @@
 #[cfg(test)]
 mod codes;
 #[cfg(test)]
-mod differences;
-#[cfg(test)]
 mod goals;
 #[cfg(test)]
 mod made;
 #[cfg(test)]
-mod plain;
+mod pairs;
 #[cfg(test)]
 mod slots;
 #[cfg(test)]

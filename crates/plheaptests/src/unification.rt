@@ -1,5 +1,6 @@
 //! What two terms come to that are unified.
 use crate::made::{empty, put_arguments, shown};
+use crate::pairs::PAIRS;
 use std::alloc::Global;
 use std::string::String;
 use std::test::Fail;
@@ -92,6 +93,23 @@ fn rows_of_failures(rt: HostRuntime) -> Result<(), Fail> {
     for (goal, wanted) in KEPT {
         let found = kept(alloc, goal)?;
         assert_eq!(rt; found.as_str(), wanted);
+    }
+    Ok(())
+}
+
+/// Whether a pair's left side comes to what the line says.
+fn is_as_told(alloc: Global, line: &str) -> Result<bool, Fail> {
+    let (goal, wanted) = line.split_once('|').ok_or("no answer")?;
+    let found = unified(alloc, goal)?;
+    Ok(found.as_str() == wanted)
+}
+
+// Pairs that look random come to what another system makes of them.
+#[test]
+fn pairs_by_another_system(rt: HostRuntime) -> Result<(), Fail> {
+    let alloc = rt.alloc();
+    for line in PAIRS.lines() {
+        assert!(rt; is_as_told(alloc, line)?, "{line}");
     }
     Ok(())
 }
