@@ -10,12 +10,12 @@ pub fn variants_law()
     ensures { (a b : Tree) → IsPackable a → IsPackable b → ((packed a ≡ packed b) ↔ IsVariant a b) }
 {}
 
-/// Bytes begin with those of one term, up to a variant: so what follows them is known.
+/// Bytes begin with those of at most one term, up to a variant, and so where these end is known.
 pub fn prefix_free_law()
     ensures { (a b : Tree) (r s : List ℕ) → IsPackable a → IsPackable b → packed a ++ r ≡ packed b ++ s → IsVariant a b × (r ≡ s) }
 {}
 
-/// Bytes have at most one place of a first bad item.
+/// Bytes have at most one place of a first item that fits none.
 pub fn fault_law()
     ensures { (bytes : List ℕ) (p q : ℕ) → length bytes < 2 ^ 64 → IsFault bytes p → IsFault bytes q → p ≡ q }
 {}

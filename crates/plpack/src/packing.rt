@@ -10,7 +10,7 @@ use plterm::numbers::Numbers;
 use plterm::walk::TermRef;
 use std::alloc::{AllocError, Global};
 
-/// The bytes of a term. Terms have the same bytes exactly where they are variants of one another.
+/// The bytes of a term, in time linear in its nodes. Terms have the same bytes exactly where they are variants of one another.
 pub fn pack(alloc: Global, term: &TermRef<'_>) -> Result<Vec<u8>, AllocError>
     ensures bytes { IfOk result (λ bytes. bytes.items ≡ packed term.now) }
     ensures limits { OnOk result (IsPackable term.now) }

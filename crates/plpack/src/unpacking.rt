@@ -15,7 +15,8 @@ use std::alloc::{AllocError, AllocFailed, Global};
 /// Why bytes could not be unpacked.
 #[derive(Clone, Copy, Debug, PartialEq, Eq)]
 pub enum UnpackError {
-    /// No term's bytes begin the bytes: what stands at the place is the first item that fits none.
+    /// No term's bytes begin the bytes. The place is where the first item that fits none begins: one that is cut off, or has an
+    /// unknown tag, an arity of 0 or above 1,024, a name that is no UTF-8, or a variable that leaves out a number.
     BadPack(usize),
     NoMemory,
 }
@@ -36,14 +37,14 @@ impl<T: Drop> From<AllocFailed<T>> for UnpackError {
     }
 }
 
-/// A term that was unpacked, and how many bytes it takes.
+/// A term that was unpacked, and how many of the bytes are its own.
 #[derive(Drop)]
 pub struct Unpacked {
     pub term: Term,
     pub size: usize,
 }
 
-/// The term whose bytes begin the bytes. Others may follow them.
+/// The term whose bytes begin the bytes, in time linear in how many they are. Others may follow them.
 pub fn unpack(alloc: Global, bytes: &[u8]) -> Result<Unpacked, UnpackError>
     // So many bytes are the term's.
     ensures size { IfOk result (λ found. found.size ≤ length bytes.now) }
