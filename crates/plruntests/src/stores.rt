@@ -1,21 +1,14 @@
 //! The clauses of all batches (plstore).
-use crate::made::clause;
+use crate::made::{clause, indicator};
 use plclause::clause::Clause;
 use plevent::{Batch, ClauseName, Living, Update};
 use plstore::record::Cursor;
 use plstore::store::Store;
 use plterm::error::TermError;
-use plterm::indicator::Indicator;
 use plterm::name::Name;
 use plterm::term::Term;
 use std::alloc::{AllocError, Global};
 use std::test::Fail;
-
-/// The name p with an arity.
-fn indicator(alloc: Global, arity: u16) -> Result<Indicator, AllocError> {
-    let name = Name::new(alloc, "p")?;
-    Ok(Indicator { name, arity })
-}
 
 /// A store with one batch, at 3: it makes p :- a and p :- b behind all others and p :- c before them, erases p :- a again,
 /// and declares p/2.

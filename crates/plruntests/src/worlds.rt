@@ -1,10 +1,8 @@
 //! The journal and its requests (plworld).
-use crate::made::clause;
+use crate::made::{clause, indicator};
 use plevent::{Act, Batch, ClauseName, Entry, Key, Reply, Request, ThreadEnd, Update};
 use plstore::{Cursor, Found, Query};
 use plterm::error::TermError;
-use plterm::indicator::Indicator;
-use plterm::name::Name;
 use plworld::world::World;
 use std::alloc::{AllocError, Global};
 use std::test::Fail;
@@ -67,8 +65,7 @@ fn main_is_started(rt: HostRuntime) -> Result<(), Fail> {
 
 /// How many clauses of p/0 are alive at a time.
 fn alive_at(alloc: Global, world: &World, g: u64) -> Result<usize, AllocError> {
-    let name = Name::new(alloc, "p")?;
-    let pred = Indicator { name, arity: 0 };
+    let pred = indicator(alloc, 0)?;
     Ok(world.store().living(alloc, g, &pred)?.len())
 }
 
@@ -197,34 +194,29 @@ fn a_clause_is_erased_once(rt: HostRuntime) -> Result<(), Fail> {
     Ok(())
 }
 
-/// The procedure p/0.
-fn pred(alloc: Global) -> Result<Indicator, AllocError> {
-    let name = Name::new(alloc, "p")?;
-    Ok(Indicator { name, arity: 0 })
-}
-
 /// Whether p/0 exists at a time.
-fn exists_at(alloc: Global, world: &World, g: u64) -> Result<bool, AllocError> {
-    match world.look(g, &Query::Exists(pred(alloc)?))? {
+fn exists_at(alloc: Global, world: &World, g: u64) -> Result<bool, Fail> {
+    match world.look(g, &Query::Exists(indicator(alloc, 0)?))? {
         Found::Exists(there) => Ok(there),
-        Found::Next(_) | Found::Clause(_) => Ok(false),
+        Found::Next(_) | Found::Clause(_) => Err("an answer of another kind".into()),
     }
 }
 
 /// The place of the first clause of p/0 at a time.
-fn first_at(alloc: Global, world: &World, g: u64) -> Result<Option<u64>, AllocError> {
-    let query = Query::NextLike(pred(alloc)?, Key::Any, Cursor::Start);
+fn first_at(alloc: Global, world: &World, g: u64) -> Result<Option<u64>, Fail> {
+    let query = Query::NextLike(indicator(alloc, 0)?, Key::Any, Cursor::Start);
     match world.look(g, &query)? {
         Found::Next(Some(name)) => Ok(Some(name.place)),
-        Found::Next(None) | Found::Clause(_) | Found::Exists(_) => Ok(None),
+        Found::Next(None) => Ok(None),
+        Found::Clause(_) | Found::Exists(_) => Err("an answer of another kind".into()),
     }
 }
 
 /// Whether the clause of place 2 is found at a time.
-fn is_found_at(world: &World, g: u64) -> Result<bool, AllocError> {
+fn is_found_at(world: &World, g: u64) -> Result<bool, Fail> {
     match world.look(g, &Query::Clause(named(2, 0)))? {
         Found::Clause(clause) => Ok(clause.is_some()),
-        Found::Next(_) | Found::Exists(_) => Ok(false),
+        Found::Next(_) | Found::Exists(_) => Err("an answer of another kind".into()),
     }
 }
 
