@@ -54,9 +54,9 @@ publish-none (u ∷ us) rest n w none = absurd (omega (arith, none))
 
 -- ---- what is next
 
-pub may-by : (h : Store) (x : Option ClauseName) → MayAsk h (mode_by x)
-may-by h None = tt
-may-by h (Some x) = tt
+pub may-by : (s : State) (x : Option ClauseName) → MayAsk s (mode_by x)
+may-by s None = tt
+may-by s (Some x) = tt
 
 pub plain-by : (x : Option ClauseName) → IsPlain (mode_by x)
 plain-by None = tt
@@ -77,7 +77,7 @@ walks-rest P cs (p ∷ ps) run = sym (Rest-turn P (record { mode = Back Fail; ca
 pub walks : (P : Program) (s : Reached) (st : State) (w : Walk) (rest : Continuation) → OpensWalk s.stack st w rest →
     Walks P s (record s { stack = st; mode = modes.Back outcomes.Fail }) (value s.stack.env.heap w.goal) w.uses w.spot (goals_of s.stack rest)
 walks P s st w rest o = record {
-  code = o.code;
+  basis = o.basis;
   frame = refl;
   ends = λ v most left answers.
       let t = value s.stack.env.heap w.goal in
@@ -95,7 +95,7 @@ walks-grown P s t new g u spot l grown is there w =
     let stay = grown-stays P s t grown is in
     let local : local_of t ≡ local_of s = stay.local in
     record {
-      code = w.code ∙ stay.code;
+      basis = w.basis ∙ stay.basis;
       frame = w.frame ∙ ap (λ (x : Reached). record x { stack = new.stack; mode = modes.Back outcomes.Fail }) is;
       ends = λ v most left answers.
           let xs = left_at (database_of P v) u g spot in
@@ -109,7 +109,7 @@ walks-grown P s t new g u spot l grown is there w =
 pub walks-moved : (P : Program) (s new : Reached) (t : Tree) (u : Use) (spot : Spot) (es : List Element) (m : Move) → Walks P s new t u spot es →
     ((v : Views) → choose (candidates_left (depth_of s) s.stack.env t es (left_at (database_of P v) u t spot)) (local_of s) ≡ m) → Moved P s new m
 walks-moved P s new t u spot es m w same = record {
-  code = w.code;
+  basis = w.basis;
   askable = back-asks new outcomes.Fail (ap (λ x. x.mode) w.frame);
   ends = λ v most left answers. ap (after P v s most left answers) (sym (same v)) ∙ w.ends v most left answers;
 }

@@ -37,6 +37,10 @@ use Rattle.plrun.proofs.Rows.{row-served, publish-due, erase-due, last-served, l
 use Rattle.plrun.proofs.Steps.{GoesAt, TakesAt, asks-same, going-goes, going-view, going-reply, going-act, own-views}
 use Rattle.plrun.proofs.Ends.{asked-last, ended-told}
 
+-- what is within a journal is within a longer one
+pub longer : (h later more : List Entry) (n : ℕ) → later ≡ h ++ more → n ≤ length h → n ≤ length later
+longer h later more n e le = rw e (omega (arith, le, length-append h more))
+
 -- a view at the journal's length sees all its updates
 pub before-length : (h : List Entry) → before (length h) (reading h).updates ≡ (reading h).updates
 before-length h = before-is (length h) h (omega arith) ∙ ap (λ l. (reading l).updates) (ap (take (length h)) (sym (append-nil h)) ∙ take-append_seam h [])

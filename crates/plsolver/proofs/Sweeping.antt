@@ -168,10 +168,10 @@ sweep-sought v h c d w u cur o e is =
 pub sweep-stays : (P : Program) (s : Reached) (c : Cell) (w x : Sweep) → s.mode ≡ modes.Find (finds.Sweep c w) → as_swept w x → Stays P s (record s { mode = modes.Find (finds.Sweep c x) })
 unfolding machine
 sweep-stays P s c w x at far = record {
-  code = refl;
+  basis = refl;
   cases = λ v. refl;
   local = refl;
-  askable = λ may. subst (MayAsk s.stack.env.heap) at may;
+  askable = λ may. subst (MayAsk s.stack) at may;
   same = λ may v left answers.
       let head : Tree = value s.stack.env.heap c in
       let same : swept (v x.view) s.stack.env.count head x ≡ swept (v w.view) s.stack.env.count head w =

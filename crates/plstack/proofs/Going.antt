@@ -56,7 +56,7 @@ module _ (s : State) (d : ℕ) (is : IsStack s d) (p : Point) (c : Clauses) (cal
 
     pub replaced-stack : IsStack (record s { frames = frames }) d
     replaced-stack =
-        let o = opened-state (record s { frames = rest }) (d - 1) frames (Open p (resumes.Clauses c')) pushed below-stack frame in
+        let o = opened-state (record s { frames = rest }) (d - 1) frames (Open p (resumes.Clauses c')) pushed below-stack frame tt in
         (o.0, omega (arith, o.1, back-depth s d is rest p (resumes.Clauses c) popped))
 
     pub replaced : (db : Database) → GoesOn db s (record s { frames = frames }) p c (Some next)
@@ -90,7 +90,7 @@ pub place-framed : (s new : State) → new ≡ record s { frames = new.frames } 
 place-framed s new e = ap (λ (x : State). place_of x) e
 
 -- a clause's body before a list with a number
-module _ (s : State) (d : ℕ) (is : IsStack s d) (hit : Hit) (x : Clause) (code : IsCodeOf s.code.text hit.clause x) (slots : hit.base + hit.clause.variables ≤ length s.env.slots)
+module _ (s : State) (d : ℕ) (is : IsStack s d) (hit : Hit) (x : Clause) (code : IsCodeOf s.basis.code.text hit.clause x) (slots : hit.base + hit.clause.variables ≤ length s.env.slots)
     (rest : Continuation) (behind : ℕ) (there : IsList s (alone behind)) (same : goals_of s (alone behind) ≡ goals_of s rest) (level : ℕ) where
   abbrev run : Run
   run = record { position = hit.clause.body; owed = 0; base = hit.base; «end» = hit.base + hit.clause.variables; level = level }

@@ -49,7 +49,7 @@ both-at c t (k ∷ ks) [] i a lt = absurd a
 both-at c t (k ∷ ks) (x ∷ xs) zero a lt = record { code = k; clause = x; code_at = refl; clause_at = refl; own = a.0 }
 both-at c t (k ∷ ks) (x ∷ xs) (suc i) a lt =
     let b = both-at c t ks xs i a.1 (omega arith) in
-    record { code = b.code; clause = b.clause; code_at = b.code_at; clause_at = b.clause_at; own = b.own }
+    record { basis = b.basis; clause = b.clause; code_at = b.code_at; clause_at = b.clause_at; own = b.own }
 
 -- clauses that do not unify are passed over
 module _ (d n : ℕ) (t : Tree) (es : List Element) where

@@ -35,10 +35,11 @@ module _ (s : State) (is : IsState s) (e : Env) (env : IsEnv e) (keeps : Keeps s
   fitted-state : IsState fitted
   fitted-state = record {
     env = env;
-    names = extends-names s.code.text.names s.env.heap.names e.heap.names is.names keeps.names;
+    names = extends-names s.basis.code.text.names s.env.heap.names e.heap.names is.names keeps.names;
     none = is.none;
     chain = is.chain;
     frames = frames-grown (goals_in s) s.env e s.links s.links [] s.saved (sym (append-nil s.links)) keeps env.heap.names (reverse s.frames) is.frames;
+    seen = is.seen;
     goals = (list-bound s.goals is.goals).0;
   }
 

@@ -27,7 +27,7 @@ use Rattle.plstack.specs.declared.frame.Resume.TheVariants as resumes
 use Rattle.plstack.specs.declared.frame.Frame.{Frame}
 use Rattle.plstack.specs.declared.frame.Frame.TheVariants.{Open}
 use Rattle.plstack.specs.Places.{Database, place_asked, tried, candidates_left, left_at, left_if}
-use Rattle.plstack.specs.Frames.{IsOpen, AreOlder}
+use Rattle.plstack.specs.Frames.{IsOpen, IsSpotSeen, AreOlder}
 use Rattle.plstack.specs.State.{State, IsStack, goals_in, goals_of, place_of, cases_of, IsList, CountsUp, RetriesBy}
 use Rattle.plstack.specs.Calls.{Goes}
 use Rattle.plstack.specs.Cutting.{Settles}
@@ -67,7 +67,7 @@ opens_walk s new w rest goal there o = record {
       o.cases db
       ∙ ap₂ (λ t n. Choice (filter_map (tried (deeper (cases_of db s) 0) n t (goals_of new rest)) (left_at db w.uses t w.spot)) ∷ cases_of db s) (o.keeps.values w.goal goal).1 o.keeps.count
       ∙ ap (λ es. Choice (candidates_left (deeper (cases_of db s) 0) s.env (value s.env.heap w.goal) es (left_at db w.uses (value s.env.heap w.goal) w.spot)) ∷ cases_of db s) (o.keeps.lists rest there).1;
-  code = o.keeps.code;
+  basis = o.keeps.basis;
 }
 
 -- ---- going back
@@ -77,13 +77,13 @@ module _ (s : State) (d : ℕ) (is : IsStack s d) (rest : List Frame) (p : Point
   none-kept = omega arith
 
   abbrev pub gone : State
-  gone = record { code = s.code; env = cut p.marks.env s.env; links = take p.marks.links s.links; saved = take p.marks.saved s.saved; frames = s.frames; goals = alone 0 }
+  gone = record { basis = s.basis; env = cut p.marks.env s.env; links = take p.marks.links s.links; saved = take p.marks.saved s.saved; frames = s.frames; goals = alone 0 }
 
   pub gone-stack : IsStack gone d
-  gone-stack = subst (λ n. IsStack (record { code = s.code; env = cut p.marks.env s.env; links = take p.marks.links s.links; saved = take n s.saved; frames = s.frames; goals = alone 0 }) d) none-kept (rewound-stack s d is rest p (resumes.Walk w) popped)
+  gone-stack = subst (λ n. IsStack (record { basis = s.basis; env = cut p.marks.env s.env; links = take p.marks.links s.links; saved = take n s.saved; frames = s.frames; goals = alone 0 }) d) none-kept (rewound-stack s d is rest p (resumes.Walk w) popped)
 
   pub gone-cases : (db : Database) → cases_of db gone ≡ cases_of db s
-  gone-cases db = ap (λ n. cases_of db (record { code = s.code; env = cut p.marks.env s.env; links = take p.marks.links s.links; saved = take n s.saved; frames = s.frames; goals = alone 0 })) (sym none-kept) ∙ rewound-cases s d is rest p (resumes.Walk w) popped db
+  gone-cases db = ap (λ n. cases_of db (record { basis = s.basis; env = cut p.marks.env s.env; links = take p.marks.links s.links; saved = take n s.saved; frames = s.frames; goals = alone 0 })) (sym none-kept) ∙ rewound-cases s d is rest p (resumes.Walk w) popped db
 
   pub gone-at : AtWalk gone p w
   gone-at = record {
@@ -112,7 +112,7 @@ module _ (s : State) (d : ℕ) (is : IsStack s d) (p : Point) (w : Walk) (walkin
   below-stack = popped-stack s d rest (Open p (resumes.Walk w)) popped is
 
   -- it stands at another spot
-  module _ (spot : Spot) (frames : List Frame) (pushed : frames ≡ rest ++ Open p (resumes.Walk (record { goal = w.goal; uses = w.uses; spot = spot })) ∷ []) where
+  module _ (spot : Spot) (seen : IsSpotSeen s.basis.latest spot) (frames : List Frame) (pushed : frames ≡ rest ++ Open p (resumes.Walk (record { goal = w.goal; uses = w.uses; spot = spot })) ∷ []) where
     abbrev w' : Walk
     w' = record { goal = w.goal; uses = w.uses; spot = spot }
 
@@ -121,7 +121,7 @@ module _ (s : State) (d : ℕ) (is : IsStack s d) (p : Point) (w : Walk) (walkin
 
     pub replaced-stack : IsStack (record s { frames = frames }) d
     replaced-stack =
-        let o = opened-state (record s { frames = rest }) (d - 1) frames (Open p (resumes.Walk w')) pushed below-stack frame in
+        let o = opened-state (record s { frames = rest }) (d - 1) frames (Open p (resumes.Walk w')) pushed below-stack frame seen in
         (o.0, omega (arith, o.1, back-depth s d is rest p (resumes.Walk w) popped))
 
     pub replaced : (db : Database) → GoesOn db s (record s { frames = frames }) p w (Some spot)
@@ -179,10 +179,11 @@ module _ (s : State) (d : ℕ) (is : IsStack s d) (p : Point) (w : Walk) (at : A
   fitted-stack list there = (
     record {
       env = goes.env;
-      names = extends-names s.code.text.names s.env.heap.names e.heap.names is.0.names goes.keeps.names;
+      names = extends-names s.basis.code.text.names s.env.heap.names e.heap.names is.0.names goes.keeps.names;
       none = is.0.none;
       chain = goes.chain;
       frames = frames-grown (goals_in s) s.env e s.links ls goes.more s.saved goes.links goes.keeps goes.env.heap.names (reverse s.frames) is.0.frames;
+      seen = is.0.seen;
       goals = record { there = there.there; items = there.items };
     },
     is.1,

@@ -8,7 +8,7 @@ ghost use Rattle.plsearch.specs.Rows.{is_true as is_true_of, resolve};
 ghost use Rattle.plenv.specs.Env.{cut, IsEnv, IsMark, IsWithin};
 ghost use Rattle.plenv.specs.Changes.{Keeps};
 ghost use Rattle.plstack.specs.Places.{Database};
-ghost use Rattle.plstack.specs.Frames.{AreOlder};
+ghost use Rattle.plstack.specs.Frames.{AreOlder, IsLeftSeen, IsSpotSeen};
 ghost use Rattle.plstack.specs.State.{cases_of, goals_of, place_of, Extends, HasWalk, IsList, IsState, RetriesBy, State};
 ghost use Rattle.plstack.specs.Cutting.{Settles};
 ghost use Rattle.plstack.specs.Trials.{ComesBack, IsMarked, IsOpened, ListsBody, PutsHead, Resolved};
@@ -208,6 +208,7 @@ impl Stack {
     #[tactic(auto, using(crate::proofs::Walking::opens_walk))]
     pub fn open_walk(&mut self, walk: Walk, rest: Continuation) -> Result<(), AllocError>
         requires goal { IsValue self.old.env.heap walk.goal }
+        requires seen { IsSpotSeen self.old.basis.latest walk.spot }
         requires rest { IsList self.old rest }
         ensures ok { OnOk result (OpensWalk self.old self.new walk rest) }
         ensures err { OnErr result (self.new ≡ self.old) }
@@ -219,6 +220,7 @@ impl Stack {
     pub fn walking(&self) -> Option<Walking>
         ensures some { IfSome result (λ at. IsWalking self.now at.point at.walk) }
         ensures none { IfNone result (HasWalk self.now → ⊥) }
+        ensures seen { IfSome result (λ at. IsSpotSeen self.now.basis.latest at.walk.spot) }
     {
         match self.frames.last() {
             Some(Frame::Open(point, Resume::Walk(walk))) => Some(Walking {
@@ -234,7 +236,7 @@ impl Stack {
         requires { HasWalk self.old }
         ensures cases { (db : Database) → cases_of db self.new ≡ cases_of db self.old }
         ensures at { AtWalk self.new result.point result.walk }
-        ensures code { self.new.code ≡ self.old.code }
+        ensures basis { self.new.basis ≡ self.old.basis }
     {
         let Some(Frame::Open(point, Resume::Walk(walk))) = self.frames.pop() else {
             unreachable!()
@@ -261,13 +263,14 @@ impl Stack {
         rest: Option<Spot>,
     ) -> Result<Option<Entered>, AllocError>
         requires at { AtWalk self.old at.point at.walk }
+        requires seen { IsLeftSeen self.old.basis.latest rest }
         ensures some { IfOk result (λ o. IfSome o (λ entered. (db : Database) → Finds db at.walk (value self.old.env.heap at.walk.goal) next.now rest → RetriesBy db self.old self.new entered.erased)) }
         ensures none { IfOk result (λ o. IfNone o ((db : Database) → Finds db at.walk (value self.old.env.heap at.walk.goal) next.now rest → cases_of db self.new ≡ cases_of db self.old)) }
         ensures last { IfOk result (λ o. IfNone o (rest ≡ None → (db : Database) → EndsPlain db self.new)) }
         ensures at_next { IfOk result (λ o. IfNone o ((spot : Spot) → rest ≡ Some spot → AtWalk self.new at.point (record at.walk { spot = spot }))) }
         ensures values { IfOk result (λ o. IfNone o ((spot : Spot) → rest ≡ Some spot → value self.new.env.heap at.walk.goal ≡ value self.old.env.heap at.walk.goal)) }
         ensures err { OnErr result ((db : Database) → cases_of db self.new ≡ cases_of db self.old) }
-        ensures code { self.new.code ≡ self.old.code }
+        ensures basis { self.new.basis ≡ self.old.basis }
     {
         let level = self.depth.down(1);
         let fits = self.fit_walk(alloc, &at, level, &next.clause)?;
@@ -295,7 +298,7 @@ impl Stack {
         ensures at { IfOk result (λ fits. fits ≡ false → AtWalk self.new at.now.point at.now.walk) }
         ensures value { IfOk result (λ fits. fits ≡ false → value self.new.env.heap at.now.walk.goal ≡ value self.old.env.heap at.now.walk.goal) }
         ensures cases { (db : Database) → cases_of db self.new ≡ cases_of db self.old }
-        ensures code { self.new.code ≡ self.old.code }
+        ensures basis { self.new.basis ≡ self.old.basis }
     {
         let call = Trial {
             goal: at.walk.goal,
@@ -314,12 +317,13 @@ impl Stack {
 
     /// The innermost case, a walk, stands at another spot, or nothing is left of it.
     pub fn go_on_walk(&mut self, at: Walking, next: Option<Spot>)
-        requires { IsWalking self.old at.point at.walk }
+        requires walking { IsWalking self.old at.point at.walk }
+        requires seen { IsLeftSeen self.old.basis.latest next }
         ensures goes { (db : Database) → GoesOn db self.old self.new at.point at.walk next }
         ensures place { place_of self.new ≡ place_of self.old }
         ensures same { (spot : Spot) → next ≡ Some spot → self.new ≡ record self.old { frames = self.new.frames } }
         ensures walking { (spot : Spot) → next ≡ Some spot → IsWalking self.new at.point (record at.walk { spot = spot }) }
-        ensures code { self.new.code ≡ self.old.code }
+        ensures basis { self.new.basis ≡ self.old.basis }
     {
         match next {
             Some(spot) => self.replace_walk(at, spot),
@@ -333,7 +337,8 @@ impl Stack {
 
     /// The innermost case, a walk, stands at another spot.
     fn replace_walk(&mut self, at: Walking, spot: Spot)
-        requires { IsWalking self.old at.point at.walk }
+        requires walking { IsWalking self.old at.point at.walk }
+        requires seen { IsSpotSeen self.old.basis.latest spot }
         ensures goes { (db : Database) → GoesOn db self.old self.new at.point at.walk (Some spot) }
         ensures walking { IsWalking self.new at.point (record at.walk { spot = spot }) }
         ensures same { self.new ≡ record self.old { frames = self.new.frames } }

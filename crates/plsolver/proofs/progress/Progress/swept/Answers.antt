@@ -54,10 +54,10 @@ returns-clause-of c =
     let head = c.requires.sweeps.0 in
     let w = c.requires.sweeps.1 in
     let there : t.mode ≡ modes.Find (finds.Sweep head w) = ap (λ x. x.machine.mode) c.has_head.ensures.frame ∙ c.requires.sweeps.2 in
-    let fits : IsValue t.stack.env.heap head = subst (MayAsk t.stack.env.heap) there of.askable in
+    let fits : IsValue t.stack.env.heap head = subst (MayAsk t.stack) there of.askable in
     ok_or_err c.swept_mode-mode.result.1 c.swept_mode-mode.ensures.ok c.swept_mode-mode.ensures.err
-    (λ f. record { begun = of.begun; askable = subst (MayAsk t.stack.env.heap) (sym (f head w (c.replace-mode.ensures.value ∙ there)).1) fits })
-    (λ f. record { begun = of.begun; askable = subst (MayAsk t.stack.env.heap) (sym (f head w (c.replace-mode.ensures.value ∙ there)).1) fits })
+    (λ f. record { begun = of.begun; askable = subst (MayAsk t.stack) (sym (f head w (c.replace-mode.ensures.value ∙ there)).1) fits })
+    (λ f. record { begun = of.begun; askable = subst (MayAsk t.stack) (sym (f head w (c.replace-mode.ensures.value ∙ there)).1) fits })
 
 pub returns-clause-err : goal.returns-clause-err
 returns-clause-err c =
