@@ -110,6 +110,10 @@ Quiet P old new = (v : Views) → QuietIn P v old new
 abbrev pub IsOver : Program → Progress → Type 0
 IsOver P s = (r : Outcome) × (s.machine.mode ≡ modes.Back r) × ((v : Views) → cases_in P v s.machine ≡ [])
 
+-- the latest place whose view is kept
+abbrev pub latest_view : Progress → ℕ
+latest_view s = s.machine.stack.basis.latest
+
 -- a look-up of clauses waits for a view
 abbrev pub WaitsForView : Progress → Type 0
 WaitsForView s = (u : Lookup) × (s.machine.mode ≡ modes.Ask (questions.Look u))

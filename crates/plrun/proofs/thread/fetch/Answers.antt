@@ -2,7 +2,6 @@ use Rattle.std.proofs.Common.{◌≡◌, ◌≤◌, List, length, ap, sym, subst
 use Rattle.plevent.specs.Alive.{Stamped, before}
 use Rattle.plevent.specs.Reading.{reading}
 use Rattle.plsearch.specs.Search.{search_of}
-use Rattle.plstack.specs.declared.basis.Basis.{Basis}
 use Rattle.plstore.specs.declared.query.Query.{Query}
 use Rattle.plstore.specs.Looking.{found}
 use Rattle.plstore.specs.Rising.{Ordered}
@@ -39,7 +38,7 @@ returns-clause-runs c =
     let within : g ≤ length h = omega (arith, at, c.view-view.ensures.seen, c.requires.runs.latest) in
     record {
       of = c.fetched.ensures.of;
-      latest = subst (λ (b : Basis). b.latest ≤ length h) (sym c.fetched.ensures.basis) c.requires.runs.latest;
+      latest = subst (λ n. n ≤ length h) (sym c.fetched.ensures.latest) c.requires.runs.latest;
       started = started-gone P old.limit new.limit (λ v. rest_of P v old) (λ v. rest_of P v new) old.used new.used h c.args.running.now.thread old.places.items new.places.items c.requires.runs.started
           (λ v are.
           c.in_ok-fetched.ensures.ok v g q c.requires.fetches.1 (subst Ordered (sym (are g within)) (before-ordered g (reading h).updates (names-rise h)))

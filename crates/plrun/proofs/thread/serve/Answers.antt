@@ -1,9 +1,8 @@
 use Rattle.std.proofs.Common.{◌≤◌, ap, length, subst, sym}
 use Rattle.plevent.specs.declared.request.Request.{Request}
 use Rattle.plsearch.specs.Search.{search_of}
-use Rattle.plstack.specs.declared.basis.Basis.{Basis}
 use Rattle.plsolver.specs.declared.progress.Progress.{Progress}
-use Rattle.plsolver.specs.Solver.{rest_of, WaitsForReply}
+use Rattle.plsolver.specs.Solver.{latest_view, rest_of, WaitsForReply}
 use Rattle.plrun.proofs.Halting.{halts-when-done}
 use Rattle.plrun.proofs.Serve.{MayWait, longer, served-by, started-same, reply-fits}
 use Rattle.plrun.proofs.thread.serve.Goals as goal
@@ -36,6 +35,6 @@ returns-clause-runs c =
     c.in_ok-reply.ensures.reply (ap (λ w. w.journal) c.in_ok-reply.ensures.entry) (λ v are. c.in_ok-reply-2.ensures.ok v) c.in_ok-reply-2.ensures.places) in
     record {
       of = c.reply.ensures.of;
-      latest = longer h later _ new.machine.stack.basis.latest (ap (λ w. w.journal) c.in_ok-reply.ensures.entry) (subst (λ (b : Basis). b.latest ≤ length h) (sym c.reply.ensures.basis) c.requires.runs.latest);
+      latest = longer h later _ (latest_view new) (ap (λ w. w.journal) c.in_ok-reply.ensures.entry) (subst (λ n. n ≤ length h) (sym c.reply.ensures.latest) c.requires.runs.latest);
       started = started;
     }

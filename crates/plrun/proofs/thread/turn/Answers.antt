@@ -1,7 +1,6 @@
 use Rattle.std.proofs.Common.{◌≤◌, length, subst, sym}
 use Rattle.plevent.specs.Search.{View, Ask}
 use Rattle.plsearch.specs.Search.{search_of}
-use Rattle.plstack.specs.declared.basis.Basis.{Basis}
 use Rattle.plsolver.specs.Says.{Says}
 use Rattle.plsolver.specs.Solver.{GoesTo, rest_of}
 use Rattle.plrun.proofs.Serve.{started-gone, still-runs, used-within}
@@ -21,7 +20,7 @@ returns-in-Slice-clause-runs c =
     let new = c.advance.new.self in
     record {
       of = c.advance.ensures.of;
-      latest = subst (λ (b : Basis). b.latest ≤ length c.args.world.now.journal) (sym c.advance.ensures.basis) c.requires.latest;
+      latest = subst (λ n. n ≤ length c.args.world.now.journal) (sym c.advance.ensures.latest) c.requires.latest;
       started = started-gone P old.limit new.limit (λ v. rest_of P v old) (λ v. rest_of P v new) old.used new.used c.args.world.now.journal c.args.running.now.thread old.places.items new.places.items c.requires.started (λ v are. c.advance.ensures.goes v) c.advance.ensures.places c.advance.ensures.limit;
     }
 
@@ -33,7 +32,7 @@ returns-in-Ended-clause-runs c =
     let new = c.advance.new.self in
     record {
       of = c.advance.ensures.of;
-      latest = subst (λ (b : Basis). b.latest ≤ length c.args.world.now.journal) (sym c.advance.ensures.basis) c.requires.latest;
+      latest = subst (λ n. n ≤ length c.args.world.now.journal) (sym c.advance.ensures.latest) c.requires.latest;
       started = started-gone P old.limit new.limit (λ v. rest_of P v old) (λ v. rest_of P v new) old.used new.used c.args.world.now.journal c.args.running.now.thread old.places.items new.places.items c.requires.started (λ v are. c.advance.ensures.goes v) c.advance.ensures.places c.advance.ensures.limit;
     }
 
@@ -48,7 +47,7 @@ look-requires-clause-runs c =
     let says = rw c.in-Refresh.is at c.in_ok-advance.ensures.says in
     record {
       of = c.advance.ensures.of;
-      latest = subst (λ (b : Basis). b.latest ≤ length c.args.world.now.journal) (sym c.advance.ensures.basis) c.requires.latest;
+      latest = subst (λ n. n ≤ length c.args.world.now.journal) (sym c.advance.ensures.latest) c.requires.latest;
       runs = still-runs P.first (search_of P new.limit) new.limit (λ v. rest_of P v new) new.used new.machine.out.items h t new.places.items View says.1
           (started-gone P old.limit new.limit (λ v. rest_of P v old) (λ v. rest_of P v new) old.used new.used h t old.places.items new.places.items c.requires.started (λ v are. c.advance.ensures.goes v) c.advance.ensures.places c.advance.ensures.limit);
     }
@@ -64,7 +63,7 @@ serve-requires-clause-runs c =
     let says = rw c.in-Ask.is at c.in_ok-advance.ensures.says in
     record {
       of = c.advance.ensures.of;
-      latest = subst (λ (b : Basis). b.latest ≤ length c.args.world.now.journal) (sym c.advance.ensures.basis) c.requires.latest;
+      latest = subst (λ n. n ≤ length c.args.world.now.journal) (sym c.advance.ensures.latest) c.requires.latest;
       runs = still-runs P.first (search_of P new.limit) new.limit (λ v. rest_of P v new) new.used new.machine.out.items h t new.places.items (Ask c.in-Ask.request) says.1
           (started-gone P old.limit new.limit (λ v. rest_of P v old) (λ v. rest_of P v new) old.used new.used h t old.places.items new.places.items c.requires.started (λ v are. c.advance.ensures.goes v) c.advance.ensures.places c.advance.ensures.limit);
     }
@@ -77,6 +76,6 @@ fetch-requires-clause-runs c =
     let new = c.advance.new.self in
     record {
       of = c.advance.ensures.of;
-      latest = subst (λ (b : Basis). b.latest ≤ length c.args.world.now.journal) (sym c.advance.ensures.basis) c.requires.latest;
+      latest = subst (λ n. n ≤ length c.args.world.now.journal) (sym c.advance.ensures.latest) c.requires.latest;
       started = started-gone P old.limit new.limit (λ v. rest_of P v old) (λ v. rest_of P v new) old.used new.used c.args.world.now.journal c.args.running.now.thread old.places.items new.places.items c.requires.started (λ v are. c.advance.ensures.goes v) c.advance.ensures.places c.advance.ensures.limit;
     }
