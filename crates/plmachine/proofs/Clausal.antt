@@ -19,7 +19,7 @@ use Rattle.plsearch.specs.Rows.{resolve, as_fact, choose, raised, retrieve, retr
 use Rattle.plsearch.specs.Replies.{retract}
 use Rattle.plsearch.specs.Search.{ending_of}
 use Rattle.plsearch.proofs.Turns.{Rest-turn}
-use Rattle.plcells.specs.Store.{Store, value}
+use Rattle.plcells.specs.Store.{value}
 use Rattle.plenv.specs.Env.{Env}
 use Rattle.pllinks.specs.declared.link.Continuation.{Continuation}
 use Rattle.plstack.specs.declared.frame.Use.{Use}

@@ -22,7 +22,6 @@ use Rattle.plsearch.specs.Machines.Weight.{weight}
 use Rattle.plsearch.specs.Search.{ending_of, next_of}
 use Rattle.plsearch.specs.Solving.{TakesOne, StandsAt, EndsAt}
 use Rattle.plsearch.proofs.Turns.{Rest-turn}
-use Rattle.plcode.specs.Callees.{IsProgramCode}
 use Rattle.plcode.specs.Steps.{of_two}
 use Rattle.plenv.specs.Env.{over}
 use Rattle.plstack.specs.State.{State, cases_of, goals_of}
@@ -42,7 +41,7 @@ use Rattle.plmachine.specs.declared.machine.Mode.TheVariants as modes
 use Rattle.plmachine.specs.declared.machine.Machine.{Machine as Reached}
 use Rattle.plmachine.specs.Machine.{result_of, then_of, lookup_of, IsPlain, mode_of, local_of, cases_in, depth_of, machine, now, after, IsFollowed, MayAsk, Moved}
 use Rattle.plmachine.specs.Machine.{Stays as StaysThere}
-use Rattle.plmachine.proofs.Moves.{machine-is, goes-to, visit-asks, stays-by, stays_put}
+use Rattle.plmachine.proofs.Moves.{begun-by, machine-is, goes-to, visit-asks, stays-by, stays_put}
 use Rattle.plsolver.specs.declared.progress.Selected.{Selected}
 use Rattle.plsolver.specs.declared.progress.Selected.TheVariants as goals
 use Rattle.plsolver.specs.declared.progress.Progress.{Progress}
@@ -373,3 +372,7 @@ moved_of P s new m of moved = record { begun = begun-by P _ _ moved.basis of.beg
 pub either_of : {T E : Type 0} (P : Program) (s new : Reached) (m : Move) (r : Outcomes T E) → IsOf P s → OnOk r (Moved P s new m) → OnErr r (StaysThere P s new) → IsOf P new
 either_of P s new m (Ok x) of ok err = moved_of P s new m of ok
 either_of P s new m (Err e) of ok err = record { begun = begun-by P _ _ err.basis of.begun; askable = err.askable of.askable }
+
+pub either_basis : {T E : Type 0} (P : Program) (s new : Reached) (m : Move) (r : Outcomes T E) → OnOk r (Moved P s new m) → OnErr r (StaysThere P s new) → new.stack.basis ≡ s.stack.basis
+either_basis P s new m (Ok x) ok err = ok.basis
+either_basis P s new m (Err e) ok err = err.basis

@@ -35,13 +35,13 @@ use Rattle.plstack.specs.Opening.{OpensFrame}
 use Rattle.plstack.specs.Trials.{ComesBack}
 use Rattle.plstack.specs.Walks.{IsWalking, AtWalk, OpensWalk, goal_at, walk_left, GoesOn, EndsPlain, Finds, FitsCall, LeftSame}
 use Rattle.plstack.proofs.Renaming.{stays, candidates-renamed}
-use Rattle.plstack.proofs.Frames.{reverse-push, items-more}
+use Rattle.plstack.proofs.Frames.{items-more}
 use Rattle.plstack.proofs.Growing.{cases-grown, frames-grown}
 use Rattle.plstack.proofs.Found.{renamed-kept}
 use Rattle.plstack.proofs.Reopening.{unchanged-extends}
-use Rattle.plstack.proofs.Returning.{at-frame, back-depth, back-list}
+use Rattle.plstack.proofs.Returning.{at-frame, back-list}
 use Rattle.plstack.proofs.Rewinding.{rewound-stack, rewound-cases, now}
-use Rattle.plstack.proofs.Stacks.{opened-cases, opened-state, counted, counted-cases, popped-cases, popped-stack}
+use Rattle.plstack.proofs.Replacing.{taken-cases, other-stack, other-cases, none-stack, none-cases, none-older}
 
 -- what was changed since a mark of then is given back, but for names
 module _ (e after : Env) (m : Mark) (then : Env) (mark : IsMark m e) (same : cut m e ≡ e) (kept : Keeps e after) (back : then ≡ cut m after) where
@@ -95,58 +95,37 @@ module _ (s : State) (d : ℕ) (is : IsStack s d) (rest : List Frame) (p : Point
 
 -- ---- going on
 
-first_is : (x y : Frame) (xs ys : List Frame) → x ∷ xs ≡ y ∷ ys → x ≡ y
-first_is x y xs ys e = cc
-
 -- the newest frame, which is a walk, was taken off
 module _ (s : State) (d : ℕ) (is : IsStack s d) (p : Point) (w : Walk) (walking : IsWalking s p w) (rest : List Frame) (f : Frame) (taken : s.frames ≡ rest ++ f ∷ []) where
-  popped : s.frames ≡ rest ++ Open p (resumes.Walk w) ∷ []
-  popped = taken ∙ ap (λ g. rest ++ g ∷ [])
-      (first_is f (Open p (resumes.Walk w)) (reverse rest) (reverse walking.rest)
-      (sym (ap reverse taken ∙ reverse-push rest f) ∙ ap reverse walking.top ∙ reverse-push walking.rest (Open p (resumes.Walk w))))
-
-  the-walk : IsOpen (goals_in s) s.env s.links s.saved p (resumes.Walk w) (reverse rest)
-  the-walk = at-frame s d is rest p (resumes.Walk w) popped
-
-  below-stack : IsStack (record s { frames = rest }) (d - 1)
-  below-stack = popped-stack s d rest (Open p (resumes.Walk w)) popped is
-
   -- it stands at another spot
   module _ (spot : Spot) (seen : IsSpotSeen s.basis.latest spot) (frames : List Frame) (pushed : frames ≡ rest ++ Open p (resumes.Walk (record { goal = w.goal; uses = w.uses; spot = spot })) ∷ []) where
     abbrev w' : Walk
     w' = record { goal = w.goal; uses = w.uses; spot = spot }
 
-    frame : IsOpen (goals_in s) s.env s.links s.saved p (resumes.Walk w') (reverse rest)
-    frame = record { mark = the-walk.mark; links_room = the-walk.links_room; list = the-walk.list; saved_room = the-walk.saved_room; older = the-walk.older; items = the-walk.items; resume = the-walk.resume }
-
     pub replaced-stack : IsStack (record s { frames = frames }) d
-    replaced-stack =
-        let o = opened-state (record s { frames = rest }) (d - 1) frames (Open p (resumes.Walk w')) pushed below-stack frame seen in
-        (o.0, omega (arith, o.1, back-depth s d is rest p (resumes.Walk w) popped))
+    replaced-stack = other-stack s d is p (resumes.Walk w) walking.rest walking.top rest f taken (resumes.Walk w') refl (λ fits. fits) seen frames pushed
 
     pub replaced : (db : Database) → GoesOn db s (record s { frames = frames }) p w (Some spot)
     replaced db = record {
       below = cases_of db (record s { frames = rest });
-      was = popped-cases db s rest (Open p (resumes.Walk w)) popped;
-      cases = opened-cases db (record s { frames = rest }) frames (Open p (resumes.Walk w')) pushed;
+      was = taken-cases s d is p (resumes.Walk w) walking.rest walking.top rest f taken db;
+      cases = other-cases s d is p (resumes.Walk w) walking.rest walking.top rest f taken (resumes.Walk w') refl (λ fits. fits) seen frames pushed db;
     }
 
   -- nothing is left
   module _ (frames : List Frame) (up : CountsUp 1 (reverse rest) (reverse frames)) where
     pub emptied-stack : IsStack (record s { frames = frames }) d
-    emptied-stack =
-        let u = counted 1 (record s { frames = rest }) (d - 1) frames up below-stack in
-        (u.0, omega (arith, u.1, back-depth s d is rest p (resumes.Walk w) popped))
+    emptied-stack = none-stack s d is p (resumes.Walk w) walking.rest walking.top rest f taken frames up
 
     pub emptied : (db : Database) → GoesOn db s (record s { frames = frames }) p w None
     emptied db = record {
       below = cases_of db (record s { frames = rest });
-      was = popped-cases db s rest (Open p (resumes.Walk w)) popped;
-      cases = counted-cases 1 db (record s { frames = rest }) frames up;
+      was = taken-cases s d is p (resumes.Walk w) walking.rest walking.top rest f taken db;
+      cases = none-cases s d is p (resumes.Walk w) walking.rest walking.top rest f taken frames up db;
     }
 
     pub emptied-older : AreOlder p.marks (reverse frames)
-    emptied-older = up.older p.marks the-walk.older
+    emptied-older = none-older s d is p (resumes.Walk w) walking.rest walking.top rest f taken frames up
 
 pub goes_settled : (db : Database) (s mid new : State) (p : Point) (w : Walk) (next : Option Spot) → GoesOn db s mid p w next → Settles mid new → GoesOn db s new p w next
 goes_settled db s mid new p w next g y = record { below = g.below; was = g.was; cases = y.cases db ∙ g.cases }
