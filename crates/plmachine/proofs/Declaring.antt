@@ -1,5 +1,5 @@
 -- Terms that are to name procedures.
-use Rattle.std.proofs.Common.{◌≡◌, Bool, false, List, map, Option, Some, None, option_map, sym, ap, ap₂, ◌∙◌}
+use Rattle.std.proofs.Common.{◌≡◌, Bool, false, List, map, Option, Some, None, option_map, sym, ap, ap₂, ◌∙◌, if◌then◌else◌}
 use Rattle.std.specs.Prelude.{not, is_some}
 use Rattle.std.specs.List.{filter_map, find, list_any}
 use Rattle.plterm.specs.Tree.{Tree}

@@ -1,5 +1,5 @@
 -- The head and the body of a term of a value.
-use Rattle.std.proofs.Common.{◌≡◌, ℕ, suc, false, List, [], ◌∷◌, length, Some, None, refl, sym, ap, ◌∙◌, codes, bytes_eq}
+use Rattle.std.proofs.Common.{◌≡◌, ℕ, suc, false, List, [], ◌∷◌, length, Some, None, refl, sym, ap, ◌∙◌, codes, bytes_eq, if◌then◌else◌}
 use Rattle.plterm.specs.Tree.{Tree, compound, list_of, trees}
 use Rattle.platoms.specs.Names.{functor_name}
 use Rattle.plclause.specs.Clausal.{neck_parts}

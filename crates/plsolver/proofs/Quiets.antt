@@ -1,6 +1,6 @@
 -- The turns that take no step.
 use Rattle.std.specs.Option.{option_map}
-use Rattle.std.proofs.Common.{◌≡◌, ℕ, zero, suc, Bool, true, false, List, [], ◌∷◌, refl, sym, ap, ap₂, ◌∙◌, arith, IsTrue, ◌↔◌, Option, Some, None, length, ◌+◌, ◌<◌, ◌≤◌, subst, inl, inr}
+use Rattle.std.proofs.Common.{◌≡◌, ℕ, zero, suc, Bool, true, false, List, [], ◌∷◌, refl, sym, ap, ap₂, ◌∙◌, arith, IsTrue, ◌↔◌, Option, Some, None, length, ◌+◌, ◌<◌, ◌≤◌, subst, inl, inr, if◌then◌else◌}
 use Rattle.plterm.specs.Tree.{Tree}
 use Rattle.plterm.specs.Variables.{copied, variables}
 use Rattle.plsubst.specs.Subst.{bind}

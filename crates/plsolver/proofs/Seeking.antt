@@ -1,6 +1,6 @@
 -- What is sought in a view: look-ups that were answered with it.
 use Rattle.std.specs.Prelude.{Result as Outcomes, Ok, Err}
-use Rattle.std.proofs.Common.{OnOk, OnErr, reverse, ◌⊎◌, inl, inr, ◌≡◌, ℕ, ◌-◌, Bool, true, false, ◌||◌, min, List, [], ◌∷◌, ◌++◌, map, Option, refl, sym, ap, ap₂, ◌∙◌, subst}
+use Rattle.std.proofs.Common.{OnOk, OnErr, reverse, ◌⊎◌, inl, inr, ◌≡◌, ℕ, ◌-◌, Bool, true, false, ◌||◌, min, List, [], ◌∷◌, ◌++◌, map, Option, refl, sym, ap, ap₂, ◌∙◌, subst, if◌then◌else◌}
 use Rattle.std.specs.List.{filter_map}
 use Rattle.plterm.specs.Tree.{Tree}
 use Rattle.plterm.specs.declared.indicator.Indicator.{Indicator}

@@ -1,5 +1,5 @@
 -- The erasure of all clauses of a head, looked through one at a time.
-use Rattle.std.proofs.Common.{◌≡◌, ℕ, Bool, true, false, cond, List, [], ◌∷◌, ◌++◌, map, filter, Option, Some, None, is_some, refl, sym, ap, ap₂, ◌∙◌, subst, append-nil, append_assoc}
+use Rattle.std.proofs.Common.{◌≡◌, ℕ, Bool, true, false, cond, List, [], ◌∷◌, ◌++◌, map, filter, Option, Some, None, is_some, refl, sym, ap, ap₂, ◌∙◌, subst, append-nil, append_assoc, if◌then◌else◌}
 use Rattle.plterm.specs.Tree.{Tree}
 use Rattle.plterm.specs.declared.indicator.Indicator.{Indicator}
 use Rattle.plsubst.specs.Subst.{shift}
