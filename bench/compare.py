@@ -24,7 +24,7 @@ import tempfile
 
 HERE = os.path.dirname(os.path.realpath(__file__))
 PROLOG = os.path.join(os.path.dirname(HERE), "prolog")
-NAMES = ["nrev", "tak", "queens", "zebra", "deriv", "unify", "deep", "up", "upvar", "catch", "control", "lookup", "output", "count", "itak", "iqueens", "sort", "findall", "codes", "parts", "upto", "counter"]
+NAMES = ["nrev", "tak", "queens", "zebra", "deriv", "unify", "deep", "up", "upvar", "catch", "control", "lookup", "output", "count", "itak", "iqueens", "sort", "findall", "codes", "parts", "upto", "counter", "queue", "facts"]
 FACTS = 100000
 # GNU Prolog's room for terms, in kilobytes: with its own 32,768 it breaks off in long loops.
 ROOM = {"GLOBALSZ": "1000000"}

@@ -66,6 +66,12 @@ pub first-none : (k : ℕ) (bs : List Bool) → NoneBelow bs (length bs) → fir
 first-none k [] h = refl
 first-none k (b ∷ bs) h = ap (λ v. add_if v (Some k) (first_from (suc k) bs)) (h 0 (omega arith)) ∙ first-none (suc k) bs (λ i l. h (suc i) (omega arith))
 
+pub none-first : (k : ℕ) (bs : List Bool) → first_from k bs ≡ None → NoneBelow bs (length bs)
+none-first k [] e i l = absurd (omega arith)
+none-first k (true ∷ bs) e i l = absurd (cc)
+none-first k (false ∷ bs) e zero l = refl
+none-first k (false ∷ bs) e (suc i) l = none-first (suc k) bs e i (omega arith)
+
 -- a mark is found where there is one, so one more changes nothing
 pub first-kept : (k : ℕ) (bs : List Bool) (i : ℕ) (o : Option ℕ) → get_or bs i false ≡ true → or_else (first_from k bs) o ≡ first_from k bs
 first-kept k [] i o e = absurd (cc)

@@ -1,88 +1,48 @@
--- Links and ends stay those of the records.
-use Rattle.std.proofs.Common.{◌≡◌, ◌≢◌, ◌+◌, ◌-◌, inl, inr, refl, sym, ◌∙◌, ap, ap₂, subst, arith, ℕ, suc, zero, ◌<◌, Bool, true, false, cond, List, [], ◌∷◌, ◌++◌, Option, Some, None, length, get_or, set, drop, nat_lt, nat_eq}
-use Rattle.std.specs.Prelude.{◌||◌, ◌&&◌, not}
+-- Links and ends of a class stay those of the records.
+use Rattle.std.proofs.Common.{◌≡◌, ◌≢◌, ◌+◌, ◌-◌, inl, inr, refl, sym, ◌∙◌, ap, ap₂, subst, arith, ℕ, suc, zero, ◌<◌, Bool, true, false, cond, List, [], ◌∷◌, ◌++◌, Option, Some, None, length, get_or, set, drop}
+use Rattle.std.specs.Prelude.{◌&&◌, not}
 use Rattle.std.proofs.lemmas.List.{get_or_append_left, get_or_at, drop-append-le, map-append, length-map, length-drop, get_or-set_same, get_or-set_other, length-set}
-use Rattle.std.proofs.lemmas.Bool.Decides.{nat_tests}
-use Rattle.std.proofs.lemmas.Slice.Eq.{bytes_eq-Decides}
-use Rattle.std.specs.Str.{bytes_eq}
-use Rattle.plterm.specs.declared.indicator.Indicator.{Indicator}
-use Rattle.plterm.specs.Indicators.{same_indicator}
 use Rattle.plclause.specs.Clause.{Clause}
-use Rattle.plclause.specs.Indicators.{indicator}
-use Rattle.plevent.specs.declared.update.Update.TheVariants.{First, Last, Declare}
 use Rattle.plevent.specs.declared.update.ClauseName.{ClauseName}
-use Rattle.plevent.specs.Alive.{add_if, or_else, is_of, named}
+use Rattle.plevent.specs.Alive.{add_if, or_else}
 use Rattle.plstore.specs.declared.record.Record.{Record}
-use Rattle.plstore.specs.declared.record.Declared.{Declared}
 use Rattle.plstore.specs.declared.ends.Ends.{Ends}
-use Rattle.plstore.specs.Kept.{made, changed_where, change_if, erase_at, is_named, in_front, behind_all, declared_names}
-use Rattle.plstore.specs.Links.{last_below, first_from, fronts, backs, since_below, earlier, ends_after, linked_at, links_after, no_ends, IsIndexed}
+use Rattle.plstore.specs.Kept.{made, changed_where, change_if, erase_at, is_named}
+use Rattle.plstore.specs.Links.{last_below, first_from, front_of, back_of, fronts, backs, ends_after, linked_at, links_after, no_ends, Class, IsIndexed}
 use Rattle.plstore.proofs.Bits.{get-in, length-push, last-snoc, last-push, first-snoc, LastIs, last-none, last-some, first-none, first-kept, get-drop, drop-whole, or-nothing, cases}
-use Rattle.plstore.proofs.Whole.{there-keep, any-erased}
-use Rattle.std.specs.List.{list_any}
-
-pub same-is : (a b : Indicator) → same_indicator a b ≡ true → a ≡ b
-same-is a b e =
-    let n : a.name ≡ b.name = (bytes_eq-Decides a.name b.name).0 (left (bytes_eq a.name b.name) (nat_eq a.arity b.arity) e) in
-    let m : nat_eq a.arity b.arity ≡ true = right (bytes_eq a.name b.name) (nat_eq a.arity b.arity) e in
-    let k : a.arity ≡ b.arity = grind (arith, nat_tests) in
-    ap₂ (λ n k. record { name = n; arity = k }) n k
-  where
-    left : (u v : Bool) → u && v ≡ true → u ≡ true
-    left true v e = refl
-    left false v e = e
-
-    right : (u v : Bool) → u && v ≡ true → v ≡ true
-    right true v e = e
-    right false v e = absurd (cc)
 
 -- the new record
 module _ (x : ClauseName) (c : Clause) (f : Bool) (rs : List Record) where
   abbrev more : List Record
   more = rs ++ made x c f ∷ []
 
-  fronts-push : (p : Indicator) → fronts p more ≡ fronts p rs ++ (f && is_of p c) ∷ []
-  fronts-push p = map-append (in_front p) rs (made x c f ∷ [])
+  fronts-push : (p : Class) → fronts p more ≡ fronts p rs ++ (f && p c) ∷ []
+  fronts-push p = map-append (front_of p) rs (made x c f ∷ [])
 
-  backs-push : (p : Indicator) → backs p more ≡ backs p rs ++ (not f && is_of p c) ∷ []
-  backs-push p = map-append (behind_all p) rs (made x c f ∷ [])
+  backs-push : (p : Class) → backs p more ≡ backs p rs ++ (not f && p c) ∷ []
+  backs-push p = map-append (back_of p) rs (made x c f ∷ [])
 
-  last-front : (p : Indicator) → last_below (fronts p more) (length more) ≡ add_if (f && is_of p c) (Some (length rs)) (last_below (fronts p rs) (length rs))
+  last-front : (p : Class) → last_below (fronts p more) (length more) ≡ add_if (f && p c) (Some (length rs)) (last_below (fronts p rs) (length rs))
   last-front p =
       let bs = fronts p rs in
-      let n : length bs ≡ length rs = length-map rs (in_front p) in
-      let m : length more ≡ length (bs ++ (f && is_of p c) ∷ []) = length-push rs (made x c f) ∙ ap suc (sym n) ∙ sym (length-push bs (f && is_of p c)) in
-      ap₂ last_below (fronts-push p) m ∙ last-push bs (f && is_of p c)
-      ∙ ap (λ k. add_if (f && is_of p c) (Some k) (last_below bs k)) n
+      let n : length bs ≡ length rs = length-map rs (front_of p) in
+      let m : length more ≡ length (bs ++ (f && p c) ∷ []) = length-push rs (made x c f) ∙ ap suc (sym n) ∙ sym (length-push bs (f && p c)) in
+      ap₂ last_below (fronts-push p) m ∙ last-push bs (f && p c)
+      ∙ ap (λ k. add_if (f && p c) (Some k) (last_below bs k)) n
 
-  last-back : (p : Indicator) → last_below (backs p more) (length more) ≡ add_if (not f && is_of p c) (Some (length rs)) (last_below (backs p rs) (length rs))
+  last-back : (p : Class) → last_below (backs p more) (length more) ≡ add_if (not f && p c) (Some (length rs)) (last_below (backs p rs) (length rs))
   last-back p =
       let bs = backs p rs in
-      let n : length bs ≡ length rs = length-map rs (behind_all p) in
-      let m : length more ≡ length (bs ++ (not f && is_of p c) ∷ []) = length-push rs (made x c f) ∙ ap suc (sym n) ∙ sym (length-push bs (not f && is_of p c)) in
-      ap₂ last_below (backs-push p) m ∙ last-push bs (not f && is_of p c)
-      ∙ ap (λ k. add_if (not f && is_of p c) (Some k) (last_below bs k)) n
+      let n : length bs ≡ length rs = length-map rs (back_of p) in
+      let m : length more ≡ length (bs ++ (not f && p c) ∷ []) = length-push rs (made x c f) ∙ ap suc (sym n) ∙ sym (length-push bs (not f && p c)) in
+      ap₂ last_below (backs-push p) m ∙ last-push bs (not f && p c)
+      ∙ ap (λ k. add_if (not f && p c) (Some k) (last_below bs k)) n
 
-  first-back : (p : Indicator) → first_from 0 (backs p more) ≡ or_else (first_from 0 (backs p rs)) (add_if (not f && is_of p c) (Some (length rs)) None)
+  first-back : (p : Class) → first_from 0 (backs p more) ≡ or_else (first_from 0 (backs p rs)) (add_if (not f && p c) (Some (length rs)) None)
   first-back p =
-      let e : 0 + length (backs p rs) ≡ length rs = omega (arith, length-map rs (behind_all p)) in
-      ap (first_from 0) (backs-push p) ∙ first-snoc 0 (backs p rs) (not f && is_of p c)
-      ∙ ap (λ n. or_else (first_from 0 (backs p rs)) (add_if (not f && is_of p c) (Some n) None)) e
-
--- the ends of p, where those of q changed
-abbrev ends_of : Bool → Ends → Ends → Ends
-ends_of v e d = cond v e d
-
-since-or : (s b g : ℕ) → nat_lt (add_if (nat_lt s b) s b) g ≡ nat_lt s g || nat_lt b g
-since-or s b g = by-test (nat_lt s b) refl
-  where
-    by-test : (v : Bool) → nat_lt s b ≡ v → nat_lt (add_if v s b) g ≡ nat_lt s g || nat_lt b g
-    by-test true e = grind (arith, nat_tests)
-    by-test false e = grind (arith, nat_tests)
-
-earlier-below : (o : Option ℕ) (b g : ℕ) → since_below g (earlier o b) ≡ since_below g o || nat_lt b g
-earlier-below None b g = refl
-earlier-below (Some s) b g = since-or s b g
+      let e : 0 + length (backs p rs) ≡ length rs = omega (arith, length-map rs (back_of p)) in
+      ap (first_from 0) (backs-push p) ∙ first-snoc 0 (backs p rs) (not f && p c)
+      ∙ ap (λ n. or_else (first_from 0 (backs p rs)) (add_if (not f && p c) (Some n) None)) e
 
 -- marks of one more record, from those before it
 mark-old : (bs : List Bool) (v : Bool) (i : ℕ) → i < length bs → get_or (bs ++ v ∷ []) i false ≡ true → get_or bs i false ≡ true
@@ -100,92 +60,6 @@ first-drop-snoc bs v i l =
     ap (first_from (suc i)) (drop-append-le (suc i) bs (v ∷ []) (omega arith)) ∙ first-snoc (suc i) (drop (suc i) bs) v
     ∙ ap (λ n. or_else (first_from (suc i) (drop (suc i) bs)) (add_if v (Some n) None)) e
 
--- the records are the same in what side of what procedure they are
-module _ (x : ClauseName) (c : Clause) (f : Bool) (b : ℕ) (rs : List Record) (ds : List Declared) (next : List (Option ℕ)) (E E' : Indicator → Ends)
-    (ix : IsIndexed rs ds next E) (law : (p : Indicator) → E' p ≡ cond (same_indicator (indicator c.head) p) (ends_after f (length rs) b (E (indicator c.head))) (E p)) where
-  abbrev q : Indicator
-  q = indicator c.head
-
-  -- what an entry of the index has at p where it changes nothing
-  same-at : {A : Type 0} (get : Ends → A) (p : Indicator) → get (ends_after f (length rs) b (E q)) ≡ get (E q) → get (E' p) ≡ get (E p)
-  same-at get p h = ap get (law p) ∙ by-case (same_indicator q p) refl
-    where
-      by-case : (v : Bool) → same_indicator q p ≡ v → get (cond v (ends_after f (length rs) b (E q)) (E p)) ≡ get (E p)
-      by-case true e = h ∙ ap (λ z. get (E z)) (same-is q p e)
-      by-case false e = refl
-
-  since-put : (p : Indicator) (g : ℕ) → since_below g (ends_after f (length rs) b (E q)).since ≡ since_below g (E q).since || nat_lt b g → since_below g (E' p).since ≡ since_below g (E p).since || (nat_lt b g && same_indicator q p)
-  since-put p g h = ap (λ e. since_below g e.since) (law p) ∙ by-case (same_indicator q p) refl
-    where
-      and-true : (u : Bool) → u ≡ u && true
-      and-true true = refl
-      and-true false = refl
-
-      or-and-false : (u w : Bool) → u ≡ u || (w && false)
-      or-and-false true w = refl
-      or-and-false false true = refl
-      or-and-false false false = refl
-
-      by-case : (v : Bool) → same_indicator q p ≡ v → since_below g (cond v (ends_after f (length rs) b (E q)) (E p)).since ≡ since_below g (E p).since || (nat_lt b g && v)
-      by-case true e = h ∙ ap₂ (λ u w. u || w) (ap (λ z. since_below g (E z).since) (same-is q p e)) (and-true (nat_lt b g))
-      by-case false e = or-and-false (since_below g (E p).since) (nat_lt b g)
-
--- one more record in front
-pub front-put : (x : ClauseName) (c : Clause) (rs : List Record) (ds : List Declared) (next : List (Option ℕ)) (E E' : Indicator → Ends) → IsIndexed rs ds next E →
-    ((p : Indicator) → E' p ≡ cond (same_indicator (indicator c.head) p) (ends_after true (length rs) x.place (E (indicator c.head))) (E p)) →
-    IsIndexed (rs ++ made x c true ∷ []) ds (links_after true (length rs) (E (indicator c.head)) next) E'
-front-put x c rs ds next E E' ix law =
-    let q = indicator c.head in
-    let e = E q in
-    let n = length rs in
-    record {
-      count = length-push next e.newest_front ∙ ap suc ix.count ∙ sym (length-push rs (made x c true));
-      front = λ p. ap (λ (d : Ends). d.newest_front) (law p) ∙ newest-of p (same_indicator q p) ∙ sym (last-front x c true rs p);
-      oldest = λ p. same-at x c true x.place rs ds next E E' ix law (λ d. d.oldest_back) p refl ∙ ix.oldest p ∙ sym (first-back x c true rs p ∙ or-nothing (first_from 0 (backs p rs)));
-      newest = λ p. same-at x c true x.place rs ds next E E' ix law (λ d. d.newest_back) p refl ∙ ix.newest p ∙ sym (last-back x c true rs p);
-      older = λ p i h. older-of p i (subst (λ bs. get_or bs i false ≡ true) (fronts-push x c true rs p) h) ∙ ap (λ bs. last_below bs i) (sym (fronts-push x c true rs p));
-      newer = λ p i h. newer-of p i (subst (λ bs. get_or bs i false ≡ true) (backs-push x c true rs p) h) ∙ ap (λ bs. first_from (suc i) (drop (suc i) bs)) (sym (backs-push x c true rs p));
-      since = λ p g. since-put x c true x.place rs ds next E E' ix law p g (earlier-below e.since x.place g)
-          ∙ ap (λ u. u || (nat_lt x.place g && same_indicator q p)) (ix.since p g)
-          ∙ sym (there-keep g p (record { records = rs; declared = ds }) (record { at = x; update = First c }));
-    }
-  where
-    newest-of : (p : Indicator) (v : Bool) → (cond v (ends_after true (length rs) x.place (E (indicator c.head))) (E p)).newest_front ≡ add_if v (Some (length rs)) (last_below (fronts p rs) (length rs))
-    newest-of p true = refl
-    newest-of p false = ix.front p
-
-    older-of : (p : Indicator) (i : ℕ) → get_or (fronts p rs ++ is_of p c ∷ []) i false ≡ true →
-        get_or (next ++ (E (indicator c.head)).newest_front ∷ []) i None ≡ last_below (fronts p rs ++ is_of p c ∷ []) i
-    older-of p i h =
-        let bs = fronts p rs in
-        let v = is_of p c in
-        let e = E (indicator c.head) in
-        let m : length bs ≡ length rs = length-map rs (in_front p) in
-        elim (cases i (length bs)) [
-          | inl l ↦ get_or_append_left next (e.newest_front ∷ []) None i (omega (arith, m, ix.count)) ∙ ix.older p i (mark-old bs v i l h) ∙ sym (last-snoc bs v i (omega arith))
-          | inr o ↦ elim o [
-            | inl k ↦ get_or_at next e.newest_front [] None i (omega (arith, m, k, ix.count))
-                ∙ ap (λ z. (E z).newest_front) (same-is (indicator c.head) p (mark-new bs v i k h)) ∙ ix.front p
-                ∙ ap (last_below bs) (omega (arith, m, k)) ∙ sym (last-snoc bs v i (omega (arith, k)))
-            | inr l ↦ absurd (mark-over bs v i l h)
-          ]
-        ]
-
-    newer-of : (p : Indicator) (i : ℕ) → get_or (backs p rs ++ false ∷ []) i false ≡ true →
-        get_or (next ++ (E (indicator c.head)).newest_front ∷ []) i None ≡ first_from (suc i) (drop (suc i) (backs p rs ++ false ∷ []))
-    newer-of p i h =
-        let bs = backs p rs in
-        let e = E (indicator c.head) in
-        let m : length bs ≡ length rs = length-map rs (behind_all p) in
-        elim (cases i (length bs)) [
-          | inl l ↦ get_or_append_left next (e.newest_front ∷ []) None i (omega (arith, m, ix.count)) ∙ ix.newer p i (mark-old bs false i l h)
-              ∙ sym (first-drop-snoc bs false i l ∙ or-nothing (first_from (suc i) (drop (suc i) bs)))
-          | inr o ↦ elim o [
-            | inl k ↦ let z : false ≡ true = mark-new bs false i k h in absurd (cc)
-            | inr l ↦ absurd (mark-over bs false i l h)
-          ]
-        ]
-
 linked-length : (o : Option ℕ) (n : ℕ) (xs : List (Option ℕ)) → length (linked_at o n xs) ≡ length xs
 linked-length None n xs = refl
 linked-length (Some j) n xs = length-set xs j (Some n)
@@ -194,150 +68,177 @@ link-other : (o : Option ℕ) (n : ℕ) (xs : List (Option ℕ)) (i : ℕ) → (
 link-other None n xs i h = refl
 link-other (Some j) n xs i h = get_or-set_other xs j i (Some n) None (h j refl)
 
--- a record is in front or behind, and of one procedure
-exclusive : (p q : Indicator) (rs : List Record) (i : ℕ) → get_or (fronts p rs) i false ≡ true → get_or (backs q rs) i false ≡ true → ⊥
+-- a record is in front or behind
+exclusive : (p q : Class) (rs : List Record) (i : ℕ) → get_or (fronts p rs) i false ≡ true → get_or (backs q rs) i false ≡ true → ⊥
 exclusive p q [] i h k = absurd (cc)
 exclusive p q (r ∷ rs) zero h k = by-side r.front h k
   where
-    by-side : (f : Bool) → f && is_of p r.clause ≡ true → not f && is_of q r.clause ≡ true → ⊥
+    by-side : (f : Bool) → f && p r.clause ≡ true → not f && q r.clause ≡ true → ⊥
     by-side true h k = absurd (cc)
     by-side false h k = absurd (cc)
 exclusive p q (r ∷ rs) (suc i) h k = exclusive p q rs i h k
 
-one-procedure : (p q : Indicator) (rs : List Record) (i : ℕ) → get_or (backs p rs) i false ≡ true → get_or (backs q rs) i false ≡ true → q ≡ p
-one-procedure p q [] i h k = absurd (cc)
-one-procedure p q (r ∷ rs) zero h k = by-side r.front h k
-  where
-    by-side : (f : Bool) → not f && is_of p r.clause ≡ true → not f && is_of q r.clause ≡ true → q ≡ p
-    by-side true h k = absurd (cc)
-    by-side false h k = sym (same-is (indicator r.clause.head) q k) ∙ same-is (indicator r.clause.head) p h
-one-procedure p q (r ∷ rs) (suc i) h k = one-procedure p q rs i h k
+-- one more record of the class q, where p is the same class or has no record of it: the ends of p are d, those of q are e
+module _ (x : ClauseName) (c : Clause) (rs : List Record) (next : List (Option ℕ)) (p q : Class) (d e : Ends) (ip : IsIndexed p rs next d) (iq : IsIndexed q rs next e)
+    (same : p c ≡ true → e ≡ d) (apart : p c ≡ false → (i : ℕ) → get_or (backs p rs) i false ≡ true → get_or (backs q rs) i false ≡ true → ⊥) where
+  -- what an entry has where one more changes nothing
+  same-at : {A : Type 0} (get : Ends → A) (f : Bool) → get (ends_after f (length rs) x.place e) ≡ get e → get (cond (p c) (ends_after f (length rs) x.place e) d) ≡ get d
+  same-at get f h = by-case (p c) refl
+    where
+      by-case : (v : Bool) → p c ≡ v → get (cond v (ends_after f (length rs) x.place e) d) ≡ get d
+      by-case true w = h ∙ ap get (same w)
+      by-case false w = refl
 
-same-self : (q p : Indicator) → q ≡ p → (v : Bool) → same_indicator q p ≡ v → same_indicator p p ≡ v
-same-self q p e v h = sym (ap (λ z. same_indicator z p) e) ∙ h
+  -- in front
+  newest-front : (v : Bool) → (cond v (ends_after true (length rs) x.place e) d).newest_front ≡ add_if v (Some (length rs)) (last_below (fronts p rs) (length rs))
+  newest-front true = refl
+  newest-front false = ip.front
 
-self-same : (p : Indicator) → same_indicator p p ≡ true
-self-same p = both (bytes_eq p.name p.name) (nat_eq p.arity p.arity) ((bytes_eq-Decides p.name p.name).1 refl) (grind (arith, nat_tests))
-  where
-    both : (u v : Bool) → u ≡ true → v ≡ true → u && v ≡ true
-    both u v h k = ap₂ (λ a b. a && b) h k
-
--- one more record behind
-pub back-put : (x : ClauseName) (c : Clause) (rs : List Record) (ds : List Declared) (next : List (Option ℕ)) (E E' : Indicator → Ends) → IsIndexed rs ds next E →
-    ((p : Indicator) → E' p ≡ cond (same_indicator (indicator c.head) p) (ends_after false (length rs) x.place (E (indicator c.head))) (E p)) →
-    IsIndexed (rs ++ made x c false ∷ []) ds (links_after false (length rs) (E (indicator c.head)) next) E'
-back-put x c rs ds next E E' ix law =
-    let q = indicator c.head in
-    let e = E q in
-    record {
-      count = linked-length e.newest_back (length rs) (next ++ None ∷ []) ∙ length-push next None ∙ ap suc ix.count ∙ sym (length-push rs (made x c false));
-      front = λ p. same-at x c false x.place rs ds next E E' ix law (λ d. d.newest_front) p refl ∙ ix.front p ∙ sym (last-front x c false rs p);
-      oldest = λ p. ap (λ (d : Ends). d.oldest_back) (law p) ∙ oldest-of p (same_indicator q p) refl ∙ sym (first-back x c false rs p);
-      newest = λ p. ap (λ (d : Ends). d.newest_back) (law p) ∙ newest-of p (same_indicator q p) ∙ sym (last-back x c false rs p);
-      older = λ p i h. older-of p i (subst (λ bs. get_or bs i false ≡ true) (fronts-push x c false rs p) h) ∙ ap (λ bs. last_below bs i) (sym (fronts-push x c false rs p));
-      newer = λ p i h. newer-of p i (is_of p c) refl (subst (λ bs. get_or bs i false ≡ true) (backs-push x c false rs p) h) ∙ ap (λ bs. first_from (suc i) (drop (suc i) bs)) (sym (backs-push x c false rs p));
-      since = λ p g. since-put x c false x.place rs ds next E E' ix law p g (earlier-below e.since x.place g)
-          ∙ ap (λ u. u || (nat_lt x.place g && same_indicator q p)) (ix.since p g)
-          ∙ sym (there-keep g p (record { records = rs; declared = ds }) (record { at = x; update = Last c }));
-    }
-  where
-    oldest-of : (p : Indicator) (v : Bool) → same_indicator (indicator c.head) p ≡ v →
-        (cond v (ends_after false (length rs) x.place (E (indicator c.head))) (E p)).oldest_back ≡ or_else (first_from 0 (backs p rs)) (add_if v (Some (length rs)) None)
-    oldest-of p true h = ap (λ z. or_else (E z).oldest_back (Some (length rs))) (same-is (indicator c.head) p h) ∙ ap (λ o. or_else o (Some (length rs))) (ix.oldest p)
-    oldest-of p false h = ix.oldest p ∙ sym (or-nothing (first_from 0 (backs p rs)))
-
-    newest-of : (p : Indicator) (v : Bool) → (cond v (ends_after false (length rs) x.place (E (indicator c.head))) (E p)).newest_back ≡ add_if v (Some (length rs)) (last_below (backs p rs) (length rs))
-    newest-of p true = refl
-    newest-of p false = ix.newest p
-
-    last-of : (j : ℕ) → (E (indicator c.head)).newest_back ≡ Some j → LastIs (backs (indicator c.head) rs) (length rs) j
-    last-of j h = last-some (backs (indicator c.head) rs) (length rs) j (sym (ix.newest (indicator c.head)) ∙ h)
-
-    older-of : (p : Indicator) (i : ℕ) → get_or (fronts p rs ++ false ∷ []) i false ≡ true →
-        get_or (linked_at (E (indicator c.head)).newest_back (length rs) (next ++ None ∷ [])) i None ≡ last_below (fronts p rs ++ false ∷ []) i
-    older-of p i h =
-        let bs = fronts p rs in
-        let o = (E (indicator c.head)).newest_back in
-        let m : length bs ≡ length rs = length-map rs (in_front p) in
-        elim (cases i (length bs)) [
-          | inl l ↦ link-other o (length rs) (next ++ None ∷ []) i (λ j k e. exclusive p (indicator c.head) rs i (mark-old bs false i l h) (subst (λ j. get_or (backs (indicator c.head) rs) j false ≡ true) (sym e) (last-of j k).here))
-              ∙ get_or_append_left next (None ∷ []) None i (omega (arith, m, ix.count)) ∙ ix.older p i (mark-old bs false i l h) ∙ sym (last-snoc bs false i (omega arith))
-          | inr o ↦ elim o [
-            | inl k ↦ let z : false ≡ true = mark-new bs false i k h in absurd (cc)
-            | inr l ↦ absurd (mark-over bs false i l h)
-          ]
+  older-front : (i : ℕ) → get_or (fronts p rs ++ p c ∷ []) i false ≡ true → get_or (next ++ e.newest_front ∷ []) i None ≡ last_below (fronts p rs ++ p c ∷ []) i
+  older-front i h =
+      let bs = fronts p rs in
+      let v = p c in
+      let m : length bs ≡ length rs = length-map rs (front_of p) in
+      elim (cases i (length bs)) [
+        | inl l ↦ get_or_append_left next (e.newest_front ∷ []) None i (omega (arith, m, ip.count)) ∙ ip.older i (mark-old bs v i l h) ∙ sym (last-snoc bs v i (omega arith))
+        | inr o ↦ elim o [
+          | inl k ↦ get_or_at next e.newest_front [] None i (omega (arith, m, k, ip.count))
+              ∙ ap (λ (z : Ends). z.newest_front) (same (mark-new bs v i k h)) ∙ ip.front
+              ∙ ap (last_below bs) (omega (arith, m, k)) ∙ sym (last-snoc bs v i (omega (arith, k)))
+          | inr l ↦ absurd (mark-over bs v i l h)
         ]
+      ]
 
-    -- the last one behind now leads to the new one, and those before it lead where they did
-    same-procedure : (p : Indicator) (i : ℕ) → indicator c.head ≡ p → i < length (backs p rs) → get_or (backs p rs) i false ≡ true → (o : Option ℕ) → (E (indicator c.head)).newest_back ≡ o →
-        get_or (linked_at o (length rs) (next ++ None ∷ [])) i None ≡ or_else (first_from (suc i) (drop (suc i) (backs p rs))) (Some (length (backs p rs)))
-    same-procedure p i e l h None k =
-        let none : last_below (backs p rs) (length rs) ≡ None = sym (ix.newest p) ∙ ap (λ z. (E z).newest_back) (sym e) ∙ k in
-        let m : length (backs p rs) ≡ length rs = length-map rs (behind_all p) in
-        let z : get_or (backs p rs) i false ≡ false = last-none (backs p rs) (length rs) none i (omega (arith, m)) in
-        absurd (cc)
-    same-procedure p i e l h (Some j) k =
-        let bs = backs p rs in
-        let m : length bs ≡ length rs = length-map rs (behind_all p) in
-        let s : LastIs bs (length rs) j = last-some bs (length rs) j (sym (ix.newest p) ∙ ap (λ z. (E z).newest_back) (sym e) ∙ k) in
-        elim (cases i j) [
-          | inl lt ↦
-              let at : suc i + (j - suc i) ≡ j = omega arith in
-              get_or-set_other (next ++ None ∷ []) j i (Some (length rs)) None (λ q. absurd (omega arith)) ∙ get_or_append_left next (None ∷ []) None i (omega (arith, m, ix.count)) ∙ ix.newer p i h
-              ∙ sym (first-kept (suc i) (drop (suc i) bs) (j - suc i) (Some (length bs)) (get-drop (suc i) bs (j - suc i) ∙ ap (λ n. get_or bs n false) at ∙ s.here))
-          | inr o ↦ elim o [
-            | inl same ↦
-                let none : first_from (suc i) (drop (suc i) bs) ≡ None = first-none (suc i) (drop (suc i) bs) (λ w b. get-drop (suc i) bs w ∙ s.above (suc i + w) (omega arith) (omega (arith, b, length-drop (suc i) bs, m))) in
-                ap (λ n. get_or (set (next ++ None ∷ []) j (Some (length rs))) n None) same
-                ∙ get_or-set_same (next ++ None ∷ []) j (Some (length rs)) None (omega (arith, length-push next None, ix.count, s.within))
-                ∙ sym (ap (λ u. or_else u (Some (length bs))) none ∙ ap Some m)
-            | inr gt ↦ let z : get_or bs i false ≡ false = s.above i gt (omega (arith, m)) in absurd (cc)
-          ]
+  newer-front : (i : ℕ) → get_or (backs p rs ++ false ∷ []) i false ≡ true → get_or (next ++ e.newest_front ∷ []) i None ≡ first_from (suc i) (drop (suc i) (backs p rs ++ false ∷ []))
+  newer-front i h =
+      let bs = backs p rs in
+      let m : length bs ≡ length rs = length-map rs (back_of p) in
+      elim (cases i (length bs)) [
+        | inl l ↦ get_or_append_left next (e.newest_front ∷ []) None i (omega (arith, m, ip.count)) ∙ ip.newer i (mark-old bs false i l h)
+            ∙ sym (first-drop-snoc bs false i l ∙ or-nothing (first_from (suc i) (drop (suc i) bs)))
+        | inr o ↦ elim o [
+          | inl k ↦ let z : false ≡ true = mark-new bs false i k h in absurd (cc)
+          | inr l ↦ absurd (mark-over bs false i l h)
         ]
+      ]
 
-    other-procedure : (p : Indicator) (i : ℕ) → is_of p c ≡ false → i < length (backs p rs) → get_or (backs p rs) i false ≡ true →
-        get_or (linked_at (E (indicator c.head)).newest_back (length rs) (next ++ None ∷ [])) i None ≡ first_from (suc i) (drop (suc i) (backs p rs))
-    other-procedure p i f l h =
-        let m : length (backs p rs) ≡ length rs = length-map rs (behind_all p) in
-        link-other (E (indicator c.head)).newest_back (length rs) (next ++ None ∷ []) i (λ j k e.
-        let same : indicator c.head ≡ p = one-procedure p (indicator c.head) rs i h (subst (λ j. get_or (backs (indicator c.head) rs) j false ≡ true) (sym e) (last-of j k).here) in
-        let z : true ≡ false = sym (self-same p) ∙ same-self (indicator c.head) p same false f in absurd (cc))
-        ∙ get_or_append_left next (None ∷ []) None i (omega (arith, m, ix.count)) ∙ ix.newer p i h
+  front-put : IsIndexed p (rs ++ made x c true ∷ []) (links_after true (length rs) e next) (cond (p c) (ends_after true (length rs) x.place e) d)
+  front-put = record {
+    count = length-push next e.newest_front ∙ ap suc ip.count ∙ sym (length-push rs (made x c true));
+    front = newest-front (p c) ∙ sym (last-front x c true rs p);
+    oldest = same-at (λ d. d.oldest_back) true refl ∙ ip.oldest ∙ sym (first-back x c true rs p ∙ or-nothing (first_from 0 (backs p rs)));
+    newest = same-at (λ d. d.newest_back) true refl ∙ ip.newest ∙ sym (last-back x c true rs p);
+    older = λ i h. older-front i (subst (λ bs. get_or bs i false ≡ true) (fronts-push x c true rs p) h) ∙ ap (λ bs. last_below bs i) (sym (fronts-push x c true rs p));
+    newer = λ i h. newer-front i (subst (λ bs. get_or bs i false ≡ true) (backs-push x c true rs p) h) ∙ ap (λ bs. first_from (suc i) (drop (suc i) bs)) (sym (backs-push x c true rs p));
+  }
 
-    newer-of : (p : Indicator) (i : ℕ) (v : Bool) → is_of p c ≡ v → get_or (backs p rs ++ v ∷ []) i false ≡ true →
-        get_or (linked_at (E (indicator c.head)).newest_back (length rs) (next ++ None ∷ [])) i None ≡ first_from (suc i) (drop (suc i) (backs p rs ++ v ∷ []))
-    newer-of p i v f h =
-        let bs = backs p rs in
-        let m : length bs ≡ length rs = length-map rs (behind_all p) in
-        elim (cases i (length bs)) [
-          | inl l ↦ before-end v f (mark-old bs v i l h) l ∙ sym (first-drop-snoc bs v i l)
-          | inr o ↦ elim o [
-            | inl k ↦ link-other (E (indicator c.head)).newest_back (length rs) (next ++ None ∷ []) i (λ j w e. let b = (last-of j w).within in absurd (omega (arith, b, m)))
-                ∙ get_or_at next None [] None i (omega (arith, m, k, ix.count))
-                ∙ sym (ap (first_from (suc i)) (drop-whole (bs ++ v ∷ []) (suc i) (omega (arith, length-push bs v))))
-            | inr l ↦ absurd (mark-over bs v i l h)
-          ]
+  -- behind
+  oldest-behind : (v : Bool) → p c ≡ v → (cond v (ends_after false (length rs) x.place e) d).oldest_back ≡ or_else (first_from 0 (backs p rs)) (add_if v (Some (length rs)) None)
+  oldest-behind true h = ap (λ (z : Ends). or_else z.oldest_back (Some (length rs))) (same h) ∙ ap (λ o. or_else o (Some (length rs))) ip.oldest
+  oldest-behind false h = ip.oldest ∙ sym (or-nothing (first_from 0 (backs p rs)))
+
+  newest-behind : (v : Bool) → (cond v (ends_after false (length rs) x.place e) d).newest_back ≡ add_if v (Some (length rs)) (last_below (backs p rs) (length rs))
+  newest-behind true = refl
+  newest-behind false = ip.newest
+
+  last-of : (j : ℕ) → e.newest_back ≡ Some j → LastIs (backs q rs) (length rs) j
+  last-of j h = last-some (backs q rs) (length rs) j (sym iq.newest ∙ h)
+
+  older-behind : (i : ℕ) → get_or (fronts p rs ++ false ∷ []) i false ≡ true → get_or (linked_at e.newest_back (length rs) (next ++ None ∷ [])) i None ≡ last_below (fronts p rs ++ false ∷ []) i
+  older-behind i h =
+      let bs = fronts p rs in
+      let o = e.newest_back in
+      let m : length bs ≡ length rs = length-map rs (front_of p) in
+      elim (cases i (length bs)) [
+        | inl l ↦ link-other o (length rs) (next ++ None ∷ []) i (λ j k w. exclusive p q rs i (mark-old bs false i l h) (subst (λ j. get_or (backs q rs) j false ≡ true) (sym w) (last-of j k).here))
+            ∙ get_or_append_left next (None ∷ []) None i (omega (arith, m, ip.count)) ∙ ip.older i (mark-old bs false i l h) ∙ sym (last-snoc bs false i (omega arith))
+        | inr o ↦ elim o [
+          | inl k ↦ let z : false ≡ true = mark-new bs false i k h in absurd (cc)
+          | inr l ↦ absurd (mark-over bs false i l h)
         ]
-      where
-        before-end : (v : Bool) → is_of p c ≡ v → get_or (backs p rs) i false ≡ true → i < length (backs p rs) →
-            get_or (linked_at (E (indicator c.head)).newest_back (length rs) (next ++ None ∷ [])) i None ≡ or_else (first_from (suc i) (drop (suc i) (backs p rs))) (add_if v (Some (length (backs p rs))) None)
-        before-end true f h l = same-procedure p i (same-is (indicator c.head) p f) l h (E (indicator c.head)).newest_back refl
-        before-end false f h l = other-procedure p i f l h ∙ sym (or-nothing (first_from (suc i) (drop (suc i) (backs p rs))))
+      ]
+
+  -- the last one behind now leads to the new one, and those before it lead where they did
+  same-class : (i : ℕ) → e ≡ d → i < length (backs p rs) → get_or (backs p rs) i false ≡ true → (o : Option ℕ) → e.newest_back ≡ o →
+      get_or (linked_at o (length rs) (next ++ None ∷ [])) i None ≡ or_else (first_from (suc i) (drop (suc i) (backs p rs))) (Some (length (backs p rs)))
+  same-class i w l h None k =
+      let none : last_below (backs p rs) (length rs) ≡ None = sym ip.newest ∙ ap (λ (z : Ends). z.newest_back) (sym w) ∙ k in
+      let m : length (backs p rs) ≡ length rs = length-map rs (back_of p) in
+      let z : get_or (backs p rs) i false ≡ false = last-none (backs p rs) (length rs) none i (omega (arith, m)) in
+      absurd (cc)
+  same-class i w l h (Some j) k =
+      let bs = backs p rs in
+      let m : length bs ≡ length rs = length-map rs (back_of p) in
+      let s : LastIs bs (length rs) j = last-some bs (length rs) j (sym ip.newest ∙ ap (λ (z : Ends). z.newest_back) (sym w) ∙ k) in
+      elim (cases i j) [
+        | inl lt ↦
+            let at : suc i + (j - suc i) ≡ j = omega arith in
+            get_or-set_other (next ++ None ∷ []) j i (Some (length rs)) None (λ q. absurd (omega arith)) ∙ get_or_append_left next (None ∷ []) None i (omega (arith, m, ip.count)) ∙ ip.newer i h
+            ∙ sym (first-kept (suc i) (drop (suc i) bs) (j - suc i) (Some (length bs)) (get-drop (suc i) bs (j - suc i) ∙ ap (λ n. get_or bs n false) at ∙ s.here))
+        | inr o ↦ elim o [
+          | inl eq ↦
+              let none : first_from (suc i) (drop (suc i) bs) ≡ None = first-none (suc i) (drop (suc i) bs) (λ w b. get-drop (suc i) bs w ∙ s.above (suc i + w) (omega arith) (omega (arith, b, length-drop (suc i) bs, m))) in
+              ap (λ n. get_or (set (next ++ None ∷ []) j (Some (length rs))) n None) eq
+              ∙ get_or-set_same (next ++ None ∷ []) j (Some (length rs)) None (omega (arith, length-push next None, ip.count, s.within))
+              ∙ sym (ap (λ u. or_else u (Some (length bs))) none ∙ ap Some m)
+          | inr gt ↦ let z : get_or bs i false ≡ false = s.above i gt (omega (arith, m)) in absurd (cc)
+        ]
+      ]
+
+  other-class : (i : ℕ) → p c ≡ false → i < length (backs p rs) → get_or (backs p rs) i false ≡ true → get_or (linked_at e.newest_back (length rs) (next ++ None ∷ [])) i None ≡ first_from (suc i) (drop (suc i) (backs p rs))
+  other-class i f l h =
+      let m : length (backs p rs) ≡ length rs = length-map rs (back_of p) in
+      link-other e.newest_back (length rs) (next ++ None ∷ []) i (λ j k w. apart f i h (subst (λ j. get_or (backs q rs) j false ≡ true) (sym w) (last-of j k).here))
+      ∙ get_or_append_left next (None ∷ []) None i (omega (arith, m, ip.count)) ∙ ip.newer i h
+
+  newer-behind : (i : ℕ) (v : Bool) → p c ≡ v → get_or (backs p rs ++ v ∷ []) i false ≡ true →
+      get_or (linked_at e.newest_back (length rs) (next ++ None ∷ [])) i None ≡ first_from (suc i) (drop (suc i) (backs p rs ++ v ∷ []))
+  newer-behind i v f h =
+      let bs = backs p rs in
+      let m : length bs ≡ length rs = length-map rs (back_of p) in
+      elim (cases i (length bs)) [
+        | inl l ↦ before-end v f (mark-old bs v i l h) l ∙ sym (first-drop-snoc bs v i l)
+        | inr o ↦ elim o [
+          | inl k ↦ link-other e.newest_back (length rs) (next ++ None ∷ []) i (λ j w eq. let b = (last-of j w).within in absurd (omega (arith, b, m)))
+              ∙ get_or_at next None [] None i (omega (arith, m, k, ip.count))
+              ∙ sym (ap (first_from (suc i)) (drop-whole (bs ++ v ∷ []) (suc i) (omega (arith, length-push bs v))))
+          | inr l ↦ absurd (mark-over bs v i l h)
+        ]
+      ]
+    where
+      before-end : (v : Bool) → p c ≡ v → get_or (backs p rs) i false ≡ true → i < length (backs p rs) →
+          get_or (linked_at e.newest_back (length rs) (next ++ None ∷ [])) i None ≡ or_else (first_from (suc i) (drop (suc i) (backs p rs))) (add_if v (Some (length (backs p rs))) None)
+      before-end true f h l = same-class i (same f) l h e.newest_back refl
+      before-end false f h l = other-class i f l h ∙ sym (or-nothing (first_from (suc i) (drop (suc i) (backs p rs))))
+
+  back-put : IsIndexed p (rs ++ made x c false ∷ []) (links_after false (length rs) e next) (cond (p c) (ends_after false (length rs) x.place e) d)
+  back-put = record {
+    count = linked-length e.newest_back (length rs) (next ++ None ∷ []) ∙ length-push next None ∙ ap suc ip.count ∙ sym (length-push rs (made x c false));
+    front = same-at (λ d. d.newest_front) false refl ∙ ip.front ∙ sym (last-front x c false rs p);
+    oldest = oldest-behind (p c) refl ∙ sym (first-back x c false rs p);
+    newest = newest-behind (p c) ∙ sym (last-back x c false rs p);
+    older = λ i h. older-behind i (subst (λ bs. get_or bs i false ≡ true) (fronts-push x c false rs p) h) ∙ ap (λ bs. last_below bs i) (sym (fronts-push x c false rs p));
+    newer = λ i h. newer-behind i (p c) refl (subst (λ bs. get_or bs i false ≡ true) (backs-push x c false rs p) h) ∙ ap (λ bs. first_from (suc i) (drop (suc i) bs)) (sym (backs-push x c false rs p));
+  }
+
+  pub any-put : (f : Bool) → IsIndexed p (rs ++ made x c f ∷ []) (links_after f (length rs) e next) (cond (p c) (ends_after f (length rs) x.place e) d)
+  any-put true = front-put
+  any-put false = back-put
 
 -- an erasure changes no side
-front-erased : (p : Indicator) (b : ℕ) (r : Record) (v : Bool) → in_front p (change_if v (erase_at b r) r) ≡ in_front p r
+front-erased : (p : Class) (b : ℕ) (r : Record) (v : Bool) → front_of p (change_if v (erase_at b r) r) ≡ front_of p r
 front-erased p b r true = refl
 front-erased p b r false = refl
 
-back-erased : (p : Indicator) (b : ℕ) (r : Record) (v : Bool) → behind_all p (change_if v (erase_at b r) r) ≡ behind_all p r
+back-erased : (p : Class) (b : ℕ) (r : Record) (v : Bool) → back_of p (change_if v (erase_at b r) r) ≡ back_of p r
 back-erased p b r true = refl
 back-erased p b r false = refl
 
-pub fronts-erased : (p : Indicator) (y : ClauseName) (b : ℕ) (rs : List Record) → fronts p (changed_where (is_named y) (erase_at b) rs) ≡ fronts p rs
+pub fronts-erased : (p : Class) (y : ClauseName) (b : ℕ) (rs : List Record) → fronts p (changed_where (is_named y) (erase_at b) rs) ≡ fronts p rs
 fronts-erased p y b [] = refl
 fronts-erased p y b (r ∷ rs) = ap₂ (λ u us. u ∷ us) (front-erased p b r (is_named y r)) (fronts-erased p y b rs)
 
-pub backs-erased : (p : Indicator) (y : ClauseName) (b : ℕ) (rs : List Record) → backs p (changed_where (is_named y) (erase_at b) rs) ≡ backs p rs
+pub backs-erased : (p : Class) (y : ClauseName) (b : ℕ) (rs : List Record) → backs p (changed_where (is_named y) (erase_at b) rs) ≡ backs p rs
 backs-erased p y b [] = refl
 backs-erased p y b (r ∷ rs) = ap₂ (λ u us. u ∷ us) (back-erased p b r (is_named y r)) (backs-erased p y b rs)
 
@@ -345,105 +246,32 @@ pub length-erased : (y : ClauseName) (b : ℕ) (rs : List Record) → length (ch
 length-erased y b [] = refl
 length-erased y b (r ∷ rs) = ap suc (length-erased y b rs)
 
-pub erase-keeps : (y : ClauseName) (b : ℕ) (rs : List Record) (ds : List Declared) (next : List (Option ℕ)) (E : Indicator → Ends) → IsIndexed rs ds next E →
-    IsIndexed (changed_where (is_named y) (erase_at b) rs) ds next E
-erase-keeps y b rs ds next E ix =
+pub erase-keeps : (p : Class) (y : ClauseName) (b : ℕ) (rs : List Record) (next : List (Option ℕ)) (e : Ends) → IsIndexed p rs next e → IsIndexed p (changed_where (is_named y) (erase_at b) rs) next e
+erase-keeps p y b rs next e ix =
     let l = length-erased y b rs in
     record {
       count = ix.count ∙ sym l;
-      front = λ p. ix.front p ∙ ap₂ last_below (sym (fronts-erased p y b rs)) (sym l);
-      oldest = λ p. ix.oldest p ∙ ap (first_from 0) (sym (backs-erased p y b rs));
-      newest = λ p. ix.newest p ∙ ap₂ last_below (sym (backs-erased p y b rs)) (sym l);
-      older = λ p i h. ix.older p i (subst (λ bs. get_or bs i false ≡ true) (fronts-erased p y b rs) h) ∙ ap (λ bs. last_below bs i) (sym (fronts-erased p y b rs));
-      newer = λ p i h. ix.newer p i (subst (λ bs. get_or bs i false ≡ true) (backs-erased p y b rs) h) ∙ ap (λ bs. first_from (suc i) (drop (suc i) bs)) (sym (backs-erased p y b rs));
-      since = λ p g. ix.since p g ∙ ap (λ v. v || list_any (declared_names g p) ds) (sym (any-erased g p b y rs));
+      front = ix.front ∙ ap₂ last_below (sym (fronts-erased p y b rs)) (sym l);
+      oldest = ix.oldest ∙ ap (first_from 0) (sym (backs-erased p y b rs));
+      newest = ix.newest ∙ ap₂ last_below (sym (backs-erased p y b rs)) (sym l);
+      older = λ i h. ix.older i (subst (λ bs. get_or bs i false ≡ true) (fronts-erased p y b rs) h) ∙ ap (λ bs. last_below bs i) (sym (fronts-erased p y b rs));
+      newer = λ i h. ix.newer i (subst (λ bs. get_or bs i false ≡ true) (backs-erased p y b rs) h) ∙ ap (λ bs. first_from (suc i) (drop (suc i) bs)) (sym (backs-erased p y b rs));
     }
 
--- a declaration
-pub declare-put : (q : Indicator) (x : ClauseName) (rs : List Record) (ds : List Declared) (next : List (Option ℕ)) (E E' : Indicator → Ends) → IsIndexed rs ds next E →
-    ((p : Indicator) → E' p ≡ cond (same_indicator q p) (record (E q) { since = earlier (E q).since x.place }) (E p)) →
-    IsIndexed rs (ds ++ record { pred = q; place = x.place } ∷ []) next E'
-declare-put q x rs ds next E E' ix law = record {
-  count = ix.count;
-  front = λ p. same (λ d. d.newest_front) p refl ∙ ix.front p;
-  oldest = λ p. same (λ d. d.oldest_back) p refl ∙ ix.oldest p;
-  newest = λ p. same (λ d. d.newest_back) p refl ∙ ix.newest p;
-  older = ix.older;
-  newer = ix.newer;
-  since = λ p g. ap (λ (e : Ends). since_below g e.since) (law p) ∙ since-of p g (same_indicator q p) refl
-      ∙ ap (λ u. u || (nat_lt x.place g && same_indicator q p)) (ix.since p g)
-      ∙ sym (there-keep g p (record { records = rs; declared = ds }) (record { at = x; update = Declare q }));
-}
-  where
-    same : {A : Type 0} (get : Ends → A) (p : Indicator) → get (record (E q) { since = earlier (E q).since x.place }) ≡ get (E q) → get (E' p) ≡ get (E p)
-    same get p h = ap get (law p) ∙ by-case (same_indicator q p) refl
-      where
-        by-case : (v : Bool) → same_indicator q p ≡ v → get (cond v (record (E q) { since = earlier (E q).since x.place }) (E p)) ≡ get (E p)
-        by-case true e = h ∙ ap (λ z. get (E z)) (same-is q p e)
-        by-case false e = refl
+-- other ends that say the same of the records
+pub ends-alike : (p : Class) (rs : List Record) (next : List (Option ℕ)) (d e : Ends) → d.newest_front ≡ e.newest_front → d.oldest_back ≡ e.oldest_back → d.newest_back ≡ e.newest_back → IsIndexed p rs next e → IsIndexed p rs next d
+ends-alike p rs next d e f o n ix = record { count = ix.count; front = f ∙ ix.front; oldest = o ∙ ix.oldest; newest = n ∙ ix.newest; older = ix.older; newer = ix.newer }
 
-    and-true : (u : Bool) → u ≡ u && true
-    and-true true = refl
-    and-true false = refl
-
-    or-and-false : (u w : Bool) → u ≡ u || (w && false)
-    or-and-false true w = refl
-    or-and-false false true = refl
-    or-and-false false false = refl
-
-    since-of : (p : Indicator) (g : ℕ) (v : Bool) → same_indicator q p ≡ v →
-        since_below g (cond v (record (E q) { since = earlier (E q).since x.place }) (E p)).since ≡ since_below g (E p).since || (nat_lt x.place g && v)
-    since-of p g true e = earlier-below (E q).since x.place g ∙ ap₂ (λ u w. u || w) (ap (λ z. since_below g (E z).since) (same-is q p e)) (and-true (nat_lt x.place g))
-    since-of p g false e = or-and-false (since_below g (E p).since) (nat_lt x.place g)
-
-pub same-index : (rs : List Record) (ds : List Declared) (next : List (Option ℕ)) (E E' : Indicator → Ends) → IsIndexed rs ds next E → ((p : Indicator) → E' p ≡ E p) → IsIndexed rs ds next E'
-same-index rs ds next E E' ix same = record {
-  count = ix.count;
-  front = λ p. ap (λ (d : Ends). d.newest_front) (same p) ∙ ix.front p;
-  oldest = λ p. ap (λ (d : Ends). d.oldest_back) (same p) ∙ ix.oldest p;
-  newest = λ p. ap (λ (d : Ends). d.newest_back) (same p) ∙ ix.newest p;
-  older = ix.older;
-  newer = ix.newer;
-  since = λ p g. ap (λ (d : Ends). since_below g d.since) (same p) ∙ ix.since p g;
-}
-
-pub no-records : (E : Indicator → Ends) → ((p : Indicator) → E p ≡ no_ends) → IsIndexed [] [] [] E
-no-records E none = record {
+pub no-records : (p : Class) (e : Ends) → e ≡ no_ends → IsIndexed p [] [] e
+no-records p e none = record {
   count = refl;
-  front = λ p. ap (λ (d : Ends). d.newest_front) (none p);
-  oldest = λ p. ap (λ (d : Ends). d.oldest_back) (none p);
-  newest = λ p. ap (λ (d : Ends). d.newest_back) (none p);
-  older = λ p i h. absurd (cc);
-  newer = λ p i h. absurd (cc);
-  since = λ p g. ap (λ (d : Ends). since_below g d.since) (none p);
+  front = ap (λ (d : Ends). d.newest_front) none;
+  oldest = ap (λ (d : Ends). d.oldest_back) none;
+  newest = ap (λ (d : Ends). d.newest_back) none;
+  older = λ i h. absurd (cc);
+  newer = λ i h. absurd (cc);
 }
 
 -- a last record behind is there
-pub newest-within : (rs : List Record) (ds : List Declared) (next : List (Option ℕ)) (E : Indicator → Ends) (q : Indicator) (j : ℕ) → IsIndexed rs ds next E → (E q).newest_back ≡ Some j → j < length next
-newest-within rs ds next E q j ix h = let b = (last-some (backs q rs) (length rs) j (sym (ix.newest q) ∙ h)).within in omega (arith, b, ix.count)
-
-any-put : (f : Bool) (x : ClauseName) (c : Clause) (rs : List Record) (ds : List Declared) (next : List (Option ℕ)) (E E' : Indicator → Ends) → IsIndexed rs ds next E →
-    ((p : Indicator) → E' p ≡ cond (same_indicator (indicator c.head) p) (ends_after f (length rs) x.place (E (indicator c.head))) (E p)) →
-    IsIndexed (rs ++ made x c f ∷ []) ds (links_after f (length rs) (E (indicator c.head)) next) E'
-any-put true x c rs ds next E E' ix law = front-put x c rs ds next E E' ix law
-any-put false x c rs ds next E E' ix law = back-put x c rs ds next E E' ix law
-
--- the same, by what the calls give
-pub put-all : (f : Bool) (x : ClauseName) (c : Clause) (rs rs' : List Record) (ds : List Declared) (next next' : List (Option ℕ)) (E E' : Indicator → Ends) (q : Indicator) (n : ℕ) (e d : Ends) → IsIndexed rs ds next E →
-    q ≡ indicator c.head → n ≡ length rs → e ≡ E q → d ≡ ends_after f n x.place e → ((p : Indicator) → E' p ≡ cond (same_indicator q p) d (E p)) → next' ≡ links_after f n e next → rs' ≡ rs ++ made x c f ∷ [] →
-    IsIndexed rs' ds next' E'
-put-all f x c rs rs' ds next next' E E' q n e d ix eq en ee ed law el er =
-    let h = indicator c.head in
-    let eh : e ≡ E h = ee ∙ ap E eq in
-    let dh : d ≡ ends_after f (length rs) x.place (E h) = ed ∙ ap₂ (λ n e. ends_after f n x.place e) en eh in
-    let law2 : (p : Indicator) → E' p ≡ cond (same_indicator h p) (ends_after f (length rs) x.place (E h)) (E p) = λ p. law p ∙ ap₂ (λ q d. cond (same_indicator q p) d (E p)) eq dh in
-    let made_all = any-put f x c rs ds next E E' ix law2 in
-    let links : next' ≡ links_after f (length rs) (E h) next = el ∙ ap₂ (λ n e. links_after f n e next) en eh in
-    subst (λ rs. IsIndexed rs ds next' E') (sym er) (subst (λ next. IsIndexed (rs ++ made x c f ∷ []) ds next E') (sym links) made_all)
-
-pub declare-all : (k q : Indicator) (b : ℕ) (rs : List Record) (ds ds' : List Declared) (next : List (Option ℕ)) (E E' : Indicator → Ends) (d : Ends) → IsIndexed rs ds next E →
-    k ≡ q → d ≡ record (E k) { since = earlier (E k).since b } → ((p : Indicator) → E' p ≡ cond (same_indicator k p) d (E p)) → ds' ≡ ds ++ record { pred = q; place = b } ∷ [] → IsIndexed rs ds' next E'
-declare-all k q b rs ds ds' next E E' d ix ek ed law eds =
-    let law2 : (p : Indicator) → E' p ≡ cond (same_indicator q p) (record (E q) { since = earlier (E q).since b }) (E p) =
-    λ p. law p ∙ ap₂ (λ k d. cond (same_indicator k p) d (E p)) ek (ed ∙ ap (λ k. record (E k) { since = earlier (E k).since b }) ek) in
-    subst (λ ds. IsIndexed rs ds next E') (sym eds) (declare-put q (named b 0) rs ds next E E' ix law2)
+pub newest-within : (p : Class) (rs : List Record) (next : List (Option ℕ)) (e : Ends) (j : ℕ) → IsIndexed p rs next e → e.newest_back ≡ Some j → j < length next
+newest-within p rs next e j ix h = let b = (last-some (backs p rs) (length rs) j (sym ix.newest ∙ h)).within in omega (arith, b, ix.count)

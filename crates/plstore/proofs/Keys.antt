@@ -1,7 +1,6 @@
 -- Terms whose keys do not fit do not unify.
 use Rattle.std.proofs.Common.{◌≡◌, ◌⊎◌, inl, inr, refl, sym, ◌∙◌, ap, arith, ℕ, ◌+◌, Bool, true, false, length}
 use Rattle.std.specs.Prelude.{◌&&◌, nat_eq, bytes_eq, None}
-use Rattle.std.proofs.lemmas.Bool.Decides.{nat_tests}
 use Rattle.std.proofs.lemmas.Slice.Eq.{bytes_eq-Decides}
 use Rattle.plterm.specs.Tree.{Tree, var, int, atom, compound, Trees, none, more, list_of}
 use Rattle.plsubst.specs.Subst.{bind, bind_all, shift}
@@ -11,6 +10,7 @@ use Rattle.plsubst.proofs.UnifyUnique.{unify-none}
 use Rattle.plevent.specs.declared.key.Key.{Key}
 use Rattle.plevent.specs.declared.key.Key.TheVariants.{Any, Int, Atom, Functor}
 use Rattle.plevent.specs.Keys.{first_key, key_of, key_of_first, may_fit}
+use Rattle.plstore.proofs.Same.{nat-self}
 
 pub any-left : (l : Key) → may_fit Any l ≡ true
 any-left Any = refl
@@ -21,9 +21,6 @@ any-left (Functor s n) = refl
 both : (u v : Bool) → u ≡ true → v ≡ true → u && v ≡ true
 both true v h k = k
 both false v h k = absurd (cc)
-
-nat-self : (n : ℕ) → nat_eq n n ≡ true
-nat-self n = grind (arith, nat_tests)
 
 fits-self : (k : Key) → may_fit k k ≡ true
 fits-self Any = refl

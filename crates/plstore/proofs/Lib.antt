@@ -3,12 +3,17 @@ pub mod Search
 pub mod Whole
 pub mod Look
 pub mod Bits
+pub mod Same
 pub mod Index
+pub mod Since
+pub mod Classes
 pub mod Plans
 pub mod Chains
 pub mod Passing
 pub mod Keys
 mod Worked
 pub mod Visible
+pub mod Covering
+pub mod Slotted
 pub mod Names
 pub mod Looking

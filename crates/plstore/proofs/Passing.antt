@@ -1,18 +1,17 @@
 -- Runs of erased records: how they are joined, and that a walk may pass over them.
-use Rattle.std.proofs.Common.{◌≡◌, ◌⊎◌, ◌+◌, ◌-◌, inl, inr, refl, sym, ◌∙◌, ap, subst, arith, ℕ, suc, zero, ◌<◌, ◌≤◌, Bool, true, false, List, [], ◌∷◌, ◌++◌, Option, Some, None, length, get_or, set, drop, map, nat_lt}
+use Rattle.std.proofs.Common.{◌≡◌, ◌⊎◌, ◌+◌, ◌-◌, inl, inr, refl, sym, ◌∙◌, ap, subst, arith, ℕ, suc, zero, ◌<◌, ◌≤◌, Bool, true, false, List, [], ◌∷◌, ◌++◌, Option, Some, None, length, get_or, set, take, drop, map, nat_lt}
 use Rattle.std.specs.Prelude.{◌&&◌, not}
+use Rattle.std.proofs.Math.Seq.{take-append_seam}
 use Rattle.std.proofs.lemmas.List.{get_or_append_left, get_or_at, get_or-set_same, get_or-set_other, length-map, length-set, map-append}
 use Rattle.std.proofs.lemmas.Bool.Decides.{nat_tests}
-use Rattle.plterm.specs.declared.indicator.Indicator.{Indicator}
 use Rattle.plevent.specs.declared.update.ClauseName.{ClauseName}
 use Rattle.plevent.specs.Alive.{add_if}
 use Rattle.plstore.specs.declared.record.Record.{Record}
-use Rattle.plstore.specs.declared.record.Declared.{Declared}
 use Rattle.plstore.specs.declared.runs.Run.{Run}
 use Rattle.plstore.specs.declared.runs.Place.{Place}
 use Rattle.plstore.specs.declared.ends.Ends.{Ends}
-use Rattle.plstore.specs.Kept.{seen, not_below, first_of, erase_at, change_if, changed_where, is_named, in_front, behind_all}
-use Rattle.plstore.specs.Links.{last_below, first_from, fronts, backs, down, up, IsLinked, IsIndexed}
+use Rattle.plstore.specs.Kept.{seen, not_below, first_of, erase_at, change_if, changed_where, is_named}
+use Rattle.plstore.specs.Links.{last_below, first_from, front_of, back_of, fronts, backs, down, up, Class, IsLinked, IsIndexed}
 use Rattle.plstore.specs.Runs.{IsGone, AllGone, IsRunDown, IsRunUp, IsRun, no_place, HasRuns, SameRuns, end_at}
 use Rattle.plstore.proofs.Law.{cons_if, own}
 use Rattle.plstore.proofs.Bits.{LastIs, get-in, length-push, last-some, drop-mark, cases}
@@ -24,10 +23,10 @@ gone-later b c None l h = h
 gone-later b c (Some e) l h = omega arith
 
 -- a run of one record
-pub run-alone : (rs : List Record) (i b : ℕ) → ((d : Record) → IsGone b (get_or rs i d).erased) → IsRun rs i (record { last = i; latest = b })
-run-alone rs i b gone = record {
-  down = λ p h. record { order = omega arith; mark = h; gone = λ j d l m k. alone j d (omega arith) };
-  up = λ p h. record { order = omega arith; mark = h; gone = λ j d l m k. alone j d (omega arith) };
+pub run-alone : (p : Class) (rs : List Record) (i b : ℕ) → ((d : Record) → IsGone b (get_or rs i d).erased) → IsRun p rs i (record { last = i; latest = b })
+run-alone p rs i b gone = record {
+  down = λ h. record { order = omega arith; mark = h; gone = λ j d l m k. alone j d (omega arith) };
+  up = λ h. record { order = omega arith; mark = h; gone = λ j d l m k. alone j d (omega arith) };
 }
   where
     alone : (j : ℕ) (d : Record) → i ≡ j → IsGone b (get_or rs j d).erased
@@ -71,12 +70,12 @@ join-down bs rs i n m r q a e b la lb =
       ];
     }
 
-join-up : (p : Indicator) (rs : List Record) (i n m : ℕ) (r q : Run) → IsRunUp (backs p rs) rs i r → first_from (suc r.last) (drop (suc r.last) (backs p rs)) ≡ Some n → IsRunUp (backs p rs) rs n q → r.latest ≤ m → q.latest ≤ m →
+join-up : (p : Class) (rs : List Record) (i n m : ℕ) (r q : Run) → IsRunUp (backs p rs) rs i r → first_from (suc r.last) (drop (suc r.last) (backs p rs)) ≡ Some n → IsRunUp (backs p rs) rs n q → r.latest ≤ m → q.latest ≤ m →
     IsRunUp (backs p rs) rs i (record { last = q.last; latest = m })
 join-up p rs i n m r q a e b la lb =
     let bs = backs p rs in
     let within : r.last < length bs = get-in bs r.last a.mark in
-    let whole : suc r.last + (length rs - suc r.last) ≡ length rs = omega (arith, within, length-map rs (behind_all p)) in
+    let whole : suc r.last + (length rs - suc r.last) ≡ length rs = omega (arith, within, length-map rs (back_of p)) in
     let whole2 : suc r.last + (length bs - suc r.last) ≡ length bs = omega (arith, within) in
     let u : UpIs p 0 rs (suc r.last) n some-record = up-some p 0 rs (length rs - suc r.last) (suc r.last) n some-record whole e in
     record {
@@ -94,19 +93,19 @@ join-up p rs i n m r q a e b la lb =
 marked-last : (bs : List Bool) (k n : ℕ) → last_below bs k ≡ Some n → get_or bs n false ≡ true
 marked-last bs k n e = (last-some bs k n e).here
 
-pub run-joined : (rs : List Record) (next : List (Option ℕ)) (places : List Place) (i n m : ℕ) (r q : Run) → IsLinked rs next → HasRuns rs places → get_or next r.last None ≡ Some n → (get_or places n no_place).run ≡ Some q → r.latest ≤ m → q.latest ≤ m →
-    IsRun rs i r → IsRun rs i (record { last = q.last; latest = m })
-run-joined rs next places i n m r q links runs to at la lb own = record {
-  down = λ p h.
-      let a = own.down p h in
-      let e : last_below (fronts p rs) r.last ≡ Some n = sym ((links.down p).older r.last a.mark) ∙ to in
-      join-down (fronts p rs) rs i n m r q a e ((runs.each n q at).down p (marked-last (fronts p rs) r.last n e)) la lb;
-  up = λ p h.
-      let a = own.up p h in
-      let e : first_from (suc r.last) (drop (suc r.last) (backs p rs)) ≡ Some n = sym ((links.up p).newer r.last a.mark) ∙ to in
+pub run-joined : (p : Class) (rs : List Record) (next : List (Option ℕ)) (places : List Place) (i n m : ℕ) (r q : Run) → IsLinked p rs next → HasRuns p rs places → get_or next r.last None ≡ Some n → (get_or places n no_place).run ≡ Some q → r.latest ≤ m → q.latest ≤ m →
+    IsRun p rs i r → IsRun p rs i (record { last = q.last; latest = m })
+run-joined p rs next places i n m r q links runs to at la lb own = record {
+  down = λ h.
+      let a = own.down h in
+      let e : last_below (fronts p rs) r.last ≡ Some n = sym (links.older r.last a.mark) ∙ to in
+      join-down (fronts p rs) rs i n m r q a e ((runs.each n q at).down (marked-last (fronts p rs) r.last n e)) la lb;
+  up = λ h.
+      let a = own.up h in
+      let e : first_from (suc r.last) (drop (suc r.last) (backs p rs)) ≡ Some n = sym (links.newer r.last a.mark) ∙ to in
       let within : r.last < length (backs p rs) = get-in (backs p rs) r.last a.mark in
-      let whole : suc r.last + (length rs - suc r.last) ≡ length rs = omega (arith, within, length-map rs (behind_all p)) in
-      join-up p rs i n m r q a e ((runs.each n q at).up p (up-some p 0 rs (length rs - suc r.last) (suc r.last) n some-record whole e).mark) la lb;
+      let whole : suc r.last + (length rs - suc r.last) ≡ length rs = omega (arith, within, length-map rs (back_of p)) in
+      join-up p rs i n m r q a e ((runs.each n q at).up (up-some p 0 rs (length rs - suc r.last) (suc r.last) n some-record whole e).mark) la lb;
 }
 
 -- a place beyond the last one has no run
@@ -119,8 +118,8 @@ run-is : {r q : Run} → Some r ≡ Some q → r ≡ q
 run-is e = cc
 
 -- one run is noted
-pub runs-set : (rs : List Record) (places : List Place) (i : ℕ) (d : Place) (r : Run) → i < length places → HasRuns rs places → IsRun rs i r → HasRuns rs (set places i (record (get_or places i d) { run = Some r }))
-runs-set rs places i d r l runs own = record {
+pub runs-set : (p : Class) (rs : List Record) (places : List Place) (i : ℕ) (d : Place) (r : Run) → i < length places → HasRuns p rs places → IsRun p rs i r → HasRuns p rs (set places i (record (get_or places i d) { run = Some r }))
+runs-set p rs places i d r l runs own = record {
   count = length-set places i (record (get_or places i d) { run = Some r }) ∙ runs.count;
   each = λ j q h. by-case j q (cases i j) h;
 }
@@ -128,15 +127,15 @@ runs-set rs places i d r l runs own = record {
     made : Place
     made = record (get_or places i d) { run = Some r }
 
-    other : (j : ℕ) (q : Run) → (i ≡ j → ⊥) → (get_or (set places i made) j no_place).run ≡ Some q → IsRun rs j q
+    other : (j : ℕ) (q : Run) → (i ≡ j → ⊥) → (get_or (set places i made) j no_place).run ≡ Some q → IsRun p rs j q
     other j q n h = runs.each j q (ap (λ (x : Place). x.run) (sym (get_or-set_other places i j made no_place (λ e. n (sym e)))) ∙ h)
 
-    by-case : (j : ℕ) (q : Run) → (i < j) ⊎ ((i ≡ j) ⊎ (j < i)) → (get_or (set places i made) j no_place).run ≡ Some q → IsRun rs j q
+    by-case : (j : ℕ) (q : Run) → (i < j) ⊎ ((i ≡ j) ⊎ (j < i)) → (get_or (set places i made) j no_place).run ≡ Some q → IsRun p rs j q
     by-case j q (inl lt) h = other j q (λ e. omega arith) h
     by-case j q (inr (inr gt)) h = other j q (λ e. omega arith) h
     by-case j q (inr (inl e)) h =
         let same : Some r ≡ Some q = ap (λ (x : Place). x.run) (sym (get_or-set_same places i made no_place l)) ∙ ap (λ j. (get_or (set places i made) j no_place).run) e ∙ h in
-        subst (λ j. IsRun rs j q) e (subst (IsRun rs i) (run-is same) own)
+        subst (λ j. IsRun p rs j q) e (subst (IsRun p rs i) (run-is same) own)
 
 -- what is no run leaves them alone
 pub same-set : (places : List Place) (i : ℕ) (new : Place) → i < length places → new.run ≡ (get_or places i no_place).run → SameRuns places (set places i new)
@@ -154,8 +153,8 @@ same-set places i new l e = record {
 pub same-self : (places : List Place) → SameRuns places places
 same-self places = record { count = refl; each = λ j. refl }
 
-pub runs-same : (rs : List Record) (old new : List Place) → SameRuns old new → HasRuns rs old → HasRuns rs new
-runs-same rs old new same runs = record { count = same.count ∙ runs.count; each = λ i r h. runs.each i r (sym (same.each i) ∙ h) }
+pub runs-same : (p : Class) (rs : List Record) (old new : List Place) → SameRuns old new → HasRuns p rs old → HasRuns p rs new
+runs-same p rs old new same runs = record { count = same.count ∙ runs.count; each = λ i r h. runs.each i r (sym (same.each i) ∙ h) }
 
 -- one more record
 mark-kept : (t : Record → Bool) (rs : List Record) (r : Record) (i : ℕ) → i < length rs → get_or (map t (rs ++ r ∷ [])) i false ≡ get_or (map t rs) i false
@@ -164,30 +163,30 @@ mark-kept t rs r i l = ap (λ bs. get_or bs i false) (map-append t rs (r ∷ [])
 record-kept : (b : ℕ) (rs : List Record) (r : Record) (j : ℕ) (d : Record) → j < length rs → IsGone b (get_or rs j d).erased → IsGone b (get_or (rs ++ r ∷ []) j d).erased
 record-kept b rs r j d l h = subst (λ (q : Record). IsGone b q.erased) (sym (get_or_append_left rs (r ∷ []) d j l)) h
 
-run-push : (rs : List Record) (r : Record) (i : ℕ) (q : Run) → i < length rs → IsRun rs i q → IsRun (rs ++ r ∷ []) i q
-run-push rs r i q l run = record {
-  down = λ p h.
-      let a = run.down p (sym (mark-kept (in_front p) rs r i l) ∙ h) in
+run-push : (p : Class) (rs : List Record) (r : Record) (i : ℕ) (q : Run) → i < length rs → IsRun p rs i q → IsRun p (rs ++ r ∷ []) i q
+run-push p rs r i q l run = record {
+  down = λ h.
+      let a = run.down (sym (mark-kept (front_of p) rs r i l) ∙ h) in
       record {
         order = a.order;
-        mark = mark-kept (in_front p) rs r q.last (omega (arith, a.order)) ∙ a.mark;
-        gone = λ j d lo hi k. let m : j < length rs = omega arith in record-kept q.latest rs r j d m (a.gone j d lo hi (sym (mark-kept (in_front p) rs r j m) ∙ k));
+        mark = mark-kept (front_of p) rs r q.last (omega (arith, a.order)) ∙ a.mark;
+        gone = λ j d lo hi k. let m : j < length rs = omega arith in record-kept q.latest rs r j d m (a.gone j d lo hi (sym (mark-kept (front_of p) rs r j m) ∙ k));
       };
-  up = λ p h.
-      let a = run.up p (sym (mark-kept (behind_all p) rs r i l) ∙ h) in
-      let within : q.last < length rs = let w = get-in (backs p rs) q.last a.mark in omega (arith, w, length-map rs (behind_all p)) in
+  up = λ h.
+      let a = run.up (sym (mark-kept (back_of p) rs r i l) ∙ h) in
+      let within : q.last < length rs = let w = get-in (backs p rs) q.last a.mark in omega (arith, w, length-map rs (back_of p)) in
       record {
         order = a.order;
-        mark = mark-kept (behind_all p) rs r q.last within ∙ a.mark;
-        gone = λ j d lo hi k. let m : j < length rs = omega arith in record-kept q.latest rs r j d m (a.gone j d lo hi (sym (mark-kept (behind_all p) rs r j m) ∙ k));
+        mark = mark-kept (back_of p) rs r q.last within ∙ a.mark;
+        gone = λ j d lo hi k. let m : j < length rs = omega arith in record-kept q.latest rs r j d m (a.gone j d lo hi (sym (mark-kept (back_of p) rs r j m) ∙ k));
       };
 }
 
-pub runs-push : (rs : List Record) (r : Record) (places : List Place) (new : Place) → new.run ≡ None → HasRuns rs places → HasRuns (rs ++ r ∷ []) (places ++ new ∷ [])
-runs-push rs r places new none runs = record {
+pub runs-push : (p : Class) (rs : List Record) (r : Record) (places : List Place) (new : Place) → new.run ≡ None → HasRuns p rs places → HasRuns p (rs ++ r ∷ []) (places ++ new ∷ [])
+runs-push p rs r places new none runs = record {
   count = length-push places new ∙ ap suc runs.count ∙ sym (length-push rs r);
   each = λ i q h. elim (cases i (length places)) [
-    | inl lt ↦ run-push rs r i q (omega (arith, runs.count)) (runs.each i q (ap (λ (x : Place). x.run) (sym (get_or_append_left places (new ∷ []) no_place i lt)) ∙ h))
+    | inl lt ↦ run-push p rs r i q (omega (arith, runs.count)) (runs.each i q (ap (λ (x : Place). x.run) (sym (get_or_append_left places (new ∷ []) no_place i lt)) ∙ h))
     | inr o ↦ elim o [
       | inl e ↦ let z : None ≡ Some q = sym none ∙ ap (λ (x : Place). x.run) (sym (get_or_at places new [] no_place i (sym e))) ∙ h in absurd (cc)
       | inr gt ↦ let z : None ≡ Some q = ap (λ (x : Place). x.run) (sym (get-over (places ++ new ∷ []) i (omega (arith, length-push places new)))) ∙ h in absurd (cc)
@@ -205,17 +204,17 @@ gone-erased t b e [] j d h = h
 gone-erased t b e (r ∷ rs) zero d h = elim (t r) as (λ v. IsGone b (change_if v (erase_at e r) r).erased) [ true ↦ gone-first b e r.erased h | false ↦ h ]
 gone-erased t b e (r ∷ rs) (suc j) d h = gone-erased t b e rs j d h
 
-run-erase : (y : ClauseName) (b : ℕ) (rs : List Record) (i : ℕ) (q : Run) → IsRun rs i q → IsRun (changed_where (is_named y) (erase_at b) rs) i q
-run-erase y b rs i q run = record {
-  down = λ p h.
-      let a = run.down p (ap (λ bs. get_or bs i false) (sym (fronts-erased p y b rs)) ∙ h) in
+run-erase : (p : Class) (y : ClauseName) (b : ℕ) (rs : List Record) (i : ℕ) (q : Run) → IsRun p rs i q → IsRun p (changed_where (is_named y) (erase_at b) rs) i q
+run-erase p y b rs i q run = record {
+  down = λ h.
+      let a = run.down (ap (λ bs. get_or bs i false) (sym (fronts-erased p y b rs)) ∙ h) in
       record {
         order = a.order;
         mark = ap (λ bs. get_or bs q.last false) (fronts-erased p y b rs) ∙ a.mark;
         gone = λ j d lo hi k. gone-erased (is_named y) q.latest b rs j d (a.gone j d lo hi (ap (λ bs. get_or bs j false) (sym (fronts-erased p y b rs)) ∙ k));
       };
-  up = λ p h.
-      let a = run.up p (ap (λ bs. get_or bs i false) (sym (backs-erased p y b rs)) ∙ h) in
+  up = λ h.
+      let a = run.up (ap (λ bs. get_or bs i false) (sym (backs-erased p y b rs)) ∙ h) in
       record {
         order = a.order;
         mark = ap (λ bs. get_or bs q.last false) (backs-erased p y b rs) ∙ a.mark;
@@ -223,11 +222,18 @@ run-erase y b rs i q run = record {
       };
 }
 
-pub runs-erase : (y : ClauseName) (b : ℕ) (rs : List Record) (places : List Place) → HasRuns rs places → HasRuns (changed_where (is_named y) (erase_at b) rs) places
-runs-erase y b rs places runs = record { count = runs.count ∙ sym (length-erased y b rs); each = λ i q h. run-erase y b rs i q (runs.each i q h) }
+pub runs-erase : (p : Class) (y : ClauseName) (b : ℕ) (rs : List Record) (places : List Place) → HasRuns p rs places → HasRuns p (changed_where (is_named y) (erase_at b) rs) places
+runs-erase p y b rs places runs = record { count = runs.count ∙ sym (length-erased y b rs); each = λ i q h. run-erase p y b rs i q (runs.each i q h) }
 
-pub linked : (rs : List Record) (ds : List Declared) (next : List (Option ℕ)) (E : Indicator → Ends) → IsIndexed rs ds next E → IsLinked rs next
-linked rs ds next E ix = record { down = λ p. record { count = ix.count; older = ix.older p }; up = λ p. record { count = ix.count; newer = ix.newer p } }
+pub linked : (p : Class) (rs : List Record) (next : List (Option ℕ)) (e : Ends) → IsIndexed p rs next e → IsLinked p rs next
+linked p rs next e ix = record { count = ix.count; older = ix.older; newer = ix.newer }
+
+pub no-runs : (p : Class) → HasRuns p [] []
+no-runs p = record { count = refl; each = λ i r h. absurd (cc) }
+
+-- what is written back into a list of the same length
+pub written : {A : Type 0} (n : ℕ) (xs ys : List A) → n ≡ length xs → take n (xs ++ ys) ≡ xs
+written n xs ys e = ap (λ n. take n (xs ++ ys)) e ∙ take-append_seam xs ys
 
 -- what was erased below a place is not seen there
 hidden : (b g : ℕ) (r : Record) → b < g → IsGone b r.erased → seen g r ≡ false
@@ -245,7 +251,7 @@ hidden b g r l h = by-erasure r.erased h ∙ and-false (nat_lt r.name.place g)
     by-erasure (Some e) h = ap (λ v. nat_lt r.name.place g && not v) (below-it e h)
 
 -- a walk passes over a run
-pass-down : (p : Indicator) (g b : ℕ) (rs : List Record) (low high : ℕ) → b < g → high < length rs → AllGone (fronts p rs) rs b low high → (m : ℕ) → low ≤ m → m ≤ suc high → down p g rs m ≡ down p g rs low
+pass-down : (p : Class) (g b : ℕ) (rs : List Record) (low high : ℕ) → b < g → high < length rs → AllGone (fronts p rs) rs b low high → (m : ℕ) → low ≤ m → m ≤ suc high → down p g rs m ≡ down p g rs low
 pass-down p g b rs low high l w gone zero lo hi = let e : 0 ≡ low = omega arith in ap (down p g rs) e
 pass-down p g b rs low high l w gone (suc m) lo hi = elim (cases low (suc m)) [
   | inl lt ↦ step (omega arith) (get_or (fronts p rs) m false) refl ∙ pass-down p g b rs low high l w gone m (omega arith) (omega arith)
@@ -257,7 +263,7 @@ pass-down p g b rs low high l w gone (suc m) lo hi = elim (cases low (suc m)) [
     step q true e = down-step p g rs m some-record true (omega arith) e
         ∙ ap (λ v. cons_if (v && true) (own (get_or rs m some-record)) (down p g rs m)) (hidden b g (get_or rs m some-record) l (gone m some-record q (omega arith) e))
 
-pass-up : (p : Indicator) (g b : ℕ) (rs : List Record) (low high : ℕ) → b < g → high < length rs → AllGone (backs p rs) rs b low high → (m k : ℕ) → low ≤ k → k + m ≡ suc high → up p g rs k ≡ up p g rs (suc high)
+pass-up : (p : Class) (g b : ℕ) (rs : List Record) (low high : ℕ) → b < g → high < length rs → AllGone (backs p rs) rs b low high → (m k : ℕ) → low ≤ k → k + m ≡ suc high → up p g rs k ≡ up p g rs (suc high)
 pass-up p g b rs low high l w gone zero k lo s = let e : k ≡ suc high = omega arith in ap (up p g rs) e
 pass-up p g b rs low high l w gone (suc m) k lo s = step (get_or (backs p rs) k false) refl ∙ pass-up p g b rs low high l w gone m (suc k) (omega arith) (omega arith)
   where
@@ -269,29 +275,29 @@ pass-up p g b rs low high l w gone (suc m) k lo s = step (get_or (backs p rs) k 
 lt-below : (a b : ℕ) → nat_lt a b ≡ true → a < b
 lt-below a b e = grind (arith, nat_tests)
 
-pub end-down : (p : Indicator) (g : ℕ) (rs : List Record) (places : List Place) (i n : ℕ) → HasRuns rs places → get_or (fronts p rs) i false ≡ true → n ≡ end_at g i (get_or places i no_place).run → EndDown p g rs i n
+pub end-down : (p : Class) (g : ℕ) (rs : List Record) (places : List Place) (i n : ℕ) → HasRuns p rs places → get_or (fronts p rs) i false ≡ true → n ≡ end_at g i (get_or places i no_place).run → EndDown p g rs i n
 end-down p g rs places i n runs h e = subst (EndDown p g rs i) (sym e) (by-run (get_or places i no_place).run refl)
   where
     by-test : (r : Run) → (get_or places i no_place).run ≡ Some r → (v : Bool) → nat_lt r.latest g ≡ v → EndDown p g rs i (add_if v r.last i)
     by-test r k false t = record { order = omega arith; mark = h; same = refl }
     by-test r k true t =
-        let a = (runs.each i r k).down p h in
+        let a = (runs.each i r k).down h in
         let w = get-in (fronts p rs) i h in
-        record { order = a.order; mark = a.mark; same = pass-down p g r.latest rs r.last i (lt-below r.latest g t) (omega (arith, w, length-map rs (in_front p))) a.gone i a.order (omega arith) }
+        record { order = a.order; mark = a.mark; same = pass-down p g r.latest rs r.last i (lt-below r.latest g t) (omega (arith, w, length-map rs (front_of p))) a.gone i a.order (omega arith) }
 
     by-run : (o : Option Run) → (get_or places i no_place).run ≡ o → EndDown p g rs i (end_at g i o)
     by-run None k = record { order = omega arith; mark = h; same = refl }
     by-run (Some r) k = by-test r k (nat_lt r.latest g) refl
 
-pub end-up : (p : Indicator) (g : ℕ) (rs : List Record) (places : List Place) (i n : ℕ) → HasRuns rs places → get_or (backs p rs) i false ≡ true → n ≡ end_at g i (get_or places i no_place).run → EndUp p g rs i n
+pub end-up : (p : Class) (g : ℕ) (rs : List Record) (places : List Place) (i n : ℕ) → HasRuns p rs places → get_or (backs p rs) i false ≡ true → n ≡ end_at g i (get_or places i no_place).run → EndUp p g rs i n
 end-up p g rs places i n runs h e = subst (EndUp p g rs i) (sym e) (by-run (get_or places i no_place).run refl)
   where
     by-test : (r : Run) → (get_or places i no_place).run ≡ Some r → (v : Bool) → nat_lt r.latest g ≡ v → EndUp p g rs i (add_if v r.last i)
     by-test r k false t = record { order = omega arith; mark = h; same = refl }
     by-test r k true t =
-        let a = (runs.each i r k).up p h in
+        let a = (runs.each i r k).up h in
         let w = get-in (backs p rs) r.last a.mark in
-        let within : r.last < length rs = omega (arith, w, length-map rs (behind_all p)) in
+        let within : r.last < length rs = omega (arith, w, length-map rs (back_of p)) in
         record {
           order = a.order;
           mark = a.mark;

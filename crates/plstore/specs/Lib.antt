@@ -4,5 +4,8 @@ pub mod Looking
 pub mod Rising
 pub mod Links
 pub mod Runs
+pub mod Slots
 pub mod Plan
+pub mod Room
+pub mod Chains
 pub mod Tables

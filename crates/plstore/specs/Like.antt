@@ -3,7 +3,8 @@ use Rattle.std.specs.Prelude.{ℕ, Bool, ◌&&◌, List, [], ◌∷◌, filter, 
 use Rattle.plevent.specs.declared.update.ClauseName.{ClauseName}
 use Rattle.plevent.specs.declared.key.Key.{Key}
 use Rattle.plevent.specs.declared.update.Living.{Living}
-use Rattle.plevent.specs.Alive.{same_name, names_of, lives_as, add_if}
+use Rattle.plterm.specs.declared.indicator.Indicator.{Indicator}
+use Rattle.plevent.specs.Alive.{same_name, names_of, lives_as, add_if, is_of}
 use Rattle.plevent.specs.Keys.{first_key, may_fit}
 use Rattle.plstore.specs.declared.record.Record.{Record}
 use Rattle.plstore.specs.declared.record.Cursor.{Cursor}
@@ -31,6 +32,14 @@ rest (After x) xs = past x xs
 abbrev pub next_like_of : Key → Cursor → List Living → Option ClauseName
 next_like_of k c xs = first_like k (rest c xs)
 
--- a record is seen at g, and its clause may be for a goal of a key
-abbrev pub is_met : ℕ → Key → Record → Bool
-is_met g k r = seen g r && fits k (lives_as r.name r.clause)
+-- the name of the first one that passes a test
+abbrev pub first_where : (Living → Bool) → List Living → Option ClauseName
+first_where t xs = head (names_of (filter t xs))
+
+-- a clause may be for a goal of a key, and is of the procedure
+abbrev pub suits : Indicator → Key → Living → Bool
+suits p k x = fits k x && is_of p x.clause
+
+-- a record is seen at g, and its clause suits
+abbrev pub is_met : ℕ → Indicator → Key → Record → Bool
+is_met g p k r = seen g r && suits p k (lives_as r.name r.clause)

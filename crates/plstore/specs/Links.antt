@@ -1,16 +1,14 @@
--- How records of one side of a procedure are linked, and where each side begins and ends.
-use Rattle.std.specs.Prelude.{◌≡◌, ℕ, zero, suc, Bool, true, false, List, [], ◌∷◌, ◌++◌, map, take, drop, reverse, Option, Some, None, length, slice_index_or, slice_set, nat_lt, unwrap_or}
+-- How records of one side of a class are linked, and where each side begins and ends.
+use Rattle.std.specs.Prelude.{◌≡◌, ℕ, zero, suc, Bool, true, false, ◌&&◌, not, List, [], ◌∷◌, ◌++◌, map, take, drop, reverse, Option, Some, None, length, slice_index_or, slice_set, nat_lt, unwrap_or}
 use Rattle.std.specs.HashMap.{HashMap, get}
 use Rattle.std.specs.declared.hash.FoldHasher.{FoldHasher}
 use Rattle.std.specs.declared.hash.BuildHasherDefault.{BuildHasherDefault}
-use Rattle.plterm.specs.declared.indicator.Indicator.{Indicator}
-use Rattle.plterm.specs.Indicators.{same_indicator}
+use Rattle.plclause.specs.Clause.{Clause}
 use Rattle.plevent.specs.declared.update.Living.{Living}
 use Rattle.plevent.specs.Alive.{add_if, or_else}
 use Rattle.plstore.specs.declared.record.Record.{Record}
-use Rattle.plstore.specs.declared.record.Declared.{Declared}
 use Rattle.plstore.specs.declared.ends.Ends.{Ends}
-use Rattle.plstore.specs.Kept.{in_front, behind_all, picked, is_there}
+use Rattle.plstore.specs.Kept.{picked}
 
 -- the last mark below n, and the first one of a list that begins at k
 abbrev pub last_below : List Bool → ℕ → Option ℕ
@@ -21,28 +19,43 @@ abbrev pub first_from : ℕ → List Bool → Option ℕ
 first_from k [] = None
 first_from k (b ∷ bs) = add_if b (Some k) (first_from (suc k) bs)
 
--- which records are of p, put in front of others or behind them
-abbrev pub fronts : Indicator → List Record → List Bool
-fronts p rs = map (in_front p) rs
+-- clauses whose records are linked with one another, as those of a procedure, or of a slot
+abbrev pub Class : Type 0
+Class = Clause → Bool
 
-abbrev pub backs : Indicator → List Record → List Bool
-backs p rs = map (behind_all p) rs
+-- those of a key, where each clause has one
+abbrev pub class_at : {K : Type 0} → (K → K → Bool) → (Clause → K) → K → Class
+class_at eq key k c = eq (key c) k
 
--- the clauses of p that are seen at g: those in front below n downward, and those behind from k on upward
-abbrev pub down : Indicator → ℕ → List Record → ℕ → List Living
-down p g rs n = reverse (picked (in_front p) g (take n rs))
+-- which records are of c, put in front of others or behind them
+abbrev pub front_of : Class → Record → Bool
+front_of c r = r.front && c r.clause
 
-abbrev pub up : Indicator → ℕ → List Record → ℕ → List Living
-up p g rs k = picked (behind_all p) g (drop k rs)
+abbrev pub back_of : Class → Record → Bool
+back_of c r = not r.front && c r.clause
 
-abbrev pub Index : Type 0
-Index = HashMap Indicator Ends (BuildHasherDefault FoldHasher)
+abbrev pub fronts : Class → List Record → List Bool
+fronts c rs = map (front_of c) rs
+
+abbrev pub backs : Class → List Record → List Bool
+backs c rs = map (back_of c) rs
+
+-- the clauses of c that are seen at g: those in front below n downward, and those behind from k on upward
+abbrev pub down : Class → ℕ → List Record → ℕ → List Living
+down c g rs n = reverse (picked (front_of c) g (take n rs))
+
+abbrev pub up : Class → ℕ → List Record → ℕ → List Living
+up c g rs k = picked (back_of c) g (drop k rs)
+
+-- where the records of each key begin and end
+abbrev pub Index : Type 0 → Type 0
+Index K = HashMap K Ends (BuildHasherDefault FoldHasher)
 
 abbrev pub no_ends : Ends
 no_ends = record { since = None; newest_front = None; oldest_back = None; newest_back = None }
 
-abbrev pub ends_in : Index → Indicator → Ends
-ends_in m p = unwrap_or (get same_indicator m p) no_ends
+abbrev pub ends_in : {K : Type 0} → (K → K → Bool) → Index K → K → Ends
+ends_in eq m k = unwrap_or (get eq m k) no_ends
 
 abbrev pub since_below : ℕ → Option ℕ → Bool
 since_below g None = false
@@ -68,24 +81,20 @@ abbrev pub links_after : Bool → ℕ → Ends → List (Option ℕ) → List (O
 links_after true n e next = next ++ e.newest_front ∷ []
 links_after false n e next = linked_at e.newest_back n (next ++ None ∷ [])
 
--- links and ends are those of the records, at each procedure
-pub record IsIndexed (rs : List Record) (ds : List Declared) (next : List (Option ℕ)) (ends : Indicator → Ends) : Type 0 where
+-- links and ends of a class are those of its records
+pub record IsIndexed (c : Class) (rs : List Record) (next : List (Option ℕ)) (ends : Ends) : Type 0 where
   pub count : length next ≡ length rs
-  pub front : (p : Indicator) → (ends p).newest_front ≡ last_below (fronts p rs) (length rs)
-  pub oldest : (p : Indicator) → (ends p).oldest_back ≡ first_from 0 (backs p rs)
-  pub newest : (p : Indicator) → (ends p).newest_back ≡ last_below (backs p rs) (length rs)
-  pub older : (p : Indicator) (i : ℕ) → slice_index_or (fronts p rs) i false ≡ true → slice_index_or next i None ≡ last_below (fronts p rs) i
-  pub newer : (p : Indicator) (i : ℕ) → slice_index_or (backs p rs) i false ≡ true → slice_index_or next i None ≡ first_from (suc i) (drop (suc i) (backs p rs))
-  pub since : (p : Indicator) (g : ℕ) → since_below g (ends p).since ≡ is_there g p (record { records = rs; declared = ds })
+  pub front : ends.newest_front ≡ last_below (fronts c rs) (length rs)
+  pub oldest : ends.oldest_back ≡ first_from 0 (backs c rs)
+  pub newest : ends.newest_back ≡ last_below (backs c rs) (length rs)
+  pub older : (i : ℕ) → slice_index_or (fronts c rs) i false ≡ true → slice_index_or next i None ≡ last_below (fronts c rs) i
+  pub newer : (i : ℕ) → slice_index_or (backs c rs) i false ≡ true → slice_index_or next i None ≡ first_from (suc i) (drop (suc i) (backs c rs))
 
--- the links of p alone
-pub record IsDown (p : Indicator) (rs : List Record) (next : List (Option ℕ)) : Type 0 where
+-- its links alone
+pub record IsLinked (c : Class) (rs : List Record) (next : List (Option ℕ)) : Type 0 where
   pub count : length next ≡ length rs
-  pub older : (i : ℕ) → slice_index_or (fronts p rs) i false ≡ true → slice_index_or next i None ≡ last_below (fronts p rs) i
-
-pub record IsUp (p : Indicator) (rs : List Record) (next : List (Option ℕ)) : Type 0 where
-  pub count : length next ≡ length rs
-  pub newer : (i : ℕ) → slice_index_or (backs p rs) i false ≡ true → slice_index_or next i None ≡ first_from (suc i) (drop (suc i) (backs p rs))
+  pub older : (i : ℕ) → slice_index_or (fronts c rs) i false ≡ true → slice_index_or next i None ≡ last_below (fronts c rs) i
+  pub newer : (i : ℕ) → slice_index_or (backs c rs) i false ≡ true → slice_index_or next i None ≡ first_from (suc i) (drop (suc i) (backs c rs))
 
 -- a link leads to a mark, or nowhere
 abbrev pub Marked : List Bool → Option ℕ → Type 0
@@ -100,8 +109,3 @@ below (Some i) = suc i
 abbrev pub onward : ℕ → Option ℕ → ℕ
 onward n None = n
 onward n (Some i) = i
-
--- the links of each procedure
-pub record IsLinked (rs : List Record) (next : List (Option ℕ)) : Type 0 where
-  pub down : (p : Indicator) → IsDown p rs next
-  pub up : (p : Indicator) → IsUp p rs next

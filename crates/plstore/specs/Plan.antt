@@ -7,7 +7,7 @@ use Rattle.plevent.specs.declared.update.Update.TheVariants.{First, Last, Erase,
 use Rattle.plstore.specs.declared.plan.Planned.{Planned}
 use Rattle.plstore.specs.declared.plan.Planned.TheVariants.{Put, Drop, DropOwn, Name}
 
-abbrev put_update : Bool → Clause → Update
+abbrev pub put_update : Bool → Clause → Update
 put_update true c = First c
 put_update false c = Last c
 

@@ -1,11 +1,10 @@
 -- Runs of erased records.
 use Rattle.std.specs.Prelude.{◌≡◌, ℕ, ◌≤◌, true, List, length, nat_lt, slice_index_or, Bool, false, Option, Some, None}
-use Rattle.plterm.specs.declared.indicator.Indicator.{Indicator}
 use Rattle.plevent.specs.Alive.{add_if}
 use Rattle.plstore.specs.declared.record.Record.{Record}
 use Rattle.plstore.specs.declared.runs.Run.{Run}
 use Rattle.plstore.specs.declared.runs.Place.{Place}
-use Rattle.plstore.specs.Links.{fronts, backs}
+use Rattle.plstore.specs.Links.{Class, fronts, backs}
 
 -- erased at a place or below
 abbrev pub IsGone : ℕ → Option ℕ → Type 0
@@ -27,18 +26,18 @@ pub record IsRunUp (bs : List Bool) (rs : List Record) (i : ℕ) (r : Run) : Typ
   pub mark : slice_index_or bs r.last false ≡ true
   pub gone : AllGone bs rs r.latest i r.last
 
--- on its side of its procedure
-pub record IsRun (rs : List Record) (i : ℕ) (r : Run) : Type 0 where
-  pub down : (p : Indicator) → slice_index_or (fronts p rs) i false ≡ true → IsRunDown (fronts p rs) rs i r
-  pub up : (p : Indicator) → slice_index_or (backs p rs) i false ≡ true → IsRunUp (backs p rs) rs i r
+-- on its side of its class
+pub record IsRun (c : Class) (rs : List Record) (i : ℕ) (r : Run) : Type 0 where
+  pub down : slice_index_or (fronts c rs) i false ≡ true → IsRunDown (fronts c rs) rs i r
+  pub up : slice_index_or (backs c rs) i false ≡ true → IsRunUp (backs c rs) rs i r
 
 abbrev pub no_place : Place
 no_place = record { run = None; from = None; start = 0 }
 
 -- each run that is noted is one
-pub record HasRuns (rs : List Record) (places : List Place) : Type 0 where
+pub record HasRuns (c : Class) (rs : List Record) (places : List Place) : Type 0 where
   pub count : length places ≡ length rs
-  pub each : (i : ℕ) (r : Run) → (slice_index_or places i no_place).run ≡ Some r → IsRun rs i r
+  pub each : (i : ℕ) (r : Run) → (slice_index_or places i no_place).run ≡ Some r → IsRun c rs i r
 
 pub record SameRuns (old new : List Place) : Type 0 where
   pub count : length new ≡ length old

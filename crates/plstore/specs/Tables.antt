@@ -1,22 +1,37 @@
 -- What a store's tables keep.
+use Rattle.std.specs.Prelude.{◌≡◌, ℕ, nat_eq}
+use Rattle.plterm.specs.declared.indicator.Indicator.{Indicator}
+use Rattle.plterm.specs.Indicators.{same_indicator}
+use Rattle.plevent.specs.Alive.{is_of}
+use Rattle.plstore.specs.declared.chain.Chain.{Chain}
+use Rattle.plstore.specs.declared.chain.Chain.TheVariants.{Procedure, Slot}
+use Rattle.plstore.specs.declared.ends.Ends.{Ends}
+use Rattle.plstore.specs.declared.links.Links.{Links}
 use Rattle.plstore.specs.declared.tables.Tables.{Tables}
-use Rattle.plstore.specs.Kept.{Kept}
+use Rattle.plstore.specs.Chains.{IsChain}
+use Rattle.plstore.specs.Kept.{Kept, is_there}
+use Rattle.plstore.specs.Links.{ends_in, since_below}
 use Rattle.plstore.specs.Rising.{IsRising}
-use Rattle.plstore.specs.Links.{IsIndexed, ends_in}
-use Rattle.plstore.specs.Runs.{HasRuns}
+use Rattle.plstore.specs.Slots.{in_slot}
 
 abbrev pub kept_in : Tables → Kept
 kept_in t = record { records = t.records.items; declared = t.declared.items }
 
--- links and ends are those of the records
-abbrev pub Indexed : Tables → Type 0
-Indexed t = IsIndexed t.records.items t.declared.items t.next.items (ends_in t.index)
-
--- the runs of erased records that are noted are there
-abbrev pub Passed : Tables → Type 0
-Passed t = HasRuns t.records.items t.places.items
+-- the chains of each procedure and of each slot, and since when each procedure is named
+pub record Chained (t : Tables) : Type 0 where
+  pub procedures : (p : Indicator) → IsChain (is_of p) t.records.items t.by_procedure (ends_in same_indicator t.index p)
+  pub slots : (n : ℕ) → IsChain (in_slot n) t.records.items t.by_slot (ends_in nat_eq t.slots n)
+  pub since : (p : Indicator) (g : ℕ) → since_below g (ends_in same_indicator t.index p).since ≡ is_there g p (kept_in t)
 
 pub record IsStored (t : Tables) : Type 0 where
   pub rising : IsRising t.records.items
-  pub indexed : Indexed t
-  pub runs : Passed t
+  pub chained : Chained t
+
+-- the links of a chain, and where it begins and ends
+abbrev pub links_in : Tables → Chain → Links
+links_in t Procedure = t.by_procedure
+links_in t (Slot n) = t.by_slot
+
+abbrev pub chain_ends : Tables → Indicator → Chain → Ends
+chain_ends t p Procedure = ends_in same_indicator t.index p
+chain_ends t p (Slot n) = ends_in nat_eq t.slots n

@@ -1,16 +1,14 @@
-//! Where the records of a procedure begin and end.
-ghost use Rattle.std.specs.Prelude.{◌≡◌, ◌+◌, ◌<◌, ◌≤◌, ℕ, Some, cond, length, vec_len, ◌++◌, ◌∷◌, []};
+//! Where the records of a class begin and end.
+ghost use Rattle.std.specs.Prelude.{◌≡◌, ◌+◌, ◌<◌, ◌≤◌, ◌↔◌, IsTrue, ℕ, None, Some, cond, length, vec_len, ◌++◌, ◌∷◌, []};
 ghost use Rattle.std.specs.Vec.{vec_capacity};
 ghost use Rattle.std.specs.HashMap.{spare};
-ghost use Rattle.plterm.specs.declared.indicator.Indicator.{Indicator};
-ghost use Rattle.plterm.specs.Indicators.{same_indicator};
 ghost use Rattle.plstore.specs.Links.{earlier, ends_after, ends_in, links_after, since_below};
 
-use plterm::indicator::Indicator;
 use std::collections::HashMap;
+use std::hash::Hash;
 
-/// Where the two sides of a procedure begin and end, as numbers of records, and the place of the first batch that
-/// named it.
+/// Where the two sides of a class begin and end, as numbers of records, and the place of the first batch that named it or
+/// made a clause of it.
 #[derive(Clone, Copy)]
 pub(crate) struct Ends {
     pub(crate) since: Option<u64>,
@@ -29,13 +27,20 @@ impl Ends {
             Some(place) => place < g,
         }
     }
+
+    /// Whether there are no records.
+    pub(crate) fn is_empty(self) -> bool
+        ensures { IsTrue result ↔ ((self.newest_front ≡ None) × (self.oldest_back ≡ None)) }
+    {
+        self.newest_front.is_none() && self.oldest_back.is_none()
+    }
 }
 
-/// The ends of a procedure; one that no batch named has none.
-pub(crate) fn ends_of(index: &HashMap<Indicator, Ends>, pred: &Indicator) -> Ends
-    ensures { result ≡ ends_in index.now pred.now }
+/// The ends of the records of a key; where there are none it has none.
+pub(crate) fn ends_of<K: Eq + Hash>(index: &HashMap<K, Ends>, key: &K) -> Ends
+    ensures { result ≡ ends_in K.eq index.now key.now }
 {
-    match index.get(pred) {
+    match index.get(key) {
         Some(ends) => *ends,
         None => Ends {
             since: None,
@@ -46,13 +51,13 @@ pub(crate) fn ends_of(index: &HashMap<Indicator, Ends>, pred: &Indicator) -> End
     }
 }
 
-/// Sets the ends of a procedure, for which there is room.
-pub(crate) fn set_ends(index: &mut HashMap<Indicator, Ends>, pred: Indicator, ends: Ends)
+/// Sets the ends of a key, for which there is room.
+pub(crate) fn set_ends<K: Eq + Hash + Drop>(index: &mut HashMap<K, Ends>, key: K, ends: Ends)
     requires { 0 < spare index.old }
-    ensures set { (p : Indicator) → ends_in index.new p ≡ cond (same_indicator pred p) ends (ends_in index.old p) }
+    ensures set { (k : K) → ends_in K.eq index.new k ≡ cond (K.eq key k) ends (ends_in K.eq index.old k) }
     ensures room { spare index.old ≤ spare index.new + 1 }
 {
-    match index.insert(pred, ends) {
+    match index.insert(key, ends) {
         Ok(_) => {}
         Err(_) => unreachable!(),
     }

@@ -4,6 +4,7 @@ ghost use Rattle.plterm.specs.Tree.{Tree};
 ghost use Rattle.plsubst.specs.Subst.{shift};
 ghost use Rattle.plsubst.specs.Unify.{unify};
 ghost use Rattle.plevent.specs.Keys.{first_key, may_fit};
+ghost use Rattle.plclause.specs.Clause.{Clause};
 ghost use Rattle.plterm.specs.declared.indicator.Indicator.{Indicator};
 ghost use Rattle.plevent.specs.declared.update.ClauseName.{ClauseName};
 ghost use Rattle.plevent.specs.Alive.{Stamped, before, living, is_alive, exists, clause_named};

@@ -1,12 +1,15 @@
 //! The clauses of all batches, each with the place of its erasure: the database at every time.
 #![tactic(auto)]
 
+mod chain;
 mod ends;
 pub mod laws;
+mod links;
 mod plan;
 pub mod query;
 pub mod record;
 mod runs;
+mod slot;
 mod sought;
 mod steps;
 pub mod store;

@@ -3,12 +3,12 @@ ghost use Rattle.std.specs.Prelude.{◌≡◌, ◌<◌, ◌≤◌, ◌+◌, ◌+
 ghost use Rattle.std.specs.Vec.{vec_capacity};
 ghost use Rattle.plstore.specs.declared.record.Record.{Record};
 ghost use Rattle.plstore.specs.declared.runs.Run.{Run as Ran};
-ghost use Rattle.plstore.specs.Links.{IsLinked};
+ghost use Rattle.plstore.specs.Links.{Class, IsLinked};
 ghost use Rattle.plstore.specs.Runs.{end_at, no_place, HasRuns, IsGone, IsRun, SameRuns};
 
 use crate::ends::Ends;
 
-/// Erased records of one side of a procedure that follow one another: from one on up to `last`, each erased by a batch at
+/// Erased records of one side of a class that follow one another: from one on up to `last`, each erased by a batch at
 /// `latest` or below.
 #[derive(Clone, Copy)]
 pub(crate) struct Run {
@@ -40,7 +40,7 @@ pub(crate) fn run_end(places: &[Place], number: usize, g: u64) -> usize
 
 /// Takes note that a record is erased by a batch at a place, and joins it with the runs before it and behind it.
 pub(crate) fn bury(places: &mut Vec<Place>, next: &[Option<usize>], number: usize, place: u64)
-    ensures runs { (rs : List Record) → IsLinked rs next.now → ((d : Record) → IsGone place (slice_index_or rs number d).erased) → HasRuns rs places.old.items → HasRuns rs places.new.items }
+    ensures runs { (c : Class) (rs : List Record) → IsLinked c rs next.now → ((d : Record) → IsGone place (slice_index_or rs number d).erased) → HasRuns c rs places.old.items → HasRuns c rs places.new.items }
     ensures room { vec_capacity places.new ≡ vec_capacity places.old }
     ensures len { vec_len places.new ≡ vec_len places.old }
 {
@@ -48,7 +48,7 @@ pub(crate) fn bury(places: &mut Vec<Place>, next: &[Option<usize>], number: usiz
 }
 
 fn bury_in(places: &mut [Place], next: &[Option<usize>], number: usize, place: u64)
-    ensures runs { (rs : List Record) → IsLinked rs next.now → ((d : Record) → IsGone place (slice_index_or rs number d).erased) → HasRuns rs places.old → HasRuns rs places.new }
+    ensures runs { (c : Class) (rs : List Record) → IsLinked c rs next.now → ((d : Record) → IsGone place (slice_index_or rs number d).erased) → HasRuns c rs places.old → HasRuns c rs places.new }
     ensures len { length places.new ≡ length places.old }
 {
     let own = Run {
@@ -70,7 +70,7 @@ fn start_before(places: &[Place], number: usize) -> Option<usize> {
 
 /// Joins the run that begins here with the one behind it.
 fn lengthen(places: &mut [Place], next: &[Option<usize>], start: usize)
-    ensures runs { (rs : List Record) → IsLinked rs next.now → HasRuns rs places.old → HasRuns rs places.new }
+    ensures runs { (c : Class) (rs : List Record) → IsLinked c rs next.now → HasRuns c rs places.old → HasRuns c rs places.new }
     ensures len { length places.new ≡ length places.old }
 {
     if let Some(own) = run_at(places, start) {
@@ -92,7 +92,7 @@ fn run_at(places: &[Place], number: usize) -> Option<Run>
 
 /// A run, with the one behind it.
 fn joined(places: &[Place], next: &[Option<usize>], own: Run) -> Run
-    ensures { (rs : List Record) (i : ℕ) → IsLinked rs next.now → HasRuns rs places.now → IsRun rs i own → IsRun rs i result }
+    ensures { (c : Class) (rs : List Record) (i : ℕ) → IsLinked c rs next.now → HasRuns c rs places.now → IsRun c rs i own → IsRun c rs i result }
 {
     match run_behind(places, next, own.last) {
         Some(run) => Run {
@@ -124,7 +124,7 @@ fn later(a: u64, b: u64) -> u64
 
 /// Notes a run at its first record, and where it begins at its last one.
 fn begin(places: &mut [Place], start: usize, run: Run)
-    ensures runs { (rs : List Record) → HasRuns rs places.old → IsRun rs start run → HasRuns rs places.new }
+    ensures runs { (c : Class) (rs : List Record) → HasRuns c rs places.old → IsRun c rs start run → HasRuns c rs places.new }
     ensures len { length places.new ≡ length places.old }
 {
     set_run(places, start, run);
@@ -132,7 +132,7 @@ fn begin(places: &mut [Place], start: usize, run: Run)
 }
 
 fn set_run(places: &mut [Place], start: usize, run: Run)
-    ensures runs { (rs : List Record) → HasRuns rs places.old → IsRun rs start run → HasRuns rs places.new }
+    ensures runs { (c : Class) (rs : List Record) → HasRuns c rs places.old → IsRun c rs start run → HasRuns c rs places.new }
     ensures len { length places.new ≡ length places.old }
 {
     if start < places.len() {
@@ -160,7 +160,7 @@ fn set_from(places: &mut [Place], number: usize, from: usize)
 /// Appends the place of one more record, for which there is room.
 pub(crate) fn add_place(places: &mut Vec<Place>, front: bool, number: usize, ends: Ends)
     requires { vec_len places.old < vec_capacity places.old }
-    ensures runs { (rs : List Record) (r : Record) → HasRuns rs places.old.items → HasRuns (rs ++ r ∷ []) places.new.items }
+    ensures runs { (c : Class) (rs : List Record) (r : Record) → HasRuns c rs places.old.items → HasRuns c (rs ++ r ∷ []) places.new.items }
     ensures room { vec_capacity places.old ≤ vec_capacity places.new }
     ensures len { vec_len places.new ≡ vec_len places.old + 1 }
 {
@@ -176,7 +176,7 @@ pub(crate) fn add_place(places: &mut Vec<Place>, front: bool, number: usize, end
 
 fn append(places: &mut Vec<Place>, from: Option<usize>, number: usize)
     requires { vec_len places.old < vec_capacity places.old }
-    ensures runs { (rs : List Record) (r : Record) → HasRuns rs places.old.items → HasRuns (rs ++ r ∷ []) places.new.items }
+    ensures runs { (c : Class) (rs : List Record) (r : Record) → HasRuns c rs places.old.items → HasRuns c (rs ++ r ∷ []) places.new.items }
     ensures room { vec_capacity places.old ≤ vec_capacity places.new }
     ensures len { vec_len places.new ≡ vec_len places.old + 1 }
 {

@@ -17,11 +17,11 @@ pub(crate) struct Sought<'a> {
 }
 
 impl<'a> Sought<'a> {
-    /// Whether a clause of the procedure is alive, and may be for a goal of the key.
+    /// Whether a clause is alive, may be for a goal of the key, and is of the procedure.
     pub(crate) fn is_met(&self, one: &Record) -> bool
-        ensures { result ≡ is_met self.now.g self.now.key.now one.now }
+        ensures { result ≡ is_met self.now.g self.now.pred.now self.now.key.now one.now }
     {
-        one.is_seen(self.g) && self.key.fits(&one.clause.head().root())
+        one.is_seen(self.g) && self.key.fits(&one.clause.head().root()) && one.is_of(self.pred)
     }
 
     /// Whether a clause is alive and of the procedure, whatever its first argument is.

@@ -2,44 +2,45 @@
 ghost use Rattle.std.specs.Prelude.{◌≡◌, ◌<◌, length};
 ghost use Rattle.plevent.specs.declared.update.ClauseName.{ClauseName as Named};
 ghost use Rattle.plevent.specs.Alive.{or_else};
+ghost use Rattle.plstore.specs.Chains.{found_down, found_up, in_chain};
 ghost use Rattle.plstore.specs.Kept.{walk};
 ghost use Rattle.plstore.specs.Like.{first_like, past};
-ghost use Rattle.plstore.specs.Links.{below, down, fronts, up, Marked};
+ghost use Rattle.plstore.specs.Links.{below, fronts, Marked};
 ghost use Rattle.plstore.specs.Rising.{IsRising, OneIs};
-ghost use Rattle.plstore.specs.Tables.{Indexed, Passed};
+ghost use Rattle.plstore.specs.Tables.{Chained};
 
-use crate::ends::ends_of;
+use crate::chain::{Chain, chain_behind, chain_of};
 use crate::sought::Sought;
 use crate::tables::{Tables, find};
-use crate::walk::{link_at, record_at, seek_back, seek_front};
+use crate::walk::{record_at, seek_back, seek_front};
 use plevent::ClauseName;
 
 /// The name of the first clause that is sought.
 pub(crate) fn first_sought(tables: &Tables, sought: &Sought<'_>) -> Option<ClauseName>
-    requires indexed { Indexed tables.now }
-    requires runs { Passed tables.now }
+    requires chained { Chained tables.now }
     ensures { result ≡ first_like sought.now.key.now (walk sought.now.g sought.now.pred.now tables.now.records.items) }
 {
-    let ends = ends_of(&tables.index, sought.pred);
-    sought_from(tables, sought, ends.newest_front)
+    let chain = chain_of(tables, sought);
+    let ends = chain.ends(tables, sought.pred);
+    sought_from(tables, sought, chain, ends.newest_front)
 }
 
-/// The name of the first one from a record in front on, downward, and then of those behind.
-fn sought_from(tables: &Tables, sought: &Sought<'_>, newest: Option<usize>) -> Option<ClauseName>
-    requires indexed { Indexed tables.now }
-    requires runs { Passed tables.now }
-    requires newest { Marked (fronts sought.now.pred.now tables.now.records.items) newest }
-    ensures { result ≡ or_else (first_like sought.now.key.now (down sought.now.pred.now sought.now.g tables.now.records.items (below newest)))
-        (first_like sought.now.key.now (up sought.now.pred.now sought.now.g tables.now.records.items 0)) }
+/// The name of the first one of a chain from a record in front on, downward, and then of those behind.
+fn sought_from(
+    tables: &Tables,
+    sought: &Sought<'_>,
+    chain: Chain,
+    newest: Option<usize>,
+) -> Option<ClauseName>
+    requires chained { Chained tables.now }
+    requires newest { Marked (fronts (in_chain sought.now.pred.now chain) tables.now.records.items) newest }
+    ensures { result ≡ or_else (found_down sought.now chain tables.now.records.items (below newest)) (found_up sought.now chain tables.now.records.items 0) }
 {
-    let records = tables.records.as_slice();
-    let next = tables.next.as_slice();
-    let places = tables.places.as_slice();
-    match seek_front(records, next, places, sought, newest) {
+    match seek_front(tables, sought, chain, newest) {
         Some(name) => return Some(name),
         None => {
-            let ends = ends_of(&tables.index, sought.pred);
-            return seek_back(records, next, places, sought, ends.oldest_back);
+            let ends = chain.ends(tables, sought.pred);
+            return seek_back(tables, sought, chain, ends.oldest_back);
         }
     }
 }
@@ -52,8 +53,7 @@ pub(crate) fn sought_after(
     name: ClauseName,
 ) -> Option<ClauseName>
     requires rising { IsRising tables.now.records.items }
-    requires indexed { Indexed tables.now }
-    requires runs { Passed tables.now }
+    requires chained { Chained tables.now }
     ensures { result ≡ first_like sought.now.key.now (past name (walk sought.now.g sought.now.pred.now tables.now.records.items)) }
 {
     match find(tables.records.as_slice(), name) {
@@ -64,8 +64,7 @@ pub(crate) fn sought_after(
 
 /// The same of a record, by its number.
 fn sought_behind(tables: &Tables, sought: &Sought<'_>, number: usize) -> Option<ClauseName>
-    requires indexed { Indexed tables.now }
-    requires runs { Passed tables.now }
+    requires chained { Chained tables.now }
     requires within { number < length tables.now.records.items }
     ensures { (x : Named) → OneIs x tables.now.records.items number →
         result ≡ first_like sought.now.key.now (past x (walk sought.now.g sought.now.pred.now tables.now.records.items)) }
@@ -74,15 +73,10 @@ fn sought_behind(tables: &Tables, sought: &Sought<'_>, number: usize) -> Option<
     if !sought.is_shown(one) {
         return None;
     }
-    let link = link_at(tables.next.as_slice(), number);
+    let chain = chain_behind(tables, sought, one);
+    let link = chain.links(tables).next_to(number);
     if one.front {
-        return sought_from(tables, sought, link);
+        return sought_from(tables, sought, chain, link);
     }
-    seek_back(
-        tables.records.as_slice(),
-        tables.next.as_slice(),
-        tables.places.as_slice(),
-        sought,
-        link,
-    )
+    seek_back(tables, sought, chain, link)
 }

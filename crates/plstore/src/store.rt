@@ -1,5 +1,5 @@
 //! The store: every clause ever made, so that the database can be looked at as it was at each time.
-ghost use Rattle.std.specs.Prelude.{◌≡◌, IfOk, OnOk, OnErr, fold};
+ghost use Rattle.std.specs.Prelude.{◌≡◌, IfOk, OnOk, OnErr, fold, length};
 ghost use Rattle.std.specs.Option.{option_copied};
 ghost use Rattle.plevent.specs.Alive.{stamped, names_of};
 ghost use Rattle.plstore.specs.Kept.{keep, nothing, here, clause_of, is_there, next_of, walk};
@@ -8,12 +8,13 @@ ghost use Rattle.plstore.specs.Looking.{clause_seen, found_in};
 ghost use Rattle.plstore.specs.Rising.{AllBelowPlace};
 
 use crate::ends::ends_of;
+use crate::links::Links;
 use crate::plan::plan;
 use crate::query::{Found, Query};
 use crate::record::{Cursor, Declared, Record};
 use crate::sought::Sought;
 use crate::steps::{first_sought, sought_after};
-use crate::tables::{Tables, find, make_all};
+use crate::tables::{Tables, find, make_all, reserve};
 use plclause::clause::Clause;
 use plevent::{Batch, ClauseName, Key};
 use plterm::indicator::Indicator;
@@ -50,9 +51,10 @@ impl Store {
             tables: Tables {
                 records: Vec::new(alloc),
                 declared: Vec::new(alloc),
-                next: Vec::new(alloc),
                 index: HashMap::new(alloc),
-                places: Vec::new(alloc),
+                by_procedure: Links::new(alloc),
+                slots: HashMap::new(alloc),
+                by_slot: Links::new(alloc),
             },
         }
     }
@@ -64,11 +66,7 @@ impl Store {
         ensures refused { OnErr result (self.new ≡ self.old) }
     {
         let plan = plan(alloc, batch.into_vec())?;
-        self.tables.records.reserve(plan.len())?;
-        self.tables.declared.reserve(plan.len())?;
-        self.tables.next.reserve(plan.len())?;
-        self.tables.places.reserve(plan.len())?;
-        self.tables.index.reserve(plan.len())?;
+        reserve(&mut self.tables, plan.len())?;
         make_all(&mut self.tables, plan, place);
         Ok(())
     }

@@ -1,52 +1,64 @@
 //! The tables of a store, and how an update changes them.
-ghost use Rattle.std.specs.Prelude.{◌≡◌, ◌+◌, ◌<◌, ◌≤◌, ◌++◌, ◌∷◌, [], IfSome, MatchOption, slice_index_or, ℕ, None, Some, fold, length, vec_len};
+ghost use Rattle.std.specs.Prelude.{◌≡◌, ◌+◌, ◌<◌, ◌≤◌, ◌++◌, ◌∷◌, [], IfSome, OnOk, MatchOption, slice_index_or, ℕ, None, Some, fold, length, vec_len};
 ghost use Rattle.std.specs.Vec.{vec_capacity};
-ghost use Rattle.std.specs.HashMap.{spare};
 ghost use Rattle.plclause.specs.Indicators.{indicator};
 ghost use Rattle.plevent.specs.Alive.{stamped, named};
 ghost use Rattle.plstore.specs.Kept.{keep, made, erase_at, first_of, changed_where, is_named};
 ghost use Rattle.plstore.specs.Plan.{update_of, updates_of, IsPlanned, AllPlanned};
 ghost use Rattle.plstore.specs.Rising.{less, IsRising, InOrder, NoneIs, OneIs};
-ghost use Rattle.plstore.specs.declared.record.Record.{Record as Recorded};
+ghost use Rattle.plstore.specs.Room.{HasRoom};
 ghost use Rattle.plstore.specs.Runs.{IsGone};
-ghost use Rattle.plstore.specs.Tables.{kept_in, Indexed, Passed};
+ghost use Rattle.plstore.specs.Tables.{kept_in, Chained};
+ghost use Rattle.plstore.specs.declared.record.Record.{Record as Recorded};
 
-use crate::ends::{Ends, earlier, ends_of, grown, link, set_ends};
+use crate::ends::{Ends, earlier, ends_of, set_ends};
+use crate::links::{Added, Links, add};
 use crate::plan::Planned;
 use crate::record::{Declared, Record};
-use crate::runs::{Place, add_place, bury};
+use crate::slot::Slots;
 use plclause::clause::Clause;
 use plevent::ClauseName;
 use plterm::indicator::Indicator;
+use std::alloc::AllocError;
 use std::collections::HashMap;
 
-/// Each clause ever made, in the order of their names, and each declaration; and where to find those of a procedure.
+/// Each clause ever made, in the order of their names, and each declaration; and where to find those of a procedure, and
+/// those of a slot.
 #[derive(Drop)]
 pub(crate) struct Tables {
     pub(crate) records: Vec<Record>,
     pub(crate) declared: Vec<Declared>,
-    /// By the number of a record the next one of its side: downward in front, upward behind.
-    pub(crate) next: Vec<Option<usize>>,
     pub(crate) index: HashMap<Indicator, Ends>,
-    /// By the number of a record what is known of the erased ones beside it.
-    pub(crate) places: Vec<Place>,
+    pub(crate) by_procedure: Links,
+    pub(crate) slots: HashMap<u64, Ends>,
+    pub(crate) by_slot: Links,
+}
+
+/// Makes room for so many updates.
+pub(crate) fn reserve(tables: &mut Tables, count: usize) -> Result<(), AllocError>
+    requires chained { Chained tables.old }
+    ensures room { OnOk result (HasRoom count tables.new) }
+    ensures kept { kept_in tables.new ≡ kept_in tables.old }
+    ensures chained { Chained tables.new }
+{
+    tables.records.reserve(count)?;
+    tables.declared.reserve(count)?;
+    tables.index.reserve(count)?;
+    tables.by_procedure.reserve(count)?;
+    tables.slots.reserve(count)?;
+    tables.by_slot.reserve(count)?;
+    Ok(())
 }
 
 /// Makes the updates of a batch, for which there is room.
 pub(crate) fn make_all(tables: &mut Tables, plan: Vec<Planned>, place: u64)
-    requires records_room { vec_len tables.old.records + vec_len plan ≤ vec_capacity tables.old.records }
-    requires declared_room { vec_len tables.old.declared + vec_len plan ≤ vec_capacity tables.old.declared }
-    requires next_room { vec_len tables.old.next + vec_len plan ≤ vec_capacity tables.old.next }
-    requires index_room { vec_len plan ≤ spare tables.old.index }
-    requires places_room { vec_len tables.old.places + vec_len plan ≤ vec_capacity tables.old.places }
+    requires room { HasRoom (vec_len plan) tables.old }
     requires planned { AllPlanned plan.items }
     requires order { InOrder (named place 0) tables.old.records.items }
-    requires indexed { Indexed tables.old }
-    requires runs { Passed tables.old }
+    requires chained { Chained tables.old }
     ensures made { kept_in tables.new ≡ fold keep (kept_in tables.old) (stamped place 0 (updates_of plan.items)) }
     ensures order { IsRising tables.new.records.items }
-    ensures indexed { Indexed tables.new }
-    ensures runs { Passed tables.new }
+    ensures chained { Chained tables.new }
 {
     let mut number = 0;
     for planned in plan {
@@ -57,27 +69,13 @@ pub(crate) fn make_all(tables: &mut Tables, plan: Vec<Planned>, place: u64)
 
 /// Makes one update.
 fn make(tables: &mut Tables, name: ClauseName, planned: Planned)
-    requires records_room { vec_len tables.old.records < vec_capacity tables.old.records }
-    requires declared_room { vec_len tables.old.declared < vec_capacity tables.old.declared }
-    requires next_room { vec_len tables.old.next < vec_capacity tables.old.next }
-    requires index_room { 0 < spare tables.old.index }
-    requires places_room { vec_len tables.old.places < vec_capacity tables.old.places }
+    requires room { HasRoom 1 tables.old }
     requires planned { IsPlanned planned }
     requires order { InOrder name tables.old.records.items }
-    requires indexed { Indexed tables.old }
-    requires runs { Passed tables.old }
+    requires chained { Chained tables.old }
     ensures made { kept_in tables.new ≡ keep (kept_in tables.old) (record { at = name; update = update_of planned }) }
-    ensures indexed { Indexed tables.new }
-    ensures runs { Passed tables.new }
-    ensures records_room { vec_capacity tables.old.records ≤ vec_capacity tables.new.records }
-    ensures records_len { vec_len tables.new.records ≤ vec_len tables.old.records + 1 }
-    ensures declared_room { vec_capacity tables.old.declared ≤ vec_capacity tables.new.declared }
-    ensures declared_len { vec_len tables.new.declared ≤ vec_len tables.old.declared + 1 }
-    ensures next_room { vec_capacity tables.old.next ≤ vec_capacity tables.new.next }
-    ensures next_len { vec_len tables.new.next ≤ vec_len tables.old.next + 1 }
-    ensures index_room { spare tables.old.index ≤ spare tables.new.index + 1 }
-    ensures places_room { vec_capacity tables.old.places ≤ vec_capacity tables.new.places }
-    ensures places_len { vec_len tables.new.places ≤ vec_len tables.old.places + 1 }
+    ensures chained { Chained tables.new }
+    ensures room { (n : ℕ) → HasRoom (n + 1) tables.old → HasRoom n tables.new }
 {
     match planned {
         Planned::Put(clause, pred, front) => put(tables, name, clause, pred, front),
@@ -92,34 +90,22 @@ fn make(tables: &mut Tables, name: ClauseName, planned: Planned)
 
 /// Appends a record, for which there is room.
 fn put(tables: &mut Tables, name: ClauseName, clause: Clause, pred: Indicator, front: bool)
-    requires records_room { vec_len tables.old.records < vec_capacity tables.old.records }
-    requires next_room { vec_len tables.old.next < vec_capacity tables.old.next }
-    requires index_room { 0 < spare tables.old.index }
-    requires places_room { vec_len tables.old.places < vec_capacity tables.old.places }
+    requires room { HasRoom 1 tables.old }
     requires pred { pred ≡ indicator clause.head }
-    requires indexed { Indexed tables.old }
-    requires runs { Passed tables.old }
+    requires chained { Chained tables.old }
     ensures made { tables.new.records.items ≡ tables.old.records.items ++ made name clause front ∷ [] }
-    ensures indexed { Indexed tables.new }
-    ensures runs { Passed tables.new }
     ensures declared { tables.new.declared ≡ tables.old.declared }
-    ensures records_room { vec_capacity tables.old.records ≤ vec_capacity tables.new.records }
-    ensures records_len { vec_len tables.new.records ≡ vec_len tables.old.records + 1 }
-    ensures next_room { vec_capacity tables.old.next ≤ vec_capacity tables.new.next }
-    ensures next_len { vec_len tables.new.next ≡ vec_len tables.old.next + 1 }
-    ensures index_room { spare tables.old.index ≤ spare tables.new.index + 1 }
-    ensures places_room { vec_capacity tables.old.places ≤ vec_capacity tables.new.places }
-    ensures places_len { vec_len tables.new.places ≡ vec_len tables.old.places + 1 }
+    ensures chained { Chained tables.new }
+    ensures room { (n : ℕ) → HasRoom (n + 1) tables.old → HasRoom n tables.new }
 {
-    let number = tables.records.len();
-    let ends = ends_of(&tables.index, &pred);
-    link(&mut tables.next, front, number, ends);
-    add_place(&mut tables.places, front, number, ends);
-    set_ends(
-        &mut tables.index,
-        pred,
-        grown(ends, front, number, name.place),
-    );
+    let added = Added {
+        number: tables.records.len(),
+        front,
+        place: name.place,
+    };
+    let slot = Slots::new(&pred).of_head(&clause.head().root());
+    add(&mut tables.by_procedure, &mut tables.index, pred, added);
+    add(&mut tables.by_slot, &mut tables.slots, slot, added);
     let record = Record {
         name,
         clause,
@@ -134,18 +120,13 @@ fn put(tables: &mut Tables, name: ClauseName, clause: Clause, pred: Indicator, f
 
 /// Appends a declaration, for which there is room.
 fn declare(tables: &mut Tables, pred: Indicator, key: Indicator, place: u64)
-    requires declared_room { vec_len tables.old.declared < vec_capacity tables.old.declared }
-    requires index_room { 0 < spare tables.old.index }
+    requires room { HasRoom 1 tables.old }
     requires key { key ≡ pred }
-    requires indexed { Indexed tables.old }
+    requires chained { Chained tables.old }
     ensures made { tables.new.declared.items ≡ tables.old.declared.items ++ record { pred = pred; place = place } ∷ [] }
-    ensures indexed { Indexed tables.new }
     ensures records { tables.new.records ≡ tables.old.records }
-    ensures next { tables.new.next ≡ tables.old.next }
-    ensures places { tables.new.places ≡ tables.old.places }
-    ensures declared_room { vec_capacity tables.old.declared ≤ vec_capacity tables.new.declared }
-    ensures declared_len { vec_len tables.new.declared ≡ vec_len tables.old.declared + 1 }
-    ensures index_room { spare tables.old.index ≤ spare tables.new.index + 1 }
+    ensures chained { Chained tables.new }
+    ensures room { (n : ℕ) → HasRoom (n + 1) tables.old → HasRoom n tables.new }
 {
     let mut ends = ends_of(&tables.index, &key);
     ends.since = earlier(ends.since, place);
@@ -159,20 +140,15 @@ fn declare(tables: &mut Tables, pred: Indicator, key: Indicator, place: u64)
 /// Marks the clause of a name as erased, if there is one and it is not.
 fn erase(tables: &mut Tables, of: ClauseName, place: u64)
     requires rising { IsRising tables.old.records.items }
-    requires indexed { Indexed tables.old }
-    requires runs { Passed tables.old }
+    requires chained { Chained tables.old }
     ensures erased { tables.new.records.items ≡ changed_where (is_named of) (erase_at place) tables.old.records.items }
-    ensures runs { Passed tables.new }
     ensures declared { tables.new.declared ≡ tables.old.declared }
-    ensures next { tables.new.next ≡ tables.old.next }
-    ensures index { tables.new.index ≡ tables.old.index }
-    ensures records_room { vec_capacity tables.new.records ≡ vec_capacity tables.old.records }
-    ensures records_len { vec_len tables.new.records ≡ vec_len tables.old.records }
-    ensures places_room { vec_capacity tables.new.places ≡ vec_capacity tables.old.places }
-    ensures places_len { vec_len tables.new.places ≡ vec_len tables.old.places }
+    ensures chained { Chained tables.new }
+    ensures room { (n : ℕ) → HasRoom (n + 1) tables.old → HasRoom n tables.new }
 {
     if let Some(number) = erase_record(&mut tables.records, of, place) {
-        bury(&mut tables.places, tables.next.as_slice(), number, place);
+        tables.by_procedure.bury(number, place);
+        tables.by_slot.bury(number, place);
     }
 }
 

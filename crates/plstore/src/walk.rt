@@ -1,58 +1,59 @@
-//! The walk over the clauses of a procedure, by its links.
-ghost use Rattle.std.specs.Prelude.{◌≡◌, ◌<◌, None, length, slice_index_or};
-ghost use Rattle.plstore.specs.Like.{first_like};
-ghost use Rattle.plstore.specs.Runs.{HasRuns};
-ghost use Rattle.plstore.specs.Links.{below, down, onward, up, fronts, backs, IsDown, IsUp, Marked};
+//! The walk over the clauses of a chain, by its links.
+ghost use Rattle.std.specs.Prelude.{◌≡◌, ◌<◌, length, slice_index_or};
+ghost use Rattle.plstore.specs.Chains.{found_down, found_up, in_chain};
+ghost use Rattle.plstore.specs.Links.{below, onward, fronts, backs, Marked};
+ghost use Rattle.plstore.specs.Tables.{Chained};
 
+use crate::chain::Chain;
 use crate::record::Record;
-use crate::runs::{Place, run_end};
 use crate::sought::Sought;
+use crate::tables::Tables;
 use plevent::ClauseName;
 
 /// The name of the first clause that is sought, of those put in front, from one on, the newest first.
 pub(crate) fn seek_front(
-    records: &[Record],
-    next: &[Option<usize>],
-    places: &[Place],
+    tables: &Tables,
     sought: &Sought<'_>,
+    chain: Chain,
     newest: Option<usize>,
 ) -> Option<ClauseName>
-    requires links { IsDown sought.now.pred.now records.now next.now }
-    requires runs { HasRuns records.now places.now }
-    requires newest { Marked (fronts sought.now.pred.now records.now) newest }
-    ensures { result ≡ first_like sought.now.key.now (down sought.now.pred.now sought.now.g records.now (below newest)) }
+    requires chained { Chained tables.now }
+    requires newest { Marked (fronts (in_chain sought.now.pred.now chain) tables.now.records.items) newest }
+    ensures { result ≡ found_down sought.now chain tables.now.records.items (below newest) }
 {
+    let records = tables.records.as_slice();
+    let links = chain.links(tables);
     let mut at = newest;
     while let Some(number) = at {
         let record = record_at(records, number);
         if sought.is_met(record) {
             return Some(record.name);
         }
-        at = link_at(next, run_end(places, number, sought.g));
+        at = links.next_behind(number, sought.g);
     }
     None
 }
 
 /// The same of those put behind, the oldest first.
 pub(crate) fn seek_back(
-    records: &[Record],
-    next: &[Option<usize>],
-    places: &[Place],
+    tables: &Tables,
     sought: &Sought<'_>,
+    chain: Chain,
     oldest: Option<usize>,
 ) -> Option<ClauseName>
-    requires links { IsUp sought.now.pred.now records.now next.now }
-    requires runs { HasRuns records.now places.now }
-    requires oldest { Marked (backs sought.now.pred.now records.now) oldest }
-    ensures { result ≡ first_like sought.now.key.now (up sought.now.pred.now sought.now.g records.now (onward (length records.now) oldest)) }
+    requires chained { Chained tables.now }
+    requires oldest { Marked (backs (in_chain sought.now.pred.now chain) tables.now.records.items) oldest }
+    ensures { result ≡ found_up sought.now chain tables.now.records.items (onward (length tables.now.records.items) oldest) }
 {
+    let records = tables.records.as_slice();
+    let links = chain.links(tables);
     let mut at = oldest;
     while let Some(number) = at {
         let record = record_at(records, number);
         if sought.is_met(record) {
             return Some(record.name);
         }
-        at = link_at(next, run_end(places, number, sought.g));
+        at = links.next_behind(number, sought.g);
     }
     None
 }
@@ -62,11 +63,4 @@ pub(crate) fn record_at(records: &[Record], number: usize) -> &Record
     ensures { result.now ≡ slice_index_or records.now number result.now }
 {
     &records[number]
-}
-
-pub(crate) fn link_at(next: &[Option<usize>], number: usize) -> Option<usize>
-    requires { number < length next.now }
-    ensures { result ≡ slice_index_or next.now number None }
-{
-    next[number]
 }

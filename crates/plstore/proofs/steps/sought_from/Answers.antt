@@ -1,21 +1,19 @@
-use Rattle.std.proofs.Common.{◌∙◌, sym, ap, subst, length}
+use Rattle.std.proofs.Common.{◌∙◌, sym, ap}
 use Rattle.plevent.specs.Alive.{or_else}
-use Rattle.plstore.specs.Like.{first_like}
-use Rattle.plstore.specs.Links.{backs, below, down, ends_in, onward, up, Marked}
-use Rattle.plstore.proofs.Visible.{oldest-marked, oldest-whole}
+use Rattle.plstore.specs.Like.{first_where, suits}
+use Rattle.plstore.specs.Links.{up}
+use Rattle.plstore.specs.Chains.{in_chain}
+use Rattle.plstore.proofs.Covering.{chain-is, oldest-marked, oldest-whole}
 use Rattle.plstore.proofs.steps.sought_from.Goals as goal
 
 pub seek_back-requires-clause-oldest : goal.seek_back-requires-clause-oldest
 seek_back-requires-clause-oldest c =
-    let t = c.args.tables.now in
-    let q = c.args.sought.now in
-    subst (λ rs. Marked (backs q.pred.now rs) c.ends_of-ends.result.oldest_back) (sym c.as_slice-records.ensures.value)
-    (oldest-marked q.pred.now t.records.items t.declared.items t.next.items (ends_in t.index) c.requires.indexed c.ends_of-ends.result c.ends_of-ends.ensures)
+    oldest-marked _ _ _ _ (chain-is c.args.tables.now c.args.sought.now.pred.now c.args.chain c.requires.chained).indexed c.ends-ends.result c.ends-ends.ensures
 
 pub returns-in-None : goal.returns-in-None
 returns-in-None c =
-    let t = c.args.tables.now in
     let q = c.args.sought.now in
-    c.seek_back.ensures ∙ ap (λ rs. first_like q.key.now (up q.pred.now q.g rs (onward (length rs) c.ends_of-ends.result.oldest_back))) c.as_slice-records.ensures.value
-    ∙ ap (first_like q.key.now) (oldest-whole q.pred.now t.records.items t.declared.items t.next.items (ends_in t.index) c.requires.indexed q.g c.ends_of-ends.result c.ends_of-ends.ensures)
-    ∙ ap (λ o. or_else o (first_like q.key.now (up q.pred.now q.g t.records.items 0))) (sym c.in-None.is ∙ c.seek_front.ensures ∙ ap (λ rs. first_like q.key.now (down q.pred.now q.g rs (below c.args.newest))) c.as_slice-records.ensures.value)
+    let test = suits q.pred.now q.key.now in
+    c.seek_back.ensures
+    ∙ ap (first_where test) (oldest-whole _ _ _ _ (chain-is c.args.tables.now q.pred.now c.args.chain c.requires.chained).indexed q.g c.ends-ends.result c.ends-ends.ensures)
+    ∙ ap (λ o. or_else o (first_where test (up (in_chain q.pred.now c.args.chain) q.g c.args.tables.now.records.items 0))) (sym c.in-None.is ∙ c.seek_front.ensures)

@@ -1,12 +1,25 @@
-use Rattle.std.proofs.Common.{◌∙◌, ap, ap₂}
+use Rattle.std.proofs.Common.{◌∙◌, refl, sym, ap}
+use Rattle.plterm.specs.Indicators.{same_indicator}
+use Rattle.plevent.specs.declared.update.Update.TheVariants.{Declare}
+use Rattle.plevent.specs.Alive.{is_of, named}
 use Rattle.plstore.specs.declared.ends.Ends.{Ends}
-use Rattle.plstore.specs.Links.{ends_in, earlier}
-use Rattle.plstore.proofs.Index.{declare-all}
+use Rattle.plstore.specs.Links.{earlier, ends_in}
+use Rattle.plstore.specs.Tables.{kept_in}
+use Rattle.plstore.proofs.Classes.{chain-noted}
+use Rattle.plstore.proofs.Same.{same-is}
+use Rattle.plstore.proofs.Since.{since-kept}
 use Rattle.plstore.proofs.tables.declare.Goals as goal
 
-pub returns-clause-indexed : goal.returns-clause-indexed
-returns-clause-indexed c =
-    declare-all c.args.key c.args.pred c.args.place c.args.tables.now.records.items c.args.tables.now.declared.items c.push.new.self.items c.args.tables.now.next.items (ends_in c.args.tables.now.index) (ends_in c.set_ends.new.index) _
-    c.requires.indexed c.requires.key
-    (ap₂ (λ (e : Ends) s. record e { since = s }) c.ends_of-ends.ensures (c.earlier-ends.ensures ∙ ap (λ (e : Ends). earlier e.since c.args.place) c.ends_of-ends.ensures))
-    c.set_ends.ensures.set c.in-Ok.ensures.items
+pub returns-clause-chained : goal.returns-clause-chained
+returns-clause-chained c =
+    let t = c.args.tables.now in
+    let k = c.args.key in
+    let E = ends_in same_indicator t.index in
+    let law = c.set_ends.ensures.set in
+    let since = c.earlier-ends.ensures ∙ ap (λ (e : Ends). earlier e.since c.args.place) c.ends_of-ends.ensures in
+    record {
+      procedures = λ p. chain-noted same_indicator same-is k (is_of p) p t.records.items t.by_procedure E (ends_in same_indicator c.set_ends.new.index) _ (law p) c.ends_of-ends.result c.ends_of-ends.ensures refl refl refl (c.requires.chained.procedures p);
+      slots = c.requires.chained.slots;
+      since = since-kept k (kept_in t) _ (record { at = named c.args.place 0; update = Declare c.args.pred }) _ E _ c.requires.chained.since law since
+          (λ p. ap (λ q. same_indicator q p) (sym c.requires.key)) (ap (λ ds. record { records = t.records.items; declared = ds }) c.in-Ok.ensures.items);
+    }

@@ -1,26 +1,45 @@
-use Rattle.std.proofs.Common.{sym, subst}
-use Rattle.plstore.specs.Kept.{changed_where, erase_at, is_named}
-use Rattle.plstore.specs.Links.{ends_in, IsLinked}
-use Rattle.plstore.specs.Runs.{HasRuns}
-use Rattle.plstore.proofs.Index.{erase-keeps}
-use Rattle.plstore.proofs.Passing.{linked, runs-erase}
+use Rattle.std.proofs.Common.{◌∙◌, sym, subst, arith, get_or}
+use Rattle.std.specs.Prelude.{nat_eq}
+use Rattle.plterm.specs.Indicators.{same_indicator}
+use Rattle.plevent.specs.Alive.{is_of}
+use Rattle.plstore.specs.declared.record.Record.{Record}
+use Rattle.plstore.specs.Links.{ends_in}
+use Rattle.plstore.specs.Runs.{IsGone}
+use Rattle.plstore.specs.Slots.{in_slot}
+use Rattle.plstore.specs.Chains.{IsChain}
+use Rattle.plstore.proofs.Classes.{chain-erased, chain-kept}
+use Rattle.plstore.proofs.Since.{since-erased}
 use Rattle.plstore.proofs.tables.erase.Goals as goal
 
-pub returns-in-Some-clause-runs : goal.returns-in-Some-clause-runs
-returns-in-Some-clause-runs c =
+pub returns-in-Some-clause-chained : goal.returns-in-Some-clause-chained
+returns-in-Some-clause-chained c =
     let t = c.args.tables.now in
-    let y = c.args.of in
-    let b = c.args.place in
-    let rs = c.erase_record.new.records.items in
-    let erased = changed_where (is_named y) (erase_at b) t.records.items in
-    c.bury.ensures.runs rs
-    (subst (IsLinked rs) (sym c.as_slice.ensures.value)
-    (subst (λ l. IsLinked l t.next.items) (sym c.in-Some.ensures.erased)
-    (linked erased t.declared.items t.next.items (ends_in t.index) (erase-keeps y b t.records.items t.declared.items t.next.items (ends_in t.index) c.requires.indexed))))
-    c.in-Some.ensures.gone
-    (subst (λ l. HasRuns l t.places.items) (sym c.in-Some.ensures.erased) (runs-erase y b t.records.items t.places.items c.requires.runs))
+    let e = c.in-Some.ensures.erased in
+    let gone = subst (λ rs. (d : Record) → IsGone c.args.place (get_or rs c.in-Some.number d).erased) e c.in-Some.ensures.gone in
+    record {
+      procedures = λ p. subst (λ rs. IsChain (is_of p) rs c.bury.new.self (ends_in same_indicator t.index p)) (sym e)
+          (chain-erased (is_of p) c.args.of c.args.place c.in-Some.number t.records.items t.by_procedure c.bury.new.self _ (c.requires.chained.procedures p) gone c.bury.ensures.next c.bury.ensures.runs);
+      slots = λ n. subst (λ rs. IsChain (in_slot n) rs c.bury-in-Some.new.self (ends_in nat_eq t.slots n)) (sym e)
+          (chain-erased (in_slot n) c.args.of c.args.place c.in-Some.number t.records.items t.by_slot c.bury-in-Some.new.self _ (c.requires.chained.slots n) gone c.bury-in-Some.ensures.next c.bury-in-Some.ensures.runs);
+      since = λ p g. c.requires.chained.since p g ∙ since-erased p g c.args.of c.args.place t.records.items c.erase_record.new.records.items t.declared.items e;
+    }
 
-pub returns-in_default-clause-runs : goal.returns-in_default-clause-runs
-returns-in_default-clause-runs c =
+pub returns-in_default-clause-chained : goal.returns-in_default-clause-chained
+returns-in_default-clause-chained c =
     let t = c.args.tables.now in
-    subst (λ l. HasRuns l t.places.items) (sym c.in_default.ensures.erased) (runs-erase c.args.of c.args.place t.records.items t.places.items c.requires.runs)
+    let e = c.in_default.ensures.erased in
+    record {
+      procedures = λ p. subst (λ rs. IsChain (is_of p) rs t.by_procedure (ends_in same_indicator t.index p)) (sym e) (chain-kept (is_of p) c.args.of c.args.place t.records.items t.by_procedure _ (c.requires.chained.procedures p));
+      slots = λ n. subst (λ rs. IsChain (in_slot n) rs t.by_slot (ends_in nat_eq t.slots n)) (sym e) (chain-kept (in_slot n) c.args.of c.args.place t.records.items t.by_slot _ (c.requires.chained.slots n));
+      since = λ p g. c.requires.chained.since p g ∙ since-erased p g c.args.of c.args.place t.records.items c.erase_record.new.records.items t.declared.items e;
+    }
+
+pub returns-in-Some-clause-room : goal.returns-in-Some-clause-room
+returns-in-Some-clause-room c = λ n room. record {
+  records = omega (arith, room.records, c.in-Some.ensures.room, c.in-Some.ensures.len);
+  declared = omega (arith, room.declared);
+  index = omega (arith, room.index);
+  by_procedure = c.bury.ensures.room n (record { next = omega (arith, room.by_procedure.next); places = omega (arith, room.by_procedure.places) });
+  slots = omega (arith, room.slots);
+  by_slot = c.bury-in-Some.ensures.room n (record { next = omega (arith, room.by_slot.next); places = omega (arith, room.by_slot.places) });
+}

@@ -3,6 +3,7 @@ use Rattle.plevent.specs.Alive.{stamped, named}
 use Rattle.plstore.specs.Kept.{keep}
 use Rattle.plstore.specs.Plan.{update_of, updates_of, AllPlanned}
 use Rattle.plstore.specs.Rising.{InOrder}
+use Rattle.plstore.specs.Room.{HasRoom}
 use Rattle.plstore.specs.Tables.{kept_in}
 use Rattle.plstore.proofs.Plans.{updates-append, updates-length}
 use Rattle.plstore.proofs.Search.{kept-more, order-keep}
@@ -32,13 +33,8 @@ loop-planned-preserved c =
             ∙ ap (λ us. fold keep (kept_in c.args.tables.now) (stamped p 0 us)) (sym (updates-append c.loop-planned.yielded (x ∷ [])));
         order = subst (λ n. InOrder (named p n) c.make.new.tables.records.items) (omega arith)
             (subst (InOrder (named p (suc n))) (sym (ap (λ k. k.records) c.make.ensures.made)) (order-keep p n u c.loop-planned.tables.records.items i.order));
-        indexed = c.make.ensures.indexed;
-        runs = c.make.ensures.runs;
+        chained = c.make.ensures.chained;
         planned = rest.1;
-        records_room = omega (arith, r, i.records_room, c.make.ensures.records_room, c.make.ensures.records_len);
-        declared_room = omega (arith, r, i.declared_room, c.make.ensures.declared_room, c.make.ensures.declared_len);
-        next_room = omega (arith, r, i.next_room, c.make.ensures.next_room, c.make.ensures.next_len);
-        index_room = omega (arith, r, i.index_room, c.make.ensures.index_room);
-        places_room = omega (arith, r, i.places_room, c.make.ensures.places_room, c.make.ensures.places_len);
+        room = c.make.ensures.room (length c.next.new.self.rest.items) (subst (λ n. HasRoom n c.loop-planned.tables) (omega (arith, r)) i.room);
       },
     )

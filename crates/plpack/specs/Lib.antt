@@ -1,0 +1,5 @@
+pub mod Packing
+pub mod Items
+pub mod Finding
+pub mod Unpacking
+pub mod Faults

@@ -1,0 +1,84 @@
+//! Nodes at the front of bytes.
+ghost use Rattle.std.specs.Prelude.{◌<◌, ◌≤◌, ◌↔◌, ◌∷◌, IfOk, IsTrue};
+ghost use Rattle.plpack.specs.Finding.{Finds};
+
+use crate::parts::{long_of, name_of, short_of};
+use crate::tag::{ATOM, COMPOUND, INTEGER, VARIABLE};
+use plterm::name::Name;
+use plterm::node::Node;
+use plterm::term::ARITY;
+use std::alloc::{AllocError, Global};
+
+/// A node, and the bytes behind its own.
+#[derive(Drop)]
+pub struct Item<'a> {
+    pub node: Node,
+    pub behind: &'a [u8],
+}
+
+/// The node whose bytes begin the bytes.
+pub fn item_at(alloc: Global, bytes: &[u8]) -> Result<Option<Item<'_>>, AllocError>
+    ensures { IfOk result (Finds bytes.now) }
+{
+    match bytes {
+        [VARIABLE, rest @ ..] => Ok(variable_at(rest)),
+        [INTEGER, rest @ ..] => Ok(integer_at(rest)),
+        [ATOM, rest @ ..] => atom_at(alloc, rest),
+        [COMPOUND, rest @ ..] => compound_at(alloc, rest),
+        [_, ..] => Ok(None),
+        [] => Ok(None),
+    }
+}
+
+/// The variable whose number begins the bytes.
+fn variable_at(bytes: &[u8]) -> Option<Item<'_>>
+    ensures { Finds (VARIABLE ∷ bytes.now) result }
+{
+    let (number, behind) = long_of(bytes)?;
+    let node = Node::Var(number);
+    Some(Item { node, behind })
+}
+
+/// The integer whose value begins the bytes.
+fn integer_at(bytes: &[u8]) -> Option<Item<'_>>
+    ensures { Finds (INTEGER ∷ bytes.now) result }
+{
+    let (value, behind) = long_of(bytes)?;
+    let node = Node::Int(value.cast_signed());
+    Some(Item { node, behind })
+}
+
+/// The atom whose name begins the bytes.
+fn atom_at(alloc: Global, bytes: &[u8]) -> Result<Option<Item<'_>>, AllocError>
+    ensures { IfOk result (Finds (ATOM ∷ bytes.now)) }
+{
+    let Some((text, behind)) = name_of(bytes) else {
+        return Ok(None);
+    };
+    let node = Node::Atom(Name::new(alloc, text)?);
+    Ok(Some(Item { node, behind }))
+}
+
+/// The compound whose arity and name begin the bytes.
+fn compound_at(alloc: Global, bytes: &[u8]) -> Result<Option<Item<'_>>, AllocError>
+    ensures { IfOk result (Finds (COMPOUND ∷ bytes.now)) }
+{
+    let Some((arity, rest)) = short_of(bytes) else {
+        return Ok(None);
+    };
+    if !is_arity(arity) {
+        return Ok(None);
+    }
+    let Some((text, behind)) = name_of(rest) else {
+        return Ok(None);
+    };
+    let node = Node::Compound(Name::new(alloc, text)?, arity);
+    Ok(Some(Item { node, behind }))
+}
+
+/// Whether a compound may have so many arguments.
+fn is_arity(count: u16) -> bool
+    ensures { IsTrue result ↔ ((0 < count) × (count ≤ 1024)) }
+{
+    count > 0 && count as usize <= ARITY
+}
