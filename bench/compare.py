@@ -10,7 +10,7 @@ The same text runs on all systems, in turn, as often as --times says (3); the le
 of a run of no rounds, which is that of the start, of the loading and of what is made before, is taken off. All times
 are divided by the same count, our steps. Before that, one round's answer is written by each system and compared.
 
-A round of `upto` or of `findall` is millions of steps long, and a run has one at least, so these two take minutes.
+A round of `upto`, `findall` or `facts` is millions of steps long, and a run has one at least, so these take minutes.
 `loop` is an endless loop, ended by --steps, for this system alone. A peak below some 15 MB is that of this script,
 before the program takes its place. GNU Prolog is given more room for terms than it takes by itself, where ROOM says so.
 """

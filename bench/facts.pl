@@ -5,7 +5,7 @@
 fill(100000) :- !.
 fill(K) :- V is K mod 1000, assertz(f(K, V)), look(K), drop(K), J is K + 1, fill(J).
 
-look(K) :- J is K // 2 * 2 + 1, I is J // 3, f(I, _), !.
+look(K) :- I is K // 3, f(I, _), !.
 look(_).
 
 drop(K) :- 0 is K mod 10, retract(f(K, _)), !.

@@ -33,7 +33,7 @@ def pair(random_):
     """The last two of some terms, each of which is made of earlier ones."""
     terms = VARIABLES + ATOMS
     for _ in range(COMPOUNDS):
-        terms = terms + [f"f({random_.choice(terms)},{random_.choice(terms)})"]
+        terms.append(f"f({random_.choice(terms)},{random_.choice(terms)})")
     return terms[-1], terms[-2]
 
 
