@@ -31,12 +31,12 @@ bind-pair : (σ : ℕ → Tree) (name : List ℕ) (l r : Tree) → bind σ (comp
 unfolding bind
 bind-pair σ name l r = refl
 
-module _ (P : Program) (s : Reached) (begun : IsBegun P s) (more : Extends s.stack.code.text.names s.stack.env.heap.names) (table : IsTable s.stack.env.heap.names) where
+module _ (P : Program) (s : Reached) (begun : IsBegun P s) (more : Extends s.stack.basis.code.text.names s.stack.env.heap.names) (table : IsTable s.stack.env.heap.names) where
   pub calculation-is : (r : Run) (at : ℕ) (t u : Tree) (p : Pair) (b : Arithmetic) → StandsFor s.stack (Node r at) t → IsArgument s.stack r at u → bound_at s.stack r u ≡ t → IsPair s.stack r u p →
-      callee_at s.stack.code.callees (Functor p.functor) ≡ callees.BuiltIn (predicates.Arithmetic b) → IsCalculation s.stack (record { predicate = b; run = r; node = at; left = p.left; right = p.right }) t
+      callee_at s.stack.basis.code.callees (Functor p.functor) ≡ callees.BuiltIn (predicates.Arithmetic b) → IsCalculation s.stack (record { predicate = b; run = r; node = at; left = p.left; right = p.right }) t
   calculation-is r at t u p b stands is_one bound pair callee =
       let own = begun.callees s.stack.env.heap.names more table (Functor p.functor) (record { name = pair.name; arity = 2 }) pair.procedure in
-      let kind : kind_of pair.name 2 ≡ Some (kinds.BuiltIn (predicates.Arithmetic b)) = subst (IsCallee (renamed s.stack.env.heap.names s.stack.code.text) s.stack.code.procedures P (record { name = pair.name; arity = 2 })) callee own in
+      let kind : kind_of pair.name 2 ≡ Some (kinds.BuiltIn (predicates.Arithmetic b)) = subst (IsCallee (renamed s.stack.env.heap.names s.stack.basis.code.text) s.stack.basis.code.procedures P (record { name = pair.name; arity = 2 })) callee own in
       let σ = over s.stack.env r.base in
       record {
         left = pair.left;

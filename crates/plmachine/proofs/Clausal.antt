@@ -19,7 +19,7 @@ use Rattle.plsearch.specs.Rows.{resolve, as_fact, choose, raised, retrieve, retr
 use Rattle.plsearch.specs.Replies.{retract}
 use Rattle.plsearch.specs.Search.{ending_of}
 use Rattle.plsearch.proofs.Turns.{Rest-turn}
-use Rattle.plcells.specs.Store.{Store, value}
+use Rattle.plcells.specs.Store.{value}
 use Rattle.plenv.specs.Env.{Env}
 use Rattle.pllinks.specs.declared.link.Continuation.{Continuation}
 use Rattle.plstack.specs.declared.frame.Use.{Use}
@@ -54,9 +54,9 @@ publish-none (u ∷ us) rest n w none = absurd (omega (arith, none))
 
 -- ---- what is next
 
-pub may-by : (h : Store) (x : Option ClauseName) → MayAsk h (mode_by x)
-may-by h None = tt
-may-by h (Some x) = tt
+pub may-by : (s : State) (x : Option ClauseName) → MayAsk s (mode_by x)
+may-by s None = tt
+may-by s (Some x) = tt
 
 pub plain-by : (x : Option ClauseName) → IsPlain (mode_by x)
 plain-by None = tt
@@ -77,7 +77,7 @@ walks-rest P cs (p ∷ ps) run = sym (Rest-turn P (record { mode = Back Fail; ca
 pub walks : (P : Program) (s : Reached) (st : State) (w : Walk) (rest : Continuation) → OpensWalk s.stack st w rest →
     Walks P s (record s { stack = st; mode = modes.Back outcomes.Fail }) (value s.stack.env.heap w.goal) w.uses w.spot (goals_of s.stack rest)
 walks P s st w rest o = record {
-  code = o.code;
+  basis = o.basis;
   frame = refl;
   ends = λ v most left answers.
       let t = value s.stack.env.heap w.goal in
@@ -95,7 +95,7 @@ walks-grown P s t new g u spot l grown is there w =
     let stay = grown-stays P s t grown is in
     let local : local_of t ≡ local_of s = stay.local in
     record {
-      code = w.code ∙ stay.code;
+      basis = w.basis ∙ stay.basis;
       frame = w.frame ∙ ap (λ (x : Reached). record x { stack = new.stack; mode = modes.Back outcomes.Fail }) is;
       ends = λ v most left answers.
           let xs = left_at (database_of P v) u g spot in
@@ -109,15 +109,15 @@ walks-grown P s t new g u spot l grown is there w =
 pub walks-moved : (P : Program) (s new : Reached) (t : Tree) (u : Use) (spot : Spot) (es : List Element) (m : Move) → Walks P s new t u spot es →
     ((v : Views) → choose (candidates_left (depth_of s) s.stack.env t es (left_at (database_of P v) u t spot)) (local_of s) ≡ m) → Moved P s new m
 walks-moved P s new t u spot es m w same = record {
-  code = w.code;
+  basis = w.basis;
   askable = back-asks new outcomes.Fail (ap (λ x. x.mode) w.frame);
   ends = λ v most left answers. ap (after P v s most left answers) (sym (same v)) ∙ w.ends v most left answers;
 }
 
 -- ---- candidates
 
-tried-none : (d n : ℕ) (t : Tree) (rest : List Element) (c : Clause) → tried d n t rest (record { clause = c; erased = None }) ≡ resolve d n t rest c
-tried-none d n t rest c = go (resolve d n t rest c)
+tried-none : (d n : ℕ) (t : Tree) (rest : List Element) (u : Use) (c : Clause) → tried d n t rest (text_candidate u c) ≡ resolve d n t rest (clause_by u c)
+tried-none d n t rest u c = go (resolve d n t rest (clause_by u c))
   where
     go : (o : Option Place) → option_map (place_asked None) o ≡ o
     go None = refl
@@ -126,16 +126,16 @@ tried-none d n t rest c = go (resolve d n t rest c)
 -- clauses of the program's text
 pub text-left : (d : ℕ) (e : Env) (t : Tree) (rest : List Element) (u : Use) (cs : List Clause) → candidates_left d e t rest (map (text_candidate u) cs) ≡ filter_map (resolve d e.count t rest) (map (clause_by u) cs)
 text-left d e t rest u [] = refl
-text-left d e t rest u (c ∷ cs) = ap₂ cons_option (tried-none d e.count t rest (clause_by u c)) (text-left d e t rest u cs)
+text-left d e t rest u (c ∷ cs) = ap₂ cons_option (tried-none d e.count t rest u c) (text-left d e t rest u cs)
 
 -- clauses that are alive
 pub called-left : (d n : ℕ) (t : Tree) (rest : List Element) (xs : List Living) → filter_map (tried d n t rest) (map (candidate_of uses.Call) xs) ≡ filter_map (resolve d n t rest) (clauses_of xs)
 called-left d n t rest [] = refl
-called-left d n t rest (x ∷ xs) = ap₂ cons_option (tried-none d n t rest x.clause) (called-left d n t rest xs)
+called-left d n t rest (x ∷ xs) = ap₂ cons_option (tried-none d n t rest uses.Call x.clause) (called-left d n t rest xs)
 
 pub told-left : (d n : ℕ) (t : Tree) (rest : List Element) (xs : List Living) → filter_map (tried d n t rest) (map (candidate_of uses.Tell) xs) ≡ filter_map (resolve d n t rest) (map as_fact (clauses_of xs))
 told-left d n t rest [] = refl
-told-left d n t rest (x ∷ xs) = ap₂ cons_option (tried-none d n t rest (as_fact x.clause)) (told-left d n t rest xs)
+told-left d n t rest (x ∷ xs) = ap₂ cons_option (tried-none d n t rest uses.Tell x.clause) (told-left d n t rest xs)
 
 tried-erased : (d n : ℕ) (t : Tree) (rest : List Element) (x : Living) → tried d n t rest (candidate_of uses.Erase x) ≡ retract d n t rest x
 tried-erased d n t rest x = go (unify t (shift n (as_fact x.clause).head))

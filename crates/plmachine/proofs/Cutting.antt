@@ -41,7 +41,7 @@ module _ (P : Program) (old new : State) (level : ℕ) (list : Continuation) (th
 pub cuts : (P : Program) (s new : Reached) (st : State) (level : ℕ) (list : Continuation) → IsList s.stack list → Cuts s.stack st level list → new ≡ record s { stack = st; mode = modes.Visit } →
     Moved P s new (Go (Mark level ∷ []) (record { goals = goals_of s.stack list; variables = s.stack.env.count }) (local_of s))
 cuts P s new st level list there cut is = record {
-  code = ap (λ x. x.stack.code) is ∙ cut.keeps.code;
+  basis = ap (λ x. x.stack.basis) is ∙ cut.keeps.basis;
   askable = visit-asks new (ap (λ x. x.mode) is);
   ends = λ v most left answers.
       ap (ending_of most) (sym (cut-rest P s.stack st level list there cut v (record { steps = left; answers = answers; local = local_of s })))

@@ -46,7 +46,7 @@ module _ (old put new : State) (l v : Cell) (ts : List Tree) (fits : IsValue old
     cases = λ db. u.cases db ∙ p.stays.cases db;
     frames = u.frames ∙ p.stays.frames;
     count = u.count ∙ p.count;
-    code = u.code ∙ p.stays.code;
+    basis = u.basis ∙ p.stays.basis;
   }
 
   pub gathers-yes : (r : Outcomes Bool AllocError) → IfOk r (λ so. so ≡ true → Unifies put new l v) → IfOk r (λ so. so ≡ true → Gathers old new (value old.env.heap l) ts)

@@ -15,6 +15,5 @@ pub mod Joining
 pub mod Calculating
 pub mod Clausal
 pub mod Necks
-pub mod Facts
 pub mod Declaring
 pub mod Firsts

@@ -12,6 +12,7 @@ use Rattle.pllinks.specs.declared.item.Item.TheVariants as items
 use Rattle.pllinks.specs.declared.item.MarkerKind.TheVariants as markers
 use Rattle.pllinks.specs.declared.link.Continuation.{Continuation}
 use Rattle.pllinks.specs.Lists.{goal_of, elements, IsItem}
+use Rattle.plstack.specs.declared.basis.Basis.{Basis}
 use Rattle.plstack.specs.State.{State, goals_in, goals_of, IsList, Extends, AddsList}
 use Rattle.plstack.proofs.Growing.{extends_same}
 pub use Rattle.plstack.proofs.Heads.{extends-trans}
@@ -55,10 +56,10 @@ holds-same s l es fs e h = record { there = h.there; is = h.is ∙ e }
 
 module _ (a b : State) (f : Lengthened a b) (x : Item) where
   pub part-there : IsPart a x → IsPart b x
-  part-there p = subst (λ e. IsItem (goals_in b) e.heap (length e.slots) x) (sym f.env) (subst (λ c. IsItem (goals_from c.text) a.env.heap (length a.env.slots) x) (sym f.extends.code) p)
+  part-there p = subst (λ e. IsItem (goals_in b) e.heap (length e.slots) x) (sym f.env) (subst (λ (c : Basis). IsItem (goals_from c.code.text) a.env.heap (length a.env.slots) x) (sym f.extends.basis) p)
 
   pub part-same : elements_of b x ≡ elements_of a x
-  part-same = ap₂ (λ c e. elements (goals_from c.text) e x) f.extends.code f.env
+  part-same = ap₂ (λ (c : Basis) e. elements (goals_from c.code.text) e x) f.extends.basis f.env
 
 -- the level of a part
 pub part-level : (s : State) (k : ℕ) (x : Item) → IsPart s x → IsPart s (at_level k x)

@@ -1,5 +1,5 @@
 -- What the rows make of a machine.
-use Rattle.std.proofs.Common.{◌≡◌, ℕ, List, [], ◌∷◌, ◌++◌, refl, sym, ap, ap₂, ◌∙◌, subst, OnErr, OnOk, Ok, Err, true, false, arith, reverse}
+use Rattle.std.proofs.Common.{◌≡◌, ◌≤◌, ℕ, List, [], ◌∷◌, ◌++◌, refl, sym, ap, ap₂, ◌∙◌, subst, OnErr, OnOk, Ok, Err, true, false, arith, reverse}
 use Rattle.std.specs.Prelude.{Result as Outcomes}
 use Rattle.plterm.specs.Tree.{Tree, var, int, atom, compound}
 use Rattle.plterm.specs.Variables.{copied}
@@ -16,7 +16,9 @@ use Rattle.plsearch.specs.Lists.{levels}
 use Rattle.plsearch.specs.Rows.{raised, thrown, throw_1, go_on}
 use Rattle.plsearch.specs.Machines.Machine.{Mode, At, Back, Rest, move}
 use Rattle.plsearch.specs.Search.{ending_of}
+use Rattle.plcode.specs.Callees.{IsProgramCode}
 use Rattle.pllinks.specs.declared.link.Continuation.{Continuation}
+use Rattle.plstack.specs.declared.basis.Basis.{Basis}
 use Rattle.plstack.specs.State.{State, IsList, place_of, cases_of, goals_of, Opens}
 use Rattle.plstore.specs.Looking.{Views}
 use Rattle.plstack.specs.Places.{depth_of as frames_depth}
@@ -55,18 +57,21 @@ machine-is P v s m cs w plain at cases local left answers =
 abbrev pub ValuesStay : State → State → Type 0
 ValuesStay s t = (v : Cell) → IsValue s.env.heap v → IsValue t.env.heap v × (value t.env.heap v ≡ value s.env.heap v)
 
-may-ask : (s t : State) (m : Going) → ValuesStay s t → MayAsk s.env.heap m → MayAsk t.env.heap m
-may-ask s t modes.Visit values may = tt
-may-ask s t (modes.Ask (questions.Look (lookups.ToCall v))) values may = (values v may).0
-may-ask s t (modes.Ask (questions.Look (lookups.ToRetrieve v w))) values may = ((values v may.0).0, (values w may.1).0)
-may-ask s t (modes.Ask (questions.Look (lookups.ToRetract v w))) values may = ((values v may.0).0, (values w may.1).0)
-may-ask s t (modes.Ask (questions.Look (lookups.ToRetractAll v))) values may = (values v may).0
-may-ask s t (modes.Ask (questions.Await q next)) values may = may
-may-ask s t (modes.Find (finds.First x g)) values may = ((values x.goal may.0).0, subst (IsTold x.uses) (sym (values x.goal may.0).1) may.1)
-may-ask s t (modes.Find (finds.Exists v g)) values may = (values v may).0
-may-ask s t (modes.Find (finds.All v g)) values may = (values v may).0
-may-ask s t (modes.Find (finds.Sweep v w)) values may = (values v may).0
-may-ask s t (modes.Back r) values may = tt
+seen-as : (s t : State) (g : ℕ) → t.basis ≡ s.basis → g ≤ s.basis.latest → g ≤ t.basis.latest
+seen-as s t g same le = subst (λ (b : Basis). g ≤ b.latest) (sym same) le
+
+may-ask : (s t : State) (m : Going) → t.basis ≡ s.basis → ValuesStay s t → MayAsk s m → MayAsk t m
+may-ask s t modes.Visit same values may = tt
+may-ask s t (modes.Ask (questions.Look (lookups.ToCall v))) same values may = (values v may).0
+may-ask s t (modes.Ask (questions.Look (lookups.ToRetrieve v w))) same values may = ((values v may.0).0, (values w may.1).0)
+may-ask s t (modes.Ask (questions.Look (lookups.ToRetract v w))) same values may = ((values v may.0).0, (values w may.1).0)
+may-ask s t (modes.Ask (questions.Look (lookups.ToRetractAll v))) same values may = (values v may).0
+may-ask s t (modes.Ask (questions.Await q next)) same values may = may
+may-ask s t (modes.Find (finds.First x g)) same values may = ((values x.goal may.0).0, subst (IsTold x.uses) (sym (values x.goal may.0).1) may.1, seen-as s t g same may.2)
+may-ask s t (modes.Find (finds.Exists v g)) same values may = ((values v may.0).0, seen-as s t g same may.1)
+may-ask s t (modes.Find (finds.All v g)) same values may = ((values v may.0).0, seen-as s t g same may.1)
+may-ask s t (modes.Find (finds.Sweep v w)) same values may = ((values v may.0).0, seen-as s t w.view same may.1)
+may-ask s t (modes.Back r) same values may = tt
 
 same-lookup : (s t : State) (u : Lookup) → ValuesStay s t → IsSought s.env.heap u → lookup_of t.env.heap u ≡ lookup_of s.env.heap u
 same-lookup s t (lookups.ToCall v) values may = ap ToCall (values v may).1
@@ -74,7 +79,7 @@ same-lookup s t (lookups.ToRetrieve v w) values may = ap₂ ToRetrieve (values v
 same-lookup s t (lookups.ToRetract v w) values may = ap₂ ToRetract (values v may.0).1 (values w may.1).1
 same-lookup s t (lookups.ToRetractAll v) values may = ap ToRetractAll (values v may).1
 
-same-mode : (s t : State) (m : Going) → ValuesStay s t → place_of t ≡ place_of s → MayAsk s.env.heap m → mode_of m t ≡ mode_of m s
+same-mode : (s t : State) (m : Going) → ValuesStay s t → place_of t ≡ place_of s → MayAsk s m → mode_of m t ≡ mode_of m s
 same-mode s t modes.Visit values place may = ap At place
 same-mode s t (modes.Ask (questions.Look u)) values place may =
     ap₂ (λ u p. At (record { goals = Asking (Look u) ∷ p.goals; variables = p.variables })) (same-lookup s t u values may) place
@@ -92,20 +97,20 @@ same-plain P v s new left answers m at cases local plain =
     ∙ sym (plain-machine P v s left answers m plain)
 
 -- what is sought is the same
-same-find : (v : Views) (s t : State) (f : Find) → ValuesStay s t → place_of t ≡ place_of s → IsFound s.env.heap f → (find_mode v f t ≡ find_mode v f s) × (find_answers v f t.env.heap ≡ find_answers v f s.env.heap)
+same-find : (v : Views) (s t : State) (f : Find) → ValuesStay s t → place_of t ≡ place_of s → IsFound s f → (find_mode v f t ≡ find_mode v f s) × (find_answers v f t.env.heap ≡ find_answers v f s.env.heap)
 same-find v s t (finds.First x g) values place may = (ap₂ (λ u (p : Place). At (record { goals = Asking (Look (lookup_by x.uses u)) ∷ p.goals; variables = p.variables })) (values x.goal may.0).1 place, refl)
 same-find v s t (finds.Exists c g) values place may =
-    let same = (values c may).1 in (
+    let same = (values c may.0).1 in (
       ap₂ (λ u (p : Place). At (record { goals = Asking (Look (ToCall u)) ∷ p.goals; variables = p.variables })) same place,
       ap (λ u. Seen g (bare (exists (v g) (indicator u)) (indicator u)) ∷ []) same,
     )
-same-find v s t (finds.All c g) values place may = (ap₂ (λ u (p : Place). At (record { goals = Asking (Look (ToRetractAll u)) ∷ p.goals; variables = p.variables })) (values c may).1 place, refl)
+same-find v s t (finds.All c g) values place may = (ap₂ (λ u (p : Place). At (record { goals = Asking (Look (ToRetractAll u)) ∷ p.goals; variables = p.variables })) (values c may.0).1 place, refl)
 same-find v s t (finds.Sweep c w) values place may =
-    (ap₂ (λ u (p : Place). At (record { goals = published (swept (v w.view) p.variables u w) p.goals; variables = p.variables })) (values c may).1 place, refl)
+    (ap₂ (λ u (p : Place). At (record { goals = published (swept (v w.view) p.variables u w) p.goals; variables = p.variables })) (values c may.0).1 place, refl)
 
 -- where values and the place stay, the machine is the same
 same-machine : (P : Program) (v : Views) (s new : Reached) (left : ℕ) (answers : List Answer) (m : Going) → ValuesStay s.stack new.stack → place_of new.stack ≡ place_of s.stack →
-    cases_in P v new ≡ cases_in P v s → local_of new ≡ local_of s → MayAsk s.stack.env.heap m → machine_in P v left answers new m ≡ machine_in P v left answers s m
+    cases_in P v new ≡ cases_in P v s → local_of new ≡ local_of s → MayAsk s.stack m → machine_in P v left answers new m ≡ machine_in P v left answers s m
 same-machine P v s new left answers modes.Visit values place cases local may = same-plain P v s new left answers modes.Visit (same-mode s.stack new.stack modes.Visit values place may) cases local tt
 same-machine P v s new left answers (modes.Ask q) values place cases local may = same-plain P v s new left answers (modes.Ask q) (same-mode s.stack new.stack (modes.Ask q) values place may) cases local tt
 same-machine P v s new left answers (modes.Back r) values place cases local may = same-plain P v s new left answers (modes.Back r) refl cases local tt
@@ -116,24 +121,28 @@ same-machine P v s new left answers (modes.Find f) values place cases local may 
 
 -- ---- where it stays
 
-pub stays-by : (P : Program) (s new : Reached) → new.stack.code ≡ s.stack.code → new.mode ≡ s.mode → ValuesStay s.stack new.stack → place_of new.stack ≡ place_of s.stack →
+-- the code is the same
+pub begun-by : (P : Program) (a b : Basis) → a ≡ b → IsProgramCode P b.code → IsProgramCode P a.code
+begun-by P a b e i = subst (λ (x : Basis). IsProgramCode P x.code) (sym e) i
+
+pub stays-by : (P : Program) (s new : Reached) → new.stack.basis ≡ s.stack.basis → new.mode ≡ s.mode → ValuesStay s.stack new.stack → place_of new.stack ≡ place_of s.stack →
     ((v : Views) → cases_in P v new ≡ cases_in P v s) → local_of new ≡ local_of s → Stays P s new
 unfolding machine
-stays-by P s new code at values place cases local = record {
-  code = code;
+stays-by P s new basis at values place cases local = record {
+  basis = basis;
   cases = cases;
   local = local;
-  askable = λ may. subst (MayAsk new.stack.env.heap) (sym at) (may-ask s.stack new.stack s.mode values may);
+  askable = λ may. subst (MayAsk new.stack) (sym at) (may-ask s.stack new.stack s.mode basis values may);
   same = λ may v left answers.
       ap (machine_in P v left answers new) at ∙ same-machine P v s new left answers s.mode values place (cases v) local may;
 }
 
 pub stays_put : (P : Program) (s : Reached) → Stays P s s
-stays_put P s = record { code = refl; cases = λ v. refl; local = refl; askable = λ may. may; same = λ may v left answers. refl }
+stays_put P s = record { basis = refl; cases = λ v. refl; local = refl; askable = λ may. may; same = λ may v left answers. refl }
 
 pub stays-trans : (P : Program) (a b c : Reached) → Stays P a b → Stays P b c → Stays P a c
 stays-trans P a b c f g = record {
-  code = g.code ∙ f.code;
+  basis = g.basis ∙ f.basis;
   cases = λ v. g.cases v ∙ f.cases v;
   local = g.local ∙ f.local;
   askable = λ may. g.askable (f.askable may);
@@ -143,7 +152,7 @@ stays-trans P a b c f g = record {
 -- lists and values were added, and other arguments are those of the goal that is selected
 pub grown-with : (P : Program) (s t : Reached) → Grown s.stack t.stack → t ≡ record s { stack = t.stack; args = t.args } → Stays P s t
 grown-with P s t g is =
-    stays-by P s t g.extends.code (ap (λ x. x.mode) is) g.extends.values
+    stays-by P s t g.extends.basis (ap (λ x. x.mode) is) g.extends.values
     (ap₂ (λ gs n. record { goals = gs; variables = n }) g.extends.visited g.count)
     (λ v. g.extends.cases (database_of P v)) (ap (λ x. local_of x) is)
 
@@ -161,7 +170,7 @@ moved-as P s new m m' same moved = subst (Moved P s new) same moved
 -- a move from where it stood
 pub moved-from : (P : Program) (s t new : Reached) (m : Move) → Stays P s t → Moved P t new m → Moved P s new m
 moved-from P s t new m stay moved = record {
-  code = moved.code ∙ stay.code;
+  basis = moved.basis ∙ stay.basis;
   askable = moved.askable;
   ends = λ v most left answers.
       ap₂ (λ cs w. ending_of most (Rest P (move cs (record { steps = left; answers = answers; local = w }) m))) (sym (stay.cases v)) (sym stay.local)
@@ -180,19 +189,19 @@ pub goes-at : (P : Program) (v : Views) (s new : Reached) (cs : List Case) (p : 
     (most left : ℕ) (answers : List Answer) → after P v s most left answers (Go cs p w) ≡ now P v new most left answers
 goes-at P v s new cs p w plain at cases local most left answers = ap (λ m. ending_of most (Rest P m)) (sym (machine-is P v new (At p) (cs ++ cases_in P v s) w plain at cases local left answers))
 
-pub goes-to : (P : Program) (s new : Reached) (cs : List Case) (p : Place) (w : Local) → new.stack.code ≡ s.stack.code → MayAsk new.stack.env.heap new.mode → IsPlain new.mode →
+pub goes-to : (P : Program) (s new : Reached) (cs : List Case) (p : Place) (w : Local) → new.stack.basis ≡ s.stack.basis → MayAsk new.stack new.mode → IsPlain new.mode →
     mode_of new.mode new.stack ≡ At p → ((v : Views) → cases_in P v new ≡ cs ++ cases_in P v s) → local_of new ≡ w → Moved P s new (Go cs p w)
-goes-to P s new cs p w code may plain at cases local = record {
-  code = code;
+goes-to P s new cs p w basis may plain at cases local = record {
+  basis = basis;
   askable = may;
   ends = λ v. goes-at P v s new cs p w plain at (cases v) local;
 }
 
-pub visit-asks : (s : Reached) → s.mode ≡ modes.Visit → MayAsk s.stack.env.heap s.mode
-visit-asks s at = subst (MayAsk s.stack.env.heap) (sym at) tt
+pub visit-asks : (s : Reached) → s.mode ≡ modes.Visit → MayAsk s.stack s.mode
+visit-asks s at = subst (MayAsk s.stack) (sym at) tt
 
-pub back-asks : (s : Reached) (r : Outcome) → s.mode ≡ modes.Back r → MayAsk s.stack.env.heap s.mode
-back-asks s r at = subst (MayAsk s.stack.env.heap) (sym at) tt
+pub back-asks : (s : Reached) (r : Outcome) → s.mode ≡ modes.Back r → MayAsk s.stack s.mode
+back-asks s r at = subst (MayAsk s.stack) (sym at) tt
 
 -- a result is carried
 pub gives-at : (P : Program) (v : Views) (s new : Reached) (r : Outcome) (w : Local) → new.mode ≡ modes.Back r → cases_in P v new ≡ cases_in P v s → local_of new ≡ w →
@@ -200,22 +209,22 @@ pub gives-at : (P : Program) (v : Views) (s new : Reached) (r : Outcome) (w : Lo
 gives-at P v s new r w at cases local most left answers =
     ap (λ m. ending_of most (Rest P m)) (sym (machine-is P v new (Back (result_of r)) (cases_in P v s) w (subst IsPlain (sym at) tt) (ap (λ m. mode_of m new.stack) at) cases local left answers))
 
-pub gives : (P : Program) (s new : Reached) (r : Outcome) (w : Local) → new.stack.code ≡ s.stack.code → new.mode ≡ modes.Back r → ((v : Views) → cases_in P v new ≡ cases_in P v s) → local_of new ≡ w → Moved P s new (Give (result_of r) w)
-gives P s new r w code at cases local = record {
-  code = code;
+pub gives : (P : Program) (s new : Reached) (r : Outcome) (w : Local) → new.stack.basis ≡ s.stack.basis → new.mode ≡ modes.Back r → ((v : Views) → cases_in P v new ≡ cases_in P v s) → local_of new ≡ w → Moved P s new (Give (result_of r) w)
+gives P s new r w basis at cases local = record {
+  basis = basis;
   askable = back-asks new r at;
   ends = λ v. gives-at P v s new r w at (cases v) local;
 }
 
 pub gave : (P : Program) (s new : Reached) (r : Outcome) → new ≡ record s { mode = modes.Back r } → Moved P s new (Give (result_of r) (local_of s))
-gave P s new r is = gives P s new r (local_of s) (ap (λ x. x.stack.code) is) (ap (λ x. x.mode) is) (λ v. ap (λ x. cases_in P v x) is) (ap (λ x. local_of x) is)
+gave P s new r is = gives P s new r (local_of s) (ap (λ x. x.stack.basis) is) (ap (λ x. x.mode) is) (λ v. ap (λ x. cases_in P v x) is) (ap (λ x. local_of x) is)
 
 -- a list is visited, in a stack that has grown
 pub visits : (P : Program) (s new : Reached) (t : State) (l : Continuation) (es : List Element) (w : Local) → Grown s.stack t → Holds t l es → new.stack ≡ record t { goals = l } → new.mode ≡ modes.Visit →
     local_of new ≡ w → Moved P s new (go_on es s.stack.env.count w)
 unfolding cases_of
 visits P s new t l es w g h is at wrote =
-    goes-to P s new [] (record { goals = es; variables = s.stack.env.count }) w (ap (λ x. x.code) is ∙ g.extends.code) (visit-asks new at) (subst IsPlain (sym at) tt)
+    goes-to P s new [] (record { goals = es; variables = s.stack.env.count }) w (ap (λ x. x.basis) is ∙ g.extends.basis) (visit-asks new at) (subst IsPlain (sym at) tt)
     (ap₂ mode_of at is ∙ ap₂ (λ gs n. At (record { goals = gs; variables = n })) h.is g.count)
     (λ v. ap (cases_of (database_of P v)) is ∙ g.extends.cases (database_of P v)) wrote
 
@@ -228,7 +237,7 @@ pub enters : (P : Program) (s new : Reached) (t : State) (more : List Case) (l :
     Moved P s new (Go more (record { goals = goals_of s.stack l; variables = s.stack.env.count }) (local_of s))
 unfolding cases_of
 enters P s new t more l i o is =
-    goes-to P s new more (record { goals = goals_of s.stack l; variables = s.stack.env.count }) (local_of s) (ap (λ x. x.stack.code) is ∙ o.code) (visit-asks new (ap (λ x. x.mode) is)) (subst IsPlain (sym (ap (λ x. x.mode) is)) tt)
+    goes-to P s new more (record { goals = goals_of s.stack l; variables = s.stack.env.count }) (local_of s) (ap (λ x. x.stack.basis) is ∙ o.basis) (visit-asks new (ap (λ x. x.mode) is)) (subst IsPlain (sym (ap (λ x. x.mode) is)) tt)
     (ap (λ x. mode_of x.mode x.stack) is ∙ ap₂ (λ gs n. At (record { goals = gs; variables = n })) (o.lists l i).1 o.count)
     (λ v. ap (λ x. cases_in P v x) is ∙ o.cases (database_of P v)) (ap (λ x. local_of x) is)
 
@@ -237,8 +246,8 @@ pub asks : (P : Program) (s new : Reached) (q : Asked) (l : Continuation) → Is
     Moved P s new (go_on (Asking (question_of s.stack.env.heap q) ∷ goals_of s.stack l) s.stack.env.count (local_of s))
 unfolding cases_of
 asks P s new q l may is =
-    goes-to P s new [] (record { goals = Asking (question_of s.stack.env.heap q) ∷ goals_of s.stack l; variables = s.stack.env.count }) (local_of s) (ap (λ x. x.stack.code) is)
-    (subst (λ x. MayAsk x.stack.env.heap x.mode) (sym is) may) (subst (λ x. IsPlain x.mode) (sym is) tt)
+    goes-to P s new [] (record { goals = Asking (question_of s.stack.env.heap q) ∷ goals_of s.stack l; variables = s.stack.env.count }) (local_of s) (ap (λ x. x.stack.basis) is)
+    (subst (λ x. MayAsk x.stack x.mode) (sym is) may) (subst (λ x. IsPlain x.mode) (sym is) tt)
     (ap (λ x. mode_of x.mode x.stack) is) (λ v. ap (λ x. cases_in P v x) is) (ap (λ x. local_of x) is)
 
 -- the same move, by its parts

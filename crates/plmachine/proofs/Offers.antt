@@ -35,7 +35,7 @@ unfolding cases_of
 unifies P s new t a b l there u is =
     let count : t.env.count ≡ s.stack.env.count + 0 = omega (arith, u.count) in
     subst (λ o. Moved P s new (taken (option_map (λ σ. record { goals = bind_goals σ (goals_of s.stack l); variables = s.stack.env.count + 0 }) o) (local_of s))) (sym u.is)
-    (goes-to P s new [] _ (local_of s) (ap (λ x. x.stack.code) is ∙ u.code) (visit-asks new (ap (λ x. x.mode) is)) (subst IsPlain (sym (ap (λ x. x.mode) is)) tt)
+    (goes-to P s new [] _ (local_of s) (ap (λ x. x.stack.basis) is ∙ u.basis) (visit-asks new (ap (λ x. x.mode) is)) (subst IsPlain (sym (ap (λ x. x.mode) is)) tt)
     (ap (λ x. mode_of x.mode x.stack) is ∙ ap₂ (λ gs n. At (record { goals = gs; variables = n })) (u.lists l there).1 count)
     (λ v. ap (λ x. cases_in P v x) is ∙ u.cases (database_of P v)) (ap (λ x. local_of x) is))
 
@@ -51,7 +51,7 @@ pub solves : (P : Program) (s new : Reached) (t : State) (q : Equation) (l : Con
 unfolding cases_of
 solves P s new t q l there u is =
     subst (λ o. Moved P s new (taken (option_map (λ σ. record { goals = bind_goals σ (goals_of s.stack l); variables = s.stack.env.count + q.new }) o) (local_of s))) (sym u.is)
-    (goes-to P s new [] _ (local_of s) (ap (λ x. x.stack.code) is ∙ u.code) (visit-asks new (ap (λ x. x.mode) is)) (subst IsPlain (sym (ap (λ x. x.mode) is)) tt)
+    (goes-to P s new [] _ (local_of s) (ap (λ x. x.stack.basis) is ∙ u.basis) (visit-asks new (ap (λ x. x.mode) is)) (subst IsPlain (sym (ap (λ x. x.mode) is)) tt)
     (ap (λ x. mode_of x.mode x.stack) is ∙ ap₂ (λ gs n. At (record { goals = gs; variables = n })) (u.lists l there).1 u.count)
     (λ v. ap (λ x. cases_in P v x) is ∙ u.cases (database_of P v)) (ap (λ x. local_of x) is))
 
@@ -140,4 +140,4 @@ unfolding cases_of
 unified P s new t a b p es n u is =
     subst (λ o. Moved P s new (offer (decides (is_none o) s.settings) p es n (local_of s))) (sym u.is)
     (moved-as P s new _ _ (offer-fails s.settings p es n (local_of s) refl)
-    (gives P s new outcomes.Fail (local_of s) (ap (λ x. x.stack.code) is ∙ u.code) (ap (λ x. x.mode) is) (λ v. ap (λ x. cases_in P v x) is ∙ u.cases (database_of P v)) (ap (λ x. local_of x) is)))
+    (gives P s new outcomes.Fail (local_of s) (ap (λ x. x.stack.basis) is ∙ u.basis) (ap (λ x. x.mode) is) (λ v. ap (λ x. cases_in P v x) is ∙ u.cases (database_of P v)) (ap (λ x. local_of x) is)))

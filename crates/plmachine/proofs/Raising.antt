@@ -22,7 +22,7 @@ pub raises-in : (P : Program) (s new : Reached) (st : State) (more : List Case) 
     Moved P s new (Go more (record { goals = Raise ball ∷ goals_of s.stack list; variables = s.stack.env.count }) (local_of s))
 unfolding turn meet
 raises-in P s new st more list ball r is o made = record {
-  code = ap (λ x. x.stack.code) made ∙ o.code;
+  basis = ap (λ x. x.stack.basis) made ∙ o.basis;
   askable = back-asks new r (ap (λ x. x.mode) made);
   ends = λ v most left answers.
       let run : Run = record { steps = left; answers = answers; local = local_of s } in

@@ -64,21 +64,21 @@ module _ (P : Program) (s : Reached) (begun : IsBegun P s) (visits : s.mode ≡ 
 
   -- an atom or a compound
   module _ (n : Number) (callable : IsCallable s.stack.env.heap.names n (length s.args.items)) (is : t ≡ called_by s.stack.env.heap.names n (map (value s.stack.env.heap) s.args.items))
-      (more : Extends s.stack.code.text.names s.stack.env.heap.names) (table : IsTable s.stack.env.heap.names) where
+      (more : Extends s.stack.basis.code.text.names s.stack.env.heap.names) (table : IsTable s.stack.env.heap.names) where
     abbrev procedure : Indicator
     procedure = procedure_of s.stack.env.heap.names n (length s.args.items)
 
     of-procedure : indicator t ≡ procedure
     of-procedure = ap indicator is ∙ number-indicator s.stack.env.heap n s.args.items callable
 
-    callee : (k : Callee) → callee_at s.stack.code.callees n ≡ k → IsCallee (renamed s.stack.env.heap.names s.stack.code.text) s.stack.code.procedures P procedure k
-    callee k e = subst (IsCallee (renamed s.stack.env.heap.names s.stack.code.text) s.stack.code.procedures P procedure) e (begun.callees s.stack.env.heap.names more table n procedure callable)
+    callee : (k : Callee) → callee_at s.stack.basis.code.callees n ≡ k → IsCallee (renamed s.stack.env.heap.names s.stack.basis.code.text) s.stack.basis.code.procedures P procedure k
+    callee k e = subst (IsCallee (renamed s.stack.env.heap.names s.stack.basis.code.text) s.stack.basis.code.procedures P procedure) e (begun.callees s.stack.env.heap.names more table n procedure callable)
 
-    call-of : (q : Procedure) → callee_at s.stack.code.callees n ≡ callee_of q → IsCallOf P s procedure q t
+    call-of : (q : Procedure) → callee_at s.stack.basis.code.callees n ≡ callee_of q → IsCallOf P s procedure q t
     call-of (procedures.Static i) e = record { static = callee (callees.Static i) e; goal = same-called s.stack.env.heap n s.args.items table callable ∙ sym is }
     call-of procedures.Unknown e = (callee callees.Unknown e).1
 
-    is-call : (f : Form) → ((q : Procedure) → f ≡ forms.Call q → callee_at s.stack.code.callees n ≡ callee_of q) → IsCall P s f t
+    is-call : (f : Form) → ((q : Procedure) → f ≡ forms.Call q → callee_at s.stack.basis.code.callees n ≡ callee_of q) → IsCall P s f t
     is-call forms.True known = tt
     is-call forms.False known = tt
     is-call (forms.Both a b) known = tt
@@ -104,7 +104,7 @@ module _ (P : Program) (s : Reached) (begun : IsBegun P s) (visits : s.mode ≡ 
     is-call forms.NoGoal known = tt
 
     pub selected-some : (f : Form) → shown_form s.stack.env.heap procedure s.args.items f ≡ form (called_by s.stack.env.heap.names n (map (value s.stack.env.heap) s.args.items)) → IsInside s.stack.env.heap s.args.items f →
-        ((q : Procedure) → f ≡ forms.Call q → callee_at s.stack.code.callees n ≡ callee_of q) → IsSelected P s f source t
+        ((q : Procedure) → f ≡ forms.Call q → callee_at s.stack.basis.code.callees n ≡ callee_of q) → IsSelected P s f source t
     selected-some f shows inside known = record {
       begun = begun;
       visits = visits;
@@ -118,8 +118,8 @@ module _ (P : Program) (s : Reached) (begun : IsBegun P s) (visits : s.mode ≡ 
 
 -- the same, of a heap, values and code that are those of the machine
 pub selected-by : (P : Program) (s : Reached) → IsBegun P s → s.mode ≡ modes.Visit → AreValues s.stack.env.heap s.args.items → length s.args.items ≤ 1024 → (source : Source) (t : Tree) → StandsFor s.stack source t →
-    (n : Number) → IsCallable s.stack.env.heap.names n (length s.args.items) → t ≡ called_by s.stack.env.heap.names n (map (value s.stack.env.heap) s.args.items) → Extends s.stack.code.text.names s.stack.env.heap.names → IsTable s.stack.env.heap.names →
-    (h : Store) (xs : List Cell) (m : Compiled) → h ≡ s.stack.env.heap → xs ≡ s.args.items → m ≡ s.stack.code → (f : Form) → shown_form h (procedure_of h.names n (length xs)) xs f ≡ form (called_by h.names n (map (value h) xs)) → IsInside h xs f →
+    (n : Number) → IsCallable s.stack.env.heap.names n (length s.args.items) → t ≡ called_by s.stack.env.heap.names n (map (value s.stack.env.heap) s.args.items) → Extends s.stack.basis.code.text.names s.stack.env.heap.names → IsTable s.stack.env.heap.names →
+    (h : Store) (xs : List Cell) (m : Compiled) → h ≡ s.stack.env.heap → xs ≡ s.args.items → m ≡ s.stack.basis.code → (f : Form) → shown_form h (procedure_of h.names n (length xs)) xs f ≡ form (called_by h.names n (map (value h) xs)) → IsInside h xs f →
     ((q : Procedure) → f ≡ forms.Call q → callee_at m.callees n ≡ callee_of q) → IsSelected P s f source t
 selected-by P s begun visits args few source t stands n callable is more table h xs m eh ex em f shows inside known =
     let k = s.stack.env.heap in

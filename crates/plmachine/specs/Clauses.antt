@@ -41,7 +41,7 @@ entered_mode e = mode_by e.erased
 
 -- a walk of the goal t before a list stands at a spot: what is left of it is still to be tried
 pub record Walks (P : Program) (old new : Reached) (t : Tree) (u : Use) (spot : Spot) (es : List Element) : Type 0 where
-  pub code : new.stack.code ≡ old.stack.code
+  pub basis : new.stack.basis ≡ old.stack.basis
   pub frame : new ≡ record old { stack = new.stack; mode = modes.Back outcomes.Fail }
   pub ends : (v : Views) (most left : ℕ) (answers : List Answer) →
       after P v old most left answers (choose (candidates_left (depth_of old) old.stack.env t es (left_at (database_of P v) u t spot)) (local_of old)) ≡ now P v new most left answers

@@ -17,4 +17,4 @@ pub record Gathers (old new : State) (l : Tree) (ts : List Tree) : Type 0 where
   pub cases : (db : Database) → cases_of db new ≡ cases_of db old
   pub frames : new.frames ≡ old.frames
   pub count : new.env.count ≡ old.env.count + count_new ts
-  pub code : new.code ≡ old.code
+  pub basis : new.basis ≡ old.basis

@@ -1,5 +1,5 @@
 -- What a machine stands for.
-use Rattle.std.specs.Prelude.{◌≡◌, ℕ, Bool, true, false, List, [], ◌∷◌, ◌++◌, map, filter}
+use Rattle.std.specs.Prelude.{◌≡◌, ◌≤◌, ℕ, Bool, true, false, List, [], ◌∷◌, ◌++◌, map, filter}
 use Rattle.std.specs.Bool.{⊤}
 use Rattle.plterm.specs.Tree.{Tree, var, int, atom, compound, Trees, more}
 use Rattle.plcells.specs.Store.{Store, value, IsValue}
@@ -169,7 +169,7 @@ after P v s most left answers m = ending_of most (Rest P (move (cases_in P v s) 
 
 -- its code is that of the program
 abbrev pub IsBegun : Program → Reached → Type 0
-IsBegun P s = IsProgramCode P s.stack.code
+IsBegun P s = IsProgramCode P s.stack.basis.code
 
 -- what follows a request is what it is for
 abbrev pub IsFollowed : Request → Then → Type 0
@@ -190,33 +190,33 @@ abbrev pub IsAskable : Store → Asked → Type 0
 IsAskable h (questions.Look u) = IsSought h u
 IsAskable h (questions.Await q next) = IsFollowed q next
 
--- the values of what is sought are there
-abbrev pub IsFound : Store → Find → Type 0
-IsFound h (finds.First x g) = IsValue h x.goal × IsTold x.uses (value h x.goal)
-IsFound h (finds.Exists c g) = IsValue h c
-IsFound h (finds.All c g) = IsValue h c
-IsFound h (finds.Sweep c w) = IsValue h c
+-- the values of what is sought are there, and it is sought in no later view
+abbrev pub IsFound : State → Find → Type 0
+IsFound s (finds.First x g) = IsValue s.env.heap x.goal × IsTold x.uses (value s.env.heap x.goal) × (g ≤ s.basis.latest)
+IsFound s (finds.Exists c g) = IsValue s.env.heap c × (g ≤ s.basis.latest)
+IsFound s (finds.All c g) = IsValue s.env.heap c × (g ≤ s.basis.latest)
+IsFound s (finds.Sweep c w) = IsValue s.env.heap c × (w.view ≤ s.basis.latest)
 
 -- where something is asked or sought, it can be
-abbrev pub MayAsk : Store → Going → Type 0
-MayAsk h modes.Visit = ⊤
-MayAsk h (modes.Ask q) = IsAskable h q
-MayAsk h (modes.Find f) = IsFound h f
-MayAsk h (modes.Back r) = ⊤
+abbrev pub MayAsk : State → Going → Type 0
+MayAsk s modes.Visit = ⊤
+MayAsk s (modes.Ask q) = IsAskable s.env.heap q
+MayAsk s (modes.Find f) = IsFound s f
+MayAsk s (modes.Back r) = ⊤
 
 -- it made a move
 pub record Moved (P : Program) (old new : Reached) (m : Move) : Type 0 where
-  pub code : new.stack.code ≡ old.stack.code
-  pub askable : MayAsk new.stack.env.heap new.mode
+  pub basis : new.stack.basis ≡ old.stack.basis
+  pub askable : MayAsk new.stack new.mode
   pub ends : (v : Views) (most left : ℕ) (answers : List Answer) → after P v old most left answers m ≡ now P v new most left answers
 
 -- it stands where it stood
 pub record Stays (P : Program) (old new : Reached) : Type 0 where
-  pub code : new.stack.code ≡ old.stack.code
+  pub basis : new.stack.basis ≡ old.stack.basis
   pub cases : (v : Views) → cases_in P v new ≡ cases_in P v old
   pub local : local_of new ≡ local_of old
-  pub askable : MayAsk old.stack.env.heap old.mode → MayAsk new.stack.env.heap new.mode
-  pub same : MayAsk old.stack.env.heap old.mode → (v : Views) (left : ℕ) (answers : List Answer) → machine P v left answers new ≡ machine P v left answers old
+  pub askable : MayAsk old.stack old.mode → MayAsk new.stack new.mode
+  pub same : MayAsk old.stack old.mode → (v : Views) (left : ℕ) (answers : List Answer) → machine P v left answers new ≡ machine P v left answers old
 
 abbrev pub is_var : Tree → Bool
 is_var (var x) = true

@@ -37,7 +37,7 @@ StandsFor s (sources.Node r at) t = (u : Tree) × IsArgument s r at u × (bound_
 
 -- a goal calls a procedure p of the program's text, the one of a place
 pub record IsStaticCall (P : Program) (s : Machine) (p : Indicator) (i : ℕ) (t : Tree) : Type 0 where
-  pub static : IsStatic (renamed s.stack.env.heap.names s.stack.code.text) s.stack.code.procedures P p i
+  pub static : IsStatic (renamed s.stack.env.heap.names s.stack.basis.code.text) s.stack.basis.code.procedures P p i
   pub goal : called s.stack.env.heap p.name s.args.items ≡ t
 
 -- a goal calls a procedure p: one of the program's text by its place, or one that is not there

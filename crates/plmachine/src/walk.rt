@@ -5,6 +5,7 @@ ghost use Rattle.std.specs.Prelude.{◌∷◌, [], OnOk, OnErr};
 ghost use Rattle.plcells.specs.Store.{value, IsValue};
 ghost use Rattle.plevent.specs.declared.update.Update.TheVariants.{Declare};
 ghost use Rattle.plsearch.specs.Rows.{clause_term, publish};
+ghost use Rattle.plstack.specs.Frames.{IsSpotSeen};
 ghost use Rattle.plstack.specs.State.{goals_of, IsList};
 ghost use Rattle.plmachine.specs.Clauses.{Walks};
 ghost use Rattle.plmachine.specs.Machine.{local_of, Moved, Stays};
@@ -27,6 +28,7 @@ impl Machine {
         rest: Continuation,
     ) -> Result<(), AllocError>
         requires goal { IsValue self.old.stack.env.heap walk.goal }
+        requires seen { IsSpotSeen self.old.stack.basis.latest walk.spot }
         requires rest { IsList self.old.stack rest }
         ensures ok { OnOk result (Walks program.now self.old self.new (value self.old.stack.env.heap walk.goal) walk.uses walk.spot (goals_of self.old.stack rest)) }
         ensures err { OnErr result (Stays program.now self.old self.new) }
@@ -47,6 +49,7 @@ impl Machine {
     ) -> Result<(), AllocError>
         requires head { IsValue self.old.stack.env.heap neck.head }
         requires body { IsValue self.old.stack.env.heap neck.body }
+        requires seen { IsSpotSeen self.old.stack.basis.latest spot }
         requires rest { IsList self.old.stack rest }
         ensures ok { OnOk result (Walks program.now self.old self.new (clause_term (value self.old.stack.env.heap neck.head) (value self.old.stack.env.heap neck.body)) uses spot (goals_of self.old.stack rest)) }
         ensures err { OnErr result (Stays program.now self.old self.new) }

@@ -1,5 +1,5 @@
 -- What a turn of a thread leaves.
-use Rattle.std.proofs.Common.{◌≡◌, ℕ, ◌≤◌, Bool, true, false, ◌||◌, not, List, [], ◌∷◌, ◌++◌, length, take, append-nil, map, Some, None, refl, sym, ap, ap₂, ◌∙◌, subst, arith, nat_eq, eq-eqb, eqb-true}
+use Rattle.std.proofs.Common.{◌≡◌, ℕ, ◌≤◌, Bool, true, false, ◌||◌, not, List, [], ◌∷◌, ◌++◌, length, length-append, take, append-nil, map, Some, None, refl, sym, ap, ap₂, ◌∙◌, subst, arith, nat_eq, eq-eqb, eqb-true}
 use Rattle.std.specs.List.{find, list_any}
 use Rattle.std.specs.Option.{is_some}
 use Rattle.std.proofs.Math.Seq.{take-append_seam}
@@ -36,6 +36,10 @@ use Rattle.plrun.proofs.Free.{is_plain}
 use Rattle.plrun.proofs.Rows.{row-served, publish-due, erase-due, last-served, last-due}
 use Rattle.plrun.proofs.Steps.{GoesAt, TakesAt, asks-same, going-goes, going-view, going-reply, going-act, own-views}
 use Rattle.plrun.proofs.Ends.{asked-last, ended-told}
+
+-- what is within a journal is within a longer one
+pub longer : (h later more : List Entry) (n : ℕ) → later ≡ h ++ more → n ≤ length h → n ≤ length later
+longer h later more n e le = rw e (omega (arith, le, length-append h more))
 
 -- a view at the journal's length sees all its updates
 pub before-length : (h : List Entry) → before (length h) (reading h).updates ≡ (reading h).updates

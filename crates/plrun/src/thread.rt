@@ -52,9 +52,6 @@ fn fetch(
     ensures limit { running.new.solver.limit ≡ running.old.solver.limit }
 {
     let view = running.solver.view();
-    if world.front() < view {
-        return Err(AllocError);
-    }
     let found = world.look(view, query)?;
     running.solver.fetched(program, found)?;
     Ok(())

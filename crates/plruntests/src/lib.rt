@@ -12,4 +12,6 @@ mod packs;
 #[cfg(test)]
 mod stores;
 #[cfg(test)]
+mod walks;
+#[cfg(test)]
 mod worlds;

@@ -48,11 +48,11 @@ closed-below db s new h below (Some closes.Choice) some none was = tail_is _ h _
 closed-below db s new h below (Some (closes.Mark l)) some none was = tail_is _ h _ below (sym (some db) ∙ was)
 closed-below db s new h below (Some closes.Handler) some none was = tail_is _ h _ below (sym (some db).2 ∙ was)
 
-pub rethrows : (P : Program) (s new : Progress) (st : State) (e : Tree) (list : Continuation) (o : Outcome) → result_of o ≡ Throw (copied 0 (error_term e catch_3)) (levels (goals_of s.machine.stack list)) → st.code ≡ s.machine.stack.code →
+pub rethrows : (P : Program) (s new : Progress) (st : State) (e : Tree) (list : Continuation) (o : Outcome) → result_of o ≡ Throw (copied 0 (error_term e catch_3)) (levels (goals_of s.machine.stack list)) → st.basis ≡ s.machine.stack.basis →
     ((v : Views) (h : Case) (below : List Case) → cases_in P v s.machine ≡ h ∷ below → cases_of (database_of P v) st ≡ below) → new ≡ to s st (modes.Back o) → Rethrown P s new e list
-rethrows P s new st e list o is code closed made = subst (λ x. Rethrown P s x e list) (sym made) (record {
+rethrows P s new st e list o is basis closed made = subst (λ x. Rethrown P s x e list) (sym made) (record {
   frame = refl;
-  code = code;
+  basis = basis;
   askable = tt;
   is = λ v h below was left answers.
       carried P v (record s.machine { stack = st; mode = modes.Back o }) o below refl (closed v h below was) left answers
@@ -75,7 +75,7 @@ recovered-raises P s new st e recovery list g l runs did = record {
   frame =
       let same : new.machine.kept ≡ s.machine.kept = ap (λ x. x.machine.kept) did.frame in
       did.frame ∙ ap (λ k. record s { machine = record s.machine { stack = new.machine.stack; mode = new.machine.mode; kept = k } }) (sym same);
-  code = did.code ∙ g.extends.code;
+  basis = did.basis ∙ g.extends.basis;
   askable = did.askable;
   is = λ v h below was left answers.
       did.is v h below (g.extends.cases (database_of P v) ∙ was) left answers
@@ -86,11 +86,11 @@ recovered-raises P s new st e recovery list g l runs did = record {
 -- the recovery is run
 pub recovered-runs : (P : Program) (s : Progress) (st linked last : State) (recovery : Cell) (list : Continuation) (goal : Cell) (level : ℕ) (made : Continuation) → Grown s.machine.stack st → IsList s.machine.stack list →
     runnable (value s.machine.stack.env.heap recovery) ≡ Runs (value st.env.heap goal) → ((db : Database) → deeper (cases_of db st) 0 ≡ level + 1) → Extends st linked → linked.env ≡ st.env →
-    goals_of linked made ≡ Goal level (value st.env.heap goal) ∷ goals_of st list → Recovers linked last made → last.code ≡ linked.code → (kept : List Kept) → kept ≡ kept_below level s.machine.kept →
+    goals_of linked made ≡ Goal level (value st.env.heap goal) ∷ goals_of st list → Recovers linked last made → last.basis ≡ linked.basis → (kept : List Kept) → kept ≡ kept_below level s.machine.kept →
     Recovered P s (record s { machine = record s.machine { stack = last; mode = modes.Visit; kept = kept } }) recovery list
-recovered-runs P s st linked last recovery list goal level made g l runs at e env goals did code kept kept_is = record {
+recovered-runs P s st linked last recovery list goal level made g l runs at e env goals did basis kept kept_is = record {
   frame = refl;
-  code = code ∙ e.code ∙ g.extends.code;
+  basis = basis ∙ e.basis ∙ g.extends.basis;
   askable = tt;
   is = λ v h below was left answers.
       let was_st : cases_of (database_of P v) st ≡ h ∷ below = g.extends.cases (database_of P v) ∙ was in
@@ -111,7 +111,7 @@ pub handler-stays : (s t : State) → t.frames ≡ s.frames → HasHandler s →
 handler-stays s t same has = subst (λ fs. BeginsWith IsHandler (reverse fs)) (sym same) has
 
 -- the ball at its catcher
-module _ (P : Program) (v : Views) (s : Progress) (o : Outcome) (ball : Tree) (found : List ℕ) (at : s.machine.mode ≡ modes.Back o) (carries : result_of o ≡ Throw ball found) (st : State) (k : Handling) (code : st.code ≡ s.machine.stack.code)
+module _ (P : Program) (v : Views) (s : Progress) (o : Outcome) (ball : Tree) (found : List ℕ) (at : s.machine.mode ≡ modes.Back o) (carries : result_of o ≡ Throw ball found) (st : State) (k : Handling) (basis : st.basis ≡ s.machine.stack.basis)
     (same : (db : Database) → cases_of db st ≡ cases_of db s.machine.stack) (x : Catcher) (here : AtHandler st (handlers.Catch x) k.list) (active : has (depth_of s.machine - 1) found ≡ true) (put : State) (grew : Extends st put) (b : Cell)
     (copy : value put.env.heap b ≡ copied st.env.count ball) where
   -- the handler that the frame stands for
@@ -132,10 +132,10 @@ module _ (P : Program) (v : Views) (s : Progress) (o : Outcome) (ball : Tree) (f
   sides : unify catcher (copied st.env.count ball) ≡ unify (value put.env.heap x.catcher) (value put.env.heap b)
   sides = ap₂ unify (sym (grew.values x.catcher here.there.0).1) (sym copy)
 
-  pub catches-other : (last : State) → last.code ≡ put.code → unify (value put.env.heap x.catcher) (value put.env.heap b) ≡ None →
+  pub catches-other : (last : State) → last.basis ≡ put.basis → unify (value put.env.heap x.catcher) (value put.env.heap b) ≡ None →
       ((h : Case) (below : List Case) → cases_of (database_of P v) put ≡ h ∷ below → cases_of (database_of P v) last ≡ below) → QuietIn P v s (at_stack s last)
   catches-other last stays none closed =
-      quiet-other P v s o ball found at carries catcher recovery (goals_of st k.list) st.env.count (here.below (database_of P v)) cases-are is-active last (stays ∙ grew.code ∙ code) (sides ∙ none)
+      quiet-other P v s o ball found at carries catcher recovery (goals_of st k.list) st.env.count (here.below (database_of P v)) cases-are is-active last (stays ∙ grew.basis ∙ basis) (sides ∙ none)
       (closed _ (here.below (database_of P v)) (grew.cases (database_of P v) ∙ here.cases (database_of P v)))
 
   module _ (count : put.env.count ≡ st.env.count + length (variables ball)) (last : State) (u : Unifies put last x.catcher b) where
@@ -153,7 +153,7 @@ module _ (P : Program) (v : Views) (s : Progress) (o : Outcome) (ball : Tree) (f
         let list = grew.lists k.list here.list_there in
         let r = grew.values x.recovery here.there.1 in
         quiet-caught P v s o ball found at carries catcher recovery (goals_of st k.list) st.env.count (here.below (database_of P v)) cases-are is-active
-        last new u.unifier x.recovery k.list (catching catcher recovery (goals_of st k.list) st.env.count) (u.code ∙ grew.code ∙ code)
+        last new u.unifier x.recovery k.list (catching catcher recovery (goals_of st k.list) st.env.count) (u.basis ∙ grew.basis ∙ basis)
         (sides ∙ u.is)
         ((u.values x.recovery r.0).1 ∙ ap (bind u.unifier) r.1)
         ((u.lists k.list list.0).1 ∙ ap (bind_goals u.unifier) list.1)

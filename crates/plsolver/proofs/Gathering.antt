@@ -25,7 +25,7 @@ use Rattle.plsolver.specs.Solver.{QuietIn}
 use Rattle.plsolver.proofs.Quiets.{quiet-unlike, quiet-gathered}
 use Rattle.plsolver.proofs.Catches.{handler-stays}
 
-module _ (P : Program) (v : Views) (s : Progress) (at : s.machine.mode ≡ modes.Back outcomes.Fail) (st : State) (list : Continuation) (c : Cell) (code : st.code ≡ s.machine.stack.code)
+module _ (P : Program) (v : Views) (s : Progress) (at : s.machine.mode ≡ modes.Back outcomes.Fail) (st : State) (list : Continuation) (c : Cell) (basis : st.basis ≡ s.machine.stack.basis)
     (same : (db : Database) → cases_of db st ≡ cases_of db s.machine.stack) (here : AtHandler st (handlers.Gather c) list) (level : ℕ) (up : (db : Database) → deeper (cases_of db st) 0 ≡ level + 1) where
   abbrev whole : Tree
   whole = value st.env.heap c
@@ -40,10 +40,10 @@ module _ (P : Program) (v : Views) (s : Progress) (at : s.machine.mode ≡ modes
   at-level = omega (arith, up (database_of P v), ap (λ cs. deeper cs 0) (here.cases (database_of P v)))
 
   pub gathers-other : (put last : State) (kept : List Kept) → Extends st put → unify whole (listed (renumbered st.env.count (copies_from level s.machine.kept))) ≡ None →
-      ((h : Case) (below : List Case) → cases_of (database_of P v) put ≡ h ∷ below → cases_of (database_of P v) last ≡ below) → last.code ≡ put.code → kept ≡ kept_below level s.machine.kept →
+      ((h : Case) (below : List Case) → cases_of (database_of P v) put ≡ h ∷ below → cases_of (database_of P v) last ≡ below) → last.basis ≡ put.basis → kept ≡ kept_below level s.machine.kept →
       QuietIn P v s (record s { machine = record s.machine { stack = last; kept = kept } })
   gathers-other put last kept grew none closed stays dropped =
-      quiet-unlike P v s at whole (goals_of st list) st.env.count below cases-are last (stays ∙ grew.code ∙ code)
+      quiet-unlike P v s at whole (goals_of st list) st.env.count below cases-are last (stays ∙ grew.basis ∙ basis)
       (closed _ below (grew.cases (database_of P v) ∙ here.cases (database_of P v))) kept (dropped ∙ ap (λ d. kept_below d s.machine.kept) at-level)
       (subst (λ d. unify whole (listed (renumbered st.env.count (copies_from d s.machine.kept))) ≡ None) at-level none)
 
@@ -54,10 +54,10 @@ module _ (P : Program) (v : Views) (s : Progress) (at : s.machine.mode ≡ modes
     pub handler-there : HasHandler put
     handler-there = handler-stays st put g.frames here.has
 
-    pub gathers-it : (last : State) (kept : List Kept) → Leaves put last list → last.code ≡ put.code → kept ≡ kept_below level s.machine.kept →
+    pub gathers-it : (last : State) (kept : List Kept) → Leaves put last list → last.basis ≡ put.basis → kept ≡ kept_below level s.machine.kept →
         QuietIn P v s (record s { machine = record s.machine { stack = last; mode = modes.Visit; kept = kept } })
     gathers-it last kept did stays dropped =
-        quiet-gathered P v s at whole (goals_of st list) st.env.count below cases-are last (stays ∙ g.code ∙ code)
+        quiet-gathered P v s at whole (goals_of st list) st.env.count below cases-are last (stays ∙ g.basis ∙ basis)
         (did.cases (database_of P v) _ below (g.cases (database_of P v) ∙ here.cases (database_of P v))) kept (dropped ∙ ap (λ d. kept_below d s.machine.kept) at-level)
         g.unifier (subst (λ d. unify whole (listed (renumbered st.env.count (copies_from d s.machine.kept))) ≡ Some g.unifier) at-level g.is)
         (did.place ∙ ap₂ (λ gs n. record { goals = gs; variables = n }) (g.lists list here.list_there).1 (g.count ∙ ap (λ d. st.env.count + count_new (copies_from d s.machine.kept)) at-level))

@@ -63,15 +63,15 @@ some_case : (c : Case) (cs all : List Case) → all ≡ c ∷ cs → all ≡ [] 
 some_case c cs all is none = let e : c ∷ cs ≡ [] = sym is ∙ none in cc
 
 -- the machine makes one turn, and had not ended
-quiet-at : (P : Program) (v : Views) (s : Progress) → IsPlain s.machine.mode → (t : Reached) → t.stack.code ≡ s.machine.stack.code → MayAsk t.stack.env.heap t.mode →
+quiet-at : (P : Program) (v : Views) (s : Progress) → IsPlain s.machine.mode → (t : Reached) → t.stack.basis ≡ s.machine.stack.basis → MayAsk t.stack t.mode →
     ((left : ℕ) (answers : List Answer) → left + s.used ≤ s.limit → machine P v left answers t ≡ turn P (machine P v left answers s.machine)) →
     ((r : Result) → mode_of s.machine.mode s.machine.stack ≡ Back r → cases_in P v s.machine ≡ [] → ⊥) → QuietIn P v s (record s { machine = t })
 unfolding machine
-quiet-at P v s plain t code may turned goes = record {
+quiet-at P v s plain t basis may turned goes = record {
   used = refl;
   limit = refl;
   places = refl;
-  code = code;
+  basis = basis;
   askable = may;
   rest = λ left answers few. ap (Rest P) (turned left answers few) ∙ sym (Rest-turn P (machine P v left answers s.machine));
   lighter = λ within. fin (subst (λ m. Lighter (machine P v 0 [] s.machine) m) (sym (turned 0 [] (omega (arith, within)))) (lighter-turn P (machine P v 0 [] s.machine) (λ r is none. goes r (sym (ap (λ m. m.mode) here) ∙ is) (sym (ap (λ m. m.cases) here) ∙ none))));
@@ -84,7 +84,7 @@ quiet-at P v s plain t code may turned goes = record {
     fin (inl less) = absurd (omega (arith, less, ap (λ m. left_of m.run) here))
     fin (inr both) = both.1
 
-quiet : (P : Program) (v : Views) (s : Progress) → IsPlain s.machine.mode → (st : State) (m : Going) → st.code ≡ s.machine.stack.code → MayAsk st.env.heap m →
+quiet : (P : Program) (v : Views) (s : Progress) → IsPlain s.machine.mode → (st : State) (m : Going) → st.basis ≡ s.machine.stack.basis → MayAsk st m →
     ((left : ℕ) (answers : List Answer) → left + s.used ≤ s.limit → machine P v left answers (record s.machine { stack = st; mode = m }) ≡ turn P (machine P v left answers s.machine)) →
     ((r : Result) → mode_of s.machine.mode s.machine.stack ≡ Back r → cases_in P v s.machine ≡ [] → ⊥) → QuietIn P v s (to s st m)
 quiet P v s plain st m = quiet-at P v s plain (record s.machine { stack = st; mode = m })
@@ -129,8 +129,8 @@ quiet-commit P v s st level rest at commit cut = record {
   used = refl;
   limit = refl;
   places = refl;
-  code = cut.keeps.code;
-  askable = subst (MayAsk st.env.heap) (sym at) tt;
+  basis = cut.keeps.basis;
+  askable = subst (MayAsk st) (sym at) tt;
   rest = λ left answers few.
       let run : Run = record { steps = left; answers = answers; local = local_of s.machine } in
       ap (Rest P) (after left answers)
@@ -158,7 +158,7 @@ pub quiet-until : (P : Program) (v : Views) (s : Progress) (level : ℕ) (rest :
     QuietIn P v s (to s (record s.machine.stack { goals = rest }) s.machine.mode)
 unfolding turn meet cases_of
 quiet-until P v s level rest at until =
-    quiet P v s (subst IsPlain (sym at) tt) (record s.machine.stack { goals = rest }) s.machine.mode refl (subst (MayAsk s.machine.stack.env.heap) (sym at) tt)
+    quiet P v s (subst IsPlain (sym at) tt) (record s.machine.stack { goals = rest }) s.machine.mode refl (subst (MayAsk s.machine.stack) (sym at) tt)
     (λ left answers few.
     at-goals P v (record s.machine { stack = record s.machine.stack { goals = rest } }) (goals_of s.machine.stack rest) at refl left answers
     ∙ sym (ap (turn P) (at-goals P v s.machine (Marker Until level ∷ goals_of s.machine.stack rest) at until.goals left answers)))
@@ -175,10 +175,10 @@ quiet-collect P v s new c level rest at collect did =
 
 -- ---- with a result
 
-pub quiet-retry : (P : Program) (v : Views) (s : Progress) (st : State) → s.machine.mode ≡ modes.Back outcomes.Fail → st.code ≡ s.machine.stack.code → Retries (database_of P v) s.machine.stack st → QuietIn P v s (to s st modes.Visit)
+pub quiet-retry : (P : Program) (v : Views) (s : Progress) (st : State) → s.machine.mode ≡ modes.Back outcomes.Fail → st.basis ≡ s.machine.stack.basis → Retries (database_of P v) s.machine.stack st → QuietIn P v s (to s st modes.Visit)
 unfolding turn
-quiet-retry P v s st at code r =
-    quiet P v s (subst IsPlain (sym at) tt) st modes.Visit code tt
+quiet-retry P v s st at basis r =
+    quiet P v s (subst IsPlain (sym at) tt) st modes.Visit basis tt
     (λ left answers few.
     at-place P v (record s.machine { stack = st; mode = modes.Visit }) (place_of st) tt refl left answers
     ∙ ap (λ cs. record { mode = At (place_of st); cases = cs; run = record { steps = left; answers = answers; local = local_of s.machine } }) r.cases
@@ -186,20 +186,20 @@ quiet-retry P v s st at code r =
     (λ x is no. some_case _ _ _ r.was no)
 
 -- the same, where a clause may be erased before the list
-pub quiet-retry-by : (P : Program) (v : Views) (s : Progress) (st : State) (x : Option ClauseName) → s.machine.mode ≡ modes.Back outcomes.Fail → st.code ≡ s.machine.stack.code → RetriesBy (database_of P v) s.machine.stack st x → QuietIn P v s (to s st (mode_by x))
+pub quiet-retry-by : (P : Program) (v : Views) (s : Progress) (st : State) (x : Option ClauseName) → s.machine.mode ≡ modes.Back outcomes.Fail → st.basis ≡ s.machine.stack.basis → RetriesBy (database_of P v) s.machine.stack st x → QuietIn P v s (to s st (mode_by x))
 unfolding turn
-quiet-retry-by P v s st x at code r =
-    quiet P v s (subst IsPlain (sym at) tt) st (mode_by x) code (may-by st.env.heap x)
+quiet-retry-by P v s st x at basis r =
+    quiet P v s (subst IsPlain (sym at) tt) st (mode_by x) basis (may-by st x)
     (λ left answers few.
     at-place P v (record s.machine { stack = st; mode = mode_by x }) (place_asked x (place_of st)) (plain-by x) (at-by st x) left answers
     ∙ ap (λ cs. record { mode = At (place_asked x (place_of st)); cases = cs; run = record { steps = left; answers = answers; local = local_of s.machine } }) r.cases
     ∙ sym (ap (turn P) (carried P v s.machine outcomes.Fail (Choice (place_asked x (place_of st) ∷ r.others) ∷ r.older) at r.was left answers)))
     (λ y is no. some_case _ _ _ r.was no)
 
-pub quiet-close : (P : Program) (v : Views) (s : Progress) (st : State) → s.machine.mode ≡ modes.Back outcomes.Fail → st.code ≡ s.machine.stack.code → cases_in P v s.machine ≡ Choice [] ∷ cases_of (database_of P v) st → QuietIn P v s (to s st s.machine.mode)
+pub quiet-close : (P : Program) (v : Views) (s : Progress) (st : State) → s.machine.mode ≡ modes.Back outcomes.Fail → st.basis ≡ s.machine.stack.basis → cases_in P v s.machine ≡ Choice [] ∷ cases_of (database_of P v) st → QuietIn P v s (to s st s.machine.mode)
 unfolding turn
-quiet-close P v s st at code was =
-    quiet P v s (subst IsPlain (sym at) tt) st s.machine.mode code (subst (MayAsk st.env.heap) (sym at) tt)
+quiet-close P v s st at basis was =
+    quiet P v s (subst IsPlain (sym at) tt) st s.machine.mode basis (subst (MayAsk st) (sym at) tt)
     (λ left answers few.
     carried P v (record s.machine { stack = st }) outcomes.Fail (cases_of (database_of P v) st) at refl left answers
     ∙ sym (ap (turn P) (carried P v s.machine outcomes.Fail (Choice [] ∷ cases_of (database_of P v) st) at was left answers)))
@@ -215,14 +215,14 @@ plain-weight : (n : ℕ) (below : List Case) → cases_weight (plain n below) �
 plain-weight zero below = omega arith
 plain-weight (suc n) below = let e = plain-weight n below in omega (arith, e)
 
-pub quiet-plain : (P : Program) (v : Views) (s : Progress) (st : State) → s.machine.mode ≡ modes.Back outcomes.Fail → st.code ≡ s.machine.stack.code → ClosesPlain s.machine.stack st → QuietIn P v s (to s st s.machine.mode)
+pub quiet-plain : (P : Program) (v : Views) (s : Progress) (st : State) → s.machine.mode ≡ modes.Back outcomes.Fail → st.basis ≡ s.machine.stack.basis → ClosesPlain s.machine.stack st → QuietIn P v s (to s st s.machine.mode)
 unfolding weight
-quiet-plain P v s st at code closes = record {
+quiet-plain P v s st at basis closes = record {
   used = refl;
   limit = refl;
   places = refl;
-  code = code;
-  askable = subst (MayAsk st.env.heap) (sym at) tt;
+  basis = basis;
+  askable = subst (MayAsk st) (sym at) tt;
   rest = λ left answers few.
       ap (Rest P) (after left answers)
       ∙ sym (fails-through P closes.count (cases_of (database_of P v) st) (record { steps = left; answers = answers; local = local_of s.machine }))
@@ -240,14 +240,14 @@ quiet-plain P v s st at code closes = record {
 abbrev pub at_stack : Progress → State → Progress
 at_stack s st = record s { machine = record s.machine { stack = st } }
 
-pub quiet-mark : (P : Program) (v : Views) (s new : Progress) (st : State) (l : ℕ) → IsBack s → st.code ≡ s.machine.stack.code → cases_in P v s.machine ≡ Mark l ∷ cases_of (database_of P v) st →
+pub quiet-mark : (P : Program) (v : Views) (s new : Progress) (st : State) (l : ℕ) → IsBack s → st.basis ≡ s.machine.stack.basis → cases_in P v s.machine ≡ Mark l ∷ cases_of (database_of P v) st →
     Becomes (at_stack s st) new (mark l) → QuietIn P v s new
 unfolding turn
-quiet-mark P v s new st l back code was b =
+quiet-mark P v s new st l back basis was b =
     let r : Outcome = back.0 in
     let made = b.is r back.1 in
     quiet-as P v s new st (modes.Back made.0) (b.frame ∙ ap (λ m. to s st m) made.1)
-    (quiet P v s (subst IsPlain (sym back.1) tt) st (modes.Back made.0) code tt
+    (quiet P v s (subst IsPlain (sym back.1) tt) st (modes.Back made.0) basis tt
     (λ left answers few.
     carried P v (record s.machine { stack = st; mode = modes.Back made.0 }) made.0 (cases_of (database_of P v) st) refl refl left answers
     ∙ ap (λ x. record { mode = Back x; cases = cases_of (database_of P v) st; run = record { steps = left; answers = answers; local = local_of s.machine } }) made.2
@@ -269,14 +269,14 @@ cut-result P d (outcomes.Halted n) (p ∷ ps) cases run is none = refl
 cut-result P d outcomes.Spent [] cases run is none = refl
 cut-result P d outcomes.Spent (p ∷ ps) cases run is none = refl
 
-pub quiet-choice : (P : Program) (v : Views) (s new : Progress) (st : State) (ps : List Place) → IsBack s → st.code ≡ s.machine.stack.code → cases_in P v s.machine ≡ Choice ps ∷ cases_of (database_of P v) st →
+pub quiet-choice : (P : Program) (v : Views) (s new : Progress) (st : State) (ps : List Place) → IsBack s → st.basis ≡ s.machine.stack.basis → cases_in P v s.machine ≡ Choice ps ∷ cases_of (database_of P v) st →
     (s.machine.mode ≡ modes.Back outcomes.Fail → ps ≡ []) → Becomes (at_stack s st) new (stop_cut (deeper (cases_of (database_of P v) st) 0)) → QuietIn P v s new
-quiet-choice P v s new st ps back code was none b =
+quiet-choice P v s new st ps back basis was none b =
     let r : Outcome = back.0 in
     let d : ℕ = deeper (cases_of (database_of P v) st) 0 in
     let made = b.is r back.1 in
     quiet-as P v s new st (modes.Back made.0) (b.frame ∙ ap (λ m. to s st m) made.1)
-    (quiet P v s (subst IsPlain (sym back.1) tt) st (modes.Back made.0) code tt
+    (quiet P v s (subst IsPlain (sym back.1) tt) st (modes.Back made.0) basis tt
     (λ left answers few.
     carried P v (record s.machine { stack = st; mode = modes.Back made.0 }) made.0 (cases_of (database_of P v) st) refl refl left answers
     ∙ ap (λ x. record { mode = Back x; cases = cases_of (database_of P v) st; run = record { steps = left; answers = answers; local = local_of s.machine } }) made.2
@@ -288,16 +288,16 @@ pub over-now : (P : Program) (s : Progress) → IsBack s → ((v : Views) → ca
 over-now P s back none = (back.0, back.1, none)
 
 -- with a result the list that is visited does not matter
-pub stays-back : (P : Program) (s : Progress) (st : State) (r : Outcome) → s.machine.mode ≡ modes.Back r → st.code ≡ s.machine.stack.code → ((v : Views) → cases_of (database_of P v) st ≡ cases_in P v s.machine) → Stays P s (at_stack s st)
-stays-back P s st r at code same = record {
+pub stays-back : (P : Program) (s : Progress) (st : State) (r : Outcome) → s.machine.mode ≡ modes.Back r → st.basis ≡ s.machine.stack.basis → ((v : Views) → cases_of (database_of P v) st ≡ cases_in P v s.machine) → Stays P s (at_stack s st)
+stays-back P s st r at basis same = record {
   used = refl;
   limit = refl;
   places = refl;
   there = record {
-    code = code;
+    basis = basis;
     cases = same;
     local = refl;
-    askable = λ may. subst (MayAsk st.env.heap) (sym at) tt;
+    askable = λ may. subst (MayAsk st) (sym at) tt;
     same = λ may v left answers. carried P v (record s.machine { stack = st }) r (cases_in P v s.machine) at (same v) left answers ∙ sym (carried P v s.machine r (cases_in P v s.machine) at refl left answers);
   };
 }
@@ -331,14 +331,14 @@ keeps (Gather l) p d (outcomes.Throw t ls) w not fails = refl
 keeps (Gather l) p d (outcomes.Halted n) w not fails = refl
 keeps (Gather l) p d outcomes.Spent w not fails = refl
 
-pub quiet-handler : (P : Program) (v : Views) (s : Progress) (st : State) (h : Handler) (p : Place) → IsBack s → st.code ≡ s.machine.stack.code → cases_in P v s.machine ≡ Handle h p ∷ cases_of (database_of P v) st →
+pub quiet-handler : (P : Program) (v : Views) (s : Progress) (st : State) (h : Handler) (p : Place) → IsBack s → st.basis ≡ s.machine.stack.basis → cases_in P v s.machine ≡ Handle h p ∷ cases_of (database_of P v) st →
     ((c x : Tree) → h ≡ Catch c x → throws_to (deeper (cases_of (database_of P v) st) 0) s.machine.mode ≡ true → ⊥) → ((l : Tree) → h ≡ Gather l → s.machine.mode ≡ modes.Back outcomes.Fail → ⊥) → QuietIn P v s (at_stack s st)
 unfolding turn
-quiet-handler P v s st h p back code was not fails =
+quiet-handler P v s st h p back basis was not fails =
     let r : Outcome = back.0 in
     let e : s.machine.mode ≡ modes.Back r = back.1 in
     let d : ℕ = deeper (cases_of (database_of P v) st) 0 in
-    quiet P v s (subst IsPlain (sym e) tt) st s.machine.mode code (subst (MayAsk st.env.heap) (sym e) tt)
+    quiet P v s (subst IsPlain (sym e) tt) st s.machine.mode basis (subst (MayAsk st) (sym e) tt)
     (λ left answers few.
     carried P v (record s.machine { stack = st }) r (cases_of (database_of P v) st) e refl left answers
     ∙ sym (ap (turn P) (carried P v s.machine r (Handle h p ∷ cases_of (database_of P v) st) e was left answers)
@@ -357,9 +357,9 @@ module _ (P : Program) (v : Views) (s : Progress) (o : Outcome) (ball : Tree) (f
       ∙ ap (λ b. return below run (if b then met_by (unify c (copied n ball)) r ball found (record { goals = gs; variables = n }) (deeper below 0) (local_of s.machine) else Keep (Throw ball found) (local_of s.machine))) active
 
   -- the ball is another
-  pub quiet-other : (st : State) → st.code ≡ s.machine.stack.code → unify c (copied n ball) ≡ None → cases_of (database_of P v) st ≡ below → QuietIn P v s (at_stack s st)
-  quiet-other st code none below_is =
-      quiet P v s (subst IsPlain (sym at) tt) st s.machine.mode code (subst (MayAsk st.env.heap) (sym at) tt)
+  pub quiet-other : (st : State) → st.basis ≡ s.machine.stack.basis → unify c (copied n ball) ≡ None → cases_of (database_of P v) st ≡ below → QuietIn P v s (at_stack s st)
+  quiet-other st basis none below_is =
+      quiet P v s (subst IsPlain (sym at) tt) st s.machine.mode basis (subst (MayAsk st) (sym at) tt)
       (λ left answers few.
       let run : Run = record { steps = left; answers = answers; local = local_of s.machine } in
       carried P v (record s.machine { stack = st }) o below at below_is left answers
@@ -368,11 +368,11 @@ module _ (P : Program) (v : Views) (s : Progress) (o : Outcome) (ball : Tree) (f
       (λ x is no. some_case _ _ _ was no)
 
   -- the ball was caught, and the recovery is run
-  pub quiet-caught : (st : State) (new : Progress) (σ : ℕ → Tree) (recovery : Cell) (list : Continuation) (h : Case) → st.code ≡ s.machine.stack.code → unify c (copied n ball) ≡ Some σ → value st.env.heap recovery ≡ bind σ r →
+  pub quiet-caught : (st : State) (new : Progress) (σ : ℕ → Tree) (recovery : Cell) (list : Continuation) (h : Case) → st.basis ≡ s.machine.stack.basis → unify c (copied n ball) ≡ Some σ → value st.env.heap recovery ≡ bind σ r →
       goals_of st list ≡ bind_goals σ gs → st.env.count ≡ n + length (variables ball) → cases_of (database_of P v) st ≡ h ∷ below → Recovered P (at_stack s st) new recovery list → QuietIn P v s new
-  quiet-caught st new σ recovery list h code some runs goals count was_st did =
+  quiet-caught st new σ recovery list h basis some runs goals count was_st did =
       subst (QuietIn P v s) (sym did.frame)
-      (quiet-at P v s (subst IsPlain (sym at) tt) (record s.machine { stack = new.machine.stack; mode = new.machine.mode; kept = new.machine.kept }) (did.code ∙ code) did.askable
+      (quiet-at P v s (subst IsPlain (sym at) tt) (record s.machine { stack = new.machine.stack; mode = new.machine.mode; kept = new.machine.kept }) (did.basis ∙ basis) did.askable
       (λ left answers few.
       let w : Local = local_of s.machine in
       let run : Run = record { steps = left; answers = answers; local = w } in
@@ -399,14 +399,14 @@ module _ (P : Program) (v : Views) (s : Progress) (at : s.machine.mode ≡ modes
   unfolding turn resume
   gather-turn left answers = ap (turn P) (carried P v s.machine outcomes.Fail (gathering l gs n ∷ below) at was left answers)
 
-  module _ (st : State) (code : st.code ≡ s.machine.stack.code) (below_is : cases_of (database_of P v) st ≡ below) (kept : List Kept) (kept_is : kept ≡ kept_below level s.machine.kept) where
+  module _ (st : State) (basis : st.basis ≡ s.machine.stack.basis) (below_is : cases_of (database_of P v) st ≡ below) (kept : List Kept) (kept_is : kept ≡ kept_below level s.machine.kept) where
     local-is : (local_of (record s.machine { kept = kept })) ≡ left_over
     local-is = ap (λ k. record (local_of s.machine) { kept = k }) kept_is
 
     -- the list has no unifier with the term
     pub quiet-unlike : unify l (listed (renumbered n copies)) ≡ None → QuietIn P v s (record s { machine = record s.machine { stack = st; kept = kept } })
     quiet-unlike none =
-        quiet-at P v s (subst IsPlain (sym at) tt) (record s.machine { stack = st; kept = kept }) code (subst (MayAsk st.env.heap) (sym at) tt)
+        quiet-at P v s (subst IsPlain (sym at) tt) (record s.machine { stack = st; kept = kept }) basis (subst (MayAsk st) (sym at) tt)
         (λ left answers few.
         machine-is P v (record s.machine { stack = st; kept = kept }) (Back Fail) below left_over (subst IsPlain (sym at) tt) (ap (λ m. mode_of m st) at) below_is local-is left answers
         ∙ sym (gather-turn left answers ∙ ap (λ o. return below (record { steps = left; answers = answers; local = local_of s.machine }) (goes_on (option_map (λ σ. record { goals = bind_goals σ gs; variables = n + count_new copies }) o) left_over)) none))
@@ -416,7 +416,7 @@ module _ (P : Program) (v : Views) (s : Progress) (at : s.machine.mode ≡ modes
     pub quiet-gathered : (σ : ℕ → Tree) → unify l (listed (renumbered n copies)) ≡ Some σ → place_of st ≡ record { goals = bind_goals σ gs; variables = n + count_new copies } →
         QuietIn P v s (record s { machine = record s.machine { stack = st; mode = modes.Visit; kept = kept } })
     quiet-gathered σ some place =
-        quiet-at P v s (subst IsPlain (sym at) tt) (record s.machine { stack = st; mode = modes.Visit; kept = kept }) code tt
+        quiet-at P v s (subst IsPlain (sym at) tt) (record s.machine { stack = st; mode = modes.Visit; kept = kept }) basis tt
         (λ left answers few.
         machine-is P v (record s.machine { stack = st; mode = modes.Visit; kept = kept }) (At (record { goals = bind_goals σ gs; variables = n + count_new copies })) below left_over tt (ap At place) below_is local-is left answers
         ∙ sym (gather-turn left answers ∙ ap (λ o. return below (record { steps = left; answers = answers; local = local_of s.machine }) (goes_on (option_map (λ σ. record { goals = bind_goals σ gs; variables = n + count_new copies }) o) left_over)) some))

@@ -22,7 +22,6 @@ use Rattle.plsearch.specs.Machines.Weight.{weight}
 use Rattle.plsearch.specs.Search.{ending_of, next_of}
 use Rattle.plsearch.specs.Solving.{TakesOne, StandsAt, EndsAt}
 use Rattle.plsearch.proofs.Turns.{Rest-turn}
-use Rattle.plcode.specs.Callees.{IsProgramCode}
 use Rattle.plcode.specs.Steps.{of_two}
 use Rattle.plenv.specs.Env.{over}
 use Rattle.plstack.specs.State.{State, cases_of, goals_of}
@@ -42,7 +41,7 @@ use Rattle.plmachine.specs.declared.machine.Mode.TheVariants as modes
 use Rattle.plmachine.specs.declared.machine.Machine.{Machine as Reached}
 use Rattle.plmachine.specs.Machine.{result_of, then_of, lookup_of, IsPlain, mode_of, local_of, cases_in, depth_of, machine, now, after, IsFollowed, MayAsk, Moved}
 use Rattle.plmachine.specs.Machine.{Stays as StaysThere}
-use Rattle.plmachine.proofs.Moves.{machine-is, goes-to, visit-asks, stays-by, stays_put}
+use Rattle.plmachine.proofs.Moves.{begun-by, machine-is, goes-to, visit-asks, stays-by, stays_put}
 use Rattle.plsolver.specs.declared.progress.Selected.{Selected}
 use Rattle.plsolver.specs.declared.progress.Selected.TheVariants as goals
 use Rattle.plsolver.specs.declared.progress.Progress.{Progress}
@@ -77,7 +76,7 @@ stays_goes P s new of t v = (
 )
 
 pub stays_of : (P : Program) (s new : Progress) → IsOf P s.machine → Stays P s new → IsOf P new.machine
-stays_of P s new of t = record { begun = subst (IsProgramCode P) (sym t.there.code) of.begun; askable = t.there.askable of.askable }
+stays_of P s new of t = record { begun = begun-by P _ _ t.there.basis of.begun; askable = t.there.askable of.askable }
 
 pub quiet_goes : (P : Program) (s new : Progress) → s.used ≤ s.limit → Quiet P s new → GoesTo P s new
 unfolding rest_of GoesTo
@@ -96,7 +95,7 @@ abbrev pub no_views : Views
 no_views g = []
 
 pub quiet_of : (P : Program) (s new : Progress) → IsOf P s.machine → Quiet P s new → IsOf P new.machine
-quiet_of P s new of quiet = let q = quiet no_views in record { begun = subst (IsProgramCode P) (sym q.code) of.begun; askable = q.askable }
+quiet_of P s new of quiet = let q = quiet no_views in record { begun = begun-by P _ _ q.basis of.begun; askable = q.askable }
 
 -- how much a solver has before it without a step
 pub load : Program → Progress → ℕ
@@ -230,8 +229,8 @@ asked-waits s (Finish e) (thens.Ends m) asked fits = absurd fits
 asked-waits s (HaltRun n) thens.GoesOn asked fits = absurd fits
 asked-waits s (HaltRun n) (thens.Ends m) asked fits = subst (λ m. IsAsked s (HaltRun n) (thens.Ends m)) (sym fits) asked
 
-pub waits-now : (s : Progress) (q : Request) (next : Following) → IsAsked s q next → MayAsk s.machine.stack.env.heap s.machine.mode → Waits s
-waits-now s q next asked may = (q, asked-waits s q next asked (subst (MayAsk s.machine.stack.env.heap) asked may))
+pub waits-now : (s : Progress) (q : Request) (next : Following) → IsAsked s q next → MayAsk s.machine.stack s.machine.mode → Waits s
+waits-now s q next asked may = (q, asked-waits s q next asked (subst (MayAsk s.machine.stack) asked may))
 
 -- the request that waits is the one that is asked
 pub asked-next : (s : Progress) (q : Request) → WaitsForReply s q → (next : Following) × IsAsked s q next
@@ -348,7 +347,7 @@ selects-both P s new next b is =
     let w : Local = local_of s in
     selects-row P s new b.level (of_two (codes ",") b.left b.right) b.rest b.goals
     (subst (λ f. Moved P s new (row P f b.level (of_two (codes ",") b.left b.right) (depth_of s) b.rest n w)) (sym b.form_is)
-    (goes-to P s new [] (record { goals = Goal b.level b.left ∷ Goal b.level b.right ∷ b.rest; variables = n }) w (ap (λ x. x.stack.code) is) (visit-asks new (ap (λ x. x.mode) is)) (subst (λ x. IsPlain x.mode) (sym is) tt)
+    (goes-to P s new [] (record { goals = Goal b.level b.left ∷ Goal b.level b.right ∷ b.rest; variables = n }) w (ap (λ x. x.stack.basis) is) (visit-asks new (ap (λ x. x.mode) is)) (subst (λ x. IsPlain x.mode) (sym is) tt)
     (ap (λ x. mode_of x.mode x.stack) is ∙ ap (λ gs. At (record { goals = gs; variables = n })) b.next_goals) (λ v. ap (λ x. cases_in P v x) is) (ap (λ x. local_of x) is)))
 
 -- what was given back
@@ -357,7 +356,7 @@ given-back P s st back = record {
   used = refl;
   limit = refl;
   places = refl;
-  there = stays-by P s.machine (record s.machine { stack = st }) back.code refl (λ v i. (subst (λ h. IsValue h v) (sym back.heap) i, ap (λ h. value h v) back.heap)) back.place (λ v. back.cases (database_of P v)) refl;
+  there = stays-by P s.machine (record s.machine { stack = st }) back.basis refl (λ v i. (subst (λ h. IsValue h v) (sym back.heap) i, ap (λ h. value h v) back.heap)) back.place (λ v. back.cases (database_of P v)) refl;
 }
 
 -- it stands where it stood
@@ -367,9 +366,13 @@ stays-same P s = record { used = refl; limit = refl; places = refl; there = stay
 -- ---- moves
 
 pub moved_of : (P : Program) (s new : Reached) (m : Move) → IsOf P s → Moved P s new m → IsOf P new
-moved_of P s new m of moved = record { begun = subst (IsProgramCode P) (sym moved.code) of.begun; askable = moved.askable }
+moved_of P s new m of moved = record { begun = begun-by P _ _ moved.basis of.begun; askable = moved.askable }
 
 -- after a row, or where it was refused memory
 pub either_of : {T E : Type 0} (P : Program) (s new : Reached) (m : Move) (r : Outcomes T E) → IsOf P s → OnOk r (Moved P s new m) → OnErr r (StaysThere P s new) → IsOf P new
 either_of P s new m (Ok x) of ok err = moved_of P s new m of ok
-either_of P s new m (Err e) of ok err = record { begun = subst (IsProgramCode P) (sym err.code) of.begun; askable = err.askable of.askable }
+either_of P s new m (Err e) of ok err = record { begun = begun-by P _ _ err.basis of.begun; askable = err.askable of.askable }
+
+pub either_basis : {T E : Type 0} (P : Program) (s new : Reached) (m : Move) (r : Outcomes T E) → OnOk r (Moved P s new m) → OnErr r (StaysThere P s new) → new.stack.basis ≡ s.stack.basis
+either_basis P s new m (Ok x) ok err = ok.basis
+either_basis P s new m (Err e) ok err = err.basis

@@ -28,7 +28,7 @@ use Rattle.plstore.specs.Looking.{Views, clause_alive, found}
 use Rattle.plcode.proofs.Numbers.{indicator_same}
 use Rattle.plstack.specs.declared.frame.Use.TheVariants as uses
 use Rattle.plstack.specs.Places.{candidate_of, head_in, tried}
-use Rattle.plstack.specs.State.{State, goals_of, Extends}
+use Rattle.plstack.specs.State.{State, goals_of, seeing, Extends}
 use Rattle.plstack.specs.Walks.{IsWalking}
 use Rattle.plstack.specs.declared.frame.Point.{Point}
 use Rattle.plstack.specs.declared.frame.Walk.{Walk}
@@ -36,13 +36,14 @@ use Rattle.plstack.specs.declared.frame.Resume.TheVariants as resumes
 use Rattle.plstack.specs.declared.frame.Frame.TheVariants.{Open}
 use Rattle.plstack.proofs.Frames.{reverse-push}
 use Rattle.plstack.specs.StaticCalls.{database_of}
-use Rattle.plstack.proofs.Stacks.{depth-in}
+use Rattle.plstack.proofs.Stacks.{depth-in, seeing-cases}
 use Rattle.plmachine.specs.declared.machine.Lookup.{Lookup}
 use Rattle.plmachine.specs.declared.machine.Question.{Question}
 use Rattle.plmachine.specs.declared.machine.Outcome.{Outcome}
 use Rattle.plmachine.specs.declared.machine.Mode.{Mode as Going}
 use Rattle.plmachine.specs.declared.machine.Question.TheVariants as questions
 use Rattle.plmachine.specs.declared.machine.Find.{Find}
+use Rattle.plmachine.specs.declared.machine.Find.TheVariants as finds
 use Rattle.plmachine.specs.declared.machine.Mode.TheVariants as modes
 use Rattle.plmachine.specs.declared.machine.Machine.{Machine as Reached}
 use Rattle.plmachine.specs.Machine.{after, bare, cases_in, depth_of, find_answers, find_mode, local_of, lookup_by, machine, machine_in, mode_of, now, IsPlain, IsTold, Stays}
@@ -58,17 +59,26 @@ pub find-machine : (P : Program) (v : Views) (s : Reached) (f : Find) → s.mode
 unfolding machine
 find-machine P v s f at left answers = ap (machine_in P v left answers s) at
 
+-- what is sought is the same where a walk may go on in another view
+seeing-mode : (v : Views) (g : ℕ) (f : Find) (s : State) → find_mode v f (seeing g s) ≡ find_mode v f s
+seeing-mode v g (finds.First x h) s = refl
+seeing-mode v g (finds.Exists c h) s = refl
+seeing-mode v g (finds.All c h) s = refl
+seeing-mode v g (finds.Sweep c w) s = refl
+
 -- a look-up takes its view
 module _ (P : Program) (v : Views) (s t : Reached) (u : Lookup) (g : ℕ) (f : Find) (at : s.mode ≡ modes.Ask (questions.Look u)) (by : FindsBy s t u g f) (stay : Stays P s t) where
-  refreshed-machine : (left : ℕ) (answers : List Answer) → machine P v left (Seen g (v g) ∷ answers) s ≡ machine P v left answers (record t { mode = modes.Find f })
+  refreshed-machine : (left : ℕ) (answers : List Answer) → machine P v left (Seen g (v g) ∷ answers) s ≡ machine P v left answers (record t { stack = seeing g t.stack; mode = modes.Find f })
   refreshed-machine left answers =
       machine-is P v s (mode_of (modes.Ask (questions.Look u)) s.stack) (cases_in P v s) (local_of s) (subst IsPlain (sym at) tt) (ap (λ m. mode_of m s.stack) at) refl refl left (Seen g (v g) ∷ answers)
       ∙ ap₂ (λ m ans. record { mode = m; cases = cases_in P v s; run = record { steps = left; answers = ans ++ answers; local = local_of s } }) (sym (by.mode v)) (sym (by.answers v))
       ∙ ap₂ (λ cs w. record { mode = find_mode v f t.stack; cases = cs; run = record { steps = left; answers = find_answers v f t.stack.env.heap ++ answers; local = w } }) (sym (stay.cases v)) (sym stay.local)
-      ∙ sym (find-machine P v (record t { mode = modes.Find f }) f refl left answers)
+      ∙ sym
+      (find-machine P v (record t { stack = seeing g t.stack; mode = modes.Find f }) f refl left answers
+      ∙ ap₂ (λ m cs. record { mode = m; cases = cs; run = record { steps = left; answers = find_answers v f t.stack.env.heap ++ answers; local = local_of t } }) (seeing-mode v g f t.stack) (seeing-cases (database_of P v) g t.stack))
 
 pub takes-view : (P : Program) (v : Views) (s new : Progress) (t : Reached) (u : Lookup) (g : ℕ) (f : Find) → s.machine.mode ≡ modes.Ask (questions.Look u) → FindsBy s.machine t u g f → Stays P s.machine t →
-    new.machine ≡ record t { mode = modes.Find f } → new.used ≡ s.used → new.limit ≡ s.limit → TakesOne (Seen g (v g)) (rest_of P v s) s.used (rest_of P v new) new.used
+    new.machine ≡ record t { stack = seeing g t.stack; mode = modes.Find f } → new.used ≡ s.used → new.limit ≡ s.limit → TakesOne (Seen g (v g)) (rest_of P v s) s.used (rest_of P v new) new.used
 unfolding rest_of
 takes-view P v s new t u g f at by stay is used limit = (
   used,
@@ -148,7 +158,7 @@ put-stays P s st e count = record {
   used = refl;
   limit = refl;
   places = refl;
-  there = stays-by P s.machine (record s.machine { stack = st }) e.code refl e.values (ap₂ (λ es n. record { goals = es; variables = n }) e.visited count) (λ v. e.cases (database_of P v)) refl;
+  there = stays-by P s.machine (record s.machine { stack = st }) e.basis refl e.values (ap₂ (λ es n. record { goals = es; variables = n }) e.visited count) (λ v. e.cases (database_of P v)) refl;
 }
 
 -- what an answer tells, by its query

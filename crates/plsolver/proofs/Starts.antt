@@ -69,10 +69,11 @@ starts-goal old st new list made v g t e is same grown l adds = record {
 }
 
 -- a machine at the start
-pub is-start : (P : Program) (s : Reached) (stack : State) (list : Continuation) → IsProgramCode P stack.code → Starts stack list P.goals → s.stack ≡ record stack { goals = list } → s.mode ≡ modes.Visit → s.out.items ≡ [] → s.settings ≡ P.settings → s.kept ≡ [] → IsStart P s
+pub is-start : (P : Program) (s : Reached) (stack : State) (list : Continuation) → IsProgramCode P stack.basis.code → stack.basis.latest ≡ 0 → Starts stack list P.goals → s.stack ≡ record stack { goals = list } → s.mode ≡ modes.Visit → s.out.items ≡ [] → s.settings ≡ P.settings → s.kept ≡ [] → IsStart P s
 unfolding start_of cases_of
-is-start P s stack list code starts is at out settings kept = record {
-  of = record { begun = subst (λ st. IsProgramCode P st.code) (sym is) code; askable = subst (λ m. MayAsk s.stack.env.heap m) (sym at) tt };
+is-start P s stack list code latest starts is at out settings kept = record {
+  of = record { begun = subst (λ st. IsProgramCode P st.basis.code) (sym is) code; askable = subst (λ m. MayAsk s.stack m) (sym at) tt };
+  latest = ap (λ (st : State). st.basis.latest) is ∙ latest;
   is = λ v left answers.
       machine-is P v s (At (start_of P)) [] (record { out = []; settings = P.settings; kept = [] }) (subst IsPlain (sym at) tt) (ap₂ mode_of at is ∙ ap At starts.place) (ap (cases_of (database_of P v)) is ∙ starts.cases (database_of P v)) (ap₂ (λ o x. record { out = o; settings = x; kept = s.kept }) out settings ∙ ap (λ k. record { out = []; settings = P.settings; kept = k }) kept) left answers;
 }

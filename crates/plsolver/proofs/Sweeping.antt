@@ -1,5 +1,5 @@
 -- The erasure of all clauses of a head, looked through one at a time.
-use Rattle.std.proofs.Common.{◌≡◌, ℕ, Bool, true, false, cond, List, [], ◌∷◌, ◌++◌, map, filter, Option, Some, None, is_some, refl, sym, ap, ap₂, ◌∙◌, subst, append-nil, append_assoc, if◌then◌else◌}
+use Rattle.std.proofs.Common.{◌≡◌, ℕ, Bool, true, false, cond, List, [], ◌∷◌, ◌++◌, map, filter, Option, Some, None, is_some, refl, sym, ap, ap₂, ◌∙◌, subst, arith, append-nil, append_assoc, if◌then◌else◌}
 use Rattle.plterm.specs.Tree.{Tree}
 use Rattle.plterm.specs.declared.indicator.Indicator.{Indicator}
 use Rattle.plsubst.specs.Subst.{shift}
@@ -168,10 +168,10 @@ sweep-sought v h c d w u cur o e is =
 pub sweep-stays : (P : Program) (s : Reached) (c : Cell) (w x : Sweep) → s.mode ≡ modes.Find (finds.Sweep c w) → as_swept w x → Stays P s (record s { mode = modes.Find (finds.Sweep c x) })
 unfolding machine
 sweep-stays P s c w x at far = record {
-  code = refl;
+  basis = refl;
   cases = λ v. refl;
   local = refl;
-  askable = λ may. subst (MayAsk s.stack.env.heap) at may;
+  askable = λ may. let asks : MayAsk s.stack (modes.Find (finds.Sweep c w)) = subst (MayAsk s.stack) at may in (asks.0, omega (arith, asks.1, far.0));
   same = λ may v left answers.
       let head : Tree = value s.stack.env.heap c in
       let same : swept (v x.view) s.stack.env.count head x ≡ swept (v w.view) s.stack.env.count head w =

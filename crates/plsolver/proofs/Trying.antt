@@ -100,20 +100,20 @@ went-on P v s st fails same most left answers =
     ∙ sym (carried P v (record s { stack = st }) outcomes.Fail (cases_of (database_of P v) st) fails refl left answers))
 
 -- a clause that fits is visited
-pub went-into : (P : Program) (v : Views) (s : Progress) (st : State) (x : Option ClauseName) → s.machine.mode ≡ modes.Back outcomes.Fail → st.code ≡ s.machine.stack.code → RetriesBy (database_of P v) s.machine.stack st x →
+pub went-into : (P : Program) (v : Views) (s : Progress) (st : State) (x : Option ClauseName) → s.machine.mode ≡ modes.Back outcomes.Fail → st.basis ≡ s.machine.stack.basis → RetriesBy (database_of P v) s.machine.stack st x →
     (most left : ℕ) (answers : List Answer) → now P v s.machine most left answers ≡ now P v (record s.machine { stack = st; mode = mode_by x }) most left answers
-went-into P v s st x fails code r most left answers =
-    ap (ending_of most) (sym ((quiet-retry-by P v (record s { used = 0; limit = left }) st x fails code r).rest left answers (omega (arith))))
+went-into P v s st x fails basis r most left answers =
+    ap (ending_of most) (sym ((quiet-retry-by P v (record s { used = 0; limit = left }) st x fails basis r).rest left answers (omega (arith))))
 
 -- ---- a walk that was rewound first
 
 -- what is quiet from where it stands is quiet
-pub quiet-from : (P : Program) (v : Views) (s t new : Progress) → MayAsk s.machine.stack.env.heap s.machine.mode → Stays P s t → QuietIn P v t new → QuietIn P v s new
+pub quiet-from : (P : Program) (v : Views) (s t new : Progress) → MayAsk s.machine.stack s.machine.mode → Stays P s t → QuietIn P v t new → QuietIn P v s new
 quiet-from P v s t new may stay q = record {
   used = q.used ∙ stay.used;
   limit = q.limit ∙ stay.limit;
   places = q.places ∙ stay.places;
-  code = q.code ∙ stay.there.code;
+  basis = q.basis ∙ stay.there.basis;
   askable = q.askable;
   rest = λ left answers few. q.rest left answers (omega (arith, few, stay.used, stay.limit)) ∙ ap (Rest P) (stay.there.same may v left answers);
   lighter = λ within. subst (λ m. weight (machine P v 0 [] new.machine) < weight m) (stay.there.same may v 0 []) (q.lighter (omega (arith, within, stay.used, stay.limit)));
@@ -203,7 +203,7 @@ pub record AtText (old new : Progress) (from to : Walking) (k : ℕ) (cs : List 
   pub uses : to.walk.uses ≡ from.walk.uses
   pub goal : value new.machine.stack.env.heap to.walk.goal ≡ value old.machine.stack.env.heap from.walk.goal
   pub cases : (P : Program) (v : Views) → cs ≡ clauses_for P (indicator (head_in from.walk.uses (value old.machine.stack.env.heap from.walk.goal))) → cases_of (database_of P v) new.machine.stack ≡ cases_of (database_of P v) old.machine.stack
-  pub code : new.machine.stack.code ≡ old.machine.stack.code
+  pub basis : new.machine.stack.basis ≡ old.machine.stack.basis
   pub frame : new ≡ record old { machine = record old.machine { stack = new.machine.stack } }
 
 -- they are still the procedure's

@@ -45,7 +45,7 @@ use Rattle.plstack.specs.declared.frame.Use.TheVariants as uses
 use Rattle.plstack.specs.declared.frame.Spot.{Spot}
 use Rattle.plstack.specs.declared.frame.Spot.TheVariants as spots
 use Rattle.plstack.specs.declared.frame.Walk.{Walk}
-use Rattle.plstack.specs.State.{State, cases_of, goals_in, goals_of, HasAnswers, HasBranch, HasClauses, IsList}
+use Rattle.plstack.specs.State.{State, cases_of, goals_in, goals_of, seeing, HasAnswers, HasBranch, HasClauses, IsList}
 use Rattle.plstack.specs.declared.first.First.{First}
 use Rattle.plstack.specs.declared.first.First.TheVariants as firsts
 use Rattle.plstack.specs.First.{IsFirst}
@@ -79,7 +79,7 @@ rest_of P v s n answers = ending_of (min n s.limit) (Rest P (machine P v (min n 
 -- the machine was begun with the program, and what it asks can be asked
 pub record IsOf (P : Program) (s : Reached) : Type 0 where
   pub begun : IsBegun P s
-  pub askable : MayAsk s.stack.env.heap s.mode
+  pub askable : MayAsk s.stack s.mode
 
 -- what is left of its search stays, where any views are, whatever the limit of steps and the answers to come
 unfoldable pub GoesTo : Program → Progress → Progress → Type 0
@@ -97,8 +97,8 @@ pub record QuietIn (P : Program) (v : Views) (old new : Progress) : Type 0 where
   pub used : new.used ≡ old.used
   pub limit : new.limit ≡ old.limit
   pub places : new.places.items ≡ old.places.items
-  pub code : new.machine.stack.code ≡ old.machine.stack.code
-  pub askable : MayAsk new.machine.stack.env.heap new.machine.mode
+  pub basis : new.machine.stack.basis ≡ old.machine.stack.basis
+  pub askable : MayAsk new.machine.stack new.machine.mode
   pub rest : (left : ℕ) (answers : List Answer) → left + old.used ≤ old.limit → Rest P (machine P v left answers new.machine) ≡ Rest P (machine P v left answers old.machine)
   pub lighter : old.used ≤ old.limit → weight (machine P v 0 [] new.machine) < weight (machine P v 0 [] old.machine)
 
@@ -109,6 +109,10 @@ Quiet P old new = (v : Views) → QuietIn P v old new
 -- it carries a result, and no case is open
 abbrev pub IsOver : Program → Progress → Type 0
 IsOver P s = (r : Outcome) × (s.machine.mode ≡ modes.Back r) × ((v : Views) → cases_in P v s.machine ≡ [])
+
+-- the latest place whose view is kept
+abbrev pub latest_view : Progress → ℕ
+latest_view s = s.machine.stack.basis.latest
 
 -- a look-up of clauses waits for a view
 abbrev pub WaitsForView : Progress → Type 0
@@ -261,8 +265,8 @@ Collects old new l t = new ≡ record old { machine = record old.machine { kept 
 -- an error of catch/3 is carried, and the innermost case was closed
 pub record Rethrown (P : Program) (old new : Progress) (e : Tree) (list : Continuation) : Type 0 where
   pub frame : new ≡ record old { machine = record old.machine { stack = new.machine.stack; mode = new.machine.mode } }
-  pub code : new.machine.stack.code ≡ old.machine.stack.code
-  pub askable : MayAsk new.machine.stack.env.heap new.machine.mode
+  pub basis : new.machine.stack.basis ≡ old.machine.stack.basis
+  pub askable : MayAsk new.machine.stack new.machine.mode
   pub is : (v : Views) (h : Case) (below : List Case) → cases_in P v old.machine ≡ h ∷ below → (left : ℕ) (answers : List Answer) →
       machine P v left answers new.machine
       ≡ record { mode = Back (Throw (copied 0 (error_term e catch_3)) (levels (goals_of old.machine.stack list))); cases = below; run = record { steps = left; answers = answers; local = local_of old.machine } }
@@ -270,8 +274,8 @@ pub record Rethrown (P : Program) (old new : Progress) (e : Tree) (list : Contin
 -- the recovery was run in place of the innermost case, before a list, or is no goal
 pub record Recovered (P : Program) (old new : Progress) (recovery : Cell) (list : Continuation) : Type 0 where
   pub frame : new ≡ record old { machine = record old.machine { stack = new.machine.stack; mode = new.machine.mode; kept = new.machine.kept } }
-  pub code : new.machine.stack.code ≡ old.machine.stack.code
-  pub askable : MayAsk new.machine.stack.env.heap new.machine.mode
+  pub basis : new.machine.stack.basis ≡ old.machine.stack.basis
+  pub askable : MayAsk new.machine.stack new.machine.mode
   pub is : (v : Views) (h : Case) (below : List Case) → cases_in P v old.machine ≡ h ∷ below → (left : ℕ) (answers : List Answer) →
       machine P v left answers new.machine
       ≡ return below (record { steps = left; answers = answers; local = local_of old.machine })
@@ -300,6 +304,7 @@ pub record StartsGoal (old new : State) (list made : Continuation) (g : Tree) : 
 -- a machine at the start of a program's search
 pub record IsStart (P : Program) (s : Reached) : Type 0 where
   pub of : IsOf P s
+  pub latest : s.stack.basis.latest ≡ 0
   pub is : (v : Views) (left : ℕ) (answers : List Answer) → machine P v left answers s ≡ record { mode = At (start_of P); cases = []; run = from_start P left answers }
 
 -- without a step or an answer it came to where the same is left of its search, where the views are these
@@ -312,9 +317,9 @@ pub record KeepsRest (P : Program) (v : Views) (old new : Progress) : Type 0 whe
 abbrev pub LooksUp : Progress → Lookup → Type 0
 LooksUp s u = s.machine.mode ≡ modes.Ask (questions.Look u)
 
--- what a look-up seeks in the view of a place, in a stack that has grown
+-- what a look-up seeks in the view of a place, in a stack that has grown and sees it
 pub record FindsBy (old new : Reached) (u : Lookup) (g : ℕ) (f : Find) : Type 0 where
-  pub there : IsFound new.stack.env.heap f
+  pub there : IsFound (seeing g new.stack) f
   pub mode : (v : Views) → find_mode v f new.stack ≡ mode_of (modes.Ask (questions.Look u)) old.stack
   pub answers : (v : Views) → find_answers v f new.stack.env.heap ≡ Seen g (v g) ∷ []
 

@@ -24,6 +24,7 @@ impl Progress {
         requires within { self.old.used ≤ self.old.limit }
         ensures ok { OnOk result ((v : Views) → TakesOne (Got reply) (rest_of program.now v self.old) self.old.used (rest_of program.now v self.new) self.new.used) }
         ensures of { IsOf program.now self.new.machine }
+        ensures basis { self.new.machine.stack.basis ≡ self.old.machine.stack.basis }
         ensures places { OnOk result (self.new.places.items ≡ self.old.places.items ++ place ∷ []) }
         ensures limit { self.new.limit ≡ self.old.limit }
         ensures err { OnErr result (Stays program.now self.old self.new) }

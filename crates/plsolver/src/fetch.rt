@@ -1,6 +1,6 @@
 //! What is asked in a view, and what is made of the answers.
 
-ghost use Rattle.std.specs.Prelude.{◌≡◌, ℕ, IfOk, OnErr, OnOk};
+ghost use Rattle.std.specs.Prelude.{◌≡◌, ◌≤◌, ℕ, IfOk, OnErr, OnOk};
 ghost use Rattle.plcells.specs.Store.{value, IsValue};
 ghost use Rattle.plclause.specs.Indicators.{indicator};
 ghost use Rattle.plstore.specs.Looking.{Views, found as found_of};
@@ -9,7 +9,7 @@ ghost use Rattle.plstore.specs.declared.query.Query.{Query as Asked};
 ghost use Rattle.plstore.specs.declared.query.Query.TheVariants.{Exists as ExistsOf};
 ghost use Rattle.plstore.specs.declared.query.Found.TheVariants.{Clause as ClauseOf, Exists as ExistsFound, Next as NextOf};
 ghost use Rattle.plterm.specs.Tree.{Tree};
-ghost use Rattle.plmachine.specs.Machine.{IsFound};
+ghost use Rattle.plmachine.specs.Machine.{IsFound, MayAsk};
 ghost use Rattle.plmachine.specs.declared.machine.Find.TheVariants.{Sweep as SweepOf};
 ghost use Rattle.plmachine.specs.declared.machine.Mode.TheVariants.{Find as Finds};
 ghost use Rattle.plmachine.specs.declared.machine.Sweep.{Sweep as OfSweep};
@@ -67,7 +67,7 @@ impl Progress {
 
     /// What a look-up asks.
     fn find_query(&self, find: &Find) -> Result<Query, AllocError>
-        requires { IsFound self.now.machine.stack.env.heap find.now }
+        requires { IsFound self.now.machine.stack find.now }
         ensures { IfOk result (λ q. q ≡ find_query self.now.machine.stack.env.heap find.now) }
     {
         match find {
@@ -105,8 +105,10 @@ impl Progress {
 
     /// The place of the view in which something is asked.
     pub(crate) fn view(&self) -> u64
-        requires { IsFetching self.now }
-        ensures { (g : ℕ) (q : Asked) → Fetches self.now g q → result ≡ g }
+        requires fetching { IsFetching self.now }
+        requires askable { MayAsk self.now.machine.stack self.now.machine.mode }
+        ensures is { (g : ℕ) (q : Asked) → Fetches self.now g q → result ≡ g }
+        ensures seen { result ≤ self.now.machine.stack.basis.latest }
     {
         match &self.machine.mode {
             Mode::Find(find) => view_of(find),
@@ -117,7 +119,8 @@ impl Progress {
     /// That of a walk.
     fn walk_view(&self) -> u64
         requires { (g : ℕ) × (q : Asked) × WalksOn self.now.machine g q }
-        ensures { (g : ℕ) (q : Asked) → WalksOn self.now.machine g q → result ≡ g }
+        ensures is { (g : ℕ) (q : Asked) → WalksOn self.now.machine g q → result ≡ g }
+        ensures seen { result ≤ self.now.machine.stack.basis.latest }
     {
         let Some(at) = self.machine.stack.walking() else {
             unreachable!()
@@ -134,6 +137,7 @@ impl Progress {
         requires fits { (g : ℕ) × (q : Asked) × Fetches self.old g q × IsFoundFor q found }
         ensures ok { OnOk result ((v : Views) (g : ℕ) (q : Asked) → Fetches self.old g q → Ordered (v g) → found ≡ found_of (v g) q → KeepsRest program.now v self.old self.new) }
         ensures of { IsOf program.now self.new.machine }
+        ensures basis { self.new.machine.stack.basis ≡ self.old.machine.stack.basis }
         ensures frame { self.new ≡ record self.old { machine = self.new.machine } }
         ensures err { OnErr result (Stays program.now self.old self.new) }
     {
@@ -172,6 +176,7 @@ impl Progress {
         requires fits { (h : Tree) → IsFoundFor (reach_query h reach) found }
         ensures ok { OnOk result ((v : Views) (head : Cell) (w : OfSweep) → self.old.machine.mode ≡ Finds (SweepOf head w) → Ordered (v w.view) → found ≡ found_of (v w.view) (reach_query (value self.old.machine.stack.env.heap head) reach) → KeepsRest program.now v self.old self.new) }
         ensures of { IsOf program.now self.new.machine }
+        ensures basis { self.new.machine.stack.basis ≡ self.old.machine.stack.basis }
         ensures frame { self.new ≡ record self.old { machine = self.new.machine } }
         ensures err { OnErr result (Stays program.now self.old self.new) }
     {
@@ -190,6 +195,7 @@ impl Progress {
         requires fits { (g : ℕ) × (q : Asked) × WalksOn self.old.machine g q × IsFoundFor q found }
         ensures ok { OnOk result ((v : Views) (g : ℕ) (q : Asked) → WalksOn self.old.machine g q → Ordered (v g) → found ≡ found_of (v g) q → KeepsRest program.now v self.old self.new) }
         ensures of { IsOf program.now self.new.machine }
+        ensures basis { self.new.machine.stack.basis ≡ self.old.machine.stack.basis }
         ensures frame { self.new ≡ record self.old { machine = self.new.machine } }
         ensures err { OnErr result (Stays program.now self.old self.new) }
     {

@@ -1,6 +1,6 @@
 //! Look-ups of clauses in a view.
 
-ghost use Rattle.std.specs.Prelude.{◌≡◌, [], ◌∷◌, ◌++◌, IfOk, OnOk, OnErr};
+ghost use Rattle.std.specs.Prelude.{◌≡◌, ◌≤◌, [], ◌∷◌, ◌++◌, IfOk, OnOk, OnErr};
 ghost use Rattle.plterm.specs.Tree.{Tree};
 ghost use Rattle.plcells.specs.Store.{value};
 ghost use Rattle.plclause.specs.Indicators.{indicator};
@@ -37,8 +37,10 @@ impl Progress {
     pub fn refreshed(&mut self, program: &Program, g: u64) -> Result<(), AllocError>
         requires of { IsOf program.now self.old.machine }
         requires waits { WaitsForView self.old }
+        requires latest { self.old.machine.stack.basis.latest ≤ g }
         ensures ok { OnOk result ((v : Views) → TakesOne (Seen g (v g)) (rest_of program.now v self.old) self.old.used (rest_of program.now v self.new) self.new.used) }
         ensures of { IsOf program.now self.new.machine }
+        ensures latest { OnOk result (self.new.machine.stack.basis.latest ≡ g) }
         ensures places { OnOk result (self.new.places.items ≡ self.old.places.items ++ g ∷ []) }
         ensures limit { self.new.limit ≡ self.old.limit }
         ensures err { OnErr result (Stays program.now self.old self.new) }
@@ -52,6 +54,7 @@ impl Progress {
         let lookup = *lookup;
         self.places.reserve(1)?;
         let find = self.find_of(program, lookup, g)?;
+        self.machine.stack.sees(g);
         self.machine.mode = Mode::Find(find);
         match self.places.push(g) {
             Ok(()) => Ok(()),
@@ -65,6 +68,7 @@ impl Progress {
         requires looks { LooksUp self.old lookup }
         ensures ok { IfOk result (λ f. FindsBy self.old.machine self.new.machine lookup g f) }
         ensures of { IsOf program.now self.new.machine }
+        ensures basis { self.new.machine.stack.basis ≡ self.old.machine.stack.basis }
         ensures frame { self.new ≡ record self.old { machine = self.new.machine } }
         ensures stays { Stays program.now self.old self.new }
     {
@@ -105,6 +109,7 @@ impl Progress {
         requires finds { self.old.machine.mode ≡ Finds (FirstOf sought g) }
         ensures ok { OnOk result ((v : Views) → Ordered (v g) → first ≡ next_like_of (first_key (head_in sought.uses (value self.old.machine.stack.env.heap sought.goal))) StartOf (living (v g) (indicator (head_in sought.uses (value self.old.machine.stack.env.heap sought.goal)))) → KeepsRest program.now v self.old self.new) }
         ensures of { IsOf program.now self.new.machine }
+        ensures basis { self.new.machine.stack.basis ≡ self.old.machine.stack.basis }
         ensures frame { self.new ≡ record self.old { machine = self.new.machine } }
         ensures err { OnErr result (Stays program.now self.old self.new) }
     {
@@ -137,6 +142,7 @@ impl Progress {
         requires finds { self.old.machine.mode ≡ Finds (ExistsOf goal g) }
         ensures ok { OnOk result ((v : Views) → exists ≡ exists_of (v g) (indicator (value self.old.machine.stack.env.heap goal)) → KeepsRest program.now v self.old self.new) }
         ensures of { IsOf program.now self.new.machine }
+        ensures basis { self.new.machine.stack.basis ≡ self.old.machine.stack.basis }
         ensures frame { self.new ≡ record self.old { machine = self.new.machine } }
         ensures err { OnErr result (Stays program.now self.old self.new) }
     {
@@ -153,6 +159,7 @@ impl Progress {
         requires of { IsOf program.now self.old.machine }
         ensures ok { OnOk result ((t : Tree) → p.now ≡ indicator t → Moved program.now self.old.machine self.new.machine (missing self.old.machine.settings.unknown t (goals_of self.old.machine.stack self.old.machine.stack.goals) (local_of self.old.machine))) }
         ensures of { IsOf program.now self.new.machine }
+        ensures basis { self.new.machine.stack.basis ≡ self.old.machine.stack.basis }
         ensures frame { self.new ≡ record self.old { machine = self.new.machine } }
         ensures err { OnErr result (Stays program.now self.old self.new) }
     {

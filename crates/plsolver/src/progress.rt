@@ -62,6 +62,7 @@ impl Progress {
     pub fn new(alloc: Global, program: &Program, limit: u64) -> Result<Self, AllocError>
         ensures begins { IfOk result (λ s. (v : Views) → Begins (search_of program.now limit) (rest_of program.now v s) s.used) }
         ensures of { IfOk result (λ s. IsOf program.now s.machine) }
+        ensures latest { IfOk result (λ s. s.machine.stack.basis.latest ≡ 0) }
         ensures limit { IfOk result (λ s. s.limit ≡ limit) }
         ensures places { IfOk result (λ s. s.places.items ≡ []) }
     {
@@ -81,6 +82,7 @@ impl Progress {
         requires of { IsOf program.now self.old.machine }
         ensures goes { GoesTo program.now self.old self.new }
         ensures of { IsOf program.now self.new.machine }
+        ensures basis { self.new.machine.stack.basis ≡ self.old.machine.stack.basis }
         ensures limit { self.new.limit ≡ self.old.limit }
         ensures places { self.new.places.items ≡ self.old.places.items }
         ensures fuel { self.new.used ≤ self.old.used + fuel }
@@ -112,6 +114,7 @@ impl Progress {
         requires left { self.old.used + 1 ≤ self.old.limit }
         ensures ok { OnOk result (Stepped program.now self.old self.new) }
         ensures of { IsOf program.now self.new.machine }
+        ensures basis { self.new.machine.stack.basis ≡ self.old.machine.stack.basis }
         ensures err { OnErr result (Stays program.now self.old self.new) }
     {
         self.select(program, &selected)?;
@@ -136,6 +139,7 @@ impl Progress {
         requires goal { IsSelected self.old.machine selected.now }
         ensures ok { OnOk result (Selects program.now self.old.machine self.new.machine) }
         ensures of { IsOf program.now self.new.machine }
+        ensures basis { self.new.machine.stack.basis ≡ self.old.machine.stack.basis }
         ensures frame { self.new ≡ record self.old { machine = self.new.machine } }
         ensures err { OnErr result (Stays program.now self.old self.new) }
     {
@@ -156,6 +160,7 @@ impl Progress {
         requires of { IsOf program.now self.old.machine }
         ensures goes { GoesTo program.now self.old self.new }
         ensures of { IsOf program.now self.new.machine }
+        ensures basis { self.new.machine.stack.basis ≡ self.old.machine.stack.basis }
         ensures used { self.new.used ≡ self.old.used }
         ensures limit { self.new.limit ≡ self.old.limit }
         ensures places { self.new.places.items ≡ self.old.places.items }

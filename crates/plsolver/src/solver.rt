@@ -6,7 +6,8 @@ ghost use Rattle.plstore.specs.Looking.{Views, found as found_of};
 ghost use Rattle.plstore.specs.Rising.{Ordered};
 ghost use Rattle.plsearch.specs.Search.{search_of};
 ghost use Rattle.plsearch.specs.Solving.{Begins, Goes, TakesOne};
-ghost use Rattle.plsolver.specs.Solver.{Fetches, GoesTo, IsFoundFor, IsOf, Stays, rest_of, WaitsForView, ReplyFits};
+ghost use Rattle.plsolver.specs.Solver.{Fetches, GoesTo, IsFoundFor, IsOf, Stays, latest_view, rest_of, WaitsForView, ReplyFits};
+ghost use Rattle.plmachine.specs.Machine.{MayAsk};
 ghost use Rattle.plsolver.specs.Says.{Says, IsSlice};
 
 use crate::progress::Progress;
@@ -54,6 +55,7 @@ impl Solver {
     pub fn new(alloc: Global, program: &Program, limit: u64) -> Result<Solver, AllocError>
         ensures begins { IfOk result (λ s. (v : Views) → Begins (search_of program.now limit) (rest_of program.now v s) s.used) }
         ensures of { IfOk result (λ s. IsOf program.now s.machine) }
+        ensures latest { IfOk result (λ s. latest_view s ≡ 0) }
         ensures limit { IfOk result (λ s. s.limit ≡ limit) }
         ensures places { IfOk result (λ s. s.places.items ≡ []) }
     {
@@ -88,6 +90,7 @@ impl Solver {
         requires within { self.old.used ≤ self.old.limit }
         ensures goes { GoesTo program.now self.old self.new }
         ensures of { IsOf program.now self.new.machine }
+        ensures latest { latest_view self.new ≡ latest_view self.old }
         ensures limit { self.new.limit ≡ self.old.limit }
         ensures places { self.new.places.items ≡ self.old.places.items }
         ensures fuel { self.new.used ≤ self.old.used + fuel }
@@ -105,6 +108,7 @@ impl Solver {
         ensures ok { OnOk result ((v : Views) → TakesOne (Got reply) (rest_of program.now v self.old) self.old.used (rest_of program.now v self.new) self.new.used) }
         ensures places { OnOk result (self.new.places.items ≡ self.old.places.items ++ place ∷ []) }
         ensures of { IsOf program.now self.new.machine }
+        ensures latest { latest_view self.new ≡ latest_view self.old }
         ensures limit { self.new.limit ≡ self.old.limit }
         ensures err { OnErr result (Stays program.now self.old self.new) }
     {
@@ -115,9 +119,11 @@ impl Solver {
     pub fn refreshed(&mut self, program: &Program, g: u64) -> Result<(), AllocError>
         requires of { IsOf program.now self.old.machine }
         requires waits { WaitsForView self.old }
+        requires latest { latest_view self.old ≤ g }
         ensures ok { OnOk result ((v : Views) → TakesOne (Seen g (v g)) (rest_of program.now v self.old) self.old.used (rest_of program.now v self.new) self.new.used) }
         ensures places { OnOk result (self.new.places.items ≡ self.old.places.items ++ g ∷ []) }
         ensures of { IsOf program.now self.new.machine }
+        ensures latest { OnOk result (latest_view self.new ≡ g) }
         ensures limit { self.new.limit ≡ self.old.limit }
         ensures err { OnErr result (Stays program.now self.old self.new) }
     {
@@ -126,8 +132,10 @@ impl Solver {
 
     /// The place of the view in which something is asked.
     pub fn view(&self) -> u64
-        requires { (g : ℕ) × (q : Query) × Fetches self.now g q }
-        ensures { (g : ℕ) (q : Query) → Fetches self.now g q → result ≡ g }
+        requires fetching { (g : ℕ) × (q : Query) × Fetches self.now g q }
+        requires askable { MayAsk self.now.machine.stack self.now.machine.mode }
+        ensures is { (g : ℕ) (q : Query) → Fetches self.now g q → result ≡ g }
+        ensures seen { result ≤ latest_view self.now }
     {
         self.progress.view()
     }
@@ -139,6 +147,7 @@ impl Solver {
         requires within { self.old.used ≤ self.old.limit }
         ensures ok { OnOk result ((v : Views) (g : ℕ) (q : Query) → Fetches self.old g q → Ordered (v g) → found ≡ found_of (v g) q → Goes self.old.limit (rest_of program.now v self.old) self.old.used (rest_of program.now v self.new) self.new.used) }
         ensures of { IsOf program.now self.new.machine }
+        ensures latest { latest_view self.new ≡ latest_view self.old }
         ensures used { self.new.used ≡ self.old.used }
         ensures places { self.new.places.items ≡ self.old.places.items }
         ensures limit { self.new.limit ≡ self.old.limit }

@@ -42,7 +42,8 @@ pub fn start(alloc: Global, program: &Program) -> Result<Machine, AllocError>
 /// A stack with nothing on it, of a program's code.
 fn empty(alloc: Global, program: &Program) -> Result<Stack, AllocError>
     ensures empty { IfOk result (λ s. IsEmpty s) }
-    ensures code { IfOk result (λ s. IsProgramCode program.now s.code) }
+    ensures code { IfOk result (λ s. IsProgramCode program.now s.basis.code) }
+    ensures latest { IfOk result (λ s. s.basis.latest ≡ 0) }
 {
     let code = ProgramCode::new(alloc, program)?;
     let names = code.names().copied(alloc)?;
@@ -54,7 +55,7 @@ fn empty(alloc: Global, program: &Program) -> Result<Stack, AllocError>
 fn start_goals(stack: &mut Stack, alloc: Global, goals: &[Term]) -> Result<Continuation, AllocError>
     requires { IsEmpty stack.old }
     ensures starts { IfOk result (λ list. Starts stack.new list goals.now) }
-    ensures code { stack.new.code ≡ stack.old.code }
+    ensures basis { stack.new.basis ≡ stack.old.basis }
 {
     let mut list = Continuation::alone(ListId::EMPTY);
     let mut i = goals.len();
@@ -74,7 +75,7 @@ fn start_goal(
 ) -> Result<Continuation, AllocError>
     requires { IsList stack.old list }
     ensures starts { IfOk result (λ made. StartsGoal stack.old stack.new list made goal.now) }
-    ensures code { stack.new.code ≡ stack.old.code }
+    ensures basis { stack.new.basis ≡ stack.old.basis }
 {
     let copy = goal.copied(alloc)?;
     let once = once(alloc, copy)?;

@@ -40,6 +40,7 @@ impl Progress {
         requires finds { self.old.machine.mode ≡ Finds (AllOf head g) }
         ensures ok { OnOk result ((v : Views) → exists ≡ exists_of (v g) (indicator (value self.old.machine.stack.env.heap head)) → KeepsRest program.now v self.old self.new) }
         ensures of { IsOf program.now self.new.machine }
+        ensures basis { self.new.machine.stack.basis ≡ self.old.machine.stack.basis }
         ensures frame { self.new ≡ record self.old { machine = self.new.machine } }
         ensures err { OnErr result (Stays program.now self.old self.new) }
     {
@@ -62,6 +63,7 @@ impl Progress {
         requires sweeps { (head : Cell) × (w : OfSweep) × (c : OfCursor) × (self.old.machine.mode ≡ Finds (SweepOf head w)) × (w.reach ≡ BehindOf c) }
         ensures ok { (v : Views) (head : Cell) (w : OfSweep) (c : OfCursor) → self.old.machine.mode ≡ Finds (SweepOf head w) → w.reach ≡ BehindOf c → Ordered (v w.view) → next ≡ next_like_of (first_key (value self.old.machine.stack.env.heap head)) c (living (v w.view) (indicator (value self.old.machine.stack.env.heap head))) → KeepsRest program.now v self.old self.new }
         ensures of { IsOf program.now self.new.machine }
+        ensures basis { self.new.machine.stack.basis ≡ self.old.machine.stack.basis }
         ensures frame { self.new ≡ record self.old { machine = self.new.machine } }
     {
         let mode = mem::replace(&mut self.machine.mode, Mode::Visit);
@@ -98,6 +100,7 @@ impl Progress {
         requires sweeps { (head : Cell) × (w : OfSweep) × (self.old.machine.mode ≡ Finds (SweepOf head w)) × (w.reach ≡ AtOf name) }
         ensures ok { OnOk result ((v : Views) (head : Cell) (w : OfSweep) → self.old.machine.mode ≡ Finds (SweepOf head w) → w.reach ≡ AtOf name → clause ≡ clause_alive name (v w.view) → KeepsRest program.now v self.old self.new) }
         ensures of { IsOf program.now self.new.machine }
+        ensures basis { self.new.machine.stack.basis ≡ self.old.machine.stack.basis }
         ensures frame { self.new ≡ record self.old { machine = self.new.machine } }
         ensures err { OnErr result (Stays program.now self.old self.new) }
     {

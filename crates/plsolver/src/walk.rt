@@ -13,6 +13,7 @@ ghost use Rattle.plstore.specs.Looking.{Views, clause_alive};
 ghost use Rattle.plstore.specs.Rising.{Ordered};
 ghost use Rattle.plstore.specs.declared.record.Cursor.TheVariants.{After as AfterOf};
 ghost use Rattle.plstack.specs.declared.frame.Spot.TheVariants.{At as AtOf, Known as KnownOf, Text as TextOf};
+ghost use Rattle.plstack.specs.Frames.{IsSpotSeen};
 ghost use Rattle.plstack.specs.Places.{head_in};
 ghost use Rattle.plstack.specs.State.{cases_of, HasWalk, RetriesBy};
 ghost use Rattle.plstack.specs.StaticCalls.{database_of};
@@ -89,13 +90,13 @@ impl Progress {
         ensures some { IfOk result (λ o. IfSome o (λ entered. (P : Given) (v : Views) → clauses.now ≡ clauses_for P (indicator (head_in at.walk.uses (value self.old.machine.stack.env.heap at.walk.goal))) → RetriesBy (database_of P v) self.old.machine.stack self.new.machine.stack entered.erased)) }
         ensures none { IfOk result (λ o. IfNone o ((P : Given) (v : Views) → clauses.now ≡ clauses_for P (indicator (head_in at.walk.uses (value self.old.machine.stack.env.heap at.walk.goal))) → (below : List Case) × (cases_of (database_of P v) self.old.machine.stack ≡ Choice [] ∷ below) × (cases_of (database_of P v) self.new.machine.stack ≡ Choice [] ∷ below))) }
         ensures err { OnErr result ((P : Given) (v : Views) → clauses.now ≡ clauses_for P (indicator (head_in at.walk.uses (value self.old.machine.stack.env.heap at.walk.goal))) → cases_of (database_of P v) self.new.machine.stack ≡ cases_of (database_of P v) self.old.machine.stack) }
-        ensures code { self.new.machine.stack.code ≡ self.old.machine.stack.code }
+        ensures basis { self.new.machine.stack.basis ≡ self.old.machine.stack.basis }
         ensures frame { self.new ≡ record self.old { machine = record self.old.machine { stack = self.new.machine.stack } } }
     {
         let mut at = at;
         let mut number = number;
         'clauses: while is_before_last(clauses, number) {
-            let next = candidate::of_text(self.machine.alloc, at.walk.uses, &clauses[number])?;
+            let next = candidate::of_text(at.walk.uses, &clauses[number])?;
             let spot = Spot::Text(number + 1);
             let rest = Some(spot);
             let behind = at_spot(&at, spot);
@@ -122,13 +123,13 @@ impl Progress {
         ensures some { IfOk result (λ o. IfSome o (λ entered. (P : Given) (v : Views) → clauses.now ≡ clauses_for P (indicator (head_in at.walk.uses (value self.old.machine.stack.env.heap at.walk.goal))) → RetriesBy (database_of P v) self.old.machine.stack self.new.machine.stack entered.erased)) }
         ensures none { IfOk result (λ o. IfNone o ((P : Given) (v : Views) → clauses.now ≡ clauses_for P (indicator (head_in at.walk.uses (value self.old.machine.stack.env.heap at.walk.goal))) → (below : List Case) × (cases_of (database_of P v) self.old.machine.stack ≡ Choice [] ∷ below) × (cases_of (database_of P v) self.new.machine.stack ≡ Choice [] ∷ below))) }
         ensures err { OnErr result ((P : Given) (v : Views) → cases_of (database_of P v) self.new.machine.stack ≡ cases_of (database_of P v) self.old.machine.stack) }
-        ensures code { self.new.machine.stack.code ≡ self.old.machine.stack.code }
+        ensures basis { self.new.machine.stack.basis ≡ self.old.machine.stack.basis }
         ensures frame { self.new ≡ record self.old { machine = record self.old.machine { stack = self.new.machine.stack } } }
     {
         match clauses.get(number) {
             Some(clause) => {
                 let alloc = self.machine.alloc;
-                let next = candidate::of_text(alloc, at.walk.uses, clause)?;
+                let next = candidate::of_text(at.walk.uses, clause)?;
                 self.machine.stack.try_walk(alloc, at, &next, None)
             }
             None => {
@@ -142,9 +143,11 @@ impl Progress {
     pub(crate) fn walked_to(&mut self, at: Walking, next: Option<ClauseName>)
         requires fails { self.old.machine.mode ≡ Mode.Back Outcome.Fail }
         requires at { AtWalk self.old.machine.stack at.point at.walk }
+        requires seen { IsSpotSeen self.old.machine.stack.basis.latest at.walk.spot }
         requires spot { (g : ℕ) × (name : Named) × (at.walk.spot ≡ AtOf g name) }
         ensures keeps { (P : Given) (v : Views) (g : ℕ) (name : Named) → at.walk.spot ≡ AtOf g name → Ordered (v g) → next ≡ next_like_of (first_key (head_in at.walk.uses (value self.old.machine.stack.env.heap at.walk.goal))) (AfterOf name) (living (v g) (indicator (head_in at.walk.uses (value self.old.machine.stack.env.heap at.walk.goal)))) → KeepsRest P v self.old self.new }
         ensures of { (P : Given) → IsOf P self.old.machine → IsOf P self.new.machine }
+        ensures basis { self.new.machine.stack.basis ≡ self.old.machine.stack.basis }
         ensures frame { self.new ≡ record self.old { machine = self.new.machine } }
     {
         let Spot::At(g, name) = at.walk.spot else {
@@ -164,9 +167,11 @@ impl Progress {
         requires fails { self.old.machine.mode ≡ Mode.Back Outcome.Fail }
         requires of { IsOf program.now self.old.machine }
         requires at { AtWalk self.old.machine.stack at.point at.walk }
+        requires seen { IsSpotSeen self.old.machine.stack.basis.latest at.walk.spot }
         requires spot { (g : ℕ) × (name : Named) × (y : Option Named) × (at.walk.spot ≡ KnownOf g name y) }
         ensures ok { OnOk result ((v : Views) (g : ℕ) (name : Named) (y : Option Named) → at.walk.spot ≡ KnownOf g name y → clause ≡ clause_alive name (v g) → KeepsRest program.now v self.old self.new) }
         ensures of { IsOf program.now self.new.machine }
+        ensures basis { self.new.machine.stack.basis ≡ self.old.machine.stack.basis }
         ensures frame { self.new ≡ record self.old { machine = self.new.machine } }
         ensures err { OnErr result (Stays program.now self.old self.new) }
     {
@@ -179,7 +184,7 @@ impl Progress {
             return Ok(());
         };
         let alloc = self.machine.alloc;
-        let next = candidate::of_name(alloc, at.walk.uses, name, &clause)?;
+        let next = candidate::of_name(at.walk.uses, name, &clause)?;
         let Some(entered) = self.machine.stack.try_walk(alloc, at, &next, rest)? else {
             return Ok(());
         };

@@ -67,7 +67,7 @@ module _ (s : State) (d : ℕ) (is : IsStack s d) (vs : List Cell) (fit : AreVal
     list-goals = (bound-list l i).1
 
     abbrev pub entered : State
-    entered = record { code = s.code; env = e; links = s.links; saved = s.saved; frames = s.frames; goals = l }
+    entered = record { basis = s.basis; env = e; links = s.links; saved = s.saved; frames = s.frames; goals = l }
 
     entered-stack : IsStack entered d
     entered-stack = visiting (record s { env = e }) d l bound-stack list-there
@@ -80,10 +80,10 @@ module _ (s : State) (d : ℕ) (is : IsStack s d) (vs : List Cell) (fit : AreVal
 
     -- nothing is left behind it
     module _ (none : rest ≡ None) (frames : List Frame) (up : CountsUp 1 (reverse s.frames) (reverse frames)) where
-      pub last-stack : IsStack (record { code = s.code; env = e; links = s.links; saved = s.saved; frames = frames; goals = l }) (d + 1)
+      pub last-stack : IsStack (record { basis = s.basis; env = e; links = s.links; saved = s.saved; frames = frames; goals = l }) (d + 1)
       last-stack = counted 1 entered d frames up entered-stack
 
-      pub last-answered : (db : Database) → Answered db s (record { code = s.code; env = e; links = s.links; saved = s.saved; frames = frames; goals = l }) vs l turn
+      pub last-answered : (db : Database) → Answered db s (record { basis = s.basis; env = e; links = s.links; saved = s.saved; frames = frames; goals = l }) vs l turn
       last-answered db = record {
         others = [];
         places = entered-places ∙ ap (λ o. place_of entered ∷ answers_if s.env vs (goals_of s l) o) none;
@@ -120,12 +120,12 @@ module _ (s : State) (d : ℕ) (is : IsStack s d) (vs : List Cell) (fit : AreVal
       }
 
       module _ (frames : List Frame) (pushed : frames ≡ s.frames ++ Open p (resumes.Answers (record { count = count; turn = next })) ∷ []) where
-        pub next-stack : IsStack (record { code = s.code; env = e; links = s.links; saved = s.saved; frames = frames; goals = l }) (d + 1)
+        pub next-stack : IsStack (record { basis = s.basis; env = e; links = s.links; saved = s.saved; frames = frames; goals = l }) (d + 1)
         next-stack =
-            let o = opened-state entered d frames (Open p r') pushed entered-stack next-frame in
+            let o = opened-state entered d frames (Open p r') pushed entered-stack next-frame tt in
             (o.0, omega (arith, o.1))
 
-        pub next-answered : (db : Database) → Answered db s (record { code = s.code; env = e; links = s.links; saved = s.saved; frames = frames; goals = l }) vs l turn
+        pub next-answered : (db : Database) → Answered db s (record { basis = s.basis; env = e; links = s.links; saved = s.saved; frames = frames; goals = l }) vs l turn
         next-answered db = record {
           others = answers_left s.env vs (goals_of s l) next;
           places = entered-places ∙ ap (λ o. place_of entered ∷ answers_if s.env vs (goals_of s l) o) some;
@@ -181,7 +181,7 @@ module _ (s : State) (d : ℕ) (is : IsStack s d) (p : Point) (m : IsMarked s p.
   kept-stack = values-stack s d is vs
 
   abbrev pub called : State
-  called = record { code = s.code; env = e; links = s.links; saved = s.saved ++ vs; frames = frames; goals = p.list }
+  called = record { basis = s.basis; env = e; links = s.links; saved = s.saved ++ vs; frames = frames; goals = p.list }
 
   list-kept : IsList kept p.list
   list-kept = record { there = i.there; items = i.items }
@@ -246,7 +246,7 @@ module _ (s : State) (d : ℕ) (is : IsStack s d) (below : List Frame) (p : Poin
   module _ (e : Env) (env : IsEnv e) where
     module _ (rest : Option Turn) (t : TakesAnswer at.env e vs a.turn rest) (frames : List Frame) (pushes : PushesAnswers p a.count rest below frames) where
       abbrev again : State
-      again = record { code = s.code; env = e; links = at.links; saved = at.saved; frames = frames; goals = p.list }
+      again = record { basis = s.basis; env = e; links = at.links; saved = at.saved; frames = frames; goals = p.list }
 
       both-again : (o : Option Turn) → rest ≡ o → PushesAnswers p a.count o below frames → IsStack again (d - 1 + 1) × ((db : Database) → Answered db at again vs p.list a.turn)
       both-again None none up = (
@@ -274,10 +274,10 @@ module _ (s : State) (d : ℕ) (is : IsStack s d) (below : List Frame) (p : Poin
       pub again-older : rest ≡ None → AreOlder p.marks (reverse frames)
       again-older none = (subst (λ o. PushesAnswers p a.count o below frames) none pushes).older p.marks the-frame.older
 
-    pub closed-stack : TakesNone at.env e vs a.turn → IsStack (record { code = s.code; env = e; links = at.links; saved = at.saved; frames = below; goals = alone 0 }) (d - 1)
+    pub closed-stack : TakesNone at.env e vs a.turn → IsStack (record { basis = s.basis; env = e; links = at.links; saved = at.saved; frames = below; goals = alone 0 }) (d - 1)
     closed-stack t = none-stack at (d - 1) at-stack vs a.turn e env t
 
-    pub closed-cases : (t : TakesNone at.env e vs a.turn) (db : Database) → cases_of db s ≡ Choice [] ∷ cases_of db (record { code = s.code; env = e; links = at.links; saved = at.saved; frames = below; goals = alone 0 })
+    pub closed-cases : (t : TakesNone at.env e vs a.turn) (db : Database) → cases_of db s ≡ Choice [] ∷ cases_of db (record { basis = s.basis; env = e; links = at.links; saved = at.saved; frames = below; goals = alone 0 })
     closed-cases t db =
         let u = none-answered at (d - 1) at-stack vs a.turn e env t p.list db in
         was db ∙ ap₂ (λ ps cs. Choice ps ∷ cs) u.none (sym u.cases)

@@ -23,13 +23,13 @@ use Rattle.plstack.specs.State.{State, IsState}
 use Rattle.plstack.specs.Arguments.{IsArgument, IsPair, KeepsArguments}
 
 -- the nodes of the code, with the names of the heap
-module _ (s : State) (is : IsState s) (laid : IsLaid s.code.text.names s.code.text.nodes) (nodes : List Node) (same : nodes ≡ s.code.text.nodes) where
+module _ (s : State) (is : IsState s) (laid : IsLaid s.basis.code.text.names s.basis.code.text.nodes) (nodes : List Node) (same : nodes ≡ s.basis.code.text.nodes) where
   pub laid-now : IsLaid s.env.heap.names nodes
-  laid-now = subst (IsLaid s.env.heap.names) (sym same) (IsLaid-names s.code.text.names s.env.heap.names s.code.text.nodes is.names is.env.heap.names laid)
+  laid-now = subst (IsLaid s.env.heap.names) (sym same) (IsLaid-names s.basis.code.text.names s.env.heap.names s.basis.code.text.nodes is.names is.env.heap.names laid)
 
   module _ (r : Run) (at : ℕ) (t : Tree) (is_one : IsArgument s r at t) where
-    the-row : IsRow s.env.heap.names s.code.text.nodes at 1 (t ∷ [])
-    the-row = IsRow-more s.code.text.names s.env.heap.names s.code.text.nodes s.code.text.nodes at 1 (t ∷ []) laid is.names (Grows-refl s.code.text.nodes) is_one.stand
+    the-row : IsRow s.env.heap.names s.basis.code.text.nodes at 1 (t ∷ [])
+    the-row = IsRow-more s.basis.code.text.names s.env.heap.names s.basis.code.text.nodes s.basis.code.text.nodes at 1 (t ∷ []) laid is.names (Grows-refl s.basis.code.text.nodes) is_one.stand
 
     abbrev one : Row
     one = record { at = at; count = 1 }
@@ -56,15 +56,15 @@ module _ (s : State) (is : IsState s) (laid : IsLaid s.code.text.names s.code.te
 
   part : (r : Run) (at width : ℕ) → IsNode s.env nodes r.base at → AllBelow width (tree_at s.env.heap.names nodes at) → r.base + width ≤ r.«end» → r.«end» ≤ length s.env.slots → IsArgument s r at (tree_at s.env.heap.names nodes at)
   part r at width node below own slots =
-      let within : at + 1 ≤ length s.code.text.nodes = omega (arith, node.within, ap length same) in
-      let named = tree-names s.code.text.names s.env.heap.names s.code.text.nodes is.names laid at in
+      let within : at + 1 ≤ length s.basis.code.text.nodes = omega (arith, node.within, ap length same) in
+      let named = tree-names s.basis.code.text.names s.env.heap.names s.basis.code.text.nodes is.names laid at in
       record {
         stand = record {
           within = within;
-          terms = row-spread s.code.text.names s.code.text.nodes at 1 within ∙ ap (λ u. u ∷ []) (sym named ∙ ap (λ ns. tree_at s.env.heap.names ns at) (sym same));
+          terms = row-spread s.basis.code.text.names s.basis.code.text.nodes at 1 within ∙ ap (λ u. u ∷ []) (sym named ∙ ap (λ ns. tree_at s.env.heap.names ns at) (sym same));
           whole = λ j low high.
               let only : at ≡ j = omega (arith, low, high) in
-              subst (λ i. IsArgumentAt 0 i (node_at s.code.text.nodes i)) only (subst (λ ns. IsArgumentAt 0 at (node_at ns at)) same node.whole);
+              subst (λ i. IsArgumentAt 0 i (node_at s.basis.code.text.nodes i)) only (subst (λ ns. IsArgumentAt 0 at (node_at ns at)) same node.whole);
         };
         width = width;
         below = below;

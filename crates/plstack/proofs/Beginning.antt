@@ -70,7 +70,7 @@ module _ (s : State) (l : Continuation) where
   goals-are ts e = first-elements s (items.Run l.run) (list_at s.links l.rest) ∙ ap (λ us. map (goal_of s.env l.run) us ++ tail) e
 
 -- the goal that a run begins with
-module _ (s : State) (l : Continuation) (there : IsList s l) (x : Step) (step : IsStep s.code.text l.run.position x) where
+module _ (s : State) (l : Continuation) (there : IsList s l) (x : Step) (step : IsStep s.basis.code.text l.run.position x) where
   fits : IsRun (goals_in s) l.run
   fits = there.items.0.0
 
@@ -85,7 +85,7 @@ module _ (s : State) (l : Continuation) (there : IsList s l) (x : Step) (step : 
     abbrev next : Continuation
     next = record { run = record { position = l.run.position; owed = l.run.owed + 1; base = l.run.base; «end» = l.run.«end»; level = l.run.level }; rest = l.rest }
 
-    sel : Selects s.code.text l.run.position l.run.owed
+    sel : Selects s.basis.code.text l.run.position l.run.owed
     sel = step.runs.selects l.run.owed lt
 
     next-own : run_goals (goals_in s) next.run ≡ sel.left ∷ sel.right ∷ sel.rest
@@ -95,7 +95,7 @@ module _ (s : State) (l : Continuation) (there : IsList s l) (x : Step) (step : 
     both-below = subst (AllBelowEach fits.width) sel.goals fits.below
 
     both-converted : AreConverted (run_goals (goals_in s) next.run)
-    both-converted = subst (λ n. AreConverted (goals_in s l.run.position n)) (sym (add-one l.run.owed)) (selects_converted s.code.text l.run.position l.run.owed sel fits.converted)
+    both-converted = subst (λ n. AreConverted (goals_in s l.run.position n)) (sym (add-one l.run.owed)) (selects_converted s.basis.code.text l.run.position l.run.owed sel fits.converted)
 
     first-converted : IsConverted (of_two (codes ",") sel.left sel.right)
     first-converted = (subst AreConverted sel.goals fits.converted).0
@@ -127,14 +127,14 @@ module _ (s : State) (l : Continuation) (there : IsList s l) (x : Step) (step : 
     after = record { run = record { position = l.run.position - 1; owed = 0; base = l.run.base; «end» = l.run.«end»; level = l.run.level }; rest = l.rest }
 
     own-goals : run_goals (goals_in s) l.run ≡ step.runs.goal ∷ run_goals (goals_in s) after.run
-    own-goals = past-conjunctions s.code.text l.run.position l.run.owed x step.is le ∙ step.runs.goals
+    own-goals = past-conjunctions s.basis.code.text l.run.position l.run.owed x step.is le ∙ step.runs.goals
 
     all-below : AllBelowEach fits.width (step.runs.goal ∷ run_goals (goals_in s) after.run)
     all-below = subst (AllBelowEach fits.width) own-goals fits.below
 
     all-converted : IsConverted step.runs.goal × AreConverted (run_goals (goals_in s) after.run)
     all-converted =
-        runs_converted s.code.text l.run.position x step.runs (subst AreConverted (past-conjunctions s.code.text l.run.position l.run.owed x step.is le) fits.converted)
+        runs_converted s.basis.code.text l.run.position x step.runs (subst AreConverted (past-conjunctions s.basis.code.text l.run.position l.run.owed x step.is le) fits.converted)
 
     pub after-there : IsList s after
     after-there = record {

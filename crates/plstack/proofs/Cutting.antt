@@ -21,7 +21,7 @@ use Rattle.plstack.specs.declared.frame.Resume.TheVariants as resumes
 use Rattle.plstack.specs.declared.frame.Frame.{Frame}
 use Rattle.plstack.specs.declared.frame.Frame.TheVariants.{Plain, Barrier, Open}
 use Rattle.plstack.specs.Places.{Database, plain, kept_values, case_of, opened, cases, size, depth_of}
-use Rattle.plstack.specs.Frames.{AreFrames}
+use Rattle.plstack.specs.Frames.{AreFrames, AreSeen}
 use Rattle.plstack.specs.State.{State, IsStack, CountsUp, goals_in, cases_of}
 use Rattle.plstack.specs.Cutting.{IsChosen, IsChoice, frame_at, ChoiceAt, EmptiesFrom, GivesUp, Empties}
 use Rattle.plstack.proofs.Frames.{plain-deeper, depth-cases, reverse-push}
@@ -151,6 +151,10 @@ pub frames-append : (code : Goals) (e : Env) (links : List Link) (saved : List C
 frames-append code e links saved [] ys a = a
 frames-append code e links saved (x ∷ xs) ys a = frames-append code e links saved xs ys a.1
 
+seen-append : (n : ℕ) (xs ys : List Frame) → AreSeen n (xs ++ ys) → AreSeen n ys
+seen-append n [] ys a = a
+seen-append n (x ∷ xs) ys a = seen-append n xs ys a.1
+
 pub depth-under : (fs : List Frame) (i : ℕ) → i < length fs → depth_of (reverse (take i fs)) ≤ depth_of (reverse fs)
 depth-under fs i lt =
     let under = reverse (take i fs) in
@@ -162,7 +166,10 @@ module _ (s : State) (d : ℕ) (is : IsStack s d) (i below n : ℕ) (lt : i < le
   emptied-stack = (
     with-frames s frames is.0 (up.frames (goals_in s) s.env s.links s.saved
         (frames-append (goals_in s) s.env s.links s.saved (frame_at s.frames i ∷ []) (reverse (take i s.frames))
-        (frames-append (goals_in s) s.env s.links s.saved (reverse (drop (suc i) s.frames)) (frame_at s.frames i ∷ reverse (take i s.frames)) (subst (AreFrames (goals_in s) s.env s.links s.saved) (reversed-at s.frames i lt) is.0.frames)))),
+        (frames-append (goals_in s) s.env s.links s.saved (reverse (drop (suc i) s.frames)) (frame_at s.frames i ∷ reverse (take i s.frames)) (subst (AreFrames (goals_in s) s.env s.links s.saved) (reversed-at s.frames i lt) is.0.frames))))
+        (up.seen s.basis.latest
+        (seen-append s.basis.latest (frame_at s.frames i ∷ []) (reverse (take i s.frames))
+        (seen-append s.basis.latest (reverse (drop (suc i) s.frames)) (frame_at s.frames i ∷ reverse (take i s.frames)) (subst (AreSeen s.basis.latest) (reversed-at s.frames i lt) is.0.seen)))),
     omega (arith, up.depth, under, count, is.1, depth-under s.frames i lt),
   )
 

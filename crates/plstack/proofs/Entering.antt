@@ -9,7 +9,7 @@ use Rattle.plsearch.specs.Lists.{bind_goals}
 use Rattle.plsearch.specs.Rows.{before_rest, is_true}
 use Rattle.plsearch.specs.Engine.{deeper}
 use Rattle.plcode.specs.Clauses.{IsCodeOf}
-use Rattle.plcode.specs.Callees.{Compiled}
+use Rattle.plstack.specs.declared.basis.Basis.{Basis}
 use Rattle.plenv.specs.Env.{Env, cut, over}
 use Rattle.pllinks.specs.Links.{alone}
 use Rattle.pllinks.specs.declared.link.Continuation.{Continuation}
@@ -49,8 +49,8 @@ module _ (s t : State) (p : Point) (c : Clauses) (n : ℕ) (at : AtCall s p c) (
         ∙ ap (bind_goals binds.unifier) (adds.is ∙ sym (adds.stays.lists p.list at.list).1)
         ∙ sym (binds.lists p.list at-numbered.list).1
 
-    pub code-found : (hit : Hit) (x : Clause) → IsCodeOf t.code.text hit.clause x → IsCodeOf u.code.text hit.clause x
-    code-found hit x code = subst (λ (m : Compiled). IsCodeOf m.text hit.clause x) (sym (ap (λ (y : State). y.code) same)) code
+    pub code-found : (hit : Hit) (x : Clause) → IsCodeOf t.basis.code.text hit.clause x → IsCodeOf u.basis.code.text hit.clause x
+    code-found hit x code = subst (λ (b : Basis). IsCodeOf b.code.text hit.clause x) (sym (ap (λ (y : State). y.basis) same)) code
 
     pub retries-entered : (db : Database) (new : State) (hit : Hit) → cases_of db u ≡ cases_of db t → Hits db t u p c hit → Enters db u new p c hit n → Retries db s new
     retries-entered db new hit cases hits enters =

@@ -72,15 +72,15 @@ module _ (s : State) (d : ℕ) (is : IsStack s d) (p : Point) (c : Clauses) (at 
         let x : ExtendsStack s (record s { env = renamed s.env t }) = extends-env s d (renamed s.env t) (extends-renamed s.env t is.0.env table more) env is in
         ap (λ gs. record { goals = gs; variables = s.env.count }) x.visited
 
-  module _ (db : Database) (own : AreStatics s.code db) (lt : c.procedure < length s.code.procedures) where
+  module _ (db : Database) (own : AreStatics s.basis.code db) (lt : c.procedure < length s.basis.code.procedures) where
     -- no clause is left
-    pub past-all : length (get_or s.code.procedures c.procedure []) < c.next → (l : ℕ) → further db s l p c (drop c.next (db.statics c.procedure).clauses) ≡ []
+    pub past-all : length (get_or s.basis.code.procedures c.procedure []) < c.next → (l : ℕ) → further db s l p c (drop c.next (db.statics c.procedure).clauses) ≡ []
     past-all past l =
         let xs = (db.statics c.procedure).clauses in
-        let many = own-length s.code.text (db.statics c.procedure).name (get_or s.code.procedures c.procedure []) xs (own.own c.procedure lt) in
+        let many = own-length s.basis.code.text (db.statics c.procedure).name (get_or s.basis.code.procedures c.procedure []) xs (own.own c.procedure lt) in
         ap (λ cs. further db s l p c cs) (drop_all c.next xs (omega (arith, past, many)))
 
-    module _ (key : Key) (key_is : IsFirstKey s.env.heap.names key (map (value s.env.heap) vs)) (laid : IsLaid s.code.text.names s.code.text.nodes) where
+    module _ (key : Key) (key_is : IsFirstKey s.env.heap.names key (map (value s.env.heap) vs)) (laid : IsLaid s.basis.code.text.names s.basis.code.text.nodes) where
       abbrev name : List ℕ
       name = (db.statics c.procedure).name
 
@@ -88,9 +88,9 @@ module _ (s : State) (d : ℕ) (is : IsStack s d) (p : Point) (c : Clauses) (at 
       xs = (db.statics c.procedure).clauses
 
       abbrev ks : List ClauseCode
-      ks = get_or s.code.procedures c.procedure []
+      ks = get_or s.basis.code.procedures c.procedure []
 
-      pub the-attempt : IsAttempt s.code.text s.env name vs key s.code.text.nodes ks xs
+      pub the-attempt : IsAttempt s.basis.code.text s.env name vs key s.basis.code.text.nodes ks xs
       the-attempt = attempt s d is p c at db own key key_is lt laid
 
       module _ (e : Env) (keeps : Keeps s.env e) (env : IsEnv e) where
@@ -104,8 +104,8 @@ module _ (s : State) (d : ℕ) (is : IsStack s d) (p : Point) (c : Clauses) (at 
           pub hit-binds : Binds s (record s { env = e })
           hit-binds = record { unifier = h.finds.fitted.unifier; lists = list-bound s d is p c at db own key key_is lt laid e keeps env h.found h.finds }
 
-          hit-code : IsCodeOf s.code.text hit.clause h.finds.clause
-          hit-code = subst (λ k. IsCodeOf s.code.text k h.finds.clause) (h.clause nothing) (code-is s d is p c at db own key key_is lt laid e keeps env h.found h.finds nothing hit.next h.next)
+          hit-code : IsCodeOf s.basis.code.text hit.clause h.finds.clause
+          hit-code = subst (λ k. IsCodeOf s.basis.code.text k h.finds.clause) (h.clause nothing) (code-is s d is p c at db own key key_is lt laid e keeps env h.found h.finds nothing hit.next h.next)
 
           pub hits : Hits db s (record s { env = e }) p c hit
           hits = record {

@@ -97,6 +97,7 @@ module _ (s : State) (d : ℕ) (is : IsStack s d) (ls : List Link) (g : ℕ) (ch
       none = is.0.none;
       chain = chain;
       frames = frames-same (goals_in s) s.env s.links ls s.saved (held_links s) room same (reverse s.frames) within is.0.frames;
+      seen = is.0.seen;
       goals = record { there = there; items = subst (AreItems (goals_in s) s.env.heap (length s.env.slots)) (sym visited-items) is.0.goals.items };
     },
     is.1,
@@ -109,7 +110,7 @@ module _ (s : State) (d : ℕ) (is : IsStack s d) (ls : List Link) (g : ℕ) (ch
     place = ap (λ xs. record { goals = all_elements (goals_in s) s.env xs; variables = s.env.count }) visited-items;
     heap = refl;
     frames = refl;
-    code = refl;
+    basis = refl;
   }
 
 -- the lists behind some number go
@@ -201,11 +202,11 @@ back_trans a b c x y = record {
   place = y.place ∙ x.place;
   heap = y.heap ∙ x.heap;
   frames = y.frames ∙ x.frames;
-  code = y.code ∙ x.code;
+  basis = y.basis ∙ x.basis;
 }
 
 pub back_refl : (a : State) → GivesBack a a
-back_refl a = record { cases = λ db. refl; place = refl; heap = refl; frames = refl; code = refl }
+back_refl a = record { cases = λ db. refl; place = refl; heap = refl; frames = refl; basis = refl }
 
 -- the last list, read where it stands
 pub next_of : (links : List Link) (n i : ℕ) (l : Link) → i ≡ n + 1 → length links ≡ n + 2 → l ≡ get_or links i l → l.next ≤ n → (link_at links (n + 1)).next ≤ n

@@ -21,67 +21,45 @@ use Rattle.plstack.specs.declared.frame.Frame.{Frame}
 use Rattle.plstack.specs.declared.frame.Frame.TheVariants.{Open}
 use Rattle.plstack.specs.declared.fit.Hit.{Hit}
 use Rattle.plstack.specs.Places.{Database}
-use Rattle.plstack.specs.Frames.{AreOlder, IsOpen}
+use Rattle.plstack.specs.Frames.{AreOlder}
 use Rattle.plstack.specs.State.{State, IsStack, goals_in, goals_of, place_of, cases_of, IsList, CountsUp}
 use Rattle.plstack.specs.Cutting.{Settles}
 use Rattle.plstack.specs.StaticCalls.{body_at, IsCalling, GoesOn}
-use Rattle.plstack.proofs.Frames.{reverse-push}
-use Rattle.plstack.proofs.Stacks.{depth_is, opened-cases, opened-state, counted, counted-cases, popped-cases, popped-stack}
-use Rattle.plstack.proofs.Returning.{at-frame, back-depth}
+use Rattle.plstack.proofs.Replacing.{taken-cases, other-stack, other-cases, none-stack, none-cases, none-older}
+use Rattle.plstack.proofs.Stacks.{depth_is}
 use Rattle.plstack.proofs.Lists.{first-elements, done-elements}
-
-head_is : (x y : Frame) (xs ys : List Frame) → x ∷ xs ≡ y ∷ ys → x ≡ y
-head_is x y xs ys e = cc
 
 -- the newest frame, which is a call, was taken off
 module _ (s : State) (d : ℕ) (is : IsStack s d) (p : Point) (c : Clauses) (calling : IsCalling s p c) (rest : List Frame) (f : Frame) (taken : s.frames ≡ rest ++ f ∷ []) where
-  popped : s.frames ≡ rest ++ Open p (resumes.Clauses c) ∷ []
-  popped = taken ∙ ap (λ g. rest ++ g ∷ [])
-      (head_is f (Open p (resumes.Clauses c)) (reverse rest) (reverse calling.rest)
-      (sym (ap reverse taken ∙ reverse-push rest f) ∙ ap reverse calling.top ∙ reverse-push calling.rest (Open p (resumes.Clauses c))))
-
-  the-call : IsOpen (goals_in s) s.env s.links s.saved p (resumes.Clauses c) (reverse rest)
-  the-call = at-frame s d is rest p (resumes.Clauses c) popped
-
-  below-stack : IsStack (record s { frames = rest }) (d - 1)
-  below-stack = popped-stack s d rest (Open p (resumes.Clauses c)) popped is
-
   -- the clauses from a number on are left
   module _ (next : ℕ) (frames : List Frame) (pushed : frames ≡ rest ++ Open p (resumes.Clauses (record { procedure = c.procedure; count = c.count; next = next })) ∷ []) where
     abbrev c' : Clauses
     c' = record { procedure = c.procedure; count = c.count; next = next }
 
-    frame : IsOpen (goals_in s) s.env s.links s.saved p (resumes.Clauses c') (reverse rest)
-    frame = record { mark = the-call.mark; links_room = the-call.links_room; list = the-call.list; saved_room = the-call.saved_room; older = the-call.older; items = the-call.items; resume = the-call.resume }
-
     pub replaced-stack : IsStack (record s { frames = frames }) d
-    replaced-stack =
-        let o = opened-state (record s { frames = rest }) (d - 1) frames (Open p (resumes.Clauses c')) pushed below-stack frame in
-        (o.0, omega (arith, o.1, back-depth s d is rest p (resumes.Clauses c) popped))
+    replaced-stack = other-stack s d is p (resumes.Clauses c) calling.rest calling.top rest f taken (resumes.Clauses c') refl (λ fits. fits) tt frames pushed
 
     pub replaced : (db : Database) → GoesOn db s (record s { frames = frames }) p c (Some next)
     replaced db = record {
       below = cases_of db (record s { frames = rest });
-      was = popped-cases db s rest (Open p (resumes.Clauses c)) popped;
-      cases = opened-cases db (record s { frames = rest }) frames (Open p (resumes.Clauses c')) pushed;
+      was = taken-cases s d is p (resumes.Clauses c) calling.rest calling.top rest f taken db;
+      cases = other-cases s d is p (resumes.Clauses c) calling.rest calling.top rest f taken (resumes.Clauses c') refl (λ fits. fits) tt frames pushed db;
     }
 
   -- no clause is left
   module _ (frames : List Frame) (up : CountsUp 1 (reverse rest) (reverse frames)) where
     pub emptied-stack : IsStack (record s { frames = frames }) d
-    emptied-stack =
-        let u = counted 1 (record s { frames = rest }) (d - 1) frames up below-stack in
-        (u.0, omega (arith, u.1, back-depth s d is rest p (resumes.Clauses c) popped))
+    emptied-stack = none-stack s d is p (resumes.Clauses c) calling.rest calling.top rest f taken frames up
 
     pub emptied : (db : Database) → GoesOn db s (record s { frames = frames }) p c None
     emptied db = record {
       below = cases_of db (record s { frames = rest });
-      was = popped-cases db s rest (Open p (resumes.Clauses c)) popped;
-      cases = counted-cases 1 db (record s { frames = rest }) frames up;
+      was = taken-cases s d is p (resumes.Clauses c) calling.rest calling.top rest f taken db;
+      cases = none-cases s d is p (resumes.Clauses c) calling.rest calling.top rest f taken frames up db;
     }
 
     pub emptied-older : AreOlder p.marks (reverse frames)
-    emptied-older = up.older p.marks the-call.older
+    emptied-older = none-older s d is p (resumes.Clauses c) calling.rest calling.top rest f taken frames up
 
 pub goes_settled : (db : Database) (s mid new : State) (p : Point) (c : Clauses) (next : Option ℕ) → GoesOn db s mid p c next → Settles mid new → GoesOn db s new p c next
 goes_settled db s mid new p c next g y = record { below = g.below; was = g.was; cases = y.cases db ∙ g.cases }
@@ -90,7 +68,7 @@ pub place-framed : (s new : State) → new ≡ record s { frames = new.frames } 
 place-framed s new e = ap (λ (x : State). place_of x) e
 
 -- a clause's body before a list with a number
-module _ (s : State) (d : ℕ) (is : IsStack s d) (hit : Hit) (x : Clause) (code : IsCodeOf s.code.text hit.clause x) (slots : hit.base + hit.clause.variables ≤ length s.env.slots)
+module _ (s : State) (d : ℕ) (is : IsStack s d) (hit : Hit) (x : Clause) (code : IsCodeOf s.basis.code.text hit.clause x) (slots : hit.base + hit.clause.variables ≤ length s.env.slots)
     (rest : Continuation) (behind : ℕ) (there : IsList s (alone behind)) (same : goals_of s (alone behind) ≡ goals_of s rest) (level : ℕ) where
   abbrev run : Run
   run = record { position = hit.clause.body; owed = 0; base = hit.base; «end» = hit.base + hit.clause.variables; level = level }

@@ -41,7 +41,7 @@ module _ (code : Goals) (old new : Env) (links ls more : List Link) (saved : Lis
 -- all values and slots stand for what they did
 module _ (s : State) (e : Env) (ls more : List Link) (links : ls ≡ s.links ++ more) (x : ExtendsEnv s.env e) (env : IsEnv e) where
   abbrev pub grown : State
-  grown = record { code = s.code; env = e; links = ls; saved = s.saved; frames = s.frames; goals = s.goals }
+  grown = record { basis = s.basis; env = e; links = ls; saved = s.saved; frames = s.frames; goals = s.goals }
 
   wider : length s.links ≤ length ls
   wider = rw links (omega (arith, length-append s.links more))
@@ -63,17 +63,18 @@ module _ (s : State) (e : Env) (ls more : List Link) (links : ls ≡ s.links ++ 
   pub state-grown : IsState s → IsChain ls → IsState grown
   state-grown is chain = record {
     env = env;
-    names = extends-names s.code.text.names s.env.heap.names e.heap.names is.names x.keeps.names;
+    names = extends-names s.basis.code.text.names s.env.heap.names e.heap.names is.names x.keeps.names;
     none = is.none;
     chain = chain;
     frames = frames-grown (goals_in s) s.env e s.links ls more s.saved links x.keeps env.heap.names (reverse s.frames) is.frames;
+    seen = is.seen;
     goals = (list-grown s.goals is.goals).0;
   }
 
   pub extends-grown : IsState s → Extends s grown
   unfolding cases_of
   extends-grown is = record {
-    code = refl;
+    basis = refl;
     frames = refl;
     goals = refl;
     visited = (list-grown s.goals is.goals).1;
@@ -99,10 +100,11 @@ module _ (s : State) (d : ℕ) (e : Env) (a b : Tree) (u : UnifiesEnv s.env e a 
   unified-stack = (
     record {
       env = env;
-      names = extends-names s.code.text.names s.env.heap.names e.heap.names is.0.names u.made.keeps.names;
+      names = extends-names s.basis.code.text.names s.env.heap.names e.heap.names is.0.names u.made.keeps.names;
       none = is.0.none;
       chain = is.0.chain;
       frames = frames-grown (goals_in s) s.env e s.links s.links [] s.saved (sym (append-nil s.links)) u.made.keeps env.heap.names (reverse s.frames) is.0.frames;
+      seen = is.0.seen;
       goals = (list-unified s.goals is.0.goals).0;
     },
     is.1,
@@ -123,7 +125,7 @@ module _ (s : State) (d : ℕ) (e : Env) (a b : Tree) (u : UnifiesEnv s.env e a 
     cases = cases-unified s d e a b u env is;
     frames = refl;
     count = u.made.count;
-    code = refl;
+    basis = refl;
     goals = refl;
   }
 
@@ -161,7 +163,7 @@ module _ (s : State) (d : ℕ) (e : Env) (q : Equation) (u : SolvesEnv s.env e q
     cases = λ db. cases-unified (record s { env = wide }) d e _ _ unified env at_first db ∙ stays.cases db;
     frames = refl;
     count = u.made.count;
-    code = refl;
+    basis = refl;
   }
 
 -- whatever came of an equation
@@ -192,7 +194,7 @@ err-extends s d e env is (Ok answer) err = tt
 err-extends s d e env is (Err x) err = (extends-env s d e err.extends env is, err.count)
 
 pub extends_same : (s : State) → Extends s s
-extends_same s = record { code = refl; frames = refl; goals = refl; visited = refl; cases = λ db. refl; lists = λ l i. (i, refl); values = λ v f. (f, refl) }
+extends_same s = record { basis = refl; frames = refl; goals = refl; visited = refl; cases = λ db. refl; lists = λ l i. (i, refl); values = λ v f. (f, refl) }
 
 -- whatever a unification answers, the stack stays one
 module _ (s : State) (d : ℕ) (e : Env) (a b : Cell) (env : IsEnv e) (is : IsStack s d) where

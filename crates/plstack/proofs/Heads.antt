@@ -17,7 +17,7 @@ module _ (e after undone : Env) (mark : Mark) (marks : IsMark mark e) (now : cut
 -- one growth behind another
 pub extends-trans : (a b c : State) → Extends a b → Extends b c → Extends a c
 extends-trans a b c x y = record {
-  code = y.code ∙ x.code;
+  basis = y.basis ∙ x.basis;
   frames = y.frames ∙ x.frames;
   goals = y.goals ∙ x.goals;
   visited = y.visited ∙ x.visited;

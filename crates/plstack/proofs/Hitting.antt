@@ -83,10 +83,10 @@ module _ (s : State) (d : ℕ) (is : IsStack s d) (p : Point) (c : Clauses) (at 
   pub renamed-stack : (t : Table) → IsTable t → Extends s.env.heap.names t → IsEnv (renamed s.env t) → IsStack (record s { env = renamed s.env t }) d
   renamed-stack t table more env = stack-env s d (renamed s.env t) (extends-renamed s.env t is.0.env table more) env is
 
-  module _ (db : Database) (own : AreStatics s.code db) (key : Key) (key_is : IsFirstKey s.env.heap.names key (map (value s.env.heap) vs))
-      (lt : c.procedure < length s.code.procedures) (laid : IsLaid s.code.text.names s.code.text.nodes) where
+  module _ (db : Database) (own : AreStatics s.basis.code db) (key : Key) (key_is : IsFirstKey s.env.heap.names key (map (value s.env.heap) vs))
+      (lt : c.procedure < length s.basis.code.procedures) (laid : IsLaid s.basis.code.text.names s.basis.code.text.nodes) where
     abbrev ks : List ClauseCode
-    ks = get_or s.code.procedures c.procedure []
+    ks = get_or s.basis.code.procedures c.procedure []
 
     abbrev xs : List Clause
     xs = (db.statics c.procedure).clauses
@@ -100,11 +100,11 @@ module _ (s : State) (d : ℕ) (is : IsStack s d) (p : Point) (c : Clauses) (at 
     abbrev es : List Element
     es = goals_of s p.list
 
-    pub attempt : IsAttempt s.code.text s.env name vs key s.code.text.nodes ks xs
+    pub attempt : IsAttempt s.basis.code.text s.env name vs key s.basis.code.text.nodes ks xs
     attempt = record { laid = laid; nodes_are = refl; names = is.0.names; fit = values-there; key_is = key_is; own = own.own c.procedure lt }
 
     pub same-count : length ks ≡ length xs
-    same-count = own-length s.code.text name ks xs (own.own c.procedure lt)
+    same-count = own-length s.basis.code.text name ks xs (own.own c.procedure lt)
 
     module _ (e : Env) (keeps : Keeps s.env e) (env : IsEnv e) where
       same-further : (l : ℕ) (cs : List Clause) → further db (record s { env = e }) l p c cs ≡ places_left l s.env goal es cs
@@ -130,10 +130,11 @@ module _ (s : State) (d : ℕ) (is : IsStack s d) (p : Point) (c : Clauses) (at 
         fitted-stack = (
           record {
             env = env;
-            names = extends-names s.code.text.names s.env.heap.names e.heap.names is.0.names keeps.names;
+            names = extends-names s.basis.code.text.names s.env.heap.names e.heap.names is.0.names keeps.names;
             none = is.0.none;
             chain = is.0.chain;
             frames = frames-grown (goals_in s) s.env e s.links s.links [] s.saved (sym (append-nil s.links)) keeps env.heap.names (reverse s.frames) is.0.frames;
+            seen = is.0.seen;
             goals = (list-bound s.goals is.0.goals).0;
           },
           is.1,
@@ -142,8 +143,8 @@ module _ (s : State) (d : ℕ) (is : IsStack s d) (p : Point) (c : Clauses) (at 
         pub place-now : found.place < length ks
         place-now = omega (arith, finds.within, same-count)
 
-        both : Both s.code.text name ks xs found.place
-        both = both-at s.code.text name ks xs found.place attempt.own place-now
+        both : Both s.basis.code.text name ks xs found.place
+        both = both-at s.basis.code.text name ks xs found.place attempt.own place-now
 
         clause-same : both.clause ≡ finds.clause
         clause-same = ap (λ ys. get_or ys 0 finds.clause) (sym both.clause_at ∙ finds.is)
@@ -152,8 +153,8 @@ module _ (s : State) (d : ℕ) (is : IsStack s d) (p : Point) (c : Clauses) (at 
           abbrev k : ClauseCode
           k = slice_index_or ks found.place none
 
-          pub code-is : IsCodeOf s.code.text k finds.clause
-          code-is = subst (IsCodeOf s.code.text k) clause-same (subst (λ y. IsCodeOf s.code.text y both.clause) (sym (index-at ks found.place none both.code both.code_at place-now)) both.own.code)
+          pub code-is : IsCodeOf s.basis.code.text k finds.clause
+          code-is = subst (IsCodeOf s.basis.code.text k) clause-same (subst (λ y. IsCodeOf s.basis.code.text y both.clause) (sym (index-at ks found.place none both.code both.code_at place-now)) both.own.code)
 
           pub slots-there : found.base + k.variables ≤ length e.slots
           slots-there = omega (arith, finds.fitted.slots, code-is.variables)
@@ -166,10 +167,10 @@ module _ (s : State) (d : ℕ) (is : IsStack s d) (p : Point) (c : Clauses) (at 
 
           passes : (l : ℕ) (o : Option ℕ) → IsNext key ks (found.place + 1) o → places_left l s.env goal es (drop (found.place + 1) xs) ≡ places_left l s.env goal es (onward o xs)
           passes l None n =
-              up-to s.code.text s.env name vs key s.code.text.nodes ks xs attempt is.0.env (found.place + 1) (length ks) n (omega (arith, place-now)) (le_refl _) l es
+              up-to s.basis.code.text s.env name vs key s.basis.code.text.nodes ks xs attempt is.0.env (found.place + 1) (length ks) n (omega (arith, place-now)) (le_refl _) l es
               ∙ ap (places_left l s.env goal es) (drop_all (length ks) xs (omega (arith, same-count)))
           passes l (Some j) n =
-              up-to s.code.text s.env name vs key s.code.text.nodes ks xs attempt is.0.env (found.place + 1) j n.2 n.0 (omega (arith, n.1)) l es
+              up-to s.basis.code.text s.env name vs key s.basis.code.text.nodes ks xs attempt is.0.env (found.place + 1) j n.2 n.0 (omega (arith, n.1)) l es
 
           next-place : suc found.place ≡ found.place + 1
           next-place = omega arith

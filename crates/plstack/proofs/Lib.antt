@@ -17,6 +17,7 @@ pub mod Trying
 pub mod Searching
 pub mod Found
 pub mod Rewinding
+pub mod Replacing
 pub mod Hitting
 pub mod Going
 pub mod Entering

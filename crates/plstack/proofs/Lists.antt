@@ -43,7 +43,7 @@ first-elements s x xs = refl
 -- more links, and a list among them
 module _ (s : State) (is : IsState s) (ls more : List Link) (links : ls ≡ s.links ++ more) (chain : IsChain ls) where
   abbrev pub linked : State
-  linked = record { code = s.code; env = s.env; links = ls; saved = s.saved; frames = s.frames; goals = s.goals }
+  linked = record { basis = s.basis; env = s.env; links = ls; saved = s.saved; frames = s.frames; goals = s.goals }
 
   pub state-linked : IsState linked
   state-linked = state-grown s s.env ls more links (Stays-refl s.env).extends is.env is chain

@@ -81,6 +81,7 @@ module _ (s : State) (d : ℕ) (is : IsStack s d) (at : ℕ) (down : at ≤ s.go
         none = is.0.none;
         chain = is.0.chain;
         frames = frames-marked (goals_in s) s.env (lowered at s.goals.run.base s.env) s.links s.saved kept (reverse s.frames) is.0.frames;
+        seen = is.0.seen;
         goals = record { there = is.0.goals.there; items = items-there };
       },
       is.1,
@@ -93,7 +94,7 @@ module _ (s : State) (d : ℕ) (is : IsStack s d) (at : ℕ) (down : at ≤ s.go
       place = ap (λ es. record { goals = es; variables = s.env.count }) items-same;
       heap = refl;
       frames = refl;
-      code = refl;
+      basis = refl;
     }
 
 -- where they are no lower, nothing moves

@@ -47,7 +47,7 @@ called_stay h k name (v ∷ vs) stay a = ap (λ ts. compound name (trees ts)) (v
 -- values behind those that are kept
 module _ (s : State) (d : ℕ) (is : IsStack s d) (vs : List Cell) where
   abbrev pub with_values : State
-  with_values = record { code = s.code; env = s.env; links = s.links; saved = s.saved ++ vs; frames = s.frames; goals = s.goals }
+  with_values = record { basis = s.basis; env = s.env; links = s.links; saved = s.saved ++ vs; frames = s.frames; goals = s.goals }
 
   pub values-stack : IsStack with_values d
   values-stack = (
@@ -58,6 +58,7 @@ module _ (s : State) (d : ℕ) (is : IsStack s d) (vs : List Cell) where
       chain = is.0.chain;
       frames = subst (λ ks. AreFrames (goals_in s) s.env ks (s.saved ++ vs) (reverse s.frames)) (append-nil s.links)
           (AreFrames-kept (goals_in s) s.env s.env s.links [] s.saved vs (Keeps-refl s.env) is.0.env.heap.names (reverse s.frames) is.0.frames);
+      seen = is.0.seen;
       goals = record { there = is.0.goals.there; items = is.0.goals.items };
     },
     is.1,
@@ -101,11 +102,11 @@ module _ (s : State) (d : ℕ) (is : IsStack s d) (p : Point) (m : IsMarked s p.
 
   -- the stack with that case
   abbrev pub opened : State
-  opened = record { code = s.code; env = s.env; links = s.links; saved = s.saved ++ vs; frames = s.frames ++ Open p (resumes.Clauses (record { procedure = procedure; count = count; next = 0 })) ∷ []; goals = s.goals }
+  opened = record { basis = s.basis; env = s.env; links = s.links; saved = s.saved ++ vs; frames = s.frames ++ Open p (resumes.Clauses (record { procedure = procedure; count = count; next = 0 })) ∷ []; goals = s.goals }
 
   pub call-stack : IsStack opened (d + 1)
   call-stack =
-      let o = opened-state kept-state d opened.frames (Open p (resumes.Clauses c)) refl (values-stack s d is vs) (frame-there s d is p m i (resumes.Clauses c) vs fit many) in
+      let o = opened-state kept-state d opened.frames (Open p (resumes.Clauses c)) refl (values-stack s d is vs) (frame-there s d is p m i (resumes.Clauses c) vs fit many) tt in
       (o.0, omega (arith, o.1))
 
   pub call-at : AtCall opened p c
@@ -122,7 +123,7 @@ module _ (s : State) (d : ℕ) (is : IsStack s d) (p : Point) (m : IsMarked s p.
         ∙ ap (λ xs. Choice (places_left (deeper xs 0) (cut p.marks.env s.env) (called (cut p.marks.env s.env).heap name (kept_values (s.saved ++ vs) p (resumes.Clauses c))) (all_elements (goals_in s) (cut p.marks.env s.env) (items_of s.links p.list)) cs) ∷ xs) (values-cases s d is vs db)
         ∙ ap₂ (λ (x : Env) ws. Choice (places_left (deeper below 0) x (called x.heap name ws) (all_elements (goals_in s) x (items_of s.links p.list)) cs) ∷ below) m.now kept-there;
     place = refl;
-    code = refl;
+    basis = refl;
   }
 
 -- a list got a number, and all was marked, before a call

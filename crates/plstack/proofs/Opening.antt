@@ -20,7 +20,7 @@ use Rattle.plstack.specs.declared.frame.Handling.{Handling}
 use Rattle.plstack.specs.declared.frame.Frame.{Frame}
 use Rattle.plstack.specs.declared.frame.Frame.TheVariants.{Plain, Barrier, Open}
 use Rattle.plstack.specs.Places.{Database, kept, kept_values, case_of}
-use Rattle.plstack.specs.Frames.{AreOlder, IsResume, IsOpen, AreFrames}
+use Rattle.plstack.specs.Frames.{AreOlder, IsResume, IsSeen, IsOpen, AreFrames}
 use Rattle.plgenerator.proofs.Staying.{turn_stays}
 use Rattle.plstack.specs.State.{State, IsStack, goals_in, cases_of, IsList, Extends, CountsUp, Opens, IsClauses, IsWalk, IsAnswers, IsBranch, IsCatcher, IsGatherer}
 use Rattle.plstack.specs.Opening.{branch_of, handler_of, closing, ClosedAs, IsHandling, OpensFrame, OpensIn, Keeps}
@@ -50,7 +50,7 @@ no-values n k vs e = ap (λ i. take i (drop n vs)) e
 module _ (s : State) (d : ℕ) (is : IsStack s d) (e : Env) (m : Marks) (mark : IsMark m.env e) (now : cut m.env e ≡ e) (same : e ≡ bounded (length s.env.heap.cells) (length s.env.slots) s.env)
     (links : m.links ≡ length s.links) (saved : m.saved ≡ length s.saved) where
   abbrev marked : State
-  marked = record { code = s.code; env = e; links = s.links; saved = s.saved; frames = s.frames; goals = s.goals }
+  marked = record { basis = s.basis; env = e; links = s.links; saved = s.saved; frames = s.frames; goals = s.goals }
 
   pub env-now : IsEnv e
   env-now = subst IsEnv now mark.env
@@ -67,7 +67,7 @@ module _ (s : State) (d : ℕ) (is : IsStack s d) (e : Env) (m : Marks) (mark : 
   pub count-now : e.count ≡ s.env.count
   count-now = ap (λ x. x.count) same
 
-  module _ (l : Continuation) (r : Resume) (i : IsList s l) (resume : IsResume s.env.heap [] r) (none : kept r ≡ 0) where
+  module _ (l : Continuation) (r : Resume) (i : IsList s l) (resume : IsResume s.env.heap [] r) (none : kept r ≡ 0) (seen : IsSeen s.basis.latest r) where
     abbrev point : Point
     point = record { marks = m; list = l }
 
@@ -97,7 +97,7 @@ module _ (s : State) (d : ℕ) (is : IsStack s d) (e : Env) (m : Marks) (mark : 
     module _ (frames : List Frame) (pushed : frames ≡ s.frames ++ Open (record { marks = m; list = l }) r ∷ []) where
       pub framed-stack : IsStack (record s { env = e; frames = frames }) (d + 1)
       framed-stack =
-          let o = opened-state marked d frames (Open point r) pushed marked-stack frame-now in
+          let o = opened-state marked d frames (Open point r) pushed marked-stack frame-now seen in
           (o.0, omega (arith, o.1))
 
       framed-cases : (db : Database) → cases_of db (record s { env = e; frames = frames }) ≡ case_of db (goals_in s) (deeper (cases_of db s) 0) e (items_of s.links l) [] r ∷ cases_of db s
@@ -111,7 +111,7 @@ module _ (s : State) (d : ℕ) (is : IsStack s d) (e : Env) (m : Marks) (mark : 
         values = extends-now.values;
         lists = λ x a. let r = marked-extends.lists x a in (record { there = r.0.there; items = r.0.items }, r.1);
         count = count-now;
-        code = refl;
+        basis = refl;
       }
 
       pub framed-opens : OpensFrame s (record s { env = e; frames = frames }) l r
@@ -142,7 +142,7 @@ module _ (s new : State) where
 
   -- all else stays
   opens-these : (more : List Case) → ((db : Database) → cases_of db new ≡ more ++ cases_of db s) → Keeps s new → new.goals ≡ s.goals → Opens s new more
-  opens-these more cases y goals = record { cases = cases; values = y.values; lists = y.lists; count = y.count; code = y.code; goals = goals }
+  opens-these more cases y goals = record { cases = cases; values = y.values; lists = y.lists; count = y.count; basis = y.basis; goals = goals }
 
   pub opens_branch : (l : Continuation) → IsList s l → OpensFrame s new l resumes.List → Opens s new (branch_of s l ∷ [])
   opens_branch l i o = opens-these (branch_of s l ∷ []) (λ db. o.cases db ∙ ap (λ c. c ∷ cases_of db s) (branch-same l i o.keeps)) o.keeps o.goals
@@ -160,7 +160,7 @@ opens-plain s frames up = record {
   values = λ v f. (f, refl);
   lists = λ l i. (record { there = i.there; items = i.items }, refl);
   count = refl;
-  code = refl;
+  basis = refl;
   goals = refl;
 }
 

@@ -63,7 +63,7 @@ module _ (s : State) (d : ℕ) (is : IsStack s d) (p : Point) (m : IsMarked s p.
     unchanged-none db none = record { none = none (deeper (cases_of db s) 0) (goals_of s p.list); cases = same-cases db }
 
   -- a clause fits
-  module _ (db : Database) (own : AreStatics s.code db) (e : Env) (keeps : Keeps s.env e) (env : IsEnv e) (hit : Hit) (f : FitsFirst s.code db procedure vs s.env e hit) where
+  module _ (db : Database) (own : AreStatics s.basis.code db) (e : Env) (keeps : Keeps s.env e) (env : IsEnv e) (hit : Hit) (f : FitsFirst s.basis.code db procedure vs s.env e hit) where
     abbrev c : Clauses
     c = record { procedure = procedure; count = count; next = 0 }
 
@@ -79,8 +79,8 @@ module _ (s : State) (d : ℕ) (is : IsStack s d) (p : Point) (m : IsMarked s p.
     key-then : IsFirstKey s.env.heap.names f.key (map (value s.env.heap) (kept_values before.saved p (resumes.Clauses c)))
     key-then = subst (λ ws. IsFirstKey s.env.heap.names f.key (map (value s.env.heap) ws)) (sym there) f.key_is
 
-    finds-then : FindsHit s.env e (called s.env.heap (db.statics procedure).name (kept_values before.saved p (resumes.Clauses c))) f.key (get_or s.code.procedures procedure []) (db.statics procedure).clauses 0 hit
-    finds-then = subst (λ ws. FindsHit s.env e (called s.env.heap (db.statics procedure).name ws) f.key (get_or s.code.procedures procedure []) (db.statics procedure).clauses 0 hit) (sym there) f.finds
+    finds-then : FindsHit s.env e (called s.env.heap (db.statics procedure).name (kept_values before.saved p (resumes.Clauses c))) f.key (get_or s.basis.code.procedures procedure []) (db.statics procedure).clauses 0 hit
+    finds-then = subst (λ ws. FindsHit s.env e (called s.env.heap (db.statics procedure).name ws) f.key (get_or s.basis.code.procedures procedure []) (db.statics procedure).clauses 0 hit) (sym there) f.finds
 
     at : AtCall before p c
     at = call-at s d is p m alone_is i procedure count vs fit many
@@ -131,13 +131,13 @@ module _ (s : State) (d : ℕ) (is : IsStack s d) (p : Point) (m : IsMarked s p.
 
       -- the clause's body is visited
       abbrev pub entered : State
-      entered = record { code = s.code; env = e; links = s.links; saved = s.saved ++ vs; frames = frames; goals = body_at hit p.list.rest d }
+      entered = record { basis = s.basis; env = e; links = s.links; saved = s.saved ++ vs; frames = frames; goals = body_at hit p.list.rest d }
 
       pub entered-stack : IsStack entered (d + 1)
       entered-stack =
           let l = body-there framed (d + 1) framed-stack hit after-hits.clause after-hits.code after-hits.slots (alone p.list.rest) p.list.rest behind-there refl d in
           let t = framed-stack.0 in
-          (record { env = t.env; names = t.names; none = t.none; chain = t.chain; frames = t.frames; goals = record { there = l.there; items = l.items } }, framed-stack.1)
+          (record { env = t.env; names = t.names; none = t.none; chain = t.chain; frames = t.frames; seen = t.seen; goals = record { there = l.there; items = l.items } }, framed-stack.1)
 
       level : d ≡ deeper goes.below 0
       level = let e : d + 1 - 1 ≡ deeper goes.below 0 = level-of db framed framed (d + 1) framed-stack refl _ goes.below goes.cases in omega (arith, e)
@@ -169,7 +169,7 @@ module _ (s : State) (d : ℕ) (is : IsStack s d) (p : Point) (m : IsMarked s p.
         up = subst (λ o. PushesCall p c o s.frames frames) none pushes
 
         abbrev pub entered-last : State
-        entered-last = record { code = s.code; env = e; links = s.links; saved = s.saved; frames = frames; goals = body_at hit p.list.rest d }
+        entered-last = record { basis = s.basis; env = e; links = s.links; saved = s.saved; frames = frames; goals = body_at hit p.list.rest d }
 
         frames-now : AreFrames (goals_in s) e s.links s.saved (reverse s.frames)
         frames-now = frames-grown (goals_in s) s.env e s.links s.links [] s.saved (sym (append-nil s.links)) keeps env.heap.names (reverse s.frames) is.0.frames
@@ -183,6 +183,7 @@ module _ (s : State) (d : ℕ) (is : IsStack s d) (p : Point) (m : IsMarked s p.
                 none = t.none;
                 chain = t.chain;
                 frames = up.frames (goals_in s) e s.links s.saved frames-now;
+                seen = t.seen;
                 goals = record { there = t.goals.there; items = t.goals.items };
               },
               entered-stack.1,

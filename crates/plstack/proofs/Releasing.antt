@@ -133,6 +133,7 @@ module _ (s : State) (d : ℕ) (is : IsStack s d) (base : ℕ) (base_is : base �
       none = is.0.none;
       chain = is.0.chain;
       frames = frames-marked (goals_in s) s.env (released base s.env) s.links s.saved kept (reverse s.frames) is.0.frames;
+      seen = is.0.seen;
       goals = record { there = is.0.goals.there; items = items-left };
     },
     is.1,
@@ -145,7 +146,7 @@ module _ (s : State) (d : ℕ) (is : IsStack s d) (base : ℕ) (base_is : base �
     place = ap (λ es. record { goals = es; variables = s.env.count }) (items-agree (goals_in s) left s.env (released base s.env) agrees (items_of s.links s.goals) items-left).1;
     heap = refl;
     frames = refl;
-    code = refl;
+    basis = refl;
   }
 
   pub released-short : IsShort (record s { env = released base s.env })

@@ -27,7 +27,7 @@ extends-place s new x count = ap₂ (λ gs n. record { goals = gs; variables = n
 -- all is as it was but for more names
 module _ (s : State) (d : ℕ) (is : IsStack s d) (e : Env) (ls : List Link) (env : IsEnv e) (b : ComesBack s.env e s.links ls) where
   abbrev pub unchanged : State
-  unchanged = record { code = s.code; env = e; links = ls; saved = s.saved; frames = s.frames; goals = s.goals }
+  unchanged = record { basis = s.basis; env = e; links = ls; saved = s.saved; frames = s.frames; goals = s.goals }
 
   env-extends : ExtendsEnv s.env e
   env-extends = subst (ExtendsEnv s.env) (sym b.env) (extends-renamed s.env e.heap.names is.0.env env.heap.names b.names)

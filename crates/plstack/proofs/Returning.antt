@@ -21,7 +21,7 @@ use Rattle.plstack.specs.State.{State, IsStack, goals_in, goals_of, cases_of, Is
 use Rattle.plstack.specs.Cutting.{Settles}
 use Rattle.plstack.proofs.Frames.{items-take, cases-cut, AreFrames-cut}
 use Rattle.plstack.proofs.Lists.{empty-list}
-use Rattle.plstack.proofs.Stacks.{with-frames, opened-cases, opened-state, counted, counted-cases, popped-cases, popped-frames, has-last}
+use Rattle.plstack.proofs.Stacks.{with-frames, opened-cases, opened-state, counted, counted-cases, popped-cases, popped-frames, popped-seen, has-last}
 
 -- marks are not older than themselves
 pub older-same : (p : Point) → IsEnvOlder p.marks.env p.marks.env
@@ -38,7 +38,7 @@ module _ (s : State) (d : ℕ) (is : IsStack s d) (rest : List Frame) (p : Point
 
   -- the stack as it was, without that case
   abbrev pub back : State
-  back = record { code = s.code; env = cut p.marks.env s.env; links = take p.marks.links s.links; saved = take p.marks.saved s.saved; frames = rest; goals = alone 0 }
+  back = record { basis = s.basis; env = cut p.marks.env s.env; links = take p.marks.links s.links; saved = take p.marks.saved s.saved; frames = rest; goals = alone 0 }
 
   pub back-depth : d ≡ suc (depth_of (reverse rest))
   back-depth = omega (arith, (popped-frames s d rest (Open p r) popped is).2)
@@ -46,8 +46,8 @@ module _ (s : State) (d : ℕ) (is : IsStack s d) (rest : List Frame) (p : Point
   back-env : IsEnv (cut p.marks.env s.env)
   back-env = at-frame.mark.env
 
-  back-names : ExtendsNames s.code.text.names (cut p.marks.env s.env).heap.names
-  back-names = subst (ExtendsNames s.code.text.names) (sym (cut-names p.marks.env s.env)) is.0.names
+  back-names : ExtendsNames s.basis.code.text.names (cut p.marks.env s.env).heap.names
+  back-names = subst (ExtendsNames s.basis.code.text.names) (sym (cut-names p.marks.env s.env)) is.0.names
 
   saved-room : p.marks.saved ≤ length s.saved
   saved-room = omega (arith, at-frame.saved_room)
@@ -63,6 +63,7 @@ module _ (s : State) (d : ℕ) (is : IsStack s d) (rest : List Frame) (p : Point
       none = is.0.none;
       chain = chain-take s.links p.marks.links is.0.chain at-frame.links_room;
       frames = back-frames;
+      seen = (popped-seen s d rest (Open p r) popped is).1;
       goals = empty-list (goals_in s) is.0.none (cut p.marks.env s.env) (take p.marks.links s.links);
     },
     omega (arith, back-depth),
@@ -86,7 +87,7 @@ module _ (s : State) (d : ℕ) (is : IsStack s d) (rest : List Frame) (p : Point
 
 -- another list is visited
 pub visiting : (s : State) (d : ℕ) (l : Continuation) → IsStack s d → IsList s l → IsStack (record s { goals = l }) d
-visiting s d l is i = (record { env = is.0.env; names = is.0.names; none = is.0.none; chain = is.0.chain; frames = is.0.frames; goals = record { there = i.there; items = i.items } }, is.1)
+visiting s d l is i = (record { env = is.0.env; names = is.0.names; none = is.0.none; chain = is.0.chain; frames = is.0.frames; seen = is.0.seen; goals = record { there = i.there; items = i.items } }, is.1)
 
 pub same-cases : (db : Database) (s : State) (l : Continuation) → cases_of db (record s { goals = l }) ≡ cases_of db s
 unfolding cases_of
@@ -98,7 +99,7 @@ module _ (s : State) (d : ℕ) (is : IsStack s d) (rest : List Frame) (p : Point
   was = back s d is rest p resumes.List popped
 
   abbrev taken-state : State
-  taken-state = record { code = s.code; env = cut p.marks.env s.env; links = take p.marks.links s.links; saved = take p.marks.saved s.saved; frames = frames; goals = p.list }
+  taken-state = record { basis = s.basis; env = cut p.marks.env s.env; links = take p.marks.links s.links; saved = take p.marks.saved s.saved; frames = frames; goals = p.list }
 
   pub taken-stack : IsStack taken-state d
   taken-stack =
@@ -124,7 +125,7 @@ module _ (s : State) (d : ℕ) (is : IsStack s d) (rest : List Frame) (p : Point
   none-visited = back s d is rest p (resumes.Handle x) popped
 
   abbrev rewound : State
-  rewound = record { code = s.code; env = cut p.marks.env s.env; links = take p.marks.links s.links; saved = take p.marks.saved s.saved; frames = s.frames; goals = alone 0 }
+  rewound = record { basis = s.basis; env = cut p.marks.env s.env; links = take p.marks.links s.links; saved = take p.marks.saved s.saved; frames = s.frames; goals = alone 0 }
 
   the-frame : IsOpen (goals_in s) s.env s.links s.saved p (resumes.Handle x) (reverse rest)
   the-frame = at-frame s d is rest p (resumes.Handle x) popped
@@ -145,7 +146,7 @@ module _ (s : State) (d : ℕ) (is : IsStack s d) (rest : List Frame) (p : Point
 
   pub rewound-stack : IsStack rewound d
   rewound-stack =
-      let o = opened-state none-visited (d - 1) s.frames (Open p (resumes.Handle x)) popped (back-stack s d is rest p (resumes.Handle x) popped) frame-then in
+      let o = opened-state none-visited (d - 1) s.frames (Open p (resumes.Handle x)) popped (back-stack s d is rest p (resumes.Handle x) popped) frame-then tt in
       (o.0, omega (arith, o.1, back-depth s d is rest p (resumes.Handle x) popped))
 
   rewound-open : (db : Database) → cases_of db rewound ≡
@@ -177,12 +178,12 @@ tail_is x y xs ys e = cc
 module _ (s : State) (d : ℕ) (is : IsStack s d) (rest : List Frame) (p : Point) (x : Handler) (popped : s.frames ≡ rest ++ Open p (resumes.Handle x) ∷ []) (frames : List Frame) (up : CountsUp 1 (reverse rest) (reverse frames))
     (list : Continuation) (l : IsList s list) where
   abbrev without : State
-  without = record { code = s.code; env = s.env; links = s.links; saved = s.saved; frames = rest; goals = list }
+  without = record { basis = s.basis; env = s.env; links = s.links; saved = s.saved; frames = rest; goals = list }
 
   pub recovered-stack : IsStack (record s { frames = frames; goals = list }) d
   recovered-stack =
       let q = popped-frames s d rest (Open p (resumes.Handle x)) popped is in
-      let v = visiting (record s { frames = rest }) (depth_of (reverse rest)) list (with-frames s rest is.0 q.1, refl) (record { there = l.there; items = l.items }) in
+      let v = visiting (record s { frames = rest }) (depth_of (reverse rest)) list (with-frames s rest is.0 q.1 (popped-seen s d rest (Open p (resumes.Handle x)) popped is).1, refl) (record { there = l.there; items = l.items }) in
       let u = counted 1 without (depth_of (reverse rest)) frames up v in
       (u.0, omega (arith, u.1, q.2))
 
@@ -199,7 +200,7 @@ module _ (s : State) (d : ℕ) (is : IsStack s d) (rest : List Frame) (p : Point
   pub left-stack : IsStack (record s { frames = rest; goals = list }) (d - 1)
   left-stack =
       let q = popped-frames s d rest (Open p (resumes.Handle x)) popped is in
-      let v = visiting (record s { frames = rest }) (depth_of (reverse rest)) list (with-frames s rest is.0 q.1, refl) (record { there = l.there; items = l.items }) in
+      let v = visiting (record s { frames = rest }) (depth_of (reverse rest)) list (with-frames s rest is.0 q.1 (popped-seen s d rest (Open p (resumes.Handle x)) popped is).1, refl) (record { there = l.there; items = l.items }) in
       (v.0, omega (arith, q.2))
 
   pub leaves : Leaves s (record s { frames = rest; goals = list }) list

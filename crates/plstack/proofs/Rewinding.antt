@@ -18,7 +18,7 @@ use Rattle.plstack.specs.Frames.{IsOpen, IsResume, AreFrames}
 use Rattle.plstack.specs.State.{State, IsStack, goals_in, cases_of, IsList}
 use Rattle.plstack.specs.StaticCalls.{AtCall}
 use Rattle.plstack.proofs.Frames.{run-take, cases-kept, AreFrames-kept}
-use Rattle.plstack.proofs.Stacks.{opened-cases, opened-state, popped-cases}
+use Rattle.plstack.proofs.Stacks.{opened-cases, opened-state, popped-cases, popped-seen}
 use Rattle.plstack.proofs.Returning.{older-same, at-frame, back, back-depth, back-stack, back-cases, back-list, same-items}
 
 take-nil : (k : ℕ) → take {A = Cell} k [] ≡ []
@@ -39,7 +39,7 @@ module _ (s : State) (d : ℕ) (is : IsStack s d) (rest : List Frame) (p : Point
 
   -- without the case, and with its values
   abbrev pub without : State
-  without = record { code = s.code; env = cut p.marks.env s.env; links = take p.marks.links s.links; saved = take (p.marks.saved + kept r) s.saved; frames = rest; goals = alone 0 }
+  without = record { basis = s.basis; env = cut p.marks.env s.env; links = take p.marks.links s.links; saved = take (p.marks.saved + kept r) s.saved; frames = rest; goals = alone 0 }
 
   the-frame : IsOpen (goals_in s) s.env s.links s.saved p r (reverse rest)
   the-frame = at-frame s d is rest p r popped
@@ -58,7 +58,7 @@ module _ (s : State) (d : ℕ) (is : IsStack s d) (rest : List Frame) (p : Point
 
   pub without-stack : IsStack without (d - 1)
   without-stack = (
-    record { env = was.0.env; names = was.0.names; none = was.0.none; chain = was.0.chain; frames = frames-then; goals = record { there = was.0.goals.there; items = was.0.goals.items } },
+    record { env = was.0.env; names = was.0.names; none = was.0.none; chain = was.0.chain; frames = frames-then; seen = was.0.seen; goals = record { there = was.0.goals.there; items = was.0.goals.items } },
     was.1,
   )
 
@@ -87,11 +87,11 @@ module _ (s : State) (d : ℕ) (is : IsStack s d) (rest : List Frame) (p : Point
   }
 
   abbrev pub rewound : State
-  rewound = record { code = s.code; env = cut p.marks.env s.env; links = take p.marks.links s.links; saved = take (p.marks.saved + kept r) s.saved; frames = s.frames; goals = alone 0 }
+  rewound = record { basis = s.basis; env = cut p.marks.env s.env; links = take p.marks.links s.links; saved = take (p.marks.saved + kept r) s.saved; frames = s.frames; goals = alone 0 }
 
   pub rewound-stack : IsStack rewound d
   rewound-stack =
-      let o = opened-state without (d - 1) s.frames (Open p r) popped without-stack frame-then in
+      let o = opened-state without (d - 1) s.frames (Open p r) popped without-stack frame-then (popped-seen s d rest (Open p r) popped is).0 in
       (o.0, omega (arith, o.1, back-depth s d is rest p r popped))
 
   pub rewound-cases : (db : Database) → cases_of db rewound ≡ cases_of db s

@@ -142,7 +142,7 @@ module _ (s : State) (d : ℕ) (is : IsStack s d) (since : Marks) (older : AreOl
     agrees = record { values = made.values; variables = λ i lt. made.variables i }
 
     abbrev settled-state : State
-    settled-state = record { code = s.code; env = e; links = s.links; saved = take ((held (reverse s.frames)).marks.saved + (held (reverse s.frames)).kept) s.saved; frames = s.frames; goals = s.goals }
+    settled-state = record { basis = s.basis; env = e; links = s.links; saved = take ((held (reverse s.frames)).marks.saved + (held (reverse s.frames)).kept) s.saved; frames = s.frames; goals = s.goals }
 
     list-settled : (l : Continuation) → IsList s l → IsList settled-state l × (goals_of settled-state l ≡ goals_of s l)
     list-settled l i =
@@ -155,10 +155,11 @@ module _ (s : State) (d : ℕ) (is : IsStack s d) (since : Marks) (older : AreOl
     settled-stack = (
       record {
         env = env;
-        names = subst (ExtendsNames s.code.text.names) (sym made.names) is.0.names;
+        names = subst (ExtendsNames s.basis.code.text.names) (sym made.names) is.0.names;
         none = is.0.none;
         chain = is.0.chain;
         frames = frames-settled (goals_in s) s.env e s.links s.saved since marks.env.heap.cells marks.env.slots count made room.saved (reverse s.frames) older within is.0.frames;
+        seen = is.0.seen;
         goals = (list-settled s.goals is.0.goals).0;
       },
       is.1,
@@ -168,13 +169,13 @@ module _ (s : State) (d : ℕ) (is : IsStack s d) (since : Marks) (older : AreOl
     unfolding cases_of
     settles = record {
       cases = λ db. cases-settled (goals_in s) s.env e s.links s.saved since marks.env.heap.cells marks.env.slots count made room.saved db (reverse s.frames) older within is.0.frames;
-      keeps = record { values = made.values; lists = list-settled; count = made.count; code = refl };
+      keeps = record { values = made.values; lists = list-settled; count = made.count; basis = refl };
       place = ap₂ (λ gs n. record { goals = gs; variables = n }) (list-settled s.goals is.0.goals).1 made.count;
       goals = refl;
     }
 
 pub keeps_refl : (s : State) → Keeps s s
-keeps_refl s = record { values = λ v f. (f, refl); lists = λ l i. (i, refl); count = refl; code = refl }
+keeps_refl s = record { values = λ v f. (f, refl); lists = λ l i. (i, refl); count = refl; basis = refl }
 
 pub settles_refl : (s : State) → Settles s s
 settles_refl s = record { cases = λ db. refl; keeps = keeps_refl s; place = refl; goals = refl }
@@ -184,7 +185,7 @@ Keeps-trans a b c x y = record {
   values = λ v f. let r = x.values v f in let q = y.values v r.0 in (q.0, q.1 ∙ r.1);
   lists = λ l i. let r = x.lists l i in let q = y.lists l r.0 in (q.0, q.1 ∙ r.1);
   count = y.count ∙ x.count;
-  code = y.code ∙ x.code;
+  basis = y.basis ∙ x.basis;
 }
 
 -- only the frames are others
@@ -193,7 +194,7 @@ keeps-frames s new e = record {
   values = λ v f. (subst (λ (x : State). IsValue x.env.heap v) (sym e) f, ap (λ (x : State). value x.env.heap v) e);
   lists = λ l i. (subst (λ (x : State). IsList x l) (sym e) (record { there = i.there; items = i.items }), ap (λ (x : State). goals_of x l) e);
   count = ap (λ (x : State). x.env.count) e;
-  code = ap (λ (x : State). x.code) e;
+  basis = ap (λ (x : State). x.basis) e;
 }
 
 -- so choices are given up
@@ -209,7 +210,7 @@ gives_settled s mid new i below from y = record {
 
 -- what becomes of a cut
 keeps-visiting : (s mid : State) (list : Continuation) → Keeps s mid → Keeps s (record mid { goals = list })
-keeps-visiting s mid list k = record { values = k.values; lists = λ l i. let r = k.lists l i in (record { there = r.0.there; items = r.0.items }, r.1); count = k.count; code = k.code }
+keeps-visiting s mid list k = record { values = k.values; lists = λ l i. let r = k.lists l i in (record { there = r.0.there; items = r.0.items }, r.1); count = k.count; basis = k.basis }
 
 pub cuts_emptied : (s mid new : State) (level : ℕ) (list : Continuation) (i low : ℕ) → AreAtMost level (goals_of s list) → ChoiceAt s.frames level i low → GivesUp s mid i low → new ≡ record mid { goals = list } → Cuts s new level list
 unfolding cases_of

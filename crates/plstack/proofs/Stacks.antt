@@ -1,5 +1,5 @@
 -- Frames that are put on a stack and taken off.
-use Rattle.std.proofs.Common.{◌≡◌, ℕ, zero, suc, ◌+◌, ◌-◌, ◌<◌, List, [], ◌∷◌, ◌++◌, length, length-append, slice_set, refl, sym, ap, ap₂, ◌∙◌, subst, arith, reverse}
+use Rattle.std.proofs.Common.{◌≡◌, ℕ, zero, suc, ◌+◌, ◌-◌, ◌<◌, ◌≤◌, le_trans, List, [], ◌∷◌, ◌++◌, length, length-append, slice_set, refl, sym, ap, ap₂, ◌∙◌, subst, arith, reverse}
 use Rattle.std.proofs.Math.Seq.{set-append_seam}
 use Rattle.platoms.specs.Names.{Extends as ExtendsNames}
 use Rattle.plcode.specs.Steps.{goals_from}
@@ -10,11 +10,14 @@ use Rattle.plenv.specs.Env.{Env, IsEnv}
 use Rattle.pllinks.specs.Links.{alone}
 use Rattle.pllinks.proofs.Arena.{chain-none}
 use Rattle.plstack.specs.declared.stack.Stack.TheInside.{Inside}
+use Rattle.plstack.specs.declared.frame.Spot.{Spot}
+use Rattle.plstack.specs.declared.frame.Spot.TheVariants as spots
+use Rattle.plstack.specs.declared.frame.Resume.TheVariants as resumes
 use Rattle.plstack.specs.declared.frame.Frame.{Frame}
 use Rattle.plstack.specs.declared.frame.Frame.TheVariants.{Plain, Barrier, Open}
 use Rattle.plstack.specs.Places.{Database, plain, opened, cases, size, depth_of}
-use Rattle.plstack.specs.Frames.{IsFrame, AreFrames}
-use Rattle.plstack.specs.State.{State, IsState, IsStack, CountsUp, goals_in, cases_of, depth_in, HasHandler, IsHandler, BeginsWith}
+use Rattle.plstack.specs.Frames.{IsFrame, IsFrameSeen, IsSpotSeen, AreFrames, AreSeen}
+use Rattle.plstack.specs.State.{State, IsState, IsStack, CountsUp, goals_in, cases_of, depth_in, seeing, HasHandler, IsHandler, BeginsWith}
 use Rattle.plstack.proofs.Lists.{empty-list}
 use Rattle.plstack.proofs.Frames.{depth-cases, reverse-push, plain-more}
 
@@ -27,10 +30,10 @@ depth-in db s = sym (depth_is db s (depth_in s) refl)
 
 -- the state of a stack's fields
 abbrev pub inside : Inside → State
-inside a = record { code = a.code; env = a.env; links = a.links.items; saved = a.saved.items; frames = a.frames.items; goals = a.goals }
+inside a = record { basis = a.basis; env = a.env; links = a.links.items; saved = a.saved.items; frames = a.frames.items; goals = a.goals }
 
 -- a stack with nothing on it
-pub empty-stack : (code : Compiled) (e : Env) → IsEnv e → ExtendsNames code.text.names e.heap.names → goals_from code.text 0 0 ≡ [] → IsStack (record { code = code; env = e; links = []; saved = []; frames = []; goals = alone 0 }) 0
+pub empty-stack : (code : Compiled) (e : Env) → IsEnv e → ExtendsNames code.text.names e.heap.names → goals_from code.text 0 0 ≡ [] → IsStack (record { basis = record { code = code; latest = 0 }; env = e; links = []; saved = []; frames = []; goals = alone 0 }) 0
 empty-stack code e env names none = (
   record {
     env = env;
@@ -38,10 +41,48 @@ empty-stack code e env names none = (
     none = none;
     chain = chain-none;
     frames = tt;
+    seen = tt;
     goals = empty-list (goals_from code.text) none e [];
   },
   refl,
 )
+
+-- a later view
+spot-more : (m n : ℕ) → m ≤ n → (x : Spot) → IsSpotSeen m x → IsSpotSeen n x
+spot-more m n le (spots.Text k) a = tt
+spot-more m n le (spots.At g x) a = le_trans a le
+spot-more m n le (spots.Known g x y) a = le_trans a le
+
+frame-more : (m n : ℕ) → m ≤ n → (f : Frame) → IsFrameSeen m f → IsFrameSeen n f
+frame-more m n le (Plain k) a = tt
+frame-more m n le (Barrier l) a = tt
+frame-more m n le (Open p (resumes.Clauses c)) a = tt
+frame-more m n le (Open p (resumes.Walk w)) a = spot-more m n le w.spot a
+frame-more m n le (Open p (resumes.Answers x)) a = tt
+frame-more m n le (Open p resumes.List) a = tt
+frame-more m n le (Open p (resumes.Handle x)) a = tt
+
+seen-more : (m n : ℕ) → m ≤ n → (fs : List Frame) → AreSeen m fs → AreSeen n fs
+seen-more m n le [] a = tt
+seen-more m n le (f ∷ fs) a = (frame-more m n le f a.0, seen-more m n le fs a.1)
+
+pub sees-stack : (s : State) (d g : ℕ) → s.basis.latest ≤ g → IsStack s d → IsStack (seeing g s) d
+sees-stack s d g le is = (
+  record {
+    env = is.0.env;
+    names = is.0.names;
+    none = is.0.none;
+    chain = is.0.chain;
+    frames = is.0.frames;
+    seen = seen-more s.basis.latest g le (reverse s.frames) is.0.seen;
+    goals = record { there = is.0.goals.there; items = is.0.goals.items };
+  },
+  is.1,
+)
+
+pub seeing-cases : (db : Database) (g : ℕ) (s : State) → cases_of db (seeing g s) ≡ cases_of db s
+unfolding cases_of
+seeing-cases db g s = refl
 
 -- a handler's level
 pub level_is : (s : State) (d : ℕ) → IsStack s d → HasHandler s → (db : Database) → deeper (cases_of db s) 0 ≡ (d - 1) + 1
@@ -60,18 +101,18 @@ unfolding cases_of
 opened-cases db s frames f e = ap (λ fs. cases db (goals_in s) s.env s.links s.saved (reverse fs)) e ∙ ap (cases db (goals_in s) s.env s.links s.saved) (reverse-push s.frames f)
 
 -- other frames
-pub with-frames : (s : State) (frames : List Frame) → IsState s → AreFrames (goals_in s) s.env s.links s.saved (reverse frames) → IsState (record s { frames = frames })
-with-frames s frames is a = record { env = is.env; names = is.names; none = is.none; chain = is.chain; frames = a; goals = record { there = is.goals.there; items = is.goals.items } }
+pub with-frames : (s : State) (frames : List Frame) → IsState s → AreFrames (goals_in s) s.env s.links s.saved (reverse frames) → AreSeen s.basis.latest (reverse frames) → IsState (record s { frames = frames })
+with-frames s frames is a seen = record { env = is.env; names = is.names; none = is.none; chain = is.chain; frames = a; seen = seen; goals = record { there = is.goals.there; items = is.goals.items } }
 
-pub opened-state : (s : State) (d : ℕ) (frames : List Frame) (f : Frame) → frames ≡ s.frames ++ f ∷ [] → IsStack s d → IsFrame (goals_in s) s.env s.links s.saved f (reverse s.frames) →
+pub opened-state : (s : State) (d : ℕ) (frames : List Frame) (f : Frame) → frames ≡ s.frames ++ f ∷ [] → IsStack s d → IsFrame (goals_in s) s.env s.links s.saved f (reverse s.frames) → IsFrameSeen s.basis.latest f →
     IsStack (record s { frames = frames }) (size f + d)
-opened-state s d frames f e is frame =
+opened-state s d frames f e is frame seen =
     let same : reverse frames ≡ f ∷ reverse s.frames = ap reverse e ∙ reverse-push s.frames f in
-    (with-frames s frames is.0 (subst (AreFrames (goals_in s) s.env s.links s.saved) (sym same) (frame, is.0.frames)), omega (arith, is.1, ap depth_of same))
+    (with-frames s frames is.0 (subst (AreFrames (goals_in s) s.env s.links s.saved) (sym same) (frame, is.0.frames)) (subst (AreSeen s.basis.latest) (sym same) (seen, is.0.seen)), omega (arith, is.1, ap depth_of same))
 
 -- a count of choices with nothing left
 pub counted : (n : ℕ) (s : State) (d : ℕ) (frames : List Frame) → CountsUp n (reverse s.frames) (reverse frames) → IsStack s d → IsStack (record s { frames = frames }) (d + n)
-counted n s d frames c is = (with-frames s frames is.0 (c.frames (goals_in s) s.env s.links s.saved is.0.frames), omega (arith, is.1, c.depth))
+counted n s d frames c is = (with-frames s frames is.0 (c.frames (goals_in s) s.env s.links s.saved is.0.frames) (c.seen s.basis.latest is.0.seen), omega (arith, is.1, c.depth))
 
 pub counted-cases : (n : ℕ) (db : Database) (s : State) (frames : List Frame) → CountsUp n (reverse s.frames) (reverse frames) → cases_of db (record s { frames = frames }) ≡ plain n (cases_of db s)
 unfolding cases_of
@@ -94,10 +135,13 @@ popped-frames s d rest f e is =
     let frames = subst (AreFrames (goals_in s) s.env s.links s.saved) same is.0.frames in
     (frames.0, frames.1, is.1 ∙ ap depth_of same)
 
+pub popped-seen : (s : State) (d : ℕ) (rest : List Frame) (f : Frame) → s.frames ≡ rest ++ f ∷ [] → IsStack s d → IsFrameSeen s.basis.latest f × AreSeen s.basis.latest (reverse rest)
+popped-seen s d rest f e is = subst (AreSeen s.basis.latest) (ap reverse e ∙ reverse-push rest f) is.0.seen
+
 pub popped-stack : (s : State) (d : ℕ) (rest : List Frame) (f : Frame) → s.frames ≡ rest ++ f ∷ [] → IsStack s d → IsStack (record s { frames = rest }) (d - size f)
 popped-stack s d rest f e is =
     let p = popped-frames s d rest f e is in
-    (with-frames s rest is.0 p.1, omega (arith, p.2))
+    (with-frames s rest is.0 p.1 (popped-seen s d rest f e is).1, omega (arith, p.2))
 
 pub empty_is : (xs : List Frame) → length xs ≡ 0 → xs ≡ []
 empty_is [] e = refl
@@ -127,7 +171,7 @@ pub smaller-stack : (s : State) (d : ℕ) (rest frames : List Frame) (n : ℕ) �
 smaller-stack s d rest frames n e lt e' is =
     let p = popped-stack s d rest (Plain n) e is in
     let q = popped-frames s d rest (Plain n) e is in
-    let o = opened-state (record s { frames = rest }) (d - n) frames (Plain (n - 1)) e' p (omega (arith, lt)) in
+    let o = opened-state (record s { frames = rest }) (d - n) frames (Plain (n - 1)) e' p (omega (arith, lt)) tt in
     (o.0, omega (arith, o.1, q.2, lt))
 
 -- so many more in the newest frame
@@ -146,6 +190,7 @@ counts-in-place rest old new m n was is =
       frames = λ code e links saved a. (omega (arith, a.0), a.1);
       older = λ m o. o;
       depth = omega arith;
+      seen = λ g a. (tt, a.1);
     })
 
 pub set-last : (frames rest : List Frame) (f g : Frame) (n : ℕ) → frames ≡ rest ++ f ∷ [] → n ≡ length frames → slice_set frames (n - 1) g ≡ rest ++ g ∷ []
@@ -161,4 +206,5 @@ counts-new old new n some is =
       frames = λ code e links saved a. (some, a);
       older = λ m o. o;
       depth = omega arith;
+      seen = λ g a. (tt, a);
     })

@@ -1,5 +1,5 @@
 -- A clause that fits a goal, and its body before the list behind the goal.
-use Rattle.std.proofs.Common.{◌≡◌, ℕ, ◌+◌, List, [], length, refl, option_map, reverse, sym, ap, ap₂, ◌∙◌, subst, arith, append-nil, Some}
+use Rattle.std.proofs.Common.{◌≡◌, ℕ, ◌+◌, List, [], length, refl, option_map, reverse, sym, ap, ◌∙◌, subst, arith, append-nil, Option, Some}
 use Rattle.plterm.specs.Tree.{Tree}
 use Rattle.plsubst.specs.Subst.{bind, shift}
 use Rattle.platoms.proofs.Extending.{Extends-trans as extends-names}
@@ -20,7 +20,7 @@ use Rattle.plstack.specs.Walks.{FitsCall}
 use Rattle.plstack.proofs.Growing.{frames-grown}
 use Rattle.plstack.proofs.Hitting.{place-with}
 
-module _ (s : State) (is : IsState s) (e : Env) (env : IsEnv e) (keeps : Keeps s.env e) (goal : Cell) (x : Clause) (body : Cell) (r : Resolved s.env e (value s.env.heap goal) x body) where
+module _ (s : State) (is : IsState s) (e : Env) (env : IsEnv e) (keeps : Keeps s.env e) (goal : Cell) (x : Clause) (body : Option Cell) (r : Resolved s.env e (value s.env.heap goal) x body) where
   abbrev σ : ℕ → Tree
   σ = r.unifier
 
@@ -35,25 +35,26 @@ module _ (s : State) (is : IsState s) (e : Env) (env : IsEnv e) (keeps : Keeps s
   fitted-state : IsState fitted
   fitted-state = record {
     env = env;
-    names = extends-names s.code.text.names s.env.heap.names e.heap.names is.names keeps.names;
+    names = extends-names s.basis.code.text.names s.env.heap.names e.heap.names is.names keeps.names;
     none = is.none;
     chain = is.chain;
     frames = frames-grown (goals_in s) s.env e s.links s.links [] s.saved (sym (append-nil s.links)) keeps env.heap.names (reverse s.frames) is.frames;
+    seen = is.seen;
     goals = (list-bound s.goals is.goals).0;
   }
 
-  module _ (rest : Continuation) (there : IsList s rest) (ls : List Link) (level : ℕ) (list : Continuation) (b : ListsBody s.links ls (is_true x.body) level body rest list) where
-    listed : IsList (record s { env = e; links = ls }) list × (goals_of (record s { env = e; links = ls }) list ≡ before_rest (is_true x.body) level (value e.heap body) (goals_of fitted rest))
+  module _ (rest : Continuation) (there : IsList s rest) (ls : List Link) (level : ℕ) (list : Continuation) (b : ListsBody s.links ls level body rest list) where
+    listed : IsList (record s { env = e; links = ls }) list × (goals_of (record s { env = e; links = ls }) list ≡ before_rest (is_true x.body) level (bind σ (shift s.env.count x.body)) (goals_of fitted rest))
     listed =
-        let l = b.there fitted fitted-state refl (list-bound rest there).0 r.body_fits in
+        let l = b.there fitted fitted-state refl (list-bound rest there).0 (is_true x.body) (bind σ (shift s.env.count x.body)) r.left in
         (record { there = l.0.there; items = l.0.items }, l.1)
 
     place-is : resolve level s.env.count (value s.env.heap goal) (goals_of s rest) x ≡ Some (record { goals = goals_of (record s { env = e; links = ls }) list; variables = e.count })
     unfolding place-with
     place-is =
         ap (option_map (λ (τ : ℕ → Tree). place-with (is_true x.body) level (bind τ (shift s.env.count x.body)) (bind_goals τ (goals_of s rest)) (s.env.count + x.variables))) r.is
-        ∙ ap₂ (λ t n. Some (place-with (is_true x.body) level t (bind_goals σ (goals_of s rest)) n)) (sym r.body_is) (sym r.count)
-        ∙ ap (λ gs. Some (place-with (is_true x.body) level (value e.heap body) gs e.count)) (sym (list-bound rest there).1)
+        ∙ ap (λ n. Some (place-with (is_true x.body) level (bind σ (shift s.env.count x.body)) (bind_goals σ (goals_of s rest)) n)) (sym r.count)
+        ∙ ap (λ gs. Some (place-with (is_true x.body) level (bind σ (shift s.env.count x.body)) gs e.count)) (sym (list-bound rest there).1)
         ∙ ap (λ gs. Some (record { goals = gs; variables = e.count })) (sym listed.1)
 
     fits-here : FitsCall s (record s { env = e; links = ls; goals = list }) level goal rest x
@@ -64,9 +65,9 @@ module _ (s : State) (is : IsState s) (e : Env) (env : IsEnv e) (keeps : Keeps s
     }
 
 -- so it is on each stack with this environment and these links
-pub fits-call : (e0 e : Env) (links ls : List Link) (env : IsEnv e) (keeps : Keeps e0 e) (goal : Cell) (x : Clause) (body : Cell) → Resolved e0 e (value e0.heap goal) x body →
-    (rest : Continuation) (level : ℕ) (list : Continuation) → ListsBody links ls (is_true x.body) level body rest list →
+pub fits-call : (e0 e : Env) (links ls : List Link) (env : IsEnv e) (keeps : Keeps e0 e) (goal : Cell) (x : Clause) (body : Option Cell) → Resolved e0 e (value e0.heap goal) x body →
+    (rest : Continuation) (level : ℕ) (list : Continuation) → ListsBody links ls level body rest list →
     (s : State) → IsState s → s.env ≡ e0 → s.links ≡ links → IsList s rest → FitsCall s (record s { env = e; links = ls; goals = list }) level goal rest x
 fits-call e0 e links ls env keeps goal x body r rest level list b s is se sl there =
     fits-here s is e env (subst (λ (y : Env). Keeps y e) (sym se) keeps) goal x body (subst (λ (y : Env). Resolved y e (value y.heap goal) x body) (sym se) r)
-    rest there ls level list (subst (λ ks. ListsBody ks ls (is_true x.body) level body rest list) (sym sl) b)
+    rest there ls level list (subst (λ ks. ListsBody ks ls level body rest list) (sym sl) b)

@@ -26,8 +26,8 @@ use Rattle.plstack.specs.declared.frame.Spot.{Spot}
 use Rattle.plstack.specs.declared.frame.Resume.TheVariants as resumes
 use Rattle.plstack.specs.declared.frame.Frame.{Frame}
 use Rattle.plstack.specs.declared.frame.Frame.TheVariants.{Open}
-use Rattle.plstack.specs.Places.{Database, place_asked, tried, candidates_left, left_at, left_if}
-use Rattle.plstack.specs.Frames.{IsOpen, AreOlder}
+use Rattle.plstack.specs.Places.{Database, clause_by, place_asked, tried, candidates_left, left_at, left_if}
+use Rattle.plstack.specs.Frames.{IsOpen, IsSpotSeen, AreOlder}
 use Rattle.plstack.specs.State.{State, IsStack, goals_in, goals_of, place_of, cases_of, IsList, CountsUp, RetriesBy}
 use Rattle.plstack.specs.Calls.{Goes}
 use Rattle.plstack.specs.Cutting.{Settles}
@@ -35,13 +35,13 @@ use Rattle.plstack.specs.Opening.{OpensFrame}
 use Rattle.plstack.specs.Trials.{ComesBack}
 use Rattle.plstack.specs.Walks.{IsWalking, AtWalk, OpensWalk, goal_at, walk_left, GoesOn, EndsPlain, Finds, FitsCall, LeftSame}
 use Rattle.plstack.proofs.Renaming.{stays, candidates-renamed}
-use Rattle.plstack.proofs.Frames.{reverse-push, items-more}
+use Rattle.plstack.proofs.Frames.{items-more}
 use Rattle.plstack.proofs.Growing.{cases-grown, frames-grown}
 use Rattle.plstack.proofs.Found.{renamed-kept}
 use Rattle.plstack.proofs.Reopening.{unchanged-extends}
-use Rattle.plstack.proofs.Returning.{at-frame, back-depth, back-list}
+use Rattle.plstack.proofs.Returning.{at-frame, back-list}
 use Rattle.plstack.proofs.Rewinding.{rewound-stack, rewound-cases, now}
-use Rattle.plstack.proofs.Stacks.{opened-cases, opened-state, counted, counted-cases, popped-cases, popped-stack}
+use Rattle.plstack.proofs.Replacing.{taken-cases, other-stack, other-cases, none-stack, none-cases, none-older}
 
 -- what was changed since a mark of then is given back, but for names
 module _ (e after : Env) (m : Mark) (then : Env) (mark : IsMark m e) (same : cut m e ≡ e) (kept : Keeps e after) (back : then ≡ cut m after) where
@@ -67,7 +67,7 @@ opens_walk s new w rest goal there o = record {
       o.cases db
       ∙ ap₂ (λ t n. Choice (filter_map (tried (deeper (cases_of db s) 0) n t (goals_of new rest)) (left_at db w.uses t w.spot)) ∷ cases_of db s) (o.keeps.values w.goal goal).1 o.keeps.count
       ∙ ap (λ es. Choice (candidates_left (deeper (cases_of db s) 0) s.env (value s.env.heap w.goal) es (left_at db w.uses (value s.env.heap w.goal) w.spot)) ∷ cases_of db s) (o.keeps.lists rest there).1;
-  code = o.keeps.code;
+  basis = o.keeps.basis;
 }
 
 -- ---- going back
@@ -77,13 +77,13 @@ module _ (s : State) (d : ℕ) (is : IsStack s d) (rest : List Frame) (p : Point
   none-kept = omega arith
 
   abbrev pub gone : State
-  gone = record { code = s.code; env = cut p.marks.env s.env; links = take p.marks.links s.links; saved = take p.marks.saved s.saved; frames = s.frames; goals = alone 0 }
+  gone = record { basis = s.basis; env = cut p.marks.env s.env; links = take p.marks.links s.links; saved = take p.marks.saved s.saved; frames = s.frames; goals = alone 0 }
 
   pub gone-stack : IsStack gone d
-  gone-stack = subst (λ n. IsStack (record { code = s.code; env = cut p.marks.env s.env; links = take p.marks.links s.links; saved = take n s.saved; frames = s.frames; goals = alone 0 }) d) none-kept (rewound-stack s d is rest p (resumes.Walk w) popped)
+  gone-stack = subst (λ n. IsStack (record { basis = s.basis; env = cut p.marks.env s.env; links = take p.marks.links s.links; saved = take n s.saved; frames = s.frames; goals = alone 0 }) d) none-kept (rewound-stack s d is rest p (resumes.Walk w) popped)
 
   pub gone-cases : (db : Database) → cases_of db gone ≡ cases_of db s
-  gone-cases db = ap (λ n. cases_of db (record { code = s.code; env = cut p.marks.env s.env; links = take p.marks.links s.links; saved = take n s.saved; frames = s.frames; goals = alone 0 })) (sym none-kept) ∙ rewound-cases s d is rest p (resumes.Walk w) popped db
+  gone-cases db = ap (λ n. cases_of db (record { basis = s.basis; env = cut p.marks.env s.env; links = take p.marks.links s.links; saved = take n s.saved; frames = s.frames; goals = alone 0 })) (sym none-kept) ∙ rewound-cases s d is rest p (resumes.Walk w) popped db
 
   pub gone-at : AtWalk gone p w
   gone-at = record {
@@ -95,58 +95,37 @@ module _ (s : State) (d : ℕ) (is : IsStack s d) (rest : List Frame) (p : Point
 
 -- ---- going on
 
-first_is : (x y : Frame) (xs ys : List Frame) → x ∷ xs ≡ y ∷ ys → x ≡ y
-first_is x y xs ys e = cc
-
 -- the newest frame, which is a walk, was taken off
 module _ (s : State) (d : ℕ) (is : IsStack s d) (p : Point) (w : Walk) (walking : IsWalking s p w) (rest : List Frame) (f : Frame) (taken : s.frames ≡ rest ++ f ∷ []) where
-  popped : s.frames ≡ rest ++ Open p (resumes.Walk w) ∷ []
-  popped = taken ∙ ap (λ g. rest ++ g ∷ [])
-      (first_is f (Open p (resumes.Walk w)) (reverse rest) (reverse walking.rest)
-      (sym (ap reverse taken ∙ reverse-push rest f) ∙ ap reverse walking.top ∙ reverse-push walking.rest (Open p (resumes.Walk w))))
-
-  the-walk : IsOpen (goals_in s) s.env s.links s.saved p (resumes.Walk w) (reverse rest)
-  the-walk = at-frame s d is rest p (resumes.Walk w) popped
-
-  below-stack : IsStack (record s { frames = rest }) (d - 1)
-  below-stack = popped-stack s d rest (Open p (resumes.Walk w)) popped is
-
   -- it stands at another spot
-  module _ (spot : Spot) (frames : List Frame) (pushed : frames ≡ rest ++ Open p (resumes.Walk (record { goal = w.goal; uses = w.uses; spot = spot })) ∷ []) where
+  module _ (spot : Spot) (seen : IsSpotSeen s.basis.latest spot) (frames : List Frame) (pushed : frames ≡ rest ++ Open p (resumes.Walk (record { goal = w.goal; uses = w.uses; spot = spot })) ∷ []) where
     abbrev w' : Walk
     w' = record { goal = w.goal; uses = w.uses; spot = spot }
 
-    frame : IsOpen (goals_in s) s.env s.links s.saved p (resumes.Walk w') (reverse rest)
-    frame = record { mark = the-walk.mark; links_room = the-walk.links_room; list = the-walk.list; saved_room = the-walk.saved_room; older = the-walk.older; items = the-walk.items; resume = the-walk.resume }
-
     pub replaced-stack : IsStack (record s { frames = frames }) d
-    replaced-stack =
-        let o = opened-state (record s { frames = rest }) (d - 1) frames (Open p (resumes.Walk w')) pushed below-stack frame in
-        (o.0, omega (arith, o.1, back-depth s d is rest p (resumes.Walk w) popped))
+    replaced-stack = other-stack s d is p (resumes.Walk w) walking.rest walking.top rest f taken (resumes.Walk w') refl (λ fits. fits) seen frames pushed
 
     pub replaced : (db : Database) → GoesOn db s (record s { frames = frames }) p w (Some spot)
     replaced db = record {
       below = cases_of db (record s { frames = rest });
-      was = popped-cases db s rest (Open p (resumes.Walk w)) popped;
-      cases = opened-cases db (record s { frames = rest }) frames (Open p (resumes.Walk w')) pushed;
+      was = taken-cases s d is p (resumes.Walk w) walking.rest walking.top rest f taken db;
+      cases = other-cases s d is p (resumes.Walk w) walking.rest walking.top rest f taken (resumes.Walk w') refl (λ fits. fits) seen frames pushed db;
     }
 
   -- nothing is left
   module _ (frames : List Frame) (up : CountsUp 1 (reverse rest) (reverse frames)) where
     pub emptied-stack : IsStack (record s { frames = frames }) d
-    emptied-stack =
-        let u = counted 1 (record s { frames = rest }) (d - 1) frames up below-stack in
-        (u.0, omega (arith, u.1, back-depth s d is rest p (resumes.Walk w) popped))
+    emptied-stack = none-stack s d is p (resumes.Walk w) walking.rest walking.top rest f taken frames up
 
     pub emptied : (db : Database) → GoesOn db s (record s { frames = frames }) p w None
     emptied db = record {
       below = cases_of db (record s { frames = rest });
-      was = popped-cases db s rest (Open p (resumes.Walk w)) popped;
-      cases = counted-cases 1 db (record s { frames = rest }) frames up;
+      was = taken-cases s d is p (resumes.Walk w) walking.rest walking.top rest f taken db;
+      cases = none-cases s d is p (resumes.Walk w) walking.rest walking.top rest f taken frames up db;
     }
 
     pub emptied-older : AreOlder p.marks (reverse frames)
-    emptied-older = up.older p.marks the-walk.older
+    emptied-older = none-older s d is p (resumes.Walk w) walking.rest walking.top rest f taken frames up
 
 pub goes_settled : (db : Database) (s mid new : State) (p : Point) (w : Walk) (next : Option Spot) → GoesOn db s mid p w next → Settles mid new → GoesOn db s new p w next
 goes_settled db s mid new p w next g y = record { below = g.below; was = g.was; cases = y.cases db ∙ g.cases }
@@ -179,10 +158,11 @@ module _ (s : State) (d : ℕ) (is : IsStack s d) (p : Point) (w : Walk) (at : A
   fitted-stack list there = (
     record {
       env = goes.env;
-      names = extends-names s.code.text.names s.env.heap.names e.heap.names is.0.names goes.keeps.names;
+      names = extends-names s.basis.code.text.names s.env.heap.names e.heap.names is.0.names goes.keeps.names;
       none = is.0.none;
       chain = goes.chain;
       frames = frames-grown (goals_in s) s.env e s.links ls goes.more s.saved goes.links goes.keeps goes.env.heap.names (reverse s.frames) is.0.frames;
+      seen = is.0.seen;
       goals = record { there = there.there; items = there.items };
     },
     is.1,
@@ -192,11 +172,11 @@ module _ (s : State) (d : ℕ) (is : IsStack s d) (p : Point) (w : Walk) (at : A
 
 module _ (d n : ℕ) (t : Tree) (es : List Element) (x : Candidate) (xs : List Candidate) where
   -- a candidate whose clause does not unify is passed over
-  pub passed : unify t (shift n x.clause.head) ≡ None → filter_map (tried d n t es) (x ∷ xs) ≡ filter_map (tried d n t es) xs
+  pub passed : unify t (shift n (clause_by x.uses x.clause).head) ≡ None → filter_map (tried d n t es) (x ∷ xs) ≡ filter_map (tried d n t es) xs
   passed e =
-      ap (λ o. cons_option (option_map (place_asked x.erased) (option_map (λ (σ : ℕ → Tree). record { goals = before_rest (is_true x.clause.body) d (bind σ (shift n x.clause.body)) (bind_goals σ es); variables = n + x.clause.variables }) o)) (filter_map (tried d n t es) xs)) e
+      ap (λ o. cons_option (option_map (place_asked x.erased) (option_map (λ (σ : ℕ → Tree). record { goals = before_rest (is_true (clause_by x.uses x.clause).body) d (bind σ (shift n (clause_by x.uses x.clause).body)) (bind_goals σ es); variables = n + (clause_by x.uses x.clause).variables }) o)) (filter_map (tried d n t es) xs)) e
 
-  pub taken : (q : Place) → resolve d n t es x.clause ≡ Some q → filter_map (tried d n t es) (x ∷ xs) ≡ place_asked x.erased q ∷ filter_map (tried d n t es) xs
+  pub taken : (q : Place) → resolve d n t es (clause_by x.uses x.clause) ≡ Some q → filter_map (tried d n t es) (x ∷ xs) ≡ place_asked x.erased q ∷ filter_map (tried d n t es) xs
   taken q e = ap (λ o. cons_option (option_map (place_asked x.erased) o) (filter_map (tried d n t es) xs)) e
 
 -- what was left of a walk where all is as it was at its opening
@@ -226,14 +206,14 @@ module _ (db : Database) (s mid new : State) (p : Point) (w : Walk) (at : AtWalk
   is-left = goes.cases ∙ ap (λ ps. Choice ps ∷ goes.below) (kept k (λ g. left_if db w.uses g next) ∙ at-left s p w k at.now (λ g. left_if db w.uses g next))
 
   -- the clause does not fit
-  pub went-past : unify t (shift s.env.count x.clause.head) ≡ None → cases_of db new ≡ cases_of db s
+  pub went-past : unify t (shift s.env.count (clause_by x.uses x.clause).head) ≡ None → cases_of db new ≡ cases_of db s
   went-past e =
       is-left
       ∙ ap (λ ps. Choice ps ∷ goes.below) (sym (passed k s.env.count t (goals_of s p.list) x (left_if db w.uses t next) e))
       ∙ sym was-left
 
   -- it does, and its place is visited
-  pub went-in : resolve k s.env.count t (goals_of s p.list) x.clause ≡ Some (place_of mid) → place_of new ≡ place_of mid → RetriesBy db s new x.erased
+  pub went-in : resolve k s.env.count t (goals_of s p.list) (clause_by x.uses x.clause) ≡ Some (place_of mid) → place_of new ≡ place_of mid → RetriesBy db s new x.erased
   went-in e place = record {
     others = others;
     older = goes.below;

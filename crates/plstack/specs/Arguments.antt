@@ -12,7 +12,7 @@ use Rattle.plstack.specs.State.{State}
 
 -- the term of a node; its variables have slots among those of a run
 pub record IsArgument (s : State) (r : Run) (node : ℕ) (t : Tree) : Type 0 where
-  pub stand : Args s.code.text node (t ∷ [])
+  pub stand : Args s.basis.code.text node (t ∷ [])
   pub width : ℕ
   pub below : AllBelow width t
   pub own : r.base + width ≤ r.«end»

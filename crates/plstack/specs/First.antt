@@ -38,7 +38,7 @@ IsShort s l = run_goals (goals_in s) l.run ≡ [] → IsDone l.run
 -- goals that begin with one of a clause's body, by its step, whose variables have slots among those of the run, and the list behind it
 pub record AtStep (s : State) (es : List Element) (r : Run) (x : Step) (rest : Continuation) : Type 0 where
   pub goal : Tree
-  pub is : IsFor s.code.text r.position x.op x.goal goal
+  pub is : IsFor s.basis.code.text r.position x.op x.goal goal
   pub is_converted : IsConverted goal
   pub width : ℕ
   pub below : AllBelow width goal

@@ -1,5 +1,5 @@
 -- What a stack knows of its frames.
-use Rattle.std.specs.Prelude.{◌+◌, ◌<◌, ◌≤◌, List, [], ◌∷◌, length}
+use Rattle.std.specs.Prelude.{ℕ, ◌+◌, ◌<◌, ◌≤◌, List, [], ◌∷◌, length, Option, None, Some}
 use Rattle.std.specs.Bool.{⊤}
 use Rattle.plcells.specs.declared.cell.Cell.{Cell}
 use Rattle.plcells.specs.Store.{Store, IsValue, AreValues}
@@ -13,6 +13,8 @@ use Rattle.plstack.specs.declared.frame.Marks.{Marks}
 use Rattle.plstack.specs.declared.frame.Point.{Point}
 use Rattle.plstack.specs.declared.frame.Handler.{Handler}
 use Rattle.plstack.specs.declared.frame.Handler.TheVariants as handlers
+use Rattle.plstack.specs.declared.frame.Spot.{Spot}
+use Rattle.plstack.specs.declared.frame.Spot.TheVariants as spots
 use Rattle.plstack.specs.declared.frame.Resume.{Resume}
 use Rattle.plstack.specs.declared.frame.Resume.TheVariants as resumes
 use Rattle.plstack.specs.declared.frame.Frame.{Frame}
@@ -30,6 +32,32 @@ AreOlder m [] = ⊤
 AreOlder m (Plain n ∷ fs) = AreOlder m fs
 AreOlder m (Barrier l ∷ fs) = AreOlder m fs
 AreOlder m (Open p r ∷ fs) = IsOlder m p r × AreOlder m fs
+
+-- a walk goes on in the view of no later place
+abbrev pub IsSpotSeen : ℕ → Spot → Type 0
+IsSpotSeen n (spots.Text k) = ⊤
+IsSpotSeen n (spots.At g x) = g ≤ n
+IsSpotSeen n (spots.Known g x y) = g ≤ n
+
+abbrev pub IsLeftSeen : ℕ → Option Spot → Type 0
+IsLeftSeen n None = ⊤
+IsLeftSeen n (Some x) = IsSpotSeen n x
+
+abbrev pub IsSeen : ℕ → Resume → Type 0
+IsSeen n (resumes.Clauses c) = ⊤
+IsSeen n (resumes.Walk w) = IsSpotSeen n w.spot
+IsSeen n (resumes.Answers a) = ⊤
+IsSeen n resumes.List = ⊤
+IsSeen n (resumes.Handle x) = ⊤
+
+abbrev pub IsFrameSeen : ℕ → Frame → Type 0
+IsFrameSeen n (Plain k) = ⊤
+IsFrameSeen n (Barrier l) = ⊤
+IsFrameSeen n (Open p r) = IsSeen n r
+
+abbrev pub AreSeen : ℕ → List Frame → Type 0
+AreSeen n [] = ⊤
+AreSeen n (f ∷ fs) = IsFrameSeen n f × AreSeen n fs
 
 -- the values of a handler are those of a heap
 abbrev pub IsHandled : Store → Handler → Type 0

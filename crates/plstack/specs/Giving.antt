@@ -10,7 +10,7 @@ pub record GivesBack (old new : State) : Type 0 where
   pub place : place_of new ≡ place_of old
   pub heap : new.env.heap ≡ old.env.heap
   pub frames : new.frames ≡ old.frames
-  pub code : new.code ≡ old.code
+  pub basis : new.basis ≡ old.basis
 
 -- the slots of the visited goals begin no higher than those end that the rest of the list or a mark in use asks for
 abbrev pub IsLow : State → Type 0

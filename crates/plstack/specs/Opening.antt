@@ -24,7 +24,7 @@ pub record Keeps (old new : State) : Type 0 where
   pub values : (v : Cell) → IsValue old.env.heap v → IsValue new.env.heap v × (value new.env.heap v ≡ value old.env.heap v)
   pub lists : (l : Continuation) → IsList old l → IsList new l × (goals_of new l ≡ goals_of old l)
   pub count : new.env.count ≡ old.env.count
-  pub code : new.code ≡ old.code
+  pub basis : new.basis ≡ old.basis
 
 -- a choice of one list
 abbrev pub branch_of : State → Continuation → Case

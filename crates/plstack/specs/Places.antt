@@ -67,19 +67,19 @@ first_asked (Some x) es = Asking (Await (EraseOne x) GoesOn) ∷ es
 abbrev pub place_asked : Option ClauseName → Place → Place
 place_asked x p = record { goals = first_asked x p.goals; variables = p.variables }
 
--- the goal t resolved against a candidate, at the level d, where n variables are in use
-abbrev pub tried : ℕ → ℕ → Tree → List Element → Candidate → Option Place
-tried d n t rest x = option_map (place_asked x.erased) (resolve d n t rest x.clause)
-
--- what is left of a call at the level d: of a goal, before a list, by some candidates
-abbrev pub candidates_left : ℕ → Env → Tree → List Element → List Candidate → List Place
-candidates_left d e t rest xs = filter_map (tried d e.count t rest) xs
-
 -- a clause, by what is done with it
 abbrev pub clause_by : Use → Clause → Clause
 clause_by uses.Call c = c
 clause_by uses.Tell c = as_fact c
 clause_by uses.Erase c = as_fact c
+
+-- the goal t resolved against a candidate, at the level d, where n variables are in use
+abbrev pub tried : ℕ → ℕ → Tree → List Element → Candidate → Option Place
+tried d n t rest x = option_map (place_asked x.erased) (resolve d n t rest (clause_by x.uses x.clause))
+
+-- what is left of a call at the level d: of a goal, before a list, by some candidates
+abbrev pub candidates_left : ℕ → Env → Tree → List Element → List Candidate → List Place
+candidates_left d e t rest xs = filter_map (tried d e.count t rest) xs
 
 abbrev pub erased_by : Use → ClauseName → Option ClauseName
 erased_by uses.Call x = None
@@ -88,10 +88,10 @@ erased_by uses.Erase x = Some x
 
 -- a clause of the program's text, and one that is alive, as candidates
 abbrev pub text_candidate : Use → Clause → Candidate
-text_candidate u c = record { clause = clause_by u c; erased = None }
+text_candidate u c = record { clause = c; uses = u; erased = None }
 
 abbrev pub candidate_of : Use → Living → Candidate
-candidate_of u x = record { clause = clause_by u x.clause; erased = erased_by u x.name }
+candidate_of u x = record { clause = x.clause; uses = u; erased = erased_by u x.name }
 
 -- the head for which clauses are looked up: the goal, or the head of the clause that is asked for
 abbrev pub first_or : Tree → Trees → Tree

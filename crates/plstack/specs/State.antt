@@ -12,7 +12,7 @@ use Rattle.plcells.specs.Equations.{left_of, right_of}
 use Rattle.plsearch.specs.Types.{Element, Place, Case, Choice, Handle}
 use Rattle.plsearch.specs.Lists.{bind_goals}
 use Rattle.plcode.specs.Steps.{goals_from}
-use Rattle.plcode.specs.Callees.{Compiled}
+use Rattle.plstack.specs.declared.basis.Basis.{Basis}
 use Rattle.plenv.specs.Env.{Env, IsEnv}
 use Rattle.pllinks.specs.declared.link.Link.{Link}
 use Rattle.pllinks.specs.declared.link.Continuation.{Continuation}
@@ -25,21 +25,25 @@ use Rattle.plstack.specs.declared.frame.Resume.TheVariants as resumes
 use Rattle.plstack.specs.declared.frame.Frame.{Frame}
 use Rattle.plstack.specs.declared.frame.Frame.TheVariants.{Open, Plain}
 use Rattle.plstack.specs.Places.{Database, place_asked, handled, plain, cases, depth_of}
-use Rattle.plstack.specs.Frames.{AreOlder, IsHandled, AreFrames}
+use Rattle.plstack.specs.Frames.{AreOlder, AreSeen, IsHandled, AreFrames}
 
--- the program's code, with the names that it was compiled with; the environment; the links; the values that open cases keep; the frames,
+-- the program's code, with the names that it was compiled with, and the latest view; the environment; the links; the values that open cases keep; the frames,
 -- the newest last; and the list that is visited
 pub record State : Type 0 where
-  pub code : Compiled
+  pub basis : Basis
   pub env : Env
   pub links : List Link
   pub saved : List Cell
   pub frames : List Frame
   pub goals : Continuation
 
+-- the same, where a walk may go on in the view of a place
+abbrev pub seeing : ℕ → State → State
+seeing g s = record s { basis = record s.basis { latest = g } }
+
 -- the goals from a position of the code on
 abbrev pub goals_in : State → Goals
-goals_in s = goals_from s.code.text
+goals_in s = goals_from s.basis.code.text
 
 -- the goals of a list
 abbrev pub goals_of : State → Continuation → List Element
@@ -66,10 +70,11 @@ IsList s l = IsListIn (goals_in s) s.env s.links l
 
 pub record IsState (s : State) : Type 0 where
   pub env : IsEnv s.env
-  pub names : ExtendsNames s.code.text.names s.env.heap.names
+  pub names : ExtendsNames s.basis.code.text.names s.env.heap.names
   pub none : goals_in s 0 0 ≡ []
   pub chain : IsChain s.links
   pub frames : AreFrames (goals_in s) s.env s.links s.saved (reverse s.frames)
+  pub seen : AreSeen s.basis.latest (reverse s.frames)
   pub goals : IsList s s.goals
 
 -- what a stack keeps, with how many cases are open
@@ -78,7 +83,7 @@ IsStack s depth = IsState s × (depth ≡ depth_of (reverse s.frames))
 
 -- the cases, the lists and the values stay, and there may be more of them
 pub record Extends (old new : State) : Type 0 where
-  pub code : new.code ≡ old.code
+  pub basis : new.basis ≡ old.basis
   pub frames : new.frames ≡ old.frames
   pub goals : new.goals ≡ old.goals
   pub visited : goals_of new new.goals ≡ goals_of old old.goals
@@ -100,7 +105,7 @@ pub record Opens (old new : State) (more : List Case) : Type 0 where
   pub values : (v : Cell) → IsValue old.env.heap v → IsValue new.env.heap v × (value new.env.heap v ≡ value old.env.heap v)
   pub lists : (l : Continuation) → IsList old l → IsList new l × (goals_of new l ≡ goals_of old l)
   pub count : new.env.count ≡ old.env.count
-  pub code : new.code ≡ old.code
+  pub basis : new.basis ≡ old.basis
   pub goals : new.goals ≡ old.goals
 
 -- the most general unifier of two terms was put into all values and lists
@@ -112,7 +117,7 @@ pub record UnifiesTerms (old new : State) (t u : Tree) : Type 0 where
   pub cases : (db : Database) → cases_of db new ≡ cases_of db old
   pub frames : new.frames ≡ old.frames
   pub count : new.env.count ≡ old.env.count
-  pub code : new.code ≡ old.code
+  pub basis : new.basis ≡ old.basis
   pub goals : new.goals ≡ old.goals
 
 -- that of two values was
@@ -127,7 +132,7 @@ pub record Solves (old new : State) (e : Equation) : Type 0 where
   pub cases : (db : Database) → cases_of db new ≡ cases_of db old
   pub frames : new.frames ≡ old.frames
   pub count : new.env.count ≡ old.env.count + e.new
-  pub code : new.code ≡ old.code
+  pub basis : new.basis ≡ old.basis
 
 -- so many more choices with nothing left, whatever the others are
 pub record CountsUp (n : ℕ) (old new : List Frame) : Type 0 where
@@ -135,6 +140,7 @@ pub record CountsUp (n : ℕ) (old new : List Frame) : Type 0 where
   pub frames : (code : Goals) (e : Env) (links : List Link) (saved : List Cell) → AreFrames code e links saved old → AreFrames code e links saved new
   pub older : (m : Marks) → AreOlder m old → AreOlder m new
   pub depth : depth_of new ≡ depth_of old + n
+  pub seen : (g : ℕ) → AreSeen g old → AreSeen g new
 
 -- what the innermost case is: a choice of the further clauses of a static procedure, of those of a walk, of the further answers of a
 -- predicate, or of a list, a choice with nothing left, or a handler, of a ball or of what was kept

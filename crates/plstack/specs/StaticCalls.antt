@@ -79,7 +79,7 @@ onward (Some i) cs = drop i cs
 -- of the clauses behind it
 pub record Hits (db : Database) (old new : State) (p : Point) (c : Clauses) (hit : Hit) : Type 0 where
   pub clause : Clause
-  pub code : IsCodeOf old.code.text hit.clause clause
+  pub code : IsCodeOf old.basis.code.text hit.clause clause
   pub slots : hit.base + hit.clause.variables ≤ length new.env.slots
   pub left : (d : ℕ) → further db new d p c (drop c.next (db.statics c.procedure).clauses)
       ≡ record { goals = before_rest (is_true clause.body) d (bind (over new.env hit.base) clause.body) (goals_of new p.list); variables = new.env.count }
@@ -109,12 +109,12 @@ pub record OpensCall (old new : State) (procedure : ℕ) (values : List Cell) (l
   pub has : HasClauses new
   pub cases : (db : Database) → cases_of db new ≡ Choice (places_of db old (called old.env.heap (db.statics procedure).name values) list (db.statics procedure).clauses) ∷ cases_of db old
   pub place : place_of new ≡ place_of old
-  pub code : new.code ≡ old.code
+  pub basis : new.basis ≡ old.basis
 
 -- a clause of the innermost call is entered: its body is visited before a list, and the clauses behind it are left
 pub record Enters (db : Database) (old new : State) (p : Point) (c : Clauses) (hit : Hit) (behind : ℕ) : Type 0 where
   pub goes : GoesOn db old new p c hit.next
-  pub place : (x : Clause) → IsCodeOf old.code.text hit.clause x → place_of new ≡ record {
+  pub place : (x : Clause) → IsCodeOf old.basis.code.text hit.clause x → place_of new ≡ record {
     goals = before_rest (is_true x.body) (deeper goes.below 0) (bind (over old.env hit.base) x.body) (goals_of old (alone behind));
     variables = old.env.count;
   }

@@ -37,7 +37,7 @@ pub record AtWalk (s : State) (p : Point) (w : Walk) : Type 0 where
 -- a walk is opened before a list
 pub record OpensWalk (old new : State) (w : Walk) (rest : Continuation) : Type 0 where
   pub cases : (db : Database) → cases_of db new ≡ Choice (candidates_left (deeper (cases_of db old) 0) old.env (value old.env.heap w.goal) (goals_of old rest) (left_at db w.uses (value old.env.heap w.goal) w.spot)) ∷ cases_of db old
-  pub code : new.code ≡ old.code
+  pub basis : new.basis ≡ old.basis
 
 -- the goal of a walk, as it was at its opening
 abbrev pub goal_at : State → Point → Walk → Tree

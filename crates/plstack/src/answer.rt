@@ -114,7 +114,7 @@ impl Stack {
         requires rest { IsList self.old rest }
         ensures yes { IfOk result (λ yes. yes ≡ true → (db : Database) → Answered db self.old self.new values.now rest turn) }
         ensures no { IfOk result (λ yes. yes ≡ false → (db : Database) → Unanswered db self.old self.new values.now rest turn) }
-        ensures code { self.new.code ≡ self.old.code }
+        ensures basis { self.new.basis ≡ self.old.basis }
         ensures err { OnErr result (StaysAt self.old self.new) }
     {
         let marks = self.marks();
@@ -144,7 +144,7 @@ impl Stack {
         ensures some { IfOk result (λ o. IsSome o → (db : Database) → Answered db self.old self.new values.now point.list turn) }
         ensures none { IfOk result (λ o. IfNone o ((db : Database) → Unanswered db self.old self.new values.now point.list turn)) }
         ensures opened { IfOk result (λ o. IfSome o (λ opened. opened.is_last ≡ true → IsOpened self.new opened)) }
-        ensures code { self.new.code ≡ self.old.code }
+        ensures basis { self.new.basis ≡ self.old.basis }
         ensures err { OnErr result (StaysAt self.old self.new) }
     {
         let depth = deeper(self.depth, 1)?;
@@ -169,7 +169,7 @@ impl Stack {
         ensures yes { IfOk result (λ yes. yes ≡ true → (db : Database) → Retries db self.old self.new) }
         ensures no { IfOk result (λ yes. yes ≡ false → (db : Database) → cases_of db self.old ≡ Choice [] ∷ cases_of db self.new) }
         ensures err { OnErr result ((db : Database) → cases_of db self.new ≡ cases_of db self.old) }
-        ensures code { self.new.code ≡ self.old.code }
+        ensures basis { self.new.basis ≡ self.old.basis }
     {
         match self.reopen_answers(alloc)? {
             Some(opened) => {
@@ -187,7 +187,7 @@ impl Stack {
         ensures none { IfOk result (λ o. IfNone o ((db : Database) → cases_of db self.old ≡ Choice [] ∷ cases_of db self.new)) }
         ensures opened { IfOk result (λ o. IfSome o (λ opened. opened.is_last ≡ true → IsOpened self.new opened)) }
         ensures err { OnErr result ((db : Database) → cases_of db self.new ≡ cases_of db self.old) }
-        ensures code { self.new.code ≡ self.old.code }
+        ensures basis { self.new.basis ≡ self.old.basis }
     {
         let Some(Frame::Open(point, Resume::Answers(answers))) = self.frames.pop() else {
             unreachable!()

@@ -16,7 +16,7 @@ impl Stack {
     pub fn take_branch(&mut self)
         requires { HasBranch self.old }
         ensures retries { (db : Database) → Retries db self.old self.new }
-        ensures code { self.new.code ≡ self.old.code }
+        ensures basis { self.new.basis ≡ self.old.basis }
     {
         let marks = self.come_back();
         self.settle(marks);
@@ -26,7 +26,7 @@ impl Stack {
     fn come_back(&mut self) -> Marks
         requires { HasBranch self.old }
         ensures retries { (db : Database) → Retries db self.old self.new }
-        ensures code { self.new.code ≡ self.old.code }
+        ensures basis { self.new.basis ≡ self.old.basis }
         ensures within { IsWithin result.env self.new.env }
         ensures older { AreOlder result (reverse self.new.frames) }
     {
@@ -49,7 +49,7 @@ impl Stack {
         ensures at { AtHandler self.new result.handler result.list }
         ensures catches { HasCatcher self.old → Catches result.handler }
         ensures gathers { HasGatherer self.old → Gathers result.handler }
-        ensures code { self.new.code ≡ self.old.code }
+        ensures basis { self.new.basis ≡ self.old.basis }
     {
         let Some(Frame::Open(point, Resume::Handle(handler))) = self.frames.pop() else {
             unreachable!()
@@ -72,7 +72,7 @@ impl Stack {
         requires handler { HasHandler self.old }
         requires list { IsList self.old list }
         ensures recovers { Recovers self.old self.new list }
-        ensures code { self.new.code ≡ self.old.code }
+        ensures basis { self.new.basis ≡ self.old.basis }
     {
         let marks = self.leave_handler(list);
         self.settle(marks);
@@ -84,7 +84,7 @@ impl Stack {
         requires handler { HasHandler self.old }
         requires list { IsList self.old list }
         ensures leaves { Leaves self.old self.new list }
-        ensures code { self.new.code ≡ self.old.code }
+        ensures basis { self.new.basis ≡ self.old.basis }
     {
         let marks = self.close_handler(list);
         self.settle(marks);
@@ -95,7 +95,7 @@ impl Stack {
         requires handler { HasHandler self.old }
         requires list { IsList self.old list }
         ensures leaves { Leaves self.old self.new list }
-        ensures code { self.new.code ≡ self.old.code }
+        ensures basis { self.new.basis ≡ self.old.basis }
         ensures within { IsWithin result.env self.new.env }
         ensures older { AreOlder result (reverse self.new.frames) }
     {
@@ -115,7 +115,7 @@ impl Stack {
         requires handler { HasHandler self.old }
         requires list { IsList self.old list }
         ensures recovers { Recovers self.old self.new list }
-        ensures code { self.new.code ≡ self.old.code }
+        ensures basis { self.new.basis ≡ self.old.basis }
         ensures within { IsWithin result.env self.new.env }
         ensures older { AreOlder result (reverse self.new.frames) }
     {

@@ -174,13 +174,13 @@ impl Stack {
         values: &[Cell],
         rest: Continuation,
     ) -> Result<bool, AllocError>
-        requires statics { (db : Database) × AreStatics self.old.code db }
+        requires statics { (db : Database) × AreStatics self.old.basis.code db }
         requires values { AreValues self.old.env.heap values.now }
         requires few { length values.now < 2 ^ 16 }
         requires rest { IsList self.old rest }
-        ensures yes { IfOk result (λ yes. yes ≡ true → (db : Database) → AreStatics self.old.code db → Calls db self.old self.new (called self.old.env.heap (db.statics procedure).name values.now) rest (db.statics procedure).clauses) }
-        ensures no { IfOk result (λ yes. yes ≡ false → (db : Database) → AreStatics self.old.code db → CallsNone db self.old self.new (called self.old.env.heap (db.statics procedure).name values.now) rest (db.statics procedure).clauses) }
-        ensures code { self.new.code ≡ self.old.code }
+        ensures yes { IfOk result (λ yes. yes ≡ true → (db : Database) → AreStatics self.old.basis.code db → Calls db self.old self.new (called self.old.env.heap (db.statics procedure).name values.now) rest (db.statics procedure).clauses) }
+        ensures no { IfOk result (λ yes. yes ≡ false → (db : Database) → AreStatics self.old.basis.code db → CallsNone db self.old self.new (called self.old.env.heap (db.statics procedure).name values.now) rest (db.statics procedure).clauses) }
+        ensures basis { self.new.basis ≡ self.old.basis }
         ensures err { OnErr result (StaysAt self.old self.new) }
     {
         let behind = self.number_of(&rest)?;
@@ -196,10 +196,10 @@ impl Stack {
     /// After an `Err` the cases are as they were.
     pub fn retry(&mut self) -> Result<bool, AllocError>
         requires call { HasClauses self.old }
-        requires statics { (db : Database) × AreStatics self.old.code db }
-        ensures yes { IfOk result (λ yes. yes ≡ true → (db : Database) → AreStatics self.old.code db → Retries db self.old self.new) }
-        ensures no { IfOk result (λ yes. yes ≡ false → (db : Database) → AreStatics self.old.code db → cases_of db self.old ≡ Choice [] ∷ cases_of db self.new) }
-        ensures code { self.new.code ≡ self.old.code }
+        requires statics { (db : Database) × AreStatics self.old.basis.code db }
+        ensures yes { IfOk result (λ yes. yes ≡ true → (db : Database) → AreStatics self.old.basis.code db → Retries db self.old self.new) }
+        ensures no { IfOk result (λ yes. yes ≡ false → (db : Database) → AreStatics self.old.basis.code db → cases_of db self.old ≡ Choice [] ∷ cases_of db self.new) }
+        ensures basis { self.new.basis ≡ self.old.basis }
         ensures err { OnErr result ((db : Database) → cases_of db self.new ≡ cases_of db self.old) }
     {
         let at = self.rewind_call();
@@ -215,14 +215,14 @@ impl Stack {
         point: &Point,
     ) -> Result<bool, AllocError>
         requires marks { IsMarked self.old point.now.marks }
-        requires statics { (db : Database) × AreStatics self.old.code db }
+        requires statics { (db : Database) × AreStatics self.old.basis.code db }
         requires values { AreValues self.old.env.heap values.now }
         requires few { length values.now < 2 ^ 16 }
         requires alone { point.now.list ≡ alone point.now.list.rest }
         requires list { IsList self.old point.now.list }
-        ensures yes { IfOk result (λ yes. yes ≡ true → (db : Database) → AreStatics self.old.code db → Calls db self.old self.new (called self.old.env.heap (db.statics procedure).name values.now) point.now.list (db.statics procedure).clauses) }
-        ensures no { IfOk result (λ yes. yes ≡ false → (db : Database) → AreStatics self.old.code db → CallsNone db self.old self.new (called self.old.env.heap (db.statics procedure).name values.now) point.now.list (db.statics procedure).clauses) }
-        ensures code { self.new.code ≡ self.old.code }
+        ensures yes { IfOk result (λ yes. yes ≡ true → (db : Database) → AreStatics self.old.basis.code db → Calls db self.old self.new (called self.old.env.heap (db.statics procedure).name values.now) point.now.list (db.statics procedure).clauses) }
+        ensures no { IfOk result (λ yes. yes ≡ false → (db : Database) → AreStatics self.old.basis.code db → CallsNone db self.old self.new (called self.old.env.heap (db.statics procedure).name values.now) point.now.list (db.statics procedure).clauses) }
+        ensures basis { self.new.basis ≡ self.old.basis }
         ensures err { OnErr result (StaysAt self.old self.new) }
     {
         let depth = deeper(self.depth, 1)?;
@@ -230,7 +230,14 @@ impl Stack {
         self.saved.reserve(values.len())?;
         let goal = Goal { procedure, values };
         let mark = point.marks.env;
-        let Some(hit) = fit_first(&mut self.env, &mut self.matcher, &self.code, &goal, mark)? else {
+        let Some(hit) = fit_first(
+            &mut self.env,
+            &mut self.matcher,
+            &self.basis.code,
+            &goal,
+            mark,
+        )?
+        else {
             return Ok(false);
         };
         let call = Clauses {
@@ -257,7 +264,7 @@ impl Stack {
         requires { HasClauses self.old }
         ensures cases { (db : Database) → cases_of db self.new ≡ cases_of db self.old }
         ensures at { AtCall self.new result.point result.call }
-        ensures code { self.new.code ≡ self.old.code }
+        ensures basis { self.new.basis ≡ self.old.basis }
     {
         let Some(Frame::Open(point, Resume::Clauses(call))) = self.frames.pop() else {
             unreachable!()
@@ -277,10 +284,10 @@ impl Stack {
     /// Tries the further clauses of the innermost call, where all is as it was at its opening.
     fn try_next(&mut self, at: Calling) -> Result<bool, AllocError>
         requires at { AtCall self.old at.point at.call }
-        requires statics { (db : Database) × AreStatics self.old.code db }
-        ensures yes { IfOk result (λ yes. yes ≡ true → (db : Database) → AreStatics self.old.code db → Retries db self.old self.new) }
-        ensures no { IfOk result (λ yes. yes ≡ false → (db : Database) → AreStatics self.old.code db → cases_of db self.old ≡ Choice [] ∷ cases_of db self.new) }
-        ensures code { self.new.code ≡ self.old.code }
+        requires statics { (db : Database) × AreStatics self.old.basis.code db }
+        ensures yes { IfOk result (λ yes. yes ≡ true → (db : Database) → AreStatics self.old.basis.code db → Retries db self.old self.new) }
+        ensures no { IfOk result (λ yes. yes ≡ false → (db : Database) → AreStatics self.old.basis.code db → cases_of db self.old ≡ Choice [] ∷ cases_of db self.new) }
+        ensures basis { self.new.basis ≡ self.old.basis }
         ensures err { OnErr result (StaysAt self.old self.new) }
         ensures has { OnErr result (HasClauses self.new) }
     {
@@ -300,16 +307,16 @@ impl Stack {
     /// The first clause that is left of the innermost call and fits: it has slots of its own, and the unifier is put into all.
     fn find(&mut self, at: &Calling) -> Result<Option<Hit>, AllocError>
         requires at { AtCall self.old at.now.point at.now.call }
-        requires statics { (db : Database) × AreStatics self.old.code db }
-        ensures some { IfOk result (λ o. IfSome o (λ hit. (db : Database) → AreStatics self.old.code db → Hits db self.old self.new at.now.point at.now.call hit)) }
+        requires statics { (db : Database) × AreStatics self.old.basis.code db }
+        ensures some { IfOk result (λ o. IfSome o (λ hit. (db : Database) → AreStatics self.old.basis.code db → Hits db self.old self.new at.now.point at.now.call hit)) }
         ensures binds { IfOk result (λ o. IfSome o (λ hit. Binds self.old self.new)) }
-        ensures none { IfOk result (λ o. IfNone o ((db : Database) → AreStatics self.old.code db → (d : ℕ) → further db self.new d at.now.point at.now.call (drop at.now.call.next (db.statics at.now.call.procedure).clauses) ≡ [])) }
+        ensures none { IfOk result (λ o. IfNone o ((db : Database) → AreStatics self.old.basis.code db → (d : ℕ) → further db self.new d at.now.point at.now.call (drop at.now.call.next (db.statics at.now.call.procedure).clauses) ≡ [])) }
         ensures cases { (db : Database) → cases_of db self.new ≡ cases_of db self.old }
         ensures place { OnErr result (place_of self.new ≡ place_of self.old) }
         ensures same { self.new ≡ record self.old { env = self.new.env } }
     {
         let Calling { point, call } = *at;
-        let Some(procedure) = self.code.procedure(call.procedure) else {
+        let Some(procedure) = self.basis.code.procedure(call.procedure) else {
             return Ok(None);
         };
         if call.next > procedure.clauses().len() {
@@ -319,7 +326,7 @@ impl Stack {
         let values = &self.saved[first..first + call.count as usize];
         let attempt = Attempt {
             procedure,
-            nodes: self.code.nodes(),
+            nodes: self.basis.code.nodes(),
             key: first_key(self.env.heap(), values),
             values,
             mark: point.marks.env,
@@ -341,10 +348,10 @@ impl Stack {
     /// Enters a clause that fits: visits its body before a list, and puts what is left behind it in the place of the innermost case, a call.
     fn enter(&mut self, at: Calling, hit: Hit, behind: ListId)
         requires calling { IsCalling self.old at.point at.call }
-        requires hit { (x : Clause) × IsCodeOf self.old.code.text hit.clause x × (hit.base + hit.clause.variables ≤ length self.old.env.slots) }
+        requires hit { (x : Clause) × IsCodeOf self.old.basis.code.text hit.clause x × (hit.base + hit.clause.variables ≤ length self.old.env.slots) }
         requires behind { IsList self.old (alone behind) }
         ensures enters { (db : Database) → Enters db self.old self.new at.point at.call hit behind }
-        ensures code { self.new.code ≡ self.old.code }
+        ensures basis { self.new.basis ≡ self.old.basis }
     {
         let level = self.depth.down(1);
         let list = self.body_list(hit, behind, level);
@@ -354,10 +361,10 @@ impl Stack {
 
     /// The body of a clause whose slots are there, at a level, before a list by its number.
     fn body_list(&self, hit: Hit, behind: ListId, level: Level) -> Continuation
-        requires hit { (x : Clause) × IsCodeOf self.now.code.text hit.clause x × (hit.base + hit.clause.variables ≤ length self.now.env.slots) }
+        requires hit { (x : Clause) × IsCodeOf self.now.basis.code.text hit.clause x × (hit.base + hit.clause.variables ≤ length self.now.env.slots) }
         requires behind { IsList self.now (alone behind) }
         ensures there { IsList self.now result }
-        ensures is { (x : Clause) → IsCodeOf self.now.code.text hit.clause x → goals_of self.now result ≡ before_rest (is_true x.body) level (bind (over self.now.env hit.base) x.body) (goals_of self.now (alone behind)) }
+        ensures is { (x : Clause) → IsCodeOf self.now.basis.code.text hit.clause x → goals_of self.now result ≡ before_rest (is_true x.body) level (bind (over self.now.env hit.base) x.body) (goals_of self.now (alone behind)) }
     {
         let _ = self.env.heap();
         body_of(hit, behind, level)
@@ -368,7 +375,7 @@ impl Stack {
         requires { IsCalling self.old at.point at.call }
         ensures goes { (db : Database) → GoesOn db self.old self.new at.point at.call next }
         ensures place { place_of self.new ≡ place_of self.old }
-        ensures code { self.new.code ≡ self.old.code }
+        ensures basis { self.new.basis ≡ self.old.basis }
     {
         match next {
             Some(next) => self.replace_call(at, next),
@@ -385,7 +392,7 @@ impl Stack {
         requires { IsCalling self.old at.point at.call }
         ensures goes { (db : Database) → GoesOn db self.old self.new at.point at.call (Some next) }
         ensures place { place_of self.new ≡ place_of self.old }
-        ensures code { self.new.code ≡ self.old.code }
+        ensures basis { self.new.basis ≡ self.old.basis }
     {
         let Calling { point, call } = at;
         let Some(_) = self.frames.pop() else {

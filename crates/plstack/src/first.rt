@@ -55,11 +55,11 @@ impl Stack {
 
     /// The step that a run begins with; none where it is at its end.
     fn step_of(&self, run: Run) -> Option<Step>
-        ensures some { IfSome result (λ x. IsStep self.now.code.text run.position x) }
+        ensures some { IfSome result (λ x. IsStep self.now.basis.code.text run.position x) }
         ensures none { IfNone result (run_goals (goals_in self.now) run ≡ []) }
         ensures state { IsState self.now }
     {
-        let step = self.code.step(run.position);
+        let step = self.basis.code.step(run.position);
         if let Op::Proceed = step.op {
             return None;
         }
@@ -69,7 +69,7 @@ impl Stack {
     /// What stands first in a list whose run begins with a step.
     fn first_of_run(&self, list: Continuation, step: Step) -> First
         requires list { IsList self.now list }
-        requires step { IsStep self.now.code.text list.run.position step }
+        requires step { IsStep self.now.basis.code.text list.run.position step }
         ensures { Begins self.now (goals_of self.now list) result }
     {
         let Continuation { run, rest } = list;

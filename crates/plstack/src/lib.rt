@@ -3,6 +3,7 @@
 
 pub mod answer;
 pub mod back;
+pub mod basis;
 pub mod call;
 pub mod cut;
 pub mod expression;

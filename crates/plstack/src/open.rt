@@ -2,7 +2,7 @@
 ghost use Rattle.std.specs.Prelude.{◌≡◌, ◌+◌, ◌<◌, ◌≤◌, ◌^◌, [], ◌∷◌, ◌++◌, List, reverse, IfNone, IfOk, IfSome, OnErr, OnOk, vec_capacity, vec_len};
 ghost use Rattle.plsearch.specs.Types.{Choice};
 ghost use Rattle.plstack.specs.Places.{Database, kept};
-ghost use Rattle.plstack.specs.Frames.{IsResume};
+ghost use Rattle.plstack.specs.Frames.{IsResume, IsSeen};
 ghost use Rattle.plstack.specs.declared.frame.Frame.{Frame};
 ghost use Rattle.plstack.specs.State.{cases_of, CountsUp, HasPlain, IsList, Opens};
 ghost use Rattle.plstack.specs.Opening.{around_cases, branch_of, closing, ClosedAs, ClosesPlain, IsAround, OpensFrame, OpensIn};
@@ -61,6 +61,7 @@ impl Stack {
         requires list { IsList self.old list }
         requires resume { IsResume self.old.env.heap [] resume }
         requires none { kept resume ≡ 0 }
+        requires seen { IsSeen self.old.basis.latest resume }
         ensures ok { OnOk result (OpensFrame self.old self.new list resume) }
         ensures err { OnErr result (self.new ≡ self.old) }
     {
@@ -81,6 +82,7 @@ impl Stack {
         requires list { IsList self.old list }
         requires resume { IsResume self.old.env.heap [] resume }
         requires none { kept resume ≡ 0 }
+        requires seen { IsSeen self.old.basis.latest resume }
         ensures ok { OnOk result (OpensIn self.old self.new list resume) }
         ensures err { OnErr result (self.new ≡ self.old) }
     {
@@ -103,7 +105,7 @@ impl Stack {
         ensures some { IfSome result (λ c. (db : Database) → ClosedAs db self.old self.new c) }
         ensures none { IfNone result ((db : Database) → cases_of db self.old ≡ []) }
         ensures same { IfNone result (self.new ≡ self.old) }
-        ensures code { self.new.code ≡ self.old.code }
+        ensures basis { self.new.basis ≡ self.old.basis }
     {
         let Some(frame) = self.frames.pop() else {
             return None;
@@ -126,7 +128,7 @@ impl Stack {
     pub fn close_plain(&mut self)
         requires { HasPlain self.old }
         ensures closes { ClosesPlain self.old self.new }
-        ensures code { self.new.code ≡ self.old.code }
+        ensures basis { self.new.basis ≡ self.old.basis }
     {
         let Some(Frame::Plain(n)) = self.frames.pop() else {
             unreachable!()

@@ -14,7 +14,7 @@ use plterm::term::Term;
 use std::alloc::{AllocError, Global};
 
 /// The clause whose head is variable 0 and whose body is variable 1, as a term.
-fn clause_of_two(alloc: Global) -> Result<Term, AllocError>
+pub(crate) fn clause_of_two(alloc: Global) -> Result<Term, AllocError>
     ensures { IfOk result (λ t. t ≡ clause_term (var 0) (var 1)) }
 {
     let neck = Name::new(alloc, ":-")?;

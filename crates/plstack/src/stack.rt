@@ -1,12 +1,13 @@
 //! The stack.
-ghost use Rattle.std.specs.Prelude.{◌≡◌, ◌+◌, ◌↔◌, [], IsTrue};
+ghost use Rattle.std.specs.Prelude.{◌≡◌, ◌+◌, ◌≤◌, ◌↔◌, [], IsTrue};
 ghost use Rattle.platoms.specs.Names.{Extends as ExtendsNames};
 ghost use Rattle.plcode.specs.Steps.{goals_from};
 ghost use Rattle.plsearch.specs.Engine.{deeper};
 ghost use Rattle.pllinks.specs.Links.{alone};
 ghost use Rattle.plstack.specs.Places.{Database};
-ghost use Rattle.plstack.specs.State.{cases_of, depth_in, HasAnswers, HasBranch, HasCatcher, HasClauses, HasWalk, HasGatherer, HasHandler, HasPlain};
+ghost use Rattle.plstack.specs.State.{cases_of, depth_in, seeing, HasAnswers, HasBranch, HasCatcher, HasClauses, HasWalk, HasGatherer, HasHandler, HasPlain};
 
+use crate::basis::Basis;
 use crate::frame::{Frame, Handler, Resume};
 use plcells::cell::Cell;
 use plcode::program::ProgramCode;
@@ -18,11 +19,11 @@ use pllinks::list::ListId;
 use std::alloc::Global;
 use std::marker::Model;
 
-/// The program's code, an environment, the goal lists over it, the values that open cases keep, the open cases of a search, and the list
+/// The program's code with the latest view, an environment, the goal lists over it, the values that open cases keep, the open cases of a search, and the list
 /// that is visited.
 #[derive(Drop)]
 pub struct Stack {
-    pub(crate) code: ProgramCode,
+    pub(crate) basis: Basis,
     pub(crate) env: Environment,
     pub(crate) matcher: Matcher,
     pub(crate) links: Vec<Link>,
@@ -41,9 +42,9 @@ impl Model for Stack {
 
     ghost coded = { Prim.hlevel (codes, tree_code) };
 
-    ghost view = { λ a. record { code = a.code; env = a.env; links = a.links.items; saved = a.saved.items; frames = a.frames.items; goals = a.goals } };
+    ghost view = { λ a. record { basis = a.basis; env = a.env; links = a.links.items; saved = a.saved.items; frames = a.frames.items; goals = a.goals } };
 
-    ghost invariant = { λ a. IsStack (record { code = a.code; env = a.env; links = a.links.items; saved = a.saved.items; frames = a.frames.items; goals = a.goals }) a.depth };
+    ghost invariant = { λ a. IsStack (record { basis = a.basis; env = a.env; links = a.links.items; saved = a.saved.items; frames = a.frames.items; goals = a.goals }) a.depth };
 }
 
 impl Stack {
@@ -51,11 +52,11 @@ impl Stack {
     pub fn new(alloc: Global, code: ProgramCode, env: Environment) -> Stack
         requires names { ExtendsNames code.text.names env.heap.names }
         requires none { goals_from code.text 0 0 ≡ [] }
-        ensures { result ≡ record { code = code; env = env; links = []; saved = []; frames = []; goals = alone 0 } }
+        ensures { result ≡ record { basis = record { code = code; latest = 0 }; env = env; links = []; saved = []; frames = []; goals = alone 0 } }
     {
         let _ = env.heap();
         Stack {
-            code,
+            basis: Basis { code, latest: 0 },
             env,
             matcher: Matcher::new(alloc),
             links: Vec::new(alloc),
@@ -68,10 +69,18 @@ impl Stack {
 
     /// The program's code.
     pub fn code(&self) -> &ProgramCode
-        ensures is { result.now ≡ self.now.code }
-        ensures names { ExtendsNames self.now.code.text.names self.now.env.heap.names }
+        ensures is { result.now ≡ self.now.basis.code }
+        ensures names { ExtendsNames self.now.basis.code.text.names self.now.env.heap.names }
     {
-        &self.code
+        &self.basis.code
+    }
+
+    /// From now on a walk may go on in the view of this place.
+    pub fn sees(&mut self, g: u64)
+        requires { self.old.basis.latest ≤ g }
+        ensures { self.new ≡ seeing g self.old }
+    {
+        self.basis.latest = g;
     }
 
     /// The environment.

@@ -71,7 +71,9 @@ impl Stack {
         ensures stays { Extends self.old self.new }
     {
         let _ = self.env.heap();
-        let put = self.env.put_goal(self.code.nodes(), node, run.base, values);
+        let put = self
+            .env
+            .put_goal(self.basis.code.nodes(), node, run.base, values);
         let _ = self.env.heap();
         put
     }
@@ -85,7 +87,7 @@ impl Stack {
         ensures stays { Extends self.old self.new }
     {
         let _ = self.env.heap();
-        let put = self.env.put_node(self.code.nodes(), node, run.base);
+        let put = self.env.put_node(self.basis.code.nodes(), node, run.base);
         let _ = self.env.heap();
         put
     }

@@ -3,20 +3,22 @@
 ghost use Rattle.std.specs.Prelude.{◌≡◌, ◌≤◌, length, reverse, true, false, None, Some, Option, IfOk, IfSome, IfNone, OnErr, OnOk};
 ghost use Rattle.plsubst.specs.Subst.{shift};
 ghost use Rattle.plsubst.specs.Unify.{unify};
-ghost use Rattle.plcells.specs.Store.{value, IsValue};
-ghost use Rattle.plsearch.specs.Rows.{is_true as is_true_of, resolve};
+ghost use Rattle.plcells.specs.Putting.{standing};
+ghost use Rattle.plcells.specs.Store.{value, AreValues, IsValue};
+ghost use Rattle.plsearch.specs.Rows.{as_fact, is_true as is_true_of, resolve};
 ghost use Rattle.plenv.specs.Env.{cut, IsEnv, IsMark, IsWithin};
 ghost use Rattle.plenv.specs.Changes.{Keeps};
-ghost use Rattle.plstack.specs.Places.{Database};
-ghost use Rattle.plstack.specs.Frames.{AreOlder};
+ghost use Rattle.plstack.specs.Places.{clause_by, Database};
+ghost use Rattle.plstack.specs.Frames.{AreOlder, IsLeftSeen, IsSpotSeen};
 ghost use Rattle.plstack.specs.State.{cases_of, goals_of, place_of, Extends, HasWalk, IsList, IsState, RetriesBy, State};
 ghost use Rattle.plstack.specs.Cutting.{Settles};
-ghost use Rattle.plstack.specs.Trials.{ComesBack, IsMarked, IsOpened, ListsBody, PutsHead, Resolved};
+ghost use Rattle.plstack.specs.Trials.{ComesBack, IsMarked, IsOpened, ListsBody, PutsBody, PutsHead, Resolved};
 ghost use Rattle.plstack.specs.Walks.{AtWalk, EndsPlain, Finds, FitsCall, GoesOn, IsWalking, LeftSame, OpensWalk};
 
-use crate::frame::{Frame, Marks, Point, Resume, Spot, Walk};
+use crate::frame::{Frame, Marks, Point, Resume, Spot, Use, Walk};
 use crate::list::link_before;
 use crate::open::{count_up, push_frame};
+use crate::pair::clause_of_two;
 use crate::stack::Stack;
 use plcells::cell::Cell;
 use plclause::clause::Clause;
@@ -31,10 +33,11 @@ use plterm::term::Term;
 use plterm::walk::Shape;
 use std::alloc::{AllocError, Global};
 
-/// A clause that a goal is tried with: the clause, and its name if it is to be erased before the list goes on.
+/// A clause that a goal is tried with: the clause, what is done with it, and its name if it is to be erased before the list goes on.
 #[derive(Drop)]
 pub struct Candidate {
     pub clause: Clause,
+    pub uses: Use,
     pub erased: Option<ClauseName>,
 }
 
@@ -91,24 +94,87 @@ pub(crate) fn put_head(
     Ok(Head { values, value })
 }
 
-/// Resolves a goal against a clause, its variables new: the value of the clause's body, if they fit. Where they do not, or memory gives out,
+/// Puts the term `Head :- Body` of a clause, its variables new.
+fn put_fact(env: &mut Environment, alloc: Global, clause: &Clause) -> Result<Head, AllocError>
+    ensures ok { IfOk result (λ h. PutsHead env.old env.new (as_fact clause.now) h.values.items h.value) }
+    ensures keeps { Keeps env.old env.new }
+{
+    let head = put_head(env, alloc, clause)?;
+    let body = env.put_over(alloc, clause.body(), &head.values)?;
+    let term = clause_of_two(alloc)?;
+    let value = env.put_over(alloc, &term, &[head.value, body])?;
+    Ok(Head {
+        values: head.values,
+        value,
+    })
+}
+
+/// Puts what a goal is unified with to try a clause: for a call the clause's head, else the term `Head :- Body`.
+fn put_tried(env: &mut Environment, alloc: Global, next: &Candidate) -> Result<Head, AllocError>
+    ensures ok { IfOk result (λ h. PutsHead env.old env.new (clause_by next.now.uses next.now.clause) h.values.items h.value) }
+    ensures keeps { Keeps env.old env.new }
+{
+    match next.uses {
+        Use::Call => put_head(env, alloc, &next.clause),
+        Use::Tell | Use::Erase => put_fact(env, alloc, &next.clause),
+    }
+}
+
+/// Puts a clause's body over the values of its variables, unless it is the atom true, which is no goal.
+fn put_called(
+    env: &mut Environment,
+    alloc: Global,
+    clause: &Clause,
+    values: &[Cell],
+) -> Result<Option<Cell>, AllocError>
+    requires many { length values.now ≡ clause.now.variables }
+    requires fit { AreValues env.old.heap values.now }
+    ensures ok { IfOk result (λ o. PutsBody env.old env.new (standing env.old.heap values.now) clause.now o) }
+    ensures keeps { Keeps env.old env.new }
+{
+    if is_true(clause.body()) {
+        return Ok(None);
+    }
+    let body = env.put_over(alloc, clause.body(), values)?;
+    Ok(Some(body))
+}
+
+/// Puts what is left to do where a clause fits, over the values of its variables: for a call its body, else nothing.
+fn put_body(
+    env: &mut Environment,
+    alloc: Global,
+    next: &Candidate,
+    values: &[Cell],
+) -> Result<Option<Cell>, AllocError>
+    requires many { length values.now ≡ next.now.clause.variables }
+    requires fit { AreValues env.old.heap values.now }
+    ensures ok { IfOk result (λ o. PutsBody env.old env.new (standing env.old.heap values.now) (clause_by next.now.uses next.now.clause) o) }
+    ensures keeps { Keeps env.old env.new }
+{
+    match next.uses {
+        Use::Call => put_called(env, alloc, &next.clause, values),
+        Use::Tell | Use::Erase => Ok(None),
+    }
+}
+
+/// Resolves a goal against a clause, its variables new: what is left to do, if they fit. Where they do not, or memory gives out,
 /// an undo to a mark in use gives back what was changed.
 fn try_copy(
     env: &mut Environment,
     alloc: Global,
     goal: Cell,
-    clause: &Clause,
-) -> Result<Option<Cell>, AllocError>
+    next: &Candidate,
+) -> Result<Option<Option<Cell>>, AllocError>
     requires { IsValue env.old.heap goal }
-    ensures some { IfOk result (λ o. IfSome o (λ body. Resolved env.old env.new (value env.old.heap goal) clause.now body)) }
-    ensures none { IfOk result (λ o. IfNone o (unify (value env.old.heap goal) (shift env.old.count clause.now.head) ≡ None)) }
+    ensures some { IfOk result (λ o. IfSome o (λ body. Resolved env.old env.new (value env.old.heap goal) (clause_by next.now.uses next.now.clause) body)) }
+    ensures none { IfOk result (λ o. IfNone o (unify (value env.old.heap goal) (shift env.old.count (clause_by next.now.uses next.now.clause).head) ≡ None)) }
     ensures keeps { Keeps env.old env.new }
 {
-    let head = put_head(env, alloc, clause)?;
+    let head = put_tried(env, alloc, next)?;
     if !env.unify_in_choice(goal, head.value)? {
         return Ok(None);
     }
-    let body = env.put_over(alloc, clause.body(), &head.values)?;
+    let body = put_body(env, alloc, next, &head.values)?;
     Ok(Some(body))
 }
 
@@ -122,20 +188,19 @@ fn is_true(body: &Term) -> bool
     }
 }
 
-/// The list of a body's value before the list of a call; of a body that is no goal that list alone.
+/// The list of a body's value before the list of a call; where there is no body that list alone.
 fn list_body(
     links: &mut Vec<Link>,
     call: &Trial,
-    none: bool,
-    body: Cell,
+    body: Option<Cell>,
 ) -> Result<Continuation, AllocError>
     requires { call.now.rest.rest ≤ length links.old.items }
-    ensures ok { IfOk result (λ list. ListsBody links.old.items links.new.items none call.now.level body call.now.rest list) }
+    ensures ok { IfOk result (λ list. ListsBody links.old.items links.new.items call.now.level body call.now.rest list) }
     ensures err { OnErr result (links.new.items ≡ links.old.items) }
 {
-    if none {
+    let Some(body) = body else {
         return Ok(call.rest);
-    }
+    };
     let list = link_before(links, Item::Goal(call.level, body), call.rest)?;
     Ok(list)
 }
@@ -147,28 +212,27 @@ fn first_step(
     links: &mut Vec<Link>,
     alloc: Global,
     call: &Trial,
-    clause: &Clause,
+    next: &Candidate,
 ) -> Result<Option<Continuation>, AllocError>
     requires goal { IsValue env.old.heap call.now.goal }
     requires mark { IsMark call.now.mark env.old }
     requires now { cut call.now.mark env.old ≡ env.old }
     requires rest { call.now.rest.rest ≤ length links.old.items }
-    ensures some { IfOk result (λ o. IfSome o (λ list. (s : State) → IsState s → s.env ≡ env.old → s.links ≡ links.old.items → IsList s call.now.rest → FitsCall s (record s { env = env.new; links = links.new.items; goals = list }) call.now.level call.now.goal call.now.rest clause.now)) }
-    ensures none { IfOk result (λ o. IfNone o (unify (value env.old.heap call.now.goal) (shift env.old.count clause.now.head) ≡ None)) }
+    ensures some { IfOk result (λ o. IfSome o (λ list. (s : State) → IsState s → s.env ≡ env.old → s.links ≡ links.old.items → IsList s call.now.rest → FitsCall s (record s { env = env.new; links = links.new.items; goals = list }) call.now.level call.now.goal call.now.rest (clause_by next.now.uses next.now.clause))) }
+    ensures none { IfOk result (λ o. IfNone o (unify (value env.old.heap call.now.goal) (shift env.old.count (clause_by next.now.uses next.now.clause).head) ≡ None)) }
     ensures back { IfOk result (λ o. IfNone o (ComesBack env.old env.new links.old.items links.new.items)) }
     ensures env { IfOk result (λ o. IfNone o (IsEnv env.new)) }
     ensures err { OnErr result (links.new.items ≡ links.old.items) }
     ensures keeps { Keeps env.old env.new }
 {
-    let Some(body) = try_copy(env, alloc, call.goal, clause)? else {
+    let Some(body) = try_copy(env, alloc, call.goal, next)? else {
         let _ = env.heap();
         env.undo(call.mark);
         let _ = env.heap();
         return Ok(None);
     };
     let _ = env.heap();
-    let none = is_true(clause.body());
-    let list = list_body(links, call, none, body)?;
+    let list = list_body(links, call, body)?;
     Ok(Some(list))
 }
 
@@ -178,19 +242,19 @@ fn resolve_clause(
     links: &mut Vec<Link>,
     alloc: Global,
     call: &Trial,
-    clause: &Clause,
+    next: &Candidate,
 ) -> Result<Option<Continuation>, AllocError>
     requires goal { IsValue env.old.heap call.now.goal }
     requires mark { IsMark call.now.mark env.old }
     requires now { cut call.now.mark env.old ≡ env.old }
     requires rest { call.now.rest.rest ≤ length links.old.items }
-    ensures some { IfOk result (λ o. IfSome o (λ list. (s : State) → IsState s → s.env ≡ env.old → s.links ≡ links.old.items → IsList s call.now.rest → FitsCall s (record s { env = env.new; links = links.new.items; goals = list }) call.now.level call.now.goal call.now.rest clause.now)) }
-    ensures none { IfOk result (λ o. IfNone o (unify (value env.old.heap call.now.goal) (shift env.old.count clause.now.head) ≡ None)) }
+    ensures some { IfOk result (λ o. IfSome o (λ list. (s : State) → IsState s → s.env ≡ env.old → s.links ≡ links.old.items → IsList s call.now.rest → FitsCall s (record s { env = env.new; links = links.new.items; goals = list }) call.now.level call.now.goal call.now.rest (clause_by next.now.uses next.now.clause))) }
+    ensures none { IfOk result (λ o. IfNone o (unify (value env.old.heap call.now.goal) (shift env.old.count (clause_by next.now.uses next.now.clause).head) ≡ None)) }
     ensures back { IfOk result (λ o. IfNone o (ComesBack env.old env.new links.old.items links.new.items)) }
     ensures env { IsEnv env.new }
     ensures err { OnErr result (ComesBack env.old env.new links.old.items links.new.items) }
 {
-    match first_step(env, links, alloc, call, clause) {
+    match first_step(env, links, alloc, call, next) {
         Ok(list) => {
             let _ = env.heap();
             Ok(list)
@@ -208,6 +272,7 @@ impl Stack {
     #[tactic(auto, using(crate::proofs::Walking::opens_walk))]
     pub fn open_walk(&mut self, walk: Walk, rest: Continuation) -> Result<(), AllocError>
         requires goal { IsValue self.old.env.heap walk.goal }
+        requires seen { IsSpotSeen self.old.basis.latest walk.spot }
         requires rest { IsList self.old rest }
         ensures ok { OnOk result (OpensWalk self.old self.new walk rest) }
         ensures err { OnErr result (self.new ≡ self.old) }
@@ -219,6 +284,7 @@ impl Stack {
     pub fn walking(&self) -> Option<Walking>
         ensures some { IfSome result (λ at. IsWalking self.now at.point at.walk) }
         ensures none { IfNone result (HasWalk self.now → ⊥) }
+        ensures seen { IfSome result (λ at. IsSpotSeen self.now.basis.latest at.walk.spot) }
     {
         match self.frames.last() {
             Some(Frame::Open(point, Resume::Walk(walk))) => Some(Walking {
@@ -234,7 +300,7 @@ impl Stack {
         requires { HasWalk self.old }
         ensures cases { (db : Database) → cases_of db self.new ≡ cases_of db self.old }
         ensures at { AtWalk self.new result.point result.walk }
-        ensures code { self.new.code ≡ self.old.code }
+        ensures basis { self.new.basis ≡ self.old.basis }
     {
         let Some(Frame::Open(point, Resume::Walk(walk))) = self.frames.pop() else {
             unreachable!()
@@ -261,16 +327,17 @@ impl Stack {
         rest: Option<Spot>,
     ) -> Result<Option<Entered>, AllocError>
         requires at { AtWalk self.old at.point at.walk }
+        requires seen { IsLeftSeen self.old.basis.latest rest }
         ensures some { IfOk result (λ o. IfSome o (λ entered. (db : Database) → Finds db at.walk (value self.old.env.heap at.walk.goal) next.now rest → RetriesBy db self.old self.new entered.erased)) }
         ensures none { IfOk result (λ o. IfNone o ((db : Database) → Finds db at.walk (value self.old.env.heap at.walk.goal) next.now rest → cases_of db self.new ≡ cases_of db self.old)) }
         ensures last { IfOk result (λ o. IfNone o (rest ≡ None → (db : Database) → EndsPlain db self.new)) }
         ensures at_next { IfOk result (λ o. IfNone o ((spot : Spot) → rest ≡ Some spot → AtWalk self.new at.point (record at.walk { spot = spot }))) }
         ensures values { IfOk result (λ o. IfNone o ((spot : Spot) → rest ≡ Some spot → value self.new.env.heap at.walk.goal ≡ value self.old.env.heap at.walk.goal)) }
         ensures err { OnErr result ((db : Database) → cases_of db self.new ≡ cases_of db self.old) }
-        ensures code { self.new.code ≡ self.old.code }
+        ensures basis { self.new.basis ≡ self.old.basis }
     {
         let level = self.depth.down(1);
-        let fits = self.fit_walk(alloc, &at, level, &next.clause)?;
+        let fits = self.fit_walk(alloc, &at, level, next)?;
         self.go_on_walk(at, rest);
         if !fits {
             return Ok(None);
@@ -286,16 +353,16 @@ impl Stack {
         alloc: Global,
         at: &Walking,
         level: Level,
-        clause: &Clause,
+        next: &Candidate,
     ) -> Result<bool, AllocError>
         requires at { AtWalk self.old at.now.point at.now.walk }
-        ensures yes { IfOk result (λ fits. fits ≡ true → resolve level self.old.env.count (value self.old.env.heap at.now.walk.goal) (goals_of self.old at.now.point.list) clause.now ≡ Some (place_of self.new)) }
-        ensures no { IfOk result (λ fits. fits ≡ false → unify (value self.old.env.heap at.now.walk.goal) (shift self.old.env.count clause.now.head) ≡ None) }
+        ensures yes { IfOk result (λ fits. fits ≡ true → resolve level self.old.env.count (value self.old.env.heap at.now.walk.goal) (goals_of self.old at.now.point.list) (clause_by next.now.uses next.now.clause) ≡ Some (place_of self.new)) }
+        ensures no { IfOk result (λ fits. fits ≡ false → unify (value self.old.env.heap at.now.walk.goal) (shift self.old.env.count (clause_by next.now.uses next.now.clause).head) ≡ None) }
         ensures left { OnOk result (LeftSame self.old self.new at.now.point at.now.walk) }
         ensures at { IfOk result (λ fits. fits ≡ false → AtWalk self.new at.now.point at.now.walk) }
         ensures value { IfOk result (λ fits. fits ≡ false → value self.new.env.heap at.now.walk.goal ≡ value self.old.env.heap at.now.walk.goal) }
         ensures cases { (db : Database) → cases_of db self.new ≡ cases_of db self.old }
-        ensures code { self.new.code ≡ self.old.code }
+        ensures basis { self.new.basis ≡ self.old.basis }
     {
         let call = Trial {
             goal: at.walk.goal,
@@ -303,7 +370,7 @@ impl Stack {
             level,
             rest: at.point.list,
         };
-        match resolve_clause(&mut self.env, &mut self.links, alloc, &call, clause)? {
+        match resolve_clause(&mut self.env, &mut self.links, alloc, &call, next)? {
             Some(list) => {
                 self.goals = list;
                 Ok(true)
@@ -314,12 +381,13 @@ impl Stack {
 
     /// The innermost case, a walk, stands at another spot, or nothing is left of it.
     pub fn go_on_walk(&mut self, at: Walking, next: Option<Spot>)
-        requires { IsWalking self.old at.point at.walk }
+        requires walking { IsWalking self.old at.point at.walk }
+        requires seen { IsLeftSeen self.old.basis.latest next }
         ensures goes { (db : Database) → GoesOn db self.old self.new at.point at.walk next }
         ensures place { place_of self.new ≡ place_of self.old }
         ensures same { (spot : Spot) → next ≡ Some spot → self.new ≡ record self.old { frames = self.new.frames } }
         ensures walking { (spot : Spot) → next ≡ Some spot → IsWalking self.new at.point (record at.walk { spot = spot }) }
-        ensures code { self.new.code ≡ self.old.code }
+        ensures basis { self.new.basis ≡ self.old.basis }
     {
         match next {
             Some(spot) => self.replace_walk(at, spot),
@@ -333,7 +401,8 @@ impl Stack {
 
     /// The innermost case, a walk, stands at another spot.
     fn replace_walk(&mut self, at: Walking, spot: Spot)
-        requires { IsWalking self.old at.point at.walk }
+        requires walking { IsWalking self.old at.point at.walk }
+        requires seen { IsSpotSeen self.old.basis.latest spot }
         ensures goes { (db : Database) → GoesOn db self.old self.new at.point at.walk (Some spot) }
         ensures walking { IsWalking self.new at.point (record at.walk { spot = spot }) }
         ensures same { self.new ≡ record self.old { frames = self.new.frames } }

@@ -1,4 +1,4 @@
-use Rattle.std.proofs.Common.{ap, sym, subst}
+use Rattle.std.proofs.Common.{ap, arith, sym, subst}
 use Rattle.plsearch.specs.Search.{search_of}
 use Rattle.plsolver.specs.Solver.{rest_of}
 use Rattle.plrun.specs.Going.{IsRunning, Runs}
@@ -17,6 +17,7 @@ returns-in-Started-clause-begun c =
     c.requires c.in_ok-number.ensures.reply (ap (λ w. w.journal) c.in_ok-number.ensures.entry) c.in-Started.is c.in_ok-solver-in-Started.ensures.begins in
     record {
       of = c.in_ok-solver-in-Started.ensures.of;
+      latest = omega (arith, c.in_ok-solver-in-Started.ensures.latest);
       started = Runs (relimit P n s.limit (λ v. rest_of P v s) s.used h t s.places.items c.in_ok-solver-in-Started.ensures.limit
           (subst (IsRunning P.first (search_of P n) n (λ v. rest_of P v s) s.used h t) (sym c.in_ok-solver-in-Started.ensures.places) all.0));
     }

@@ -34,10 +34,11 @@ returns-clause-runs c =
     let h = c.args.world.now.journal in
     let q = c.args.query.now in
     let g = c.requires.fetches.0 in
-    let at : c.view-view.result ≡ g = c.view-view.ensures g q c.requires.fetches.1 in
-    let within : g ≤ length h = omega (arith, at, c.if-front-view.false, c.front.ensures) in
+    let at : c.view-view.result ≡ g = c.view-view.ensures.is g q c.requires.fetches.1 in
+    let within : g ≤ length h = omega (arith, at, c.view-view.ensures.seen, c.requires.runs.latest) in
     record {
       of = c.fetched.ensures.of;
+      latest = subst (λ n. n ≤ length h) (sym c.fetched.ensures.latest) c.requires.runs.latest;
       started = started-gone P old.limit new.limit (λ v. rest_of P v old) (λ v. rest_of P v new) old.used new.used h c.args.running.now.thread old.places.items new.places.items c.requires.runs.started
           (λ v are.
           c.in_ok-fetched.ensures.ok v g q c.requires.fetches.1 (subst Ordered (sym (are g within)) (before-ordered g (reading h).updates (names-rise h)))

@@ -1,7 +1,11 @@
+use Rattle.std.proofs.Common.{arith}
 use Rattle.plsearch.specs.Search.{search_of}
 use Rattle.plsolver.specs.Solver.{rest_of}
 use Rattle.plrun.proofs.Serve.{looked, relimit}
 use Rattle.plrun.proofs.thread.look.Goals as goal
+
+pub refreshed-requires-clause-latest : goal.refreshed-requires-clause-latest
+refreshed-requires-clause-latest c = omega (arith, c.requires.runs.latest, c.front.ensures)
 
 pub returns-clause-runs : goal.returns-clause-runs
 returns-clause-runs c =
@@ -12,6 +16,7 @@ returns-clause-runs c =
     let t = c.args.running.now.thread in
     record {
       of = c.refreshed.ensures.of;
+      latest = omega (arith, c.in_ok-refreshed.ensures.latest, c.front.ensures);
       runs = relimit P old.limit new.limit (λ v. rest_of P v new) new.used h t new.places.items c.refreshed.ensures.limit
           (looked P.first (search_of P old.limit) old.limit (λ v. rest_of P v old) (λ v. rest_of P v new) old.used new.used old.machine.out.items h t old.places.items new.places.items c.front.result
           c.requires.runs.runs c.requires.at c.front.ensures c.in_ok-refreshed.ensures.ok c.in_ok-refreshed.ensures.places);

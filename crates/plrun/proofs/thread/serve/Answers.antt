@@ -1,10 +1,10 @@
-use Rattle.std.proofs.Common.{ap}
+use Rattle.std.proofs.Common.{◌≤◌, ap, length, subst, sym}
 use Rattle.plevent.specs.declared.request.Request.{Request}
 use Rattle.plsearch.specs.Search.{search_of}
 use Rattle.plsolver.specs.declared.progress.Progress.{Progress}
-use Rattle.plsolver.specs.Solver.{rest_of, WaitsForReply}
+use Rattle.plsolver.specs.Solver.{latest_view, rest_of, WaitsForReply}
 use Rattle.plrun.proofs.Halting.{halts-when-done}
-use Rattle.plrun.proofs.Serve.{MayWait, served-by, started-same, reply-fits}
+use Rattle.plrun.proofs.Serve.{MayWait, longer, served-by, started-same, reply-fits}
 use Rattle.plrun.proofs.thread.serve.Goals as goal
 
 may_wait : (s : Progress) (q : Request) → WaitsForReply s q → MayWait q
@@ -33,4 +33,8 @@ returns-clause-runs c =
     (served-by P.first (search_of P old.limit) old.limit (λ v. rest_of P v old) (λ v. rest_of P v new) old.used new.used old.machine.out.items h later t old.places.items new.places.items c.front-place.result q c.in_ok-reply.reply
     (halts-when-done P old.limit) (may_wait old q c.requires.waits) c.requires.runs.runs c.requires.at c.front-place.ensures
     c.in_ok-reply.ensures.reply (ap (λ w. w.journal) c.in_ok-reply.ensures.entry) (λ v are. c.in_ok-reply-2.ensures.ok v) c.in_ok-reply-2.ensures.places) in
-    record { of = c.reply.ensures.of; started = started }
+    record {
+      of = c.reply.ensures.of;
+      latest = longer h later _ (latest_view new) (ap (λ w. w.journal) c.in_ok-reply.ensures.entry) (subst (λ n. n ≤ length h) (sym c.reply.ensures.latest) c.requires.runs.latest);
+      started = started;
+    }

@@ -1,7 +1,9 @@
+use Rattle.std.proofs.Common.{◌≤◌, length, subst, sym}
 use Rattle.plevent.specs.Search.{View, Ask}
 use Rattle.plsearch.specs.Search.{search_of}
 use Rattle.plsolver.specs.Says.{Says}
 use Rattle.plsolver.specs.Solver.{GoesTo, rest_of}
+use Rattle.plrun.specs.Going.{Runs}
 use Rattle.plrun.proofs.Serve.{started-gone, still-runs, used-within}
 use Rattle.plrun.proofs.thread.turn.Goals as goal
 
@@ -19,6 +21,7 @@ returns-in-Slice-clause-runs c =
     let new = c.advance.new.self in
     record {
       of = c.advance.ensures.of;
+      latest = subst (λ n. n ≤ length c.args.world.now.journal) (sym c.advance.ensures.latest) c.requires.latest;
       started = started-gone P old.limit new.limit (λ v. rest_of P v old) (λ v. rest_of P v new) old.used new.used c.args.world.now.journal c.args.running.now.thread old.places.items new.places.items c.requires.started (λ v are. c.advance.ensures.goes v) c.advance.ensures.places c.advance.ensures.limit;
     }
 
@@ -30,6 +33,7 @@ returns-in-Ended-clause-runs c =
     let new = c.advance.new.self in
     record {
       of = c.advance.ensures.of;
+      latest = subst (λ n. n ≤ length c.args.world.now.journal) (sym c.advance.ensures.latest) c.requires.latest;
       started = started-gone P old.limit new.limit (λ v. rest_of P v old) (λ v. rest_of P v new) old.used new.used c.args.world.now.journal c.args.running.now.thread old.places.items new.places.items c.requires.started (λ v are. c.advance.ensures.goes v) c.advance.ensures.places c.advance.ensures.limit;
     }
 
@@ -44,6 +48,7 @@ look-requires-clause-runs c =
     let says = rw c.in-Refresh.is at c.in_ok-advance.ensures.says in
     record {
       of = c.advance.ensures.of;
+      latest = subst (λ n. n ≤ length c.args.world.now.journal) (sym c.advance.ensures.latest) c.requires.latest;
       runs = still-runs P.first (search_of P new.limit) new.limit (λ v. rest_of P v new) new.used new.machine.out.items h t new.places.items View says.1
           (started-gone P old.limit new.limit (λ v. rest_of P v old) (λ v. rest_of P v new) old.used new.used h t old.places.items new.places.items c.requires.started (λ v are. c.advance.ensures.goes v) c.advance.ensures.places c.advance.ensures.limit);
     }
@@ -59,6 +64,7 @@ serve-requires-clause-runs c =
     let says = rw c.in-Ask.is at c.in_ok-advance.ensures.says in
     record {
       of = c.advance.ensures.of;
+      latest = subst (λ n. n ≤ length c.args.world.now.journal) (sym c.advance.ensures.latest) c.requires.latest;
       runs = still-runs P.first (search_of P new.limit) new.limit (λ v. rest_of P v new) new.used new.machine.out.items h t new.places.items (Ask c.in-Ask.request) says.1
           (started-gone P old.limit new.limit (λ v. rest_of P v old) (λ v. rest_of P v new) old.used new.used h t old.places.items new.places.items c.requires.started (λ v are. c.advance.ensures.goes v) c.advance.ensures.places c.advance.ensures.limit);
     }
@@ -71,5 +77,17 @@ fetch-requires-clause-runs c =
     let new = c.advance.new.self in
     record {
       of = c.advance.ensures.of;
+      latest = subst (λ n. n ≤ length c.args.world.now.journal) (sym c.advance.ensures.latest) c.requires.latest;
       started = started-gone P old.limit new.limit (λ v. rest_of P v old) (λ v. rest_of P v new) old.used new.used c.args.world.now.journal c.args.running.now.thread old.places.items new.places.items c.requires.started (λ v are. c.advance.ensures.goes v) c.advance.ensures.places c.advance.ensures.limit;
     }
+
+pub returns-in_ok-look-in-Refresh-clause-runs : goal.returns-in_ok-look-in-Refresh-clause-runs
+returns-in_ok-look-in-Refresh-clause-runs c =
+    let goes = c.in_ok-look-in-Refresh.ensures.runs in
+    record { of = goes.of; latest = goes.latest; started = Runs goes.runs }
+
+pub returns-in_ok-serve-in-Ask-clause-runs : goal.returns-in_ok-serve-in-Ask-clause-runs
+returns-in_ok-serve-in-Ask-clause-runs c = c.in_ok-serve-in-Ask.ensures.runs
+
+pub returns-in_ok-fetch-in-Fetch-clause-runs : goal.returns-in_ok-fetch-in-Fetch-clause-runs
+returns-in_ok-fetch-in-Fetch-clause-runs c = c.in_ok-fetch-in-Fetch.ensures.runs

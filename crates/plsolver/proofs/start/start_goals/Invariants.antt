@@ -6,7 +6,7 @@ abbrev pub invariant-loop-i : goal.invariant-loop-i
 invariant-loop-i l = record {
   few : l.i ≤ length l.goals;
   starts : Starts l.stack l.list (drop l.i l.goals);
-  code : l.stack.code ≡ l.fn.stack.code;
+  basis : l.stack.basis ≡ l.fn.stack.basis;
 }
 
 abbrev pub decreases-loop-i : goal.decreases-loop-i

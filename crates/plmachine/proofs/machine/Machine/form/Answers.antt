@@ -4,6 +4,7 @@ use Rattle.plterm.specs.Tree.{Tree}
 use Rattle.platoms.specs.Names.{IsTable}
 use Rattle.plcells.specs.Store.{value}
 use Rattle.plgoals.specs.Callables.{called, IsCallable}
+use Rattle.plstack.specs.declared.basis.Basis.{Basis}
 use Rattle.plmachine.specs.Machine.{IsBegun}
 use Rattle.plmachine.specs.Selected.{StandsFor}
 use Rattle.plmachine.specs.declared.machine.Mode.TheVariants as modes
@@ -16,7 +17,7 @@ returns-clause-ok c t stands =
     let s = c.args.self.now in
     let mid = c.number.new.self in
     let number = c.in_ok-number.ensures in
-    let begun : IsBegun c.args.program.now mid = subst (λ m. IsBegun c.args.program.now (record mid { stack = record mid.stack { code = m } })) (sym number.grown.extends.code) c.requires.begun in
+    let begun : IsBegun c.args.program.now mid = subst (λ (b : Basis). IsBegun c.args.program.now (record mid { stack = record mid.stack { basis = b } })) (sym number.grown.extends.basis) c.requires.begun in
     let visits : ◌≡◌ {A = Mode} mid.mode modes.Visit = ap (λ x. x.mode) number.frame ∙ c.requires.visits in
     let h = mid.stack.env.heap in
     let heap = c.heap-heap.ensures.is ∙ ap (λ e. e.heap) c.env.ensures in

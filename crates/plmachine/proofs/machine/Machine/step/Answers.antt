@@ -13,7 +13,7 @@ returns-in-Or-clause-ok c es at =
     let s = c.args.self.now in
     let P = c.args.program.now in
     let r = c.args.run in
-    let e = subst (λ o. IsFor s.stack.code.text r.position o c.args.step.goal at.goal) c.in-Or.is at.is in
+    let e = subst (λ o. IsFor s.stack.basis.code.text r.position o c.args.step.goal at.goal) c.in-Or.is at.is in
     on_ok_map c.either.result (moved-as P s c.either.new.self _ _
     (either-move P s.stack r (depth_of s) (goals_of s.stack c.args.rest) s.stack.env.count (local_of s) at.goal at.is_converted e.left e.right _ _ e.form_is
     (ap (elements_of s.stack) c.branch-left.ensures ∙ branch-is s.stack r at.width at.own at.slots c.in-Or.left e.left e.left_begins.goals)
@@ -25,7 +25,7 @@ returns-in-IfThen-clause-ok c es at =
     let P = c.args.program.now in
     let r = c.args.run in
     let d = depth_of s in
-    let e = subst (λ o. IsFor s.stack.code.text r.position o c.args.step.goal at.goal) c.in-IfThen.is at.is in
+    let e = subst (λ o. IsFor s.stack.basis.code.text r.position o c.args.step.goal at.goal) c.in-IfThen.is at.is in
     on_ok_map c.then.result (moved-as P s c.then.new.self _ _
     (then-move P s.stack r d (goals_of s.stack c.args.rest) s.stack.env.count (local_of s) at.goal at.is_converted e.condition e.success _ _ e.form_is
     (ap (λ x. elements_of s.stack (at_level (suc d) x)) c.branch-condition.ensures ∙ branch-level s.stack r at.width at.own at.slots c.in-IfThen.condition e.condition e.condition_begins.goals (suc d))
@@ -37,7 +37,7 @@ returns-in-IfThenElse-clause-ok c es at =
     let P = c.args.program.now in
     let r = c.args.run in
     let d = depth_of s in
-    let e = subst (λ o. IsFor s.stack.code.text r.position o c.args.step.goal at.goal) c.in-IfThenElse.is at.is in
+    let e = subst (λ o. IsFor s.stack.basis.code.text r.position o c.args.step.goal at.goal) c.in-IfThenElse.is at.is in
     on_ok_map c.then_else.result (moved-as P s c.then_else.new.self _ _
     (then-else-move P s.stack r d (goals_of s.stack c.args.rest) s.stack.env.count (local_of s) at.goal at.is_converted e.condition e.success e.failure _ _ _ e.form_is
     (ap (λ x. elements_of s.stack (at_level (suc d) x)) c.branch-condition-in-IfThenElse.ensures ∙ branch-level s.stack r at.width at.own at.slots c.in-IfThenElse.condition e.condition e.condition_begins.goals (suc d))
@@ -48,7 +48,7 @@ pub solve-requires : goal.solve-requires
 solve-requires c =
     let s = c.args.self.now.stack in
     let at = c.requires.at.1 in
-    let node = plain-node s.code.text c.args.run.position c.args.step.op c.args.step.goal at.goal at.is c.in-Goal.is in
+    let node = plain-node s.basis.code.text c.args.run.position c.args.step.op c.args.step.goal at.goal at.is c.in-Goal.is in
     record {
       begun = c.requires.begun;
       visits = c.requires.visits;
@@ -57,4 +57,4 @@ solve-requires c =
     }
 
 pub unreachable-requires : goal.unreachable-requires
-unreachable-requires c = subst (λ o. IsFor c.args.self.now.stack.code.text c.args.run.position o c.args.step.goal c.requires.at.1.goal) c.in-Proceed.is c.requires.at.1.is
+unreachable-requires c = subst (λ o. IsFor c.args.self.now.stack.basis.code.text c.args.run.position o c.args.step.goal c.requires.at.1.goal) c.in-Proceed.is c.requires.at.1.is

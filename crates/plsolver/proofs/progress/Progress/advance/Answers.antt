@@ -49,4 +49,5 @@ loop-selected-preserved c =
       within = omega (arith, step.used, more, c.settle.ensures.limit, i.limit);
       limit = step.limit ∙ c.settle.ensures.limit ∙ i.limit;
       places = step.places ∙ c.settle.ensures.places ∙ i.places;
+      basis = c.step.ensures.basis ∙ c.settle.ensures.basis ∙ i.basis;
     }

@@ -10,6 +10,7 @@ invariant-loop-selected l = record {
   within : l.self.used ≤ l.fn.self.limit;
   limit : l.self.limit ≡ l.fn.self.limit;
   places : l.self.places.items ≡ l.fn.self.places.items;
+  basis : l.self.machine.stack.basis ≡ l.fn.self.machine.stack.basis;
 }
 
 abbrev pub decreases-loop-selected : goal.decreases-loop-selected

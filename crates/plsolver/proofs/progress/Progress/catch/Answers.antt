@@ -16,7 +16,7 @@ returns-in_err-v-clause-err c =
     let s = c.args.self.now in
     let P = c.args.program.now in
     let at : s.machine.mode ≡ modes.Back (outcomes.Throw c.in-Throw.ball c.in-Throw.field-1) = c.in-Back.is ∙ ap modes.Back c.in-Throw.is in
-    on_err _ (stays-back P s c.put_copy.new.self _ at (c.put_copy.ensures.stays.code ∙ c.rewind-handler.ensures.code) (λ v. c.put_copy.ensures.stays.cases (database_of P v) ∙ c.rewind-handler.ensures.cases (database_of P v)))
+    on_err _ (stays-back P s c.put_copy.new.self _ at (c.put_copy.ensures.stays.basis ∙ c.rewind-handler.ensures.basis) (λ v. c.put_copy.ensures.stays.cases (database_of P v) ∙ c.rewind-handler.ensures.cases (database_of P v)))
 
 pub returns-in_err-unify-clause-err : goal.returns-in_err-unify-clause-err
 returns-in_err-unify-clause-err c =
@@ -24,7 +24,7 @@ returns-in_err-unify-clause-err c =
     let P = c.args.program.now in
     let at : s.machine.mode ≡ modes.Back (outcomes.Throw c.in-Throw.ball c.in-Throw.field-1) = c.in-Back.is ∙ ap modes.Back c.in-Throw.is in
     let same : c.unify.new.self ≡ c.put_copy.new.self = c.in_err-unify.ensures.err in
-    on_err _ (stays-back P s c.unify.new.self _ at (ap (λ x. x.code) same ∙ c.put_copy.ensures.stays.code ∙ c.rewind-handler.ensures.code) (λ v. ap (cases_of (database_of P v)) same ∙ c.put_copy.ensures.stays.cases (database_of P v) ∙ c.rewind-handler.ensures.cases (database_of P v)))
+    on_err _ (stays-back P s c.unify.new.self _ at (ap (λ x. x.basis) same ∙ c.put_copy.ensures.stays.basis ∙ c.rewind-handler.ensures.basis) (λ v. ap (cases_of (database_of P v)) same ∙ c.put_copy.ensures.stays.cases (database_of P v) ∙ c.rewind-handler.ensures.cases (database_of P v)))
 
 pub returns-in_err-recover-clause-err : goal.returns-in_err-recover-clause-err
 returns-in_err-recover-clause-err c =
@@ -32,7 +32,7 @@ returns-in_err-recover-clause-err c =
     let P = c.args.program.now in
     let at : s.machine.mode ≡ modes.Back (outcomes.Throw c.in-Throw.ball c.in-Throw.field-1) = c.in-Back.is ∙ ap modes.Back c.in-Throw.is in
     let u = c.in_ok-unify.ensures.yes c.if-branch.true in
-    let stay = stays-back P s c.unify.new.self _ at (u.code ∙ c.put_copy.ensures.stays.code ∙ c.rewind-handler.ensures.code) (λ v. u.cases (database_of P v) ∙ c.put_copy.ensures.stays.cases (database_of P v) ∙ c.rewind-handler.ensures.cases (database_of P v)) in
+    let stay = stays-back P s c.unify.new.self _ at (u.basis ∙ c.put_copy.ensures.stays.basis ∙ c.rewind-handler.ensures.basis) (λ v. u.cases (database_of P v) ∙ c.put_copy.ensures.stays.cases (database_of P v) ∙ c.rewind-handler.ensures.cases (database_of P v)) in
     on_err _ (stays-after P s (at_stack s c.unify.new.self) c.recover.new.self stay c.in_err-recover.ensures.err)
 
 pub returns-in_ok-recover-clause-ok : goal.returns-in_ok-recover-clause-ok
@@ -41,7 +41,7 @@ returns-in_ok-recover-clause-ok c =
     let P = c.args.program.now in
     let at : s.machine.mode ≡ modes.Back (outcomes.Throw c.in-Throw.ball c.in-Throw.field-1) = c.in-Back.is ∙ ap modes.Back c.in-Throw.is in
     let active : has (depth_of s.machine - 1) c.in-Throw.field-1.items ≡ true = subst (λ m. throws_to (depth_of s.machine - 1) m ≡ true) at c.requires.throws in
-    λ v. catches-it P v s _ c.in-Throw.ball c.in-Throw.field-1.items at refl c.rewind-handler.new.self c.rewind-handler.result c.rewind-handler.ensures.code c.rewind-handler.ensures.cases c.in-Catch.catcher (subst (λ x. AtHandler c.rewind-handler.new.self x c.rewind-handler.result.list) c.in-Catch.is c.rewind-handler.ensures.at) active
+    λ v. catches-it P v s _ c.in-Throw.ball c.in-Throw.field-1.items at refl c.rewind-handler.new.self c.rewind-handler.result c.rewind-handler.ensures.basis c.rewind-handler.ensures.cases c.in-Catch.catcher (subst (λ x. AtHandler c.rewind-handler.new.self x c.rewind-handler.result.list) c.in-Catch.is c.rewind-handler.ensures.at) active
     c.put_copy.new.self c.put_copy.ensures.stays c.in_ok-v.v c.in_ok-v.ensures.is c.in_ok-v.ensures.count c.unify.new.self (c.in_ok-unify.ensures.yes c.if-branch.true) c.recover.new.self c.in_ok-recover.ensures.ok
 
 pub returns-else-branch-clause-ok : goal.returns-else-branch-clause-ok
@@ -51,6 +51,6 @@ returns-else-branch-clause-ok c =
     let at : s.machine.mode ≡ modes.Back (outcomes.Throw c.in-Throw.ball c.in-Throw.field-1) = c.in-Back.is ∙ ap modes.Back c.in-Throw.is in
     let active : has (depth_of s.machine - 1) c.in-Throw.field-1.items ≡ true = subst (λ m. throws_to (depth_of s.machine - 1) m ≡ true) at c.requires.throws in
     let no = c.in_ok-unify.ensures.no c.if-branch.false in
-    λ v. catches-other P v s _ c.in-Throw.ball c.in-Throw.field-1.items at refl c.rewind-handler.new.self c.rewind-handler.result c.rewind-handler.ensures.code c.rewind-handler.ensures.cases c.in-Catch.catcher (subst (λ x. AtHandler c.rewind-handler.new.self x c.rewind-handler.result.list) c.in-Catch.is c.rewind-handler.ensures.at) active
-    c.put_copy.new.self c.put_copy.ensures.stays c.in_ok-v.v c.in_ok-v.ensures.is c.close.new.self (c.close.ensures.code ∙ ap (λ x. x.code) no.1) no.0
+    λ v. catches-other P v s _ c.in-Throw.ball c.in-Throw.field-1.items at refl c.rewind-handler.new.self c.rewind-handler.result c.rewind-handler.ensures.basis c.rewind-handler.ensures.cases c.in-Catch.catcher (subst (λ x. AtHandler c.rewind-handler.new.self x c.rewind-handler.result.list) c.in-Catch.is c.rewind-handler.ensures.at) active
+    c.put_copy.new.self c.put_copy.ensures.stays c.in_ok-v.v c.in_ok-v.ensures.is c.close.new.self (c.close.ensures.basis ∙ ap (λ x. x.basis) no.1) no.0
     (λ h below was. closed-below (database_of P v) c.unify.new.self c.close.new.self h below c.close.result c.close.ensures.some c.close.ensures.none (ap (cases_of (database_of P v)) no.1 ∙ was))

@@ -15,13 +15,13 @@ returns-in_default-clause-due c = rw c.in_default.ensures.same (over-now c.args.
 pub returns-in-Mark-clause-on : goal.returns-in-Mark-clause-on
 returns-in-Mark-clause-on c = λ v.
     let closed = (rw c.in-Mark.is at c.in-Some.ensures.some) (database_of c.args.program.now v) in
-    quiet-mark c.args.program.now v c.args.self.now c.pass_mark.new.self c.close.new.self c.in-Mark.level c.requires.back c.close.ensures.code closed c.pass_mark.ensures
+    quiet-mark c.args.program.now v c.args.self.now c.pass_mark.new.self c.close.new.self c.in-Mark.level c.requires.back c.close.ensures.basis closed c.pass_mark.ensures
 
 pub returns-in-Choice-clause-on : goal.returns-in-Choice-clause-on
 returns-in-Choice-clause-on c = λ v.
     let P = c.args.program.now in
     let closed = (rw c.in-Choice.is at c.in-Some.ensures.some) (database_of P v) in
-    quiet-choice P v c.args.self.now c.stop_cut.new.self c.close.new.self closed.0 c.requires.back c.close.ensures.code closed.1
+    quiet-choice P v c.args.self.now c.stop_cut.new.self c.close.new.self closed.0 c.requires.back c.close.ensures.basis closed.1
     (λ f. closed.2 (λ has. c.requires.tried f (inr (inl has))) (λ has. c.requires.walked f has) (λ has. c.requires.tried f (inl has)) (λ has. c.requires.tried f (inr (inr has))))
     (c.stop_cut.ensures (database_of P v))
 
@@ -31,6 +31,6 @@ returns-in-Handler-clause-on c = λ v.
     let P = c.args.program.now in
     let closed = (rw c.in-Handler.is at c.in-Some.ensures.some) (database_of P v) in
     let deep : depth_of s.machine - 1 ≡ deeper (cases_of (database_of P v) c.close.new.self) 0 = omega (arith, depth-in (database_of P v) s.machine.stack, ap (λ cs. deeper cs 0) closed.2) in
-    quiet-handler P v s c.close.new.self closed.0 closed.1 c.requires.back c.close.ensures.code closed.2
+    quiet-handler P v s c.close.new.self closed.0 closed.1 c.requires.back c.close.ensures.basis closed.2
     (λ k x is yes. closed.3 k x is (λ has. c.requires.caught has (ap (λ d. throws_to d s.machine.mode) deep ∙ yes)))
     (λ l is fails. closed.4 l is (λ has. c.requires.gathered has fails))

@@ -9,25 +9,25 @@ use Rattle.plsolver.proofs.Trying.{AtText, drop-at, if_none_map, if_some_map, re
 use Rattle.plsolver.proofs.progress.Progress.first_of_text.Goals as goal
 
 pub clauses-init : goal.clauses-init
-clauses-init c = record { at = c.requires.at; text = c.requires.text; uses = refl; goal = refl; cases = λ P v whole. refl; code = refl; frame = refl }
+clauses-init c = record { at = c.requires.at; text = c.requires.text; uses = refl; goal = refl; cases = λ P v whole. refl; basis = refl; frame = refl }
 
 pub returns-in_err-next-clause-err : goal.returns-in_err-next-clause-err
 returns-in_err-next-clause-err c = on_err c.from_residual.result c.clauses.invariant.cases
 
-pub returns-in_err-next-clause-code : goal.returns-in_err-next-clause-code
-returns-in_err-next-clause-code c = c.clauses.invariant.code
+pub returns-in_err-next-clause-basis : goal.returns-in_err-next-clause-basis
+returns-in_err-next-clause-basis c = c.clauses.invariant.basis
 
 pub returns-in_err-next-clause-frame : goal.returns-in_err-next-clause-frame
 returns-in_err-next-clause-frame c = c.clauses.invariant.frame
 
 pub try_walk-requires : goal.try_walk-requires
-try_walk-requires c = record { at = c.clauses.invariant.at }
+try_walk-requires c = record { at = c.clauses.invariant.at; seen = tt }
 
 pub returns-in_err-entered-clause-err : goal.returns-in_err-entered-clause-err
 returns-in_err-entered-clause-err c = on_err c.from_residual-in_err-entered.result (λ P v whole. c.in_err-entered.ensures.err (database_of P v) ∙ c.clauses.invariant.cases P v whole)
 
-pub returns-in_err-entered-clause-code : goal.returns-in_err-entered-clause-code
-returns-in_err-entered-clause-code c = c.try_walk.ensures.code ∙ c.clauses.invariant.code
+pub returns-in_err-entered-clause-basis : goal.returns-in_err-entered-clause-basis
+returns-in_err-entered-clause-basis c = c.try_walk.ensures.basis ∙ c.clauses.invariant.basis
 
 pub returns-in_err-entered-clause-frame : goal.returns-in_err-entered-clause-frame
 returns-in_err-entered-clause-frame c = ap (λ (x : Progress). record x { machine = record x.machine { stack = c.try_walk.new.self } }) c.clauses.invariant.frame
@@ -44,8 +44,8 @@ returns-in-Some-clause-some c = λ P v whole.
     (text-next P v w (value s.env.heap w.goal) k c.args.clauses.now c.index-clauses-number.result c.in_ok-next.next i.text all
     (drop-at c.args.clauses.now k _ (omega (arith, c.clauses-test.true)) ∙ ap (λ x. x ∷ drop (suc k) c.args.clauses.now) (sym c.index-clauses-number.is)) c.in_ok-next.ensures))
 
-pub returns-in-Some-clause-code : goal.returns-in-Some-clause-code
-returns-in-Some-clause-code c = c.try_walk.ensures.code ∙ c.clauses.invariant.code
+pub returns-in-Some-clause-basis : goal.returns-in-Some-clause-basis
+returns-in-Some-clause-basis c = c.try_walk.ensures.basis ∙ c.clauses.invariant.basis
 
 pub returns-in-Some-clause-frame : goal.returns-in-Some-clause-frame
 returns-in-Some-clause-frame c = ap (λ (x : Progress). record x { machine = record x.machine { stack = c.try_walk.new.self } }) c.clauses.invariant.frame
@@ -71,7 +71,7 @@ clauses-preserved c =
           (text-next P v w (value s.env.heap w.goal) k c.args.clauses.now c.index-clauses-number.result c.in_ok-next.next i.text all
           (drop-at c.args.clauses.now k _ (omega (arith, c.clauses-test.true)) ∙ ap (λ x. x ∷ drop (suc k) c.args.clauses.now) (sym c.index-clauses-number.is)) c.in_ok-next.ensures)
           ∙ i.cases P v whole;
-      code = c.try_walk.ensures.code ∙ i.code;
+      basis = c.try_walk.ensures.basis ∙ i.basis;
       frame = ap (λ (x : Progress). record x { machine = record x.machine { stack = c.try_walk.new.self } }) i.frame;
     })
 
@@ -100,8 +100,8 @@ returns-clause-none c =
 pub returns-clause-err : goal.returns-clause-err
 returns-clause-err c = on_err_map c.last_of_text.result (λ f P v whole. f P v ∙ c.clauses.invariant.cases P v whole) c.last_of_text.ensures.err
 
-pub returns-clause-code : goal.returns-clause-code
-returns-clause-code c = c.last_of_text.ensures.code ∙ c.clauses.invariant.code
+pub returns-clause-basis : goal.returns-clause-basis
+returns-clause-basis c = c.last_of_text.ensures.basis ∙ c.clauses.invariant.basis
 
 pub returns-clause-frame : goal.returns-clause-frame
 returns-clause-frame c =

@@ -13,7 +13,7 @@ returns-in-Some-clause-ok c =
     let P = c.args.program.now in
     let s = c.args.self.now.machine in
     let x = c.args.sought in
-    let may = subst (MayAsk s.stack.env.heap) c.requires.finds c.requires.of.askable in
+    let may = subst (MayAsk s.stack) c.requires.finds c.requires.of.askable in
     on_ok_map c.walk.result
     (λ w v ordered is. record {
       used = refl;
@@ -27,7 +27,7 @@ pub returns-in-None-clause-ok : goal.returns-in-None-clause-ok
 returns-in-None-clause-ok c = λ v ordered is.
     let P = c.args.program.now in
     let s = c.args.self.now.machine in
-    let may = subst (MayAsk s.stack.env.heap) c.requires.finds c.requires.of.askable in
+    let may = subst (MayAsk s.stack) c.requires.finds c.requires.of.askable in
     record {
       used = refl;
       limit = refl;

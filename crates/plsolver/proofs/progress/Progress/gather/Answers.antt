@@ -17,7 +17,7 @@ returns-in_err-fits-clause-err c =
     let P = c.args.program.now in
     let e = c.in_err-fits.ensures.err in
     on_err _ (subst (λ m. Stays P s (record s { machine = m })) (sym c.gather.ensures.frame)
-    (stays-back P s c.gather.new.self.stack outcomes.Fail c.requires.fails (e.code ∙ c.rewind-handler.ensures.code) (λ v. e.cases (database_of P v) ∙ c.rewind-handler.ensures.cases (database_of P v))))
+    (stays-back P s c.gather.new.self.stack outcomes.Fail c.requires.fails (e.basis ∙ c.rewind-handler.ensures.basis) (λ v. e.cases (database_of P v) ∙ c.rewind-handler.ensures.cases (database_of P v))))
 
 pub returns-then-not-fits-clause-ok : goal.returns-then-not-fits-clause-ok
 returns-then-not-fits-clause-ok c =
@@ -26,9 +26,9 @@ returns-then-not-fits-clause-ok c =
     let put = c.gather.new.self.stack in
     let here = subst (λ x. AtHandler c.rewind-handler.new.self x c.rewind-handler.result.list) c.in-Gather.is c.rewind-handler.ensures.at in
     λ v. subst (λ m. QuietIn P v s (record s { machine = record m { stack = c.close.new.self; kept = c.drop_from.new.self } })) (sym c.gather.ensures.frame)
-    (gathers-other P v s c.requires.fails c.rewind-handler.new.self c.rewind-handler.result.list c.in-Gather.whole c.rewind-handler.ensures.code c.rewind-handler.ensures.cases here c.level-level.result c.level-level.ensures
+    (gathers-other P v s c.requires.fails c.rewind-handler.new.self c.rewind-handler.result.list c.in-Gather.whole c.rewind-handler.ensures.basis c.rewind-handler.ensures.cases here c.level-level.result c.level-level.ensures
     put c.close.new.self c.drop_from.new.self (c.in_ok-fits.ensures.same c.if-not-fits.true) (c.in_ok-fits.ensures.no c.if-not-fits.true)
-    (λ h below was. closed-below (database_of P v) put c.close.new.self h below c.close.result c.close.ensures.some c.close.ensures.none was) c.close.ensures.code
+    (λ h below was. closed-below (database_of P v) put c.close.new.self h below c.close.result c.close.ensures.some c.close.ensures.none was) c.close.ensures.basis
     (c.drop_from.ensures ∙ ap (λ m. kept_below c.level-level.result m.kept) c.gather.ensures.frame))
 
 pub returns-clause-ok : goal.returns-clause-ok
@@ -37,6 +37,6 @@ returns-clause-ok c =
     let P = c.args.program.now in
     let here = subst (λ x. AtHandler c.rewind-handler.new.self x c.rewind-handler.result.list) c.in-Gather.is c.rewind-handler.ensures.at in
     λ v. subst (λ m. QuietIn P v s (record s { machine = record m { stack = c.leave.new.self; mode = modes.Visit; kept = c.drop_from.new.self } })) (sym c.gather.ensures.frame)
-    (gathers-it P v s c.requires.fails c.rewind-handler.new.self c.rewind-handler.result.list c.in-Gather.whole c.rewind-handler.ensures.code c.rewind-handler.ensures.cases here c.level-level.result c.level-level.ensures
-    c.gather.new.self.stack (c.in_ok-fits.ensures.yes c.if-not-fits.false) c.leave.new.self c.drop_from.new.self c.leave.ensures.leaves c.leave.ensures.code
+    (gathers-it P v s c.requires.fails c.rewind-handler.new.self c.rewind-handler.result.list c.in-Gather.whole c.rewind-handler.ensures.basis c.rewind-handler.ensures.cases here c.level-level.result c.level-level.ensures
+    c.gather.new.self.stack (c.in_ok-fits.ensures.yes c.if-not-fits.false) c.leave.new.self c.drop_from.new.self c.leave.ensures.leaves c.leave.ensures.basis
     (c.drop_from.ensures ∙ ap (λ m. kept_below c.level-level.result m.kept) c.gather.ensures.frame))

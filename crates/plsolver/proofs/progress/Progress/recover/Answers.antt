@@ -44,4 +44,4 @@ returns-in_ok-made-in-Runs-clause-ok c =
     let runs : runnable (value s.machine.stack.env.heap c.args.recovery) ≡ Runs (value t.stack.env.heap c.in-Runs.goal) = rw c.in-Runs.is at c.in_ok-error.ensures.ok.is in
     subst (λ m. Recovered P s (record s { machine = record m { stack = c.recover.new.self; mode = modes.Visit; kept = c.drop_from.new.self } }) c.args.recovery c.args.list) (sym c.ready.ensures.frame)
     (recovered-runs P s t.stack c.link.new.self c.recover.new.self c.args.recovery c.args.list c.in-Runs.goal c.level-level.result c.in_ok-made-in-Runs.made c.ready.ensures.grown c.requires.list runs c.level-level.ensures
-    adds.stays adds.env adds.is c.recover.ensures.recovers c.recover.ensures.code c.drop_from.new.self (c.drop_from.ensures ∙ ap (λ m. kept_below c.level-level.result m.kept) c.ready.ensures.frame))
+    adds.stays adds.env adds.is c.recover.ensures.recovers c.recover.ensures.basis c.drop_from.new.self (c.drop_from.ensures ∙ ap (λ m. kept_below c.level-level.result m.kept) c.ready.ensures.frame))

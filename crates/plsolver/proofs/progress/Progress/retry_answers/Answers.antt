@@ -6,14 +6,14 @@ use Rattle.plsolver.proofs.progress.Progress.retry_answers.Goals as goal
 pub returns-in_err-retry_answers-clause-err : goal.returns-in_err-retry_answers-clause-err
 returns-in_err-retry_answers-clause-err c =
     let P = c.args.program.now in
-    on_err _ (stays-back P c.args.self.now c.retry_answers.new.self _ c.requires.fails c.retry_answers.ensures.code (λ v. c.in_err-retry_answers.ensures.err (database_of P v)))
+    on_err _ (stays-back P c.args.self.now c.retry_answers.new.self _ c.requires.fails c.retry_answers.ensures.basis (λ v. c.in_err-retry_answers.ensures.err (database_of P v)))
 
 pub returns-then-branch-clause-ok : goal.returns-then-branch-clause-ok
 returns-then-branch-clause-ok c =
     let P = c.args.program.now in
-    λ v. quiet-retry P v c.args.self.now c.retry_answers.new.self c.requires.fails c.retry_answers.ensures.code (c.in_ok-retry_answers.ensures.yes c.if-branch.true (database_of P v))
+    λ v. quiet-retry P v c.args.self.now c.retry_answers.new.self c.requires.fails c.retry_answers.ensures.basis (c.in_ok-retry_answers.ensures.yes c.if-branch.true (database_of P v))
 
 pub returns-else-branch-clause-ok : goal.returns-else-branch-clause-ok
 returns-else-branch-clause-ok c =
     let P = c.args.program.now in
-    λ v. quiet-close P v c.args.self.now c.retry_answers.new.self c.requires.fails c.retry_answers.ensures.code (c.in_ok-retry_answers.ensures.no c.if-branch.false (database_of P v))
+    λ v. quiet-close P v c.args.self.now c.retry_answers.new.self c.requires.fails c.retry_answers.ensures.basis (c.in_ok-retry_answers.ensures.no c.if-branch.false (database_of P v))

@@ -21,7 +21,7 @@ returns-in_err-entered-clause-err c =
     let head = rw (c.heap-heap.ensures.is, c.env.ensures) at c.head_of-head.ensures.is in
     let whole = c.clauses_of-clauses.ensures ∙ ap (clauses_for P) (named ∙ ap indicator head) in
     on_err c.from_residual-in_err-entered.result (subst (Stays P s) (sym c.first_of_text.ensures.frame)
-    (stays-back P s c.first_of_text.new.self.machine.stack outcomes.Fail c.requires.fails c.first_of_text.ensures.code (λ v. c.in_err-entered.ensures.err P v whole)))
+    (stays-back P s c.first_of_text.new.self.machine.stack outcomes.Fail c.requires.fails c.first_of_text.ensures.basis (λ v. c.in_err-entered.ensures.err P v whole)))
 
 pub returns-in_default-clause-ok : goal.returns-in_default-clause-ok
 returns-in_default-clause-ok c = λ v.
@@ -34,7 +34,7 @@ returns-in_default-clause-ok c = λ v.
     let none = (rw c.in_default.is at c.in_ok-entered.ensures.none) P v whole in
     let below = closed-below (database_of P v) st c.close.new.self (Choice []) none.0 c.close.result c.close.ensures.some c.close.ensures.none none.2 in
     subst (λ (x : Progress). QuietIn P v s (record x { machine = record x.machine { stack = c.close.new.self } })) (sym c.first_of_text.ensures.frame)
-    (quiet-close P v s c.close.new.self c.requires.fails (c.close.ensures.code ∙ c.first_of_text.ensures.code) (none.1 ∙ ap (λ cs. Choice [] ∷ cs) (sym below)))
+    (quiet-close P v s c.close.new.self c.requires.fails (c.close.ensures.basis ∙ c.first_of_text.ensures.basis) (none.1 ∙ ap (λ cs. Choice [] ∷ cs) (sym below)))
 
 pub returns-clause-ok : goal.returns-clause-ok
 returns-clause-ok c = λ v.
@@ -47,4 +47,4 @@ returns-clause-ok c = λ v.
     let retries = (rw c.in-Some.is at c.in_ok-entered.ensures.some) P v whole in
     subst (λ (m : Mode). QuietIn P v s (record c.first_of_text.new.self { machine = record c.first_of_text.new.self.machine { mode = m } })) (sym c.mode_of.ensures)
     (subst (λ (x : Progress). QuietIn P v s (record x { machine = record x.machine { mode = mode_by e.erased } })) (sym c.first_of_text.ensures.frame)
-    (quiet-retry-by P v s c.first_of_text.new.self.machine.stack e.erased c.requires.fails c.first_of_text.ensures.code retries))
+    (quiet-retry-by P v s c.first_of_text.new.self.machine.stack e.erased c.requires.fails c.first_of_text.ensures.basis retries))

@@ -4,7 +4,7 @@ use Rattle.plstack.specs.State.{goals_of}
 use Rattle.plmachine.specs.Selected.{bound_at}
 use Rattle.plmachine.proofs.Moves.{on_ok_map}
 use Rattle.plsolver.specs.Solver.{IsSelected}
-use Rattle.plsolver.proofs.Runs.{either_of}
+use Rattle.plsolver.proofs.Runs.{either_basis, either_of}
 use Rattle.plsolver.proofs.Runs.{selects-both, selects-row}
 use Rattle.plsolver.proofs.progress.Progress.select.Goals as goal
 
@@ -48,3 +48,9 @@ returns-in-Step-clause-of c =
     let s = c.args.self.now in
     let first = subst (IsSelected s.machine) c.in-Step.is c.requires.goal in
     either_of c.args.program.now s.machine c.step.new.self _ c.step.result c.requires.of (c.step.ensures.ok _ first.1) c.step.ensures.err
+
+pub returns-in-Step-clause-basis : goal.returns-in-Step-clause-basis
+returns-in-Step-clause-basis c =
+    let s = c.args.self.now in
+    let first = subst (IsSelected s.machine) c.in-Step.is c.requires.goal in
+    either_basis c.args.program.now s.machine c.step.new.self _ c.step.result (c.step.ensures.ok _ first.1) c.step.ensures.err

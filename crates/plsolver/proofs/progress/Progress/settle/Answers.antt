@@ -23,6 +23,7 @@ loop-due-preserved c =
       used = (q no_views).used ∙ c.loop-due.invariant.used;
       limit = (q no_views).limit ∙ c.loop-due.invariant.limit;
       places = (q no_views).places ∙ c.loop-due.invariant.places;
+      basis = (q no_views).basis ∙ c.loop-due.invariant.basis;
     }
 
 pub returns-in-Some-clause-goes : goal.returns-in-Some-clause-goes

@@ -10,6 +10,7 @@ invariant-loop-due l = record {
   used : l.self.used ≡ l.fn.self.used;
   limit : l.self.limit ≡ l.fn.self.limit;
   places : l.self.places.items ≡ l.fn.self.places.items;
+  basis : l.self.machine.stack.basis ≡ l.fn.self.machine.stack.basis;
 }
 
 abbrev pub decreases-loop-due : goal.decreases-loop-due

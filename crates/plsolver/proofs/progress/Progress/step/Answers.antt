@@ -1,4 +1,4 @@
-use Rattle.std.proofs.Common.{◌+◌, ap}
+use Rattle.std.proofs.Common.{◌+◌, ◌∙◌, ap}
 use Rattle.plsolver.specs.declared.progress.Progress.{Progress}
 use Rattle.plsolver.specs.Solver.{Stepped}
 use Rattle.plsolver.proofs.Runs.{selected-goal, steps, steps_on, stays_of}
@@ -16,3 +16,6 @@ returns-clause-ok c =
 
 pub returns-clause-of : goal.returns-clause-of
 returns-clause-of c = stays_of c.args.program.now (record c.select.new.self { used = c.select.new.self.used + 1 }) c.give_back.new.self c.select.ensures.of (c.give_back.ensures c.args.program.now)
+
+pub returns-clause-basis : goal.returns-clause-basis
+returns-clause-basis c = (c.give_back.ensures c.args.program.now).there.basis ∙ c.select.ensures.basis

@@ -1,5 +1,5 @@
-use Rattle.std.proofs.Common.{◌≡◌, ap, ap₂, sym, subst, ◌∙◌}
-use Rattle.plcells.specs.Store.{IsValue, value}
+use Rattle.std.proofs.Common.{◌≡◌, ap, ap₂, arith, sym, subst, ◌∙◌}
+use Rattle.plcells.specs.Store.{value}
 use Rattle.plsearch.specs.Machines.Machine.{Rest}
 use Rattle.plsearch.specs.Search.{ending_of}
 use Rattle.plmachine.specs.declared.machine.Mode.{Mode}
@@ -16,6 +16,12 @@ use Rattle.plsolver.proofs.progress.Progress.swept.Goals as goal
 
 pub returns-in_err-has-clause-of : goal.returns-in_err-has-clause-of
 returns-in_err-has-clause-of c = stays_of c.args.program.now c.args.self.now c.has_head.new.self c.requires.of (c.has_head.ensures.stays c.args.program.now)
+
+pub returns-in_err-has-clause-basis : goal.returns-in_err-has-clause-basis
+returns-in_err-has-clause-basis c = (c.has_head.ensures.stays c.args.program.now).there.basis
+
+pub returns-clause-basis : goal.returns-clause-basis
+returns-clause-basis c = (c.has_head.ensures.stays c.args.program.now).there.basis
 
 pub returns-in_err-has-clause-err : goal.returns-in_err-has-clause-err
 returns-in_err-has-clause-err c = on_err c.from_residual.result (c.has_head.ensures.stays c.args.program.now)
@@ -54,10 +60,10 @@ returns-clause-of c =
     let head = c.requires.sweeps.0 in
     let w = c.requires.sweeps.1 in
     let there : t.mode ≡ modes.Find (finds.Sweep head w) = ap (λ x. x.machine.mode) c.has_head.ensures.frame ∙ c.requires.sweeps.2 in
-    let fits : IsValue t.stack.env.heap head = subst (MayAsk t.stack.env.heap) there of.askable in
+    let asks : MayAsk t.stack (modes.Find (finds.Sweep head w)) = subst (MayAsk t.stack) there of.askable in
     ok_or_err c.swept_mode-mode.result.1 c.swept_mode-mode.ensures.ok c.swept_mode-mode.ensures.err
-    (λ f. record { begun = of.begun; askable = subst (MayAsk t.stack.env.heap) (sym (f head w (c.replace-mode.ensures.value ∙ there)).1) fits })
-    (λ f. record { begun = of.begun; askable = subst (MayAsk t.stack.env.heap) (sym (f head w (c.replace-mode.ensures.value ∙ there)).1) fits })
+    (λ f. let got = f head w (c.replace-mode.ensures.value ∙ there) in record { begun = of.begun; askable = subst (MayAsk t.stack) (sym got.1) (asks.0, omega (arith, asks.1, got.2.0)) })
+    (λ f. let got = f head w (c.replace-mode.ensures.value ∙ there) in record { begun = of.begun; askable = subst (MayAsk t.stack) (sym got.1) (asks.0, omega (arith, asks.1, got.2.0)) })
 
 pub returns-clause-err : goal.returns-clause-err
 returns-clause-err c =

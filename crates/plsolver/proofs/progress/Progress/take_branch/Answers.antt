@@ -3,4 +3,4 @@ use Rattle.plsolver.proofs.Quiets.{quiet-retry}
 use Rattle.plsolver.proofs.progress.Progress.take_branch.Goals as goal
 
 pub returns : goal.returns
-returns c = λ v. quiet-retry c.args.program.now v c.args.self.now c.take_branch.new.self c.requires.fails c.take_branch.ensures.code (c.take_branch.ensures.retries (database_of c.args.program.now v))
+returns c = λ v. quiet-retry c.args.program.now v c.args.self.now c.take_branch.new.self c.requires.fails c.take_branch.ensures.basis (c.take_branch.ensures.retries (database_of c.args.program.now v))

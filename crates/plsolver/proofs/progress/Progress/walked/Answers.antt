@@ -29,7 +29,7 @@ returns-in_default-clause-clause-ok c = λ v g name y at is.
 pub returns-in_err-entered-clause-err : goal.returns-in_err-entered-clause-err
 returns-in_err-entered-clause-err c =
     let P = c.args.program.now in
-    on_err c.from_residual-in_err-entered.result (stays-back P c.args.self.now c.try_walk.new.self outcomes.Fail c.requires.fails c.try_walk.ensures.code (λ v. c.in_err-entered.ensures.err (database_of P v)))
+    on_err c.from_residual-in_err-entered.result (stays-back P c.args.self.now c.try_walk.new.self outcomes.Fail c.requires.fails c.try_walk.ensures.basis (λ v. c.in_err-entered.ensures.err (database_of P v)))
 
 pub returns-in_default-2-clause-ok : goal.returns-in_default-2-clause-ok
 returns-in_default-2-clause-ok c = λ v g name y at is.
@@ -59,7 +59,7 @@ returns-clause-ok c = λ v g name y at is.
       used = refl;
       limit = refl;
       rest = λ most left answers.
-          went-into P v c.args.self.now st c.in-Some-2.entered.erased c.requires.fails c.try_walk.ensures.code
+          went-into P v c.args.self.now st c.in-Some-2.entered.erased c.requires.fails c.try_walk.ensures.basis
           ((rw c.in-Some-2.is at c.in_ok-entered.ensures.some) (database_of P v) (subst (λ o. Finds (database_of P v) w (value s.stack.env.heap w.goal) c.in_ok-next.next o) (sym c.spot_at-rest.ensures) finds)) most left answers
           ∙ ap (λ m. now P v (record s { stack = st; mode = m }) most left answers) (sym c.mode_of.ensures);
     }

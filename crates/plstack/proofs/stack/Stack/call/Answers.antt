@@ -1,5 +1,5 @@
 use Rattle.std.proofs.Common.{sym, subst, ◌∙◌}
-use Rattle.plcode.specs.Callees.{Compiled}
+use Rattle.plstack.specs.declared.basis.Basis.{Basis}
 use Rattle.plstack.specs.StaticCalls.{AreStatics}
 use Rattle.plstack.proofs.Growing.{if_ok}
 use Rattle.plstack.proofs.Opened.{calls-none-then, calls-then, marked-values}
@@ -13,7 +13,7 @@ pub returns-clause-yes : goal.returns-clause-yes
 returns-clause-yes c =
     if_ok _ _ c.open_call.result
     (λ yes calls is db own.
-    let then = subst (λ (m : Compiled). AreStatics m db) (sym (c.marks.ensures.stays.code ∙ c.in_ok-behind.ensures.ok.stays.code)) own in
+    let then = subst (λ (b : Basis). AreStatics b.code db) (sym (c.marks.ensures.stays.basis ∙ c.in_ok-behind.ensures.ok.stays.basis)) own in
     calls-then c.args.self.now c.number_of.new.self c.marks.new.self c.open_call.new.self c.in_ok-behind.behind c.args.rest c.in_ok-behind.ensures.ok c.marks.ensures.stays c.marks.ensures.count db c.args.procedure c.args.values.now c.requires.values
     (rw c.alone.ensures at (calls is db then)))
     c.open_call.ensures.yes
@@ -22,7 +22,7 @@ pub returns-clause-no : goal.returns-clause-no
 returns-clause-no c =
     if_ok _ _ c.open_call.result
     (λ no calls is db own.
-    let then = subst (λ (m : Compiled). AreStatics m db) (sym (c.marks.ensures.stays.code ∙ c.in_ok-behind.ensures.ok.stays.code)) own in
+    let then = subst (λ (b : Basis). AreStatics b.code db) (sym (c.marks.ensures.stays.basis ∙ c.in_ok-behind.ensures.ok.stays.basis)) own in
     calls-none-then c.args.self.now c.number_of.new.self c.marks.new.self c.open_call.new.self c.in_ok-behind.behind c.args.rest c.in_ok-behind.ensures.ok c.marks.ensures.stays c.marks.ensures.count db c.args.procedure c.args.values.now c.requires.values
     (rw c.alone.ensures at (calls is db then)))
     c.open_call.ensures.no

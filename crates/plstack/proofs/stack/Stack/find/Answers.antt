@@ -21,7 +21,7 @@ first_hit-requires-clause-attempt c =
     let kept = run-kept c.args.at.now.point.marks.saved c.args.at.now.call.count s.saved in
     let key_is = rw (c.heap.ensures.is, c.deref.ensures.value, kept) at c.first_key.ensures in
     let laid = c.nodes.ensures.laid in (
-      s.code.text,
+      s.basis.code.text,
       (o.0.statics c.args.at.now.call.procedure).name,
       (o.0.statics c.args.at.now.call.procedure).clauses,
       rw (c.deref.ensures.value, kept, c.nodes.ensures.is, c.in-Some.ensures.some.1) (the-attempt s c.self.inside.depth c.self.invariant c.args.at.now.point c.args.at.now.call at o.0 o.1 c.in-Some.ensures.some.0 c.first_key.result key_is laid),
@@ -35,7 +35,7 @@ invariant_of-self c =
     let kept = run-kept c.args.at.now.point.marks.saved c.args.at.now.call.count s.saved in
     let key_is = rw (c.heap.ensures.is, c.deref.ensures.value, kept) at c.first_key.ensures in
     let some = rw (c.deref.ensures.value, kept, c.nodes.ensures.is, c.in-Some.ensures.some.1) at c.in-Ok.ensures.some in
-    found-stack s c.self.inside.depth c.self.invariant c.args.at.now.point c.args.at.now.call at o.0 o.1 c.in-Some.ensures.some.0 c.first_key.result key_is c.nodes.ensures.laid c.first_hit.new.env c.first_hit.ensures.keeps c.heap-in-Ok.ensures.env c.in-Ok.hit (if_some _ _ c.in-Ok.hit (λ hit f. f s.code.text (o.0.statics c.args.at.now.call.procedure).name (o.0.statics c.args.at.now.call.procedure).clauses (the-attempt s c.self.inside.depth c.self.invariant c.args.at.now.point c.args.at.now.call at o.0 o.1 c.in-Some.ensures.some.0 c.first_key.result key_is c.nodes.ensures.laid)) some) c.in-Ok.ensures.same
+    found-stack s c.self.inside.depth c.self.invariant c.args.at.now.point c.args.at.now.call at o.0 o.1 c.in-Some.ensures.some.0 c.first_key.result key_is c.nodes.ensures.laid c.first_hit.new.env c.first_hit.ensures.keeps c.heap-in-Ok.ensures.env c.in-Ok.hit (if_some _ _ c.in-Ok.hit (λ hit f. f s.basis.code.text (o.0.statics c.args.at.now.call.procedure).name (o.0.statics c.args.at.now.call.procedure).clauses (the-attempt s c.self.inside.depth c.self.invariant c.args.at.now.point c.args.at.now.call at o.0 o.1 c.in-Some.ensures.some.0 c.first_key.result key_is c.nodes.ensures.laid)) some) c.in-Ok.ensures.same
 
 pub undo-requires : goal.undo-requires
 undo-requires c =
@@ -58,7 +58,7 @@ returns-in-Ok-clause-some c =
     let key_is = rw (c.heap.ensures.is, c.deref.ensures.value, kept) at c.first_key.ensures in
     let some = rw (c.deref.ensures.value, kept, c.nodes.ensures.is, c.in-Some.ensures.some.1) at c.in-Ok.ensures.some in
     rw (← c.self.view_is) (if_some _ _ c.in-Ok.hit (λ hit f. λ db own.
-    hits s c.self.inside.depth c.self.invariant c.args.at.now.point c.args.at.now.call at db own c.in-Some.ensures.some.0 c.first_key.result key_is c.nodes.ensures.laid c.first_hit.new.env c.first_hit.ensures.keeps c.heap-in-Ok.ensures.env hit (f s.code.text (db.statics c.args.at.now.call.procedure).name (db.statics c.args.at.now.call.procedure).clauses (the-attempt s c.self.inside.depth c.self.invariant c.args.at.now.point c.args.at.now.call at db own c.in-Some.ensures.some.0 c.first_key.result key_is c.nodes.ensures.laid))) some)
+    hits s c.self.inside.depth c.self.invariant c.args.at.now.point c.args.at.now.call at db own c.in-Some.ensures.some.0 c.first_key.result key_is c.nodes.ensures.laid c.first_hit.new.env c.first_hit.ensures.keeps c.heap-in-Ok.ensures.env hit (f s.basis.code.text (db.statics c.args.at.now.call.procedure).name (db.statics c.args.at.now.call.procedure).clauses (the-attempt s c.self.inside.depth c.self.invariant c.args.at.now.point c.args.at.now.call at db own c.in-Some.ensures.some.0 c.first_key.result key_is c.nodes.ensures.laid))) some)
 
 pub returns-in-Ok-clause-binds : goal.returns-in-Ok-clause-binds
 returns-in-Ok-clause-binds c =
@@ -68,7 +68,7 @@ returns-in-Ok-clause-binds c =
     let kept = run-kept c.args.at.now.point.marks.saved c.args.at.now.call.count s.saved in
     let key_is = rw (c.heap.ensures.is, c.deref.ensures.value, kept) at c.first_key.ensures in
     let some = rw (c.deref.ensures.value, kept, c.nodes.ensures.is, c.in-Some.ensures.some.1) at c.in-Ok.ensures.some in
-    rw (← c.self.view_is) (if_some _ _ c.in-Ok.hit (λ hit f. hit-binds s c.self.inside.depth c.self.invariant c.args.at.now.point c.args.at.now.call at o.0 o.1 c.in-Some.ensures.some.0 c.first_key.result key_is c.nodes.ensures.laid c.first_hit.new.env c.first_hit.ensures.keeps c.heap-in-Ok.ensures.env hit (f s.code.text (o.0.statics c.args.at.now.call.procedure).name (o.0.statics c.args.at.now.call.procedure).clauses (the-attempt s c.self.inside.depth c.self.invariant c.args.at.now.point c.args.at.now.call at o.0 o.1 c.in-Some.ensures.some.0 c.first_key.result key_is c.nodes.ensures.laid))) some)
+    rw (← c.self.view_is) (if_some _ _ c.in-Ok.hit (λ hit f. hit-binds s c.self.inside.depth c.self.invariant c.args.at.now.point c.args.at.now.call at o.0 o.1 c.in-Some.ensures.some.0 c.first_key.result key_is c.nodes.ensures.laid c.first_hit.new.env c.first_hit.ensures.keeps c.heap-in-Ok.ensures.env hit (f s.basis.code.text (o.0.statics c.args.at.now.call.procedure).name (o.0.statics c.args.at.now.call.procedure).clauses (the-attempt s c.self.inside.depth c.self.invariant c.args.at.now.point c.args.at.now.call at o.0 o.1 c.in-Some.ensures.some.0 c.first_key.result key_is c.nodes.ensures.laid))) some)
 
 pub returns-in-Ok-clause-none : goal.returns-in-Ok-clause-none
 returns-in-Ok-clause-none c =
@@ -77,7 +77,7 @@ returns-in-Ok-clause-none c =
     let kept = run-kept c.args.at.now.point.marks.saved c.args.at.now.call.count s.saved in
     let key_is = rw (c.heap.ensures.is, c.deref.ensures.value, kept) at c.first_key.ensures in
     let none = rw (c.deref.ensures.value, kept, c.nodes.ensures.is, c.in-Some.ensures.some.1) at c.in-Ok.ensures.none in
-    rw (← c.self.view_is) (if_none _ _ c.in-Ok.hit (λ f. λ db own l. nothing-left s c.self.inside.depth c.self.invariant c.args.at.now.point c.args.at.now.call at db own c.in-Some.ensures.some.0 c.first_key.result key_is c.nodes.ensures.laid c.first_hit.new.env c.first_hit.ensures.keeps c.heap-in-Ok.ensures.env (f s.code.text (db.statics c.args.at.now.call.procedure).name (db.statics c.args.at.now.call.procedure).clauses (the-attempt s c.self.inside.depth c.self.invariant c.args.at.now.point c.args.at.now.call at db own c.in-Some.ensures.some.0 c.first_key.result key_is c.nodes.ensures.laid)) l) none)
+    rw (← c.self.view_is) (if_none _ _ c.in-Ok.hit (λ f. λ db own l. nothing-left s c.self.inside.depth c.self.invariant c.args.at.now.point c.args.at.now.call at db own c.in-Some.ensures.some.0 c.first_key.result key_is c.nodes.ensures.laid c.first_hit.new.env c.first_hit.ensures.keeps c.heap-in-Ok.ensures.env (f s.basis.code.text (db.statics c.args.at.now.call.procedure).name (db.statics c.args.at.now.call.procedure).clauses (the-attempt s c.self.inside.depth c.self.invariant c.args.at.now.point c.args.at.now.call at db own c.in-Some.ensures.some.0 c.first_key.result key_is c.nodes.ensures.laid)) l) none)
 
 pub returns-in-Ok-clause-cases : goal.returns-in-Ok-clause-cases
 returns-in-Ok-clause-cases c = λ db.

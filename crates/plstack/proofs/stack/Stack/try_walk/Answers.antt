@@ -1,4 +1,5 @@
 use Rattle.std.proofs.Common.{◌∙◌}
+use Rattle.plstack.specs.Places.{clause_by}
 use Rattle.plstack.proofs.Stacks.{inside}
 use Rattle.plstack.proofs.Going.{level-of}
 use Rattle.plstack.proofs.Reopening.{on_err}
@@ -31,4 +32,4 @@ returns-clause-some c = λ db finds.
     let was = was-left db s c.fit_walk.new.self c.go_on_walk.new.self c.args.at.point c.args.at.walk c.requires.at (c.fit_walk.ensures.cases db) c.in_ok-fits.ensures.left.left c.args.next.now c.args.rest goes finds in
     let level = c.down-level.ensures ∙ level-of db (inside c.self.inside) s c.self.inside.depth c.self.invariant c.self.view_is _ goes.below was in
     went-in db s c.fit_walk.new.self c.go_on_walk.new.self c.args.at.point c.args.at.walk c.requires.at (c.fit_walk.ensures.cases db) c.in_ok-fits.ensures.left.left c.args.next.now c.args.rest goes finds
-    (fitted-at c.args.self.now c.fit_walk.new.self c.args.at.point c.args.at.walk _ _ level c.args.next.now.clause (c.in_ok-fits.ensures.yes c.if-not-fits.false)) c.go_on_walk.ensures.place
+    (fitted-at c.args.self.now c.fit_walk.new.self c.args.at.point c.args.at.walk _ _ level (clause_by c.args.next.now.uses c.args.next.now.clause) (c.in_ok-fits.ensures.yes c.if-not-fits.false)) c.go_on_walk.ensures.place
