@@ -1,6 +1,6 @@
 //! Searches turn by turn (plsolver).
 ghost use Rattle.std.specs.Prelude.{◌≡◌, ◌≤◌, ℕ, true, IfOk, OnOk};
-ghost use Rattle.plsolver.specs.Solver.{Fetches, IsOf, IsReplyTo, WaitsForReply};
+ghost use Rattle.plsolver.specs.Solver.{Fetches, IsOf, IsReplyTo, WaitsForReply, latest_view};
 
 use plevent::{Reply, Request, ThreadEnd};
 use plload::goal::read_goal;
@@ -17,12 +17,13 @@ use std::alloc::{AllocError, Global};
 use std::string::String;
 use std::test::Fail;
 
-/// A search that goes on, what it asks, and its limit of steps.
+/// A search that goes on, what it asks, its limit of steps, and the place of its latest view.
 #[derive(Drop)]
 pub struct Going {
     solver: Solver,
     world: World,
     limit: u64,
+    latest: u64,
 }
 
 /// A program with a goal.
@@ -51,6 +52,8 @@ fn serve(alloc: Global, program: &Program, going: &mut Going, request: &Request)
     ensures of { OnOk result (IsOf program.now going.new.solver.machine) }
     ensures solver { OnOk result (going.new.solver.limit ≡ going.old.solver.limit) }
     ensures limit { going.new.limit ≡ going.old.limit }
+    ensures view { OnOk result (latest_view going.new.solver ≡ latest_view going.old.solver) }
+    ensures latest { going.new.latest ≡ going.old.latest }
 {
     let place = going.world.front();
     let reply = going.world.step(alloc, 1, 1, request)?;
@@ -69,6 +72,8 @@ fn fetch(program: &Program, going: &mut Going, query: &Query) -> Result<(), Fail
     ensures of { OnOk result (IsOf program.now going.new.solver.machine) }
     ensures solver { OnOk result (going.new.solver.limit ≡ going.old.solver.limit) }
     ensures limit { going.new.limit ≡ going.old.limit }
+    ensures view { OnOk result (latest_view going.new.solver ≡ latest_view going.old.solver) }
+    ensures latest { going.new.latest ≡ going.old.latest }
 {
     let view = going.solver.view();
     let found = going.world.look(view, query)?;
@@ -86,8 +91,10 @@ fn turn(
 ) -> Result<Option<ThreadEnd>, Fail>
     requires of { IsOf program.now going.old.solver.machine }
     requires solver { going.old.solver.limit ≡ going.old.limit }
+    requires latest { latest_view going.old.solver ≡ going.old.latest }
     ensures of { OnOk result (IsOf program.now going.new.solver.machine) }
     ensures solver { OnOk result (going.new.solver.limit ≡ going.new.limit) }
+    ensures latest { OnOk result (latest_view going.new.solver ≡ going.new.latest) }
     ensures limit { going.new.limit ≡ going.old.limit }
 {
     if going.solver.steps() > going.limit {
@@ -101,7 +108,11 @@ fn turn(
         Turn::Slice => Ok(None),
         Turn::Refresh => {
             let g = going.world.front();
+            if g < going.latest {
+                return Err("an earlier view".into());
+            }
             going.solver.refreshed(program, g)?;
+            going.latest = g;
             Ok(None)
         }
         Turn::Fetch(query) => {
@@ -154,6 +165,7 @@ fn started(alloc: Global, program: &Program) -> Result<World, AllocError> {
 fn begun(alloc: Global, program: &Program, limit: u64) -> Result<Going, AllocError>
     ensures of { IfOk result (λ going. IsOf program.now going.solver.machine) }
     ensures solver { IfOk result (λ going. going.solver.limit ≡ going.limit) }
+    ensures latest { IfOk result (λ going. latest_view going.solver ≡ going.latest) }
 {
     let world = started(alloc, program)?;
     let solver = Solver::new(alloc, program, limit)?;
@@ -161,6 +173,7 @@ fn begun(alloc: Global, program: &Program, limit: u64) -> Result<Going, AllocErr
         solver,
         world,
         limit,
+        latest: 0,
     })
 }
 
@@ -173,6 +186,7 @@ fn ended(
 ) -> Result<(ThreadEnd, u64), Fail>
     requires of { IsOf program.now going.old.solver.machine }
     requires solver { going.old.solver.limit ≡ going.old.limit }
+    requires latest { latest_view going.old.solver ≡ going.old.latest }
 {
     'turns: for turns in 0..100000 {
         if let Some(end) = turn(alloc, program, going, fuel)? {
@@ -191,6 +205,7 @@ fn finished(
 ) -> Result<(String, u64), Fail>
     requires of { IsOf program.now going.old.solver.machine }
     requires solver { going.old.solver.limit ≡ going.old.limit }
+    requires latest { latest_view going.old.solver ≡ going.old.latest }
 {
     let (end, turns) = ended(alloc, program, going, fuel)?;
     let text = told(alloc, going, &end)?;
