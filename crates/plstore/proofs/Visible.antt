@@ -220,10 +220,6 @@ with-not : (s f b : Bool) → s && b ≡ true → f ≡ false → s && (not f &&
 with-not s true b h e = absurd (cc)
 with-not s false b h e = h
 
-only-right : (s b : Bool) → s && b ≡ true → b ≡ true
-only-right true b h = h
-only-right false b h = absurd (cc)
-
 pub shown-front : (g : ℕ) (p : Indicator) (k : Key) (x : ClauseName) (rs : List Record) (i : ℕ) (d : Record) (found : Option ClauseName) → OneIs x rs i → d ≡ get_or rs i d → seen g d && is_of p d.clause ≡ true → d.front ≡ true →
     found ≡ or_else (first_like k (down (is_of p) g rs i)) (first_like k (up (is_of p) g rs 0)) → found ≡ first_like k (past x (walk g p rs))
 shown-front g p k x rs i d found one e h f is =

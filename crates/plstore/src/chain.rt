@@ -13,7 +13,7 @@ use crate::tables::Tables;
 use plevent::Key;
 use plterm::indicator::Indicator;
 
-/// The clauses of a procedure, or those of a slot.
+/// Which links are walked: those of a procedure's clauses, or those of a slot's.
 #[derive(Clone, Copy)]
 pub(crate) enum Chain {
     Procedure,
@@ -41,8 +41,8 @@ impl Chain {
     }
 }
 
-/// The shortest chain that has each clause that is sought: that of a slot, where no clause of the procedure may be for
-/// goals of any key.
+/// A chain that has each clause that is sought: the short one of the key's slot, where no clause of the procedure was ever
+/// made with a variable, or nothing, as its first argument; else that of the procedure.
 pub(crate) fn chain_of(tables: &Tables, sought: &Sought<'_>) -> Chain
     requires { Chained tables.now }
     ensures { Covers (in_chain sought.now.pred.now result) sought.now.pred.now sought.now.key.now tables.now.records.items }
@@ -59,7 +59,7 @@ pub(crate) fn chain_of(tables: &Tables, sought: &Sought<'_>) -> Chain
     }
 }
 
-/// The same behind a clause of the procedure, which it has too.
+/// The same to go on from a clause of the procedure: the chain has that one too.
 pub(crate) fn chain_behind(tables: &Tables, sought: &Sought<'_>, one: &Record) -> Chain
     requires { Chained tables.now }
     ensures covers { Covers (in_chain sought.now.pred.now result) sought.now.pred.now sought.now.key.now tables.now.records.items }

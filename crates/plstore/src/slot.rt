@@ -26,7 +26,7 @@ impl Slots {
         Slots { hasher }
     }
 
-    /// That of clauses which may be for goals of any key.
+    /// That of clauses with a variable, or nothing, as their first argument, which may be for goals of any key.
     pub(crate) fn any(self) -> u64
         ensures { result ≡ slot_behind self.hasher Any }
     {

@@ -28,8 +28,10 @@ use std::collections::HashMap;
 pub(crate) struct Tables {
     pub(crate) records: Vec<Record>,
     pub(crate) declared: Vec<Declared>,
+    /// Where the records of each procedure begin and end, and how they are linked.
     pub(crate) index: HashMap<Indicator, Ends>,
     pub(crate) by_procedure: Links,
+    /// The same of each slot.
     pub(crate) slots: HashMap<u64, Ends>,
     pub(crate) by_slot: Links,
 }
