@@ -1,8 +1,9 @@
 //! Where the records of a class begin and end.
-ghost use Rattle.std.specs.Prelude.{◌≡◌, ◌+◌, ◌<◌, ◌≤◌, ◌↔◌, IsTrue, ℕ, None, Some, cond, length, vec_len, ◌++◌, ◌∷◌, []};
+ghost use Rattle.std.specs.Prelude.{◌≡◌, ◌+◌, ◌<◌, ◌≤◌, ◌↔◌, IsTrue, ℕ, None, Some, cond, length, vec_len, ◌++◌, ◌∷◌, [], List, Option, slice_set};
 ghost use Rattle.std.specs.Vec.{vec_capacity};
 ghost use Rattle.std.specs.HashMap.{spare};
 ghost use Rattle.plstore.specs.Links.{earlier, ends_after, ends_in, links_after, since_below};
+ghost use Rattle.plstore.specs.Trail.{MaySet, WasEnd};
 
 use std::collections::HashMap;
 use std::hash::Hash;
@@ -51,9 +52,9 @@ pub(crate) fn ends_of<K: Eq + Hash>(index: &HashMap<K, Ends>, key: &K) -> Ends
     }
 }
 
-/// Sets the ends of a key, for which there is room.
+/// Sets the ends of a key that is there, or for which there is room.
 pub(crate) fn set_ends<K: Eq + Hash + Drop>(index: &mut HashMap<K, Ends>, key: K, ends: Ends)
-    requires { 0 < spare index.old }
+    requires { MaySet K.eq index.old key }
     ensures set { (k : K) → ends_in K.eq index.new k ≡ cond (K.eq key k) ends (ends_in K.eq index.old k) }
     ensures room { spare index.old ≤ spare index.new + 1 }
 {
@@ -103,6 +104,28 @@ pub(crate) fn link(next: &mut Vec<Option<usize>>, front: bool, number: usize, en
     append(next, None);
     if let Some(last) = ends.newest_back {
         next[last] = Some(number);
+    }
+}
+
+/// Takes back the link of the last record, and the one to it.
+pub(crate) fn unlink(next: &mut Vec<Option<usize>>, front: bool, ends: Ends)
+    ensures { (xs : List (Option ℕ)) (n : ℕ) → next.old.items ≡ links_after front n ends xs → WasEnd ends.newest_back xs → next.new.items ≡ xs }
+{
+    next.pop();
+    if front {
+        return;
+    }
+    if let Some(last) = ends.newest_back {
+        cut_link(next.as_mut_slice(), last);
+    }
+}
+
+/// The link of a record leads nowhere.
+fn cut_link(next: &mut [Option<usize>], number: usize)
+    ensures { next.new ≡ slice_set next.old number None }
+{
+    if number < next.len() {
+        next[number] = None;
     }
 }
 
