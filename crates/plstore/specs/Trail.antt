@@ -144,6 +144,11 @@ abbrev pub LeadsBack : List Step → Tables → Type 0
 LeadsBack [] t = kept_in t ≡ nothing
 LeadsBack (s ∷ ss) t = (old : Tables) × IsStep s old t × LeadsBack ss old
 
+-- the latest step is below a place
+abbrev pub IsBelowPlace : ℕ → List Step → Type 0
+IsBelowPlace g [] = Unit {0}
+IsBelowPlace g (s ∷ ss) = s.place < g
+
 pub record IsTraced (t : Traced) : Type 0 where
   pub stored : IsStored t.tables
   pub back : LeadsBack (reverse t.trail.items) t.tables

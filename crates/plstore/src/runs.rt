@@ -5,7 +5,7 @@ ghost use Rattle.plstore.specs.declared.record.Record.{Record};
 ghost use Rattle.plstore.specs.declared.runs.Run.{Run as Ran};
 ghost use Rattle.plstore.specs.Links.{Class, IsLinked};
 ghost use Rattle.plstore.specs.Runs.{end_at, no_place, HasRuns, IsGone, IsRun, SameRuns};
-ghost use Rattle.plstore.specs.Trail.{run_set, HadRun, HadRuns, MoreRuns, OneRun};
+ghost use Rattle.plstore.specs.Trail.{HadRun, HadRuns, MoreRuns, OneRun, WasRun};
 
 use crate::ends::Ends;
 
@@ -157,7 +157,7 @@ fn later(a: u64, b: u64) -> u64
 /// Notes a run at its first record, and where it begins at its last one.
 fn begin(places: &mut [Place], first: usize, run: Run) -> Noted
     ensures runs { (c : Class) (rs : List Record) → HasRuns c rs places.old → IsRun c rs first run → HasRuns c rs places.new }
-    ensures noted { HadRun (Some result) places.old places.new }
+    ensures noted { WasRun result places.old places.new }
     ensures len { length places.new ≡ length places.old }
 {
     let noted = Noted {

@@ -1,5 +1,5 @@
 //! Tables whose latest updates can be taken back.
-ghost use Rattle.std.specs.Prelude.{◌≡◌, ◌<◌, ◌++◌, ◌∷◌, [], OnErr, OnOk, vec_len};
+ghost use Rattle.std.specs.Prelude.{◌≡◌, ◌<◌, ◌≤◌, ◌++◌, ◌∷◌, [], reverse, IfNone, IfSome, OnErr, OnOk, vec_len};
 ghost use Rattle.std.specs.Vec.{vec_capacity};
 ghost use Rattle.plclause.specs.Indicators.{indicator};
 ghost use Rattle.plevent.specs.Alive.{named};
@@ -8,7 +8,7 @@ ghost use Rattle.plstore.specs.Kept.{keep};
 ghost use Rattle.plstore.specs.Plan.{put_update, update_of, IsPlanned};
 ghost use Rattle.plstore.specs.Room.{HasRoom};
 ghost use Rattle.plstore.specs.Tables.{kept_in};
-ghost use Rattle.plstore.specs.Trail.{IsReady, IsStep, IsTraced, SameTables, WasBefore};
+ghost use Rattle.plstore.specs.Trail.{IsBelowPlace, IsReady, IsTraced, SameTables, WasBefore};
 ghost use Rattle.plstore.specs.declared.tables.Tables.{Tables as Tabled};
 ghost use Rattle.plevent.specs.declared.update.Update.TheVariants.{Declare, Erase};
 
@@ -100,10 +100,13 @@ impl Traced {
         ensures traced { IsTraced self.new }
     {
         self.reserve()?;
-        if let Some(erasure) = erase(&mut self.tables, of, place) {
-            self.note(place, Change::Erased(erasure));
+        match erase(&mut self.tables, of, place) {
+            None => return Ok(()),
+            Some(erasure) => {
+                self.note(place, Change::Erased(erasure));
+                return Ok(());
+            }
         }
-        Ok(())
     }
 
     fn declare(&mut self, pred: Indicator, key: Indicator, place: u64) -> Result<(), AllocError>
@@ -158,7 +161,11 @@ impl Traced {
     }
 
     /// Takes the last step, where its place is at `place` or above.
-    fn last_from(&mut self, place: u64) -> Option<Step> {
+    fn last_from(&mut self, place: u64) -> Option<Step>
+        ensures tables { self.new.tables ≡ self.old.tables }
+        ensures last { IfSome result (λ s. (place ≤ s.place) × (self.old.trail.items ≡ self.new.trail.items ++ s ∷ [])) }
+        ensures below { IfNone result (IsBelowPlace place (reverse self.old.trail.items) × (self.new.trail.items ≡ self.old.trail.items)) }
+    {
         if self.trail.last()?.place < place {
             return None;
         }
