@@ -1,5 +1,5 @@
 -- Runs and links as they were before a change.
-use Rattle.std.proofs.Common.{◌≡◌, zero, ◌+◌, ◌-◌, ◌⊎◌, inl, inr, refl, sym, ◌∙◌, ap, subst, arith, ℕ, suc, ◌<◌, ◌≤◌, ◌≢◌, Bool, true, false, List, [], ◌∷◌, ◌++◌, Option, Some, None, length, get_or, set, take, drop}
+use Rattle.std.proofs.Common.{◌≡◌, zero, ◌+◌, ◌-◌, ◌⊎◌, inl, inr, refl, sym, ◌∙◌, ap, arith, ℕ, suc, ◌<◌, ◌≤◌, ◌≢◌, Bool, true, false, List, [], ◌∷◌, ◌++◌, Option, Some, None, length, get_or, set, take, drop}
 use Rattle.std.proofs.Math.Seq.{take-append_seam}
 use Rattle.std.proofs.lemmas.List.{get_or-take, get_or-set_same, get_or-set_other, length-set, length-take, length-map, length-drop, set-append_left, set-get_or}
 use Rattle.plstore.specs.declared.ends.Ends.{Ends}
@@ -7,9 +7,9 @@ use Rattle.plstore.specs.declared.record.Record.{Record}
 use Rattle.plstore.specs.declared.runs.Run.{Run}
 use Rattle.plstore.specs.declared.runs.Place.{Place}
 use Rattle.plstore.specs.declared.runs.Noted.{Noted}
-use Rattle.plstore.specs.Links.{earlier, first_from, backs, back_of, linked_at, links_after, Class, IsIndexed}
+use Rattle.plstore.specs.Links.{earlier, backs, back_of, linked_at, links_after, Class, IsIndexed}
 use Rattle.plstore.specs.Runs.{no_place, SameRuns}
-use Rattle.std.specs.Prelude.{cond, IsSome, MatchOption}
+use Rattle.std.specs.Prelude.{cond, MatchOption}
 use Rattle.plstore.specs.Kept.{first_of}
 use Rattle.plstore.specs.Trail.{HadRun, MoreRuns, OneRun, WasAt, WasEnd, WasRecord, WasRun, run_at}
 use Rattle.plstore.proofs.Bits.{LastIs, cases, first-none, get-drop, last-some, length-push}
@@ -95,13 +95,18 @@ fewer-runs xs ys n more e = record {
     by-case i (inr (inl q)) = over i (omega arith)
     by-case i (inr (inr g)) = over i (omega arith)
 
+pub set-twice : {A : Type 0} (xs : List A) (i : ℕ) (a b : A) → set (set xs i a) i b ≡ set xs i b
+set-twice [] i a b = refl
+set-twice (x ∷ xs) zero a b = refl
+set-twice (x ∷ xs) (suc i) a b = ap (λ l. x ∷ l) (set-twice xs i a b)
+
 -- a record was not erased, or the erasure changes nothing
-pub record-was : (rs : List Record) (n : ℕ) (d : Record) (b : ℕ) (erased o : Option ℕ) → n < length rs → erased ≡ first_of (get_or rs n d).erased b → ((i : ℕ) → o ≡ Some i → ((get_or rs n d).erased ≡ None) × (i ≡ n)) → (o ≡ None → IsSome (get_or rs n d).erased) →
+pub record-was : (rs : List Record) (n : ℕ) (d : Record) (b : ℕ) (erased o : Option ℕ) → n < length rs → erased ≡ first_of (get_or rs n d).erased b → ((i : ℕ) → o ≡ Some i → ((get_or rs n d).erased ≡ None) × (i ≡ n)) → (o ≡ None → (get_or rs n d).erased ≢ None) →
     MatchOption o (set rs n (record (get_or rs n d) { erased = erased }) ≡ rs) (λ i. WasRecord i rs (set rs n (record (get_or rs n d) { erased = erased })))
 record-was rs n d b erased None l is some none = ap (λ e. set rs n (record (get_or rs n d) { erased = e })) (is ∙ kept (get_or rs n d).erased (none refl)) ∙ set-get_or rs n d
   where
-    kept : (o : Option ℕ) → IsSome o → first_of o b ≡ o
-    kept None h = absurd h
+    kept : (o : Option ℕ) → o ≢ None → first_of o b ≡ o
+    kept None h = absurd (h refl)
     kept (Some e) h = refl
 record-was rs n d b erased (Some i) l is some none =
     let q : Record = record (get_or rs n d) { erased = erased } in
@@ -116,7 +121,7 @@ record-was rs n d b erased (Some i) l is some none =
 
 -- the ends before are known
 pub at-set : {K : Type 0} (eq : K → K → Bool) (same : (a b : K) → eq a b ≡ true → a ≡ b) (own : K) → eq own own ≡ true → (d e : Ends) (old new : K → Ends) → d ≡ old own → ((k : K) → new k ≡ cond (eq own k) e (old k)) → e.since ≢ None → WasAt eq own d old new
-at-set eq same own self d e old new is law some = record {
+at-set {K = K} eq same own self d e old new is law some = record {
   each = λ k. by-case k (eq own k) refl;
   named = λ h. some (ap (λ (e : Ends). e.since) (sym (law own ∙ ap (λ v. cond v e (old own)) self)) ∙ h);
 }
@@ -130,11 +135,6 @@ earlier-some None b e = cc
 earlier-some (Some s) b e = cc
 
 -- the last link goes, and the one to it
-pub set-twice : {A : Type 0} (xs : List A) (i : ℕ) (a b : A) → set (set xs i a) i b ≡ set xs i b
-set-twice [] i a b = refl
-set-twice (x ∷ xs) zero a b = refl
-set-twice (x ∷ xs) (suc i) a b = ap (λ l. x ∷ l) (set-twice xs i a b)
-
 pub take-back : {A : Type 0} (xs : List A) (x : A) (ys : List A) (n : ℕ) → ys ≡ xs ++ x ∷ [] → n ≡ length ys - 1 → take n ys ≡ xs
 take-back xs x ys n e l = let k : n ≡ length xs = omega (arith, l, ap length e, length-push xs x) in ap (take n) e ∙ ap (λ n. take n (xs ++ x ∷ [])) k ∙ take-append_seam xs (x ∷ [])
 

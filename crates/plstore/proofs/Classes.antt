@@ -1,7 +1,6 @@
 -- The chains of all keys, as those of procedures and those of slots, stay those of the records.
 use Rattle.std.proofs.Common.{◌≡◌, refl, sym, ◌∙◌, ap, ap₂, subst, ℕ, suc, zero, Bool, true, false, cond, List, [], ◌∷◌, ◌++◌, length, get_or}
 use Rattle.std.specs.Prelude.{◌&&◌, not, nat_eq}
-use Rattle.plterm.specs.declared.indicator.Indicator.{Indicator}
 use Rattle.plterm.specs.Indicators.{same_indicator}
 use Rattle.plevent.specs.Alive.{is_of}
 use Rattle.plclause.specs.Clause.{Clause}

@@ -1,8 +1,7 @@
 -- What is kept of the batches below a place.
 use Rattle.std.specs.Prelude.{ℕ, zero, suc, ◌≤◌, ◌<◌, Bool, true, false, List, [], ◌∷◌, ◌++◌, map, filter, fold, length, nat_lt, Option, Some, None, cond}
-use Rattle.std.proofs.Common.{◌≡◌, ◌⊎◌, inl, inr, refl, sym, ◌∙◌, ap, ap₂, arith, get_or}
+use Rattle.std.proofs.Common.{◌≡◌, refl, sym, ◌∙◌, ap, ap₂, arith}
 use Rattle.std.proofs.lemmas.Bool.Decides.{nat_tests}
-use Rattle.std.proofs.lemmas.List.{length-map}
 use Rattle.plclause.specs.Clause.{Clause}
 use Rattle.plevent.specs.declared.update.ClauseName.{ClauseName}
 use Rattle.plevent.specs.declared.update.Update.{Update}
@@ -12,7 +11,8 @@ use Rattle.plstore.specs.declared.record.Record.{Record}
 use Rattle.plstore.specs.declared.record.Declared.{Declared}
 use Rattle.plstore.specs.Cut.{cut, erased_below, restored}
 use Rattle.plstore.specs.Kept.{Kept, keep, keep_record, keep_declared, kept, noted, made, nothing, changed_where, change_if, erase_at, first_of, is_named}
-use Rattle.plstore.specs.Rising.{AllBelowPlace, Rises}
+use Rattle.std.proofs.lemmas.List.Sums.{fold-append}
+use Rattle.plstore.specs.Rising.{AllBelowPlace, AllUnder, Rises}
 
 abbrev pub is_below : ℕ → Record → Bool
 is_below g r = nat_lt r.name.place g
@@ -288,3 +288,14 @@ cut-from g (s ∷ us) k b up e = by-case (nat_lt s.at.place g) refl (λ h. cut-f
 
 pub cut-is : (g : ℕ) (us : List Stamped) → Rises 0 us → cut g (fold keep nothing us) ≡ fold keep nothing (before g us)
 cut-is g us up = cut-from g us nothing 0 up refl
+
+cut-under : (g : ℕ) (us : List Stamped) (k : Kept) → AllUnder g us → cut g k ≡ k → cut g (fold keep k us) ≡ fold keep k us
+cut-under g [] k un e = e
+cut-under g (s ∷ us) k un e = cut-under g us (keep k s) un.1 (cut-below g k s un.0 e)
+
+-- what is kept of batches below g is as it was
+pub under-cut : (g : ℕ) (us : List Stamped) → AllUnder g us → cut g (fold keep nothing us) ≡ fold keep nothing us
+under-cut g us un = cut-under g us nothing un refl
+
+pub cut-keeps : (g : ℕ) (us later : List Stamped) → AllUnder g us → Rises g later → cut g (fold keep nothing (us ++ later)) ≡ fold keep nothing us
+cut-keeps g us later un up = ap (cut g) (fold-append keep nothing us later) ∙ all-above g later (fold keep nothing us) g (omega arith) up ∙ under-cut g us un

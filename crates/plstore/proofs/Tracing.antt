@@ -1,26 +1,24 @@
 -- Steps that lead back to nothing.
-use Rattle.std.specs.Prelude.{ℕ, suc, ◌≤◌, ◌<◌, List, [], ◌∷◌, ◌++◌, reverse, fold, nat_eq, Bool, true, false, cond, Option, Some, None}
-use Rattle.std.proofs.Common.{◌≡◌, ◌≢◌, refl, sym, ◌∙◌, ap, ap₂, subst, arith}
+use Rattle.std.specs.Prelude.{ℕ, suc, List, [], ◌∷◌, ◌++◌, reverse, nat_eq, Bool, cond}
+use Rattle.std.proofs.Common.{◌≡◌, sym, ◌∙◌, ap, ap₂, subst, arith}
 use Rattle.std.proofs.lemmas.List.{reverse-append}
-use Rattle.plterm.specs.declared.indicator.Indicator.{Indicator}
 use Rattle.plterm.specs.Indicators.{same_indicator}
 use Rattle.plevent.specs.declared.update.Update.{Update}
-use Rattle.plevent.specs.Alive.{Stamped, named}
+use Rattle.plevent.specs.Alive.{named}
 use Rattle.plstore.specs.declared.ends.Ends.{Ends}
 use Rattle.plstore.specs.declared.links.Links.{Links}
-use Rattle.plstore.specs.declared.record.Record.{Record}
 use Rattle.plstore.specs.declared.tables.Tables.{Tables}
 use Rattle.plstore.specs.declared.trail.Change.{Change}
 use Rattle.plstore.specs.declared.trail.Step.{Step}
 use Rattle.plstore.specs.declared.trail.Traced.{Traced}
 use Rattle.plstore.specs.Cut.{cut}
-use Rattle.plstore.specs.Kept.{Kept, keep, kept, nothing}
-use Rattle.plstore.specs.Rising.{IsRising, InOrder}
+use Rattle.plstore.specs.Kept.{Kept, keep}
+use Rattle.plstore.specs.Rising.{IsRising}
 use Rattle.plstore.specs.Tables.{kept_in, Chained, IsStored}
-use Rattle.plstore.specs.Trail.{SameLinks, SameTables, IsLonger, HadLinks, WasAt, WasBefore, WasPut, WasErased, WasDeclared, WasRecord, IsReady, IsStep, IsTraced, LeadsBack, IsBelowPlace}
+use Rattle.plstore.specs.Trail.{SameLinks, SameTables, IsLonger, WasAt, WasBefore, WasRecord, IsReady, IsStep, IsTraced, LeadsBack, IsBelowPlace}
 use Rattle.plstore.proofs.Backward.{had-same, more-same, same-join}
 use Rattle.plstore.proofs.Classes.{chained-same}
-use Rattle.plstore.proofs.Cutting.{cut-above, cut-below, cut-lower, cut-places, cut-wider}
+use Rattle.plstore.proofs.Cutting.{cut-above, cut-below, cut-places, cut-wider}
 use Rattle.plstore.proofs.Search.{order-keep, order-start}
 
 pub kept-same : (t u : Tables) → SameTables t u → kept_in u ≡ kept_in t

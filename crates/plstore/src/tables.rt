@@ -1,5 +1,5 @@
 //! The tables of a store, and how an update changes them.
-ghost use Rattle.std.specs.Prelude.{◌≡◌, ◌+◌, ◌<◌, ◌≤◌, ◌++◌, ◌∷◌, [], IfSome, IsSome, OnOk, MatchOption, slice_index_or, ℕ, None, Some, fold, length, nat_eq, ◌≢◌, vec_len};
+ghost use Rattle.std.specs.Prelude.{◌≡◌, ◌+◌, ◌<◌, ◌≤◌, ◌++◌, ◌∷◌, [], IfSome, OnOk, MatchOption, slice_index_or, ℕ, None, Some, fold, length, nat_eq, ◌≢◌, vec_len};
 ghost use Rattle.std.specs.Vec.{vec_capacity};
 ghost use Rattle.plclause.specs.Indicators.{indicator};
 ghost use Rattle.plevent.specs.Alive.{stamped, named};
@@ -186,11 +186,9 @@ pub(crate) fn unput(tables: &mut Tables, key: Indicator, linked: &Linked)
     set_ends(&mut tables.slots, linked.slot, linked.by_slot);
     match tables.records.pop() {
         None => {}
-        Some(record) => {
-            let front = record.front;
-            tables
-                .by_procedure
-                .drop_last(front, linked.by_procedure);
+        Some(last) => {
+            let front = last.front;
+            tables.by_procedure.drop_last(front, linked.by_procedure);
             tables.by_slot.drop_last(front, linked.by_slot);
         }
     }
@@ -293,7 +291,7 @@ fn erase_in(records: &mut [Record], of: ClauseName, place: u64) -> Option<usize>
 /// The number of a record that was not erased before.
 fn fresh(was: Option<u64>, number: usize) -> Option<usize>
     ensures some { (i : ℕ) → result ≡ Some i → (was ≡ None) × (i ≡ number) }
-    ensures none { result ≡ None → IsSome was }
+    ensures none { result ≡ None → was ≢ None }
 {
     match was {
         None => Some(number),

@@ -1,4 +1,4 @@
-use Rattle.std.proofs.Common.{◌≡◌, ◌-◌, ◌<◌, ◌∙◌, sym, ap, subst, arith, length, get_or, Some, unwrap_or}
+use Rattle.std.proofs.Common.{◌≡◌, ◌+◌, ◌-◌, ◌<◌, ◌∙◌, sym, ap, subst, arith, length, get_or, Some, unwrap_or}
 use Rattle.std.proofs.lemmas.List.{get_or_at}
 use Rattle.plstore.specs.declared.record.Record.{Record}
 use Rattle.plstore.specs.Links.{no_ends}
@@ -24,13 +24,13 @@ returns-in-Some c = record {
       let size : length rs.items ≡ length was.records.items + 1 = omega (arith, ap length h.records, length-push was.records.items h.last) in
       let some : 0 < rs.len = omega (arith, size, rs.ok.0) in
       let at : length was.records.items ≡ rs.len - 1 = omega (arith, size, rs.ok.0) in
-      let last : c.in-Some.record' ≡ h.last = some-same (sym c.in-Some.is ∙ c.pop.ensures.value h.last some) ∙ ap (λ l. get_or l (rs.len - 1) h.last) h.records ∙ get_or_at was.records.items h.last _ h.last (rs.len - 1) at in
+      let last : c.in-Some.last ≡ h.last = some-same (sym c.in-Some.is ∙ c.pop.ensures.value h.last some) ∙ ap (λ l. get_or l (rs.len - 1) h.last) h.records ∙ get_or_at was.records.items h.last _ h.last (rs.len - 1) at in
       record {
         records = c.pop.ensures.rest ∙ take-back was.records.items h.last rs.items _ h.records n;
         declared = h.declared;
         by_procedure = c.drop_last.ensures was.by_procedure (subst (λ (r : Record). IsLonger r.front c.args.linked.now.by_procedure was.by_procedure c.args.tables.now.by_procedure) (sym last) h.by_procedure);
         index = λ p. c.set_ends.ensures.set p ∙ sym (h.index.each p);
-        by_slot = c.drop_last-2.ensures was.by_slot (subst (λ (r : Record). IsLonger r.front c.args.linked.now.by_slot was.by_slot c.args.tables.now.by_slot) (sym last) h.by_slot);
+        by_slot = c.drop_last-in-Some.ensures was.by_slot (subst (λ (r : Record). IsLonger r.front c.args.linked.now.by_slot was.by_slot c.args.tables.now.by_slot) (sym last) h.by_slot);
         slots = λ n. c.set_ends-2.ensures.set n ∙ sym (h.slots.each n);
       };
 }
