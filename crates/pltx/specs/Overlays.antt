@@ -4,7 +4,7 @@ use Rattle.std.specs.HashMap.{get}
 use Rattle.plevent.specs.declared.update.Update.{Update}
 use Rattle.plevent.specs.declared.update.Update.TheVariants.{First, Last, Erase, EraseOwn, Declare}
 use Rattle.plevent.specs.Alive.{Stamped, named, add_if}
-use Rattle.plstore.specs.Kept.{Kept, keep, nothing}
+use Rattle.plstore.specs.Kept.{keep, nothing}
 use Rattle.plstore.specs.declared.record.Cursor.{Cursor}
 use Rattle.pltx.specs.declared.overlay.Overlay.{Overlay}
 use Rattle.pltx.specs.declared.own.OwnCursor.{OwnCursor}

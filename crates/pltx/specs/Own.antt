@@ -1,6 +1,6 @@
 -- The own updates of a thread's open transactions: nothing, or a base, a list of updates, and a stack of transactions and
 -- snapshots, each with how many updates there were at its start.
-use Rattle.std.specs.Prelude.{◌≢◌, ℕ, Bool, true, false, List, [], ◌∷◌, ◌++◌, length, take, nat_eq, Option, Some, None, refl}
+use Rattle.std.specs.Prelude.{◌≢◌, ℕ, Bool, false, List, [], ◌∷◌, ◌++◌, length, take, nat_eq, Option, Some, None, refl}
 use Rattle.std.specs.Coded.{Coded, code_by, coded×, coded_list, coded_ℕ}
 use Rattle.std.specs.List.{list_any}
 use Rattle.plevent.specs.declared.update.Update.{Update}
@@ -22,8 +22,8 @@ pub record State : Type 0 where
   pub levels : List Level
 
 abbrev pub state_code : Coded State
-state_code = code_by (ℕ × List Update × List Level) (coded× coded_ℕ (coded× (coded_list update_row.the_row.coded) (coded_list level_row.the_row.coded)))
-    (λ x. (x.base, x.updates, x.levels)) (λ p. record { base = p.0; updates = p.1; levels = p.2 }) (λ _. refl)
+state_code = code_by (ℕ × (List Update × List Level)) (coded× coded_ℕ (coded× (coded_list update_row.the_row.coded) (coded_list level_row.the_row.coded)))
+    (λ x. (x.base, (x.updates, x.levels))) (λ p. record { base = p.0; updates = p.1.0; levels = p.1.1 }) (λ _. refl)
 
 abbrev pub nothing : State
 nothing = record { base = 0; updates = []; levels = [] }

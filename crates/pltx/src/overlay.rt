@@ -1,9 +1,9 @@
 //! Own updates, with what finds their clauses.
-ghost use Rattle.std.specs.Prelude.{◌≡◌, ◌≢◌, ℕ, ◌++◌, ◌<◌, ◌∷◌, [], fold, length, take, IfOk, OnErr, OnOk, vec_len};
+ghost use Rattle.std.specs.Prelude.{◌≡◌, ◌≢◌, ℕ, false, ◌++◌, ◌<◌, ◌∷◌, [], fold, length, take, IfOk, OnErr, OnOk, vec_len};
 ghost use Rattle.std.specs.HashMap.{spare};
 ghost use Rattle.std.specs.Vec.{vec_capacity};
 ghost use Rattle.std.specs.Option.{option_map};
-ghost use Rattle.plevent.specs.Alive.{add_if, living, named};
+ghost use Rattle.plevent.specs.Alive.{add_if, exists, living, named};
 ghost use Rattle.plstore.specs.Like.{next_like_of};
 ghost use Rattle.pltx.specs.Walks.{cursor_at, own_batch, AllErasedBelow};
 ghost use Rattle.plstore.specs.Cut.{cut};
@@ -14,7 +14,7 @@ ghost use Rattle.pltx.specs.declared.level.Ended.{Ended as End};
 ghost use Rattle.pltx.specs.declared.target.Erasure.TheVariants.{Erased, Gone};
 
 use crate::level::{Ended, Kind, Level};
-use crate::marks::{mark, unmark};
+use crate::marks::{mark, marked, unmark};
 use crate::own::OwnCursor;
 use crate::target::{Erasure, Target};
 use plevent::{Batch, ClauseName, Key, Update};
@@ -96,16 +96,31 @@ impl Overlay {
         ensures refused { OnErr result (state_of self.new ≡ state_of self.old) }
         ensures kept { IsOverlay self.new }
     {
-        if self.marks.contains_key(&target) {
-            return Ok(Erasure::Gone);
+        match marked(&self.marks, &target) {
+            Some(_) => return Ok(Erasure::Gone),
+            None => {
+                self.erase_now(target)?;
+                return Ok(Erasure::Erased);
+            }
         }
+    }
+
+    /// Erases a clause that no own update has erased.
+    fn erase_now(&mut self, target: Target) -> Result<(), AllocError>
+        requires fresh { erased_in target self.old.updates.items ≡ false }
+        requires open { IsOpen (state_of self.old) }
+        requires kept { IsOverlay self.old }
+        ensures erased { OnOk result (state_of self.new ≡ added (erasing target) (state_of self.old)) }
+        ensures refused { OnErr result (state_of self.new ≡ state_of self.old) }
+        ensures kept { IsOverlay self.new }
+    {
         self.updates.reserve(1)?;
         self.marks.reserve(1)?;
         let number = self.updates.len() as u64;
         erase_in(&mut self.draft, &target, number)?;
         append(&mut self.updates, target.erasing());
         mark(&mut self.marks, target, number);
-        Ok(Erasure::Erased)
+        Ok(())
     }
 
     /// Ends the innermost transaction or snapshot, with success or without.
@@ -198,13 +213,21 @@ impl Overlay {
         }
     }
 
+    /// Whether one of the first `m` updates named the procedure.
+    pub(crate) fn exists(&self, m: u64, pred: &Indicator) -> bool
+        requires { IsTracked self.now }
+        ensures { (b : ℕ) → result ≡ exists (own_batch b m self.now.updates.items) pred.now }
+    {
+        self.draft.exists(m, pred)
+    }
+
     /// Whether one of the first `m` updates erased a clause.
     pub(crate) fn erased(&self, m: u64, target: Target) -> bool
         requires { IsTracked self.now }
         ensures { result ≡ erased_in target (take m self.now.updates.items) }
     {
-        match self.marks.get(&target) {
-            Some(number) => *number < m,
+        match marked(&self.marks, &target) {
+            Some(number) => number < m,
             None => false,
         }
     }

@@ -104,7 +104,7 @@ impl Own {
     pub fn exists_own(&self, m: u64, pred: &Indicator) -> bool
         ensures { (b : ℕ) → result ≡ exists (own_batch b m self.now.updates) pred.now }
     {
-        self.overlay.draft.exists(m, pred)
+        self.overlay.exists(m, pred)
     }
 
     /// Whether one of the first `m` updates erased a clause.
