@@ -11,6 +11,7 @@ use Rattle.plstore.specs.declared.record.Record.{Record}
 use Rattle.plstore.specs.declared.record.Declared.{Declared}
 use Rattle.plstore.specs.Cut.{cut, erased_below, restored}
 use Rattle.plstore.specs.Kept.{Kept, keep, keep_record, keep_declared, kept, noted, made, nothing, changed_where, change_if, erase_at, first_of, is_named}
+use Rattle.std.proofs.lemmas.List.{append-nil}
 use Rattle.std.proofs.lemmas.List.Sums.{fold-append}
 use Rattle.plstore.specs.Rising.{AllBelowPlace, AllUnder, Rises}
 
@@ -62,10 +63,6 @@ noted-push g (e ∷ ds) d = ap (λ l. cond (is_before g e) (e ∷ l) l) (noted-p
     out true = refl
     out false = refl
 
-nil-after : {A : Type 0} (xs : List A) → xs ++ [] ≡ xs
-nil-after [] = refl
-nil-after (x ∷ xs) = ap (λ l. x ∷ l) (nil-after xs)
-
 -- an erasure at g or above goes
 restored-above : (g b : ℕ) (o : Option ℕ) → g ≤ b → erased_below g (first_of o b) ≡ erased_below g o
 restored-above g b None h = ap (λ v. add_if v (Some b) None) (lt-false b g h)
@@ -90,7 +87,7 @@ erase-above g b y (r ∷ rs) h =
 
 made-above : (g : ℕ) (x : ClauseName) (c : Clause) (f : Bool) (rs : List Record) → g ≤ x.place → records_cut g (rs ++ made x c f ∷ []) ≡ records_cut g rs
 made-above g x c f rs h = cut-push g rs (made x c f)
-    ∙ ap (λ l. records_cut g rs ++ l) (cut-cons g (made x c f) [] ∙ ap (λ v. cond v (restored g (made x c f) ∷ []) []) (lt-false x.place g h)) ∙ nil-after (records_cut g rs)
+    ∙ ap (λ l. records_cut g rs ++ l) (cut-cons g (made x c f) [] ∙ ap (λ v. cond v (restored g (made x c f) ∷ []) []) (lt-false x.place g h)) ∙ append-nil (records_cut g rs)
 
 kept-above : (g : ℕ) (x : ClauseName) (u : Update) (rs : List Record) → g ≤ x.place → records_cut g (kept x u rs) ≡ records_cut g rs
 kept-above g x (First c) rs h = made-above g x c true rs h
@@ -105,7 +102,7 @@ noted-above g x (Last c) ds h = refl
 noted-above g x (Erase y) ds h = refl
 noted-above g x (EraseOwn k) ds h = refl
 noted-above g x (Declare q) ds h = noted-push g ds (record { pred = q; place = x.place })
-    ∙ ap (λ v. filter (is_before g) ds ++ cond v (record { pred = q; place = x.place } ∷ []) []) (lt-false x.place g h) ∙ nil-after (filter (is_before g) ds)
+    ∙ ap (λ v. filter (is_before g) ds ++ cond v (record { pred = q; place = x.place } ∷ []) []) (lt-false x.place g h) ∙ append-nil (filter (is_before g) ds)
 
 pub cut-above : (g : ℕ) (k : Kept) (s : Stamped) → g ≤ s.at.place → cut g (keep k s) ≡ cut g k
 cut-above g k s h = ap₂ kept_of (kept-above g s.at s.update k.records h) (noted-above g s.at s.update k.declared h)

@@ -1,5 +1,5 @@
 -- Own updates as a draft keeps them.
-use Rattle.std.proofs.Common.{◌≡◌, ◌+◌, ◌<◌, ◌≤◌, refl, sym, ◌∙◌, ap, ap₂, subst, arith, ℕ, zero, suc, Bool, true, false, cond, List, [], ◌∷◌, ◌++◌, Some, None, length, take, drop, nat_lt, fold}
+use Rattle.std.proofs.Common.{◌≡◌, ◌+◌, ◌<◌, ◌≤◌, refl, sym, ◌∙◌, ap, ap₂, subst, arith, ℕ, zero, suc, Bool, true, false, cond, List, [], ◌∷◌, ◌++◌, Some, None, length, take, drop, nat_lt, fold, append_assoc}
 use Rattle.std.specs.Prelude.{◌||◌}
 use Rattle.std.specs.HashMap.{get}
 use Rattle.std.specs.List.{list_any}
@@ -33,13 +33,9 @@ drafts-addition k (Declare q) h = refl
 drafts-addition k (Erase y) h = absurd h
 drafts-addition k (EraseOwn j) h = absurd h
 
-append-assoc : {A : Type 0} (xs ys zs : List A) → (xs ++ ys) ++ zs ≡ xs ++ (ys ++ zs)
-append-assoc [] ys zs = refl
-append-assoc (x ∷ xs) ys zs = ap (λ l. x ∷ l) (append-assoc xs ys zs)
-
 drafted-push : (k n : ℕ) (us : List Update) (u : Update) → n ≡ k + length us → drafted k (us ++ u ∷ []) ≡ drafted k us ++ drafts n u
 drafted-push k n [] u e = append-nil (drafts k u) ∙ ap (λ k. drafts k u) (omega arith)
-drafted-push k n (v ∷ us) u e = ap (λ l. drafts k v ++ l) (drafted-push (suc k) n us u (omega arith)) ∙ sym (append-assoc (drafts k v) (drafted (suc k) us) (drafts n u))
+drafted-push k n (v ∷ us) u e = ap (λ l. drafts k v ++ l) (drafted-push (suc k) n us u (omega arith)) ∙ sym (append_assoc (drafts k v) (drafted (suc k) us) (drafts n u))
 
 -- places rise with the numbers
 drafts-rise : (b k : ℕ) (u : Update) (ss : List Stamped) → b ≤ k → Rises b ss → Rises k ss → Rises b (drafts k u ++ ss)

@@ -1,5 +1,5 @@
 -- Targets that a test finds equal are the same.
-use Rattle.std.proofs.Common.{◌≡◌, refl, sym, ◌∙◌, ap, ap₂, arith, ℕ, Bool, true, false, List, [], ◌∷◌, Option, Some, cond}
+use Rattle.std.proofs.Common.{◌≡◌, refl, ap, ap₂, arith, Bool, true, false, List, [], ◌∷◌, Some, cond}
 use Rattle.std.specs.HashMap.{HashMap, get}
 use Rattle.std.specs.Map.{lookup}
 use Rattle.std.specs.declared.hash.FoldHasher.{FoldHasher}
@@ -7,6 +7,7 @@ use Rattle.std.specs.declared.hash.BuildHasherDefault.{BuildHasherDefault}
 use Rattle.std.proofs.lemmas.Bool.Decides.{nat_tests}
 use Rattle.plevent.specs.declared.update.ClauseName.{ClauseName}
 use Rattle.plevent.specs.Alive.{same_name, add_if}
+use Rattle.plstore.proofs.Same.{nat-same, nat-self}
 use Rattle.pltx.specs.declared.target.Target.{Target}
 use Rattle.pltx.specs.declared.target.Target.TheVariants.{Committed, Own}
 use Rattle.pltx.specs.Own.{same_target}
@@ -18,17 +19,11 @@ name-same x y h = let p : x.place ≡ y.place = grind (arith, nat_tests) in let 
 name-self : (x : ClauseName) → same_name x x ≡ true
 name-self x = grind (arith, nat_tests)
 
-nat-is : (j k : ℕ) → Rattle.std.proofs.Common.nat_eq j k ≡ true → j ≡ k
-nat-is j k h = grind (arith, nat_tests)
-
-nat-self : (k : ℕ) → Rattle.std.proofs.Common.nat_eq k k ≡ true
-nat-self k = grind (arith, nat_tests)
-
 pub target-same : (s t : Target) → same_target s t ≡ true → s ≡ t
 target-same (Committed x) (Committed y) h = ap Committed (name-same x y h)
 target-same (Committed x) (Own k) h = absurd (cc)
 target-same (Own k) (Committed x) h = absurd (cc)
-target-same (Own j) (Own k) h = ap Own (nat-is j k h)
+target-same (Own j) (Own k) h = ap Own (nat-same j k h)
 
 pub target-self : (t : Target) → same_target t t ≡ true
 target-self (Committed x) = name-self x
