@@ -8,3 +8,4 @@ pub mod Seeking
 pub mod Finding
 pub mod Sweeping
 pub mod Trying
+pub mod Asking
