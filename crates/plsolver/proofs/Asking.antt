@@ -1,5 +1,5 @@
 -- A look-up asks nothing twice, and what is behind a name is what is behind the next one and that one.
-use Rattle.std.proofs.Common.{◌≡◌, ◌≢◌, ℕ, Bool, true, false, cond, List, [], ◌∷◌, filter, Option, Some, None, refl, sym, ap, ◌∙◌, subst, arith}
+use Rattle.std.proofs.Common.{◌≡◌, ◌≢◌, Bool, true, false, cond, List, [], ◌∷◌, filter, Option, Some, None, refl, sym, ap, ◌∙◌, subst, arith}
 use Rattle.std.specs.List.{flat_map, AllByRecursion}
 use Rattle.std.proofs.lemmas.Bool.{false≢true}
 use Rattle.std.proofs.lemmas.Bool.Decides.{nat_tests}
@@ -57,47 +57,47 @@ none-swap x y (z ∷ zs) e n = (same-swap x y z.name e ∙ n.0, none-swap x y zs
 -- a name is not behind itself
 none-behind : (x : ClauseName) (ys : List Living) → Apart ys → NoneNamed x (past x ys)
 none-behind x [] a = tt
-none-behind x (y ∷ ys) a = by-case (same_name x y.name) refl
+none-behind x (y ∷ ys) a = by-case (same_name x y.name) refl (none-behind x ys a.1)
   where
-    by-case : (b : Bool) → same_name x y.name ≡ b → NoneNamed x (add_if b ys (past x ys))
-    by-case true e = none-swap x y.name ys e a.0
-    by-case false e = none-behind x ys a.1
+    by-case : (b : Bool) → same_name x y.name ≡ b → NoneNamed x (past x ys) → NoneNamed x (add_if b ys (past x ys))
+    by-case true e n = none-swap x y.name ys e a.0
+    by-case false e n = n
 
 module _ (t : Living → Bool) where
   -- the first name that passes a test is that of none that the list has not
   first-other : (z y : ClauseName) (xs : List Living) → NoneNamed z xs → head (names_of (filter t xs)) ≡ Some y → same_name y z ≡ false
   first-other z y [] n e = absurd (cc)
-  first-other z y (x ∷ xs) n e = by-case (t x) e
+  first-other z y (x ∷ xs) n e = by-case (t x) (first-other z y xs n.1) e
     where
-      by-case : (b : Bool) → head (names_of (cond b (x ∷ filter t xs) (filter t xs))) ≡ Some y → same_name y z ≡ false
-      by-case true h = let is : x.name ≡ y = cc in other-back z y (subst (λ w. same_name z w ≡ false) is n.0)
-      by-case false h = first-other z y xs n.1 h
+      by-case : (b : Bool) → (head (names_of (filter t xs)) ≡ Some y → same_name y z ≡ false) → head (names_of (cond b (x ∷ filter t xs) (filter t xs))) ≡ Some y → same_name y z ≡ false
+      by-case true r h = let is : x.name ≡ y = cc in other-back z y (subst (λ w. same_name z w ≡ false) is n.0)
+      by-case false r h = r h
 
   -- where it stands first, those behind it follow
   first-then : (y : ClauseName) (xs : List Living) → Apart xs → head (names_of (filter t xs)) ≡ Some y → names_of (filter t xs) ≡ y ∷ names_of (filter t (past y xs))
   first-then y [] a e = absurd (cc)
-  first-then y (x ∷ xs) a e = by-case (t x) e
+  first-then y (x ∷ xs) a e = by-case (t x) (first-then y xs a.1) e
     where
-      by-case : (b : Bool) → head (names_of (cond b (x ∷ filter t xs) (filter t xs))) ≡ Some y → names_of (cond b (x ∷ filter t xs) (filter t xs)) ≡ y ∷ names_of (filter t (past y (x ∷ xs)))
-      by-case true h =
+      by-case : (b : Bool) → (head (names_of (filter t xs)) ≡ Some y → names_of (filter t xs) ≡ y ∷ names_of (filter t (past y xs))) → head (names_of (cond b (x ∷ filter t xs) (filter t xs))) ≡ Some y → names_of (cond b (x ∷ filter t xs) (filter t xs)) ≡ y ∷ names_of (filter t (past y (x ∷ xs)))
+      by-case true r h =
           let is : x.name ≡ y = cc in
           subst (λ w. x.name ∷ names_of (filter t xs) ≡ w ∷ names_of (filter t (past w (x ∷ xs)))) is
           (ap (λ b. x.name ∷ names_of (filter t (add_if b xs (past x.name xs)))) (sym (same-self x.name)))
-      by-case false h =
-          first-then y xs a.1 h
+      by-case false r h =
+          r h
           ∙ ap (λ b. y ∷ names_of (filter t (add_if b xs (past y xs)))) (sym (first-other x.name y xs a.0 h))
 
   -- and so behind a name
   next-then : (x y : ClauseName) (zs : List Living) → Apart zs → head (names_of (filter t (past x zs))) ≡ Some y → names_of (filter t (past x zs)) ≡ y ∷ names_of (filter t (past y zs))
   next-then x y [] a e = absurd (cc)
-  next-then x y (z ∷ zs) a e = by-case (same_name x z.name) e
+  next-then x y (z ∷ zs) a e = by-case (same_name x z.name) (next-then x y zs a.1) e
     where
-      by-case : (b : Bool) → head (names_of (filter t (add_if b zs (past x zs)))) ≡ Some y → names_of (filter t (add_if b zs (past x zs))) ≡ y ∷ names_of (filter t (past y (z ∷ zs)))
-      by-case true h =
+      by-case : (b : Bool) → (head (names_of (filter t (past x zs))) ≡ Some y → names_of (filter t (past x zs)) ≡ y ∷ names_of (filter t (past y zs))) → head (names_of (filter t (add_if b zs (past x zs)))) ≡ Some y → names_of (filter t (add_if b zs (past x zs))) ≡ y ∷ names_of (filter t (past y (z ∷ zs)))
+      by-case true r h =
           first-then y zs a.1 h
           ∙ ap (λ b. y ∷ names_of (filter t (add_if b zs (past y zs)))) (sym (first-other z.name y zs a.0 h))
-      by-case false h =
-          next-then x y zs a.1 h
+      by-case false r h =
+          r h
           ∙ ap (λ b. y ∷ names_of (filter t (add_if b zs (past y zs)))) (sym (first-other z.name y (past x zs) (none-past z.name x zs a.0) h))
 
 -- behind a cursor are the next name and those behind it, if there is one
@@ -130,19 +130,23 @@ module _ (a b : ClauseName → Query) (others : (x y : ClauseName) → same_name
 
       by-case : (v : Bool) → Absent (a x) (asked (names_of (filter t ys))) × Absent (b x) (asked (names_of (filter t ys))) →
           Absent (a x) (asked (names_of (cond v (y ∷ filter t ys) (filter t ys)))) × Absent (b x) (asked (names_of (cond v (y ∷ filter t ys) (filter t ys))))
-      by-case true r = ((other.0, (crossed x y.name).0, r.0), ((crossed x y.name).1, other.1, r.1))
+      by-case true r = ((other.0, ((crossed x y.name).0, r.0)), ((crossed x y.name).1, (other.1, r.1)))
       by-case false r = r
 
+  one-more : (x : ClauseName) (ys : List Living) → NoneNamed x ys → EachOnce (asked (names_of (filter t ys))) → EachOnce (asked (x ∷ names_of (filter t ys)))
+  one-more x ys n once = (((crossed x x).0, (neither x ys n).0), ((neither x ys n).1, once))
+
   each-once : (ys : List Living) → Apart ys → EachOnce (asked (names_of (filter t ys)))
-  each-from : (x : ClauseName) (ys : List Living) → NoneNamed x ys → Apart ys → EachOnce (asked (x ∷ names_of (filter t ys)))
   each-once [] apart = tt
-  each-once (y ∷ ys) apart = elim (t y) as (λ v. EachOnce (asked (names_of (cond v (y ∷ filter t ys) (filter t ys))))) [ true ↦ each-from y.name ys apart.0 apart.1 | false ↦ each-once ys apart.1 ]
-  each-from x ys n apart = (((crossed x x).0, (neither x ys n).0), ((neither x ys n).1, each-once ys apart))
+  each-once (y ∷ ys) apart = elim (t y) as (λ v. EachOnce (asked (names_of (cond v (y ∷ filter t ys) (filter t ys))))) [ true ↦ one-more y.name ys apart.0 (each-once ys apart.1) | false ↦ each-once ys apart.1 ]
+
+  each-from : (x : ClauseName) (ys : List Living) → NoneNamed x ys → Apart ys → EachOnce (asked (x ∷ names_of (filter t ys)))
+  each-from x ys n apart = one-more x ys n (each-once ys apart)
 
   -- what is none of them is absent
   absent-all : (q : Query) → ((x : ClauseName) → (q ≢ a x) × (q ≢ b x)) → (xs : List ClauseName) → Absent q (asked xs)
   absent-all q h [] = tt
-  absent-all q h (x ∷ xs) = ((h x).0, (h x).1, absent-all q h xs)
+  absent-all q h (x ∷ xs) = ((h x).0, ((h x).1, absent-all q h xs))
 
 like-other : (h : Tree) (x y : ClauseName) → same_name x y ≡ false → like h (After x) ≢ like h (After y)
 like-other h x y e is = other-is x y e (cc)

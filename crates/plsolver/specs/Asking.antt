@@ -1,5 +1,5 @@
 -- What a look-up, and the walk that it becomes, may still ask.
-use Rattle.std.specs.Prelude.{◌≡◌, ◌≢◌, List, [], ◌∷◌, ◌++◌, filter, Option, None, Some}
+use Rattle.std.specs.Prelude.{◌≢◌, List, [], ◌∷◌, filter, Option, None, Some}
 use Rattle.std.specs.List.{flat_map, AllByRecursion}
 use Rattle.plterm.specs.Tree.{Tree}
 use Rattle.plcells.specs.Store.{Store, value}
