@@ -1,3 +1,4 @@
+pub mod Ending
 pub mod Runs
 pub mod Cutting
 pub mod Quiets
@@ -9,3 +10,4 @@ pub mod Finding
 pub mod Sweeping
 pub mod Trying
 pub mod Asking
+pub mod Asked

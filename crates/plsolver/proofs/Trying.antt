@@ -33,7 +33,7 @@ use Rattle.plstack.specs.declared.walk.Walking.{Walking}
 use Rattle.plstore.specs.declared.query.Query.{Query}
 use Rattle.plsearch.specs.Solving.{Goes}
 use Rattle.plstack.specs.Places.{Database, candidate_of, head_in, left_at, left_if, onward_if, text_candidate, tried}
-use Rattle.plstack.specs.State.{State, cases_of, goals_in, RetriesBy}
+use Rattle.plstack.specs.State.{State, cases_of, goals_in, walks_in, RetriesBy}
 use Rattle.plstack.specs.StaticCalls.{database_of}
 use Rattle.plstack.specs.Walks.{AtWalk, EndsPlain, Finds, GoesOn, goal_at}
 use Rattle.plstack.proofs.Looking.{clause-none, clause-some, next-same}
@@ -204,6 +204,7 @@ pub record AtText (old new : Progress) (from to : Walking) (k : ℕ) (cs : List 
   pub goal : value new.machine.stack.env.heap to.walk.goal ≡ value old.machine.stack.env.heap from.walk.goal
   pub cases : (P : Program) (v : Views) → cs ≡ clauses_for P (indicator (head_in from.walk.uses (value old.machine.stack.env.heap from.walk.goal))) → cases_of (database_of P v) new.machine.stack ≡ cases_of (database_of P v) old.machine.stack
   pub basis : new.machine.stack.basis ≡ old.machine.stack.basis
+  pub walks : walks_in new.machine.stack ≡ walks_in old.machine.stack
   pub frame : new ≡ record old { machine = record old.machine { stack = new.machine.stack } }
 
 -- they are still the procedure's

@@ -122,6 +122,6 @@ pub record WalkAsked (v : Views) (w : Walk) (old new : Reached) (q : Query) : Ty
   pub left : WalkLeft v (head_in w.uses (value old.stack.env.heap w.goal)) w.goal w.uses others outside (walks_in new.stack)
 
 -- what was asked was the first that the look-up in hand, or the innermost walk, could ask
-pub record Asked (v : Views) (old new : Reached) (q : Query) : Type 0 where
+pub record AsksNext (v : Views) (old new : Reached) (q : Query) : Type 0 where
   pub find : (f : Find) → old.mode ≡ modes.Find f → FindAsked v f old new q
   pub walk : (p : Point) (w : Walk) → AtWalk old.stack p w → old.mode ≡ modes.Back outcomes.Fail → WalkAsked v w old new q

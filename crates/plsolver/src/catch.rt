@@ -4,7 +4,7 @@
 
 ghost use Rattle.std.specs.Prelude.{◌≡◌, ◌-◌, true, OnOk, OnErr};
 ghost use Rattle.plcells.specs.Store.{IsValue};
-ghost use Rattle.plstack.specs.State.{HasCatcher, HasGatherer, HasHandler, IsList};
+ghost use Rattle.plstack.specs.State.{EndsWalks, HasCatcher, HasGatherer, HasHandler, IsList};
 ghost use Rattle.plmachine.specs.Machine.{depth_of};
 ghost use Rattle.plsolver.specs.Solver.{IsBack, Stays, Quiet, throws_to, Recovered, Rethrown};
 
@@ -27,6 +27,7 @@ impl Progress {
         requires throws { throws_to (depth_of self.old.machine - 1) self.old.machine.mode ≡ true }
         ensures ok { OnOk result (Quiet program.now self.old self.new) }
         ensures err { OnErr result (Stays program.now self.old self.new) }
+        ensures walks { EndsWalks self.old.machine.stack self.new.machine.stack }
     {
         let Handling { handler, list } = self.machine.stack.rewind();
         let Handler::Catch(catcher) = handler else {
@@ -53,6 +54,7 @@ impl Progress {
         requires fails { self.old.machine.mode ≡ Mode.Back Outcome.Fail }
         ensures ok { OnOk result (Quiet program.now self.old self.new) }
         ensures err { OnErr result (Stays program.now self.old self.new) }
+        ensures walks { EndsWalks self.old.machine.stack self.new.machine.stack }
     {
         let Handling { handler, list } = self.machine.stack.rewind();
         let Handler::Gather(whole) = handler else {
@@ -83,6 +85,7 @@ impl Progress {
         requires list { IsList self.old.machine.stack list }
         ensures ok { OnOk result (Recovered program.now self.old self.new recovery list) }
         ensures err { OnErr result (Stays program.now self.old self.new) }
+        ensures walks { EndsWalks self.old.machine.stack self.new.machine.stack }
     {
         match self.machine.ready(recovery)? {
             Ready::Raises(error) => self.rethrow(program, error, list),
@@ -108,6 +111,7 @@ impl Progress {
         requires list { IsList self.old.machine.stack list }
         ensures ok { OnOk result (Rethrown program.now self.old self.new error list) }
         ensures err { OnErr result (self.new ≡ self.old) }
+        ensures walks { EndsWalks self.old.machine.stack self.new.machine.stack }
     {
         let alloc = self.machine.alloc;
         let p = error::catch(alloc)?;

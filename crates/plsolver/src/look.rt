@@ -14,7 +14,7 @@ ghost use Rattle.plstore.specs.Rising.{Ordered};
 ghost use Rattle.plstore.specs.declared.record.Cursor.TheVariants.{Start as StartOf};
 ghost use Rattle.plstore.specs.Looking.{Views};
 ghost use Rattle.plstack.specs.Places.{head_in};
-ghost use Rattle.plstack.specs.State.{goals_of};
+ghost use Rattle.plstack.specs.State.{goals_of, walks_in};
 ghost use Rattle.plmachine.specs.Machine.{local_of, Moved};
 ghost use Rattle.plmachine.specs.declared.machine.Find.TheVariants.{Exists as ExistsOf, First as FirstOf};
 ghost use Rattle.plmachine.specs.declared.machine.Mode.TheVariants.{Find as Finds};
@@ -44,6 +44,7 @@ impl Progress {
         ensures places { OnOk result (self.new.places.items ≡ self.old.places.items ++ g ∷ []) }
         ensures limit { self.new.limit ≡ self.old.limit }
         ensures err { OnErr result (Stays program.now self.old self.new) }
+        ensures walks { walks_in self.new.machine.stack ≡ walks_in self.old.machine.stack }
     {
         let Mode::Ask(question) = &self.machine.mode else {
             unreachable!()

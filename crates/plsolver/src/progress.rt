@@ -2,6 +2,7 @@
 
 ghost use Rattle.std.specs.Prelude.{◌≡◌, ◌+◌, ◌≤◌, [], IfOk, OnOk, OnErr};
 ghost use Rattle.plprogram.specs.Program.{Program as Given};
+ghost use Rattle.plstack.specs.State.{walks_in, EndsWalks};
 ghost use Rattle.plstore.specs.Looking.{Views};
 ghost use Rattle.plsearch.specs.Search.{search_of};
 ghost use Rattle.plsearch.specs.Solving.{Begins};
@@ -65,6 +66,7 @@ impl Progress {
         ensures latest { IfOk result (λ s. s.machine.stack.basis.latest ≡ 0) }
         ensures limit { IfOk result (λ s. s.limit ≡ limit) }
         ensures places { IfOk result (λ s. s.places.items ≡ []) }
+        ensures walks { IfOk result (λ s. walks_in s.machine.stack ≡ []) }
     {
         let machine = start(alloc, program)?;
         Ok(Progress {
@@ -88,6 +90,7 @@ impl Progress {
         ensures fuel { self.new.used ≤ self.old.used + fuel }
         ensures slice { IfOk result (λ turn. IsSlice turn → self.new.used ≡ self.old.used + fuel) }
         ensures says { IfOk result (λ turn. Says program.now self.new turn) }
+        ensures walks { EndsWalks self.old.machine.stack self.new.machine.stack }
     {
         let mut left = fuel;
         loop {
@@ -116,6 +119,7 @@ impl Progress {
         ensures of { IsOf program.now self.new.machine }
         ensures basis { self.new.machine.stack.basis ≡ self.old.machine.stack.basis }
         ensures err { OnErr result (Stays program.now self.old self.new) }
+        ensures walks { EndsWalks self.old.machine.stack self.new.machine.stack }
     {
         self.select(program, &selected)?;
         self.used += 1;
@@ -142,6 +146,7 @@ impl Progress {
         ensures basis { self.new.machine.stack.basis ≡ self.old.machine.stack.basis }
         ensures frame { self.new ≡ record self.old { machine = self.new.machine } }
         ensures err { OnErr result (Stays program.now self.old self.new) }
+        ensures walks { EndsWalks self.old.machine.stack self.new.machine.stack }
     {
         match selected {
             Selected::Both(next) => {
@@ -165,6 +170,7 @@ impl Progress {
         ensures limit { self.new.limit ≡ self.old.limit }
         ensures places { self.new.places.items ≡ self.old.places.items }
         ensures due { IfOk result (λ due. Settled program.now self.new due) }
+        ensures walks { EndsWalks self.old.machine.stack self.new.machine.stack }
     {
         loop {
             match self.quiet_turn(program)? {

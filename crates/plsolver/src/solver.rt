@@ -2,6 +2,7 @@
 
 ghost use Rattle.std.specs.Prelude.{◌≡◌, ℕ, ◌+◌, ◌≤◌, [], ◌∷◌, ◌++◌, IfOk, OnOk, OnErr};
 ghost use Rattle.plevent.specs.Search.{Seen, Got};
+ghost use Rattle.plstack.specs.State.{walks_in, EndsWalks};
 ghost use Rattle.plstore.specs.Looking.{Views, found as found_of};
 ghost use Rattle.plstore.specs.Rising.{Ordered};
 ghost use Rattle.plsearch.specs.Search.{search_of};
@@ -58,6 +59,7 @@ impl Solver {
         ensures latest { IfOk result (λ s. latest_view s ≡ 0) }
         ensures limit { IfOk result (λ s. s.limit ≡ limit) }
         ensures places { IfOk result (λ s. s.places.items ≡ []) }
+        ensures walks { IfOk result (λ s. walks_in s.machine.stack ≡ []) }
     {
         let progress = Progress::new(alloc, program, limit)?;
         Ok(Solver { progress })
@@ -96,6 +98,7 @@ impl Solver {
         ensures fuel { self.new.used ≤ self.old.used + fuel }
         ensures slice { IfOk result (λ turn. IsSlice turn → self.new.used ≡ self.old.used + fuel) }
         ensures says { IfOk result (λ turn. Says program.now self.new turn) }
+        ensures walks { EndsWalks self.old.machine.stack self.new.machine.stack }
     {
         self.progress.advance(program, fuel)
     }
@@ -111,6 +114,7 @@ impl Solver {
         ensures latest { latest_view self.new ≡ latest_view self.old }
         ensures limit { self.new.limit ≡ self.old.limit }
         ensures err { OnErr result (Stays program.now self.old self.new) }
+        ensures walks { walks_in self.new.machine.stack ≡ walks_in self.old.machine.stack }
     {
         self.progress.reply(program, place, reply)
     }
@@ -126,6 +130,7 @@ impl Solver {
         ensures latest { OnOk result (latest_view self.new ≡ g) }
         ensures limit { self.new.limit ≡ self.old.limit }
         ensures err { OnErr result (Stays program.now self.old self.new) }
+        ensures walks { walks_in self.new.machine.stack ≡ walks_in self.old.machine.stack }
     {
         self.progress.refreshed(program, g)
     }

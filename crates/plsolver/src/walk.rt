@@ -15,7 +15,7 @@ ghost use Rattle.plstore.specs.declared.record.Cursor.TheVariants.{After as Afte
 ghost use Rattle.plstack.specs.declared.frame.Spot.TheVariants.{At as AtOf, Known as KnownOf, Text as TextOf};
 ghost use Rattle.plstack.specs.Frames.{IsSpotSeen};
 ghost use Rattle.plstack.specs.Places.{head_in};
-ghost use Rattle.plstack.specs.State.{cases_of, HasWalk, RetriesBy};
+ghost use Rattle.plstack.specs.State.{cases_of, walks_in, EndsWalks, HasWalk, RetriesBy};
 ghost use Rattle.plstack.specs.StaticCalls.{database_of};
 ghost use Rattle.plstack.specs.Walks.{AtWalk};
 ghost use Rattle.plsolver.specs.Solver.{IsOf, KeepsRest, Quiet, Settled, spot_if, Stays};
@@ -42,6 +42,7 @@ impl Progress {
         ensures on { IfOk result (λ o. IfNone o (Quiet program.now self.old self.new)) }
         ensures due { IfOk result (λ o. IfSome o (λ due. Settled program.now self.new due × Stays program.now self.old self.new)) }
         ensures err { OnErr result (Stays program.now self.old self.new) }
+        ensures walks { EndsWalks self.old.machine.stack self.new.machine.stack }
     {
         let at = self.machine.stack.rewind_walk();
         match at.walk.spot {
@@ -65,6 +66,7 @@ impl Progress {
         requires text { at.walk.spot ≡ TextOf number }
         ensures ok { OnOk result (Quiet program.now self.old self.new) }
         ensures err { OnErr result (Stays program.now self.old self.new) }
+        ensures walks { EndsWalks self.old.machine.stack self.new.machine.stack }
     {
         let heap = self.machine.stack.env().heap();
         let head = head_of(heap, at.walk.uses, at.walk.goal);
@@ -92,6 +94,7 @@ impl Progress {
         ensures err { OnErr result ((P : Given) (v : Views) → clauses.now ≡ clauses_for P (indicator (head_in at.walk.uses (value self.old.machine.stack.env.heap at.walk.goal))) → cases_of (database_of P v) self.new.machine.stack ≡ cases_of (database_of P v) self.old.machine.stack) }
         ensures basis { self.new.machine.stack.basis ≡ self.old.machine.stack.basis }
         ensures frame { self.new ≡ record self.old { machine = record self.old.machine { stack = self.new.machine.stack } } }
+        ensures walks { walks_in self.new.machine.stack ≡ walks_in self.old.machine.stack }
     {
         let mut at = at;
         let mut number = number;
@@ -125,6 +128,7 @@ impl Progress {
         ensures err { OnErr result ((P : Given) (v : Views) → cases_of (database_of P v) self.new.machine.stack ≡ cases_of (database_of P v) self.old.machine.stack) }
         ensures basis { self.new.machine.stack.basis ≡ self.old.machine.stack.basis }
         ensures frame { self.new ≡ record self.old { machine = record self.old.machine { stack = self.new.machine.stack } } }
+        ensures walks { walks_in self.new.machine.stack ≡ walks_in self.old.machine.stack }
     {
         match clauses.get(number) {
             Some(clause) => {

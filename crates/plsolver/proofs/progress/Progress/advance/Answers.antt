@@ -2,6 +2,7 @@ use Rattle.std.proofs.Common.{◌∙◌, arith}
 use Rattle.plsolver.specs.Solver.{Settled}
 use Rattle.plsolver.specs.Says.{Says}
 use Rattle.plsolver.proofs.Runs.{goes_on, says-look}
+use Rattle.plsolver.proofs.Ending.{ends_trans}
 use Rattle.plsolver.proofs.progress.Progress.advance.Goals as goal
 
 pub returns-then-left-eq0-clause-says : goal.returns-then-left-eq0-clause-says
@@ -50,4 +51,5 @@ loop-selected-preserved c =
       limit = step.limit ∙ c.settle.ensures.limit ∙ i.limit;
       places = step.places ∙ c.settle.ensures.places ∙ i.places;
       basis = c.step.ensures.basis ∙ c.settle.ensures.basis ∙ i.basis;
+      walks = ends_trans s.machine.stack t.machine.stack c.step.new.self.machine.stack (ends_trans s.machine.stack c.loop-selected.self.machine.stack t.machine.stack i.walks c.settle.ensures.walks) c.step.ensures.walks;
     }

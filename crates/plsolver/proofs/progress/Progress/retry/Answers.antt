@@ -11,7 +11,7 @@ retry-requires-clause-statics c = (database_of c.args.program.now no_views, code
 pub returns-in_err-retry-clause-err : goal.returns-in_err-retry-clause-err
 returns-in_err-retry-clause-err c =
     let P = c.args.program.now in
-    on_err _ (stays-back P c.args.self.now c.retry.new.self _ c.requires.fails c.retry.ensures.basis (λ v. c.in_err-retry.ensures.err (database_of P v)))
+    on_err _ (stays-back P c.args.self.now c.retry.new.self _ c.requires.fails c.retry.ensures.basis c.retry.ensures.walks (λ v. c.in_err-retry.ensures.err (database_of P v)))
 
 pub returns-then-branch-clause-ok : goal.returns-then-branch-clause-ok
 returns-then-branch-clause-ok c =

@@ -6,7 +6,7 @@ use Rattle.plsolver.proofs.progress.Progress.retry_answers.Goals as goal
 pub returns-in_err-retry_answers-clause-err : goal.returns-in_err-retry_answers-clause-err
 returns-in_err-retry_answers-clause-err c =
     let P = c.args.program.now in
-    on_err _ (stays-back P c.args.self.now c.retry_answers.new.self _ c.requires.fails c.retry_answers.ensures.basis (λ v. c.in_err-retry_answers.ensures.err (database_of P v)))
+    on_err _ (stays-back P c.args.self.now c.retry_answers.new.self _ c.requires.fails c.retry_answers.ensures.basis c.retry_answers.ensures.walks (λ v. c.in_err-retry_answers.ensures.err (database_of P v)))
 
 pub returns-then-branch-clause-ok : goal.returns-then-branch-clause-ok
 returns-then-branch-clause-ok c =

@@ -29,7 +29,7 @@ returns-in_default-clause-clause-ok c = λ v g name y at is.
 pub returns-in_err-entered-clause-err : goal.returns-in_err-entered-clause-err
 returns-in_err-entered-clause-err c =
     let P = c.args.program.now in
-    on_err c.from_residual-in_err-entered.result (stays-back P c.args.self.now c.try_walk.new.self outcomes.Fail c.requires.fails c.try_walk.ensures.basis (λ v. c.in_err-entered.ensures.err (database_of P v)))
+    on_err c.from_residual-in_err-entered.result (stays-back P c.args.self.now c.try_walk.new.self outcomes.Fail c.requires.fails c.try_walk.ensures.basis c.in_err-entered.ensures.err_walks (λ v. c.in_err-entered.ensures.err (database_of P v)))
 
 pub returns-in_default-2-clause-ok : goal.returns-in_default-2-clause-ok
 returns-in_default-2-clause-ok c = λ v g name y at is.
