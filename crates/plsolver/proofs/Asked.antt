@@ -1,5 +1,6 @@
 -- What is left to ask, once a query was answered in its view.
-use Rattle.std.proofs.Common.{◌≡◌, ℕ, [], ◌∷◌, ◌++◌, inl, inr, Option, None, Some, refl, sym, ap, ap₂, ◌∙◌, subst}
+use Rattle.std.specs.Prelude.{Result as Outcomes, Ok, Err}
+use Rattle.std.proofs.Common.{OnOk, ◌≡◌, ℕ, [], ◌∷◌, ◌++◌, inl, inr, Option, None, Some, refl, sym, ap, ap₂, ◌∙◌, subst}
 use Rattle.plterm.specs.Tree.{Tree}
 use Rattle.plcells.specs.declared.cell.Cell.{Cell}
 use Rattle.plcells.specs.Store.{value}
@@ -30,6 +31,10 @@ use Rattle.plmachine.specs.Machine.{IsPlain}
 use Rattle.plsolver.specs.Solver.{like, mode_none, spot_if}
 use Rattle.plsolver.specs.Asking.{find_asks, first_asks, FindAsked, FindLeft, names_from, names_from_if, none_asks, reach_asks, spot_asks, sweep_asks, walk_asks, WalkAsked}
 use Rattle.plsolver.proofs.Asking.{behind-next}
+
+pub on_ok_both : {T E A B C : Type 0} (r : Outcomes T E) → (A → B → C) → OnOk r A → OnOk r B → OnOk r C
+on_ok_both (Ok x) f a b = f a b
+on_ok_both (Err e) f a b = tt
 
 -- ---- a look-up for the first clause
 

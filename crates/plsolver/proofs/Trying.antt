@@ -151,7 +151,7 @@ retries-same db s mid new x same r = record { others = r.others; older = r.older
 pub same-at : (g k : ℕ) (x y : ClauseName) → spots.At g x ≡ spots.At k y → (g ≡ k) × (x ≡ y)
 same-at g k x y e = (cc, cc)
 
-same-known : (g k : ℕ) (x y : ClauseName) (a b : Option ClauseName) → spots.Known g x a ≡ spots.Known k y b → (g ≡ k) × (x ≡ y)
+pub same-known : (g k : ℕ) (x y : ClauseName) (a b : Option ClauseName) → spots.Known g x a ≡ spots.Known k y b → (g ≡ k) × (x ≡ y)
 same-known g k x y a b e = (cc, cc)
 
 -- what was sought at a spot, by the names that it has in two ways

@@ -1,6 +1,8 @@
 //! Walks over clauses that go on: the next clause is tried, or what it takes to try it is asked.
 
 ghost use Rattle.std.specs.Prelude.{◌≡◌, ◌↔◌, ℕ, ◌+◌, ◌<◌, ◌≤◌, IsTrue, ◌∷◌, [], List, Option, length, IfNone, IfOk, IfSome, OnErr, OnOk};
+ghost use Rattle.plsolver.specs.Asking.{WalkAsked};
+ghost use Rattle.plstore.specs.declared.query.Query.TheVariants.{Clause as ClauseQuery};
 ghost use Rattle.plcells.specs.Store.{value};
 ghost use Rattle.plclause.specs.Indicators.{indicator};
 ghost use Rattle.plevent.specs.declared.update.ClauseName.{ClauseName as Named};
@@ -18,7 +20,7 @@ ghost use Rattle.plstack.specs.Places.{head_in};
 ghost use Rattle.plstack.specs.State.{cases_of, walks_in, EndsWalks, HasWalk, RetriesBy};
 ghost use Rattle.plstack.specs.StaticCalls.{database_of};
 ghost use Rattle.plstack.specs.Walks.{AtWalk};
-ghost use Rattle.plsolver.specs.Solver.{IsOf, KeepsRest, Quiet, Settled, spot_if, Stays};
+ghost use Rattle.plsolver.specs.Solver.{IsOf, KeepsRest, like, Quiet, Settled, spot_if, Stays};
 
 use crate::progress::{Due, Progress};
 use plclause::clause::Clause;
@@ -153,6 +155,7 @@ impl Progress {
         ensures of { (P : Given) → IsOf P self.old.machine → IsOf P self.new.machine }
         ensures basis { self.new.machine.stack.basis ≡ self.old.machine.stack.basis }
         ensures frame { self.new ≡ record self.old { machine = self.new.machine } }
+        ensures asked { (v : Views) (g : ℕ) (name : Named) → at.walk.spot ≡ AtOf g name → Ordered (v g) → next ≡ next_like_of (first_key (head_in at.walk.uses (value self.old.machine.stack.env.heap at.walk.goal))) (AfterOf name) (living (v g) (indicator (head_in at.walk.uses (value self.old.machine.stack.env.heap at.walk.goal)))) → WalkAsked v at.walk self.old.machine self.new.machine (like (head_in at.walk.uses (value self.old.machine.stack.env.heap at.walk.goal)) (AfterOf name)) }
     {
         let Spot::At(g, name) = at.walk.spot else {
             unreachable!()
@@ -178,6 +181,7 @@ impl Progress {
         ensures basis { self.new.machine.stack.basis ≡ self.old.machine.stack.basis }
         ensures frame { self.new ≡ record self.old { machine = self.new.machine } }
         ensures err { OnErr result (Stays program.now self.old self.new) }
+        ensures asked { OnOk result ((v : Views) (g : ℕ) (name : Named) (y : Option Named) → at.walk.spot ≡ KnownOf g name y → WalkAsked v at.walk self.old.machine self.new.machine (ClauseQuery name)) }
     {
         let Spot::Known(g, name, next) = at.walk.spot else {
             unreachable!()
