@@ -1,6 +1,6 @@
 -- What is left to ask, once a query was answered in its view.
 use Rattle.std.specs.Prelude.{Result as Outcomes, Ok, Err}
-use Rattle.std.proofs.Common.{OnOk, ◌≡◌, ℕ, [], ◌∷◌, ◌++◌, inl, inr, Option, None, Some, refl, sym, ap, ap₂, ◌∙◌, subst}
+use Rattle.std.proofs.Common.{OnOk, ◌≡◌, ◌⊎◌, ℕ, [], ◌∷◌, ◌++◌, inl, inr, Option, None, Some, refl, sym, ap, ap₂, ◌∙◌, subst}
 use Rattle.plterm.specs.Tree.{Tree}
 use Rattle.plcells.specs.declared.cell.Cell.{Cell}
 use Rattle.plcells.specs.Store.{value}
@@ -17,20 +17,24 @@ use Rattle.plstore.specs.Rising.{Ordered}
 use Rattle.plstack.specs.declared.frame.Use.{Use}
 use Rattle.plstack.specs.declared.frame.Use.TheVariants as uses
 use Rattle.plstack.specs.declared.frame.Spot.TheVariants as spots
+use Rattle.plstack.specs.declared.frame.Point.{Point}
 use Rattle.plstack.specs.declared.frame.Walk.{Walk}
 use Rattle.plstack.specs.Places.{head_in, viewed}
 use Rattle.plstack.specs.State.{walks_in, EndsWalks}
-use Rattle.plstack.specs.Walks.{Moves}
+use Rattle.plstack.specs.Walks.{AtWalk, Moves}
 use Rattle.plmachine.specs.declared.machine.Sought.{Sought}
 use Rattle.plmachine.specs.declared.machine.Sweep.{Sweep}
 use Rattle.plmachine.specs.declared.machine.Reach.TheVariants as reaches
 use Rattle.plmachine.specs.declared.machine.Find.TheVariants as finds
+use Rattle.plmachine.specs.declared.machine.Find.{Find}
+use Rattle.plmachine.specs.declared.machine.Outcome.TheVariants as outcomes
 use Rattle.plmachine.specs.declared.machine.Mode.TheVariants as modes
 use Rattle.plmachine.specs.declared.machine.Machine.{Machine as Reached}
 use Rattle.plmachine.specs.Machine.{IsPlain}
-use Rattle.plsolver.specs.Solver.{like, mode_none, spot_if}
-use Rattle.plsolver.specs.Asking.{find_asks, first_asks, FindAsked, FindLeft, names_from, names_from_if, none_asks, reach_asks, spot_asks, sweep_asks, walk_asks, WalkAsked}
+use Rattle.plsolver.specs.Solver.{find_query, find_view, like, mode_none, spot_if, Seeks, WalksOn}
+use Rattle.plsolver.specs.Asking.{AsksNext, find_asks, first_asks, FindAsked, FindLeft, names_from, names_from_if, none_asks, reach_asks, spot_asks, sweep_asks, walk_asks, WalkAsked}
 use Rattle.plsolver.proofs.Asking.{behind-next}
+use Rattle.plsolver.proofs.Seeking.{same-walking}
 
 pub on_ok_both : {T E A B C : Type 0} (r : Outcomes T E) → (A → B → C) → OnOk r A → OnOk r B → OnOk r C
 on_ok_both (Ok x) f a b = f a b
@@ -143,3 +147,29 @@ module _ (v : Views) (w : Walk) (s new : Reached) where
     plain = plain;
     left = inl (spots.At g y, m.walks, refl);
   }
+
+-- ---- what was asked
+
+-- by the look-up in hand
+pub seeks-of : (s : Reached) (g : ℕ) (q : Query) (f : Find) → s.mode ≡ modes.Find f → Seeks s g q ⊎ WalksOn s g q → (g ≡ find_view f) × (q ≡ find_query s.stack.env.heap f)
+seeks-of s g q f at (inl x) =
+    let e : modes.Find x.0 ≡ modes.Find f = sym x.1 ∙ at in
+    let same : x.0 ≡ f = cc in
+    (x.2 ∙ ap find_view same, x.3 ∙ ap (find_query s.stack.env.heap) same)
+seeks-of s g q f at (inr on) = let e : modes.Find f ≡ modes.Back outcomes.Fail = sym at ∙ on.fails in absurd cc
+
+pub asked-find : (v : Views) (s new : Reached) (f : Find) (q r : Query) → s.mode ≡ modes.Find f → q ≡ r → FindAsked v f s new r → AsksNext v s new q
+asked-find v s new f q r at is a = record {
+  find = λ x there.
+      let e : modes.Find f ≡ modes.Find x = sym at ∙ there in
+      let same : f ≡ x = cc in
+      subst (λ y. FindAsked v y s new q) same (subst (FindAsked v f s new) (sym is) a);
+  walk = λ p w there fails. let e : modes.Find f ≡ modes.Back outcomes.Fail = sym at ∙ fails in absurd cc;
+}
+
+-- by the innermost walk
+pub asked-walk : (v : Views) (s new : Reached) (p : Point) (w : Walk) (q r : Query) → AtWalk s.stack p w → s.mode ≡ modes.Back outcomes.Fail → q ≡ r → WalkAsked v w s new r → AsksNext v s new q
+asked-walk v s new p w q r at fails is a = record {
+  find = λ x there. let e : modes.Find x ≡ modes.Back outcomes.Fail = sym there ∙ fails in absurd cc;
+  walk = λ k u there again. subst (λ y. WalkAsked v y s new q) (same-walking s.stack p k w u at.walking there.walking) (subst (WalkAsked v w s new) (sym is) a);
+}

@@ -9,6 +9,7 @@ ghost use Rattle.plsearch.specs.Search.{search_of};
 ghost use Rattle.plsearch.specs.Solving.{Begins, Goes, TakesOne};
 ghost use Rattle.plsolver.specs.Solver.{Fetches, GoesTo, IsFoundFor, IsOf, Stays, latest_view, rest_of, WaitsForView, ReplyFits};
 ghost use Rattle.plmachine.specs.Machine.{MayAsk};
+ghost use Rattle.plsolver.specs.Asking.{AsksNext};
 ghost use Rattle.plsolver.specs.Says.{Says, IsSlice};
 
 use crate::progress::Progress;
@@ -157,6 +158,7 @@ impl Solver {
         ensures places { self.new.places.items ≡ self.old.places.items }
         ensures limit { self.new.limit ≡ self.old.limit }
         ensures err { OnErr result (Stays program.now self.old self.new) }
+        ensures asked { OnOk result ((v : Views) (g : ℕ) (q : Query) → Fetches self.old g q → Ordered (v g) → found ≡ found_of (v g) q → AsksNext v self.old.machine self.new.machine q) }
     {
         self.progress.fetched(program, found)
     }

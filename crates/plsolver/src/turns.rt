@@ -171,7 +171,7 @@ impl Progress {
     fn close_plain(&mut self, program: &Program)
         requires fails { self.old.machine.mode ≡ Mode.Back Outcome.Fail }
         requires plain { HasPlain self.old.machine.stack }
-        ensures { Quiet program.now self.old self.new }
+        ensures quiet { Quiet program.now self.old self.new }
         ensures walks { EndsWalks self.old.machine.stack self.new.machine.stack }
     {
         self.machine.stack.close_plain();
@@ -202,7 +202,7 @@ impl Progress {
     fn take_branch(&mut self, program: &Program)
         requires fails { self.old.machine.mode ≡ Mode.Back Outcome.Fail }
         requires branch { HasBranch self.old.machine.stack }
-        ensures { Quiet program.now self.old self.new }
+        ensures quiet { Quiet program.now self.old self.new }
         ensures walks { EndsWalks self.old.machine.stack self.new.machine.stack }
     {
         self.machine.stack.take_branch();

@@ -5,6 +5,7 @@ use Rattle.plsolver.specs.Solver.{Settled}
 use Rattle.plsolver.proofs.Catches.{stays-after}
 use Rattle.plsolver.proofs.Quiets.{stays-back}
 use Rattle.plsolver.proofs.Trying.{quiet-from, walk-asks}
+use Rattle.plsolver.proofs.Ending.{ends_same, ends_trans}
 use Rattle.plsolver.proofs.progress.Progress.next_clause.Goals as goal
 
 pub returns-in_err-retry_text-in-Text-clause-err : goal.returns-in_err-retry_text-in-Text-clause-err
@@ -28,6 +29,13 @@ returns-in-At c =
     let stay = stays-back P s c.rewind_walk-at.new.self outcomes.Fail c.requires.fails c.rewind_walk-at.ensures.basis c.rewind_walk-at.ensures.walks (λ v. c.rewind_walk-at.ensures.cases (database_of P v)) in
     record {
       on = tt;
+      walks = ends_same _ _ c.rewind_walk-at.ensures.walks;
       due = (walk-asks (record s.machine { stack = c.rewind_walk-at.new.self }) c.rewind_walk-at.result.point c.rewind_walk-at.result.walk c.rewind_walk-at.ensures.at c.requires.fails c.in-At.is, stay);
       err = tt;
     }
+
+pub returns-in_err-retry_text-in-Text-clause-walks : goal.returns-in_err-retry_text-in-Text-clause-walks
+returns-in_err-retry_text-in-Text-clause-walks c = ends_trans _ c.rewind_walk-at.new.self _ (ends_same _ _ c.rewind_walk-at.ensures.walks) c.retry_text.ensures.walks
+
+pub returns-in_ok-retry_text-in-Text-clause-walks : goal.returns-in_ok-retry_text-in-Text-clause-walks
+returns-in_ok-retry_text-in-Text-clause-walks c = ends_trans _ c.rewind_walk-at.new.self _ (ends_same _ _ c.rewind_walk-at.ensures.walks) c.retry_text.ensures.walks
