@@ -22,6 +22,7 @@ use std::alloc::AllocError;
 
 impl Progress {
     /// The ball that is carried, at the innermost case, which is a catcher that is active.
+    #[tactic(auto, using(crate::proofs::Ending::ends_same, crate::proofs::Ending::ends_refl))]
     pub(crate) fn catch(&mut self, program: &Program) -> Result<(), AllocError>
         requires catch { HasCatcher self.old.machine.stack }
         requires throws { throws_to (depth_of self.old.machine - 1) self.old.machine.mode ≡ true }
@@ -49,6 +50,7 @@ impl Progress {
     }
 
     /// Failure, at the innermost case, which gathers what was kept.
+    #[tactic(auto, using(crate::proofs::Ending::ends_same, crate::proofs::Ending::ends_refl))]
     pub(crate) fn gather(&mut self, program: &Program) -> Result<(), AllocError>
         requires gathers { HasGatherer self.old.machine.stack }
         requires fails { self.old.machine.mode ≡ Mode.Back Outcome.Fail }
@@ -73,6 +75,7 @@ impl Progress {
     }
 
     /// Runs a recovery before a list, in place of the innermost case, which is its catcher.
+    #[tactic(auto, using(crate::proofs::Ending::ends_same, crate::proofs::Ending::ends_refl))]
     fn recover(
         &mut self,
         program: &Program,
@@ -101,6 +104,7 @@ impl Progress {
     }
 
     /// Throws an error of catch/3 before a list, in place of the innermost case.
+    #[tactic(auto, using(crate::proofs::Ending::ends_same, crate::proofs::Ending::ends_refl))]
     fn rethrow(
         &mut self,
         program: &Program,

@@ -78,7 +78,7 @@ impl Progress {
     }
 
     /// Goes on until something is asked, the search ends, or so many steps are taken.
-    #[tactic(auto, using(crate::proofs::Runs::goes_on, crate::proofs::Runs::goes_nowhere, crate::proofs::Runs::stays_goes, crate::proofs::Runs::stays_of))]
+    #[tactic(auto, using(crate::proofs::Runs::goes_on, crate::proofs::Runs::goes_nowhere, crate::proofs::Runs::stays_goes, crate::proofs::Runs::stays_of, crate::proofs::Ending::ends_refl, crate::proofs::Ending::ends_trans))]
     pub fn advance(&mut self, program: &Program, fuel: u64) -> Result<Turn, AllocError>
         requires within { self.old.used ≤ self.old.limit }
         requires of { IsOf program.now self.old.machine }
@@ -111,6 +111,7 @@ impl Progress {
     }
 
     /// Selects the goal that is due, and gives back the goal lists and slots that nothing holds then.
+    #[tactic(auto, using(crate::proofs::Ending::ends_same, crate::proofs::Ending::ends_refl))]
     fn step(&mut self, program: &Program, selected: Selected) -> Result<(), AllocError>
         requires of { IsOf program.now self.old.machine }
         requires goal { IsSelected self.old.machine selected }
@@ -138,6 +139,7 @@ impl Progress {
     }
 
     /// Selects the goal that is due.
+    #[tactic(auto, using(crate::proofs::Ending::ends_same, crate::proofs::Ending::ends_refl))]
     fn select(&mut self, program: &Program, selected: &Selected) -> Result<(), AllocError>
         requires of { IsOf program.now self.old.machine }
         requires goal { IsSelected self.old.machine selected.now }
@@ -159,7 +161,7 @@ impl Progress {
     }
 
     /// Quiet turns, up to what is due.
-    #[tactic(auto, using(crate::proofs::Runs::quiet_goes, crate::proofs::Runs::quiet_lighter, crate::proofs::Runs::quiet_of, crate::proofs::Runs::goes_on, crate::proofs::Runs::goes_nowhere, crate::proofs::Runs::stays_goes, crate::proofs::Runs::stays_of))]
+    #[tactic(auto, using(crate::proofs::Runs::quiet_goes, crate::proofs::Runs::quiet_lighter, crate::proofs::Runs::quiet_of, crate::proofs::Runs::goes_on, crate::proofs::Runs::goes_nowhere, crate::proofs::Runs::stays_goes, crate::proofs::Runs::stays_of, crate::proofs::Ending::ends_refl, crate::proofs::Ending::ends_trans))]
     fn settle(&mut self, program: &Program) -> Result<Due, AllocError>
         requires within { self.old.used ≤ self.old.limit }
         requires of { IsOf program.now self.old.machine }

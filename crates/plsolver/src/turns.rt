@@ -241,6 +241,7 @@ impl Progress {
     }
 
     /// Closes the innermost case, which makes of the result what it does; without one the search is over.
+    #[tactic(auto, using(crate::proofs::Ending::ends_same, crate::proofs::Ending::ends_refl))]
     fn close(&mut self, program: &Program) -> Option<Due>
         requires back { IsBack self.old }
         requires tried { self.old.machine.mode ≡ Mode.Back Outcome.Fail → HasChoice self.old.machine.stack → ⊥ }

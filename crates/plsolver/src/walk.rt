@@ -37,6 +37,7 @@ use std::alloc::AllocError;
 
 impl Progress {
     /// The innermost case, a walk, goes on: over the program's text at once, and in a view by what it asks.
+    #[tactic(auto, using(crate::proofs::Ending::ends_same, crate::proofs::Ending::ends_refl))]
     pub(crate) fn next_clause(&mut self, program: &Program) -> Result<Option<Due>, AllocError>
         requires fails { self.old.machine.mode ≡ Mode.Back Outcome.Fail }
         requires walk { HasWalk self.old.machine.stack }
@@ -57,6 +58,7 @@ impl Progress {
     }
 
     /// The next clause of the text that fits is visited; where none does the walk is closed.
+    #[tactic(auto, using(crate::proofs::Ending::ends_same, crate::proofs::Ending::ends_refl))]
     fn retry_text(
         &mut self,
         program: &Program,
