@@ -7,7 +7,7 @@ use std::alloc::{AllocError, Global};
 use std::marker::Model;
 
 /// The name of a clause: update `number` of the batch at `place` of the journal made it.
-#[derive(Clone, Copy)]
+#[derive(Clone, Copy, PartialEq, Eq, Hash)]
 pub struct ClauseName {
     /// Where the batch stands in the journal, from 0.
     pub place: u64,

@@ -8,6 +8,8 @@ mod histories;
 #[cfg(test)]
 mod made;
 #[cfg(test)]
+mod owns;
+#[cfg(test)]
 mod packs;
 #[cfg(test)]
 mod stores;

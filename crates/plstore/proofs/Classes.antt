@@ -1,7 +1,6 @@
 -- The chains of all keys, as those of procedures and those of slots, stay those of the records.
 use Rattle.std.proofs.Common.{◌≡◌, refl, sym, ◌∙◌, ap, ap₂, subst, ℕ, suc, zero, Bool, true, false, cond, List, [], ◌∷◌, ◌++◌, length, get_or}
 use Rattle.std.specs.Prelude.{◌&&◌, not, nat_eq}
-use Rattle.plterm.specs.declared.indicator.Indicator.{Indicator}
 use Rattle.plterm.specs.Indicators.{same_indicator}
 use Rattle.plevent.specs.Alive.{is_of}
 use Rattle.plclause.specs.Clause.{Clause}
@@ -11,13 +10,14 @@ use Rattle.plstore.specs.declared.ends.Ends.{Ends}
 use Rattle.plstore.specs.declared.links.Links.{Links}
 use Rattle.plstore.specs.Kept.{made, changed_where, erase_at, is_named, is_there}
 use Rattle.plstore.specs.Links.{backs, ends_after, links_after, no_ends, Class, class_at, ends_in, since_below, IsIndexed, IsLinked}
-use Rattle.plstore.specs.Runs.{HasRuns, IsGone}
+use Rattle.plstore.specs.Runs.{HasRuns, IsGone, SameRuns}
+use Rattle.plstore.specs.Trail.{SameLinks, SameTables}
 use Rattle.plstore.specs.Slots.{in_slot}
 use Rattle.plstore.specs.Chains.{IsChain}
 use Rattle.plstore.specs.Tables.{Chained}
 use Rattle.plstore.specs.declared.tables.Tables.{Tables}
 use Rattle.plstore.proofs.Index.{any-put, ends-alike, erase-keeps, no-records}
-use Rattle.plstore.proofs.Passing.{linked, runs-erase, no-runs}
+use Rattle.plstore.proofs.Passing.{linked, runs-erase, runs-same, same-self, no-runs}
 
 -- keys that are equal only where they are the same
 module _ {K : Type 0} (eq : K → K → Bool) (same : (a b : K) → eq a b ≡ true → a ≡ b) (key : Clause → K) where
@@ -77,10 +77,10 @@ pub chain-kept : (p : Class) (y : ClauseName) (b : ℕ) (rs : List Record) (l : 
 chain-kept p y b rs l e was = record { indexed = erase-keeps p y b rs l.next.items e was.indexed; runs = runs-erase p y b rs l.places.items was.runs }
 
 -- the same links elsewhere
-pub chain-same : (p : Class) (rs : List Record) (old new : Links) (d e : Ends) → IsChain p rs old e → new.next.items ≡ old.next.items → new.places.items ≡ old.places.items → d ≡ e → IsChain p rs new d
-chain-same p rs old new d e was next places ends = record {
-  indexed = subst (IsIndexed p rs new.next.items) (sym ends) (subst (λ ns. IsIndexed p rs ns e) (sym next) was.indexed);
-  runs = subst (HasRuns p rs) (sym places) was.runs;
+pub chain-same : (p : Class) (rs : List Record) (old new : Links) (d e : Ends) → IsChain p rs old e → SameLinks old new → d ≡ e → IsChain p rs new d
+chain-same p rs old new d e was same ends = record {
+  indexed = subst (IsIndexed p rs new.next.items) (sym ends) (subst (λ ns. IsIndexed p rs ns e) (sym same.next) was.indexed);
+  runs = runs-same p rs old.places.items new.places.items same.runs was.runs;
 }
 
 pub chain-empty : (p : Class) (l : Links) (e : Ends) → l.next.items ≡ [] → l.places.items ≡ [] → e ≡ no_ends → IsChain p [] l e
@@ -105,13 +105,14 @@ chain-noted eq same own p k rs l E E' d law e is f o n was = record {
         by-case false w = refl
 
 -- tables that have the same in another memory
-pub chained-same : (t u : Tables) → Chained t → u.records.items ≡ t.records.items → u.declared.items ≡ t.declared.items → ((p : Indicator) → ends_in same_indicator u.index p ≡ ends_in same_indicator t.index p) →
-    u.by_procedure.next.items ≡ t.by_procedure.next.items → u.by_procedure.places.items ≡ t.by_procedure.places.items → ((n : ℕ) → ends_in nat_eq u.slots n ≡ ends_in nat_eq t.slots n) →
-    u.by_slot.next.items ≡ t.by_slot.next.items → u.by_slot.places.items ≡ t.by_slot.places.items → Chained u
-chained-same t u was records declared index next places slots next2 places2 = record {
-  procedures = λ p. subst (λ rs. IsChain (is_of p) rs u.by_procedure (ends_in same_indicator u.index p)) (sym records)
-      (chain-same (is_of p) t.records.items t.by_procedure u.by_procedure (ends_in same_indicator u.index p) (ends_in same_indicator t.index p) (was.procedures p) next places (index p));
-  slots = λ n. subst (λ rs. IsChain (in_slot n) rs u.by_slot (ends_in nat_eq u.slots n)) (sym records)
-      (chain-same (in_slot n) t.records.items t.by_slot u.by_slot (ends_in nat_eq u.slots n) (ends_in nat_eq t.slots n) (was.slots n) next2 places2 (slots n));
-  since = λ p g. ap (λ (e : Ends). since_below g e.since) (index p) ∙ was.since p g ∙ ap₂ (λ rs ds. is_there g p (record { records = rs; declared = ds })) (sym records) (sym declared);
+pub chained-same : (t u : Tables) → SameTables t u → Chained t → Chained u
+chained-same t u same was = record {
+  procedures = λ p. subst (λ rs. IsChain (is_of p) rs u.by_procedure (ends_in same_indicator u.index p)) (sym same.records)
+      (chain-same (is_of p) t.records.items t.by_procedure u.by_procedure (ends_in same_indicator u.index p) (ends_in same_indicator t.index p) (was.procedures p) same.by_procedure (same.index p));
+  slots = λ n. subst (λ rs. IsChain (in_slot n) rs u.by_slot (ends_in nat_eq u.slots n)) (sym same.records)
+      (chain-same (in_slot n) t.records.items t.by_slot u.by_slot (ends_in nat_eq u.slots n) (ends_in nat_eq t.slots n) (was.slots n) same.by_slot (same.slots n));
+  since = λ p g. ap (λ (e : Ends). since_below g e.since) (same.index p) ∙ was.since p g ∙ ap₂ (λ rs ds. is_there g p (record { records = rs; declared = ds })) (sym same.records) (sym same.declared);
 }
+
+pub links-alike : (old new : Links) → new.next.items ≡ old.next.items → new.places.items ≡ old.places.items → SameLinks old new
+links-alike old new next places = record { next = next; runs = subst (SameRuns old.places.items) (sym places) (same-self old.places.items) }

@@ -17,3 +17,6 @@ pub mod Covering
 pub mod Slotted
 pub mod Names
 pub mod Looking
+pub mod Cutting
+pub mod Backward
+pub mod Tracing

@@ -1,5 +1,5 @@
 -- Runs of erased records: how they are joined, and that a walk may pass over them.
-use Rattle.std.proofs.Common.{◌≡◌, ◌⊎◌, ◌+◌, ◌-◌, inl, inr, refl, sym, ◌∙◌, ap, subst, arith, ℕ, suc, zero, ◌<◌, ◌≤◌, Bool, true, false, List, [], ◌∷◌, ◌++◌, Option, Some, None, length, get_or, set, take, drop, map, nat_lt}
+use Rattle.std.proofs.Common.{◌≡◌, ◌+◌, ◌-◌, inl, inr, refl, sym, ◌∙◌, ap, subst, arith, ℕ, suc, zero, ◌<◌, ◌≤◌, Bool, true, false, List, [], ◌∷◌, ◌++◌, Option, Some, None, length, get_or, set, take, drop, map, nat_lt}
 use Rattle.std.specs.Prelude.{◌&&◌, not}
 use Rattle.std.proofs.Math.Seq.{take-append_seam}
 use Rattle.std.proofs.lemmas.List.{get_or_append_left, get_or_at, get_or-set_same, get_or-set_other, length-map, length-set, map-append}
@@ -12,6 +12,7 @@ use Rattle.plstore.specs.declared.runs.Place.{Place}
 use Rattle.plstore.specs.declared.ends.Ends.{Ends}
 use Rattle.plstore.specs.Kept.{seen, not_below, first_of, erase_at, change_if, changed_where, is_named}
 use Rattle.plstore.specs.Links.{last_below, first_from, front_of, back_of, fronts, backs, down, up, Class, IsLinked, IsIndexed}
+use Rattle.plstore.specs.Trail.{OneRun, run_at}
 use Rattle.plstore.specs.Runs.{IsGone, AllGone, IsRunDown, IsRunUp, IsRun, no_place, HasRuns, SameRuns, end_at}
 use Rattle.plstore.proofs.Law.{cons_if, own}
 use Rattle.plstore.proofs.Bits.{LastIs, get-in, length-push, last-some, drop-mark, cases}
@@ -109,7 +110,7 @@ run-joined p rs next places i n m r q links runs to at la lb own = record {
 }
 
 -- a place beyond the last one has no run
-get-over : (xs : List Place) (i : ℕ) → length xs ≤ i → get_or xs i no_place ≡ no_place
+pub get-over : (xs : List Place) (i : ℕ) → length xs ≤ i → get_or xs i no_place ≡ no_place
 get-over [] i h = refl
 get-over (x ∷ xs) zero h = absurd (omega arith)
 get-over (x ∷ xs) (suc i) h = get-over xs i (omega arith)
@@ -118,24 +119,29 @@ run-is : {r q : Run} → Some r ≡ Some q → r ≡ q
 run-is e = cc
 
 -- one run is noted
-pub runs-set : (p : Class) (rs : List Record) (places : List Place) (i : ℕ) (d : Place) (r : Run) → i < length places → HasRuns p rs places → IsRun p rs i r → HasRuns p rs (set places i (record (get_or places i d) { run = Some r }))
-runs-set p rs places i d r l runs own = record {
-  count = length-set places i (record (get_or places i d) { run = Some r }) ∙ runs.count;
-  each = λ j q h. by-case j q (cases i j) h;
+pub runs-one : (p : Class) (rs : List Record) (old new : List Place) (i : ℕ) (r : Run) → HasRuns p rs old → IsRun p rs i r → OneRun i (Some r) old new → HasRuns p rs new
+runs-one p rs old new i r runs own one = record {
+  count = one.count ∙ runs.count;
+  each = λ j q h. elim (cases j i) [
+    | inl lt ↦ other j q (λ e. omega arith) h
+    | inr o ↦ elim o [ inl e ↦ subst (λ j. IsRun p rs j q) (sym e) (at q (ap (run_at new) (sym e) ∙ h)) | inr gt ↦ other j q (λ e. omega arith) h ]
+  ];
 }
   where
-    made : Place
-    made = record (get_or places i d) { run = Some r }
+    other : (j : ℕ) (q : Run) → (j ≡ i → ⊥) → run_at new j ≡ Some q → IsRun p rs j q
+    other j q n h = runs.each j q (sym (one.others j n) ∙ h)
 
-    other : (j : ℕ) (q : Run) → (i ≡ j → ⊥) → (get_or (set places i made) j no_place).run ≡ Some q → IsRun p rs j q
-    other j q n h = runs.each j q (ap (λ (x : Place). x.run) (sym (get_or-set_other places i j made no_place (λ e. n (sym e)))) ∙ h)
+    over : (q : Run) → length old ≤ i → run_at new i ≡ Some q → ⊥
+    over q l h = let z : None ≡ Some q = ap (λ (x : Place). x.run) (sym (get-over new i (omega (arith, one.count)))) ∙ h in cc
 
-    by-case : (j : ℕ) (q : Run) → (i < j) ⊎ ((i ≡ j) ⊎ (j < i)) → (get_or (set places i made) j no_place).run ≡ Some q → IsRun p rs j q
-    by-case j q (inl lt) h = other j q (λ e. omega arith) h
-    by-case j q (inr (inr gt)) h = other j q (λ e. omega arith) h
-    by-case j q (inr (inl e)) h =
-        let same : Some r ≡ Some q = ap (λ (x : Place). x.run) (sym (get_or-set_same places i made no_place l)) ∙ ap (λ j. (get_or (set places i made) j no_place).run) e ∙ h in
-        subst (λ j. IsRun p rs j q) e (subst (IsRun p rs i) (run-is same) own)
+    within : (q : Run) → i < length old → run_at new i ≡ Some q → IsRun p rs i q
+    within q l h = subst (IsRun p rs i) (run-is (sym (one.here l) ∙ h)) own
+
+    at : (q : Run) → run_at new i ≡ Some q → IsRun p rs i q
+    at q h = elim (cases i (length old)) [
+      | inl lt ↦ within q lt h
+      | inr o ↦ elim o [ inl e ↦ absurd (over q (omega arith) h) | inr gt ↦ absurd (over q (omega arith) h) ]
+    ]
 
 -- what is no run leaves them alone
 pub same-set : (places : List Place) (i : ℕ) (new : Place) → i < length places → new.run ≡ (get_or places i no_place).run → SameRuns places (set places i new)

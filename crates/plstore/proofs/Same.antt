@@ -26,3 +26,6 @@ same-is a b e =
     let n : a.name ≡ b.name = (bytes_eq-Decides a.name b.name).0 (left-true (bytes_eq a.name b.name) (nat_eq a.arity b.arity) e) in
     let k : a.arity ≡ b.arity = nat-same a.arity b.arity (right-true (bytes_eq a.name b.name) (nat_eq a.arity b.arity) e) in
     ap₂ (λ n k. record { name = n; arity = k }) n k
+
+pub indicator-self : (a : Indicator) → same_indicator a a ≡ true
+indicator-self a = ap₂ (λ u v. u && v) ((bytes_eq-Decides a.name a.name).1 refl) (nat-self a.arity)

@@ -8,6 +8,7 @@ use Rattle.plevent.specs.Alive.{stamped, named, names_of, clauses_of}
 use Rattle.plevent.specs.declared.key.Key.TheVariants.{Any, Int, Functor}
 use Rattle.plstore.specs.declared.record.Cursor.TheVariants.{Start, After}
 use Rattle.plstore.specs.Kept.{Kept, nothing, keep, walk, here, is_there, clause_of, next_of}
+use Rattle.plstore.specs.Cut.{cut}
 use Rattle.plstore.specs.Like.{next_like_of}
 use Rattle.plstore.specs.declared.query.Query.{Query}
 use Rattle.plstore.specs.declared.query.Found.{Found}
@@ -150,3 +151,24 @@ query_erased = refl
 
 pub query_there : found_in 1 (Query.Exists p) both ≡ Found.Exists true
 query_there = refl
+
+-- taken back: before the second batch the erased clause is there again, and the one in front is gone
+pub taken_back : names_of (walk 9 p (cut 4 both).records) ≡ named 0 1 ∷ named 0 2 ∷ []
+unfolding walk
+taken_back = refl
+
+pub taken_back_whole : cut 4 both ≡ first
+taken_back_whole = refl
+
+pub not_taken_back : cut 5 both ≡ both
+not_taken_back = refl
+
+pub all_taken_back : cut 0 both ≡ nothing
+all_taken_back = refl
+
+-- an erasure that is taken back does not bring back one that was erased before
+pub erased_earlier : here 9 (named 0 1) (cut 7 (fold keep both (stamped 7 0 (Erase (named 0 1) ∷ Erase (named 0 2) ∷ [])))) ≡ false
+erased_earlier = refl
+
+pub erased_later : here 9 (named 0 2) (cut 7 (fold keep both (stamped 7 0 (Erase (named 0 1) ∷ Erase (named 0 2) ∷ [])))) ≡ true
+erased_later = refl

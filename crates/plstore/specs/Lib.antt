@@ -9,3 +9,5 @@ pub mod Plan
 pub mod Room
 pub mod Chains
 pub mod Tables
+pub mod Cut
+pub mod Trail

@@ -1,8 +1,9 @@
 //! Where the records of a class begin and end.
-ghost use Rattle.std.specs.Prelude.{◌≡◌, ◌+◌, ◌<◌, ◌≤◌, ◌↔◌, IsTrue, ℕ, None, Some, cond, length, vec_len, ◌++◌, ◌∷◌, []};
+ghost use Rattle.std.specs.Prelude.{◌≡◌, ◌+◌, ◌<◌, ◌≤◌, ◌↔◌, IsTrue, ℕ, ◌≢◌, None, Some, cond, length, vec_len, ◌++◌, ◌∷◌, [], List, Option, slice_set};
 ghost use Rattle.std.specs.Vec.{vec_capacity};
-ghost use Rattle.std.specs.HashMap.{spare};
-ghost use Rattle.plstore.specs.Links.{earlier, ends_after, ends_in, links_after, since_below};
+ghost use Rattle.std.specs.HashMap.{get, spare};
+ghost use Rattle.plstore.specs.Links.{earlier, ends_after, ends_in, links_after, no_ends, since_below};
+ghost use Rattle.plstore.specs.Trail.{MaySet, WasEnd};
 
 use std::collections::HashMap;
 use std::hash::Hash;
@@ -28,6 +29,13 @@ impl Ends {
         }
     }
 
+    /// Whether no batch named the procedure, and there are no records.
+    fn is_nothing(self) -> bool
+        ensures { IsTrue result ↔ (self ≡ no_ends) }
+    {
+        self.since.is_none() && self.newest_back.is_none() && self.is_empty()
+    }
+
     /// Whether there are no records.
     pub(crate) fn is_empty(self) -> bool
         ensures { IsTrue result ↔ ((self.newest_front ≡ None) × (self.oldest_back ≡ None)) }
@@ -51,9 +59,9 @@ pub(crate) fn ends_of<K: Eq + Hash>(index: &HashMap<K, Ends>, key: &K) -> Ends
     }
 }
 
-/// Sets the ends of a key, for which there is room.
+/// Sets the ends of a key that is there, or for which there is room.
 pub(crate) fn set_ends<K: Eq + Hash + Drop>(index: &mut HashMap<K, Ends>, key: K, ends: Ends)
-    requires { 0 < spare index.old }
+    requires { MaySet K.eq index.old key }
     ensures set { (k : K) → ends_in K.eq index.new k ≡ cond (K.eq key k) ends (ends_in K.eq index.old k) }
     ensures room { spare index.old ≤ spare index.new + 1 }
 {
@@ -61,6 +69,19 @@ pub(crate) fn set_ends<K: Eq + Hash + Drop>(index: &mut HashMap<K, Ends>, key: K
         Ok(_) => {}
         Err(_) => unreachable!(),
     }
+}
+
+/// Gives a key that is there the ends that it had before. Where it had none, it is there no more.
+pub(crate) fn restore_ends<K: Eq + Hash + Drop>(index: &mut HashMap<K, Ends>, key: K, ends: Ends)
+    requires { get K.eq index.old key ≢ None }
+    ensures set { (k : K) → ends_in K.eq index.new k ≡ cond (K.eq key k) ends (ends_in K.eq index.old k) }
+    ensures gone { ends ≡ no_ends → get K.eq index.new key ≡ None }
+{
+    if ends.is_nothing() {
+        index.remove(&key);
+        return;
+    }
+    set_ends(index, key, ends);
 }
 
 /// The earlier of two places.
@@ -103,6 +124,28 @@ pub(crate) fn link(next: &mut Vec<Option<usize>>, front: bool, number: usize, en
     append(next, None);
     if let Some(last) = ends.newest_back {
         next[last] = Some(number);
+    }
+}
+
+/// Takes back the link of the last record, and the one to it.
+pub(crate) fn unlink(next: &mut Vec<Option<usize>>, front: bool, ends: Ends)
+    ensures { (xs : List (Option ℕ)) (n : ℕ) → next.old.items ≡ links_after front n ends xs → WasEnd ends.newest_back xs → next.new.items ≡ xs }
+{
+    next.pop();
+    if front {
+        return;
+    }
+    if let Some(last) = ends.newest_back {
+        cut_link(next.as_mut_slice(), last);
+    }
+}
+
+/// The link of a record leads nowhere.
+fn cut_link(next: &mut [Option<usize>], number: usize)
+    ensures { next.new ≡ slice_set next.old number None }
+{
+    if number < next.len() {
+        next[number] = None;
     }
 }
 

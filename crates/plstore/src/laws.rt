@@ -1,5 +1,5 @@
 //! What a store keeps is the database at every time.
-ghost use Rattle.std.specs.Prelude.{◌≡◌, ℕ, List, ◌∷◌, None, fold, false, true};
+ghost use Rattle.std.specs.Prelude.{◌≡◌, ℕ, List, ◌∷◌, ◌++◌, None, fold, false, true};
 ghost use Rattle.plterm.specs.Tree.{Tree};
 ghost use Rattle.plsubst.specs.Subst.{shift};
 ghost use Rattle.plsubst.specs.Unify.{unify};
@@ -10,7 +10,8 @@ ghost use Rattle.plevent.specs.declared.update.ClauseName.{ClauseName};
 ghost use Rattle.plevent.specs.Alive.{Stamped, before, living, is_alive, exists, clause_named};
 ghost use Rattle.plstore.specs.Kept.{Kept, keep, nothing, walk, here, is_there, clause_of};
 ghost use Rattle.plstore.specs.Looking.{found, found_in, clause_alive, Apart, Tells};
-ghost use Rattle.plstore.specs.Rising.{Rises, Ordered};
+ghost use Rattle.plstore.specs.Cut.{cut};
+ghost use Rattle.plstore.specs.Rising.{AllUnder, Rises, Ordered};
 ghost use Rattle.plstore.specs.declared.query.Query.{Query};
 ghost use Rattle.plevent.specs.declared.update.Living.{Living};
 
@@ -68,4 +69,14 @@ pub fn exists_alive_law()
 /// Where the names of updates rise, those of the batches below `g` do.
 pub fn before_ordered_law()
     ensures { (g : ℕ) (us : List Stamped) → Ordered us → Ordered (before g us) }
+{}
+
+/// What is kept after a cut at `g` is what is kept after the batches below `g`.
+pub fn cut_law()
+    ensures { (g : ℕ) (us : List Stamped) → Rises 0 us → cut g (fold keep nothing us) ≡ fold keep nothing (before g us) }
+{}
+
+/// Later batches may be cut off and others made: what was kept before them stays as it was.
+pub fn cut_keeps_law()
+    ensures { (g : ℕ) (us later : List Stamped) → AllUnder g us → Rises g later → cut g (fold keep nothing (us ++ later)) ≡ fold keep nothing us }
 {}

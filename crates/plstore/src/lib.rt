@@ -1,7 +1,9 @@
 //! The clauses of all batches, each with the place of its erasure: the database at every time.
 #![tactic(auto)]
 
+mod asked;
 mod chain;
+pub mod draft;
 mod ends;
 pub mod laws;
 mod links;
@@ -14,8 +16,10 @@ mod sought;
 mod steps;
 pub mod store;
 mod tables;
+mod trail;
 mod walk;
 
+pub use draft::Draft;
 pub use query::{Found, Query};
 pub use record::{Cursor, Declared, Record};
 pub use store::Store;

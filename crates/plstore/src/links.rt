@@ -4,10 +4,11 @@ ghost use Rattle.std.specs.HashMap.{spare};
 ghost use Rattle.plstore.specs.declared.record.Record.{Record};
 ghost use Rattle.plstore.specs.Links.{ends_after, ends_in, links_after, Class, IsLinked};
 ghost use Rattle.plstore.specs.Room.{HasLinkRoom};
-ghost use Rattle.plstore.specs.Runs.{end_at, no_place, HasRuns, IsGone};
+ghost use Rattle.plstore.specs.Runs.{end_at, no_place, HasRuns, IsGone, SameRuns};
+ghost use Rattle.plstore.specs.Trail.{HadLinks, HadRuns, IsLonger, MoreRuns, SameLinks};
 
-use crate::ends::{Ends, ends_of, grown, link, set_ends};
-use crate::runs::{Place, add_place, bury, run_end};
+use crate::ends::{Ends, ends_of, grown, link, set_ends, unlink};
+use crate::runs::{Buried, Place, add_place, bury, drop_place, run_end, unbury};
 use std::alloc::{AllocError, Global};
 use std::collections::HashMap;
 use std::hash::Hash;
@@ -57,20 +58,37 @@ impl Links {
         requires last { (j : ℕ) → ends.newest_back ≡ Some j → j < length self.old.next.items }
         ensures next { self.new.next.items ≡ links_after added.front added.number ends self.old.next.items }
         ensures runs { (c : Class) (rs : List Record) (r : Record) → HasRuns c rs self.old.places.items → HasRuns c (rs ++ r ∷ []) self.new.places.items }
+        ensures more { MoreRuns self.old.places.items self.new.places.items }
         ensures room { (n : ℕ) → HasLinkRoom (n + 1) self.old → HasLinkRoom n self.new }
     {
         link(&mut self.next, added.front, added.number, ends);
         add_place(&mut self.places, added.front, added.number, ends);
     }
 
+    /// Takes back the last record, which was added to such ends.
+    pub(crate) fn drop_last(&mut self, front: bool, ends: Ends)
+        ensures { (was : Links) → IsLonger front ends was self.old → SameLinks was self.new }
+    {
+        unlink(&mut self.next, front, ends);
+        drop_place(&mut self.places, front, ends);
+    }
+
     /// Takes note that a record is erased by a batch at a place.
-    pub(crate) fn bury(&mut self, number: usize, place: u64)
+    pub(crate) fn bury(&mut self, number: usize, place: u64) -> Buried
         ensures next { self.new.next ≡ self.old.next }
         ensures runs { (c : Class) (rs : List Record) → IsLinked c rs self.old.next.items → ((d : Record) → IsGone place (slice_index_or rs number d).erased) →
             HasRuns c rs self.old.places.items → HasRuns c rs self.new.places.items }
+        ensures noted { HadRuns result self.old.places.items self.new.places.items }
         ensures room { (n : ℕ) → HasLinkRoom n self.old → HasLinkRoom n self.new }
     {
-        bury(&mut self.places, self.next.as_slice(), number, place);
+        bury(&mut self.places, self.next.as_slice(), number, place)
+    }
+
+    /// Takes back what that changed.
+    pub(crate) fn unbury(&mut self, buried: &Buried)
+        ensures { (was : Links) → HadLinks buried.now was self.old → SameLinks was self.new }
+    {
+        unbury(&mut self.places, buried);
     }
 
     /// The record that is next to one on its side.
@@ -91,19 +109,21 @@ impl Links {
     }
 }
 
-/// Adds one more record, for which there is room, to those of its key.
+/// Adds one more record, for which there is room, to those of its key. Answers the ends of these before.
 pub(crate) fn add<K: Eq + Hash + Drop>(
     links: &mut Links,
     index: &mut HashMap<K, Ends>,
     key: K,
     added: Added,
-)
+) -> Ends
     requires room { HasLinkRoom 1 links.old }
     requires spare { 0 < spare index.old }
     requires last { (j : ℕ) → (ends_in K.eq index.old key).newest_back ≡ Some j → j < length links.old.next.items }
     ensures next { links.new.next.items ≡ links_after added.front added.number (ends_in K.eq index.old key) links.old.next.items }
     ensures runs { (c : Class) (rs : List Record) (r : Record) → HasRuns c rs links.old.places.items → HasRuns c (rs ++ r ∷ []) links.new.places.items }
     ensures ends { (k : K) → ends_in K.eq index.new k ≡ cond (K.eq key k) (ends_after added.front added.number added.place (ends_in K.eq index.old key)) (ends_in K.eq index.old k) }
+    ensures more { MoreRuns links.old.places.items links.new.places.items }
+    ensures was { result ≡ ends_in K.eq index.old key }
     ensures room { (n : ℕ) → HasLinkRoom (n + 1) links.old → HasLinkRoom n links.new }
     ensures spare { spare index.old ≤ spare index.new + 1 }
 {
@@ -114,4 +134,5 @@ pub(crate) fn add<K: Eq + Hash + Drop>(
         key,
         grown(ends, added.front, added.number, added.place),
     );
+    ends
 }

@@ -30,7 +30,8 @@ pub(crate) fn plan(alloc: Global, updates: Vec<Update>) -> Result<Vec<Planned>, 
     Ok(plan)
 }
 
-fn made_plan(update: Update) -> Result<Planned, AllocError>
+/// The plan of one update.
+pub(crate) fn made_plan(update: Update) -> Result<Planned, AllocError>
     ensures update { IfOk result (λ made. update_of made ≡ update) }
     ensures planned { IfOk result (λ made. IsPlanned made) }
 {

@@ -5,6 +5,7 @@ ghost use Rattle.plstore.specs.declared.record.Record.{Record};
 ghost use Rattle.plstore.specs.declared.runs.Run.{Run as Ran};
 ghost use Rattle.plstore.specs.Links.{Class, IsLinked};
 ghost use Rattle.plstore.specs.Runs.{end_at, no_place, HasRuns, IsGone, IsRun, SameRuns};
+ghost use Rattle.plstore.specs.Trail.{HadRun, HadRuns, MoreRuns, OneRun, WasRun};
 
 use crate::ends::Ends;
 
@@ -27,6 +28,24 @@ pub(crate) struct Place {
     pub(crate) start: usize,
 }
 
+/// A run that was noted, with what was noted before at its first record and at its last one.
+#[derive(Clone, Copy)]
+pub(crate) struct Noted {
+    pub(crate) first: usize,
+    /// The run that began at the first one.
+    pub(crate) run: Option<Run>,
+    pub(crate) last: usize,
+    /// Where a run began that ended at the last one.
+    pub(crate) start: usize,
+}
+
+/// What an erasure changed: the run that begins at the record, and the one before it, which now reaches over it.
+#[derive(Clone, Copy)]
+pub(crate) struct Buried {
+    own: Noted,
+    before: Option<Noted>,
+}
+
 /// The last record of the run that begins here, as far as a walk at `g` passes over it; else this record.
 pub(crate) fn run_end(places: &[Place], number: usize, g: u64) -> usize
     requires { number < length places.now }
@@ -39,27 +58,36 @@ pub(crate) fn run_end(places: &[Place], number: usize, g: u64) -> usize
 }
 
 /// Takes note that a record is erased by a batch at a place, and joins it with the runs before it and behind it.
-pub(crate) fn bury(places: &mut Vec<Place>, next: &[Option<usize>], number: usize, place: u64)
+pub(crate) fn bury(
+    places: &mut Vec<Place>,
+    next: &[Option<usize>],
+    number: usize,
+    place: u64,
+) -> Buried
     ensures runs { (c : Class) (rs : List Record) → IsLinked c rs next.now → ((d : Record) → IsGone place (slice_index_or rs number d).erased) → HasRuns c rs places.old.items → HasRuns c rs places.new.items }
+    ensures noted { HadRuns result places.old.items places.new.items }
     ensures room { vec_capacity places.new ≡ vec_capacity places.old }
     ensures len { vec_len places.new ≡ vec_len places.old }
 {
-    bury_in(places.as_mut_slice(), next, number, place);
+    bury_in(places.as_mut_slice(), next, number, place)
 }
 
-fn bury_in(places: &mut [Place], next: &[Option<usize>], number: usize, place: u64)
+fn bury_in(places: &mut [Place], next: &[Option<usize>], number: usize, place: u64) -> Buried
     ensures runs { (c : Class) (rs : List Record) → IsLinked c rs next.now → ((d : Record) → IsGone place (slice_index_or rs number d).erased) → HasRuns c rs places.old → HasRuns c rs places.new }
+    ensures noted { HadRuns result places.old places.new }
     ensures len { length places.new ≡ length places.old }
 {
-    let own = Run {
+    let alone = Run {
         last: number,
         latest: place,
     };
-    begin(places, number, own);
-    lengthen(places, next, number);
-    if let Some(start) = start_before(places, number) {
-        lengthen(places, next, start);
-    }
+    let run = joined(places, next, alone);
+    let own = begin(places, number, run);
+    let before = match start_before(places, number) {
+        Some(start) => lengthen(places, next, start),
+        None => None,
+    };
+    Buried { own, before }
 }
 
 /// Where the run begins that ends with the record before this one, if that is erased.
@@ -69,13 +97,17 @@ fn start_before(places: &[Place], number: usize) -> Option<usize> {
 }
 
 /// Joins the run that begins here with the one behind it.
-fn lengthen(places: &mut [Place], next: &[Option<usize>], start: usize)
+fn lengthen(places: &mut [Place], next: &[Option<usize>], start: usize) -> Option<Noted>
     ensures runs { (c : Class) (rs : List Record) → IsLinked c rs next.now → HasRuns c rs places.old → HasRuns c rs places.new }
+    ensures noted { HadRun result places.old places.new }
     ensures len { length places.new ≡ length places.old }
 {
-    if let Some(own) = run_at(places, start) {
-        let run = joined(places, next, own);
-        begin(places, start, run);
+    match run_at(places, start) {
+        None => return None,
+        Some(own) => {
+            let run = joined(places, next, own);
+            return Some(begin(places, start, run));
+        }
     }
 }
 
@@ -123,20 +155,61 @@ fn later(a: u64, b: u64) -> u64
 }
 
 /// Notes a run at its first record, and where it begins at its last one.
-fn begin(places: &mut [Place], start: usize, run: Run)
-    ensures runs { (c : Class) (rs : List Record) → HasRuns c rs places.old → IsRun c rs start run → HasRuns c rs places.new }
+fn begin(places: &mut [Place], first: usize, run: Run) -> Noted
+    ensures runs { (c : Class) (rs : List Record) → HasRuns c rs places.old → IsRun c rs first run → HasRuns c rs places.new }
+    ensures noted { WasRun result places.old places.new }
     ensures len { length places.new ≡ length places.old }
 {
-    set_run(places, start, run);
-    set_start(places, run.last, start);
+    let noted = Noted {
+        first,
+        run: run_at(places, first),
+        last: run.last,
+        start: start_at(places, run.last),
+    };
+    set_run(places, first, Some(run));
+    set_start(places, run.last, first);
+    noted
 }
 
-fn set_run(places: &mut [Place], start: usize, run: Run)
-    ensures runs { (c : Class) (rs : List Record) → HasRuns c rs places.old → IsRun c rs start run → HasRuns c rs places.new }
+/// Where a run began that ended at a record.
+fn start_at(places: &[Place], number: usize) -> usize {
+    if number < places.len() {
+        places[number].start
+    } else {
+        number
+    }
+}
+
+/// Takes back what an erasure changed.
+pub(crate) fn unbury(places: &mut Vec<Place>, buried: &Buried)
+    ensures back { (xs : List Place) → HadRuns buried.now xs places.old.items → SameRuns xs places.new.items }
+{
+    unbury_in(places.as_mut_slice(), buried);
+}
+
+fn unbury_in(places: &mut [Place], buried: &Buried)
+    ensures back { (xs : List Place) → HadRuns buried.now xs places.old → SameRuns xs places.new }
     ensures len { length places.new ≡ length places.old }
 {
-    if start < places.len() {
-        places[start].run = Some(run);
+    if let Some(noted) = &buried.before {
+        unnote(places, noted);
+    }
+    unnote(places, &buried.own);
+}
+
+/// Notes again what was noted before a run was.
+fn unnote(places: &mut [Place], noted: &Noted)
+    ensures back { OneRun noted.now.first noted.now.run places.old places.new }
+{
+    set_start(places, noted.last, noted.start);
+    set_run(places, noted.first, noted.run);
+}
+
+fn set_run(places: &mut [Place], first: usize, run: Option<Run>)
+    ensures set { OneRun first run places.old places.new }
+{
+    if first < places.len() {
+        places[first].run = run;
     }
 }
 
@@ -149,11 +222,11 @@ fn set_start(places: &mut [Place], last: usize, start: usize)
 }
 
 /// Notes of a record which one leads to it.
-fn set_from(places: &mut [Place], number: usize, from: usize)
+fn set_from(places: &mut [Place], number: usize, from: Option<usize>)
     ensures same { SameRuns places.old places.new }
 {
     if number < places.len() {
-        places[number].from = Some(from);
+        places[number].from = from;
     }
 }
 
@@ -161,6 +234,7 @@ fn set_from(places: &mut [Place], number: usize, from: usize)
 pub(crate) fn add_place(places: &mut Vec<Place>, front: bool, number: usize, ends: Ends)
     requires { vec_len places.old < vec_capacity places.old }
     ensures runs { (c : Class) (rs : List Record) (r : Record) → HasRuns c rs places.old.items → HasRuns c (rs ++ r ∷ []) places.new.items }
+    ensures more { MoreRuns places.old.items places.new.items }
     ensures room { vec_capacity places.old ≤ vec_capacity places.new }
     ensures len { vec_len places.new ≡ vec_len places.old + 1 }
 {
@@ -170,13 +244,27 @@ pub(crate) fn add_place(places: &mut Vec<Place>, front: bool, number: usize, end
     }
     append(places, None, number);
     if let Some(first) = ends.newest_front {
-        set_from(places.as_mut_slice(), first, number);
+        set_from(places.as_mut_slice(), first, Some(number));
+    }
+}
+
+/// Takes back the place of the last record.
+pub(crate) fn drop_place(places: &mut Vec<Place>, front: bool, ends: Ends)
+    ensures back { (xs : List Place) → MoreRuns xs places.old.items → SameRuns xs places.new.items }
+{
+    places.pop();
+    if !front {
+        return;
+    }
+    if let Some(first) = ends.newest_front {
+        set_from(places.as_mut_slice(), first, None);
     }
 }
 
 fn append(places: &mut Vec<Place>, from: Option<usize>, number: usize)
     requires { vec_len places.old < vec_capacity places.old }
     ensures runs { (c : Class) (rs : List Record) (r : Record) → HasRuns c rs places.old.items → HasRuns c (rs ++ r ∷ []) places.new.items }
+    ensures more { MoreRuns places.old.items places.new.items }
     ensures room { vec_capacity places.old ≤ vec_capacity places.new }
     ensures len { vec_len places.new ≡ vec_len places.old + 1 }
 {

@@ -7,19 +7,15 @@ ghost use Rattle.plstore.specs.Like.{next_like_of};
 ghost use Rattle.plstore.specs.Looking.{clause_seen, found_in};
 ghost use Rattle.plstore.specs.Rising.{AllBelowPlace};
 
-use crate::ends::ends_of;
-use crate::links::Links;
 use crate::plan::plan;
 use crate::query::{Found, Query};
 use crate::record::{Cursor, Declared, Record};
 use crate::sought::Sought;
-use crate::steps::{first_sought, sought_after};
-use crate::tables::{Tables, find, make_all, reserve};
+use crate::tables::{Tables, make_all, reserve};
 use plclause::clause::Clause;
 use plevent::{Batch, ClauseName, Key};
 use plterm::indicator::Indicator;
 use std::alloc::{AllocError, Global};
-use std::collections::HashMap;
 use std::marker::Model;
 
 /// The clauses of all batches so far, and the procedures declared.
@@ -48,14 +44,7 @@ impl Store {
         ensures { result ≡ nothing }
     {
         Store {
-            tables: Tables {
-                records: Vec::new(alloc),
-                declared: Vec::new(alloc),
-                index: HashMap::new(alloc),
-                by_procedure: Links::new(alloc),
-                slots: HashMap::new(alloc),
-                by_slot: Links::new(alloc),
-            },
+            tables: Tables::new(alloc),
         }
     }
 
@@ -75,20 +64,14 @@ impl Store {
     pub fn alive(&self, g: u64, name: ClauseName) -> bool
         ensures { result ≡ here g name self.now }
     {
-        match find(&self.tables.records, name) {
-            None => false,
-            Some(index) => self.tables.records[index].is_seen(g),
-        }
+        self.tables.alive(g, name)
     }
 
     /// The clause that was made with a name, alive or not.
     pub fn clause(&self, name: ClauseName) -> Option<&Clause>
         ensures { option_copied result ≡ clause_of name self.now }
     {
-        match find(&self.tables.records, name) {
-            None => None,
-            Some(index) => Some(&self.tables.records[index].clause),
-        }
+        self.tables.clause(name)
     }
 
     /// The name of the first clause of a procedure that is alive after the batches below `g`, or of the one behind that
@@ -111,17 +94,14 @@ impl Store {
         ensures { result ≡ next_like_of key.now cursor (walk g pred.now self.now.records) }
     {
         let sought = Sought { g, pred, key };
-        match cursor {
-            Cursor::Start => first_sought(&self.tables, &sought),
-            Cursor::After(name) => sought_after(&self.tables, &sought, name),
-        }
+        self.tables.next_like(&sought, cursor)
     }
 
     /// Whether some batch below `g` named the procedure: it declared it, or made a clause of it.
     pub fn exists(&self, g: u64, pred: &Indicator) -> bool
         ensures { result ≡ is_there g pred.now self.now }
     {
-        ends_of(&self.tables.index, pred).is_since(g)
+        self.tables.exists(g, pred)
     }
 
     /// What a query finds in the database after the batches below `g`.

@@ -1,25 +1,30 @@
 //! The tables of a store, and how an update changes them.
-ghost use Rattle.std.specs.Prelude.{◌≡◌, ◌+◌, ◌<◌, ◌≤◌, ◌++◌, ◌∷◌, [], IfSome, OnOk, MatchOption, slice_index_or, ℕ, None, Some, fold, length, vec_len};
+ghost use Rattle.std.specs.Prelude.{◌≡◌, ◌+◌, ◌<◌, ◌≤◌, ◌++◌, ◌∷◌, [], IfSome, OnOk, MatchOption, slice_index_or, ℕ, None, Some, fold, length, nat_eq, ◌≢◌, vec_len};
 ghost use Rattle.std.specs.Vec.{vec_capacity};
 ghost use Rattle.plclause.specs.Indicators.{indicator};
 ghost use Rattle.plevent.specs.Alive.{stamped, named};
-ghost use Rattle.plstore.specs.Kept.{keep, made, erase_at, first_of, changed_where, is_named};
+ghost use Rattle.plstore.specs.Kept.{keep, made, erase_at, first_of, changed_where, is_named, nothing};
 ghost use Rattle.plstore.specs.Plan.{update_of, updates_of, IsPlanned, AllPlanned};
 ghost use Rattle.plstore.specs.Rising.{less, IsRising, InOrder, NoneIs, OneIs};
 ghost use Rattle.plstore.specs.Room.{HasRoom};
 ghost use Rattle.plstore.specs.Runs.{IsGone};
-ghost use Rattle.plstore.specs.Tables.{kept_in, Chained};
+ghost use Rattle.plstore.specs.Tables.{kept_in, Chained, IsStored};
+ghost use Rattle.plstore.specs.Trail.{SameTables, WasDeclared, WasErased, WasPut, WasRecord};
+ghost use Rattle.plstore.specs.declared.tables.Tables.{Tables as Tabled};
+ghost use Rattle.plstore.specs.Links.{ends_in};
+ghost use Rattle.plterm.specs.Indicators.{same_indicator};
 ghost use Rattle.plstore.specs.declared.record.Record.{Record as Recorded};
 
-use crate::ends::{Ends, earlier, ends_of, set_ends};
+use crate::ends::{Ends, earlier, ends_of, restore_ends, set_ends};
 use crate::links::{Added, Links, add};
 use crate::plan::Planned;
 use crate::record::{Declared, Record};
+use crate::runs::Buried;
 use crate::slot::Slots;
 use plclause::clause::Clause;
 use plevent::ClauseName;
 use plterm::indicator::Indicator;
-use std::alloc::AllocError;
+use std::alloc::{AllocError, Global};
 use std::collections::HashMap;
 
 /// Each clause ever made, in the order of their names, and each declaration; and where to find those of a procedure, and
@@ -36,10 +41,43 @@ pub(crate) struct Tables {
     pub(crate) by_slot: Links,
 }
 
+/// What a record that is put was linked with: the ends of its procedure, its slot, and the ends of that, all before it.
+#[derive(Clone, Copy)]
+pub(crate) struct Linked {
+    pub(crate) by_procedure: Ends,
+    pub(crate) slot: u64,
+    pub(crate) by_slot: Ends,
+}
+
+/// A record that was erased, and what that changed in its chains.
+#[derive(Clone, Copy)]
+pub(crate) struct Erasure {
+    pub(crate) number: usize,
+    pub(crate) by_procedure: Buried,
+    pub(crate) by_slot: Buried,
+}
+
+impl Tables {
+    pub(crate) fn new(alloc: Global) -> Tables
+        ensures kept { kept_in result ≡ nothing }
+        ensures stored { IsStored result }
+    {
+        Tables {
+            records: Vec::new(alloc),
+            declared: Vec::new(alloc),
+            index: HashMap::new(alloc),
+            by_procedure: Links::new(alloc),
+            slots: HashMap::new(alloc),
+            by_slot: Links::new(alloc),
+        }
+    }
+}
+
 /// Makes room for so many updates.
 pub(crate) fn reserve(tables: &mut Tables, count: usize) -> Result<(), AllocError>
     requires chained { Chained tables.old }
     ensures room { OnOk result (HasRoom count tables.new) }
+    ensures same { SameTables tables.old tables.new }
     ensures kept { kept_in tables.new ≡ kept_in tables.old }
     ensures chained { Chained tables.new }
 {
@@ -80,24 +118,37 @@ fn make(tables: &mut Tables, name: ClauseName, planned: Planned)
     ensures room { (n : ℕ) → HasRoom (n + 1) tables.old → HasRoom n tables.new }
 {
     match planned {
-        Planned::Put(clause, pred, front) => put(tables, name, clause, pred, front),
-        Planned::Drop(of) => erase(tables, of, name.place),
+        Planned::Put(clause, pred, front) => {
+            put(tables, name, clause, pred, front);
+        }
+        Planned::Drop(of) => {
+            erase(tables, of, name.place);
+        }
         Planned::DropOwn(number) => {
             let place = name.place;
-            erase(tables, ClauseName { place, number }, place)
+            erase(tables, ClauseName { place, number }, place);
         }
-        Planned::Name(pred, key) => declare(tables, pred, key, name.place),
+        Planned::Name(pred, key) => {
+            declare(tables, pred, key, name.place);
+        }
     }
 }
 
 /// Appends a record, for which there is room.
-fn put(tables: &mut Tables, name: ClauseName, clause: Clause, pred: Indicator, front: bool)
+pub(crate) fn put(
+    tables: &mut Tables,
+    name: ClauseName,
+    clause: Clause,
+    pred: Indicator,
+    front: bool,
+) -> Linked
     requires room { HasRoom 1 tables.old }
     requires pred { pred ≡ indicator clause.head }
     requires chained { Chained tables.old }
     ensures made { tables.new.records.items ≡ tables.old.records.items ++ made name clause front ∷ [] }
     ensures declared { tables.new.declared ≡ tables.old.declared }
     ensures chained { Chained tables.new }
+    ensures was { WasPut pred result tables.old tables.new }
     ensures room { (n : ℕ) → HasRoom (n + 1) tables.old → HasRoom n tables.new }
 {
     let added = Added {
@@ -106,8 +157,8 @@ fn put(tables: &mut Tables, name: ClauseName, clause: Clause, pred: Indicator, f
         place: name.place,
     };
     let slot = Slots::new(&pred).of_head(&clause.head().root());
-    add(&mut tables.by_procedure, &mut tables.index, pred, added);
-    add(&mut tables.by_slot, &mut tables.slots, slot, added);
+    let by_procedure = add(&mut tables.by_procedure, &mut tables.index, pred, added);
+    let by_slot = add(&mut tables.by_slot, &mut tables.slots, slot, added);
     let record = Record {
         name,
         clause,
@@ -118,40 +169,94 @@ fn put(tables: &mut Tables, name: ClauseName, clause: Clause, pred: Indicator, f
         Ok(()) => {}
         Err(_) => unreachable!(),
     }
+    Linked {
+        by_procedure,
+        slot,
+        by_slot,
+    }
 }
 
-/// Appends a declaration, for which there is room.
-fn declare(tables: &mut Tables, pred: Indicator, key: Indicator, place: u64)
+/// Takes back the last record, of the procedure `key`.
+pub(crate) fn unput(tables: &mut Tables, key: Indicator, linked: &Linked)
+    requires index { (ends_in same_indicator tables.old.index key).since ≢ None }
+    requires slots { (ends_in nat_eq tables.old.slots linked.now.slot).since ≢ None }
+    ensures back { (was : Tabled) → WasPut key linked.now was tables.old → SameTables was tables.new }
+{
+    restore_ends(&mut tables.index, key, linked.by_procedure);
+    restore_ends(&mut tables.slots, linked.slot, linked.by_slot);
+    match tables.records.pop() {
+        None => {}
+        Some(last) => {
+            let front = last.front;
+            tables.by_procedure.drop_last(front, linked.by_procedure);
+            tables.by_slot.drop_last(front, linked.by_slot);
+        }
+    }
+}
+
+/// Appends a declaration, for which there is room. Answers the ends of the procedure before.
+pub(crate) fn declare(tables: &mut Tables, pred: Indicator, key: Indicator, place: u64) -> Ends
     requires room { HasRoom 1 tables.old }
     requires key { key ≡ pred }
     requires chained { Chained tables.old }
     ensures made { tables.new.declared.items ≡ tables.old.declared.items ++ record { pred = pred; place = place } ∷ [] }
     ensures records { tables.new.records ≡ tables.old.records }
     ensures chained { Chained tables.new }
+    ensures was { WasDeclared key result tables.old tables.new }
     ensures room { (n : ℕ) → HasRoom (n + 1) tables.old → HasRoom n tables.new }
 {
-    let mut ends = ends_of(&tables.index, &key);
-    ends.since = earlier(ends.since, place);
+    let was = ends_of(&tables.index, &key);
+    let mut ends = was;
+    ends.since = earlier(was.since, place);
     set_ends(&mut tables.index, key, ends);
     match tables.declared.push(Declared { pred, place }) {
         Ok(()) => {}
         Err(_) => unreachable!(),
     }
+    was
 }
 
-/// Marks the clause of a name as erased, if there is one and it is not.
-fn erase(tables: &mut Tables, of: ClauseName, place: u64)
+/// Takes back the last declaration, of the procedure `key`.
+pub(crate) fn undeclare(tables: &mut Tables, key: Indicator, ends: Ends)
+    requires { (ends_in same_indicator tables.old.index key).since ≢ None }
+    ensures back { (was : Tabled) → WasDeclared key ends was tables.old → SameTables was tables.new }
+{
+    tables.declared.pop();
+    restore_ends(&mut tables.index, key, ends);
+}
+
+/// Marks the clause of a name as erased, if there is one and it is not. Answers what that changed.
+pub(crate) fn erase(tables: &mut Tables, of: ClauseName, place: u64) -> Option<Erasure>
     requires rising { IsRising tables.old.records.items }
     requires chained { Chained tables.old }
     ensures erased { tables.new.records.items ≡ changed_where (is_named of) (erase_at place) tables.old.records.items }
     ensures declared { tables.new.declared ≡ tables.old.declared }
     ensures chained { Chained tables.new }
+    ensures was { MatchOption result (SameTables tables.old tables.new) (λ e. WasErased e tables.old tables.new) }
     ensures room { (n : ℕ) → HasRoom (n + 1) tables.old → HasRoom n tables.new }
 {
-    if let Some(number) = erase_record(&mut tables.records, of, place) {
-        tables.by_procedure.bury(number, place);
-        tables.by_slot.bury(number, place);
+    match erase_record(&mut tables.records, of, place) {
+        None => return None,
+        Some(number) => {
+            let by_procedure = tables.by_procedure.bury(number, place);
+            let by_slot = tables.by_slot.bury(number, place);
+            return Some(Erasure {
+                number,
+                by_procedure,
+                by_slot,
+            });
+        }
     }
+}
+
+/// Takes back an erasure.
+pub(crate) fn revive(tables: &mut Tables, erasure: &Erasure)
+    requires { erasure.now.number < length tables.old.records.items }
+    ensures back { (was : Tabled) → WasErased erasure.now was tables.old → SameTables was tables.new }
+{
+    tables.records[erasure.number].erased = None;
+    tables.by_procedure.unbury(&erasure.by_procedure);
+    tables.by_slot.unbury(&erasure.by_slot);
 }
 
 /// The number of the record that is erased now, and was not before.
@@ -160,6 +265,7 @@ fn erase_record(records: &mut Vec<Record>, of: ClauseName, place: u64) -> Option
     ensures erased { records.new.items ≡ changed_where (is_named of) (erase_at place) records.old.items }
     ensures within { IfSome result (λ i. i < length records.old.items) }
     ensures gone { IfSome result (λ i. (d : Recorded) → IsGone place (slice_index_or records.new.items i d).erased) }
+    ensures was { MatchOption result (records.new.items ≡ records.old.items) (λ i. WasRecord i records.old.items records.new.items) }
     ensures room { vec_capacity records.new ≡ vec_capacity records.old }
     ensures len { vec_len records.new ≡ vec_len records.old }
 {
@@ -171,6 +277,7 @@ fn erase_in(records: &mut [Record], of: ClauseName, place: u64) -> Option<usize>
     ensures erased { records.new ≡ changed_where (is_named of) (erase_at place) records.old }
     ensures within { IfSome result (λ i. i < length records.old) }
     ensures gone { IfSome result (λ i. (d : Recorded) → IsGone place (slice_index_or records.new i d).erased) }
+    ensures was { MatchOption result (records.new ≡ records.old) (λ i. WasRecord i records.old records.new) }
 {
     if let Some(number) = find(records, of) {
         let record = &mut records[number];
@@ -183,7 +290,8 @@ fn erase_in(records: &mut [Record], of: ClauseName, place: u64) -> Option<usize>
 
 /// The number of a record that was not erased before.
 fn fresh(was: Option<u64>, number: usize) -> Option<usize>
-    ensures { (i : ℕ) → result ≡ Some i → (was ≡ None) × (i ≡ number) }
+    ensures some { (i : ℕ) → result ≡ Some i → (was ≡ None) × (i ≡ number) }
+    ensures none { result ≡ None → was ≢ None }
 {
     match was {
         None => Some(number),

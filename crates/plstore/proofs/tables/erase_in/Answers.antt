@@ -1,5 +1,6 @@
 use Rattle.std.proofs.Common.{sym}
 use Rattle.plstore.specs.Kept.{is_named, erase_at}
+use Rattle.plstore.proofs.Backward.{record-was}
 use Rattle.plstore.proofs.Search.{changed-none, erased-one}
 use Rattle.plstore.proofs.tables.erase_in.Goals as goal
 
@@ -8,3 +9,7 @@ returns-in-Some-clause-erased c = rw c.first-record.ensures (erased-one c.args.r
 
 pub returns-clause-erased : goal.returns-clause-erased
 returns-clause-erased c = sym (changed-none (is_named c.args.of) (erase_at c.args.place) c.args.records.now (λ k d l. c.in_default.ensures k d l))
+
+pub returns-in-Some-clause-was : goal.returns-in-Some-clause-was
+returns-in-Some-clause-was c =
+    record-was c.args.records.now c.in-Some.number c.index-records-number.result c.args.place c.first-record.result c.fresh.result c.in-Some.ensures.within c.first-record.ensures c.fresh.ensures.some c.fresh.ensures.none

@@ -3,13 +3,13 @@ use Rattle.std.specs.Option.{option_map}
 use Rattle.plstore.specs.declared.record.Record.{Record}
 use Rattle.plstore.specs.Rising.{NoneIs, OneIs}
 use Rattle.plstore.proofs.Look.{find-none, find-one}
-use Rattle.plstore.proofs.store.Store.clause.Goals as goal
+use Rattle.plstore.proofs.tables.Tables.clause.Goals as goal
 
 pub returns-in-None : goal.returns-in-None
-returns-in-None c = rw (← c.self.view_is) (sym (ap (option_map (λ (r : Record). r.clause)) (find-none c.args.name c.self.inside.tables.records.items (subst (NoneIs c.args.name) c.deref.ensures.value c.in-None.ensures))))
+returns-in-None c = (sym (ap (option_map (λ (r : Record). r.clause)) (find-none c.args.name c.args.self.now.records.items (subst (NoneIs c.args.name) c.deref.ensures.value c.in-None.ensures))))
 
 pub returns-in-Some : goal.returns-in-Some
 returns-in-Some c =
-    let rs = c.self.inside.tables.records.items in
-    rw (← c.self.view_is) (ap (λ (r : Record). Some r.clause) c.index.ensures
+    let rs = c.args.self.now.records.items in
+    (ap (λ (r : Record). Some r.clause) c.index.ensures
     ∙ sym (ap (option_map (λ (r : Record). r.clause)) (find-one c.args.name rs c.in-Some.index c.index.result.now (subst (λ l. OneIs c.args.name l c.in-Some.index) c.deref.ensures.value c.in-Some.ensures))))

@@ -1,0 +1,6 @@
+pub mod Targets
+pub mod Marking
+pub mod Drafting
+pub mod Renaming
+pub mod Layers
+mod Worked
