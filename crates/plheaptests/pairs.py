@@ -11,15 +11,13 @@ import sys
 
 HERE = os.path.dirname(os.path.realpath(__file__))
 PATH = os.path.join(HERE, "src", "pairs.rt")
-PAIRS = 400
+GROUPS = ["FIRST", "SECOND", "THIRD", "FOURTH", "FIFTH"]
+GROUP = 40
 VARIABLES = ["X", "Y", "Z", "U"]
 ATOMS = ["a", "b"]
 COMPOUNDS = 7
-HEAD = '''//! Pairs of terms that look random, made by pairs.py.
-
-/// A pair a line: its sides as a goal, a bar, and what the left side is once they are unified, its variables _1, _2, .. by first
-/// occurrence; `no`, where they have no unifier. Told by SWI-Prolog, with the occurs check.
-pub(crate) const PAIRS: &str = "\\
+HEAD = '''//! Pairs of terms that look random, made by pairs.py: each is two terms, as the sides of a goal, and what the left one is once they are
+//! unified, its variables _1, _2, .. by first occurrence; `no`, where they have no unifier. Told by SWI-Prolog, with the occurs check.
 '''
 TELL = """
 tell(L, R) :- ( unify_with_occurs_check(L, R) -> tell(L) ; write(no) ), nl.
@@ -44,15 +42,24 @@ def told(pairs):
     return run.stdout.split("\n")[:-1]
 
 
+def row(goal, answer):
+    """A row as it is formatted."""
+    line = f'    ("{goal}", "{answer}"),\n'
+    return line if len(line) <= 68 else f'    (\n        "{goal}",\n        "{answer}",\n    ),\n'
+
+
 def main():
     random_ = random.Random(7)
     pairs = []
-    while len(pairs) < PAIRS:
+    while len(pairs) < GROUP * len(GROUPS):
         left, right = pair(random_)
         if len(left) + len(right) < 120 and (left, right) not in pairs:
             pairs.append((left, right))
-    lines = [f"{left} = {right}|{answer}" for (left, right), answer in zip(pairs, told(pairs), strict=True)]
-    text = HEAD + "\n".join(lines) + '";\n'
+    rows = [row(f"{left} = {right}", answer) for (left, right), answer in zip(pairs, told(pairs), strict=True)]
+    text = HEAD
+    for number, name in enumerate(GROUPS):
+        group = rows[number * GROUP : (number + 1) * GROUP]
+        text += f"\npub(crate) const {name}: [(&str, &str); {GROUP}] = [\n" + "".join(group) + "];\n"
     if sys.argv[1:] == ["--check"]:
         with open(PATH, encoding="utf-8") as file:
             same = file.read() == text
