@@ -8,7 +8,7 @@ use Rattle.plsearch.specs.Rows.{call, choose}
 use Rattle.plsearch.specs.Engine.{deeper}
 use Rattle.plsearch.specs.Machines.Machine.{At}
 use Rattle.pllinks.specs.declared.link.Continuation.{Continuation}
-use Rattle.plstack.specs.State.{State, goals_of, place_of, cases_of}
+use Rattle.plstack.specs.State.{State, walks_in, goals_of, place_of, cases_of}
 use Rattle.plstore.specs.Looking.{Views}
 use Rattle.plstack.specs.Places.{called, places_left}
 use Rattle.plstack.specs.Calls.{Calls, CallsNone, StaysAt}
@@ -23,12 +23,14 @@ use Rattle.plmachine.specs.Selected.{IsStaticCall}
 use Rattle.plmachine.proofs.Moves.{gives, goes-at, machine-is, moved-as, visit-asks}
 
 -- the first of some places is visited, in a choice of the others
-pub chooses : (P : Program) (s new : Reached) (st : State) (ps : List Place) → s.mode ≡ modes.Visit → st.basis ≡ s.stack.basis → new ≡ record s { stack = st } →
+pub chooses : (P : Program) (s new : Reached) (st : State) (ps : List Place) → s.mode ≡ modes.Visit → st.basis ≡ s.stack.basis → walks_in st ≡ walks_in s.stack → new ≡ record s { stack = st } →
     ((v : Views) → (others : List Place) × (ps ≡ place_of st ∷ others) × (cases_of (database_of P v) st ≡ Choice others ∷ cases_of (database_of P v) s.stack)) → Moved P s new (choose ps (local_of s))
-chooses P s new st ps at basis made chosen =
+chooses P s new st ps at basis walks made chosen =
     let visits : new.mode ≡ modes.Visit = ap (λ x. x.mode) made ∙ at in
     record {
       basis = ap (λ x. x.stack.basis) made ∙ basis;
+      walks = ([], sym walks ∙ ap (λ x. walks_in x.stack) (sym made));
+      plain = subst IsPlain (sym visits) tt;
       askable = visit-asks new visits;
       ends = λ v most left answers.
           let c = chosen v in
@@ -37,13 +39,13 @@ chooses P s new st ps at basis made chosen =
     }
 
 -- there is none
-pub chooses-none : (P : Program) (s new : Reached) (st : State) (ps : List Place) → st.basis ≡ s.stack.basis → new ≡ record s { stack = st; mode = modes.Back outcomes.Fail } →
+pub chooses-none : (P : Program) (s new : Reached) (st : State) (ps : List Place) → st.basis ≡ s.stack.basis → walks_in st ≡ walks_in s.stack → new ≡ record s { stack = st; mode = modes.Back outcomes.Fail } →
     ps ≡ [] → ((v : Views) → cases_of (database_of P v) st ≡ cases_of (database_of P v) s.stack) → Moved P s new (choose ps (local_of s))
-chooses-none P s new st ps basis made none cases =
+chooses-none P s new st ps basis walks made none cases =
     subst (λ qs. Moved P s new (choose qs (local_of s))) (sym none)
-    (gives P s new outcomes.Fail (local_of s) (ap (λ x. x.stack.basis) made ∙ basis) (ap (λ x. x.mode) made) (λ v. ap (λ x. cases_in P v x) made ∙ cases v) (ap (λ x. local_of x) made))
+    (gives P s new outcomes.Fail (local_of s) (ap (λ x. x.stack.basis) made ∙ basis) (ap (λ x. walks_in x.stack) made ∙ walks) (ap (λ x. x.mode) made) (λ v. ap (λ x. cases_in P v x) made ∙ cases v) (ap (λ x. local_of x) made))
 
-module _ (P : Program) (s : Reached) (st : State) (p : Indicator) (t : Tree) (i : ℕ) (rest : Continuation) (is : IsStaticCall P s p i t) (basis : st.basis ≡ s.stack.basis) where
+module _ (P : Program) (s : Reached) (st : State) (p : Indicator) (t : Tree) (i : ℕ) (rest : Continuation) (is : IsStaticCall P s p i t) (basis : st.basis ≡ s.stack.basis) (walks : walks_in st ≡ walks_in s.stack) where
   goal-is : called s.stack.env.heap (statics_of P i).name s.args.items ≡ t
   goal-is = ap (λ n. called s.stack.env.heap n s.args.items) (static-name _ _ P p i is.static) ∙ is.goal
 
@@ -59,21 +61,22 @@ module _ (P : Program) (s : Reached) (st : State) (p : Indicator) (t : Tree) (i 
 
   pub calls : (new : Reached) → s.mode ≡ modes.Visit → new ≡ record s { stack = st } → ((v : Views) → Calls (database_of P v) s.stack st (called s.stack.env.heap (statics_of P i).name s.args.items) rest (statics_of P i).clauses) →
       Moved P s new (call (depth_of s) s.stack.env.count t (goals_of s.stack rest) (clauses_for P p) (local_of s))
-  calls new at made c = moved-as P s new _ _ same-call (chooses P s new st _ at basis made (λ v. ((c v).others, sym (level-is v) ∙ (c v).places, (c v).cases)))
+  calls new at made c = moved-as P s new _ _ same-call (chooses P s new st _ at basis walks made (λ v. ((c v).others, sym (level-is v) ∙ (c v).places, (c v).cases)))
 
   pub calls-none : (new : Reached) → new ≡ record s { stack = st; mode = modes.Back outcomes.Fail } → ((v : Views) → CallsNone (database_of P v) s.stack st (called s.stack.env.heap (statics_of P i).name s.args.items) rest (statics_of P i).clauses) → Views →
       Moved P s new (call (depth_of s) s.stack.env.count t (goals_of s.stack rest) (clauses_for P p) (local_of s))
-  calls-none new made c v = moved-as P s new _ _ same-call (chooses-none P s new st _ basis made (sym (level-is v) ∙ (c v).none) (λ u. (c u).cases))
+  calls-none new made c v = moved-as P s new _ _ same-call (chooses-none P s new st _ basis walks made (sym (level-is v) ∙ (c v).none) (λ u. (c u).cases))
 
 -- memory gave out
-pub stays-at : (P : Program) (s new : Reached) (st : State) → s.mode ≡ modes.Visit → st.basis ≡ s.stack.basis → new ≡ record s { stack = st } → StaysAt s.stack st → Stays P s new
+pub stays-at : (P : Program) (s new : Reached) (st : State) → s.mode ≡ modes.Visit → st.basis ≡ s.stack.basis → walks_in st ≡ walks_in s.stack → new ≡ record s { stack = st } → StaysAt s.stack st → Stays P s new
 unfolding machine
-stays-at P s new st at basis made stays =
+stays-at P s new st at basis walks made stays =
     let visits : new.mode ≡ modes.Visit = ap (λ x. x.mode) made ∙ at in
     let cases : (v : Views) → cases_in P v new ≡ cases_in P v s = λ v. ap (λ x. cases_in P v x) made ∙ stays.cases (database_of P v) in
     let local = ap (λ x. local_of x) made in
     record {
       basis = ap (λ x. x.stack.basis) made ∙ basis;
+      walks = ap (λ x. walks_in x.stack) made ∙ walks;
       cases = cases;
       local = local;
       askable = λ may. visit-asks new visits;

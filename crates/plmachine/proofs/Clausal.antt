@@ -1,5 +1,5 @@
 -- The predicates on clauses.
-use Rattle.std.proofs.Common.{◌≡◌, ℕ, ◌+◌, List, [], ◌∷◌, length, map, Option, Some, None, option_map, refl, sym, ap, ap₂, ◌∙◌, arith}
+use Rattle.std.proofs.Common.{◌≡◌, ℕ, ◌+◌, List, [], ◌∷◌, ◌++◌, length, map, Option, Some, None, option_map, refl, sym, ap, ap₂, ◌∙◌, subst, arith}
 use Rattle.std.specs.List.{filter_map, cons_option}
 use Rattle.plterm.specs.Tree.{Tree}
 use Rattle.plterm.specs.declared.indicator.Indicator.{Indicator}
@@ -27,8 +27,8 @@ use Rattle.plstack.specs.declared.frame.Use.TheVariants as uses
 use Rattle.plstack.specs.declared.frame.Spot.{Spot}
 use Rattle.plstack.specs.declared.frame.Walk.{Walk}
 use Rattle.plstore.specs.Looking.{Views}
-use Rattle.plstack.specs.Places.{candidate_of, candidates_left, clause_by, left_at, place_asked, text_candidate, tried}
-use Rattle.plstack.specs.State.{State, IsList, goals_of, place_of}
+use Rattle.plstack.specs.Places.{candidate_of, candidates_left, clause_by, left_at, place_asked, text_candidate, tried, viewed}
+use Rattle.plstack.specs.State.{State, IsList, goals_of, place_of, walks_in}
 use Rattle.plstack.specs.StaticCalls.{database_of}
 use Rattle.plstack.specs.Walks.{OpensWalk}
 use Rattle.plstack.proofs.Stacks.{depth-in}
@@ -78,6 +78,7 @@ pub walks : (P : Program) (s : Reached) (st : State) (w : Walk) (rest : Continua
     Walks P s (record s { stack = st; mode = modes.Back outcomes.Fail }) (value s.stack.env.heap w.goal) w.uses w.spot (goals_of s.stack rest)
 walks P s st w rest o = record {
   basis = o.basis;
+  walks = (w.goal, o.walks);
   frame = refl;
   ends = λ v most left answers.
       let t = value s.stack.env.heap w.goal in
@@ -96,6 +97,7 @@ walks-grown P s t new g u spot l grown is there w =
     let local : local_of t ≡ local_of s = stay.local in
     record {
       basis = w.basis ∙ stay.basis;
+      walks = (w.walks.0, w.walks.1 ∙ ap (λ ws. viewed (record { goal = w.walks.0; uses = u; spot = spot }) spot ++ ws) stay.walks);
       frame = w.frame ∙ ap (λ (x : Reached). record x { stack = new.stack; mode = modes.Back outcomes.Fail }) is;
       ends = λ v most left answers.
           let xs = left_at (database_of P v) u g spot in
@@ -105,11 +107,13 @@ walks-grown P s t new g u spot l grown is there w =
           ∙ w.ends v most left answers;
     }
 
--- a walk that has the same places as a move in each view
-pub walks-moved : (P : Program) (s new : Reached) (t : Tree) (u : Use) (spot : Spot) (es : List Element) (m : Move) → Walks P s new t u spot es →
+-- a walk that has the same places as a move in each view, and goes on in none
+pub walks-moved : (P : Program) (s new : Reached) (t : Tree) (u : Use) (spot : Spot) (es : List Element) (m : Move) → Walks P s new t u spot es → ((w : Walk) → viewed w spot ≡ []) →
     ((v : Views) → choose (candidates_left (depth_of s) s.stack.env t es (left_at (database_of P v) u t spot)) (local_of s) ≡ m) → Moved P s new m
-walks-moved P s new t u spot es m w same = record {
+walks-moved P s new t u spot es m w none same = record {
   basis = w.basis;
+  walks = ([], sym (w.walks.1 ∙ ap (λ ws. ws ++ walks_in s.stack) (none (record { goal = w.walks.0; uses = u; spot = spot }))));
+  plain = subst IsPlain (sym (ap (λ x. x.mode) w.frame)) tt;
   askable = back-asks new outcomes.Fail (ap (λ x. x.mode) w.frame);
   ends = λ v most left answers. ap (after P v s most left answers) (sym (same v)) ∙ w.ends v most left answers;
 }

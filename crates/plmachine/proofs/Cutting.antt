@@ -1,5 +1,5 @@
 -- A cut that empties what it gives up leaves the search as a mark does.
-use Rattle.std.proofs.Common.{◌≡◌, ℕ, ◌⊎◌, inl, inr, [], ◌∷◌, sym, ap, ap₂, ◌∙◌, subst}
+use Rattle.std.proofs.Common.{◌≡◌, ℕ, ◌⊎◌, inl, inr, [], ◌∷◌, ◌++◌, sym, ap, ap₂, ◌∙◌, subst}
 use Rattle.plprogram.specs.Program.{Program}
 use Rattle.plsearch.specs.Types.{Go, Place, Mark, Run}
 use Rattle.plsearch.specs.Machines.Levels.{AreAtMost}
@@ -9,7 +9,7 @@ use Rattle.plsearch.proofs.Cuts.{cuts-empty}
 use Rattle.pllinks.specs.declared.link.Continuation.{Continuation}
 use Rattle.plstore.specs.Looking.{Views}
 use Rattle.plstack.specs.Places.{Database}
-use Rattle.plstack.specs.State.{State, place_of, cases_of, goals_of, IsList}
+use Rattle.plstack.specs.State.{State, walks_in, place_of, cases_of, goals_of, IsList}
 use Rattle.plstack.specs.StaticCalls.{database_of}
 use Rattle.plstack.specs.Cutting.{Empties, Cuts}
 use Rattle.plmachine.specs.declared.machine.Mode.TheVariants as modes
@@ -42,6 +42,8 @@ pub cuts : (P : Program) (s new : Reached) (st : State) (level : ℕ) (list : Co
     Moved P s new (Go (Mark level ∷ []) (record { goals = goals_of s.stack list; variables = s.stack.env.count }) (local_of s))
 cuts P s new st level list there cut is = record {
   basis = ap (λ x. x.stack.basis) is ∙ cut.keeps.basis;
+  walks = (cut.walks.0, cut.walks.1 ∙ ap (λ x. cut.walks.0 ++ walks_in x.stack) (sym is));
+  plain = subst (λ x. IsPlain x.mode) (sym is) tt;
   askable = visit-asks new (ap (λ x. x.mode) is);
   ends = λ v most left answers.
       ap (ending_of most) (sym (cut-rest P s.stack st level list there cut v (record { steps = left; answers = answers; local = local_of s })))

@@ -19,9 +19,9 @@ use Rattle.plsearch.specs.Search.{ending_of}
 use Rattle.plcode.specs.Callees.{IsProgramCode}
 use Rattle.pllinks.specs.declared.link.Continuation.{Continuation}
 use Rattle.plstack.specs.declared.basis.Basis.{Basis}
-use Rattle.plstack.specs.State.{State, IsList, place_of, cases_of, goals_of, Opens}
+use Rattle.plstack.specs.State.{State, walks_in, IsList, place_of, cases_of, goals_of, Opens}
 use Rattle.plstore.specs.Looking.{Views}
-use Rattle.plstack.specs.Places.{depth_of as frames_depth}
+use Rattle.plstack.specs.Places.{depth_of as frames_depth, walks_of}
 use Rattle.plstack.specs.StaticCalls.{database_of}
 use Rattle.plmachine.specs.declared.machine.Outcome.{Outcome}
 use Rattle.plmachine.specs.declared.machine.Lookup.{Lookup}
@@ -125,11 +125,12 @@ same-machine P v s new left answers (modes.Find f) values place cases local may 
 pub begun-by : (P : Program) (a b : Basis) → a ≡ b → IsProgramCode P b.code → IsProgramCode P a.code
 begun-by P a b e i = subst (λ (x : Basis). IsProgramCode P x.code) (sym e) i
 
-pub stays-by : (P : Program) (s new : Reached) → new.stack.basis ≡ s.stack.basis → new.mode ≡ s.mode → ValuesStay s.stack new.stack → place_of new.stack ≡ place_of s.stack →
+pub stays-by : (P : Program) (s new : Reached) → new.stack.basis ≡ s.stack.basis → walks_in new.stack ≡ walks_in s.stack → new.mode ≡ s.mode → ValuesStay s.stack new.stack → place_of new.stack ≡ place_of s.stack →
     ((v : Views) → cases_in P v new ≡ cases_in P v s) → local_of new ≡ local_of s → Stays P s new
 unfolding machine
-stays-by P s new basis at values place cases local = record {
+stays-by P s new basis walks at values place cases local = record {
   basis = basis;
+  walks = walks;
   cases = cases;
   local = local;
   askable = λ may. subst (MayAsk new.stack) (sym at) (may-ask s.stack new.stack s.mode basis values may);
@@ -138,11 +139,12 @@ stays-by P s new basis at values place cases local = record {
 }
 
 pub stays_put : (P : Program) (s : Reached) → Stays P s s
-stays_put P s = record { basis = refl; cases = λ v. refl; local = refl; askable = λ may. may; same = λ may v left answers. refl }
+stays_put P s = record { basis = refl; walks = refl; cases = λ v. refl; local = refl; askable = λ may. may; same = λ may v left answers. refl }
 
 pub stays-trans : (P : Program) (a b c : Reached) → Stays P a b → Stays P b c → Stays P a c
 stays-trans P a b c f g = record {
   basis = g.basis ∙ f.basis;
+  walks = g.walks ∙ f.walks;
   cases = λ v. g.cases v ∙ f.cases v;
   local = g.local ∙ f.local;
   askable = λ may. g.askable (f.askable may);
@@ -152,7 +154,7 @@ stays-trans P a b c f g = record {
 -- lists and values were added, and other arguments are those of the goal that is selected
 pub grown-with : (P : Program) (s t : Reached) → Grown s.stack t.stack → t ≡ record s { stack = t.stack; args = t.args } → Stays P s t
 grown-with P s t g is =
-    stays-by P s t g.extends.basis (ap (λ x. x.mode) is) g.extends.values
+    stays-by P s t g.extends.basis (ap (λ fs. walks_of (reverse fs)) g.extends.frames) (ap (λ x. x.mode) is) g.extends.values
     (ap₂ (λ gs n. record { goals = gs; variables = n }) g.extends.visited g.count)
     (λ v. g.extends.cases (database_of P v)) (ap (λ x. local_of x) is)
 
@@ -171,6 +173,8 @@ moved-as P s new m m' same moved = subst (Moved P s new) same moved
 pub moved-from : (P : Program) (s t new : Reached) (m : Move) → Stays P s t → Moved P t new m → Moved P s new m
 moved-from P s t new m stay moved = record {
   basis = moved.basis ∙ stay.basis;
+  walks = (moved.walks.0, sym stay.walks ∙ moved.walks.1);
+  plain = moved.plain;
   askable = moved.askable;
   ends = λ v most left answers.
       ap₂ (λ cs w. ending_of most (Rest P (move cs (record { steps = left; answers = answers; local = w }) m))) (sym (stay.cases v)) (sym stay.local)
@@ -189,10 +193,12 @@ pub goes-at : (P : Program) (v : Views) (s new : Reached) (cs : List Case) (p : 
     (most left : ℕ) (answers : List Answer) → after P v s most left answers (Go cs p w) ≡ now P v new most left answers
 goes-at P v s new cs p w plain at cases local most left answers = ap (λ m. ending_of most (Rest P m)) (sym (machine-is P v new (At p) (cs ++ cases_in P v s) w plain at cases local left answers))
 
-pub goes-to : (P : Program) (s new : Reached) (cs : List Case) (p : Place) (w : Local) → new.stack.basis ≡ s.stack.basis → MayAsk new.stack new.mode → IsPlain new.mode →
+pub goes-to : (P : Program) (s new : Reached) (cs : List Case) (p : Place) (w : Local) → new.stack.basis ≡ s.stack.basis → walks_in new.stack ≡ walks_in s.stack → MayAsk new.stack new.mode → IsPlain new.mode →
     mode_of new.mode new.stack ≡ At p → ((v : Views) → cases_in P v new ≡ cs ++ cases_in P v s) → local_of new ≡ w → Moved P s new (Go cs p w)
-goes-to P s new cs p w basis may plain at cases local = record {
+goes-to P s new cs p w basis walks may plain at cases local = record {
   basis = basis;
+  walks = ([], sym walks);
+  plain = plain;
   askable = may;
   ends = λ v. goes-at P v s new cs p w plain at (cases v) local;
 }
@@ -209,22 +215,24 @@ pub gives-at : (P : Program) (v : Views) (s new : Reached) (r : Outcome) (w : Lo
 gives-at P v s new r w at cases local most left answers =
     ap (λ m. ending_of most (Rest P m)) (sym (machine-is P v new (Back (result_of r)) (cases_in P v s) w (subst IsPlain (sym at) tt) (ap (λ m. mode_of m new.stack) at) cases local left answers))
 
-pub gives : (P : Program) (s new : Reached) (r : Outcome) (w : Local) → new.stack.basis ≡ s.stack.basis → new.mode ≡ modes.Back r → ((v : Views) → cases_in P v new ≡ cases_in P v s) → local_of new ≡ w → Moved P s new (Give (result_of r) w)
-gives P s new r w basis at cases local = record {
+pub gives : (P : Program) (s new : Reached) (r : Outcome) (w : Local) → new.stack.basis ≡ s.stack.basis → walks_in new.stack ≡ walks_in s.stack → new.mode ≡ modes.Back r → ((v : Views) → cases_in P v new ≡ cases_in P v s) → local_of new ≡ w → Moved P s new (Give (result_of r) w)
+gives P s new r w basis walks at cases local = record {
   basis = basis;
+  walks = ([], sym walks);
+  plain = subst IsPlain (sym at) tt;
   askable = back-asks new r at;
   ends = λ v. gives-at P v s new r w at (cases v) local;
 }
 
 pub gave : (P : Program) (s new : Reached) (r : Outcome) → new ≡ record s { mode = modes.Back r } → Moved P s new (Give (result_of r) (local_of s))
-gave P s new r is = gives P s new r (local_of s) (ap (λ x. x.stack.basis) is) (ap (λ x. x.mode) is) (λ v. ap (λ x. cases_in P v x) is) (ap (λ x. local_of x) is)
+gave P s new r is = gives P s new r (local_of s) (ap (λ x. x.stack.basis) is) (ap (λ x. walks_in x.stack) is) (ap (λ x. x.mode) is) (λ v. ap (λ x. cases_in P v x) is) (ap (λ x. local_of x) is)
 
 -- a list is visited, in a stack that has grown
 pub visits : (P : Program) (s new : Reached) (t : State) (l : Continuation) (es : List Element) (w : Local) → Grown s.stack t → Holds t l es → new.stack ≡ record t { goals = l } → new.mode ≡ modes.Visit →
     local_of new ≡ w → Moved P s new (go_on es s.stack.env.count w)
 unfolding cases_of
 visits P s new t l es w g h is at wrote =
-    goes-to P s new [] (record { goals = es; variables = s.stack.env.count }) w (ap (λ x. x.basis) is ∙ g.extends.basis) (visit-asks new at) (subst IsPlain (sym at) tt)
+    goes-to P s new [] (record { goals = es; variables = s.stack.env.count }) w (ap (λ x. x.basis) is ∙ g.extends.basis) (ap walks_in is ∙ ap (λ fs. walks_of (reverse fs)) g.extends.frames) (visit-asks new at) (subst IsPlain (sym at) tt)
     (ap₂ mode_of at is ∙ ap₂ (λ gs n. At (record { goals = gs; variables = n })) h.is g.count)
     (λ v. ap (cases_of (database_of P v)) is ∙ g.extends.cases (database_of P v)) wrote
 
@@ -237,7 +245,7 @@ pub enters : (P : Program) (s new : Reached) (t : State) (more : List Case) (l :
     Moved P s new (Go more (record { goals = goals_of s.stack l; variables = s.stack.env.count }) (local_of s))
 unfolding cases_of
 enters P s new t more l i o is =
-    goes-to P s new more (record { goals = goals_of s.stack l; variables = s.stack.env.count }) (local_of s) (ap (λ x. x.stack.basis) is ∙ o.basis) (visit-asks new (ap (λ x. x.mode) is)) (subst IsPlain (sym (ap (λ x. x.mode) is)) tt)
+    goes-to P s new more (record { goals = goals_of s.stack l; variables = s.stack.env.count }) (local_of s) (ap (λ x. x.stack.basis) is ∙ o.basis) (ap (λ x. walks_in x.stack) is ∙ o.walks) (visit-asks new (ap (λ x. x.mode) is)) (subst IsPlain (sym (ap (λ x. x.mode) is)) tt)
     (ap (λ x. mode_of x.mode x.stack) is ∙ ap₂ (λ gs n. At (record { goals = gs; variables = n })) (o.lists l i).1 o.count)
     (λ v. ap (λ x. cases_in P v x) is ∙ o.cases (database_of P v)) (ap (λ x. local_of x) is)
 
@@ -246,7 +254,7 @@ pub asks : (P : Program) (s new : Reached) (q : Asked) (l : Continuation) → Is
     Moved P s new (go_on (Asking (question_of s.stack.env.heap q) ∷ goals_of s.stack l) s.stack.env.count (local_of s))
 unfolding cases_of
 asks P s new q l may is =
-    goes-to P s new [] (record { goals = Asking (question_of s.stack.env.heap q) ∷ goals_of s.stack l; variables = s.stack.env.count }) (local_of s) (ap (λ x. x.stack.basis) is)
+    goes-to P s new [] (record { goals = Asking (question_of s.stack.env.heap q) ∷ goals_of s.stack l; variables = s.stack.env.count }) (local_of s) (ap (λ x. x.stack.basis) is) (ap (λ x. walks_in x.stack) is)
     (subst (λ x. MayAsk x.stack x.mode) (sym is) may) (subst (λ x. IsPlain x.mode) (sym is) tt)
     (ap (λ x. mode_of x.mode x.stack) is) (λ v. ap (λ x. cases_in P v x) is) (ap (λ x. local_of x) is)
 
@@ -294,4 +302,4 @@ on_err_map (Err e) f k = f k
 
 -- the arguments of the goal that is selected are others
 pub args-stay : (P : Program) (s new : Reached) → new ≡ record s { args = new.args } → Stays P s new
-args-stay P s new is = subst (Stays P s) (sym is) (stays-by P s (record s { args = new.args }) refl refl (λ v i. (i, refl)) refl (λ v. refl) refl)
+args-stay P s new is = subst (Stays P s) (sym is) (stays-by P s (record s { args = new.args }) refl refl refl (λ v i. (i, refl)) refl (λ v. refl) refl)

@@ -1,5 +1,5 @@
 -- What a built-in predicate makes of a machine.
-use Rattle.std.proofs.Common.{◌≡◌, ℕ, ◌+◌, List, [], ◌∷◌, ◌++◌, map, filter_map, refl, sym, ap, ap₂, ◌∙◌, subst, None, option_map, arith, append-nil}
+use Rattle.std.proofs.Common.{◌≡◌, ℕ, ◌+◌, List, [], ◌∷◌, ◌++◌, map, filter_map, refl, sym, ap, ap₂, ◌∙◌, subst, None, option_map, arith, append-nil, reverse}
 use Rattle.plterm.specs.Tree.{Tree, var}
 use Rattle.plterm.specs.declared.indicator.Indicator.{Indicator}
 use Rattle.plcells.specs.declared.cell.Cell.{Cell}
@@ -18,7 +18,8 @@ use Rattle.plsearch.specs.Machines.Machine.{At}
 use Rattle.plsearch.specs.Rows.{go_on, choose, solved, taken, offer}
 use Rattle.planswers.specs.Answers.{IsMany}
 use Rattle.pllinks.specs.declared.link.Continuation.{Continuation}
-use Rattle.plstack.specs.State.{State, IsList, cases_of, goals_of, Solves, Unifies, UnifiesTerms}
+use Rattle.plstack.specs.Places.{walks_of}
+use Rattle.plstack.specs.State.{State, walks_in, IsList, cases_of, goals_of, Solves, Unifies, UnifiesTerms}
 use Rattle.plstack.specs.StaticCalls.{database_of}
 use Rattle.plmachine.specs.declared.machine.Outcome.TheVariants as outcomes
 use Rattle.plmachine.specs.declared.machine.Mode.TheVariants as modes
@@ -35,7 +36,7 @@ unfolding cases_of
 unifies P s new t a b l there u is =
     let count : t.env.count ≡ s.stack.env.count + 0 = omega (arith, u.count) in
     subst (λ o. Moved P s new (taken (option_map (λ σ. record { goals = bind_goals σ (goals_of s.stack l); variables = s.stack.env.count + 0 }) o) (local_of s))) (sym u.is)
-    (goes-to P s new [] _ (local_of s) (ap (λ x. x.stack.basis) is ∙ u.basis) (visit-asks new (ap (λ x. x.mode) is)) (subst IsPlain (sym (ap (λ x. x.mode) is)) tt)
+    (goes-to P s new [] _ (local_of s) (ap (λ x. x.stack.basis) is ∙ u.basis) (ap (λ x. walks_in x.stack) is ∙ ap (λ fs. walks_of (reverse fs)) u.frames) (visit-asks new (ap (λ x. x.mode) is)) (subst IsPlain (sym (ap (λ x. x.mode) is)) tt)
     (ap (λ x. mode_of x.mode x.stack) is ∙ ap₂ (λ gs n. At (record { goals = gs; variables = n })) (u.lists l there).1 count)
     (λ v. ap (λ x. cases_in P v x) is ∙ u.cases (database_of P v)) (ap (λ x. local_of x) is))
 
@@ -51,7 +52,7 @@ pub solves : (P : Program) (s new : Reached) (t : State) (q : Equation) (l : Con
 unfolding cases_of
 solves P s new t q l there u is =
     subst (λ o. Moved P s new (taken (option_map (λ σ. record { goals = bind_goals σ (goals_of s.stack l); variables = s.stack.env.count + q.new }) o) (local_of s))) (sym u.is)
-    (goes-to P s new [] _ (local_of s) (ap (λ x. x.stack.basis) is ∙ u.basis) (visit-asks new (ap (λ x. x.mode) is)) (subst IsPlain (sym (ap (λ x. x.mode) is)) tt)
+    (goes-to P s new [] _ (local_of s) (ap (λ x. x.stack.basis) is ∙ u.basis) (ap (λ x. walks_in x.stack) is ∙ ap (λ fs. walks_of (reverse fs)) u.frames) (visit-asks new (ap (λ x. x.mode) is)) (subst IsPlain (sym (ap (λ x. x.mode) is)) tt)
     (ap (λ x. mode_of x.mode x.stack) is ∙ ap₂ (λ gs n. At (record { goals = gs; variables = n })) (u.lists l there).1 u.count)
     (λ v. ap (λ x. cases_in P v x) is ∙ u.cases (database_of P v)) (ap (λ x. local_of x) is))
 
@@ -140,4 +141,4 @@ unfolding cases_of
 unified P s new t a b p es n u is =
     subst (λ o. Moved P s new (offer (decides (is_none o) s.settings) p es n (local_of s))) (sym u.is)
     (moved-as P s new _ _ (offer-fails s.settings p es n (local_of s) refl)
-    (gives P s new outcomes.Fail (local_of s) (ap (λ x. x.stack.basis) is ∙ u.basis) (ap (λ x. x.mode) is) (λ v. ap (λ x. cases_in P v x) is ∙ u.cases (database_of P v)) (ap (λ x. local_of x) is)))
+    (gives P s new outcomes.Fail (local_of s) (ap (λ x. x.stack.basis) is ∙ u.basis) (ap (λ x. walks_in x.stack) is ∙ ap (λ fs. walks_of (reverse fs)) u.frames) (ap (λ x. x.mode) is) (λ v. ap (λ x. cases_in P v x) is ∙ u.cases (database_of P v)) (ap (λ x. local_of x) is)))

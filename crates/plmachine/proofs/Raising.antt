@@ -1,5 +1,5 @@
 -- An error that is raised in more cases.
-use Rattle.std.proofs.Common.{◌≡◌, List, ◌∷◌, ◌++◌, sym, ap, ◌∙◌, subst}
+use Rattle.std.proofs.Common.{◌≡◌, List, [], ◌∷◌, ◌++◌, sym, ap, ◌∙◌, subst}
 use Rattle.plterm.specs.Tree.{Tree}
 use Rattle.plprogram.specs.Program.{Program}
 use Rattle.plsearch.specs.Types.{Throw, Raise, Case, Go, Run}
@@ -9,7 +9,7 @@ use Rattle.plsearch.specs.Machines.Machine.{At, Back, Rest, turn}
 use Rattle.plsearch.proofs.Turns.{Rest-turn}
 use Rattle.plsearch.specs.Search.{ending_of}
 use Rattle.pllinks.specs.declared.link.Continuation.{Continuation}
-use Rattle.plstack.specs.State.{State, goals_of, Opens}
+use Rattle.plstack.specs.State.{State, walks_in, goals_of, Opens}
 use Rattle.plstack.specs.StaticCalls.{database_of}
 use Rattle.plmachine.specs.declared.machine.Outcome.{Outcome}
 use Rattle.plmachine.specs.declared.machine.Mode.TheVariants as modes
@@ -23,6 +23,8 @@ pub raises-in : (P : Program) (s new : Reached) (st : State) (more : List Case) 
 unfolding turn meet
 raises-in P s new st more list ball r is o made = record {
   basis = ap (λ x. x.stack.basis) made ∙ o.basis;
+  walks = ([], sym o.walks ∙ ap (λ x. walks_in x.stack) (sym made));
+  plain = subst (λ x. IsPlain x.mode) (sym made) tt;
   askable = back-asks new r (ap (λ x. x.mode) made);
   ends = λ v most left answers.
       let run : Run = record { steps = left; answers = answers; local = local_of s } in

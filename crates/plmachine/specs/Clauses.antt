@@ -1,5 +1,5 @@
 -- The predicates on clauses.
-use Rattle.std.specs.Prelude.{◌≡◌, ℕ, List, Option, Some, None}
+use Rattle.std.specs.Prelude.{◌≡◌, ℕ, List, ◌++◌, Option, Some, None}
 use Rattle.plterm.specs.Tree.{Tree}
 use Rattle.plclause.specs.Clausal.{neck_parts}
 use Rattle.plevent.specs.declared.request.Request.TheVariants.{EraseOne}
@@ -14,7 +14,8 @@ use Rattle.plstack.specs.declared.frame.Use.{Use}
 use Rattle.plstack.specs.declared.frame.Spot.{Spot}
 use Rattle.plstack.specs.declared.walk.Entered.{Entered}
 use Rattle.plstore.specs.Looking.{Views}
-use Rattle.plstack.specs.Places.{candidates_left, left_at}
+use Rattle.plstack.specs.Places.{candidates_left, left_at, viewed}
+use Rattle.plstack.specs.State.{walks_in}
 use Rattle.plstack.specs.StaticCalls.{database_of}
 use Rattle.plmachine.specs.declared.walk.Neck.{Neck}
 use Rattle.plmachine.specs.declared.machine.Machine.{Machine as Reached}
@@ -42,6 +43,7 @@ entered_mode e = mode_by e.erased
 -- a walk of the goal t before a list stands at a spot: what is left of it is still to be tried
 pub record Walks (P : Program) (old new : Reached) (t : Tree) (u : Use) (spot : Spot) (es : List Element) : Type 0 where
   pub basis : new.stack.basis ≡ old.stack.basis
+  pub walks : (goal : Cell) × (walks_in new.stack ≡ viewed (record { goal = goal; uses = u; spot = spot }) spot ++ walks_in old.stack)
   pub frame : new ≡ record old { stack = new.stack; mode = modes.Back outcomes.Fail }
   pub ends : (v : Views) (most left : ℕ) (answers : List Answer) →
       after P v old most left answers (choose (candidates_left (depth_of old) old.stack.env t es (left_at (database_of P v) u t spot)) (local_of old)) ≡ now P v new most left answers

@@ -20,7 +20,7 @@ use Rattle.plsearch.specs.Replies.{has_head}
 use Rattle.plsearch.specs.Search.{ending_of}
 use Rattle.plstore.specs.Like.{rest}
 use Rattle.plcode.specs.Callees.{IsProgramCode}
-use Rattle.plstack.specs.State.{State, cases_of, depth_in, goals_of}
+use Rattle.plstack.specs.State.{State, cases_of, depth_in, goals_of, walks_in, EndsWalks}
 use Rattle.plsearch.specs.Rows.{clause_term}
 use Rattle.plstack.specs.declared.frame.Use.{Use}
 use Rattle.plstack.specs.declared.frame.Use.TheVariants as uses
@@ -207,12 +207,15 @@ MayAsk s (modes.Back r) = ⊤
 -- it made a move
 pub record Moved (P : Program) (old new : Reached) (m : Move) : Type 0 where
   pub basis : new.stack.basis ≡ old.stack.basis
+  pub walks : EndsWalks old.stack new.stack
+  pub plain : IsPlain new.mode
   pub askable : MayAsk new.stack new.mode
   pub ends : (v : Views) (most left : ℕ) (answers : List Answer) → after P v old most left answers m ≡ now P v new most left answers
 
 -- it stands where it stood
 pub record Stays (P : Program) (old new : Reached) : Type 0 where
   pub basis : new.stack.basis ≡ old.stack.basis
+  pub walks : walks_in new.stack ≡ walks_in old.stack
   pub cases : (v : Views) → cases_in P v new ≡ cases_in P v old
   pub local : local_of new ≡ local_of old
   pub askable : MayAsk old.stack old.mode → MayAsk new.stack new.mode

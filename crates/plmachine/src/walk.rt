@@ -1,12 +1,13 @@
 //! Walks over clauses that are opened, and procedures that are declared (ISO/IEC 13211-1 7.7.7, 8.8, 8.9).
 //!
 //! What is refused memory leaves the search where it was.
-ghost use Rattle.std.specs.Prelude.{◌∷◌, [], OnOk, OnErr};
+ghost use Rattle.std.specs.Prelude.{◌≡◌, ◌∷◌, ◌++◌, [], OnOk, OnErr};
 ghost use Rattle.plcells.specs.Store.{value, IsValue};
 ghost use Rattle.plevent.specs.declared.update.Update.TheVariants.{Declare};
 ghost use Rattle.plsearch.specs.Rows.{clause_term, publish};
 ghost use Rattle.plstack.specs.Frames.{IsSpotSeen};
-ghost use Rattle.plstack.specs.State.{goals_of, IsList};
+ghost use Rattle.plstack.specs.Places.{viewed};
+ghost use Rattle.plstack.specs.State.{goals_of, walks_in, IsList};
 ghost use Rattle.plmachine.specs.Clauses.{Walks};
 ghost use Rattle.plmachine.specs.Machine.{local_of, Moved, Stays};
 
@@ -31,6 +32,7 @@ impl Machine {
         requires seen { IsSpotSeen self.old.stack.basis.latest walk.spot }
         requires rest { IsList self.old.stack rest }
         ensures ok { OnOk result (Walks program.now self.old self.new (value self.old.stack.env.heap walk.goal) walk.uses walk.spot (goals_of self.old.stack rest)) }
+        ensures walks { OnOk result (walks_in self.new.stack ≡ viewed walk walk.spot ++ walks_in self.old.stack) }
         ensures err { OnErr result (Stays program.now self.old self.new) }
     {
         self.stack.open_walk(walk, rest)?;

@@ -1,3 +1,4 @@
+pub mod Ending
 pub mod Runs
 pub mod Cutting
 pub mod Quiets
@@ -8,3 +9,5 @@ pub mod Seeking
 pub mod Finding
 pub mod Sweeping
 pub mod Trying
+pub mod Asking
+pub mod Asked

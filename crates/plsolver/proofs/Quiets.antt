@@ -27,7 +27,7 @@ use Rattle.pllinks.specs.declared.link.Continuation.{Continuation}
 use Rattle.plstack.specs.Opening.{ClosesPlain}
 use Rattle.plevent.specs.declared.update.ClauseName.{ClauseName}
 use Rattle.plstack.specs.Places.{place_asked, plain}
-use Rattle.plstack.specs.State.{State, place_of, cases_of, goals_of, Retries, RetriesBy}
+use Rattle.plstack.specs.State.{State, walks_in, place_of, cases_of, goals_of, Retries, RetriesBy}
 use Rattle.plstore.specs.Looking.{Views}
 use Rattle.plstack.specs.StaticCalls.{database_of}
 use Rattle.plstack.specs.Cutting.{Cuts}
@@ -288,13 +288,14 @@ pub over-now : (P : Program) (s : Progress) → IsBack s → ((v : Views) → ca
 over-now P s back none = (back.0, back.1, none)
 
 -- with a result the list that is visited does not matter
-pub stays-back : (P : Program) (s : Progress) (st : State) (r : Outcome) → s.machine.mode ≡ modes.Back r → st.basis ≡ s.machine.stack.basis → ((v : Views) → cases_of (database_of P v) st ≡ cases_in P v s.machine) → Stays P s (at_stack s st)
-stays-back P s st r at basis same = record {
+pub stays-back : (P : Program) (s : Progress) (st : State) (r : Outcome) → s.machine.mode ≡ modes.Back r → st.basis ≡ s.machine.stack.basis → walks_in st ≡ walks_in s.machine.stack → ((v : Views) → cases_of (database_of P v) st ≡ cases_in P v s.machine) → Stays P s (at_stack s st)
+stays-back P s st r at basis walks same = record {
   used = refl;
   limit = refl;
   places = refl;
   there = record {
     basis = basis;
+    walks = walks;
     cases = same;
     local = refl;
     askable = λ may. subst (MayAsk st) (sym at) tt;

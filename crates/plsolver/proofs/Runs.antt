@@ -1,5 +1,5 @@
 -- What turns, steps and answers say of the whole search.
-use Rattle.std.proofs.Common.{◌≡◌, ℕ, suc, ◌+◌, ◌-◌, ◌<◌, ◌≤◌, List, [], ◌∷◌, refl, sym, ap, ap₂, ◌∙◌, subst, arith, min, le_refl, OnOk, OnErr}
+use Rattle.std.proofs.Common.{◌≡◌, ℕ, suc, ◌+◌, ◌-◌, ◌<◌, ◌≤◌, List, [], ◌∷◌, refl, sym, ap, ap₂, ◌∙◌, subst, arith, min, reverse, le_refl, OnOk, OnErr}
 use Rattle.std.specs.Prelude.{codes, Result as Outcomes, Ok, Err}
 use Rattle.plterm.specs.Tree.{Tree}
 use Rattle.plsubst.specs.Subst.{bind}
@@ -24,7 +24,8 @@ use Rattle.plsearch.specs.Solving.{TakesOne, StandsAt, EndsAt}
 use Rattle.plsearch.proofs.Turns.{Rest-turn}
 use Rattle.plcode.specs.Steps.{of_two}
 use Rattle.plenv.specs.Env.{over}
-use Rattle.plstack.specs.State.{State, cases_of, goals_of}
+use Rattle.plstack.specs.Places.{walks_of}
+use Rattle.plstack.specs.State.{State, cases_of, goals_of, walks_in, EndsWalks}
 use Rattle.pllinks.specs.declared.link.Continuation.{Continuation}
 use Rattle.plstore.specs.Looking.{Views}
 use Rattle.plstack.specs.StaticCalls.{database_of}
@@ -48,6 +49,7 @@ use Rattle.plsolver.specs.declared.progress.Progress.{Progress}
 use Rattle.plsolver.specs.declared.solver.Turn.TheVariants as turns
 use Rattle.plsolver.specs.Says.{Says}
 use Rattle.plsolver.specs.Solver.{GoesTo, rest_of, IsOf, Stays, Quiet, Selects, IsSelected, IsAsked, WaitsForReply, WaitsForView, Waits, IsReplyTo, ReplyFits, Stepped, after_done, after_reply}
+use Rattle.plsolver.proofs.Ending.{ends_same}
 
 -- ---- going on
 
@@ -347,7 +349,7 @@ selects-both P s new next b is =
     let w : Local = local_of s in
     selects-row P s new b.level (of_two (codes ",") b.left b.right) b.rest b.goals
     (subst (λ f. Moved P s new (row P f b.level (of_two (codes ",") b.left b.right) (depth_of s) b.rest n w)) (sym b.form_is)
-    (goes-to P s new [] (record { goals = Goal b.level b.left ∷ Goal b.level b.right ∷ b.rest; variables = n }) w (ap (λ x. x.stack.basis) is) (visit-asks new (ap (λ x. x.mode) is)) (subst (λ x. IsPlain x.mode) (sym is) tt)
+    (goes-to P s new [] (record { goals = Goal b.level b.left ∷ Goal b.level b.right ∷ b.rest; variables = n }) w (ap (λ x. x.stack.basis) is) (ap (λ x. walks_in x.stack) is) (visit-asks new (ap (λ x. x.mode) is)) (subst (λ x. IsPlain x.mode) (sym is) tt)
     (ap (λ x. mode_of x.mode x.stack) is ∙ ap (λ gs. At (record { goals = gs; variables = n })) b.next_goals) (λ v. ap (λ x. cases_in P v x) is) (ap (λ x. local_of x) is)))
 
 -- what was given back
@@ -356,7 +358,7 @@ given-back P s st back = record {
   used = refl;
   limit = refl;
   places = refl;
-  there = stays-by P s.machine (record s.machine { stack = st }) back.basis refl (λ v i. (subst (λ h. IsValue h v) (sym back.heap) i, ap (λ h. value h v) back.heap)) back.place (λ v. back.cases (database_of P v)) refl;
+  there = stays-by P s.machine (record s.machine { stack = st }) back.basis (ap (λ fs. walks_of (reverse fs)) back.frames) refl (λ v i. (subst (λ h. IsValue h v) (sym back.heap) i, ap (λ h. value h v) back.heap)) back.place (λ v. back.cases (database_of P v)) refl;
 }
 
 -- it stands where it stood
@@ -376,3 +378,7 @@ either_of P s new m (Err e) of ok err = record { begun = begun-by P _ _ err.basi
 pub either_basis : {T E : Type 0} (P : Program) (s new : Reached) (m : Move) (r : Outcomes T E) → OnOk r (Moved P s new m) → OnErr r (StaysThere P s new) → new.stack.basis ≡ s.stack.basis
 either_basis P s new m (Ok x) ok err = ok.basis
 either_basis P s new m (Err e) ok err = err.basis
+
+pub either_walks : {T E : Type 0} (P : Program) (s new : Reached) (m : Move) (r : Outcomes T E) → OnOk r (Moved P s new m) → OnErr r (StaysThere P s new) → EndsWalks s.stack new.stack
+either_walks P s new m (Ok x) ok err = ok.walks
+either_walks P s new m (Err e) ok err = ends_same _ _ err.walks

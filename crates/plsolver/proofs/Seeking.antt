@@ -15,7 +15,7 @@ use Rattle.plprogram.specs.Program.{Program}
 use Rattle.plsearch.specs.Types.{Lookup as Wanted, ToCall, Look, Asking, Element, Local, Run, Give, Fail}
 use Rattle.plsearch.specs.Rows.{call, choose, as_fact, meet}
 use Rattle.plsearch.specs.Replies.{answered, looked_up, missing, retract}
-use Rattle.plsearch.specs.Machines.Machine.{At, Back, Rest, turn}
+use Rattle.plsearch.specs.Machines.Machine.{At, Rest, turn}
 use Rattle.plsearch.specs.Search.{ending_of}
 use Rattle.plsearch.specs.Solving.{TakesOne}
 use Rattle.plsearch.proofs.Turns.{Rest-turn}
@@ -27,7 +27,7 @@ use Rattle.plstore.specs.declared.query.Found.TheVariants.{Next as NextFound, Cl
 use Rattle.plstore.specs.Looking.{Views, clause_alive, found}
 use Rattle.plcode.proofs.Numbers.{indicator_same}
 use Rattle.plstack.specs.declared.frame.Use.TheVariants as uses
-use Rattle.plstack.specs.Places.{candidate_of, head_in, tried}
+use Rattle.plstack.specs.Places.{candidate_of, head_in, tried, walks_of}
 use Rattle.plstack.specs.State.{State, goals_of, seeing, Extends}
 use Rattle.plstack.specs.Walks.{IsWalking}
 use Rattle.plstack.specs.declared.frame.Point.{Point}
@@ -158,7 +158,7 @@ put-stays P s st e count = record {
   used = refl;
   limit = refl;
   places = refl;
-  there = stays-by P s.machine (record s.machine { stack = st }) e.basis refl e.values (ap₂ (λ es n. record { goals = es; variables = n }) e.visited count) (λ v. e.cases (database_of P v)) refl;
+  there = stays-by P s.machine (record s.machine { stack = st }) e.basis (ap (λ fs. walks_of (reverse fs)) e.frames) refl e.values (ap₂ (λ es n. record { goals = es; variables = n }) e.visited count) (λ v. e.cases (database_of P v)) refl;
 }
 
 -- what an answer tells, by its query

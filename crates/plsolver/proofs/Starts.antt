@@ -1,5 +1,5 @@
 -- Where a search starts.
-use Rattle.std.proofs.Common.{◌≡◌, ℕ, ◌+◌, ◌-◌, List, [], ◌∷◌, ◌++◌, map, length, sym, ap, ap₂, ◌∙◌, subst, arith, min, append-nil}
+use Rattle.std.proofs.Common.{◌≡◌, ℕ, ◌+◌, ◌-◌, List, [], ◌∷◌, ◌++◌, map, length, sym, ap, ap₂, ◌∙◌, subst, arith, min, append-nil, reverse}
 use Rattle.plterm.specs.Tree.{Tree}
 use Rattle.plterm.specs.Reading.{spelling}
 use Rattle.plterm.specs.Variables.{place, seen_after, renamed, variables, copied}
@@ -16,7 +16,8 @@ use Rattle.pllinks.specs.declared.link.Continuation.{Continuation}
 use Rattle.pllinks.specs.Lists.{goal_of, all_elements}
 use Rattle.pllinks.specs.Links.{alone, done}
 use Rattle.pllinks.proofs.Arena.{list_at-none}
-use Rattle.plstack.specs.State.{State, IsList, Extends, AddsList, goals_in, goals_of, cases_of}
+use Rattle.plstack.specs.Places.{walks_of}
+use Rattle.plstack.specs.State.{State, IsList, Extends, AddsList, goals_in, goals_of, cases_of, walks_in}
 use Rattle.plstore.specs.Looking.{Views}
 use Rattle.plstack.specs.StaticCalls.{database_of}
 use Rattle.plstack.proofs.Lists.{empty-list}
@@ -69,11 +70,12 @@ starts-goal old st new list made v g t e is same grown l adds = record {
 }
 
 -- a machine at the start
-pub is-start : (P : Program) (s : Reached) (stack : State) (list : Continuation) → IsProgramCode P stack.basis.code → stack.basis.latest ≡ 0 → Starts stack list P.goals → s.stack ≡ record stack { goals = list } → s.mode ≡ modes.Visit → s.out.items ≡ [] → s.settings ≡ P.settings → s.kept ≡ [] → IsStart P s
+pub is-start : (P : Program) (s : Reached) (stack : State) (list : Continuation) → IsProgramCode P stack.basis.code → stack.basis.latest ≡ 0 → stack.frames ≡ [] → Starts stack list P.goals → s.stack ≡ record stack { goals = list } → s.mode ≡ modes.Visit → s.out.items ≡ [] → s.settings ≡ P.settings → s.kept ≡ [] → IsStart P s
 unfolding start_of cases_of
-is-start P s stack list code latest starts is at out settings kept = record {
+is-start P s stack list code latest frames starts is at out settings kept = record {
   of = record { begun = subst (λ st. IsProgramCode P st.basis.code) (sym is) code; askable = subst (λ m. MayAsk s.stack m) (sym at) tt };
   latest = ap (λ (st : State). st.basis.latest) is ∙ latest;
+  walks = ap walks_in is ∙ ap (λ fs. walks_of (reverse fs)) frames;
   is = λ v left answers.
       machine-is P v s (At (start_of P)) [] (record { out = []; settings = P.settings; kept = [] }) (subst IsPlain (sym at) tt) (ap₂ mode_of at is ∙ ap At starts.place) (ap (cases_of (database_of P v)) is ∙ starts.cases (database_of P v)) (ap₂ (λ o x. record { out = o; settings = x; kept = s.kept }) out settings ∙ ap (λ k. record { out = []; settings = P.settings; kept = k }) kept) left answers;
 }

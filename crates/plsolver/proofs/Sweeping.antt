@@ -169,6 +169,7 @@ pub sweep-stays : (P : Program) (s : Reached) (c : Cell) (w x : Sweep) → s.mod
 unfolding machine
 sweep-stays P s c w x at far = record {
   basis = refl;
+  walks = refl;
   cases = λ v. refl;
   local = refl;
   askable = λ may. let asks : MayAsk s.stack (modes.Find (finds.Sweep c w)) = subst (MayAsk s.stack) at may in (asks.0, omega (arith, asks.1, far.0));

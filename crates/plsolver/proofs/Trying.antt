@@ -33,7 +33,7 @@ use Rattle.plstack.specs.declared.walk.Walking.{Walking}
 use Rattle.plstore.specs.declared.query.Query.{Query}
 use Rattle.plsearch.specs.Solving.{Goes}
 use Rattle.plstack.specs.Places.{Database, candidate_of, head_in, left_at, left_if, onward_if, text_candidate, tried}
-use Rattle.plstack.specs.State.{State, cases_of, goals_in, RetriesBy}
+use Rattle.plstack.specs.State.{State, cases_of, goals_in, walks_in, RetriesBy}
 use Rattle.plstack.specs.StaticCalls.{database_of}
 use Rattle.plstack.specs.Walks.{AtWalk, EndsPlain, Finds, GoesOn, goal_at}
 use Rattle.plstack.proofs.Looking.{clause-none, clause-some, next-same}
@@ -151,7 +151,7 @@ retries-same db s mid new x same r = record { others = r.others; older = r.older
 pub same-at : (g k : ℕ) (x y : ClauseName) → spots.At g x ≡ spots.At k y → (g ≡ k) × (x ≡ y)
 same-at g k x y e = (cc, cc)
 
-same-known : (g k : ℕ) (x y : ClauseName) (a b : Option ClauseName) → spots.Known g x a ≡ spots.Known k y b → (g ≡ k) × (x ≡ y)
+pub same-known : (g k : ℕ) (x y : ClauseName) (a b : Option ClauseName) → spots.Known g x a ≡ spots.Known k y b → (g ≡ k) × (x ≡ y)
 same-known g k x y a b e = (cc, cc)
 
 -- what was sought at a spot, by the names that it has in two ways
@@ -204,6 +204,7 @@ pub record AtText (old new : Progress) (from to : Walking) (k : ℕ) (cs : List 
   pub goal : value new.machine.stack.env.heap to.walk.goal ≡ value old.machine.stack.env.heap from.walk.goal
   pub cases : (P : Program) (v : Views) → cs ≡ clauses_for P (indicator (head_in from.walk.uses (value old.machine.stack.env.heap from.walk.goal))) → cases_of (database_of P v) new.machine.stack ≡ cases_of (database_of P v) old.machine.stack
   pub basis : new.machine.stack.basis ≡ old.machine.stack.basis
+  pub walks : walks_in new.machine.stack ≡ walks_in old.machine.stack
   pub frame : new ≡ record old { machine = record old.machine { stack = new.machine.stack } }
 
 -- they are still the procedure's

@@ -45,7 +45,7 @@ use Rattle.plstack.specs.declared.frame.Use.TheVariants as uses
 use Rattle.plstack.specs.declared.frame.Spot.{Spot}
 use Rattle.plstack.specs.declared.frame.Spot.TheVariants as spots
 use Rattle.plstack.specs.declared.frame.Walk.{Walk}
-use Rattle.plstack.specs.State.{State, cases_of, goals_in, goals_of, seeing, HasAnswers, HasBranch, HasClauses, IsList}
+use Rattle.plstack.specs.State.{State, cases_of, goals_in, goals_of, seeing, walks_in, HasAnswers, HasBranch, HasClauses, IsList}
 use Rattle.plstack.specs.declared.first.First.{First}
 use Rattle.plstack.specs.declared.first.First.TheVariants as firsts
 use Rattle.plstack.specs.First.{IsFirst}
@@ -305,6 +305,7 @@ pub record StartsGoal (old new : State) (list made : Continuation) (g : Tree) : 
 pub record IsStart (P : Program) (s : Reached) : Type 0 where
   pub of : IsOf P s
   pub latest : s.stack.basis.latest ≡ 0
+  pub walks : walks_in s.stack ≡ []
   pub is : (v : Views) (left : ℕ) (answers : List Answer) → machine P v left answers s ≡ record { mode = At (start_of P); cases = []; run = from_start P left answers }
 
 -- without a step or an answer it came to where the same is left of its search, where the views are these

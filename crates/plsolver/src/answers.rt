@@ -4,6 +4,7 @@ ghost use Rattle.std.specs.Prelude.{◌≡◌, ◌≤◌, [], ◌∷◌, ◌++�
 ghost use Rattle.plevent.specs.Search.{Got, Finishes};
 ghost use Rattle.plsearch.specs.Search.{next_of};
 ghost use Rattle.plsearch.specs.Solving.{TakesOne};
+ghost use Rattle.plstack.specs.State.{walks_in};
 ghost use Rattle.plstore.specs.Looking.{Views};
 ghost use Rattle.plmachine.specs.Machine.{result_of};
 ghost use Rattle.plsolver.specs.Solver.{IsOf, Stays, rest_of, Waits, ReplyFits, IsOver, after_done, after_reply};
@@ -28,6 +29,7 @@ impl Progress {
         ensures places { OnOk result (self.new.places.items ≡ self.old.places.items ++ place ∷ []) }
         ensures limit { self.new.limit ≡ self.old.limit }
         ensures err { OnErr result (Stays program.now self.old self.new) }
+        ensures walks { walks_in self.new.machine.stack ≡ walks_in self.old.machine.stack }
     {
         let Mode::Ask(question) = &self.machine.mode else {
             unreachable!()

@@ -4,7 +4,7 @@
 
 ghost use Rattle.std.specs.Prelude.{◌≡◌, ◌-◌, true, OnOk, OnErr};
 ghost use Rattle.plcells.specs.Store.{IsValue};
-ghost use Rattle.plstack.specs.State.{HasCatcher, HasGatherer, HasHandler, IsList};
+ghost use Rattle.plstack.specs.State.{EndsWalks, HasCatcher, HasGatherer, HasHandler, IsList};
 ghost use Rattle.plmachine.specs.Machine.{depth_of};
 ghost use Rattle.plsolver.specs.Solver.{IsBack, Stays, Quiet, throws_to, Recovered, Rethrown};
 
@@ -22,11 +22,13 @@ use std::alloc::AllocError;
 
 impl Progress {
     /// The ball that is carried, at the innermost case, which is a catcher that is active.
+    #[tactic(auto, using(crate::proofs::Ending::ends_same, crate::proofs::Ending::ends_refl))]
     pub(crate) fn catch(&mut self, program: &Program) -> Result<(), AllocError>
         requires catch { HasCatcher self.old.machine.stack }
         requires throws { throws_to (depth_of self.old.machine - 1) self.old.machine.mode ≡ true }
         ensures ok { OnOk result (Quiet program.now self.old self.new) }
         ensures err { OnErr result (Stays program.now self.old self.new) }
+        ensures walks { EndsWalks self.old.machine.stack self.new.machine.stack }
     {
         let Handling { handler, list } = self.machine.stack.rewind();
         let Handler::Catch(catcher) = handler else {
@@ -48,11 +50,13 @@ impl Progress {
     }
 
     /// Failure, at the innermost case, which gathers what was kept.
+    #[tactic(auto, using(crate::proofs::Ending::ends_same, crate::proofs::Ending::ends_refl))]
     pub(crate) fn gather(&mut self, program: &Program) -> Result<(), AllocError>
         requires gathers { HasGatherer self.old.machine.stack }
         requires fails { self.old.machine.mode ≡ Mode.Back Outcome.Fail }
         ensures ok { OnOk result (Quiet program.now self.old self.new) }
         ensures err { OnErr result (Stays program.now self.old self.new) }
+        ensures walks { EndsWalks self.old.machine.stack self.new.machine.stack }
     {
         let Handling { handler, list } = self.machine.stack.rewind();
         let Handler::Gather(whole) = handler else {
@@ -71,6 +75,7 @@ impl Progress {
     }
 
     /// Runs a recovery before a list, in place of the innermost case, which is its catcher.
+    #[tactic(auto, using(crate::proofs::Ending::ends_same, crate::proofs::Ending::ends_refl))]
     fn recover(
         &mut self,
         program: &Program,
@@ -83,6 +88,7 @@ impl Progress {
         requires list { IsList self.old.machine.stack list }
         ensures ok { OnOk result (Recovered program.now self.old self.new recovery list) }
         ensures err { OnErr result (Stays program.now self.old self.new) }
+        ensures walks { EndsWalks self.old.machine.stack self.new.machine.stack }
     {
         match self.machine.ready(recovery)? {
             Ready::Raises(error) => self.rethrow(program, error, list),
@@ -98,6 +104,7 @@ impl Progress {
     }
 
     /// Throws an error of catch/3 before a list, in place of the innermost case.
+    #[tactic(auto, using(crate::proofs::Ending::ends_same, crate::proofs::Ending::ends_refl))]
     fn rethrow(
         &mut self,
         program: &Program,
@@ -108,6 +115,7 @@ impl Progress {
         requires list { IsList self.old.machine.stack list }
         ensures ok { OnOk result (Rethrown program.now self.old self.new error list) }
         ensures err { OnErr result (self.new ≡ self.old) }
+        ensures walks { EndsWalks self.old.machine.stack self.new.machine.stack }
     {
         let alloc = self.machine.alloc;
         let p = error::catch(alloc)?;

@@ -13,6 +13,7 @@ ghost use Rattle.plmachine.specs.Machine.{IsFound, MayAsk};
 ghost use Rattle.plmachine.specs.declared.machine.Find.TheVariants.{Sweep as SweepOf};
 ghost use Rattle.plmachine.specs.declared.machine.Mode.TheVariants.{Find as Finds};
 ghost use Rattle.plmachine.specs.declared.machine.Sweep.{Sweep as OfSweep};
+ghost use Rattle.plsolver.specs.Asking.{AsksNext, FindAsked};
 ghost use Rattle.plsolver.specs.Says.{Says, IsSlice};
 ghost use Rattle.plsolver.specs.Solver.{Fetches, find_query, find_view, IsClause, IsExists, IsFetching, IsFoundFor, IsNext, IsOf, KeepsRest, like, reach_query, Stays, Sweeping, WalksOn};
 
@@ -140,6 +141,7 @@ impl Progress {
         ensures basis { self.new.machine.stack.basis ≡ self.old.machine.stack.basis }
         ensures frame { self.new ≡ record self.old { machine = self.new.machine } }
         ensures err { OnErr result (Stays program.now self.old self.new) }
+        ensures asked { OnOk result ((v : Views) (g : ℕ) (q : Asked) → Fetches self.old g q → Ordered (v g) → found ≡ found_of (v g) q → AsksNext v self.old.machine self.new.machine q) }
     {
         let Mode::Find(find) = &self.machine.mode else {
             return self.fetched_walk(program, found);
@@ -179,6 +181,7 @@ impl Progress {
         ensures basis { self.new.machine.stack.basis ≡ self.old.machine.stack.basis }
         ensures frame { self.new ≡ record self.old { machine = self.new.machine } }
         ensures err { OnErr result (Stays program.now self.old self.new) }
+        ensures asked { OnOk result ((v : Views) (head : Cell) (w : OfSweep) → self.old.machine.mode ≡ Finds (SweepOf head w) → Ordered (v w.view) → found ≡ found_of (v w.view) (reach_query (value self.old.machine.stack.env.heap head) reach) → FindAsked v (SweepOf head w) self.old.machine self.new.machine (reach_query (value self.old.machine.stack.env.heap head) reach)) }
     {
         match reach {
             Reach::Behind(_) => {
@@ -198,6 +201,7 @@ impl Progress {
         ensures basis { self.new.machine.stack.basis ≡ self.old.machine.stack.basis }
         ensures frame { self.new ≡ record self.old { machine = self.new.machine } }
         ensures err { OnErr result (Stays program.now self.old self.new) }
+        ensures asked { OnOk result ((v : Views) (g : ℕ) (q : Asked) → WalksOn self.old.machine g q → Ordered (v g) → found ≡ found_of (v g) q → AsksNext v self.old.machine self.new.machine q) }
     {
         let Some(at) = self.machine.stack.walking() else {
             unreachable!()

@@ -5,6 +5,7 @@ mod answers;
 mod catch;
 mod error;
 mod fetch;
+pub mod laws;
 mod look;
 pub mod progress;
 pub mod solver;

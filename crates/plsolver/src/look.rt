@@ -1,6 +1,8 @@
 //! Look-ups of clauses in a view.
 
 ghost use Rattle.std.specs.Prelude.{◌≡◌, ◌≤◌, [], ◌∷◌, ◌++◌, IfOk, OnOk, OnErr};
+ghost use Rattle.plsolver.specs.Asking.{FindAsked};
+ghost use Rattle.plstore.specs.declared.query.Query.TheVariants.{Exists as ExistsQuery};
 ghost use Rattle.plterm.specs.Tree.{Tree};
 ghost use Rattle.plcells.specs.Store.{value};
 ghost use Rattle.plclause.specs.Indicators.{indicator};
@@ -14,11 +16,11 @@ ghost use Rattle.plstore.specs.Rising.{Ordered};
 ghost use Rattle.plstore.specs.declared.record.Cursor.TheVariants.{Start as StartOf};
 ghost use Rattle.plstore.specs.Looking.{Views};
 ghost use Rattle.plstack.specs.Places.{head_in};
-ghost use Rattle.plstack.specs.State.{goals_of};
+ghost use Rattle.plstack.specs.State.{goals_of, walks_in};
 ghost use Rattle.plmachine.specs.Machine.{local_of, Moved};
 ghost use Rattle.plmachine.specs.declared.machine.Find.TheVariants.{Exists as ExistsOf, First as FirstOf};
 ghost use Rattle.plmachine.specs.declared.machine.Mode.TheVariants.{Find as Finds};
-ghost use Rattle.plsolver.specs.Solver.{FindsBy, IsOf, KeepsRest, LooksUp, mode_none, Stays, rest_of, WaitsForView};
+ghost use Rattle.plsolver.specs.Solver.{FindsBy, IsOf, KeepsRest, like, LooksUp, mode_none, Stays, rest_of, WaitsForView};
 
 use crate::error;
 use crate::progress::Progress;
@@ -44,6 +46,7 @@ impl Progress {
         ensures places { OnOk result (self.new.places.items ≡ self.old.places.items ++ g ∷ []) }
         ensures limit { self.new.limit ≡ self.old.limit }
         ensures err { OnErr result (Stays program.now self.old self.new) }
+        ensures walks { walks_in self.new.machine.stack ≡ walks_in self.old.machine.stack }
     {
         let Mode::Ask(question) = &self.machine.mode else {
             unreachable!()
@@ -112,6 +115,7 @@ impl Progress {
         ensures basis { self.new.machine.stack.basis ≡ self.old.machine.stack.basis }
         ensures frame { self.new ≡ record self.old { machine = self.new.machine } }
         ensures err { OnErr result (Stays program.now self.old self.new) }
+        ensures asked { OnOk result ((v : Views) → Ordered (v g) → first ≡ next_like_of (first_key (head_in sought.uses (value self.old.machine.stack.env.heap sought.goal))) StartOf (living (v g) (indicator (head_in sought.uses (value self.old.machine.stack.env.heap sought.goal)))) → FindAsked v (FirstOf sought g) self.old.machine self.new.machine (like (head_in sought.uses (value self.old.machine.stack.env.heap sought.goal)) StartOf)) }
     {
         match first {
             Some(name) => {
@@ -145,6 +149,7 @@ impl Progress {
         ensures basis { self.new.machine.stack.basis ≡ self.old.machine.stack.basis }
         ensures frame { self.new ≡ record self.old { machine = self.new.machine } }
         ensures err { OnErr result (Stays program.now self.old self.new) }
+        ensures asked { OnOk result ((v : Views) → FindAsked v (ExistsOf goal g) self.old.machine self.new.machine (ExistsQuery (indicator (value self.old.machine.stack.env.heap goal)))) }
     {
         if exists {
             self.machine.mode = Mode::Back(Outcome::Fail);

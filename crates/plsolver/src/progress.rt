@@ -2,6 +2,7 @@
 
 ghost use Rattle.std.specs.Prelude.{◌≡◌, ◌+◌, ◌≤◌, [], IfOk, OnOk, OnErr};
 ghost use Rattle.plprogram.specs.Program.{Program as Given};
+ghost use Rattle.plstack.specs.State.{walks_in, EndsWalks};
 ghost use Rattle.plstore.specs.Looking.{Views};
 ghost use Rattle.plsearch.specs.Search.{search_of};
 ghost use Rattle.plsearch.specs.Solving.{Begins};
@@ -65,6 +66,7 @@ impl Progress {
         ensures latest { IfOk result (λ s. s.machine.stack.basis.latest ≡ 0) }
         ensures limit { IfOk result (λ s. s.limit ≡ limit) }
         ensures places { IfOk result (λ s. s.places.items ≡ []) }
+        ensures walks { IfOk result (λ s. walks_in s.machine.stack ≡ []) }
     {
         let machine = start(alloc, program)?;
         Ok(Progress {
@@ -76,7 +78,7 @@ impl Progress {
     }
 
     /// Goes on until something is asked, the search ends, or so many steps are taken.
-    #[tactic(auto, using(crate::proofs::Runs::goes_on, crate::proofs::Runs::goes_nowhere, crate::proofs::Runs::stays_goes, crate::proofs::Runs::stays_of))]
+    #[tactic(auto, using(crate::proofs::Runs::goes_on, crate::proofs::Runs::goes_nowhere, crate::proofs::Runs::stays_goes, crate::proofs::Runs::stays_of, crate::proofs::Ending::ends_refl, crate::proofs::Ending::ends_trans))]
     pub fn advance(&mut self, program: &Program, fuel: u64) -> Result<Turn, AllocError>
         requires within { self.old.used ≤ self.old.limit }
         requires of { IsOf program.now self.old.machine }
@@ -88,6 +90,7 @@ impl Progress {
         ensures fuel { self.new.used ≤ self.old.used + fuel }
         ensures slice { IfOk result (λ turn. IsSlice turn → self.new.used ≡ self.old.used + fuel) }
         ensures says { IfOk result (λ turn. Says program.now self.new turn) }
+        ensures walks { EndsWalks self.old.machine.stack self.new.machine.stack }
     {
         let mut left = fuel;
         loop {
@@ -108,6 +111,7 @@ impl Progress {
     }
 
     /// Selects the goal that is due, and gives back the goal lists and slots that nothing holds then.
+    #[tactic(auto, using(crate::proofs::Ending::ends_same, crate::proofs::Ending::ends_refl))]
     fn step(&mut self, program: &Program, selected: Selected) -> Result<(), AllocError>
         requires of { IsOf program.now self.old.machine }
         requires goal { IsSelected self.old.machine selected }
@@ -116,6 +120,7 @@ impl Progress {
         ensures of { IsOf program.now self.new.machine }
         ensures basis { self.new.machine.stack.basis ≡ self.old.machine.stack.basis }
         ensures err { OnErr result (Stays program.now self.old self.new) }
+        ensures walks { EndsWalks self.old.machine.stack self.new.machine.stack }
     {
         self.select(program, &selected)?;
         self.used += 1;
@@ -134,6 +139,7 @@ impl Progress {
     }
 
     /// Selects the goal that is due.
+    #[tactic(auto, using(crate::proofs::Ending::ends_same, crate::proofs::Ending::ends_refl))]
     fn select(&mut self, program: &Program, selected: &Selected) -> Result<(), AllocError>
         requires of { IsOf program.now self.old.machine }
         requires goal { IsSelected self.old.machine selected.now }
@@ -142,6 +148,7 @@ impl Progress {
         ensures basis { self.new.machine.stack.basis ≡ self.old.machine.stack.basis }
         ensures frame { self.new ≡ record self.old { machine = self.new.machine } }
         ensures err { OnErr result (Stays program.now self.old self.new) }
+        ensures walks { EndsWalks self.old.machine.stack self.new.machine.stack }
     {
         match selected {
             Selected::Both(next) => {
@@ -154,7 +161,7 @@ impl Progress {
     }
 
     /// Quiet turns, up to what is due.
-    #[tactic(auto, using(crate::proofs::Runs::quiet_goes, crate::proofs::Runs::quiet_lighter, crate::proofs::Runs::quiet_of, crate::proofs::Runs::goes_on, crate::proofs::Runs::goes_nowhere, crate::proofs::Runs::stays_goes, crate::proofs::Runs::stays_of))]
+    #[tactic(auto, using(crate::proofs::Runs::quiet_goes, crate::proofs::Runs::quiet_lighter, crate::proofs::Runs::quiet_of, crate::proofs::Runs::goes_on, crate::proofs::Runs::goes_nowhere, crate::proofs::Runs::stays_goes, crate::proofs::Runs::stays_of, crate::proofs::Ending::ends_refl, crate::proofs::Ending::ends_trans))]
     fn settle(&mut self, program: &Program) -> Result<Due, AllocError>
         requires within { self.old.used ≤ self.old.limit }
         requires of { IsOf program.now self.old.machine }
@@ -165,6 +172,7 @@ impl Progress {
         ensures limit { self.new.limit ≡ self.old.limit }
         ensures places { self.new.places.items ≡ self.old.places.items }
         ensures due { IfOk result (λ due. Settled program.now self.new due) }
+        ensures walks { EndsWalks self.old.machine.stack self.new.machine.stack }
     {
         loop {
             match self.quiet_turn(program)? {

@@ -2,12 +2,14 @@
 
 ghost use Rattle.std.specs.Prelude.{◌≡◌, ℕ, ◌+◌, ◌≤◌, [], ◌∷◌, ◌++◌, IfOk, OnOk, OnErr};
 ghost use Rattle.plevent.specs.Search.{Seen, Got};
+ghost use Rattle.plstack.specs.State.{walks_in, EndsWalks};
 ghost use Rattle.plstore.specs.Looking.{Views, found as found_of};
 ghost use Rattle.plstore.specs.Rising.{Ordered};
 ghost use Rattle.plsearch.specs.Search.{search_of};
 ghost use Rattle.plsearch.specs.Solving.{Begins, Goes, TakesOne};
 ghost use Rattle.plsolver.specs.Solver.{Fetches, GoesTo, IsFoundFor, IsOf, Stays, latest_view, rest_of, WaitsForView, ReplyFits};
 ghost use Rattle.plmachine.specs.Machine.{MayAsk};
+ghost use Rattle.plsolver.specs.Asking.{AsksNext};
 ghost use Rattle.plsolver.specs.Says.{Says, IsSlice};
 
 use crate::progress::Progress;
@@ -58,6 +60,7 @@ impl Solver {
         ensures latest { IfOk result (λ s. latest_view s ≡ 0) }
         ensures limit { IfOk result (λ s. s.limit ≡ limit) }
         ensures places { IfOk result (λ s. s.places.items ≡ []) }
+        ensures walks { IfOk result (λ s. walks_in s.machine.stack ≡ []) }
     {
         let progress = Progress::new(alloc, program, limit)?;
         Ok(Solver { progress })
@@ -96,6 +99,7 @@ impl Solver {
         ensures fuel { self.new.used ≤ self.old.used + fuel }
         ensures slice { IfOk result (λ turn. IsSlice turn → self.new.used ≡ self.old.used + fuel) }
         ensures says { IfOk result (λ turn. Says program.now self.new turn) }
+        ensures walks { EndsWalks self.old.machine.stack self.new.machine.stack }
     {
         self.progress.advance(program, fuel)
     }
@@ -111,6 +115,7 @@ impl Solver {
         ensures latest { latest_view self.new ≡ latest_view self.old }
         ensures limit { self.new.limit ≡ self.old.limit }
         ensures err { OnErr result (Stays program.now self.old self.new) }
+        ensures walks { walks_in self.new.machine.stack ≡ walks_in self.old.machine.stack }
     {
         self.progress.reply(program, place, reply)
     }
@@ -126,6 +131,7 @@ impl Solver {
         ensures latest { OnOk result (latest_view self.new ≡ g) }
         ensures limit { self.new.limit ≡ self.old.limit }
         ensures err { OnErr result (Stays program.now self.old self.new) }
+        ensures walks { walks_in self.new.machine.stack ≡ walks_in self.old.machine.stack }
     {
         self.progress.refreshed(program, g)
     }
@@ -152,6 +158,7 @@ impl Solver {
         ensures places { self.new.places.items ≡ self.old.places.items }
         ensures limit { self.new.limit ≡ self.old.limit }
         ensures err { OnErr result (Stays program.now self.old self.new) }
+        ensures asked { OnOk result ((v : Views) (g : ℕ) (q : Query) → Fetches self.old g q → Ordered (v g) → found ≡ found_of (v g) q → AsksNext v self.old.machine self.new.machine q) }
     {
         self.progress.fetched(program, found)
     }

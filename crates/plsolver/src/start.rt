@@ -56,6 +56,7 @@ fn start_goals(stack: &mut Stack, alloc: Global, goals: &[Term]) -> Result<Conti
     requires { IsEmpty stack.old }
     ensures starts { IfOk result (λ list. Starts stack.new list goals.now) }
     ensures basis { stack.new.basis ≡ stack.old.basis }
+    ensures frames { stack.new.frames ≡ stack.old.frames }
 {
     let mut list = Continuation::alone(ListId::EMPTY);
     let mut i = goals.len();
@@ -76,6 +77,7 @@ fn start_goal(
     requires { IsList stack.old list }
     ensures starts { IfOk result (λ made. StartsGoal stack.old stack.new list made goal.now) }
     ensures basis { stack.new.basis ≡ stack.old.basis }
+    ensures frames { stack.new.frames ≡ stack.old.frames }
 {
     let copy = goal.copied(alloc)?;
     let once = once(alloc, copy)?;

@@ -1,6 +1,8 @@
 //! The erasure of all clauses of a head (ISO/IEC 13211-1 8.9.5): they are looked through one at a time.
 
 ghost use Rattle.std.specs.Prelude.{◌≡◌, ◌++◌, OnErr, OnOk, IfOk, Option};
+ghost use Rattle.plsolver.specs.Asking.{FindAsked};
+ghost use Rattle.plstore.specs.declared.query.Query.TheVariants.{Clause as ClauseQuery, Exists as ExistsQuery};
 ghost use Rattle.plcells.specs.Store.{value, IsValue};
 ghost use Rattle.plclause.specs.Indicators.{indicator};
 ghost use Rattle.plevent.specs.Alive.{exists as exists_of, living};
@@ -14,7 +16,7 @@ ghost use Rattle.plmachine.specs.declared.machine.Find.TheVariants.{All as AllOf
 ghost use Rattle.plmachine.specs.declared.machine.Mode.TheVariants.{Find as Finds};
 ghost use Rattle.plmachine.specs.declared.machine.Reach.TheVariants.{At as AtOf, Behind as BehindOf};
 ghost use Rattle.plmachine.specs.declared.machine.Sweep.{Sweep as OfSweep};
-ghost use Rattle.plsolver.specs.Solver.{as_swept, erased_if, has_if, IsOf, KeepsRest, Stays, swept_by};
+ghost use Rattle.plsolver.specs.Solver.{as_swept, erased_if, has_if, IsOf, KeepsRest, like, Stays, swept_by};
 
 use crate::progress::Progress;
 use plcells::cell::Cell;
@@ -43,6 +45,7 @@ impl Progress {
         ensures basis { self.new.machine.stack.basis ≡ self.old.machine.stack.basis }
         ensures frame { self.new ≡ record self.old { machine = self.new.machine } }
         ensures err { OnErr result (Stays program.now self.old self.new) }
+        ensures asked { OnOk result ((v : Views) → FindAsked v (AllOf head g) self.old.machine self.new.machine (ExistsQuery (indicator (value self.old.machine.stack.env.heap head)))) }
     {
         if exists {
             let sweep = Sweep {
@@ -65,6 +68,7 @@ impl Progress {
         ensures of { IsOf program.now self.new.machine }
         ensures basis { self.new.machine.stack.basis ≡ self.old.machine.stack.basis }
         ensures frame { self.new ≡ record self.old { machine = self.new.machine } }
+        ensures asked { (v : Views) (head : Cell) (w : OfSweep) (c : OfCursor) → self.old.machine.mode ≡ Finds (SweepOf head w) → w.reach ≡ BehindOf c → Ordered (v w.view) → next ≡ next_like_of (first_key (value self.old.machine.stack.env.heap head)) c (living (v w.view) (indicator (value self.old.machine.stack.env.heap head))) → FindAsked v (SweepOf head w) self.old.machine self.new.machine (like (value self.old.machine.stack.env.heap head) c) }
     {
         let mode = mem::replace(&mut self.machine.mode, Mode::Visit);
         let Mode::Find(find) = mode else {
@@ -103,6 +107,7 @@ impl Progress {
         ensures basis { self.new.machine.stack.basis ≡ self.old.machine.stack.basis }
         ensures frame { self.new ≡ record self.old { machine = self.new.machine } }
         ensures err { OnErr result (Stays program.now self.old self.new) }
+        ensures asked { OnOk result ((v : Views) (head : Cell) (w : OfSweep) → self.old.machine.mode ≡ Finds (SweepOf head w) → w.reach ≡ AtOf name → FindAsked v (SweepOf head w) self.old.machine self.new.machine (ClauseQuery name)) }
     {
         let Mode::Find(find) = &self.machine.mode else {
             unreachable!()
@@ -124,6 +129,7 @@ impl Progress {
         ensures is { IfOk result (λ has. has ≡ has_if self.new.machine.stack.env.count (value self.new.machine.stack.env.heap head) clause.now) }
         ensures stays { (P : Given) → Stays P self.old self.new }
         ensures frame { self.new ≡ record self.old { machine = record self.old.machine { stack = self.new.machine.stack } } }
+        ensures head { value self.new.machine.stack.env.heap head ≡ value self.old.machine.stack.env.heap head }
     {
         match clause {
             Some(clause) => {

@@ -4,7 +4,7 @@ ghost use Rattle.std.specs.Prelude.{◌≡◌, ◌-◌, ◌≤◌, ◌↔◌, If
 ghost use Rattle.plcells.specs.Store.{IsValue, value};
 ghost use Rattle.plsearch.specs.Engine.{stop_cut, mark, deeper};
 ghost use Rattle.plstack.specs.Places.{Database};
-ghost use Rattle.plstack.specs.State.{cases_of, HasAnswers, HasCatcher, HasClauses, HasWalk, HasBranch, HasGatherer, HasPlain};
+ghost use Rattle.plstack.specs.State.{cases_of, EndsWalks, HasAnswers, HasCatcher, HasClauses, HasWalk, HasBranch, HasGatherer, HasPlain};
 ghost use Rattle.plstack.specs.First.{IsFirst};
 ghost use Rattle.plstack.specs.declared.first.First.TheVariants.{Marker as MarkerFirst};
 ghost use Rattle.plmachine.specs.Machine.{depth_of};
@@ -23,12 +23,14 @@ use std::alloc::AllocError;
 
 impl Progress {
     /// One turn that takes no step, unless something is due.
+    #[tactic(auto, using(crate::proofs::Ending::ends_same, crate::proofs::Ending::ends_refl))]
     pub(crate) fn quiet_turn(&mut self, program: &Program) -> Result<Option<Due>, AllocError>
         requires within { self.old.used ≤ self.old.limit }
         requires of { IsOf program.now self.old.machine }
         ensures on { IfOk result (λ o. IfNone o (Quiet program.now self.old self.new)) }
         ensures due { IfOk result (λ o. IfSome o (λ due. Settled program.now self.new due × Stays program.now self.old self.new)) }
         ensures err { OnErr result (Stays program.now self.old self.new) }
+        ensures walks { EndsWalks self.old.machine.stack self.new.machine.stack }
     {
         match &self.machine.mode {
             Mode::Visit => self.pass(program),
@@ -40,12 +42,14 @@ impl Progress {
     }
 
     /// One turn at a list.
+    #[tactic(auto, using(crate::proofs::Ending::ends_same, crate::proofs::Ending::ends_refl))]
     fn pass(&mut self, program: &Program) -> Result<Option<Due>, AllocError>
         requires visits { self.old.machine.mode ≡ Mode.Visit }
         requires within { self.old.used ≤ self.old.limit }
         ensures on { IfOk result (λ o. IfNone o (Quiet program.now self.old self.new)) }
         ensures due { IfOk result (λ o. IfSome o (λ due. Settled program.now self.new due × Stays program.now self.old self.new)) }
         ensures err { OnErr result (Stays program.now self.old self.new) }
+        ensures walks { EndsWalks self.old.machine.stack self.new.machine.stack }
     {
         let selected = match self.machine.stack.first() {
             First::Nothing => {
@@ -69,6 +73,7 @@ impl Progress {
         requires within { self.old.used ≤ self.old.limit }
         ensures on { IfNone result (Quiet program.now self.old self.new) }
         ensures due { IfSome result (λ due. Settled program.now self.new due × (self.new ≡ self.old)) }
+        ensures frame { self.new ≡ record self.old { machine = record self.old.machine { mode = self.new.machine.mode } } }
     {
         if self.used == self.limit {
             self.machine.mode = Mode::Back(Outcome::Spent);
@@ -78,6 +83,7 @@ impl Progress {
     }
 
     /// One turn at a marker.
+    #[tactic(auto, using(crate::proofs::Ending::ends_same, crate::proofs::Ending::ends_refl))]
     fn pass_marker(
         &mut self,
         program: &Program,
@@ -89,6 +95,7 @@ impl Progress {
         requires marker { IsFirst self.old.machine.stack (MarkerFirst kind level rest) }
         ensures ok { OnOk result (Quiet program.now self.old self.new) }
         ensures err { OnErr result (Stays program.now self.old self.new) }
+        ensures walks { EndsWalks self.old.machine.stack self.new.machine.stack }
     {
         match kind {
             MarkerKind::Commit => self.machine.stack.cut(level, rest)?,
@@ -113,12 +120,14 @@ impl Progress {
     }
 
     /// One turn with a result.
+    #[tactic(auto, using(crate::proofs::Ending::ends_same, crate::proofs::Ending::ends_refl))]
     fn back(&mut self, program: &Program) -> Result<Option<Due>, AllocError>
         requires back { IsBack self.old }
         requires of { IsOf program.now self.old.machine }
         ensures on { IfOk result (λ o. IfNone o (Quiet program.now self.old self.new)) }
         ensures due { IfOk result (λ o. IfSome o (λ due. Settled program.now self.new due × Stays program.now self.old self.new)) }
         ensures err { OnErr result (Stays program.now self.old self.new) }
+        ensures walks { EndsWalks self.old.machine.stack self.new.machine.stack }
     {
         if self.fails() {
             return self.fail(program);
@@ -131,12 +140,14 @@ impl Progress {
     }
 
     /// One turn with failure: the next place of the innermost choice, or it is closed, together with others that have nothing left.
+    #[tactic(auto, using(crate::proofs::Ending::ends_same, crate::proofs::Ending::ends_refl))]
     fn fail(&mut self, program: &Program) -> Result<Option<Due>, AllocError>
         requires fails { self.old.machine.mode ≡ Mode.Back Outcome.Fail }
         requires of { IsOf program.now self.old.machine }
         ensures on { IfOk result (λ o. IfNone o (Quiet program.now self.old self.new)) }
         ensures due { IfOk result (λ o. IfSome o (λ due. Settled program.now self.new due × Stays program.now self.old self.new)) }
         ensures err { OnErr result (Stays program.now self.old self.new) }
+        ensures walks { EndsWalks self.old.machine.stack self.new.machine.stack }
     {
         if self.machine.stack.is_plain() {
             self.close_plain(program);
@@ -157,21 +168,25 @@ impl Progress {
     }
 
     /// Closes the innermost choices, which have nothing left.
+    #[tactic(auto, using(crate::proofs::Ending::ends_same, crate::proofs::Ending::ends_refl))]
     fn close_plain(&mut self, program: &Program)
         requires fails { self.old.machine.mode ≡ Mode.Back Outcome.Fail }
         requires plain { HasPlain self.old.machine.stack }
-        ensures { Quiet program.now self.old self.new }
+        ensures quiet { Quiet program.now self.old self.new }
+        ensures walks { EndsWalks self.old.machine.stack self.new.machine.stack }
     {
         self.machine.stack.close_plain();
     }
 
     /// The next place of the innermost choice.
+    #[tactic(auto, using(crate::proofs::Ending::ends_same, crate::proofs::Ending::ends_refl))]
     fn try_next(&mut self, program: &Program) -> Result<(), AllocError>
         requires fails { self.old.machine.mode ≡ Mode.Back Outcome.Fail }
         requires choice { HasChoice self.old.machine.stack }
         requires of { IsOf program.now self.old.machine }
         ensures ok { OnOk result (Quiet program.now self.old self.new) }
         ensures err { OnErr result (Stays program.now self.old self.new) }
+        ensures walks { EndsWalks self.old.machine.stack self.new.machine.stack }
     {
         if self.machine.stack.is_branch() {
             self.take_branch(program);
@@ -184,22 +199,26 @@ impl Progress {
     }
 
     /// The list of the innermost choice.
+    #[tactic(auto, using(crate::proofs::Ending::ends_same, crate::proofs::Ending::ends_refl))]
     fn take_branch(&mut self, program: &Program)
         requires fails { self.old.machine.mode ≡ Mode.Back Outcome.Fail }
         requires branch { HasBranch self.old.machine.stack }
-        ensures { Quiet program.now self.old self.new }
+        ensures quiet { Quiet program.now self.old self.new }
+        ensures walks { EndsWalks self.old.machine.stack self.new.machine.stack }
     {
         self.machine.stack.take_branch();
         self.machine.mode = Mode::Visit;
     }
 
     /// The next clause of the innermost case, a call of a static procedure.
+    #[tactic(auto, using(crate::proofs::Ending::ends_same, crate::proofs::Ending::ends_refl))]
     fn retry(&mut self, program: &Program) -> Result<(), AllocError>
         requires fails { self.old.machine.mode ≡ Mode.Back Outcome.Fail }
         requires call { HasClauses self.old.machine.stack }
         requires of { IsOf program.now self.old.machine }
         ensures ok { OnOk result (Quiet program.now self.old self.new) }
         ensures err { OnErr result (Stays program.now self.old self.new) }
+        ensures walks { EndsWalks self.old.machine.stack self.new.machine.stack }
     {
         if self.machine.stack.retry()? {
             self.machine.mode = Mode::Visit;
@@ -208,11 +227,13 @@ impl Progress {
     }
 
     /// The next answer of the innermost case, a call of a predicate of several answers.
+    #[tactic(auto, using(crate::proofs::Ending::ends_same, crate::proofs::Ending::ends_refl))]
     fn retry_answers(&mut self, program: &Program) -> Result<(), AllocError>
         requires fails { self.old.machine.mode ≡ Mode.Back Outcome.Fail }
         requires call { HasAnswers self.old.machine.stack }
         ensures ok { OnOk result (Quiet program.now self.old self.new) }
         ensures err { OnErr result (Stays program.now self.old self.new) }
+        ensures walks { EndsWalks self.old.machine.stack self.new.machine.stack }
     {
         if self.machine.stack.retry_answers(self.machine.alloc)? {
             self.machine.mode = Mode::Visit;
@@ -221,6 +242,7 @@ impl Progress {
     }
 
     /// Closes the innermost case, which makes of the result what it does; without one the search is over.
+    #[tactic(auto, using(crate::proofs::Ending::ends_same, crate::proofs::Ending::ends_refl))]
     fn close(&mut self, program: &Program) -> Option<Due>
         requires back { IsBack self.old }
         requires tried { self.old.machine.mode ≡ Mode.Back Outcome.Fail → HasChoice self.old.machine.stack → ⊥ }
@@ -229,6 +251,7 @@ impl Progress {
         requires gathered { HasGatherer self.old.machine.stack → self.old.machine.mode ≡ Mode.Back Outcome.Fail → ⊥ }
         ensures on { IfNone result (Quiet program.now self.old self.new) }
         ensures due { IfSome result (λ due. Settled program.now self.new due × (self.new ≡ self.old)) }
+        ensures walks { EndsWalks self.old.machine.stack self.new.machine.stack }
     {
         let Some(closed) = self.machine.stack.close() else {
             return Some(Due::Over);

@@ -1,6 +1,8 @@
 //! Walks over clauses that go on: the next clause is tried, or what it takes to try it is asked.
 
 ghost use Rattle.std.specs.Prelude.{◌≡◌, ◌↔◌, ℕ, ◌+◌, ◌<◌, ◌≤◌, IsTrue, ◌∷◌, [], List, Option, length, IfNone, IfOk, IfSome, OnErr, OnOk};
+ghost use Rattle.plsolver.specs.Asking.{WalkAsked};
+ghost use Rattle.plstore.specs.declared.query.Query.TheVariants.{Clause as ClauseQuery};
 ghost use Rattle.plcells.specs.Store.{value};
 ghost use Rattle.plclause.specs.Indicators.{indicator};
 ghost use Rattle.plevent.specs.declared.update.ClauseName.{ClauseName as Named};
@@ -15,10 +17,10 @@ ghost use Rattle.plstore.specs.declared.record.Cursor.TheVariants.{After as Afte
 ghost use Rattle.plstack.specs.declared.frame.Spot.TheVariants.{At as AtOf, Known as KnownOf, Text as TextOf};
 ghost use Rattle.plstack.specs.Frames.{IsSpotSeen};
 ghost use Rattle.plstack.specs.Places.{head_in};
-ghost use Rattle.plstack.specs.State.{cases_of, HasWalk, RetriesBy};
+ghost use Rattle.plstack.specs.State.{cases_of, walks_in, EndsWalks, HasWalk, RetriesBy};
 ghost use Rattle.plstack.specs.StaticCalls.{database_of};
 ghost use Rattle.plstack.specs.Walks.{AtWalk};
-ghost use Rattle.plsolver.specs.Solver.{IsOf, KeepsRest, Quiet, Settled, spot_if, Stays};
+ghost use Rattle.plsolver.specs.Solver.{IsOf, KeepsRest, like, Quiet, Settled, spot_if, Stays};
 
 use crate::progress::{Due, Progress};
 use plclause::clause::Clause;
@@ -35,6 +37,7 @@ use std::alloc::AllocError;
 
 impl Progress {
     /// The innermost case, a walk, goes on: over the program's text at once, and in a view by what it asks.
+    #[tactic(auto, using(crate::proofs::Ending::ends_same, crate::proofs::Ending::ends_refl))]
     pub(crate) fn next_clause(&mut self, program: &Program) -> Result<Option<Due>, AllocError>
         requires fails { self.old.machine.mode ≡ Mode.Back Outcome.Fail }
         requires walk { HasWalk self.old.machine.stack }
@@ -42,6 +45,7 @@ impl Progress {
         ensures on { IfOk result (λ o. IfNone o (Quiet program.now self.old self.new)) }
         ensures due { IfOk result (λ o. IfSome o (λ due. Settled program.now self.new due × Stays program.now self.old self.new)) }
         ensures err { OnErr result (Stays program.now self.old self.new) }
+        ensures walks { EndsWalks self.old.machine.stack self.new.machine.stack }
     {
         let at = self.machine.stack.rewind_walk();
         match at.walk.spot {
@@ -54,6 +58,7 @@ impl Progress {
     }
 
     /// The next clause of the text that fits is visited; where none does the walk is closed.
+    #[tactic(auto, using(crate::proofs::Ending::ends_same, crate::proofs::Ending::ends_refl))]
     fn retry_text(
         &mut self,
         program: &Program,
@@ -65,6 +70,7 @@ impl Progress {
         requires text { at.walk.spot ≡ TextOf number }
         ensures ok { OnOk result (Quiet program.now self.old self.new) }
         ensures err { OnErr result (Stays program.now self.old self.new) }
+        ensures walks { EndsWalks self.old.machine.stack self.new.machine.stack }
     {
         let heap = self.machine.stack.env().heap();
         let head = head_of(heap, at.walk.uses, at.walk.goal);
@@ -92,6 +98,7 @@ impl Progress {
         ensures err { OnErr result ((P : Given) (v : Views) → clauses.now ≡ clauses_for P (indicator (head_in at.walk.uses (value self.old.machine.stack.env.heap at.walk.goal))) → cases_of (database_of P v) self.new.machine.stack ≡ cases_of (database_of P v) self.old.machine.stack) }
         ensures basis { self.new.machine.stack.basis ≡ self.old.machine.stack.basis }
         ensures frame { self.new ≡ record self.old { machine = record self.old.machine { stack = self.new.machine.stack } } }
+        ensures walks { walks_in self.new.machine.stack ≡ walks_in self.old.machine.stack }
     {
         let mut at = at;
         let mut number = number;
@@ -125,6 +132,7 @@ impl Progress {
         ensures err { OnErr result ((P : Given) (v : Views) → cases_of (database_of P v) self.new.machine.stack ≡ cases_of (database_of P v) self.old.machine.stack) }
         ensures basis { self.new.machine.stack.basis ≡ self.old.machine.stack.basis }
         ensures frame { self.new ≡ record self.old { machine = record self.old.machine { stack = self.new.machine.stack } } }
+        ensures walks { walks_in self.new.machine.stack ≡ walks_in self.old.machine.stack }
     {
         match clauses.get(number) {
             Some(clause) => {
@@ -149,6 +157,7 @@ impl Progress {
         ensures of { (P : Given) → IsOf P self.old.machine → IsOf P self.new.machine }
         ensures basis { self.new.machine.stack.basis ≡ self.old.machine.stack.basis }
         ensures frame { self.new ≡ record self.old { machine = self.new.machine } }
+        ensures asked { (v : Views) (g : ℕ) (name : Named) → at.walk.spot ≡ AtOf g name → Ordered (v g) → next ≡ next_like_of (first_key (head_in at.walk.uses (value self.old.machine.stack.env.heap at.walk.goal))) (AfterOf name) (living (v g) (indicator (head_in at.walk.uses (value self.old.machine.stack.env.heap at.walk.goal)))) → WalkAsked v at.walk self.old.machine self.new.machine (like (head_in at.walk.uses (value self.old.machine.stack.env.heap at.walk.goal)) (AfterOf name)) }
     {
         let Spot::At(g, name) = at.walk.spot else {
             unreachable!()
@@ -174,6 +183,7 @@ impl Progress {
         ensures basis { self.new.machine.stack.basis ≡ self.old.machine.stack.basis }
         ensures frame { self.new ≡ record self.old { machine = self.new.machine } }
         ensures err { OnErr result (Stays program.now self.old self.new) }
+        ensures asked { OnOk result ((v : Views) (g : ℕ) (name : Named) (y : Option Named) → at.walk.spot ≡ KnownOf g name y → WalkAsked v at.walk self.old.machine self.new.machine (ClauseQuery name)) }
     {
         let Spot::Known(g, name, next) = at.walk.spot else {
             unreachable!()

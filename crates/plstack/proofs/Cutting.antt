@@ -26,6 +26,7 @@ use Rattle.plstack.specs.State.{State, IsStack, CountsUp, goals_in, cases_of}
 use Rattle.plstack.specs.Cutting.{IsChosen, IsChoice, frame_at, ChoiceAt, EmptiesFrom, GivesUp, Empties}
 use Rattle.plstack.proofs.Frames.{plain-deeper, depth-cases, reverse-push}
 use Rattle.plstack.proofs.Stacks.{with-frames, plain-plus}
+use Rattle.plstack.proofs.Ending.{ends-from}
 
 -- an element or a list names no level above that of its link
 module _ (code : Goals) (e : Env) (k : ℕ) where
@@ -179,6 +180,7 @@ module _ (s : State) (d : ℕ) (is : IsStack s d) (i below n : ℕ) (lt : i < le
     cases = λ db. up.cases db (goals_in s) s.env s.links s.saved ∙ ap (λ k. plain k (cases db (goals_in s) s.env s.links s.saved (reverse (take i s.frames)))) (omega (arith, count, is.1));
     same = refl;
     older = up.older;
+    walks = ends-from s i n frames up;
   }
 
 -- so the choice at the level and all inside of it are

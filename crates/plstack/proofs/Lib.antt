@@ -34,6 +34,7 @@ pub mod Linking
 pub mod Resolving
 pub mod Stepping
 pub mod Reopening
+pub mod Ending
 pub mod Walking
 pub mod Postponed
 pub mod Heads

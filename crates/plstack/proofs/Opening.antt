@@ -22,11 +22,12 @@ use Rattle.plstack.specs.declared.frame.Frame.TheVariants.{Plain, Barrier, Open}
 use Rattle.plstack.specs.Places.{Database, kept, kept_values, case_of}
 use Rattle.plstack.specs.Frames.{AreOlder, IsResume, IsSeen, IsOpen, AreFrames}
 use Rattle.plgenerator.proofs.Staying.{turn_stays}
-use Rattle.plstack.specs.State.{State, IsStack, goals_in, cases_of, IsList, Extends, CountsUp, Opens, IsClauses, IsWalk, IsAnswers, IsBranch, IsCatcher, IsGatherer}
+use Rattle.plstack.specs.State.{State, IsStack, goals_in, cases_of, walks_in, IsList, Extends, CountsUp, Opens, IsClauses, IsWalk, IsAnswers, IsBranch, IsCatcher, IsGatherer}
 use Rattle.plstack.specs.Opening.{branch_of, handler_of, closing, ClosedAs, IsHandling, OpensFrame, OpensIn, Keeps}
 use Rattle.plstack.proofs.Handled.{handled-same}
 use Rattle.plstack.proofs.Growing.{stack-env, extends-env}
 use Rattle.plstack.proofs.Stacks.{opened-cases, opened-state, counted, counted-cases, popped-cases, has-last}
+use Rattle.plstack.proofs.Ending.{pushed-walks}
 
 -- no frame is newer than the mark of now
 pub older-frames : (code : Goals) (e : Env) (links : List Link) (saved : List Cell) (m : Marks) → IsMark m.env e → cut m.env e ≡ e → m.links ≡ length links → m.saved ≡ length saved →
@@ -115,7 +116,7 @@ module _ (s : State) (d : ℕ) (is : IsStack s d) (e : Env) (m : Marks) (mark : 
       }
 
       pub framed-opens : OpensFrame s (record s { env = e; frames = frames }) l r
-      framed-opens = record { cases = framed-cases; keeps = framed-keeps frames; goals = refl }
+      framed-opens = record { cases = framed-cases; keeps = framed-keeps frames; walks = pushed-walks frames s.frames (Open point r) pushed; goals = refl }
 
       module _ (more : List Frame) (up : CountsUp 1 (reverse frames) (reverse more)) where
         pub in-stack : IsStack (record s { env = e; frames = more }) (d + 2)
@@ -127,6 +128,7 @@ module _ (s : State) (d : ℕ) (is : IsStack s d) (e : Env) (m : Marks) (mark : 
         in-opens = record {
           cases = λ db. counted-cases 1 db (record s { env = e; frames = frames }) more up ∙ ap (λ cs. Choice [] ∷ cs) (framed-cases db);
           keeps = framed-keeps more;
+          walks = up.walks ∙ pushed-walks frames s.frames (Open point r) pushed;
           goals = refl;
         }
 
@@ -141,17 +143,17 @@ module _ (s new : State) where
       (ap₂ (λ gs n. record { goals = gs; variables = n }) (y.lists h.list i.list).1 y.count)
 
   -- all else stays
-  opens-these : (more : List Case) → ((db : Database) → cases_of db new ≡ more ++ cases_of db s) → Keeps s new → new.goals ≡ s.goals → Opens s new more
-  opens-these more cases y goals = record { cases = cases; values = y.values; lists = y.lists; count = y.count; basis = y.basis; goals = goals }
+  opens-these : (more : List Case) → ((db : Database) → cases_of db new ≡ more ++ cases_of db s) → Keeps s new → walks_in new ≡ walks_in s → new.goals ≡ s.goals → Opens s new more
+  opens-these more cases y walks goals = record { cases = cases; values = y.values; lists = y.lists; count = y.count; basis = y.basis; walks = walks; goals = goals }
 
   pub opens_branch : (l : Continuation) → IsList s l → OpensFrame s new l resumes.List → Opens s new (branch_of s l ∷ [])
-  opens_branch l i o = opens-these (branch_of s l ∷ []) (λ db. o.cases db ∙ ap (λ c. c ∷ cases_of db s) (branch-same l i o.keeps)) o.keeps o.goals
+  opens_branch l i o = opens-these (branch_of s l ∷ []) (λ db. o.cases db ∙ ap (λ c. c ∷ cases_of db s) (branch-same l i o.keeps)) o.keeps o.walks o.goals
 
   pub opens_in_branch : (l : Continuation) → IsList s l → OpensIn s new l resumes.List → Opens s new (Choice [] ∷ branch_of s l ∷ [])
-  opens_in_branch l i o = opens-these (Choice [] ∷ branch_of s l ∷ []) (λ db. o.cases db ∙ ap (λ c. Choice [] ∷ c ∷ cases_of db s) (branch-same l i o.keeps)) o.keeps o.goals
+  opens_in_branch l i o = opens-these (Choice [] ∷ branch_of s l ∷ []) (λ db. o.cases db ∙ ap (λ c. Choice [] ∷ c ∷ cases_of db s) (branch-same l i o.keeps)) o.keeps o.walks o.goals
 
   pub opens_in_handler : (h : Handling) → IsHandling s h → OpensIn s new h.list (resumes.Handle h.handler) → Opens s new (Choice [] ∷ handler_of s h ∷ [])
-  opens_in_handler h i o = opens-these (Choice [] ∷ handler_of s h ∷ []) (λ db. o.cases db ∙ ap (λ c. Choice [] ∷ c ∷ cases_of db s) (handler-same h i o.keeps)) o.keeps o.goals
+  opens_in_handler h i o = opens-these (Choice [] ∷ handler_of s h ∷ []) (λ db. o.cases db ∙ ap (λ c. Choice [] ∷ c ∷ cases_of db s) (handler-same h i o.keeps)) o.keeps o.walks o.goals
 
 -- more choices with nothing left
 pub opens-plain : (s : State) (frames : List Frame) → CountsUp 1 (reverse s.frames) (reverse frames) → Opens s (record s { frames = frames }) (Choice [] ∷ [])
@@ -161,6 +163,7 @@ opens-plain s frames up = record {
   lists = λ l i. (record { there = i.there; items = i.items }, refl);
   count = refl;
   basis = refl;
+  walks = up.walks;
   goals = refl;
 }
 

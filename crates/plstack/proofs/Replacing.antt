@@ -1,5 +1,5 @@
 -- The newest case, a choice point that goes on: another one stands in its place, or a choice with nothing left.
-use Rattle.std.proofs.Common.{◌≡◌, ℕ, ◌+◌, ◌-◌, List, [], ◌∷◌, ◌++◌, reverse, sym, ap, ◌∙◌, arith}
+use Rattle.std.proofs.Common.{◌≡◌, ℕ, ◌-◌, List, [], ◌∷◌, ◌++◌, reverse, sym, ap, ◌∙◌, arith}
 use Rattle.plsearch.specs.Types.{Choice}
 use Rattle.plenv.specs.Env.{cut}
 use Rattle.plstack.specs.declared.frame.Point.{Point}

@@ -20,9 +20,9 @@ use Rattle.plstack.specs.declared.frame.Point.{Point}
 use Rattle.plstack.specs.declared.frame.Resume.{Resume}
 use Rattle.plstack.specs.declared.frame.Frame.{Frame}
 use Rattle.plstack.specs.declared.frame.Frame.TheVariants.{Plain, Barrier, Open}
-use Rattle.plstack.specs.Places.{Database, kept, kept_values, case_of, plain, cases}
+use Rattle.plstack.specs.Places.{Database, kept, kept_values, case_of, plain, cases, walks_of}
 use Rattle.plstack.specs.Frames.{IsOlder, AreOlder, IsResume, IsOpen, IsFrame, AreFrames}
-use Rattle.plstack.specs.State.{State, IsState, IsStack, goals_in, goals_of, cases_of, IsList}
+use Rattle.plstack.specs.State.{State, IsState, IsStack, goals_in, goals_of, cases_of, walks_in, IsList}
 use Rattle.plstack.specs.Opening.{Keeps}
 use Rattle.plstack.specs.Holding.{held}
 use Rattle.plstack.specs.Cutting.{frame_at, IsGivenUp, ChoiceAt, EmptiesFrom, GivesUp, Cuts, Settles}
@@ -170,6 +170,7 @@ module _ (s : State) (d : ℕ) (is : IsStack s d) (since : Marks) (older : AreOl
     settles = record {
       cases = λ db. cases-settled (goals_in s) s.env e s.links s.saved since marks.env.heap.cells marks.env.slots count made room.saved db (reverse s.frames) older within is.0.frames;
       keeps = record { values = made.values; lists = list-settled; count = made.count; basis = refl };
+      frames = refl;
       place = ap₂ (λ gs n. record { goals = gs; variables = n }) (list-settled s.goals is.0.goals).1 made.count;
       goals = refl;
     }
@@ -178,7 +179,7 @@ pub keeps_refl : (s : State) → Keeps s s
 keeps_refl s = record { values = λ v f. (f, refl); lists = λ l i. (i, refl); count = refl; basis = refl }
 
 pub settles_refl : (s : State) → Settles s s
-settles_refl s = record { cases = λ db. refl; keeps = keeps_refl s; place = refl; goals = refl }
+settles_refl s = record { cases = λ db. refl; keeps = keeps_refl s; frames = refl; place = refl; goals = refl }
 
 pub Keeps-trans : (a b c : State) → Keeps a b → Keeps b c → Keeps a c
 Keeps-trans a b c x y = record {
@@ -199,12 +200,13 @@ keeps-frames s new e = record {
 
 -- so choices are given up
 pub gives_up : (s new : State) (i below : ℕ) → EmptiesFrom s new i below → GivesUp s new i below
-gives_up s new i below from = record { cases = from.cases; keeps = keeps-frames s new from.same; goals = ap (λ (x : State). x.goals) from.same }
+gives_up s new i below from = record { cases = from.cases; keeps = keeps-frames s new from.same; walks = from.walks; goals = ap (λ (x : State). x.goals) from.same }
 
 pub gives_settled : (s mid new : State) (i below : ℕ) → EmptiesFrom s mid i below → Settles mid new → GivesUp s new i below
 gives_settled s mid new i below from y = record {
   cases = λ db. y.cases db ∙ from.cases db;
   keeps = Keeps-trans s mid new (keeps-frames s mid from.same) y.keeps;
+  walks = (from.walks.0, from.walks.1 ∙ ap (λ fs. from.walks.0 ++ walks_of (reverse fs)) (sym y.frames));
   goals = y.goals ∙ ap (λ (x : State). x.goals) from.same;
 }
 
@@ -217,9 +219,10 @@ unfolding cases_of
 cuts_emptied s mid new level list i low most at from is = rw is (record {
   cases = inr (most, λ db. let e = empties s mid level i low at from db in record { inside = e.inside; places = e.places; below = e.below; was = e.was; at = e.at; cases = e.cases });
   keeps = keeps-visiting s mid list from.keeps;
+  walks = from.walks;
   goals = refl;
 })
 
-pub cuts_marked : (s mid new : State) (level : ℕ) (list : Continuation) → ((db : Database) → cases_of db mid ≡ MarkOf level ∷ cases_of db s) → mid ≡ record s { frames = mid.frames } → new ≡ record mid { goals = list } → Cuts s new level list
+pub cuts_marked : (s mid new : State) (level : ℕ) (list : Continuation) → ((db : Database) → cases_of db mid ≡ MarkOf level ∷ cases_of db s) → walks_in mid ≡ walks_in s → mid ≡ record s { frames = mid.frames } → new ≡ record mid { goals = list } → Cuts s new level list
 unfolding cases_of
-cuts_marked s mid new level list cases same is = rw is (record { cases = inl cases; keeps = keeps-visiting s mid list (keeps-frames s mid same); goals = refl })
+cuts_marked s mid new level list cases walks same is = rw is (record { cases = inl cases; keeps = keeps-visiting s mid list (keeps-frames s mid same); walks = ([], sym walks); goals = refl })

@@ -191,6 +191,7 @@ counts-in-place rest old new m n was is =
       older = λ m o. o;
       depth = omega arith;
       seen = λ g a. (tt, a.1);
+      walks = refl;
     })
 
 pub set-last : (frames rest : List Frame) (f g : Frame) (n : ℕ) → frames ≡ rest ++ f ∷ [] → n ≡ length frames → slice_set frames (n - 1) g ≡ rest ++ g ∷ []
@@ -207,4 +208,5 @@ counts-new old new n some is =
       older = λ m o. o;
       depth = omega arith;
       seen = λ g a. (tt, a);
+      walks = refl;
     })

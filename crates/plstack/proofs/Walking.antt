@@ -1,5 +1,5 @@
 -- Walks over clauses: they are opened, gone back to, tried and moved on.
-use Rattle.std.proofs.Common.{◌≡◌, ℕ, ◌+◌, ◌-◌, List, [], ◌∷◌, ◌++◌, take, filter_map, option_map, refl, sym, ap, ap₂, ◌∙◌, subst, arith, reverse, append-nil, Option, Some, None}
+use Rattle.std.proofs.Common.{◌≡◌, ℕ, ◌+◌, List, [], ◌∷◌, ◌++◌, take, filter_map, option_map, refl, sym, ap, ap₂, ◌∙◌, subst, arith, reverse, append-nil, Option, Some, None}
 use Rattle.std.specs.List.{cons_option}
 use Rattle.plterm.specs.Tree.{Tree}
 use Rattle.plsubst.specs.Subst.{bind, shift}
@@ -68,6 +68,7 @@ opens_walk s new w rest goal there o = record {
       ∙ ap₂ (λ t n. Choice (filter_map (tried (deeper (cases_of db s) 0) n t (goals_of new rest)) (left_at db w.uses t w.spot)) ∷ cases_of db s) (o.keeps.values w.goal goal).1 o.keeps.count
       ∙ ap (λ es. Choice (candidates_left (deeper (cases_of db s) 0) s.env (value s.env.heap w.goal) es (left_at db w.uses (value s.env.heap w.goal) w.spot)) ∷ cases_of db s) (o.keeps.lists rest there).1;
   basis = o.keeps.basis;
+  walks = o.walks;
 }
 
 -- ---- going back

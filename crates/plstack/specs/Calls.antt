@@ -1,5 +1,5 @@
 -- What a call makes of a stack.
-use Rattle.std.specs.Prelude.{◌≡◌, ◌+◌, List, [], ◌∷◌, ◌++◌}
+use Rattle.std.specs.Prelude.{◌≡◌, List, [], ◌∷◌, ◌++◌}
 use Rattle.plterm.specs.Tree.{Tree}
 use Rattle.plclause.specs.Clause.{Clause}
 use Rattle.plsearch.specs.Types.{Place, Choice}
@@ -9,7 +9,7 @@ use Rattle.plenv.specs.Changes.{Keeps as KeepsEnv}
 use Rattle.pllinks.specs.declared.link.Link.{Link}
 use Rattle.pllinks.specs.declared.link.Continuation.{Continuation}
 use Rattle.pllinks.specs.Links.{IsChain}
-use Rattle.plstack.specs.Places.{Database, places_left, cases}
+use Rattle.plstack.specs.Places.{Database, places_left}
 use Rattle.plstack.specs.State.{State, goals_of, place_of, cases_of}
 
 -- more links, and an environment that keeps each mark

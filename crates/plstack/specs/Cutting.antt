@@ -12,7 +12,7 @@ use Rattle.plstack.specs.declared.frame.Frame.{Frame}
 use Rattle.plstack.specs.declared.frame.Frame.TheVariants.{Plain, Barrier, Open}
 use Rattle.plstack.specs.Places.{Database, size, depth_of, plain, cases}
 use Rattle.plstack.specs.Frames.{AreOlder}
-use Rattle.plstack.specs.State.{State, place_of, goals_in, goals_of, cases_of}
+use Rattle.plstack.specs.State.{State, place_of, goals_in, goals_of, cases_of, EndsWalks}
 use Rattle.plstack.specs.Opening.{Keeps}
 
 -- the case is a choice, and no handler
@@ -44,6 +44,7 @@ pub record EmptiesFrom (old new : State) (i below : ℕ) : Type 0 where
   pub cases : (db : Database) → cases_of db new ≡ plain (depth_of (reverse old.frames) - below + 1) (cases db (goals_in old) old.env old.links old.saved (reverse (take i old.frames)))
   pub same : new ≡ record old { frames = new.frames }
   pub older : (m : Marks) → AreOlder m (reverse (take i old.frames)) → AreOlder m (reverse new.frames)
+  pub walks : EndsWalks old new
 
 -- the marks of a case from the frame of a number on: the frames below that one are not newer
 pub record IsGivenUp (s : State) (i : ℕ) (m : Marks) : Type 0 where
@@ -63,6 +64,7 @@ pub record Empties (db : Database) (old new : State) (level : ℕ) : Type 0 wher
 pub record GivesUp (old new : State) (i below : ℕ) : Type 0 where
   pub cases : (db : Database) → cases_of db new ≡ plain (depth_of (reverse old.frames) - below + 1) (cases db (goals_in old) old.env old.links old.saved (reverse (take i old.frames)))
   pub keeps : Keeps old new
+  pub walks : EndsWalks old new
   pub goals : new.goals ≡ old.goals
 
 -- what a cut to a level makes of the cases: a mark of the level, or where the list to be visited names no level above this one, all that
@@ -74,11 +76,13 @@ CutsCases old new level list = ((db : Database) → cases_of db new ≡ Mark lev
 pub record Cuts (old new : State) (level : ℕ) (list : Continuation) : Type 0 where
   pub cases : CutsCases old new level list
   pub keeps : Keeps old new
+  pub walks : EndsWalks old new
   pub goals : new.goals ≡ list
 
 -- no more than this is old any more, where a choice is given up: all stands for what it did
 pub record Settles (old new : State) : Type 0 where
   pub cases : (db : Database) → cases_of db new ≡ cases_of db old
   pub keeps : Keeps old new
+  pub frames : new.frames ≡ old.frames
   pub place : place_of new ≡ place_of old
   pub goals : new.goals ≡ old.goals

@@ -1,5 +1,5 @@
 -- Cases that are opened and closed.
-use Rattle.std.specs.Prelude.{◌≡◌, ◌<◌, ℕ, List, [], ◌∷◌}
+use Rattle.std.specs.Prelude.{◌≡◌, ◌<◌, ℕ, List, [], ◌∷◌, ◌++◌}
 use Rattle.plterm.specs.Tree.{Tree}
 use Rattle.plcells.specs.declared.cell.Cell.{Cell}
 use Rattle.plcells.specs.Store.{IsValue, value}
@@ -15,9 +15,9 @@ use Rattle.plstack.specs.declared.frame.Around.{Around}
 use Rattle.plstack.specs.declared.frame.Around.TheVariants as arounds
 use Rattle.plstack.specs.declared.frame.Closed.{Closed}
 use Rattle.plstack.specs.declared.frame.Closed.TheVariants as closings
-use Rattle.plstack.specs.Places.{Database, handled, case_of, plain}
+use Rattle.plstack.specs.Places.{Database, handled, case_of, plain, walk_of}
 use Rattle.plstack.specs.Frames.{IsHandled}
-use Rattle.plstack.specs.State.{State, goals_in, goals_of, place_at, cases_of, IsList, HasClauses, HasWalk, HasBranch, HasAnswers, HasCatcher, HasGatherer}
+use Rattle.plstack.specs.State.{State, goals_in, goals_of, place_at, cases_of, walks_in, IsList, HasClauses, HasWalk, HasBranch, HasAnswers, HasCatcher, HasGatherer}
 
 -- values and lists stand for what they did, whatever cases are open
 pub record Keeps (old new : State) : Type 0 where
@@ -53,12 +53,14 @@ IsAround s (arounds.Handle h) = IsHandling s h
 pub record OpensFrame (old new : State) (l : Continuation) (r : Resume) : Type 0 where
   pub cases : (db : Database) → cases_of db new ≡ case_of db (goals_in new) (deeper (cases_of db old) 0) new.env (items_of new.links l) [] r ∷ cases_of db old
   pub keeps : Keeps old new
+  pub walks : walks_in new ≡ walk_of r ++ walks_in old
   pub goals : new.goals ≡ old.goals
 
 -- and in it a choice with nothing left
 pub record OpensIn (old new : State) (l : Continuation) (r : Resume) : Type 0 where
   pub cases : (db : Database) → cases_of db new ≡ Choice [] ∷ case_of db (goals_in new) (deeper (cases_of db old) 0) new.env (items_of new.links l) [] r ∷ cases_of db old
   pub keeps : Keeps old new
+  pub walks : walks_in new ≡ walk_of r ++ walks_in old
   pub goals : new.goals ≡ old.goals
 
 -- what is closed with a case that does this

@@ -30,6 +30,7 @@ use Rattle.plstack.specs.declared.frame.Spot.{Spot}
 use Rattle.plstack.specs.declared.frame.Spot.TheVariants as spots
 use Rattle.plstack.specs.declared.frame.Handler.{Handler as Handles}
 use Rattle.plstack.specs.declared.frame.Handler.TheVariants as handlers
+use Rattle.plstack.specs.declared.frame.Walk.{Walk}
 use Rattle.plstack.specs.declared.frame.Resume.{Resume}
 use Rattle.plstack.specs.declared.frame.Resume.TheVariants as resumes
 use Rattle.plstack.specs.declared.frame.Frame.{Frame}
@@ -189,3 +190,24 @@ size (Open p r) = 1
 abbrev pub depth_of : List Frame → ℕ
 depth_of [] = 0
 depth_of (f ∷ fs) = size f + depth_of fs
+
+-- a walk, if it goes on in a view at a spot
+abbrev pub viewed : Walk → Spot → List Walk
+viewed w (spots.Text k) = []
+viewed w (spots.At g x) = w ∷ []
+viewed w (spots.Known g x y) = w ∷ []
+
+-- the walk that a case is, if it is one and goes on in a view
+abbrev pub walk_of : Resume → List Walk
+walk_of (resumes.Clauses c) = []
+walk_of (resumes.Walk w) = viewed w w.spot
+walk_of (resumes.Answers a) = []
+walk_of resumes.List = []
+walk_of (resumes.Handle x) = []
+
+-- those of frames
+abbrev pub walks_of : List Frame → List Walk
+walks_of [] = []
+walks_of (Plain n ∷ fs) = walks_of fs
+walks_of (Barrier l ∷ fs) = walks_of fs
+walks_of (Open p r ∷ fs) = walk_of r ++ walks_of fs

@@ -21,10 +21,11 @@ use Rattle.pllinks.specs.Links.{goals_of as list_goals, IsList as IsListIn, IsCh
 use Rattle.plstack.specs.declared.frame.Handler.{Handler}
 use Rattle.plstack.specs.declared.frame.Handler.TheVariants as handlers
 use Rattle.plstack.specs.declared.frame.Marks.{Marks}
+use Rattle.plstack.specs.declared.frame.Walk.{Walk}
 use Rattle.plstack.specs.declared.frame.Resume.TheVariants as resumes
 use Rattle.plstack.specs.declared.frame.Frame.{Frame}
 use Rattle.plstack.specs.declared.frame.Frame.TheVariants.{Open, Plain}
-use Rattle.plstack.specs.Places.{Database, place_asked, handled, plain, cases, depth_of}
+use Rattle.plstack.specs.Places.{Database, place_asked, handled, plain, cases, depth_of, walks_of}
 use Rattle.plstack.specs.Frames.{AreOlder, AreSeen, IsHandled, AreFrames}
 
 -- the program's code, with the names that it was compiled with, and the latest view; the environment; the links; the values that open cases keep; the frames,
@@ -63,6 +64,14 @@ cases_of db s = cases db (goals_in s) s.env s.links s.saved (reverse s.frames)
 -- how many there are
 abbrev pub depth_in : State → ℕ
 depth_in s = depth_of (reverse s.frames)
+
+-- the walks that go on in a view, among the open cases, the innermost first
+abbrev pub walks_in : State → List Walk
+walks_in s = walks_of (reverse s.frames)
+
+-- the innermost of them, so many or none, have ended
+abbrev pub EndsWalks : State → State → Type 0
+EndsWalks old new = (ended : List Walk) × (walks_in old ≡ ended ++ walks_in new)
 
 -- a list that is there, with its slots and values
 abbrev pub IsList : State → Continuation → Type 0
@@ -106,6 +115,7 @@ pub record Opens (old new : State) (more : List Case) : Type 0 where
   pub lists : (l : Continuation) → IsList old l → IsList new l × (goals_of new l ≡ goals_of old l)
   pub count : new.env.count ≡ old.env.count
   pub basis : new.basis ≡ old.basis
+  pub walks : walks_in new ≡ walks_in old
   pub goals : new.goals ≡ old.goals
 
 -- the most general unifier of two terms was put into all values and lists
@@ -141,6 +151,7 @@ pub record CountsUp (n : ℕ) (old new : List Frame) : Type 0 where
   pub older : (m : Marks) → AreOlder m old → AreOlder m new
   pub depth : depth_of new ≡ depth_of old + n
   pub seen : (g : ℕ) → AreSeen g old → AreSeen g new
+  pub walks : walks_of new ≡ walks_of old
 
 -- what the innermost case is: a choice of the further clauses of a static procedure, of those of a walk, of the further answers of a
 -- predicate, or of a list, a choice with nothing left, or a handler, of a ball or of what was kept

@@ -1,5 +1,5 @@
 -- A walk over the clauses of a procedure, and what becomes of it.
-use Rattle.std.specs.Prelude.{◌≡◌, ℕ, List, [], ◌∷◌, ◌++◌, filter_map, Option, Some}
+use Rattle.std.specs.Prelude.{◌≡◌, ℕ, List, [], ◌∷◌, ◌++◌, filter_map, Option, None, Some}
 use Rattle.plterm.specs.Tree.{Tree}
 use Rattle.plclause.specs.Clause.{Clause}
 use Rattle.plcells.specs.declared.cell.Cell.{Cell}
@@ -18,8 +18,8 @@ use Rattle.plstack.specs.declared.frame.Spot.{Spot}
 use Rattle.plstack.specs.declared.frame.Resume.TheVariants as resumes
 use Rattle.plstack.specs.declared.frame.Frame.{Frame}
 use Rattle.plstack.specs.declared.frame.Frame.TheVariants.{Open}
-use Rattle.plstack.specs.Places.{Database, tried, candidates_left, left_at, left_if}
-use Rattle.plstack.specs.State.{State, goals_in, goals_of, place_of, cases_of, IsList}
+use Rattle.plstack.specs.Places.{Database, tried, candidates_left, left_at, left_if, viewed}
+use Rattle.plstack.specs.State.{State, goals_in, goals_of, place_of, cases_of, walks_in, IsList}
 use Rattle.plstack.specs.Calls.{Goes}
 
 -- the innermost case is this walk
@@ -38,6 +38,7 @@ pub record AtWalk (s : State) (p : Point) (w : Walk) : Type 0 where
 pub record OpensWalk (old new : State) (w : Walk) (rest : Continuation) : Type 0 where
   pub cases : (db : Database) → cases_of db new ≡ Choice (candidates_left (deeper (cases_of db old) 0) old.env (value old.env.heap w.goal) (goals_of old rest) (left_at db w.uses (value old.env.heap w.goal) w.spot)) ∷ cases_of db old
   pub basis : new.basis ≡ old.basis
+  pub walks : walks_in new ≡ viewed w w.spot ++ walks_in old
 
 -- the goal of a walk, as it was at its opening
 abbrev pub goal_at : State → Point → Walk → Tree
@@ -52,6 +53,17 @@ pub record GoesOn (db : Database) (old new : State) (p : Point) (w : Walk) (next
   pub below : List Case
   pub was : cases_of db old ≡ Choice (walk_left old (deeper below 0) p w (left_at db w.uses (goal_at old p w) w.spot)) ∷ below
   pub cases : cases_of db new ≡ Choice (walk_left old (deeper below 0) p w (left_if db w.uses (goal_at old p w) next)) ∷ below
+
+-- a walk at another spot, if it goes on in a view there
+abbrev pub walk_at : Walk → Option Spot → List Walk
+walk_at w None = []
+walk_at w (Some x) = viewed (record { goal = w.goal; uses = w.uses; spot = x }) x
+
+-- the innermost walk stands at another spot, or has ended, and the others are as they were
+pub record Moves (old new : State) (w : Walk) (next : Option Spot) : Type 0 where
+  pub more : List Walk
+  pub was : walks_in old ≡ viewed w w.spot ++ more
+  pub walks : walks_in new ≡ walk_at w next ++ more
 
 -- for the goal t the next candidate of a walk is x, and behind it there is what is left at a spot, or nothing
 abbrev pub Finds : Database → Walk → Tree → Candidate → Option Spot → Type 0

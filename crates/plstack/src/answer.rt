@@ -6,7 +6,7 @@ ghost use Rattle.plgenerator.specs.Answers.{IsTurn};
 ghost use Rattle.plenv.specs.Changes.{Stays};
 ghost use Rattle.plenv.specs.Env.{IsEnv};
 ghost use Rattle.plstack.specs.Places.{Database};
-ghost use Rattle.plstack.specs.State.{cases_of, HasAnswers, IsList, Retries};
+ghost use Rattle.plstack.specs.State.{cases_of, walks_in, HasAnswers, IsList, Retries};
 ghost use Rattle.plstack.specs.Calls.{StaysAt};
 ghost use Rattle.plstack.specs.Trials.{IsMarked, IsOpened};
 ghost use Rattle.plstack.specs.Answering.{Answered, PushesAnswers, TakesAnswer, TakesNone, Unanswered};
@@ -115,6 +115,7 @@ impl Stack {
         ensures yes { IfOk result (λ yes. yes ≡ true → (db : Database) → Answered db self.old self.new values.now rest turn) }
         ensures no { IfOk result (λ yes. yes ≡ false → (db : Database) → Unanswered db self.old self.new values.now rest turn) }
         ensures basis { self.new.basis ≡ self.old.basis }
+        ensures walks { walks_in self.new ≡ walks_in self.old }
         ensures err { OnErr result (StaysAt self.old self.new) }
     {
         let marks = self.marks();
@@ -145,6 +146,7 @@ impl Stack {
         ensures none { IfOk result (λ o. IfNone o ((db : Database) → Unanswered db self.old self.new values.now point.list turn)) }
         ensures opened { IfOk result (λ o. IfSome o (λ opened. opened.is_last ≡ true → IsOpened self.new opened)) }
         ensures basis { self.new.basis ≡ self.old.basis }
+        ensures walks { walks_in self.new ≡ walks_in self.old }
         ensures err { OnErr result (StaysAt self.old self.new) }
     {
         let depth = deeper(self.depth, 1)?;
@@ -170,6 +172,7 @@ impl Stack {
         ensures no { IfOk result (λ yes. yes ≡ false → (db : Database) → cases_of db self.old ≡ Choice [] ∷ cases_of db self.new) }
         ensures err { OnErr result ((db : Database) → cases_of db self.new ≡ cases_of db self.old) }
         ensures basis { self.new.basis ≡ self.old.basis }
+        ensures walks { walks_in self.new ≡ walks_in self.old }
     {
         match self.reopen_answers(alloc)? {
             Some(opened) => {
@@ -188,6 +191,7 @@ impl Stack {
         ensures opened { IfOk result (λ o. IfSome o (λ opened. opened.is_last ≡ true → IsOpened self.new opened)) }
         ensures err { OnErr result ((db : Database) → cases_of db self.new ≡ cases_of db self.old) }
         ensures basis { self.new.basis ≡ self.old.basis }
+        ensures walks { walks_in self.new ≡ walks_in self.old }
     {
         let Some(Frame::Open(point, Resume::Answers(answers))) = self.frames.pop() else {
             unreachable!()

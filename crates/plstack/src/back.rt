@@ -3,7 +3,7 @@ ghost use Rattle.std.specs.Prelude.{◌≡◌, reverse};
 ghost use Rattle.plenv.specs.Env.{IsWithin};
 ghost use Rattle.plstack.specs.Places.{Database};
 ghost use Rattle.plstack.specs.Frames.{AreOlder};
-ghost use Rattle.plstack.specs.State.{cases_of, AtHandler, Catches, Gathers, HasBranch, HasCatcher, HasGatherer, HasHandler, IsList, Leaves, Recovers, Retries};
+ghost use Rattle.plstack.specs.State.{cases_of, walks_in, AtHandler, Catches, Gathers, HasBranch, HasCatcher, HasGatherer, HasHandler, IsList, Leaves, Recovers, Retries};
 
 use crate::frame::{Frame, Handling, Marks, Resume};
 use crate::open::{count_up, push_frame};
@@ -17,6 +17,7 @@ impl Stack {
         requires { HasBranch self.old }
         ensures retries { (db : Database) → Retries db self.old self.new }
         ensures basis { self.new.basis ≡ self.old.basis }
+        ensures walks { walks_in self.new ≡ walks_in self.old }
     {
         let marks = self.come_back();
         self.settle(marks);
@@ -27,6 +28,7 @@ impl Stack {
         requires { HasBranch self.old }
         ensures retries { (db : Database) → Retries db self.old self.new }
         ensures basis { self.new.basis ≡ self.old.basis }
+        ensures walks { walks_in self.new ≡ walks_in self.old }
         ensures within { IsWithin result.env self.new.env }
         ensures older { AreOlder result (reverse self.new.frames) }
     {
@@ -50,6 +52,7 @@ impl Stack {
         ensures catches { HasCatcher self.old → Catches result.handler }
         ensures gathers { HasGatherer self.old → Gathers result.handler }
         ensures basis { self.new.basis ≡ self.old.basis }
+        ensures walks { walks_in self.new ≡ walks_in self.old }
     {
         let Some(Frame::Open(point, Resume::Handle(handler))) = self.frames.pop() else {
             unreachable!()
@@ -73,6 +76,7 @@ impl Stack {
         requires list { IsList self.old list }
         ensures recovers { Recovers self.old self.new list }
         ensures basis { self.new.basis ≡ self.old.basis }
+        ensures walks { walks_in self.new ≡ walks_in self.old }
     {
         let marks = self.leave_handler(list);
         self.settle(marks);
@@ -85,6 +89,7 @@ impl Stack {
         requires list { IsList self.old list }
         ensures leaves { Leaves self.old self.new list }
         ensures basis { self.new.basis ≡ self.old.basis }
+        ensures walks { walks_in self.new ≡ walks_in self.old }
     {
         let marks = self.close_handler(list);
         self.settle(marks);
@@ -96,6 +101,7 @@ impl Stack {
         requires list { IsList self.old list }
         ensures leaves { Leaves self.old self.new list }
         ensures basis { self.new.basis ≡ self.old.basis }
+        ensures walks { walks_in self.new ≡ walks_in self.old }
         ensures within { IsWithin result.env self.new.env }
         ensures older { AreOlder result (reverse self.new.frames) }
     {
@@ -116,6 +122,7 @@ impl Stack {
         requires list { IsList self.old list }
         ensures recovers { Recovers self.old self.new list }
         ensures basis { self.new.basis ≡ self.old.basis }
+        ensures walks { walks_in self.new ≡ walks_in self.old }
         ensures within { IsWithin result.env self.new.env }
         ensures older { AreOlder result (reverse self.new.frames) }
     {

@@ -15,7 +15,7 @@ ghost use Rattle.plstack.specs.Places.{Database, called};
 ghost use Rattle.plstack.specs.Frames.{AreOlder};
 ghost use Rattle.plstack.specs.Fits.{FindsNone};
 ghost use Rattle.plstack.specs.Attempts.{IsAttempt};
-ghost use Rattle.plstack.specs.State.{cases_of, goals_of, place_of, HasClauses, IsList, Retries};
+ghost use Rattle.plstack.specs.State.{cases_of, goals_of, place_of, walks_in, HasClauses, IsList, Retries};
 ghost use Rattle.plstack.specs.Calls.{Calls, CallsNone, StaysAt};
 ghost use Rattle.plstack.specs.StaticCalls.{body_at, further, AreStatics, AtCall, Binds, Enters, FindsHit, FitsFirst, GoesOn, Hits, IsCalling, PushesCall};
 ghost use Rattle.plstack.specs.Trials.{IsMarked};
@@ -181,6 +181,7 @@ impl Stack {
         ensures yes { IfOk result (λ yes. yes ≡ true → (db : Database) → AreStatics self.old.basis.code db → Calls db self.old self.new (called self.old.env.heap (db.statics procedure).name values.now) rest (db.statics procedure).clauses) }
         ensures no { IfOk result (λ yes. yes ≡ false → (db : Database) → AreStatics self.old.basis.code db → CallsNone db self.old self.new (called self.old.env.heap (db.statics procedure).name values.now) rest (db.statics procedure).clauses) }
         ensures basis { self.new.basis ≡ self.old.basis }
+        ensures walks { walks_in self.new ≡ walks_in self.old }
         ensures err { OnErr result (StaysAt self.old self.new) }
     {
         let behind = self.number_of(&rest)?;
@@ -200,6 +201,7 @@ impl Stack {
         ensures yes { IfOk result (λ yes. yes ≡ true → (db : Database) → AreStatics self.old.basis.code db → Retries db self.old self.new) }
         ensures no { IfOk result (λ yes. yes ≡ false → (db : Database) → AreStatics self.old.basis.code db → cases_of db self.old ≡ Choice [] ∷ cases_of db self.new) }
         ensures basis { self.new.basis ≡ self.old.basis }
+        ensures walks { walks_in self.new ≡ walks_in self.old }
         ensures err { OnErr result ((db : Database) → cases_of db self.new ≡ cases_of db self.old) }
     {
         let at = self.rewind_call();
@@ -223,6 +225,7 @@ impl Stack {
         ensures yes { IfOk result (λ yes. yes ≡ true → (db : Database) → AreStatics self.old.basis.code db → Calls db self.old self.new (called self.old.env.heap (db.statics procedure).name values.now) point.now.list (db.statics procedure).clauses) }
         ensures no { IfOk result (λ yes. yes ≡ false → (db : Database) → AreStatics self.old.basis.code db → CallsNone db self.old self.new (called self.old.env.heap (db.statics procedure).name values.now) point.now.list (db.statics procedure).clauses) }
         ensures basis { self.new.basis ≡ self.old.basis }
+        ensures walks { walks_in self.new ≡ walks_in self.old }
         ensures err { OnErr result (StaysAt self.old self.new) }
     {
         let depth = deeper(self.depth, 1)?;
@@ -265,6 +268,7 @@ impl Stack {
         ensures cases { (db : Database) → cases_of db self.new ≡ cases_of db self.old }
         ensures at { AtCall self.new result.point result.call }
         ensures basis { self.new.basis ≡ self.old.basis }
+        ensures walks { walks_in self.new ≡ walks_in self.old }
     {
         let Some(Frame::Open(point, Resume::Clauses(call))) = self.frames.pop() else {
             unreachable!()
@@ -288,6 +292,7 @@ impl Stack {
         ensures yes { IfOk result (λ yes. yes ≡ true → (db : Database) → AreStatics self.old.basis.code db → Retries db self.old self.new) }
         ensures no { IfOk result (λ yes. yes ≡ false → (db : Database) → AreStatics self.old.basis.code db → cases_of db self.old ≡ Choice [] ∷ cases_of db self.new) }
         ensures basis { self.new.basis ≡ self.old.basis }
+        ensures walks { walks_in self.new ≡ walks_in self.old }
         ensures err { OnErr result (StaysAt self.old self.new) }
         ensures has { OnErr result (HasClauses self.new) }
     {
@@ -352,6 +357,7 @@ impl Stack {
         requires behind { IsList self.old (alone behind) }
         ensures enters { (db : Database) → Enters db self.old self.new at.point at.call hit behind }
         ensures basis { self.new.basis ≡ self.old.basis }
+        ensures walks { walks_in self.new ≡ walks_in self.old }
     {
         let level = self.depth.down(1);
         let list = self.body_list(hit, behind, level);
@@ -376,6 +382,7 @@ impl Stack {
         ensures goes { (db : Database) → GoesOn db self.old self.new at.point at.call next }
         ensures place { place_of self.new ≡ place_of self.old }
         ensures basis { self.new.basis ≡ self.old.basis }
+        ensures walks { walks_in self.new ≡ walks_in self.old }
     {
         match next {
             Some(next) => self.replace_call(at, next),
@@ -393,6 +400,7 @@ impl Stack {
         ensures goes { (db : Database) → GoesOn db self.old self.new at.point at.call (Some next) }
         ensures place { place_of self.new ≡ place_of self.old }
         ensures basis { self.new.basis ≡ self.old.basis }
+        ensures walks { walks_in self.new ≡ walks_in self.old }
     {
         let Calling { point, call } = at;
         let Some(_) = self.frames.pop() else {
@@ -410,6 +418,7 @@ impl Stack {
     fn empty_call(&mut self, at: Calling)
         requires { IsCalling self.old at.point at.call }
         ensures goes { (db : Database) → GoesOn db self.old self.new at.point at.call None }
+        ensures walks { walks_in self.new ≡ walks_in self.old }
         ensures same { self.new ≡ record self.old { frames = self.new.frames } }
         ensures within { IsWithin at.point.marks.env self.new.env }
         ensures older { AreOlder at.point.marks (reverse self.new.frames) }
@@ -424,6 +433,7 @@ impl Stack {
     fn leave_call(&mut self)
         requires { HasClauses self.old }
         ensures cases { (db : Database) (c : Case) (below : List Case) → cases_of db self.old ≡ c ∷ below → cases_of db self.new ≡ below }
+        ensures walks { walks_in self.new ≡ walks_in self.old }
         ensures same { self.new ≡ record self.old { frames = self.new.frames } }
     {
         let Some(_) = self.frames.pop() else {

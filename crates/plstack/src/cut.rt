@@ -5,7 +5,7 @@ ghost use Rattle.plsearch.specs.Types.{Mark};
 ghost use Rattle.plenv.specs.Env.{IsWithin};
 ghost use Rattle.plstack.specs.Places.{Database, depth_of, size};
 ghost use Rattle.plstack.specs.Frames.{AreOlder};
-ghost use Rattle.plstack.specs.State.{cases_of, goals_of, IsList};
+ghost use Rattle.plstack.specs.State.{cases_of, goals_of, walks_in, IsList};
 ghost use Rattle.plstack.specs.Cutting.{ChoiceAt, Cuts, EmptiesFrom, GivesUp, IsChoice, IsChosen, IsGivenUp, Settles};
 
 use crate::frame::{Frame, Marks, Resume};
@@ -53,6 +53,7 @@ impl Stack {
     /// Opens a case behind which Fail is a cut to a level.
     fn open_barrier(&mut self, level: Level) -> Result<(), AllocError>
         ensures ok { OnOk result ((db : Database) → cases_of db self.new ≡ Mark level ∷ cases_of db self.old) }
+        ensures walks { walks_in self.new ≡ walks_in self.old }
         ensures same { self.new ≡ record self.old { frames = self.new.frames } }
         ensures err { OnErr result (self.new ≡ self.old) }
     {

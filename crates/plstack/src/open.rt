@@ -4,7 +4,7 @@ ghost use Rattle.plsearch.specs.Types.{Choice};
 ghost use Rattle.plstack.specs.Places.{Database, kept};
 ghost use Rattle.plstack.specs.Frames.{IsResume, IsSeen};
 ghost use Rattle.plstack.specs.declared.frame.Frame.{Frame};
-ghost use Rattle.plstack.specs.State.{cases_of, CountsUp, HasPlain, IsList, Opens};
+ghost use Rattle.plstack.specs.State.{cases_of, walks_in, CountsUp, EndsWalks, HasPlain, IsList, Opens};
 ghost use Rattle.plstack.specs.Opening.{around_cases, branch_of, closing, ClosedAs, ClosesPlain, IsAround, OpensFrame, OpensIn};
 
 use crate::frame::{Around, Closed, Frame, Marks, Point, Resume};
@@ -105,6 +105,7 @@ impl Stack {
         ensures some { IfSome result (λ c. (db : Database) → ClosedAs db self.old self.new c) }
         ensures none { IfNone result ((db : Database) → cases_of db self.old ≡ []) }
         ensures same { IfNone result (self.new ≡ self.old) }
+        ensures walks { EndsWalks self.old self.new }
         ensures basis { self.new.basis ≡ self.old.basis }
     {
         let Some(frame) = self.frames.pop() else {
@@ -128,6 +129,7 @@ impl Stack {
     pub fn close_plain(&mut self)
         requires { HasPlain self.old }
         ensures closes { ClosesPlain self.old self.new }
+        ensures walks { walks_in self.new ≡ walks_in self.old }
         ensures basis { self.new.basis ≡ self.old.basis }
     {
         let Some(Frame::Plain(n)) = self.frames.pop() else {

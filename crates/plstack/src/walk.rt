@@ -10,10 +10,10 @@ ghost use Rattle.plenv.specs.Env.{cut, IsEnv, IsMark, IsWithin};
 ghost use Rattle.plenv.specs.Changes.{Keeps};
 ghost use Rattle.plstack.specs.Places.{clause_by, Database};
 ghost use Rattle.plstack.specs.Frames.{AreOlder, IsLeftSeen, IsSpotSeen};
-ghost use Rattle.plstack.specs.State.{cases_of, goals_of, place_of, Extends, HasWalk, IsList, IsState, RetriesBy, State};
+ghost use Rattle.plstack.specs.State.{cases_of, goals_of, place_of, walks_in, Extends, HasWalk, IsList, IsState, RetriesBy, State};
 ghost use Rattle.plstack.specs.Cutting.{Settles};
 ghost use Rattle.plstack.specs.Trials.{ComesBack, IsMarked, IsOpened, ListsBody, PutsBody, PutsHead, Resolved};
-ghost use Rattle.plstack.specs.Walks.{AtWalk, EndsPlain, Finds, FitsCall, GoesOn, IsWalking, LeftSame, OpensWalk};
+ghost use Rattle.plstack.specs.Walks.{AtWalk, EndsPlain, Finds, FitsCall, GoesOn, IsWalking, LeftSame, Moves, OpensWalk};
 
 use crate::frame::{Frame, Marks, Point, Resume, Spot, Use, Walk};
 use crate::list::link_before;
@@ -300,6 +300,7 @@ impl Stack {
         requires { HasWalk self.old }
         ensures cases { (db : Database) → cases_of db self.new ≡ cases_of db self.old }
         ensures at { AtWalk self.new result.point result.walk }
+        ensures walks { walks_in self.new ≡ walks_in self.old }
         ensures basis { self.new.basis ≡ self.old.basis }
     {
         let Some(Frame::Open(point, Resume::Walk(walk))) = self.frames.pop() else {
@@ -333,7 +334,9 @@ impl Stack {
         ensures last { IfOk result (λ o. IfNone o (rest ≡ None → (db : Database) → EndsPlain db self.new)) }
         ensures at_next { IfOk result (λ o. IfNone o ((spot : Spot) → rest ≡ Some spot → AtWalk self.new at.point (record at.walk { spot = spot }))) }
         ensures values { IfOk result (λ o. IfNone o ((spot : Spot) → rest ≡ Some spot → value self.new.env.heap at.walk.goal ≡ value self.old.env.heap at.walk.goal)) }
+        ensures moves { OnOk result (Moves self.old self.new at.walk rest) }
         ensures err { OnErr result ((db : Database) → cases_of db self.new ≡ cases_of db self.old) }
+        ensures err_walks { OnErr result (walks_in self.new ≡ walks_in self.old) }
         ensures basis { self.new.basis ≡ self.old.basis }
     {
         let level = self.depth.down(1);
@@ -362,6 +365,7 @@ impl Stack {
         ensures at { IfOk result (λ fits. fits ≡ false → AtWalk self.new at.now.point at.now.walk) }
         ensures value { IfOk result (λ fits. fits ≡ false → value self.new.env.heap at.now.walk.goal ≡ value self.old.env.heap at.now.walk.goal) }
         ensures cases { (db : Database) → cases_of db self.new ≡ cases_of db self.old }
+        ensures frames { self.new.frames ≡ self.old.frames }
         ensures basis { self.new.basis ≡ self.old.basis }
     {
         let call = Trial {
@@ -384,6 +388,7 @@ impl Stack {
         requires walking { IsWalking self.old at.point at.walk }
         requires seen { IsLeftSeen self.old.basis.latest next }
         ensures goes { (db : Database) → GoesOn db self.old self.new at.point at.walk next }
+        ensures moves { Moves self.old self.new at.walk next }
         ensures place { place_of self.new ≡ place_of self.old }
         ensures same { (spot : Spot) → next ≡ Some spot → self.new ≡ record self.old { frames = self.new.frames } }
         ensures walking { (spot : Spot) → next ≡ Some spot → IsWalking self.new at.point (record at.walk { spot = spot }) }
@@ -404,6 +409,7 @@ impl Stack {
         requires walking { IsWalking self.old at.point at.walk }
         requires seen { IsSpotSeen self.old.basis.latest spot }
         ensures goes { (db : Database) → GoesOn db self.old self.new at.point at.walk (Some spot) }
+        ensures moves { Moves self.old self.new at.walk (Some spot) }
         ensures walking { IsWalking self.new at.point (record at.walk { spot = spot }) }
         ensures same { self.new ≡ record self.old { frames = self.new.frames } }
     {
@@ -423,6 +429,7 @@ impl Stack {
     fn empty_walk(&mut self, at: Walking)
         requires { IsWalking self.old at.point at.walk }
         ensures goes { (db : Database) → GoesOn db self.old self.new at.point at.walk None }
+        ensures moves { Moves self.old self.new at.walk None }
         ensures same { self.new ≡ record self.old { frames = self.new.frames } }
         ensures within { IsWithin at.point.marks.env self.new.env }
         ensures older { AreOlder at.point.marks (reverse self.new.frames) }

@@ -8,5 +8,5 @@ use Rattle.plsolver.proofs.start.start.Goals as goal
 pub returns : goal.returns
 returns c =
     let P = c.args.program.now in
-    is-start P _ c.start_goals.new.stack c.in_ok-list.list (begun-by P _ _ c.start_goals.ensures.basis c.in_ok-stack.ensures.code) (ap (λ (b : Basis). b.latest) c.start_goals.ensures.basis ∙ c.in_ok-stack.ensures.latest) (subst (Starts c.start_goals.new.stack c.in_ok-list.list) c.goals.ensures c.in_ok-list.ensures.starts)
+    is-start P _ c.start_goals.new.stack c.in_ok-list.list (begun-by P _ _ c.start_goals.ensures.basis c.in_ok-stack.ensures.code) (ap (λ (b : Basis). b.latest) c.start_goals.ensures.basis ∙ c.in_ok-stack.ensures.latest) (c.start_goals.ensures.frames ∙ c.in_ok-stack.ensures.empty.frames) (subst (Starts c.start_goals.new.stack c.in_ok-list.list) c.goals.ensures c.in_ok-list.ensures.starts)
     c.visit.ensures refl c.new.ensures.items (c.in_ok-settings.ensures ∙ c.settings.ensures) c.new-2.ensures

@@ -10,6 +10,7 @@ loop-i-init c = record {
   starts = subst (λ l. Starts c.args.stack.now l (drop (length c.args.goals.now) c.args.goals.now)) (sym c.alone-list.ensures)
       (subst (Starts c.args.stack.now _) (sym (drop_all (length c.args.goals.now) c.args.goals.now (le_refl _))) (starts-empty c.args.stack.now c.requires));
   basis = refl;
+  frames = refl;
 }
 
 pub loop-i-preserved : goal.loop-i-preserved
@@ -23,4 +24,5 @@ loop-i-preserved c =
       starts = subst (Starts c.start_goal.new.stack c.in_ok-list.list) (sym (drop-cons c.args.goals.now i g inside ∙ ap₂ (λ x k. x ∷ drop k c.args.goals.now) (sym c.index-goals-i.is) next))
           (starts-more c.loop-i.stack c.start_goal.new.stack c.loop-i.list c.in_ok-list.list g (drop c.loop-i.i c.args.goals.now) c.loop-i.invariant.starts c.in_ok-list.ensures.starts);
       basis = c.start_goal.ensures.basis ∙ c.loop-i.invariant.basis;
+      frames = c.start_goal.ensures.frames ∙ c.loop-i.invariant.frames;
     }

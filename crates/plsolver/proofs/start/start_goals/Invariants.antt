@@ -7,6 +7,7 @@ invariant-loop-i l = record {
   few : l.i ≤ length l.goals;
   starts : Starts l.stack l.list (drop l.i l.goals);
   basis : l.stack.basis ≡ l.fn.stack.basis;
+  frames : l.stack.frames ≡ l.fn.stack.frames;
 }
 
 abbrev pub decreases-loop-i : goal.decreases-loop-i

@@ -1,6 +1,3 @@
-use Rattle.std.proofs.Common.{◌∙◌, ap, [], ◌∷◌}
-use Rattle.plsubst.specs.Subst.{bind}
-use Rattle.plcells.specs.Putting.{standing}
 use Rattle.plenv.proofs.Keeping.{Keeps-trans}
 use Rattle.plstack.proofs.Resolving.{puts-fact}
 use Rattle.plstack.proofs.walk.put_fact.Goals as goal

@@ -1,4 +1,4 @@
-use Rattle.std.proofs.Common.{◌∙◌, ap, eq-eqb, length, sym, true≢false}
+use Rattle.std.proofs.Common.{refl, ◌∙◌, ap, eq-eqb, length, sym, true≢false}
 use Rattle.plclause.specs.Indicators.{indicator}
 use Rattle.plcells.specs.Store.{value}
 use Rattle.plprogram.specs.Program.{clauses_for}
@@ -8,6 +8,7 @@ use Rattle.plstack.specs.State.{goals_of}
 use Rattle.plmachine.specs.Machine.{depth_of, local_of}
 use Rattle.plmachine.proofs.Clausal.{retrieving-some, text-left, walks-moved}
 use Rattle.plmachine.proofs.Moves.{on_ok_map}
+use Rattle.plstack.specs.declared.frame.Spot.TheVariants as spots
 use Rattle.plmachine.proofs.machine.Machine.retrieve_all.Goals as goal
 
 pub returns-clause-ok : goal.returns-clause-ok
@@ -20,7 +21,7 @@ returns-clause-ok c =
     let p = rw (c.heap.ensures.is, c.env.ensures) at c.in_ok-p.ensures in
     let cs = c.clauses_of.ensures ∙ ap (clauses_for P) p in
     on_ok_map c.tell.result
-    (λ w. walks-moved P s c.tell.new.self _ _ _ es _ w (λ v.
+    (λ w. walks-moved P s c.tell.new.self _ _ (spots.Text 0) es _ w (λ x. refl) (λ v.
     ap (λ ps. choose ps (local_of s)) (text-left (depth_of s) s.stack.env (clause_term h b) es uses.Tell (clauses_for P (indicator h)))
     ∙ retrieving-some (clauses_for P (indicator h)) (depth_of s) h b es s.stack.env.count (local_of s)
     (λ e. true≢false (sym (eq-eqb _ 0 (ap length cs ∙ e)) ∙ sym c.is_empty.ensures ∙ c.if-is_empty.false))))

@@ -7,7 +7,7 @@ use Rattle.plmachine.proofs.machine.Machine.write_bytes.Goals as goal
 pub returns-in_err-extend_from_slice-clause-err : goal.returns-in_err-extend_from_slice-clause-err
 returns-in_err-extend_from_slice-clause-err c =
     let s = c.args.self.now in
-    on_err _ (stays-by c.args.program.now s _ refl refl (λ v i. (i, refl)) refl (λ v. refl) (ap (λ o. record (local_of s) { out = o }) c.in_err-extend_from_slice.ensures.items))
+    on_err _ (stays-by c.args.program.now s _ refl refl refl (λ v i. (i, refl)) refl (λ v. refl) (ap (λ o. record (local_of s) { out = o }) c.in_err-extend_from_slice.ensures.items))
 
 pub returns-clause-ok : goal.returns-clause-ok
 returns-clause-ok c =

@@ -1,4 +1,4 @@
-use Rattle.std.proofs.Common.{◌≡◌, ◌-◌, true, ap, ◌∙◌, subst, refl}
+use Rattle.std.proofs.Common.{◌≡◌, ◌-◌, true, ap, ◌∙◌, subst, refl, reverse}
 use Rattle.plsearch.specs.Handlers.{has}
 use Rattle.plstack.specs.State.{cases_of, AtHandler}
 use Rattle.plstack.specs.StaticCalls.{database_of}
@@ -9,6 +9,9 @@ use Rattle.plmachine.proofs.Moves.{on_err}
 use Rattle.plsolver.specs.Solver.{throws_to}
 use Rattle.plsolver.proofs.Quiets.{at_stack, stays-back}
 use Rattle.plsolver.proofs.Catches.{closed-below, catches-other, catches-it, stays-after}
+use Rattle.plstack.specs.Places.{walks_of}
+use Rattle.plstack.specs.State.{walks_in}
+use Rattle.plsolver.proofs.Ending.{ends_same, ends_trans}
 use Rattle.plsolver.proofs.progress.Progress.catch.Goals as goal
 
 pub returns-in_err-v-clause-err : goal.returns-in_err-v-clause-err
@@ -16,7 +19,7 @@ returns-in_err-v-clause-err c =
     let s = c.args.self.now in
     let P = c.args.program.now in
     let at : s.machine.mode ≡ modes.Back (outcomes.Throw c.in-Throw.ball c.in-Throw.field-1) = c.in-Back.is ∙ ap modes.Back c.in-Throw.is in
-    on_err _ (stays-back P s c.put_copy.new.self _ at (c.put_copy.ensures.stays.basis ∙ c.rewind-handler.ensures.basis) (λ v. c.put_copy.ensures.stays.cases (database_of P v) ∙ c.rewind-handler.ensures.cases (database_of P v)))
+    on_err _ (stays-back P s c.put_copy.new.self _ at (c.put_copy.ensures.stays.basis ∙ c.rewind-handler.ensures.basis) (ap (λ fs. walks_of (reverse fs)) c.put_copy.ensures.stays.frames ∙ c.rewind-handler.ensures.walks) (λ v. c.put_copy.ensures.stays.cases (database_of P v) ∙ c.rewind-handler.ensures.cases (database_of P v)))
 
 pub returns-in_err-unify-clause-err : goal.returns-in_err-unify-clause-err
 returns-in_err-unify-clause-err c =
@@ -24,7 +27,7 @@ returns-in_err-unify-clause-err c =
     let P = c.args.program.now in
     let at : s.machine.mode ≡ modes.Back (outcomes.Throw c.in-Throw.ball c.in-Throw.field-1) = c.in-Back.is ∙ ap modes.Back c.in-Throw.is in
     let same : c.unify.new.self ≡ c.put_copy.new.self = c.in_err-unify.ensures.err in
-    on_err _ (stays-back P s c.unify.new.self _ at (ap (λ x. x.basis) same ∙ c.put_copy.ensures.stays.basis ∙ c.rewind-handler.ensures.basis) (λ v. ap (cases_of (database_of P v)) same ∙ c.put_copy.ensures.stays.cases (database_of P v) ∙ c.rewind-handler.ensures.cases (database_of P v)))
+    on_err _ (stays-back P s c.unify.new.self _ at (ap (λ x. x.basis) same ∙ c.put_copy.ensures.stays.basis ∙ c.rewind-handler.ensures.basis) (ap walks_in same ∙ ap (λ fs. walks_of (reverse fs)) c.put_copy.ensures.stays.frames ∙ c.rewind-handler.ensures.walks) (λ v. ap (cases_of (database_of P v)) same ∙ c.put_copy.ensures.stays.cases (database_of P v) ∙ c.rewind-handler.ensures.cases (database_of P v)))
 
 pub returns-in_err-recover-clause-err : goal.returns-in_err-recover-clause-err
 returns-in_err-recover-clause-err c =
@@ -32,7 +35,7 @@ returns-in_err-recover-clause-err c =
     let P = c.args.program.now in
     let at : s.machine.mode ≡ modes.Back (outcomes.Throw c.in-Throw.ball c.in-Throw.field-1) = c.in-Back.is ∙ ap modes.Back c.in-Throw.is in
     let u = c.in_ok-unify.ensures.yes c.if-branch.true in
-    let stay = stays-back P s c.unify.new.self _ at (u.basis ∙ c.put_copy.ensures.stays.basis ∙ c.rewind-handler.ensures.basis) (λ v. u.cases (database_of P v) ∙ c.put_copy.ensures.stays.cases (database_of P v) ∙ c.rewind-handler.ensures.cases (database_of P v)) in
+    let stay = stays-back P s c.unify.new.self _ at (u.basis ∙ c.put_copy.ensures.stays.basis ∙ c.rewind-handler.ensures.basis) (ap (λ fs. walks_of (reverse fs)) (u.frames ∙ c.put_copy.ensures.stays.frames) ∙ c.rewind-handler.ensures.walks) (λ v. u.cases (database_of P v) ∙ c.put_copy.ensures.stays.cases (database_of P v) ∙ c.rewind-handler.ensures.cases (database_of P v)) in
     on_err _ (stays-after P s (at_stack s c.unify.new.self) c.recover.new.self stay c.in_err-recover.ensures.err)
 
 pub returns-in_ok-recover-clause-ok : goal.returns-in_ok-recover-clause-ok
@@ -54,3 +57,18 @@ returns-else-branch-clause-ok c =
     λ v. catches-other P v s _ c.in-Throw.ball c.in-Throw.field-1.items at refl c.rewind-handler.new.self c.rewind-handler.result c.rewind-handler.ensures.basis c.rewind-handler.ensures.cases c.in-Catch.catcher (subst (λ x. AtHandler c.rewind-handler.new.self x c.rewind-handler.result.list) c.in-Catch.is c.rewind-handler.ensures.at) active
     c.put_copy.new.self c.put_copy.ensures.stays c.in_ok-v.v c.in_ok-v.ensures.is c.close.new.self (c.close.ensures.basis ∙ ap (λ x. x.basis) no.1) no.0
     (λ h below was. closed-below (database_of P v) c.unify.new.self c.close.new.self h below c.close.result c.close.ensures.some c.close.ensures.none (ap (cases_of (database_of P v)) no.1 ∙ was))
+
+pub returns-in_err-v-clause-walks : goal.returns-in_err-v-clause-walks
+returns-in_err-v-clause-walks c = ends_same _ _ (ap (λ fs. walks_of (reverse fs)) c.put_copy.ensures.stays.frames ∙ c.rewind-handler.ensures.walks)
+
+pub returns-in_err-unify-clause-walks : goal.returns-in_err-unify-clause-walks
+returns-in_err-unify-clause-walks c = ends_same _ _ (ap walks_in c.in_err-unify.ensures.err ∙ ap (λ fs. walks_of (reverse fs)) c.put_copy.ensures.stays.frames ∙ c.rewind-handler.ensures.walks)
+
+pub returns-in_err-recover-clause-walks : goal.returns-in_err-recover-clause-walks
+returns-in_err-recover-clause-walks c = ends_trans _ _ _ (ends_same _ _ (ap (λ fs. walks_of (reverse fs)) ((c.in_ok-unify.ensures.yes c.if-branch.true).frames ∙ c.put_copy.ensures.stays.frames) ∙ c.rewind-handler.ensures.walks)) c.recover.ensures.walks
+
+pub returns-in_ok-recover-clause-walks : goal.returns-in_ok-recover-clause-walks
+returns-in_ok-recover-clause-walks c = ends_trans _ _ _ (ends_same _ _ (ap (λ fs. walks_of (reverse fs)) ((c.in_ok-unify.ensures.yes c.if-branch.true).frames ∙ c.put_copy.ensures.stays.frames) ∙ c.rewind-handler.ensures.walks)) c.recover.ensures.walks
+
+pub returns-else-branch-clause-walks : goal.returns-else-branch-clause-walks
+returns-else-branch-clause-walks c = ends_trans _ _ _ (ends_same _ _ (ap walks_in (c.in_ok-unify.ensures.no c.if-branch.false).1 ∙ ap (λ fs. walks_of (reverse fs)) c.put_copy.ensures.stays.frames ∙ c.rewind-handler.ensures.walks)) c.close.ensures.walks

@@ -1,4 +1,4 @@
-use Rattle.std.proofs.Common.{◌≡◌, ◌-◌, inl, inr, refl, ap, ◌∙◌, arith}
+use Rattle.std.proofs.Common.{◌≡◌, ◌-◌, inl, inr, refl, ap, ◌∙◌, arith, subst, sym}
 use Rattle.plsearch.specs.Engine.{deeper}
 use Rattle.plstack.specs.State.{cases_of}
 use Rattle.plstack.specs.StaticCalls.{database_of}
@@ -6,6 +6,9 @@ use Rattle.plmachine.specs.Machine.{depth_of}
 use Rattle.plsolver.specs.Solver.{Settled, throws_to}
 use Rattle.plsolver.proofs.Quiets.{quiet-mark, quiet-handler, quiet-choice, over-now}
 use Rattle.plstack.proofs.Stacks.{depth-in}
+use Rattle.plstack.specs.State.{EndsWalks}
+use Rattle.plsolver.proofs.Runs.{no_views}
+use Rattle.plsolver.proofs.Ending.{ends_refl}
 use Rattle.plsolver.proofs.progress.Progress.close.Goals as goal
 
 pub returns-in_default-clause-due : goal.returns-in_default-clause-due
@@ -34,3 +37,12 @@ returns-in-Handler-clause-on c = λ v.
     quiet-handler P v s c.close.new.self closed.0 closed.1 c.requires.back c.close.ensures.basis closed.2
     (λ k x is yes. closed.3 k x is (λ has. c.requires.caught has (ap (λ d. throws_to d s.machine.mode) deep ∙ yes)))
     (λ l is fails. closed.4 l is (λ has. c.requires.gathered has fails))
+
+pub returns-in_default-clause-walks : goal.returns-in_default-clause-walks
+returns-in_default-clause-walks c = rw c.in_default.ensures.same (ends_refl _)
+
+pub returns-in-Mark-clause-walks : goal.returns-in-Mark-clause-walks
+returns-in-Mark-clause-walks c = subst (λ x. EndsWalks c.args.self.now.machine.stack x.machine.stack) (sym c.pass_mark.ensures.frame) c.close.ensures.walks
+
+pub returns-in-Choice-clause-walks : goal.returns-in-Choice-clause-walks
+returns-in-Choice-clause-walks c = subst (λ x. EndsWalks c.args.self.now.machine.stack x.machine.stack) (sym (c.stop_cut.ensures (database_of c.args.program.now no_views)).frame) c.close.ensures.walks

@@ -6,10 +6,11 @@ use Rattle.plstack.specs.StaticCalls.{database_of}
 use Rattle.plmachine.proofs.Moves.{on_err, on_err_map}
 use Rattle.plsolver.specs.declared.progress.Progress.{Progress}
 use Rattle.plsolver.proofs.Trying.{AtText, drop-at, if_none_map, if_some_map, retries-same, text-next, whole-now}
+use Rattle.plsolver.proofs.Ending.{text-on}
 use Rattle.plsolver.proofs.progress.Progress.first_of_text.Goals as goal
 
 pub clauses-init : goal.clauses-init
-clauses-init c = record { at = c.requires.at; text = c.requires.text; uses = refl; goal = refl; cases = λ P v whole. refl; basis = refl; frame = refl }
+clauses-init c = record { at = c.requires.at; text = c.requires.text; uses = refl; goal = refl; cases = λ P v whole. refl; basis = refl; walks = refl; frame = refl }
 
 pub returns-in_err-next-clause-err : goal.returns-in_err-next-clause-err
 returns-in_err-next-clause-err c = on_err c.from_residual.result c.clauses.invariant.cases
@@ -72,6 +73,7 @@ clauses-preserved c =
           (drop-at c.args.clauses.now k _ (omega (arith, c.clauses-test.true)) ∙ ap (λ x. x ∷ drop (suc k) c.args.clauses.now) (sym c.index-clauses-number.is)) c.in_ok-next.ensures)
           ∙ i.cases P v whole;
       basis = c.try_walk.ensures.basis ∙ i.basis;
+      walks = text-on s c.try_walk.new.self w k i.text (k + 1) c.in_ok-entered.ensures.moves ∙ i.walks;
       frame = ap (λ (x : Progress). record x { machine = record x.machine { stack = c.try_walk.new.self } }) i.frame;
     })
 
@@ -106,3 +108,15 @@ returns-clause-basis c = c.last_of_text.ensures.basis ∙ c.clauses.invariant.ba
 pub returns-clause-frame : goal.returns-clause-frame
 returns-clause-frame c =
     c.last_of_text.ensures.frame ∙ ap (λ (x : Progress). record x { machine = record x.machine { stack = c.last_of_text.new.self.machine.stack } }) c.clauses.invariant.frame
+
+pub returns-in_err-next-clause-walks : goal.returns-in_err-next-clause-walks
+returns-in_err-next-clause-walks c = c.clauses.invariant.walks
+
+pub returns-in_err-entered-clause-walks : goal.returns-in_err-entered-clause-walks
+returns-in_err-entered-clause-walks c = c.in_err-entered.ensures.err_walks ∙ c.clauses.invariant.walks
+
+pub returns-in-Some-clause-walks : goal.returns-in-Some-clause-walks
+returns-in-Some-clause-walks c = text-on c.clauses.self.machine.stack c.try_walk.new.self c.clauses.at.walk c.clauses.number c.clauses.invariant.text (c.clauses.number + 1) c.in_ok-entered.ensures.moves ∙ c.clauses.invariant.walks
+
+pub returns-clause-walks : goal.returns-clause-walks
+returns-clause-walks c = c.last_of_text.ensures.walks ∙ c.clauses.invariant.walks

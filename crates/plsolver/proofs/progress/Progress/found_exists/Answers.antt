@@ -2,6 +2,10 @@ use Rattle.std.proofs.Common.{ap, refl}
 use Rattle.plcells.specs.Store.{value}
 use Rattle.plmachine.proofs.Moves.{on_ok_map}
 use Rattle.plsolver.proofs.Finding.{not-there, there-fails}
+use Rattle.plmachine.specs.declared.machine.Mode.TheVariants as modes
+use Rattle.plmachine.specs.declared.machine.Outcome.TheVariants as outcomes
+use Rattle.plsolver.proofs.Asked.{exists-asked}
+use Rattle.plsolver.proofs.Ending.{ends_refl}
 use Rattle.plsolver.proofs.progress.Progress.found_exists.Goals as goal
 
 pub returns-then-exists-clause-ok : goal.returns-then-exists-clause-ok
@@ -19,3 +23,12 @@ returns-clause-ok c =
       rest = not-there c.args.program.now v s c.args.goal c.args.g c.requires.finds c.args.exists is c.missing.new.self.machine c.if-exists.false (moved (value s.stack.env.heap c.args.goal) of);
     })
     c.missing.ensures.ok
+
+pub returns-then-exists-clause-asked : goal.returns-then-exists-clause-asked
+returns-then-exists-clause-asked c = λ v. exists-asked v c.args.goal c.args.g c.args.self.now.machine (record c.args.self.now.machine { mode = modes.Back outcomes.Fail }) tt (ends_refl _)
+
+pub returns-clause-asked : goal.returns-clause-asked
+returns-clause-asked c =
+    let s = c.args.self.now.machine in
+    let of = rw (c.heap.ensures.is, c.env.ensures) at c.in_ok-p.ensures in
+    on_ok_map c.missing.result (λ moved v. let m = moved (value s.stack.env.heap c.args.goal) of in exists-asked v c.args.goal c.args.g s c.missing.new.self.machine m.plain m.walks) c.missing.ensures.ok

@@ -6,6 +6,8 @@ use Rattle.plmachine.specs.Clauses.{Walks}
 use Rattle.plmachine.specs.Machine.{now, MayAsk}
 use Rattle.plmachine.proofs.Moves.{on_ok_map}
 use Rattle.plsolver.proofs.Finding.{found-none, found-some}
+use Rattle.plmachine.specs.Machine.{IsPlain}
+use Rattle.plsolver.proofs.Asked.{first-found, first-none, on_ok_both}
 use Rattle.plsolver.proofs.progress.Progress.found_first.Goals as goal
 
 pub returns-in-Some-clause-ok : goal.returns-in-Some-clause-ok
@@ -35,3 +37,15 @@ returns-in-None-clause-ok c = λ v ordered is.
           found-none P v s c.args.sought c.args.g c.requires.finds may.1 ordered (sym is ∙ c.in-None.is) most left answers
           ∙ ap (λ m. now P v (record s { mode = m }) most left answers) (sym c.mode_without.ensures);
     }
+
+pub returns-in-Some-clause-asked : goal.returns-in-Some-clause-asked
+returns-in-Some-clause-asked c =
+    let s = c.args.self.now.machine in
+    on_ok_both c.walk.result
+    (λ w walks v ordered is. first-found v c.args.sought c.args.g s c.walk.new.self ordered c.in-Some.name (sym is ∙ c.in-Some.is) (subst (λ x. IsPlain x.mode) (sym w.frame) tt) walks)
+    c.walk.ensures.ok c.walk.ensures.walks
+
+pub returns-in-None-clause-asked : goal.returns-in-None-clause-asked
+returns-in-None-clause-asked c = λ v ordered is.
+    let s = c.args.self.now.machine in
+    first-none v c.args.sought c.args.g s _ ordered (sym is ∙ c.in-None.is) (ap (λ m. record s { mode = m }) c.mode_without.ensures)

@@ -1,4 +1,4 @@
-use Rattle.std.proofs.Common.{ap, sym, subst, ◌∙◌}
+use Rattle.std.proofs.Common.{ap, sym, subst, ◌∙◌, reverse}
 use Rattle.plsearch.specs.Collecting.{kept_below}
 use Rattle.plstack.specs.State.{AtHandler}
 use Rattle.plstack.specs.StaticCalls.{database_of}
@@ -9,6 +9,8 @@ use Rattle.plsolver.specs.Solver.{Stays, QuietIn}
 use Rattle.plsolver.proofs.Quiets.{stays-back}
 use Rattle.plsolver.proofs.Catches.{closed-below}
 use Rattle.plsolver.proofs.Gathering.{gathers-it, gathers-other}
+use Rattle.plstack.specs.Places.{walks_of}
+use Rattle.plsolver.proofs.Ending.{ends_same, ends_trans}
 use Rattle.plsolver.proofs.progress.Progress.gather.Goals as goal
 
 pub returns-in_err-fits-clause-err : goal.returns-in_err-fits-clause-err
@@ -17,7 +19,7 @@ returns-in_err-fits-clause-err c =
     let P = c.args.program.now in
     let e = c.in_err-fits.ensures.err in
     on_err _ (subst (λ m. Stays P s (record s { machine = m })) (sym c.gather.ensures.frame)
-    (stays-back P s c.gather.new.self.stack outcomes.Fail c.requires.fails (e.basis ∙ c.rewind-handler.ensures.basis) (λ v. e.cases (database_of P v) ∙ c.rewind-handler.ensures.cases (database_of P v))))
+    (stays-back P s c.gather.new.self.stack outcomes.Fail c.requires.fails (e.basis ∙ c.rewind-handler.ensures.basis) (ap (λ fs. walks_of (reverse fs)) e.frames ∙ c.rewind-handler.ensures.walks) (λ v. e.cases (database_of P v) ∙ c.rewind-handler.ensures.cases (database_of P v))))
 
 pub returns-then-not-fits-clause-ok : goal.returns-then-not-fits-clause-ok
 returns-then-not-fits-clause-ok c =
@@ -40,3 +42,12 @@ returns-clause-ok c =
     (gathers-it P v s c.requires.fails c.rewind-handler.new.self c.rewind-handler.result.list c.in-Gather.whole c.rewind-handler.ensures.basis c.rewind-handler.ensures.cases here c.level-level.result c.level-level.ensures
     c.gather.new.self.stack (c.in_ok-fits.ensures.yes c.if-not-fits.false) c.leave.new.self c.drop_from.new.self c.leave.ensures.leaves c.leave.ensures.basis
     (c.drop_from.ensures ∙ ap (λ m. kept_below c.level-level.result m.kept) c.gather.ensures.frame))
+
+pub returns-in_err-fits-clause-walks : goal.returns-in_err-fits-clause-walks
+returns-in_err-fits-clause-walks c = ends_same _ _ (ap (λ fs. walks_of (reverse fs)) c.in_err-fits.ensures.err.frames ∙ c.rewind-handler.ensures.walks)
+
+pub returns-then-not-fits-clause-walks : goal.returns-then-not-fits-clause-walks
+returns-then-not-fits-clause-walks c = ends_trans _ _ _ (ends_same _ _ (ap (λ fs. walks_of (reverse fs)) (c.in_ok-fits.ensures.same c.if-not-fits.true).frames ∙ c.rewind-handler.ensures.walks)) c.close.ensures.walks
+
+pub returns-clause-walks : goal.returns-clause-walks
+returns-clause-walks c = ends_same _ _ (c.leave.ensures.walks ∙ ap (λ fs. walks_of (reverse fs)) (c.in_ok-fits.ensures.yes c.if-not-fits.false).frames ∙ c.rewind-handler.ensures.walks)

@@ -2,6 +2,7 @@ use Rattle.std.proofs.Common.{◌≡◌, suc, None, refl, sym, ap, ap₂, ◌∙
 use Rattle.plcells.specs.Store.{value}
 use Rattle.plstack.specs.StaticCalls.{database_of}
 use Rattle.plsolver.proofs.Trying.{drop-at, drop-none, if_none_both, last-ends, text-ends, text-found}
+use Rattle.plsolver.proofs.Ending.{text-ended, text-off}
 use Rattle.plsolver.proofs.progress.Progress.last_of_text.Goals as goal
 
 pub returns-in_ok-next-in-Some-clause-none : goal.returns-in_ok-next-in-Some-clause-none
@@ -22,3 +23,9 @@ returns-in-None-clause-none c = λ P v whole.
     let s = c.args.self.now.machine.stack in
     text-ends P v s c.go_on_walk.new.self c.args.at.point c.args.at.walk c.args.number c.requires.at (c.go_on_walk.ensures.goes (database_of P v)) c.requires.text
     (ap (drop c.args.number) (sym whole) ∙ drop-none c.args.clauses.now c.args.number (omega (arith, c.in-None.ensures.lookup)))
+
+pub returns-in_ok-next-in-Some-clause-walks : goal.returns-in_ok-next-in-Some-clause-walks
+returns-in_ok-next-in-Some-clause-walks c = text-ended c.args.self.now.machine.stack c.try_walk.new.self c.args.at.walk c.args.number c.requires.text c.try_walk.result c.try_walk.ensures.moves c.try_walk.ensures.err_walks
+
+pub returns-in-None-clause-walks : goal.returns-in-None-clause-walks
+returns-in-None-clause-walks c = text-off c.args.self.now.machine.stack c.go_on_walk.new.self c.args.at.walk c.args.number c.requires.text c.go_on_walk.ensures.moves

@@ -1,7 +1,9 @@
-use Rattle.std.proofs.Common.{subst}
+use Rattle.std.proofs.Common.{subst, sym}
 use Rattle.plstack.specs.State.{goals_of}
 use Rattle.plstack.specs.First.{AtMarker}
 use Rattle.plsolver.proofs.Quiets.{quiet-collect, quiet-commit, quiet-never, quiet-until}
+use Rattle.plstack.specs.State.{EndsWalks}
+use Rattle.plsolver.proofs.Ending.{ends_refl}
 use Rattle.plsolver.proofs.progress.Progress.pass_marker.Goals as goal
 
 pub returns-in_ok-cut-in-Commit-clause-ok : goal.returns-in_ok-cut-in-Commit-clause-ok
@@ -36,3 +38,15 @@ returns-in_ok-collect-in-Collect-clause-ok c =
     let st = s.machine.stack in
     let marker = subst (λ m. AtMarker st (goals_of st st.goals) m c.args.level c.args.rest) c.in-Collect.is c.requires.marker in
     λ v. quiet-collect c.args.program.now v s c.collect.new.self c.in-Collect.v c.args.level c.args.rest c.requires.visits marker c.in_ok-collect-in-Collect.ensures.ok
+
+pub returns-in_ok-cut-in-Commit-clause-walks : goal.returns-in_ok-cut-in-Commit-clause-walks
+returns-in_ok-cut-in-Commit-clause-walks c = c.in_ok-cut-in-Commit.ensures.ok.walks
+
+pub returns-in-Never-clause-walks : goal.returns-in-Never-clause-walks
+returns-in-Never-clause-walks c = ends_refl _
+
+pub returns-in-Until-clause-walks : goal.returns-in-Until-clause-walks
+returns-in-Until-clause-walks c = rw c.visit.ensures (ends_refl _)
+
+pub returns-in_ok-collect-in-Collect-clause-walks : goal.returns-in_ok-collect-in-Collect-clause-walks
+returns-in_ok-collect-in-Collect-clause-walks c = subst (λ x. EndsWalks c.args.self.now.machine.stack x.machine.stack) (sym c.in_ok-collect-in-Collect.ensures.ok) (ends_refl _)

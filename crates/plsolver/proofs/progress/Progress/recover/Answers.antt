@@ -1,4 +1,4 @@
-use Rattle.std.proofs.Common.{◌≡◌, ap, subst, sym, ◌∙◌}
+use Rattle.std.proofs.Common.{◌≡◌, ap, subst, sym, ◌∙◌, reverse}
 use Rattle.plsearch.specs.Collecting.{kept_below}
 use Rattle.plcells.specs.Store.{value}
 use Rattle.plsearch.specs.Running.{runnable, Raises, Runs}
@@ -7,6 +7,9 @@ use Rattle.plmachine.specs.Lists.{Grown}
 use Rattle.plmachine.proofs.Moves.{on_err, on_ok_map, on_err_map}
 use Rattle.plsolver.specs.Solver.{Stays, Recovered, Rethrown}
 use Rattle.plsolver.proofs.Catches.{recovered-raises, recovered-runs, grown-stays}
+use Rattle.plstack.specs.Places.{walks_of}
+use Rattle.plstack.specs.State.{walks_in}
+use Rattle.plsolver.proofs.Ending.{ends_same, ends_trans}
 use Rattle.plsolver.proofs.progress.Progress.recover.Goals as goal
 
 pub returns-in_err-error-clause-err : goal.returns-in_err-error-clause-err
@@ -45,3 +48,15 @@ returns-in_ok-made-in-Runs-clause-ok c =
     subst (λ m. Recovered P s (record s { machine = record m { stack = c.recover.new.self; mode = modes.Visit; kept = c.drop_from.new.self } }) c.args.recovery c.args.list) (sym c.ready.ensures.frame)
     (recovered-runs P s t.stack c.link.new.self c.recover.new.self c.args.recovery c.args.list c.in-Runs.goal c.level-level.result c.in_ok-made-in-Runs.made c.ready.ensures.grown c.requires.list runs c.level-level.ensures
     adds.stays adds.env adds.is c.recover.ensures.recovers c.recover.ensures.basis c.drop_from.new.self (c.drop_from.ensures ∙ ap (λ m. kept_below c.level-level.result m.kept) c.ready.ensures.frame))
+
+pub returns-in_err-error-clause-walks : goal.returns-in_err-error-clause-walks
+returns-in_err-error-clause-walks c = ends_same _ _ (ap (λ fs. walks_of (reverse fs)) c.ready.ensures.grown.extends.frames)
+
+pub returns-in_err-made-in-Runs-clause-walks : goal.returns-in_err-made-in-Runs-clause-walks
+returns-in_err-made-in-Runs-clause-walks c = ends_same _ _ (ap walks_in c.in_err-made-in-Runs.ensures.err ∙ ap (λ fs. walks_of (reverse fs)) c.ready.ensures.grown.extends.frames)
+
+pub returns-in-Raises-clause-walks : goal.returns-in-Raises-clause-walks
+returns-in-Raises-clause-walks c = ends_trans _ _ _ (ends_same _ _ (ap (λ fs. walks_of (reverse fs)) c.ready.ensures.grown.extends.frames)) c.rethrow.ensures.walks
+
+pub returns-in_ok-made-in-Runs-clause-walks : goal.returns-in_ok-made-in-Runs-clause-walks
+returns-in_ok-made-in-Runs-clause-walks c = ends_same _ _ (c.recover.ensures.walks ∙ ap (λ fs. walks_of (reverse fs)) (c.in_ok-made-in-Runs.ensures.ok.stays.frames ∙ c.ready.ensures.grown.extends.frames))

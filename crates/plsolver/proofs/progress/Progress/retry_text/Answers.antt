@@ -11,6 +11,7 @@ use Rattle.plsolver.specs.declared.progress.Progress.{Progress}
 use Rattle.plsolver.specs.Solver.{QuietIn, Stays}
 use Rattle.plsolver.proofs.Catches.{closed-below}
 use Rattle.plsolver.proofs.Quiets.{quiet-close, quiet-retry-by, stays-back}
+use Rattle.plsolver.proofs.Ending.{ends_same, ends_trans}
 use Rattle.plsolver.proofs.progress.Progress.retry_text.Goals as goal
 
 pub returns-in_err-entered-clause-err : goal.returns-in_err-entered-clause-err
@@ -21,7 +22,7 @@ returns-in_err-entered-clause-err c =
     let head = rw (c.heap-heap.ensures.is, c.env.ensures) at c.head_of-head.ensures.is in
     let whole = c.clauses_of-clauses.ensures ∙ ap (clauses_for P) (named ∙ ap indicator head) in
     on_err c.from_residual-in_err-entered.result (subst (Stays P s) (sym c.first_of_text.ensures.frame)
-    (stays-back P s c.first_of_text.new.self.machine.stack outcomes.Fail c.requires.fails c.first_of_text.ensures.basis (λ v. c.in_err-entered.ensures.err P v whole)))
+    (stays-back P s c.first_of_text.new.self.machine.stack outcomes.Fail c.requires.fails c.first_of_text.ensures.basis c.first_of_text.ensures.walks (λ v. c.in_err-entered.ensures.err P v whole)))
 
 pub returns-in_default-clause-ok : goal.returns-in_default-clause-ok
 returns-in_default-clause-ok c = λ v.
@@ -48,3 +49,12 @@ returns-clause-ok c = λ v.
     subst (λ (m : Mode). QuietIn P v s (record c.first_of_text.new.self { machine = record c.first_of_text.new.self.machine { mode = m } })) (sym c.mode_of.ensures)
     (subst (λ (x : Progress). QuietIn P v s (record x { machine = record x.machine { mode = mode_by e.erased } })) (sym c.first_of_text.ensures.frame)
     (quiet-retry-by P v s c.first_of_text.new.self.machine.stack e.erased c.requires.fails c.first_of_text.ensures.basis retries))
+
+pub returns-in_err-entered-clause-walks : goal.returns-in_err-entered-clause-walks
+returns-in_err-entered-clause-walks c = ends_same _ _ c.first_of_text.ensures.walks
+
+pub returns-in_default-clause-walks : goal.returns-in_default-clause-walks
+returns-in_default-clause-walks c = ends_trans _ _ _ (ends_same _ _ c.first_of_text.ensures.walks) c.close.ensures.walks
+
+pub returns-clause-walks : goal.returns-clause-walks
+returns-clause-walks c = ends_same _ _ c.first_of_text.ensures.walks

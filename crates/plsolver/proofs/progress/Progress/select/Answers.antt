@@ -4,8 +4,9 @@ use Rattle.plstack.specs.State.{goals_of}
 use Rattle.plmachine.specs.Selected.{bound_at}
 use Rattle.plmachine.proofs.Moves.{on_ok_map}
 use Rattle.plsolver.specs.Solver.{IsSelected}
-use Rattle.plsolver.proofs.Runs.{either_basis, either_of}
+use Rattle.plsolver.proofs.Runs.{either_basis, either_of, either_walks}
 use Rattle.plsolver.proofs.Runs.{selects-both, selects-row}
+use Rattle.plsolver.proofs.Ending.{ends_refl}
 use Rattle.plsolver.proofs.progress.Progress.select.Goals as goal
 
 pub returns-in-Both-clause-ok : goal.returns-in-Both-clause-ok
@@ -54,3 +55,15 @@ returns-in-Step-clause-basis c =
     let s = c.args.self.now in
     let first = subst (IsSelected s.machine) c.in-Step.is c.requires.goal in
     either_basis c.args.program.now s.machine c.step.new.self _ c.step.result (c.step.ensures.ok _ first.1) c.step.ensures.err
+
+pub returns-in-Both-clause-walks : goal.returns-in-Both-clause-walks
+returns-in-Both-clause-walks c = rw c.visit.ensures (ends_refl _)
+
+pub returns-in-Goal-clause-walks : goal.returns-in-Goal-clause-walks
+returns-in-Goal-clause-walks c = either_walks c.args.program.now c.args.self.now.machine c.term.new.self _ c.term.result c.term.ensures.ok c.term.ensures.err
+
+pub returns-in-Step-clause-walks : goal.returns-in-Step-clause-walks
+returns-in-Step-clause-walks c =
+    let s = c.args.self.now in
+    let first = subst (IsSelected s.machine) c.in-Step.is c.requires.goal in
+    either_walks c.args.program.now s.machine c.step.new.self _ c.step.result (c.step.ensures.ok _ first.1) c.step.ensures.err

@@ -1,5 +1,6 @@
 use Rattle.std.proofs.Common.{arith, ◌∙◌}
 use Rattle.plsolver.proofs.Runs.{goes_on, no_views, stays_goes, stays_of, quiet_goes, quiet_of}
+use Rattle.plsolver.proofs.Ending.{ends_trans}
 use Rattle.plsolver.proofs.progress.Progress.settle.Goals as goal
 
 pub returns-in_err-quiet_turn-clause-goes : goal.returns-in_err-quiet_turn-clause-goes
@@ -24,6 +25,7 @@ loop-due-preserved c =
       limit = (q no_views).limit ∙ c.loop-due.invariant.limit;
       places = (q no_views).places ∙ c.loop-due.invariant.places;
       basis = (q no_views).basis ∙ c.loop-due.invariant.basis;
+      walks = ends_trans _ _ _ c.loop-due.invariant.walks c.quiet_turn.ensures.walks;
     }
 
 pub returns-in-Some-clause-goes : goal.returns-in-Some-clause-goes
@@ -37,3 +39,9 @@ returns-in-Some-clause-goes c =
 
 pub returns-in-Some-clause-of : goal.returns-in-Some-clause-of
 returns-in-Some-clause-of c = stays_of c.args.program.now c.loop-due.self c.quiet_turn.new.self c.loop-due.invariant.of (rw c.in-Some.is at c.in_ok-quiet_turn.ensures.due).1
+
+pub returns-in_err-quiet_turn-clause-walks : goal.returns-in_err-quiet_turn-clause-walks
+returns-in_err-quiet_turn-clause-walks c = ends_trans _ _ _ c.loop-due.invariant.walks c.quiet_turn.ensures.walks
+
+pub returns-in-Some-clause-walks : goal.returns-in-Some-clause-walks
+returns-in-Some-clause-walks c = ends_trans _ _ _ c.loop-due.invariant.walks c.quiet_turn.ensures.walks

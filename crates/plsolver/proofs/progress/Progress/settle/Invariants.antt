@@ -1,4 +1,5 @@
 use Rattle.std.proofs.Common.{◌≡◌}
+use Rattle.plstack.specs.State.{EndsWalks}
 use Rattle.plsolver.specs.Solver.{GoesTo, IsOf}
 use Rattle.plsolver.proofs.Runs.{load}
 use Rattle.plsolver.proofs.progress.Progress.settle.Given as goal
@@ -11,6 +12,7 @@ invariant-loop-due l = record {
   limit : l.self.limit ≡ l.fn.self.limit;
   places : l.self.places.items ≡ l.fn.self.places.items;
   basis : l.self.machine.stack.basis ≡ l.fn.self.machine.stack.basis;
+  walks : EndsWalks l.fn.self.machine.stack l.self.machine.stack;
 }
 
 abbrev pub decreases-loop-due : goal.decreases-loop-due

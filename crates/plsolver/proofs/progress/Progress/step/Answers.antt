@@ -2,6 +2,7 @@ use Rattle.std.proofs.Common.{◌+◌, ◌∙◌, ap}
 use Rattle.plsolver.specs.declared.progress.Progress.{Progress}
 use Rattle.plsolver.specs.Solver.{Stepped}
 use Rattle.plsolver.proofs.Runs.{selected-goal, steps, steps_on, stays_of}
+use Rattle.plsolver.proofs.Ending.{ends_same, ends_trans}
 use Rattle.plsolver.proofs.progress.Progress.step.Goals as goal
 
 pub returns-clause-ok : goal.returns-clause-ok
@@ -19,3 +20,6 @@ returns-clause-of c = stays_of c.args.program.now (record c.select.new.self { us
 
 pub returns-clause-basis : goal.returns-clause-basis
 returns-clause-basis c = (c.give_back.ensures c.args.program.now).there.basis ∙ c.select.ensures.basis
+
+pub returns-clause-walks : goal.returns-clause-walks
+returns-clause-walks c = ends_trans _ _ _ c.select.ensures.walks (ends_same _ _ (c.give_back.ensures c.args.program.now).there.walks)

@@ -12,6 +12,7 @@ use Rattle.plsolver.specs.Solver.{has_if}
 use Rattle.plsolver.proofs.Runs.{stays_of}
 use Rattle.plsolver.proofs.Seeking.{ok_or_err}
 use Rattle.plsolver.proofs.Sweeping.{same-sweep, sweep-stays, swept-past, swept-same}
+use Rattle.plsolver.proofs.Asked.{sweep-past}
 use Rattle.plsolver.proofs.progress.Progress.swept.Goals as goal
 
 pub returns-in_err-has-clause-of : goal.returns-in_err-has-clause-of
@@ -83,3 +84,16 @@ returns-clause-err c =
       there = stays-trans P c.args.self.now.machine t _ stay.there (subst (λ (m : Mode). StaysThere P t (record t { mode = m })) (sym got.1) (sweep-stays P t head w got.0 there got.2));
     })
     c.swept_mode-mode.ensures.err
+
+pub returns-clause-asked : goal.returns-clause-asked
+returns-clause-asked c =
+    let s = c.args.self.now.machine in
+    let t = c.has_head.new.self.machine in
+    let stay = c.has_head.ensures.stays c.args.program.now in
+    on_ok_map c.swept_mode-mode.result.1
+    (λ f v head w at reach.
+    let there : t.mode ≡ modes.Find (finds.Sweep head w) = ap (λ x. x.machine.mode) c.has_head.ensures.frame ∙ at in
+    let got = f head w (c.replace-mode.ensures.value ∙ there) in
+    let same = (same-sweep head c.in-Sweep.head w c.in-Sweep.field-1 (sym at ∙ c.in-Find.is ∙ ap modes.Find c.in-Sweep.is)).0 in
+    sweep-past v head w s _ c.args.name got.0 reach got.2.0 got.2.1 got.1 (subst (λ d. value t.stack.env.heap d ≡ value s.stack.env.heap d) (sym same) c.has_head.ensures.head) stay.there.walks)
+    c.swept_mode-mode.ensures.ok

@@ -1,8 +1,9 @@
-use Rattle.std.proofs.Common.{sym, subst, ◌∙◌}
+use Rattle.std.proofs.Common.{sym, subst, ◌∙◌, reverse, ap}
 use Rattle.plstack.specs.declared.basis.Basis.{Basis}
 use Rattle.plstack.specs.StaticCalls.{AreStatics}
 use Rattle.plstack.proofs.Growing.{if_ok}
 use Rattle.plstack.proofs.Opened.{calls-none-then, calls-then, marked-values}
+use Rattle.plstack.specs.Places.{walks_of}
 use Rattle.plstack.proofs.stack.Stack.call.Goals as goal
 
 pub open_call-requires-clause-values : goal.open_call-requires-clause-values
@@ -26,3 +27,6 @@ returns-clause-no c =
     calls-none-then c.args.self.now c.number_of.new.self c.marks.new.self c.open_call.new.self c.in_ok-behind.behind c.args.rest c.in_ok-behind.ensures.ok c.marks.ensures.stays c.marks.ensures.count db c.args.procedure c.args.values.now c.requires.values
     (rw c.alone.ensures at (calls is db then)))
     c.open_call.ensures.no
+
+pub returns-clause-walks : goal.returns-clause-walks
+returns-clause-walks c = c.open_call.ensures.walks ∙ ap (λ fs. walks_of (reverse fs)) (c.marks.ensures.stays.frames ∙ c.in_ok-behind.ensures.ok.stays.frames)

@@ -1,7 +1,8 @@
-use Rattle.std.proofs.Common.{refl}
+use Rattle.std.proofs.Common.{refl, reverse, ap, ◌∙◌}
 use Rattle.plgenerator.proofs.Staying.{turn_stays}
 use Rattle.plstack.proofs.Opened.{values_stay}
 use Rattle.plstack.proofs.Answered.{answered_marked, answered_settled, unanswered_marked}
+use Rattle.plstack.specs.Places.{walks_of}
 use Rattle.plstack.proofs.stack.Stack.call_answers.Goals as goal
 
 pub open_answers-requires-clause-values : goal.open_answers-requires-clause-values
@@ -20,3 +21,9 @@ pub returns-in-None-clause-no : goal.returns-in-None-clause-no
 returns-in-None-clause-no c = λ _ db.
     let none = rw c.in-None.is at c.in_ok-opened.ensures.none in
     unanswered_marked c.args.self.now c.marks-marks.new.self c.open_answers.new.self c.marks-marks.ensures.stays c.marks-marks.ensures.count db c.args.values.now c.requires.values c.args.rest c.requires.rest c.args.turn (none db)
+
+pub returns-in-Some-clause-walks : goal.returns-in-Some-clause-walks
+returns-in-Some-clause-walks c = ap (λ fs. walks_of (reverse fs)) c.settle_opened.ensures.frames ∙ c.open_answers.ensures.walks ∙ ap (λ fs. walks_of (reverse fs)) c.marks-marks.ensures.stays.frames
+
+pub returns-in-None-clause-walks : goal.returns-in-None-clause-walks
+returns-in-None-clause-walks c = c.open_answers.ensures.walks ∙ ap (λ fs. walks_of (reverse fs)) c.marks-marks.ensures.stays.frames

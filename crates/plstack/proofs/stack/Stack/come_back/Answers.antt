@@ -1,10 +1,11 @@
-use Rattle.std.proofs.Common.{◌≡◌, ◌++◌, ◌∷◌, [], ap, ◌∙◌}
+use Rattle.std.proofs.Common.{◌≡◌, ◌++◌, ◌∷◌, [], ap, ◌∙◌, refl}
 use Rattle.plstack.specs.declared.frame.Point.{Point}
 use Rattle.plstack.specs.declared.frame.Resume.TheVariants as resumes
 use Rattle.plstack.specs.declared.frame.Frame.TheVariants.{Open}
 use Rattle.plstack.specs.State.{State}
 use Rattle.plstack.proofs.Stacks.{inside}
 use Rattle.plstack.proofs.Returning.{taken, taken-stack, within-then, older-then}
+use Rattle.plstack.proofs.Ending.{counted-walks}
 use Rattle.plstack.proofs.stack.Stack.come_back.Goals as goal
 
 pub invariant_of-self : goal.invariant_of-self
@@ -34,3 +35,10 @@ returns-clause-older c =
     let p : Point = c.in-Some-Open.point in
     let popped : s.frames ≡ c.pop.new.self.items ++ Open p resumes.List ∷ [] = c.in-Some-Open.ensures.items ∙ ap (λ f. c.pop.new.self.items ++ f ∷ []) (c.in-Some-Open.field-0-is ∙ ap (Open p) c.in-List.is) in
     older-then s c.self.inside.depth c.self.invariant c.pop.new.self.items p resumes.List popped c.count_up.new.frames.items c.count_up.ensures
+
+pub returns-clause-walks : goal.returns-clause-walks
+returns-clause-walks c =
+    let s : State = inside c.self.inside in
+    let p : Point = c.in-Some-Open.point in
+    let popped : s.frames ≡ c.pop.new.self.items ++ Open p resumes.List ∷ [] = c.in-Some-Open.ensures.items ∙ ap (λ f. c.pop.new.self.items ++ f ∷ []) (c.in-Some-Open.field-0-is ∙ ap (Open p) c.in-List.is) in
+    rw (← c.self.view_is) (counted-walks s.frames c.count_up.new.frames.items c.pop.new.self.items (Open p resumes.List) 1 popped refl c.count_up.ensures)

@@ -13,5 +13,5 @@ returns-clause-ok c =
     let old = c.args.self.now in
     elim c.match-given_up.branch [
       | in-Some+in_ok-give_up-in-Some w ↦ cuts_emptied old w.give_up.new.self c.visit.new.self c.args.level c.args.list w.in-Some.frame.at w.in-Some.frame.below (w.in-Some.ensures.most refl) w.in-Some.ensures.at w.in_ok-give_up-in-Some.ensures.ok (c.visit.ensures ∙ ap (visited c.args.list) w.self-is)
-      | in-None+in_ok-open_barrier-in-None w ↦ cuts_marked old w.open_barrier.new.self c.visit.new.self c.args.level c.args.list w.in_ok-open_barrier-in-None.ensures.ok w.open_barrier.ensures.same (c.visit.ensures ∙ ap (visited c.args.list) w.self-is)
+      | in-None+in_ok-open_barrier-in-None w ↦ cuts_marked old w.open_barrier.new.self c.visit.new.self c.args.level c.args.list w.in_ok-open_barrier-in-None.ensures.ok w.open_barrier.ensures.walks w.open_barrier.ensures.same (c.visit.ensures ∙ ap (visited c.args.list) w.self-is)
     ]

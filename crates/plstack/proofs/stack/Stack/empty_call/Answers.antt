@@ -1,5 +1,8 @@
+use Rattle.std.proofs.Common.{sym, ◌∙◌}
 use Rattle.plstack.proofs.Stacks.{inside}
 use Rattle.plstack.proofs.Going.{emptied-stack, emptied, emptied-older}
+use Rattle.plstack.specs.declared.frame.Resume.TheVariants as resumes
+use Rattle.plstack.proofs.Ending.{taken-walks}
 use Rattle.plstack.proofs.stack.Stack.empty_call.Goals as goal
 
 pub invariant_of-self : goal.invariant_of-self
@@ -16,3 +19,8 @@ pub returns-clause-older : goal.returns-clause-older
 returns-clause-older c =
     let calling = rw (← c.self.view_is) at c.requires in
     emptied-older (inside c.self.inside) c.self.inside.depth c.self.invariant c.args.at.point c.args.at.call calling c.pop.new.self.items c.in-Some.field-0 c.in-Some.ensures.items c.count_up.new.frames.items c.count_up.ensures
+
+pub returns-clause-walks : goal.returns-clause-walks
+returns-clause-walks c =
+    let calling = rw (← c.self.view_is) at c.requires in
+    rw (← c.self.view_is) (c.count_up.ensures.walks ∙ sym (taken-walks (inside c.self.inside) c.args.at.point (resumes.Clauses c.args.at.call) calling.rest c.pop.new.self.items c.in-Some.field-0 calling.top c.in-Some.ensures.items))

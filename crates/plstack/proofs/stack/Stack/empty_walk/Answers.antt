@@ -1,5 +1,6 @@
 use Rattle.plstack.proofs.Stacks.{inside}
 use Rattle.plstack.proofs.Walking.{emptied-stack, emptied, emptied-older}
+use Rattle.plstack.proofs.Ending.{moves-off}
 use Rattle.plstack.proofs.stack.Stack.empty_walk.Goals as goal
 
 pub invariant_of-self : goal.invariant_of-self
@@ -16,3 +17,8 @@ pub returns-clause-older : goal.returns-clause-older
 returns-clause-older c =
     let walking = rw (← c.self.view_is) at c.requires in
     emptied-older (inside c.self.inside) c.self.inside.depth c.self.invariant c.args.at.point c.args.at.walk walking c.pop.new.self.items c.in-Some.field-0 c.in-Some.ensures.items c.count_up.new.frames.items c.count_up.ensures
+
+pub returns-clause-moves : goal.returns-clause-moves
+returns-clause-moves c =
+    let walking = rw (← c.self.view_is) at c.requires in
+    rw (← c.self.view_is) (moves-off (inside c.self.inside) _ c.args.at.point c.args.at.walk walking c.pop.new.self.items c.in-Some.field-0 c.in-Some.ensures.items c.count_up.ensures)

@@ -1,8 +1,9 @@
-use Rattle.std.proofs.Common.{◌≡◌, None, Some, subst, sym, ◌∙◌}
+use Rattle.std.proofs.Common.{◌≡◌, None, Some, subst, sym, ◌∙◌, refl}
 use Rattle.plstack.specs.declared.frame.Spot.{Spot}
 use Rattle.plstack.specs.Walks.{IsWalking}
 use Rattle.plstack.proofs.Going.{place-framed}
 use Rattle.plstack.proofs.Walking.{goes_settled, same-spot}
+use Rattle.plstack.proofs.Ending.{moves-between}
 use Rattle.plstack.proofs.stack.Stack.go_on_walk.Goals as goal
 
 pub returns-in-None-clause-goes : goal.returns-in-None-clause-goes
@@ -24,3 +25,6 @@ returns-in-Some-clause-place c = place-framed c.args.self.now c.replace_walk.new
 pub returns-in-Some-clause-walking : goal.returns-in-Some-clause-walking
 returns-in-Some-clause-walking c spot is =
     subst (λ (x : Spot). IsWalking c.replace_walk.new.self c.args.at.point (record c.args.at.walk { spot = x })) (same-spot c.in-Some.spot spot (sym c.in-Some.is ∙ is)) c.replace_walk.ensures.walking
+
+pub returns-in-None-clause-moves : goal.returns-in-None-clause-moves
+returns-in-None-clause-moves c = rw c.in-None.is (moves-between c.args.self.now c.args.self.now c.empty_walk.new.self c.settle.new.self c.args.at.walk None refl c.settle.ensures.frames c.empty_walk.ensures.moves)

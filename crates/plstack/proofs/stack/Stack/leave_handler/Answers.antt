@@ -1,4 +1,4 @@
-use Rattle.std.proofs.Common.{◌≡◌, ◌++◌, ◌∷◌, [], ap, ◌∙◌}
+use Rattle.std.proofs.Common.{◌≡◌, ◌++◌, ◌∷◌, [], ap, ◌∙◌, refl}
 use Rattle.plstack.specs.declared.frame.Point.{Point}
 use Rattle.plstack.specs.declared.frame.Handler.{Handler}
 use Rattle.plstack.specs.declared.frame.Resume.TheVariants as resumes
@@ -6,6 +6,7 @@ use Rattle.plstack.specs.declared.frame.Frame.TheVariants.{Open}
 use Rattle.plstack.specs.State.{State}
 use Rattle.plstack.proofs.Stacks.{inside}
 use Rattle.plstack.proofs.Returning.{recovered-stack, recovers, within-now, older-then}
+use Rattle.plstack.proofs.Ending.{counted-walks}
 use Rattle.plstack.proofs.stack.Stack.leave_handler.Goals as goal
 
 pub invariant_of-self : goal.invariant_of-self
@@ -41,3 +42,11 @@ returns-clause-older c =
     let k : Handler = c.in-Handle.field-0 in
     let popped : s.frames ≡ c.pop.new.self.items ++ Open p (resumes.Handle k) ∷ [] = c.in-Some-Open.ensures.items ∙ ap (λ f. c.pop.new.self.items ++ f ∷ []) (c.in-Some-Open.field-0-is ∙ ap (Open p) c.in-Handle.is) in
     older-then s c.self.inside.depth c.self.invariant c.pop.new.self.items p (resumes.Handle k) popped c.count_up.new.frames.items c.count_up.ensures
+
+pub returns-clause-walks : goal.returns-clause-walks
+returns-clause-walks c =
+    let s : State = inside c.self.inside in
+    let p : Point = c.in-Some-Open.point in
+    let k : Handler = c.in-Handle.field-0 in
+    let popped : s.frames ≡ c.pop.new.self.items ++ Open p (resumes.Handle k) ∷ [] = c.in-Some-Open.ensures.items ∙ ap (λ f. c.pop.new.self.items ++ f ∷ []) (c.in-Some-Open.field-0-is ∙ ap (Open p) c.in-Handle.is) in
+    rw (← c.self.view_is) (counted-walks s.frames c.count_up.new.frames.items c.pop.new.self.items (Open p (resumes.Handle k)) 1 popped refl c.count_up.ensures)

@@ -2,6 +2,7 @@ use Rattle.plstack.specs.State.{State}
 use Rattle.plstack.proofs.Stacks.{inside}
 use Rattle.plstack.proofs.Reopening.{on_err}
 use Rattle.plstack.proofs.Answered.{stays-stack, stays-at, none-stack, none-answered, called-stack, called-answered, called-within, called-older}
+use Rattle.plstack.proofs.Ending.{answer-walks}
 use Rattle.plstack.proofs.stack.Stack.open_answers.Goals as goal
 
 pub invariant_of-self-in_err-taken : goal.invariant_of-self-in_err-taken
@@ -59,3 +60,8 @@ returns-clause-opened c = λ last.
       within = called-within s c.self.inside.depth c.self.invariant c.args.point m i c.args.values.now fit c.args.turn turns c.take_answer.new.env c.take_answer.ensures.env c.in-Some.taken.rest t c.push_answers-is_last.new.frames.items pushes;
       older = called-older s c.self.inside.depth c.self.invariant c.args.point m i c.args.values.now fit c.args.turn turns c.take_answer.new.env c.take_answer.ensures.env c.in-Some.taken.rest t c.push_answers-is_last.new.frames.items pushes (c.push_answers-is_last.ensures.last last);
     }
+
+pub returns-clause-walks : goal.returns-clause-walks
+returns-clause-walks c =
+    let pushes = rw c.reserve.ensures.items at c.push_answers-is_last.ensures.pushes in
+    rw (← c.self.view_is) (answer-walks c.args.point _ c.in-Some.taken.rest (inside c.self.inside).frames c.push_answers-is_last.new.frames.items pushes)

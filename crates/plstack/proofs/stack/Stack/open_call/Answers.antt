@@ -1,8 +1,10 @@
-use Rattle.std.proofs.Common.{refl, arith}
+use Rattle.std.proofs.Common.{refl, arith, reverse, ap, ◌∙◌}
 use Rattle.plstack.specs.State.{State}
 use Rattle.plstack.proofs.Stacks.{inside}
 use Rattle.plstack.proofs.Postponed.{unchanged-at, unchanged-none, unchanged-stack, entered-calls, entered-older, entered-stack, last-calls, last-stack, own-slots}
 use Rattle.plstack.proofs.Reopening.{calls_settled, on_err}
+use Rattle.plstack.specs.Places.{walks_of}
+use Rattle.plstack.proofs.Ending.{call-walks}
 use Rattle.plstack.proofs.stack.Stack.open_call.Goals as goal
 
 pub invariant_of-self-in_err-hit : goal.invariant_of-self-in_err-hit
@@ -113,3 +115,13 @@ returns-in-Some-next-clause-yes c = λ _ db own.
     let pushes = rw c.reserve.ensures.items at c.push_call.ensures in
     rw (← c.self.view_is, c.keep_values.ensures, c.reserve-2.ensures.items, c.body_of-self-inside.ensures)
     (entered-calls s c.self.inside.depth c.self.invariant c.args.point.now m c.requires.alone i c.args.procedure _ c.args.values.now fit refl db k c.fit_first.new.env c.fit_first.ensures.keeps c.fit_first.ensures.env c.in-Some.hit first c.push_call.new.frames.items pushes)
+
+pub returns-in-None-clause-walks : goal.returns-in-None-clause-walks
+returns-in-None-clause-walks c =
+    let pushes = rw c.reserve.ensures.items at c.push_call.ensures in
+    rw (← c.self.view_is) (ap (λ fs. walks_of (reverse fs)) c.settle.ensures.frames ∙ call-walks c.args.point.now (record { procedure = c.args.procedure; count = _; next = 0 }) c.in-Some.hit.next (inside c.self.inside).frames c.push_call.new.frames.items pushes)
+
+pub returns-in-Some-next-clause-walks : goal.returns-in-Some-next-clause-walks
+returns-in-Some-next-clause-walks c =
+    let pushes = rw c.reserve.ensures.items at c.push_call.ensures in
+    rw (← c.self.view_is) (call-walks c.args.point.now (record { procedure = c.args.procedure; count = _; next = 0 }) c.in-Some.hit.next (inside c.self.inside).frames c.push_call.new.frames.items pushes)

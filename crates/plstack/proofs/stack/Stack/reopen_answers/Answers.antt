@@ -1,4 +1,4 @@
-use Rattle.std.proofs.Common.{◌≡◌, ◌+◌, ◌-◌, List, ◌++◌, ◌∷◌, [], take, drop, ap, sym, ◌∙◌}
+use Rattle.std.proofs.Common.{◌≡◌, ◌+◌, ◌-◌, List, ◌++◌, ◌∷◌, [], take, drop, ap, sym, ◌∙◌, reverse}
 use Rattle.plcells.specs.declared.cell.Cell.{Cell}
 use Rattle.plstack.specs.declared.frame.Point.{Point}
 use Rattle.plstack.specs.declared.frame.Answers.{Answers}
@@ -9,6 +9,8 @@ use Rattle.plstack.proofs.Stacks.{inside}
 use Rattle.plstack.proofs.Finding.{run-kept}
 use Rattle.plstack.proofs.Rewinding.{kept-then}
 use Rattle.plstack.proofs.Answered.{values-again, turn-again, again-stack, again-retries, again-within, again-older, closed-stack, closed-cases, back-again, back-again-cases}
+use Rattle.plstack.specs.Places.{walks_of}
+use Rattle.plstack.proofs.Ending.{answer-walks, pushed-walks}
 use Rattle.plstack.proofs.stack.Stack.reopen_answers.Goals as goal
 
 pub take_answer-requires-clause-values : goal.take_answer-requires-clause-values
@@ -103,3 +105,27 @@ returns-in-Err-clause-err c = λ db.
     let back : c.push_frame.new.frames.items ≡ s.frames = c.push_frame.ensures.is ∙ sym popped in
     let y = rw c.undo.ensures at c.in-Err.ensures.err in
     rw (← c.self.view_is, c.truncate.ensures.items, c.truncate-2.ensures.items, c.alone-self-inside.ensures, back) (back-again-cases s c.self.inside.depth c.self.invariant c.pop.new.self.items p k popped c.take_answer.new.env c.take_answer.ensures.env y db)
+
+pub returns-in-Ok-Some-clause-walks : goal.returns-in-Ok-Some-clause-walks
+returns-in-Ok-Some-clause-walks c =
+    let s : State = inside c.self.inside in
+    let p : Point = c.in-Some-Open-default-Answers.point in
+    let k : Answers = c.in-Some-Open-default-Answers.answers in
+    let popped : s.frames ≡ c.pop.new.self.items ++ Open p (resumes.Answers k) ∷ [] = c.in-Some-Open-default-Answers.ensures.items ∙ ap (λ f. c.pop.new.self.items ++ f ∷ []) (c.in-Some-Open-default-Answers.field-0-is ∙ ap (Open p) c.in-Some-Open-default-Answers.field-0-1-is) in
+    rw (← c.self.view_is) (answer-walks p k.count c.in-Ok-Some.taken.rest c.pop.new.self.items c.push_answers-is_last.new.frames.items c.push_answers-is_last.ensures.pushes ∙ sym (pushed-walks s.frames c.pop.new.self.items (Open p (resumes.Answers k)) popped))
+
+pub returns-in-Ok-None-clause-walks : goal.returns-in-Ok-None-clause-walks
+returns-in-Ok-None-clause-walks c =
+    let s : State = inside c.self.inside in
+    let p : Point = c.in-Some-Open-default-Answers.point in
+    let k : Answers = c.in-Some-Open-default-Answers.answers in
+    let popped : s.frames ≡ c.pop.new.self.items ++ Open p (resumes.Answers k) ∷ [] = c.in-Some-Open-default-Answers.ensures.items ∙ ap (λ f. c.pop.new.self.items ++ f ∷ []) (c.in-Some-Open-default-Answers.field-0-is ∙ ap (Open p) c.in-Some-Open-default-Answers.field-0-1-is) in
+    rw (← c.self.view_is) (sym (pushed-walks s.frames c.pop.new.self.items (Open p (resumes.Answers k)) popped))
+
+pub returns-in-Err-clause-walks : goal.returns-in-Err-clause-walks
+returns-in-Err-clause-walks c =
+    let s : State = inside c.self.inside in
+    let p : Point = c.in-Some-Open-default-Answers.point in
+    let k : Answers = c.in-Some-Open-default-Answers.answers in
+    let popped : s.frames ≡ c.pop.new.self.items ++ Open p (resumes.Answers k) ∷ [] = c.in-Some-Open-default-Answers.ensures.items ∙ ap (λ f. c.pop.new.self.items ++ f ∷ []) (c.in-Some-Open-default-Answers.field-0-is ∙ ap (Open p) c.in-Some-Open-default-Answers.field-0-1-is) in
+    rw (← c.self.view_is) (ap (λ fs. walks_of (reverse fs)) (c.push_frame.ensures.is ∙ sym popped))

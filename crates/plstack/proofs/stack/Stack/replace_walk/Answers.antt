@@ -1,5 +1,6 @@
 use Rattle.plstack.proofs.Stacks.{inside}
 use Rattle.plstack.proofs.Walking.{replaced, replaced-stack}
+use Rattle.plstack.proofs.Ending.{moves-on}
 use Rattle.plstack.proofs.stack.Stack.replace_walk.Goals as goal
 
 pub invariant_of-self : goal.invariant_of-self
@@ -16,3 +17,8 @@ returns-clause-goes c = λ db.
 
 pub returns-clause-walking : goal.returns-clause-walking
 returns-clause-walking c = record { rest = c.pop.new.self.items; top = c.push_frame.ensures.is }
+
+pub returns-clause-moves : goal.returns-clause-moves
+returns-clause-moves c =
+    let walking = rw (← c.self.view_is) at c.requires.walking in
+    rw (← c.self.view_is) (moves-on (inside c.self.inside) _ c.args.at.point c.args.at.walk walking c.pop.new.self.items c.in-Some.field-0 c.in-Some.ensures.items c.args.spot c.push_frame.ensures.is)

@@ -1,4 +1,4 @@
-use Rattle.std.proofs.Common.{◌≡◌, ◌++◌, ◌∷◌, [], ap, sym, ◌∙◌}
+use Rattle.std.proofs.Common.{◌≡◌, ◌++◌, ◌∷◌, [], ap, sym, ◌∙◌, reverse}
 use Rattle.plstack.specs.declared.frame.Point.{Point}
 use Rattle.plstack.specs.declared.frame.Handler.{Handler}
 use Rattle.plstack.specs.declared.frame.Resume.TheVariants as resumes
@@ -6,6 +6,7 @@ use Rattle.plstack.specs.declared.frame.Frame.TheVariants.{Open}
 use Rattle.plstack.specs.State.{State, IsCatcher, IsGatherer}
 use Rattle.plstack.proofs.Stacks.{inside, is-last}
 use Rattle.plstack.proofs.Returning.{rewound-stack, rewound-cases, rewound-at}
+use Rattle.plstack.specs.Places.{walks_of}
 use Rattle.plstack.proofs.stack.Stack.rewind.Goals as goal
 
 pub invariant_of-self : goal.invariant_of-self
@@ -50,3 +51,12 @@ returns-clause-gathers c = λ has.
     let k : Handler = c.in-Some-Open-default-Handle.handler in
     let popped : s.frames ≡ c.pop.new.self.items ++ Open p (resumes.Handle k) ∷ [] = c.in-Some-Open-default-Handle.ensures.items ∙ ap (λ f. c.pop.new.self.items ++ f ∷ []) (c.in-Some-Open-default-Handle.field-0-is ∙ ap (Open p) c.in-Some-Open-default-Handle.field-0-1-is) in
     is-last IsGatherer s.frames c.pop.new.self.items (Open p (resumes.Handle k)) popped (rw (← c.self.view_is) at has)
+
+pub returns-clause-walks : goal.returns-clause-walks
+returns-clause-walks c =
+    let s : State = inside c.self.inside in
+    let p : Point = c.in-Some-Open-default-Handle.point in
+    let k : Handler = c.in-Some-Open-default-Handle.handler in
+    let popped : s.frames ≡ c.pop.new.self.items ++ Open p (resumes.Handle k) ∷ [] = c.in-Some-Open-default-Handle.ensures.items ∙ ap (λ f. c.pop.new.self.items ++ f ∷ []) (c.in-Some-Open-default-Handle.field-0-is ∙ ap (Open p) c.in-Some-Open-default-Handle.field-0-1-is) in
+    let back : c.push_frame.new.frames.items ≡ s.frames = c.push_frame.ensures.is ∙ sym popped in
+    rw (← c.self.view_is) (ap (λ fs. walks_of (reverse fs)) back)

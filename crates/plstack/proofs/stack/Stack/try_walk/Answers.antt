@@ -1,9 +1,10 @@
-use Rattle.std.proofs.Common.{◌∙◌}
+use Rattle.std.proofs.Common.{◌∙◌, refl}
 use Rattle.plstack.specs.Places.{clause_by}
 use Rattle.plstack.proofs.Stacks.{inside}
 use Rattle.plstack.proofs.Going.{level-of}
 use Rattle.plstack.proofs.Reopening.{on_err}
 use Rattle.plstack.proofs.Walking.{at-framed, fitted-at, plain-end, value-framed, was-left, went-in, went-past}
+use Rattle.plstack.proofs.Ending.{moves-between}
 use Rattle.plstack.proofs.stack.Stack.try_walk.Goals as goal
 
 pub returns-in_err-fits-clause-err : goal.returns-in_err-fits-clause-err
@@ -33,3 +34,9 @@ returns-clause-some c = λ db finds.
     let level = c.down-level.ensures ∙ level-of db (inside c.self.inside) s c.self.inside.depth c.self.invariant c.self.view_is _ goes.below was in
     went-in db s c.fit_walk.new.self c.go_on_walk.new.self c.args.at.point c.args.at.walk c.requires.at (c.fit_walk.ensures.cases db) c.in_ok-fits.ensures.left.left c.args.next.now c.args.rest goes finds
     (fitted-at c.args.self.now c.fit_walk.new.self c.args.at.point c.args.at.walk _ _ level (clause_by c.args.next.now.uses c.args.next.now.clause) (c.in_ok-fits.ensures.yes c.if-not-fits.false)) c.go_on_walk.ensures.place
+
+pub returns-then-not-fits-clause-moves : goal.returns-then-not-fits-clause-moves
+returns-then-not-fits-clause-moves c = moves-between c.args.self.now c.fit_walk.new.self c.go_on_walk.new.self c.go_on_walk.new.self c.args.at.walk c.args.rest c.fit_walk.ensures.frames refl c.go_on_walk.ensures.moves
+
+pub returns-clause-moves : goal.returns-clause-moves
+returns-clause-moves c = moves-between c.args.self.now c.fit_walk.new.self c.go_on_walk.new.self c.go_on_walk.new.self c.args.at.walk c.args.rest c.fit_walk.ensures.frames refl c.go_on_walk.ensures.moves

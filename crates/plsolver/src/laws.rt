@@ -1,0 +1,9 @@
+//! What a look-up may ask.
+
+ghost use Rattle.plsolver.specs.Asking.{AsksOnce};
+
+/// A look-up, with the walk that it becomes, asks nothing twice.
+#[tactic(auto, using(crate::proofs::Asking::asks_once))]
+pub fn asks_once()
+    ensures { AsksOnce }
+{}
