@@ -14,6 +14,8 @@ mod packs;
 #[cfg(test)]
 mod stores;
 #[cfg(test)]
+mod views;
+#[cfg(test)]
 mod walks;
 #[cfg(test)]
 mod worlds;

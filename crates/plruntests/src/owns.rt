@@ -5,16 +5,16 @@ ghost use Rattle.pltx.specs.Own.{IsOpen};
 use crate::made::{clause, indicator};
 use plevent::{Key, Update};
 use plterm::error::TermError;
-use pltx::{Ended, Kind, Own, OwnCursor};
+use pltx::{Ended, Isolation, Own, OwnCursor};
 use std::alloc::{AllocError, Global};
 use std::test::Fail;
 
 /// A transaction with two clauses of p/0 in front, and one behind all others.
-fn three(alloc: Global) -> Result<Own, TermError>
+pub fn three(alloc: Global) -> Result<Own, TermError>
     ensures { IfOk result (λ own. IsOpen own) }
 {
     let mut own = Own::new(alloc);
-    own.begin(Kind::Transaction, 9)?;
+    own.begin(Isolation::Transaction, 9)?;
     own.add(Update::First(clause(alloc, "a")?))?;
     own.add(Update::First(clause(alloc, "b")?))?;
     own.add(Update::Last(clause(alloc, "c")?))?;

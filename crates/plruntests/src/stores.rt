@@ -12,7 +12,7 @@ use std::test::Fail;
 
 /// A store with one batch, at 3: it makes p :- a and p :- b behind all others and p :- c before them, erases p :- a again,
 /// and declares p/2.
-fn one_batch(alloc: Global) -> Result<Store, TermError> {
+pub fn one_batch(alloc: Global) -> Result<Store, TermError> {
     let mut updates = Vec::new(alloc);
     updates.push(Update::Last(clause(alloc, "a")?))?;
     updates.push(Update::Last(clause(alloc, "b")?))?;

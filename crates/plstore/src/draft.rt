@@ -3,12 +3,13 @@ ghost use Rattle.std.specs.Prelude.{◌≡◌, [], ◌∷◌, OnOk, OnErr, fold}
 ghost use Rattle.std.specs.Option.{option_copied};
 ghost use Rattle.plevent.specs.Alive.{stamped};
 ghost use Rattle.plstore.specs.Cut.{cut};
-ghost use Rattle.plstore.specs.Kept.{keep, nothing, here, clause_of, is_there, walk};
-ghost use Rattle.plstore.specs.Like.{next_like_of};
+ghost use Rattle.plstore.specs.Kept.{keep, nothing, here, clause_of, is_there, walk, behind_all, picked};
+ghost use Rattle.plstore.specs.Like.{first_like, next_like_of};
 
 use crate::plan::made_plan;
 use crate::record::{Cursor, Declared, Record};
 use crate::sought::Sought;
+use crate::steps::first_back;
 use crate::tables::Tables;
 use crate::trail::Traced;
 use plclause::clause::Clause;
@@ -96,6 +97,14 @@ impl Draft {
     {
         let sought = Sought { g, pred, key };
         self.traced.tables.next_like(&sought, cursor)
+    }
+
+    /// The name of the first one that was put behind all others.
+    pub fn first_back(&self, g: u64, pred: &Indicator, key: &Key) -> Option<ClauseName>
+        ensures { result ≡ first_like key.now (picked (behind_all pred.now) g self.now.records) }
+    {
+        let sought = Sought { g, pred, key };
+        first_back(&self.traced.tables, &sought)
     }
 
     /// Whether some batch below `g` named the procedure: it declared it, or made a clause of it.

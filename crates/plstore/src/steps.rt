@@ -3,7 +3,7 @@ ghost use Rattle.std.specs.Prelude.{◌≡◌, ◌<◌, length};
 ghost use Rattle.plevent.specs.declared.update.ClauseName.{ClauseName as Named};
 ghost use Rattle.plevent.specs.Alive.{or_else};
 ghost use Rattle.plstore.specs.Chains.{found_down, found_up, in_chain};
-ghost use Rattle.plstore.specs.Kept.{walk};
+ghost use Rattle.plstore.specs.Kept.{behind_all, picked, walk};
 ghost use Rattle.plstore.specs.Like.{first_like, past};
 ghost use Rattle.plstore.specs.Links.{below, fronts, Marked};
 ghost use Rattle.plstore.specs.Rising.{IsRising, OneIs};
@@ -43,6 +43,16 @@ fn sought_from(
             return seek_back(tables, sought, chain, ends.oldest_back);
         }
     }
+}
+
+/// The name of the first clause that is sought among those put behind.
+pub(crate) fn first_back(tables: &Tables, sought: &Sought<'_>) -> Option<ClauseName>
+    requires { Chained tables.now }
+    ensures { result ≡ first_like sought.now.key.now (picked (behind_all sought.now.pred.now) sought.now.g tables.now.records.items) }
+{
+    let chain = chain_of(tables, sought);
+    let ends = chain.ends(tables, sought.pred);
+    seek_back(tables, sought, chain, ends.oldest_back)
 }
 
 /// The name of the first clause that is sought behind the one with this name; none where that one is not alive, or is of

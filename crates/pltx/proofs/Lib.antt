@@ -3,4 +3,6 @@ pub mod Marking
 pub mod Drafting
 pub mod Renaming
 pub mod Layers
+pub mod Putting
+pub mod Knowing
 mod Worked

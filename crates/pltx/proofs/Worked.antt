@@ -9,7 +9,7 @@ use Rattle.plevent.specs.declared.update.Update.TheVariants.{First, Last, Erase,
 use Rattle.plevent.specs.Alive.{Stamped, alive, exists, named, living, stamped, view, before}
 use Rattle.plstore.specs.Like.{next_like_of}
 use Rattle.pltx.specs.declared.level.Ended.{Ended}
-use Rattle.pltx.specs.declared.level.Kind.TheVariants.{Transaction, Snapshot}
+use Rattle.pltx.specs.declared.level.Isolation.TheVariants.{Transaction, Snapshot}
 use Rattle.pltx.specs.declared.own.OwnCursor.{OwnCursor}
 use Rattle.pltx.specs.declared.target.Target.TheVariants.{Committed, Own}
 use Rattle.pltx.specs.Own.{State, added, begun, ended, ending, erased, erased_in, nothing}

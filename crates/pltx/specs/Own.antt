@@ -1,14 +1,15 @@
 -- The own updates of a thread's open transactions: nothing, or a base, a list of updates, and a stack of transactions and
 -- snapshots, each with how many updates there were at its start.
-use Rattle.std.specs.Prelude.{◌≢◌, ℕ, Bool, false, List, [], ◌∷◌, ◌++◌, length, take, nat_eq, Option, Some, None, refl}
+use Rattle.std.specs.Prelude.{◌≢◌, ℕ, Bool, false, List, [], ◌∷◌, ◌++◌, length, take, nat_eq, if◌then◌else◌, true, Option, Some, None, refl}
 use Rattle.std.specs.Coded.{Coded, code_by, coded×, coded_list, coded_ℕ}
 use Rattle.std.specs.List.{list_any}
 use Rattle.plevent.specs.declared.update.Update.{Update}
 use Rattle.plevent.specs.declared.update.Update.TheVariants.{First, Last, Erase, EraseOwn, Declare}
 use Rattle.plevent.specs.contracts.update.Update as update_row
+use Rattle.plevent.specs.declared.update.ClauseName.{ClauseName}
 use Rattle.plevent.specs.Alive.{same_name, add_if}
-use Rattle.pltx.specs.declared.level.Kind.{Kind}
-use Rattle.pltx.specs.declared.level.Kind.TheVariants.{Transaction, Snapshot}
+use Rattle.pltx.specs.declared.level.Isolation.{Isolation}
+use Rattle.pltx.specs.declared.level.Isolation.TheVariants.{Transaction, Snapshot}
 use Rattle.pltx.specs.declared.level.Level.{Level}
 use Rattle.pltx.specs.declared.level.Ended.{Ended}
 use Rattle.pltx.specs.declared.target.Target.{Target}
@@ -31,12 +32,19 @@ nothing = record { base = 0; updates = []; levels = [] }
 abbrev pub IsOpen : State → Type 0
 IsOpen x = x.levels ≢ []
 
+abbrev pub some_open : List Level → Bool
+some_open [] = false
+some_open (l ∷ ls) = true
+
+abbrev pub any_open : State → Bool
+any_open x = some_open x.levels
+
 -- a transaction or a snapshot begins: the outermost one fixes the base, and there are no updates
-abbrev pub begun_at : Kind → ℕ → State → List Level → State
+abbrev pub begun_at : Isolation → ℕ → State → List Level → State
 begun_at k b x [] = record { base = b; updates = []; levels = record { kind = k; start = 0 } ∷ [] }
 begun_at k b x (l ∷ ls) = record x { levels = record { kind = k; start = length x.updates } ∷ l ∷ ls }
 
-abbrev pub begun : Kind → ℕ → State → State
+abbrev pub begun : Isolation → ℕ → State → State
 begun k b x = begun_at k b x x.levels
 
 -- one more update
@@ -81,8 +89,24 @@ erased_in t us = list_any (λ u. is_target t (target_of u)) us
 abbrev pub erased : Target → State → State
 erased t x = add_if (erased_in t x.updates) x (added (erasing t) x)
 
+-- what is erased by the name that a clause has in a view: own clauses have the base as their place
+abbrev pub target_at : ℕ → ClauseName → Target
+target_at b x = if nat_eq x.place b then Own x.number else Committed x
+
+-- an update that names what it erases so
+abbrev pub made : Update → State → State
+made (First c) x = added (First c) x
+made (Last c) x = added (Last c) x
+made (Erase y) x = erased (target_at x.base y) x
+made (EraseOwn k) x = erased (Own k) x
+made (Declare q) x = added (Declare q) x
+
+abbrev pub all_made : List Update → State → State
+all_made [] x = x
+all_made (u ∷ us) x = all_made us (made u x)
+
 -- whether the updates since the start stay: those of a transaction that succeeds
-abbrev pub is_kept : Bool → Kind → Bool
+abbrev pub is_kept : Bool → Isolation → Bool
 is_kept success Transaction = success
 is_kept success Snapshot = false
 

@@ -1,5 +1,5 @@
 -- What a thread sees of its own updates: they are one last batch, at a place b above all, and update k is the name (b, k).
-use Rattle.std.specs.Prelude.{ℕ, ◌<◌, Bool, true, false, not, List, [], ◌∷◌, filter, take}
+use Rattle.std.specs.Prelude.{◌≢◌, ℕ, Bool, true, false, not, List, [], ◌∷◌, filter, take, Option, Some, None}
 use Rattle.plterm.specs.declared.indicator.Indicator.{Indicator}
 use Rattle.plevent.specs.declared.update.Update.{Update}
 use Rattle.plevent.specs.declared.update.Update.TheVariants.{First, Last, Erase, EraseOwn, Declare}
@@ -10,17 +10,17 @@ use Rattle.pltx.specs.declared.own.OwnCursor.{OwnCursor}
 use Rattle.pltx.specs.declared.target.Target.TheVariants.{Committed}
 use Rattle.pltx.specs.Own.{erased_in}
 
--- a committed clause that is erased has its place below b
-abbrev pub IsErasedBelow : ℕ → Update → Type 0
-IsErasedBelow b (First c) = Unit {0}
-IsErasedBelow b (Last c) = Unit {0}
-IsErasedBelow b (Erase y) = y.place < b
-IsErasedBelow b (EraseOwn k) = Unit {0}
-IsErasedBelow b (Declare q) = Unit {0}
+-- a committed clause that is erased has another place than b
+abbrev pub IsErasedApart : ℕ → Update → Type 0
+IsErasedApart b (First c) = Unit {0}
+IsErasedApart b (Last c) = Unit {0}
+IsErasedApart b (Erase y) = y.place ≢ b
+IsErasedApart b (EraseOwn k) = Unit {0}
+IsErasedApart b (Declare q) = Unit {0}
 
-abbrev pub AllErasedBelow : ℕ → List Update → Type 0
-AllErasedBelow b [] = Unit {0}
-AllErasedBelow b (u ∷ us) = IsErasedBelow b u × AllErasedBelow b us
+abbrev pub AllErasedApart : ℕ → List Update → Type 0
+AllErasedApart b [] = Unit {0}
+AllErasedApart b (u ∷ us) = IsErasedApart b u × AllErasedApart b us
 
 -- the first m own updates, as a batch at b
 abbrev pub own_batch : ℕ → ℕ → List Update → List Stamped
@@ -45,6 +45,11 @@ is_first (Last c) = false
 is_first (Erase y) = false
 is_first (EraseOwn k) = false
 is_first (Declare q) = false
+
+-- the update that a number has, if any, puts a clause before all others
+abbrev pub puts_first : Option Update → Bool
+puts_first None = false
+puts_first (Some u) = is_first u
 
 abbrev pub no_last : List Stamped → List Stamped
 no_last ss = filter (λ s. not (is_last s.update)) ss

@@ -6,7 +6,7 @@ use plevent::Batch;
 
 /// What is open: a transaction, whose updates stay where it succeeds, or a snapshot, whose updates never stay.
 #[derive(Clone, Copy)]
-pub enum Kind {
+pub enum Isolation {
     Transaction,
     Snapshot,
 }
@@ -14,7 +14,7 @@ pub enum Kind {
 /// An open transaction or snapshot, and how many own updates there were at its start.
 #[derive(Clone, Copy)]
 pub struct Level {
-    pub kind: Kind,
+    pub kind: Isolation,
     pub start: usize,
 }
 
@@ -37,8 +37,8 @@ impl Level {
         ensures { result ≡ is_kept success self.now.kind }
     {
         match self.kind {
-            Kind::Transaction => success,
-            Kind::Snapshot => false,
+            Isolation::Transaction => success,
+            Isolation::Snapshot => false,
         }
     }
 }

@@ -6,8 +6,9 @@ pub mod level;
 mod marks;
 mod overlay;
 pub mod own;
+mod sides;
 pub mod target;
 
-pub use level::{Ended, Kind, Level};
+pub use level::{Ended, Isolation, Level};
 pub use own::{Own, OwnCursor};
 pub use target::{Erasure, Target};

@@ -2,10 +2,11 @@
 ghost use Rattle.std.specs.Prelude.{◌≡◌, ◌≢◌, ℕ, false, ◌++◌, ◌<◌, ◌∷◌, [], fold, length, take, IfOk, OnErr, OnOk, vec_len};
 ghost use Rattle.std.specs.HashMap.{spare};
 ghost use Rattle.std.specs.Vec.{vec_capacity};
-ghost use Rattle.std.specs.Option.{option_map};
+ghost use Rattle.std.specs.Option.{option_copied, option_map};
 ghost use Rattle.plevent.specs.Alive.{add_if, exists, living, named};
 ghost use Rattle.plstore.specs.Like.{next_like_of};
-ghost use Rattle.pltx.specs.Walks.{cursor_at, own_batch, AllErasedBelow};
+ghost use Rattle.plstore.specs.Looking.{clause_alive};
+ghost use Rattle.pltx.specs.Walks.{cursor_at, own_batch, AllErasedApart};
 ghost use Rattle.plstore.specs.Cut.{cut};
 ghost use Rattle.plstore.specs.Kept.{keep};
 ghost use Rattle.pltx.specs.Overlays.{draft_cursor, drafts, state_of, IsOverlay, IsTracked};
@@ -13,10 +14,11 @@ ghost use Rattle.pltx.specs.Own.{added, begun, ended, ending, erased, erased_in,
 ghost use Rattle.pltx.specs.declared.level.Ended.{Ended as End};
 ghost use Rattle.pltx.specs.declared.target.Erasure.TheVariants.{Erased, Gone};
 
-use crate::level::{Ended, Kind, Level};
+use crate::level::{Ended, Isolation, Level};
 use crate::marks::{mark, marked, unmark};
 use crate::own::OwnCursor;
 use crate::target::{Erasure, Target};
+use plclause::clause::Clause;
 use plevent::{Batch, ClauseName, Key, Update};
 use plstore::{Cursor, Draft};
 use plterm::indicator::Indicator;
@@ -55,7 +57,7 @@ impl Overlay {
     }
 
     /// Begins a transaction or a snapshot. The base counts for the outermost one alone.
-    pub(crate) fn begin(&mut self, kind: Kind, base: u64) -> Result<(), AllocError>
+    pub(crate) fn begin(&mut self, kind: Isolation, base: u64) -> Result<(), AllocError>
         requires { IsOverlay self.old }
         ensures begun { OnOk result (state_of self.new ≡ begun kind base (state_of self.old)) }
         ensures refused { OnErr result (state_of self.new ≡ state_of self.old) }
@@ -202,12 +204,24 @@ impl Overlay {
         cursor: OwnCursor,
     ) -> Option<u64>
         requires { IsTracked self.now }
-        ensures { (b : ℕ) → AllErasedBelow b self.now.updates.items → option_map (named b) result ≡ next_like_of key.now (cursor_at b cursor) (living (own_batch b m self.now.updates.items) pred.now) }
+        ensures { (b : ℕ) → AllErasedApart b (take m self.now.updates.items) → option_map (named b) result ≡ next_like_of key.now (cursor_at b cursor) (living (own_batch b m self.now.updates.items) pred.now) }
     {
         match self.draft.next_like(m, pred, key, in_draft(cursor)) {
             Some(name) => Some(name.place),
             None => None,
         }
+    }
+
+    /// The clause that an update made, where it is alive after the first `m`.
+    pub(crate) fn clause(&self, m: u64, number: u64) -> Option<&Clause>
+        requires { IsTracked self.now }
+        ensures { (b : ℕ) → AllErasedApart b (take m self.now.updates.items) → option_copied result ≡ clause_alive (named b number) (own_batch b m self.now.updates.items) }
+    {
+        let name = draft_name(number);
+        if self.draft.alive(m, name) {
+            return self.draft.clause(name);
+        }
+        None
     }
 
     /// Whether one of the first `m` updates named the procedure.
@@ -236,7 +250,17 @@ fn in_draft(cursor: OwnCursor) -> Cursor
 {
     match cursor {
         OwnCursor::Start => Cursor::Start,
-        OwnCursor::After(place) => Cursor::After(ClauseName { place, number: 0 }),
+        OwnCursor::After(number) => Cursor::After(draft_name(number)),
+    }
+}
+
+/// The name that the clause of an update has in the draft.
+fn draft_name(number: u64) -> ClauseName
+    ensures { result ≡ named number 0 }
+{
+    ClauseName {
+        place: number,
+        number: 0,
     }
 }
 
@@ -270,10 +294,7 @@ fn erase_in(draft: &mut Draft, target: &Target, number: u64) -> Result<(), Alloc
     match target {
         Target::Committed(_) => return Ok(()),
         Target::Own(own) => {
-            let name = ClauseName {
-                place: *own,
-                number: 0,
-            };
+            let name = draft_name(*own);
             return draft.add(Update::Erase(name), number);
         }
     }

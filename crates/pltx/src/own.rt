@@ -3,13 +3,15 @@ ghost use Rattle.std.specs.Prelude.{◌≡◌, ◌≢◌, ℕ, length, slice_get
 ghost use Rattle.std.specs.Option.{option_copied, option_map};
 ghost use Rattle.plevent.specs.Alive.{add_if, exists, living, named};
 ghost use Rattle.plstore.specs.Like.{next_like_of};
+ghost use Rattle.plstore.specs.Looking.{clause_alive};
 ghost use Rattle.pltx.specs.Own.{added, begun, ended, ending, erased, erased_in, nothing, IsAddition, IsOpen};
-ghost use Rattle.pltx.specs.Walks.{cursor_at, own_batch, AllErasedBelow};
+ghost use Rattle.pltx.specs.Walks.{cursor_at, own_backs, own_batch, own_fronts, AllErasedApart};
 ghost use Rattle.pltx.specs.declared.target.Erasure.TheVariants.{Erased, Gone};
 
-use crate::level::{Ended, Kind};
+use crate::level::{Ended, Isolation};
 use crate::overlay::Overlay;
 use crate::target::{Erasure, Target};
+use plclause::clause::Clause;
 use plevent::{Key, Update};
 use plterm::indicator::Indicator;
 use std::alloc::{AllocError, Global};
@@ -55,7 +57,7 @@ impl Own {
     }
 
     /// Begins a transaction or a snapshot inside what is open. The base counts for the outermost one alone.
-    pub fn begin(&mut self, kind: Kind, base: u64) -> Result<(), AllocError>
+    pub fn begin(&mut self, kind: Isolation, base: u64) -> Result<(), AllocError>
         ensures begun { OnOk result (self.new ≡ begun kind base self.old) }
         ensures refused { OnErr result (self.new ≡ self.old) }
     {
@@ -95,9 +97,30 @@ impl Own {
     /// The number of the first own clause of a procedure that is alive after the first `m` updates and may be for a goal of
     /// this key, or of the one behind that at the cursor; none where that one is the last, or is not among those alive.
     pub fn next_own(&self, m: u64, pred: &Indicator, key: &Key, cursor: OwnCursor) -> Option<u64>
-        ensures { (b : ℕ) → AllErasedBelow b self.now.updates → option_map (named b) result ≡ next_like_of key.now (cursor_at b cursor) (living (own_batch b m self.now.updates) pred.now) }
+        ensures { (b : ℕ) → AllErasedApart b (take m self.now.updates) → option_map (named b) result ≡ next_like_of key.now (cursor_at b cursor) (living (own_batch b m self.now.updates) pred.now) }
     {
         self.overlay.next_own(m, pred, key, cursor)
+    }
+
+    /// The same of the clauses that were put before all others.
+    pub fn next_front(&self, m: u64, pred: &Indicator, key: &Key, cursor: OwnCursor) -> Option<u64>
+        ensures { (b : ℕ) → AllErasedApart b (take m self.now.updates) → option_map (named b) result ≡ next_like_of key.now (cursor_at b cursor) (own_fronts (own_batch b m self.now.updates) pred.now) }
+    {
+        self.overlay.next_front(m, pred, key, cursor)
+    }
+
+    /// The same of those that were put behind all others.
+    pub fn next_back(&self, m: u64, pred: &Indicator, key: &Key, cursor: OwnCursor) -> Option<u64>
+        ensures { (b : ℕ) → AllErasedApart b (take m self.now.updates) → option_map (named b) result ≡ next_like_of key.now (cursor_at b cursor) (own_backs (own_batch b m self.now.updates) pred.now) }
+    {
+        self.overlay.next_back(m, pred, key, cursor)
+    }
+
+    /// The clause that an update made, where it is alive after the first `m`.
+    pub fn clause(&self, m: u64, number: u64) -> Option<&Clause>
+        ensures { (b : ℕ) → AllErasedApart b (take m self.now.updates) → option_copied result ≡ clause_alive (named b number) (own_batch b m self.now.updates) }
+    {
+        self.overlay.clause(m, number)
     }
 
     /// Whether one of the first `m` updates named the procedure: it declared it, or made a clause of it.

@@ -1,0 +1,14 @@
+use Rattle.std.proofs.Common.{◌∙◌, sym, ap, take}
+use Rattle.plevent.specs.Alive.{stamped}
+use Rattle.plstore.specs.Like.{next_like_of}
+use Rattle.pltx.specs.Walks.{cursor_at, own_fronts}
+use Rattle.plviews.proofs.Seen.{no-fronts}
+use Rattle.plviews.proofs.Telling.{none-there}
+use Rattle.plviews.proofs.lookup.Lookup.next_front.Goals as goal
+
+pub returns-then-count-eq0 : goal.returns-then-count-eq0
+returns-then-count-eq0 c = λ b h.
+    let l = c.args.self.now in
+    let p = l.pred.now in
+    sym (ap (λ n. next_like_of l.key.now (cursor_at b c.args.cursor) (own_fronts (stamped b 0 (take n l.own.now.updates)) p)) c.if-count-eq0.true
+    ∙ ap (next_like_of l.key.now (cursor_at b c.args.cursor)) (no-fronts b p) ∙ none-there l.key.now (cursor_at b c.args.cursor))

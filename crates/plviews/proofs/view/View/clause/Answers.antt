@@ -1,0 +1,10 @@
+use Rattle.std.proofs.Common.{◌∙◌, sym}
+use Rattle.plviews.specs.Views.{sight}
+use Rattle.plviews.proofs.Naming.{base-gone, base-stays}
+use Rattle.plviews.proofs.view.View.clause.Goals as goal
+
+pub returns-then-erases : goal.returns-then-erases
+returns-then-erases c = λ us h. base-gone (sight us c.args.self c.args.own.now.updates) c.args.name c.if-name-self.false (sym c.erases.ensures ∙ c.if-erases.true)
+
+pub returns : goal.returns
+returns c = λ us h. base-stays (sight us c.args.self c.args.own.now.updates) c.args.name c.if-name-self.false (sym c.erases.ensures ∙ c.if-erases.false)

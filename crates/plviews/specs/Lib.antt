@@ -1,0 +1,3 @@
+pub mod Views
+pub mod Lookups
+pub mod Layers
