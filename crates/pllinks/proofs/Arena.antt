@@ -5,10 +5,7 @@ use Rattle.std.proofs.lemmas.List.{get_or_append_left, get_or_push, get_or-take,
 use Rattle.std.proofs.Math.Nat.{eq-or-lt_of_le, le-max_left, le-max_right}
 use Rattle.pllinks.specs.declared.item.Item.{Item}
 use Rattle.pllinks.specs.declared.link.Link.{Link}
-use Rattle.pllinks.specs.Links.{added, lists_of, list_at, link_at, level_in, slots_in, top_at, slots_at, link_to, IsLink, IsChain}
-
-top_in : Link → ℕ
-top_in l = l.top
+use Rattle.pllinks.specs.Links.{added, lists_of, list_at, link_at, slots_in, slots_at, link_to, IsLink, IsChain}
 
 slots_for : Link → ℕ
 slots_for l = l.slots
@@ -69,17 +66,7 @@ list_at-first links i chain lt =
     ∙ list_at-new (take i links) l (suc i) (ap suc (sym few))
     ∙ ap (λ ls. l.item ∷ ls) (list_at-take links i l.next (chain i lt).next (omega arith))
 
--- the highest levels stay where there are more links, or fewer
-pub top_at-more : (xs ys : List Link) (i : ℕ) → i ≤ length xs → top_at (xs ++ ys) i ≡ top_at xs i
-unfolding top_in
-top_at-more xs ys zero le = refl
-top_at-more xs ys (suc i) le = ap top_in (get_or_append_left xs ys (link_at [] 0) i le)
-
-pub top_at-take : (links : List Link) (n i : ℕ) → i ≤ n → top_at (take n links) i ≡ top_at links i
-unfolding top_in
-top_at-take links n zero le = refl
-top_at-take links n (suc i) le = ap top_in (get_or-take n links i (link_at [] 0) le)
-
+-- the numbers of slots stay where there are more links, or fewer
 pub slots_at-more : (xs ys : List Link) (i : ℕ) → i ≤ length xs → slots_at (xs ++ ys) i ≡ slots_at xs i
 unfolding slots_for
 slots_at-more xs ys zero le = refl
@@ -105,8 +92,6 @@ chain-push links item rest chain le i lt = go (eq-or-lt_of_le (omega (arith, lt,
         subst (IsLink (links ++ l ∷ []) i) (sym (get_or_append_left links (l ∷ []) (link_at [] 0) i h))
         (record {
           next = was.next;
-          level = was.level;
-          rest_top = rw (top_at-more links (l ∷ []) (link_at links i).next (omega (arith, was.next, h))) was.rest_top;
           own = was.own;
           rest_slots = rw (slots_at-more links (l ∷ []) (link_at links i).next (omega (arith, was.next, h))) was.rest_slots;
         })
@@ -114,8 +99,6 @@ chain-push links item rest chain le i lt = go (eq-or-lt_of_le (omega (arith, lt,
         subst (IsLink (links ++ l ∷ []) i) (sym (get_or_push links l (link_at [] 0) i (sym e)))
         (record {
           next = omega (arith, e, le);
-          level = le-max_left (level_in item) (top_at links rest);
-          rest_top = rw (top_at-more links (l ∷ []) rest le) (le-max_right (level_in item) (top_at links rest));
           own = le-max_left (slots_in item) (slots_at links rest);
           rest_slots = rw (slots_at-more links (l ∷ []) rest le) (le-max_right (slots_in item) (slots_at links rest));
         })
@@ -127,8 +110,6 @@ chain-take links n chain le i lt =
     subst (IsLink (take n links) i) (sym (get_or-take n links i (link_at [] 0) small))
     (record {
       next = was.next;
-      level = was.level;
-      rest_top = rw (top_at-take links n (link_at links i).next (omega (arith, was.next, small))) was.rest_top;
       own = was.own;
       rest_slots = rw (slots_at-take links n (link_at links i).next (omega (arith, was.next, small))) was.rest_slots;
     })

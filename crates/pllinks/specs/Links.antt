@@ -42,18 +42,7 @@ abbrev pub goals_of : Goals → Env → List Link → Continuation → List Elem
 goals_of code e links l = all_elements code e (items_of links l)
 
 abbrev pub link_at : List Link → ℕ → Link
-link_at links i = get_or links i (record { item = items.Goal 0 (cells.Atom 0); next = 0; top = 0; slots = 0 })
-
--- the level that an item names
-abbrev pub level_in : Item → ℕ
-level_in (items.Run r) = r.level
-level_in (items.Goal k v) = k
-level_in (items.Marker m l) = l
-
--- the highest level that a list names
-abbrev pub top_at : List Link → ℕ → ℕ
-top_at links zero = 0
-top_at links (suc i) = (link_at links i).top
+link_at links i = get_or links i (record { item = items.Goal 0 (cells.Atom 0); next = 0; slots = 0 })
 
 -- how many slots a list asks for
 abbrev pub slots_at : List Link → ℕ → ℕ
@@ -67,13 +56,11 @@ slots_in (items.Marker m l) = 0
 
 -- an item before a list
 abbrev pub link_to : List Link → Item → ℕ → Link
-link_to links item rest = record { item = item; next = rest; top = max (level_in item) (top_at links rest); slots = max (slots_in item) (slots_at links rest) }
+link_to links item rest = record { item = item; next = rest; slots = max (slots_in item) (slots_at links rest) }
 
--- the rest of a link's list is among those before it; the list names no higher level and asks for no more slots than the link says
+-- the rest of a link's list is among those before it; the list asks for no more slots than the link says
 pub record IsLink (links : List Link) (i : ℕ) (l : Link) : Type 0 where
   pub next : l.next ≤ i
-  pub level : level_in l.item ≤ l.top
-  pub rest_top : top_at links l.next ≤ l.top
   pub own : slots_in l.item ≤ l.slots
   pub rest_slots : slots_at links l.next ≤ l.slots
 

@@ -1,9 +1,8 @@
 //! Links: goal lists that share their rest.
 ghost use Rattle.std.specs.Prelude.{◌≡◌, ◌+◌, ◌-◌, ◌<◌, ◌≤◌, [], ◌∷◌, ◌++◌, length, IfOk, IfSome, IfNone, OnOk, OnErr};
-ghost use Rattle.pllinks.specs.Links.{IsDone, Numbers, alone, level_in, link_at, slots_in, top_at, slots_at, link_to, list_at};
+ghost use Rattle.pllinks.specs.Links.{IsDone, Numbers, alone, link_at, slots_in, slots_at, link_to, list_at};
 
 use crate::item::{Item, Run};
-use crate::level::Level;
 use crate::list::ListId;
 use std::alloc::AllocError;
 
@@ -12,8 +11,6 @@ use std::alloc::AllocError;
 pub struct Link {
     pub item: Item,
     pub next: ListId,
-    /// The highest level that the list names.
-    pub top: Level,
     /// How many slots the list asks for.
     pub slots: u32,
 }
@@ -34,17 +31,6 @@ impl Continuation {
             run: Run::done(),
             rest,
         }
-    }
-}
-
-/// The level that an item names.
-fn level_of(item: &Item) -> Level
-    ensures { result ≡ level_in item.now }
-{
-    match item {
-        Item::Run(run) => run.level,
-        Item::Goal(level, _) => *level,
-        Item::Marker(_, level) => *level,
     }
 }
 
@@ -70,17 +56,6 @@ pub fn first_link(links: &[Link], list: ListId) -> Option<&Link>
     Some(&links[place])
 }
 
-/// The highest level that a list names.
-pub fn top_of(links: &[Link], list: ListId) -> Level
-    requires { list ≤ length links.now }
-    ensures { result ≡ top_at links.now list }
-{
-    match first_link(links, list) {
-        Some(link) => link.top,
-        None => Level::BOTTOM,
-    }
-}
-
 /// How many slots a list asks for.
 pub fn slots_of(links: &[Link], list: ListId) -> u32
     requires { list ≤ length links.now }
@@ -102,12 +77,10 @@ pub fn push_link(links: &mut Vec<Link>, item: Item, rest: ListId) -> Result<List
     let Some(list) = ListId::begun_at(links.len()) else {
         return Err(AllocError);
     };
-    let top = level_of(&item).max(top_of(links, rest));
     let slots = slots_for(&item).max(slots_of(links, rest));
     links.push(Link {
         item,
         next: rest,
-        top,
         slots,
     })?;
     Ok(list)

@@ -1,17 +1,15 @@
 -- A cut that empties what it gives up leaves the search as a mark does.
-use Rattle.std.proofs.Common.{◌≡◌, ℕ, ◌⊎◌, inl, inr, [], ◌∷◌, ◌++◌, sym, ap, ap₂, ◌∙◌, subst}
+use Rattle.std.proofs.Common.{◌≡◌, ℕ, [], ◌∷◌, ◌++◌, sym, ap, ap₂, ◌∙◌, subst}
 use Rattle.plprogram.specs.Program.{Program}
 use Rattle.plsearch.specs.Types.{Go, Place, Mark, Run}
-use Rattle.plsearch.specs.Machines.Levels.{AreAtMost}
 use Rattle.plsearch.specs.Machines.Machine.{At, Rest}
 use Rattle.plsearch.specs.Search.{ending_of}
 use Rattle.plsearch.proofs.Cuts.{cuts-empty}
 use Rattle.pllinks.specs.declared.link.Continuation.{Continuation}
 use Rattle.plstore.specs.Looking.{Views}
-use Rattle.plstack.specs.Places.{Database}
 use Rattle.plstack.specs.State.{State, walks_in, place_of, cases_of, goals_of, IsList}
 use Rattle.plstack.specs.StaticCalls.{database_of}
-use Rattle.plstack.specs.Cutting.{Empties, Cuts}
+use Rattle.plstack.specs.Cutting.{Cuts}
 use Rattle.plmachine.specs.declared.machine.Mode.TheVariants as modes
 use Rattle.plmachine.specs.declared.machine.Machine.{Machine as Reached}
 use Rattle.plmachine.specs.Machine.{IsPlain, local_of, mode_of, cases_in, Moved}
@@ -26,16 +24,11 @@ module _ (P : Program) (old new : State) (level : ℕ) (list : Continuation) (th
 
   pub cut-rest : (v : Views) (run : Run) →
       Rest P (record { mode = At place; cases = cases_of (database_of P v) new; run = run }) ≡ Rest P (record { mode = At place; cases = Mark level ∷ cases_of (database_of P v) old; run = run })
-  cut-rest v run = go cut.cases
-    where
-      go : ((db : Database) → cases_of db new ≡ Mark level ∷ cases_of db old) ⊎ (AreAtMost level (goals_of old list) × ((db : Database) → Empties db old new level)) →
-          Rest P (record { mode = At place; cases = cases_of (database_of P v) new; run = run }) ≡ Rest P (record { mode = At place; cases = Mark level ∷ cases_of (database_of P v) old; run = run })
-      go (inl marked) = ap (λ cs. Rest P (record { mode = At place; cases = cs; run = run })) (marked (database_of P v))
-      go (inr both) =
-          let e = both.1 (database_of P v) in
-          ap (λ cs. Rest P (record { mode = At place; cases = cs; run = run })) e.cases
-          ∙ sym (cuts-empty P level e.inside e.below e.places place run e.at both.0)
-          ∙ ap (λ cs. Rest P (record { mode = At place; cases = Mark level ∷ cs; run = run })) (sym e.was)
+  cut-rest v run =
+      let e = cut.cases (database_of P v) in
+      ap (λ cs. Rest P (record { mode = At place; cases = cs; run = run })) e.cases
+      ∙ sym (cuts-empty P level e.inside e.below e.places place run e.at cut.most)
+      ∙ ap (λ cs. Rest P (record { mode = At place; cases = Mark level ∷ cs; run = run })) (sym e.was)
 
 -- a list is visited behind a cut
 pub cuts : (P : Program) (s new : Reached) (st : State) (level : ℕ) (list : Continuation) → IsList s.stack list → Cuts s.stack st level list → new ≡ record s { stack = st; mode = modes.Visit } →

@@ -1,4 +1,5 @@
 pub mod Lists
+pub mod Levels
 pub mod Moves
 pub mod Cutting
 pub mod Arounds

@@ -1,5 +1,6 @@
 -- Goal lists that a row puts together.
 use Rattle.std.specs.Prelude.{◌≡◌, ℕ, List, length}
+use Rattle.std.specs.Bool.{⊤}
 use Rattle.plsearch.specs.Types.{Element}
 use Rattle.plcode.specs.Steps.{FAIL}
 use Rattle.pllinks.specs.declared.item.Run.{Run}
@@ -21,6 +22,12 @@ abbrev pub at_level : ℕ → Item → Item
 at_level k (items.Run r) = items.Run (record r { level = k })
 at_level k (items.Goal l v) = items.Goal k v
 at_level k (items.Marker m l) = items.Marker m l
+
+-- it is goals, and no marker
+abbrev pub AreGoals : Item → Type 0
+AreGoals (items.Run r) = ⊤
+AreGoals (items.Goal k v) = ⊤
+AreGoals (items.Marker m l) = ⊥
 
 -- there are more lists and values, and no more variables
 pub record Grown (old new : State) : Type 0 where

@@ -1,10 +1,12 @@
 -- Terms that are run as goals.
-use Rattle.std.specs.Prelude.{◌≡◌}
+use Rattle.std.specs.Prelude.{◌≡◌, [], ◌∷◌, ◌++◌}
 use Rattle.std.specs.Bool.{⊤}
 use Rattle.plcells.specs.Store.{value, IsValue}
+use Rattle.plsearch.specs.Types.{Choice}
 use Rattle.plsearch.specs.Running.{Runnable, Runs, Raises}
-use Rattle.plstack.specs.State.{State, IsList}
-use Rattle.plstack.specs.Opening.{IsAround}
+use Rattle.plstack.specs.Levels.{kinds, Precedes}
+use Rattle.plstack.specs.State.{State, goals_of, kinds_in, IsList}
+use Rattle.plstack.specs.Opening.{around_cases, IsAround}
 use Rattle.plmachine.specs.declared.running.Ready.{Ready}
 use Rattle.plmachine.specs.declared.running.Ready.TheVariants as readies
 use Rattle.plmachine.specs.declared.running.Running.{Running}
@@ -27,3 +29,4 @@ pub record IsRunning (s : State) (r : Running) : Type 0 where
   pub few : IsFew r.predicate
   pub around : IsAround s r.around
   pub list : IsList s r.list
+  pub level : Precedes (kinds (Choice [] ∷ around_cases s r.around) ++ kinds_in s) r.level (goals_of s r.list)

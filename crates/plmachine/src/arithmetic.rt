@@ -9,7 +9,7 @@ ghost use Rattle.plprogram.specs.Program.{Program as OfProgram};
 ghost use Rattle.plbuiltin.specs.Arithmetic.{compared as compared_of, equals, of_two};
 ghost use Rattle.plsearch.specs.Rows.{offer, solved, taken};
 ghost use Rattle.plstack.specs.Arguments.{IsArgument};
-ghost use Rattle.plstack.specs.State.{goals_of, IsList};
+ghost use Rattle.plstack.specs.State.{goals_of, IsFit, IsList};
 ghost use Rattle.plmachine.specs.Calculating.{IsCalculation};
 ghost use Rattle.plmachine.specs.Machine.{local_of, IsBegun, Moved, Stays};
 ghost use Rattle.plmachine.specs.Selected.{bound_at, StandsFor};
@@ -72,6 +72,7 @@ impl Machine {
         requires visits { self.old.mode ≡ Mode.Visit }
         requires call { (t : Tree) × IsCalculation self.old.stack call t }
         requires rest { IsList self.old.stack rest }
+        requires fits { IsFit self.old.stack rest }
         ensures ok { (t : Tree) (c : IsCalculation self.old.stack call t) → OnOk result (Moved program.now self.old self.new (offer (of_two call.predicate (bound_at self.old.stack call.run c.left) (bound_at self.old.stack call.run c.right) self.old.settings) (indicator t) (goals_of self.old.stack rest) self.old.stack.env.count (local_of self.old))) }
         ensures err { OnErr result (Stays program.now self.old self.new) }
     {
@@ -92,6 +93,7 @@ impl Machine {
         requires visits { self.old.mode ≡ Mode.Visit }
         requires call { (t : Tree) × IsCalculation self.old.stack call t }
         requires rest { IsList self.old.stack rest }
+        requires fits { IsFit self.old.stack rest }
         ensures ok { (t : Tree) (c : IsCalculation self.old.stack call t) → OnOk result (Moved program.now self.old self.new (offer (equals (bound_at self.old.stack call.run c.left) (eval (bound_at self.old.stack call.run c.right)) self.old.settings) (indicator t) (goals_of self.old.stack rest) self.old.stack.env.count (local_of self.old))) }
         ensures err { OnErr result (Stays program.now self.old self.new) }
     {
@@ -117,6 +119,7 @@ impl Machine {
         requires visits { self.old.mode ≡ Mode.Visit }
         requires call { (t : Tree) × IsCalculation self.old.stack call t }
         requires rest { IsList self.old.stack rest }
+        requires fits { IsFit self.old.stack rest }
         ensures ok { (t : Tree) (k : IsCalculation self.old.stack call t) → OnOk result (Moved program.now self.old self.new (offer (compared_of c (eval (bound_at self.old.stack call.run k.left)) (eval (bound_at self.old.stack call.run k.right)) self.old.settings) (indicator t) (goals_of self.old.stack rest) self.old.stack.env.count (local_of self.old))) }
         ensures err { OnErr result (Stays program.now self.old self.new) }
     {
@@ -137,6 +140,7 @@ impl Machine {
     ) -> Result<(), AllocError>
         requires node { (t : Tree) × IsArgument self.old.stack run.now node t }
         requires rest { IsList self.old.stack rest }
+        requires fits { IsFit self.old.stack rest }
         ensures ok { (P : OfProgram) (t : Tree) → IsArgument self.old.stack run.now node t → OnOk result (Moved P self.old self.new (taken (solved (goals_of self.old.stack rest) self.old.stack.env.count (record { left = bound_at self.old.stack run.now t; right = int number; new = 0 })) (local_of self.old))) }
         ensures err { (P : OfProgram) → OnErr result (Stays P self.old self.new) }
     {

@@ -7,7 +7,7 @@ ghost use Rattle.plcells.specs.Store.{value, IsValue};
 ghost use Rattle.plevent.specs.declared.request.Request.TheVariants.{HaltRun};
 ghost use Rattle.plsearch.specs.Types.{Element, Local, Asking, Await, Ends};
 ghost use Rattle.plsearch.specs.Rows.{halting, modulo_256, go_on as went_on};
-ghost use Rattle.plstack.specs.State.{goals_of, IsList};
+ghost use Rattle.plstack.specs.State.{goals_of, IsFit, IsList};
 ghost use Rattle.plmachine.specs.Asking.{ended_with, IsNoInteger};
 ghost use Rattle.plmachine.specs.Machine.{local_of, Moved, Stays};
 
@@ -35,7 +35,8 @@ pub enum Status {
 impl Machine {
     /// The end of the run, with a number as its status.
     pub fn halt(&mut self, program: &Program, status: u8, rest: Continuation)
-        requires { IsList self.old.stack rest }
+        requires rest { IsList self.old.stack rest }
+        requires fits { IsFit self.old.stack rest }
         ensures { Moved program.now self.old self.new (went_on (Asking (Await (HaltRun status) (Ends status)) ∷ goals_of self.old.stack rest) self.old.stack.env.count (local_of self.old)) }
     {
         let request = Request::HaltRun(status);
@@ -52,6 +53,7 @@ impl Machine {
     ) -> Result<(), AllocError>
         requires number { IsValue self.old.stack.env.heap number }
         requires rest { IsList self.old.stack rest }
+        requires fits { IsFit self.old.stack rest }
         ensures ok { OnOk result (Moved program.now self.old self.new (halting (value self.old.stack.env.heap number) (goals_of self.old.stack rest) self.old.stack.env.count (local_of self.old))) }
         ensures err { OnErr result (Stays program.now self.old self.new) }
     {

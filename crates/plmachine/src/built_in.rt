@@ -13,7 +13,7 @@ ghost use Rattle.plbuiltin.specs.Solutions.{solutions};
 ghost use Rattle.plbuiltin.specs.Terms.{is_none};
 ghost use Rattle.planswers.specs.Answers.{meant, IsThere};
 ghost use Rattle.plsearch.specs.Rows.{go_on as went_on, taken, solved, offer, raised};
-ghost use Rattle.plstack.specs.State.{goals_of, IsList};
+ghost use Rattle.plstack.specs.State.{goals_of, IsFit, IsList};
 ghost use Rattle.plstack.specs.Arguments.{KeepsArguments};
 ghost use Rattle.plmachine.specs.Lists.{Grown};
 ghost use Rattle.plmachine.specs.Selected.{StandsFor};
@@ -48,6 +48,7 @@ impl Machine {
         requires args { AreValues self.old.stack.env.heap self.old.args.items }
         requires source { (t : Tree) × StandsFor self.old.stack source t }
         requires rest { IsList self.old.stack rest }
+        requires fits { IsFit self.old.stack rest }
         ensures ok { (t : Tree) → StandsFor self.old.stack source t → OnOk result (Moved program.now self.old self.new (offer (solutions b (map (value self.old.stack.env.heap) self.old.args.items) self.old.settings self.old.stack.env.count) (indicator t) (goals_of self.old.stack rest) self.old.stack.env.count (local_of self.old))) }
         ensures err { OnErr result (Stays program.now self.old self.new) }
     {
@@ -69,6 +70,7 @@ impl Machine {
         requires answer { IsThere self.old.stack.env.heap answer }
         requires source { (t : Tree) × StandsFor self.old.stack source t }
         requires rest { IsList self.old.stack rest }
+        requires fits { IsFit self.old.stack rest }
         ensures ok { (t : Tree) → StandsFor self.old.stack source t → OnOk result (Moved program.now self.old self.new (offer (meant self.old.stack.env.heap self.old.settings self.old.stack.env.count answer) (indicator t) (goals_of self.old.stack rest) self.old.stack.env.count (local_of self.old))) }
         ensures err { OnErr result (Stays program.now self.old self.new) }
     {
@@ -126,6 +128,7 @@ impl Machine {
         requires first { IsValue self.old.stack.env.heap a }
         requires second { IsValue self.old.stack.env.heap b }
         requires rest { IsList self.old.stack rest }
+        requires fits { IsFit self.old.stack rest }
         ensures ok { OnOk result (Moved program.now self.old self.new (taken (solved (goals_of self.old.stack rest) self.old.stack.env.count (record { left = value self.old.stack.env.heap a; right = value self.old.stack.env.heap b; new = 0 })) (local_of self.old))) }
         ensures err { OnErr result (Stays program.now self.old self.new) }
     {
@@ -147,6 +150,7 @@ impl Machine {
     ) -> Result<(), AllocError>
         requires value { IsValue self.old.stack.env.heap v }
         requires rest { IsList self.old.stack rest }
+        requires fits { IsFit self.old.stack rest }
         ensures ok { OnOk result (Moved program.now self.old self.new (taken (solved (goals_of self.old.stack rest) self.old.stack.env.count (record { left = value self.old.stack.env.heap v; right = int number; new = 0 })) (local_of self.old))) }
         ensures err { OnErr result (Stays program.now self.old self.new) }
     {
@@ -178,6 +182,7 @@ impl Machine {
     ) -> Result<(), AllocError>
         requires equation { IsEquation self.old.stack.env.heap equation }
         requires rest { IsList self.old.stack rest }
+        requires fits { IsFit self.old.stack rest }
         ensures ok { OnOk result (Moved program.now self.old self.new (taken (solved (goals_of self.old.stack rest) self.old.stack.env.count (record { left = left_of self.old.stack.env.heap self.old.stack.env.count equation; right = right_of self.old.stack.env.heap self.old.stack.env.count equation; new = equation.new })) (local_of self.old))) }
         ensures err { OnErr result (Stays program.now self.old self.new) }
     {
@@ -200,6 +205,7 @@ impl Machine {
         requires first { IsValue self.old.stack.env.heap a }
         requires second { IsValue self.old.stack.env.heap b }
         requires rest { IsList self.old.stack rest }
+        requires fits { IsFit self.old.stack rest }
         ensures ok { (p : Indicator) → OnOk result (Moved program.now self.old self.new (offer (decides (is_none (unify (value self.old.stack.env.heap a) (value self.old.stack.env.heap b))) self.old.settings) p (goals_of self.old.stack rest) self.old.stack.env.count (local_of self.old))) }
         ensures err { OnErr result (Stays program.now self.old self.new) }
     {
@@ -218,7 +224,8 @@ impl Machine {
         bytes: &[u8],
         rest: Continuation,
     ) -> Result<(), AllocError>
-        requires { IsList self.old.stack rest }
+        requires rest { IsList self.old.stack rest }
+        requires fits { IsFit self.old.stack rest }
         ensures ok { OnOk result (Moved program.now self.old self.new (went_on (goals_of self.old.stack rest) self.old.stack.env.count (record (local_of self.old) { out = (local_of self.old).out ++ bytes.now }))) }
         ensures err { OnErr result (Stays program.now self.old self.new) }
     {
@@ -229,7 +236,8 @@ impl Machine {
 
     /// Takes other operators and flags, and goes on.
     fn set(&mut self, program: &Program, settings: Settings, rest: Continuation)
-        requires { IsList self.old.stack rest }
+        requires rest { IsList self.old.stack rest }
+        requires fits { IsFit self.old.stack rest }
         ensures { Moved program.now self.old self.new (went_on (goals_of self.old.stack rest) self.old.stack.env.count (record (local_of self.old) { settings = settings })) }
     {
         self.settings = settings;

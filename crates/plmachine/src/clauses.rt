@@ -12,7 +12,7 @@ ghost use Rattle.plevent.specs.declared.update.Update.TheVariants.{Declare};
 ghost use Rattle.plprogram.specs.Program.{clauses_for};
 ghost use Rattle.plsearch.specs.Types.{Asking, Look, ToRetract, ToRetractAll};
 ghost use Rattle.plsearch.specs.Rows.{add, added, go_on as went_on, halves, no_body, no_head, publish, retrieving, unchangeable, undeclarable, unerasable, unless, unreadable};
-ghost use Rattle.plstack.specs.State.{goals_of, IsList};
+ghost use Rattle.plstack.specs.State.{goals_of, IsFit, IsList};
 ghost use Rattle.plmachine.specs.Clauses.{entered_mode, IsNeck};
 ghost use Rattle.plmachine.specs.Machine.{depth_of, local_of, IsBegun, Moved, Stays};
 ghost use Rattle.plmachine.specs.Selected.{StandsFor};
@@ -54,6 +54,7 @@ impl Machine {
         requires clause { IsValue self.old.stack.env.heap c }
         requires source { (t : Tree) × StandsFor self.old.stack source t }
         requires rest { IsList self.old.stack rest }
+        requires fits { IsFit self.old.stack rest }
         ensures ok { (t : Tree) → StandsFor self.old.stack source t → OnOk result (Moved program.now self.old self.new (add program.now side (indicator t) (clausal (value self.old.stack.env.heap c)) (goals_of self.old.stack rest) self.old.stack.env.count (local_of self.old))) }
         ensures err { OnErr result (Stays program.now self.old self.new) }
     {
@@ -83,6 +84,7 @@ impl Machine {
         requires begun { IsBegun program.now self.old }
         requires source { (t : Tree) × StandsFor self.old.stack source t }
         requires rest { IsList self.old.stack rest }
+        requires fits { IsFit self.old.stack rest }
         ensures ok { (t : Tree) → StandsFor self.old.stack source t → OnOk result (Moved program.now self.old self.new (unless (unchangeable program.now (indicator clause.head)) (indicator t) (goals_of self.old.stack rest) (local_of self.old) (publish (added side clause ∷ []) (goals_of self.old.stack rest) self.old.stack.env.count (local_of self.old)))) }
         ensures err { OnErr result (Stays program.now self.old self.new) }
     {
@@ -98,7 +100,8 @@ impl Machine {
 
     /// Updates are published as one batch, of which there is none without an update.
     pub fn publish(&mut self, program: &Program, updates: Vec<Update>, rest: Continuation)
-        requires { IsList self.old.stack rest }
+        requires rest { IsList self.old.stack rest }
+        requires fits { IsFit self.old.stack rest }
         ensures { Moved program.now self.old self.new (publish updates.items (goals_of self.old.stack rest) self.old.stack.env.count (local_of self.old)) }
     {
         if updates.is_empty() {
@@ -124,6 +127,7 @@ impl Machine {
         requires body { IsValue self.old.stack.env.heap body }
         requires source { (t : Tree) × StandsFor self.old.stack source t }
         requires rest { IsList self.old.stack rest }
+        requires fits { IsFit self.old.stack rest }
         ensures ok { (t : Tree) → StandsFor self.old.stack source t → OnOk result (Moved program.now self.old self.new (unless (or_else (no_head (value self.old.stack.env.heap head)) (or_else (no_body (value self.old.stack.env.heap body)) (unreadable (indicator (value self.old.stack.env.heap head))))) (indicator t) (goals_of self.old.stack rest) (local_of self.old) (retrieving (clauses_for program.now (indicator (value self.old.stack.env.heap head))) (depth_of self.old) (value self.old.stack.env.heap head) (value self.old.stack.env.heap body) (goals_of self.old.stack rest) self.old.stack.env.count (local_of self.old)))) }
         ensures err { OnErr result (Stays program.now self.old self.new) }
     {
@@ -145,6 +149,7 @@ impl Machine {
         requires head { IsValue self.old.stack.env.heap head }
         requires body { IsValue self.old.stack.env.heap body }
         requires rest { IsList self.old.stack rest }
+        requires fits { IsFit self.old.stack rest }
         ensures ok { OnOk result (Moved program.now self.old self.new (retrieving (clauses_for program.now (indicator (value self.old.stack.env.heap head))) (depth_of self.old) (value self.old.stack.env.heap head) (value self.old.stack.env.heap body) (goals_of self.old.stack rest) self.old.stack.env.count (local_of self.old))) }
         ensures err { OnErr result (Stays program.now self.old self.new) }
     {
@@ -173,6 +178,7 @@ impl Machine {
         requires clause { IsValue self.old.stack.env.heap c }
         requires source { (t : Tree) × StandsFor self.old.stack source t }
         requires rest { IsList self.old.stack rest }
+        requires fits { IsFit self.old.stack rest }
         ensures ok { (t : Tree) → StandsFor self.old.stack source t → OnOk result (Moved program.now self.old self.new (unless (unerasable program.now (halves (value self.old.stack.env.heap c)).0) (indicator t) (goals_of self.old.stack rest) (local_of self.old) (went_on (Asking (Look (ToRetract (halves (value self.old.stack.env.heap c)).0 (halves (value self.old.stack.env.heap c)).1)) ∷ goals_of self.old.stack rest) self.old.stack.env.count (local_of self.old)))) }
         ensures err { OnErr result (Stays program.now self.old self.new) }
     {
@@ -203,6 +209,7 @@ impl Machine {
         requires head { IsValue self.old.stack.env.heap head }
         requires source { (t : Tree) × StandsFor self.old.stack source t }
         requires rest { IsList self.old.stack rest }
+        requires fits { IsFit self.old.stack rest }
         ensures ok { (t : Tree) → StandsFor self.old.stack source t → OnOk result (Moved program.now self.old self.new (unless (unerasable program.now (value self.old.stack.env.heap head)) (indicator t) (goals_of self.old.stack rest) (local_of self.old) (went_on (Asking (Look (ToRetractAll (value self.old.stack.env.heap head))) ∷ goals_of self.old.stack rest) self.old.stack.env.count (local_of self.old)))) }
         ensures err { OnErr result (Stays program.now self.old self.new) }
     {
@@ -227,6 +234,7 @@ impl Machine {
         requires names { IsValue self.old.stack.env.heap names }
         requires source { (t : Tree) × StandsFor self.old.stack source t }
         requires rest { IsList self.old.stack rest }
+        requires fits { IsFit self.old.stack rest }
         ensures ok { (t : Tree) → StandsFor self.old.stack source t → OnOk result (Moved program.now self.old self.new (unless (undeclarable program.now (named_terms (value self.old.stack.env.heap names))) (indicator t) (goals_of self.old.stack rest) (local_of self.old) (publish (map Declare (filter_map named_by (named_terms (value self.old.stack.env.heap names)))) (goals_of self.old.stack rest) self.old.stack.env.count (local_of self.old)))) }
         ensures err { OnErr result (Stays program.now self.old self.new) }
     {

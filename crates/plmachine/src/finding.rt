@@ -9,7 +9,7 @@ ghost use Rattle.plsearch.specs.Types.{Collect, Marker};
 ghost use Rattle.plsearch.specs.Running.{runnable};
 ghost use Rattle.plsearch.specs.Collecting.{copies_from, renumbered};
 ghost use Rattle.plsearch.specs.Rows.{finding as finding_of, findall_3, gathering, run as runs};
-ghost use Rattle.plstack.specs.State.{goals_of, Extends, IsList};
+ghost use Rattle.plstack.specs.State.{goals_of, Extends, IsFit, IsList};
 ghost use Rattle.plmachine.specs.Gathering.{Gathers};
 ghost use Rattle.plmachine.specs.Machine.{depth_of, local_of, Moved, Stays};
 
@@ -49,6 +49,7 @@ impl Machine {
         requires goal { IsValue self.old.stack.env.heap finding.goal }
         requires whole { IsValue self.old.stack.env.heap finding.whole }
         requires rest { IsList self.old.stack rest }
+        requires fits { IsFit self.old.stack rest }
         ensures ok { OnOk result (Moved program.now self.old self.new (finding_of (value self.old.stack.env.heap finding.template) (value self.old.stack.env.heap finding.goal) (value self.old.stack.env.heap finding.whole) (depth_of self.old) (goals_of self.old.stack rest) self.old.stack.env.count (local_of self.old))) }
         ensures err { OnErr result (Stays program.now self.old self.new) }
     {
@@ -72,6 +73,7 @@ impl Machine {
         requires goal { IsValue self.old.stack.env.heap finding.goal }
         requires whole { IsValue self.old.stack.env.heap finding.whole }
         requires rest { IsList self.old.stack rest }
+        requires fits { IsFit self.old.stack rest }
         ensures ok { OnOk result (Moved program.now self.old self.new (runs (runnable (value self.old.stack.env.heap finding.goal)) findall_3 (gathering (value self.old.stack.env.heap finding.whole) (goals_of self.old.stack rest) self.old.stack.env.count ∷ []) (suc (depth_of self.old)) (Marker (Collect (value self.old.stack.env.heap finding.template)) (depth_of self.old) ∷ goals_of self.old.stack rest) self.old.stack.env.count (local_of self.old))) }
         ensures err { OnErr result (Stays program.now self.old self.new) }
     {

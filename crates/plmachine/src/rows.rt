@@ -6,9 +6,10 @@ ghost use Rattle.plterm.specs.Tree.{atom};
 ghost use Rattle.plcells.specs.Store.{value, IsValue};
 ghost use Rattle.plsearch.specs.Types.{Goal, Asking, Commit, Marker, Go, Choice, Mark};
 ghost use Rattle.plsearch.specs.Rows.{thrown, branch, raised, go_on as went_on};
-ghost use Rattle.plstack.specs.State.{goals_of, IsList};
+ghost use Rattle.plstack.specs.Levels.{kinds, FitsIn, Precedes};
+ghost use Rattle.plstack.specs.State.{goals_of, kinds_in, IsFit, IsList};
 ghost use Rattle.plstack.specs.Opening.{around_cases, branch_of, IsAround};
-ghost use Rattle.plmachine.specs.Lists.{at_level, elements_of, IsPart};
+ghost use Rattle.plmachine.specs.Lists.{at_level, elements_of, AreGoals, IsPart};
 ghost use Rattle.plmachine.specs.Machine.{depth_of, is_var, local_of, question_of, IsAskable, IsBegun, Moved, Stays};
 
 use crate::error;
@@ -29,7 +30,8 @@ use std::alloc::AllocError;
 impl Machine {
     /// Visits a list.
     pub fn go_on(&mut self, list: Continuation)
-        requires { IsList self.old.stack list }
+        requires list { IsList self.old.stack list }
+        requires fits { IsFit self.old.stack list }
         ensures { self.new ≡ record self.old { stack = record self.old.stack { goals = list }; mode = Mode.Visit } }
     {
         self.stack.visit(list);
@@ -66,6 +68,7 @@ impl Machine {
     pub fn ask(&mut self, program: &Program, question: Question, rest: Continuation)
         requires askable { IsAskable self.old.stack.env.heap question }
         requires rest { IsList self.old.stack rest }
+        requires fits { IsFit self.old.stack rest }
         ensures { Moved program.now self.old self.new (went_on (Asking (question_of self.old.stack.env.heap question) ∷ goals_of self.old.stack rest) self.old.stack.env.count (local_of self.old)) }
     {
         self.stack.visit(rest);
@@ -81,6 +84,8 @@ impl Machine {
     ) -> Result<(), AllocError>
         requires list { IsList self.old.stack list }
         requires other { IsList self.old.stack other }
+        requires list_fits { IsFit self.old.stack list }
+        requires other_fits { IsFit self.old.stack other }
         ensures ok { OnOk result (Moved program.now self.old self.new (Go (branch_of self.old.stack other ∷ []) (record { goals = goals_of self.old.stack list; variables = self.old.stack.env.count }) (local_of self.old))) }
         ensures err { OnErr result (Stays program.now self.old self.new) }
     {
@@ -98,6 +103,7 @@ impl Machine {
     ) -> Result<(), AllocError>
         requires list { IsList self.old.stack list }
         requires around { IsAround self.old.stack around }
+        requires fits { FitsIn (kinds (Choice [] ∷ around_cases self.old.stack around) ++ kinds_in self.old.stack) (goals_of self.old.stack list) }
         ensures ok { OnOk result (Moved program.now self.old self.new (Go (Choice [] ∷ around_cases self.old.stack around) (record { goals = goals_of self.old.stack list; variables = self.old.stack.env.count }) (local_of self.old))) }
         ensures err { OnErr result (Stays program.now self.old self.new) }
     {
@@ -118,6 +124,7 @@ impl Machine {
         requires first { IsPart self.old.stack first }
         requires second { IsPart self.old.stack second }
         requires rest { IsList self.old.stack rest }
+        requires fits { FitsIn (kinds_in self.old.stack) (elements_of self.old.stack first ++ (elements_of self.old.stack second ++ goals_of self.old.stack rest)) }
         ensures ok { OnOk result (Moved program.now self.old self.new (went_on (elements_of self.old.stack first ++ (elements_of self.old.stack second ++ goals_of self.old.stack rest)) self.old.stack.env.count (local_of self.old))) }
         ensures err { OnErr result (Stays program.now self.old self.new) }
     {
@@ -138,6 +145,8 @@ impl Machine {
         requires first { IsPart self.old.stack first }
         requires second { IsPart self.old.stack second }
         requires rest { IsList self.old.stack rest }
+        requires first_fits { FitsIn (kinds_in self.old.stack) (elements_of self.old.stack first ++ goals_of self.old.stack rest) }
+        requires second_fits { FitsIn (kinds_in self.old.stack) (elements_of self.old.stack second ++ goals_of self.old.stack rest) }
         ensures ok { OnOk result (Moved program.now self.old self.new (Go (branch (elements_of self.old.stack second ++ goals_of self.old.stack rest) self.old.stack.env.count ∷ []) (record { goals = elements_of self.old.stack first ++ goals_of self.old.stack rest; variables = self.old.stack.env.count }) (local_of self.old))) }
         ensures err { OnErr result (Stays program.now self.old self.new) }
     {
@@ -159,6 +168,9 @@ impl Machine {
         requires then { IsPart self.old.stack then }
         requires other { IsPart self.old.stack other }
         requires rest { IsList self.old.stack rest }
+        requires goals { AreGoals condition }
+        requires then_fits { FitsIn (kinds_in self.old.stack) (elements_of self.old.stack then ++ goals_of self.old.stack rest) }
+        requires other_fits { FitsIn (kinds_in self.old.stack) (elements_of self.old.stack other ++ goals_of self.old.stack rest) }
         ensures ok { OnOk result (Moved program.now self.old self.new (Go (Choice [] ∷ branch (elements_of self.old.stack other ++ goals_of self.old.stack rest) self.old.stack.env.count ∷ []) (record { goals = elements_of self.old.stack (at_level (suc (depth_of self.old)) condition) ++ (Marker Commit (depth_of self.old) ∷ (elements_of self.old.stack then ++ goals_of self.old.stack rest)); variables = self.old.stack.env.count }) (local_of self.old))) }
         ensures err { OnErr result (Stays program.now self.old self.new) }
     {
@@ -190,6 +202,9 @@ impl Machine {
         requires condition { IsPart self.old.stack condition }
         requires then { IsPart self.old.stack then }
         requires rest { IsList self.old.stack rest }
+        requires goals { AreGoals condition }
+        requires then_fits { FitsIn (kinds_in self.old.stack) (elements_of self.old.stack then ++ goals_of self.old.stack rest) }
+        requires level { Precedes (kinds_in self.old.stack) level (goals_of self.old.stack rest) }
         ensures ok { OnOk result (Moved program.now self.old self.new (Go (Choice [] ∷ branch (Goal level (atom (codes "fail")) ∷ goals_of self.old.stack rest) self.old.stack.env.count ∷ []) (record { goals = elements_of self.old.stack (at_level (suc (depth_of self.old)) condition) ++ (Marker Commit (depth_of self.old) ∷ (elements_of self.old.stack then ++ goals_of self.old.stack rest)); variables = self.old.stack.env.count }) (local_of self.old))) }
         ensures err { OnErr result (Stays program.now self.old self.new) }
     {
@@ -203,7 +218,8 @@ impl Machine {
         level: Level,
         rest: Continuation,
     ) -> Result<(), AllocError>
-        requires { IsList self.old.stack rest }
+        requires rest { IsList self.old.stack rest }
+        requires level { Precedes (kinds_in self.old.stack) level (goals_of self.old.stack rest) }
         ensures ok { OnOk result (Moved program.now self.old self.new (Go (Mark level ∷ []) (record { goals = goals_of self.old.stack rest; variables = self.old.stack.env.count }) (local_of self.old))) }
         ensures err { OnErr result (Stays program.now self.old self.new) }
     {

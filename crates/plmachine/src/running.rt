@@ -9,7 +9,8 @@ ghost use Rattle.plsearch.specs.Errors.{callable_error, error_term};
 ghost use Rattle.plsearch.specs.Types.{Choice, Commit, Goal, Marker, Never, Until, Raise, Go};
 ghost use Rattle.plsearch.specs.Running.{called, runnable};
 ghost use Rattle.plsearch.specs.Rows.{run as runs, once_1, not_1, catch_3, call_with as call_n, catching, branch};
-ghost use Rattle.plstack.specs.State.{goals_of, IsList};
+ghost use Rattle.plstack.specs.Levels.{kinds, Precedes};
+ghost use Rattle.plstack.specs.State.{goals_of, kinds_in, IsFit, IsList};
 ghost use Rattle.plstack.specs.Opening.{around_cases, IsAround};
 ghost use Rattle.plmachine.specs.Lists.{elements_of, Grown, Holds, IsPart};
 ghost use Rattle.plmachine.specs.Predicates.{predicate_of};
@@ -75,6 +76,7 @@ impl Machine {
         requires goal { IsValue self.old.stack.env.heap goal }
         requires list { IsList self.old.stack list }
         requires around { IsAround self.old.stack around }
+        requires level { Precedes (kinds (Choice [] ∷ around_cases self.old.stack around) ++ kinds_in self.old.stack) level (goals_of self.old.stack list) }
         ensures ok { OnOk result (Moved program.now self.old self.new (Go (Choice [] ∷ around_cases self.old.stack around) (record { goals = Goal level (value self.old.stack.env.heap goal) ∷ goals_of self.old.stack list; variables = self.old.stack.env.count }) (local_of self.old))) }
         ensures err { OnErr result (Stays program.now self.old self.new) }
     {
@@ -106,6 +108,7 @@ impl Machine {
     ) -> Result<(), AllocError>
         requires goal { IsValue self.old.stack.env.heap goal }
         requires rest { IsList self.old.stack rest }
+        requires fits { IsFit self.old.stack rest }
         ensures ok { OnOk result (Moved program.now self.old self.new (runs (runnable (value self.old.stack.env.heap goal)) once_1 [] (depth_of self.old) (Marker Commit (depth_of self.old) ∷ goals_of self.old.stack rest) self.old.stack.env.count (local_of self.old))) }
         ensures err { OnErr result (Stays program.now self.old self.new) }
     {
@@ -131,6 +134,7 @@ impl Machine {
     ) -> Result<(), AllocError>
         requires goal { IsValue self.old.stack.env.heap goal }
         requires rest { IsList self.old.stack rest }
+        requires fits { IsFit self.old.stack rest }
         ensures ok { OnOk result (Moved program.now self.old self.new (runs (runnable (value self.old.stack.env.heap goal)) not_1 (branch (goals_of self.old.stack rest) self.old.stack.env.count ∷ []) (suc (depth_of self.old)) (Marker Never (depth_of self.old) ∷ goals_of self.old.stack rest) self.old.stack.env.count (local_of self.old))) }
         ensures err { OnErr result (Stays program.now self.old self.new) }
     {
@@ -162,6 +166,7 @@ impl Machine {
         requires catcher { IsValue self.old.stack.env.heap catcher.catcher }
         requires recovery { IsValue self.old.stack.env.heap catcher.recovery }
         requires rest { IsList self.old.stack rest }
+        requires fits { IsFit self.old.stack rest }
         ensures ok { OnOk result (Moved program.now self.old self.new (runs (runnable (value self.old.stack.env.heap goal)) catch_3 (catching (value self.old.stack.env.heap catcher.catcher) (value self.old.stack.env.heap catcher.recovery) (goals_of self.old.stack rest) self.old.stack.env.count ∷ []) (suc (depth_of self.old)) (Marker Until (depth_of self.old) ∷ goals_of self.old.stack rest) self.old.stack.env.count (local_of self.old))) }
         ensures err { OnErr result (Stays program.now self.old self.new) }
     {
@@ -190,6 +195,7 @@ impl Machine {
         requires some { 0 < length self.old.args.items }
         requires few { length self.old.args.items ≤ 1024 }
         requires rest { IsList self.old.stack rest }
+        requires fits { IsFit self.old.stack rest }
         ensures ok { (v : OfCell) (vs : List OfCell) → self.old.args.items ≡ v ∷ vs → OnOk result (Moved program.now self.old self.new (runs (called (value self.old.stack.env.heap v) (map (value self.old.stack.env.heap) vs)) (call_n (length vs)) [] (depth_of self.old) (goals_of self.old.stack rest) self.old.stack.env.count (local_of self.old))) }
         ensures err { OnErr result (Stays program.now self.old self.new) }
     {

@@ -7,7 +7,8 @@ ghost use Rattle.plprogram.specs.Program.{clauses_for};
 ghost use Rattle.plsearch.specs.Forms.{form as form_of};
 ghost use Rattle.plsearch.specs.Types.{Asking, Look, ToCall};
 ghost use Rattle.plsearch.specs.Rows.{row, user, call as called, go_on as went_on};
-ghost use Rattle.plstack.specs.State.{goals_of, IsList};
+ghost use Rattle.plstack.specs.Levels.{Precedes};
+ghost use Rattle.plstack.specs.State.{goals_of, kinds_in, IsFit, IsList};
 ghost use Rattle.plmachine.specs.Lists.{Grown};
 ghost use Rattle.plmachine.specs.Machine.{depth_of, local_of, IsBegun, Moved, Stays};
 ghost use Rattle.plmachine.specs.Selected.{IsCallOf, IsSelected, IsStaticCall, StandsFor};
@@ -34,6 +35,7 @@ pub enum Source {
 
 impl Machine {
     /// The row of a goal.
+    #[tactic(auto, using(crate::proofs::Levels::fits_behind))]
     pub fn select(
         &mut self,
         program: &Program,
@@ -44,6 +46,7 @@ impl Machine {
     ) -> Result<(), AllocError>
         requires selected { (t : Tree) × IsSelected program.now self.old form source t }
         requires rest { IsList self.old.stack rest }
+        requires level { Precedes (kinds_in self.old.stack) level (goals_of self.old.stack rest) }
         ensures ok { (t : Tree) → IsSelected program.now self.old form source t → OnOk result (Moved program.now self.old self.new (row program.now (form_of t) level t (depth_of self.old) (goals_of self.old.stack rest) self.old.stack.env.count (local_of self.old))) }
         ensures err { OnErr result (Stays program.now self.old self.new) }
     {
@@ -134,6 +137,7 @@ impl Machine {
         requires few { length self.old.args.items ≤ 1024 }
         requires source { (t : Tree) × StandsFor self.old.stack source t }
         requires rest { IsList self.old.stack rest }
+        requires fits { IsFit self.old.stack rest }
         ensures ok { (p : OfIndicator) (t : Tree) → StandsFor self.old.stack source t → IsCallOf program.now self.old p procedure t → OnOk result (Moved program.now self.old self.new (user (clauses_for program.now p) (depth_of self.old) t (goals_of self.old.stack rest) self.old.stack.env.count (local_of self.old))) }
         ensures err { OnErr result (Stays program.now self.old self.new) }
     {
@@ -155,6 +159,7 @@ impl Machine {
         requires args { AreValues self.old.stack.env.heap self.old.args.items }
         requires few { length self.old.args.items ≤ 1024 }
         requires rest { IsList self.old.stack rest }
+        requires fits { IsFit self.old.stack rest }
         ensures ok { (p : OfIndicator) (t : Tree) → IsStaticCall program.now self.old p place t → OnOk result (Moved program.now self.old self.new (called (depth_of self.old) self.old.stack.env.count t (goals_of self.old.stack rest) (clauses_for program.now p) (local_of self.old))) }
         ensures err { OnErr result (Stays program.now self.old self.new) }
     {
@@ -175,6 +180,7 @@ impl Machine {
     ) -> Result<(), AllocError>
         requires source { (t : Tree) × StandsFor self.old.stack source t }
         requires rest { IsList self.old.stack rest }
+        requires fits { IsFit self.old.stack rest }
         ensures ok { (t : Tree) → StandsFor self.old.stack source t → OnOk result (Moved program.now self.old self.new (went_on (Asking (Look (ToCall t)) ∷ goals_of self.old.stack rest) self.old.stack.env.count (local_of self.old))) }
         ensures err { OnErr result (Stays program.now self.old self.new) }
     {

@@ -8,7 +8,7 @@ ghost use Rattle.plcells.specs.Store.{value, AreValues};
 ghost use Rattle.plbuiltin.specs.Solution.{against};
 ghost use Rattle.plgenerator.specs.Answers.{left, IsTurn};
 ghost use Rattle.plsearch.specs.Rows.{choose, solved};
-ghost use Rattle.plstack.specs.State.{goals_of, IsList};
+ghost use Rattle.plstack.specs.State.{goals_of, IsFit, IsList};
 ghost use Rattle.plmachine.specs.Lists.{Grown};
 ghost use Rattle.plmachine.specs.Machine.{local_of, Moved, Stays};
 
@@ -35,6 +35,7 @@ impl Machine {
         requires few { length values.now < 2 ^ 32 }
         requires turn { IsTurn self.old.stack.env.heap values.now turn }
         requires rest { IsList self.old.stack rest }
+        requires fits { IsFit self.old.stack rest }
         ensures ok { OnOk result (Moved program.now self.old self.new (choose (filter_map (solved (goals_of self.old.stack rest) self.old.stack.env.count) (left self.old.stack.env.heap values.now turn)) (local_of self.old))) }
         ensures err { OnErr result (Stays program.now self.old self.new) }
     {
@@ -60,6 +61,7 @@ impl Machine {
         requires ground { list_all is_ground groups.now ≡ true }
         requires many { length values.items + length groups.now < 2 ^ 32 }
         requires rest { IsList self.old.stack rest }
+        requires fits { IsFit self.old.stack rest }
         ensures ok { OnOk result (Moved program.now self.old self.new (choose (filter_map (solved (goals_of self.old.stack rest) self.old.stack.env.count) (map (against (map (value self.old.stack.env.heap) values.items)) groups.now)) (local_of self.old))) }
         ensures err { OnErr result (Stays program.now self.old self.new) }
     {

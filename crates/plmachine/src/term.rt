@@ -5,7 +5,8 @@ ghost use Rattle.plcells.specs.Store.{value, AreValues, IsValue};
 ghost use Rattle.plsearch.specs.Forms.{form as form_by_term};
 ghost use Rattle.plsearch.specs.Rows.{row};
 ghost use Rattle.plgoals.specs.Callables.{called, IsCallable, IsNoGoal};
-ghost use Rattle.plstack.specs.State.{goals_of, IsList};
+ghost use Rattle.plstack.specs.Levels.{Precedes};
+ghost use Rattle.plstack.specs.State.{goals_of, kinds_in, IsList};
 ghost use Rattle.plmachine.specs.Lists.{Grown};
 ghost use Rattle.plmachine.specs.Machine.{depth_of, local_of, IsBegun, Moved, Stays};
 ghost use Rattle.plmachine.specs.Selected.{IsSelected, StandsFor};
@@ -34,6 +35,7 @@ impl Machine {
         requires visits { self.old.mode ≡ Mode.Visit }
         requires goal { IsValue self.old.stack.env.heap goal }
         requires rest { IsList self.old.stack rest }
+        requires level { Precedes (kinds_in self.old.stack) level (goals_of self.old.stack rest) }
         ensures ok { OnOk result (Moved program.now self.old self.new (row program.now (form_by_term (value self.old.stack.env.heap goal)) level (value self.old.stack.env.heap goal) (depth_of self.old) (goals_of self.old.stack rest) self.old.stack.env.count (local_of self.old))) }
         ensures err { OnErr result (Stays program.now self.old self.new) }
     {
@@ -52,6 +54,7 @@ impl Machine {
         requires visits { self.old.mode ≡ Mode.Visit }
         requires source { (t : Tree) × StandsFor self.old.stack source t }
         requires rest { IsList self.old.stack rest }
+        requires level { Precedes (kinds_in self.old.stack) level (goals_of self.old.stack rest) }
         ensures ok { (t : Tree) → StandsFor self.old.stack source t → OnOk result (Moved program.now self.old self.new (row program.now (form_by_term t) level t (depth_of self.old) (goals_of self.old.stack rest) self.old.stack.env.count (local_of self.old))) }
         ensures err { OnErr result (Stays program.now self.old self.new) }
     {

@@ -7,7 +7,7 @@ ghost use Rattle.plevent.specs.declared.update.Update.TheVariants.{Declare};
 ghost use Rattle.plsearch.specs.Rows.{clause_term, publish};
 ghost use Rattle.plstack.specs.Frames.{IsSpotSeen};
 ghost use Rattle.plstack.specs.Places.{viewed};
-ghost use Rattle.plstack.specs.State.{goals_of, walks_in, IsList};
+ghost use Rattle.plstack.specs.State.{goals_of, walks_in, IsFit, IsList};
 ghost use Rattle.plmachine.specs.Clauses.{Walks};
 ghost use Rattle.plmachine.specs.Machine.{local_of, Moved, Stays};
 
@@ -31,6 +31,7 @@ impl Machine {
         requires goal { IsValue self.old.stack.env.heap walk.goal }
         requires seen { IsSpotSeen self.old.stack.basis.latest walk.spot }
         requires rest { IsList self.old.stack rest }
+        requires fits { IsFit self.old.stack rest }
         ensures ok { OnOk result (Walks program.now self.old self.new (value self.old.stack.env.heap walk.goal) walk.uses walk.spot (goals_of self.old.stack rest)) }
         ensures walks { OnOk result (walks_in self.new.stack ≡ viewed walk walk.spot ++ walks_in self.old.stack) }
         ensures err { OnErr result (Stays program.now self.old self.new) }
@@ -53,6 +54,7 @@ impl Machine {
         requires body { IsValue self.old.stack.env.heap neck.body }
         requires seen { IsSpotSeen self.old.stack.basis.latest spot }
         requires rest { IsList self.old.stack rest }
+        requires fits { IsFit self.old.stack rest }
         ensures ok { OnOk result (Walks program.now self.old self.new (clause_term (value self.old.stack.env.heap neck.head) (value self.old.stack.env.heap neck.body)) uses spot (goals_of self.old.stack rest)) }
         ensures err { OnErr result (Stays program.now self.old self.new) }
     {

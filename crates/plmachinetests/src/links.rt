@@ -2,7 +2,7 @@
 use plcells::cell::Cell;
 use pllinks::item::{Item, MarkerKind, Run};
 use pllinks::level::Level;
-use pllinks::link::{Continuation, number_of, push_link, slots_of, top_of};
+use pllinks::link::{Continuation, number_of, push_link, slots_of};
 use pllinks::list::ListId;
 use std::test::Fail;
 
@@ -46,33 +46,27 @@ fn selected() -> Run {
     }
 }
 
-// Lists that share their rest: an item, the number of the list behind it, and the highest level and the slots of the new list.
+// Lists that share their rest: an item, the number of the list behind it, and the slots of the new list.
 #[test]
 fn lists(rt: HostRuntime) -> Result<(), Fail> {
     let alloc = rt.alloc();
     let mut links = Vec::new(alloc);
     let none = ListId::EMPTY;
     assert!(rt; none.is_empty());
-    assert_eq!(rt;
-        (top_of(&links, none), slots_of(&links, none)),
-        (Level::BOTTOM, 0)
-    );
-    for (item, rest, number, top, slots) in [
-        (goal(3), 0, 1, 3, 0),
-        (run(2, 5), 1, 2, 3, 5),
-        (run(4, 2), 2, 3, 4, 5),
-        (marker(8), 1, 4, 8, 0),
-        (run(1, 1), 0, 5, 1, 1),
+    assert_eq!(rt; slots_of(&links, none), 0);
+    for (item, rest, number, slots) in [
+        (goal(3), 0, 1, 0),
+        (run(2, 5), 1, 2, 5),
+        (run(4, 2), 2, 3, 5),
+        (marker(8), 1, 4, 0),
+        (run(1, 1), 0, 5, 1),
     ] {
         let rest = made(rest);
         if rest.extent() <= links.len() {
             let list = push_link(&mut links, item, rest)?;
             assert_eq!(rt; list, made(number));
             if list.extent() <= links.len() {
-                assert_eq!(rt;
-                    (top_of(&links, list), slots_of(&links, list)),
-                    (Level::new(top), slots)
-                );
+                assert_eq!(rt; slots_of(&links, list), slots);
             }
         }
     }

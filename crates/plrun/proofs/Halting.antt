@@ -531,9 +531,9 @@ module _ (P : Program) where
   comes : (m : Machine) → Claim m
   comes = by_turns P Claim comes_over comes_ahead
 
-  visit_comes : (p : Place) (run : Run) → AreProper p.goals → AreCommon run.answers → Comes (record { mode = At p; cases = []; run = run })
+  visit_comes : (p : Place) (run : Run) → AreProper p.goals → AreCommon run.answers → Comes (record { mode = At p; cases = Choice [] ∷ []; run = run })
   unfolding Claim
-  visit_comes p run proper common = comes (record { mode = At p; cases = []; run = run }) (record { mode = proper; cases = tt; answers = common })
+  visit_comes p run proper common = comes (record { mode = At p; cases = Choice [] ∷ []; run = run }) (record { mode = proper; cases = (tt, tt); answers = common })
 
 -- main's goals ask nothing
 start_proper : (gs : List Tree) → AreProper (start_from gs).goals
@@ -564,13 +564,13 @@ next_asks Stopped q is = cc
 next_asks Unfit q is = cc
 
 pub halts-no-sooner : (P : Program) (limit : ℕ) → HaltsNoSooner (search_of P limit)
-unfolding search_of start_of Rest outs
+unfolding search_of start_of Rest outs out
 halts-no-sooner P limit n i answers common is =
     let from = from_start P (min n limit) answers in
-    (visit_comes P (start_of P) from (start_proper P.goals) common).no_sooner i (next_halted (Visit P 0 (start_of P) from).0 i is)
+    (visit_comes P (start_of P) from (start_proper P.goals) common).no_sooner i (next_halted (out (Visit P) 0 (Choice []) (Visit P 1 (start_of P) from)).0 i is)
 
 pub halts-when-done : (P : Program) (limit : ℕ) → HaltsWhenDone (search_of P limit)
-unfolding search_of start_of Rest outs
+unfolding search_of start_of Rest outs out
 halts-when-done P limit n i answers common is =
     let from = from_start P (min n limit) answers in
-    ap next_of ((visit_comes P (start_of P) from (start_proper P.goals) common).when_done i (next_asks (Visit P 0 (start_of P) from).0 (Ask (Request.HaltRun i)) is))
+    ap next_of ((visit_comes P (start_of P) from (start_proper P.goals) common).when_done i (next_asks (out (Visit P) 0 (Choice []) (Visit P 1 (start_of P) from)).0 (Ask (Request.HaltRun i)) is))

@@ -2,6 +2,7 @@
 use Rattle.std.proofs.Common.{◌≡◌, ℕ, suc, ◌<◌, ◌≤◌, Bool, true, false, ◌||◌, if◌then◌else◌, List, [], ◌∷◌, ◌++◌, refl, sym, ap, ◌∙◌, arith, nat_eq}
 use Rattle.std.specs.Prelude.{nat_le}
 use Rattle.std.proofs.lemmas.Bool.Decides.{nat_tests}
+use Rattle.plterm.specs.Tree.{Tree}
 use Rattle.plprogram.specs.Program.{Program}
 use Rattle.plsearch.specs.Types.{Result, Stop, Fail, CutTo, Throw, Halted, Spent, Awaits, Stopped, Unfit, Kind, Commit, Never, Until, Collect, Element, Goal, Marker, Raise, Asking, Place, Case, Choice, Mark, Handle, Handler, Catch, Gather, Run}
 use Rattle.plsearch.specs.Handlers.{has, resume}
@@ -214,4 +215,21 @@ module _ (P : Program) where
       at-level : (r : Result) (run : Run) → choice (Visit P) (deeper below 0) ps (mark k r) run ≡ choice (Visit P) (deeper below 0) [] r run
       at-level r run = rw is (given-up k ps r run)
 
-pub ruleset laws = (cuts-empty)
+  -- a catcher at a level between them keeps no ball
+  kept-on : (k d i : ℕ) (c x : Tree) (p : Place) (r : Result) (run : Run) → k < i → i < d → Bounded (low k) (apart k d) r →
+      returned (Visit P) i (resume (Catch c x) p i r run.local) run ≡ (r, run)
+  unfolding resume Bounded
+  kept-on k d i c x p (Throw b ls) run lt below h = rw (not-behind k d i lt below ls h) refl
+  kept-on k d i c x p r run lt below h = refl
+
+  pub catchers-empty : (k : ℕ) (c x : Tree) (q : Place) (below : List Case) (p : Place) (run : Run) → deeper below 0 ≡ suc k → AreAtMost k p.goals →
+      Rest P (record { mode = At p; cases = Handle (Catch c x) q ∷ below; run = run }) ≡ Rest P (record { mode = At p; cases = Choice [] ∷ below; run = run })
+  unfolding Rest outs out
+  catchers-empty k c x q below p run is most =
+      let i = deeper below 0 in
+      let d = suc i in
+      let e = Visit P d p run in
+      let bounded : Bounded (low k) (apart k d) e.0 = visit-bounded P (low k) (apart k d) d p run (holds k d) (all-allowed k d p.goals most) in
+      ap (outs (Visit P) 0 below) (kept-on k d i c x q e.0 e.1 (omega arith) (omega arith) bounded ∙ sym (empty-choice k d i e.0 e.1 (omega arith) bounded))
+
+pub ruleset laws = (cuts-empty, catchers-empty)

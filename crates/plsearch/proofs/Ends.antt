@@ -160,6 +160,12 @@ module _ (P : Program) (further : List Answer) where
   unfolding Grows with_more Claim
   visit-grows d p run = claims (suc (left run)) d p run (omega arith)
 
+  -- an end in the outermost choice grows with it
+  pub outermost-grows : (e e' : Ended) → (NotAsking e.0 → e' ≡ (e.0, record e.1 { answers = e.1.answers ++ further })) → NotAsking (out (Visit P) 0 (Choice []) e).0 →
+      out (Visit P) 0 (Choice []) e' ≡ ((out (Visit P) 0 (Choice []) e).0, record (out (Visit P) 0 (Choice []) e).1 { answers = (out (Visit P) 0 (Choice []) e).1.answers ++ further })
+  unfolding Grows with_more
+  outermost-grows e e' g = out-grows (suc (left e.1)) (claims (suc (left e.1))) 0 (Choice []) e e' (omega arith) g
+
 ended_asks : (r : Result) (e : ThreadEnd) → next_of r ≡ Finishes e → NotAsking r
 ended_asks Stop e is = tt
 ended_asks Fail e is = tt
@@ -173,7 +179,8 @@ ended_asks Unfit e is = tt
 
 pub ends_ignore : (P : Program) (limit n : ℕ) (answers further : List Answer) (e : ThreadEnd) →
     (search_of P limit n answers).next ≡ Finishes e → search_of P limit n (answers ++ further) ≡ search_of P limit n answers
-unfolding search_of
+unfolding search_of out
 ends_ignore P limit n answers further e is =
-    ap (ending_of (min n limit))
-    (visit-grows P further 0 (start_of P) (from_start P (min n limit) answers) (ended_asks (Visit P 0 (start_of P) (from_start P (min n limit) answers)).0 e is))
+    let run = from_start P (min n limit) answers in
+    ap (ending_of (min n limit)) (outermost-grows P further (Visit P 1 (start_of P) run) (Visit P 1 (start_of P) (from_start P (min n limit) (answers ++ further)))
+    (visit-grows P further 1 (start_of P) run) (ended_asks (out (Visit P) 0 (Choice []) (Visit P 1 (start_of P) run)).0 e is))

@@ -4,7 +4,7 @@ use Rattle.std.specs.Fmt.{signed_decimal}
 use Rattle.plterm.specs.Tree.{Tree, var, int, compound, none, more}
 use Rattle.plterm.specs.declared.indicator.Indicator.{Indicator}
 use Rattle.plevent.specs.Alive.{named}
-use Rattle.plevent.specs.Search.{View, Ask, Answer, Seen, Got, Next, Wants, Finishes, Ending}
+use Rattle.plevent.specs.Search.{Ask, Answer, Seen, Got, Next, Wants, Finishes, Ending}
 use Rattle.plevent.specs.declared.request.Reply.TheVariants.{Erased, Gone}
 use Rattle.plevent.specs.declared.request.Request.TheVariants.{Publish, EraseOne}
 use Rattle.plevent.specs.declared.request.ThreadEnd.TheVariants.{True, False, Exception}

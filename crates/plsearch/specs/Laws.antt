@@ -1,9 +1,10 @@
 -- The laws of the search and of its machine.
-use Rattle.std.specs.Prelude.{◌≡◌, ℕ, List, [], ◌∷◌, ◌++◌}
+use Rattle.std.specs.Prelude.{◌≡◌, ℕ, suc, List, [], ◌∷◌, ◌++◌}
+use Rattle.plterm.specs.Tree.{Tree}
 use Rattle.plevent.specs.Search.{Answer, Finishes}
 use Rattle.plevent.specs.declared.request.ThreadEnd.{ThreadEnd}
 use Rattle.plprogram.specs.Program.{Program}
-use Rattle.plsearch.specs.Types.{Result, Place, Case, Choice, Mark, Run}
+use Rattle.plsearch.specs.Types.{Result, Place, Case, Choice, Mark, Handle, Catch, Run}
 use Rattle.plsearch.specs.Engine.{walk, deeper, Visit}
 use Rattle.plsearch.specs.Machines.Machine.{Machine, At, Back, Rest, turn}
 use Rattle.plsearch.specs.Machines.Levels.{AreAtMost, emptied}
@@ -32,3 +33,9 @@ EndsIgnoreAnswers = (P : Program) (limit n : ℕ) (answers further : List Answer
 abbrev pub CutsEmpty : Type 0
 CutsEmpty = (P : Program) (k : ℕ) (cs below : List Case) (ps : List Place) (p : Place) (run : Run) → deeper below 0 ≡ k → AreAtMost k p.goals →
     Rest P (record { mode = At p; cases = Mark k ∷ (cs ++ Choice ps ∷ below); run = run }) ≡ Rest P (record { mode = At p; cases = emptied (Mark k ∷ cs) (Choice [] ∷ below); run = run })
+
+-- Where a list is visited in a catcher, and names no level from that of the catcher on, the catcher is as good as a choice with nothing
+-- left: no ball that the list throws is for it.
+abbrev pub CatchersEmpty : Type 0
+CatchersEmpty = (P : Program) (k : ℕ) (c r : Tree) (q : Place) (below : List Case) (p : Place) (run : Run) → deeper below 0 ≡ suc k → AreAtMost k p.goals →
+    Rest P (record { mode = At p; cases = Handle (Catch c r) q ∷ below; run = run }) ≡ Rest P (record { mode = At p; cases = Choice [] ∷ below; run = run })

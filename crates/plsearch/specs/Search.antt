@@ -5,8 +5,8 @@ use Rattle.plterm.specs.Variables.{copied, variables}
 use Rattle.plevent.specs.Search.{Answer, Next, Wants, Finishes, Ceases, Ending, Search}
 use Rattle.plevent.specs.declared.request.ThreadEnd.TheVariants.{True, False, Exception, Budget, Halt}
 use Rattle.plprogram.specs.Program.{Program}
-use Rattle.plsearch.specs.Types.{Result, Stop, Fail, CutTo, Throw, Halted, Spent, Awaits, Stopped, Unfit, Goal, Place, Run}
-use Rattle.plsearch.specs.Engine.{Ended, Visit}
+use Rattle.plsearch.specs.Types.{Result, Stop, Fail, CutTo, Throw, Halted, Spent, Awaits, Stopped, Unfit, Goal, Place, Choice, Run}
+use Rattle.plsearch.specs.Engine.{Ended, out, Visit}
 
 abbrev pub once : Tree → Tree
 once g = compound (codes "once") (more g none)
@@ -46,7 +46,7 @@ ending_of steps e = record { next = next_of e.0; used = steps - e.1.steps; out =
 abbrev pub from_start : Program → ℕ → List Answer → Run
 from_start P steps answers = record { steps = steps; answers = answers; local = record { out = []; settings = P.settings; kept = [] } }
 
--- main's search, which takes no more steps than the limit
+-- main's search, which takes no more steps than the limit: its goals run in a choice with nothing left
 unfoldable pub search_of : Program → ℕ → Search
-unfolding Visit start_of
-search_of P limit n answers = ending_of (min n limit) (Visit P 0 (start_of P) (from_start P (min n limit) answers))
+unfolding Visit out start_of
+search_of P limit n answers = ending_of (min n limit) (out (Visit P) 0 (Choice []) (Visit P 1 (start_of P) (from_start P (min n limit) answers)))

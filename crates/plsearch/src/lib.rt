@@ -7,7 +7,7 @@
 //! `specs/Machines` does the same search one row at a time, for the laws and for proofs.
 #![tactic(auto)]
 
-ghost use Rattle.plsearch.specs.Laws.{VisitsByWalks, TurnsKeepRest, TurnsEnd, EndsIgnoreAnswers, CutsEmpty};
+ghost use Rattle.plsearch.specs.Laws.{VisitsByWalks, TurnsKeepRest, TurnsEnd, EndsIgnoreAnswers, CutsEmpty, CatchersEmpty};
 
 /// A list of goals is visited by one walk, and what comes behind a step or an answer by the search again.
 #[tactic(auto, using(crate::proofs::Fuel::laws))]
@@ -37,4 +37,10 @@ pub fn ends_ignore_answers()
 #[tactic(auto, using(crate::proofs::Cuts::laws))]
 pub fn cuts_empty()
     ensures { CutsEmpty }
+{}
+
+/// What is behind the marker of a catcher names no level from that of the catcher on, and so it may be emptied there.
+#[tactic(auto, using(crate::proofs::Cuts::laws))]
+pub fn catchers_empty()
+    ensures { CatchersEmpty }
 {}

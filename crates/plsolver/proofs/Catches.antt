@@ -1,5 +1,5 @@
 -- A catcher and its ball, over the stack.
-use Rattle.std.proofs.Common.{◌≡◌, ℕ, ◌+◌, ◌-◌, true, List, [], ◌∷◌, length, reverse, refl, sym, ap, ap₂, ◌∙◌, subst, arith, Option, Some, None, IfSome, IfNone}
+use Rattle.std.proofs.Common.{◌≡◌, ℕ, ◌+◌, ◌-◌, true, List, [], ◌∷◌, length, reverse, refl, sym, ap, ap₂, ◌∙◌, subst, arith, Option, Some, None, IfSome, IfNone, drop, Bool}
 use Rattle.plterm.specs.Tree.{Tree}
 use Rattle.plterm.specs.Variables.{copied, variables}
 use Rattle.plsubst.specs.Subst.{bind}
@@ -24,7 +24,7 @@ use Rattle.plstack.specs.declared.frame.Closed.{Closed}
 use Rattle.plstack.specs.declared.frame.Closed.TheVariants as closes
 use Rattle.plstore.specs.Looking.{Views}
 use Rattle.plstack.specs.Places.{Database}
-use Rattle.plstack.specs.State.{State, IsList, IsHandler, BeginsWith, HasHandler, AtHandler, Extends, Unifies, Recovers, cases_of, goals_of, place_of}
+use Rattle.plstack.specs.State.{State, IsList, IsHandler, BeginsWith, HasHandler, AtHandler, Extends, Unifies, Recovers, cases_of, goals_of, place_of, kinds_in}
 use Rattle.plstack.specs.StaticCalls.{database_of}
 use Rattle.plstack.specs.Opening.{ClosedAs}
 use Rattle.plstack.proofs.Stacks.{depth-in}
@@ -35,6 +35,9 @@ use Rattle.plmachine.specs.Lists.{Grown}
 use Rattle.plmachine.proofs.Moves.{machine-is, stays-trans, grown-stays as grown-there}
 use Rattle.plsolver.specs.declared.progress.Progress.{Progress}
 use Rattle.plsolver.specs.Solver.{Stays, QuietIn, Recovered, Rethrown}
+use Rattle.plstack.specs.Levels.{kinds_of, FitsIn}
+use Rattle.plstack.proofs.Naming.{fits-bound, new-precedes, no-database}
+use Rattle.plmachine.proofs.Levels.{depth-kinds}
 use Rattle.plsolver.proofs.Quiets.{to, at_stack, carried, quiet-other, quiet-caught}
 
 tail_is : (x y : Case) (xs ys : List Case) → x ∷ xs ≡ y ∷ ys → xs ≡ ys
@@ -45,7 +48,6 @@ pub closed-below : (db : Database) (s new : State) (h : Case) (below : List Case
     cases_of db s ≡ h ∷ below → cases_of db new ≡ below
 closed-below db s new h below None some none was = let e : h ∷ below ≡ [] = sym was ∙ none db in absurd cc
 closed-below db s new h below (Some closes.Choice) some none was = tail_is _ h _ below (sym (some db).1 ∙ was)
-closed-below db s new h below (Some (closes.Mark l)) some none was = tail_is _ h _ below (sym (some db) ∙ was)
 closed-below db s new h below (Some closes.Handler) some none was = tail_is _ h _ below (sym (some db).2 ∙ was)
 
 pub rethrows : (P : Program) (s new : Progress) (st : State) (e : Tree) (list : Continuation) (o : Outcome) → result_of o ≡ Throw (copied 0 (error_term e catch_3)) (levels (goals_of s.machine.stack list)) → st.basis ≡ s.machine.stack.basis →
@@ -169,3 +171,24 @@ stays-after P s t new a b = record {
   places = b.places ∙ a.places;
   there = stays-trans P s.machine t.machine new.machine a.there b.there;
 }
+
+-- the list of a handler fits outside of it once a unifier was put in
+pub bound-fits : (s t : State) (l : Continuation) (σ : ℕ → Tree) → t.frames ≡ s.frames → goals_of t l ≡ bind_goals σ (goals_of s l) → FitsIn (drop 1 (kinds_in s)) (goals_of s l) → FitsIn (drop 1 (kinds_in t)) (goals_of t l)
+bound-fits s t l σ frames goals f =
+    subst (λ fs. FitsIn (drop 1 (kinds_of (reverse fs))) (goals_of t l)) (sym frames)
+    (subst (FitsIn (drop 1 (kinds_in s))) (sym goals) (fits-bound (drop 1 (kinds_in s)) σ (goals_of s l) (length (drop 1 (kinds_in s))) f))
+
+-- how many cases are open at a handler
+pub level-kinds : (s : State) (level : ℕ) → ((db : Database) → deeper (cases_of db s) 0 ≡ level + 1) → level + 1 ≡ length (kinds_in s)
+level-kinds s level up = sym (up no-database) ∙ depth-in no-database s ∙ sym (depth-kinds s)
+
+behind-one : (ks : List Bool) (level : ℕ) → level + 1 ≡ length ks → level ≡ length (drop 1 ks)
+behind-one [] level e = absurd (omega arith)
+behind-one (b ∷ ks) level e = omega (arith, e)
+
+-- a recovery before it, where its handler becomes a choice
+pub recovery-fits : (s linked : State) (level : ℕ) (t : Tree) (list made : Continuation) → linked.frames ≡ s.frames → level + 1 ≡ length (kinds_in s) → goals_of linked made ≡ Goal level t ∷ goals_of s list → FitsIn (drop 1 (kinds_in s)) (goals_of s list) →
+    FitsIn (true ∷ drop 1 (kinds_in linked)) (goals_of linked made)
+recovery-fits s linked level t list made frames many goals f =
+    subst (λ fs. FitsIn (true ∷ drop 1 (kinds_of (reverse fs))) (goals_of linked made)) (sym frames)
+    (subst (FitsIn (true ∷ drop 1 (kinds_in s))) (sym goals) (new-precedes (drop 1 (kinds_in s)) level (goals_of s list) (behind-one (kinds_in s) level many) f))

@@ -1,15 +1,14 @@
 -- How much a cut leaves before a search.
-use Rattle.std.proofs.Common.{◌≡◌, ℕ, ◌+◌, ◌≤◌, ◌⊎◌, inl, inr, List, [], ◌∷◌, ◌++◌, arith}
+use Rattle.std.proofs.Common.{ℕ, ◌+◌, ◌≤◌, List, [], ◌∷◌, ◌++◌, arith}
 use Rattle.plprogram.specs.Program.{Program}
 use Rattle.plsearch.specs.Types.{Case, Choice, Mark, Handle}
-use Rattle.plsearch.specs.Machines.Levels.{AreAtMost, emptied}
+use Rattle.plsearch.specs.Machines.Levels.{emptied}
 use Rattle.plsearch.specs.Machines.Weight.{case_weight, cases_weight}
 use Rattle.pllinks.specs.declared.link.Continuation.{Continuation}
 use Rattle.plstore.specs.Looking.{Views}
-use Rattle.plstack.specs.Places.{Database}
-use Rattle.plstack.specs.State.{State, cases_of, goals_of}
+use Rattle.plstack.specs.State.{State, cases_of}
 use Rattle.plstack.specs.StaticCalls.{database_of}
-use Rattle.plstack.specs.Cutting.{Empties, Cuts}
+use Rattle.plstack.specs.Cutting.{Cuts}
 
 -- each case weighs as much as an empty choice, or more
 some-weight : (c : Case) → 1 ≤ case_weight c
@@ -23,12 +22,7 @@ emptied-weight [] base base' le = le
 emptied-weight (c ∷ cs) base base' le = omega (arith, some-weight c, emptied-weight cs base base' le)
 
 pub cut-weight : (P : Program) (v : Views) (old new : State) (level : ℕ) (list : Continuation) → Cuts old new level list → cases_weight (cases_of (database_of P v) new) ≤ cases_weight (cases_of (database_of P v) old) + 1
-cut-weight P v old new level list cut = go cut.cases
-  where
-    go : ((db : Database) → cases_of db new ≡ Mark level ∷ cases_of db old) ⊎ (AreAtMost level (goals_of old list) × ((db : Database) → Empties db old new level)) →
-        cases_weight (cases_of (database_of P v) new) ≤ cases_weight (cases_of (database_of P v) old) + 1
-    go (inl marked) = rw (marked (database_of P v)) (omega arith)
-    go (inr both) =
-        let e = both.1 (database_of P v) in
-        let less = emptied-weight (Mark level ∷ e.inside) (Choice e.places ∷ e.below) (Choice [] ∷ e.below) (omega (arith, some-weight (Choice e.places))) in
-        rw (e.cases, e.was) (omega (arith, less))
+cut-weight P v old new level list cut =
+    let e = cut.cases (database_of P v) in
+    let less = emptied-weight (Mark level ∷ e.inside) (Choice e.places ∷ e.below) (Choice [] ∷ e.below) (omega (arith, some-weight (Choice e.places))) in
+    rw (e.cases, e.was) (omega (arith, less))

@@ -2,6 +2,7 @@ pub mod Ending
 pub mod Runs
 pub mod Cutting
 pub mod Quiets
+pub mod Leaving
 pub mod Catches
 pub mod Gathering
 pub mod Starts

@@ -9,14 +9,14 @@ use Rattle.plcells.specs.declared.cell.Cell.{Cell}
 use Rattle.plcells.specs.Store.{value}
 use Rattle.plevent.specs.Search.{Answer}
 use Rattle.plprogram.specs.Program.{Program}
-use Rattle.plsearch.specs.Types.{Result, Fail, Spent, Throw, Commit, Never, Until, Collect, Element, Goal, Marker, Handle, Handler, Catch, Gather, Keep, Place, Case, Choice, Mark, Kept, Local, Move, Run}
+use Rattle.plsearch.specs.Types.{Result, Fail, Spent, Throw, Commit, Never, Until, Collect, Element, Goal, Marker, Handle, Handler, Catch, Gather, Keep, Place, Case, Choice, Kept, Local, Move, Run}
 use Rattle.plread.specs.Texts.{listed}
 use Rattle.plsearch.specs.Lists.{bind_goals}
 use Rattle.plsearch.specs.Running.{runnable}
 use Rattle.plsearch.specs.Collecting.{copies_from, count_new, dropped, gathered, kept_below, renumbered, with_copy}
 use Rattle.plsearch.specs.Rows.{select, meet, catching, gathering, solved}
 use Rattle.plsearch.specs.Handlers.{resume, has, met_by, recovers, goes_on}
-use Rattle.plsearch.specs.Engine.{deeper, mark, stop_cut}
+use Rattle.plsearch.specs.Engine.{deeper, stop_cut}
 use Rattle.plsearch.specs.Engine.{left as left_of}
 use Rattle.plsearch.specs.Machines.Machine.{At, Back, Machine, Rest, return, turn, step}
 use Rattle.plsearch.specs.Machines.Weight.{cases_weight, weight, Lighter}
@@ -94,7 +94,7 @@ quiet-as P v s new st m is q = subst (QuietIn P v s) (sym is) q
 
 -- ---- at a list
 
-at-goals : (P : Program) (v : Views) (s : Reached) (es : List Element) → s.mode ≡ modes.Visit → goals_of s.stack s.stack.goals ≡ es → (left : ℕ) (answers : List Answer) →
+pub at-goals : (P : Program) (v : Views) (s : Reached) (es : List Element) → s.mode ≡ modes.Visit → goals_of s.stack s.stack.goals ≡ es → (left : ℕ) (answers : List Answer) →
     machine P v left answers s ≡ record { mode = At (record { goals = es; variables = s.stack.env.count }); cases = cases_in P v s; run = record { steps = left; answers = answers; local = local_of s } }
 at-goals P v s es at goals left answers = at-place P v s (record { goals = es; variables = s.stack.env.count }) (subst IsPlain (sym at) tt) (visit-place s es at goals) left answers
 
@@ -239,20 +239,6 @@ quiet-plain P v s st at basis closes = record {
 -- the search with another stack, which carries what it carried
 abbrev pub at_stack : Progress → State → Progress
 at_stack s st = record s { machine = record s.machine { stack = st } }
-
-pub quiet-mark : (P : Program) (v : Views) (s new : Progress) (st : State) (l : ℕ) → IsBack s → st.basis ≡ s.machine.stack.basis → cases_in P v s.machine ≡ Mark l ∷ cases_of (database_of P v) st →
-    Becomes (at_stack s st) new (mark l) → QuietIn P v s new
-unfolding turn
-quiet-mark P v s new st l back basis was b =
-    let r : Outcome = back.0 in
-    let made = b.is r back.1 in
-    quiet-as P v s new st (modes.Back made.0) (b.frame ∙ ap (λ m. to s st m) made.1)
-    (quiet P v s (subst IsPlain (sym back.1) tt) st (modes.Back made.0) basis tt
-    (λ left answers few.
-    carried P v (record s.machine { stack = st; mode = modes.Back made.0 }) made.0 (cases_of (database_of P v) st) refl refl left answers
-    ∙ ap (λ x. record { mode = Back x; cases = cases_of (database_of P v) st; run = record { steps = left; answers = answers; local = local_of s.machine } }) made.2
-    ∙ sym (ap (turn P) (carried P v s.machine r (Mark l ∷ cases_of (database_of P v) st) back.1 was left answers)))
-    (λ x is no. some_case _ _ _ was no))
 
 cut-result : (P : Program) (d : ℕ) (r : Outcome) (ps : List Place) (cases : List Case) (run : Run) → deeper cases 0 ≡ d → (r ≡ outcomes.Fail → ps ≡ []) →
     ◌≡◌ {A = Machine} (record { mode = Back (stop_cut d (result_of r)); cases = cases; run = run }) (turn P (record { mode = Back (result_of r); cases = Choice ps ∷ cases; run = run }))

@@ -1,13 +1,13 @@
 -- Where a search starts.
-use Rattle.std.proofs.Common.{◌≡◌, ℕ, ◌+◌, ◌-◌, List, [], ◌∷◌, ◌++◌, map, length, sym, ap, ap₂, ◌∙◌, subst, arith, min, append-nil, reverse}
+use Rattle.std.proofs.Common.{◌≡◌, ℕ, ◌+◌, ◌-◌, List, [], ◌∷◌, ◌++◌, map, length, sym, ap, ap₂, ◌∙◌, subst, arith, min, append-nil, reverse, true, inl, refl, le_refl}
 use Rattle.plterm.specs.Tree.{Tree}
 use Rattle.plterm.specs.Reading.{spelling}
 use Rattle.plterm.specs.Variables.{place, seen_after, renamed, variables, copied}
 use Rattle.plcells.specs.declared.cell.Cell.{Cell}
 use Rattle.plcells.specs.Store.{value}
 use Rattle.plprogram.specs.Program.{Program}
-use Rattle.plsearch.specs.Types.{Goal}
-use Rattle.plsearch.specs.Engine.{outs}
+use Rattle.plsearch.specs.Types.{Goal, Place, Choice}
+use Rattle.plsearch.specs.Engine.{out, outs}
 use Rattle.plsearch.specs.Machines.Machine.{At, Rest}
 use Rattle.plsearch.specs.Search.{once, start_from, start_of, search_of, ending_of}
 use Rattle.plsearch.specs.Solving.{Begins}
@@ -17,7 +17,7 @@ use Rattle.pllinks.specs.Lists.{goal_of, all_elements}
 use Rattle.pllinks.specs.Links.{alone, done}
 use Rattle.pllinks.proofs.Arena.{list_at-none}
 use Rattle.plstack.specs.Places.{walks_of}
-use Rattle.plstack.specs.State.{State, IsList, Extends, AddsList, goals_in, goals_of, cases_of, walks_in}
+use Rattle.plstack.specs.State.{State, IsList, Extends, AddsList, goals_in, goals_of, cases_of, walks_in, IsFit, Opens}
 use Rattle.plstore.specs.Looking.{Views}
 use Rattle.plstack.specs.StaticCalls.{database_of}
 use Rattle.plstack.proofs.Lists.{empty-list}
@@ -27,6 +27,9 @@ use Rattle.plmachine.specs.declared.machine.Machine.{Machine as Reached}
 use Rattle.plmachine.specs.Machine.{machine, mode_of, IsPlain, MayAsk}
 use Rattle.plmachine.proofs.Moves.{machine-is}
 use Rattle.plsolver.specs.declared.progress.Progress.{Progress}
+use Rattle.plstack.specs.Levels.{kinds_of, Fits, FitsIn}
+use Rattle.plstack.specs.declared.basis.Basis.{Basis}
+use Rattle.plmachine.proofs.Levels.{fits-opened}
 use Rattle.plsolver.specs.Solver.{IsStart, IsEmpty, Starts, StartsGoal, rest_of}
 
 -- once/1 has the variables of its goal
@@ -69,20 +72,32 @@ starts-goal old st new list made v g t e is same grown l adds = record {
   cases = λ db. adds.stays.cases db ∙ e.cases db;
 }
 
+-- the goals fit in the outermost choice
+start-fits : (gs : List Tree) → Fits (true ∷ []) 1 (start_from gs).goals
+unfolding start_from
+start-fits [] = tt
+start-fits (g ∷ gs) = (le_refl _, inl (refl, refl), start-fits gs)
+
+pub starts-fit : (s opened : State) (list : Continuation) (gs : List Tree) → s.frames ≡ [] → Starts s list gs → Opens s opened (Choice [] ∷ []) → IsFit opened list
+starts-fit s opened list gs frames starts o =
+    fits-opened s opened (Choice [] ∷ []) o list starts.list_there
+    (subst (λ fs. FitsIn (true ∷ kinds_of (reverse fs)) (goals_of s list)) (sym frames) (subst (Fits (true ∷ []) 1) (sym (ap (λ (p : Place). p.goals) starts.place)) (start-fits gs)))
+
 -- a machine at the start
-pub is-start : (P : Program) (s : Reached) (stack : State) (list : Continuation) → IsProgramCode P stack.basis.code → stack.basis.latest ≡ 0 → stack.frames ≡ [] → Starts stack list P.goals → s.stack ≡ record stack { goals = list } → s.mode ≡ modes.Visit → s.out.items ≡ [] → s.settings ≡ P.settings → s.kept ≡ [] → IsStart P s
+pub is-start : (P : Program) (s : Reached) (stack opened : State) (list : Continuation) → IsProgramCode P stack.basis.code → stack.basis.latest ≡ 0 → stack.frames ≡ [] → Starts stack list P.goals → Opens stack opened (Choice [] ∷ []) → s.stack ≡ record opened { goals = list } → s.mode ≡ modes.Visit → s.out.items ≡ [] → s.settings ≡ P.settings → s.kept ≡ [] → IsStart P s
 unfolding start_of cases_of
-is-start P s stack list code latest frames starts is at out settings kept = record {
-  of = record { begun = subst (λ st. IsProgramCode P st.basis.code) (sym is) code; askable = subst (λ m. MayAsk s.stack m) (sym at) tt };
-  latest = ap (λ (st : State). st.basis.latest) is ∙ latest;
-  walks = ap walks_in is ∙ ap (λ fs. walks_of (reverse fs)) frames;
+is-start P s stack opened list code latest frames starts o is at out settings kept = record {
+  of = record { begun = subst (λ st. IsProgramCode P st.basis.code) (sym is) (subst (λ (b : Basis). IsProgramCode P b.code) (sym o.basis) code); askable = subst (λ m. MayAsk s.stack m) (sym at) tt };
+  latest = ap (λ (st : State). st.basis.latest) is ∙ ap (λ (b : Basis). b.latest) o.basis ∙ latest;
+  walks = ap walks_in is ∙ o.walks ∙ ap (λ fs. walks_of (reverse fs)) frames;
   is = λ v left answers.
-      machine-is P v s (At (start_of P)) [] (record { out = []; settings = P.settings; kept = [] }) (subst IsPlain (sym at) tt) (ap₂ mode_of at is ∙ ap At starts.place) (ap (cases_of (database_of P v)) is ∙ starts.cases (database_of P v)) (ap₂ (λ o x. record { out = o; settings = x; kept = s.kept }) out settings ∙ ap (λ k. record { out = []; settings = P.settings; kept = k }) kept) left answers;
+      machine-is P v s (At (start_of P)) (Choice [] ∷ []) (record { out = []; settings = P.settings; kept = [] }) (subst IsPlain (sym at) tt) (ap₂ mode_of at is ∙ ap At (ap₂ (λ gs n. record { goals = gs; variables = n }) (o.lists list starts.list_there).1 o.count ∙ starts.place))
+      (ap (cases_of (database_of P v)) is ∙ o.cases (database_of P v) ∙ ap (λ cs. Choice [] ∷ cs) (starts.cases (database_of P v))) (ap₂ (λ o x. record { out = o; settings = x; kept = s.kept }) out settings ∙ ap (λ k. record { out = []; settings = P.settings; kept = k }) kept) left answers;
 }
 
 -- a solver at the start
 pub begins : (P : Program) (v : Views) (s : Progress) → IsStart P s.machine → s.used ≡ 0 → Begins (search_of P s.limit) (rest_of P v s) s.used
-unfolding search_of rest_of Rest outs start_of
+unfolding search_of rest_of Rest outs out start_of
 begins P v s start used = (
   used,
   λ n answers.

@@ -21,7 +21,7 @@ use Rattle.plevent.specs.declared.request.Request.TheVariants.{Start, Publish, E
 use Rattle.plevent.specs.declared.request.Reply.{Reply}
 use Rattle.plevent.specs.declared.request.Reply.TheVariants as replies
 use Rattle.plprogram.specs.Program.{Program}
-use Rattle.plsearch.specs.Types.{Result, Throw, Element, Case}
+use Rattle.plsearch.specs.Types.{Result, Throw, Element, Case, Choice}
 use Rattle.plsearch.specs.Types.{Goal as GoalOf}
 use Rattle.plsearch.specs.Errors.{error_term}
 use Rattle.plsearch.specs.Lists.{levels}
@@ -306,7 +306,7 @@ pub record IsStart (P : Program) (s : Reached) : Type 0 where
   pub of : IsOf P s
   pub latest : s.stack.basis.latest ≡ 0
   pub walks : walks_in s.stack ≡ []
-  pub is : (v : Views) (left : ℕ) (answers : List Answer) → machine P v left answers s ≡ record { mode = At (start_of P); cases = []; run = from_start P left answers }
+  pub is : (v : Views) (left : ℕ) (answers : List Answer) → machine P v left answers s ≡ record { mode = At (start_of P); cases = Choice [] ∷ []; run = from_start P left answers }
 
 -- without a step or an answer it came to where the same is left of its search, where the views are these
 pub record KeepsRest (P : Program) (v : Views) (old new : Progress) : Type 0 where

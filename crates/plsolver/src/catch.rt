@@ -2,9 +2,10 @@
 //!
 //! A turn that is refused memory leaves the search where it was.
 
-ghost use Rattle.std.specs.Prelude.{◌≡◌, ◌-◌, true, OnOk, OnErr};
+ghost use Rattle.std.specs.Prelude.{◌≡◌, ◌-◌, drop, true, OnOk, OnErr};
 ghost use Rattle.plcells.specs.Store.{IsValue};
-ghost use Rattle.plstack.specs.State.{EndsWalks, HasCatcher, HasGatherer, HasHandler, IsList};
+ghost use Rattle.plstack.specs.State.{goals_of, kinds_in, EndsWalks, HasCatcher, HasGatherer, HasHandler, IsList};
+ghost use Rattle.plstack.specs.Levels.{FitsIn};
 ghost use Rattle.plmachine.specs.Machine.{depth_of};
 ghost use Rattle.plsolver.specs.Solver.{IsBack, Stays, Quiet, throws_to, Recovered, Rethrown};
 
@@ -86,6 +87,7 @@ impl Progress {
         requires catch { HasHandler self.old.machine.stack }
         requires recovery { IsValue self.old.machine.stack.env.heap recovery }
         requires list { IsList self.old.machine.stack list }
+        requires fits { FitsIn (drop 1 (kinds_in self.old.machine.stack)) (goals_of self.old.machine.stack list) }
         ensures ok { OnOk result (Recovered program.now self.old self.new recovery list) }
         ensures err { OnErr result (Stays program.now self.old self.new) }
         ensures walks { EndsWalks self.old.machine.stack self.new.machine.stack }

@@ -20,13 +20,14 @@ use plterm::name::Name;
 use plterm::term::Term;
 use std::alloc::{AllocError, Global};
 
-/// The machine of a program's search: its goals in order, each once.
+/// The machine of a program's search: its goals in order, each once, in a choice with nothing left.
 pub fn start(alloc: Global, program: &Program) -> Result<Machine, AllocError>
     ensures { IfOk result (λ s. IsStart program.now s) }
 {
     let mut stack = empty(alloc, program)?;
     let list = start_goals(&mut stack, alloc, program.goals())?;
     let settings = program.settings().copied(alloc)?;
+    stack.open_plain()?;
     stack.visit(list);
     Ok(Machine {
         alloc,

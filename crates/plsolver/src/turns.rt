@@ -1,8 +1,8 @@
 //! The turns of a search that take no step: markers are passed, and results go outward.
 
-ghost use Rattle.std.specs.Prelude.{◌≡◌, ◌-◌, ◌≤◌, ◌↔◌, IfOk, OnOk, OnErr, IfSome, IfNone, IsTrue, true, ℕ};
+ghost use Rattle.std.specs.Prelude.{◌≡◌, ◌+◌, ◌-◌, ◌<◌, ◌≤◌, ◌↔◌, IfOk, OnOk, OnErr, IfSome, IfNone, IsTrue, true, ℕ};
 ghost use Rattle.plcells.specs.Store.{IsValue, value};
-ghost use Rattle.plsearch.specs.Engine.{stop_cut, mark, deeper};
+ghost use Rattle.plsearch.specs.Engine.{stop_cut, deeper};
 ghost use Rattle.plstack.specs.Places.{Database};
 ghost use Rattle.plstack.specs.State.{cases_of, EndsWalks, HasAnswers, HasCatcher, HasClauses, HasWalk, HasBranch, HasGatherer, HasPlain};
 ghost use Rattle.plstack.specs.First.{IsFirst};
@@ -100,10 +100,38 @@ impl Progress {
         match kind {
             MarkerKind::Commit => self.machine.stack.cut(level, rest)?,
             MarkerKind::Never => self.machine.mode = Mode::Back(Outcome::CutTo(level)),
-            MarkerKind::Until => self.machine.stack.visit(rest),
+            MarkerKind::Until => self.pass_until(program, level, rest),
             MarkerKind::Collect(v) => self.collect(v, level)?,
         }
         Ok(())
+    }
+
+    /// The marker up to which a catcher is active: where the catcher is the innermost case, a choice with nothing left takes its place.
+    #[tactic(auto, using(crate::proofs::Ending::ends_same, crate::proofs::Ending::ends_refl))]
+    fn pass_until(&mut self, program: &Program, level: Level, rest: Continuation)
+        requires visits { self.old.machine.mode ≡ Mode.Visit }
+        requires marker { IsFirst self.old.machine.stack (MarkerFirst MarkerKind.Until level rest) }
+        ensures quiet { Quiet program.now self.old self.new }
+        ensures walks { EndsWalks self.old.machine.stack self.new.machine.stack }
+    {
+        if self.is_in_catcher(level) {
+            self.machine.stack.recover(rest);
+            return;
+        }
+        self.machine.stack.visit(rest);
+    }
+
+    /// Whether the innermost case is the catcher of a level, in another case.
+    fn is_in_catcher(&self, level: Level) -> bool
+        ensures catcher { IsTrue result → HasCatcher self.now.machine.stack }
+        ensures level { IsTrue result → depth_of self.now.machine ≡ level + 1 }
+        ensures inside { IsTrue result → 0 < level }
+    {
+        let stack = &self.machine.stack;
+        if !stack.is_catcher() || stack.level() != level {
+            return false;
+        }
+        level > Level::BOTTOM
     }
 
     /// A copy of the term of a value is kept for the handler of a level, and the list fails.
@@ -258,10 +286,6 @@ impl Progress {
         };
         match closed {
             Closed::Handler => None,
-            Closed::Mark(level) => {
-                self.pass_mark(level);
-                None
-            }
             Closed::Choice => {
                 self.stop_cut();
                 None
@@ -318,16 +342,6 @@ impl Progress {
             | Outcome::Throw(_, _)
             | Outcome::Halted(_)
             | Outcome::Spent => None,
-        }
-    }
-
-    /// Behind a mark Fail is a cut to its level.
-    fn pass_mark(&mut self, level: Level)
-        ensures { Becomes self.old self.new (mark level) }
-    {
-        if self.fails() {
-            self.machine.mode = Mode::Back(Outcome::CutTo(level));
-            return;
         }
     }
 

@@ -25,16 +25,17 @@ use Rattle.plstack.specs.declared.frame.Frame.TheVariants.{Open}
 use Rattle.plstack.specs.Places.{Database, answers_left, kept_values}
 use Rattle.plstack.specs.Frames.{AreOlder, IsOpen}
 use Rattle.plstack.specs.Trials.{IsMarked}
-use Rattle.plstack.specs.State.{State, IsStack, goals_in, goals_of, place_of, cases_of, IsList, Extends, Solves, Retries, CountsUp}
+use Rattle.plstack.specs.State.{State, IsStack, goals_in, goals_of, place_of, cases_of, IsFit, IsList, kinds_in, Extends, Solves, Retries, CountsUp}
 use Rattle.plstack.specs.Calls.{StaysAt}
 use Rattle.plstack.specs.Cutting.{Settles}
 use Rattle.plstack.specs.Answering.{answers_if, TakesAnswer, TakesNone, PushesAnswers, Answered, Unanswered}
 use Rattle.plstack.proofs.Growing.{extends-env, frames-grown, solved-lists, solved-stack, solves, stack-env}
 use Rattle.plstack.proofs.Opened.{with_values, values-stack, values-cases, values-there, older-then, frame-there}
 use Rattle.plstack.proofs.Renaming.{answers-renamed, stays}
-use Rattle.plstack.proofs.Returning.{visiting, same-cases, back-depth}
+use Rattle.plstack.proofs.Returning.{same-cases, back-depth}
+use Rattle.plstack.proofs.Naming.{fits-env}
 use Rattle.plstack.proofs.Rewinding.{without, without-stack, now, kept-then, frame-then, list-then, was-open, rewound, rewound-stack, rewound-cases}
-use Rattle.plstack.proofs.Stacks.{opened-cases, opened-state, counted, counted-cases}
+use Rattle.plstack.proofs.Stacks.{visiting, opened-cases, opened-state, counted, counted-cases}
 
 -- the first answer was taken
 module _ (s : State) (d : ℕ) (is : IsStack s d) (vs : List Cell) (fit : AreValues s.env.heap vs) (turn : Turn) (e : Env) (env : IsEnv e) (rest : Option Turn) (t : TakesAnswer s.env e vs turn rest) where
@@ -59,7 +60,7 @@ module _ (s : State) (d : ℕ) (is : IsStack s d) (vs : List Cell) (fit : AreVal
   pub keeps-all : Keeps s.env e
   keeps-all = Keeps-trans s.env t.before e t.stays.extends.keeps (Keeps-trans t.before (wider t.equation.new t.before) e (extends-counted t.before t.equation.new).keeps t.solves.made.keeps)
 
-  module _ (l : Continuation) (i : IsList s l) where
+  module _ (l : Continuation) (i : IsList s l) (f : IsFit s l) where
     list-there : IsList (record s { env = e }) l
     list-there = (bound-list l i).0
 
@@ -70,7 +71,7 @@ module _ (s : State) (d : ℕ) (is : IsStack s d) (vs : List Cell) (fit : AreVal
     entered = record { basis = s.basis; env = e; links = s.links; saved = s.saved; frames = s.frames; goals = l }
 
     entered-stack : IsStack entered d
-    entered-stack = visiting (record s { env = e }) d l bound-stack list-there
+    entered-stack = visiting (record s { env = e }) d l bound-stack list-there (fits-env (kinds_in s) (goals_in s) s.env e (items_of s.links l) (items_of s.links l) refl f)
 
     entered-cases : (db : Database) → cases_of db entered ≡ cases_of db s
     entered-cases db = same-cases db (record s { env = e }) l ∙ bound.cases db ∙ before-extends.cases db
@@ -116,6 +117,7 @@ module _ (s : State) (d : ℕ) (is : IsStack s d) (vs : List Cell) (fit : AreVal
         saved_room = kept-frame.saved_room;
         older = kept-frame.older;
         items = kept-frame.items;
+        fits = kept-frame.fits;
         resume = (kept-frame.resume.0, subst (λ (x : Env). IsTurn x.heap (kept_values s.saved p r) next) (sym then-cut) (subst (λ ws. IsTurn (renamed s.env e.heap.names).heap ws next) (sym there) turn-then));
       }
 
@@ -172,7 +174,7 @@ pub answered_settled : (db : Database) (s t new : State) (vs : List Cell) (l : C
 answered_settled db s t new vs l turn a y = record { others = a.others; places = a.places ∙ ap (λ p. p ∷ a.others) (sym y.place); cases = y.cases db ∙ a.cases }
 
 -- a call that is opened: whatever its first answer leaves
-module _ (s : State) (d : ℕ) (is : IsStack s d) (p : Point) (m : IsMarked s p.marks) (i : IsList s p.list) (vs : List Cell) (fit : AreValues s.env.heap vs) (turn : Turn) (turns : IsTurn s.env.heap vs turn)
+module _ (s : State) (d : ℕ) (is : IsStack s d) (p : Point) (m : IsMarked s p.marks) (i : IsList s p.list) (f : IsFit s p.list) (vs : List Cell) (fit : AreValues s.env.heap vs) (turn : Turn) (turns : IsTurn s.env.heap vs turn)
     (e : Env) (env : IsEnv e) (rest : Option Turn) (t : TakesAnswer s.env e vs turn rest) (frames : List Frame) (pushes : PushesAnswers p (length vs) rest s.frames frames) where
   abbrev kept : State
   kept = with_values s d is vs
@@ -191,12 +193,12 @@ module _ (s : State) (d : ℕ) (is : IsStack s d) (p : Point) (m : IsMarked s p.
 
   both : (o : Option Turn) → rest ≡ o → PushesAnswers p (length vs) o s.frames frames → IsStack called (d + 1) × ((db : Database) → Answered db kept called vs p.list turn)
   both None none up = (
-    last-stack kept d kept-stack vs fit turn e env rest t p.list list-kept none frames up,
-    last-answered kept d kept-stack vs fit turn e env rest t p.list list-kept none frames up,
+    last-stack kept d kept-stack vs fit turn e env rest t p.list list-kept f none frames up,
+    last-answered kept d kept-stack vs fit turn e env rest t p.list list-kept f none frames up,
   )
   both (Some next) some pushed = (
-    next-stack kept d kept-stack vs fit turn e env rest t p.list list-kept next some p refl (length vs) (values-there s d is p m i (resumes.Answers c) vs (fit, turns) refl) m.now (frame-there s d is p m i (resumes.Answers c) vs (fit, turns) refl) frames pushed,
-    next-answered kept d kept-stack vs fit turn e env rest t p.list list-kept next some p refl (length vs) (values-there s d is p m i (resumes.Answers c) vs (fit, turns) refl) m.now (frame-there s d is p m i (resumes.Answers c) vs (fit, turns) refl) frames pushed,
+    next-stack kept d kept-stack vs fit turn e env rest t p.list list-kept f next some p refl (length vs) (values-there s d is p m i f (resumes.Answers c) vs (fit, turns) refl) m.now (frame-there s d is p m i f (resumes.Answers c) vs (fit, turns) refl) frames pushed,
+    next-answered kept d kept-stack vs fit turn e env rest t p.list list-kept f next some p refl (length vs) (values-there s d is p m i f (resumes.Answers c) vs (fit, turns) refl) m.now (frame-there s d is p m i f (resumes.Answers c) vs (fit, turns) refl) frames pushed,
   )
 
   pub called-stack : IsStack called (d + 1)
@@ -212,7 +214,7 @@ module _ (s : State) (d : ℕ) (is : IsStack s d) (p : Point) (m : IsMarked s p.
   called-within = (keeps-all s d is vs fit turn e env rest t).within p.marks.env m.mark.within
 
   pub called-older : rest ≡ None → AreOlder p.marks (reverse frames)
-  called-older none = (subst (λ o. PushesAnswers p (length vs) o s.frames frames) none pushes).older p.marks (older-then s d is p m i (resumes.Answers c) vs (fit, turns) refl)
+  called-older none = (subst (λ o. PushesAnswers p (length vs) o s.frames frames) none pushes).older p.marks (older-then s d is p m i f (resumes.Answers c) vs (fit, turns) refl)
 
 -- the innermost case, a call, is opened again
 module _ (s : State) (d : ℕ) (is : IsStack s d) (below : List Frame) (p : Point) (a : Answers) (popped : s.frames ≡ below ++ Open p (resumes.Answers a) ∷ []) where
@@ -250,12 +252,12 @@ module _ (s : State) (d : ℕ) (is : IsStack s d) (below : List Frame) (p : Poin
 
       both-again : (o : Option Turn) → rest ≡ o → PushesAnswers p a.count o below frames → IsStack again (d - 1 + 1) × ((db : Database) → Answered db at again vs p.list a.turn)
       both-again None none up = (
-        last-stack at (d - 1) at-stack vs values-again a.turn e env rest t p.list (list-then s d is below p (resumes.Answers a) popped) none frames up,
-        last-answered at (d - 1) at-stack vs values-again a.turn e env rest t p.list (list-then s d is below p (resumes.Answers a) popped) none frames up,
+        last-stack at (d - 1) at-stack vs values-again a.turn e env rest t p.list (list-then s d is below p (resumes.Answers a) popped) the-frame.fits none frames up,
+        last-answered at (d - 1) at-stack vs values-again a.turn e env rest t p.list (list-then s d is below p (resumes.Answers a) popped) the-frame.fits none frames up,
       )
       both-again (Some next) some pushed = (
-        next-stack at (d - 1) at-stack vs values-again a.turn e env rest t p.list (list-then s d is below p (resumes.Answers a) popped) next some p refl a.count (kept-then s d is below p (resumes.Answers a) popped) (now s d is below p (resumes.Answers a) popped) the-frame frames pushed,
-        next-answered at (d - 1) at-stack vs values-again a.turn e env rest t p.list (list-then s d is below p (resumes.Answers a) popped) next some p refl a.count (kept-then s d is below p (resumes.Answers a) popped) (now s d is below p (resumes.Answers a) popped) the-frame frames pushed,
+        next-stack at (d - 1) at-stack vs values-again a.turn e env rest t p.list (list-then s d is below p (resumes.Answers a) popped) the-frame.fits next some p refl a.count (kept-then s d is below p (resumes.Answers a) popped) (now s d is below p (resumes.Answers a) popped) the-frame frames pushed,
+        next-answered at (d - 1) at-stack vs values-again a.turn e env rest t p.list (list-then s d is below p (resumes.Answers a) popped) the-frame.fits next some p refl a.count (kept-then s d is below p (resumes.Answers a) popped) (now s d is below p (resumes.Answers a) popped) the-frame frames pushed,
       )
 
       pub again-stack : IsStack again d

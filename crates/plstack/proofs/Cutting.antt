@@ -1,64 +1,31 @@
 -- What a cut gives up, frame by frame.
-use Rattle.std.proofs.Common.{◌≡◌, ℕ, zero, suc, ◌+◌, ◌-◌, ◌<◌, ◌≤◌, List, [], ◌∷◌, ◌++◌, length, length-append, take, drop, reverse, map, refl, sym, ap, ap₂, ◌∙◌, subst, arith, append_assoc, le_trans, le_refl, take-append-drop, drop-cons}
-use Rattle.std.proofs.lemmas.List.{reverse-append}
+use Rattle.std.proofs.Common.{◌≡◌, ℕ, true, zero, suc, ◌+◌, ◌-◌, ◌<◌, ◌≤◌, List, [], ◌∷◌, ◌++◌, length, length-append, take, drop, reverse, refl, sym, ap, ap₂, ◌∙◌, subst, arith, append_assoc, le_trans, le_refl, take-append-drop, drop-cons, ◌⊎◌, inl, inr}
+use Rattle.std.proofs.lemmas.List.{reverse-append, take_all}
+use Rattle.std.proofs.Math.Nat.{eq-or-lt_of_le}
 use Rattle.std.proofs.Math.Seq.{take-suc}
-use Rattle.plterm.specs.Tree.{Tree}
 use Rattle.plcells.specs.declared.cell.Cell.{Cell}
-use Rattle.plsearch.specs.Types.{Element, Place, Case, Choice, Mark as MarkOf}
+use Rattle.plsearch.specs.Types.{Place, Case, Choice, Mark as MarkOf}
 use Rattle.plsearch.specs.Engine.{deeper}
-use Rattle.plsearch.specs.Machines.Levels.{AreAtMost, emptied}
+use Rattle.plsearch.specs.Machines.Levels.{emptied}
 use Rattle.plenv.specs.Env.{Env, cut}
-use Rattle.pllinks.specs.declared.item.Run.{Run}
 use Rattle.pllinks.specs.declared.item.Item.{Item}
-use Rattle.pllinks.specs.declared.item.Item.TheVariants as items
 use Rattle.pllinks.specs.declared.link.Link.{Link}
 use Rattle.pllinks.specs.declared.link.Continuation.{Continuation}
-use Rattle.pllinks.specs.Lists.{Goals, goal_of, run_goals, elements, all_elements}
-use Rattle.pllinks.specs.Links.{list_at, items_of, link_at, level_in, top_at, IsChain}
-use Rattle.pllinks.proofs.Arena.{list_at-first, list_at-none}
+use Rattle.pllinks.specs.Lists.{Goals}
+use Rattle.pllinks.specs.Links.{items_of}
 use Rattle.plstack.specs.declared.frame.Resume.{Resume}
 use Rattle.plstack.specs.declared.frame.Resume.TheVariants as resumes
 use Rattle.plstack.specs.declared.frame.Frame.{Frame}
-use Rattle.plstack.specs.declared.frame.Frame.TheVariants.{Plain, Barrier, Open}
+use Rattle.plstack.specs.declared.frame.Frame.TheVariants.{Plain, Open}
 use Rattle.plstack.specs.Places.{Database, plain, kept_values, case_of, opened, cases, size, depth_of}
 use Rattle.plstack.specs.Frames.{AreFrames, AreSeen}
-use Rattle.plstack.specs.State.{State, IsStack, CountsUp, goals_in, cases_of}
-use Rattle.plstack.specs.Cutting.{IsChosen, IsChoice, frame_at, ChoiceAt, EmptiesFrom, GivesUp, Empties}
+use Rattle.plstack.specs.State.{State, IsStack, CountsUp, goals_in, goals_of, kinds_in, cases_of, IsFit, IsList}
+use Rattle.plstack.specs.Levels.{is_chosen, kinds, choices, kinds_of, ChoiceIn, FitsIn, Precedes}
+use Rattle.plstack.proofs.Naming.{Widens, widens-emptied, fits-widen, fits-more, kinds-cases, kinds-length, kinds-plain, no-database, choice-append, choice-below, choice-first}
+use Rattle.plstack.specs.Cutting.{IsChoice, frame_at, ChoiceAt, EmptiesFrom, GivesUp, Empties}
 use Rattle.plstack.proofs.Frames.{plain-deeper, depth-cases, reverse-push}
 use Rattle.plstack.proofs.Stacks.{with-frames, plain-plus}
 use Rattle.plstack.proofs.Ending.{ends-from}
-
--- an element or a list names no level above that of its link
-module _ (code : Goals) (e : Env) (k : ℕ) where
-  run-most : (r : Run) (ts : List Tree) (es : List Element) → r.level ≤ k → AreAtMost k es → AreAtMost k (map (goal_of e r) ts ++ es)
-  run-most r [] es le most = most
-  run-most r (t ∷ ts) es le most = (le, run-most r ts es le most)
-
-  item-most : (x : Item) (es : List Element) → level_in x ≤ k → AreAtMost k es → AreAtMost k (elements code e x ++ es)
-  item-most (items.Run r) es le most = run-most r (run_goals code r) es le most
-  item-most (items.Goal l v) es le most = (le, most)
-  item-most (items.Marker m l) es le most = (le, most)
-
-  first-most : (x : Item) (xs : List Item) → level_in x ≤ k → AreAtMost k (all_elements code e xs) → AreAtMost k (all_elements code e (x ∷ xs))
-  unfolding all_elements
-  first-most x xs le most = item-most x (all_elements code e xs) le most
-
-  none-most : AreAtMost k (all_elements code e [])
-  unfolding all_elements
-  none-most = tt
-
-  module _ (links : List Link) (chain : IsChain links) where
-    most-of : (fuel i : ℕ) → i ≤ fuel → i ≤ length links → top_at links i ≤ k → AreAtMost k (all_elements code e (list_at links i))
-    most-of fuel zero few le most = subst (λ xs. AreAtMost k (all_elements code e xs)) (sym (list_at-none links)) none-most
-    most-of zero (suc i) few le most = absurd (omega arith)
-    most-of (suc fuel) (suc i) few le most =
-        let l = chain i (omega arith) in
-        subst (λ xs. AreAtMost k (all_elements code e xs)) (sym (list_at-first links i chain (omega arith)))
-        (first-most (link_at links i).item (list_at links (link_at links i).next) (le_trans l.level most)
-        (most-of fuel (link_at links i).next (omega (arith, l.next)) (omega (arith, l.next)) (le_trans l.rest_top most)))
-
-    pub list-most : (l : Continuation) → l.rest ≤ length links → l.run.level ≤ k → top_at links l.rest ≤ k → AreAtMost k (all_elements code e (items_of links l))
-    list-most l le own most = first-most (items.Run l.run) (list_at links l.rest) own (most-of l.rest l.rest (le_refl _) le most)
 
 -- choices with nothing left
 plain-append : (n : ℕ) (below : List Case) → plain n below ≡ plain n [] ++ below
@@ -85,12 +52,12 @@ record IsChoiceCase (c : Case) : Type 0 where
   is : c ≡ Choice places
 
 module _ (db : Database) (code : Goals) (e : Env) (links : List Link) (saved : List Cell) where
-  chosen : (d : ℕ) (x : Env) (xs : List Item) (vs : List Cell) (r : Resume) → IsChosen r → IsChoiceCase (case_of db code d x xs vs r)
+  chosen : (d : ℕ) (x : Env) (xs : List Item) (vs : List Cell) (r : Resume) → is_chosen r ≡ true → IsChoiceCase (case_of db code d x xs vs r)
   chosen d x xs vs (resumes.Clauses c) i = record { places = _; is = refl }
   chosen d x xs vs (resumes.Walk w) i = record { places = _; is = refl }
   chosen d x xs vs (resumes.Answers a) i = record { places = _; is = refl }
   chosen d x xs vs resumes.List i = record { places = _; is = refl }
-  chosen d x xs vs (resumes.Handle y) i = absurd i
+  chosen d x xs vs (resumes.Handle y) i = absurd (cc)
 
   one-splits : (f : Frame) (base : List Case) (level : ℕ) → IsChoice f → deeper base 0 ≤ level → level < deeper base 0 + size f → Splits (opened db code e links saved f base) level (plain (level - deeper base 0) base)
   one-splits (Plain n) base level choice low high =
@@ -102,7 +69,6 @@ module _ (db : Database) (code : Goals) (e : Env) (links : List Link) (saved : L
         is = ap (λ i. plain i base) (omega arith) ∙ sym (plain-plus m (suc k) base) ∙ plain-append m (plain (suc k) base);
         count = omega (arith, plain-deeper n base, plain-length m);
       }
-  one-splits (Barrier l) base level choice low high = absurd choice
   one-splits (Open p r) base level choice low high =
       let c = chosen (deeper base 0) (cut p.marks.env e) (items_of links p.list) (kept_values saved p r) r choice in
       let none : 0 ≡ level - deeper base 0 = omega arith in
@@ -123,7 +89,6 @@ module _ (db : Database) (code : Goals) (e : Env) (links : List Link) (saved : L
     is = plain-append n all ∙ ap (λ cs. plain n [] ++ cs) s.is ∙ sym (append_assoc (plain n []) s.inside (Choice s.places ∷ low));
     count = omega (arith, plain-deeper n all, length-append (plain n []) s.inside, plain-length n, s.count);
   }
-  more-splits (Barrier l) all level low s = behind (MarkOf l) all level low s
   more-splits (Open p r) all level low s = behind (case_of db code (deeper all 0) (cut p.marks.env e) (items_of links p.list) (kept_values saved p r) r) all level low s
 
   all-split : (front : List Frame) (f : Frame) (under : List Frame) (level : ℕ) → IsChoice f → deeper (cases db code e links saved under) 0 ≤ level → level < deeper (cases db code e links saved under) 0 + size f →
@@ -163,6 +128,16 @@ depth-under fs i lt =
 
 -- the frames from one on are given up
 module _ (s : State) (d : ℕ) (is : IsStack s d) (i below n : ℕ) (lt : i < length s.frames) (under : depth_of (reverse (take i s.frames)) ≡ below) (count : n ≡ d - below + 1) (frames : List Frame) (up : CountsUp n (reverse (take i s.frames)) (reverse frames)) where
+  wider-kinds : Widens (kinds_in s) (kinds_of (reverse frames))
+  wider-kinds =
+      let front : List Frame = reverse (drop (suc i) s.frames) ++ frame_at s.frames i ∷ [] in
+      let split : reverse s.frames ≡ front ++ reverse (take i s.frames) = reversed-at s.frames i lt ∙ sym (append_assoc (reverse (drop (suc i) s.frames)) (frame_at s.frames i ∷ []) (reverse (take i s.frames))) in
+      let more = widens-emptied front (reverse (take i s.frames)) n (omega (arith, under, count, is.1, ap depth_of split, depth-under s.frames i lt)) in
+      subst (λ fs. Widens (kinds_of fs) (kinds_of (reverse frames))) (sym split) (subst (Widens (kinds_of (front ++ reverse (take i s.frames)))) (sym up.kinds) more)
+
+  wider-fits : (l : Continuation) → IsFit s l → FitsIn (kinds_of (reverse frames)) (goals_of s l)
+  wider-fits l f = fits-widen (kinds_in s) (kinds_of (reverse frames)) wider-kinds (goals_of s l) f
+
   pub emptied-stack : IsStack (record s { frames = frames }) (d + 1)
   emptied-stack = (
     with-frames s frames is.0 (up.frames (goals_in s) s.env s.links s.saved
@@ -170,7 +145,8 @@ module _ (s : State) (d : ℕ) (is : IsStack s d) (i below n : ℕ) (lt : i < le
         (frames-append (goals_in s) s.env s.links s.saved (reverse (drop (suc i) s.frames)) (frame_at s.frames i ∷ reverse (take i s.frames)) (subst (AreFrames (goals_in s) s.env s.links s.saved) (reversed-at s.frames i lt) is.0.frames))))
         (up.seen s.basis.latest
         (seen-append s.basis.latest (frame_at s.frames i ∷ []) (reverse (take i s.frames))
-        (seen-append s.basis.latest (reverse (drop (suc i) s.frames)) (frame_at s.frames i ∷ reverse (take i s.frames)) (subst (AreSeen s.basis.latest) (reversed-at s.frames i lt) is.0.seen)))),
+        (seen-append s.basis.latest (reverse (drop (suc i) s.frames)) (frame_at s.frames i ∷ reverse (take i s.frames)) (subst (AreSeen s.basis.latest) (reversed-at s.frames i lt) is.0.seen))))
+        (wider-fits s.goals is.0.fits),
     omega (arith, up.depth, under, count, is.1, depth-under s.frames i lt),
   )
 
@@ -205,3 +181,40 @@ empties s new level i below at from db =
           ∙ sym (plain-plus (suc (length split.inside)) (suc k) base)
           ∙ sym (emptied-plain (MarkOf level ∷ split.inside) (plain (suc k) base));
     }
+
+-- a list behind a goal of the level fits behind the cut
+pub given-fits : (s new : State) (level i below : ℕ) → ChoiceAt s.frames level i below → GivesUp s new i below → (l : Continuation) → IsList s l → Precedes (kinds_in s) level (goals_of s l) → IsFit new l
+unfolding cases_of
+given-fits s new level i below at from l there p =
+    let n : ℕ = depth_of (reverse s.frames) - below + 1 in
+    let under : List Frame = reverse (take i s.frames) in
+    let front : List Frame = reverse (drop (suc i) s.frames) ++ frame_at s.frames i ∷ [] in
+    let split : reverse s.frames ≡ front ++ under = reversed-at s.frames i at.there ∙ sym (append_assoc (reverse (drop (suc i) s.frames)) (frame_at s.frames i ∷ []) under) in
+    let more : Widens (kinds_of (front ++ under)) (choices n (kinds_of under)) = widens-emptied front under n (omega (arith, at.depth, ap depth_of split, depth-under s.frames i at.there)) in
+    let new-kinds : kinds_in new ≡ choices n (kinds_of under) =
+    sym (kinds-cases no-database (goals_in new) new.env new.links new.saved (reverse new.frames)) ∙ ap kinds (from.cases no-database)
+    ∙ kinds-plain n (cases no-database (goals_in s) s.env s.links s.saved under) ∙ ap (choices n) (kinds-cases no-database (goals_in s) s.env s.links s.saved under) in
+    let w : Widens (kinds_in s) (kinds_in new) = subst (λ fs. Widens (kinds_of fs) (kinds_in new)) (sym split) (subst (Widens (kinds_of (front ++ under))) (sym new-kinds) more) in
+    subst (FitsIn (kinds_in new)) (sym (from.keeps.lists l there).1)
+    (fits-more (kinds_in s) (kinds_in new) w (goals_of s l) (suc level) (length (kinds_in new)) (omega (arith, p.0, w.more)) p.2)
+
+-- the frame of a choice's level is a choice's
+pub choice-here : (frames : List Frame) (i level : ℕ) → i < length frames → depth_of (reverse (take i frames)) ≤ level → level < depth_of (reverse (take (i + 1) frames)) → ChoiceIn (kinds_of (reverse frames)) level → IsChoice (frame_at frames i)
+choice-here frames i level lt low high c =
+    let under : List Frame = reverse (take i frames) in
+    let f : Frame = frame_at frames i in
+    let more : i + 1 ≡ suc i = omega arith in
+    let size-here = depth-taken frames i lt in
+    let top : level < depth_of (f ∷ under) = omega (arith, high, size-here, ap (λ n. depth_of (reverse (take n frames))) more) in
+    choice-first f under level low (choice-append (reverse (drop (suc i) frames)) (f ∷ under) level top (subst (λ fs. ChoiceIn (kinds_of fs) level) (reversed-at frames i lt) c))
+
+pub choice-deep : (frames : List Frame) (level : ℕ) → ChoiceIn (kinds_of (reverse frames)) level → level < depth_of (reverse frames)
+choice-deep frames level c = omega (arith, choice-below (kinds_of (reverse frames)) level c, kinds-length (reverse frames))
+
+-- it is one of the frames
+pub below-all : (frames : List Frame) (i level : ℕ) → i ≤ length frames → depth_of (reverse (take i frames)) ≤ level → level < depth_of (reverse (take (i + 1) frames)) → i < length frames
+below-all frames i level le low high = go (eq-or-lt_of_le le)
+  where
+    go : (i ≡ length frames) ⊎ (i < length frames) → i < length frames
+    go (inr lt) = lt
+    go (inl e) = absurd (omega (arith, low, high, ap (λ xs. depth_of (reverse xs)) (take_all i frames (omega arith)), ap (λ xs. depth_of (reverse xs)) (take_all (i + 1) frames (omega arith))))

@@ -9,7 +9,7 @@ use Rattle.plstack.specs.declared.frame.Clauses.{Clauses}
 use Rattle.plstack.specs.declared.frame.Resume.{Resume}
 use Rattle.plstack.specs.declared.frame.Resume.TheVariants as resumes
 use Rattle.plstack.specs.declared.frame.Frame.{Frame}
-use Rattle.plstack.specs.declared.frame.Frame.TheVariants.{Plain, Barrier, Open}
+use Rattle.plstack.specs.declared.frame.Frame.TheVariants.{Plain, Open}
 use Rattle.plstack.specs.Places.{walk_of, walks_of}
 use Rattle.plstack.specs.State.{State, walks_in, CountsUp, EndsWalks, HasClauses, IsClauses}
 use Rattle.plstack.specs.StaticCalls.{PushesCall}
@@ -33,7 +33,6 @@ counted-walks frames gs rest f n was none up = up.walks ∙ sym none ∙ sym (pu
 walks-append : (fs gs : List Frame) → walks_of (fs ++ gs) ≡ walks_of fs ++ walks_of gs
 walks-append [] gs = refl
 walks-append (Plain n ∷ fs) gs = walks-append fs gs
-walks-append (Barrier l ∷ fs) gs = walks-append fs gs
 walks-append (Open p r ∷ fs) gs = ap (λ ws. walk_of r ++ ws) (walks-append fs gs) ∙ sym (append_assoc (walk_of r) (walks_of fs) (walks_of gs))
 
 -- the frames from one on were taken off
@@ -72,7 +71,6 @@ left-walks s rest f popped has = pushed-walks s.frames rest f popped ∙ none f 
   where
     none : (f : Frame) → IsClauses f → walks_of (f ∷ reverse rest) ≡ walks_of (reverse rest)
     none (Plain n) i = absurd i
-    none (Barrier l) i = absurd i
     none (Open p (resumes.Clauses c)) i = refl
     none (Open p (resumes.Walk w)) i = absurd i
     none (Open p (resumes.Answers a)) i = absurd i

@@ -1,5 +1,5 @@
 -- A call that is tried: the clause that fits is entered, or none is left.
-use Rattle.std.proofs.Common.{◌≡◌, ℕ, List, [], ◌∷◌, ◌++◌, drop, reverse, sym, ap, ap₂, ◌∙◌, subst}
+use Rattle.std.proofs.Common.{◌≡◌, ℕ, List, [], ◌∷◌, ◌++◌, drop, reverse, sym, ap, ap₂, ◌∙◌, subst, length, true, arith, ◌-◌, refl}
 use Rattle.plterm.specs.Tree.{Tree}
 use Rattle.plsubst.specs.Subst.{bind}
 use Rattle.plclause.specs.Clause.{Clause}
@@ -17,14 +17,16 @@ use Rattle.plstack.specs.declared.frame.Point.{Point}
 use Rattle.plstack.specs.declared.frame.Clauses.{Clauses}
 use Rattle.plstack.specs.declared.frame.Resume.TheVariants as resumes
 use Rattle.plstack.specs.declared.frame.Frame.{Frame}
-use Rattle.plstack.specs.declared.frame.Frame.TheVariants.{Plain, Barrier, Open}
+use Rattle.plstack.specs.declared.frame.Frame.TheVariants.{Plain, Open}
 use Rattle.plstack.specs.declared.fit.Hit.{Hit}
-use Rattle.plstack.specs.Places.{Database, called, places_left}
-use Rattle.plstack.specs.State.{State, goals_of, place_of, cases_of, IsList, AddsList, Retries, IsClauses, BeginsWith, HasClauses}
+use Rattle.plstack.specs.Places.{Database, called, places_left, size}
+use Rattle.plstack.specs.Levels.{kinds_of, FitsIn, Precedes}
+use Rattle.plstack.specs.State.{State, IsStack, goals_of, kinds_in, place_of, cases_of, IsList, AddsList, Retries, IsClauses, BeginsWith, HasClauses}
 use Rattle.plstack.specs.Calls.{places_of, Calls, CallsNone, StaysAt}
 use Rattle.plstack.specs.StaticCalls.{AtCall, IsCalling, further, onward, Binds, Enters, Hits, OpensCall}
 use Rattle.plstack.proofs.Frames.{reverse-push}
-use Rattle.plstack.proofs.Stacks.{popped-cases}
+use Rattle.plstack.proofs.Naming.{fits-bound, first-precedes, kinds-length}
+use Rattle.plstack.proofs.Stacks.{popped-cases, popped-stack, is-last}
 
 -- the list behind the goal has a number
 module _ (s t : State) (p : Point) (c : Clauses) (n : ℕ) (at : AtCall s p c) (adds : AddsList s t (alone n) (goals_of s p.list)) where
@@ -33,6 +35,9 @@ module _ (s t : State) (p : Point) (c : Clauses) (n : ℕ) (at : AtCall s p c) (
     calling = record { rest = at.calling.rest; top = adds.stays.frames ∙ at.calling.top };
     now = ap (cut p.marks.env) adds.env ∙ at.now ∙ sym adds.env;
     list = (adds.stays.lists p.list at.list).0;
+    fits =
+        subst (λ fs. FitsIn (drop 1 (kinds_of (reverse fs))) (goals_of t p.list)) (sym adds.stays.frames)
+        (subst (FitsIn (drop 1 (kinds_in s))) (sym (adds.stays.lists p.list at.list).1) at.fits);
   }
 
   pub calling-found : (u : State) → u ≡ record t { env = u.env } → IsCalling u p c
@@ -48,6 +53,14 @@ module _ (s t : State) (p : Point) (c : Clauses) (n : ℕ) (at : AtCall s p c) (
         (binds.lists (alone n) adds.there).1
         ∙ ap (bind_goals binds.unifier) (adds.is ∙ sym (adds.stays.lists p.list at.list).1)
         ∙ sym (binds.lists p.list at-numbered.list).1
+
+    -- it fits in the cases outside of the call
+    pub behind-fits : FitsIn (drop 1 (kinds_in u)) (goals_of u (alone n))
+    behind-fits =
+        let goals : goals_of u (alone n) ≡ bind_goals binds.unifier (goals_of s p.list) = (binds.lists (alone n) adds.there).1 ∙ ap (bind_goals binds.unifier) adds.is in
+        let frames : u.frames ≡ s.frames = ap (λ (x : State). x.frames) same ∙ adds.stays.frames in
+        subst (λ fs. FitsIn (drop 1 (kinds_of (reverse fs))) (goals_of u (alone n))) (sym frames)
+        (subst (FitsIn (drop 1 (kinds_in s))) (sym goals) (fits-bound (drop 1 (kinds_in s)) binds.unifier (goals_of s p.list) (length (drop 1 (kinds_in s))) at.fits))
 
     pub code-found : (hit : Hit) (x : Clause) → IsCodeOf t.basis.code.text hit.clause x → IsCodeOf u.basis.code.text hit.clause x
     code-found hit x code = subst (λ (b : Basis). IsCodeOf b.code.text hit.clause x) (sym (ap (λ (y : State). y.basis) same)) code
@@ -129,7 +142,6 @@ without : (s : State) (rest : List Frame) (db : Database) (x : Case) (below : Li
     cases_of db (record s { frames = rest }) ≡ below
 unfolding behind_first
 without s rest db x below e (Plain n) i is = absurd i
-without s rest db x below e (Barrier l) i is = absurd i
 without s rest db x below e (Open p (resumes.Clauses c)) i is = ap behind_first (sym (popped-cases db s rest (Open p (resumes.Clauses c)) is) ∙ e)
 without s rest db x below e (Open p (resumes.Walk w)) i is = absurd i
 without s rest db x below e (Open p (resumes.Answers a)) i is = absurd i
@@ -140,3 +152,22 @@ without s rest db x below e (Open p (resumes.Handle y)) i is = absurd i
 pub left-call : (s : State) (rest : List Frame) (f : Frame) → s.frames ≡ rest ++ f ∷ [] → HasClauses s → (db : Database) (x : Case) (below : List Case) → cases_of db s ≡ x ∷ below →
     cases_of db (record s { frames = rest }) ≡ below
 left-call s rest f popped has db x below e = without s rest db x below e f (subst (BeginsWith IsClauses) (ap reverse popped ∙ reverse-push rest f) has) popped
+
+-- a body before the list of the innermost call, at its level
+pub enters-precede : (s : State) (d : ℕ) → IsStack s d → (p : Point) (c : Clauses) → IsCalling s p c → (k : ℕ) → k ≡ d - 1 → (es : List Element) → FitsIn (drop 1 (kinds_in s)) es → Precedes (kinds_in s) k es
+enters-precede s d is p c calling k level es f =
+    let kinds : kinds_in s ≡ true ∷ kinds_of (reverse calling.rest) = ap (λ fs. kinds_of (reverse fs)) calling.top ∙ ap kinds_of (reverse-push calling.rest (Open p (resumes.Clauses c))) in
+    first-precedes (kinds_in s) (kinds_of (reverse calling.rest)) k es kinds (omega (arith, ap length kinds, kinds-length (reverse s.frames), is.1, level)) (subst (λ ks. FitsIn (drop 1 ks) es) kinds f)
+
+pub left-stack : (s : State) (d : ℕ) → IsStack s d → (rest : List Frame) (f : Frame) → s.frames ≡ rest ++ f ∷ [] → HasClauses s → IsStack (record s { frames = rest; goals = alone 0 }) (d - 1)
+left-stack s d is rest f popped has =
+    let t = popped-stack s d rest f popped is in
+    (t.0, one f (is-last IsClauses s.frames rest f popped has) ∙ t.1)
+  where
+    one : (f : Frame) → IsClauses f → d - 1 ≡ d - size f
+    one (Plain n) i = absurd i
+    one (Open p (resumes.Clauses c)) i = refl
+    one (Open p (resumes.Walk w)) i = absurd i
+    one (Open p (resumes.Answers a)) i = absurd i
+    one (Open p resumes.List) i = absurd i
+    one (Open p (resumes.Handle y)) i = absurd i

@@ -3,7 +3,7 @@ use Rattle.std.proofs.Common.{◌≡◌, ℕ, zero, suc, ◌+◌, ◌≤◌, Lis
 use Rattle.std.proofs.lemmas.List.{reverse-append}
 use Rattle.platoms.specs.Names.{IsTable, Extends}
 use Rattle.plcells.specs.declared.cell.Cell.{Cell}
-use Rattle.plsearch.specs.Types.{Case, Choice, Mark as MarkOf}
+use Rattle.plsearch.specs.Types.{Case, Choice}
 use Rattle.plsearch.specs.Engine.{deeper}
 use Rattle.plenv.specs.Env.{Env, cut, renamed, IsMark}
 use Rattle.plenv.specs.Changes.{Keeps}
@@ -20,9 +20,11 @@ use Rattle.plstack.specs.declared.frame.Marks.{Marks}
 use Rattle.plstack.specs.declared.frame.Point.{Point}
 use Rattle.plstack.specs.declared.frame.Resume.{Resume}
 use Rattle.plstack.specs.declared.frame.Frame.{Frame}
-use Rattle.plstack.specs.declared.frame.Frame.TheVariants.{Plain, Barrier, Open}
+use Rattle.plstack.specs.declared.frame.Frame.TheVariants.{Plain, Open}
 use Rattle.plstack.specs.Places.{Database, kept, kept_values, case_of, plain, cases, depth_of}
 use Rattle.plstack.specs.Frames.{IsOlder, AreOlder, IsResume, IsOpen, AreFrames}
+use Rattle.plstack.specs.Levels.{kinds_of}
+use Rattle.plstack.proofs.Naming.{fits-env}
 use Rattle.plstack.proofs.Renaming.{agrees-renamed, resume-renamed, case-renamed}
 
 -- the number of open cases
@@ -33,7 +35,6 @@ plain-deeper (suc n) below = omega (arith, plain-deeper n below)
 pub depth-cases : (db : Database) (code : Goals) (e : Env) (links : List Link) (saved : List Cell) (fs : List Frame) → deeper (cases db code e links saved fs) 0 ≡ depth_of fs
 depth-cases db code e links saved [] = refl
 depth-cases db code e links saved (Plain n ∷ fs) = omega (arith, plain-deeper n (cases db code e links saved fs), depth-cases db code e links saved fs)
-depth-cases db code e links saved (Barrier l ∷ fs) = omega (arith, depth-cases db code e links saved fs)
 depth-cases db code e links saved (Open p r ∷ fs) = omega (arith, depth-cases db code e links saved fs)
 
 -- a list among the first links
@@ -104,12 +105,12 @@ module _ (code : Goals) (old new : Env) (links more : List Link) (saved further 
       older = is.older;
       items = items-kept;
       resume = resume-kept;
+      fits = fits-env (kinds_of fs) code old new (items_of links p.list) (items_of (links ++ more) p.list) same-items is.fits;
     }
 
   pub cases-kept : (db : Database) (fs : List Frame) → AreFrames code old links saved fs → cases db code new (links ++ more) (saved ++ further) fs ≡ cases db code old links saved fs
   cases-kept db [] a = refl
   cases-kept db (Plain n ∷ fs) a = ap (plain n) (cases-kept db fs a.1)
-  cases-kept db (Barrier l ∷ fs) a = ap (λ cs. MarkOf l ∷ cs) (cases-kept db fs a.1)
   cases-kept db (Open p r ∷ fs) a =
       ap (λ cs. case_of db code (deeper cs 0) (cut p.marks.env new) (items_of (links ++ more) p.list) (kept_values (saved ++ further) p r) r ∷ cs) (cases-kept db fs a.1)
       ∙ ap (λ c. c ∷ cases db code old links saved fs) (case-kept p r fs a.0 db (deeper (cases db code old links saved fs) 0))
@@ -117,7 +118,6 @@ module _ (code : Goals) (old new : Env) (links more : List Link) (saved further 
   pub AreFrames-kept : (fs : List Frame) → AreFrames code old links saved fs → AreFrames code new (links ++ more) (saved ++ further) fs
   AreFrames-kept [] a = tt
   AreFrames-kept (Plain n ∷ fs) a = (a.0, AreFrames-kept fs a.1)
-  AreFrames-kept (Barrier l ∷ fs) a = (tt, AreFrames-kept fs a.1)
   AreFrames-kept (Open p r ∷ fs) a = (open-kept p r fs a.0 (omega (arith, length-append links more)) (omega (arith, length-append saved further)), AreFrames-kept fs a.1)
 
 -- the undo to marks that are not older than the frames
@@ -149,13 +149,13 @@ module _ (code : Goals) (e : Env) (links : List Link) (saved : List Cell) (m : M
           (subst (λ (c : Env). AreItems code c.heap (length c.slots) (items_of links p.list)) (sym again) is.items);
       resume = subst (λ vs. IsResume (cut p.marks.env (cut m.env e)).heap vs r) (sym first-values)
           (subst (λ (c : Env). IsResume c.heap (kept_values saved p r) r) (sym again) is.resume);
+      fits = fits-env (kinds_of fs) code e (cut m.env e) (items_of links p.list) (items_of (take m.links links) p.list) first-items is.fits;
     }
 
   pub cases-cut : (db : Database) (fs : List Frame) → AreOlder m fs → AreFrames code e links saved fs →
       cases db code (cut m.env e) (take m.links links) (take m.saved saved) fs ≡ cases db code e links saved fs
   cases-cut db [] o a = refl
   cases-cut db (Plain n ∷ fs) o a = ap (plain n) (cases-cut db fs o a.1)
-  cases-cut db (Barrier l ∷ fs) o a = ap (λ cs. MarkOf l ∷ cs) (cases-cut db fs o a.1)
   cases-cut db (Open p r ∷ fs) o a =
       ap (λ cs. case_of db code (deeper cs 0) (cut p.marks.env (cut m.env e)) (items_of (take m.links links) p.list) (kept_values (take m.saved saved) p r) r ∷ cs) (cases-cut db fs o.1 a.1)
       ∙ ap (λ c. c ∷ cases db code e links saved fs) (case-cut p r fs o.0 a.0 db (deeper (cases db code e links saved fs) 0))
@@ -163,7 +163,6 @@ module _ (code : Goals) (e : Env) (links : List Link) (saved : List Cell) (m : M
   pub AreFrames-cut : (fs : List Frame) → AreOlder m fs → AreFrames code e links saved fs → AreFrames code (cut m.env e) (take m.links links) (take m.saved saved) fs
   AreFrames-cut [] o a = tt
   AreFrames-cut (Plain n ∷ fs) o a = (a.0, AreFrames-cut fs o a.1)
-  AreFrames-cut (Barrier l ∷ fs) o a = (tt, AreFrames-cut fs o a.1)
   AreFrames-cut (Open p r ∷ fs) o a = (open-cut p r fs o.0 a.0, AreFrames-cut fs o.1 a.1)
 
 -- one more choice with nothing left is one more of a frame's

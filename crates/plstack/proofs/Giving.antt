@@ -3,23 +3,24 @@ use Rattle.std.proofs.Common.{◌≡◌, ℕ, suc, ◌+◌, ◌<◌, ◌≤◌, 
 use Rattle.std.proofs.lemmas.List.{get_or_append_left, get_or_push, get_or-take, get_or_default}
 use Rattle.std.proofs.Math.Nat.{eq-or-lt_of_le}
 use Rattle.plcells.specs.declared.cell.Cell.{Cell}
-use Rattle.plsearch.specs.Types.{Mark as MarkOf}
 use Rattle.plsearch.specs.Engine.{deeper}
 use Rattle.plenv.specs.Env.{Env, cut}
 use Rattle.pllinks.specs.declared.item.Item.TheVariants as items
 use Rattle.pllinks.specs.declared.link.Link.{Link}
 use Rattle.pllinks.specs.declared.link.Continuation.{Continuation}
 use Rattle.pllinks.specs.Lists.{Goals, AreItems, all_elements}
-use Rattle.pllinks.specs.Links.{list_at, items_of, link_at, top_at, slots_at, IsLink, IsChain}
-use Rattle.pllinks.proofs.Arena.{list_at-more, list_at-take, list_at-new, list_at-first, top_at-more, top_at-take, slots_at-more, slots_at-take, chain-take}
+use Rattle.pllinks.specs.Links.{list_at, items_of, link_at, slots_at, IsLink, IsChain}
+use Rattle.pllinks.proofs.Arena.{list_at-more, list_at-take, list_at-new, list_at-first, slots_at-more, slots_at-take, chain-take}
 use Rattle.plstack.specs.declared.frame.Point.{Point}
 use Rattle.plstack.specs.declared.frame.Resume.{Resume}
 use Rattle.plstack.specs.declared.frame.Frame.{Frame}
-use Rattle.plstack.specs.declared.frame.Frame.TheVariants.{Plain, Barrier, Open}
+use Rattle.plstack.specs.declared.frame.Frame.TheVariants.{Plain, Open}
 use Rattle.plstack.specs.declared.frame.Marks.{Marks}
 use Rattle.plstack.specs.Places.{Database, kept_values, case_of, plain, cases}
 use Rattle.plstack.specs.Frames.{AreOlder, IsOpen, AreFrames}
-use Rattle.plstack.specs.State.{State, IsStack, goals_in, cases_of}
+use Rattle.plstack.specs.State.{State, IsStack, goals_in, kinds_in, cases_of}
+use Rattle.plstack.specs.Levels.{kinds_of}
+use Rattle.plstack.proofs.Naming.{fits-env}
 use Rattle.plstack.specs.Holding.{held}
 use Rattle.plstack.specs.Giving.{GivesBack}
 
@@ -27,19 +28,16 @@ use Rattle.plstack.specs.Giving.{GivesBack}
 abbrev pub AreWithin : ℕ → List Frame → Type 0
 AreWithin n [] = Unit {0}
 AreWithin n (Plain m ∷ fs) = AreWithin n fs
-AreWithin n (Barrier l ∷ fs) = AreWithin n fs
 AreWithin n (Open p r ∷ fs) = (p.marks.links ≤ n) × AreWithin n fs
 
 older-within : (m : Marks) (fs : List Frame) → AreOlder m fs → AreWithin m.links fs
 older-within m [] o = tt
 older-within m (Plain n ∷ fs) o = older-within m fs o
-older-within m (Barrier l ∷ fs) o = older-within m fs o
 older-within m (Open p r ∷ fs) o = (o.0.links, older-within m fs o.1)
 
 pub held-within : (code : Goals) (e : Env) (links : List Link) (saved : List Cell) (fs : List Frame) → AreFrames code e links saved fs → AreWithin (held fs).marks.links fs
 held-within code e links saved [] a = tt
 held-within code e links saved (Plain m ∷ fs) a = held-within code e links saved fs a.1
-held-within code e links saved (Barrier l ∷ fs) a = held-within code e links saved fs a.1
 held-within code e links saved (Open p r ∷ fs) a = (le_refl _, older-within p.marks fs a.0.older)
 
 -- other lists behind the first so many
@@ -57,19 +55,18 @@ module _ (code : Goals) (e : Env) (links ls : List Link) (saved : List Cell) (n 
       older = is.older;
       items = subst (AreItems code (cut p.marks.env e).heap (length (cut p.marks.env e).slots)) (sym same-items) is.items;
       resume = is.resume;
+      fits = fits-env (kinds_of fs) code e e (items_of links p.list) (items_of ls p.list) same-items is.fits;
     }
 
   cases-same : (db : Database) (fs : List Frame) → AreWithin n fs → AreFrames code e links saved fs → cases db code e ls saved fs ≡ cases db code e links saved fs
   cases-same db [] o a = refl
   cases-same db (Plain i ∷ fs) o a = ap (plain i) (cases-same db fs o a.1)
-  cases-same db (Barrier l ∷ fs) o a = ap (λ cs. MarkOf l ∷ cs) (cases-same db fs o a.1)
   cases-same db (Open p r ∷ fs) o a =
       ap₂ (λ xs cs. case_of db code (deeper cs 0) (cut p.marks.env e) xs (kept_values saved p r) r ∷ cs) (same-items p r fs o.0 a.0) (cases-same db fs o.1 a.1)
 
   frames-same : (fs : List Frame) → AreWithin n fs → AreFrames code e links saved fs → AreFrames code e ls saved fs
   frames-same [] o a = tt
   frames-same (Plain i ∷ fs) o a = (a.0, frames-same fs o a.1)
-  frames-same (Barrier l ∷ fs) o a = (tt, frames-same fs o a.1)
   frames-same (Open p r ∷ fs) o a = (open-same p r fs o.0 a.0, frames-same fs o.1 a.1)
 
 -- how many lists the frames hold
@@ -99,6 +96,7 @@ module _ (s : State) (d : ℕ) (is : IsStack s d) (ls : List Link) (g : ℕ) (ch
       frames = frames-same (goals_in s) s.env s.links ls s.saved (held_links s) room same (reverse s.frames) within is.0.frames;
       seen = is.0.seen;
       goals = record { there = there; items = subst (AreItems (goals_in s) s.env.heap (length s.env.slots)) (sym visited-items) is.0.goals.items };
+      fits = fits-env (kinds_in s) (goals_in s) s.env s.env (items_of s.links s.goals) (items_of ls (rest_at s g)) visited-items is.0.fits;
     },
     is.1,
   )
@@ -147,9 +145,6 @@ module _ (s : State) (d : ℕ) (is : IsStack s d) (n : ℕ) (many : length s.lin
   same-below : (i : ℕ) → i ≤ n → list_at ls i ≡ list_at s.links i
   same-below i le = list_at-more (take n s.links) (l ∷ []) i (omega (arith, first_is, le)) ∙ list_at-take s.links n i le fewer
 
-  top-below : (i : ℕ) → i ≤ n → top_at ls i ≡ top_at s.links i
-  top-below i le = top_at-more (take n s.links) (l ∷ []) i (omega (arith, first_is, le)) ∙ top_at-take s.links n i le
-
   slots-below : (i : ℕ) → i ≤ n → slots_at ls i ≡ slots_at s.links i
   slots-below i le = slots_at-more (take n s.links) (l ∷ []) i (omega (arith, first_is, le)) ∙ slots_at-take s.links n i le
 
@@ -165,8 +160,6 @@ module _ (s : State) (d : ℕ) (is : IsStack s d) (n : ℕ) (many : length s.lin
           subst (IsLink ls i) (sym (get_or_append_left (take n s.links) (l ∷ []) (link_at [] 0) i (omega (arith, first_is, h)) ∙ get_or-take n s.links i (link_at [] 0) h))
           (record {
             next = was.next;
-            level = was.level;
-            rest_top = rw (top-below (link_at s.links i).next (omega (arith, was.next, h))) was.rest_top;
             own = was.own;
             rest_slots = rw (slots-below (link_at s.links i).next (omega (arith, was.next, h))) was.rest_slots;
           })
@@ -174,8 +167,6 @@ module _ (s : State) (d : ℕ) (is : IsStack s d) (n : ℕ) (many : length s.lin
           subst (IsLink ls i) (sym (get_or_push (take n s.links) l (link_at [] 0) i (omega (arith, first_is, e))))
           (record {
             next = omega (arith, next_le, e);
-            level = was-last.level;
-            rest_top = rw (top-below l.next next_le) was-last.rest_top;
             own = was-last.own;
             rest_slots = rw (slots-below l.next next_le) was-last.rest_slots;
           })

@@ -24,10 +24,13 @@ use Rattle.plstack.specs.Places.{Database}
 use Rattle.plstack.specs.Frames.{AreOlder}
 use Rattle.plstack.specs.State.{State, IsStack, goals_in, goals_of, place_of, cases_of, IsList, CountsUp}
 use Rattle.plstack.specs.Cutting.{Settles}
-use Rattle.plstack.specs.StaticCalls.{body_at, IsCalling, GoesOn}
+use Rattle.plstack.specs.StaticCalls.{body_at, IsCalling, GoesOn, PushesCall}
 use Rattle.plstack.proofs.Replacing.{taken-cases, other-stack, other-cases, none-stack, none-cases, none-older}
 use Rattle.plstack.proofs.Stacks.{depth_is}
 use Rattle.plstack.proofs.Lists.{first-elements, done-elements}
+use Rattle.plstack.specs.Levels.{kinds_of, FitsIn, Precedes}
+use Rattle.plstack.proofs.Naming.{before-fits}
+use Rattle.plstack.proofs.Frames.{reverse-push}
 
 -- the newest frame, which is a call, was taken off
 module _ (s : State) (d : ℕ) (is : IsStack s d) (p : Point) (c : Clauses) (calling : IsCalling s p c) (rest : List Frame) (f : Frame) (taken : s.frames ≡ rest ++ f ∷ []) where
@@ -37,13 +40,13 @@ module _ (s : State) (d : ℕ) (is : IsStack s d) (p : Point) (c : Clauses) (cal
     c' = record { procedure = c.procedure; count = c.count; next = next }
 
     pub replaced-stack : IsStack (record s { frames = frames }) d
-    replaced-stack = other-stack s d is p (resumes.Clauses c) calling.rest calling.top rest f taken (resumes.Clauses c') refl (λ fits. fits) tt frames pushed
+    replaced-stack = other-stack s d is p (resumes.Clauses c) calling.rest calling.top rest f taken (resumes.Clauses c') refl refl (λ fits. fits) tt frames pushed
 
     pub replaced : (db : Database) → GoesOn db s (record s { frames = frames }) p c (Some next)
     replaced db = record {
       below = cases_of db (record s { frames = rest });
       was = taken-cases s d is p (resumes.Clauses c) calling.rest calling.top rest f taken db;
-      cases = other-cases s d is p (resumes.Clauses c) calling.rest calling.top rest f taken (resumes.Clauses c') refl (λ fits. fits) tt frames pushed db;
+      cases = other-cases s d is p (resumes.Clauses c) calling.rest calling.top rest f taken (resumes.Clauses c') refl refl (λ fits. fits) tt frames pushed db;
     }
 
   -- no clause is left
@@ -96,6 +99,14 @@ module _ (s : State) (d : ℕ) (is : IsStack s d) (hit : Hit) (x : Clause) (code
 
   pub body-goals : goals_of s (body_at hit behind level) ≡ before_rest (is_true x.body) level (bind (over s.env hit.base) x.body) (goals_of s rest)
   body-goals = goals-if hit.clause.is_fact ∙ ap (λ f. before_rest f level (bind (over s.env hit.base) x.body) (goals_of s rest)) code.fact
+
+  pub body-fits : (ks : List Bool) → Precedes ks level (goals_of s rest) → FitsIn ks (goals_of s (body_at hit behind level))
+  body-fits ks p = subst (FitsIn ks) (sym body-goals) (before-fits ks (is_true x.body) level (bind (over s.env hit.base) x.body) (goals_of s rest) p)
+
+-- the kinds where a call goes on, or nothing is left of it
+pub pushes-kinds : (p : Point) (c : Clauses) (next : Option ℕ) (old new : List Frame) → PushesCall p c next old new → kinds_of (reverse new) ≡ true ∷ kinds_of (reverse old)
+pushes-kinds p c None old new up = up.kinds
+pushes-kinds p c (Some n) old new pushed = ap (λ fs. kinds_of (reverse fs)) pushed ∙ ap kinds_of (reverse-push old (Open p (resumes.Clauses (record { procedure = c.procedure; count = c.count; next = n }))))
 
 -- another list is visited
 pub goes_visited : (db : Database) (s new : State) (l : Continuation) (p : Point) (c : Clauses) (next : Option ℕ) → GoesOn db (record s { goals = l }) new p c next → GoesOn db s new p c next

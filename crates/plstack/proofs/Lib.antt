@@ -1,4 +1,5 @@
 pub mod Renaming
+pub mod Naming
 pub mod Frames
 pub mod Growing
 pub mod Lists
@@ -39,3 +40,4 @@ pub mod Walking
 pub mod Postponed
 pub mod Heads
 pub mod Looking
+pub mod Fitted

@@ -19,14 +19,15 @@ use Rattle.plstack.specs.declared.frame.Frame.TheVariants.{Open}
 use Rattle.plstack.specs.Places.{Database, called, places_left, kept, kept_values, cases}
 use Rattle.plstack.specs.Frames.{AreOlder, IsOpen, IsResume, AreFrames}
 use Rattle.plstack.specs.Trials.{IsMarked}
-use Rattle.plstack.specs.State.{State, IsStack, goals_in, goals_of, cases_of, AddsList, Extends, IsList, IsClauses}
+use Rattle.plstack.specs.State.{State, IsStack, goals_in, goals_of, cases_of, AddsList, Extends, IsFit, IsList, IsClauses}
 use Rattle.plstack.specs.Calls.{places_of, Calls, CallsNone, StaysAt}
 use Rattle.pllinks.specs.declared.link.Continuation.{Continuation}
 use Rattle.plclause.specs.Clause.{Clause}
 use Rattle.plstack.specs.StaticCalls.{AtCall, OpensCall}
-use Rattle.plstack.proofs.Frames.{cases-kept, AreFrames-kept}
+use Rattle.plstack.proofs.Frames.{cases-kept, AreFrames-kept, reverse-push}
 use Rattle.plstack.proofs.Opening.{older-frames}
 use Rattle.plstack.proofs.Stacks.{opened-cases, opened-state, has-last}
+use Rattle.plstack.specs.Levels.{FitsIn, kinds_of}
 
 -- what is kept for a call
 run_end : (xs vs : List Cell) → take (length vs) (drop (length xs) (xs ++ vs)) ≡ vs
@@ -60,6 +61,7 @@ module _ (s : State) (d : ℕ) (is : IsStack s d) (vs : List Cell) where
           (AreFrames-kept (goals_in s) s.env s.env s.links [] s.saved vs (Keeps-refl s.env) is.0.env.heap.names (reverse s.frames) is.0.frames);
       seen = is.0.seen;
       goals = record { there = is.0.goals.there; items = is.0.goals.items };
+      fits = is.0.fits;
     },
     is.1,
   )
@@ -71,7 +73,7 @@ module _ (s : State) (d : ℕ) (is : IsStack s d) (vs : List Cell) where
       ∙ cases-kept (goals_in s) s.env s.env s.links [] s.saved vs (Keeps-refl s.env) is.0.env.heap.names db (reverse s.frames) is.0.frames
 
 -- all that is there is marked, and a case would be opened now
-module _ (s : State) (d : ℕ) (is : IsStack s d) (p : Point) (m : IsMarked s p.marks) (i : IsList s p.list) (r : Resume) (vs : List Cell) (fit : IsResume s.env.heap vs r) (many : kept r ≡ length vs) where
+module _ (s : State) (d : ℕ) (is : IsStack s d) (p : Point) (m : IsMarked s p.marks) (i : IsList s p.list) (f : IsFit s p.list) (r : Resume) (vs : List Cell) (fit : IsResume s.env.heap vs r) (many : kept r ≡ length vs) where
   pub values-there : kept_values (s.saved ++ vs) p r ≡ vs
   values-there = ap₂ (λ k l. take k (drop l (s.saved ++ vs))) many m.saved ∙ run_end s.saved vs
 
@@ -87,10 +89,11 @@ module _ (s : State) (d : ℕ) (is : IsStack s d) (p : Point) (m : IsMarked s p.
     older = older-then;
     items = subst (λ (x : Env). AreItems (goals_in s) x.heap (length x.slots) (items_of s.links p.list)) (sym m.now) i.items;
     resume = subst (λ (x : Env). IsResume x.heap (kept_values (s.saved ++ vs) p r) r) (sym m.now) (subst (λ ws. IsResume s.env.heap ws r) (sym values-there) fit);
+    fits = f;
   }
 
 -- the case of a call
-module _ (s : State) (d : ℕ) (is : IsStack s d) (p : Point) (m : IsMarked s p.marks) (alone_is : p.list ≡ alone p.list.rest) (i : IsList s p.list) (procedure count : ℕ) (vs : List Cell) (fit : AreValues s.env.heap vs) (many : count ≡ length vs) where
+module _ (s : State) (d : ℕ) (is : IsStack s d) (p : Point) (m : IsMarked s p.marks) (alone_is : p.list ≡ alone p.list.rest) (i : IsList s p.list) (f : IsFit s p.list) (procedure count : ℕ) (vs : List Cell) (fit : AreValues s.env.heap vs) (many : count ≡ length vs) where
   abbrev c : Clauses
   c = record { procedure = procedure; count = count; next = 0 }
 
@@ -98,7 +101,7 @@ module _ (s : State) (d : ℕ) (is : IsStack s d) (p : Point) (m : IsMarked s p.
   kept-state = with_values s d is vs
 
   pub kept-there : kept_values (s.saved ++ vs) p (resumes.Clauses c) ≡ vs
-  kept-there = values-there s d is p m i (resumes.Clauses c) vs fit many
+  kept-there = values-there s d is p m i f (resumes.Clauses c) vs fit many
 
   -- the stack with that case
   abbrev pub opened : State
@@ -106,11 +109,11 @@ module _ (s : State) (d : ℕ) (is : IsStack s d) (p : Point) (m : IsMarked s p.
 
   pub call-stack : IsStack opened (d + 1)
   call-stack =
-      let o = opened-state kept-state d opened.frames (Open p (resumes.Clauses c)) refl (values-stack s d is vs) (frame-there s d is p m i (resumes.Clauses c) vs fit many) tt in
+      let o = opened-state kept-state d opened.frames (Open p (resumes.Clauses c)) refl (values-stack s d is vs) (frame-there s d is p m i f (resumes.Clauses c) vs fit many) tt in
       (o.0, omega (arith, o.1))
 
   pub call-at : AtCall opened p c
-  call-at = record { calling = record { rest = s.frames; top = refl }; now = m.now; list = record { there = i.there; items = i.items } }
+  call-at = record { calling = record { rest = s.frames; top = refl }; now = m.now; list = record { there = i.there; items = i.items }; fits = subst (λ fs. FitsIn (drop 1 (kinds_of fs)) (goals_of s p.list)) (sym (reverse-push s.frames (Open p (resumes.Clauses c)))) f }
 
   pub call-opens : OpensCall s opened procedure vs p.list
   call-opens = record {

@@ -18,13 +18,14 @@ use Rattle.plstack.specs.declared.frame.Resume.TheVariants as resumes
 use Rattle.plstack.specs.declared.frame.Handler.TheVariants as handlers
 use Rattle.plstack.specs.declared.frame.Handling.{Handling}
 use Rattle.plstack.specs.declared.frame.Frame.{Frame}
-use Rattle.plstack.specs.declared.frame.Frame.TheVariants.{Plain, Barrier, Open}
+use Rattle.plstack.specs.declared.frame.Frame.TheVariants.{Plain, Open}
 use Rattle.plstack.specs.Places.{Database, kept, kept_values, case_of}
 use Rattle.plstack.specs.Frames.{AreOlder, IsResume, IsSeen, IsOpen, AreFrames}
 use Rattle.plgenerator.proofs.Staying.{turn_stays}
-use Rattle.plstack.specs.State.{State, IsStack, goals_in, cases_of, walks_in, IsList, Extends, CountsUp, Opens, IsClauses, IsWalk, IsAnswers, IsBranch, IsCatcher, IsGatherer}
+use Rattle.plstack.specs.State.{State, IsStack, goals_in, kinds_in, cases_of, walks_in, IsFit, IsList, Extends, CountsUp, Opens, IsClauses, IsWalk, IsAnswers, IsBranch, IsCatcher, IsGatherer}
 use Rattle.plstack.specs.Opening.{branch_of, handler_of, closing, ClosedAs, IsHandling, OpensFrame, OpensIn, Keeps}
 use Rattle.plstack.proofs.Handled.{handled-same}
+use Rattle.plstack.proofs.Naming.{fits-env}
 use Rattle.plstack.proofs.Growing.{stack-env, extends-env}
 use Rattle.plstack.proofs.Stacks.{opened-cases, opened-state, counted, counted-cases, popped-cases, has-last}
 use Rattle.plstack.proofs.Ending.{pushed-walks}
@@ -34,7 +35,6 @@ pub older-frames : (code : Goals) (e : Env) (links : List Link) (saved : List Ce
     (fs : List Frame) → AreFrames code e links saved fs → AreOlder m fs
 older-frames code e links saved m mark now ls vs [] a = tt
 older-frames code e links saved m mark now ls vs (Plain n ∷ fs) a = older-frames code e links saved m mark now ls vs fs a.1
-older-frames code e links saved m mark now ls vs (Barrier l ∷ fs) a = older-frames code e links saved m mark now ls vs fs a.1
 older-frames code e links saved m mark now ls vs (Open p r ∷ fs) a = (
   record {
     env = older-now p.marks.env m.env e mark now a.0.mark.within;
@@ -68,7 +68,7 @@ module _ (s : State) (d : ℕ) (is : IsStack s d) (e : Env) (m : Marks) (mark : 
   pub count-now : e.count ≡ s.env.count
   count-now = ap (λ x. x.count) same
 
-  module _ (l : Continuation) (r : Resume) (i : IsList s l) (resume : IsResume s.env.heap [] r) (none : kept r ≡ 0) (seen : IsSeen s.basis.latest r) where
+  module _ (l : Continuation) (r : Resume) (i : IsList s l) (f : IsFit s l) (resume : IsResume s.env.heap [] r) (none : kept r ≡ 0) (seen : IsSeen s.basis.latest r) where
     abbrev point : Point
     point = record { marks = m; list = l }
 
@@ -89,6 +89,7 @@ module _ (s : State) (d : ℕ) (is : IsStack s d) (e : Env) (m : Marks) (mark : 
       items = subst (λ (x : Env). AreItems (goals_in s) x.heap (length x.slots) (items_of s.links l)) (sym now) (marked-extends.lists l i).0.items;
       resume = subst (λ (x : Env). IsResume x.heap (kept_values s.saved point r) r) (sym now)
           (subst (λ vs. IsResume e.heap vs r) (sym (no-values m.saved (kept r) s.saved none)) (resume-now r resume));
+      fits = fits-env (kinds_in s) (goals_in s) s.env e (items_of s.links l) (items_of s.links l) refl f;
     }
 
     case-now : (db : Database) (k : ℕ) →

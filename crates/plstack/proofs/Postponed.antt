@@ -11,7 +11,8 @@ use Rattle.plcode.specs.Keys.{IsFirstKey}
 use Rattle.plenv.specs.Env.{Env, IsEnv, over, renamed}
 use Rattle.plenv.specs.Changes.{Keeps}
 use Rattle.pllinks.specs.declared.link.Continuation.{Continuation}
-use Rattle.pllinks.specs.Links.{alone}
+use Rattle.pllinks.specs.Lists.{all_elements}
+use Rattle.pllinks.specs.Links.{alone, items_of}
 use Rattle.plstack.specs.declared.fit.Hit.{Hit}
 use Rattle.plstack.specs.declared.frame.Point.{Point}
 use Rattle.plstack.specs.declared.frame.Clauses.{Clauses}
@@ -22,12 +23,14 @@ use Rattle.plstack.specs.Calls.{Calls, CallsNone, StaysAt}
 use Rattle.plstack.specs.Fits.{FindsNone}
 use Rattle.plstack.specs.Frames.{AreFrames, AreOlder}
 use Rattle.plstack.specs.Places.{Database, called, kept_values, cases}
-use Rattle.plstack.specs.State.{State, IsStack, goals_in, goals_of, place_of, cases_of, AddsList, CountsUp, IsList}
+use Rattle.plstack.specs.State.{State, IsStack, goals_in, goals_of, place_of, cases_of, AddsList, CountsUp, IsFit, IsList, kinds_in}
+use Rattle.plstack.specs.Levels.{kinds_of, FitsIn, Precedes}
 use Rattle.plstack.specs.StaticCalls.{body_at, AreStatics, AtCall, IsCalling, Binds, Enters, FindsHit, FitsFirst, GoesOn, Hits, OpensCall, PushesCall}
 use Rattle.plstack.specs.Trials.{IsMarked}
 use Rattle.plstack.proofs.Entering.{calls-entered, retries-entered}
 use Rattle.plstack.proofs.Finding.{hit-binds, hit-stack, hits}
-use Rattle.plstack.proofs.Going.{body-goals, body-there, emptied, emptied-stack, level-of, replaced, replaced-stack}
+use Rattle.plstack.proofs.Going.{body-fits, body-goals, body-there, pushes-kinds, emptied, emptied-stack, level-of, replaced, replaced-stack}
+use Rattle.plstack.proofs.Naming.{fits-env, kinds-length, new-precedes}
 use Rattle.plstack.proofs.Growing.{cases-grown, extends_same, extends-env, frames-grown, stack-env}
 use Rattle.plstack.proofs.Hitting.{cases-stay, extends-renamed}
 use Rattle.plstack.proofs.Opened.{call-at, call-opens, call-stack, kept-there, opened, older-then}
@@ -36,7 +39,7 @@ use Rattle.plstack.proofs.Opened.{call-at, call-opens, call-stack, kept-there, o
 same-list : (s : State) (l : Continuation) (n : ℕ) → l ≡ alone n → IsList s l → AddsList s s (alone n) (goals_of s l)
 same-list s l n is i = record { there = subst (IsList s) is i; is = ap (goals_of s) (sym is); stays = extends_same s; env = refl; saved = refl }
 
-module _ (s : State) (d : ℕ) (is : IsStack s d) (p : Point) (m : IsMarked s p.marks) (alone_is : p.list ≡ alone p.list.rest) (i : IsList s p.list) (procedure count : ℕ) (vs : List Cell) (fit : AreValues s.env.heap vs) (many : count ≡ length vs) where
+module _ (s : State) (d : ℕ) (is : IsStack s d) (p : Point) (m : IsMarked s p.marks) (alone_is : p.list ≡ alone p.list.rest) (i : IsList s p.list) (own_fits : IsFit s p.list) (procedure count : ℕ) (vs : List Cell) (fit : AreValues s.env.heap vs) (many : count ≡ length vs) where
   -- there are more names
   module _ (e : Env) (env : IsEnv e) (names : ExtendsNames s.env.heap.names e.heap.names) (same : e ≡ renamed s.env e.heap.names) where
     abbrev pub unchanged : State
@@ -68,13 +71,13 @@ module _ (s : State) (d : ℕ) (is : IsStack s d) (p : Point) (m : IsMarked s p.
     c = record { procedure = procedure; count = count; next = 0 }
 
     abbrev before : State
-    before = opened s d is p m alone_is i procedure count vs fit many
+    before = opened s d is p m alone_is i own_fits procedure count vs fit many
 
     before-stack : IsStack before (d + 1)
-    before-stack = call-stack s d is p m alone_is i procedure count vs fit many
+    before-stack = call-stack s d is p m alone_is i own_fits procedure count vs fit many
 
     there : kept_values before.saved p (resumes.Clauses c) ≡ vs
-    there = kept-there s d is p m alone_is i procedure count vs fit many
+    there = kept-there s d is p m alone_is i own_fits procedure count vs fit many
 
     key-then : IsFirstKey s.env.heap.names f.key (map (value s.env.heap) (kept_values before.saved p (resumes.Clauses c)))
     key-then = subst (λ ws. IsFirstKey s.env.heap.names f.key (map (value s.env.heap) ws)) (sym there) f.key_is
@@ -83,7 +86,7 @@ module _ (s : State) (d : ℕ) (is : IsStack s d) (p : Point) (m : IsMarked s p.
     finds-then = subst (λ ws. FindsHit s.env e (called s.env.heap (db.statics procedure).name ws) f.key (get_or s.basis.code.procedures procedure []) (db.statics procedure).clauses 0 hit) (sym there) f.finds
 
     at : AtCall before p c
-    at = call-at s d is p m alone_is i procedure count vs fit many
+    at = call-at s d is p m alone_is i own_fits procedure count vs fit many
 
     -- with the environment in which the clause fits
     abbrev after : State
@@ -129,6 +132,14 @@ module _ (s : State) (d : ℕ) (is : IsStack s d) (p : Point) (m : IsMarked s p.
           let l = (after-binds.lists (alone p.list.rest) (subst (IsList before) alone_is at.list)).0 in
           record { there = l.there; items = l.items }
 
+      -- so does its body behind it
+      precedes : Precedes (kinds_of (reverse frames)) d (goals_of framed (alone p.list.rest))
+      precedes =
+          let listed : FitsIn (kinds_in s) (all_elements (goals_in s) s.env (items_of s.links (alone p.list.rest))) = subst (IsFit s) alone_is own_fits in
+          let here : FitsIn (kinds_in s) (goals_of framed (alone p.list.rest)) = fits-env (kinds_in s) (goals_in s) s.env e (items_of s.links (alone p.list.rest)) (items_of s.links (alone p.list.rest)) refl listed in
+          subst (λ ks. Precedes ks d (goals_of framed (alone p.list.rest))) (sym (pushes-kinds p (record { procedure = procedure; count = count; next = 0 }) hit.next s.frames frames pushes))
+          (new-precedes (kinds_in s) d (goals_of framed (alone p.list.rest)) (is.1 ∙ sym (kinds-length (reverse s.frames))) here)
+
       -- the clause's body is visited
       abbrev pub entered : State
       entered = record { basis = s.basis; env = e; links = s.links; saved = s.saved ++ vs; frames = frames; goals = body_at hit p.list.rest d }
@@ -137,7 +148,7 @@ module _ (s : State) (d : ℕ) (is : IsStack s d) (p : Point) (m : IsMarked s p.
       entered-stack =
           let l = body-there framed (d + 1) framed-stack hit after-hits.clause after-hits.code after-hits.slots (alone p.list.rest) p.list.rest behind-there refl d in
           let t = framed-stack.0 in
-          (record { env = t.env; names = t.names; none = t.none; chain = t.chain; frames = t.frames; seen = t.seen; goals = record { there = l.there; items = l.items } }, framed-stack.1)
+          (record { env = t.env; names = t.names; none = t.none; chain = t.chain; frames = t.frames; seen = t.seen; goals = record { there = l.there; items = l.items }; fits = body-fits framed (d + 1) framed-stack hit after-hits.clause after-hits.code after-hits.slots (alone p.list.rest) p.list.rest behind-there refl d (kinds_of (reverse frames)) precedes }, framed-stack.1)
 
       level : d ≡ deeper goes.below 0
       level = let e : d + 1 - 1 ≡ deeper goes.below 0 = level-of db framed framed (d + 1) framed-stack refl _ goes.below goes.cases in omega (arith, e)
@@ -155,13 +166,13 @@ module _ (s : State) (d : ℕ) (is : IsStack s d) (p : Point) (m : IsMarked s p.
 
       pub entered-calls : Calls db s entered (called s.env.heap (db.statics procedure).name vs) p.list (db.statics procedure).clauses
       entered-calls =
-          let opens : OpensCall s before procedure vs (alone p.list.rest) = subst (OpensCall s before procedure vs) alone_is (call-opens s d is p m alone_is i procedure count vs fit many) in
+          let opens : OpensCall s before procedure vs (alone p.list.rest) = subst (OpensCall s before procedure vs) alone_is (call-opens s d is p m alone_is i own_fits procedure count vs fit many) in
           let cases = cases-stay before (d + 1) before-stack p c at e keeps env db in
           calls-entered s s before procedure p.list.rest vs p.list (same-list s p.list p.list.rest alone_is i) opens db entered
           (retries-entered before before p c p.list.rest at (same-list before p.list p.list.rest alone_is at.list) after refl after-binds db entered hit cases after-hits enters)
 
       pub entered-older : hit.next ≡ None → AreOlder p.marks (reverse frames)
-      entered-older none = (subst (λ o. PushesCall p c o s.frames frames) none pushes).older p.marks (older-then s d is p m i (resumes.Clauses c) vs fit many)
+      entered-older none = (subst (λ o. PushesCall p c o s.frames frames) none pushes).older p.marks (older-then s d is p m i own_fits (resumes.Clauses c) vs fit many)
 
       -- nothing is left: no values are kept
       module _ (none : hit.next ≡ None) where
@@ -185,6 +196,7 @@ module _ (s : State) (d : ℕ) (is : IsStack s d) (p : Point) (m : IsMarked s p.
                 frames = up.frames (goals_in s) e s.links s.saved frames-now;
                 seen = t.seen;
                 goals = record { there = t.goals.there; items = t.goals.items };
+                fits = t.fits;
               },
               entered-stack.1,
             )

@@ -4,7 +4,6 @@ use Rattle.std.proofs.lemmas.List.{get_or-take, length-take}
 use Rattle.std.proofs.Math.Nat.{le-max_left, le-max_right}
 use Rattle.plcells.specs.declared.cell.Cell.{Cell}
 use Rattle.plcells.specs.Store.{Store}
-use Rattle.plsearch.specs.Types.{Mark as MarkOf}
 use Rattle.plsearch.specs.Engine.{deeper}
 use Rattle.plenv.specs.declared.slot.Slot.TheVariants.{Free}
 use Rattle.plenv.specs.declared.slot.Mark.{Mark}
@@ -23,11 +22,13 @@ use Rattle.pllinks.proofs.Changing.{items-agree}
 use Rattle.plstack.specs.declared.frame.Point.{Point}
 use Rattle.plstack.specs.declared.frame.Resume.{Resume}
 use Rattle.plstack.specs.declared.frame.Frame.{Frame}
-use Rattle.plstack.specs.declared.frame.Frame.TheVariants.{Plain, Barrier, Open}
+use Rattle.plstack.specs.declared.frame.Frame.TheVariants.{Plain, Open}
 use Rattle.plstack.specs.Places.{Database, kept_values, case_of, plain, cases}
 use Rattle.plstack.specs.Frames.{IsResume, IsOpen, AreFrames}
-use Rattle.plstack.specs.State.{State, IsStack, goals_in, cases_of}
+use Rattle.plstack.specs.State.{State, IsStack, goals_in, kinds_in, cases_of}
 use Rattle.plstack.specs.Giving.{GivesBack, IsShort}
+use Rattle.plstack.specs.Levels.{kinds_of}
+use Rattle.plstack.proofs.Naming.{fits-env}
 
 -- items that ask for no more than the first n slots
 abbrev pub AskFor : ℕ → List Item → Type 0
@@ -78,7 +79,6 @@ module _ (code : Goals) (e later : Env) (links : List Link) (saved : List Cell) 
   pub cases-marked : (db : Database) (fs : List Frame) → AreFrames code e links saved fs → cases db code later links saved fs ≡ cases db code e links saved fs
   cases-marked db [] a = refl
   cases-marked db (Plain i ∷ fs) a = ap (plain i) (cases-marked db fs a.1)
-  cases-marked db (Barrier l ∷ fs) a = ap (λ cs. MarkOf l ∷ cs) (cases-marked db fs a.1)
   cases-marked db (Open p r ∷ fs) a =
       ap₂ (λ x cs. case_of db code (deeper cs 0) x (items_of links p.list) (kept_values saved p r) r ∷ cs) (kept p.marks.env a.0.mark).1 (cases-marked db fs a.1)
 
@@ -91,12 +91,12 @@ module _ (code : Goals) (e later : Env) (links : List Link) (saved : List Cell) 
     older = is.older;
     items = subst (λ (x : Env). AreItems code x.heap (length x.slots) (items_of links p.list)) (sym (kept p.marks.env is.mark).1) is.items;
     resume = subst (λ (x : Env). IsResume x.heap (kept_values saved p r) r) (sym (kept p.marks.env is.mark).1) is.resume;
+    fits = fits-env (kinds_of fs) code e later (items_of links p.list) (items_of links p.list) refl is.fits;
   }
 
   pub frames-marked : (fs : List Frame) → AreFrames code e links saved fs → AreFrames code later links saved fs
   frames-marked [] a = tt
   frames-marked (Plain i ∷ fs) a = (a.0, frames-marked fs a.1)
-  frames-marked (Barrier l ∷ fs) a = (tt, frames-marked fs a.1)
   frames-marked (Open p r ∷ fs) a = (open-marked p r fs a.0, frames-marked fs a.1)
 
 -- the visited list asks for no more
@@ -135,6 +135,7 @@ module _ (s : State) (d : ℕ) (is : IsStack s d) (base : ℕ) (base_is : base �
       frames = frames-marked (goals_in s) s.env (released base s.env) s.links s.saved kept (reverse s.frames) is.0.frames;
       seen = is.0.seen;
       goals = record { there = is.0.goals.there; items = items-left };
+      fits = fits-env (kinds_in s) (goals_in s) s.env (released base s.env) (items_of s.links s.goals) (items_of s.links s.goals) refl is.0.fits;
     },
     is.1,
   )

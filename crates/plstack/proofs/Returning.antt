@@ -1,5 +1,5 @@
 -- A stack that comes back to where its newest case was opened.
-use Rattle.std.proofs.Common.{◌≡◌, ℕ, suc, ◌-◌, ◌≤◌, List, [], ◌∷◌, ◌++◌, length, take, refl, sym, ap, ap₂, ◌∙◌, subst, arith, reverse, le_refl, length-take-le}
+use Rattle.std.proofs.Common.{◌≡◌, ℕ, suc, ◌-◌, ◌+◌, ◌≤◌, true, drop, List, [], ◌∷◌, ◌++◌, length, take, refl, sym, ap, ap₂, ◌∙◌, subst, arith, reverse, le_refl, length-take-le}
 use Rattle.platoms.specs.Names.{Extends as ExtendsNames}
 use Rattle.plsearch.specs.Types.{Case, Choice, Handle}
 use Rattle.plenv.specs.Env.{Env, IsEnv, IsWithin, cut}
@@ -17,11 +17,13 @@ use Rattle.plstack.specs.declared.frame.Frame.{Frame}
 use Rattle.plstack.specs.declared.frame.Frame.TheVariants.{Open}
 use Rattle.plstack.specs.Places.{Database, handled, case_of, depth_of}
 use Rattle.plstack.specs.Frames.{IsOpen, AreOlder, IsResume, AreFrames}
-use Rattle.plstack.specs.State.{State, IsStack, goals_in, goals_of, cases_of, IsList, CountsUp, Retries, AtHandler, Leaves, Recovers, IsHandler}
+use Rattle.plstack.specs.State.{State, IsStack, goals_in, goals_of, kinds_in, cases_of, IsFit, IsList, CountsUp, Retries, AtHandler, Leaves, Recovers, IsHandler}
 use Rattle.plstack.specs.Cutting.{Settles}
-use Rattle.plstack.proofs.Frames.{items-take, cases-cut, AreFrames-cut}
-use Rattle.plstack.proofs.Lists.{empty-list}
-use Rattle.plstack.proofs.Stacks.{with-frames, opened-cases, opened-state, counted, counted-cases, popped-cases, popped-frames, popped-seen, has-last}
+use Rattle.plstack.proofs.Frames.{items-take, cases-cut, AreFrames-cut, reverse-push}
+use Rattle.plstack.specs.Levels.{kinds_of, FitsIn}
+use Rattle.plstack.proofs.Naming.{fits-env}
+use Rattle.plstack.proofs.Lists.{empty-list, no-goals-fit}
+use Rattle.plstack.proofs.Stacks.{visiting, opened-cases, opened-state, counted, counted-cases, popped-cases, popped-frames, popped-seen, popped-stack, has-last}
 
 -- marks are not older than themselves
 pub older-same : (p : Point) → IsEnvOlder p.marks.env p.marks.env
@@ -65,6 +67,7 @@ module _ (s : State) (d : ℕ) (is : IsStack s d) (rest : List Frame) (p : Point
       frames = back-frames;
       seen = (popped-seen s d rest (Open p r) popped is).1;
       goals = empty-list (goals_in s) is.0.none (cut p.marks.env s.env) (take p.marks.links s.links);
+      fits = no-goals-fit (goals_in s) is.0.none (cut p.marks.env s.env) (take p.marks.links s.links) (kinds_of (reverse rest));
     },
     omega (arith, back-depth),
   )
@@ -82,12 +85,11 @@ module _ (s : State) (d : ℕ) (is : IsStack s d) (rest : List Frame) (p : Point
     items = subst (AreItems (goals_in s) (cut p.marks.env s.env).heap (length (cut p.marks.env s.env).slots)) (sym same-items) at-frame.items;
   }
 
+  pub back-fits : IsFit back p.list
+  back-fits = fits-env (kinds_of (reverse rest)) (goals_in s) s.env (cut p.marks.env s.env) (items_of s.links p.list) (items_of (take p.marks.links s.links) p.list) same-items at-frame.fits
+
   pub back-goals : goals_of back p.list ≡ all_elements (goals_in s) (cut p.marks.env s.env) (items_of s.links p.list)
   back-goals = ap (all_elements (goals_in s) (cut p.marks.env s.env)) same-items
-
--- another list is visited
-pub visiting : (s : State) (d : ℕ) (l : Continuation) → IsStack s d → IsList s l → IsStack (record s { goals = l }) d
-visiting s d l is i = (record { env = is.0.env; names = is.0.names; none = is.0.none; chain = is.0.chain; frames = is.0.frames; seen = is.0.seen; goals = record { there = i.there; items = i.items } }, is.1)
 
 pub same-cases : (db : Database) (s : State) (l : Continuation) → cases_of db (record s { goals = l }) ≡ cases_of db s
 unfolding cases_of
@@ -103,7 +105,7 @@ module _ (s : State) (d : ℕ) (is : IsStack s d) (rest : List Frame) (p : Point
 
   pub taken-stack : IsStack taken-state d
   taken-stack =
-      let v = visiting was (d - 1) p.list (back-stack s d is rest p resumes.List popped) (back-list s d is rest p resumes.List popped) in
+      let v = visiting was (d - 1) p.list (back-stack s d is rest p resumes.List popped) (back-list s d is rest p resumes.List popped) (back-fits s d is rest p resumes.List popped) in
       let c = counted 1 (record was { goals = p.list }) (d - 1) frames up v in
       (c.0, omega (arith, c.1, back-depth s d is rest p resumes.List popped))
 
@@ -142,6 +144,7 @@ module _ (s : State) (d : ℕ) (is : IsStack s d) (rest : List Frame) (p : Point
     older = the-frame.older;
     items = subst (λ (x : Env). AreItems (goals_in s) x.heap (length x.slots) (items_of (take p.marks.links s.links) p.list)) (sym now) (back-list s d is rest p (resumes.Handle x) popped).items;
     resume = subst (λ (e : Env). IsResume e.heap [] (resumes.Handle x)) (sym now) the-frame.resume;
+    fits = back-fits s d is rest p (resumes.Handle x) popped;
   }
 
   pub rewound-stack : IsStack rewound d
@@ -168,6 +171,7 @@ module _ (s : State) (d : ℕ) (is : IsStack s d) (rest : List Frame) (p : Point
     cases = rewound-open;
     there = the-frame.resume;
     list_there = let l = back-list s d is rest p (resumes.Handle x) popped in record { there = l.there; items = l.items };
+    list_fits = subst (λ fs. FitsIn (drop 1 (kinds_of fs)) (goals_of none-visited p.list)) (sym (ap reverse popped ∙ reverse-push rest (Open p (resumes.Handle x)))) (back-fits s d is rest p (resumes.Handle x) popped);
     has = has-last IsHandler s.frames rest (Open p (resumes.Handle x)) popped tt;
   }
 
@@ -176,16 +180,17 @@ tail_is x y xs ys e = cc
 
 -- a list is visited in a choice in place of a handler
 module _ (s : State) (d : ℕ) (is : IsStack s d) (rest : List Frame) (p : Point) (x : Handler) (popped : s.frames ≡ rest ++ Open p (resumes.Handle x) ∷ []) (frames : List Frame) (up : CountsUp 1 (reverse rest) (reverse frames))
-    (list : Continuation) (l : IsList s list) where
+    (list : Continuation) (l : IsList s list) (f : FitsIn (true ∷ drop 1 (kinds_in s)) (goals_of s list)) where
   abbrev without : State
   without = record { basis = s.basis; env = s.env; links = s.links; saved = s.saved; frames = rest; goals = list }
 
   pub recovered-stack : IsStack (record s { frames = frames; goals = list }) d
   recovered-stack =
       let q = popped-frames s d rest (Open p (resumes.Handle x)) popped is in
-      let v = visiting (record s { frames = rest }) (depth_of (reverse rest)) list (with-frames s rest is.0 q.1 (popped-seen s d rest (Open p (resumes.Handle x)) popped is).1, refl) (record { there = l.there; items = l.items }) in
-      let u = counted 1 without (depth_of (reverse rest)) frames up v in
-      (u.0, omega (arith, u.1, q.2))
+      let u = counted 1 (record s { frames = rest; goals = alone 0 }) (d - 1) frames up (popped-stack s d rest (Open p (resumes.Handle x)) popped is) in
+      let same : true ∷ drop 1 (kinds_in s) ≡ kinds_of (reverse frames) = ap (λ fs. true ∷ drop 1 (kinds_of fs)) (ap reverse popped ∙ reverse-push rest (Open p (resumes.Handle x))) ∙ sym up.kinds in
+      let v = visiting (record s { frames = frames; goals = alone 0 }) (d - 1 + 1) list u (record { there = l.there; items = l.items }) (subst (λ ks. FitsIn ks (goals_of s list)) same f) in
+      (v.0, omega (arith, v.1, q.2))
 
   pub recovers : Recovers s (record s { frames = frames; goals = list }) list
   recovers = record {
@@ -196,11 +201,12 @@ module _ (s : State) (d : ℕ) (is : IsStack s d) (rest : List Frame) (p : Point
   }
 
 -- a list is visited where a handler was taken off
-module _ (s : State) (d : ℕ) (is : IsStack s d) (rest : List Frame) (p : Point) (x : Handler) (popped : s.frames ≡ rest ++ Open p (resumes.Handle x) ∷ []) (list : Continuation) (l : IsList s list) where
+module _ (s : State) (d : ℕ) (is : IsStack s d) (rest : List Frame) (p : Point) (x : Handler) (popped : s.frames ≡ rest ++ Open p (resumes.Handle x) ∷ []) (list : Continuation) (l : IsList s list) (f : FitsIn (drop 1 (kinds_in s)) (goals_of s list)) where
   pub left-stack : IsStack (record s { frames = rest; goals = list }) (d - 1)
   left-stack =
       let q = popped-frames s d rest (Open p (resumes.Handle x)) popped is in
-      let v = visiting (record s { frames = rest }) (depth_of (reverse rest)) list (with-frames s rest is.0 q.1 (popped-seen s d rest (Open p (resumes.Handle x)) popped is).1, refl) (record { there = l.there; items = l.items }) in
+      let same : drop 1 (kinds_in s) ≡ kinds_of (reverse rest) = ap (λ fs. drop 1 (kinds_of fs)) (ap reverse popped ∙ reverse-push rest (Open p (resumes.Handle x))) in
+      let v = visiting (record s { frames = rest; goals = alone 0 }) (d - 1) list (popped-stack s d rest (Open p (resumes.Handle x)) popped is) (record { there = l.there; items = l.items }) (subst (λ ks. FitsIn ks (goals_of s list)) same f) in
       (v.0, omega (arith, q.2))
 
   pub leaves : Leaves s (record s { frames = rest; goals = list }) list

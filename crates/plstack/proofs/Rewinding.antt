@@ -15,9 +15,11 @@ use Rattle.plstack.specs.declared.frame.Frame.{Frame}
 use Rattle.plstack.specs.declared.frame.Frame.TheVariants.{Open}
 use Rattle.plstack.specs.Places.{Database, kept, kept_values, case_of, cases}
 use Rattle.plstack.specs.Frames.{IsOpen, IsResume, AreFrames}
-use Rattle.plstack.specs.State.{State, IsStack, goals_in, cases_of, IsList}
+use Rattle.plstack.specs.State.{State, IsStack, goals_in, cases_of, IsList, goals_of}
 use Rattle.plstack.specs.StaticCalls.{AtCall}
-use Rattle.plstack.proofs.Frames.{run-take, cases-kept, AreFrames-kept}
+use Rattle.plstack.specs.Levels.{kinds_of, FitsIn}
+use Rattle.plstack.proofs.Naming.{fits-env}
+use Rattle.plstack.proofs.Frames.{run-take, cases-kept, AreFrames-kept, reverse-push}
 use Rattle.plstack.proofs.Stacks.{opened-cases, opened-state, popped-cases, popped-seen}
 use Rattle.plstack.proofs.Returning.{older-same, at-frame, back, back-depth, back-stack, back-cases, back-list, same-items}
 
@@ -58,7 +60,7 @@ module _ (s : State) (d : ℕ) (is : IsStack s d) (rest : List Frame) (p : Point
 
   pub without-stack : IsStack without (d - 1)
   without-stack = (
-    record { env = was.0.env; names = was.0.names; none = was.0.none; chain = was.0.chain; frames = frames-then; seen = was.0.seen; goals = record { there = was.0.goals.there; items = was.0.goals.items } },
+    record { env = was.0.env; names = was.0.names; none = was.0.none; chain = was.0.chain; frames = frames-then; seen = was.0.seen; goals = record { there = was.0.goals.there; items = was.0.goals.items }; fits = was.0.fits },
     was.1,
   )
 
@@ -84,6 +86,7 @@ module _ (s : State) (d : ℕ) (is : IsStack s d) (rest : List Frame) (p : Point
     older = the-frame.older;
     items = subst (λ (x : Env). AreItems (goals_in s) x.heap (length x.slots) (items_of (take p.marks.links s.links) p.list)) (sym now) (back-list s d is rest p r popped).items;
     resume = subst (λ (x : Env). IsResume x.heap (kept_values values p r) r) (sym now) (subst (λ vs. IsResume e.heap vs r) (sym kept-then) the-frame.resume);
+    fits = fits-env (kinds_of (reverse rest)) (goals_in s) s.env e (items_of s.links p.list) (items_of (take p.marks.links s.links) p.list) (same-items s d is rest p r popped) the-frame.fits;
   }
 
   abbrev pub rewound : State
@@ -118,4 +121,5 @@ module _ (s : State) (d : ℕ) (is : IsStack s d) (rest : List Frame) (p : Point
     calling = record { rest = rest; top = popped };
     now = now s d is rest p (resumes.Clauses c) popped;
     list = let l = list-then s d is rest p (resumes.Clauses c) popped in record { there = l.there; items = l.items };
+    fits = subst (λ fs. FitsIn (drop 1 (kinds_of fs)) (goals_of (without s d is rest p (resumes.Clauses c) popped) p.list)) (sym (ap reverse popped ∙ reverse-push rest (Open p (resumes.Clauses c)))) (frame-then s d is rest p (resumes.Clauses c) popped).fits;
   }

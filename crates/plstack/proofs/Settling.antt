@@ -1,9 +1,8 @@
 -- What becomes of a stack where choices were given up.
-use Rattle.std.proofs.Common.{◌≡◌, ℕ, suc, ◌+◌, ◌<◌, ◌≤◌, List, [], ◌∷◌, ◌++◌, length, take, drop, reverse, refl, sym, ap, ap₂, ◌∙◌, subst, arith, le_trans, le_refl, take-append-drop, length-take-le, get_or, inl, inr}
+use Rattle.std.proofs.Common.{◌≡◌, ℕ, suc, ◌+◌, ◌<◌, ◌≤◌, List, [], ◌∷◌, ◌++◌, length, take, drop, reverse, refl, sym, ap, ap₂, ◌∙◌, subst, arith, le_trans, le_refl, take-append-drop, length-take-le, get_or}
 use Rattle.std.proofs.lemmas.List.{reverse-append, take-take, get_or_default}
 use Rattle.plcells.specs.declared.cell.Cell.{Cell}
 use Rattle.plcells.specs.Store.{IsValue, value}
-use Rattle.plsearch.specs.Types.{Mark as MarkOf}
 use Rattle.plsearch.specs.Engine.{deeper}
 use Rattle.plsearch.specs.Machines.Levels.{AreAtMost}
 use Rattle.platoms.specs.Names.{Extends as ExtendsNames}
@@ -19,13 +18,15 @@ use Rattle.plstack.specs.declared.frame.Marks.{Marks}
 use Rattle.plstack.specs.declared.frame.Point.{Point}
 use Rattle.plstack.specs.declared.frame.Resume.{Resume}
 use Rattle.plstack.specs.declared.frame.Frame.{Frame}
-use Rattle.plstack.specs.declared.frame.Frame.TheVariants.{Plain, Barrier, Open}
+use Rattle.plstack.specs.declared.frame.Frame.TheVariants.{Plain, Open}
 use Rattle.plstack.specs.Places.{Database, kept, kept_values, case_of, plain, cases, walks_of}
 use Rattle.plstack.specs.Frames.{IsOlder, AreOlder, IsResume, IsOpen, IsFrame, AreFrames}
-use Rattle.plstack.specs.State.{State, IsState, IsStack, goals_in, goals_of, cases_of, walks_in, IsList}
+use Rattle.plstack.specs.State.{State, IsState, IsStack, goals_in, goals_of, kinds_in, cases_of, IsList}
 use Rattle.plstack.specs.Opening.{Keeps}
 use Rattle.plstack.specs.Holding.{held}
 use Rattle.plstack.specs.Cutting.{frame_at, IsGivenUp, ChoiceAt, EmptiesFrom, GivesUp, Cuts, Settles}
+use Rattle.plstack.specs.Levels.{kinds_of}
+use Rattle.plstack.proofs.Naming.{fits-env}
 use Rattle.plstack.proofs.Frames.{run-take}
 use Rattle.plstack.proofs.Cutting.{reversed-at, frames-append, empties}
 
@@ -33,7 +34,6 @@ use Rattle.plstack.proofs.Cutting.{reversed-at, frames-append, empties}
 older-append : (m : Marks) (xs ys : List Frame) → AreOlder m (xs ++ ys) → AreOlder m ys
 older-append m [] ys o = o
 older-append m (Plain n ∷ xs) ys o = older-append m xs ys o
-older-append m (Barrier l ∷ xs) ys o = older-append m xs ys o
 older-append m (Open p r ∷ xs) ys o = older-append m xs ys o.1
 
 frames-below : (fs : List Frame) (at i : ℕ) → at ≤ i → reverse (take i fs) ≡ reverse (drop at (take i fs)) ++ reverse (take at fs)
@@ -60,27 +60,23 @@ pub record HasRoom (e : Env) (values : List Cell) (m : Marks) (n : ℕ) : Type 0
 pub held-room : (code : Goals) (e : Env) (links : List Link) (saved : List Cell) (fs : List Frame) → AreFrames code e links saved fs → HasRoom e saved (held fs).marks (held fs).kept
 held-room code e links saved [] a = record { cells = omega arith; slots = omega arith; saved = omega arith }
 held-room code e links saved (Plain n ∷ fs) a = held-room code e links saved fs a.1
-held-room code e links saved (Barrier l ∷ fs) a = held-room code e links saved fs a.1
 held-room code e links saved (Open p r ∷ fs) a = record { cells = a.0.mark.within.heap.old; slots = a.0.mark.within.old; saved = a.0.saved_room }
 
 -- frames that hold no more than so much
 abbrev AreWithin : (cells slots saved : ℕ) → List Frame → Type 0
 AreWithin c n k [] = Unit {0}
 AreWithin c n k (Plain m ∷ fs) = AreWithin c n k fs
-AreWithin c n k (Barrier l ∷ fs) = AreWithin c n k fs
 AreWithin c n k (Open p r ∷ fs) = (p.marks.env.heap.cells ≤ c) × (p.marks.env.slots ≤ n) × (p.marks.saved + kept r ≤ k) × AreWithin c n k fs
 
 older-within : (m : Marks) (k : ℕ) (fs : List Frame) → m.saved ≤ k → AreOlder m fs → AreWithin m.env.heap.cells m.env.slots k fs
 older-within m k [] le o = tt
 older-within m k (Plain n ∷ fs) le o = older-within m k fs le o
-older-within m k (Barrier l ∷ fs) le o = older-within m k fs le o
 older-within m k (Open p r ∷ fs) le o = (o.0.env.heap.cells, o.0.env.slots, le_trans o.0.saved le, older-within m k fs le o.1)
 
 held-within : (code : Goals) (e : Env) (links : List Link) (saved : List Cell) (fs : List Frame) → AreFrames code e links saved fs →
     AreWithin (held fs).marks.env.heap.cells (held fs).marks.env.slots ((held fs).marks.saved + (held fs).kept) fs
 held-within code e links saved [] a = tt
 held-within code e links saved (Plain n ∷ fs) a = held-within code e links saved fs a.1
-held-within code e links saved (Barrier l ∷ fs) a = held-within code e links saved fs a.1
 held-within code e links saved (Open p r ∷ fs) a = (le_refl _, le_refl _, le_refl _, older-within p.marks (p.marks.saved + kept r) fs (omega arith) a.0.older)
 
 -- fewer cells and slots are old, and fewer values kept
@@ -108,12 +104,12 @@ module _ (code : Goals) (old new : Env) (links : List Link) (saved : List Cell) 
       older = is.older;
       items = subst (λ (x : Env). AreItems code x.heap (length x.slots) (items_of links p.list)) (sym same) is.items;
       resume = subst (λ vs. IsResume (cut p.marks.env new).heap vs r) (sym first-values) (subst (λ (x : Env). IsResume x.heap (kept_values saved p r) r) (sym same) is.resume);
+      fits = fits-env (kinds_of fs) code old new (items_of links p.list) (items_of links p.list) refl is.fits;
     }
 
   cases-settled : (db : Database) (fs : List Frame) → AreOlder since fs → AreWithin c n k fs → AreFrames code old links saved fs → cases db code new links (take k saved) fs ≡ cases db code old links saved fs
   cases-settled db [] o w a = refl
   cases-settled db (Plain m ∷ fs) o w a = ap (plain m) (cases-settled db fs o w a.1)
-  cases-settled db (Barrier l ∷ fs) o w a = ap (λ cs. MarkOf l ∷ cs) (cases-settled db fs o w a.1)
   cases-settled db (Open p r ∷ fs) o w a =
       ap (λ cs. case_of db code (deeper cs 0) (cut p.marks.env new) (items_of links p.list) (kept_values (take k saved) p r) r ∷ cs) (cases-settled db fs o.1 w.3 a.1)
       ∙ ap (λ x. x ∷ cases db code old links saved fs) (case-settled p r fs a.0 o.0 w.0 w.1 w.2 db (deeper (cases db code old links saved fs) 0))
@@ -121,7 +117,6 @@ module _ (code : Goals) (old new : Env) (links : List Link) (saved : List Cell) 
   frames-settled : (fs : List Frame) → AreOlder since fs → AreWithin c n k fs → AreFrames code old links saved fs → AreFrames code new links (take k saved) fs
   frames-settled [] o w a = tt
   frames-settled (Plain m ∷ fs) o w a = (a.0, frames-settled fs o w a.1)
-  frames-settled (Barrier l ∷ fs) o w a = (tt, frames-settled fs o w a.1)
   frames-settled (Open p r ∷ fs) o w a = (open-settled p r fs a.0 o.0 w.0 w.1 w.2, frames-settled fs o.1 w.3 a.1)
 
 module _ (s : State) (d : ℕ) (is : IsStack s d) (since : Marks) (older : AreOlder since (reverse s.frames)) (e : Env) (env : IsEnv e) where
@@ -161,6 +156,7 @@ module _ (s : State) (d : ℕ) (is : IsStack s d) (since : Marks) (older : AreOl
         frames = frames-settled (goals_in s) s.env e s.links s.saved since marks.env.heap.cells marks.env.slots count made room.saved (reverse s.frames) older within is.0.frames;
         seen = is.0.seen;
         goals = (list-settled s.goals is.0.goals).0;
+        fits = fits-env (kinds_in s) (goals_in s) s.env e (items_of s.links s.goals) (items_of s.links s.goals) refl is.0.fits;
       },
       is.1,
     )
@@ -217,12 +213,9 @@ keeps-visiting s mid list k = record { values = k.values; lists = λ l i. let r 
 pub cuts_emptied : (s mid new : State) (level : ℕ) (list : Continuation) (i low : ℕ) → AreAtMost level (goals_of s list) → ChoiceAt s.frames level i low → GivesUp s mid i low → new ≡ record mid { goals = list } → Cuts s new level list
 unfolding cases_of
 cuts_emptied s mid new level list i low most at from is = rw is (record {
-  cases = inr (most, λ db. let e = empties s mid level i low at from db in record { inside = e.inside; places = e.places; below = e.below; was = e.was; at = e.at; cases = e.cases });
+  most = most;
+  cases = λ db. let e = empties s mid level i low at from db in record { inside = e.inside; places = e.places; below = e.below; was = e.was; at = e.at; cases = e.cases };
   keeps = keeps-visiting s mid list from.keeps;
   walks = from.walks;
   goals = refl;
 })
-
-pub cuts_marked : (s mid new : State) (level : ℕ) (list : Continuation) → ((db : Database) → cases_of db mid ≡ MarkOf level ∷ cases_of db s) → walks_in mid ≡ walks_in s → mid ≡ record s { frames = mid.frames } → new ≡ record mid { goals = list } → Cuts s new level list
-unfolding cases_of
-cuts_marked s mid new level list cases walks same is = rw is (record { cases = inl cases; keeps = keeps-visiting s mid list (keeps-frames s mid same); walks = ([], sym walks); goals = refl })

@@ -1,5 +1,5 @@
 -- Frames that are put on a stack and taken off.
-use Rattle.std.proofs.Common.{◌≡◌, ℕ, zero, suc, ◌+◌, ◌-◌, ◌<◌, ◌≤◌, le_trans, List, [], ◌∷◌, ◌++◌, length, length-append, slice_set, refl, sym, ap, ap₂, ◌∙◌, subst, arith, reverse}
+use Rattle.std.proofs.Common.{◌≡◌, ℕ, zero, suc, ◌+◌, ◌-◌, ◌<◌, ◌≤◌, le_trans, Bool, true, List, [], ◌∷◌, ◌++◌, length, length-append, slice_set, refl, sym, ap, ap₂, ◌∙◌, subst, arith, reverse}
 use Rattle.std.proofs.Math.Seq.{set-append_seam}
 use Rattle.platoms.specs.Names.{Extends as ExtendsNames}
 use Rattle.plcode.specs.Steps.{goals_from}
@@ -7,6 +7,7 @@ use Rattle.plcode.specs.Callees.{Compiled}
 use Rattle.plsearch.specs.Types.{Case, Choice}
 use Rattle.plsearch.specs.Engine.{deeper}
 use Rattle.plenv.specs.Env.{Env, IsEnv}
+use Rattle.pllinks.specs.declared.link.Continuation.{Continuation}
 use Rattle.pllinks.specs.Links.{alone}
 use Rattle.pllinks.proofs.Arena.{chain-none}
 use Rattle.plstack.specs.declared.stack.Stack.TheInside.{Inside}
@@ -14,11 +15,13 @@ use Rattle.plstack.specs.declared.frame.Spot.{Spot}
 use Rattle.plstack.specs.declared.frame.Spot.TheVariants as spots
 use Rattle.plstack.specs.declared.frame.Resume.TheVariants as resumes
 use Rattle.plstack.specs.declared.frame.Frame.{Frame}
-use Rattle.plstack.specs.declared.frame.Frame.TheVariants.{Plain, Barrier, Open}
+use Rattle.plstack.specs.declared.frame.Frame.TheVariants.{Plain, Open}
 use Rattle.plstack.specs.Places.{Database, plain, opened, cases, size, depth_of}
+use Rattle.plstack.specs.Levels.{choices, kinds_of, FitsIn}
 use Rattle.plstack.specs.Frames.{IsFrame, IsFrameSeen, IsSpotSeen, AreFrames, AreSeen}
-use Rattle.plstack.specs.State.{State, IsState, IsStack, CountsUp, goals_in, cases_of, depth_in, seeing, HasHandler, IsHandler, BeginsWith}
-use Rattle.plstack.proofs.Lists.{empty-list}
+use Rattle.plstack.specs.State.{State, IsState, IsStack, CountsUp, goals_in, goals_of, kinds_in, IsFit, IsList, cases_of, depth_in, seeing, HasHandler, IsHandler, BeginsWith}
+use Rattle.plstack.proofs.Naming.{fits-widen, widens-frame, widens-choices}
+use Rattle.plstack.proofs.Lists.{empty-list, no-goals-fit}
 use Rattle.plstack.proofs.Frames.{depth-cases, reverse-push, plain-more}
 
 pub depth_is : (db : Database) (s : State) (d : ℕ) → d ≡ depth_of (reverse s.frames) → d ≡ deeper (cases_of db s) 0
@@ -43,6 +46,7 @@ empty-stack code e env names none = (
     frames = tt;
     seen = tt;
     goals = empty-list (goals_from code.text) none e [];
+    fits = no-goals-fit (goals_from code.text) none e [] [];
   },
   refl,
 )
@@ -55,7 +59,6 @@ spot-more m n le (spots.Known g x y) a = le_trans a le
 
 frame-more : (m n : ℕ) → m ≤ n → (f : Frame) → IsFrameSeen m f → IsFrameSeen n f
 frame-more m n le (Plain k) a = tt
-frame-more m n le (Barrier l) a = tt
 frame-more m n le (Open p (resumes.Clauses c)) a = tt
 frame-more m n le (Open p (resumes.Walk w)) a = spot-more m n le w.spot a
 frame-more m n le (Open p (resumes.Answers x)) a = tt
@@ -76,6 +79,7 @@ sees-stack s d g le is = (
     frames = is.0.frames;
     seen = seen-more s.basis.latest g le (reverse s.frames) is.0.seen;
     goals = record { there = is.0.goals.there; items = is.0.goals.items };
+    fits = is.0.fits;
   },
   is.1,
 )
@@ -91,7 +95,6 @@ level_is s d is has db = sym (depth_is db s d is.1) ∙ go (reverse s.frames) ha
     go : (fs : List Frame) → BeginsWith IsHandler fs → d ≡ depth_of fs → d ≡ (d - 1) + 1
     go [] has e = absurd has
     go (Plain n ∷ fs) has e = absurd has
-    go (Barrier l ∷ fs) has e = absurd has
     go (Open p r ∷ fs) has e = omega (arith, e)
 
 -- a new frame
@@ -101,18 +104,34 @@ unfolding cases_of
 opened-cases db s frames f e = ap (λ fs. cases db (goals_in s) s.env s.links s.saved (reverse fs)) e ∙ ap (cases db (goals_in s) s.env s.links s.saved) (reverse-push s.frames f)
 
 -- other frames
-pub with-frames : (s : State) (frames : List Frame) → IsState s → AreFrames (goals_in s) s.env s.links s.saved (reverse frames) → AreSeen s.basis.latest (reverse frames) → IsState (record s { frames = frames })
-with-frames s frames is a seen = record { env = is.env; names = is.names; none = is.none; chain = is.chain; frames = a; seen = seen; goals = record { there = is.goals.there; items = is.goals.items } }
+pub with-frames : (s : State) (frames : List Frame) → IsState s → AreFrames (goals_in s) s.env s.links s.saved (reverse frames) → AreSeen s.basis.latest (reverse frames) → FitsIn (kinds_of (reverse frames)) (goals_of s s.goals) →
+    IsState (record s { frames = frames })
+with-frames s frames is a seen fits = record { env = is.env; names = is.names; none = is.none; chain = is.chain; frames = a; seen = seen; goals = record { there = is.goals.there; items = is.goals.items }; fits = fits }
+
+-- another list is visited
+pub visiting : (s : State) (d : ℕ) (l : Continuation) → IsStack s d → IsList s l → IsFit s l → IsStack (record s { goals = l }) d
+visiting s d l is i f = (record { env = is.0.env; names = is.0.names; none = is.0.none; chain = is.0.chain; frames = is.0.frames; seen = is.0.seen; goals = record { there = i.there; items = i.items }; fits = f }, is.1)
+
+-- no goals are
+pub no-goals : (s : State) (d : ℕ) → IsStack s d → IsStack (record s { goals = alone 0 }) d
+no-goals s d is = visiting s d (alone 0) is (empty-list (goals_in s) is.0.none s.env s.links) (no-goals-fit (goals_in s) is.0.none s.env s.links (kinds_in s))
 
 pub opened-state : (s : State) (d : ℕ) (frames : List Frame) (f : Frame) → frames ≡ s.frames ++ f ∷ [] → IsStack s d → IsFrame (goals_in s) s.env s.links s.saved f (reverse s.frames) → IsFrameSeen s.basis.latest f →
     IsStack (record s { frames = frames }) (size f + d)
 opened-state s d frames f e is frame seen =
-    let same : reverse frames ≡ f ∷ reverse s.frames = ap reverse e ∙ reverse-push s.frames f in
-    (with-frames s frames is.0 (subst (AreFrames (goals_in s) s.env s.links s.saved) (sym same) (frame, is.0.frames)) (subst (AreSeen s.basis.latest) (sym same) (seen, is.0.seen)), omega (arith, is.1, ap depth_of same))
+    let same : reverse frames ≡ f ∷ reverse s.frames = ap reverse e ∙ reverse-push s.frames f in (
+      with-frames s frames is.0 (subst (AreFrames (goals_in s) s.env s.links s.saved) (sym same) (frame, is.0.frames)) (subst (AreSeen s.basis.latest) (sym same) (seen, is.0.seen))
+          (subst (λ fs. FitsIn (kinds_of fs) (goals_of s s.goals)) (sym same) (fits-widen (kinds_in s) (kinds_of (f ∷ reverse s.frames)) (widens-frame f (reverse s.frames)) (goals_of s s.goals) is.0.fits)),
+      omega (arith, is.1, ap depth_of same),
+    )
 
 -- a count of choices with nothing left
 pub counted : (n : ℕ) (s : State) (d : ℕ) (frames : List Frame) → CountsUp n (reverse s.frames) (reverse frames) → IsStack s d → IsStack (record s { frames = frames }) (d + n)
-counted n s d frames c is = (with-frames s frames is.0 (c.frames (goals_in s) s.env s.links s.saved is.0.frames) (c.seen s.basis.latest is.0.seen), omega (arith, is.1, c.depth))
+counted n s d frames c is = (
+  with-frames s frames is.0 (c.frames (goals_in s) s.env s.links s.saved is.0.frames) (c.seen s.basis.latest is.0.seen)
+      (subst (λ ks. FitsIn ks (goals_of s s.goals)) (sym c.kinds) (fits-widen (kinds_in s) (choices n (kinds_in s)) (widens-choices n (kinds_in s)) (goals_of s s.goals) is.0.fits)),
+  omega (arith, is.1, c.depth),
+)
 
 pub counted-cases : (n : ℕ) (db : Database) (s : State) (frames : List Frame) → CountsUp n (reverse s.frames) (reverse frames) → cases_of db (record s { frames = frames }) ≡ plain n (cases_of db s)
 unfolding cases_of
@@ -138,10 +157,12 @@ popped-frames s d rest f e is =
 pub popped-seen : (s : State) (d : ℕ) (rest : List Frame) (f : Frame) → s.frames ≡ rest ++ f ∷ [] → IsStack s d → IsFrameSeen s.basis.latest f × AreSeen s.basis.latest (reverse rest)
 popped-seen s d rest f e is = subst (AreSeen s.basis.latest) (ap reverse e ∙ reverse-push rest f) is.0.seen
 
-pub popped-stack : (s : State) (d : ℕ) (rest : List Frame) (f : Frame) → s.frames ≡ rest ++ f ∷ [] → IsStack s d → IsStack (record s { frames = rest }) (d - size f)
+-- and no goals are visited
+pub popped-stack : (s : State) (d : ℕ) (rest : List Frame) (f : Frame) → s.frames ≡ rest ++ f ∷ [] → IsStack s d → IsStack (record s { frames = rest; goals = alone 0 }) (d - size f)
 popped-stack s d rest f e is =
     let p = popped-frames s d rest f e is in
-    (with-frames s rest is.0 p.1 (popped-seen s d rest f e is).1, omega (arith, p.2))
+    let t : State = record s { goals = alone 0 } in
+    (with-frames t rest (no-goals s d is).0 p.1 (popped-seen s d rest f e is).1 (no-goals-fit (goals_in s) is.0.none s.env s.links (kinds_of (reverse rest))), omega (arith, p.2))
 
 pub empty_is : (xs : List Frame) → length xs ≡ 0 → xs ≡ []
 empty_is [] e = refl
@@ -167,11 +188,11 @@ pub closed-last : (db : Database) (s : State) (rest : List Frame) (n : ℕ) → 
 closed-last db s rest n e one = popped-cases db s rest (Plain n) e ∙ ap (λ i. plain i (cases_of db (record s { frames = rest }))) one
 
 -- a smaller choice in place of one
-pub smaller-stack : (s : State) (d : ℕ) (rest frames : List Frame) (n : ℕ) → s.frames ≡ rest ++ Plain n ∷ [] → 1 < n → frames ≡ rest ++ Plain (n - 1) ∷ [] → IsStack s d → IsStack (record s { frames = frames }) (d - 1)
+pub smaller-stack : (s : State) (d : ℕ) (rest frames : List Frame) (n : ℕ) → s.frames ≡ rest ++ Plain n ∷ [] → 1 < n → frames ≡ rest ++ Plain (n - 1) ∷ [] → IsStack s d → IsStack (record s { frames = frames; goals = alone 0 }) (d - 1)
 smaller-stack s d rest frames n e lt e' is =
     let p = popped-stack s d rest (Plain n) e is in
     let q = popped-frames s d rest (Plain n) e is in
-    let o = opened-state (record s { frames = rest }) (d - n) frames (Plain (n - 1)) e' p (omega (arith, lt)) tt in
+    let o = opened-state (record s { frames = rest; goals = alone 0 }) (d - n) frames (Plain (n - 1)) e' p (omega (arith, lt)) tt in
     (o.0, omega (arith, o.1, q.2, lt))
 
 -- so many more in the newest frame
@@ -180,6 +201,12 @@ plain-plus zero n below = ap (λ i. plain i below) (omega arith)
 plain-plus (suc m) n below =
     let e : suc (m + n) ≡ suc m + n = omega arith in
     ap (λ cs. Choice [] ∷ cs) (plain-plus m n below) ∙ ap (λ i. plain i below) e
+
+choices-plus : (m n : ℕ) (below : List Bool) → choices (m + n) below ≡ choices n (choices m below)
+choices-plus m zero below = ap (λ i. choices i below) (omega arith)
+choices-plus m (suc n) below =
+    let e : m + suc n ≡ suc (m + n) = omega arith in
+    ap (λ i. choices i below) e ∙ ap (λ ks. true ∷ ks) (choices-plus m n below)
 
 pub counts-in-place : (rest old new : List Frame) (m n : ℕ) → old ≡ rest ++ Plain m ∷ [] → new ≡ rest ++ Plain (m + n) ∷ [] → CountsUp n (reverse old) (reverse new)
 counts-in-place rest old new m n was is =
@@ -190,6 +217,7 @@ counts-in-place rest old new m n was is =
       frames = λ code e links saved a. (omega (arith, a.0), a.1);
       older = λ m o. o;
       depth = omega arith;
+      kinds = choices-plus m n (kinds_of (reverse rest));
       seen = λ g a. (tt, a.1);
       walks = refl;
     })
@@ -207,6 +235,7 @@ counts-new old new n some is =
       frames = λ code e links saved a. (some, a);
       older = λ m o. o;
       depth = omega arith;
+      kinds = refl;
       seen = λ g a. (tt, a);
       walks = refl;
     })

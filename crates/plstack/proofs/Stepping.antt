@@ -14,9 +14,10 @@ use Rattle.pllinks.specs.declared.link.Link.{Link}
 use Rattle.pllinks.specs.declared.link.Continuation.{Continuation}
 use Rattle.pllinks.proofs.Changing.{items-more, items-put}
 use Rattle.pllinks.specs.Links.{items_of}
-use Rattle.plstack.specs.State.{State, IsState, IsList, goals_in, goals_of}
+use Rattle.plstack.specs.State.{State, IsState, IsList, goals_in, kinds_in, goals_of}
 use Rattle.plstack.specs.Trials.{ListsBody, Resolved}
 use Rattle.plstack.specs.Walks.{FitsCall}
+use Rattle.plstack.proofs.Naming.{fits-env}
 use Rattle.plstack.proofs.Growing.{frames-grown}
 use Rattle.plstack.proofs.Hitting.{place-with}
 
@@ -41,6 +42,7 @@ module _ (s : State) (is : IsState s) (e : Env) (env : IsEnv e) (keeps : Keeps s
     frames = frames-grown (goals_in s) s.env e s.links s.links [] s.saved (sym (append-nil s.links)) keeps env.heap.names (reverse s.frames) is.frames;
     seen = is.seen;
     goals = (list-bound s.goals is.goals).0;
+    fits = fits-env (kinds_in s) (goals_in s) s.env e (items_of s.links s.goals) (items_of s.links s.goals) refl is.fits;
   }
 
   module _ (rest : Continuation) (there : IsList s rest) (ls : List Link) (level : ℕ) (list : Continuation) (b : ListsBody s.links ls level body rest list) where

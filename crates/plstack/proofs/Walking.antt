@@ -1,5 +1,5 @@
 -- Walks over clauses: they are opened, gone back to, tried and moved on.
-use Rattle.std.proofs.Common.{◌≡◌, ℕ, ◌+◌, List, [], ◌∷◌, ◌++◌, take, filter_map, option_map, refl, sym, ap, ap₂, ◌∙◌, subst, arith, reverse, append-nil, Option, Some, None}
+use Rattle.std.proofs.Common.{◌≡◌, ℕ, ◌+◌, List, [], ◌∷◌, ◌++◌, take, filter_map, option_map, refl, sym, ap, ap₂, ◌∙◌, subst, arith, reverse, append-nil, Option, Some, None, true}
 use Rattle.std.specs.List.{cons_option}
 use Rattle.plterm.specs.Tree.{Tree}
 use Rattle.plsubst.specs.Subst.{bind, shift}
@@ -28,14 +28,16 @@ use Rattle.plstack.specs.declared.frame.Frame.{Frame}
 use Rattle.plstack.specs.declared.frame.Frame.TheVariants.{Open}
 use Rattle.plstack.specs.Places.{Database, clause_by, place_asked, tried, candidates_left, left_at, left_if}
 use Rattle.plstack.specs.Frames.{IsOpen, IsSpotSeen, AreOlder}
-use Rattle.plstack.specs.State.{State, IsStack, goals_in, goals_of, place_of, cases_of, IsList, CountsUp, RetriesBy}
+use Rattle.plstack.specs.Levels.{kinds_of, Precedes}
+use Rattle.plstack.specs.State.{State, IsStack, goals_in, goals_of, place_of, cases_of, depth_in, kinds_in, IsFit, IsList, CountsUp, RetriesBy}
 use Rattle.plstack.specs.Calls.{Goes}
 use Rattle.plstack.specs.Cutting.{Settles}
 use Rattle.plstack.specs.Opening.{OpensFrame}
 use Rattle.plstack.specs.Trials.{ComesBack}
 use Rattle.plstack.specs.Walks.{IsWalking, AtWalk, OpensWalk, goal_at, walk_left, GoesOn, EndsPlain, Finds, FitsCall, LeftSame}
+use Rattle.plstack.proofs.Naming.{first-precedes, kinds-length}
 use Rattle.plstack.proofs.Renaming.{stays, candidates-renamed}
-use Rattle.plstack.proofs.Frames.{items-more}
+use Rattle.plstack.proofs.Frames.{items-more, reverse-push}
 use Rattle.plstack.proofs.Growing.{cases-grown, frames-grown}
 use Rattle.plstack.proofs.Found.{renamed-kept}
 use Rattle.plstack.proofs.Reopening.{unchanged-extends}
@@ -104,13 +106,13 @@ module _ (s : State) (d : ℕ) (is : IsStack s d) (p : Point) (w : Walk) (walkin
     w' = record { goal = w.goal; uses = w.uses; spot = spot }
 
     pub replaced-stack : IsStack (record s { frames = frames }) d
-    replaced-stack = other-stack s d is p (resumes.Walk w) walking.rest walking.top rest f taken (resumes.Walk w') refl (λ fits. fits) seen frames pushed
+    replaced-stack = other-stack s d is p (resumes.Walk w) walking.rest walking.top rest f taken (resumes.Walk w') refl refl (λ fits. fits) seen frames pushed
 
     pub replaced : (db : Database) → GoesOn db s (record s { frames = frames }) p w (Some spot)
     replaced db = record {
       below = cases_of db (record s { frames = rest });
       was = taken-cases s d is p (resumes.Walk w) walking.rest walking.top rest f taken db;
-      cases = other-cases s d is p (resumes.Walk w) walking.rest walking.top rest f taken (resumes.Walk w') refl (λ fits. fits) seen frames pushed db;
+      cases = other-cases s d is p (resumes.Walk w) walking.rest walking.top rest f taken (resumes.Walk w') refl refl (λ fits. fits) seen frames pushed db;
     }
 
   -- nothing is left
@@ -155,8 +157,8 @@ module _ (s : State) (d : ℕ) (is : IsStack s d) (p : Point) (w : Walk) (at : A
   unfolding cases_of
   fitted-cases db = cases-grown (goals_in s) s.env e s.links ls goes.more s.saved goes.links goes.keeps goes.env.heap.names db (reverse s.frames) is.0.frames
 
-  pub fitted-stack : (list : Continuation) → IsList (record s { env = e; links = ls; goals = list }) list → IsStack (record s { env = e; links = ls; goals = list }) d
-  fitted-stack list there = (
+  pub fitted-stack : (list : Continuation) → IsList (record s { env = e; links = ls; goals = list }) list → IsFit (record s { env = e; links = ls; goals = list }) list → IsStack (record s { env = e; links = ls; goals = list }) d
+  fitted-stack list there fits = (
     record {
       env = goes.env;
       names = extends-names s.basis.code.text.names s.env.heap.names e.heap.names is.0.names goes.keeps.names;
@@ -165,6 +167,7 @@ module _ (s : State) (d : ℕ) (is : IsStack s d) (p : Point) (w : Walk) (at : A
       frames = frames-grown (goals_in s) s.env e s.links ls goes.more s.saved goes.links goes.keeps goes.env.heap.names (reverse s.frames) is.0.frames;
       seen = is.0.seen;
       goals = record { there = there.there; items = there.items };
+      fits = fits;
     },
     is.1,
   )
@@ -236,6 +239,11 @@ pub fits-goes : (s : State) (e : Env) (ls : List Link) (list : Continuation) (d 
 fits-goes s e ls list d goal rest x f = record { keeps = f.goes.keeps; env = f.goes.env; more = f.goes.more; links = f.goes.links; chain = f.goes.chain }
 
 module _ (s : State) (d : ℕ) (is : IsStack s d) (p : Point) (w : Walk) (at : AtWalk s p w) where
+  pub walk-precedes : (k : ℕ) → depth_in s ≡ k + 1 → Precedes (kinds_in s) k (goals_of s p.list)
+  walk-precedes k level =
+      let kinds : kinds_in s ≡ true ∷ kinds_of (reverse at.walking.rest) = ap (λ fs. kinds_of (reverse fs)) at.walking.top ∙ ap kinds_of (reverse-push at.walking.rest (Open p (resumes.Walk w))) in
+      first-precedes (kinds_in s) (kinds_of (reverse at.walking.rest)) k (goals_of s p.list) kinds (kinds-length (reverse s.frames) ∙ level) (at-frame s d is at.walking.rest p (resumes.Walk w) at.walking.top).fits
+
   pub mark-there : IsMark p.marks.env s.env
   mark-there = (at-frame s d is at.walking.rest p (resumes.Walk w) at.walking.top).mark
 

@@ -1,32 +1,23 @@
 -- What a cut gives up.
-use Rattle.std.specs.Prelude.{◌≡◌, ◌<◌, ◌≤◌, ◌+◌, ◌-◌, ◌⊎◌, ℕ, List, [], ◌∷◌, ◌++◌, length, get_or, take, reverse}
+use Rattle.std.specs.Prelude.{◌≡◌, ◌<◌, ◌≤◌, ◌+◌, ◌-◌, ℕ, true, List, [], ◌∷◌, ◌++◌, length, get_or, take, reverse}
 use Rattle.plsearch.specs.Types.{Place, Case, Choice, Mark}
 use Rattle.plsearch.specs.Engine.{deeper}
 use Rattle.plsearch.specs.Machines.Levels.{AreAtMost, emptied}
 use Rattle.plenv.specs.Env.{IsWithin}
 use Rattle.pllinks.specs.declared.link.Continuation.{Continuation}
 use Rattle.plstack.specs.declared.frame.Marks.{Marks}
-use Rattle.plstack.specs.declared.frame.Resume.{Resume}
-use Rattle.plstack.specs.declared.frame.Resume.TheVariants as resumes
 use Rattle.plstack.specs.declared.frame.Frame.{Frame}
-use Rattle.plstack.specs.declared.frame.Frame.TheVariants.{Plain, Barrier, Open}
+use Rattle.plstack.specs.declared.frame.Frame.TheVariants.{Plain, Open}
 use Rattle.plstack.specs.Places.{Database, size, depth_of, plain, cases}
+use Rattle.plstack.specs.Levels.{is_chosen}
 use Rattle.plstack.specs.Frames.{AreOlder}
 use Rattle.plstack.specs.State.{State, place_of, goals_in, goals_of, cases_of, EndsWalks}
 use Rattle.plstack.specs.Opening.{Keeps}
 
--- the case is a choice, and no handler
-abbrev pub IsChosen : Resume → Type 0
-IsChosen (resumes.Clauses c) = Unit {0}
-IsChosen (resumes.Walk w) = Unit {0}
-IsChosen (resumes.Answers a) = Unit {0}
-IsChosen resumes.List = Unit {0}
-IsChosen (resumes.Handle x) = ⊥
-
+-- its cases are choices
 abbrev pub IsChoice : Frame → Type 0
 IsChoice (Plain n) = Unit {0}
-IsChoice (Barrier l) = ⊥
-IsChoice (Open p r) = IsChosen r
+IsChoice (Open p r) = is_chosen r ≡ true
 
 abbrev pub frame_at : List Frame → ℕ → Frame
 frame_at frames i = get_or frames i (Plain 0)
@@ -67,14 +58,10 @@ pub record GivesUp (old new : State) (i below : ℕ) : Type 0 where
   pub walks : EndsWalks old new
   pub goals : new.goals ≡ old.goals
 
--- what a cut to a level makes of the cases: a mark of the level, or where the list to be visited names no level above this one, all that
--- the mark gives up is emptied
-abbrev pub CutsCases : State → State → ℕ → Continuation → Type 0
-CutsCases old new level list = ((db : Database) → cases_of db new ≡ Mark level ∷ cases_of db old) ⊎ (AreAtMost level (goals_of old list) × ((db : Database) → Empties db old new level))
-
--- a list is visited behind a cut to the level
+-- a list that names no level above this one is visited behind a cut to it: all that a mark of the level gives up is emptied
 pub record Cuts (old new : State) (level : ℕ) (list : Continuation) : Type 0 where
-  pub cases : CutsCases old new level list
+  pub most : AreAtMost level (goals_of old list)
+  pub cases : (db : Database) → Empties db old new level
   pub keeps : Keeps old new
   pub walks : EndsWalks old new
   pub goals : new.goals ≡ list

@@ -18,7 +18,8 @@ use Rattle.pllinks.specs.Lists.{marker_of, run_goals, IsMarker}
 use Rattle.pllinks.specs.Links.{IsDone}
 use Rattle.plstack.specs.declared.first.First.{First}
 use Rattle.plstack.specs.declared.first.First.TheVariants as firsts
-use Rattle.plstack.specs.State.{State, goals_in, goals_of, IsList}
+use Rattle.plstack.specs.Levels.{FitsIn}
+use Rattle.plstack.specs.State.{State, goals_in, goals_of, kinds_in, IsList}
 
 -- goals that begin with a conjunction, and the list in which its two goals stand in its place
 pub record AtBoth (s : State) (es : List Element) (next : Continuation) : Type 0 where
@@ -30,6 +31,7 @@ pub record AtBoth (s : State) (es : List Element) (next : Continuation) : Type 0
   pub form_is : form (of_two (codes ",") left right) ≡ Both left right
   pub next_goals : goals_of s next ≡ Goal level left ∷ Goal level right ∷ rest
   pub there : IsList s next
+  pub levels : FitsIn (kinds_in s) es
 
 -- a list begins with no run that is at its end, but that of no goals
 abbrev pub IsShort : State → Continuation → Type 0
@@ -46,6 +48,7 @@ pub record AtStep (s : State) (es : List Element) (r : Run) (x : Step) (rest : C
   pub slots : r.«end» ≤ length s.env.slots
   pub goals : es ≡ Goal r.level (bind (over s.env r.base) goal) ∷ goals_of s rest
   pub there : IsList s rest
+  pub levels : FitsIn (kinds_in s) es
   pub short : IsShort s rest
 
 -- goals that begin with one that is a term, and the list behind it
@@ -53,12 +56,14 @@ pub record AtGoal (s : State) (es : List Element) (level : ℕ) (v : Cell) (rest
   pub fits : IsValue s.env.heap v
   pub goals : es ≡ Goal level (value s.env.heap v) ∷ goals_of s rest
   pub there : IsList s rest
+  pub levels : FitsIn (kinds_in s) es
 
 -- goals that begin with a marker, and the list behind it
 pub record AtMarker (s : State) (es : List Element) (kind : MarkerKind) (level : ℕ) (rest : Continuation) : Type 0 where
   pub goals : es ≡ Marker (marker_of s.env.heap kind) level ∷ goals_of s rest
   pub fits : IsMarker s.env.heap kind
   pub there : IsList s rest
+  pub levels : FitsIn (kinds_in s) es
 
 -- what stands first in some goals
 abbrev pub Begins : State → List Element → First → Type 0

@@ -7,7 +7,7 @@ use Rattle.plgenerator.specs.Answers.{IsTurn}
 use Rattle.plenv.specs.Env.{Env, cut, IsMark}
 use Rattle.plenv.specs.Marks.{IsOlder as IsEnvOlder}
 use Rattle.pllinks.specs.declared.link.Link.{Link}
-use Rattle.pllinks.specs.Lists.{Goals, AreItems}
+use Rattle.pllinks.specs.Lists.{Goals, all_elements, AreItems}
 use Rattle.pllinks.specs.Links.{items_of}
 use Rattle.plstack.specs.declared.frame.Marks.{Marks}
 use Rattle.plstack.specs.declared.frame.Point.{Point}
@@ -18,8 +18,9 @@ use Rattle.plstack.specs.declared.frame.Spot.TheVariants as spots
 use Rattle.plstack.specs.declared.frame.Resume.{Resume}
 use Rattle.plstack.specs.declared.frame.Resume.TheVariants as resumes
 use Rattle.plstack.specs.declared.frame.Frame.{Frame}
-use Rattle.plstack.specs.declared.frame.Frame.TheVariants.{Plain, Barrier, Open}
+use Rattle.plstack.specs.declared.frame.Frame.TheVariants.{Plain, Open}
 use Rattle.plstack.specs.Places.{kept, kept_values}
+use Rattle.plstack.specs.Levels.{kinds_of, FitsIn}
 
 -- a frame that is not newer than these marks, and keeps no values behind them
 pub record IsOlder (m : Marks) (p : Point) (r : Resume) : Type 0 where
@@ -30,7 +31,6 @@ pub record IsOlder (m : Marks) (p : Point) (r : Resume) : Type 0 where
 abbrev pub AreOlder : Marks → List Frame → Type 0
 AreOlder m [] = ⊤
 AreOlder m (Plain n ∷ fs) = AreOlder m fs
-AreOlder m (Barrier l ∷ fs) = AreOlder m fs
 AreOlder m (Open p r ∷ fs) = IsOlder m p r × AreOlder m fs
 
 -- a walk goes on in the view of no later place
@@ -52,7 +52,6 @@ IsSeen n (resumes.Handle x) = ⊤
 
 abbrev pub IsFrameSeen : ℕ → Frame → Type 0
 IsFrameSeen n (Plain k) = ⊤
-IsFrameSeen n (Barrier l) = ⊤
 IsFrameSeen n (Open p r) = IsSeen n r
 
 abbrev pub AreSeen : ℕ → List Frame → Type 0
@@ -72,7 +71,7 @@ IsResume h vs (resumes.Answers a) = AreValues h vs × IsTurn h vs a.turn
 IsResume h vs resumes.List = ⊤
 IsResume h vs (resumes.Handle x) = IsHandled h x
 
--- a choice point or handler: it reads what it comes back to at its marks, and the frames behind it are older
+-- a choice point or handler: it reads what it comes back to at its marks, the frames behind it are older, and its list fits in them
 pub record IsOpen (code : Goals) (e : Env) (links : List Link) (saved : List Cell) (p : Point) (r : Resume) (fs : List Frame) : Type 0 where
   pub mark : IsMark p.marks.env e
   pub links_room : p.marks.links ≤ length links
@@ -81,10 +80,10 @@ pub record IsOpen (code : Goals) (e : Env) (links : List Link) (saved : List Cel
   pub older : AreOlder p.marks fs
   pub items : AreItems code (cut p.marks.env e).heap (length (cut p.marks.env e).slots) (items_of links p.list)
   pub resume : IsResume (cut p.marks.env e).heap (kept_values saved p r) r
+  pub fits : FitsIn (kinds_of fs) (all_elements code e (items_of links p.list))
 
 abbrev pub IsFrame : Goals → Env → List Link → List Cell → Frame → List Frame → Type 0
 IsFrame code e links saved (Plain n) fs = 0 < n
-IsFrame code e links saved (Barrier l) fs = ⊤
 IsFrame code e links saved (Open p r) fs = IsOpen code e links saved p r fs
 
 abbrev pub AreFrames : Goals → Env → List Link → List Cell → List Frame → Type 0

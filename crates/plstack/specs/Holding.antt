@@ -6,7 +6,7 @@ use Rattle.plstack.specs.declared.hold.Held.{Held}
 use Rattle.plstack.specs.declared.hold.Newest.{Newest}
 use Rattle.plstack.specs.declared.hold.Newest.TheVariants as newest
 use Rattle.plstack.specs.declared.frame.Frame.{Frame}
-use Rattle.plstack.specs.declared.frame.Frame.TheVariants.{Plain, Barrier, Open}
+use Rattle.plstack.specs.declared.frame.Frame.TheVariants.{Plain, Open}
 use Rattle.plstack.specs.Places.{kept}
 
 -- the marks of nothing
@@ -17,7 +17,6 @@ no_marks = record { env = record { heap = record { cells = 0; trail = 0; numbers
 abbrev pub held : List Frame → Held
 held [] = record { marks = no_marks; kept = 0 }
 held (Plain n ∷ fs) = held fs
-held (Barrier l ∷ fs) = held fs
 held (Open p r ∷ fs) = record { marks = p.marks; kept = kept r }
 
 -- the newest case of frames, with the newest first, that comes back to something

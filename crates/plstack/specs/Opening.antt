@@ -3,7 +3,7 @@ use Rattle.std.specs.Prelude.{◌≡◌, ◌<◌, ℕ, List, [], ◌∷◌, ◌+
 use Rattle.plterm.specs.Tree.{Tree}
 use Rattle.plcells.specs.declared.cell.Cell.{Cell}
 use Rattle.plcells.specs.Store.{IsValue, value}
-use Rattle.plsearch.specs.Types.{Place, Handler, Catch, Gather, Case, Choice, Mark, Handle}
+use Rattle.plsearch.specs.Types.{Place, Handler, Catch, Gather, Case, Choice, Handle}
 use Rattle.plsearch.specs.Rows.{branch}
 use Rattle.plsearch.specs.Engine.{deeper}
 use Rattle.pllinks.specs.declared.link.Continuation.{Continuation}
@@ -17,7 +17,7 @@ use Rattle.plstack.specs.declared.frame.Closed.{Closed}
 use Rattle.plstack.specs.declared.frame.Closed.TheVariants as closings
 use Rattle.plstack.specs.Places.{Database, handled, case_of, plain, walk_of}
 use Rattle.plstack.specs.Frames.{IsHandled}
-use Rattle.plstack.specs.State.{State, goals_in, goals_of, place_at, cases_of, walks_in, IsList, HasClauses, HasWalk, HasBranch, HasAnswers, HasCatcher, HasGatherer}
+use Rattle.plstack.specs.State.{State, goals_in, goals_of, place_at, cases_of, walks_in, IsFit, IsList, HasClauses, HasWalk, HasBranch, HasAnswers, HasCatcher, HasGatherer}
 
 -- values and lists stand for what they did, whatever cases are open
 pub record Keeps (old new : State) : Type 0 where
@@ -37,6 +37,7 @@ handler_of s h = Handle (handled s.env.heap h.handler) (place_at s h.list)
 pub record IsHandling (s : State) (h : Handling) : Type 0 where
   pub handler : IsHandled s.env.heap h.handler
   pub list : IsList s h.list
+  pub fits : IsFit s h.list
 
 -- the cases that a goal with a cut level of its own runs in
 abbrev pub around_cases : State → Around → List Case
@@ -46,7 +47,7 @@ around_cases s (arounds.Handle h) = handler_of s h ∷ []
 
 abbrev pub IsAround : State → Around → Type 0
 IsAround s arounds.Nothing = Unit {0}
-IsAround s (arounds.Branch l) = IsList s l
+IsAround s (arounds.Branch l) = IsList s l × IsFit s l
 IsAround s (arounds.Handle h) = IsHandling s h
 
 -- the case that comes back to a list, and all else as it was
@@ -74,7 +75,6 @@ closing (resumes.Handle x) = closings.Handler
 -- the innermost case was closed
 abbrev pub ClosedAs : Database → State → State → Closed → Type 0
 ClosedAs db old new closings.Choice = (ps : List Place) × (cases_of db old ≡ Choice ps ∷ cases_of db new) × ((HasClauses old → ⊥) → (HasWalk old → ⊥) → (HasBranch old → ⊥) → (HasAnswers old → ⊥) → ps ≡ [])
-ClosedAs db old new (closings.Mark l) = cases_of db old ≡ Mark l ∷ cases_of db new
 ClosedAs db old new closings.Handler = (h : Handler) × (p : Place) × (cases_of db old ≡ Handle h p ∷ cases_of db new) × ((c r : Tree) → h ≡ Catch c r → (HasCatcher old → ⊥) → ⊥) × ((l : Tree) → h ≡ Gather l → (HasGatherer old → ⊥) → ⊥)
 
 -- so many choices with nothing left were closed, the innermost cases

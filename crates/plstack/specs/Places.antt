@@ -12,7 +12,7 @@ use Rattle.plstore.specs.Looking.{Views, clause_alive}
 use Rattle.plevent.specs.declared.request.Request.TheVariants.{EraseOne}
 use Rattle.plcells.specs.declared.cell.Cell.{Cell}
 use Rattle.plcells.specs.Store.{Store, value}
-use Rattle.plsearch.specs.Types.{GoesOn, Await, Element, Asking, Place, Handler, Catch, Gather, Case, Choice, Mark, Handle}
+use Rattle.plsearch.specs.Types.{GoesOn, Await, Element, Asking, Place, Handler, Catch, Gather, Case, Choice, Handle}
 use Rattle.plsearch.specs.Rows.{resolve, solved, as_fact}
 use Rattle.plgenerator.specs.declared.turn.Turn.{Turn}
 use Rattle.plgenerator.specs.Answers.{left}
@@ -34,7 +34,7 @@ use Rattle.plstack.specs.declared.frame.Walk.{Walk}
 use Rattle.plstack.specs.declared.frame.Resume.{Resume}
 use Rattle.plstack.specs.declared.frame.Resume.TheVariants as resumes
 use Rattle.plstack.specs.declared.frame.Frame.{Frame}
-use Rattle.plstack.specs.declared.frame.Frame.TheVariants.{Plain, Barrier, Open}
+use Rattle.plstack.specs.declared.frame.Frame.TheVariants.{Plain, Open}
 
 -- a procedure of the program's text: its name, and its clauses
 pub record Static : Type 0 where
@@ -172,7 +172,6 @@ plain (suc n) below = Choice [] ∷ plain n below
 -- the cases of a frame, over those below it
 abbrev pub opened : Database → Goals → Env → List Link → List Cell → Frame → List Case → List Case
 opened db code e links saved (Plain n) below = plain n below
-opened db code e links saved (Barrier l) below = Mark l ∷ below
 opened db code e links saved (Open p r) below =
     case_of db code (deeper below 0) (cut p.marks.env e) (items_of links p.list) (kept_values saved p r) r ∷ below
 
@@ -184,7 +183,6 @@ cases db code e links saved (f ∷ fs) = opened db code e links saved f (cases d
 -- how many cases they are
 abbrev pub size : Frame → ℕ
 size (Plain n) = n
-size (Barrier l) = 1
 size (Open p r) = 1
 
 abbrev pub depth_of : List Frame → ℕ
@@ -209,5 +207,4 @@ walk_of (resumes.Handle x) = []
 abbrev pub walks_of : List Frame → List Walk
 walks_of [] = []
 walks_of (Plain n ∷ fs) = walks_of fs
-walks_of (Barrier l ∷ fs) = walks_of fs
 walks_of (Open p r ∷ fs) = walk_of r ++ walks_of fs

@@ -1,5 +1,5 @@
 -- A stack's state, and what it stands for.
-use Rattle.std.specs.Prelude.{◌≡◌, ℕ, ◌+◌, List, [], ◌∷◌, ◌++◌, reverse, Option, Some}
+use Rattle.std.specs.Prelude.{◌≡◌, ℕ, ◌+◌, Bool, List, [], ◌∷◌, ◌++◌, drop, reverse, Option, Some}
 use Rattle.plterm.specs.Tree.{Tree}
 use Rattle.plsubst.specs.Subst.{bind}
 use Rattle.plsubst.specs.Unify.{unify}
@@ -26,6 +26,7 @@ use Rattle.plstack.specs.declared.frame.Resume.TheVariants as resumes
 use Rattle.plstack.specs.declared.frame.Frame.{Frame}
 use Rattle.plstack.specs.declared.frame.Frame.TheVariants.{Open, Plain}
 use Rattle.plstack.specs.Places.{Database, place_asked, handled, plain, cases, depth_of, walks_of}
+use Rattle.plstack.specs.Levels.{choices, kinds_of, FitsIn}
 use Rattle.plstack.specs.Frames.{AreOlder, AreSeen, IsHandled, AreFrames}
 
 -- the program's code, with the names that it was compiled with, and the latest view; the environment; the links; the values that open cases keep; the frames,
@@ -77,6 +78,14 @@ EndsWalks old new = (ended : List Walk) × (walks_in old ≡ ended ++ walks_in n
 abbrev pub IsList : State → Continuation → Type 0
 IsList s l = IsListIn (goals_in s) s.env s.links l
 
+-- which cases are choices, the innermost first
+abbrev pub kinds_in : State → List Bool
+kinds_in s = kinds_of (reverse s.frames)
+
+-- a list that fits in the open cases
+abbrev pub IsFit : State → Continuation → Type 0
+IsFit s l = FitsIn (kinds_in s) (goals_of s l)
+
 pub record IsState (s : State) : Type 0 where
   pub env : IsEnv s.env
   pub names : ExtendsNames s.basis.code.text.names s.env.heap.names
@@ -85,6 +94,7 @@ pub record IsState (s : State) : Type 0 where
   pub frames : AreFrames (goals_in s) s.env s.links s.saved (reverse s.frames)
   pub seen : AreSeen s.basis.latest (reverse s.frames)
   pub goals : IsList s s.goals
+  pub fits : IsFit s s.goals
 
 -- what a stack keeps, with how many cases are open
 abbrev pub IsStack : State → ℕ → Type 0
@@ -150,6 +160,7 @@ pub record CountsUp (n : ℕ) (old new : List Frame) : Type 0 where
   pub frames : (code : Goals) (e : Env) (links : List Link) (saved : List Cell) → AreFrames code e links saved old → AreFrames code e links saved new
   pub older : (m : Marks) → AreOlder m old → AreOlder m new
   pub depth : depth_of new ≡ depth_of old + n
+  pub kinds : kinds_of new ≡ choices n (kinds_of old)
   pub seen : (g : ℕ) → AreSeen g old → AreSeen g new
   pub walks : walks_of new ≡ walks_of old
 
@@ -243,6 +254,7 @@ pub record AtHandler (s : State) (x : Handler) (list : Continuation) : Type 0 wh
   pub cases : (db : Database) → cases_of db s ≡ Handle (handled s.env.heap x) (place_at s list) ∷ below db
   pub there : IsHandled s.env.heap x
   pub list_there : IsList s list
+  pub list_fits : FitsIn (drop 1 (kinds_in s)) (goals_of s list)
   pub has : HasHandler s
 
 -- the innermost case was a handler, and a list is visited in a choice with nothing left in its place

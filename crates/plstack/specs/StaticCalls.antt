@@ -32,8 +32,9 @@ use Rattle.plstack.specs.declared.fit.Hit.{Hit}
 use Rattle.plstore.specs.Looking.{Views}
 use Rattle.plstack.specs.Places.{Static, Database, called, places_left, kept_values}
 use Rattle.plstack.specs.Fits.{AreOwn, Finds}
-use Rattle.plstack.specs.State.{State, goals_in, goals_of, place_of, cases_of, CountsUp, HasClauses, IsList}
+use Rattle.plstack.specs.State.{State, goals_in, goals_of, place_of, cases_of, CountsUp, HasClauses, IsList, kinds_in}
 use Rattle.plstack.specs.Calls.{places_of}
+use Rattle.plstack.specs.Levels.{FitsIn}
 
 abbrev pub static_of : Indicator × List Clause → Static
 static_of e = record { name = e.0.name; clauses = e.1 }
@@ -61,6 +62,7 @@ pub record AtCall (s : State) (p : Point) (c : Clauses) : Type 0 where
   pub calling : IsCalling s p c
   pub now : cut p.marks.env s.env ≡ s.env
   pub list : IsList s p.list
+  pub fits : FitsIn (drop 1 (kinds_in s)) (goals_of s p.list)
 
 -- the goal of a call, as things were at its opening
 abbrev pub goal_at : Database → State → Point → Clauses → Tree

@@ -6,7 +6,7 @@ ghost use Rattle.plgenerator.specs.Answers.{IsTurn};
 ghost use Rattle.plenv.specs.Changes.{Stays};
 ghost use Rattle.plenv.specs.Env.{IsEnv};
 ghost use Rattle.plstack.specs.Places.{Database};
-ghost use Rattle.plstack.specs.State.{cases_of, walks_in, HasAnswers, IsList, Retries};
+ghost use Rattle.plstack.specs.State.{cases_of, walks_in, HasAnswers, IsFit, IsList, Retries};
 ghost use Rattle.plstack.specs.Calls.{StaysAt};
 ghost use Rattle.plstack.specs.Trials.{IsMarked, IsOpened};
 ghost use Rattle.plstack.specs.Answering.{Answered, PushesAnswers, TakesAnswer, TakesNone, Unanswered};
@@ -112,6 +112,7 @@ impl Stack {
         requires few { length values.now < 2 ^ 32 }
         requires turn { IsTurn self.old.env.heap values.now turn }
         requires rest { IsList self.old rest }
+        requires fits { IsFit self.old rest }
         ensures yes { IfOk result (λ yes. yes ≡ true → (db : Database) → Answered db self.old self.new values.now rest turn) }
         ensures no { IfOk result (λ yes. yes ≡ false → (db : Database) → Unanswered db self.old self.new values.now rest turn) }
         ensures basis { self.new.basis ≡ self.old.basis }
@@ -142,6 +143,7 @@ impl Stack {
         requires few { length values.now < 2 ^ 32 }
         requires turn { IsTurn self.old.env.heap values.now turn }
         requires list { IsList self.old point.list }
+        requires fits { IsFit self.old point.list }
         ensures some { IfOk result (λ o. IsSome o → (db : Database) → Answered db self.old self.new values.now point.list turn) }
         ensures none { IfOk result (λ o. IfNone o ((db : Database) → Unanswered db self.old self.new values.now point.list turn)) }
         ensures opened { IfOk result (λ o. IfSome o (λ opened. opened.is_last ≡ true → IsOpened self.new opened)) }

@@ -12,10 +12,11 @@ ghost use Rattle.plenv.specs.Env.{cut, over, renamed, IsEnv, IsMark, IsWithin};
 ghost use Rattle.plenv.specs.Changes.{Keeps};
 ghost use Rattle.pllinks.specs.Links.{alone};
 ghost use Rattle.plstack.specs.Places.{Database, called};
+ghost use Rattle.plstack.specs.Levels.{FitsIn};
 ghost use Rattle.plstack.specs.Frames.{AreOlder};
 ghost use Rattle.plstack.specs.Fits.{FindsNone};
 ghost use Rattle.plstack.specs.Attempts.{IsAttempt};
-ghost use Rattle.plstack.specs.State.{cases_of, goals_of, place_of, walks_in, HasClauses, IsList, Retries};
+ghost use Rattle.plstack.specs.State.{cases_of, goals_of, kinds_in, place_of, walks_in, HasClauses, IsFit, IsList, Retries};
 ghost use Rattle.plstack.specs.Calls.{Calls, CallsNone, StaysAt};
 ghost use Rattle.plstack.specs.StaticCalls.{body_at, further, AreStatics, AtCall, Binds, Enters, FindsHit, FitsFirst, GoesOn, Hits, IsCalling, PushesCall};
 ghost use Rattle.plstack.specs.Trials.{IsMarked};
@@ -178,6 +179,7 @@ impl Stack {
         requires values { AreValues self.old.env.heap values.now }
         requires few { length values.now < 2 ^ 16 }
         requires rest { IsList self.old rest }
+        requires fits { IsFit self.old rest }
         ensures yes { IfOk result (λ yes. yes ≡ true → (db : Database) → AreStatics self.old.basis.code db → Calls db self.old self.new (called self.old.env.heap (db.statics procedure).name values.now) rest (db.statics procedure).clauses) }
         ensures no { IfOk result (λ yes. yes ≡ false → (db : Database) → AreStatics self.old.basis.code db → CallsNone db self.old self.new (called self.old.env.heap (db.statics procedure).name values.now) rest (db.statics procedure).clauses) }
         ensures basis { self.new.basis ≡ self.old.basis }
@@ -222,6 +224,7 @@ impl Stack {
         requires few { length values.now < 2 ^ 16 }
         requires alone { point.now.list ≡ alone point.now.list.rest }
         requires list { IsList self.old point.now.list }
+        requires fits { IsFit self.old point.now.list }
         ensures yes { IfOk result (λ yes. yes ≡ true → (db : Database) → AreStatics self.old.basis.code db → Calls db self.old self.new (called self.old.env.heap (db.statics procedure).name values.now) point.now.list (db.statics procedure).clauses) }
         ensures no { IfOk result (λ yes. yes ≡ false → (db : Database) → AreStatics self.old.basis.code db → CallsNone db self.old self.new (called self.old.env.heap (db.statics procedure).name values.now) point.now.list (db.statics procedure).clauses) }
         ensures basis { self.new.basis ≡ self.old.basis }
@@ -355,6 +358,7 @@ impl Stack {
         requires calling { IsCalling self.old at.point at.call }
         requires hit { (x : Clause) × IsCodeOf self.old.basis.code.text hit.clause x × (hit.base + hit.clause.variables ≤ length self.old.env.slots) }
         requires behind { IsList self.old (alone behind) }
+        requires fits { FitsIn (drop 1 (kinds_in self.old)) (goals_of self.old (alone behind)) }
         ensures enters { (db : Database) → Enters db self.old self.new at.point at.call hit behind }
         ensures basis { self.new.basis ≡ self.old.basis }
         ensures walks { walks_in self.new ≡ walks_in self.old }
@@ -429,16 +433,17 @@ impl Stack {
         count_up(&mut self.frames, 1);
     }
 
-    /// Closes the innermost case, a call.
+    /// Closes the innermost case, a call, and visits no goals.
     fn leave_call(&mut self)
         requires { HasClauses self.old }
         ensures cases { (db : Database) (c : Case) (below : List Case) → cases_of db self.old ≡ c ∷ below → cases_of db self.new ≡ below }
         ensures walks { walks_in self.new ≡ walks_in self.old }
-        ensures same { self.new ≡ record self.old { frames = self.new.frames } }
+        ensures same { self.new ≡ record self.old { frames = self.new.frames; goals = alone 0 } }
     {
         let Some(_) = self.frames.pop() else {
             unreachable!()
         };
         self.depth = self.depth.down(1);
+        self.goals = Continuation::alone(ListId::EMPTY);
     }
 }

@@ -1,19 +1,18 @@
 //! What a cut gives up.
-ghost use Rattle.std.specs.Prelude.{◌≡◌, ◌+◌, ◌<◌, ◌≤◌, ◌↔◌, ◌∷◌, take, length, reverse, IfSome, IsSome, IsTrue, OnErr, OnOk};
-ghost use Rattle.plsearch.specs.Machines.Levels.{AreAtMost};
-ghost use Rattle.plsearch.specs.Types.{Mark};
+ghost use Rattle.std.specs.Prelude.{◌≡◌, ◌+◌, ◌<◌, ◌≤◌, take, length, reverse, IfSome, OnErr, OnOk};
 ghost use Rattle.plenv.specs.Env.{IsWithin};
-ghost use Rattle.plstack.specs.Places.{Database, depth_of, size};
+ghost use Rattle.plstack.specs.Places.{depth_of, size};
+ghost use Rattle.plstack.specs.Levels.{kinds_of, ChoiceIn, Precedes};
 ghost use Rattle.plstack.specs.Frames.{AreOlder};
-ghost use Rattle.plstack.specs.State.{cases_of, goals_of, walks_in, IsList};
-ghost use Rattle.plstack.specs.Cutting.{ChoiceAt, Cuts, EmptiesFrom, GivesUp, IsChoice, IsChosen, IsGivenUp, Settles};
+ghost use Rattle.plstack.specs.State.{goals_of, kinds_in, IsList};
+ghost use Rattle.plstack.specs.Cutting.{ChoiceAt, Cuts, EmptiesFrom, GivesUp, IsGivenUp, Settles};
 
-use crate::frame::{Frame, Marks, Resume};
+use crate::frame::{Frame, Marks};
 use crate::hold::held_in;
 use crate::open::{count_up, deeper};
 use crate::stack::Stack;
 use pllinks::level::Level;
-use pllinks::link::{Continuation, top_of};
+use pllinks::link::Continuation;
 use std::alloc::AllocError;
 
 /// The frame of a choice: its number, and the level below it.
@@ -26,40 +25,14 @@ pub struct ChoiceFrame {
 impl Stack {
     /// Gives up the choices down to a level, and visits a list.
     pub fn cut(&mut self, level: Level, list: Continuation) -> Result<(), AllocError>
-        requires { IsList self.old list }
+        requires list { IsList self.old list }
+        requires level { Precedes (kinds_in self.old) level (goals_of self.old list) }
         ensures ok { OnOk result (Cuts self.old self.new level list) }
         ensures err { OnErr result (self.new ≡ self.old) }
     {
-        match self.given_up(level, &list) {
-            Some(frame) => self.give_up(frame)?,
-            None => self.open_barrier(level)?,
-        }
+        let frame = choice_at(&self.frames, self.depth, level);
+        self.give_up(frame)?;
         self.visit(list);
-        Ok(())
-    }
-
-    /// The frame of the choice at a level, if it may be emptied where a list is visited behind a cut to this level.
-    fn given_up(&self, level: Level, list: &Continuation) -> Option<ChoiceFrame>
-        requires { IsList self.now list.now }
-        ensures most { IsSome result → AreAtMost level (goals_of self.now list.now) }
-        ensures at { IfSome result (λ r. ChoiceAt self.now.frames level r.at r.below) }
-    {
-        if list.run.level > level || top_of(&self.links, list.rest) > level {
-            return None;
-        }
-        choice_at(&self.frames, self.depth, level)
-    }
-
-    /// Opens a case behind which Fail is a cut to a level.
-    fn open_barrier(&mut self, level: Level) -> Result<(), AllocError>
-        ensures ok { OnOk result ((db : Database) → cases_of db self.new ≡ Mark level ∷ cases_of db self.old) }
-        ensures walks { walks_in self.new ≡ walks_in self.old }
-        ensures same { self.new ≡ record self.old { frames = self.new.frames } }
-        ensures err { OnErr result (self.new ≡ self.old) }
-    {
-        let depth = deeper(self.depth, 1)?;
-        self.frames.push(Frame::Barrier(level))?;
-        self.depth = depth;
         Ok(())
     }
 
@@ -131,49 +104,22 @@ fn size_of(frame: &Frame) -> u64
 {
     match frame {
         Frame::Plain(n) => *n,
-        Frame::Barrier(_) | Frame::Open(_, _) => 1,
+        Frame::Open(_, _) => 1,
     }
 }
 
-/// Whether a case is a choice, and no handler.
-fn is_chosen(resume: &Resume) -> bool
-    ensures { IsTrue result ↔ IsChosen resume.now }
-{
-    match resume {
-        Resume::Clauses(_) | Resume::Walk(_) | Resume::Answers(_) | Resume::List => true,
-        Resume::Handle(_) => false,
-    }
-}
-
-/// Whether the cases of a frame are choices.
-fn is_choice(frame: &Frame) -> bool
-    ensures { IsTrue result ↔ IsChoice frame.now }
-{
-    match frame {
-        Frame::Plain(_) => true,
-        Frame::Barrier(_) => false,
-        Frame::Open(_, resume) => is_chosen(resume),
-    }
-}
-
-/// The frame of the case at a level, where it is a choice.
+/// The frame of the case at a level, which is a choice.
 /// This takes as many turns as there are frames above it.
-fn choice_at(frames: &[Frame], depth: Level, level: Level) -> Option<ChoiceFrame>
-    requires { depth ≡ depth_of (reverse frames.now) }
-    ensures { IfSome result (λ r. ChoiceAt frames.now level r.at r.below) }
+fn choice_at(frames: &[Frame], depth: Level, level: Level) -> ChoiceFrame
+    requires depth { depth ≡ depth_of (reverse frames.now) }
+    requires choice { ChoiceIn (kinds_of (reverse frames.now)) level }
+    ensures { ChoiceAt frames.now level result.at result.below }
 {
-    if depth <= level {
-        return None;
-    }
     let mut at = frames.len();
     let mut below = depth;
     while below > level {
         at -= 1;
         below = below.down(size_of(&frames[at]));
     }
-    if is_choice(&frames[at]) {
-        Some(ChoiceFrame { at, below })
-    } else {
-        None
-    }
+    ChoiceFrame { at, below }
 }

@@ -5,7 +5,6 @@ use plclause::clause::Clause;
 use plenv::slot::Mark;
 use plevent::ClauseName;
 use plgenerator::turn::Turn;
-use pllinks::level::Level;
 use pllinks::link::Continuation;
 
 /// How much there was: of the environment, of links, and of values that are kept for calls.
@@ -112,8 +111,6 @@ pub enum Resume {
 pub enum Frame {
     /// So many choices with nothing left to try.
     Plain(u64),
-    /// Behind it Fail is a cut to a level.
-    Barrier(Level),
     /// A choice point or a handler.
     Open(Point, Resume),
 }
@@ -141,8 +138,6 @@ pub enum Around {
 pub enum Closed {
     /// A choice.
     Choice,
-    /// A mark of a level.
-    Mark(Level),
     /// A handler.
     Handler,
 }

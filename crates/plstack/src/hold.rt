@@ -77,7 +77,7 @@ pub(crate) fn newest_in(frames: &[Frame]) -> Newest<'_>
         at -= 1;
         match &frames[at] {
             Frame::Open(point, resume) => return Newest::Open(point, resume),
-            Frame::Plain(_) | Frame::Barrier(_) => {}
+            Frame::Plain(_) => {}
         }
     }
     Newest::Nothing

@@ -4,7 +4,7 @@ ghost use Rattle.plsearch.specs.Lists.{levels};
 ghost use Rattle.pllinks.specs.Lists.{elements, IsItem};
 ghost use Rattle.pllinks.specs.Links.{alone, link_at, IsDone};
 ghost use Rattle.pllinks.specs.declared.item.Item.TheVariants.{Run as RunOf};
-ghost use Rattle.plstack.specs.State.{goals_in, goals_of, IsList, AddsList};
+ghost use Rattle.plstack.specs.State.{goals_in, goals_of, IsFit, IsList, AddsList};
 ghost use Rattle.plstack.specs.Levels.{levels_of};
 ghost use Rattle.plstack.specs.Linking.{LinksItem};
 
@@ -52,7 +52,8 @@ impl Stack {
 
     /// Visits a list that is there.
     pub fn visit(&mut self, list: Continuation)
-        requires { IsList self.old list }
+        requires list { IsList self.old list }
+        requires fits { IsFit self.old list }
         ensures { self.new ≡ record self.old { goals = list } }
     {
         self.goals = list;
@@ -62,6 +63,7 @@ impl Stack {
     pub fn visited(&self) -> Continuation
         ensures is { result ≡ self.now.goals }
         ensures there { IsList self.now result }
+        ensures fits { IsFit self.now result }
     {
         self.goals
     }

@@ -4,13 +4,14 @@ ghost use Rattle.plsearch.specs.Types.{Choice};
 ghost use Rattle.plstack.specs.Places.{Database, kept};
 ghost use Rattle.plstack.specs.Frames.{IsResume, IsSeen};
 ghost use Rattle.plstack.specs.declared.frame.Frame.{Frame};
-ghost use Rattle.plstack.specs.State.{cases_of, walks_in, CountsUp, EndsWalks, HasPlain, IsList, Opens};
+ghost use Rattle.plstack.specs.State.{cases_of, walks_in, CountsUp, EndsWalks, HasPlain, IsFit, IsList, Opens};
 ghost use Rattle.plstack.specs.Opening.{around_cases, branch_of, closing, ClosedAs, ClosesPlain, IsAround, OpensFrame, OpensIn};
 
 use crate::frame::{Around, Closed, Frame, Marks, Point, Resume};
 use crate::stack::Stack;
 use pllinks::level::Level;
 use pllinks::link::Continuation;
+use pllinks::list::ListId;
 use std::alloc::AllocError;
 
 impl Stack {
@@ -29,7 +30,8 @@ impl Stack {
     /// Opens a choice of one list.
     #[tactic(auto, using(crate::proofs::Opening::opens_branch))]
     pub fn open_branch(&mut self, list: Continuation) -> Result<(), AllocError>
-        requires { IsList self.old list }
+        requires list { IsList self.old list }
+        requires fits { IsFit self.old list }
         ensures ok { OnOk result (Opens self.old self.new (branch_of self.old list ∷ [])) }
         ensures err { OnErr result (self.new ≡ self.old) }
     {
@@ -59,6 +61,7 @@ impl Stack {
         resume: Resume,
     ) -> Result<(), AllocError>
         requires list { IsList self.old list }
+        requires fits { IsFit self.old list }
         requires resume { IsResume self.old.env.heap [] resume }
         requires none { kept resume ≡ 0 }
         requires seen { IsSeen self.old.basis.latest resume }
@@ -80,6 +83,7 @@ impl Stack {
     /// Opens a case that comes back to a list, and in it a choice with nothing left to try.
     fn open_plain_in(&mut self, list: Continuation, resume: Resume) -> Result<(), AllocError>
         requires list { IsList self.old list }
+        requires fits { IsFit self.old list }
         requires resume { IsResume self.old.env.heap [] resume }
         requires none { kept resume ≡ 0 }
         requires seen { IsSeen self.old.basis.latest resume }
@@ -99,7 +103,7 @@ impl Stack {
         Ok(())
     }
 
-    /// Closes the innermost case, if one is open.
+    /// Closes the innermost case, if one is open, and visits no goals.
     #[inline(always)]
     pub fn close(&mut self) -> Option<Closed>
         ensures some { IfSome result (λ c. (db : Database) → ClosedAs db self.old self.new c) }
@@ -112,8 +116,8 @@ impl Stack {
             return None;
         };
         self.depth = self.depth.down(1);
+        self.goals = Continuation::alone(ListId::EMPTY);
         match frame {
-            Frame::Barrier(level) => Some(Closed::Mark(level)),
             Frame::Open(_, resume) => Some(closed_as(resume)),
             Frame::Plain(n) => {
                 if n > 1 {
@@ -125,7 +129,7 @@ impl Stack {
         }
     }
 
-    /// Closes the innermost choices, which have nothing left to try.
+    /// Closes the innermost choices, which have nothing left to try, and visits no goals.
     pub fn close_plain(&mut self)
         requires { HasPlain self.old }
         ensures closes { ClosesPlain self.old self.new }
@@ -136,6 +140,7 @@ impl Stack {
             unreachable!()
         };
         self.depth = self.depth.down(n);
+        self.goals = Continuation::alone(ListId::EMPTY);
     }
 }
 
@@ -199,6 +204,6 @@ fn plain_in(frames: &[Frame]) -> Option<u64>
 {
     match frames.last() {
         Some(Frame::Plain(m)) => Some(*m),
-        Some(Frame::Barrier(_)) | Some(Frame::Open(_, _)) | None => None,
+        Some(Frame::Open(_, _)) | None => None,
     }
 }

@@ -1,6 +1,6 @@
 //! Walks over the clauses of a procedure: each is copied and tried in its turn (ISO/IEC 13211-1 7.7.7), and one that is to be erased (8.9.3)
 //! is named.
-ghost use Rattle.std.specs.Prelude.{◌≡◌, ◌≤◌, length, reverse, true, false, None, Some, Option, IfOk, IfSome, IfNone, OnErr, OnOk};
+ghost use Rattle.std.specs.Prelude.{◌≡◌, ◌+◌, ◌≤◌, length, reverse, true, false, None, Some, Option, IfOk, IfSome, IfNone, OnErr, OnOk};
 ghost use Rattle.plsubst.specs.Subst.{shift};
 ghost use Rattle.plsubst.specs.Unify.{unify};
 ghost use Rattle.plcells.specs.Putting.{standing};
@@ -10,7 +10,7 @@ ghost use Rattle.plenv.specs.Env.{cut, IsEnv, IsMark, IsWithin};
 ghost use Rattle.plenv.specs.Changes.{Keeps};
 ghost use Rattle.plstack.specs.Places.{clause_by, Database};
 ghost use Rattle.plstack.specs.Frames.{AreOlder, IsLeftSeen, IsSpotSeen};
-ghost use Rattle.plstack.specs.State.{cases_of, goals_of, place_of, walks_in, Extends, HasWalk, IsList, IsState, RetriesBy, State};
+ghost use Rattle.plstack.specs.State.{cases_of, depth_in, goals_of, place_of, walks_in, Extends, HasWalk, IsFit, IsList, IsState, RetriesBy, State};
 ghost use Rattle.plstack.specs.Cutting.{Settles};
 ghost use Rattle.plstack.specs.Trials.{ComesBack, IsMarked, IsOpened, ListsBody, PutsBody, PutsHead, Resolved};
 ghost use Rattle.plstack.specs.Walks.{AtWalk, EndsPlain, Finds, FitsCall, GoesOn, IsWalking, LeftSame, Moves, OpensWalk};
@@ -274,6 +274,7 @@ impl Stack {
         requires goal { IsValue self.old.env.heap walk.goal }
         requires seen { IsSpotSeen self.old.basis.latest walk.spot }
         requires rest { IsList self.old rest }
+        requires fits { IsFit self.old rest }
         ensures ok { OnOk result (OpensWalk self.old self.new walk rest) }
         ensures err { OnErr result (self.new ≡ self.old) }
     {
@@ -359,6 +360,7 @@ impl Stack {
         next: &Candidate,
     ) -> Result<bool, AllocError>
         requires at { AtWalk self.old at.now.point at.now.walk }
+        requires level { depth_in self.old ≡ level + 1 }
         ensures yes { IfOk result (λ fits. fits ≡ true → resolve level self.old.env.count (value self.old.env.heap at.now.walk.goal) (goals_of self.old at.now.point.list) (clause_by next.now.uses next.now.clause) ≡ Some (place_of self.new)) }
         ensures no { IfOk result (λ fits. fits ≡ false → unify (value self.old.env.heap at.now.walk.goal) (shift self.old.env.count (clause_by next.now.uses next.now.clause).head) ≡ None) }
         ensures left { OnOk result (LeftSame self.old self.new at.now.point at.now.walk) }

@@ -1,9 +1,12 @@
-use Rattle.std.proofs.Common.{◌≡◌, ◌-◌, refl, ap, sym, length, arith}
+use Rattle.std.proofs.Common.{◌≡◌, ◌-◌, refl, ap, sym, length, arith, true, ◌∷◌, [], ◌∙◌}
 use Rattle.plsearch.specs.Rows.{call_with}
 use Rattle.plmachine.specs.Machine.{local_of}
 use Rattle.plmachine.proofs.Moves.{grown-stays, moved-grown, stays-trans, on_err, on_ok_map, on_err_map}
 use Rattle.plmachine.proofs.Arounds.{run-same}
 use Rattle.plmachine.proofs.Values.{some-first}
+use Rattle.plmachine.proofs.Levels.{run-level, depth-kinds}
+use Rattle.plstack.proofs.Naming.{new-precedes}
+use Rattle.plstack.specs.State.{kinds_in, goals_of}
 use Rattle.plmachine.proofs.machine.Machine.call_with.Goals as goal
 
 pub run-requires-clause-ready : goal.run-requires-clause-ready
@@ -30,3 +33,16 @@ pub returns-clause-err : goal.returns-clause-err
 returns-clause-err c =
     let s = c.args.self.now in
     on_err_map c.run.result (stays-trans c.args.program.now s c.ready_with.new.self c.run.new.self (grown-stays c.args.program.now s c.ready_with.new.self c.ready_with.ensures.grown c.ready_with.ensures.frame)) c.run.ensures.err
+
+pub run-requires-clause-how : goal.run-requires-clause-how
+run-requires-clause-how c =
+    let s = c.args.self.now.stack in
+    let t = c.ready_with.new.self.stack in
+    let g = c.ready_with.ensures.grown in
+    let there = g.extends.lists c.args.rest c.requires.rest in
+    record {
+      few = omega (arith, c.len.ensures, c.requires.few, c.args.self.now.args.ok.0);
+      around = tt;
+      list = there.0;
+      level = run-level s t g.extends (true ∷ []) c.depth-level.result c.args.rest (goals_of s c.args.rest) (record { there = there.0; is = there.1 }) (new-precedes (kinds_in s) c.depth-level.result (goals_of s c.args.rest) (c.depth-level.ensures.is ∙ sym (depth-kinds s)) c.requires.fits);
+    }

@@ -2,6 +2,7 @@ use Rattle.std.proofs.Common.{refl, ap₂, ◌∷◌, []}
 use Rattle.plsearch.specs.Rows.{branch}
 use Rattle.plmachine.proofs.Lists.{lengthened-grown}
 use Rattle.plmachine.proofs.Moves.{grown-stays, moved-grown, go-same, stays-trans, on_err, on_ok_map, on_err_map}
+use Rattle.plmachine.proofs.Levels.{holds-fits}
 use Rattle.plmachine.proofs.machine.Machine.either.Goals as goal
 
 pub returns-in_err-list-clause-err : goal.returns-in_err-list-clause-err
@@ -21,3 +22,11 @@ returns-clause-err c =
     let s = c.args.self.now in
     let g = lengthened-grown s.stack c.two_before.new.stack c.two_before.ensures.grows in
     on_err_map c.enter_branch.result (stays-trans c.args.program.now s _ c.enter_branch.new.self (grown-stays c.args.program.now s _ g refl)) c.enter_branch.ensures.err
+
+pub enter_branch-requires-clause-list_fits : goal.enter_branch-requires-clause-list_fits
+enter_branch-requires-clause-list_fits c =
+    holds-fits c.args.self.now.stack c.two_before.new.stack c.in_ok-list.list _ c.two_before.ensures.grows.extends c.in_ok-list.ensures.first c.requires.first_fits
+
+pub enter_branch-requires-clause-other_fits : goal.enter_branch-requires-clause-other_fits
+enter_branch-requires-clause-other_fits c =
+    holds-fits c.args.self.now.stack c.two_before.new.stack c.in_ok-list.other _ c.two_before.ensures.grows.extends c.in_ok-list.ensures.second c.requires.second_fits

@@ -1,8 +1,12 @@
-use Rattle.std.proofs.Common.{refl, ap, ◌∷◌, []}
+use Rattle.std.proofs.Common.{refl, ap, ◌∷◌, [], sym, subst, ◌++◌}
 use Rattle.plsearch.specs.Types.{Choice}
 use Rattle.plmachine.proofs.Lists.{adds-lengthened, lengthened-grown}
 use Rattle.plmachine.proofs.Moves.{grown-stays, moved-grown, go-same, stays-trans, on_ok_map, on_err_map}
 use Rattle.plmachine.proofs.Arounds.{around-grown}
+use Rattle.plmachine.proofs.Levels.{same-kinds}
+use Rattle.plstack.specs.Levels.{kinds, FitsIn}
+use Rattle.plstack.specs.Opening.{around_cases}
+use Rattle.plstack.specs.State.{kinds_in, goals_of}
 use Rattle.plmachine.proofs.machine.Machine.enter_goal.Goals as goal
 
 pub enter-requires-clause-around : goal.enter-requires-clause-around
@@ -22,3 +26,14 @@ returns-clause-err c =
     let s = c.args.self.now in
     let g = lengthened-grown s.stack c.link.new.self (adds-lengthened s.stack c.link.new.self _ _ c.in_ok-list.ensures.ok) in
     on_err_map c.enter.result (stays-trans c.args.program.now s _ c.enter.new.self (grown-stays c.args.program.now s _ g refl)) c.enter.ensures.err
+
+pub enter-requires-clause-fits : goal.enter-requires-clause-fits
+enter-requires-clause-fits c =
+    let s = c.args.self.now.stack in
+    let t = c.link.new.self in
+    let adds = c.in_ok-list.ensures.ok in
+    let g = lengthened-grown s t (adds-lengthened s t _ _ adds) in
+    let around = (around-grown s t c.args.around g c.requires.around).0 in
+    subst (λ cs. FitsIn (kinds (Choice [] ∷ cs) ++ kinds_in t) (goals_of t c.in_ok-list.list)) (sym around)
+    (subst (λ ks. FitsIn (kinds (Choice [] ∷ around_cases s c.args.around) ++ ks) (goals_of t c.in_ok-list.list)) (sym (same-kinds s t adds.stays))
+    (subst (FitsIn (kinds (Choice [] ∷ around_cases s c.args.around) ++ kinds_in s)) (sym adds.is) c.requires.level))

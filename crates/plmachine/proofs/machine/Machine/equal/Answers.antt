@@ -6,6 +6,7 @@ use Rattle.plsearch.specs.Rows.{taken, solved}
 use Rattle.plstack.specs.State.{goals_of}
 use Rattle.plmachine.specs.Machine.{local_of}
 use Rattle.plmachine.proofs.Moves.{moved-grown, grown-stays, stays-trans, on_err, on_err_map, on_ok_map}
+use Rattle.plmachine.proofs.Levels.{fits-grown}
 use Rattle.plmachine.proofs.machine.Machine.equal.Goals as goal
 
 pub unify-requires-clause-first : goal.unify-requires-clause-first
@@ -36,3 +37,6 @@ pub returns-clause-err : goal.returns-clause-err
 returns-clause-err c =
     let s = c.args.self.now in
     on_err_map c.unify.result (stays-trans c.args.program.now s c.integer.new.self c.unify.new.self (grown-stays c.args.program.now s c.integer.new.self c.integer.ensures.grown c.integer.ensures.frame)) c.unify.ensures.err
+
+pub unify-requires-clause-fits : goal.unify-requires-clause-fits
+unify-requires-clause-fits c = fits-grown c.args.self.now.stack c.integer.new.self.stack c.integer.ensures.grown c.args.rest c.requires.rest c.requires.fits

@@ -11,6 +11,8 @@ use Rattle.plmachine.specs.Selected.{bound_at}
 use Rattle.plmachine.proofs.Lists.{grown-trans}
 use Rattle.plmachine.proofs.Moves.{moved-grown, grown-stays, stays-trans, on_err}
 use Rattle.plmachine.proofs.Offers.{unifies, unsolved}
+use Rattle.plmachine.proofs.Levels.{fits-grown}
+use Rattle.plstack.proofs.Fitted.{fits-unified}
 use Rattle.plmachine.proofs.machine.Machine.give_number.Goals as goal
 
 pub returns-in_err-v-clause-err : goal.returns-in_err-v-clause-err
@@ -27,8 +29,8 @@ returns-in_err-unify_number-clause-err c = λ P.
     let err = c.in_err-unify_number.ensures.err in
     on_err _ (stays-trans P s t u (grown-stays P s t c.integer.ensures.grown c.integer.ensures.frame) (grown-stays P t u (record { extends = err.0; count = err.1 }) refl))
 
-pub go_on-requires : goal.go_on-requires
-go_on-requires c =
+pub go_on-requires-clause-list : goal.go_on-requires-clause-list
+go_on-requires-clause-list c =
     let kept = c.integer.ensures.arguments c.args.run.now c.args.node c.requires.node.0 c.requires.node.1 in
     ((c.in_ok-unify_number.ensures.yes c.requires.node.0 kept.0 c.if-branch.true).lists c.args.rest (c.integer.ensures.grown.extends.lists c.args.rest c.requires.rest).0).0
 
@@ -60,3 +62,11 @@ returns-clause-ok c = λ P u is_one.
     let none = ap₂ unify (sym kept.1) (sym is) ∙ c.in_ok-unify_number.ensures.no u kept.0 c.if-branch.false in
     let frame : v ≡ record s { stack = v.stack } = ap (λ (x : Reached). record x { stack = v.stack }) c.integer.ensures.frame in
     unsolved P s v c.give.new.self (bound_at s.stack r u) (int c.args.number) 0 c.args.rest (grown-trans s.stack t.stack v.stack c.integer.ensures.grown (record { extends = same.0; count = same.1 })) frame none c.give.ensures
+
+pub go_on-requires-clause-fits : goal.go_on-requires-clause-fits
+go_on-requires-clause-fits c =
+    let s = c.args.self.now.stack in
+    let t = c.integer.new.self.stack in
+    let g = c.integer.ensures.grown in
+    let kept = c.integer.ensures.arguments c.args.run.now c.args.node c.requires.node.0 c.requires.node.1 in
+    fits-unified t c.unify_number.new.self _ _ (c.in_ok-unify_number.ensures.yes c.requires.node.0 kept.0 c.if-branch.true) c.args.rest (g.extends.lists c.args.rest c.requires.rest).0 (fits-grown s t g c.args.rest c.requires.rest c.requires.fits)

@@ -1,18 +1,28 @@
-use Rattle.std.proofs.Common.{◌≡◌, refl, ap, sym, ◌∙◌, ◌∷◌, suc, arith}
+use Rattle.std.proofs.Common.{◌≡◌, refl, ap, sym, ◌∙◌, ◌∷◌, suc, arith, true, [], inl, inr}
 use Rattle.plsearch.specs.Types.{Never, Marker}
 use Rattle.plsearch.specs.Rows.{not_1}
-use Rattle.plstack.specs.State.{goals_of}
+use Rattle.plstack.specs.State.{goals_of, kinds_in}
 use Rattle.plstack.specs.declared.frame.Around.TheVariants as arounds
 use Rattle.plmachine.specs.Machine.{local_of}
 use Rattle.plmachine.proofs.Moves.{grown-stays, moved-grown, stays-trans, on_err, on_ok_map, on_err_map}
 use Rattle.plmachine.proofs.Arounds.{around-grown, run-same}
+use Rattle.plmachine.proofs.Levels.{run-level, inner-precedes, depth-kinds, fits-grown}
 use Rattle.plmachine.proofs.machine.Machine.not.Goals as goal
 
 pub returns-in_err-ready-clause-err : goal.returns-in_err-ready-clause-err
 returns-in_err-ready-clause-err c = on_err _ (grown-stays c.args.program.now c.args.self.now c.ready_before.new.self c.ready_before.ensures.grown c.ready_before.ensures.frame)
 
 pub run-requires-clause-how : goal.run-requires-clause-how
-run-requires-clause-how c = record { few = tt; around = (c.ready_before.ensures.grown.extends.lists c.args.rest c.requires.rest).0; list = c.in_ok-ready.ensures.list.there }
+run-requires-clause-how c =
+    let s = c.args.self.now.stack in
+    let next : c.in-Some.level ≡ suc c.depth-depth.result = omega (arith, c.in-Some.ensures.some) in
+    record {
+      few = tt;
+      around = ((c.ready_before.ensures.grown.extends.lists c.args.rest c.requires.rest).0, fits-grown s c.ready_before.new.self.stack c.ready_before.ensures.grown c.args.rest c.requires.rest c.requires.fits);
+      list = c.in_ok-ready.ensures.list.there;
+      level = run-level s c.ready_before.new.self.stack c.ready_before.ensures.grown.extends (true ∷ true ∷ []) c.in-Some.level c.in_ok-ready.list _ c.in_ok-ready.ensures.list
+          (inner-precedes (kinds_in s) true c.depth-depth.result (c.depth-depth.ensures.is ∙ sym (depth-kinds s)) (goals_of s c.args.rest) c.requires.fits Never c.in-Some.level next (inr (inl (refl, c.depth-depth.ensures.is ∙ sym (depth-kinds s)))));
+    }
 
 pub returns-clause-ok : goal.returns-clause-ok
 returns-clause-ok c =
@@ -23,7 +33,7 @@ returns-clause-ok c =
     let next : c.in-Some.level ≡ suc c.depth-depth.result = omega (arith, c.in-Some.ensures.some) in
     let goals = c.in_ok-ready.ensures.list.is ∙ ap (λ d. Marker Never d ∷ goals_of s.stack c.args.rest) depth in
     on_ok_map c.run.result (moved-grown c.args.program.now s t c.run.new.self _ _ g c.ready_before.ensures.frame
-    (run-same not_1 not_1 refl _ _ _ _ _ _ _ _ _ _ _ _ (sym c.in_ok-ready.ensures.ready.is) (around-grown s.stack t.stack (arounds.Branch c.args.rest) g c.requires.rest).0 (next ∙ ap suc depth) goals g.count (ap (λ x. local_of x) c.ready_before.ensures.frame))) c.run.ensures.ok
+    (run-same not_1 not_1 refl _ _ _ _ _ _ _ _ _ _ _ _ (sym c.in_ok-ready.ensures.ready.is) (around-grown s.stack t.stack (arounds.Branch c.args.rest) g (c.requires.rest, c.requires.fits)).0 (next ∙ ap suc depth) goals g.count (ap (λ x. local_of x) c.ready_before.ensures.frame))) c.run.ensures.ok
 
 pub returns-clause-err : goal.returns-clause-err
 returns-clause-err c =

@@ -1,17 +1,26 @@
-use Rattle.std.proofs.Common.{refl, ap, sym, ◌∙◌, ◌∷◌}
+use Rattle.std.proofs.Common.{refl, ap, sym, ◌∙◌, ◌∷◌, true, []}
 use Rattle.plsearch.specs.Types.{Commit, Marker}
 use Rattle.plsearch.specs.Rows.{once_1}
-use Rattle.plstack.specs.State.{goals_of}
+use Rattle.plstack.specs.State.{goals_of, kinds_in}
 use Rattle.plmachine.specs.Machine.{local_of}
 use Rattle.plmachine.proofs.Moves.{grown-stays, moved-grown, stays-trans, on_err, on_ok_map, on_err_map}
 use Rattle.plmachine.proofs.Arounds.{run-same}
+use Rattle.plmachine.proofs.Levels.{run-level, commit-precedes, depth-kinds}
 use Rattle.plmachine.proofs.machine.Machine.once.Goals as goal
 
 pub returns-in_err-ready-clause-err : goal.returns-in_err-ready-clause-err
 returns-in_err-ready-clause-err c = on_err _ (grown-stays c.args.program.now c.args.self.now c.ready_before.new.self c.ready_before.ensures.grown c.ready_before.ensures.frame)
 
 pub run-requires-clause-how : goal.run-requires-clause-how
-run-requires-clause-how c = record { few = tt; around = tt; list = c.in_ok-ready.ensures.list.there }
+run-requires-clause-how c =
+    let s = c.args.self.now.stack in
+    record {
+      few = tt;
+      around = tt;
+      list = c.in_ok-ready.ensures.list.there;
+      level = run-level s c.ready_before.new.self.stack c.ready_before.ensures.grown.extends (true ∷ []) c.depth-depth.result c.in_ok-ready.list _ c.in_ok-ready.ensures.list
+          (commit-precedes (kinds_in s) c.depth-depth.result (c.depth-depth.ensures.is ∙ sym (depth-kinds s)) (goals_of s c.args.rest) c.requires.fits);
+    }
 
 pub returns-clause-ok : goal.returns-clause-ok
 returns-clause-ok c =

@@ -10,6 +10,7 @@ use Rattle.plmachine.specs.declared.machine.Machine.{Machine as Reached}
 use Rattle.plmachine.specs.Machine.{local_of}
 use Rattle.plmachine.proofs.Joining.{groups-left}
 use Rattle.plmachine.proofs.Moves.{moved-grown, grown-stays, stays-trans, on_err, on_err_map, on_ok_map}
+use Rattle.plmachine.proofs.Levels.{fits-grown}
 use Rattle.plmachine.proofs.machine.Machine.one_of.Goals as goal
 
 pub returns-in_err-values-clause-err : goal.returns-in_err-values-clause-err
@@ -39,3 +40,6 @@ returns-clause-err c =
     let s = c.args.self.now in
     let t : Reached = record s { stack = c.put_terms.new.stack } in
     on_err_map c.several.result (stays-trans c.args.program.now s t c.several.new.self (grown-stays c.args.program.now s t c.put_terms.ensures.grown refl)) c.several.ensures.err
+
+pub several-requires-clause-fits : goal.several-requires-clause-fits
+several-requires-clause-fits c = fits-grown c.args.self.now.stack c.put_terms.new.stack c.put_terms.ensures.grown c.args.rest c.requires.rest c.requires.fits

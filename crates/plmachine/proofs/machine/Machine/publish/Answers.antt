@@ -11,4 +11,4 @@ returns-then-is_empty c =
     let s = c.args.self.now in
     let none = eqb-true (vec_len c.args.updates) 0 (sym c.if-is_empty.ensures) in
     moved-as c.args.program.now s c.go_on.new.self _ _ (publish-none c.args.updates.items _ _ _ (omega (arith, none, c.args.updates.ok.0)))
-    (went c.args.program.now s c.go_on.new.self s.stack c.args.rest (goals_of s.stack c.args.rest) (lengthened-grown s.stack s.stack (lengthened-same s.stack)) (holds-list s.stack c.args.rest c.requires) c.go_on.ensures)
+    (went c.args.program.now s c.go_on.new.self s.stack c.args.rest (goals_of s.stack c.args.rest) (lengthened-grown s.stack s.stack (lengthened-same s.stack)) (holds-list s.stack c.args.rest c.requires.rest) c.go_on.ensures)

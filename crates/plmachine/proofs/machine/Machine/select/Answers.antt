@@ -1,4 +1,4 @@
-use Rattle.std.proofs.Common.{[], map, sym, ap, ◌∙◌, subst}
+use Rattle.std.proofs.Common.{[], map, sym, ap, ◌∙◌, subst, le_refl}
 use Rattle.std.proofs.lemmas.List.{length-map}
 use Rattle.std.specs.Prelude.{codes}
 use Rattle.plterm.specs.Tree.{atom}
@@ -274,3 +274,6 @@ halt_with-requires-clause-number c = (subst (IsInside c.args.self.now.stack.env.
 
 pub call_with-requires-clause-some : goal.call_with-requires-clause-some
 call_with-requires-clause-some c = (subst (IsInside c.args.self.now.stack.env.heap c.args.self.now.args.items) c.in-CallWith.is c.requires.selected.1.inside)
+
+pub both-requires-clause-fits : goal.both-requires-clause-fits
+both-requires-clause-fits c = let p = c.requires.level in (p.0, p.1, (le_refl _, p.1, p.2))

@@ -4,13 +4,14 @@ use Rattle.plprogram.specs.Program.{clauses_for}
 use Rattle.plsearch.specs.Forms.{form as form_by_term}
 use Rattle.plsearch.specs.Rows.{row}
 use Rattle.plgoals.specs.Forms.{shown_form}
-use Rattle.plstack.specs.State.{goals_of}
+use Rattle.plstack.specs.State.{goals_of, kinds_in}
 use Rattle.std.specs.Prelude.{IfSome}
 use Rattle.plmachine.specs.Calculating.{IsCalculation}
 use Rattle.plmachine.specs.Machine.{depth_of, local_of}
 use Rattle.plmachine.specs.Selected.{IsCall, IsCallOf}
 use Rattle.plmachine.proofs.Moves.{grown-depth, grown-with, moved-as, moved-with, stays-trans, on_err, on_ok_map, on_err_map}
 use Rattle.plmachine.proofs.Selecting.{selected, user-some}
+use Rattle.plmachine.proofs.Levels.{fits_behind, fits-grown, precedes-grown}
 use Rattle.plmachine.proofs.machine.Machine.solve.Goals as goal
 
 pub returns-in_err-form-clause-err : goal.returns-in_err-form-clause-err
@@ -88,3 +89,14 @@ returns-in-Some-clause-ok c = λ u stands.
     let P = c.args.program.now in
     let k = subst (λ o. IfSome o (λ k. IsCalculation s.stack k u)) c.in-Some.is (c.calculation.ensures P u c.requires.begun stands) in
     on_ok_map c.calculate.result (moved-as P s c.calculate.new.self _ _ (ap (λ f. row P f c.args.level u (depth_of s) (goals_of s.stack c.args.rest) s.stack.env.count (local_of s)) (sym k.is))) (c.calculate.ensures.ok u k)
+
+pub select-requires-clause-level : goal.select-requires-clause-level
+select-requires-clause-level c = precedes-grown c.args.self.now.stack c.form.new.self.stack c.form.ensures.grown c.args.level c.args.rest c.requires.rest c.requires.level
+
+pub resolve-requires-clause-fits : goal.resolve-requires-clause-fits
+resolve-requires-clause-fits c =
+    let s = c.args.self.now.stack in
+    fits-grown s c.form.new.self.stack c.form.ensures.grown c.args.rest c.requires.rest (fits_behind (kinds_in s) c.args.level (goals_of s c.args.rest) c.requires.level)
+
+pub calculate-requires-clause-fits : goal.calculate-requires-clause-fits
+calculate-requires-clause-fits c = let s = c.args.self.now.stack in fits_behind (kinds_in s) c.args.level (goals_of s c.args.rest) c.requires.level

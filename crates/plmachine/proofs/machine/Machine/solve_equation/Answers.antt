@@ -2,6 +2,7 @@ use Rattle.std.proofs.Common.{refl}
 use Rattle.plmachine.specs.declared.machine.Machine.{Machine as Reached}
 use Rattle.plmachine.proofs.Moves.{grown-stays, on_err}
 use Rattle.plmachine.proofs.Offers.{solves, unsolved}
+use Rattle.plstack.proofs.Fitted.{fits-solved}
 use Rattle.plmachine.proofs.machine.Machine.solve_equation.Goals as goal
 
 pub returns-in_err-solve-clause-err : goal.returns-in_err-solve-clause-err
@@ -20,3 +21,6 @@ returns-clause-ok c =
     let t : Reached = record s { stack = c.solve.new.self } in
     let same = c.in_ok-solve.ensures.same c.if-branch.false in
     unsolved c.args.program.now s t c.give.new.self _ _ _ c.args.rest (record { extends = same.0; count = same.1 }) refl (c.in_ok-solve.ensures.no c.if-branch.false) c.give.ensures
+
+pub go_on-requires-clause-fits : goal.go_on-requires-clause-fits
+go_on-requires-clause-fits c = fits-solved c.args.self.now.stack c.solve.new.self c.args.equation (c.in_ok-solve.ensures.yes c.if-branch.true) c.args.rest c.requires.rest c.requires.fits

@@ -1,11 +1,13 @@
-use Rattle.std.proofs.Common.{suc, ap, subst, refl, ◌∙◌}
+use Rattle.std.proofs.Common.{suc, ap, subst, refl, ◌∙◌, length}
 use Rattle.plcode.specs.Steps.{IsFor}
-use Rattle.plstack.specs.State.{goals_of}
-use Rattle.plmachine.specs.Lists.{at_level, elements_of}
+use Rattle.plstack.specs.State.{goals_of, kinds_in}
+use Rattle.plmachine.specs.Lists.{at_level, elements_of, branch_at}
 use Rattle.plmachine.specs.Machine.{depth_of, local_of}
 use Rattle.plmachine.proofs.Moves.{moved-as, on_ok_map}
 use Rattle.plmachine.specs.Selected.{bound_at}
 use Rattle.plmachine.proofs.Stepping.{branch-is, branch-level, either-move, plain-node, then-move, then-else-move}
+use Rattle.plmachine.proofs.Levels.{goals-fit}
+use Rattle.plstack.specs.Levels.{FitsIn}
 use Rattle.plmachine.proofs.machine.Machine.step.Goals as goal
 
 pub returns-in-Or-clause-ok : goal.returns-in-Or-clause-ok
@@ -54,7 +56,55 @@ solve-requires c =
       visits = c.requires.visits;
       source = (bound_at s c.args.run at.goal, (at.goal, record { stand = node; width = at.width; below = at.below; own = at.own; slots = at.slots }, refl));
       rest = at.there;
+      level = subst (FitsIn (kinds_in s)) at.goals at.levels;
     }
 
 pub unreachable-requires : goal.unreachable-requires
 unreachable-requires c = subst (λ o. IsFor c.args.self.now.stack.basis.code.text c.args.run.position o c.args.step.goal c.requires.at.1.goal) c.in-Proceed.is c.requires.at.1.is
+
+pub either-requires-clause-first_fits : goal.either-requires-clause-first_fits
+either-requires-clause-first_fits c =
+    let s = c.args.self.now.stack in
+    let at = c.requires.at.1 in
+    let p = subst (FitsIn (kinds_in s)) at.goals at.levels in
+    rw c.branch-left.ensures (goals-fit s (kinds_in s) c.args.run.level (length (kinds_in s)) (branch_at c.args.run c.in-Or.left) tt (goals_of s c.args.rest) p.0 p.1 p.2)
+
+pub either-requires-clause-second_fits : goal.either-requires-clause-second_fits
+either-requires-clause-second_fits c =
+    let s = c.args.self.now.stack in
+    let at = c.requires.at.1 in
+    let p = subst (FitsIn (kinds_in s)) at.goals at.levels in
+    rw c.branch-right.ensures (goals-fit s (kinds_in s) c.args.run.level (length (kinds_in s)) (branch_at c.args.run c.in-Or.right) tt (goals_of s c.args.rest) p.0 p.1 p.2)
+
+pub then-requires-clause-level : goal.then-requires-clause-level
+then-requires-clause-level c =
+    let s = c.args.self.now.stack in
+    let at = c.requires.at.1 in
+    subst (FitsIn (kinds_in s)) at.goals at.levels
+
+pub then-requires-clause-goals : goal.then-requires-clause-goals
+then-requires-clause-goals c = rw c.branch-condition.ensures tt
+
+pub then-requires-clause-then_fits : goal.then-requires-clause-then_fits
+then-requires-clause-then_fits c =
+    let s = c.args.self.now.stack in
+    let at = c.requires.at.1 in
+    let p = subst (FitsIn (kinds_in s)) at.goals at.levels in
+    rw c.branch-then.ensures (goals-fit s (kinds_in s) c.args.run.level (length (kinds_in s)) (branch_at c.args.run c.in-IfThen.then) tt (goals_of s c.args.rest) p.0 p.1 p.2)
+
+pub then_else-requires-clause-goals : goal.then_else-requires-clause-goals
+then_else-requires-clause-goals c = rw c.branch-condition-in-IfThenElse.ensures tt
+
+pub then_else-requires-clause-then_fits : goal.then_else-requires-clause-then_fits
+then_else-requires-clause-then_fits c =
+    let s = c.args.self.now.stack in
+    let at = c.requires.at.1 in
+    let p = subst (FitsIn (kinds_in s)) at.goals at.levels in
+    rw c.branch-then-in-IfThenElse.ensures (goals-fit s (kinds_in s) c.args.run.level (length (kinds_in s)) (branch_at c.args.run c.in-IfThenElse.then) tt (goals_of s c.args.rest) p.0 p.1 p.2)
+
+pub then_else-requires-clause-other_fits : goal.then_else-requires-clause-other_fits
+then_else-requires-clause-other_fits c =
+    let s = c.args.self.now.stack in
+    let at = c.requires.at.1 in
+    let p = subst (FitsIn (kinds_in s)) at.goals at.levels in
+    rw c.branch-other.ensures (goals-fit s (kinds_in s) c.args.run.level (length (kinds_in s)) (branch_at c.args.run c.in-IfThenElse.other) tt (goals_of s c.args.rest) p.0 p.1 p.2)

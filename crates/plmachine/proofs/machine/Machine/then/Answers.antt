@@ -1,10 +1,11 @@
-use Rattle.std.proofs.Common.{refl, ap, ◌∷◌, ◌++◌, [], ◌∙◌}
+use Rattle.std.proofs.Common.{refl, ap, ◌∷◌, ◌++◌, [], ◌∙◌, sym, subst}
 use Rattle.plsearch.specs.Types.{Choice}
 use Rattle.plsearch.specs.Rows.{branch}
-use Rattle.plstack.specs.State.{goals_of}
+use Rattle.plstack.specs.State.{goals_of, kinds_in}
 use Rattle.plmachine.specs.Lists.{elements_of}
 use Rattle.plmachine.proofs.Lists.{fail-there, fail-is}
 use Rattle.plmachine.proofs.Moves.{moved-as, go-same, on_ok_map}
+use Rattle.plstack.specs.Levels.{FitsIn}
 use Rattle.plmachine.proofs.machine.Machine.then.Goals as goal
 
 pub then_else-requires-clause-other : goal.then_else-requires-clause-other
@@ -20,3 +21,10 @@ returns-clause-ok c =
     let fails = ap (elements_of s.stack) c.failure.ensures ∙ fail-is s.stack c.requires.begun.code.fails.goals c.args.level in
     on_ok_map c.then_else.result (moved-as c.args.program.now s c.then_else.new.self _ _
     (go-same _ _ _ _ _ _ _ _ (ap (λ xs. Choice [] ∷ branch (xs ++ es) n ∷ []) fails) refl refl refl)) c.then_else.ensures.ok
+
+pub then_else-requires-clause-other_fits : goal.then_else-requires-clause-other_fits
+then_else-requires-clause-other_fits c =
+    let s = c.args.self.now in
+    let es = goals_of s.stack c.args.rest in
+    let fails = ap (elements_of s.stack) c.failure.ensures ∙ fail-is s.stack c.requires.begun.code.fails.goals c.args.level in
+    subst (λ xs. FitsIn (kinds_in s.stack) (xs ++ es)) (sym fails) c.requires.level

@@ -12,5 +12,5 @@ returns-in_err-extend_from_slice-clause-err c =
 pub returns-clause-ok : goal.returns-clause-ok
 returns-clause-ok c =
     let s = c.args.self.now in
-    visits c.args.program.now s c.go_on.new.self s.stack c.args.rest _ _ (lengthened-grown s.stack s.stack (lengthened-same s.stack)) (holds-list s.stack c.args.rest c.requires)
+    visits c.args.program.now s c.go_on.new.self s.stack c.args.rest _ _ (lengthened-grown s.stack s.stack (lengthened-same s.stack)) (holds-list s.stack c.args.rest c.requires.rest)
     (ap (λ x. x.stack) c.go_on.ensures) (ap (λ x. x.mode) c.go_on.ensures) (ap (λ x. local_of x) c.go_on.ensures ∙ ap (λ o. record (local_of s) { out = o }) c.in_ok-extend_from_slice.ensures.items)

@@ -8,10 +8,11 @@ use Rattle.plmachine.specs.Machine.{depth_of}
 use Rattle.plmachine.proofs.Moves.{on_err}
 use Rattle.plsolver.specs.Solver.{throws_to}
 use Rattle.plsolver.proofs.Quiets.{at_stack, stays-back}
-use Rattle.plsolver.proofs.Catches.{closed-below, catches-other, catches-it, stays-after}
+use Rattle.plsolver.proofs.Catches.{closed-below, catches-other, catches-it, stays-after, bound-fits}
 use Rattle.plstack.specs.Places.{walks_of}
 use Rattle.plstack.specs.State.{walks_in}
 use Rattle.plsolver.proofs.Ending.{ends_same, ends_trans}
+use Rattle.plsearch.specs.Lists.{bind_goals}
 use Rattle.plsolver.proofs.progress.Progress.catch.Goals as goal
 
 pub returns-in_err-v-clause-err : goal.returns-in_err-v-clause-err
@@ -72,3 +73,11 @@ returns-in_ok-recover-clause-walks c = ends_trans _ _ _ (ends_same _ _ (ap (λ f
 
 pub returns-else-branch-clause-walks : goal.returns-else-branch-clause-walks
 returns-else-branch-clause-walks c = ends_trans _ _ _ (ends_same _ _ (ap walks_in (c.in_ok-unify.ensures.no c.if-branch.false).1 ∙ ap (λ fs. walks_of (reverse fs)) c.put_copy.ensures.stays.frames ∙ c.rewind-handler.ensures.walks)) c.close.ensures.walks
+
+pub recover-requires-clause-fits : goal.recover-requires-clause-fits
+recover-requires-clause-fits c =
+    let here = c.rewind-handler.ensures.at in
+    let u = c.in_ok-unify.ensures.yes c.if-branch.true in
+    let x = c.put_copy.ensures.stays in
+    let list = c.rewind-handler.result.list in
+    bound-fits c.rewind-handler.new.self c.unify.new.self list u.unifier (u.frames ∙ x.frames) ((u.lists list (x.lists list here.list_there).0).1 ∙ ap (bind_goals u.unifier) (x.lists list here.list_there).1) here.list_fits

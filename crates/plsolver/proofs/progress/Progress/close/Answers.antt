@@ -4,7 +4,7 @@ use Rattle.plstack.specs.State.{cases_of}
 use Rattle.plstack.specs.StaticCalls.{database_of}
 use Rattle.plmachine.specs.Machine.{depth_of}
 use Rattle.plsolver.specs.Solver.{Settled, throws_to}
-use Rattle.plsolver.proofs.Quiets.{quiet-mark, quiet-handler, quiet-choice, over-now}
+use Rattle.plsolver.proofs.Quiets.{quiet-handler, quiet-choice, over-now}
 use Rattle.plstack.proofs.Stacks.{depth-in}
 use Rattle.plstack.specs.State.{EndsWalks}
 use Rattle.plsolver.proofs.Runs.{no_views}
@@ -14,11 +14,6 @@ use Rattle.plsolver.proofs.progress.Progress.close.Goals as goal
 pub returns-in_default-clause-due : goal.returns-in_default-clause-due
 unfolding Settled
 returns-in_default-clause-due c = rw c.in_default.ensures.same (over-now c.args.program.now c.args.self.now c.requires.back (λ v. c.in_default.ensures.none (database_of c.args.program.now v)), refl)
-
-pub returns-in-Mark-clause-on : goal.returns-in-Mark-clause-on
-returns-in-Mark-clause-on c = λ v.
-    let closed = (rw c.in-Mark.is at c.in-Some.ensures.some) (database_of c.args.program.now v) in
-    quiet-mark c.args.program.now v c.args.self.now c.pass_mark.new.self c.close.new.self c.in-Mark.level c.requires.back c.close.ensures.basis closed c.pass_mark.ensures
 
 pub returns-in-Choice-clause-on : goal.returns-in-Choice-clause-on
 returns-in-Choice-clause-on c = λ v.
@@ -40,9 +35,6 @@ returns-in-Handler-clause-on c = λ v.
 
 pub returns-in_default-clause-walks : goal.returns-in_default-clause-walks
 returns-in_default-clause-walks c = rw c.in_default.ensures.same (ends_refl _)
-
-pub returns-in-Mark-clause-walks : goal.returns-in-Mark-clause-walks
-returns-in-Mark-clause-walks c = subst (λ x. EndsWalks c.args.self.now.machine.stack x.machine.stack) (sym c.pass_mark.ensures.frame) c.close.ensures.walks
 
 pub returns-in-Choice-clause-walks : goal.returns-in-Choice-clause-walks
 returns-in-Choice-clause-walks c = subst (λ x. EndsWalks c.args.self.now.machine.stack x.machine.stack) (sym (c.stop_cut.ensures (database_of c.args.program.now no_views)).frame) c.close.ensures.walks

@@ -7,7 +7,7 @@ use Rattle.plmachine.specs.declared.machine.Mode.TheVariants as modes
 use Rattle.plmachine.proofs.Moves.{on_err}
 use Rattle.plsolver.specs.Solver.{Stays, QuietIn}
 use Rattle.plsolver.proofs.Quiets.{stays-back}
-use Rattle.plsolver.proofs.Catches.{closed-below}
+use Rattle.plsolver.proofs.Catches.{closed-below, bound-fits}
 use Rattle.plsolver.proofs.Gathering.{gathers-it, gathers-other}
 use Rattle.plstack.specs.Places.{walks_of}
 use Rattle.plsolver.proofs.Ending.{ends_same, ends_trans}
@@ -51,3 +51,10 @@ returns-then-not-fits-clause-walks c = ends_trans _ _ _ (ends_same _ _ (ap (λ f
 
 pub returns-clause-walks : goal.returns-clause-walks
 returns-clause-walks c = ends_same _ _ (c.leave.ensures.walks ∙ ap (λ fs. walks_of (reverse fs)) (c.in_ok-fits.ensures.yes c.if-not-fits.false).frames ∙ c.rewind-handler.ensures.walks)
+
+pub leave-requires-clause-fits : goal.leave-requires-clause-fits
+leave-requires-clause-fits c =
+    let here = c.rewind-handler.ensures.at in
+    let g = c.in_ok-fits.ensures.yes c.if-not-fits.false in
+    let list = c.rewind-handler.result.list in
+    bound-fits c.rewind-handler.new.self c.gather.new.self.stack list g.unifier g.frames (g.lists list here.list_there).1 here.list_fits

@@ -1,9 +1,10 @@
 use Rattle.std.proofs.Common.{subst, sym}
-use Rattle.plstack.specs.State.{goals_of}
+use Rattle.plstack.specs.State.{goals_of, kinds_in}
 use Rattle.plstack.specs.First.{AtMarker}
-use Rattle.plsolver.proofs.Quiets.{quiet-collect, quiet-commit, quiet-never, quiet-until}
+use Rattle.plsolver.proofs.Quiets.{quiet-collect, quiet-commit, quiet-never}
 use Rattle.plstack.specs.State.{EndsWalks}
 use Rattle.plsolver.proofs.Ending.{ends_refl}
+use Rattle.plstack.specs.Levels.{FitsIn}
 use Rattle.plsolver.proofs.progress.Progress.pass_marker.Goals as goal
 
 pub returns-in_ok-cut-in-Commit-clause-ok : goal.returns-in_ok-cut-in-Commit-clause-ok
@@ -18,13 +19,6 @@ returns-in-Never-clause-ok c =
     let s = c.args.self.now in
     let st = s.machine.stack in
     λ v. quiet-never c.args.program.now v s c.args.level c.args.rest c.requires.visits (subst (λ m. AtMarker st (goals_of st st.goals) m c.args.level c.args.rest) c.in-Never.is c.requires.marker)
-
-pub returns-in-Until-clause-ok : goal.returns-in-Until-clause-ok
-returns-in-Until-clause-ok c =
-    let s = c.args.self.now in
-    let st = s.machine.stack in
-    let marker = subst (λ m. AtMarker st (goals_of st st.goals) m c.args.level c.args.rest) c.in-Until.is c.requires.marker in
-    rw c.visit.ensures (λ v. quiet-until c.args.program.now v s c.args.level c.args.rest c.requires.visits marker)
 
 pub collect-requires : goal.collect-requires
 collect-requires c =
@@ -45,8 +39,19 @@ returns-in_ok-cut-in-Commit-clause-walks c = c.in_ok-cut-in-Commit.ensures.ok.wa
 pub returns-in-Never-clause-walks : goal.returns-in-Never-clause-walks
 returns-in-Never-clause-walks c = ends_refl _
 
-pub returns-in-Until-clause-walks : goal.returns-in-Until-clause-walks
-returns-in-Until-clause-walks c = rw c.visit.ensures (ends_refl _)
-
 pub returns-in_ok-collect-in-Collect-clause-walks : goal.returns-in_ok-collect-in-Collect-clause-walks
 returns-in_ok-collect-in-Collect-clause-walks c = subst (λ x. EndsWalks c.args.self.now.machine.stack x.machine.stack) (sym c.in_ok-collect-in-Collect.ensures.ok) (ends_refl _)
+
+pub cut-requires-clause-list : goal.cut-requires-clause-list
+cut-requires-clause-list c = c.requires.marker.there
+
+pub cut-requires-clause-level : goal.cut-requires-clause-level
+cut-requires-clause-level c =
+    let st = c.args.self.now.machine.stack in
+    let marker = subst (λ m. AtMarker st (goals_of st st.goals) m c.args.level c.args.rest) c.in-Commit.is c.requires.marker in
+    subst (FitsIn (kinds_in st)) marker.goals marker.levels
+
+pub pass_until-requires-clause-marker : goal.pass_until-requires-clause-marker
+pass_until-requires-clause-marker c =
+    let st = c.args.self.now.machine.stack in
+    subst (λ m. AtMarker st (goals_of st st.goals) m c.args.level c.args.rest) c.in-Until.is c.requires.marker

@@ -1,4 +1,4 @@
-use Rattle.std.proofs.Common.{◌≡◌, ap, subst, sym, ◌∙◌, reverse}
+use Rattle.std.proofs.Common.{◌≡◌, ap, subst, sym, ◌∙◌, reverse, ◌∷◌, length}
 use Rattle.plsearch.specs.Collecting.{kept_below}
 use Rattle.plcells.specs.Store.{value}
 use Rattle.plsearch.specs.Running.{runnable, Raises, Runs}
@@ -6,10 +6,12 @@ use Rattle.plmachine.specs.declared.machine.Mode.TheVariants as modes
 use Rattle.plmachine.specs.Lists.{Grown}
 use Rattle.plmachine.proofs.Moves.{on_err, on_ok_map, on_err_map}
 use Rattle.plsolver.specs.Solver.{Stays, Recovered, Rethrown}
-use Rattle.plsolver.proofs.Catches.{recovered-raises, recovered-runs, grown-stays}
+use Rattle.plsolver.proofs.Catches.{recovered-raises, recovered-runs, grown-stays, recovery-fits, level-kinds}
 use Rattle.plstack.specs.Places.{walks_of}
 use Rattle.plstack.specs.State.{walks_in}
 use Rattle.plsolver.proofs.Ending.{ends_same, ends_trans}
+use Rattle.plmachine.proofs.Levels.{same-kinds}
+use Rattle.plsearch.specs.Types.{Goal}
 use Rattle.plsolver.proofs.progress.Progress.recover.Goals as goal
 
 pub returns-in_err-error-clause-err : goal.returns-in_err-error-clause-err
@@ -60,3 +62,13 @@ returns-in-Raises-clause-walks c = ends_trans _ _ _ (ends_same _ _ (ap (λ fs. w
 
 pub returns-in_ok-made-in-Runs-clause-walks : goal.returns-in_ok-made-in-Runs-clause-walks
 returns-in_ok-made-in-Runs-clause-walks c = ends_same _ _ (c.recover.ensures.walks ∙ ap (λ fs. walks_of (reverse fs)) (c.in_ok-made-in-Runs.ensures.ok.stays.frames ∙ c.ready.ensures.grown.extends.frames))
+
+pub recover-requires-clause-fits : goal.recover-requires-clause-fits
+recover-requires-clause-fits c =
+    let s = c.args.self.now.machine.stack in
+    let t = c.ready.new.self.stack in
+    let g = c.ready.ensures.grown in
+    let adds = c.in_ok-made-in-Runs.ensures.ok in
+    recovery-fits s c.link.new.self c.level-level.result _ c.args.list c.in_ok-made-in-Runs.made (adds.stays.frames ∙ g.extends.frames)
+    (level-kinds t c.level-level.result c.level-level.ensures ∙ ap (λ n. n) (ap length (same-kinds s t g.extends)))
+    (adds.is ∙ ap (λ es. Goal c.level-level.result (value t.env.heap c.in-Runs.goal) ∷ es) (g.extends.lists c.args.list c.requires.list).1) c.requires.fits

@@ -1,12 +1,13 @@
-use Rattle.std.proofs.Common.{ap₂, subst}
+use Rattle.std.proofs.Common.{ap₂, subst, sym, le_refl}
 use Rattle.plcells.specs.Store.{value}
-use Rattle.plstack.specs.State.{goals_of}
+use Rattle.plstack.specs.State.{goals_of, kinds_in}
 use Rattle.plmachine.specs.Selected.{bound_at}
 use Rattle.plmachine.proofs.Moves.{on_ok_map}
 use Rattle.plsolver.specs.Solver.{IsSelected}
 use Rattle.plsolver.proofs.Runs.{either_basis, either_of, either_walks}
 use Rattle.plsolver.proofs.Runs.{selects-both, selects-row}
 use Rattle.plsolver.proofs.Ending.{ends_refl}
+use Rattle.plstack.specs.Levels.{FitsIn}
 use Rattle.plsolver.proofs.progress.Progress.select.Goals as goal
 
 pub returns-in-Both-clause-ok : goal.returns-in-Both-clause-ok
@@ -67,3 +68,16 @@ returns-in-Step-clause-walks c =
     let s = c.args.self.now in
     let first = subst (IsSelected s.machine) c.in-Step.is c.requires.goal in
     either_walks c.args.program.now s.machine c.step.new.self _ c.step.result (c.step.ensures.ok _ first.1) c.step.ensures.err
+
+pub visit-requires-clause-fits : goal.visit-requires-clause-fits
+visit-requires-clause-fits c =
+    let s = c.args.self.now.machine in
+    let both = (subst (IsSelected s) c.in-Both.is c.requires.goal).1 in
+    let p = subst (FitsIn (kinds_in s.stack)) both.goals both.levels in
+    subst (FitsIn (kinds_in s.stack)) (sym both.next_goals) (p.0, p.1, (le_refl _, p.1, p.2))
+
+pub term-requires-clause-level : goal.term-requires-clause-level
+term-requires-clause-level c =
+    let s = c.args.self.now.machine in
+    let first = (subst (IsSelected s) c.in-Goal.is c.requires.goal).1 in
+    subst (FitsIn (kinds_in s.stack)) first.goals first.levels

@@ -1,17 +1,20 @@
-use Rattle.std.proofs.Common.{ap, refl, ◌∙◌}
-use Rattle.pllinks.specs.declared.link.Continuation.{Continuation}
-use Rattle.plstack.specs.State.{State}
-use Rattle.plstack.proofs.Settling.{cuts_emptied, cuts_marked}
-use Rattle.plstack.proofs.stack.Stack.cut.Goals.{in-Some+in_ok-give_up-in-Some, in-None+in_ok-open_barrier-in-None}
+use Rattle.std.proofs.Common.{subst}
+use Rattle.plstack.specs.State.{State, goals_of, kinds_in}
+use Rattle.plstack.specs.Cutting.{ChoiceAt}
+use Rattle.plstack.proofs.Naming.{fits-most}
+use Rattle.plstack.proofs.Cutting.{given-fits}
+use Rattle.plstack.proofs.Settling.{cuts_emptied}
 use Rattle.plstack.proofs.stack.Stack.cut.Goals as goal
 
-abbrev visited : Continuation → State → State
-visited list s = record s { goals = list }
+pub visit-requires-clause-fits : goal.visit-requires-clause-fits
+visit-requires-clause-fits c =
+    let frame = c.choice_at-frame.result in
+    let at = subst (λ (x : State). ChoiceAt x.frames c.args.level frame.at frame.below) c.self.view_is (rw c.deref.ensures.value at c.choice_at-frame.ensures) in
+    given-fits c.args.self.now c.give_up.new.self c.args.level frame.at frame.below at c.in_ok-give_up.ensures.ok c.args.list c.requires.list c.requires.level
 
 pub returns-clause-ok : goal.returns-clause-ok
 returns-clause-ok c =
-    let old = c.args.self.now in
-    elim c.match-given_up.branch [
-      | in-Some+in_ok-give_up-in-Some w ↦ cuts_emptied old w.give_up.new.self c.visit.new.self c.args.level c.args.list w.in-Some.frame.at w.in-Some.frame.below (w.in-Some.ensures.most refl) w.in-Some.ensures.at w.in_ok-give_up-in-Some.ensures.ok (c.visit.ensures ∙ ap (visited c.args.list) w.self-is)
-      | in-None+in_ok-open_barrier-in-None w ↦ cuts_marked old w.open_barrier.new.self c.visit.new.self c.args.level c.args.list w.in_ok-open_barrier-in-None.ensures.ok w.open_barrier.ensures.walks w.open_barrier.ensures.same (c.visit.ensures ∙ ap (visited c.args.list) w.self-is)
-    ]
+    let s = c.args.self.now in
+    let frame = c.choice_at-frame.result in
+    let at = subst (λ (x : State). ChoiceAt x.frames c.args.level frame.at frame.below) c.self.view_is (rw c.deref.ensures.value at c.choice_at-frame.ensures) in
+    cuts_emptied s c.give_up.new.self c.visit.new.self c.args.level c.args.list frame.at frame.below (fits-most (kinds_in s) c.args.level (goals_of s c.args.list) c.requires.level.2) at c.in_ok-give_up.ensures.ok c.visit.ensures

@@ -1,9 +1,12 @@
 use Rattle.std.proofs.Common.{refl, ◌∙◌}
-use Rattle.plstack.specs.State.{State}
+use Rattle.plstack.specs.State.{State, goals_of, kinds_in, place_of}
+use Rattle.plcells.specs.Store.{value}
+use Rattle.plstack.proofs.Naming.{resolve-fits}
 use Rattle.plstack.proofs.Reopening.{unchanged-stack, unchanged-extends}
 use Rattle.plstack.proofs.Stacks.{inside}
-use Rattle.plstack.proofs.Walking.{fits-goes, fitted-stack, fitted-cases, left-same, listed-cases, mark-there, back-at, back-goes, back-value}
+use Rattle.plstack.proofs.Walking.{fits-goes, fitted-stack, fitted-cases, left-same, listed-cases, mark-there, walk-precedes, back-at, back-goes, back-value}
 use Rattle.plstack.proofs.stack.Stack.fit_walk.Goals as goal
+use Rattle.plstack.specs.Places.{clause_by}
 
 pub resolve_clause-requires-clause-goal : goal.resolve_clause-requires-clause-goal
 resolve_clause-requires-clause-goal c = (rw (← c.self.view_is) at c.requires.at).goal
@@ -20,9 +23,11 @@ resolve_clause-requires-clause-rest c = (rw (← c.self.view_is) at c.requires.a
 pub invariant_of-self-in-Some : goal.invariant_of-self-in-Some
 invariant_of-self-in-Some c =
     let s : State = inside c.self.inside in
+    let level = rw (← c.self.view_is) at c.requires.level in
     let at = rw (← c.self.view_is) at c.requires.at in
     let fits = (rw c.in-Some.is at c.in_ok-list.ensures.some) s c.self.invariant.0 refl refl at.list in
     fitted-stack s c.self.inside.depth c.self.invariant c.args.at.now.point c.args.at.now.walk at c.resolve_clause.new.env c.resolve_clause.new.links.items (fits-goes s _ _ _ _ _ _ _ fits) c.in-Some.list fits.there
+    (resolve-fits (kinds_in s) c.args.level s.env.count (value s.env.heap c.args.at.now.walk.goal) (goals_of s c.args.at.now.point.list) (clause_by c.args.next.now.uses c.args.next.now.clause) (place_of (record s { env = c.resolve_clause.new.env; links = c.resolve_clause.new.links.items; goals = c.in-Some.list })) (walk-precedes s c.self.inside.depth c.self.invariant c.args.at.now.point c.args.at.now.walk at c.args.level level) fits.place)
 
 pub invariant_of-self-in-None : goal.invariant_of-self-in-None
 invariant_of-self-in-None c = unchanged-stack (inside c.self.inside) c.self.inside.depth c.self.invariant c.resolve_clause.new.env c.resolve_clause.new.links.items c.resolve_clause.ensures.env (rw c.in-None.is at c.in_ok-list.ensures.back)

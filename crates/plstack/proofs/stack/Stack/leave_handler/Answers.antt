@@ -16,7 +16,8 @@ invariant_of-self c =
     let k : Handler = c.in-Handle.field-0 in
     let popped : s.frames ≡ c.pop.new.self.items ++ Open p (resumes.Handle k) ∷ [] = c.in-Some-Open.ensures.items ∙ ap (λ f. c.pop.new.self.items ++ f ∷ []) (c.in-Some-Open.field-0-is ∙ ap (Open p) c.in-Handle.is) in
     let list = rw (← c.self.view_is) at c.requires.list in
-    recovered-stack s c.self.inside.depth c.self.invariant c.pop.new.self.items p k popped c.count_up.new.frames.items c.count_up.ensures c.args.list list
+    let f = rw (← c.self.view_is) at c.requires.fits in
+    recovered-stack s c.self.inside.depth c.self.invariant c.pop.new.self.items p k popped c.count_up.new.frames.items c.count_up.ensures c.args.list list f
 
 pub returns-clause-recovers : goal.returns-clause-recovers
 returns-clause-recovers c =
@@ -25,7 +26,8 @@ returns-clause-recovers c =
     let k : Handler = c.in-Handle.field-0 in
     let popped : s.frames ≡ c.pop.new.self.items ++ Open p (resumes.Handle k) ∷ [] = c.in-Some-Open.ensures.items ∙ ap (λ f. c.pop.new.self.items ++ f ∷ []) (c.in-Some-Open.field-0-is ∙ ap (Open p) c.in-Handle.is) in
     let list = rw (← c.self.view_is) at c.requires.list in
-    rw (← c.self.view_is) (recovers s c.self.inside.depth c.self.invariant c.pop.new.self.items p k popped c.count_up.new.frames.items c.count_up.ensures c.args.list list)
+    let f = rw (← c.self.view_is) at c.requires.fits in
+    rw (← c.self.view_is) (recovers s c.self.inside.depth c.self.invariant c.pop.new.self.items p k popped c.count_up.new.frames.items c.count_up.ensures c.args.list list f)
 
 pub returns-clause-within : goal.returns-clause-within
 returns-clause-within c =

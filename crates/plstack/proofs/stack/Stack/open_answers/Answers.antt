@@ -28,37 +28,40 @@ invariant_of-self-2 c =
     let s : State = inside c.self.inside in
     let m = rw (← c.self.view_is) at c.requires.marks in
     let i = rw (← c.self.view_is) at c.requires.list in
+    let f = rw (← c.self.view_is) at c.requires.fits in
     let fit = rw (← c.self.view_is) at c.requires.values in
     let turns = rw (← c.self.view_is) at c.requires.turn in
     let t = rw c.in-Some.is at c.in_ok-taken.ensures.some in
     let pushes = rw c.reserve.ensures.items at c.push_answers-is_last.ensures.pushes in
     rw (c.keep_values.ensures, c.reserve-2.ensures.items, c.in_ok-depth.ensures.ok)
-    (called-stack s c.self.inside.depth c.self.invariant c.args.point m i c.args.values.now fit c.args.turn turns c.take_answer.new.env c.take_answer.ensures.env c.in-Some.taken.rest t c.push_answers-is_last.new.frames.items pushes)
+    (called-stack s c.self.inside.depth c.self.invariant c.args.point m i f c.args.values.now fit c.args.turn turns c.take_answer.new.env c.take_answer.ensures.env c.in-Some.taken.rest t c.push_answers-is_last.new.frames.items pushes)
 
 pub returns-clause-some : goal.returns-clause-some
 returns-clause-some c = λ _ db.
     let s : State = inside c.self.inside in
     let m = rw (← c.self.view_is) at c.requires.marks in
     let i = rw (← c.self.view_is) at c.requires.list in
+    let f = rw (← c.self.view_is) at c.requires.fits in
     let fit = rw (← c.self.view_is) at c.requires.values in
     let turns = rw (← c.self.view_is) at c.requires.turn in
     let t = rw c.in-Some.is at c.in_ok-taken.ensures.some in
     let pushes = rw c.reserve.ensures.items at c.push_answers-is_last.ensures.pushes in
     rw (← c.self.view_is, c.keep_values.ensures, c.reserve-2.ensures.items)
-    (called-answered s c.self.inside.depth c.self.invariant c.args.point m i c.args.values.now fit c.args.turn turns c.take_answer.new.env c.take_answer.ensures.env c.in-Some.taken.rest t c.push_answers-is_last.new.frames.items pushes db)
+    (called-answered s c.self.inside.depth c.self.invariant c.args.point m i f c.args.values.now fit c.args.turn turns c.take_answer.new.env c.take_answer.ensures.env c.in-Some.taken.rest t c.push_answers-is_last.new.frames.items pushes db)
 
 pub returns-clause-opened : goal.returns-clause-opened
 returns-clause-opened c = λ last.
     let s : State = inside c.self.inside in
     let m = rw (← c.self.view_is) at c.requires.marks in
     let i = rw (← c.self.view_is) at c.requires.list in
+    let f = rw (← c.self.view_is) at c.requires.fits in
     let fit = rw (← c.self.view_is) at c.requires.values in
     let turns = rw (← c.self.view_is) at c.requires.turn in
     let t = rw c.in-Some.is at c.in_ok-taken.ensures.some in
     let pushes = rw c.reserve.ensures.items at c.push_answers-is_last.ensures.pushes in
     record {
-      within = called-within s c.self.inside.depth c.self.invariant c.args.point m i c.args.values.now fit c.args.turn turns c.take_answer.new.env c.take_answer.ensures.env c.in-Some.taken.rest t c.push_answers-is_last.new.frames.items pushes;
-      older = called-older s c.self.inside.depth c.self.invariant c.args.point m i c.args.values.now fit c.args.turn turns c.take_answer.new.env c.take_answer.ensures.env c.in-Some.taken.rest t c.push_answers-is_last.new.frames.items pushes (c.push_answers-is_last.ensures.last last);
+      within = called-within s c.self.inside.depth c.self.invariant c.args.point m i f c.args.values.now fit c.args.turn turns c.take_answer.new.env c.take_answer.ensures.env c.in-Some.taken.rest t c.push_answers-is_last.new.frames.items pushes;
+      older = called-older s c.self.inside.depth c.self.invariant c.args.point m i f c.args.values.now fit c.args.turn turns c.take_answer.new.env c.take_answer.ensures.env c.in-Some.taken.rest t c.push_answers-is_last.new.frames.items pushes (c.push_answers-is_last.ensures.last last);
     }
 
 pub returns-clause-walks : goal.returns-clause-walks

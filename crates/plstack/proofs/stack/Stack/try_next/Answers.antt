@@ -2,7 +2,7 @@ use Rattle.std.proofs.Common.{sym, ap, subst, ◌∙◌, ◌∷◌, [], reverse}
 use Rattle.plsearch.specs.Types.{Choice}
 use Rattle.plstack.specs.declared.basis.Basis.{Basis}
 use Rattle.plstack.specs.StaticCalls.{AreStatics}
-use Rattle.plstack.proofs.Entering.{behind-found, calling-found, retries-entered, none-entered}
+use Rattle.plstack.proofs.Entering.{behind-fits, behind-found, calling-found, retries-entered, none-entered}
 use Rattle.plstack.specs.Places.{walks_of}
 use Rattle.plstack.specs.State.{walks_in}
 use Rattle.plstack.proofs.stack.Stack.try_next.Goals as goal
@@ -10,6 +10,10 @@ use Rattle.plstack.proofs.stack.Stack.try_next.Goals as goal
 pub enter-requires-clause-behind : goal.enter-requires-clause-behind
 enter-requires-clause-behind c =
     behind-found c.args.self.now c.number_of.new.self c.args.at.point c.args.at.call c.in_ok-behind.behind c.requires.at c.in_ok-behind.ensures.ok c.find.new.self c.find.ensures.same (rw c.in-Some.is at c.in_ok-hit.ensures.binds)
+
+pub enter-requires-clause-fits : goal.enter-requires-clause-fits
+enter-requires-clause-fits c =
+    behind-fits c.args.self.now c.number_of.new.self c.args.at.point c.args.at.call c.in_ok-behind.behind c.requires.at c.in_ok-behind.ensures.ok c.find.new.self c.find.ensures.same (rw c.in-Some.is at c.in_ok-hit.ensures.binds)
 
 pub returns-in-Some-clause-yes : goal.returns-in-Some-clause-yes
 returns-in-Some-clause-yes c = λ _ db own.
