@@ -35,6 +35,10 @@ pub enum Control {
     Catch,
     /// findall/3.
     FindAll,
+    /// transaction/1.
+    Transaction,
+    /// snapshot/1.
+    Snapshot,
     /// throw/1.
     Throw,
     /// asserta/1, assertz/1 and assert/1.

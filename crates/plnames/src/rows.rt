@@ -26,6 +26,8 @@ pub static ROWS: &[(&str, u16, Kind)] = &[
     ("call", 8, Kind::Control(Control::Call)),
     ("catch", 3, Kind::Control(Control::Catch)),
     ("findall", 3, Kind::Control(Control::FindAll)),
+    ("transaction", 1, Kind::Control(Control::Transaction)),
+    ("snapshot", 1, Kind::Control(Control::Snapshot)),
     ("throw", 1, Kind::Control(Control::Throw)),
     ("asserta", 1, Kind::Control(Control::Add(Side::Front))),
     ("assertz", 1, Kind::Control(Control::Add(Side::Back))),
@@ -236,8 +238,6 @@ pub static ROWS: &[(&str, u16, Kind)] = &[
 /// Names with arities that are kept for control constructs and built-in predicates: no program can define them, and a call of one is a call of
 /// a procedure that is not there.
 pub static KEPT: &[(&str, u16)] = &[
-    ("transaction", 1),
-    ("snapshot", 1),
     ("with_mutex", 2),
     ("thread_exit", 1),
     ("thread_create", 1),

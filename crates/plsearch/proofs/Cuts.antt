@@ -4,12 +4,13 @@ use Rattle.std.specs.Prelude.{nat_le}
 use Rattle.std.proofs.lemmas.Bool.Decides.{nat_tests}
 use Rattle.plterm.specs.Tree.{Tree}
 use Rattle.plprogram.specs.Program.{Program}
-use Rattle.plsearch.specs.Types.{Result, Stop, Fail, CutTo, Throw, Halted, Spent, Awaits, Stopped, Unfit, Kind, Commit, Never, Until, Collect, Element, Goal, Marker, Raise, Asking, Place, Case, Choice, Mark, Handle, Handler, Catch, Gather, Run}
+use Rattle.plsearch.specs.Types.{Result, Stop, Fail, CutTo, Throw, Halted, Spent, Awaits, Stopped, Unfit, Kind, Commit, Never, Until, Collect, Transact, Element, Goal, Marker, Raise, Asking, Erasing, Place, Case, Choice, Mark, Handle, Handler, Catch, Gather, Undo, Run}
 use Rattle.plsearch.specs.Handlers.{has, resume}
 use Rattle.plsearch.specs.Engine.{stop_cut, mark, deeper, choice, returned, out, outs, Visit}
-use Rattle.plsearch.specs.Machines.Levels.{IsAtMost, AreAtMost, emptied}
+use Rattle.plsearch.specs.Machines.Levels.{IsKindAtMost, IsAtMost, AreAtMost, emptied}
 use Rattle.plsearch.specs.Machines.Machine.{At, Rest}
-use Rattle.plsearch.proofs.Levels.{Levels, AllIn, Holds, Bounded, GivesUp, Allows, AllAllow, visit-bounded}
+use Rattle.plsearch.proofs.Levels.{Levels, AllIn, Holds, Bounded, GivesUp, Allows, AllAllow}
+use Rattle.plsearch.proofs.Bounds.{visit-bounded}
 
 -- the levels up to k, and those and the ones from d on
 abbrev low : ℕ → Levels
@@ -27,19 +28,21 @@ is-most l k h = grind (arith, nat_tests)
 in-apart : (a b : Bool) → a ≡ true → (a || b) ≡ true
 in-apart a b h = ap (λ x. x || b) h
 
-gives-up : (k : ℕ) (m : Kind) (l : ℕ) → l ≤ k → GivesUp (low k) m l
+gives-up : (k : ℕ) (m : Kind) (l : ℕ) → IsKindAtMost k m → l ≤ k → GivesUp (low k) m l
 unfolding GivesUp
-gives-up k Commit l h = at-most l k h
-gives-up k Never l h = at-most l k h
-gives-up k Until l h = tt
-gives-up k (Collect t) l h = tt
+gives-up k Commit l is h = at-most l k h
+gives-up k Never l is h = at-most l k h
+gives-up k Until l is h = tt
+gives-up k (Collect t) l is h = tt
+gives-up k (Transact d) l is h = at-most d k is
 
 allowed : (k d : ℕ) (e : Element) → IsAtMost k e → Allows (low k) (apart k d) e
 unfolding Allows
 allowed k d (Goal l t) h = at-most l k h
-allowed k d (Marker m l) h = (gives-up k m l h, in-apart _ _ (at-most l k h))
+allowed k d (Marker m l) h = (gives-up k m l h.0 h.1, in-apart _ _ (at-most l k h.1))
 allowed k d (Raise b) h = tt
 allowed k d (Asking q) h = tt
+allowed k d (Erasing x) h = tt
 
 all-allowed : (k d : ℕ) (es : List Element) → AreAtMost k es → AllAllow (low k) (apart k d) es
 unfolding AllAllow
@@ -125,6 +128,9 @@ module _ (P : Program) where
   kept k d i (Catch c x) p r run lt below h = refl
   kept k d i (Gather l) p Fail run lt below h = absurd h
   kept k d i (Gather l) p r run lt below h = refl
+  kept k d i Undo p Fail run lt below h = absurd h
+  kept k d i Undo p (Throw b ls) run lt below h = rw (not-behind k d i lt below ls h) refl
+  kept k d i Undo p r run lt below h = refl
 
   -- a case above k
   out-passes : (k d i : ℕ) (c : Case) (r : Result) (run : Run) → k < i → i < d → Passes k d r → out (Visit P) i c (r, run) ≡ (r, run)
@@ -151,8 +157,8 @@ module _ (P : Program) where
   deeper-emptied [] base base' is = is
   deeper-emptied (c ∷ cs) base base' is = ap suc (deeper-emptied cs base base' is)
 
-  above-emptied : (k : ℕ) (cs base : List Case) → deeper base 0 ≡ suc k → k < deeper (emptied cs base) 0
-  above-emptied k [] base is = omega (arith, is)
+  above-emptied : (k : ℕ) (cs base : List Case) → k < deeper base 0 → k < deeper (emptied cs base) 0
+  above-emptied k [] base is = is
   above-emptied k (c ∷ cs) base is = let up = above-emptied k cs base is in omega arith
 
   empty-choice : (k d i : ℕ) (r : Result) (run : Run) → k < i → Bounded (low k) (apart k d) r → choice (Visit P) i [] r run ≡ (r, run)
@@ -167,7 +173,7 @@ module _ (P : Program) where
   empty-choice k d i Stopped run lt h = refl
   empty-choice k d i Unfit run lt h = refl
 
-  emptied-pass : (k d : ℕ) (cs base : List Case) (r : Result) (run : Run) → deeper base 0 ≡ suc k → Bounded (low k) (apart k d) r →
+  emptied-pass : (k d : ℕ) (cs base : List Case) (r : Result) (run : Run) → k < deeper base 0 → Bounded (low k) (apart k d) r →
       outs (Visit P) 0 (emptied cs base) (r, run) ≡ outs (Visit P) 0 base (r, run)
   unfolding outs out
   emptied-pass k d [] base r run is h = refl
@@ -209,7 +215,7 @@ module _ (P : Program) where
       let same : deeper (cs ++ base) 0 ≡ deeper (emptied cs base') 0 = deeper-emptied cs base base' refl in
       outs-pass k d cs base (mark k e.0) e.1 (ap suc is) (omega arith) (marked-passes k d e.0 bounded)
       ∙ ap (outs (Visit P) 0 below) (at-level e.0 e.1)
-      ∙ sym (emptied-pass k d (Mark k ∷ cs) base' e.0 e.1 (ap suc is) bounded)
+      ∙ sym (emptied-pass k d (Mark k ∷ cs) base' e.0 e.1 (omega (arith, is)) bounded)
       ∙ ap (λ n. outs (Visit P) 0 (emptied (Mark k ∷ cs) base') (Visit P (suc n) p run)) same
     where
       at-level : (r : Result) (run : Run) → choice (Visit P) (deeper below 0) ps (mark k r) run ≡ choice (Visit P) (deeper below 0) [] r run
@@ -222,14 +228,24 @@ module _ (P : Program) where
   kept-on k d i c x p (Throw b ls) run lt below h = rw (not-behind k d i lt below ls h) refl
   kept-on k d i c x p r run lt below h = refl
 
-  pub catchers-empty : (k : ℕ) (c x : Tree) (q : Place) (below : List Case) (p : Place) (run : Run) → deeper below 0 ≡ suc k → AreAtMost k p.goals →
-      Rest P (record { mode = At p; cases = Handle (Catch c x) q ∷ below; run = run }) ≡ Rest P (record { mode = At p; cases = Choice [] ∷ below; run = run })
+  emptied-alike : (cs base base' : List Case) → deeper base 0 ≡ deeper base' 0 → deeper (emptied cs base) 0 ≡ deeper (emptied cs base') 0
+  emptied-alike [] base base' is = is
+  emptied-alike (c ∷ cs) base base' is = ap suc (emptied-alike cs base base' is)
+
+  pub catchers-empty : (k : ℕ) (c x : Tree) (q : Place) (cs below : List Case) (p : Place) (run : Run) → deeper below 0 ≡ suc k → AreAtMost k p.goals →
+      Rest P (record { mode = At p; cases = emptied cs (Handle (Catch c x) q ∷ below); run = run }) ≡ Rest P (record { mode = At p; cases = emptied cs (Choice [] ∷ below); run = run })
   unfolding Rest outs out
-  catchers-empty k c x q below p run is most =
+  catchers-empty k c x q cs below p run is most =
       let i = deeper below 0 in
-      let d = suc i in
+      let old : List Case = Handle (Catch c x) q ∷ below in
+      let new : List Case = Choice [] ∷ below in
+      let d = deeper (emptied cs old) 0 in
       let e = Visit P d p run in
+      let further : i < d = above-emptied i cs old (omega arith) in
       let bounded : Bounded (low k) (apart k d) e.0 = visit-bounded P (low k) (apart k d) d p run (holds k d) (all-allowed k d p.goals most) in
-      ap (outs (Visit P) 0 below) (kept-on k d i c x q e.0 e.1 (omega arith) (omega arith) bounded ∙ sym (empty-choice k d i e.0 e.1 (omega arith) bounded))
+      emptied-pass k d cs old e.0 e.1 (omega (arith, is)) bounded
+      ∙ ap (outs (Visit P) 0 below) (kept-on k d i c x q e.0 e.1 (omega (arith, is)) further bounded ∙ sym (empty-choice k d i e.0 e.1 (omega (arith, is)) bounded))
+      ∙ sym (emptied-pass k d cs new e.0 e.1 (omega (arith, is)) bounded)
+      ∙ ap (λ n. outs (Visit P) 0 (emptied cs new) (Visit P n p run)) (emptied-alike cs old new refl)
 
 pub ruleset laws = (cuts-empty, catchers-empty)

@@ -1,13 +1,15 @@
 -- A visit that asks for no answer that is not there ends in the same way with further answers.
 use Rattle.std.proofs.Common.{◌≡◌, ℕ, zero, suc, ◌+◌, ◌<◌, ◌≤◌, ◌⊎◌, inl, inr, List, [], ◌∷◌, ◌++◌, length, refl, sym, ap, subst, arith, le_refl, min}
-use Rattle.plevent.specs.Search.{Item, Answer, Finishes}
+use Rattle.plevent.specs.Search.{Item, Ask, Answer, Finishes}
+use Rattle.plevent.specs.declared.request.Request.TheVariants.{Publish}
+use Rattle.plevent.specs.declared.update.Update.{Update}
 use Rattle.plevent.specs.declared.request.ThreadEnd.{ThreadEnd}
 use Rattle.plprogram.specs.Program.{Program}
-use Rattle.plsearch.specs.Types.{Result, Stop, Fail, CutTo, Throw, Halted, Spent, Awaits, Stopped, Unfit, Element, Place, Case, Choice, Mark, Handle, Catch, Gather, Return, Keep, Again, Anew, Local, Move, Give, Go, Meeting, Select, Asks, End, Pass, Marked, Run}
+use Rattle.plsearch.specs.Types.{Result, Stop, Fail, CutTo, Throw, Halted, Spent, Awaits, Stopped, Unfit, GoesOn, Await, Element, Asking, Place, Case, Choice, Mark, Handle, Catch, Gather, Undo, Return, Keep, Again, Anew, Local, Move, Give, Go, Meeting, Select, Asks, End, Pass, Marked, Run}
 use Rattle.plsearch.specs.Rows.{select, meet}
-use Rattle.plsearch.specs.Replies.{answered}
+use Rattle.plsearch.specs.Replies.{answered, founded}
 use Rattle.plsearch.specs.Handlers.{resume}
-use Rattle.plsearch.specs.Engine.{Ended, deeper, choice, returned, out, outs, moved, stepped, asks, met, walk, left, Visit}
+use Rattle.plsearch.specs.Engine.{Ended, deeper, choice, returned, out, outs, moved, stepped, asks, publishes, met, walk, left, Visit}
 use Rattle.plsearch.specs.Search.{next_of, ending_of, from_start, start_of, search_of}
 use Rattle.plsearch.proofs.Fuel.{Agree, Same, out-agree, visit-agree, Visit-walk}
 
@@ -84,6 +86,7 @@ module _ (P : Program) (further : List Answer) where
   out-still (Mark l) d q run n = n
   out-still (Handle (Catch c r) p) d q run n = n
   out-still (Handle (Gather l) p) d q run n = n
+  out-still (Handle Undo p) d q run n = n
 
   returned-grows : (k : ℕ) → Claim k → (d : ℕ) (b : Return) (run : Run) → left run < k → Grows (returned (Visit P) d b run) (returned (Visit P) d b (with_more run))
   unfolding Grows with_more Claim
@@ -124,23 +127,30 @@ module _ (P : Program) (further : List Answer) where
   stepped-grows k h row d run zero le = λ n. refl
   stepped-grows k h row d run (suc n) le = moved-grows k h d (row run.local) (record run { steps = n }) (omega (arith, le))
 
-  asks-grows : (k : ℕ) → Claim k → (row : Answer → Local → Move) (q : Item) (d : ℕ) (run : Run) (xs : List Answer) → run.steps + length xs ≤ k →
-      Grows (asks (Visit P) row q d (record run { answers = xs }) xs) (asks (Visit P) row q d (with_more (record run { answers = xs })) (xs ++ further))
+  asks-grows : (k : ℕ) → Claim k → (e : Element) (es : List Element) (n : ℕ) (q : Item) (d : ℕ) (run : Run) (xs : List Answer) → run.steps + length xs ≤ k →
+      Grows (asks (Visit P) e es n q d (record run { answers = xs }) xs) (asks (Visit P) e es n q d (with_more (record run { answers = xs })) (xs ++ further))
   unfolding Grows with_more
-  asks-grows k h row q d run [] le = λ n. absurd n
-  asks-grows k h row q d run (a ∷ xs) le = moved-grows k h d (row a run.local) (record run { answers = xs }) (omega (arith, le))
+  asks-grows k h e es n q d run [] le = λ n. absurd n
+  asks-grows k h e es n q d run (a ∷ xs) le = moved-grows k h d (answered e a d es n run.local) (record run { answers = xs; below = founded e a run.below }) (omega (arith, le))
+
+  publishes-grows : (k : ℕ) → Claim k → (on : ℕ → Run → Ended) → ((d : ℕ) (run : Run) → left run ≤ k → Grows (on d run) (on d (with_more run))) →
+      (es : List Element) (n : ℕ) (us : List Update) (d : ℕ) (run : Run) → left run ≤ k →
+      Grows (publishes (Visit P) on es n us d run) (publishes (Visit P) on es n us d (with_more run))
+  unfolding with_more
+  publishes-grows k h on o es n [] d run le = o d run le
+  publishes-grows k h on o es n (u ∷ us) d run le = asks-grows k h (Asking (Await (Publish (u ∷ us)) GoesOn)) es n (Ask (Publish (u ∷ us))) d run run.answers le
 
   met-grows : (k : ℕ) → Claim k → (on : ℕ → Run → Ended) → ((d : ℕ) (run : Run) → left run ≤ k → Grows (on d run) (on d (with_more run))) →
       (e : Element) (es : List Element) (n d : ℕ) (run : Run) (m : Meeting) → left run ≤ k →
       Grows (met P (Visit P) on e es n d run m) (met P (Visit P) on e es n d (with_more run) m)
   unfolding Grows with_more out
-  met-grows k h on o e es n d run (Select j t) le = stepped-grows k h (select P j t d es n) d run run.steps le
-  met-grows k h on o e es n d run (Asks q) le = asks-grows k h (λ a. answered e a d es n) q d run run.answers le
+  met-grows k h on o e es n d run (Select j t) le = stepped-grows k h (select P run.below j t d es n) d run run.steps le
+  met-grows k h on o e es n d run (Asks q) le = asks-grows k h e es n q d run run.answers le
   met-grows k h on o e es n d run (End r w) le = λ n. refl
   met-grows k h on o e es n d run (Pass w) le = o d (record run { local = w }) le
-  met-grows k h on o e es n d run (Marked l w) le =
+  met-grows k h on o e es n d run (Marked l us w) le =
       let run' : Run = record run { local = w } in
-      passed (out (Visit P) d (Mark l)) (on (suc d) run') (on (suc d) (with_more run')) (out-still (Mark l) d) (o (suc d) run' le) (λ n m. refl)
+      passed (out (Visit P) d (Mark l)) (publishes (Visit P) on es n us (suc d) run') (publishes (Visit P) on es n us (suc d) (with_more run')) (out-still (Mark l) d) (publishes-grows k h on o es n us (suc d) run' le) (λ n m. refl)
 
   walk-grows : (k : ℕ) → Claim k → (es : List Element) (n d : ℕ) (run : Run) → left run ≤ k → Grows (walk P (Visit P) es n d run) (walk P (Visit P) es n d (with_more run))
   unfolding walk Grows with_more

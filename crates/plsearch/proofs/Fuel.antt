@@ -1,12 +1,14 @@
 -- The search is a fixed point: a list is visited by one walk, and what comes behind a step or an answer by the search again.
 use Rattle.std.proofs.Common.{◌≡◌, ℕ, zero, suc, ◌+◌, ◌<◌, ◌≤◌, List, [], ◌∷◌, length, refl, sym, ap, ◌∙◌, subst, arith, le_trans, le_refl}
-use Rattle.plevent.specs.Search.{Item, Answer}
+use Rattle.plevent.specs.Search.{Item, Ask, Answer}
+use Rattle.plevent.specs.declared.request.Request.TheVariants.{Publish}
+use Rattle.plevent.specs.declared.update.Update.{Update}
 use Rattle.plprogram.specs.Program.{Program}
-use Rattle.plsearch.specs.Types.{Result, Fail, Spent, Element, Place, Case, Choice, Mark, Handle, Local, Move, Give, Go, Meeting, Select, Asks, End, Pass, Marked, Return, Keep, Again, Anew, Run}
+use Rattle.plsearch.specs.Types.{Result, Fail, Spent, GoesOn, Await, Element, Asking, Place, Case, Choice, Mark, Handle, Local, Move, Give, Go, Meeting, Select, Asks, End, Pass, Marked, Return, Keep, Again, Anew, Run}
 use Rattle.plsearch.specs.Rows.{select, meet}
-use Rattle.plsearch.specs.Replies.{answered}
+use Rattle.plsearch.specs.Replies.{answered, founded}
 use Rattle.plsearch.specs.Handlers.{resume}
-use Rattle.plsearch.specs.Engine.{Ended, Visitor, deeper, choice, returned, out, outs, moved, stepped, asks, met, walk, visit_in, left, Visit}
+use Rattle.plsearch.specs.Engine.{Ended, Visitor, deeper, choice, returned, out, outs, moved, stepped, asks, publishes, met, walk, visit_in, left, Visit}
 
 -- below k the two visit alike, and no visit makes steps or answers
 unfoldable pub Agree : Visitor → Visitor → ℕ → Type 0
@@ -70,25 +72,32 @@ stepped-agree f g k h row d run (suc n) le =
     let one = moved-agree f g k h d (row run.local) (record run { steps = n }) (omega (arith, le)) in
     (one.0, omega (arith, one.1))
 
-asks-agree : (f g : Visitor) (k : ℕ) → Agree f g k → (row : Answer → Local → Move) (q : Item) (d : ℕ) (run : Run) (xs : List Answer) → run.steps + length xs ≤ k →
-    Same (asks f row q d (record run { answers = xs }) xs) (asks g row q d (record run { answers = xs }) xs) (run.steps + length xs)
+asks-agree : (f g : Visitor) (k : ℕ) → Agree f g k → (e : Element) (es : List Element) (n : ℕ) (q : Item) (d : ℕ) (run : Run) (xs : List Answer) → run.steps + length xs ≤ k →
+    Same (asks f e es n q d (record run { answers = xs }) xs) (asks g e es n q d (record run { answers = xs }) xs) (run.steps + length xs)
 unfolding Same
-asks-agree f g k h row q d run [] le = (refl, le_refl _)
-asks-agree f g k h row q d run (a ∷ xs) le =
-    let one = moved-agree f g k h d (row a run.local) (record run { answers = xs }) (omega (arith, le)) in
+asks-agree f g k h e es n q d run [] le = (refl, le_refl _)
+asks-agree f g k h e es n q d run (a ∷ xs) le =
+    let one = moved-agree f g k h d (answered e a d es n run.local) (record run { answers = xs; below = founded e a run.below }) (omega (arith, le)) in
     (one.0, omega (arith, one.1))
+
+publishes-agree : (f g : Visitor) (k : ℕ) → Agree f g k → (f' g' : ℕ → Run → Ended) →
+    ((d : ℕ) (run : Run) → left run ≤ k → Same (f' d run) (g' d run) (left run)) →
+    (es : List Element) (n : ℕ) (us : List Update) (d : ℕ) (run : Run) → left run ≤ k →
+    Same (publishes f f' es n us d run) (publishes g g' es n us d run) (left run)
+publishes-agree f g k h f' g' on es n [] d run le = on d run le
+publishes-agree f g k h f' g' on es n (u ∷ us) d run le = asks-agree f g k h (Asking (Await (Publish (u ∷ us)) GoesOn)) es n (Ask (Publish (u ∷ us))) d run run.answers le
 
 met-agree : (P : Program) (f g : Visitor) (k : ℕ) → Agree f g k → (f' g' : ℕ → Run → Ended) →
     ((d : ℕ) (run : Run) → left run ≤ k → Same (f' d run) (g' d run) (left run)) →
     (e : Element) (es : List Element) (n d : ℕ) (run : Run) (m : Meeting) → left run ≤ k →
     Same (met P f f' e es n d run m) (met P g g' e es n d run m) (left run)
 unfolding Same out
-met-agree P f g k h f' g' on e es n d run (Select j t) le = stepped-agree f g k h (select P j t d es n) d run run.steps le
-met-agree P f g k h f' g' on e es n d run (Asks q) le = asks-agree f g k h (λ a. answered e a d es n) q d run run.answers le
+met-agree P f g k h f' g' on e es n d run (Select j t) le = stepped-agree f g k h (select P run.below j t d es n) d run run.steps le
+met-agree P f g k h f' g' on e es n d run (Asks q) le = asks-agree f g k h e es n q d run run.answers le
 met-agree P f g k h f' g' on e es n d run (End r w) le = (refl, le_refl _)
 met-agree P f g k h f' g' on e es n d run (Pass w) le = on d (record run { local = w }) le
-met-agree P f g k h f' g' on e es n d run (Marked l w) le =
-    let one = on (suc d) (record run { local = w }) le in
+met-agree P f g k h f' g' on e es n d run (Marked l us w) le =
+    let one = publishes-agree f g k h f' g' on es n us (suc d) (record run { local = w }) le in
     (ap (out g d (Mark l)) one.0, one.1)
 
 pub walk-agree : (P : Program) (f g : Visitor) (k : ℕ) → Agree f g k → (es : List Element) (n d : ℕ) (run : Run) → left run ≤ k →

@@ -1,11 +1,11 @@
--- Levels of results: a list that names some levels is cut to these alone, and no ball that it throws has others behind it.
+-- Levels of lists: what a goal that is selected and an answer make of a list names the levels that the list names, and its own.
 use Rattle.std.specs.Prelude.{codes}
-use Rattle.std.proofs.Common.{◌≡◌, ℕ, zero, suc, ◌+◌, ◌<◌, ◌≤◌, Bool, true, false, ◌||◌, if◌then◌else◌, List, [], ◌∷◌, length, map, Option, Some, None, refl, sym, ap, subst, arith, nat_eq}
+use Rattle.std.proofs.Common.{◌≡◌, ℕ, suc, ◌+◌, ◌≤◌, Bool, true, false, ◌||◌, if◌then◌else◌, List, [], ◌∷◌, length, map, Option, Some, None, refl, ap, arith, nat_eq}
 use Rattle.std.proofs.lemmas.Bool.Decides.{nat_tests}
 use Rattle.std.specs.List.{filter_map, cons_option}
 use Rattle.std.specs.Option.{option_map}
 use Rattle.plterm.specs.Tree.{Tree, var, int, atom, compound}
-use Rattle.plterm.specs.Variables.{copied, variables}
+use Rattle.plterm.specs.Variables.{copied}
 use Rattle.plsubst.specs.Subst.{bind, shift}
 use Rattle.plsubst.specs.Unify.{unify}
 use Rattle.plclause.specs.Clause.{Clause}
@@ -21,7 +21,9 @@ use Rattle.plevent.specs.declared.update.Update.TheVariants.{Declare}
 use Rattle.plevent.specs.declared.request.Request.TheVariants.{EraseOne}
 use Rattle.plevent.specs.Alive.{Stamped, or_else, exists, living, clauses_alive}
 use Rattle.plnames.specs.declared.kind.Side.{Side}
-use Rattle.plevent.specs.Search.{Item, Answer, Seen, Got}
+use Rattle.plevent.specs.Search.{Answer, Seen, Got}
+use Rattle.pltx.specs.Own.{all_made, any_open, begun}
+use Rattle.pltx.specs.declared.level.Isolation.{Isolation}
 use Rattle.plprogram.specs.Program.{Program, clauses_for}
 use Rattle.plprogram.specs.declared.settings.Unknown.{Unknown}
 use Rattle.plprogram.specs.declared.settings.Unknown.TheVariants as unknown
@@ -30,17 +32,15 @@ use Rattle.plbuiltin.specs.Lists.{may_be_list}
 use Rattle.plbuiltin.specs.Solution.{Solution, Solved, Gives, Raises as Refuses}
 use Rattle.plbuiltin.specs.Solutions.{solutions}
 use Rattle.plsearch.specs.Errors.{error_term}
-use Rattle.plsearch.specs.Types.{Result, Stop, Fail, CutTo, Throw, Halted, Spent, Awaits, Stopped, Unfit, Kind, Commit, Never, Until, Collect, Then, GoesOn, Ends, Lookup, ToCall, ToRetrieve, ToRetract, ToRetractAll, Question, Look, Await, Element, Goal, Marker, Raise, Asking, Place, Case, Choice, Mark, Handle, Handler, Catch, Gather, Return, Keep, Again, Anew, Local, Move, Give, Go, Run}
+use Rattle.plsearch.specs.Types.{Result, Stop, Fail, CutTo, Throw, Halted, Spent, Awaits, Stopped, Unfit, Kind, Commit, Never, Until, Collect, Transact, Then, GoesOn, Ends, Lookup, ToCall, ToRetrieve, ToRetract, ToRetractAll, Question, Look, Begin, Await, Element, Goal, Marker, Raise, Asking, Erasing, Place, Case, Choice, Mark, Handle, Local, Move, Give, Go}
 use Rattle.plsearch.specs.Lists.{bind_kind, bind_element, bind_goals, levels}
-use Rattle.plsearch.specs.Forms.{Form, True, False, Both, Either, IfThenElse, Not, Once, Catching, FindAll, Throwing, CallWith, Cut, Halting, Adding, Retrieving, Retracting, RetractingAll, Declaring, BuiltIn, Call, NoGoal, form}
+use Rattle.plsearch.specs.Forms.{Form, True, False, Both, Either, IfThenElse, Not, Once, Catching, FindAll, Within, Throwing, CallWith, Cut, Halting, Adding, Retrieving, Retracting, RetractingAll, Declaring, BuiltIn, Call, NoGoal, form}
 use Rattle.plsearch.specs.Running.{Runnable, Runs, Raises, runnable, called}
-use Rattle.plsearch.specs.Collecting.{copies_from, dropped, gathered}
-use Rattle.plsearch.specs.Rows.{finding, findall_3, gathering, is_true, before_rest, resolve, choose, call, raised, first_of, run, call_with, branch, catching, go_on, thrown, halting, publish, unless, unchangeable, added, add, no_head, no_body, unreadable, clause_term, as_fact, retrieving, halves, unerasable, undeclarable, user, solved, taken, offered, offer, row, select, asked, meet}
-use Rattle.plsearch.specs.Replies.{Outcome, Served, Late, Stops, Misfits, outcome, follows, missing, retract, all_erased, looked_up, answered}
-use Rattle.plsearch.specs.Handlers.{has, recovers, met_by, goes_on, resume}
-use Rattle.plsearch.specs.Engine.{Ended, stop_cut, mark, deeper, choice, returned, out, outs, moved, stepped, asks, walk, left, Visit}
-use Rattle.plsearch.proofs.Fuel.{Visit-walk}
-use Rattle.plsearch.proofs.Ends.{Visit-left, out-left}
+use Rattle.plsearch.specs.Moves.{is_true, before_rest, resolve, choose, call, raised, go_on, publishing, publish, first_of, run, beginner, undoing, opened}
+use Rattle.plsearch.specs.Lookups.{clause_term, as_fact, missing, retract, all_erased, looked_up, seen, seek}
+use Rattle.plsearch.specs.Rows.{finding, findall_3, gathering, beginning, call_with, branch, catching, thrown, halting, unless, unchangeable, added, add, no_head, no_body, unreadable, retrieving, halves, unerasable, undeclarable, user, solved, taken, offered, offer, row, select}
+use Rattle.plsearch.specs.Replies.{Outcome, Served, Late, Stops, Misfits, outcome, follows, answered}
+use Rattle.plsearch.specs.Engine.{deeper}
 
 -- levels, as a test
 abbrev pub Levels : Type 0
@@ -76,12 +76,14 @@ GivesUp C Commit l = C l ≡ true
 GivesUp C Never l = C l ≡ true
 GivesUp C Until l = Unit {0}
 GivesUp C (Collect t) l = Unit {0}
+GivesUp C (Transact d) l = C d ≡ true
 
 unfoldable pub Allows : Levels → Levels → Element → Type 0
 Allows C N (Goal k t) = C k ≡ true
 Allows C N (Marker m l) = GivesUp C m l × (N l ≡ true)
 Allows C N (Raise b) = Unit {0}
 Allows C N (Asking q) = Unit {0}
+Allows C N (Erasing x) = Unit {0}
 
 unfoldable pub AllAllow : Levels → Levels → List Element → Type 0
 AllAllow C N [] = Unit {0}
@@ -109,6 +111,7 @@ gives-up-more C d Commit l h = also-others C d l h
 gives-up-more C d Never l h = also-others C d l h
 gives-up-more C d Until l h = tt
 gives-up-more C d (Collect t) l h = tt
+gives-up-more C d (Transact k) l h = also-others C d k h
 
 allows-more : (C N : Levels) (d : ℕ) (e : Element) → Allows C N e → Allows (also C d) N e
 unfolding Allows
@@ -116,6 +119,7 @@ allows-more C N d (Goal k t) h = also-others C d k h
 allows-more C N d (Marker m l) h = (gives-up-more C d m l h.0, h.1)
 allows-more C N d (Raise b) h = tt
 allows-more C N d (Asking q) h = tt
+allows-more C N d (Erasing x) h = tt
 
 pub allow-more : (C N : Levels) (d : ℕ) (es : List Element) → AllAllow C N es → AllAllow (also C d) N es
 unfolding AllAllow
@@ -128,6 +132,7 @@ gives-up-bound C σ Commit l h = h
 gives-up-bound C σ Never l h = h
 gives-up-bound C σ Until l h = tt
 gives-up-bound C σ (Collect t) l h = tt
+gives-up-bound C σ (Transact d) l h = h
 
 allows-bound : (C N : Levels) (σ : ℕ → Tree) (e : Element) → Allows C N e → Allows C N (bind_element σ e)
 unfolding Allows
@@ -135,19 +140,21 @@ allows-bound C N σ (Goal k t) h = h
 allows-bound C N σ (Marker m l) h = (gives-up-bound C σ m l h.0, h.1)
 allows-bound C N σ (Raise b) h = tt
 allows-bound C N σ (Asking q) h = tt
+allows-bound C N σ (Erasing x) h = tt
 
-allow-bound : (C N : Levels) (σ : ℕ → Tree) (es : List Element) → AllAllow C N es → AllAllow C N (bind_goals σ es)
+pub allow-bound : (C N : Levels) (σ : ℕ → Tree) (es : List Element) → AllAllow C N es → AllAllow C N (bind_goals σ es)
 unfolding AllAllow
 allow-bound C N σ [] h = tt
 allow-bound C N σ (e ∷ es) h = (allows-bound C N σ e h.0, allow-bound C N σ es h.1)
 
-levels-in : (C N : Levels) (es : List Element) → AllAllow C N es → AllIn N (levels es)
+pub levels-in : (C N : Levels) (es : List Element) → AllAllow C N es → AllIn N (levels es)
 unfolding AllAllow Allows
 levels-in C N [] h = tt
 levels-in C N (Goal k t ∷ es) h = levels-in C N es h.1
 levels-in C N (Marker m l ∷ es) h = (h.0.1, levels-in C N es h.1)
 levels-in C N (Raise b ∷ es) h = levels-in C N es h.1
 levels-in C N (Asking q ∷ es) h = levels-in C N es h.1
+levels-in C N (Erasing x ∷ es) h = levels-in C N es h.1
 
 -- cases that are open at the depth d, of which the results cut to levels of C alone: what they hold, and what may come from inside
 unfoldable pub PlacesAllow : Levels → Levels → List Place → Type 0
@@ -296,8 +303,11 @@ module _ (C N : Levels) (d : ℕ) (holds : Holds N d) where
 
   -- the predicates on clauses
   publish-allowed : (us : List Update) (rest : List Element) (n : ℕ) (w : Local) → AllAllow C N rest → MoveAllows C N d (publish us rest n w)
-  publish-allowed [] rest n w all = go-on rest n w all
-  publish-allowed (u ∷ us) rest n w all = asks-first _ rest n w all
+  publish-allowed us rest n w all = one-of (any_open w.own) (go_on rest n (record w { own = all_made us w.own })) _ (go-on rest n _ all) (asks us)
+    where
+      asks : (us : List Update) → MoveAllows C N d (go_on (publishing us rest) n w)
+      asks [] = go-on rest n w all
+      asks (u ∷ us) = asks-first _ rest n w all
 
   unless-allowed : (o : Option Tree) (p : Indicator) (rest : List Element) (w : Local) (m : Move) → AllAllow C N rest → MoveAllows C N d m → MoveAllows C N d (unless o p rest w m)
   unless-allowed None p rest w m all other = other
@@ -309,19 +319,36 @@ module _ (C N : Levels) (d : ℕ) (holds : Holds N d) where
   add-allowed P side p (BadBody b) rest n w all = raises _ _ rest w all
   add-allowed P side p (IsClause c) rest n w all = unless-allowed (unchangeable P (indicator c.head)) p rest w _ all (publish-allowed (added side c ∷ []) rest n w all)
 
-  retrieving-allowed : (cs : List Clause) (h b : Tree) (rest : List Element) (n : ℕ) (w : Local) → AllAllow C N rest → MoveAllows C N d (retrieving cs d h b rest n w)
-  retrieving-allowed [] h b rest n w all = asks-first _ rest n w all
-  retrieving-allowed (c ∷ cs) h b rest n w all = calls n (clause_term h b) rest (map as_fact (c ∷ cs)) w all
-
   retracts-allowed : (n : ℕ) (t : Tree) (rest : List Element) → AllAllow C N rest → (xs : List Living) → PlacesAllow More N (filter_map (retract d n t rest) xs)
   unfolding AllAllow Allows
   retracts-allowed n t rest all [] = none-allowed
   retracts-allowed n t rest all (x ∷ xs) =
-      place-allowed n t (Asking (Await (EraseOne x.name) GoesOn) ∷ rest) (tt, all) (as_fact x.clause) (filter_map (retract d n t rest) xs) (retracts-allowed n t rest all xs)
+      place-allowed n t (Erasing x.name ∷ rest) (tt, all) (as_fact x.clause) (filter_map (retract d n t rest) xs) (retracts-allowed n t rest all xs)
 
-  user-allowed : (cs : List Clause) (t : Tree) (rest : List Element) (n : ℕ) (w : Local) → AllAllow C N rest → MoveAllows C N d (user cs d t rest n w)
-  user-allowed [] t rest n w all = asks-first _ rest n w all
-  user-allowed (c ∷ cs) t rest n w all = calls n t rest (c ∷ cs) w all
+  missing-allowed : (u : Unknown) (t : Tree) (rest : List Element) (w : Local) → AllAllow C N rest → MoveAllows C N d (missing u t rest w)
+  missing-allowed unknown.Error t rest w all = raises _ _ rest w all
+  missing-allowed unknown.Fail t rest w all = give-up w
+
+  looked-up-allowed : (us : List Stamped) (u : Lookup) (rest : List Element) (n : ℕ) (w : Local) → AllAllow C N rest → MoveAllows C N d (looked_up us u d rest n w)
+  looked-up-allowed us (ToCall t) rest n w all =
+      one-of (exists us (indicator t)) (call d n t rest (clauses_alive us (indicator t)) w) _ (calls n t rest (clauses_alive us (indicator t)) w all) (missing-allowed w.settings.unknown t rest w all)
+  looked-up-allowed us (ToRetrieve h b) rest n w all = calls n (clause_term h b) rest (map as_fact (clauses_alive us (indicator h))) w all
+  looked-up-allowed us (ToRetract h b) rest n w all =
+      chooses (filter_map (retract d n (clause_term h b) rest) (living us (indicator h))) w (retracts-allowed n (clause_term h b) rest all (living us (indicator h)))
+  looked-up-allowed us (ToRetractAll h) rest n w all = publish-allowed (all_erased us n h) rest n w all
+
+  seek-allowed : (below : List Stamped) (u : Lookup) (rest : List Element) (n : ℕ) (w : Local) → AllAllow C N rest → MoveAllows C N d (seek below u d rest n w)
+  seek-allowed below u rest n w all =
+      one-of (any_open w.own) (looked_up (seen below w.own) u d rest n w) _ (looked-up-allowed (seen below w.own) u rest n w all) (asks-first (Look u) rest n w all)
+
+  retrieving-allowed : (below : List Stamped) (cs : List Clause) (h b : Tree) (rest : List Element) (n : ℕ) (w : Local) → AllAllow C N rest →
+      MoveAllows C N d (retrieving below cs d h b rest n w)
+  retrieving-allowed below [] h b rest n w all = seek-allowed below (ToRetrieve h b) rest n w all
+  retrieving-allowed below (c ∷ cs) h b rest n w all = calls n (clause_term h b) rest (map as_fact (c ∷ cs)) w all
+
+  user-allowed : (below : List Stamped) (cs : List Clause) (t : Tree) (rest : List Element) (n : ℕ) (w : Local) → AllAllow C N rest → MoveAllows C N d (user below cs d t rest n w)
+  user-allowed below [] t rest n w all = seek-allowed below (ToCall t) rest n w all
+  user-allowed below (c ∷ cs) t rest n w all = calls n t rest (c ∷ cs) w all
 
   -- the solutions of a built-in predicate
   taken-allowed : (o : Option (ℕ → Tree)) (rest : List Element) (n m : ℕ) (w : Local) → AllAllow C N rest →
@@ -356,52 +383,69 @@ module _ (C N : Levels) (d : ℕ) (holds : Holds N d) where
       (first-allowed (runnable g) _ (also C (suc d)) (suc d) (Marker (Collect t) d ∷ rest) (also-it C (suc d)) ((tt, holds d (omega arith)), allow-more C N (suc d) rest all)))
       (raises _ _ rest w all)
 
-  row-allowed : (P : Program) (c : Form) (k : ℕ) (t : Tree) (rest : List Element) (n : ℕ) (w : Local) → C k ≡ true → AllAllow C N rest → MoveAllows C N d (row P c k t d rest n w)
+  -- a transaction or a snapshot begins
+  in-undoing : (list : List Element) (es : List Element) (n : ℕ) (w : Local) → AllAllow More N list → AllAllow (also More (suc (suc d))) N es →
+      MoveAllows C N d (Go (Choice [] ∷ undoing list n ∷ Choice [] ∷ []) (record { goals = es; variables = n }) w)
+  unfolding MoveAllows CasesAllow CaseAllows PlacesAllow
+  in-undoing list es n w other all = ((tt, (other, (tt, tt))), all)
+
+  opened-allowed : (i : Isolation) (b : ℕ) (g : Tree) (rest : List Element) (n : ℕ) (w : Local) → AllAllow C N rest → MoveAllows C N d (opened i b g d rest n w)
+  unfolding AllAllow Allows GivesUp
+  opened-allowed i b g rest n w all =
+      let far = suc (suc d) in
+      in-undoing rest (first_of (runnable g) (beginner i) far ∷ Marker (Transact d) (suc d) ∷ rest) n (record w { own = begun i b w.own }) (allow-more C N d rest all)
+      (first-allowed (runnable g) (beginner i) (also More far) far (Marker (Transact d) (suc d) ∷ rest) (also-it More far)
+      ((also-others More far d (also-it C d), holds (suc d) (omega arith)), allow-more More N far rest (allow-more C N d rest all)))
+
+  beginning-allowed : (i : Isolation) (g : Tree) (rest : List Element) (n : ℕ) (w : Local) → AllAllow C N rest → MoveAllows C N d (beginning i g d rest n w)
+  beginning-allowed i g rest n w all =
+      one-of (any_open w.own) (opened i w.own.base g d rest n w) _ (opened-allowed i w.own.base g rest n w all) (asks-first (Begin i g) rest n w all)
+
+  row-allowed : (P : Program) (below : List Stamped) (c : Form) (k : ℕ) (t : Tree) (rest : List Element) (n : ℕ) (w : Local) → C k ≡ true → AllAllow C N rest →
+      MoveAllows C N d (row P below c k t d rest n w)
   unfolding row AllAllow Allows GivesUp PlacesAllow MoveAllows CasesAllow CaseAllows
-  row-allowed P True k t rest n w is all = go-on rest n w all
-  row-allowed P False k t rest n w is all = give-up w
-  row-allowed P (Both a b) k t rest n w is all = go-on (Goal k a ∷ Goal k b ∷ rest) n w (is, (is, all))
-  row-allowed P (Either a b) k t rest n w is all =
+  row-allowed P below True k t rest n w is all = go-on rest n w all
+  row-allowed P below False k t rest n w is all = give-up w
+  row-allowed P below (Both a b) k t rest n w is all = go-on (Goal k a ∷ Goal k b ∷ rest) n w (is, (is, all))
+  row-allowed P below (Either a b) k t rest n w is all =
       in-choice (record { goals = Goal k b ∷ rest; variables = n } ∷ []) (record { goals = Goal k a ∷ rest; variables = n }) w (one (Goal k b ∷ rest) n (allow-more C N d (Goal k b ∷ rest) (is, all))) (allow-more C N d (Goal k a ∷ rest) (is, all))
     where
       one : (es : List Element) (n : ℕ) → AllAllow More N es → PlacesAllow More N (record { goals = es; variables = n } ∷ [])
       one es n all = (all, tt)
-  row-allowed P (IfThenElse c a e) k t rest n w is all =
+  row-allowed P below (IfThenElse c a e) k t rest n w is all =
       in-branch (Goal k e ∷ rest) (Goal (suc d) c ∷ Marker Commit d ∷ Goal k a ∷ rest) n w (is, all)
       (also-it More (suc d), ((also-others More (suc d) d (also-it C d), holds d (omega arith)), allow-more More N (suc d) (Goal k a ∷ rest) (allow-more C N d (Goal k a ∷ rest) (is, all))))
-  row-allowed P (Not g) k t rest n w is all =
+  row-allowed P below (Not g) k t rest n w is all =
       in-branch rest (first_of (runnable g) _ (suc d) ∷ Marker Never d ∷ rest) n w all
       (first-allowed (runnable g) _ (also More (suc d)) (suc d) (Marker Never d ∷ rest) (also-it More (suc d)) ((also-others More (suc d) d (also-it C d), holds d (omega arith)), allow-more More N (suc d) rest (allow-more C N d rest all)))
-  row-allowed P (Catching g c r) k t rest n w is all =
+  row-allowed P below (Catching g c r) k t rest n w is all =
       in-catcher c r rest (first_of (runnable g) _ (suc d) ∷ Marker Until d ∷ rest) n w all
       (first-allowed (runnable g) _ (also C (suc d)) (suc d) (Marker Until d ∷ rest) (also-it C (suc d)) ((tt, holds d (omega arith)), allow-more C N (suc d) rest all))
-  row-allowed P (FindAll a g l) k t rest n w is all = finding-allowed a g l rest n w all
-  row-allowed P (Throwing b) k t rest n w is all = thrown-allowed b rest w all
-  row-allowed P (Once g) k t rest n w is all = runs (runnable g) _ (Marker Commit d ∷ rest) n w ((also-it C d, holds d (omega arith)), allow-more C N d rest all)
-  row-allowed P (CallWith g us) k t rest n w is all = runs (called g us) (call_with (length us)) rest n w (allow-more C N d rest all)
-  row-allowed P Cut k t rest n w is all = marks k rest n w is all
+  row-allowed P below (FindAll a g l) k t rest n w is all = finding-allowed a g l rest n w all
+  row-allowed P below (Within i g) k t rest n w is all = beginning-allowed i g rest n w all
+  row-allowed P below (Throwing b) k t rest n w is all = thrown-allowed b rest w all
+  row-allowed P below (Once g) k t rest n w is all = runs (runnable g) _ (Marker Commit d ∷ rest) n w ((also-it C d, holds d (omega arith)), allow-more C N d rest all)
+  row-allowed P below (CallWith g us) k t rest n w is all = runs (called g us) (call_with (length us)) rest n w (allow-more C N d rest all)
+  row-allowed P below Cut k t rest n w is all = marks k rest n w is all
     where
       marks : (k : ℕ) (rest : List Element) (n : ℕ) (w : Local) → C k ≡ true → AllAllow C N rest → MoveAllows C N d (Go (Mark k ∷ []) (record { goals = rest; variables = n }) w)
       marks k rest n w is all = ((is, tt), all)
-  row-allowed P (Halting i) k t rest n w is all = halting-allowed i rest n w all
-  row-allowed P (Adding side c) k t rest n w is all = add-allowed P side (indicator t) (clausal c) rest n w all
-  row-allowed P (Retrieving h b) k t rest n w is all =
-      unless-allowed (or_else (no_head h) (or_else (no_body b) (unreadable (indicator h)))) (indicator t) rest w _ all (retrieving-allowed (clauses_for P (indicator h)) h b rest n w all)
-  row-allowed P (Retracting c) k t rest n w is all = unless-allowed (unerasable P (halves c).0) (indicator t) rest w _ all (asks-first (Look (ToRetract (halves c).0 (halves c).1)) rest n w all)
-  row-allowed P (RetractingAll h) k t rest n w is all = unless-allowed (unerasable P h) (indicator t) rest w _ all (asks-first (Look (ToRetractAll h)) rest n w all)
-  row-allowed P (Declaring ps) k t rest n w is all =
+  row-allowed P below (Halting i) k t rest n w is all = halting-allowed i rest n w all
+  row-allowed P below (Adding side c) k t rest n w is all = add-allowed P side (indicator t) (clausal c) rest n w all
+  row-allowed P below (Retrieving h b) k t rest n w is all =
+      unless-allowed (or_else (no_head h) (or_else (no_body b) (unreadable (indicator h)))) (indicator t) rest w _ all (retrieving-allowed below (clauses_for P (indicator h)) h b rest n w all)
+  row-allowed P below (Retracting c) k t rest n w is all = unless-allowed (unerasable P (halves c).0) (indicator t) rest w _ all (seek-allowed below (ToRetract (halves c).0 (halves c).1) rest n w all)
+  row-allowed P below (RetractingAll h) k t rest n w is all = unless-allowed (unerasable P h) (indicator t) rest w _ all (seek-allowed below (ToRetractAll h) rest n w all)
+  row-allowed P below (Declaring ps) k t rest n w is all =
       unless-allowed (undeclarable P (named_terms ps)) (indicator t) rest w _ all (publish-allowed (map Declare (filter_map indicator_of (named_terms ps))) rest n w all)
-  row-allowed P (BuiltIn b us) k t rest n w is all = offer-allowed (solutions b us w.settings n) (indicator t) rest n w all
-  row-allowed P (Call p) k t rest n w is all = user-allowed (clauses_for P p) t rest n w all
-  row-allowed P NoGoal k t rest n w is all = give-up w
+  row-allowed P below (BuiltIn b us) k t rest n w is all = offer-allowed (solutions b us w.settings n) (indicator t) rest n w all
+  row-allowed P below (Call p) k t rest n w is all = user-allowed below (clauses_for P p) t rest n w all
+  row-allowed P below NoGoal k t rest n w is all = give-up w
 
-  select-allowed : (P : Program) (k : ℕ) (t : Tree) (rest : List Element) (n : ℕ) (w : Local) → C k ≡ true → AllAllow C N rest → MoveAllows C N d (select P k t d rest n w)
+  pub select-allowed : (P : Program) (below : List Stamped) (k : ℕ) (t : Tree) (rest : List Element) (n : ℕ) (w : Local) → C k ≡ true → AllAllow C N rest →
+      MoveAllows C N d (select P below k t d rest n w)
   unfolding select
-  select-allowed P k t rest n w is all = row-allowed P (form t) k t rest n w is all
-
-  missing-allowed : (u : Unknown) (t : Tree) (rest : List Element) (w : Local) → AllAllow C N rest → MoveAllows C N d (missing u t rest w)
-  missing-allowed unknown.Error t rest w all = raises _ _ rest w all
-  missing-allowed unknown.Fail t rest w all = give-up w
+  select-allowed P below k t rest n w is all = row-allowed P below (form t) k t rest n w is all
 
   follows-allowed : (o : Outcome) (t : Then) (rest : List Element) (n : ℕ) (w : Local) → AllAllow C N rest → MoveAllows C N d (follows o t rest n w)
   follows-allowed Served GoesOn rest n w all = go-on rest n w all
@@ -410,178 +454,10 @@ module _ (C N : Levels) (d : ℕ) (holds : Holds N d) where
   follows-allowed Stops t rest n w all = stops w
   follows-allowed Misfits t rest n w all = misfits w
 
-  looked-up-allowed : (us : List Stamped) (u : Lookup) (rest : List Element) (n : ℕ) (w : Local) → AllAllow C N rest → MoveAllows C N d (looked_up us u d rest n w)
-  looked-up-allowed us (ToCall t) rest n w all =
-      one-of (exists us (indicator t)) (call d n t rest (clauses_alive us (indicator t)) w) _ (calls n t rest (clauses_alive us (indicator t)) w all) (missing-allowed w.settings.unknown t rest w all)
-  looked-up-allowed us (ToRetrieve h b) rest n w all = calls n (clause_term h b) rest (map as_fact (clauses_alive us (indicator h))) w all
-  looked-up-allowed us (ToRetract h b) rest n w all =
-      chooses (filter_map (retract d n (clause_term h b) rest) (living us (indicator h))) w (retracts-allowed n (clause_term h b) rest all (living us (indicator h)))
-  looked-up-allowed us (ToRetractAll h) rest n w all = publish-allowed (all_erased us n h) rest n w all
-
-  answered-allowed : (q : Question) (a : Answer) (rest : List Element) (n : ℕ) (w : Local) → AllAllow C N rest → MoveAllows C N d (answered (Asking q) a d rest n w)
+  pub answered-allowed : (e : Element) (a : Answer) (rest : List Element) (n : ℕ) (w : Local) → AllAllow C N rest → MoveAllows C N d (answered e a d rest n w)
   unfolding answered
-  answered-allowed (Look u) (Seen g us) rest n w all = looked-up-allowed us u rest n w all
-  answered-allowed (Look u) (Got r) rest n w all = misfits w
-  answered-allowed (Await q t) (Got r) rest n w all = follows-allowed (outcome q r) t rest n w all
-  answered-allowed (Await q t) (Seen g us) rest n w all = misfits w
-
--- the search
-holds-deeper : (N : Levels) (d e : ℕ) → d ≤ e → Holds N d → Holds N e
-holds-deeper N d e le holds l le' = holds l (omega arith)
-
-deeper-above : (cs : List Case) (d : ℕ) → d ≤ deeper cs d
-deeper-above [] d = omega arith
-deeper-above (c ∷ cs) d = let up = deeper-above cs d in omega arith
-
-stop-if-bounded : (C N : Levels) (d l : ℕ) (b : Bool) → nat_eq l d ≡ b → also C d l ≡ true → Bounded C N (if b then Fail else CutTo l)
-unfolding Bounded
-stop-if-bounded C N d l true is h = tt
-stop-if-bounded C N d l false is h = only (C l) (nat_eq l d) is h
-  where
-    only : (a b : Bool) → b ≡ false → (a || b) ≡ true → a ≡ true
-    only true b is h = refl
-    only false true is h = sym is
-    only false false is h = h
-
-stop-bounded : (C N : Levels) (d : ℕ) (r : Result) → Bounded (also C d) N r → Bounded C N (stop_cut d r)
-unfolding Bounded
-stop-bounded C N d Stop h = tt
-stop-bounded C N d Fail h = tt
-stop-bounded C N d (CutTo l) h = stop-if-bounded C N d l (nat_eq l d) refl h
-stop-bounded C N d (Throw b ls) h = h
-stop-bounded C N d (Halted n) h = tt
-stop-bounded C N d Spent h = tt
-stop-bounded C N d (Awaits q) h = tt
-stop-bounded C N d Stopped h = tt
-stop-bounded C N d Unfit h = tt
-
-mark-bounded : (C N : Levels) (l : ℕ) (r : Result) → C l ≡ true → Bounded C N r → Bounded C N (mark l r)
-unfolding Bounded
-mark-bounded C N l Stop is h = tt
-mark-bounded C N l Fail is h = is
-mark-bounded C N l (CutTo m) is h = h
-mark-bounded C N l (Throw b ls) is h = h
-mark-bounded C N l (Halted n) is h = tt
-mark-bounded C N l Spent is h = tt
-mark-bounded C N l (Awaits q) is h = tt
-mark-bounded C N l Stopped is h = tt
-mark-bounded C N l Unfit is h = tt
-
--- what a handler goes on with
-unfoldable ReturnAllows : Levels → Levels → ℕ → Return → Type 0
-ReturnAllows C N d (Keep r w) = Bounded C N r
-ReturnAllows C N d (Again p w) = AllAllow C N p.goals
-ReturnAllows C N d (Anew p w) = AllAllow (also C d) N p.goals
-
-resume-allowed : (C N : Levels) (d : ℕ) (h : Handler) (p : Place) (r : Result) (w : Local) → AllAllow C N p.goals → Bounded C N r → ReturnAllows C N d (resume h p d r w)
-unfolding resume ReturnAllows Bounded AllAllow Allows
-resume-allowed C N d (Catch c r) p (Throw b ls) w all bounded = met (has d ls)
-  where
-    recovers-allowed : (x : Runnable) (es : List Element) (n : ℕ) → AllAllow C N es → ReturnAllows C N d (recovers x d es n w)
-    recovers-allowed (Runs g) es n all = (also-it C d, allow-more C N d es all)
-    recovers-allowed (Raises e) es n all = levels-in C N es all
-
-    met-allowed : (o : Option (ℕ → Tree)) → ReturnAllows C N d (met_by o r b ls p d w)
-    met-allowed None = bounded
-    met-allowed (Some σ) = recovers-allowed (runnable (bind σ r)) (bind_goals σ p.goals) (p.variables + length (variables b)) (allow-bound C N σ p.goals all)
-
-    met : (x : Bool) → ReturnAllows C N d (if x then met_by (unify c (copied p.variables b)) r b ls p d w else Keep (Throw b ls) w)
-    met false = bounded
-    met true = met-allowed (unify c (copied p.variables b))
-resume-allowed C N d (Catch c r) p x w all bounded = bounded
-resume-allowed C N d (Gather l) p Fail w all bounded = goes (gathered l (copies_from d w.kept) p.variables)
-  where
-    goes : (s : Solution) → ReturnAllows C N d (goes_on (solved p.goals p.variables s) (dropped d w))
-    goes s = from (unify s.left s.right)
-      where
-        from : (o : Option (ℕ → Tree)) → ReturnAllows C N d (goes_on (option_map (λ σ. record { goals = bind_goals σ p.goals; variables = p.variables + s.new }) o) (dropped d w))
-        from None = bounded
-        from (Some σ) = allow-bound C N σ p.goals all
-resume-allowed C N d (Gather l) p x w all bounded = bounded
-
-module _ (P : Program) where
-  Claim : ℕ → Type 0
-  Claim k = (C N : Levels) (d : ℕ) (p : Place) (run : Run) → left run < k → Holds N d → AllAllow C N p.goals → Bounded C N (Visit P d p run).0
-
-  choice-bounded : (k : ℕ) → Claim k → (C N : Levels) (d : ℕ) → Holds N d → (ps : List Place) (r : Result) (run : Run) → left run < k →
-      PlacesAllow (also C d) N ps → Bounded (also C d) N r → Bounded C N (choice (Visit P) d ps r run).0
-  unfolding choice Claim PlacesAllow
-  choice-bounded k h C N d holds (p ∷ ps) Fail run lt all bounded =
-      let e = Visit P (suc d) p run in
-      choice-bounded k h C N d holds ps e.0 e.1 (omega (arith, Visit-left P (suc d) p run)) all.1 (h (also C d) N (suc d) p run lt (holds-deeper N d (suc d) (omega arith) holds) all.0)
-  choice-bounded k h C N d holds [] Fail run lt all bounded = stop-bounded C N d Fail bounded
-  choice-bounded k h C N d holds ps r run lt all bounded = stop-bounded C N d r bounded
-
-  returned-bounded : (k : ℕ) → Claim k → (C N : Levels) (d : ℕ) → Holds N d → (b : Return) (run : Run) → left run < k →
-      ReturnAllows C N d b → Bounded C N (returned (Visit P) d b run).0
-  unfolding Claim ReturnAllows PlacesAllow
-  returned-bounded k h C N d holds (Keep r w) run lt all = all
-  returned-bounded k h C N d holds (Again p w) run lt all = h C N d p (record run { local = w }) lt holds all
-  returned-bounded k h C N d holds (Anew p w) run lt all =
-      let run' : Run = record run { local = w } in
-      let e = Visit P (suc d) p run' in
-      choice-bounded k h C N d holds [] e.0 e.1 (omega (arith, Visit-left P (suc d) p run')) (none (also C d)) (h (also C d) N (suc d) p run' lt (holds-deeper N d (suc d) (omega arith) holds) all)
-    where
-      none : (D : Levels) → PlacesAllow D N []
-      none D = tt
-
-  out-bounded : (k : ℕ) → Claim k → (C N : Levels) (d : ℕ) → Holds N d → (c : Case) (e : Ended) → left e.1 < k →
-      CaseAllows C N d c → Bounded (inside C d c) N e.0 → Bounded C N (out (Visit P) d c e).0
-  unfolding out CaseAllows
-  out-bounded k h C N d holds (Choice ps) e lt all bounded = choice-bounded k h C N d holds ps e.0 e.1 lt all bounded
-  out-bounded k h C N d holds (Mark l) e lt all bounded = mark-bounded C N l e.0 all bounded
-  out-bounded k h C N d holds (Handle x p) e lt all bounded = returned-bounded k h C N d holds (resume x p d e.0 e.1.local) e.1 lt (resume-allowed C N d x p e.0 e.1.local all bounded)
-
-  outs-bounded : (k : ℕ) → Claim k → (C N : Levels) (d : ℕ) → Holds N d → (cs : List Case) (e : Ended) → left e.1 < k →
-      CasesAllow C N d cs → Bounded (within C d cs) N e.0 → Bounded C N (outs (Visit P) d cs e).0
-  unfolding outs CasesAllow
-  outs-bounded k h C N d holds [] e lt all bounded = bounded
-  outs-bounded k h C N d holds (c ∷ cs) e lt all bounded =
-      outs-bounded k h C N d holds cs (out (Visit P) (deeper cs d) c e) (omega (arith, out-left P [] (deeper cs d) c e)) all.1
-      (out-bounded k h (within C d cs) N (deeper cs d) (holds-deeper N d (deeper cs d) (deeper-above cs d) holds) c e lt all.0 bounded)
-
-  moved-bounded : (k : ℕ) → Claim k → (C N : Levels) (d : ℕ) → Holds N d → (m : Move) (run : Run) → left run < k → MoveAllows C N d m → Bounded C N (moved (Visit P) d m run).0
-  unfolding moved Claim MoveAllows
-  moved-bounded k h C N d holds (Give r w) run lt all = all
-  moved-bounded k h C N d holds (Go cs p w) run lt all =
-      let run' : Run = record run { local = w } in
-      outs-bounded k h C N d holds cs (Visit P (deeper cs d) p run') (omega (arith, Visit-left P (deeper cs d) p run')) all.0
-      (h (within C d cs) N (deeper cs d) p run' lt (holds-deeper N d (deeper cs d) (deeper-above cs d) holds) all.1)
-
-  stepped-bounded : (k : ℕ) → Claim k → (C N : Levels) (d : ℕ) → Holds N d → (row : Local → Move) → ((w : Local) → MoveAllows C N d (row w)) →
-      (run : Run) (n : ℕ) → n + length run.answers ≤ k → Bounded C N (stepped (Visit P) row d (record run { steps = n }) n).0
-  unfolding Bounded
-  stepped-bounded k h C N d holds row all run zero le = tt
-  stepped-bounded k h C N d holds row all run (suc n) le = moved-bounded k h C N d holds (row run.local) (record run { steps = n }) (omega (arith, le)) (all run.local)
-
-  asks-bounded : (k : ℕ) → Claim k → (C N : Levels) (d : ℕ) → Holds N d → (row : Answer → Local → Move) → ((a : Answer) (w : Local) → MoveAllows C N d (row a w)) →
-      (q : Item) (run : Run) (xs : List Answer) → run.steps + length xs ≤ k → Bounded C N (asks (Visit P) row q d (record run { answers = xs }) xs).0
-  unfolding Bounded
-  asks-bounded k h C N d holds row all q run [] le = tt
-  asks-bounded k h C N d holds row all q run (a ∷ xs) le = moved-bounded k h C N d holds (row a run.local) (record run { answers = xs }) (omega (arith, le)) (all a run.local)
-
-  -- what is behind a marker is visited one level further in
-  mark-out : (C N : Levels) (d l : ℕ) (e : Ended) → C l ≡ true → Bounded C N e.0 → Bounded C N (out (Visit P) d (Mark l) e).0
-  unfolding out
-  mark-out C N d l e is bounded = mark-bounded C N l e.0 is bounded
-
-  walk-bounded : (k : ℕ) → Claim k → (C N : Levels) (es : List Element) (n d : ℕ) → Holds N d → (run : Run) → left run ≤ k → AllAllow C N es → Bounded C N (walk P (Visit P) es n d run).0
-  unfolding walk meet AllAllow Allows GivesUp Bounded
-  walk-bounded k h C N [] n d holds run le all = tt
-  walk-bounded k h C N (Goal j t ∷ es) n d holds run le all = stepped-bounded k h C N d holds (select P j t d es n) (λ w. select-allowed C N d holds P j t es n w all.0 all.1) run run.steps le
-  walk-bounded k h C N (Marker Commit l ∷ es) n d holds run le all = mark-out C N d l (walk P (Visit P) es n (suc d) run) all.0.0 (walk-bounded k h C N es n (suc d) (holds-deeper N d (suc d) (omega arith) holds) run le all.1)
-  walk-bounded k h C N (Marker Never l ∷ es) n d holds run le all = all.0.0
-  walk-bounded k h C N (Marker Until l ∷ es) n d holds run le all = walk-bounded k h C N es n d holds run le all.1
-  walk-bounded k h C N (Marker (Collect t) l ∷ es) n d holds run le all = tt
-  walk-bounded k h C N (Raise b ∷ es) n d holds run le all = levels-in C N es all.1
-  walk-bounded k h C N (Asking q ∷ es) n d holds run le all = asks-bounded k h C N d holds (λ a. answered (Asking q) a d es n) (λ a w. answered-allowed C N d holds q a es n w all.1) (asked q) run run.answers le
-
-  claims : (k : ℕ) → Claim k
-  unfolding Claim
-  claims zero C N d p run lt holds all = absurd (omega arith)
-  claims (suc k) C N d p run lt holds all =
-      subst (λ e. Bounded C N e.0) (sym (Visit-walk P d p run)) (walk-bounded k (claims k) C N p.goals p.variables d holds run (omega arith) all)
-
-  pub visit-bounded : (C N : Levels) (d : ℕ) (p : Place) (run : Run) → Holds N d → AllAllow C N p.goals → Bounded C N (Visit P d p run).0
-  unfolding Claim
-  visit-bounded C N d p run holds all = claims (suc (left run)) C N d p run (omega arith) holds all
+  answered-allowed (Asking (Look u)) (Seen g us) rest n w all = looked-up-allowed us u rest n w all
+  answered-allowed (Asking (Begin i g)) (Seen v us) rest n w all = opened-allowed i v g rest n w all
+  answered-allowed (Asking (Await q t)) (Got r) rest n w all = follows-allowed (outcome q r) t rest n w all
+  answered-allowed (Erasing x) (Got r) rest n w all = follows-allowed (outcome (EraseOne x) r) GoesOn rest n w all
+  answered-allowed e a rest n w all = misfits w

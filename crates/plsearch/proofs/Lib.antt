@@ -3,6 +3,8 @@ pub mod Turns
 pub mod Weight
 pub mod Ends
 pub mod Levels
+pub mod Bounds
 pub mod Cuts
 mod Worked
+mod WorkedTransactions
 pub mod WorkedClauses

@@ -1,12 +1,14 @@
 -- Each turn of the machine keeps the rest of the search.
 use Rattle.std.proofs.Common.{◌≡◌, ℕ, zero, suc, List, [], ◌∷◌, ◌++◌, refl, sym, ap, ◌∙◌}
 use Rattle.plevent.specs.Search.{Answer}
+use Rattle.plevent.specs.declared.update.Update.{Update}
 use Rattle.plprogram.specs.Program.{Program}
 use Rattle.plsearch.specs.Types.{Result, Fail, Element, Place, Case, Choice, Mark, Handle, Local, Move, Give, Go, Meeting, Select, Asks, End, Pass, Marked, Return, Keep, Again, Anew, Run}
 use Rattle.plsearch.specs.Rows.{select, meet}
-use Rattle.plsearch.specs.Replies.{answered}
+use Rattle.plsearch.specs.Moves.{publishing}
+use Rattle.plsearch.specs.Replies.{answered, founded}
 use Rattle.plsearch.specs.Handlers.{resume}
-use Rattle.plsearch.specs.Engine.{Ended, Visitor, deeper, choice, returned, out, outs, moved, stepped, asks, met, walk, Visit}
+use Rattle.plsearch.specs.Engine.{Ended, Visitor, deeper, choice, returned, out, outs, moved, stepped, asks, publishes, met, walk, Visit}
 use Rattle.plsearch.specs.Machines.Machine.{Mode, At, Back, Machine, Rest, move, step, ask, meets, visits, choose, return, backs, turn_in, turn}
 use Rattle.plsearch.proofs.Fuel.{Visit-walk}
 
@@ -47,24 +49,30 @@ Rest-backs P r run (Choice ps ∷ cases) = Rest-choose P cases run ps r
 Rest-backs P r run (Mark l ∷ cases) = refl
 Rest-backs P r run (Handle h p ∷ cases) = Rest-return P cases run (resume h p (deeper cases 0) r run.local)
 
+-- what is published is the first of a list
+publishes-first : (P : Program) (es : List Element) (n : ℕ) (us : List Update) (d : ℕ) (run : Run) →
+    publishes (Visit P) (walk P (Visit P) es n) es n us d run ≡ Visit P d (record { goals = publishing us es; variables = n }) run
+unfolding walk meet
+publishes-first P es n [] d run = sym (Visit-walk P d (record { goals = es; variables = n }) run)
+publishes-first P es n (u ∷ us) d run = sym (Visit-walk P d (record { goals = publishing (u ∷ us) es; variables = n }) run)
+
 Rest-meets : (P : Program) (cases : List Case) (e : Element) (es : List Element) (n : ℕ) (run : Run) (m : Meeting) →
     outs (Visit P) 0 cases (met P (Visit P) (walk P (Visit P) es n) e es n (deeper cases 0) run m) ≡ Rest P (meets P cases e es n run m)
 unfolding Rest outs
-Rest-meets P cases e es n run (Select k t) = step_keeps (select P k t (deeper cases 0) es n) run.steps
+Rest-meets P cases e es n run (Select k t) = step_keeps (select P run.below k t (deeper cases 0) es n) run.steps
   where
     step_keeps : (row : Local → Move) (n : ℕ) →
         outs (Visit P) 0 cases (stepped (Visit P) row (deeper cases 0) run n) ≡ Rest P (step cases row run n)
     step_keeps row zero = refl
     step_keeps row (suc n) = Rest-move P cases (record run { steps = n }) (row run.local)
-Rest-meets P cases e es n run (Asks q) = ask_keeps (λ a. answered e a (deeper cases 0) es n) run.answers
+Rest-meets P cases e es n run (Asks q) = ask_keeps run.answers
   where
-    ask_keeps : (row : Answer → Local → Move) (xs : List Answer) →
-        outs (Visit P) 0 cases (asks (Visit P) row q (deeper cases 0) run xs) ≡ Rest P (ask cases row q run xs)
-    ask_keeps row [] = refl
-    ask_keeps row (a ∷ more) = Rest-move P cases (record run { answers = more }) (row a run.local)
+    ask_keeps : (xs : List Answer) → outs (Visit P) 0 cases (asks (Visit P) e es n q (deeper cases 0) run xs) ≡ Rest P (ask cases e es n q run xs)
+    ask_keeps [] = refl
+    ask_keeps (a ∷ more) = Rest-move P cases (record run { answers = more; below = founded e a run.below }) (answered e a (deeper cases 0) es n run.local)
 Rest-meets P cases e es n run (End r w) = refl
 Rest-meets P cases e es n run (Pass w) = ap (outs (Visit P) 0 cases) (sym (Visit-walk P (deeper cases 0) (record { goals = es; variables = n }) (record run { local = w })))
-Rest-meets P cases e es n run (Marked l w) = ap (λ e. outs (Visit P) 0 cases (out (Visit P) (deeper cases 0) (Mark l) e)) (sym (Visit-walk P (suc (deeper cases 0)) (record { goals = es; variables = n }) (record run { local = w })))
+Rest-meets P cases e es n run (Marked l us w) = ap (λ e. outs (Visit P) 0 cases (out (Visit P) (deeper cases 0) (Mark l) e)) (publishes-first P es n us (suc (deeper cases 0)) (record run { local = w }))
 
 Rest-visits : (P : Program) (cases : List Case) (es : List Element) (n : ℕ) (run : Run) →
     outs (Visit P) 0 cases (walk P (Visit P) es n (deeper cases 0) run) ≡ Rest P (visits P cases es n run)

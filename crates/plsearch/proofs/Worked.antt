@@ -18,7 +18,8 @@ use Rattle.plprogram.specs.Program.{Program}
 use Rattle.plnames.specs.Names.{rows, kept}
 use Rattle.plbuiltin.specs.Lists.{elements_of}
 use Rattle.plsearch.specs.Errors.{pair}
-use Rattle.plsearch.specs.Rows.{raised, row, select, meet}
+use Rattle.plsearch.specs.Moves.{raised}
+use Rattle.plsearch.specs.Rows.{row, select, meet}
 use Rattle.plsearch.specs.Replies.{answered}
 use Rattle.plsearch.specs.Handlers.{resume}
 use Rattle.plsearch.specs.Engine.{choice, out, outs, moved, walk, visit_in, Visit}

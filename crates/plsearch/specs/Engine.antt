@@ -1,10 +1,12 @@
 -- The search, over the table's rows: it is the same whatever rows the table has.
 use Rattle.std.specs.Prelude.{ℕ, zero, suc, ◌+◌, if◌then◌else◌, List, [], ◌∷◌, length, nat_eq}
-use Rattle.plevent.specs.Search.{Item, Answer}
+use Rattle.plevent.specs.Search.{Item, Ask, Answer}
+use Rattle.plevent.specs.declared.request.Request.TheVariants.{Publish}
+use Rattle.plevent.specs.declared.update.Update.{Update}
 use Rattle.plprogram.specs.Program.{Program}
-use Rattle.plsearch.specs.Types.{Result, Stop, Fail, CutTo, Spent, Awaits, Element, Place, Case, Choice, Mark, Handle, Local, Move, Give, Go, Meeting, Select, Asks, End, Pass, Marked, Return, Keep, Again, Anew, Run}
+use Rattle.plsearch.specs.Types.{Result, Stop, Fail, CutTo, Spent, Awaits, GoesOn, Await, Element, Asking, Place, Case, Choice, Mark, Handle, Local, Move, Give, Go, Meeting, Select, Asks, End, Pass, Marked, Return, Keep, Again, Anew, Run}
 use Rattle.plsearch.specs.Rows.{select, meet}
-use Rattle.plsearch.specs.Replies.{answered}
+use Rattle.plsearch.specs.Replies.{answered, founded}
 use Rattle.plsearch.specs.Handlers.{resume}
 
 -- a visit's end, and what the thread then has
@@ -64,18 +66,23 @@ abbrev pub stepped : Visitor → (Local → Move) → ℕ → Run → ℕ → En
 stepped next row d run zero = (Spent, run)
 stepped next row d run (suc n) = moved next d (row run.local) (record run { steps = n })
 
--- an item takes an answer
-abbrev pub asks : Visitor → (Answer → Local → Move) → Item → ℕ → Run → List Answer → Ended
-asks next row q d run [] = (Awaits q, run)
-asks next row q d run (a ∷ more) = moved next d (row a run.local) (record run { answers = more })
+-- an element takes the answer to its item
+abbrev pub asks : Visitor → Element → List Element → ℕ → Item → ℕ → Run → List Answer → Ended
+asks next e es n q d run [] = (Awaits q, run)
+asks next e es n q d run (a ∷ more) = moved next d (answered e a d es n run.local) (record run { answers = more; below = founded e a run.below })
+
+-- updates are published, if there are any, and then the list goes on
+abbrev pub publishes : Visitor → (ℕ → Run → Ended) → List Element → ℕ → List Update → ℕ → Run → Ended
+publishes next on es n [] d run = on d run
+publishes next on es n (u ∷ us) d run = asks next (Asking (Await (Publish (u ∷ us)) GoesOn)) es n (Ask (Publish (u ∷ us))) d run run.answers
 
 -- the first of a list, where `on` visits what is behind it
 abbrev pub met : Program → Visitor → (ℕ → Run → Ended) → Element → List Element → ℕ → ℕ → Run → Meeting → Ended
-met P next on e es n d run (Select k t) = stepped next (select P k t d es n) d run run.steps
-met P next on e es n d run (Asks q) = asks next (λ a. answered e a d es n) q d run run.answers
+met P next on e es n d run (Select k t) = stepped next (select P run.below k t d es n) d run run.steps
+met P next on e es n d run (Asks q) = asks next e es n q d run run.answers
 met P next on e es n d run (End r w) = (r, record run { local = w })
 met P next on e es n d run (Pass w) = on d (record run { local = w })
-met P next on e es n d run (Marked l w) = out next d (Mark l) (on (suc d) (record run { local = w }))
+met P next on e es n d run (Marked l us w) = out next d (Mark l) (publishes next on es n us (suc d) (record run { local = w }))
 
 -- a goal list: markers are passed without a step; what comes behind a step or an answer is visited by next
 unfoldable pub walk : Program → Visitor → List Element → ℕ → ℕ → Run → Ended

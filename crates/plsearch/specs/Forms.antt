@@ -3,6 +3,8 @@ use Rattle.std.specs.Prelude.{pos, List, [], ◌∷◌, Option, Some, None, code
 use Rattle.plterm.specs.Tree.{Tree, var, int, atom, compound, none, more, list_of}
 use Rattle.plterm.specs.declared.indicator.Indicator.{Indicator}
 use Rattle.plclause.specs.Indicators.{indicator}
+use Rattle.pltx.specs.declared.level.Isolation.{Isolation}
+use Rattle.pltx.specs.declared.level.Isolation.TheVariants.{Transaction, Snapshot}
 use Rattle.plnames.specs.Names.{kind_of}
 use Rattle.plnames.specs.declared.kind.Kind.{Kind}
 use Rattle.plnames.specs.declared.kind.Kind.TheVariants as kinds
@@ -21,6 +23,7 @@ pub data Form : Type 0 where
   Once : Tree → Form
   Catching : Tree → Tree → Tree → Form
   FindAll : Tree → Tree → Tree → Form
+  Within : Isolation → Tree → Form
   Throwing : Tree → Form
   CallWith : Tree → List Tree → Form
   Cut : Form
@@ -52,6 +55,8 @@ construct controls.Once (g ∷ []) = Once g
 construct controls.Call (g ∷ us) = CallWith g us
 construct controls.Catch (g ∷ c ∷ r ∷ []) = Catching g c r
 construct controls.FindAll (t ∷ g ∷ l ∷ []) = FindAll t g l
+construct controls.Transaction (g ∷ []) = Within Transaction g
+construct controls.Snapshot (g ∷ []) = Within Snapshot g
 construct controls.Throw (b ∷ []) = Throwing b
 construct (controls.Add side) (c ∷ []) = Adding side c
 construct controls.Retrieve (h ∷ b ∷ []) = Retrieving h b

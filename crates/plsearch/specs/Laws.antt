@@ -34,8 +34,8 @@ abbrev pub CutsEmpty : Type 0
 CutsEmpty = (P : Program) (k : ℕ) (cs below : List Case) (ps : List Place) (p : Place) (run : Run) → deeper below 0 ≡ k → AreAtMost k p.goals →
     Rest P (record { mode = At p; cases = Mark k ∷ (cs ++ Choice ps ∷ below); run = run }) ≡ Rest P (record { mode = At p; cases = emptied (Mark k ∷ cs) (Choice [] ∷ below); run = run })
 
--- Where a list is visited in a catcher, and names no level from that of the catcher on, the catcher is as good as a choice with nothing
--- left: no ball that the list throws is for it.
+-- Where a list is visited in a catcher with nothing left inside of it, and names no level from that of the catcher on, the catcher is
+-- as good as a choice with nothing left: no ball that the list throws is for it.
 abbrev pub CatchersEmpty : Type 0
-CatchersEmpty = (P : Program) (k : ℕ) (c r : Tree) (q : Place) (below : List Case) (p : Place) (run : Run) → deeper below 0 ≡ suc k → AreAtMost k p.goals →
-    Rest P (record { mode = At p; cases = Handle (Catch c r) q ∷ below; run = run }) ≡ Rest P (record { mode = At p; cases = Choice [] ∷ below; run = run })
+CatchersEmpty = (P : Program) (k : ℕ) (c r : Tree) (q : Place) (cs below : List Case) (p : Place) (run : Run) → deeper below 0 ≡ suc k → AreAtMost k p.goals →
+    Rest P (record { mode = At p; cases = emptied cs (Handle (Catch c r) q ∷ below); run = run }) ≡ Rest P (record { mode = At p; cases = emptied cs (Choice [] ∷ below); run = run })

@@ -4,6 +4,8 @@ pub mod Lists
 pub mod Collecting
 pub mod Forms
 pub mod Running
+pub mod Moves
+pub mod Lookups
 pub mod Rows
 pub mod Replies
 pub mod Handlers

@@ -2,7 +2,7 @@
 use Rattle.std.specs.Prelude.{ℕ, List, [], ◌∷◌, map}
 use Rattle.plterm.specs.Tree.{Tree}
 use Rattle.plsubst.specs.Subst.{bind}
-use Rattle.plsearch.specs.Types.{Kind, Commit, Never, Until, Collect, Lookup, ToCall, ToRetrieve, ToRetract, ToRetractAll, Question, Look, Await, Element, Goal, Marker, Raise, Asking}
+use Rattle.plsearch.specs.Types.{Kind, Commit, Never, Until, Collect, Transact, Lookup, ToCall, ToRetrieve, ToRetract, ToRetractAll, Question, Look, Begin, Await, Element, Goal, Marker, Raise, Asking, Erasing}
 
 abbrev pub bind_lookup : (ℕ → Tree) → Lookup → Lookup
 bind_lookup σ (ToCall t) = ToCall (bind σ t)
@@ -12,6 +12,7 @@ bind_lookup σ (ToRetractAll h) = ToRetractAll (bind σ h)
 
 abbrev pub bind_question : (ℕ → Tree) → Question → Question
 bind_question σ (Look u) = Look (bind_lookup σ u)
+bind_question σ (Begin i g) = Begin i (bind σ g)
 bind_question σ (Await q next) = Await q next
 
 abbrev pub bind_kind : (ℕ → Tree) → Kind → Kind
@@ -19,6 +20,7 @@ bind_kind σ Commit = Commit
 bind_kind σ Never = Never
 bind_kind σ Until = Until
 bind_kind σ (Collect t) = Collect (bind σ t)
+bind_kind σ (Transact d) = Transact d
 
 -- an element under a substitution
 abbrev pub bind_element : (ℕ → Tree) → Element → Element
@@ -26,6 +28,7 @@ bind_element σ (Goal k t) = Goal k (bind σ t)
 bind_element σ (Marker m l) = Marker (bind_kind σ m) l
 bind_element σ (Raise b) = Raise b
 bind_element σ (Asking q) = Asking (bind_question σ q)
+bind_element σ (Erasing x) = Erasing x
 
 abbrev pub bind_goals : (ℕ → Tree) → List Element → List Element
 bind_goals σ = map (bind_element σ)
@@ -37,3 +40,4 @@ levels (Goal k t ∷ es) = levels es
 levels (Marker m l ∷ es) = l ∷ levels es
 levels (Raise b ∷ es) = levels es
 levels (Asking q ∷ es) = levels es
+levels (Erasing x ∷ es) = levels es

@@ -1,65 +1,42 @@
 -- The table of control (ISO/IEC 13211-1 7.7, 7.8): one row for each form of goal and each element. No function here is recursive on goals.
-use Rattle.std.specs.Prelude.{ℕ, suc, ◌+◌, ◌-◌, ◌%◌, ℤ, pos, negsuc, Bool, true, false, ◌||◌, List, [], ◌∷◌, ◌++◌, length, map, filter_map, find, not, Option, Some, None, is_some, option_map, codes, bytes_eq, if◌then◌else◌}
 use Rattle.std.specs.List.{list_any}
-use Rattle.plterm.specs.Tree.{Tree, var, int, atom, compound}
+use Rattle.std.specs.Prelude.{Bool, List, None, Option, Some, [], codes, false, filter_map, find, if◌then◌else◌, is_some, length, map, negsuc, not, option_map, pos, suc, true, ℕ, ℤ, ◌%◌, ◌++◌, ◌+◌, ◌-◌, ◌||◌, ◌∷◌}
+use Rattle.plterm.specs.Tree.{Tree, atom, compound, int, var}
 use Rattle.plterm.specs.Variables.{copied}
 use Rattle.plterm.specs.declared.indicator.Indicator.{Indicator}
-use Rattle.plsubst.specs.Subst.{bind, shift}
 use Rattle.plsubst.specs.Unify.{unify}
+use Rattle.plclause.specs.Clausal.{clausal, neck_parts}
 use Rattle.plclause.specs.Clause.{Clause}
 use Rattle.plclause.specs.Indicators.{indicator}
-use Rattle.plclause.specs.Clausal.{clausal, neck_parts}
-use Rattle.plclause.specs.Named.{named_terms, indicator_of, is_open}
+use Rattle.plclause.specs.Named.{indicator_of, is_open, named_terms}
+use Rattle.plclause.specs.declared.form.ClauseForm.TheVariants.{BadBody, BadHead, IsClause, NoHead}
 use Rattle.plclause.specs.declared.form.ClauseForm.{ClauseForm}
-use Rattle.plclause.specs.declared.form.ClauseForm.TheVariants.{NoHead, BadHead, BadBody, IsClause}
-use Rattle.plevent.specs.Search.{Item, View, Ask}
-use Rattle.plevent.specs.declared.request.Request.TheVariants.{Publish, HaltRun}
+use Rattle.plevent.specs.Alive.{Stamped, or_else}
+use Rattle.plevent.specs.Search.{Ask, Item, View}
+use Rattle.plevent.specs.declared.request.Request.TheVariants.{EraseOne, HaltRun}
+use Rattle.plevent.specs.declared.update.ClauseName.{ClauseName}
+use Rattle.plevent.specs.declared.update.Update.TheVariants.{Declare, Erase, First, Last}
 use Rattle.plevent.specs.declared.update.Update.{Update}
-use Rattle.plevent.specs.declared.update.Update.TheVariants.{First, Last, Declare}
-use Rattle.plevent.specs.Alive.{or_else}
-use Rattle.plnames.specs.declared.kind.Side.{Side}
-use Rattle.plnames.specs.declared.kind.Side.TheVariants as sides
+use Rattle.pltx.specs.Own.{any_open, ended, ending, erased_in, made, target_at}
+use Rattle.pltx.specs.declared.level.Ended.{Ended}
+use Rattle.pltx.specs.declared.level.Isolation.{Isolation}
 use Rattle.plnames.specs.Names.{is_fixed}
+use Rattle.plnames.specs.declared.kind.Side.TheVariants as sides
+use Rattle.plnames.specs.declared.kind.Side.{Side}
 use Rattle.plprogram.specs.Program.{Program, clauses_for}
 use Rattle.plbuiltin.specs.Errors.{type_error}
 use Rattle.plbuiltin.specs.Lists.{may_be_list}
-use Rattle.plbuiltin.specs.Solution.{Solution, Solved, Gives, Raises as Refuses}
+use Rattle.plbuiltin.specs.Solution.{Gives, Solution, Solved}
+use Rattle.plbuiltin.specs.Solution.{Raises as Refuses}
 use Rattle.plbuiltin.specs.Solutions.{solutions}
-use Rattle.plsearch.specs.Types.{Fail, CutTo, Throw, Commit, Never, Until, Collect, GoesOn, Ends, ToCall, ToRetrieve, ToRetract, ToRetractAll, Question, Look, Await, Element, Goal, Marker, Raise, Asking, Place, Catch, Gather, Case, Choice, Mark, Handle, Local, Move, Give, Go, Meeting, Select, Asks, End, Pass, Marked}
-use Rattle.plsearch.specs.Errors.{instantiation_error, callable_error, integer_error, static_error, private_error, naming_error, pair, error_term}
-use Rattle.plsearch.specs.Lists.{bind_goals, levels}
 use Rattle.plsearch.specs.Collecting.{collected}
-use Rattle.plsearch.specs.Forms.{Form, True, False, Both, Either, IfThenElse, Not, Once, Catching, FindAll, Throwing, CallWith, Cut, Halting, Adding, Retrieving, Retracting, RetractingAll, Declaring, BuiltIn, Call, NoGoal, form}
-use Rattle.plsearch.specs.Running.{Runnable, Runs, Raises, runnable, called}
-
-abbrev pub is_true : Tree → Bool
-is_true (atom f) = bytes_eq f (codes "true")
-is_true t = false
-
--- a clause's body before the rest, at the level d; a body that is the atom true is no goal
-abbrev pub before_rest : Bool → ℕ → Tree → List Element → List Element
-before_rest true d b rest = rest
-before_rest false d b rest = Goal d b ∷ rest
-
--- the goal t resolved against a clause, at the level d, where n variables are in use
-abbrev pub resolve : ℕ → ℕ → Tree → List Element → Clause → Option Place
-resolve d n t rest c =
-    option_map
-    (λ σ. record { goals = before_rest (is_true c.body) d (bind σ (shift n c.body)) (bind_goals σ rest); variables = n + c.variables })
-    (unify t (shift n c.head))
-
--- each place in turn, at a level of its own
-abbrev pub choose : List Place → Local → Move
-choose [] w = Give Fail w
-choose (p ∷ ps) w = Go (Choice ps ∷ []) p w
-
--- the clauses that fit, in their order
-abbrev pub call : ℕ → ℕ → Tree → List Element → List Clause → Local → Move
-call d n t rest cs w = choose (filter_map (resolve d n t rest) cs) w
-
--- an error of a predicate is thrown: a copy, its variables numbered from 0, with the levels of the markers of a list
-unfoldable pub raised : Tree → Indicator → List Element → Local → Move
-raised e p es w = Give (Throw (copied 0 (error_term e p)) (levels es)) w
+use Rattle.plsearch.specs.Errors.{callable_error, instantiation_error, integer_error, naming_error, private_error, static_error}
+use Rattle.plsearch.specs.Forms.{Adding, Both, BuiltIn, Call, CallWith, Catching, Cut, Declaring, Either, False, FindAll, Form, Halting, IfThenElse, NoGoal, Not, Once, Retracting, RetractingAll, Retrieving, Throwing, True, Within, form}
+use Rattle.plsearch.specs.Lists.{bind_goals, levels}
+use Rattle.plsearch.specs.Lookups.{retrieve, seek}
+use Rattle.plsearch.specs.Moves.{call, choose, go_on, opened, publish, raised, run}
+use Rattle.plsearch.specs.Running.{called, runnable}
+use Rattle.plsearch.specs.Types.{Asking, Asks, Await, Begin, Case, Catch, Choice, Collect, Commit, CutTo, Element, End, Ends, Erasing, Fail, Gather, Give, Go, Goal, Handle, Local, Look, Mark, Marked, Marker, Meeting, Move, Never, Pass, Place, Question, Raise, Select, Throw, ToCall, ToRetract, ToRetractAll, ToRetrieve, Transact, Until}
 
 abbrev pub once_1 : Indicator
 once_1 = record { name = codes "once"; arity = 1 }
@@ -83,15 +60,6 @@ call_with further = record { name = codes "call"; arity = suc further }
 abbrev pub halt_1 : Indicator
 halt_1 = record { name = codes "halt"; arity = 1 }
 
--- what stands for a term that is run by p: its goal, at the cut level k, or the error that p raises
-abbrev pub first_of : Runnable → Indicator → ℕ → Element
-first_of (Runs b) p k = Goal k b
-first_of (Raises e) p k = Raise (copied 0 (error_term e p))
-
--- a term is run as a goal at the cut level k, in some cases, before a list; its errors are thrown from there
-abbrev pub run : Runnable → Indicator → List Case → ℕ → List Element → ℕ → Local → Move
-run r p cs k rest n w = Go (Choice [] ∷ cs) (record { goals = first_of r p k ∷ rest; variables = n }) w
-
 -- a term is thrown: a copy, its variables numbered from 0, with the levels of the markers of the list (7.8.10)
 abbrev pub thrown : Tree → List Element → Local → Move
 thrown (var x) rest w = raised instantiation_error throw_1 rest w
@@ -109,10 +77,6 @@ gathering l es n = Handle (Gather l) (record { goals = es; variables = n })
 abbrev pub branch : List Element → ℕ → Case
 branch es n = Choice (record { goals = es; variables = n } ∷ [])
 
--- a list is visited, in no more cases
-abbrev pub go_on : List Element → ℕ → Local → Move
-go_on es n w = Go [] (record { goals = es; variables = n }) w
-
 abbrev pub some_of : List Clause → Bool
 some_of [] = false
 some_of (c ∷ cs) = true
@@ -120,11 +84,6 @@ some_of (c ∷ cs) = true
 -- control constructs, built-in predicates and the program's procedures are static
 abbrev pub is_static : Program → Indicator → Bool
 is_static P p = is_fixed p || some_of (clauses_for P p)
-
--- updates are published as one batch, of which there is none without an update
-abbrev pub publish : List Update → List Element → ℕ → Local → Move
-publish [] rest n w = go_on rest n w
-publish (u ∷ us) rest n w = go_on (Asking (Await (Publish (u ∷ us)) GoesOn) ∷ rest) n w
 
 -- an error of the predicate p, if there is one, or else a move
 abbrev pub unless : Option Tree → Indicator → List Element → Local → Move → Move
@@ -172,22 +131,10 @@ private_if false p = None
 abbrev pub unreadable : Indicator → Option Tree
 unreadable p = private_if (is_fixed p) p
 
--- a head and a body as one term
-abbrev pub clause_term : Tree → Tree → Tree
-clause_term h b = pair (codes ":-") h b
-
--- a clause as a fact: that there is a clause of this head and this body
-abbrev pub as_fact : Clause → Clause
-as_fact c = record { head = clause_term c.head c.body; body = atom (codes "true"); variables = c.variables }
-
--- the clauses that a head and a body unify with, in their order
-abbrev pub retrieve : ℕ → ℕ → Tree → Tree → List Element → List Clause → Local → Move
-retrieve d n h b rest cs w = call d n (clause_term h b) rest (map as_fact cs) w
-
 -- clauses of the program's text need no view
-abbrev pub retrieving : List Clause → ℕ → Tree → Tree → List Element → ℕ → Local → Move
-retrieving [] d h b rest n w = go_on (Asking (Look (ToRetrieve h b)) ∷ rest) n w
-retrieving (c ∷ cs) d h b rest n w = retrieve d n h b rest (c ∷ cs) w
+abbrev pub retrieving : List Stamped → List Clause → ℕ → Tree → Tree → List Element → ℕ → Local → Move
+retrieving below [] d h b rest n w = seek below (ToRetrieve h b) d rest n w
+retrieving below (c ∷ cs) d h b rest n w = retrieve d n h b rest (c ∷ cs) w
 
 -- a term as a head and a body: `Head :- Body`, or a head alone with the body true
 abbrev pub halves_or : Tree → Option (Tree × Tree) → Tree × Tree
@@ -219,9 +166,9 @@ halting (int i) rest n w = go_on (Asking (Await (HaltRun (modulo_256 i)) (Ends (
 halting t rest n w = raised (integer_error t) halt_1 rest w
 
 -- a call of a procedure that is not static looks for its clauses in a view
-abbrev pub user : List Clause → ℕ → Tree → List Element → ℕ → Local → Move
-user [] d t rest n w = go_on (Asking (Look (ToCall t)) ∷ rest) n w
-user (c ∷ cs) d t rest n w = call d n t rest (c ∷ cs) w
+abbrev pub user : List Stamped → List Clause → ℕ → Tree → List Element → ℕ → Local → Move
+user below [] d t rest n w = seek below (ToCall t) d rest n w
+user below (c ∷ cs) d t rest n w = call d n t rest (c ∷ cs) w
 
 -- the unifier of a solution's sides is put into the list
 abbrev pub solved : List Element → ℕ → Solution → Option Place
@@ -247,45 +194,66 @@ finding t g l d rest n w =
     if may_be_list l then run (runnable g) findall_3 (gathering l rest n ∷ []) (suc d) (Marker (Collect t) d ∷ rest) n w
     else raised (type_error (codes "list") l) findall_3 rest w
 
--- A goal that is selected, with its cut level k, at the depth d. The parts of a goal that is selected are converted, so the condition of
--- `->` is run as it stands, at a cut level of its own.
-unfoldable pub row : Program → Form → ℕ → Tree → ℕ → List Element → ℕ → Local → Move
-row P True k t d rest n w = go_on rest n w
-row P False k t d rest n w = Give Fail w
-row P (Both a b) k t d rest n w = go_on (Goal k a ∷ Goal k b ∷ rest) n w
-row P (Either a b) k t d rest n w = Go (branch (Goal k b ∷ rest) n ∷ []) (record { goals = Goal k a ∷ rest; variables = n }) w
-row P (IfThenElse c a e) k t d rest n w = Go (Choice [] ∷ branch (Goal k e ∷ rest) n ∷ []) (record { goals = Goal (suc d) c ∷ Marker Commit d ∷ Goal k a ∷ rest; variables = n }) w
-row P (Not g) k t d rest n w = run (runnable g) not_1 (branch rest n ∷ []) (suc d) (Marker Never d ∷ rest) n w
-row P (Catching g c r) k t d rest n w = run (runnable g) catch_3 (catching c r rest n ∷ []) (suc d) (Marker Until d ∷ rest) n w
-row P (FindAll a g l) k t d rest n w = finding a g l d rest n w
-row P (Throwing b) k t d rest n w = thrown b rest w
-row P (Once g) k t d rest n w = run (runnable g) once_1 [] d (Marker Commit d ∷ rest) n w
-row P (CallWith g us) k t d rest n w = run (called g us) (call_with (length us)) [] d rest n w
-row P Cut k t d rest n w = Go (Mark k ∷ []) (record { goals = rest; variables = n }) w
-row P (Halting i) k t d rest n w = halting i rest n w
-row P (Adding side c) k t d rest n w = add P side (indicator t) (clausal c) rest n w
-row P (Retrieving h b) k t d rest n w = unless (or_else (no_head h) (or_else (no_body b) (unreadable (indicator h)))) (indicator t) rest w (retrieving (clauses_for P (indicator h)) d h b rest n w)
-row P (Retracting c) k t d rest n w = unless (unerasable P (halves c).0) (indicator t) rest w (go_on (Asking (Look (ToRetract (halves c).0 (halves c).1)) ∷ rest) n w)
-row P (RetractingAll h) k t d rest n w = unless (unerasable P h) (indicator t) rest w (go_on (Asking (Look (ToRetractAll h)) ∷ rest) n w)
-row P (Declaring ps) k t d rest n w = unless (undeclarable P (named_terms ps)) (indicator t) rest w (publish (map Declare (filter_map indicator_of (named_terms ps))) rest n w)
-row P (BuiltIn b us) k t d rest n w = offer (solutions b us w.settings n) (indicator t) rest n w
-row P (Call p) k t d rest n w = user (clauses_for P p) d t rest n w
-row P NoGoal k t d rest n w = Give Fail w
+-- a transaction or a snapshot begins at once inside of what is open, or else where its view is taken
+abbrev pub beginning : Isolation → Tree → ℕ → List Element → ℕ → Local → Move
+beginning i g d rest n w = if any_open w.own then opened i w.own.base g d rest n w else go_on (Asking (Begin i g) ∷ rest) n w
 
-unfoldable pub select : Program → ℕ → Tree → ℕ → List Element → ℕ → Local → Move
+-- A goal that is selected, with its cut level k, at the depth d, where what is open began on some updates. The parts of a goal that is
+-- selected are converted, so the condition of `->` is run as it stands, at a cut level of its own.
+unfoldable pub row : Program → List Stamped → Form → ℕ → Tree → ℕ → List Element → ℕ → Local → Move
+row P below True k t d rest n w = go_on rest n w
+row P below False k t d rest n w = Give Fail w
+row P below (Both a b) k t d rest n w = go_on (Goal k a ∷ Goal k b ∷ rest) n w
+row P below (Either a b) k t d rest n w = Go (branch (Goal k b ∷ rest) n ∷ []) (record { goals = Goal k a ∷ rest; variables = n }) w
+row P below (IfThenElse c a e) k t d rest n w = Go (Choice [] ∷ branch (Goal k e ∷ rest) n ∷ []) (record { goals = Goal (suc d) c ∷ Marker Commit d ∷ Goal k a ∷ rest; variables = n }) w
+row P below (Not g) k t d rest n w = run (runnable g) not_1 (branch rest n ∷ []) (suc d) (Marker Never d ∷ rest) n w
+row P below (Catching g c r) k t d rest n w = run (runnable g) catch_3 (catching c r rest n ∷ []) (suc d) (Marker Until d ∷ rest) n w
+row P below (FindAll a g l) k t d rest n w = finding a g l d rest n w
+row P below (Within i g) k t d rest n w = beginning i g d rest n w
+row P below (Throwing b) k t d rest n w = thrown b rest w
+row P below (Once g) k t d rest n w = run (runnable g) once_1 [] d (Marker Commit d ∷ rest) n w
+row P below (CallWith g us) k t d rest n w = run (called g us) (call_with (length us)) [] d rest n w
+row P below Cut k t d rest n w = Go (Mark k ∷ []) (record { goals = rest; variables = n }) w
+row P below (Halting i) k t d rest n w = halting i rest n w
+row P below (Adding side c) k t d rest n w = add P side (indicator t) (clausal c) rest n w
+row P below (Retrieving h b) k t d rest n w = unless (or_else (no_head h) (or_else (no_body b) (unreadable (indicator h)))) (indicator t) rest w (retrieving below (clauses_for P (indicator h)) d h b rest n w)
+row P below (Retracting c) k t d rest n w = unless (unerasable P (halves c).0) (indicator t) rest w (seek below (ToRetract (halves c).0 (halves c).1) d rest n w)
+row P below (RetractingAll h) k t d rest n w = unless (unerasable P h) (indicator t) rest w (seek below (ToRetractAll h) d rest n w)
+row P below (Declaring ps) k t d rest n w = unless (undeclarable P (named_terms ps)) (indicator t) rest w (publish (map Declare (filter_map indicator_of (named_terms ps))) rest n w)
+row P below (BuiltIn b us) k t d rest n w = offer (solutions b us w.settings n) (indicator t) rest n w
+row P below (Call p) k t d rest n w = user below (clauses_for P p) d t rest n w
+row P below NoGoal k t d rest n w = Give Fail w
+
+unfoldable pub select : Program → List Stamped → ℕ → Tree → ℕ → List Element → ℕ → Local → Move
 unfolding row
-select P k t d rest n w = row P (form t) k t d rest n w
+select P below k t d rest n w = row P below (form t) k t d rest n w
 
 abbrev pub asked : Question → Item
 asked (Look u) = View
+asked (Begin i g) = View
 asked (Await q next) = Ask q
+
+-- a clause is erased: of what is open at once, unless it was erased there before, or else by a request
+abbrev pub erasing : ClauseName → Local → Meeting
+erasing x w =
+    if not (any_open w.own) then Asks (Ask (EraseOne x))
+    else if erased_in (target_at w.own.base x) w.own.updates then End Fail w
+    else Pass (record w { own = made (Erase x) w.own })
+
+abbrev pub published : Ended → List Update
+published Ended.Merged = []
+published (Ended.Publish us) = us
+published Ended.Nothing = []
+published Ended.Dropped = []
 
 -- what the head of a list is
 unfoldable pub meet : Element → List Element → Local → Meeting
 meet (Goal k t) rest w = Select k t
-meet (Marker Commit l) rest w = Marked l w
+meet (Marker Commit l) rest w = Marked l [] w
 meet (Marker Never l) rest w = End (CutTo l) w
 meet (Marker Until l) rest w = Pass w
 meet (Marker (Collect t) l) rest w = End Fail (collected l t w)
+meet (Marker (Transact d) l) rest w = Marked d (published (ending true w.own)) (record w { own = ended true w.own })
 meet (Raise b) rest w = End (Throw b (levels rest)) w
 meet (Asking q) rest w = Asks (asked q)
+meet (Erasing x) rest w = erasing x w

@@ -5,6 +5,7 @@ use Rattle.plterm.specs.Variables.{copied, variables}
 use Rattle.plevent.specs.Search.{Answer, Next, Wants, Finishes, Ceases, Ending, Search}
 use Rattle.plevent.specs.declared.request.ThreadEnd.TheVariants.{True, False, Exception, Budget, Halt}
 use Rattle.plprogram.specs.Program.{Program}
+use Rattle.pltx.specs.Own.{nothing}
 use Rattle.plsearch.specs.Types.{Result, Stop, Fail, CutTo, Throw, Halted, Spent, Awaits, Stopped, Unfit, Goal, Place, Choice, Run}
 use Rattle.plsearch.specs.Engine.{Ended, out, Visit}
 
@@ -42,9 +43,9 @@ next_of Unfit = Ceases
 abbrev pub ending_of : ℕ → Ended → Ending
 ending_of steps e = record { next = next_of e.0; used = steps - e.1.steps; out = e.1.local.out }
 
--- so many steps and these answers are left, nothing was written, nothing is kept, and the operators and flags are the program's
+-- so many steps and these answers are left, nothing was written, nothing is kept, nothing is open, and the operators and flags are the program's
 abbrev pub from_start : Program → ℕ → List Answer → Run
-from_start P steps answers = record { steps = steps; answers = answers; local = record { out = []; settings = P.settings; kept = [] } }
+from_start P steps answers = record { steps = steps; answers = answers; below = []; local = record { out = []; settings = P.settings; kept = []; own = nothing } }
 
 -- main's search, which takes no more steps than the limit: its goals run in a choice with nothing left
 unfoldable pub search_of : Program → ℕ → Search

@@ -2,9 +2,10 @@
 //! thread takes from the journal, and the laws of that definition.
 //!
 //! It has no code. `specs/Forms.antt` says what a goal is, `specs/Rows.antt` has a row for each form of goal and each element of a
-//! list, `specs/Replies.antt` what an element that asked makes of its answer, and `specs/Handlers.antt` what a handler makes of a
-//! result. `specs/Engine.antt` is the search over these rows, and `specs/Search.antt` main's search as the journal sees it.
-//! `specs/Machines` does the same search one row at a time, for the laws and for proofs.
+//! list, over the moves of `specs/Moves.antt` and the look-ups of `specs/Lookups.antt`; `specs/Replies.antt` says what an element that
+//! asked makes of its answer, and `specs/Handlers.antt` what a handler makes of a result. `specs/Engine.antt` is the search over these
+//! rows, and `specs/Search.antt` main's search as the journal sees it. `specs/Machines` does the same search one row at a time, for the
+//! laws and for proofs.
 #![tactic(auto)]
 
 ghost use Rattle.plsearch.specs.Laws.{VisitsByWalks, TurnsKeepRest, TurnsEnd, EndsIgnoreAnswers, CutsEmpty, CatchersEmpty};

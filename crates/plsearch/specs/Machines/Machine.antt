@@ -4,7 +4,8 @@ use Rattle.plevent.specs.Search.{Item, Answer}
 use Rattle.plprogram.specs.Program.{Program}
 use Rattle.plsearch.specs.Types.{Result, Stop, Fail, Spent, Awaits, Element, Place, Case, Choice, Mark, Handle, Local, Move, Give, Go, Meeting, Select, Asks, End, Pass, Marked, Return, Keep, Again, Anew, Run}
 use Rattle.plsearch.specs.Rows.{select, meet}
-use Rattle.plsearch.specs.Replies.{answered}
+use Rattle.plsearch.specs.Moves.{publishing}
+use Rattle.plsearch.specs.Replies.{answered, founded}
 use Rattle.plsearch.specs.Handlers.{resume}
 use Rattle.plsearch.specs.Engine.{Ended, stop_cut, mark, deeper, outs, Visit}
 
@@ -36,16 +37,16 @@ abbrev pub step : List Case → (Local → Move) → Run → ℕ → Machine
 step cases row run zero = record { mode = Back Spent; cases = cases; run = run }
 step cases row run (suc n) = move cases (record run { steps = n }) (row run.local)
 
-abbrev pub ask : List Case → (Answer → Local → Move) → Item → Run → List Answer → Machine
-ask cases row q run [] = record { mode = Back (Awaits q); cases = cases; run = run }
-ask cases row q run (a ∷ more) = move cases (record run { answers = more }) (row a run.local)
+abbrev pub ask : List Case → Element → List Element → ℕ → Item → Run → List Answer → Machine
+ask cases e es n q run [] = record { mode = Back (Awaits q); cases = cases; run = run }
+ask cases e es n q run (a ∷ more) = move cases (record run { answers = more; below = founded e a run.below }) (answered e a (deeper cases 0) es n run.local)
 
 abbrev pub meets : Program → List Case → Element → List Element → ℕ → Run → Meeting → Machine
-meets P cases e es n run (Select k t) = step cases (select P k t (deeper cases 0) es n) run run.steps
-meets P cases e es n run (Asks q) = ask cases (λ a. answered e a (deeper cases 0) es n) q run run.answers
+meets P cases e es n run (Select k t) = step cases (select P run.below k t (deeper cases 0) es n) run run.steps
+meets P cases e es n run (Asks q) = ask cases e es n q run run.answers
 meets P cases e es n run (End r w) = record { mode = Back r; cases = cases; run = record run { local = w } }
 meets P cases e es n run (Pass w) = record { mode = At (record { goals = es; variables = n }); cases = cases; run = record run { local = w } }
-meets P cases e es n run (Marked l w) = record { mode = At (record { goals = es; variables = n }); cases = Mark l ∷ cases; run = record run { local = w } }
+meets P cases e es n run (Marked l us w) = record { mode = At (record { goals = publishing us es; variables = n }); cases = Mark l ∷ cases; run = record run { local = w } }
 
 abbrev pub visits : Program → List Case → List Element → ℕ → Run → Machine
 visits P cases [] n run = record { mode = Back Stop; cases = cases; run = run }

@@ -1,11 +1,24 @@
 -- How much a machine has before it without a step or an answer.
-use Rattle.std.specs.Prelude.{◌≡◌, ℕ, ◌+◌, ◌*◌, ◌<◌, ◌⊎◌, List, [], ◌∷◌, length}
-use Rattle.plsearch.specs.Types.{Place, Case, Choice, Mark, Handle}
+use Rattle.std.specs.Prelude.{◌≡◌, ℕ, ◌+◌, ◌<◌, ◌⊎◌, List, [], ◌∷◌}
+use Rattle.plsearch.specs.Types.{Kind, Transact, Element, Marker, Place, Case, Choice, Mark, Handle}
 use Rattle.plsearch.specs.Engine.{left}
 use Rattle.plsearch.specs.Machines.Machine.{Mode, At, Back, Machine}
 
+-- behind the marker of a transaction a mark is set, and an element may come that publishes
+abbrev pub kind_weight : Kind → ℕ
+kind_weight (Transact d) = 4
+kind_weight m = 2
+
+abbrev pub element_weight : Element → ℕ
+element_weight (Marker m l) = kind_weight m
+element_weight e = 2
+
+abbrev pub goals_weight : List Element → ℕ
+goals_weight [] = 0
+goals_weight (e ∷ es) = element_weight e + goals_weight es
+
 abbrev pub place_weight : Place → ℕ
-place_weight p = 2 * length p.goals + 2
+place_weight p = goals_weight p.goals + 2
 
 abbrev pub places_weight : List Place → ℕ
 places_weight [] = 1
