@@ -86,6 +86,12 @@ module _ (σ : ℕ → Tree) where
   construct_bound controls.FindAll (a ∷ b ∷ []) h = refl
   construct_bound controls.FindAll (a ∷ b ∷ c ∷ []) h = refl
   construct_bound controls.FindAll (a ∷ b ∷ c ∷ u ∷ us) h = refl
+  construct_bound controls.Transaction [] h = refl
+  construct_bound controls.Transaction (a ∷ []) h = refl
+  construct_bound controls.Transaction (a ∷ u ∷ us) h = refl
+  construct_bound controls.Snapshot [] h = refl
+  construct_bound controls.Snapshot (a ∷ []) h = refl
+  construct_bound controls.Snapshot (a ∷ u ∷ us) h = refl
   construct_bound controls.Throw [] h = refl
   construct_bound controls.Throw (a ∷ []) h = refl
   construct_bound controls.Throw (a ∷ u ∷ us) h = refl

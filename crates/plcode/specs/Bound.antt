@@ -2,7 +2,7 @@
 use Rattle.std.specs.Prelude.{ℕ, map}
 use Rattle.plterm.specs.Tree.{Tree}
 use Rattle.plsubst.specs.Subst.{bind}
-use Rattle.plsearch.specs.Forms.{Form, True, False, Both, Either, IfThenElse, Not, Once, Catching, FindAll, Throwing, CallWith, Cut, Halting, Adding, Retrieving, Retracting, RetractingAll, Declaring, BuiltIn, Call, NoGoal}
+use Rattle.plsearch.specs.Forms.{Form, True, False, Both, Either, IfThenElse, Not, Once, Catching, FindAll, Within, Throwing, CallWith, Cut, Halting, Adding, Retrieving, Retracting, RetractingAll, Declaring, BuiltIn, Call, NoGoal}
 
 -- a form with what is put for variables in each of its terms; the procedure that is called stays
 abbrev pub bound_form : (ℕ → Tree) → Form → Form
@@ -15,6 +15,7 @@ bound_form σ (Not g) = Not (bind σ g)
 bound_form σ (Once g) = Once (bind σ g)
 bound_form σ (Catching g c r) = Catching (bind σ g) (bind σ c) (bind σ r)
 bound_form σ (FindAll t g l) = FindAll (bind σ t) (bind σ g) (bind σ l)
+bound_form σ (Within i g) = Within i (bind σ g)
 bound_form σ (Throwing b) = Throwing (bind σ b)
 bound_form σ (CallWith g us) = CallWith (bind σ g) (map (bind σ) us)
 bound_form σ Cut = Cut

@@ -5,7 +5,7 @@ use Rattle.plterm.specs.declared.indicator.Indicator.{Indicator}
 use Rattle.plclause.specs.Clause.{Clause}
 use Rattle.plclause.specs.Soundness.{IsSound}
 use Rattle.plsearch.specs.Forms.{arguments}
-use Rattle.plsearch.specs.Rows.{is_true}
+use Rattle.plsearch.specs.Moves.{is_true}
 use Rattle.plcode.specs.declared.clause.ClauseCode.{ClauseCode}
 use Rattle.plcode.specs.Steps.{Text, Args}
 use Rattle.plcode.specs.Bodies.{Begins}

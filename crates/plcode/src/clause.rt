@@ -2,7 +2,7 @@
 ghost use Rattle.std.specs.Prelude.{◌≡◌, length, IfOk, OnOk};
 ghost use Rattle.plclause.specs.Soundness.{IsCallable};
 ghost use Rattle.plsearch.specs.Forms.{arguments};
-ghost use Rattle.plsearch.specs.Rows.{is_true as is_true_of};
+ghost use Rattle.plsearch.specs.Moves.{is_true as is_true_of};
 ghost use Rattle.plcode.specs.Steps.{text, Args, Extended};
 ghost use Rattle.plcode.specs.Bodies.{IsCode};
 ghost use Rattle.plcode.specs.Clauses.{IsCodeOf, IsProper};

@@ -3,7 +3,7 @@ use Rattle.std.specs.Prelude.{◌≡◌, ℕ, suc, ◌+◌, ◌<◌, ◌≤◌, 
 use Rattle.std.specs.Bool.{⊤}
 use Rattle.plterm.specs.Tree.{Tree, int, atom, compound, trees}
 use Rattle.plterm.specs.declared.indicator.Indicator.{Indicator}
-use Rattle.plsearch.specs.Forms.{Form, True, False, Both, Either, IfThenElse, Not, Once, Catching, FindAll, Throwing, CallWith, Cut, Halting, Adding, Retrieving, Retracting, RetractingAll, Declaring, BuiltIn, Call, NoGoal}
+use Rattle.plsearch.specs.Forms.{Form, True, False, Both, Either, IfThenElse, Not, Once, Catching, FindAll, Within, Throwing, CallWith, Cut, Halting, Adding, Retrieving, Retracting, RetractingAll, Declaring, BuiltIn, Call, NoGoal}
 use Rattle.plcells.specs.declared.cell.Cell.{Cell}
 use Rattle.plcells.specs.Store.{Store, at, terms, value, IsHead, IsValue}
 use Rattle.plcode.specs.declared.callee.Callee.{Callee}
@@ -30,6 +30,7 @@ shown_form h p args (found.Not a) = Not (value h a)
 shown_form h p args (found.Once a) = Once (value h a)
 shown_form h p args (found.Catching g c r) = Catching (value h g) (value h c) (value h r)
 shown_form h p args (found.FindAll a g l) = FindAll (value h a) (value h g) (value h l)
+shown_form h p args (found.Within i g) = Within i (value h g)
 shown_form h p args (found.Throwing a) = Throwing (value h a)
 shown_form h p args found.CallWith = call_with (map (value h) args)
 shown_form h p args found.Cut = Cut
@@ -56,6 +57,7 @@ IsInside h args (found.Not a) = IsValue h a
 IsInside h args (found.Once a) = IsValue h a
 IsInside h args (found.Catching g c r) = IsValue h g × IsValue h c × IsValue h r
 IsInside h args (found.FindAll a g l) = IsValue h a × IsValue h g × IsValue h l
+IsInside h args (found.Within i g) = IsValue h g
 IsInside h args (found.Throwing a) = IsValue h a
 IsInside h args found.CallWith = 0 < length args
 IsInside h args found.Cut = ⊤

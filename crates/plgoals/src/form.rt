@@ -19,6 +19,7 @@ use plcells::heap::Heap;
 use plcode::callee::{Callee, Number};
 use plcode::program::ProgramCode;
 use plnames::kind::{BuiltIn, Control, Side};
+use pltx::level::Isolation;
 
 /// A procedure that is no control construct and no built-in predicate.
 #[derive(Clone, Copy, Debug, PartialEq, Eq)]
@@ -50,6 +51,8 @@ pub enum Form {
     Catching(Cell, Cell, Cell),
     /// findall/3: a template, a goal, and what is to be the list.
     FindAll(Cell, Cell, Cell),
+    /// transaction/1 or snapshot/1 of a goal.
+    Within(Isolation, Cell),
     /// throw/1 of a ball.
     Throwing(Cell),
     /// call/N: the goal is the first of the arguments, and its further arguments stand behind it.
@@ -142,6 +145,8 @@ fn nullary(control: Control) -> Form
         | Control::Call
         | Control::Catch
         | Control::FindAll
+        | Control::Transaction
+        | Control::Snapshot
         | Control::Throw
         | Control::Add(_)
         | Control::Retrieve
@@ -160,6 +165,8 @@ fn unary(control: Control, a: Cell) -> Form
         Control::Not => Form::Not(a),
         Control::Once => Form::Once(a),
         Control::Call => Form::CallWith,
+        Control::Transaction => Form::Within(Isolation::Transaction, a),
+        Control::Snapshot => Form::Within(Isolation::Snapshot, a),
         Control::Throw => Form::Throwing(a),
         Control::Add(side) => Form::Adding(side, a),
         Control::Retract => Form::Retracting(a),
@@ -199,6 +206,8 @@ fn binary(heap: &Heap, code: &ProgramCode, control: Control, a: Cell, b: Cell) -
         | Control::Once
         | Control::Catch
         | Control::FindAll
+        | Control::Transaction
+        | Control::Snapshot
         | Control::Throw
         | Control::Add(_)
         | Control::Retract
@@ -225,6 +234,8 @@ fn ternary(control: Control, a: Cell, b: Cell, c: Cell) -> Form
         | Control::IfThen
         | Control::Not
         | Control::Once
+        | Control::Transaction
+        | Control::Snapshot
         | Control::Throw
         | Control::Add(_)
         | Control::Retrieve

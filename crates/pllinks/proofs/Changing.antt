@@ -53,12 +53,14 @@ module _ (code : Goals) (n : ℕ) (old new : Env) (same : Agrees n old new) wher
   marker-agrees markers.Never i = refl
   marker-agrees markers.Until i = refl
   marker-agrees (markers.Collect v) i = ap Collect (same.values v i).1
+  marker-agrees (markers.Transact d) i = refl
 
   marker-stays : (k : MarkerKind) → IsMarker old.heap k → IsMarker new.heap k
   marker-stays markers.Commit i = tt
   marker-stays markers.Never i = tt
   marker-stays markers.Until i = tt
   marker-stays (markers.Collect v) i = (same.values v i).0
+  marker-stays (markers.Transact d) i = tt
 
   item-agrees : (x : Item) → IsItem code old.heap n x → elements code new x ≡ elements code old x
   item-agrees (items.Run r) i = run-agrees r i.0.width (run_goals code r) i.0.below (le_trans i.0.within i.1)
@@ -104,12 +106,14 @@ module _ (code : Goals) (n : ℕ) (old new : Env) (σ : ℕ → Tree) (made : Bo
   marker-bound markers.Never i = refl
   marker-bound markers.Until i = refl
   marker-bound (markers.Collect v) i = ap Collect (made.values v i).1
+  marker-bound (markers.Transact d) i = refl
 
   marker-kept : (k : MarkerKind) → IsMarker old.heap k → IsMarker new.heap k
   marker-kept markers.Commit i = tt
   marker-kept markers.Never i = tt
   marker-kept markers.Until i = tt
   marker-kept (markers.Collect v) i = (made.values v i).0
+  marker-kept (markers.Transact d) i = tt
 
   item-bound : (x : Item) → IsItem code old.heap n x → elements code new x ≡ map (bind_element σ) (elements code old x)
   item-bound (items.Run r) i = run-bound r i.0.width (run_goals code r) i.0.below (le_trans i.0.within i.1)

@@ -5,7 +5,7 @@ use Rattle.plterm.specs.Tree.{Tree}
 use Rattle.plsubst.specs.Subst.{bind}
 use Rattle.plcells.specs.Store.{Store, IsValue, value}
 use Rattle.plcode.specs.Converted.{AreConverted}
-use Rattle.plsearch.specs.Types.{Kind, Commit, Never, Until, Collect, Element, Goal, Marker}
+use Rattle.plsearch.specs.Types.{Kind, Commit, Never, Until, Collect, Transact, Element, Goal, Marker}
 use Rattle.plenv.specs.Env.{Env, over}
 use Rattle.plenv.specs.Rows.{AllBelowEach}
 use Rattle.pllinks.specs.declared.item.MarkerKind.{MarkerKind}
@@ -24,6 +24,7 @@ marker_of h markers.Commit = Commit
 marker_of h markers.Never = Never
 marker_of h markers.Until = Until
 marker_of h (markers.Collect v) = Collect (value h v)
+marker_of h (markers.Transact d) = Transact d
 
 -- the goals of a run of compiled goals
 abbrev pub run_goals : Goals → Run → List Tree
@@ -55,6 +56,7 @@ IsMarker h markers.Commit = Unit {0}
 IsMarker h markers.Never = Unit {0}
 IsMarker h markers.Until = Unit {0}
 IsMarker h (markers.Collect v) = IsValue h v
+IsMarker h (markers.Transact d) = Unit {0}
 
 -- an item whose slots stand below n, and whose value is one of the heap
 abbrev pub IsItem : Goals → Store → ℕ → Item → Type 0

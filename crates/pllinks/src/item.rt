@@ -16,6 +16,8 @@ pub enum MarkerKind {
     Until,
     /// Here a copy of the term of a value is kept for the handler of its level, and the list fails.
     Collect(Cell),
+    /// Here what is open ends with success, and behind it the choices down to this level are given up.
+    Transact(Level),
 }
 
 /// Goals of a clause, from a position of its code on.

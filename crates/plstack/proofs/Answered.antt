@@ -124,7 +124,7 @@ module _ (s : State) (d : ℕ) (is : IsStack s d) (vs : List Cell) (fit : AreVal
       module _ (frames : List Frame) (pushed : frames ≡ s.frames ++ Open p (resumes.Answers (record { count = count; turn = next })) ∷ []) where
         pub next-stack : IsStack (record { basis = s.basis; env = e; links = s.links; saved = s.saved; frames = frames; goals = l }) (d + 1)
         next-stack =
-            let o = opened-state entered d frames (Open p r') pushed entered-stack next-frame tt in
+            let o = opened-state entered d frames (Open p r') pushed entered-stack next-frame (λ i. i) tt in
             (o.0, omega (arith, o.1))
 
         pub next-answered : (db : Database) → Answered db s (record { basis = s.basis; env = e; links = s.links; saved = s.saved; frames = frames; goals = l }) vs l turn
@@ -225,7 +225,7 @@ module _ (s : State) (d : ℕ) (is : IsStack s d) (below : List Frame) (p : Poin
   vs = kept_values s.saved p (resumes.Answers a)
 
   at-stack : IsStack at (d - 1)
-  at-stack = without-stack s d is below p (resumes.Answers a) popped
+  at-stack = without-stack s d is below p (resumes.Answers a) popped (λ i. i)
 
   the-frame : IsOpen (goals_in s) at.env at.links at.saved p (resumes.Answers a) (reverse below)
   the-frame = frame-then s d is below p (resumes.Answers a) popped
@@ -287,7 +287,7 @@ module _ (s : State) (d : ℕ) (is : IsStack s d) (below : List Frame) (p : Poin
     -- the case is put back
     module _ (y : Stays at.env e) where
       pub back-again : IsStack (record (rewound s d is below p (resumes.Answers a) popped) { env = e }) d
-      back-again = stays-stack (rewound s d is below p (resumes.Answers a) popped) d (rewound-stack s d is below p (resumes.Answers a) popped) e env y
+      back-again = stays-stack (rewound s d is below p (resumes.Answers a) popped) d (rewound-stack s d is below p (resumes.Answers a) popped (λ i. i)) e env y
 
       pub back-again-cases : (db : Database) → cases_of db (record (rewound s d is below p (resumes.Answers a) popped) { env = e }) ≡ cases_of db s
-      back-again-cases db = (stays-at (rewound s d is below p (resumes.Answers a) popped) d (rewound-stack s d is below p (resumes.Answers a) popped) e env y).cases db ∙ rewound-cases s d is below p (resumes.Answers a) popped db
+      back-again-cases db = (stays-at (rewound s d is below p (resumes.Answers a) popped) d (rewound-stack s d is below p (resumes.Answers a) popped (λ i. i)) e env y).cases db ∙ rewound-cases s d is below p (resumes.Answers a) popped db

@@ -24,8 +24,8 @@ use Rattle.pllinks.specs.declared.link.Continuation.{Continuation}
 use Rattle.pllinks.specs.Lists.{goal_of, run_goals, elements, all_elements, IsRun, IsItem, AreItems}
 use Rattle.pllinks.specs.Links.{alone, done, list_at, link_at}
 use Rattle.pllinks.proofs.Arena.{list_at-none}
-use Rattle.plstack.specs.Levels.{FitsIn}
-use Rattle.plstack.specs.State.{State, goals_in, kinds_in, goals_of, IsList, IsState}
+use Rattle.plstack.proofs.Naming.{some-fits}
+use Rattle.plstack.specs.State.{State, goals_in, kinds_in, goals_of, IsEmptyOrFit, IsList, IsState}
 use Rattle.plstack.specs.First.{AtBoth, AtStep, AtGoal, AtMarker, IsShort, IsStep}
 use Rattle.plstack.proofs.Marking.{next-there, here as link-first}
 use Rattle.plstack.proofs.Lists.{done-item, done-elements, first-elements}
@@ -109,18 +109,21 @@ module _ (s : State) (l : Continuation) (there : IsList s l) (x : Step) (step : 
       converted = both-converted;
     }
 
-    pub both : FitsIn (kinds_in s) (goals_of s l) → AtBoth s (goals_of s l) next
+    both-goals : goals_of s l ≡ Goal l.run.level (bind σ (of_two (codes ",") sel.left sel.right)) ∷ (map (goal_of s.env l.run) sel.rest ++ tail s l)
+    both-goals = goals-are s l (of_two (codes ",") sel.left sel.right ∷ sel.rest) sel.goals
+
+    pub both : IsEmptyOrFit s l → AtBoth s (goals_of s l) next
     unfolding bind
     both levels = record {
       level = l.run.level;
       left = bind σ sel.left;
       right = bind σ sel.right;
       rest = map (goal_of s.env l.run) sel.rest ++ tail s l;
-      goals = goals-are s l (of_two (codes ",") sel.left sel.right ∷ sel.rest) sel.goals;
+      goals = both-goals;
       form_is = form_bound σ (of_two (codes ",") sel.left sel.right) first-converted ∙ ap (bound_form σ) sel.form_is;
       next_goals = first-elements s (items.Run next.run) (list_at s.links l.rest) ∙ ap (λ us. map (goal_of s.env l.run) us ++ tail s l) next-own;
       there = record { there = there.there; items = ((next-fits, slots), there.items.1) };
-      levels = levels;
+      levels = some-fits (kinds_in s) (goals_of s l) _ _ both-goals levels;
     }
 
   -- the step's own goal
@@ -144,7 +147,7 @@ module _ (s : State) (l : Continuation) (there : IsList s l) (x : Step) (step : 
       items = ((record { width = fits.width; below = all-below.1; within = fits.within; converted = all-converted.1 }, slots), there.items.1);
     }
 
-    pub at-step : FitsIn (kinds_in s) (goals_of s l) → (rest : Continuation) → IsList s rest → goals_of s rest ≡ goals_of s after → IsShort s rest → AtStep s (goals_of s l) l.run x rest
+    pub at-step : IsEmptyOrFit s l → (rest : Continuation) → IsList s rest → goals_of s rest ≡ goals_of s after → IsShort s rest → AtStep s (goals_of s l) l.run x rest
     at-step levels rest behind same short = record {
       goal = step.runs.goal;
       is = step.runs.is;
@@ -157,7 +160,7 @@ module _ (s : State) (l : Continuation) (there : IsList s l) (x : Step) (step : 
           goals-are s l (step.runs.goal ∷ run_goals (goals_in s) after.run) own-goals
           ∙ ap (λ es. Goal l.run.level (bind σ step.runs.goal) ∷ es) (sym (same ∙ first-elements s (items.Run after.run) (list_at s.links l.rest)));
       there = behind;
-      levels = levels;
+      levels = some-fits (kinds_in s) (goals_of s l) _ _ (goals-are s l (step.runs.goal ∷ run_goals (goals_in s) after.run) own-goals) levels;
       short = short;
     }
 
@@ -204,18 +207,18 @@ module _ (s : State) (is : IsState s) (l : Continuation) (there : IsList s l) wh
         ∙ sym (goals-are s l [] end ∙ ap (all_elements (goals_in s) s.env) here)
 
     -- a term, or a marker
-    pub term-there : (level : ℕ) (v : Cell) → k.item ≡ items.Goal level v → run_goals (goals_in s) l.run ≡ [] → FitsIn (kinds_in s) (goals_of s l) → AtGoal s (goals_of s l) level v (alone k.next)
+    pub term-there : (level : ℕ) (v : Cell) → k.item ≡ items.Goal level v → run_goals (goals_in s) l.run ≡ [] → IsEmptyOrFit s l → AtGoal s (goals_of s l) level v (alone k.next)
     term-there level v e end levels = record {
       fits = subst (IsItem (goals_in s) s.env.heap (length s.env.slots)) e items-here.0;
       goals = link-goals end ∙ ap (λ x. elements (goals_in s) s.env x ++ goals_of s (alone k.next)) e;
       there = behind-link;
-      levels = levels;
+      levels = some-fits (kinds_in s) (goals_of s l) _ _ (link-goals end ∙ ap (λ x. elements (goals_in s) s.env x ++ goals_of s (alone k.next)) e) levels;
     }
 
-    pub marker-there : (kind : MarkerKind) (level : ℕ) → k.item ≡ items.Marker kind level → run_goals (goals_in s) l.run ≡ [] → FitsIn (kinds_in s) (goals_of s l) → AtMarker s (goals_of s l) kind level (alone k.next)
+    pub marker-there : (kind : MarkerKind) (level : ℕ) → k.item ≡ items.Marker kind level → run_goals (goals_in s) l.run ≡ [] → IsEmptyOrFit s l → AtMarker s (goals_of s l) kind level (alone k.next)
     marker-there kind level e end levels = record {
       goals = link-goals end ∙ ap (λ x. elements (goals_in s) s.env x ++ goals_of s (alone k.next)) e;
       fits = subst (IsItem (goals_in s) s.env.heap (length s.env.slots)) e items-here.0;
       there = behind-link;
-      levels = levels;
+      levels = some-fits (kinds_in s) (goals_of s l) _ _ (link-goals end ∙ ap (λ x. elements (goals_in s) s.env x ++ goals_of s (alone k.next)) e) levels;
     }

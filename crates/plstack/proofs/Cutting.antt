@@ -1,16 +1,15 @@
 -- What a cut gives up, frame by frame.
-use Rattle.std.proofs.Common.{◌≡◌, ℕ, true, zero, suc, ◌+◌, ◌-◌, ◌<◌, ◌≤◌, List, [], ◌∷◌, ◌++◌, length, length-append, take, drop, reverse, refl, sym, ap, ap₂, ◌∙◌, subst, arith, append_assoc, le_trans, le_refl, take-append-drop, drop-cons, ◌⊎◌, inl, inr}
+use Rattle.std.proofs.Common.{◌≡◌, ℕ, zero, suc, ◌+◌, ◌-◌, ◌<◌, ◌≤◌, List, [], ◌∷◌, ◌++◌, length, length-append, take, drop, reverse, refl, sym, ap, ap₂, ◌∙◌, subst, arith, append_assoc, le_trans, le_refl, take-append-drop, drop-cons, ◌⊎◌, inl, inr}
 use Rattle.std.proofs.lemmas.List.{reverse-append, take_all}
 use Rattle.std.proofs.Math.Nat.{eq-or-lt_of_le}
 use Rattle.std.proofs.Math.Seq.{take-suc}
 use Rattle.plcells.specs.declared.cell.Cell.{Cell}
-use Rattle.plsearch.specs.Types.{Place, Case, Choice, Mark as MarkOf}
+use Rattle.plsearch.specs.Types.{Place, Case, Choice}
 use Rattle.plsearch.specs.Engine.{deeper}
 use Rattle.plsearch.specs.Machines.Levels.{emptied}
 use Rattle.plenv.specs.Env.{Env, cut}
 use Rattle.pllinks.specs.declared.item.Item.{Item}
 use Rattle.pllinks.specs.declared.link.Link.{Link}
-use Rattle.pllinks.specs.declared.link.Continuation.{Continuation}
 use Rattle.pllinks.specs.Lists.{Goals}
 use Rattle.pllinks.specs.Links.{items_of}
 use Rattle.plstack.specs.declared.frame.Resume.{Resume}
@@ -18,14 +17,13 @@ use Rattle.plstack.specs.declared.frame.Resume.TheVariants as resumes
 use Rattle.plstack.specs.declared.frame.Frame.{Frame}
 use Rattle.plstack.specs.declared.frame.Frame.TheVariants.{Plain, Open}
 use Rattle.plstack.specs.Places.{Database, plain, kept_values, case_of, opened, cases, size, depth_of}
-use Rattle.plstack.specs.Frames.{AreFrames, AreSeen}
-use Rattle.plstack.specs.State.{State, IsStack, CountsUp, goals_in, goals_of, kinds_in, cases_of, IsFit, IsList}
-use Rattle.plstack.specs.Levels.{is_chosen, kinds, choices, kinds_of, ChoiceIn, FitsIn, Precedes}
-use Rattle.plstack.proofs.Naming.{Widens, widens-emptied, fits-widen, fits-more, kinds-cases, kinds-length, kinds-plain, no-database, choice-append, choice-below, choice-first}
-use Rattle.plstack.specs.Cutting.{IsChoice, frame_at, ChoiceAt, EmptiesFrom, GivesUp, Empties}
-use Rattle.plstack.proofs.Frames.{plain-deeper, depth-cases, reverse-push}
-use Rattle.plstack.proofs.Stacks.{with-frames, plain-plus}
-use Rattle.plstack.proofs.Ending.{ends-from}
+use Rattle.plstack.specs.Frames.{IsFrame, AreFrames}
+use Rattle.plstack.specs.State.{State, IsStack, goals_in}
+use Rattle.plstack.specs.Levels.{Choosing, sort_of, kinds_of, ChoiceIn}
+use Rattle.plstack.proofs.Naming.{kinds-length, choice-append, choice-below, choice-first}
+use Rattle.plstack.specs.Cutting.{IsChoice, frame_at}
+use Rattle.plstack.proofs.Frames.{plain-deeper, reverse-push}
+use Rattle.plstack.proofs.Stacks.{plain-plus}
 
 -- choices with nothing left
 plain-append : (n : ℕ) (below : List Case) → plain n below ≡ plain n [] ++ below
@@ -36,28 +34,29 @@ plain-length : (n : ℕ) → length (plain n []) ≡ n
 plain-length zero = refl
 plain-length (suc n) = omega (arith, plain-length n)
 
-emptied-plain : (cs below : List Case) → emptied cs below ≡ plain (length cs) below
+pub emptied-plain : (cs below : List Case) → emptied cs below ≡ plain (length cs) below
 emptied-plain [] below = refl
 emptied-plain (c ∷ cs) below = ap (λ xs. Choice [] ∷ xs) (emptied-plain cs below)
 
 -- cases with a choice at a level
-record Splits (all : List Case) (level : ℕ) (low : List Case) : Type 0 where
-  inside : List Case
-  places : List Place
-  is : all ≡ inside ++ Choice places ∷ low
-  count : deeper all 0 ≡ length inside + suc level
+pub record Splits (all : List Case) (level : ℕ) (low : List Case) : Type 0 where
+  pub inside : List Case
+  pub places : List Place
+  pub is : all ≡ inside ++ Choice places ∷ low
+  pub count : deeper all 0 ≡ length inside + suc level
 
 record IsChoiceCase (c : Case) : Type 0 where
   places : List Place
   is : c ≡ Choice places
 
 module _ (db : Database) (code : Goals) (e : Env) (links : List Link) (saved : List Cell) where
-  chosen : (d : ℕ) (x : Env) (xs : List Item) (vs : List Cell) (r : Resume) → is_chosen r ≡ true → IsChoiceCase (case_of db code d x xs vs r)
+  chosen : (d : ℕ) (x : Env) (xs : List Item) (vs : List Cell) (r : Resume) → sort_of r ≡ Choosing → IsChoiceCase (case_of db code d x xs vs r)
   chosen d x xs vs (resumes.Clauses c) i = record { places = _; is = refl }
   chosen d x xs vs (resumes.Walk w) i = record { places = _; is = refl }
   chosen d x xs vs (resumes.Answers a) i = record { places = _; is = refl }
   chosen d x xs vs resumes.List i = record { places = _; is = refl }
   chosen d x xs vs (resumes.Handle y) i = absurd (cc)
+  chosen d x xs vs resumes.Undo i = absurd (cc)
 
   one-splits : (f : Frame) (base : List Case) (level : ℕ) → IsChoice f → deeper base 0 ≤ level → level < deeper base 0 + size f → Splits (opened db code e links saved f base) level (plain (level - deeper base 0) base)
   one-splits (Plain n) base level choice low high =
@@ -91,7 +90,7 @@ module _ (db : Database) (code : Goals) (e : Env) (links : List Link) (saved : L
   }
   more-splits (Open p r) all level low s = behind (case_of db code (deeper all 0) (cut p.marks.env e) (items_of links p.list) (kept_values saved p r) r) all level low s
 
-  all-split : (front : List Frame) (f : Frame) (under : List Frame) (level : ℕ) → IsChoice f → deeper (cases db code e links saved under) 0 ≤ level → level < deeper (cases db code e links saved under) 0 + size f →
+  pub all-split : (front : List Frame) (f : Frame) (under : List Frame) (level : ℕ) → IsChoice f → deeper (cases db code e links saved under) 0 ≤ level → level < deeper (cases db code e links saved under) 0 + size f →
       Splits (cases db code e links saved (front ++ f ∷ under)) level (plain (level - deeper (cases db code e links saved under) 0) (cases db code e links saved under))
   all-split [] f under level choice low high = one-splits f (cases db code e links saved under) level choice low high
   all-split (g ∷ front) f under level choice low high =
@@ -109,7 +108,7 @@ reversed-at fs i lt =
 pub depth-taken : (fs : List Frame) (i : ℕ) → i < length fs → depth_of (reverse (take (suc i) fs)) ≡ size (frame_at fs i) + depth_of (reverse (take i fs))
 depth-taken fs i lt = ap (λ xs. depth_of (reverse xs)) (take-suc fs i (Plain 0) lt) ∙ ap depth_of (reverse-push (take i fs) (frame_at fs i))
 
-depth-append : (xs ys : List Frame) → depth_of ys ≤ depth_of (xs ++ ys)
+pub depth-append : (xs ys : List Frame) → depth_of ys ≤ depth_of (xs ++ ys)
 depth-append [] ys = le_refl _
 depth-append (x ∷ xs) ys = omega (arith, depth-append xs ys)
 
@@ -117,86 +116,10 @@ pub frames-append : (code : Goals) (e : Env) (links : List Link) (saved : List C
 frames-append code e links saved [] ys a = a
 frames-append code e links saved (x ∷ xs) ys a = frames-append code e links saved xs ys a.1
 
-seen-append : (n : ℕ) (xs ys : List Frame) → AreSeen n (xs ++ ys) → AreSeen n ys
-seen-append n [] ys a = a
-seen-append n (x ∷ xs) ys a = seen-append n xs ys a.1
-
 pub depth-under : (fs : List Frame) (i : ℕ) → i < length fs → depth_of (reverse (take i fs)) ≤ depth_of (reverse fs)
 depth-under fs i lt =
     let under = reverse (take i fs) in
     rw (reversed-at fs i lt) (le_trans (omega arith) (depth-append (reverse (drop (suc i) fs)) (frame_at fs i ∷ under)))
-
--- the frames from one on are given up
-module _ (s : State) (d : ℕ) (is : IsStack s d) (i below n : ℕ) (lt : i < length s.frames) (under : depth_of (reverse (take i s.frames)) ≡ below) (count : n ≡ d - below + 1) (frames : List Frame) (up : CountsUp n (reverse (take i s.frames)) (reverse frames)) where
-  wider-kinds : Widens (kinds_in s) (kinds_of (reverse frames))
-  wider-kinds =
-      let front : List Frame = reverse (drop (suc i) s.frames) ++ frame_at s.frames i ∷ [] in
-      let split : reverse s.frames ≡ front ++ reverse (take i s.frames) = reversed-at s.frames i lt ∙ sym (append_assoc (reverse (drop (suc i) s.frames)) (frame_at s.frames i ∷ []) (reverse (take i s.frames))) in
-      let more = widens-emptied front (reverse (take i s.frames)) n (omega (arith, under, count, is.1, ap depth_of split, depth-under s.frames i lt)) in
-      subst (λ fs. Widens (kinds_of fs) (kinds_of (reverse frames))) (sym split) (subst (Widens (kinds_of (front ++ reverse (take i s.frames)))) (sym up.kinds) more)
-
-  wider-fits : (l : Continuation) → IsFit s l → FitsIn (kinds_of (reverse frames)) (goals_of s l)
-  wider-fits l f = fits-widen (kinds_in s) (kinds_of (reverse frames)) wider-kinds (goals_of s l) f
-
-  pub emptied-stack : IsStack (record s { frames = frames }) (d + 1)
-  emptied-stack = (
-    with-frames s frames is.0 (up.frames (goals_in s) s.env s.links s.saved
-        (frames-append (goals_in s) s.env s.links s.saved (frame_at s.frames i ∷ []) (reverse (take i s.frames))
-        (frames-append (goals_in s) s.env s.links s.saved (reverse (drop (suc i) s.frames)) (frame_at s.frames i ∷ reverse (take i s.frames)) (subst (AreFrames (goals_in s) s.env s.links s.saved) (reversed-at s.frames i lt) is.0.frames))))
-        (up.seen s.basis.latest
-        (seen-append s.basis.latest (frame_at s.frames i ∷ []) (reverse (take i s.frames))
-        (seen-append s.basis.latest (reverse (drop (suc i) s.frames)) (frame_at s.frames i ∷ reverse (take i s.frames)) (subst (AreSeen s.basis.latest) (reversed-at s.frames i lt) is.0.seen))))
-        (wider-fits s.goals is.0.fits),
-    omega (arith, up.depth, under, count, is.1, depth-under s.frames i lt),
-  )
-
-  pub empties-from : EmptiesFrom s (record s { frames = frames }) i below
-  unfolding cases_of
-  empties-from = record {
-    cases = λ db. up.cases db (goals_in s) s.env s.links s.saved ∙ ap (λ k. plain k (cases db (goals_in s) s.env s.links s.saved (reverse (take i s.frames)))) (omega (arith, count, is.1));
-    same = refl;
-    older = up.older;
-    walks = ends-from s i n frames up;
-  }
-
--- so the choice at the level and all inside of it are
-pub empties : (s new : State) (level i below : ℕ) → ChoiceAt s.frames level i below → GivesUp s new i below → (db : Database) → Empties db s new level
-unfolding cases_of
-empties s new level i below at from db =
-    let under : List Frame = reverse (take i s.frames) in
-    let base : List Case = cases db (goals_in s) s.env s.links s.saved under in
-    let all : List Case = cases db (goals_in s) s.env s.links s.saved (reverse s.frames) in
-    let b : deeper base 0 ≡ below = depth-cases db (goals_in s) s.env s.links s.saved under ∙ at.depth in
-    let split : Splits all level (plain (level - deeper base 0) base) = rw (reversed-at s.frames i at.there) (all-split db (goals_in s) s.env s.links s.saved (reverse (drop (suc i) s.frames)) (frame_at s.frames i) under level at.choice (omega (arith, b, at.low)) (omega (arith, b, at.high))) in
-    let k : ℕ = level - deeper base 0 in
-    record {
-      inside = split.inside;
-      places = split.places;
-      below = plain k base;
-      was = split.is;
-      at = plain-deeper k base ∙ omega (arith, b, at.low);
-      cases =
-          from.cases db
-          ∙ ap (λ j. plain j base) (omega (arith, depth-cases db (goals_in s) s.env s.links s.saved (reverse s.frames), split.count, b, at.low))
-          ∙ sym (plain-plus (suc (length split.inside)) (suc k) base)
-          ∙ sym (emptied-plain (MarkOf level ∷ split.inside) (plain (suc k) base));
-    }
-
--- a list behind a goal of the level fits behind the cut
-pub given-fits : (s new : State) (level i below : ℕ) → ChoiceAt s.frames level i below → GivesUp s new i below → (l : Continuation) → IsList s l → Precedes (kinds_in s) level (goals_of s l) → IsFit new l
-unfolding cases_of
-given-fits s new level i below at from l there p =
-    let n : ℕ = depth_of (reverse s.frames) - below + 1 in
-    let under : List Frame = reverse (take i s.frames) in
-    let front : List Frame = reverse (drop (suc i) s.frames) ++ frame_at s.frames i ∷ [] in
-    let split : reverse s.frames ≡ front ++ under = reversed-at s.frames i at.there ∙ sym (append_assoc (reverse (drop (suc i) s.frames)) (frame_at s.frames i ∷ []) under) in
-    let more : Widens (kinds_of (front ++ under)) (choices n (kinds_of under)) = widens-emptied front under n (omega (arith, at.depth, ap depth_of split, depth-under s.frames i at.there)) in
-    let new-kinds : kinds_in new ≡ choices n (kinds_of under) =
-    sym (kinds-cases no-database (goals_in new) new.env new.links new.saved (reverse new.frames)) ∙ ap kinds (from.cases no-database)
-    ∙ kinds-plain n (cases no-database (goals_in s) s.env s.links s.saved under) ∙ ap (choices n) (kinds-cases no-database (goals_in s) s.env s.links s.saved under) in
-    let w : Widens (kinds_in s) (kinds_in new) = subst (λ fs. Widens (kinds_of fs) (kinds_in new)) (sym split) (subst (Widens (kinds_of (front ++ under))) (sym new-kinds) more) in
-    subst (FitsIn (kinds_in new)) (sym (from.keeps.lists l there).1)
-    (fits-more (kinds_in s) (kinds_in new) w (goals_of s l) (suc level) (length (kinds_in new)) (omega (arith, p.0, w.more)) p.2)
 
 -- the frame of a choice's level is a choice's
 pub choice-here : (frames : List Frame) (i level : ℕ) → i < length frames → depth_of (reverse (take i frames)) ≤ level → level < depth_of (reverse (take (i + 1) frames)) → ChoiceIn (kinds_of (reverse frames)) level → IsChoice (frame_at frames i)
@@ -218,3 +141,14 @@ below-all frames i level le low high = go (eq-or-lt_of_le le)
     go : (i ≡ length frames) ⊎ (i < length frames) → i < length frames
     go (inr lt) = lt
     go (inl e) = absurd (omega (arith, low, high, ap (λ xs. depth_of (reverse xs)) (take_all i frames (omega arith)), ap (λ xs. depth_of (reverse xs)) (take_all (i + 1) frames (omega arith))))
+
+-- each frame is a case at least
+pub frame-some : (code : Goals) (e : Env) (links : List Link) (saved : List Cell) (f : Frame) (fs : List Frame) → IsFrame code e links saved f fs → 0 < size f
+frame-some code e links saved (Plain n) fs i = i
+frame-some code e links saved (Open p r) fs i = omega arith
+
+pub depth-less : (s : State) (d : ℕ) → IsStack s d → (i : ℕ) → i < length s.frames → depth_of (reverse (take i s.frames)) < depth_of (reverse s.frames)
+depth-less s d is i lt =
+    let under = reverse (take i s.frames) in
+    let there = frames-append (goals_in s) s.env s.links s.saved (reverse (drop (suc i) s.frames)) (frame_at s.frames i ∷ under) (subst (AreFrames (goals_in s) s.env s.links s.saved) (reversed-at s.frames i lt) is.0.frames) in
+    omega (arith, frame-some (goals_in s) s.env s.links s.saved (frame_at s.frames i) under there.0, ap depth_of (reversed-at s.frames i lt), depth-append (reverse (drop (suc i) s.frames)) (frame_at s.frames i ∷ under))

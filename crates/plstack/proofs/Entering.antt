@@ -1,15 +1,15 @@
 -- A call that is tried: the clause that fits is entered, or none is left.
-use Rattle.std.proofs.Common.{◌≡◌, ℕ, List, [], ◌∷◌, ◌++◌, drop, reverse, sym, ap, ap₂, ◌∙◌, subst, length, true, arith, ◌-◌, refl}
+use Rattle.std.proofs.Common.{◌≡◌, ℕ, List, [], ◌∷◌, ◌++◌, drop, reverse, sym, ap, ap₂, ◌∙◌, subst, length, arith, ◌-◌, refl}
 use Rattle.plterm.specs.Tree.{Tree}
 use Rattle.plsubst.specs.Subst.{bind}
 use Rattle.plclause.specs.Clause.{Clause}
 use Rattle.plcells.specs.declared.cell.Cell.{Cell}
 use Rattle.plsearch.specs.Types.{Element, Place, Case, Choice}
 use Rattle.plsearch.specs.Lists.{bind_goals}
-use Rattle.plsearch.specs.Rows.{before_rest, is_true}
+use Rattle.plsearch.specs.Moves.{before_rest, is_true}
 use Rattle.plsearch.specs.Engine.{deeper}
 use Rattle.plcode.specs.Clauses.{IsCodeOf}
-use Rattle.plstack.specs.declared.basis.Basis.{Basis}
+use Rattle.plstack.specs.Basis.{Basis}
 use Rattle.plenv.specs.Env.{Env, cut, over}
 use Rattle.pllinks.specs.Links.{alone}
 use Rattle.pllinks.specs.declared.link.Continuation.{Continuation}
@@ -20,8 +20,8 @@ use Rattle.plstack.specs.declared.frame.Frame.{Frame}
 use Rattle.plstack.specs.declared.frame.Frame.TheVariants.{Plain, Open}
 use Rattle.plstack.specs.declared.fit.Hit.{Hit}
 use Rattle.plstack.specs.Places.{Database, called, places_left, size}
-use Rattle.plstack.specs.Levels.{kinds_of, FitsIn, Precedes}
-use Rattle.plstack.specs.State.{State, IsStack, goals_of, kinds_in, place_of, cases_of, IsList, AddsList, Retries, IsClauses, BeginsWith, HasClauses}
+use Rattle.plstack.specs.Levels.{Choosing, kinds_of, FitsIn, Precedes}
+use Rattle.plstack.specs.State.{State, IsStack, goals_of, kinds_in, place_of, cases_of, IsList, AddsList, Retries, IsClauses, IsUndo, BeginsWith, HasClauses}
 use Rattle.plstack.specs.Calls.{places_of, Calls, CallsNone, StaysAt}
 use Rattle.plstack.specs.StaticCalls.{AtCall, IsCalling, further, onward, Binds, Enters, Hits, OpensCall}
 use Rattle.plstack.proofs.Frames.{reverse-push}
@@ -60,7 +60,7 @@ module _ (s t : State) (p : Point) (c : Clauses) (n : ℕ) (at : AtCall s p c) (
         let goals : goals_of u (alone n) ≡ bind_goals binds.unifier (goals_of s p.list) = (binds.lists (alone n) adds.there).1 ∙ ap (bind_goals binds.unifier) adds.is in
         let frames : u.frames ≡ s.frames = ap (λ (x : State). x.frames) same ∙ adds.stays.frames in
         subst (λ fs. FitsIn (drop 1 (kinds_of (reverse fs))) (goals_of u (alone n))) (sym frames)
-        (subst (FitsIn (drop 1 (kinds_in s))) (sym goals) (fits-bound (drop 1 (kinds_in s)) binds.unifier (goals_of s p.list) (length (drop 1 (kinds_in s))) at.fits))
+        (subst (FitsIn (drop 1 (kinds_in s))) (sym goals) (fits-bound (drop 1 (kinds_in s)) binds.unifier (goals_of s p.list) at.fits))
 
     pub code-found : (hit : Hit) (x : Clause) → IsCodeOf t.basis.code.text hit.clause x → IsCodeOf u.basis.code.text hit.clause x
     code-found hit x code = subst (λ (b : Basis). IsCodeOf b.code.text hit.clause x) (sym (ap (λ (y : State). y.basis) same)) code
@@ -147,6 +147,7 @@ without s rest db x below e (Open p (resumes.Walk w)) i is = absurd i
 without s rest db x below e (Open p (resumes.Answers a)) i is = absurd i
 without s rest db x below e (Open p resumes.List) i is = absurd i
 without s rest db x below e (Open p (resumes.Handle y)) i is = absurd i
+without s rest db x below e (Open p resumes.Undo) i is = absurd i
 
 -- without the innermost case, a call
 pub left-call : (s : State) (rest : List Frame) (f : Frame) → s.frames ≡ rest ++ f ∷ [] → HasClauses s → (db : Database) (x : Case) (below : List Case) → cases_of db s ≡ x ∷ below →
@@ -156,12 +157,12 @@ left-call s rest f popped has db x below e = without s rest db x below e f (subs
 -- a body before the list of the innermost call, at its level
 pub enters-precede : (s : State) (d : ℕ) → IsStack s d → (p : Point) (c : Clauses) → IsCalling s p c → (k : ℕ) → k ≡ d - 1 → (es : List Element) → FitsIn (drop 1 (kinds_in s)) es → Precedes (kinds_in s) k es
 enters-precede s d is p c calling k level es f =
-    let kinds : kinds_in s ≡ true ∷ kinds_of (reverse calling.rest) = ap (λ fs. kinds_of (reverse fs)) calling.top ∙ ap kinds_of (reverse-push calling.rest (Open p (resumes.Clauses c))) in
+    let kinds : kinds_in s ≡ Choosing ∷ kinds_of (reverse calling.rest) = ap (λ fs. kinds_of (reverse fs)) calling.top ∙ ap kinds_of (reverse-push calling.rest (Open p (resumes.Clauses c))) in
     first-precedes (kinds_in s) (kinds_of (reverse calling.rest)) k es kinds (omega (arith, ap length kinds, kinds-length (reverse s.frames), is.1, level)) (subst (λ ks. FitsIn (drop 1 ks) es) kinds f)
 
 pub left-stack : (s : State) (d : ℕ) → IsStack s d → (rest : List Frame) (f : Frame) → s.frames ≡ rest ++ f ∷ [] → HasClauses s → IsStack (record s { frames = rest; goals = alone 0 }) (d - 1)
 left-stack s d is rest f popped has =
-    let t = popped-stack s d rest f popped is in
+    let t = popped-stack s d rest f popped is (stays f (is-last IsClauses s.frames rest f popped has)) in
     (t.0, one f (is-last IsClauses s.frames rest f popped has) ∙ t.1)
   where
     one : (f : Frame) → IsClauses f → d - 1 ≡ d - size f
@@ -171,3 +172,13 @@ left-stack s d is rest f popped has =
     one (Open p (resumes.Answers a)) i = absurd i
     one (Open p resumes.List) i = absurd i
     one (Open p (resumes.Handle y)) i = absurd i
+    one (Open p resumes.Undo) i = absurd i
+
+    stays : (f : Frame) → IsClauses f → IsUndo f → ⊥
+    stays (Plain n) i u = u
+    stays (Open p (resumes.Clauses c)) i u = u
+    stays (Open p (resumes.Walk w)) i u = u
+    stays (Open p (resumes.Answers a)) i u = u
+    stays (Open p resumes.List) i u = u
+    stays (Open p (resumes.Handle y)) i u = u
+    stays (Open p resumes.Undo) i u = i

@@ -8,7 +8,7 @@ use Rattle.plclause.specs.Clause.{Clause}
 use Rattle.plcells.specs.declared.cell.Cell.{Cell}
 use Rattle.plcells.specs.Store.{cut as cut_heap}
 use Rattle.plsearch.specs.Types.{Element}
-use Rattle.plsearch.specs.Rows.{resolve}
+use Rattle.plsearch.specs.Moves.{resolve}
 use Rattle.plcode.specs.declared.clause.ClauseCode.{ClauseCode}
 use Rattle.plcode.specs.declared.key.Key.{Key}
 use Rattle.plcode.specs.declared.node.Node.{Node}

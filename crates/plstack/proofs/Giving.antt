@@ -20,7 +20,7 @@ use Rattle.plstack.specs.Places.{Database, kept_values, case_of, plain, cases}
 use Rattle.plstack.specs.Frames.{AreOlder, IsOpen, AreFrames}
 use Rattle.plstack.specs.State.{State, IsStack, goals_in, kinds_in, cases_of}
 use Rattle.plstack.specs.Levels.{kinds_of}
-use Rattle.plstack.proofs.Naming.{fits-env}
+use Rattle.plstack.proofs.Naming.{fits-env, visited-env}
 use Rattle.plstack.specs.Holding.{held}
 use Rattle.plstack.specs.Giving.{GivesBack}
 
@@ -96,7 +96,7 @@ module _ (s : State) (d : ℕ) (is : IsStack s d) (ls : List Link) (g : ℕ) (ch
       frames = frames-same (goals_in s) s.env s.links ls s.saved (held_links s) room same (reverse s.frames) within is.0.frames;
       seen = is.0.seen;
       goals = record { there = there; items = subst (AreItems (goals_in s) s.env.heap (length s.env.slots)) (sym visited-items) is.0.goals.items };
-      fits = fits-env (kinds_in s) (goals_in s) s.env s.env (items_of s.links s.goals) (items_of ls (rest_at s g)) visited-items is.0.fits;
+      fits = visited-env (kinds_in s) (goals_in s) s.env s.env (items_of s.links s.goals) (items_of ls (rest_at s g)) visited-items is.0.fits;
     },
     is.1,
   )

@@ -3,7 +3,7 @@ use Rattle.std.proofs.Common.{◌≡◌, ℕ, Bool, true, false, suc, ◌+◌, �
 use Rattle.plsubst.specs.Subst.{bind}
 use Rattle.plclause.specs.Clause.{Clause}
 use Rattle.plsearch.specs.Types.{Goal, Case}
-use Rattle.plsearch.specs.Rows.{before_rest, is_true}
+use Rattle.plsearch.specs.Moves.{before_rest, is_true}
 use Rattle.plsearch.specs.Engine.{deeper}
 use Rattle.plcode.specs.Clauses.{IsCodeOf}
 use Rattle.plcode.specs.Converted.{AreConverted}
@@ -28,7 +28,7 @@ use Rattle.plstack.specs.StaticCalls.{body_at, IsCalling, GoesOn, PushesCall}
 use Rattle.plstack.proofs.Replacing.{taken-cases, other-stack, other-cases, none-stack, none-cases, none-older}
 use Rattle.plstack.proofs.Stacks.{depth_is}
 use Rattle.plstack.proofs.Lists.{first-elements, done-elements}
-use Rattle.plstack.specs.Levels.{kinds_of, FitsIn, Precedes}
+use Rattle.plstack.specs.Levels.{Sort, Choosing, kinds_of, FitsIn, Precedes}
 use Rattle.plstack.proofs.Naming.{before-fits}
 use Rattle.plstack.proofs.Frames.{reverse-push}
 
@@ -40,19 +40,19 @@ module _ (s : State) (d : ℕ) (is : IsStack s d) (p : Point) (c : Clauses) (cal
     c' = record { procedure = c.procedure; count = c.count; next = next }
 
     pub replaced-stack : IsStack (record s { frames = frames }) d
-    replaced-stack = other-stack s d is p (resumes.Clauses c) calling.rest calling.top rest f taken (resumes.Clauses c') refl refl (λ fits. fits) tt frames pushed
+    replaced-stack = other-stack s d is p (resumes.Clauses c) calling.rest calling.top rest f taken (resumes.Clauses c') refl refl refl (λ fits. fits) tt frames pushed
 
     pub replaced : (db : Database) → GoesOn db s (record s { frames = frames }) p c (Some next)
     replaced db = record {
       below = cases_of db (record s { frames = rest });
       was = taken-cases s d is p (resumes.Clauses c) calling.rest calling.top rest f taken db;
-      cases = other-cases s d is p (resumes.Clauses c) calling.rest calling.top rest f taken (resumes.Clauses c') refl refl (λ fits. fits) tt frames pushed db;
+      cases = other-cases s d is p (resumes.Clauses c) calling.rest calling.top rest f taken (resumes.Clauses c') refl refl refl (λ fits. fits) tt frames pushed db;
     }
 
   -- no clause is left
   module _ (frames : List Frame) (up : CountsUp 1 (reverse rest) (reverse frames)) where
     pub emptied-stack : IsStack (record s { frames = frames }) d
-    emptied-stack = none-stack s d is p (resumes.Clauses c) calling.rest calling.top rest f taken frames up
+    emptied-stack = none-stack s d is p (resumes.Clauses c) calling.rest calling.top rest f taken frames up refl
 
     pub emptied : (db : Database) → GoesOn db s (record s { frames = frames }) p c None
     emptied db = record {
@@ -100,11 +100,11 @@ module _ (s : State) (d : ℕ) (is : IsStack s d) (hit : Hit) (x : Clause) (code
   pub body-goals : goals_of s (body_at hit behind level) ≡ before_rest (is_true x.body) level (bind (over s.env hit.base) x.body) (goals_of s rest)
   body-goals = goals-if hit.clause.is_fact ∙ ap (λ f. before_rest f level (bind (over s.env hit.base) x.body) (goals_of s rest)) code.fact
 
-  pub body-fits : (ks : List Bool) → Precedes ks level (goals_of s rest) → FitsIn ks (goals_of s (body_at hit behind level))
+  pub body-fits : (ks : List Sort) → Precedes ks level (goals_of s rest) → FitsIn ks (goals_of s (body_at hit behind level))
   body-fits ks p = subst (FitsIn ks) (sym body-goals) (before-fits ks (is_true x.body) level (bind (over s.env hit.base) x.body) (goals_of s rest) p)
 
 -- the kinds where a call goes on, or nothing is left of it
-pub pushes-kinds : (p : Point) (c : Clauses) (next : Option ℕ) (old new : List Frame) → PushesCall p c next old new → kinds_of (reverse new) ≡ true ∷ kinds_of (reverse old)
+pub pushes-kinds : (p : Point) (c : Clauses) (next : Option ℕ) (old new : List Frame) → PushesCall p c next old new → kinds_of (reverse new) ≡ Choosing ∷ kinds_of (reverse old)
 pushes-kinds p c None old new up = up.kinds
 pushes-kinds p c (Some n) old new pushed = ap (λ fs. kinds_of (reverse fs)) pushed ∙ ap kinds_of (reverse-push old (Open p (resumes.Clauses (record { procedure = c.procedure; count = c.count; next = n }))))
 

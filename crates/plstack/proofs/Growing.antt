@@ -25,7 +25,7 @@ use Rattle.plstack.specs.declared.frame.Frame.{Frame}
 use Rattle.plstack.specs.Places.{Database, cases}
 use Rattle.plstack.specs.Frames.{AreFrames}
 use Rattle.plstack.specs.State.{State, goals_in, goals_of, kinds_in, cases_of, IsList, IsState, IsStack, Extends, Solves, Unifies, UnifiesTerms}
-use Rattle.plstack.proofs.Naming.{fits-env}
+use Rattle.plstack.proofs.Naming.{visited-env}
 use Rattle.plstack.proofs.Frames.{items-more, cases-kept, AreFrames-kept}
 
 -- the values that cases keep are as they were
@@ -70,7 +70,7 @@ module _ (s : State) (e : Env) (ls more : List Link) (links : ls ≡ s.links ++ 
     frames = frames-grown (goals_in s) s.env e s.links ls more s.saved links x.keeps env.heap.names (reverse s.frames) is.frames;
     seen = is.seen;
     goals = (list-grown s.goals is.goals).0;
-    fits = fits-env (kinds_in s) (goals_in s) s.env e (items_of s.links s.goals) (items_of ls s.goals) (ap (λ ks. items_of ks s.goals) links ∙ items-more s.links more s.goals is.goals.there) is.fits;
+    fits = visited-env (kinds_in s) (goals_in s) s.env e (items_of s.links s.goals) (items_of ls s.goals) (ap (λ ks. items_of ks s.goals) links ∙ items-more s.links more s.goals is.goals.there) is.fits;
   }
 
   pub extends-grown : IsState s → Extends s grown
@@ -108,7 +108,7 @@ module _ (s : State) (d : ℕ) (e : Env) (a b : Tree) (u : UnifiesEnv s.env e a 
       frames = frames-grown (goals_in s) s.env e s.links s.links [] s.saved (sym (append-nil s.links)) u.made.keeps env.heap.names (reverse s.frames) is.0.frames;
       seen = is.0.seen;
       goals = (list-unified s.goals is.0.goals).0;
-      fits = fits-env (kinds_in s) (goals_in s) s.env e (items_of s.links s.goals) (items_of s.links s.goals) refl is.0.fits;
+      fits = visited-env (kinds_in s) (goals_in s) s.env e (items_of s.links s.goals) (items_of s.links s.goals) refl is.0.fits;
     },
     is.1,
   )

@@ -12,7 +12,7 @@ use Rattle.plcells.specs.declared.cell.Cell.{Cell}
 use Rattle.plcells.specs.Store.{AreValues, value}
 use Rattle.plsearch.specs.Types.{Element, Place}
 use Rattle.plsearch.specs.Lists.{bind_goals}
-use Rattle.plsearch.specs.Rows.{before_rest, is_true, resolve}
+use Rattle.plsearch.specs.Moves.{before_rest, is_true, resolve}
 use Rattle.plcode.specs.declared.clause.ClauseCode.{ClauseCode}
 use Rattle.plcode.specs.declared.key.Key.{Key}
 use Rattle.plcode.specs.Keys.{IsFirstKey}
@@ -35,7 +35,7 @@ use Rattle.plstack.specs.State.{State, IsStack, goals_in, kinds_in, goals_of, ca
 use Rattle.plstack.specs.Fits.{Finds, FindsNone}
 use Rattle.plstack.specs.Attempts.{IsAttempt}
 use Rattle.plstack.specs.StaticCalls.{AreStatics, AtCall, further, onward}
-use Rattle.plstack.proofs.Naming.{fits-env}
+use Rattle.plstack.proofs.Naming.{visited-env}
 use Rattle.plstack.proofs.Renaming.{stays, agrees-renamed, called-renamed}
 use Rattle.plstack.proofs.Growing.{cases-grown, frames-grown, stack-env}
 use Rattle.plstack.proofs.Returning.{at-frame}
@@ -137,7 +137,7 @@ module _ (s : State) (d : ℕ) (is : IsStack s d) (p : Point) (c : Clauses) (at 
             frames = frames-grown (goals_in s) s.env e s.links s.links [] s.saved (sym (append-nil s.links)) keeps env.heap.names (reverse s.frames) is.0.frames;
             seen = is.0.seen;
             goals = (list-bound s.goals is.0.goals).0;
-            fits = fits-env (kinds_in s) (goals_in s) s.env e (items_of s.links s.goals) (items_of s.links s.goals) refl is.0.fits;
+            fits = visited-env (kinds_in s) (goals_in s) s.env e (items_of s.links s.goals) (items_of s.links s.goals) refl is.0.fits;
           },
           is.1,
         )

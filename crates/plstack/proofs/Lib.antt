@@ -1,5 +1,7 @@
 pub mod Renaming
 pub mod Naming
+pub mod Undoing
+pub mod Seeing
 pub mod Frames
 pub mod Growing
 pub mod Lists
@@ -7,9 +9,12 @@ pub mod Marking
 pub mod Stacks
 pub mod Handled
 pub mod Opening
+pub mod Transacting
 pub mod Returning
 pub mod Cutting
+pub mod Emptying
 pub mod Settling
+pub mod Leaving
 pub mod Giving
 pub mod Releasing
 pub mod Lowering
@@ -39,5 +44,4 @@ pub mod Ending
 pub mod Walking
 pub mod Postponed
 pub mod Heads
-pub mod Looking
 pub mod Fitted

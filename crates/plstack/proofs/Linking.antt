@@ -3,7 +3,7 @@ use Rattle.std.proofs.Common.{◌≡◌, ℕ, ◌+◌, Bool, true, false, List, 
 use Rattle.plterm.specs.Tree.{Tree}
 use Rattle.plcells.specs.declared.cell.Cell.{Cell}
 use Rattle.plsearch.specs.Types.{Element, Goal}
-use Rattle.plsearch.specs.Rows.{before_rest}
+use Rattle.plsearch.specs.Moves.{before_rest}
 use Rattle.pllinks.specs.declared.item.Item.{Item}
 use Rattle.pllinks.specs.declared.item.Item.TheVariants as items
 use Rattle.pllinks.specs.declared.link.Link.{Link}

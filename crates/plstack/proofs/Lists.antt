@@ -1,5 +1,5 @@
 -- New goal lists of a stack.
-use Rattle.std.proofs.Common.{◌≡◌, ℕ, ◌+◌, ◌≤◌, Bool, List, [], ◌∷◌, ◌++◌, length, length-append, map, take, refl, sym, ap, ap₂, ◌∙◌, subst, arith, append_assoc, le_refl, inl, inr, ◌⊎◌}
+use Rattle.std.proofs.Common.{◌≡◌, ℕ, ◌+◌, ◌≤◌, List, [], ◌∷◌, ◌++◌, length, length-append, map, take, refl, sym, ap, ap₂, ◌∙◌, subst, arith, append_assoc, le_refl, inl, inr, ◌⊎◌}
 use Rattle.std.proofs.lemmas.List.{take-append-le, take_all}
 use Rattle.plsearch.specs.Types.{Element}
 use Rattle.plcode.specs.Converted.{AreConverted}
@@ -14,7 +14,6 @@ use Rattle.pllinks.specs.declared.link.Continuation.{Continuation}
 use Rattle.pllinks.specs.Lists.{Goals, goal_of, elements, all_elements, AreItems, IsItem}
 use Rattle.pllinks.specs.Links.{done, alone, list_at, items_of, link_to, IsChain, IsDone, Numbers, IsList as IsListIn}
 use Rattle.pllinks.proofs.Arena.{list_at-more, list_at-new, list_at-none, chain-push}
-use Rattle.plstack.specs.Levels.{FitsIn}
 use Rattle.plstack.specs.State.{State, goals_in, goals_of, IsList, IsState, AddsList}
 use Rattle.plstack.proofs.Growing.{state-grown, extends-grown}
 
@@ -25,12 +24,9 @@ empty-list code none e links = record {
   items = ((record { width = 0; below = subst (AllBelowEach 0) (sym none) tt; within = le_refl _; converted = subst AreConverted (sym none) tt }, omega arith), subst (AreItems code e.heap (length e.slots)) (sym (list_at-none links)) tt);
 }
 
-no-elements : (code : Goals) → code 0 0 ≡ [] → (e : Env) (links : List Link) → all_elements code e (items_of links (alone 0)) ≡ []
+pub no-elements : (code : Goals) → code 0 0 ≡ [] → (e : Env) (links : List Link) → all_elements code e (items_of links (alone 0)) ≡ []
 unfolding all_elements
 no-elements code none e links = ap₂ (λ ts xs. map (goal_of e done) ts ++ all_elements code e xs) none (list_at-none links)
-
-pub no-goals-fit : (code : Goals) → code 0 0 ≡ [] → (e : Env) (links : List Link) (ks : List Bool) → FitsIn ks (all_elements code e (items_of links (alone 0)))
-no-goals-fit code none e links ks = subst (FitsIn ks) (sym (no-elements code none e links)) tt
 
 module _ (s : State) (is : IsState s) where
   -- a run of no goals

@@ -14,7 +14,7 @@ use Rattle.pllinks.specs.Lists.{goal_of, run_goals, all_elements, IsRun, AreItem
 use Rattle.pllinks.specs.Links.{list_at, items_of, slots_at}
 use Rattle.pllinks.specs.Changing.{Agrees}
 use Rattle.pllinks.proofs.Changing.{bind-agree, items-agree, items-more}
-use Rattle.plstack.specs.Levels.{FitsIn}
+use Rattle.plstack.specs.Levels.{EmptyOrFits}
 use Rattle.plstack.specs.State.{State, IsStack, goals_in, kinds_in, cases_of}
 use Rattle.plstack.specs.Giving.{GivesBack, IsShort}
 use Rattle.plstack.proofs.Giving.{back_refl}
@@ -84,7 +84,7 @@ module _ (s : State) (d : ℕ) (is : IsStack s d) (at : ℕ) (down : at ≤ s.go
         frames = frames-marked (goals_in s) s.env (lowered at s.goals.run.base s.env) s.links s.saved kept (reverse s.frames) is.0.frames;
         seen = is.0.seen;
         goals = record { there = is.0.goals.there; items = items-there };
-        fits = subst (FitsIn (kinds_in s)) (sym items-same) is.0.fits;
+        fits = subst (EmptyOrFits (kinds_in s)) (sym items-same) is.0.fits;
       },
       is.1,
     )

@@ -5,7 +5,7 @@ use Rattle.plterm.specs.Tree.{compound, trees}
 use Rattle.plcells.specs.declared.cell.Cell.{Cell}
 use Rattle.plcells.specs.Store.{Store, IsValue, AreValues, value}
 use Rattle.plsearch.specs.Types.{Choice}
-use Rattle.plsearch.specs.Rows.{resolve}
+use Rattle.plsearch.specs.Moves.{resolve}
 use Rattle.plsearch.specs.Engine.{deeper}
 use Rattle.plenv.specs.Env.{Env, cut}
 use Rattle.plenv.proofs.Keeping.{Keeps-refl}
@@ -109,7 +109,7 @@ module _ (s : State) (d : ℕ) (is : IsStack s d) (p : Point) (m : IsMarked s p.
 
   pub call-stack : IsStack opened (d + 1)
   call-stack =
-      let o = opened-state kept-state d opened.frames (Open p (resumes.Clauses c)) refl (values-stack s d is vs) (frame-there s d is p m i f (resumes.Clauses c) vs fit many) tt in
+      let o = opened-state kept-state d opened.frames (Open p (resumes.Clauses c)) refl (values-stack s d is vs) (frame-there s d is p m i f (resumes.Clauses c) vs fit many) (λ i. i) tt in
       (o.0, omega (arith, o.1))
 
   pub call-at : AtCall opened p c

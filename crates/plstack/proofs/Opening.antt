@@ -22,8 +22,10 @@ use Rattle.plstack.specs.declared.frame.Frame.TheVariants.{Plain, Open}
 use Rattle.plstack.specs.Places.{Database, kept, kept_values, case_of}
 use Rattle.plstack.specs.Frames.{AreOlder, IsResume, IsSeen, IsOpen, AreFrames}
 use Rattle.plgenerator.proofs.Staying.{turn_stays}
-use Rattle.plstack.specs.State.{State, IsStack, goals_in, kinds_in, cases_of, walks_in, IsFit, IsList, Extends, CountsUp, Opens, IsClauses, IsWalk, IsAnswers, IsBranch, IsCatcher, IsGatherer}
+use Rattle.plstack.specs.State.{State, IsStack, goals_in, kinds_in, cases_of, walks_in, IsFit, IsList, Extends, CountsUp, Opens, IsClauses, IsWalk, IsAnswers, IsBranch, IsCatcher, IsGatherer, IsUndo}
 use Rattle.plstack.specs.Opening.{branch_of, handler_of, closing, ClosedAs, IsHandling, OpensFrame, OpensIn, Keeps}
+use Rattle.plstack.specs.Levels.{sort_of, Undoing}
+use Rattle.plstack.proofs.Undoing.{stays-frame}
 use Rattle.plstack.proofs.Handled.{handled-same}
 use Rattle.plstack.proofs.Naming.{fits-env}
 use Rattle.plstack.proofs.Growing.{stack-env, extends-env}
@@ -68,7 +70,7 @@ module _ (s : State) (d : ℕ) (is : IsStack s d) (e : Env) (m : Marks) (mark : 
   pub count-now : e.count ≡ s.env.count
   count-now = ap (λ x. x.count) same
 
-  module _ (l : Continuation) (r : Resume) (i : IsList s l) (f : IsFit s l) (resume : IsResume s.env.heap [] r) (none : kept r ≡ 0) (seen : IsSeen s.basis.latest r) where
+  module _ (l : Continuation) (r : Resume) (i : IsList s l) (f : IsFit s l) (resume : IsResume s.env.heap [] r) (none : kept r ≡ 0) where
     abbrev point : Point
     point = record { marks = m; list = l }
 
@@ -78,8 +80,9 @@ module _ (s : State) (d : ℕ) (is : IsStack s d) (e : Env) (m : Marks) (mark : 
     resume-now (resumes.Answers x) a = (tt, turn_stays s.env.heap e.heap extends-now.values [] tt x.turn a.1)
     resume-now resumes.List a = tt
     resume-now (resumes.Handle x) a = (handled-same s.env.heap e.heap extends-now.values x a).0
+    resume-now resumes.Undo a = tt
 
-    frame-now : IsOpen (goals_in s) e s.links s.saved point r (reverse s.frames)
+    pub frame-now : IsOpen (goals_in s) e s.links s.saved point r (reverse s.frames)
     frame-now = record {
       mark = mark;
       links_room = omega (arith, links);
@@ -97,18 +100,18 @@ module _ (s : State) (d : ℕ) (is : IsStack s d) (e : Env) (m : Marks) (mark : 
     case-now db k = ap₂ (λ x vs. case_of db (goals_in s) k x (items_of s.links l) vs r) now (no-values m.saved (kept r) s.saved none)
 
     module _ (frames : List Frame) (pushed : frames ≡ s.frames ++ Open (record { marks = m; list = l }) r ∷ []) where
-      pub framed-stack : IsStack (record s { env = e; frames = frames }) (d + 1)
-      framed-stack =
-          let o = opened-state marked d frames (Open point r) pushed marked-stack frame-now seen in
+      pub framed-stack : (sort_of r ≡ Undoing → ⊥) → IsSeen s.basis.latest r → IsStack (record s { env = e; frames = frames }) (d + 1)
+      framed-stack stays seen =
+          let o = opened-state marked d frames (Open point r) pushed marked-stack frame-now (stays-frame point r stays) seen in
           (o.0, omega (arith, o.1))
 
-      framed-cases : (db : Database) → cases_of db (record s { env = e; frames = frames }) ≡ case_of db (goals_in s) (deeper (cases_of db s) 0) e (items_of s.links l) [] r ∷ cases_of db s
+      pub framed-cases : (db : Database) → cases_of db (record s { env = e; frames = frames }) ≡ case_of db (goals_in s) (deeper (cases_of db s) 0) e (items_of s.links l) [] r ∷ cases_of db s
       framed-cases db =
           opened-cases db marked frames (Open point r) pushed
           ∙ ap (λ cs. case_of db (goals_in s) (deeper cs 0) (cut m.env e) (items_of s.links l) (kept_values s.saved point r) r ∷ cs) (marked-extends.cases db)
           ∙ ap (λ c. c ∷ cases_of db s) (case-now db (deeper (cases_of db s) 0))
 
-      framed-keeps : (more : List Frame) → Keeps s (record s { env = e; frames = more })
+      pub framed-keeps : (more : List Frame) → Keeps s (record s { env = e; frames = more })
       framed-keeps more = record {
         values = extends-now.values;
         lists = λ x a. let r = marked-extends.lists x a in (record { there = r.0.there; items = r.0.items }, r.1);
@@ -120,9 +123,9 @@ module _ (s : State) (d : ℕ) (is : IsStack s d) (e : Env) (m : Marks) (mark : 
       framed-opens = record { cases = framed-cases; keeps = framed-keeps frames; walks = pushed-walks frames s.frames (Open point r) pushed; goals = refl }
 
       module _ (more : List Frame) (up : CountsUp 1 (reverse frames) (reverse more)) where
-        pub in-stack : IsStack (record s { env = e; frames = more }) (d + 2)
-        in-stack =
-            let c = counted 1 (record s { env = e; frames = frames }) (d + 1) more up framed-stack in
+        pub in-stack : (sort_of r ≡ Undoing → ⊥) → IsSeen s.basis.latest r → IsStack (record s { env = e; frames = more }) (d + 2)
+        in-stack stays seen =
+            let c = counted 1 (record s { env = e; frames = frames }) (d + 1) more up (framed-stack stays seen) in
             (c.0, omega (arith, c.1))
 
         pub in-opens : OpensIn s (record s { env = e; frames = more }) l r
@@ -179,12 +182,15 @@ closed-open db s rest p (resumes.Handle (handlers.Catch c)) e = (
   _,
   popped-cases db s rest (Open p (resumes.Handle (handlers.Catch c))) e,
   (λ a b is not. not (has-last IsCatcher s.frames rest (Open p (resumes.Handle (handlers.Catch c))) e tt)),
-  λ l is not. absurd (cc),
+  (λ l is not. absurd (cc)),
+  λ is. cc,
 )
 closed-open db s rest p (resumes.Handle (handlers.Gather v)) e = (
   _,
   _,
   popped-cases db s rest (Open p (resumes.Handle (handlers.Gather v))) e,
   (λ a b is not. absurd (cc)),
-  λ l is not. not (has-last IsGatherer s.frames rest (Open p (resumes.Handle (handlers.Gather v))) e tt),
+  (λ l is not. not (has-last IsGatherer s.frames rest (Open p (resumes.Handle (handlers.Gather v))) e tt)),
+  λ is. cc,
 )
+closed-open db s rest p resumes.Undo e = (_, popped-cases db s rest (Open p resumes.Undo) e, has-last IsUndo s.frames rest (Open p resumes.Undo) e tt)

@@ -10,7 +10,7 @@ use Rattle.plclause.proofs.Names.{IsName-true}
 use Rattle.plcells.specs.declared.cell.Cell.{Cell}
 use Rattle.plcells.specs.Store.{Store, value}
 use Rattle.plcells.specs.Putting.{standing}
-use Rattle.plsearch.specs.Rows.{clause_term}
+use Rattle.plsearch.specs.Lookups.{clause_term}
 
 neck_ascii : IsAscii (codes ":-")
 neck_ascii zero = lit< tt

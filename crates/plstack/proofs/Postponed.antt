@@ -1,10 +1,10 @@
 -- The case of a call, which is opened once a clause fits.
-use Rattle.std.proofs.Common.{◌≡◌, ℕ, ◌+◌, ◌-◌, ◌≤◌, List, [], ◌∷◌, ◌++◌, append-nil, length, map, get_or, refl, sym, ap, ◌∙◌, subst, arith, reverse, Option, Some, None}
+use Rattle.std.proofs.Common.{◌≡◌, ℕ, ◌+◌, ◌-◌, ◌≤◌, List, [], ◌∷◌, ◌++◌, append-nil, length, map, get_or, refl, sym, ap, ◌∙◌, subst, arith, reverse, Option, Some, None, inr}
 use Rattle.platoms.specs.Names.{Extends as ExtendsNames}
 use Rattle.plsubst.specs.Subst.{bind}
 use Rattle.plcells.specs.declared.cell.Cell.{Cell}
 use Rattle.plcells.specs.Store.{AreValues, value}
-use Rattle.plsearch.specs.Rows.{before_rest, is_true}
+use Rattle.plsearch.specs.Moves.{before_rest, is_true}
 use Rattle.plsearch.specs.Engine.{deeper}
 use Rattle.plsearch.specs.Types.{Choice}
 use Rattle.plcode.specs.Keys.{IsFirstKey}
@@ -148,7 +148,7 @@ module _ (s : State) (d : ℕ) (is : IsStack s d) (p : Point) (m : IsMarked s p.
       entered-stack =
           let l = body-there framed (d + 1) framed-stack hit after-hits.clause after-hits.code after-hits.slots (alone p.list.rest) p.list.rest behind-there refl d in
           let t = framed-stack.0 in
-          (record { env = t.env; names = t.names; none = t.none; chain = t.chain; frames = t.frames; seen = t.seen; goals = record { there = l.there; items = l.items }; fits = body-fits framed (d + 1) framed-stack hit after-hits.clause after-hits.code after-hits.slots (alone p.list.rest) p.list.rest behind-there refl d (kinds_of (reverse frames)) precedes }, framed-stack.1)
+          (record { env = t.env; names = t.names; none = t.none; chain = t.chain; frames = t.frames; seen = t.seen; goals = record { there = l.there; items = l.items }; fits = inr (body-fits framed (d + 1) framed-stack hit after-hits.clause after-hits.code after-hits.slots (alone p.list.rest) p.list.rest behind-there refl d (kinds_of (reverse frames)) precedes) }, framed-stack.1)
 
       level : d ≡ deeper goes.below 0
       level = let e : d + 1 - 1 ≡ deeper goes.below 0 = level-of db framed framed (d + 1) framed-stack refl _ goes.below goes.cases in omega (arith, e)

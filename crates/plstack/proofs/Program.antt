@@ -9,6 +9,7 @@ use Rattle.plcode.specs.Steps.{Text}
 use Rattle.plcode.specs.Clauses.{AreCodeOf, AreProcedures}
 use Rattle.plcode.specs.Callees.{Compiled, IsStatic, IsProgramCode}
 use Rattle.plstack.specs.Fits.{AreOwn}
+use Rattle.plevent.specs.declared.update.Update.{Update}
 use Rattle.plstore.specs.Looking.{Views}
 use Rattle.plstack.specs.StaticCalls.{statics_of, database_of, AreStatics}
 
@@ -36,8 +37,8 @@ module _ (c : Text) where
   as_many (ks ∷ kss) (e ∷ es) h = let n = as_many kss es h.1 in omega arith
 
 -- the code of a program is that of its procedures
-pub code-statics : (P : Program) (v : Views) (m : Compiled) → IsProgramCode P m → AreStatics m (database_of P v)
-code-statics P v m is = record {
+pub code-statics : (P : Program) (v : Views) (us : List Update) (m : Compiled) → IsProgramCode P m → AreStatics m (database_of P v us)
+code-statics P v us m is = record {
   own = λ i lt. own_at m.text m.procedures P.procedures i is.procedures is.own lt;
   none = λ i le. let n = as_many m.text m.procedures P.procedures is.procedures in ap (λ e. e.1) (get_or_past P.procedures i nothing (omega arith));
 }

@@ -28,7 +28,7 @@ use Rattle.plstack.specs.Frames.{IsResume, IsOpen, AreFrames}
 use Rattle.plstack.specs.State.{State, IsStack, goals_in, kinds_in, cases_of}
 use Rattle.plstack.specs.Giving.{GivesBack, IsShort}
 use Rattle.plstack.specs.Levels.{kinds_of}
-use Rattle.plstack.proofs.Naming.{fits-env}
+use Rattle.plstack.proofs.Naming.{fits-env, visited-env}
 
 -- items that ask for no more than the first n slots
 abbrev pub AskFor : ℕ → List Item → Type 0
@@ -135,7 +135,7 @@ module _ (s : State) (d : ℕ) (is : IsStack s d) (base : ℕ) (base_is : base �
       frames = frames-marked (goals_in s) s.env (released base s.env) s.links s.saved kept (reverse s.frames) is.0.frames;
       seen = is.0.seen;
       goals = record { there = is.0.goals.there; items = items-left };
-      fits = fits-env (kinds_in s) (goals_in s) s.env (released base s.env) (items_of s.links s.goals) (items_of s.links s.goals) refl is.0.fits;
+      fits = visited-env (kinds_in s) (goals_in s) s.env (released base s.env) (items_of s.links s.goals) (items_of s.links s.goals) refl is.0.fits;
     },
     is.1,
   )

@@ -6,8 +6,9 @@ use Rattle.plclause.specs.Clause.{Clause}
 use Rattle.plcells.specs.declared.cell.Cell.{Cell}
 use Rattle.plcells.specs.Store.{AreValues, value, renamed as renamed_heap, Preserves}
 use Rattle.plcells.proofs.Renaming.{Preserves-renamed}
-use Rattle.plsearch.specs.Types.{Element, Choice, Handle}
-use Rattle.plsearch.specs.Rows.{resolve, solved}
+use Rattle.plsearch.specs.Types.{Element, Choice, Handle, Undo}
+use Rattle.plsearch.specs.Moves.{resolve}
+use Rattle.plsearch.specs.Rows.{solved}
 use Rattle.plbuiltin.specs.Solution.{Solution}
 use Rattle.plgenerator.specs.declared.turn.Turn.{Turn}
 use Rattle.plgenerator.proofs.Staying.{turn_stays, left_stays}
@@ -53,6 +54,7 @@ module _ (e : Env) (t : Table) (is : IsEnv e) (table : IsTable t) (more : Extend
   resume-renamed vs (resumes.Answers a) i = ((values-renamed vs i.0).0, turn_stays e.heap (renamed_heap e.heap t) stays.values vs i.0 a.turn i.1)
   resume-renamed vs resumes.List i = tt
   resume-renamed vs (resumes.Handle x) i = (handled-same e.heap (renamed_heap e.heap t) stays.values x i).0
+  resume-renamed vs resumes.Undo i = tt
 
   module _ (code : Goals) (xs : List Item) (items : AreItems code e.heap (length e.slots) xs) where
     goals-renamed : all_elements code (renamed e t) xs ≡ all_elements code e xs
@@ -75,3 +77,4 @@ module _ (e : Env) (t : Table) (is : IsEnv e) (table : IsTable t) (more : Extend
       case-renamed vs (resumes.Answers a) i = ap Choice (answers-renamed vs i.0 a.turn)
       case-renamed vs resumes.List i = ap (λ es. Choice (record { goals = es; variables = e.count } ∷ [])) goals-renamed
       case-renamed vs (resumes.Handle x) i = ap₂ (λ h es. Handle h (record { goals = es; variables = e.count })) (handled-same e.heap (renamed_heap e.heap t) stays.values x i).1 goals-renamed
+      case-renamed vs resumes.Undo i = ap (λ es. Handle Undo (record { goals = es; variables = e.count })) goals-renamed

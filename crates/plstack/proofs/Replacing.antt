@@ -1,5 +1,5 @@
 -- The newest case, a choice point that goes on: another one stands in its place, or a choice with nothing left.
-use Rattle.std.proofs.Common.{◌≡◌, ℕ, ◌+◌, ◌-◌, Bool, true, List, [], ◌∷◌, ◌++◌, reverse, sym, ap, subst, ◌∙◌, arith}
+use Rattle.std.proofs.Common.{◌≡◌, ℕ, ◌+◌, ◌-◌, List, [], ◌∷◌, ◌++◌, reverse, sym, ap, subst, ◌∙◌, arith}
 use Rattle.plsearch.specs.Types.{Choice}
 use Rattle.plenv.specs.Env.{cut}
 use Rattle.pllinks.specs.Links.{alone}
@@ -10,10 +10,10 @@ use Rattle.plstack.specs.declared.frame.Frame.TheVariants.{Open}
 use Rattle.plstack.specs.Places.{Database, kept, kept_values, opened}
 use Rattle.plstack.specs.Frames.{AreOlder, IsOpen, IsResume, IsSeen}
 use Rattle.plstack.specs.State.{State, IsStack, goals_in, goals_of, kinds_in, cases_of, CountsUp}
-use Rattle.plstack.specs.Levels.{is_chosen, kinds_of, FitsIn}
-use Rattle.plstack.proofs.Naming.{Widens, widens-same, widens-chosen, fits-widen}
+use Rattle.plstack.specs.Levels.{Sort, Choosing, sort_of, kinds_of, EmptyOrFits}
+use Rattle.plstack.proofs.Undoing.{choice-stays}
 use Rattle.plstack.proofs.Frames.{reverse-push}
-use Rattle.plstack.proofs.Stacks.{visiting, opened-cases, opened-state, counted, counted-cases, popped-cases, popped-stack}
+use Rattle.plstack.proofs.Stacks.{visiting-any, opened-cases, opened-state, counted, counted-cases, popped-cases, popped-stack}
 use Rattle.plstack.proofs.Returning.{at-frame, back-depth}
 
 head_is : (x y : Frame) (xs ys : List Frame) → x ∷ xs ≡ y ∷ ys → x ≡ y
@@ -27,21 +27,21 @@ module _ (s : State) (d : ℕ) (is : IsStack s d) (p : Point) (r : Resume) (befo
   the-case : IsOpen (goals_in s) s.env s.links s.saved p r (reverse rest)
   the-case = at-frame s d is rest p r popped
 
-  below-stack : IsStack (record s { frames = rest; goals = alone 0 }) (d - 1)
-  below-stack = popped-stack s d rest (Open p r) popped is
+  below-stack : sort_of r ≡ Choosing → IsStack (record s { frames = rest; goals = alone 0 }) (d - 1)
+  below-stack choice = popped-stack s d rest (Open p r) popped is (choice-stays (Open p r) choice)
 
   pub taken-cases : (db : Database) → cases_of db s ≡ opened db (goals_in s) s.env s.links s.saved (Open p r) (cases_of db (record s { frames = rest }))
   taken-cases db = popped-cases db s rest (Open p r) popped
 
-  was-kinds : kinds_in s ≡ is_chosen r ∷ kinds_of (reverse rest)
+  was-kinds : kinds_in s ≡ sort_of r ∷ kinds_of (reverse rest)
   was-kinds = ap (λ fs. kinds_of fs) (ap reverse popped ∙ reverse-push rest (Open p r))
 
   -- the visited list fits again
-  again-fits : (ks : List Bool) → Widens (is_chosen r ∷ kinds_of (reverse rest)) ks → FitsIn ks (goals_of s s.goals)
-  again-fits ks w = fits-widen (is_chosen r ∷ kinds_of (reverse rest)) ks w (goals_of s s.goals) (subst (λ xs. FitsIn xs (goals_of s s.goals)) was-kinds is.0.fits)
+  again-fits : (choice : sort_of r ≡ Choosing) (ks : List Sort) → ks ≡ Choosing ∷ kinds_of (reverse rest) → EmptyOrFits ks (goals_of s s.goals)
+  again-fits choice ks same = subst (λ xs. EmptyOrFits xs (goals_of s s.goals)) (was-kinds ∙ ap (λ b. b ∷ kinds_of (reverse rest)) choice ∙ sym same) is.0.fits
 
   -- another one that keeps as many values
-  module _ (r' : Resume) (many : kept r' ≡ kept r) (kind : is_chosen r' ≡ is_chosen r)
+  module _ (r' : Resume) (many : kept r' ≡ kept r) (choice : sort_of r ≡ Choosing) (kind : sort_of r' ≡ Choosing)
       (fits : IsResume (cut p.marks.env s.env).heap (kept_values s.saved p r) r → IsResume (cut p.marks.env s.env).heap (kept_values s.saved p r') r')
       (seen : IsSeen s.basis.latest r') (frames : List Frame) (pushed : frames ≡ rest ++ Open p r' ∷ []) where
     frame : IsOpen (goals_in s) s.env s.links s.saved p r' (reverse rest)
@@ -58,9 +58,9 @@ module _ (s : State) (d : ℕ) (is : IsStack s d) (p : Point) (r : Resume) (befo
 
     pub other-stack : IsStack (record s { frames = frames }) d
     other-stack =
-        let o = opened-state (record s { frames = rest; goals = alone 0 }) (d - 1) frames (Open p r') pushed below-stack frame seen in
-        let same : kinds_of (reverse frames) ≡ is_chosen r ∷ kinds_of (reverse rest) = ap (λ fs. kinds_of fs) (ap reverse pushed ∙ reverse-push rest (Open p r')) ∙ ap (λ b. b ∷ kinds_of (reverse rest)) kind in
-        let v = visiting (record s { frames = frames; goals = alone 0 }) (1 + (d - 1)) s.goals o (record { there = is.0.goals.there; items = is.0.goals.items }) (again-fits (kinds_of (reverse frames)) (widens-same _ _ same)) in
+        let o = opened-state (record s { frames = rest; goals = alone 0 }) (d - 1) frames (Open p r') pushed (below-stack choice) frame (choice-stays (Open p r') kind) seen in
+        let same : kinds_of (reverse frames) ≡ Choosing ∷ kinds_of (reverse rest) = ap (λ fs. kinds_of fs) (ap reverse pushed ∙ reverse-push rest (Open p r')) ∙ ap (λ b. b ∷ kinds_of (reverse rest)) kind in
+        let v = visiting-any (record s { frames = frames; goals = alone 0 }) (1 + (d - 1)) s.goals o (record { there = is.0.goals.there; items = is.0.goals.items }) (again-fits choice (kinds_of (reverse frames)) same) in
         (v.0, omega (arith, v.1, back-depth s d is rest p r popped))
 
     pub other-cases : (db : Database) → cases_of db (record s { frames = frames }) ≡ opened db (goals_in s) s.env s.links s.saved (Open p r') (cases_of db (record s { frames = rest }))
@@ -68,12 +68,10 @@ module _ (s : State) (d : ℕ) (is : IsStack s d) (p : Point) (r : Resume) (befo
 
   -- nothing is left
   module _ (frames : List Frame) (up : CountsUp 1 (reverse rest) (reverse frames)) where
-    pub none-stack : IsStack (record s { frames = frames }) d
-    none-stack =
-        let u = counted 1 (record s { frames = rest; goals = alone 0 }) (d - 1) frames up below-stack in
-        let w : Widens (is_chosen r ∷ kinds_of (reverse rest)) (true ∷ kinds_of (reverse rest)) = widens-chosen (is_chosen r) (kinds_of (reverse rest)) in
-        let v = visiting (record s { frames = frames; goals = alone 0 }) (d - 1 + 1) s.goals u (record { there = is.0.goals.there; items = is.0.goals.items })
-        (subst (λ ks. FitsIn ks (goals_of s s.goals)) (sym up.kinds) (again-fits (true ∷ kinds_of (reverse rest)) w)) in
+    pub none-stack : sort_of r ≡ Choosing → IsStack (record s { frames = frames }) d
+    none-stack choice =
+        let u = counted 1 (record s { frames = rest; goals = alone 0 }) (d - 1) frames up (below-stack choice) in
+        let v = visiting-any (record s { frames = frames; goals = alone 0 }) (d - 1 + 1) s.goals u (record { there = is.0.goals.there; items = is.0.goals.items }) (again-fits choice (kinds_of (reverse frames)) up.kinds) in
         (v.0, omega (arith, v.1, back-depth s d is rest p r popped))
 
     pub none-cases : (db : Database) → cases_of db (record s { frames = frames }) ≡ Choice [] ∷ cases_of db (record s { frames = rest })

@@ -11,7 +11,8 @@ use Rattle.plcells.specs.declared.cell.Cell.{Cell}
 use Rattle.plcells.specs.Store.{IsValue, AreValues, at, value, renamed as renamed_heap}
 use Rattle.plcells.specs.Putting.{standing}
 use Rattle.plcells.proofs.Pushing.{value-at-list}
-use Rattle.plsearch.specs.Rows.{as_fact, clause_term, is_true}
+use Rattle.plsearch.specs.Moves.{is_true}
+use Rattle.plsearch.specs.Lookups.{as_fact, clause_term}
 use Rattle.plenv.specs.Env.{Env, IsEnv, renamed, variable}
 use Rattle.plenv.specs.Changes.{Extends, Puts, PutsVariables, Unifies}
 use Rattle.plenv.proofs.Keeping.{Keeps-trans}

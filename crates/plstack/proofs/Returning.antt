@@ -1,5 +1,5 @@
 -- A stack that comes back to where its newest case was opened.
-use Rattle.std.proofs.Common.{◌≡◌, ℕ, suc, ◌-◌, ◌+◌, ◌≤◌, true, drop, List, [], ◌∷◌, ◌++◌, length, take, refl, sym, ap, ap₂, ◌∙◌, subst, arith, reverse, le_refl, length-take-le}
+use Rattle.std.proofs.Common.{◌≡◌, ℕ, suc, ◌-◌, ◌+◌, ◌≤◌, drop, List, [], ◌∷◌, ◌++◌, length, take, refl, sym, ap, ap₂, ◌∙◌, subst, arith, reverse, le_refl, length-take-le, inl}
 use Rattle.platoms.specs.Names.{Extends as ExtendsNames}
 use Rattle.plsearch.specs.Types.{Case, Choice, Handle}
 use Rattle.plenv.specs.Env.{Env, IsEnv, IsWithin, cut}
@@ -17,12 +17,12 @@ use Rattle.plstack.specs.declared.frame.Frame.{Frame}
 use Rattle.plstack.specs.declared.frame.Frame.TheVariants.{Open}
 use Rattle.plstack.specs.Places.{Database, handled, case_of, depth_of}
 use Rattle.plstack.specs.Frames.{IsOpen, AreOlder, IsResume, AreFrames}
-use Rattle.plstack.specs.State.{State, IsStack, goals_in, goals_of, kinds_in, cases_of, IsFit, IsList, CountsUp, Retries, AtHandler, Leaves, Recovers, IsHandler}
+use Rattle.plstack.specs.State.{State, IsStack, goals_in, goals_of, kinds_in, cases_of, IsFit, IsList, CountsUp, Retries, AtHandler, Leaves, Recovers, IsHandler, IsUndo}
 use Rattle.plstack.specs.Cutting.{Settles}
 use Rattle.plstack.proofs.Frames.{items-take, cases-cut, AreFrames-cut, reverse-push}
-use Rattle.plstack.specs.Levels.{kinds_of, FitsIn}
+use Rattle.plstack.specs.Levels.{Choosing, kinds_of, FitsIn}
 use Rattle.plstack.proofs.Naming.{fits-env}
-use Rattle.plstack.proofs.Lists.{empty-list, no-goals-fit}
+use Rattle.plstack.proofs.Lists.{empty-list, no-elements}
 use Rattle.plstack.proofs.Stacks.{visiting, opened-cases, opened-state, counted, counted-cases, popped-cases, popped-frames, popped-seen, popped-stack, has-last}
 
 -- marks are not older than themselves
@@ -45,7 +45,7 @@ module _ (s : State) (d : ℕ) (is : IsStack s d) (rest : List Frame) (p : Point
   pub back-depth : d ≡ suc (depth_of (reverse rest))
   back-depth = omega (arith, (popped-frames s d rest (Open p r) popped is).2)
 
-  back-env : IsEnv (cut p.marks.env s.env)
+  pub back-env : IsEnv (cut p.marks.env s.env)
   back-env = at-frame.mark.env
 
   back-names : ExtendsNames s.basis.code.text.names (cut p.marks.env s.env).heap.names
@@ -54,20 +54,20 @@ module _ (s : State) (d : ℕ) (is : IsStack s d) (rest : List Frame) (p : Point
   saved-room : p.marks.saved ≤ length s.saved
   saved-room = omega (arith, at-frame.saved_room)
 
-  back-frames : AreFrames (goals_in s) (cut p.marks.env s.env) (take p.marks.links s.links) (take p.marks.saved s.saved) (reverse rest)
+  pub back-frames : AreFrames (goals_in s) (cut p.marks.env s.env) (take p.marks.links s.links) (take p.marks.saved s.saved) (reverse rest)
   back-frames = AreFrames-cut (goals_in s) s.env s.links s.saved p.marks at-frame.mark at-frame.links_room saved-room (reverse rest) at-frame.older (popped-frames s d rest (Open p r) popped is).1
 
-  pub back-stack : IsStack back (d - 1)
-  back-stack = (
+  pub back-stack : (IsUndo (Open p r) → ⊥) → IsStack back (d - 1)
+  back-stack stays = (
     record {
       env = back-env;
       names = back-names;
       none = is.0.none;
       chain = chain-take s.links p.marks.links is.0.chain at-frame.links_room;
       frames = back-frames;
-      seen = (popped-seen s d rest (Open p r) popped is).1;
+      seen = (popped-seen s d rest (Open p r) popped is stays).1;
       goals = empty-list (goals_in s) is.0.none (cut p.marks.env s.env) (take p.marks.links s.links);
-      fits = no-goals-fit (goals_in s) is.0.none (cut p.marks.env s.env) (take p.marks.links s.links) (kinds_of (reverse rest));
+      fits = inl (no-elements (goals_in s) is.0.none (cut p.marks.env s.env) (take p.marks.links s.links));
     },
     omega (arith, back-depth),
   )
@@ -105,7 +105,7 @@ module _ (s : State) (d : ℕ) (is : IsStack s d) (rest : List Frame) (p : Point
 
   pub taken-stack : IsStack taken-state d
   taken-stack =
-      let v = visiting was (d - 1) p.list (back-stack s d is rest p resumes.List popped) (back-list s d is rest p resumes.List popped) (back-fits s d is rest p resumes.List popped) in
+      let v = visiting was (d - 1) p.list (back-stack s d is rest p resumes.List popped (λ i. i)) (back-list s d is rest p resumes.List popped) (back-fits s d is rest p resumes.List popped) in
       let c = counted 1 (record was { goals = p.list }) (d - 1) frames up v in
       (c.0, omega (arith, c.1, back-depth s d is rest p resumes.List popped))
 
@@ -149,7 +149,7 @@ module _ (s : State) (d : ℕ) (is : IsStack s d) (rest : List Frame) (p : Point
 
   pub rewound-stack : IsStack rewound d
   rewound-stack =
-      let o = opened-state none-visited (d - 1) s.frames (Open p (resumes.Handle x)) popped (back-stack s d is rest p (resumes.Handle x) popped) frame-then tt in
+      let o = opened-state none-visited (d - 1) s.frames (Open p (resumes.Handle x)) popped (back-stack s d is rest p (resumes.Handle x) popped (λ i. i)) frame-then (λ i. i) tt in
       (o.0, omega (arith, o.1, back-depth s d is rest p (resumes.Handle x) popped))
 
   rewound-open : (db : Database) → cases_of db rewound ≡
@@ -180,15 +180,15 @@ tail_is x y xs ys e = cc
 
 -- a list is visited in a choice in place of a handler
 module _ (s : State) (d : ℕ) (is : IsStack s d) (rest : List Frame) (p : Point) (x : Handler) (popped : s.frames ≡ rest ++ Open p (resumes.Handle x) ∷ []) (frames : List Frame) (up : CountsUp 1 (reverse rest) (reverse frames))
-    (list : Continuation) (l : IsList s list) (f : FitsIn (true ∷ drop 1 (kinds_in s)) (goals_of s list)) where
+    (list : Continuation) (l : IsList s list) (f : FitsIn (Choosing ∷ drop 1 (kinds_in s)) (goals_of s list)) where
   abbrev without : State
   without = record { basis = s.basis; env = s.env; links = s.links; saved = s.saved; frames = rest; goals = list }
 
   pub recovered-stack : IsStack (record s { frames = frames; goals = list }) d
   recovered-stack =
       let q = popped-frames s d rest (Open p (resumes.Handle x)) popped is in
-      let u = counted 1 (record s { frames = rest; goals = alone 0 }) (d - 1) frames up (popped-stack s d rest (Open p (resumes.Handle x)) popped is) in
-      let same : true ∷ drop 1 (kinds_in s) ≡ kinds_of (reverse frames) = ap (λ fs. true ∷ drop 1 (kinds_of fs)) (ap reverse popped ∙ reverse-push rest (Open p (resumes.Handle x))) ∙ sym up.kinds in
+      let u = counted 1 (record s { frames = rest; goals = alone 0 }) (d - 1) frames up (popped-stack s d rest (Open p (resumes.Handle x)) popped is (λ i. i)) in
+      let same : Choosing ∷ drop 1 (kinds_in s) ≡ kinds_of (reverse frames) = ap (λ fs. Choosing ∷ drop 1 (kinds_of fs)) (ap reverse popped ∙ reverse-push rest (Open p (resumes.Handle x))) ∙ sym up.kinds in
       let v = visiting (record s { frames = frames; goals = alone 0 }) (d - 1 + 1) list u (record { there = l.there; items = l.items }) (subst (λ ks. FitsIn ks (goals_of s list)) same f) in
       (v.0, omega (arith, v.1, q.2))
 
@@ -206,7 +206,7 @@ module _ (s : State) (d : ℕ) (is : IsStack s d) (rest : List Frame) (p : Point
   left-stack =
       let q = popped-frames s d rest (Open p (resumes.Handle x)) popped is in
       let same : drop 1 (kinds_in s) ≡ kinds_of (reverse rest) = ap (λ fs. drop 1 (kinds_of fs)) (ap reverse popped ∙ reverse-push rest (Open p (resumes.Handle x))) in
-      let v = visiting (record s { frames = rest; goals = alone 0 }) (d - 1) list (popped-stack s d rest (Open p (resumes.Handle x)) popped is) (record { there = l.there; items = l.items }) (subst (λ ks. FitsIn ks (goals_of s list)) same f) in
+      let v = visiting (record s { frames = rest; goals = alone 0 }) (d - 1) list (popped-stack s d rest (Open p (resumes.Handle x)) popped is (λ i. i)) (record { there = l.there; items = l.items }) (subst (λ ks. FitsIn ks (goals_of s list)) same f) in
       (v.0, omega (arith, q.2))
 
   pub leaves : Leaves s (record s { frames = rest; goals = list }) list

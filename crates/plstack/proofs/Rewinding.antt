@@ -15,13 +15,13 @@ use Rattle.plstack.specs.declared.frame.Frame.{Frame}
 use Rattle.plstack.specs.declared.frame.Frame.TheVariants.{Open}
 use Rattle.plstack.specs.Places.{Database, kept, kept_values, case_of, cases}
 use Rattle.plstack.specs.Frames.{IsOpen, IsResume, AreFrames}
-use Rattle.plstack.specs.State.{State, IsStack, goals_in, cases_of, IsList, goals_of}
+use Rattle.plstack.specs.State.{State, IsStack, goals_in, cases_of, IsList, IsUndo, goals_of}
 use Rattle.plstack.specs.StaticCalls.{AtCall}
 use Rattle.plstack.specs.Levels.{kinds_of, FitsIn}
 use Rattle.plstack.proofs.Naming.{fits-env}
 use Rattle.plstack.proofs.Frames.{run-take, cases-kept, AreFrames-kept, reverse-push}
 use Rattle.plstack.proofs.Stacks.{opened-cases, opened-state, popped-cases, popped-seen}
-use Rattle.plstack.proofs.Returning.{older-same, at-frame, back, back-depth, back-stack, back-cases, back-list, same-items}
+use Rattle.plstack.proofs.Returning.{older-same, at-frame, back-depth, back-env, back-frames, back-stack, back-cases, back-list, same-items}
 
 take-nil : (k : ℕ) → take {A = Cell} k [] ≡ []
 take-nil zero = refl
@@ -46,9 +46,6 @@ module _ (s : State) (d : ℕ) (is : IsStack s d) (rest : List Frame) (p : Point
   the-frame : IsOpen (goals_in s) s.env s.links s.saved p r (reverse rest)
   the-frame = at-frame s d is rest p r popped
 
-  was : IsStack (back s d is rest p r popped) (d - 1)
-  was = back-stack s d is rest p r popped
-
   split : values ≡ take p.marks.saved s.saved ++ take (kept r) (drop p.marks.saved s.saved)
   split = split-at p.marks.saved (kept r) s.saved
 
@@ -56,10 +53,10 @@ module _ (s : State) (d : ℕ) (is : IsStack s d) (rest : List Frame) (p : Point
   frames-then =
       subst (λ vs. AreFrames (goals_in s) e (take p.marks.links s.links) vs (reverse rest)) (sym split)
       (subst (λ ks. AreFrames (goals_in s) e ks (take p.marks.saved s.saved ++ take (kept r) (drop p.marks.saved s.saved)) (reverse rest)) (append-nil (take p.marks.links s.links))
-      (AreFrames-kept (goals_in s) e e (take p.marks.links s.links) [] (take p.marks.saved s.saved) (take (kept r) (drop p.marks.saved s.saved)) (Keeps-refl e) was.0.env.heap.names (reverse rest) was.0.frames))
+      (AreFrames-kept (goals_in s) e e (take p.marks.links s.links) [] (take p.marks.saved s.saved) (take (kept r) (drop p.marks.saved s.saved)) (Keeps-refl e) (back-env s d is rest p r popped).heap.names (reverse rest) (back-frames s d is rest p r popped)))
 
-  pub without-stack : IsStack without (d - 1)
-  without-stack = (
+  pub without-stack : (IsUndo (Open p r) → ⊥) → IsStack without (d - 1)
+  without-stack stays = let was = back-stack s d is rest p r popped stays in (
     record { env = was.0.env; names = was.0.names; none = was.0.none; chain = was.0.chain; frames = frames-then; seen = was.0.seen; goals = record { there = was.0.goals.there; items = was.0.goals.items }; fits = was.0.fits },
     was.1,
   )
@@ -68,7 +65,7 @@ module _ (s : State) (d : ℕ) (is : IsStack s d) (rest : List Frame) (p : Point
   unfolding cases_of
   without-cases db =
       ap₂ (λ ks vs. cases db (goals_in s) e ks vs (reverse rest)) (sym (append-nil (take p.marks.links s.links))) split
-      ∙ cases-kept (goals_in s) e e (take p.marks.links s.links) [] (take p.marks.saved s.saved) (take (kept r) (drop p.marks.saved s.saved)) (Keeps-refl e) was.0.env.heap.names db (reverse rest) was.0.frames
+      ∙ cases-kept (goals_in s) e e (take p.marks.links s.links) [] (take p.marks.saved s.saved) (take (kept r) (drop p.marks.saved s.saved)) (Keeps-refl e) (back-env s d is rest p r popped).heap.names db (reverse rest) (back-frames s d is rest p r popped)
       ∙ back-cases s d is rest p r popped db
 
   pub now : cut p.marks.env e ≡ e
@@ -92,9 +89,9 @@ module _ (s : State) (d : ℕ) (is : IsStack s d) (rest : List Frame) (p : Point
   abbrev pub rewound : State
   rewound = record { basis = s.basis; env = cut p.marks.env s.env; links = take p.marks.links s.links; saved = take (p.marks.saved + kept r) s.saved; frames = s.frames; goals = alone 0 }
 
-  pub rewound-stack : IsStack rewound d
-  rewound-stack =
-      let o = opened-state without (d - 1) s.frames (Open p r) popped without-stack frame-then (popped-seen s d rest (Open p r) popped is).0 in
+  pub rewound-stack : (IsUndo (Open p r) → ⊥) → IsStack rewound d
+  rewound-stack stays =
+      let o = opened-state without (d - 1) s.frames (Open p r) popped (without-stack stays) frame-then stays (popped-seen s d rest (Open p r) popped is stays).0 in
       (o.0, omega (arith, o.1, back-depth s d is rest p r popped))
 
   pub rewound-cases : (db : Database) → cases_of db rewound ≡ cases_of db s

@@ -12,7 +12,7 @@ use Rattle.plcells.specs.Store.{renamed as renamed_heap}
 use Rattle.plsearch.specs.Types.{Element}
 use Rattle.plsearch.specs.Lists.{bind_goals}
 use Rattle.plsearch.specs.Forms.{arguments}
-use Rattle.plsearch.specs.Rows.{resolve, before_rest, is_true}
+use Rattle.plsearch.specs.Moves.{resolve, before_rest, is_true}
 use Rattle.plcode.specs.declared.clause.ClauseCode.{ClauseCode}
 use Rattle.plcode.specs.declared.key.Key.{Key}
 use Rattle.plcode.specs.declared.node.Node.{Node}

@@ -1,12 +1,12 @@
 -- What becomes of a stack where choices were given up.
-use Rattle.std.proofs.Common.{◌≡◌, ℕ, suc, ◌+◌, ◌<◌, ◌≤◌, List, [], ◌∷◌, ◌++◌, length, take, drop, reverse, refl, sym, ap, ap₂, ◌∙◌, subst, arith, le_trans, le_refl, take-append-drop, length-take-le, get_or}
+use Rattle.std.proofs.Common.{◌≡◌, ℕ, suc, ◌+◌, ◌<◌, ◌≤◌, List, [], ◌∷◌, ◌++◌, length, take, drop, reverse, refl, sym, ap, ap₂, ◌∙◌, subst, arith, le_trans, le_refl, take-append-drop, length-take-le, get_or, Option, None, Some, IfSome}
 use Rattle.std.proofs.lemmas.List.{reverse-append, take-take, get_or_default}
 use Rattle.plcells.specs.declared.cell.Cell.{Cell}
 use Rattle.plcells.specs.Store.{IsValue, value}
 use Rattle.plsearch.specs.Engine.{deeper}
-use Rattle.plsearch.specs.Machines.Levels.{AreAtMost}
+use Rattle.plviews.specs.declared.view.View.{View}
 use Rattle.platoms.specs.Names.{Extends as ExtendsNames}
-use Rattle.plenv.specs.Env.{Env, IsEnv, cut}
+use Rattle.plenv.specs.Env.{Env, IsEnv, IsWithin, cut}
 use Rattle.plenv.specs.Changes.{Commits, IsBelow}
 use Rattle.pllinks.specs.declared.link.Link.{Link}
 use Rattle.pllinks.specs.declared.link.Continuation.{Continuation}
@@ -22,13 +22,13 @@ use Rattle.plstack.specs.declared.frame.Frame.TheVariants.{Plain, Open}
 use Rattle.plstack.specs.Places.{Database, kept, kept_values, case_of, plain, cases, walks_of}
 use Rattle.plstack.specs.Frames.{IsOlder, AreOlder, IsResume, IsOpen, IsFrame, AreFrames}
 use Rattle.plstack.specs.State.{State, IsState, IsStack, goals_in, goals_of, kinds_in, cases_of, IsList}
-use Rattle.plstack.specs.Opening.{Keeps}
+use Rattle.plstack.specs.Opening.{Keeps, KeepsValues}
 use Rattle.plstack.specs.Holding.{held}
-use Rattle.plstack.specs.Cutting.{frame_at, IsGivenUp, ChoiceAt, EmptiesFrom, GivesUp, Cuts, Settles}
+use Rattle.plstack.specs.Cutting.{frame_at, IsGivenUp, EmptiesFrom, GivesUp, Settles}
 use Rattle.plstack.specs.Levels.{kinds_of}
-use Rattle.plstack.proofs.Naming.{fits-env}
+use Rattle.plstack.proofs.Naming.{fits-env, visited-env}
 use Rattle.plstack.proofs.Frames.{run-take}
-use Rattle.plstack.proofs.Cutting.{reversed-at, frames-append, empties}
+use Rattle.plstack.proofs.Cutting.{reversed-at, frames-append}
 
 -- the frames below one that is given up
 older-append : (m : Marks) (xs ys : List Frame) → AreOlder m (xs ++ ys) → AreOlder m ys
@@ -156,7 +156,7 @@ module _ (s : State) (d : ℕ) (is : IsStack s d) (since : Marks) (older : AreOl
         frames = frames-settled (goals_in s) s.env e s.links s.saved since marks.env.heap.cells marks.env.slots count made room.saved (reverse s.frames) older within is.0.frames;
         seen = is.0.seen;
         goals = (list-settled s.goals is.0.goals).0;
-        fits = fits-env (kinds_in s) (goals_in s) s.env e (items_of s.links s.goals) (items_of s.links s.goals) refl is.0.fits;
+        fits = visited-env (kinds_in s) (goals_in s) s.env e (items_of s.links s.goals) (items_of s.links s.goals) refl is.0.fits;
       },
       is.1,
     )
@@ -194,28 +194,36 @@ keeps-frames s new e = record {
   basis = ap (λ (x : State). x.basis) e;
 }
 
--- so choices are given up
-pub gives_up : (s new : State) (i below : ℕ) → EmptiesFrom s new i below → GivesUp s new i below
-gives_up s new i below from = record { cases = from.cases; keeps = keeps-frames s new from.same; walks = from.walks; goals = ap (λ (x : State). x.goals) from.same }
+-- and what the cases rest on, but for the program's code
+pub keeps_as : (s new : State) (latest : View) (starts : List ℕ) (frames : List Frame) (l : Continuation) → new ≡ record s { basis = record { code = s.basis.code; latest = latest; starts = starts }; frames = frames; goals = l } → KeepsValues s new
+keeps_as s new latest starts frames l e = subst (KeepsValues s) (sym e) (record { values = λ v f. (f, refl); lists = λ k i. (record { there = i.there; items = i.items }, refl); count = refl })
 
-pub gives_settled : (s mid new : State) (i below : ℕ) → EmptiesFrom s mid i below → Settles mid new → GivesUp s new i below
-gives_settled s mid new i below from y = record {
-  cases = λ db. y.cases db ∙ from.cases db;
-  keeps = Keeps-trans s mid new (keeps-frames s mid from.same) y.keeps;
-  walks = (from.walks.0, from.walks.1 ∙ ap (λ fs. from.walks.0 ++ walks_of (reverse fs)) (sym y.frames));
-  goals = y.goals ∙ ap (λ (x : State). x.goals) from.same;
+values_kept : (a b c : State) → KeepsValues a b → Keeps b c → KeepsValues a c
+values_kept a b c x y = record {
+  values = λ v f. let r = x.values v f in let q = y.values v r.0 in (q.0, q.1 ∙ r.1);
+  lists = λ l i. let r = x.lists l i in let q = y.lists l r.0 in (q.0, q.1 ∙ r.1);
+  count = y.count ∙ x.count;
 }
 
--- what becomes of a cut
-keeps-visiting : (s mid : State) (list : Continuation) → Keeps s mid → Keeps s (record mid { goals = list })
-keeps-visiting s mid list k = record { values = k.values; lists = λ l i. let r = k.lists l i in (record { there = r.0.there; items = r.0.items }, r.1); count = k.count; basis = k.basis }
+-- so choices are given up
+pub gives_then : (s mid new : State) (i n : ℕ) → EmptiesFrom s mid i n → KeepsValues s mid → Settles mid new → GivesUp s new i n
+gives_then s mid new i n from keeps y = record {
+  cases = λ db. y.cases db ∙ from.cases db;
+  keeps = values_kept s mid new keeps y.keeps;
+  walks = (from.walks.0, from.walks.1 ∙ ap (λ fs. from.walks.0 ++ walks_of (reverse fs)) (sym y.frames));
+}
 
-pub cuts_emptied : (s mid new : State) (level : ℕ) (list : Continuation) (i low : ℕ) → AreAtMost level (goals_of s list) → ChoiceAt s.frames level i low → GivesUp s mid i low → new ≡ record mid { goals = list } → Cuts s new level list
-unfolding cases_of
-cuts_emptied s mid new level list i low most at from is = rw is (record {
-  most = most;
-  cases = λ db. let e = empties s mid level i low at from db in record { inside = e.inside; places = e.places; below = e.below; was = e.was; at = e.at; cases = e.cases };
-  keeps = keeps-visiting s mid list from.keeps;
-  walks = from.walks;
-  goals = refl;
-})
+frames_kept : (s new : State) → new ≡ record s { frames = new.frames } → KeepsValues s new
+frames_kept s new e = let k = keeps-frames s new e in record { values = k.values; lists = k.lists; count = k.count }
+
+pub gives_settled : (s mid new : State) (i n : ℕ) → EmptiesFrom s mid i n → mid ≡ record s { frames = mid.frames } → Settles mid new → GivesUp s new i n
+gives_settled s mid new i n from same y = gives_then s mid new i n from (frames_kept s mid same) y
+
+-- the marks of a case that was given up
+pub given-within : (s mid : State) (i : ℕ) (o : Option Marks) → mid.env ≡ s.env → IfSome o (λ m. IsGivenUp s i m) → IfSome o (λ m. IsWithin m.env mid.env)
+given-within s mid i None same g = tt
+given-within s mid i (Some m) same g = subst (IsWithin m.env) (sym same) g.within
+
+pub given-older : (s mid : State) (i n : ℕ) (o : Option Marks) → EmptiesFrom s mid i n → IfSome o (λ m. IsGivenUp s i m) → IfSome o (λ m. AreOlder m (reverse mid.frames))
+given-older s mid i n None from g = tt
+given-older s mid i n (Some m) from g = from.older m g.older

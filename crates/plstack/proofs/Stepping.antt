@@ -7,7 +7,7 @@ use Rattle.plclause.specs.Clause.{Clause}
 use Rattle.plcells.specs.declared.cell.Cell.{Cell}
 use Rattle.plcells.specs.Store.{value}
 use Rattle.plsearch.specs.Lists.{bind_goals}
-use Rattle.plsearch.specs.Rows.{before_rest, is_true, resolve}
+use Rattle.plsearch.specs.Moves.{before_rest, is_true, resolve}
 use Rattle.plenv.specs.Env.{Env, IsEnv}
 use Rattle.plenv.specs.Changes.{Keeps}
 use Rattle.pllinks.specs.declared.link.Link.{Link}
@@ -17,7 +17,7 @@ use Rattle.pllinks.specs.Links.{items_of}
 use Rattle.plstack.specs.State.{State, IsState, IsList, goals_in, kinds_in, goals_of}
 use Rattle.plstack.specs.Trials.{ListsBody, Resolved}
 use Rattle.plstack.specs.Walks.{FitsCall}
-use Rattle.plstack.proofs.Naming.{fits-env}
+use Rattle.plstack.proofs.Naming.{visited-env}
 use Rattle.plstack.proofs.Growing.{frames-grown}
 use Rattle.plstack.proofs.Hitting.{place-with}
 
@@ -42,7 +42,7 @@ module _ (s : State) (is : IsState s) (e : Env) (env : IsEnv e) (keeps : Keeps s
     frames = frames-grown (goals_in s) s.env e s.links s.links [] s.saved (sym (append-nil s.links)) keeps env.heap.names (reverse s.frames) is.frames;
     seen = is.seen;
     goals = (list-bound s.goals is.goals).0;
-    fits = fits-env (kinds_in s) (goals_in s) s.env e (items_of s.links s.goals) (items_of s.links s.goals) refl is.fits;
+    fits = visited-env (kinds_in s) (goals_in s) s.env e (items_of s.links s.goals) (items_of s.links s.goals) refl is.fits;
   }
 
   module _ (rest : Continuation) (there : IsList s rest) (ls : List Link) (level : ℕ) (list : Continuation) (b : ListsBody s.links ls level body rest list) where

@@ -1,5 +1,5 @@
 -- Walks over clauses: they are opened, gone back to, tried and moved on.
-use Rattle.std.proofs.Common.{◌≡◌, ℕ, ◌+◌, List, [], ◌∷◌, ◌++◌, take, filter_map, option_map, refl, sym, ap, ap₂, ◌∙◌, subst, arith, reverse, append-nil, Option, Some, None, true}
+use Rattle.std.proofs.Common.{◌≡◌, ℕ, ◌+◌, List, [], ◌∷◌, ◌++◌, take, filter_map, option_map, refl, sym, ap, ap₂, ◌∙◌, subst, arith, reverse, append-nil, Option, Some, None, inr}
 use Rattle.std.specs.List.{cons_option}
 use Rattle.plterm.specs.Tree.{Tree}
 use Rattle.plsubst.specs.Subst.{bind, shift}
@@ -10,7 +10,7 @@ use Rattle.plcells.specs.declared.cell.Cell.{Cell}
 use Rattle.plcells.specs.Store.{IsValue, value}
 use Rattle.plsearch.specs.Types.{Element, Place, Choice}
 use Rattle.plsearch.specs.Lists.{bind_goals}
-use Rattle.plsearch.specs.Rows.{before_rest, is_true, resolve}
+use Rattle.plsearch.specs.Moves.{before_rest, is_true, resolve}
 use Rattle.plsearch.specs.Engine.{deeper}
 use Rattle.plenv.specs.declared.slot.Mark.{Mark}
 use Rattle.plenv.specs.Env.{Env, IsEnv, IsMark, cut, renamed}
@@ -28,7 +28,7 @@ use Rattle.plstack.specs.declared.frame.Frame.{Frame}
 use Rattle.plstack.specs.declared.frame.Frame.TheVariants.{Open}
 use Rattle.plstack.specs.Places.{Database, clause_by, place_asked, tried, candidates_left, left_at, left_if}
 use Rattle.plstack.specs.Frames.{IsOpen, IsSpotSeen, AreOlder}
-use Rattle.plstack.specs.Levels.{kinds_of, Precedes}
+use Rattle.plstack.specs.Levels.{Choosing, kinds_of, Precedes}
 use Rattle.plstack.specs.State.{State, IsStack, goals_in, goals_of, place_of, cases_of, depth_in, kinds_in, IsFit, IsList, CountsUp, RetriesBy}
 use Rattle.plstack.specs.Calls.{Goes}
 use Rattle.plstack.specs.Cutting.{Settles}
@@ -83,7 +83,7 @@ module _ (s : State) (d : ℕ) (is : IsStack s d) (rest : List Frame) (p : Point
   gone = record { basis = s.basis; env = cut p.marks.env s.env; links = take p.marks.links s.links; saved = take p.marks.saved s.saved; frames = s.frames; goals = alone 0 }
 
   pub gone-stack : IsStack gone d
-  gone-stack = subst (λ n. IsStack (record { basis = s.basis; env = cut p.marks.env s.env; links = take p.marks.links s.links; saved = take n s.saved; frames = s.frames; goals = alone 0 }) d) none-kept (rewound-stack s d is rest p (resumes.Walk w) popped)
+  gone-stack = subst (λ n. IsStack (record { basis = s.basis; env = cut p.marks.env s.env; links = take p.marks.links s.links; saved = take n s.saved; frames = s.frames; goals = alone 0 }) d) none-kept (rewound-stack s d is rest p (resumes.Walk w) popped (λ i. i))
 
   pub gone-cases : (db : Database) → cases_of db gone ≡ cases_of db s
   gone-cases db = ap (λ n. cases_of db (record { basis = s.basis; env = cut p.marks.env s.env; links = take p.marks.links s.links; saved = take n s.saved; frames = s.frames; goals = alone 0 })) (sym none-kept) ∙ rewound-cases s d is rest p (resumes.Walk w) popped db
@@ -106,19 +106,19 @@ module _ (s : State) (d : ℕ) (is : IsStack s d) (p : Point) (w : Walk) (walkin
     w' = record { goal = w.goal; uses = w.uses; spot = spot }
 
     pub replaced-stack : IsStack (record s { frames = frames }) d
-    replaced-stack = other-stack s d is p (resumes.Walk w) walking.rest walking.top rest f taken (resumes.Walk w') refl refl (λ fits. fits) seen frames pushed
+    replaced-stack = other-stack s d is p (resumes.Walk w) walking.rest walking.top rest f taken (resumes.Walk w') refl refl refl (λ fits. fits) seen frames pushed
 
     pub replaced : (db : Database) → GoesOn db s (record s { frames = frames }) p w (Some spot)
     replaced db = record {
       below = cases_of db (record s { frames = rest });
       was = taken-cases s d is p (resumes.Walk w) walking.rest walking.top rest f taken db;
-      cases = other-cases s d is p (resumes.Walk w) walking.rest walking.top rest f taken (resumes.Walk w') refl refl (λ fits. fits) seen frames pushed db;
+      cases = other-cases s d is p (resumes.Walk w) walking.rest walking.top rest f taken (resumes.Walk w') refl refl refl (λ fits. fits) seen frames pushed db;
     }
 
   -- nothing is left
   module _ (frames : List Frame) (up : CountsUp 1 (reverse rest) (reverse frames)) where
     pub emptied-stack : IsStack (record s { frames = frames }) d
-    emptied-stack = none-stack s d is p (resumes.Walk w) walking.rest walking.top rest f taken frames up
+    emptied-stack = none-stack s d is p (resumes.Walk w) walking.rest walking.top rest f taken frames up refl
 
     pub emptied : (db : Database) → GoesOn db s (record s { frames = frames }) p w None
     emptied db = record {
@@ -167,7 +167,7 @@ module _ (s : State) (d : ℕ) (is : IsStack s d) (p : Point) (w : Walk) (at : A
       frames = frames-grown (goals_in s) s.env e s.links ls goes.more s.saved goes.links goes.keeps goes.env.heap.names (reverse s.frames) is.0.frames;
       seen = is.0.seen;
       goals = record { there = there.there; items = there.items };
-      fits = fits;
+      fits = inr fits;
     },
     is.1,
   )
@@ -241,7 +241,7 @@ fits-goes s e ls list d goal rest x f = record { keeps = f.goes.keeps; env = f.g
 module _ (s : State) (d : ℕ) (is : IsStack s d) (p : Point) (w : Walk) (at : AtWalk s p w) where
   pub walk-precedes : (k : ℕ) → depth_in s ≡ k + 1 → Precedes (kinds_in s) k (goals_of s p.list)
   walk-precedes k level =
-      let kinds : kinds_in s ≡ true ∷ kinds_of (reverse at.walking.rest) = ap (λ fs. kinds_of (reverse fs)) at.walking.top ∙ ap kinds_of (reverse-push at.walking.rest (Open p (resumes.Walk w))) in
+      let kinds : kinds_in s ≡ Choosing ∷ kinds_of (reverse at.walking.rest) = ap (λ fs. kinds_of (reverse fs)) at.walking.top ∙ ap kinds_of (reverse-push at.walking.rest (Open p (resumes.Walk w))) in
       first-precedes (kinds_in s) (kinds_of (reverse at.walking.rest)) k (goals_of s p.list) kinds (kinds-length (reverse s.frames) ∙ level) (at-frame s d is at.walking.rest p (resumes.Walk w) at.walking.top).fits
 
   pub mark-there : IsMark p.marks.env s.env

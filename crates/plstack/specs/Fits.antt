@@ -8,7 +8,7 @@ use Rattle.plclause.specs.Indicators.{indicator}
 use Rattle.plcells.specs.declared.cell.Cell.{Cell}
 use Rattle.plcells.specs.Store.{IsValue, value}
 use Rattle.plsearch.specs.Types.{Element}
-use Rattle.plsearch.specs.Rows.{resolve}
+use Rattle.plsearch.specs.Moves.{resolve}
 use Rattle.plcode.specs.declared.clause.ClauseCode.{ClauseCode}
 use Rattle.plcode.specs.Steps.{Text}
 use Rattle.plcode.specs.Clauses.{IsCodeOf}

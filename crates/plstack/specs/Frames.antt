@@ -1,9 +1,10 @@
 -- What a stack knows of its frames.
-use Rattle.std.specs.Prelude.{ℕ, ◌+◌, ◌<◌, ◌≤◌, List, [], ◌∷◌, length, Option, None, Some}
+use Rattle.std.specs.Prelude.{◌≡◌, ℕ, ◌+◌, ◌<◌, ◌≤◌, List, [], ◌∷◌, length, Option, None, Some}
 use Rattle.std.specs.Bool.{⊤}
 use Rattle.plcells.specs.declared.cell.Cell.{Cell}
 use Rattle.plcells.specs.Store.{Store, IsValue, AreValues}
 use Rattle.plgenerator.specs.Answers.{IsTurn}
+use Rattle.plviews.specs.declared.view.View.{View}
 use Rattle.plenv.specs.Env.{Env, cut, IsMark}
 use Rattle.plenv.specs.Marks.{IsOlder as IsEnvOlder}
 use Rattle.pllinks.specs.declared.link.Link.{Link}
@@ -19,6 +20,7 @@ use Rattle.plstack.specs.declared.frame.Resume.{Resume}
 use Rattle.plstack.specs.declared.frame.Resume.TheVariants as resumes
 use Rattle.plstack.specs.declared.frame.Frame.{Frame}
 use Rattle.plstack.specs.declared.frame.Frame.TheVariants.{Plain, Open}
+use Rattle.plstack.specs.Basis.{IsShown, counting}
 use Rattle.plstack.specs.Places.{kept, kept_values}
 use Rattle.plstack.specs.Levels.{kinds_of, FitsIn}
 
@@ -33,30 +35,51 @@ AreOlder m [] = ⊤
 AreOlder m (Plain n ∷ fs) = AreOlder m fs
 AreOlder m (Open p r ∷ fs) = IsOlder m p r × AreOlder m fs
 
--- a walk goes on in the view of no later place
-abbrev pub IsSpotSeen : ℕ → Spot → Type 0
-IsSpotSeen n (spots.Text k) = ⊤
-IsSpotSeen n (spots.At g x) = g ≤ n
-IsSpotSeen n (spots.Known g x y) = g ≤ n
+-- a walk goes on in a view that shows no more than the latest
+abbrev pub IsSpotSeen : View → Spot → Type 0
+IsSpotSeen latest (spots.Text k) = ⊤
+IsSpotSeen latest (spots.Seek v r) = IsShown v latest
+IsSpotSeen latest (spots.At v x r) = IsShown v latest
+IsSpotSeen latest (spots.Known v x y) = IsShown v latest
 
-abbrev pub IsLeftSeen : ℕ → Option Spot → Type 0
-IsLeftSeen n None = ⊤
-IsLeftSeen n (Some x) = IsSpotSeen n x
+abbrev pub IsLeftSeen : View → Option Spot → Type 0
+IsLeftSeen latest None = ⊤
+IsLeftSeen latest (Some x) = IsSpotSeen latest x
 
-abbrev pub IsSeen : ℕ → Resume → Type 0
-IsSeen n (resumes.Clauses c) = ⊤
-IsSeen n (resumes.Walk w) = IsSpotSeen n w.spot
-IsSeen n (resumes.Answers a) = ⊤
-IsSeen n resumes.List = ⊤
-IsSeen n (resumes.Handle x) = ⊤
+abbrev pub IsSeen : View → Resume → Type 0
+IsSeen latest (resumes.Clauses c) = ⊤
+IsSeen latest (resumes.Walk w) = IsSpotSeen latest w.spot
+IsSeen latest (resumes.Answers a) = ⊤
+IsSeen latest resumes.List = ⊤
+IsSeen latest (resumes.Handle x) = ⊤
+IsSeen latest resumes.Undo = ⊤
 
-abbrev pub IsFrameSeen : ℕ → Frame → Type 0
-IsFrameSeen n (Plain k) = ⊤
-IsFrameSeen n (Open p r) = IsSeen n r
+abbrev pub IsFrameSeen : View → Frame → Type 0
+IsFrameSeen latest (Plain k) = ⊤
+IsFrameSeen latest (Open p r) = IsSeen latest r
 
-abbrev pub AreSeen : ℕ → List Frame → Type 0
-AreSeen n [] = ⊤
-AreSeen n (f ∷ fs) = IsFrameSeen n f × AreSeen n fs
+-- behind a transaction, whose start is the first, no walk sees more own updates than there were then
+abbrev pub Since : List ℕ → View → (List ℕ → View → Type 0) → Type 0
+Since [] latest Are = ⊥
+Since (k ∷ starts) latest Are = (k ≤ latest.count) × Are starts (counting k latest)
+
+abbrev pub Behind : Resume → List ℕ → View → (List ℕ → View → Type 0) → Type 0
+Behind (resumes.Clauses c) starts latest Are = Are starts latest
+Behind (resumes.Walk w) starts latest Are = Are starts latest
+Behind (resumes.Answers a) starts latest Are = Are starts latest
+Behind resumes.List starts latest Are = Are starts latest
+Behind (resumes.Handle x) starts latest Are = Are starts latest
+Behind resumes.Undo starts latest Are = Since starts latest Are
+
+abbrev pub BehindFrame : Frame → List ℕ → View → (List ℕ → View → Type 0) → Type 0
+BehindFrame (Plain k) starts latest Are = Are starts latest
+BehindFrame (Open p r) starts latest Are = Behind r starts latest Are
+
+-- what the walks among frames see, the newest first, with how many own updates there were at the start of each transaction among them, the
+-- innermost first
+abbrev pub AreSeen : List ℕ → View → List Frame → Type 0
+AreSeen starts latest [] = starts ≡ []
+AreSeen starts latest (f ∷ fs) = IsFrameSeen latest f × BehindFrame f starts latest (λ older seen. AreSeen older seen fs)
 
 -- the values of a handler are those of a heap
 abbrev pub IsHandled : Store → Handler → Type 0
@@ -70,6 +93,7 @@ IsResume h vs (resumes.Walk w) = IsValue h w.goal
 IsResume h vs (resumes.Answers a) = AreValues h vs × IsTurn h vs a.turn
 IsResume h vs resumes.List = ⊤
 IsResume h vs (resumes.Handle x) = IsHandled h x
+IsResume h vs resumes.Undo = ⊤
 
 -- a choice point or handler: it reads what it comes back to at its marks, the frames behind it are older, and its list fits in them
 pub record IsOpen (code : Goals) (e : Env) (links : List Link) (saved : List Cell) (p : Point) (r : Resume) (fs : List Frame) : Type 0 where

@@ -1,3 +1,4 @@
+pub mod Basis
 pub mod Places
 pub mod Frames
 pub mod State

@@ -3,7 +3,7 @@ use Rattle.std.specs.Prelude.{◌≡◌, ◌<◌, ℕ, List, [], ◌∷◌, ◌+
 use Rattle.plterm.specs.Tree.{Tree}
 use Rattle.plcells.specs.declared.cell.Cell.{Cell}
 use Rattle.plcells.specs.Store.{IsValue, value}
-use Rattle.plsearch.specs.Types.{Place, Handler, Catch, Gather, Case, Choice, Handle}
+use Rattle.plsearch.specs.Types.{Place, Handler, Catch, Gather, Undo, Case, Choice, Handle}
 use Rattle.plsearch.specs.Rows.{branch}
 use Rattle.plsearch.specs.Engine.{deeper}
 use Rattle.pllinks.specs.declared.link.Continuation.{Continuation}
@@ -17,9 +17,15 @@ use Rattle.plstack.specs.declared.frame.Closed.{Closed}
 use Rattle.plstack.specs.declared.frame.Closed.TheVariants as closings
 use Rattle.plstack.specs.Places.{Database, handled, case_of, plain, walk_of}
 use Rattle.plstack.specs.Frames.{IsHandled}
-use Rattle.plstack.specs.State.{State, goals_in, goals_of, place_at, cases_of, walks_in, IsFit, IsList, HasClauses, HasWalk, HasBranch, HasAnswers, HasCatcher, HasGatherer}
+use Rattle.plstack.specs.State.{State, goals_in, goals_of, place_at, cases_of, walks_in, IsFit, IsList, HasClauses, HasWalk, HasBranch, HasAnswers, HasCatcher, HasGatherer, HasUndo}
 
 -- values and lists stand for what they did, whatever cases are open
+pub record KeepsValues (old new : State) : Type 0 where
+  pub values : (v : Cell) → IsValue old.env.heap v → IsValue new.env.heap v × (value new.env.heap v ≡ value old.env.heap v)
+  pub lists : (l : Continuation) → IsList old l → IsList new l × (goals_of new l ≡ goals_of old l)
+  pub count : new.env.count ≡ old.env.count
+
+-- and what the cases rest on stays
 pub record Keeps (old new : State) : Type 0 where
   pub values : (v : Cell) → IsValue old.env.heap v → IsValue new.env.heap v × (value new.env.heap v ≡ value old.env.heap v)
   pub lists : (l : Continuation) → IsList old l → IsList new l × (goals_of new l ≡ goals_of old l)
@@ -29,6 +35,10 @@ pub record Keeps (old new : State) : Type 0 where
 -- a choice of one list
 abbrev pub branch_of : State → Continuation → Case
 branch_of s l = branch (goals_of s l) s.env.count
+
+-- where a transaction or a snapshot ends without success, and the list behind its goal
+abbrev pub undo_of : State → Continuation → Case
+undo_of s l = Handle Undo (place_at s l)
 
 -- what a handler stands for
 abbrev pub handler_of : State → Handling → Case
@@ -71,11 +81,13 @@ closing (resumes.Walk w) = closings.Choice
 closing (resumes.Answers a) = closings.Choice
 closing resumes.List = closings.Choice
 closing (resumes.Handle x) = closings.Handler
+closing resumes.Undo = closings.Transaction
 
 -- the innermost case was closed
 abbrev pub ClosedAs : Database → State → State → Closed → Type 0
 ClosedAs db old new closings.Choice = (ps : List Place) × (cases_of db old ≡ Choice ps ∷ cases_of db new) × ((HasClauses old → ⊥) → (HasWalk old → ⊥) → (HasBranch old → ⊥) → (HasAnswers old → ⊥) → ps ≡ [])
-ClosedAs db old new closings.Handler = (h : Handler) × (p : Place) × (cases_of db old ≡ Handle h p ∷ cases_of db new) × ((c r : Tree) → h ≡ Catch c r → (HasCatcher old → ⊥) → ⊥) × ((l : Tree) → h ≡ Gather l → (HasGatherer old → ⊥) → ⊥)
+ClosedAs db old new closings.Handler = (h : Handler) × (p : Place) × (cases_of db old ≡ Handle h p ∷ cases_of db new) × ((c r : Tree) → h ≡ Catch c r → (HasCatcher old → ⊥) → ⊥) × ((l : Tree) → h ≡ Gather l → (HasGatherer old → ⊥) → ⊥) × (h ≡ Undo → ⊥)
+ClosedAs db old new closings.Transaction = (p : Place) × (cases_of db old ≡ Handle Undo p ∷ cases_of db new) × HasUndo old
 
 -- so many choices with nothing left were closed, the innermost cases
 pub record ClosesPlain (old new : State) : Type 0 where

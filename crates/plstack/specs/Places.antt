@@ -1,19 +1,24 @@
 -- What open cases stand for.
-use Rattle.std.specs.Prelude.{ℕ, zero, suc, ◌+◌, List, [], ◌∷◌, ◌++◌, map, take, drop, filter_map, Option, Some, None, option_map}
+use Rattle.std.specs.Prelude.{◌≡◌, ℕ, zero, suc, ◌+◌, List, [], ◌∷◌, ◌++◌, map, take, drop, filter_map, Option, Some, None, option_map}
 use Rattle.plterm.specs.Tree.{Tree, var, int, atom, compound, Trees, none, more, trees}
 use Rattle.plterm.specs.declared.indicator.Indicator.{Indicator}
 use Rattle.plclause.specs.Clause.{Clause}
 use Rattle.plclause.specs.Indicators.{indicator}
 use Rattle.plevent.specs.declared.update.ClauseName.{ClauseName}
 use Rattle.plevent.specs.declared.update.Living.{Living}
-use Rattle.plevent.specs.Alive.{Stamped, living, lives_as}
-use Rattle.plstore.specs.Like.{past}
+use Rattle.plevent.specs.declared.update.Update.{Update}
+use Rattle.plevent.specs.Alive.{lives_as}
 use Rattle.plstore.specs.Looking.{Views, clause_alive}
-use Rattle.plevent.specs.declared.request.Request.TheVariants.{EraseOne}
+use Rattle.plviews.specs.declared.view.View.{View}
+use Rattle.plviews.specs.declared.lookup.Reach.{Reach}
+use Rattle.plviews.specs.Views.{Sight, sight, whole}
+use Rattle.plviews.specs.Lookups.{rest_at}
 use Rattle.plcells.specs.declared.cell.Cell.{Cell}
 use Rattle.plcells.specs.Store.{Store, value}
-use Rattle.plsearch.specs.Types.{GoesOn, Await, Element, Asking, Place, Handler, Catch, Gather, Case, Choice, Handle}
-use Rattle.plsearch.specs.Rows.{resolve, solved, as_fact}
+use Rattle.plsearch.specs.Types.{Element, Erasing, Place, Handler, Catch, Gather, Undo, Case, Choice, Handle}
+use Rattle.plsearch.specs.Moves.{resolve}
+use Rattle.plsearch.specs.Lookups.{as_fact}
+use Rattle.plsearch.specs.Rows.{solved}
 use Rattle.plgenerator.specs.declared.turn.Turn.{Turn}
 use Rattle.plgenerator.specs.Answers.{left}
 use Rattle.plsearch.specs.Engine.{deeper}
@@ -26,6 +31,7 @@ use Rattle.plstack.specs.declared.frame.Point.{Point}
 use Rattle.plstack.specs.declared.walk.Candidate.{Candidate}
 use Rattle.plstack.specs.declared.frame.Use.{Use}
 use Rattle.plstack.specs.declared.frame.Use.TheVariants as uses
+use Rattle.plstack.specs.declared.frame.Ahead.{Ahead}
 use Rattle.plstack.specs.declared.frame.Spot.{Spot}
 use Rattle.plstack.specs.declared.frame.Spot.TheVariants as spots
 use Rattle.plstack.specs.declared.frame.Handler.{Handler as Handles}
@@ -41,11 +47,17 @@ pub record Static : Type 0 where
   pub name : List ℕ
   pub clauses : List Clause
 
--- where clauses are found: the procedures of the program's text, by their places and by their names, and the views
+-- where clauses are found: the procedures of the program's text, by their places and by their names; the views; and the own updates of open
+-- transactions
 pub record Database : Type 0 where
   pub statics : ℕ → Static
   pub text : Indicator → List Clause
   pub views : Views
+  pub own : List Update
+
+-- own updates that are the same as far as a view shows them
+abbrev pub IsOwnSoFar : View → Database → List Update → Type 0
+IsOwnSoFar v db own = take v.count own ≡ take v.count db.own
 
 -- the place of a list, by its items
 abbrev pub place_of_items : Goals → Env → List Item → Place
@@ -63,7 +75,7 @@ places_left d e t rest cs = filter_map (resolve d e.count t rest) cs
 -- a list before which a clause is to be erased, if there is one
 abbrev pub first_asked : Option ClauseName → List Element → List Element
 first_asked None es = es
-first_asked (Some x) es = Asking (Await (EraseOne x) GoesOn) ∷ es
+first_asked (Some x) es = Erasing x ∷ es
 
 abbrev pub place_asked : Option ClauseName → Place → Place
 place_asked x p = record { goals = first_asked x p.goals; variables = p.variables }
@@ -115,22 +127,27 @@ abbrev pub named_so : ClauseName → Option Clause → List Living
 named_so x None = []
 named_so x (Some c) = lives_as x c ∷ []
 
-abbrev pub alive_as : List Stamped → ClauseName → List Living
-alive_as us x = named_so x (clause_alive x us)
+abbrev pub alive_as : Sight → ClauseName → List Living
+alive_as s x = named_so x (clause_alive x (whole s))
 
--- it, and those of a procedure that are behind it
-abbrev pub onward : List Stamped → Indicator → ClauseName → List Living
-onward us p x = alive_as us x ++ past x (living us p)
+-- it, and those of a procedure that are not yet looked through
+abbrev pub onward : Sight → Indicator → ClauseName → Reach → List Living
+onward s p x r = alive_as s x ++ rest_at s p r
 
-abbrev pub onward_if : List Stamped → Indicator → Option ClauseName → List Living
-onward_if us p None = []
-onward_if us p (Some x) = onward us p x
+abbrev pub onward_if : Sight → Indicator → Option Ahead → List Living
+onward_if s p None = []
+onward_if s p (Some y) = onward s p y.name y.reach
+
+-- what is seen in a view
+abbrev pub sight_at : Database → View → Sight
+sight_at db v = sight (db.views v.place) v db.own
 
 -- what is left of a walk of the goal t, as candidates
 abbrev pub left_at : Database → Use → Tree → Spot → List Candidate
 left_at db u t (spots.Text k) = map (text_candidate u) (drop k (db.text (indicator (head_in u t))))
-left_at db u t (spots.At g x) = map (candidate_of u) (onward (db.views g) (indicator (head_in u t)) x)
-left_at db u t (spots.Known g x y) = map (candidate_of u) (alive_as (db.views g) x ++ onward_if (db.views g) (indicator (head_in u t)) y)
+left_at db u t (spots.Seek v r) = map (candidate_of u) (rest_at (sight_at db v) (indicator (head_in u t)) r)
+left_at db u t (spots.At v x r) = map (candidate_of u) (onward (sight_at db v) (indicator (head_in u t)) x r)
+left_at db u t (spots.Known v x y) = map (candidate_of u) (alive_as (sight_at db v) x ++ onward_if (sight_at db v) (indicator (head_in u t)) y)
 
 abbrev pub left_if : Database → Use → Tree → Option Spot → List Candidate
 left_if db u t None = []
@@ -152,6 +169,7 @@ kept (resumes.Walk w) = 0
 kept (resumes.Answers a) = a.count
 kept resumes.List = 0
 kept (resumes.Handle x) = 0
+kept resumes.Undo = 0
 
 -- the values that a case keeps
 abbrev pub kept_values : List Cell → Point → Resume → List Cell
@@ -164,6 +182,7 @@ case_of db code d e xs vs (resumes.Walk w) = Choice (candidates_left d e (value 
 case_of db code d e xs vs (resumes.Answers a) = Choice (answers_left e vs (all_elements code e xs) a.turn)
 case_of db code d e xs vs resumes.List = Choice (place_of_items code e xs ∷ [])
 case_of db code d e xs vs (resumes.Handle x) = Handle (handled e.heap x) (place_of_items code e xs)
+case_of db code d e xs vs resumes.Undo = Handle Undo (place_of_items code e xs)
 
 abbrev pub plain : ℕ → List Case → List Case
 plain zero below = below
@@ -192,8 +211,9 @@ depth_of (f ∷ fs) = size f + depth_of fs
 -- a walk, if it goes on in a view at a spot
 abbrev pub viewed : Walk → Spot → List Walk
 viewed w (spots.Text k) = []
-viewed w (spots.At g x) = w ∷ []
-viewed w (spots.Known g x y) = w ∷ []
+viewed w (spots.Seek v r) = w ∷ []
+viewed w (spots.At v x r) = w ∷ []
+viewed w (spots.Known v x y) = w ∷ []
 
 -- the walk that a case is, if it is one and goes on in a view
 abbrev pub walk_of : Resume → List Walk
@@ -202,6 +222,7 @@ walk_of (resumes.Walk w) = viewed w w.spot
 walk_of (resumes.Answers a) = []
 walk_of resumes.List = []
 walk_of (resumes.Handle x) = []
+walk_of resumes.Undo = []
 
 -- those of frames
 abbrev pub walks_of : List Frame → List Walk

@@ -1,5 +1,5 @@
 -- A stack's state, and what it stands for.
-use Rattle.std.specs.Prelude.{◌≡◌, ℕ, ◌+◌, Bool, List, [], ◌∷◌, ◌++◌, drop, reverse, Option, Some}
+use Rattle.std.specs.Prelude.{◌≡◌, ℕ, ◌+◌, List, [], ◌∷◌, ◌++◌, drop, reverse, Option, Some}
 use Rattle.plterm.specs.Tree.{Tree}
 use Rattle.plsubst.specs.Subst.{bind}
 use Rattle.plsubst.specs.Unify.{unify}
@@ -12,12 +12,13 @@ use Rattle.plcells.specs.Equations.{left_of, right_of}
 use Rattle.plsearch.specs.Types.{Element, Place, Case, Choice, Handle}
 use Rattle.plsearch.specs.Lists.{bind_goals}
 use Rattle.plcode.specs.Steps.{goals_from}
-use Rattle.plstack.specs.declared.basis.Basis.{Basis}
+use Rattle.plviews.specs.declared.view.View.{View}
 use Rattle.plenv.specs.Env.{Env, IsEnv}
 use Rattle.pllinks.specs.declared.link.Link.{Link}
 use Rattle.pllinks.specs.declared.link.Continuation.{Continuation}
 use Rattle.pllinks.specs.Lists.{Goals}
-use Rattle.pllinks.specs.Links.{goals_of as list_goals, IsList as IsListIn, IsChain}
+use Rattle.pllinks.specs.Links.{alone, goals_of as list_goals, IsList as IsListIn, IsChain}
+use Rattle.plstack.specs.Basis.{Basis, begun}
 use Rattle.plstack.specs.declared.frame.Handler.{Handler}
 use Rattle.plstack.specs.declared.frame.Handler.TheVariants as handlers
 use Rattle.plstack.specs.declared.frame.Marks.{Marks}
@@ -26,11 +27,11 @@ use Rattle.plstack.specs.declared.frame.Resume.TheVariants as resumes
 use Rattle.plstack.specs.declared.frame.Frame.{Frame}
 use Rattle.plstack.specs.declared.frame.Frame.TheVariants.{Open, Plain}
 use Rattle.plstack.specs.Places.{Database, place_asked, handled, plain, cases, depth_of, walks_of}
-use Rattle.plstack.specs.Levels.{choices, kinds_of, FitsIn}
+use Rattle.plstack.specs.Levels.{Sort, choices, kinds_of, FitsIn, EmptyOrFits}
 use Rattle.plstack.specs.Frames.{AreOlder, AreSeen, IsHandled, AreFrames}
 
--- the program's code, with the names that it was compiled with, and the latest view; the environment; the links; the values that open cases keep; the frames,
--- the newest last; and the list that is visited
+-- what the cases rest on; the environment; the links; the values that open cases keep; the frames, the newest last; and the list that is
+-- visited
 pub record State : Type 0 where
   pub basis : Basis
   pub env : Env
@@ -39,9 +40,13 @@ pub record State : Type 0 where
   pub frames : List Frame
   pub goals : Continuation
 
--- the same, where a walk may go on in the view of a place
-abbrev pub seeing : ℕ → State → State
-seeing g s = record s { basis = record s.basis { latest = g } }
+-- the same, where a walk may go on in a view
+abbrev pub seeing : View → State → State
+seeing v s = record s { basis = record { code = s.basis.code; latest = v; starts = s.basis.starts } }
+
+-- the same, where a transaction or a snapshot has begun in a view, and no goals are visited
+abbrev pub beginning : View → State → State
+beginning v s = record s { basis = begun v s.basis; goals = alone 0 }
 
 -- the goals from a position of the code on
 abbrev pub goals_in : State → Goals
@@ -78,13 +83,21 @@ EndsWalks old new = (ended : List Walk) × (walks_in old ≡ ended ++ walks_in n
 abbrev pub IsList : State → Continuation → Type 0
 IsList s l = IsListIn (goals_in s) s.env s.links l
 
--- which cases are choices, the innermost first
-abbrev pub kinds_in : State → List Bool
+-- what the cases are, the innermost first
+abbrev pub kinds_in : State → List Sort
 kinds_in s = kinds_of (reverse s.frames)
 
 -- a list that fits in the open cases
 abbrev pub IsFit : State → Continuation → Type 0
 IsFit s l = FitsIn (kinds_in s) (goals_of s l)
+
+-- a list of no goals, or one that fits
+abbrev pub IsEmptyOrFit : State → Continuation → Type 0
+IsEmptyOrFit s l = EmptyOrFits (kinds_in s) (goals_of s l)
+
+-- what the walks among the open cases see
+abbrev pub WalksSee : Basis → List Frame → Type 0
+WalksSee b frames = AreSeen (reverse b.starts) b.latest (reverse frames)
 
 pub record IsState (s : State) : Type 0 where
   pub env : IsEnv s.env
@@ -92,9 +105,9 @@ pub record IsState (s : State) : Type 0 where
   pub none : goals_in s 0 0 ≡ []
   pub chain : IsChain s.links
   pub frames : AreFrames (goals_in s) s.env s.links s.saved (reverse s.frames)
-  pub seen : AreSeen s.basis.latest (reverse s.frames)
+  pub seen : WalksSee s.basis s.frames
   pub goals : IsList s s.goals
-  pub fits : IsFit s s.goals
+  pub fits : IsEmptyOrFit s s.goals
 
 -- what a stack keeps, with how many cases are open
 abbrev pub IsStack : State → ℕ → Type 0
@@ -161,11 +174,11 @@ pub record CountsUp (n : ℕ) (old new : List Frame) : Type 0 where
   pub older : (m : Marks) → AreOlder m old → AreOlder m new
   pub depth : depth_of new ≡ depth_of old + n
   pub kinds : kinds_of new ≡ choices n (kinds_of old)
-  pub seen : (g : ℕ) → AreSeen g old → AreSeen g new
+  pub seen : (starts : List ℕ) (latest : View) → AreSeen starts latest old → AreSeen starts latest new
   pub walks : walks_of new ≡ walks_of old
 
 -- what the innermost case is: a choice of the further clauses of a static procedure, of those of a walk, of the further answers of a
--- predicate, or of a list, a choice with nothing left, or a handler, of a ball or of what was kept
+-- predicate, or of a list, a choice with nothing left, a handler, of a ball or of what was kept, or Undo
 abbrev pub IsClauses : Frame → Type 0
 IsClauses (Open p (resumes.Clauses c)) = Unit {0}
 IsClauses f = ⊥
@@ -189,6 +202,10 @@ IsPlain f = ⊥
 abbrev pub IsHandler : Frame → Type 0
 IsHandler (Open p (resumes.Handle x)) = Unit {0}
 IsHandler f = ⊥
+
+abbrev pub IsUndo : Frame → Type 0
+IsUndo (Open p resumes.Undo) = Unit {0}
+IsUndo f = ⊥
 
 abbrev pub Catches : Handler → Type 0
 Catches (handlers.Catch c) = Unit {0}
@@ -227,6 +244,9 @@ HasPlain s = BeginsWith IsPlain (reverse s.frames)
 
 abbrev pub HasHandler : State → Type 0
 HasHandler s = BeginsWith IsHandler (reverse s.frames)
+
+abbrev pub HasUndo : State → Type 0
+HasUndo s = BeginsWith IsUndo (reverse s.frames)
 
 abbrev pub HasCatcher : State → Type 0
 HasCatcher s = BeginsWith IsCatcher (reverse s.frames)

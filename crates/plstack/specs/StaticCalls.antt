@@ -9,7 +9,7 @@ use Rattle.plcells.specs.declared.cell.Cell.{Cell}
 use Rattle.plcells.specs.Store.{value}
 use Rattle.plsearch.specs.Types.{Place, Case, Choice}
 use Rattle.plsearch.specs.Lists.{bind_goals}
-use Rattle.plsearch.specs.Rows.{before_rest, is_true}
+use Rattle.plsearch.specs.Moves.{before_rest, is_true}
 use Rattle.plsearch.specs.Engine.{deeper}
 use Rattle.plcode.specs.Callees.{Compiled}
 use Rattle.plcode.specs.declared.key.Key.{Key}
@@ -29,6 +29,7 @@ use Rattle.plstack.specs.declared.frame.Frame.{Frame}
 use Rattle.plstack.specs.declared.frame.Frame.TheVariants.{Open}
 use Rattle.plstack.specs.declared.fit.Found.{Found}
 use Rattle.plstack.specs.declared.fit.Hit.{Hit}
+use Rattle.plevent.specs.declared.update.Update.{Update}
 use Rattle.plstore.specs.Looking.{Views}
 use Rattle.plstack.specs.Places.{Static, Database, called, places_left, kept_values}
 use Rattle.plstack.specs.Fits.{AreOwn, Finds}
@@ -43,9 +44,9 @@ static_of e = record { name = e.0.name; clauses = e.1 }
 abbrev pub statics_of : Program → ℕ → Static
 statics_of P i = static_of (get_or P.procedures i (record { name = []; arity = 0 }, []))
 
--- with views
-abbrev pub database_of : Program → Views → Database
-database_of P v = record { statics = statics_of P; text = clauses_for P; views = v }
+-- with views and own updates
+abbrev pub database_of : Program → Views → List Update → Database
+database_of P v us = record { statics = statics_of P; text = clauses_for P; views = v; own = us }
 
 -- the procedures of a program's code, by their places
 pub record AreStatics (m : Compiled) (db : Database) : Type 0 where

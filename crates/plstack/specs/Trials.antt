@@ -8,7 +8,7 @@ use Rattle.platoms.specs.Names.{Extends as ExtendsNames}
 use Rattle.plclause.specs.Clause.{Clause}
 use Rattle.plcells.specs.declared.cell.Cell.{Cell}
 use Rattle.plcells.specs.Store.{Store, IsValue, AreValues, at, value}
-use Rattle.plsearch.specs.Rows.{before_rest, is_true}
+use Rattle.plsearch.specs.Moves.{before_rest, is_true}
 use Rattle.plenv.specs.Env.{Env, variable, cut, renamed, IsMark, IsWithin}
 use Rattle.plenv.specs.Changes.{Extends, Puts}
 use Rattle.pllinks.specs.declared.link.Link.{Link}

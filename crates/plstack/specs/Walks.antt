@@ -5,7 +5,7 @@ use Rattle.plclause.specs.Clause.{Clause}
 use Rattle.plcells.specs.declared.cell.Cell.{Cell}
 use Rattle.plcells.specs.Store.{IsValue, value}
 use Rattle.plsearch.specs.Types.{Element, Place, Case, Choice}
-use Rattle.plsearch.specs.Rows.{resolve}
+use Rattle.plsearch.specs.Moves.{resolve}
 use Rattle.plsearch.specs.Engine.{deeper}
 use Rattle.plenv.specs.Env.{cut}
 use Rattle.pllinks.specs.declared.link.Continuation.{Continuation}

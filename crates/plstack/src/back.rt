@@ -1,9 +1,9 @@
 //! Coming back to open cases.
-ghost use Rattle.std.specs.Prelude.{◌≡◌, ◌∷◌, drop, reverse, true};
+ghost use Rattle.std.specs.Prelude.{◌≡◌, ◌∷◌, drop, reverse};
 ghost use Rattle.plenv.specs.Env.{IsWithin};
 ghost use Rattle.plstack.specs.Places.{Database};
 ghost use Rattle.plstack.specs.Frames.{AreOlder};
-ghost use Rattle.plstack.specs.Levels.{FitsIn};
+ghost use Rattle.plstack.specs.Levels.{Choosing, FitsIn};
 ghost use Rattle.plstack.specs.State.{cases_of, goals_of, kinds_in, walks_in, AtHandler, Catches, Gathers, HasBranch, HasCatcher, HasGatherer, HasHandler, IsList, Leaves, Recovers, Retries};
 
 use crate::frame::{Frame, Handling, Marks, Resume};
@@ -75,7 +75,7 @@ impl Stack {
     pub fn recover(&mut self, list: Continuation)
         requires handler { HasHandler self.old }
         requires list { IsList self.old list }
-        requires fits { FitsIn (true ∷ drop 1 (kinds_in self.old)) (goals_of self.old list) }
+        requires fits { FitsIn (Choosing ∷ drop 1 (kinds_in self.old)) (goals_of self.old list) }
         ensures recovers { Recovers self.old self.new list }
         ensures basis { self.new.basis ≡ self.old.basis }
         ensures walks { walks_in self.new ≡ walks_in self.old }
@@ -124,7 +124,7 @@ impl Stack {
     fn leave_handler(&mut self, list: Continuation) -> Marks
         requires handler { HasHandler self.old }
         requires list { IsList self.old list }
-        requires fits { FitsIn (true ∷ drop 1 (kinds_in self.old)) (goals_of self.old list) }
+        requires fits { FitsIn (Choosing ∷ drop 1 (kinds_in self.old)) (goals_of self.old list) }
         ensures recovers { Recovers self.old self.new list }
         ensures basis { self.new.basis ≡ self.old.basis }
         ensures walks { walks_in self.new ≡ walks_in self.old }

@@ -1,12 +1,15 @@
 //! What the cases of a stack rest on.
 
 use plcode::program::ProgramCode;
+use plviews::View;
 
 /// What the cases of a stack rest on.
 #[derive(Drop)]
 pub struct Basis {
     /// The program's code.
     pub code: ProgramCode,
-    /// The latest place whose view a walk may go on in.
-    pub latest: u64,
+    /// The most that a walk may see.
+    pub latest: View,
+    /// How many own updates there were at the start of each open transaction or snapshot, the innermost last.
+    pub starts: Vec<u64>,
 }

@@ -4,7 +4,7 @@ ghost use Rattle.plsubst.specs.Subst.{bind};
 ghost use Rattle.plclause.specs.Clause.{Clause};
 ghost use Rattle.plcells.specs.Store.{AreValues};
 ghost use Rattle.plsearch.specs.Types.{Case, Choice};
-ghost use Rattle.plsearch.specs.Rows.{before_rest, is_true};
+ghost use Rattle.plsearch.specs.Moves.{before_rest, is_true};
 ghost use Rattle.plcode.specs.Clauses.{IsCodeOf};
 ghost use Rattle.plcode.specs.Steps.{Text};
 ghost use Rattle.platoms.specs.Names.{Extends as ExtendsNames};

@@ -1,7 +1,7 @@
 //! What stands first in the visited list.
 ghost use Rattle.std.specs.Prelude.{◌≡◌, [], IfSome, IfNone};
 ghost use Rattle.pllinks.specs.Lists.{run_goals};
-ghost use Rattle.plstack.specs.State.{goals_in, goals_of, IsFit, IsList, IsState};
+ghost use Rattle.plstack.specs.State.{goals_in, goals_of, IsEmptyOrFit, IsList, IsState};
 ghost use Rattle.plstack.specs.First.{Begins, IsFirst, IsShort, IsStep};
 
 use crate::stack::Stack;
@@ -69,7 +69,7 @@ impl Stack {
     /// What stands first in a list whose run begins with a step.
     fn first_of_run(&self, list: Continuation, step: Step) -> First
         requires list { IsList self.now list }
-        requires fits { IsFit self.now list }
+        requires fits { IsEmptyOrFit self.now list }
         requires step { IsStep self.now.basis.code.text list.run.position step }
         ensures { Begins self.now (goals_of self.now list) result }
     {

@@ -1,11 +1,11 @@
 //! Open cases.
 
 use plcells::cell::Cell;
-use plclause::clause::Clause;
 use plenv::slot::Mark;
 use plevent::ClauseName;
 use plgenerator::turn::Turn;
 use pllinks::link::Continuation;
+use plviews::{Reach, View};
 
 /// How much there was: of the environment, of links, and of values that are kept for calls.
 #[derive(Clone, Copy)]
@@ -31,13 +31,6 @@ pub struct Clauses {
     pub next: usize,
 }
 
-/// A clause that a goal is tried with: the clause, and its name if it is to be erased before the list goes on.
-#[derive(Drop)]
-pub struct Candidate {
-    pub clause: Clause,
-    pub erased: Option<ClauseName>,
-}
-
 /// What is done with a clause that fits.
 #[derive(Clone, Copy)]
 pub enum Use {
@@ -49,15 +42,24 @@ pub enum Use {
     Erase,
 }
 
+/// A clause by its name, and how far the clauses of its procedure are looked through behind it.
+#[derive(Clone, Copy)]
+pub struct Ahead {
+    pub name: ClauseName,
+    pub reach: Reach,
+}
+
 /// Where a walk over the clauses of a procedure stands.
 #[derive(Clone, Copy)]
 pub enum Spot {
     /// At a clause of a procedure of the program's text, by its number.
     Text(usize),
-    /// At the clause of a name, in the view of a place.
-    At(u64, ClauseName),
+    /// In a view, where the clauses are looked through up to a reach, and the next one is to be found.
+    Seek(View, Reach),
+    /// In a view, at the clause of a name, behind which the clauses are looked through up to a reach.
+    At(View, ClauseName, Reach),
     /// The same, where the next clause behind it that may fit is known, or that there is none.
-    Known(u64, ClauseName, Option<ClauseName>),
+    Known(View, ClauseName, Option<Ahead>),
 }
 
 /// A walk over clauses: the goal that is resolved against them, what is done with one that fits, and where it stands.
@@ -104,6 +106,8 @@ pub enum Resume {
     List,
     /// It is a handler.
     Handle(Handler),
+    /// A transaction or a snapshot ends without success.
+    Undo,
 }
 
 /// Open cases.
@@ -111,7 +115,7 @@ pub enum Resume {
 pub enum Frame {
     /// So many choices with nothing left to try.
     Plain(u64),
-    /// A choice point or a handler.
+    /// A choice point, a handler, or where a transaction or a snapshot ends without success.
     Open(Point, Resume),
 }
 
@@ -140,4 +144,6 @@ pub enum Closed {
     Choice,
     /// A handler.
     Handler,
+    /// Where a transaction or a snapshot ends without success.
+    Transaction,
 }

@@ -14,6 +14,7 @@ pub mod give;
 mod head;
 pub mod hold;
 mod key;
+pub mod leave;
 pub mod list;
 pub mod open;
 pub mod pair;

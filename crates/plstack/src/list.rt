@@ -1,11 +1,14 @@
 //! Goal lists of a stack.
-ghost use Rattle.std.specs.Prelude.{◌≡◌, ◌≤◌, ◌-◌, [], ◌∷◌, ◌++◌, length, take, IfOk, OnErr, OnOk};
+ghost use Rattle.std.specs.Prelude.{◌≡◌, ◌≤◌, ◌-◌, List, [], ◌∷◌, ◌++◌, length, take, IfOk, OnErr, OnOk};
 ghost use Rattle.plsearch.specs.Lists.{levels};
 ghost use Rattle.pllinks.specs.Lists.{elements, IsItem};
 ghost use Rattle.pllinks.specs.Links.{alone, link_at, IsDone};
 ghost use Rattle.pllinks.specs.declared.item.Item.TheVariants.{Run as RunOf};
-ghost use Rattle.plstack.specs.State.{goals_in, goals_of, IsFit, IsList, AddsList};
-ghost use Rattle.plstack.specs.Levels.{levels_of};
+ghost use Rattle.plevent.specs.declared.update.Update.{Update};
+ghost use Rattle.plsearch.specs.Types.{Case};
+ghost use Rattle.plstack.specs.Places.{Database, IsOwnSoFar};
+ghost use Rattle.plstack.specs.State.{cases_of, goals_in, goals_of, IsEmptyOrFit, IsList, AddsList};
+ghost use Rattle.plstack.specs.Levels.{kinds, levels_of, AreNamed, FitsIn};
 ghost use Rattle.plstack.specs.Linking.{LinksItem};
 
 use crate::stack::Stack;
@@ -50,11 +53,12 @@ impl Stack {
         Ok(Continuation { run, rest: behind })
     }
 
-    /// Visits a list that is there.
+    /// Visits a list that is there. Own updates that no walk sees change no case.
     pub fn visit(&mut self, list: Continuation)
         requires list { IsList self.old list }
-        requires fits { IsFit self.old list }
-        ensures { self.new ≡ record self.old { goals = list } }
+        requires fits { IsEmptyOrFit self.old list }
+        ensures is { self.new ≡ record self.old { goals = list } }
+        ensures own { (db : Database) (own : List Update) → IsOwnSoFar self.old.basis.latest db own → cases_of (record db { own = own }) self.old ≡ cases_of db self.old }
     {
         self.goals = list;
     }
@@ -63,15 +67,16 @@ impl Stack {
     pub fn visited(&self) -> Continuation
         ensures is { result ≡ self.now.goals }
         ensures there { IsList self.now result }
-        ensures fits { IsFit self.now result }
+        ensures fits { IsEmptyOrFit self.now result }
     {
         self.goals
     }
 
-    /// The levels of the markers of a list.
+    /// The levels of the markers of a list. Where it fits in some cases, those at which a transaction ends without success are among them.
     pub fn levels(&self, alloc: Global, list: Continuation) -> Result<Vec<Level>, AllocError>
         requires { IsList self.now list }
-        ensures { IfOk result (λ found. found.items ≡ levels (goals_of self.now list)) }
+        ensures is { IfOk result (λ found. found.items ≡ levels (goals_of self.now list)) }
+        ensures named { IfOk result (λ found. (cs : List Case) → FitsIn (kinds cs) (goals_of self.now list) → AreNamed found.items cs) }
     {
         let mut found = Vec::new(alloc);
         let mut at = list.rest;

@@ -1,17 +1,22 @@
 //! Cases that are opened and closed.
-ghost use Rattle.std.specs.Prelude.{◌≡◌, ◌+◌, ◌<◌, ◌≤◌, ◌^◌, [], ◌∷◌, ◌++◌, List, reverse, IfNone, IfOk, IfSome, OnErr, OnOk, vec_capacity, vec_len};
+ghost use Rattle.std.specs.Prelude.{◌≡◌, ◌+◌, ◌<◌, ◌≤◌, ◌^◌, ℕ, [], ◌∷◌, ◌++◌, List, reverse, IfNone, IfOk, IfSome, OnErr, OnOk, vec_capacity, vec_len};
 ghost use Rattle.plsearch.specs.Types.{Choice};
-ghost use Rattle.plstack.specs.Places.{Database, kept};
+ghost use Rattle.plevent.specs.declared.update.Update.{Update};
+ghost use Rattle.plstack.specs.Places.{kept, Database, IsOwnSoFar};
+ghost use Rattle.plstack.specs.Basis.{BasisBehind, IsShown};
 ghost use Rattle.plstack.specs.Frames.{IsResume, IsSeen};
+ghost use Rattle.plstack.specs.Levels.{sort_of, Undoing};
 ghost use Rattle.plstack.specs.declared.frame.Frame.{Frame};
-ghost use Rattle.plstack.specs.State.{cases_of, walks_in, CountsUp, EndsWalks, HasPlain, IsFit, IsList, Opens};
-ghost use Rattle.plstack.specs.Opening.{around_cases, branch_of, closing, ClosedAs, ClosesPlain, IsAround, OpensFrame, OpensIn};
+ghost use Rattle.plstack.specs.State.{beginning, cases_of, walks_in, CountsUp, EndsWalks, HasPlain, HasUndo, IsFit, IsList, Opens};
+ghost use Rattle.plstack.specs.Opening.{around_cases, branch_of, closing, undo_of, ClosedAs, ClosesPlain, IsAround, OpensFrame, OpensIn};
+ghost use Rattle.plstack.specs.declared.frame.Closed.TheVariants.{Transaction};
 
 use crate::frame::{Around, Closed, Frame, Marks, Point, Resume};
 use crate::stack::Stack;
 use pllinks::level::Level;
 use pllinks::link::Continuation;
 use pllinks::list::ListId;
+use plviews::View;
 use std::alloc::AllocError;
 
 impl Stack {
@@ -64,6 +69,7 @@ impl Stack {
         requires fits { IsFit self.old list }
         requires resume { IsResume self.old.env.heap [] resume }
         requires none { kept resume ≡ 0 }
+        requires stays { sort_of resume ≡ Undoing → ⊥ }
         requires seen { IsSeen self.old.basis.latest resume }
         ensures ok { OnOk result (OpensFrame self.old self.new list resume) }
         ensures err { OnErr result (self.new ≡ self.old) }
@@ -86,6 +92,7 @@ impl Stack {
         requires fits { IsFit self.old list }
         requires resume { IsResume self.old.env.heap [] resume }
         requires none { kept resume ≡ 0 }
+        requires stays { sort_of resume ≡ Undoing → ⊥ }
         requires seen { IsSeen self.old.basis.latest resume }
         ensures ok { OnOk result (OpensIn self.old self.new list resume) }
         ensures err { OnErr result (self.new ≡ self.old) }
@@ -103,14 +110,44 @@ impl Stack {
         Ok(())
     }
 
-    /// Closes the innermost case, if one is open, and visits no goals.
+    /// Opens the cases of a transaction or a snapshot that begins in a view, before a list, and visits no goals: a choice with nothing left to try,
+    /// in it the case at which the transaction ends without success, and in that a choice for the cut level of its goal.
+    pub fn open_transaction(&mut self, view: View, list: Continuation) -> Result<(), AllocError>
+        requires view { IsShown self.old.basis.latest view }
+        requires list { IsList self.old list }
+        requires fits { IsFit self.old list }
+        ensures ok { OnOk result (Opens (beginning view self.old) self.new (Choice [] ∷ undo_of self.old list ∷ Choice [] ∷ [])) }
+        ensures err { OnErr result (self.new ≡ self.old) }
+    {
+        let depth = deeper(self.depth, 3)?;
+        self.frames.reserve(3)?;
+        self.basis.starts.reserve(1)?;
+        let marks = Marks {
+            env: self.env.mark(),
+            links: self.links.len(),
+            saved: self.saved.len(),
+        };
+        count_up(&mut self.frames, 1);
+        let undo = Frame::Open(Point { marks, list }, Resume::Undo);
+        push_frame(&mut self.frames, undo);
+        count_up(&mut self.frames, 1);
+        push_start(&mut self.basis.starts, view.count);
+        self.basis.latest = view;
+        self.depth = depth;
+        self.goals = Continuation::alone(ListId::EMPTY);
+        Ok(())
+    }
+
+    /// Closes the innermost case, if one is open, and visits no goals. Where it ends a transaction, that is open no more.
     #[inline(always)]
     pub fn close(&mut self) -> Option<Closed>
         ensures some { IfSome result (λ c. (db : Database) → ClosedAs db self.old self.new c) }
         ensures none { IfNone result ((db : Database) → cases_of db self.old ≡ []) }
         ensures same { IfNone result (self.new ≡ self.old) }
         ensures walks { EndsWalks self.old self.new }
-        ensures basis { self.new.basis ≡ self.old.basis }
+        ensures basis { IfSome result (λ c. BasisBehind c self.old.basis self.new.basis) }
+        ensures undo { IfSome result (λ c. HasUndo self.old → c ≡ Transaction) }
+        ensures own { IfSome result (λ c. (db : Database) (own : List Update) → IsOwnSoFar self.new.basis.latest db own → cases_of (record db { own = own }) self.new ≡ cases_of db self.new) }
     {
         let Some(frame) = self.frames.pop() else {
             return None;
@@ -118,7 +155,16 @@ impl Stack {
         self.depth = self.depth.down(1);
         self.goals = Continuation::alone(ListId::EMPTY);
         match frame {
-            Frame::Open(_, resume) => Some(closed_as(resume)),
+            Frame::Open(_, resume) => {
+                let Resume::Undo = resume else {
+                    return Some(closed_as(resume));
+                };
+                let Some(start) = self.basis.starts.pop() else {
+                    unreachable!()
+                };
+                self.basis.latest.count = start;
+                Some(Closed::Transaction)
+            }
             Frame::Plain(n) => {
                 if n > 1 {
                     push_frame(&mut self.frames, Frame::Plain(n - 1));
@@ -166,6 +212,7 @@ fn closed_as(resume: Resume) -> Closed
         Resume::Answers(_) => Closed::Choice,
         Resume::List => Closed::Choice,
         Resume::Handle(_) => Closed::Handler,
+        Resume::Undo => Closed::Transaction,
     }
 }
 
@@ -182,12 +229,25 @@ pub(crate) fn push_frame(frames: &mut Vec<Frame>, frame: Frame)
     }
 }
 
+/// One more start, where there is room for it.
+fn push_start(starts: &mut Vec<u64>, start: u64)
+    requires room { vec_len starts.old < vec_capacity starts.old }
+    ensures { starts.new.items ≡ starts.old.items ++ start ∷ [] }
+{
+    match starts.push(start) {
+        Ok(()) => {}
+        Err(_) => unreachable!(),
+    }
+}
+
 /// So many more choices with nothing left, in place if the newest case is such a one.
 #[inline(always)]
 pub(crate) fn count_up(frames: &mut Vec<Frame>, n: u64)
     requires some { 0 < n }
     requires room { vec_len frames.old < vec_capacity frames.old }
-    ensures { CountsUp n (reverse frames.old.items) (reverse frames.new.items) }
+    ensures counts { CountsUp n (reverse frames.old.items) (reverse frames.new.items) }
+    ensures len { vec_len frames.new ≤ vec_len frames.old + 1 }
+    ensures capacity { vec_capacity frames.old ≤ vec_capacity frames.new }
 {
     match plain_in(frames) {
         Some(m) if m <= u64::MAX - n => {
@@ -199,8 +259,9 @@ pub(crate) fn count_up(frames: &mut Vec<Frame>, n: u64)
 }
 
 /// How many choices with nothing left the newest frame is, if it is such a one.
-fn plain_in(frames: &[Frame]) -> Option<u64>
-    ensures { IfSome result (λ m. (rest : List Frame) × (frames.now ≡ rest ++ Frame.Plain m ∷ [])) }
+pub(crate) fn plain_in(frames: &[Frame]) -> Option<u64>
+    ensures some { IfSome result (λ m. (rest : List Frame) × (frames.now ≡ rest ++ Frame.Plain m ∷ [])) }
+    ensures none { IfNone result ((m : ℕ) (rest : List Frame) → frames.now ≡ rest ++ Frame.Plain m ∷ [] → ⊥) }
 {
     match frames.last() {
         Some(Frame::Plain(m)) => Some(*m),

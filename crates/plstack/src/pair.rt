@@ -2,7 +2,7 @@
 ghost use Rattle.std.specs.Prelude.{◌≡◌, codes, IfOk};
 ghost use Rattle.plterm.specs.Tree.{atom, var};
 ghost use Rattle.plcells.specs.Store.{IsValue, value};
-ghost use Rattle.plsearch.specs.Rows.{clause_term};
+ghost use Rattle.plsearch.specs.Lookups.{clause_term};
 ghost use Rattle.plstack.specs.State.{Extends};
 ghost use Rattle.plstack.specs.Arguments.{KeepsArguments};
 

@@ -1,11 +1,12 @@
 //! The stack.
-ghost use Rattle.std.specs.Prelude.{◌≡◌, ◌+◌, ◌≤◌, ◌↔◌, [], IsTrue};
+ghost use Rattle.std.specs.Prelude.{◌≡◌, ◌+◌, ◌⊎◌, ◌↔◌, [], IsTrue};
 ghost use Rattle.platoms.specs.Names.{Extends as ExtendsNames};
 ghost use Rattle.plcode.specs.Steps.{goals_from};
 ghost use Rattle.plsearch.specs.Engine.{deeper};
 ghost use Rattle.pllinks.specs.Links.{alone};
 ghost use Rattle.plstack.specs.Places.{Database};
-ghost use Rattle.plstack.specs.State.{cases_of, depth_in, seeing, HasAnswers, HasBranch, HasCatcher, HasClauses, HasWalk, HasGatherer, HasHandler, HasPlain};
+ghost use Rattle.plstack.specs.Basis.{IsShown};
+ghost use Rattle.plstack.specs.State.{cases_of, depth_in, seeing, HasAnswers, HasBranch, HasCatcher, HasClauses, HasWalk, HasGatherer, HasHandler, HasPlain, HasUndo};
 
 use crate::basis::Basis;
 use crate::frame::{Frame, Handler, Resume};
@@ -16,10 +17,11 @@ use plhead::head::Matcher;
 use pllinks::level::Level;
 use pllinks::link::{Continuation, Link};
 use pllinks::list::ListId;
+use plviews::View;
 use std::alloc::Global;
 use std::marker::Model;
 
-/// The program's code with the latest view, an environment, the goal lists over it, the values that open cases keep, the open cases of a search, and the list
+/// What the cases rest on, an environment, the goal lists over it, the values that open cases keep, the open cases of a search, and the list
 /// that is visited.
 #[derive(Drop)]
 pub struct Stack {
@@ -42,9 +44,9 @@ impl Model for Stack {
 
     ghost coded = { Prim.hlevel (codes, tree_code) };
 
-    ghost view = { λ a. record { basis = a.basis; env = a.env; links = a.links.items; saved = a.saved.items; frames = a.frames.items; goals = a.goals } };
+    ghost view = { λ a. record { basis = record { code = a.basis.code; latest = a.basis.latest; starts = a.basis.starts.items }; env = a.env; links = a.links.items; saved = a.saved.items; frames = a.frames.items; goals = a.goals } };
 
-    ghost invariant = { λ a. IsStack (record { basis = a.basis; env = a.env; links = a.links.items; saved = a.saved.items; frames = a.frames.items; goals = a.goals }) a.depth };
+    ghost invariant = { λ a. IsStack (record { basis = record { code = a.basis.code; latest = a.basis.latest; starts = a.basis.starts.items }; env = a.env; links = a.links.items; saved = a.saved.items; frames = a.frames.items; goals = a.goals }) a.depth };
 }
 
 impl Stack {
@@ -52,11 +54,15 @@ impl Stack {
     pub fn new(alloc: Global, code: ProgramCode, env: Environment) -> Stack
         requires names { ExtendsNames code.text.names env.heap.names }
         requires none { goals_from code.text 0 0 ≡ [] }
-        ensures { result ≡ record { basis = record { code = code; latest = 0 }; env = env; links = []; saved = []; frames = []; goals = alone 0 } }
+        ensures { result ≡ record { basis = record { code = code; latest = record { place = 0; count = 0 }; starts = [] }; env = env; links = []; saved = []; frames = []; goals = alone 0 } }
     {
         let _ = env.heap();
         Stack {
-            basis: Basis { code, latest: 0 },
+            basis: Basis {
+                code,
+                latest: View { place: 0, count: 0 },
+                starts: Vec::new(alloc),
+            },
             env,
             matcher: Matcher::new(alloc),
             links: Vec::new(alloc),
@@ -75,12 +81,12 @@ impl Stack {
         &self.basis.code
     }
 
-    /// From now on a walk may go on in the view of this place.
-    pub fn sees(&mut self, g: u64)
-        requires { self.old.basis.latest ≤ g }
-        ensures { self.new ≡ seeing g self.old }
+    /// From now on a walk may go on in this view.
+    pub fn sees(&mut self, view: View)
+        requires { IsShown self.old.basis.latest view }
+        ensures { self.new ≡ seeing view self.old }
     {
-        self.basis.latest = g;
+        self.basis.latest = view;
     }
 
     /// The environment.
@@ -99,9 +105,9 @@ impl Stack {
         self.depth
     }
 
-    /// The level of the innermost case, which is a handler.
+    /// The level of the innermost case, which is a handler or ends a transaction.
     pub fn level(&self) -> Level
-        requires { HasHandler self.now }
+        requires { HasHandler self.now ⊎ HasUndo self.now }
         ensures { (db : Database) → deeper (cases_of db self.now) 0 ≡ result + 1 }
     {
         self.depth.down(1)
@@ -160,5 +166,12 @@ impl Stack {
             self.frames.last(),
             Some(Frame::Open(_, Resume::Handle(Handler::Gather(_))))
         )
+    }
+
+    /// Whether a transaction or a snapshot ends without success at the innermost case.
+    pub fn is_undo(&self) -> bool
+        ensures { IsTrue result ↔ HasUndo self.now }
+    {
+        matches!(self.frames.last(), Some(Frame::Open(_, Resume::Undo)))
     }
 }

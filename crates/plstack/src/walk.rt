@@ -5,7 +5,8 @@ ghost use Rattle.plsubst.specs.Subst.{shift};
 ghost use Rattle.plsubst.specs.Unify.{unify};
 ghost use Rattle.plcells.specs.Putting.{standing};
 ghost use Rattle.plcells.specs.Store.{value, AreValues, IsValue};
-ghost use Rattle.plsearch.specs.Rows.{as_fact, is_true as is_true_of, resolve};
+ghost use Rattle.plsearch.specs.Moves.{is_true as is_true_of, resolve};
+ghost use Rattle.plsearch.specs.Lookups.{as_fact};
 ghost use Rattle.plenv.specs.Env.{cut, IsEnv, IsMark, IsWithin};
 ghost use Rattle.plenv.specs.Changes.{Keeps};
 ghost use Rattle.plstack.specs.Places.{clause_by, Database};
@@ -301,6 +302,7 @@ impl Stack {
         requires { HasWalk self.old }
         ensures cases { (db : Database) → cases_of db self.new ≡ cases_of db self.old }
         ensures at { AtWalk self.new result.point result.walk }
+        ensures seen { IsSpotSeen self.new.basis.latest result.walk.spot }
         ensures walks { walks_in self.new ≡ walks_in self.old }
         ensures basis { self.new.basis ≡ self.old.basis }
     {

@@ -32,10 +32,11 @@ ended-layer success x is = go x.own.levels is
   where
     go : (ls : List Level) → IsLayer (record x { own = record x.own { levels = ls } }) → IsLayer (record x { own = ended success (record x.own { levels = ls }) })
     go [] h = h
-    go (l ∷ []) h = record { place = λ o. absurd (cc); apart = tt }
+    go (l ∷ []) h = record { place = λ o. absurd (cc); apart = tt; closed = λ o. refl }
     go (l ∷ m ∷ ls) h = record {
       place = λ o. h.place refl;
       apart = apart-if (is_kept success l.kind) x.own.base x.own.updates (take l.start x.own.updates) h.apart (apart-take x.own.base l.start x.own.updates h.apart);
+      closed = λ o. absurd (cc);
     }
 
 erasing-apart : (b : ℕ) (x : ClauseName) → AllErasedApart b (erasing (target_at b x) ∷ [])
@@ -77,17 +78,21 @@ made-apart (Erase y) s h = erased-apart (target_at s.base y) s (erasing-apart s.
 made-apart (EraseOwn k) s h = erased-apart (Own k) s (tt, tt) h
 made-apart (Declare q) s h = apart-push s.base s.updates (Declare q) h (tt, tt)
 
-pub made-layer : (u : Update) (x : Layered) → IsLayer x → IsLayer (record x { own = made u x.own })
-made-layer u x is =
+pub made-layer : (u : Update) (x : Layered) → any_open x.own ≡ true → IsLayer x → IsLayer (record x { own = made u x.own })
+made-layer u x some is =
     let same = made-same u x.own in
     record {
       place = λ o. is.place (ap some_open (sym same.1) ∙ o) ∙ ap Some (sym same.0);
       apart = subst (λ b. AllErasedApart b (made u x.own).updates) (sym same.0) (made-apart u x.own is.apart);
+      closed = λ o. absurd (both-ways (sym (ap some_open same.1 ∙ some) ∙ o));
     }
+  where
+    both-ways : true ≡ false → ⊥
+    both-ways e = absurd (cc)
 
-pub all-made-layer : (us : List Update) (x : Layered) → IsLayer x → IsLayer (record x { own = all_made us x.own })
-all-made-layer [] x is = is
-all-made-layer (u ∷ us) x is = all-made-layer us (record x { own = made u x.own }) (made-layer u x is)
+pub all-made-layer : (us : List Update) (x : Layered) → any_open x.own ≡ true → IsLayer x → IsLayer (record x { own = all_made us x.own })
+all-made-layer [] x some is = is
+all-made-layer (u ∷ us) x some is = all-made-layer us (record x { own = made u x.own }) (ap some_open (made-same u x.own).1 ∙ some) (made-layer u x some is)
 
 pub all-made-push : (us : List Update) (u : Update) (s : State) → all_made (us ++ u ∷ []) s ≡ made u (all_made us s)
 all-made-push [] u s = refl
@@ -104,7 +109,7 @@ erased-grows t s = go (erased_in t s.updates)
     go true = grows-same s
     go false = record { more = erasing t ∷ []; is = refl }
 
-made-grows : (u : Update) (s : State) → Grows s (made u s)
+pub made-grows : (u : Update) (s : State) → Grows s (made u s)
 made-grows (First c) s = record { more = First c ∷ []; is = refl }
 made-grows (Last c) s = record { more = Last c ∷ []; is = refl }
 made-grows (Erase y) s = erased-grows (target_at s.base y) s

@@ -6,7 +6,7 @@ use Rattle.plterm.specs.declared.indicator.Indicator.{Indicator}
 use Rattle.plevent.specs.declared.key.Key.{Key}
 use Rattle.plevent.specs.declared.update.ClauseName.{ClauseName}
 use Rattle.plevent.specs.declared.update.Living.{Living}
-use Rattle.plevent.specs.Alive.{Stamped, living, named}
+use Rattle.plevent.specs.Alive.{Stamped, living, named, stamped}
 use Rattle.plstore.specs.declared.record.Cursor.{Cursor}
 use Rattle.plstore.specs.Like.{fits, next_like_of, past, rest}
 use Rattle.plstore.specs.Rising.{AllUnder, Ordered}
@@ -18,9 +18,9 @@ use Rattle.pltx.specs.Walks.{cursor_at, not_erased, own_backs, own_fronts}
 use Rattle.plviews.specs.declared.lookup.Reach.{Reach}
 use Rattle.plviews.specs.declared.lookup.Reach.TheVariants.{Front, Base, Back}
 use Rattle.plviews.specs.declared.lookup.Step.{Step}
-use Rattle.plviews.specs.Views.{own_part, whole, Sight}
+use Rattle.plviews.specs.Views.{own_part, whole, Sight, WithoutOwn}
 use Rattle.plviews.specs.Lookups.{base_rest, likely, rest_at, Begins, Says}
-use Rattle.plviews.proofs.Seen.{apart-backs, apart-fronts, known-filter, rest-known, AllKnown}
+use Rattle.plviews.proofs.Seen.{apart-backs, apart-fronts, known-filter, no-backs, no-fronts, rest-known, AllKnown}
 use Rattle.plviews.proofs.Heads.{filter-turn, heads-append, heads-dropped, heads-fewer, heads-kept, heads-rest, none-head, Heads}
 
 begins-from : (us : List Stamped) (x : ClauseName) (xs ys : List Living) → AllKnown us xs → Heads x xs ys → Begins us x xs ys
@@ -92,10 +92,22 @@ module _ (s : Sight) (p : Indicator) (k : Key) (o : Ordered s.below) (un : AllUn
   pub base-over : (c : Cursor) → None ≡ next_like_of k c (living s.below p) → likely k (base_rest s p c) ≡ likely k (rest_at s p (Back OwnCursor.Start))
   base-over c e = split c ∙ ap (λ l. not_erased s.on_top l ++ likely k bs) (none-head (likely k (rest c xs)) e)
 
--- what is told of a list is told of the same list
-pub says-same : (s : Sight) (p : Indicator) (k : Key) (us vs : List Living) (step : Step) → vs ≡ us → Says s p k us step → Says s p k vs step
-says-same s p k us vs step e h = subst (λ l. Says s p k l step) (sym e) h
-
 pub none-there : (k : Key) (c : Cursor) → next_like_of k c [] ≡ None
 none-there k Cursor.Start = refl
 none-there k (Cursor.After x) = refl
+
+-- where no own update is seen
+module _ (s : Sight) (p : Indicator) (k : Key) (without : WithoutOwn s) where
+  pub front-none : Ordered s.below → AllUnder s.place s.below → (c : OwnCursor) → likely k (rest_at s p (Front c)) ≡ likely k (base_rest s p Cursor.Start)
+  front-none o un c =
+      let cur = cursor_at s.place c in
+      front-over s p k o un c (sym (ap (λ own. next_like_of k cur (own_fronts (stamped s.place 0 own) p)) without ∙ ap (next_like_of k cur) (no-fronts s.place p) ∙ none-there k cur))
+
+  pub back-none : (c : OwnCursor) → likely k (rest_at s p (Back c)) ≡ []
+  back-none c =
+      let cur = cursor_at s.place c in
+      none-head (likely k (rest_at s p (Back c))) (sym (ap (λ own. next_like_of k cur (own_backs (stamped s.place 0 own) p)) without ∙ ap (next_like_of k cur) (no-backs s.place p) ∙ none-there k cur))
+
+-- what is told of a list is told of the same list
+pub says-same : (s : Sight) (p : Indicator) (k : Key) (us vs : List Living) (step : Step) → vs ≡ us → Says s p k us step → Says s p k vs step
+says-same s p k us vs step e h = subst (λ l. Says s p k l step) (sym e) h

@@ -1,5 +1,5 @@
 -- The own updates of a thread, and where in the journal they stand.
-use Rattle.std.specs.Prelude.{◌≡◌, ℕ, true, List, ◌++◌, Option, Some, None, refl}
+use Rattle.std.specs.Prelude.{◌≡◌, ℕ, true, false, List, ◌++◌, Option, Some, None, refl}
 use Rattle.std.specs.Coded.{Coded, code_by, coded×, coded_option, coded_ℕ}
 use Rattle.plevent.specs.declared.update.Update.{Update}
 use Rattle.pltx.specs.Own.{State, state_code, nothing, any_open}
@@ -16,10 +16,11 @@ layer_code = code_by (State × Option ℕ) (coded× state_code (coded_option cod
 abbrev pub bottom : Layered
 bottom = record { own = nothing; place = None }
 
--- what is open stands at that place, and erases no clause by a name of it but own ones
+-- what is open stands at that place, and erases no clause by a name of it but own ones; and where nothing is open there is nothing
 pub record IsLayer (x : Layered) : Type 0 where
   pub place : any_open x.own ≡ true → x.place ≡ Some x.own.base
   pub apart : AllErasedApart x.own.base x.own.updates
+  pub closed : any_open x.own ≡ false → x.own ≡ nothing
 
 -- more updates, and all else as it was
 pub record Grows (old new : State) : Type 0 where

@@ -1,21 +1,24 @@
 -- The clauses of a procedure in a view, and how far they are looked through.
-use Rattle.std.specs.Prelude.{◌≡◌, ◌<◌, List, [], ◌∷◌, ◌++◌, filter, length, take, Some}
+use Rattle.std.specs.Prelude.{◌≡◌, ◌<◌, List, [], ◌∷◌, ◌++◌, filter, length, take, Option, None, Some}
 use Rattle.plterm.specs.declared.indicator.Indicator.{Indicator}
 use Rattle.plclause.specs.Clause.{Clause}
 use Rattle.plevent.specs.declared.key.Key.{Key}
 use Rattle.plevent.specs.declared.update.ClauseName.{ClauseName}
 use Rattle.plevent.specs.declared.update.Living.{Living}
+use Rattle.plevent.specs.declared.update.Update.{Update}
 use Rattle.plevent.specs.Alive.{Stamped, living, lives_as}
 use Rattle.plstore.specs.declared.record.Cursor.{Cursor}
-use Rattle.plstore.specs.Like.{fits, rest}
+use Rattle.plstore.specs.Like.{fits, next_like_of, rest}
 use Rattle.plstore.specs.Looking.{clause_alive}
+use Rattle.pltx.specs.declared.own.OwnCursor.{OwnCursor}
 use Rattle.pltx.specs.Walks.{cursor_at, not_erased, own_backs, own_fronts}
 use Rattle.plviews.specs.declared.lookup.Lookup.{Lookup}
 use Rattle.plviews.specs.declared.lookup.Reach.{Reach}
 use Rattle.plviews.specs.declared.lookup.Reach.TheVariants.{Front, Base, Back}
 use Rattle.plviews.specs.declared.lookup.Step.{Step}
 use Rattle.plviews.specs.declared.lookup.Step.TheVariants.{Next, Nothing, Asks}
-use Rattle.plviews.specs.Views.{sight, own_part, whole, IsBase, Sight}
+use Rattle.plviews.specs.declared.view.View.{View}
+use Rattle.plviews.specs.Views.{sight, own_part, whole, IsBase, IsOwn, Sight}
 
 -- the clauses of the journal behind a cursor that no own update erases, and then the own ones put behind
 abbrev pub base_rest : Sight → Indicator → Cursor → List Living
@@ -42,6 +45,34 @@ abbrev pub Says : Sight → Indicator → Key → List Living → Step → Type 
 Says s p k xs (Next x r) = Begins (whole s) x xs (likely k (rest_at s p r))
 Says s p k xs Nothing = xs ≡ []
 Says s p k xs (Asks c) = xs ≡ likely k (base_rest s p c)
+
+-- what a step behind a reach says, in a view of some own updates, whatever batches they stand on
+abbrev pub SaysAt : List Update → View → Indicator → Key → Reach → Step → Type 0
+SaysAt own v p k r step = (us : List Stamped) → IsBase us v.place (take v.count own) → Says (sight us v own) p k (likely k (rest_at (sight us v own) p r)) step
+
+-- the same of a step that is made of what the journal gave behind a cursor
+abbrev pub SaysFound : List Update → View → Indicator → Key → Option ClauseName → Step → Type 0
+SaysFound own v p k found step =
+    (us : List Stamped) (c : Cursor) → IsBase us v.place (take v.count own) → found ≡ next_like_of k c (living us p) → Says (sight us v own) p k (likely k (rest_at (sight us v own) p (Base c))) step
+
+-- where a step leads: along the own clauses that were put on one side; from those in front to the start of the journal
+abbrev pub Leads : View → Reach → Step → Type 0
+Leads v (Front c) (Next x r) = IsOwn v x × (d : OwnCursor) × (r ≡ Front d)
+Leads v (Front c) Nothing = ⊥
+Leads v (Front c) (Asks d) = d ≡ Cursor.Start
+Leads v (Base c) (Next x r) = ⊥
+Leads v (Base c) Nothing = ⊥
+Leads v (Base c) (Asks d) = d ≡ c
+Leads v (Back c) (Next x r) = IsOwn v x × (d : OwnCursor) × (r ≡ Back d)
+Leads v (Back c) Nothing = Unit {0}
+Leads v (Back c) (Asks d) = ⊥
+
+-- and from what the journal gave: to the clause of that name, or past it; or to the own clauses that were put behind
+abbrev pub LeadsFound : View → Option ClauseName → Step → Type 0
+LeadsFound v None step = Leads v (Back OwnCursor.Start) step
+LeadsFound v (Some y) (Next x r) = (x ≡ y) × (r ≡ Base (Cursor.After y))
+LeadsFound v (Some y) Nothing = ⊥
+LeadsFound v (Some y) (Asks c) = c ≡ Cursor.After y
 
 -- the same of a look-up on top of some batches, on which its own updates stand
 abbrev pub StandsOn : List Stamped → Lookup → Type 0

@@ -1,9 +1,10 @@
 //! The own updates of a thread on top of a place of the journal.
-ghost use Rattle.std.specs.Prelude.{◌≡◌, true, false, length, IfOk, OnErr, OnOk, Some};
+ghost use Rattle.std.specs.Prelude.{◌≡◌, true, false, [], ◌∷◌, length, IfOk, OnErr, OnOk, Some};
 ghost use Rattle.plevent.specs.Alive.{add_if};
-ghost use Rattle.pltx.specs.Own.{all_made, any_open, begun, ended, ending, erased_in, made, target_at};
+ghost use Rattle.pltx.specs.Own.{all_made, any_open, begun, ended, ending, erased_in, made, nothing, target_at};
 ghost use Rattle.pltx.specs.Walks.{AllErasedApart};
 ghost use Rattle.pltx.specs.declared.target.Erasure.TheVariants.{Erased, Gone};
+ghost use Rattle.pltx.specs.declared.level.Level.{Level};
 ghost use Rattle.plviews.specs.Layers.{bottom, Grows};
 
 use crate::view::View;
@@ -49,10 +50,19 @@ impl Layer {
         self.own.depth() > 0
     }
 
+    /// The place at which the outermost one was begun last, if one was.
+    pub fn place(&self) -> Option<u64>
+        ensures is { result ≡ self.now.place }
+        ensures closed { any_open self.now.own ≡ false → self.now.own ≡ nothing }
+    {
+        self.place
+    }
+
     /// The own updates.
     pub fn own(&self) -> &Own
         ensures is { result.now ≡ self.now.own }
         ensures apart { AllErasedApart self.now.own.base self.now.own.updates }
+        ensures closed { any_open self.now.own ≡ false → self.now.own ≡ nothing }
     {
         &self.own
     }
@@ -60,7 +70,8 @@ impl Layer {
     /// What a call sees now, inside of what is open.
     pub fn view(&self) -> View
         requires { any_open self.now.own ≡ true }
-        ensures { result ≡ record { place = self.now.own.base; count = length self.now.own.updates } }
+        ensures is { result ≡ record { place = self.now.own.base; count = length self.now.own.updates } }
+        ensures place { self.now.place ≡ Some self.now.own.base }
     {
         View {
             place: self.own.base(),
@@ -87,6 +98,15 @@ impl Layer {
     {
         let base = self.own.base();
         self.own.begin(kind, base)
+    }
+
+    /// Takes back the beginning of an outermost transaction or snapshot: the place is what it was before.
+    pub fn cancel(&mut self, place: Option<u64>)
+        requires { (l : Level) × (self.old.own.levels ≡ l ∷ []) }
+        ensures { self.new ≡ record { own = nothing; place = place } }
+    {
+        self.own.end(false);
+        self.place = place;
     }
 
     /// Makes updates inside of what is open: all of them, or none.

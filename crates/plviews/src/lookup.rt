@@ -1,12 +1,16 @@
 //! The clauses of a procedure in a view, one after the other.
-ghost use Rattle.std.specs.Prelude.{◌≡◌, ℕ, List, take, Some};
+ghost use Rattle.std.specs.Prelude.{◌≡◌, ◌<◌, ℕ, List, take, IfSome, Some};
 ghost use Rattle.std.specs.Option.{option_map};
 ghost use Rattle.plevent.specs.Alive.{Stamped, living, named};
+ghost use Rattle.plevent.specs.declared.update.Update.{Update};
 ghost use Rattle.plstore.specs.declared.record.Cursor.{Cursor as Place};
 ghost use Rattle.plstore.specs.Like.{next_like_of};
 ghost use Rattle.pltx.specs.Walks.{cursor_at, own_backs, own_batch, own_fronts, AllErasedApart};
+ghost use Rattle.plviews.specs.declared.lookup.Lookup.{Lookup as Looked};
 ghost use Rattle.plviews.specs.declared.lookup.Reach.TheVariants.{Front, Base, Back};
-ghost use Rattle.plviews.specs.Lookups.{IsFurther, StandsOn, Tells};
+ghost use Rattle.plterm.specs.declared.indicator.Indicator.{Indicator as Procedure};
+ghost use Rattle.plevent.specs.declared.key.Key.{Key as OfKey};
+ghost use Rattle.plviews.specs.Lookups.{IsFurther, Leads, LeadsFound, SaysAt, SaysFound, StandsOn, Tells};
 
 use crate::view::View;
 use plevent::{ClauseName, Key};
@@ -46,7 +50,8 @@ pub enum Step {
 impl<'a> Lookup<'a> {
     /// The next clause.
     pub fn next(&self, reach: Reach) -> Step
-        ensures { (us : List Stamped) → StandsOn us self.now → Tells us self.now reach result }
+        ensures tells { (us : List Stamped) → StandsOn us self.now → Tells us self.now reach result }
+        ensures leads { Leads self.now.view reach result }
     {
         match reach {
             Reach::Front(cursor) => self.front(cursor),
@@ -60,28 +65,18 @@ impl<'a> Lookup<'a> {
     pub fn found(&self, name: Option<ClauseName>) -> Step
         ensures tells { (us : List Stamped) (c : Place) → StandsOn us self.now → name ≡ next_like_of self.now.key.now c (living us self.now.pred.now) → Tells us self.now (Base c) result }
         ensures further { (us : List Stamped) (c : Place) → StandsOn us self.now → name ≡ next_like_of self.now.key.now c (living us self.now.pred.now) → IsFurther us self.now c result }
+        ensures leads { LeadsFound self.now.view name result }
     {
         match name {
             None => self.back(OwnCursor::Start),
-            Some(name) => self.past(name),
+            Some(name) => self.view.past(self.own, name),
         }
-    }
-
-    /// The same of a clause of the journal: one that an own update erases is passed over.
-    fn past(&self, name: ClauseName) -> Step
-        ensures tells { (us : List Stamped) (c : Place) → StandsOn us self.now → Some name ≡ next_like_of self.now.key.now c (living us self.now.pred.now) → Tells us self.now (Base c) result }
-        ensures further { (us : List Stamped) (c : Place) → StandsOn us self.now → Some name ≡ next_like_of self.now.key.now c (living us self.now.pred.now) → IsFurther us self.now c result }
-    {
-        let cursor = Cursor::After(name);
-        if self.view.erases(self.own, name) {
-            return Step::Asks(cursor);
-        }
-        Step::Next(name, Reach::Base(cursor))
     }
 
     /// The next own clause that was put before all others; behind them come those of the journal.
     fn front(&self, cursor: OwnCursor) -> Step
-        ensures { (us : List Stamped) → StandsOn us self.now → Tells us self.now (Front cursor) result }
+        ensures tells { (us : List Stamped) → StandsOn us self.now → Tells us self.now (Front cursor) result }
+        ensures leads { Leads self.now.view (Front cursor) result }
     {
         match self.next_front(cursor) {
             Some(number) => Step::Next(
@@ -96,6 +91,7 @@ impl<'a> Lookup<'a> {
     fn back(&self, cursor: OwnCursor) -> Step
         ensures tells { (us : List Stamped) → StandsOn us self.now → Tells us self.now (Back cursor) result }
         ensures further { (us : List Stamped) (c : Place) → IsFurther us self.now c result }
+        ensures leads { Leads self.now.view (Back cursor) result }
     {
         match self.next_back(cursor) {
             Some(number) => Step::Next(
@@ -107,7 +103,8 @@ impl<'a> Lookup<'a> {
     }
 
     fn next_front(&self, cursor: OwnCursor) -> Option<u64>
-        ensures { (b : ℕ) → AllErasedApart b (take self.now.view.count self.now.own.now.updates) → option_map (named b) result ≡ next_like_of self.now.key.now (cursor_at b cursor) (own_fronts (own_batch b self.now.view.count self.now.own.now.updates) self.now.pred.now) }
+        ensures like { (b : ℕ) → AllErasedApart b (take self.now.view.count self.now.own.now.updates) → option_map (named b) result ≡ next_like_of self.now.key.now (cursor_at b cursor) (own_fronts (own_batch b self.now.view.count self.now.own.now.updates) self.now.pred.now) }
+        ensures some { IfSome result (λ _. 0 < self.now.view.count) }
     {
         let count = self.view.count;
         if count == 0 {
@@ -117,7 +114,8 @@ impl<'a> Lookup<'a> {
     }
 
     fn next_back(&self, cursor: OwnCursor) -> Option<u64>
-        ensures { (b : ℕ) → AllErasedApart b (take self.now.view.count self.now.own.now.updates) → option_map (named b) result ≡ next_like_of self.now.key.now (cursor_at b cursor) (own_backs (own_batch b self.now.view.count self.now.own.now.updates) self.now.pred.now) }
+        ensures like { (b : ℕ) → AllErasedApart b (take self.now.view.count self.now.own.now.updates) → option_map (named b) result ≡ next_like_of self.now.key.now (cursor_at b cursor) (own_backs (own_batch b self.now.view.count self.now.own.now.updates) self.now.pred.now) }
+        ensures some { IfSome result (λ _. 0 < self.now.view.count) }
     {
         let count = self.view.count;
         if count == 0 {
@@ -134,5 +132,33 @@ impl<'a> Lookup<'a> {
             place: self.view.place,
             number,
         }
+    }
+}
+
+impl View {
+    /// What comes next, where that is plain without a look at own updates: the journal is to be asked, or there is no further one.
+    pub fn at_once(self, reach: Reach) -> Option<Step>
+        ensures says { IfSome result (λ step. (own : List Update) (p : Procedure) (k : OfKey) → SaysAt own self p k reach step) }
+        ensures leads { IfSome result (Leads self reach) }
+    {
+        match reach {
+            Reach::Base(cursor) => Some(Step::Asks(cursor)),
+            Reach::Front(_) if self.count == 0 => Some(Step::Asks(Cursor::Start)),
+            Reach::Back(_) if self.count == 0 => Some(Step::Nothing),
+            Reach::Front(_) | Reach::Back(_) => None,
+        }
+    }
+
+    /// What comes next where the journal gave the name of a clause: one that an own update erases is passed over.
+    pub fn past(self, own: &Own, name: ClauseName) -> Step
+        ensures says { (p : Procedure) (k : OfKey) → SaysFound own.now.updates self p k (Some name) result }
+        ensures further { (us : List Stamped) (l : Looked) (c : Place) → l.view ≡ self → StandsOn us l → Some name ≡ next_like_of l.key.now c (living us l.pred.now) → IsFurther us l c result }
+        ensures leads { LeadsFound self (Some name) result }
+    {
+        let cursor = Cursor::After(name);
+        if self.erases(own, name) {
+            return Step::Asks(cursor);
+        }
+        Step::Next(name, Reach::Base(cursor))
     }
 }

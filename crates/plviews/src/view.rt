@@ -4,7 +4,7 @@ ghost use Rattle.plevent.specs.Alive.{Stamped, exists, named};
 ghost use Rattle.plstore.specs.Looking.{clause_alive};
 ghost use Rattle.pltx.specs.Own.{erased_in};
 ghost use Rattle.pltx.specs.declared.target.Target.TheVariants.{Committed};
-ghost use Rattle.plviews.specs.Views.{sight, whole, IsBase, IsTold};
+ghost use Rattle.plviews.specs.Views.{sight, whole, IsAsks, IsBase, IsTold, IsUntouched};
 
 use plclause::clause::Clause;
 use plevent::ClauseName;
@@ -32,11 +32,9 @@ pub enum Told<'a> {
 impl View {
     /// The clause of a name, where it is alive.
     pub fn clause<'a>(self, own: &'a Own, name: ClauseName) -> Told<'a>
-        ensures { (us : List Stamped) → IsBase us self.place (take self.count own.now.updates) → IsTold result (clause_alive name (whole (sight us self own.now.updates))) (clause_alive name us) }
+        ensures told { (us : List Stamped) → IsBase us self.place (take self.count own.now.updates) → IsTold result (clause_alive name (whole (sight us self own.now.updates))) (clause_alive name us) }
+        ensures asks { IsAsks result → IsUntouched own.now.updates self name }
     {
-        if self.count == 0 {
-            return Told::Asks;
-        }
         if name.place == self.place {
             return self.own_clause(own, name.number);
         }
@@ -48,7 +46,8 @@ impl View {
 
     /// The clause that an own update made.
     fn own_clause<'a>(self, own: &'a Own, number: u64) -> Told<'a>
-        ensures { (us : List Stamped) → IsBase us self.place (take self.count own.now.updates) → IsTold result (clause_alive (named self.place number) (whole (sight us self own.now.updates))) (clause_alive (named self.place number) us) }
+        ensures told { (us : List Stamped) → IsBase us self.place (take self.count own.now.updates) → IsTold result (clause_alive (named self.place number) (whole (sight us self own.now.updates))) (clause_alive (named self.place number) us) }
+        ensures known { IsAsks result → ⊥ }
     {
         match own.clause(self.count, number) {
             Some(clause) => Told::Clause(clause),

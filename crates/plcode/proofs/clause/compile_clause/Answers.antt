@@ -2,7 +2,7 @@ use Rattle.std.proofs.Common.{rules, ◌∙◌, List, length, subst, ap, sym}
 use Rattle.plterm.specs.Tree.{Tree}
 use Rattle.plclause.specs.Soundness.{IsCallable}
 use Rattle.plsearch.specs.Forms.{arguments}
-use Rattle.plsearch.specs.Rows.{is_true}
+use Rattle.plsearch.specs.Moves.{is_true}
 use Rattle.plcode.specs.Steps.{text, Args}
 use Rattle.plcode.specs.Bodies.{Begins}
 use Rattle.plcode.specs.Keys.{IsFirstKey}

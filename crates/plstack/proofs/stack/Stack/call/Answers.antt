@@ -1,5 +1,5 @@
 use Rattle.std.proofs.Common.{sym, subst, ◌∙◌, reverse, ap}
-use Rattle.plstack.specs.declared.basis.Basis.{Basis}
+use Rattle.plstack.specs.Basis.{Basis}
 use Rattle.plstack.specs.StaticCalls.{AreStatics}
 use Rattle.plstack.proofs.Growing.{if_ok}
 use Rattle.plstack.proofs.Opened.{calls-none-then, calls-then, marked-values}

@@ -23,4 +23,4 @@ returns-clause-walks c =
 pub invariant_of-self : goal.invariant_of-self
 invariant_of-self c =
     let e = c.in-Some-Plain.ensures.items ∙ ap (λ f. c.pop.new.self.items ++ f ∷ []) c.in-Some-Plain.field-0-is in
-    rw (c.alone-self-inside.ensures, c.down-self-inside.ensures) (popped-stack (inside c.self.inside) c.self.inside.depth c.pop.new.self.items (Plain c.in-Some-Plain.n) e c.self.invariant)
+    rw (c.alone-self-inside.ensures, c.down-self-inside.ensures) (popped-stack (inside c.self.inside) c.self.inside.depth c.pop.new.self.items (Plain c.in-Some-Plain.n) e c.self.invariant (λ i. i))

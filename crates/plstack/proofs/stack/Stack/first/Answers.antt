@@ -1,6 +1,6 @@
 use Rattle.std.proofs.Common.{◌≡◌, refl, ◌∙◌, sym, subst, arith}
 use Rattle.plstack.specs.First.{Begins}
-use Rattle.plstack.specs.Levels.{FitsIn}
+use Rattle.plstack.specs.Levels.{EmptyOrFits}
 use Rattle.plstack.specs.State.{kinds_in}
 use Rattle.plstack.proofs.Stacks.{inside}
 use Rattle.plstack.proofs.Beginning.{nothing-left, next-less, run-there, run-goals-there, term-there, marker-there}
@@ -48,7 +48,7 @@ returns-in-Goal c =
     let first = rw c.deref.ensures.value at c.in-Some-first_link.ensures.some in
     let some : c.loop-step.list.rest ≡ 0 → ⊥ = λ none. omega (arith, none, first.0) in
     rw (← c.self.view_is, c.alone-behind.ensures, ← same)
-    (term-there (inside c.self.inside) c.self.invariant.0 c.loop-step.list there c.in-Some-first_link.link.now some first.1 c.in-Goal.level c.in-Goal.v c.in-Goal.is none (subst (FitsIn (kinds_in (inside c.self.inside))) (sym same) c.self.invariant.0.fits))
+    (term-there (inside c.self.inside) c.self.invariant.0 c.loop-step.list there c.in-Some-first_link.link.now some first.1 c.in-Goal.level c.in-Goal.v c.in-Goal.is none (subst (EmptyOrFits (kinds_in (inside c.self.inside))) (sym same) c.self.invariant.0.fits))
 
 pub returns-in-Marker : goal.returns-in-Marker
 returns-in-Marker c =
@@ -58,9 +58,9 @@ returns-in-Marker c =
     let first = rw c.deref.ensures.value at c.in-Some-first_link.ensures.some in
     let some : c.loop-step.list.rest ≡ 0 → ⊥ = λ none. omega (arith, none, first.0) in
     rw (← c.self.view_is, c.alone-behind.ensures, ← same)
-    (marker-there (inside c.self.inside) c.self.invariant.0 c.loop-step.list there c.in-Some-first_link.link.now some first.1 c.in-Marker.kind c.in-Marker.level c.in-Marker.is none (subst (FitsIn (kinds_in (inside c.self.inside))) (sym same) c.self.invariant.0.fits))
+    (marker-there (inside c.self.inside) c.self.invariant.0 c.loop-step.list there c.in-Some-first_link.link.now some first.1 c.in-Marker.kind c.in-Marker.level c.in-Marker.is none (subst (EmptyOrFits (kinds_in (inside c.self.inside))) (sym same) c.self.invariant.0.fits))
 
 pub first_of_run-requires-clause-fits : goal.first_of_run-requires-clause-fits
 first_of_run-requires-clause-fits c =
     let same = rw (← c.self.view_is) at c.loop-step.invariant.same in
-    rw (← c.self.view_is) (subst (FitsIn (kinds_in (inside c.self.inside))) (sym same) c.self.invariant.0.fits)
+    rw (← c.self.view_is) (subst (EmptyOrFits (kinds_in (inside c.self.inside))) (sym same) c.self.invariant.0.fits)

@@ -17,7 +17,7 @@ invariant_of-self c =
     let popped : s.frames ≡ c.pop.new.self.items ++ Open p (resumes.Handle k) ∷ [] = c.in-Some-Open.ensures.items ∙ ap (λ f. c.pop.new.self.items ++ f ∷ []) (c.in-Some-Open.field-0-is ∙ ap (Open p) c.in-Handle.is) in
     let list = rw (← c.self.view_is) at c.requires.list in
     let f = rw (← c.self.view_is) at c.requires.fits in
-    recovered-stack s c.self.inside.depth c.self.invariant c.pop.new.self.items p k popped c.count_up.new.frames.items c.count_up.ensures c.args.list list f
+    recovered-stack s c.self.inside.depth c.self.invariant c.pop.new.self.items p k popped c.count_up.new.frames.items c.count_up.ensures.counts c.args.list list f
 
 pub returns-clause-recovers : goal.returns-clause-recovers
 returns-clause-recovers c =
@@ -27,7 +27,7 @@ returns-clause-recovers c =
     let popped : s.frames ≡ c.pop.new.self.items ++ Open p (resumes.Handle k) ∷ [] = c.in-Some-Open.ensures.items ∙ ap (λ f. c.pop.new.self.items ++ f ∷ []) (c.in-Some-Open.field-0-is ∙ ap (Open p) c.in-Handle.is) in
     let list = rw (← c.self.view_is) at c.requires.list in
     let f = rw (← c.self.view_is) at c.requires.fits in
-    rw (← c.self.view_is) (recovers s c.self.inside.depth c.self.invariant c.pop.new.self.items p k popped c.count_up.new.frames.items c.count_up.ensures c.args.list list f)
+    rw (← c.self.view_is) (recovers s c.self.inside.depth c.self.invariant c.pop.new.self.items p k popped c.count_up.new.frames.items c.count_up.ensures.counts c.args.list list f)
 
 pub returns-clause-within : goal.returns-clause-within
 returns-clause-within c =
@@ -43,7 +43,7 @@ returns-clause-older c =
     let p : Point = c.in-Some-Open.point in
     let k : Handler = c.in-Handle.field-0 in
     let popped : s.frames ≡ c.pop.new.self.items ++ Open p (resumes.Handle k) ∷ [] = c.in-Some-Open.ensures.items ∙ ap (λ f. c.pop.new.self.items ++ f ∷ []) (c.in-Some-Open.field-0-is ∙ ap (Open p) c.in-Handle.is) in
-    older-then s c.self.inside.depth c.self.invariant c.pop.new.self.items p (resumes.Handle k) popped c.count_up.new.frames.items c.count_up.ensures
+    older-then s c.self.inside.depth c.self.invariant c.pop.new.self.items p (resumes.Handle k) popped c.count_up.new.frames.items c.count_up.ensures.counts
 
 pub returns-clause-walks : goal.returns-clause-walks
 returns-clause-walks c =
@@ -51,4 +51,4 @@ returns-clause-walks c =
     let p : Point = c.in-Some-Open.point in
     let k : Handler = c.in-Handle.field-0 in
     let popped : s.frames ≡ c.pop.new.self.items ++ Open p (resumes.Handle k) ∷ [] = c.in-Some-Open.ensures.items ∙ ap (λ f. c.pop.new.self.items ++ f ∷ []) (c.in-Some-Open.field-0-is ∙ ap (Open p) c.in-Handle.is) in
-    rw (← c.self.view_is) (counted-walks s.frames c.count_up.new.frames.items c.pop.new.self.items (Open p (resumes.Handle k)) 1 popped refl c.count_up.ensures)
+    rw (← c.self.view_is) (counted-walks s.frames c.count_up.new.frames.items c.pop.new.self.items (Open p (resumes.Handle k)) 1 popped refl c.count_up.ensures.counts)

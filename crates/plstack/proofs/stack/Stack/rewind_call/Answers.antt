@@ -16,7 +16,7 @@ invariant_of-self c =
     let k : Clauses = c.in-Some-Open-default-Clauses.call in
     let popped : s.frames ≡ c.pop.new.self.items ++ Open p (resumes.Clauses k) ∷ [] = c.in-Some-Open-default-Clauses.ensures.items ∙ ap (λ f. c.pop.new.self.items ++ f ∷ []) (c.in-Some-Open-default-Clauses.field-0-is ∙ ap (Open p) c.in-Some-Open-default-Clauses.field-0-1-is) in
     let back : c.push_frame.new.frames.items ≡ s.frames = c.push_frame.ensures.is ∙ sym popped in
-    rw (c.undo.ensures, c.truncate.ensures.items, c.truncate-2.ensures.items, c.alone-self-inside.ensures, back) (rewound-stack s c.self.inside.depth c.self.invariant c.pop.new.self.items p (resumes.Clauses k) popped)
+    rw (c.undo.ensures, c.truncate.ensures.items, c.truncate-2.ensures.items, c.alone-self-inside.ensures, back) (rewound-stack s c.self.inside.depth c.self.invariant c.pop.new.self.items p (resumes.Clauses k) popped (λ i. i))
 
 pub returns-clause-cases : goal.returns-clause-cases
 returns-clause-cases c = λ db.

@@ -1,6 +1,6 @@
 use Rattle.std.proofs.Common.{sym, ap, subst, ◌∙◌, ◌∷◌, [], reverse}
 use Rattle.plsearch.specs.Types.{Choice}
-use Rattle.plstack.specs.declared.basis.Basis.{Basis}
+use Rattle.plstack.specs.Basis.{Basis}
 use Rattle.plstack.specs.StaticCalls.{AreStatics}
 use Rattle.plstack.proofs.Entering.{behind-fits, behind-found, calling-found, retries-entered, none-entered}
 use Rattle.plstack.specs.Places.{walks_of}

@@ -39,7 +39,7 @@ none-is c =
 
 pub invariant_of-self-in-Ok : goal.invariant_of-self-in-Ok
 invariant_of-self-in-Ok c =
-    subst (λ (s : State). IsLayer (record { own = s; place = c.self.inside.place })) (sym (made-is c)) (all-made-layer c.args.updates.items (record { own = c.self.inside.own; place = c.self.inside.place }) c.self.invariant)
+    subst (λ (s : State). IsLayer (record { own = s; place = c.self.inside.place })) (sym (made-is c)) (all-made-layer c.args.updates.items (record { own = c.self.inside.own; place = c.self.inside.place }) (ap (λ (x : Layered). any_open x.own) c.self.view_is ∙ c.requires) c.self.invariant)
 
 pub invariant_of-self-in-Err : goal.invariant_of-self-in-Err
 invariant_of-self-in-Err c = subst (λ (s : State). IsLayer (record { own = s; place = c.self.inside.place })) (sym (none-is c)) c.self.invariant

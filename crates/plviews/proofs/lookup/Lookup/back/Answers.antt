@@ -16,10 +16,10 @@ returns-in-Some-clause-tells c = λ us h.
     let b = l.view.place in
     let n = c.in-Some.number in
     subst (λ (x : ClauseName). Begins (whole (sight_of us l)) x (left us l (Back c.args.cursor)) (left us l (Back (OwnCursor.After n)))) (sym c.own_name.ensures)
-    (back-next (sight_of us l) l.pred.now l.key.now h.ordered h.under c.args.cursor n (ap (option_map (named b)) (sym c.in-Some.is) ∙ c.next_back.ensures b h.erased))
+    (back-next (sight_of us l) l.pred.now l.key.now h.ordered h.under c.args.cursor n (ap (option_map (named b)) (sym c.in-Some.is) ∙ c.next_back.ensures.like b h.erased))
 
 pub returns-in-None-clause-tells : goal.returns-in-None-clause-tells
 returns-in-None-clause-tells c = λ us h.
     let l = c.args.self.now in
     let b = l.view.place in
-    none-head (left us l (Back c.args.cursor)) (ap (option_map (named b)) (sym c.in-None.is) ∙ c.next_back.ensures b h.erased)
+    none-head (left us l (Back c.args.cursor)) (ap (option_map (named b)) (sym c.in-None.is) ∙ c.next_back.ensures.like b h.erased)

@@ -9,16 +9,16 @@ use Rattle.plviews.specs.Lookups.{left, sight_of, Begins}
 use Rattle.plviews.proofs.Telling.{front-next, front-over}
 use Rattle.plviews.proofs.lookup.Lookup.front.Goals as goal
 
-pub returns-in-Some : goal.returns-in-Some
-returns-in-Some c = λ us h.
+pub returns-in-Some-clause-tells : goal.returns-in-Some-clause-tells
+returns-in-Some-clause-tells c = λ us h.
     let l = c.args.self.now in
     let b = l.view.place in
     let n = c.in-Some.number in
     subst (λ (x : ClauseName). Begins (whole (sight_of us l)) x (left us l (Front c.args.cursor)) (left us l (Front (OwnCursor.After n)))) (sym c.own_name.ensures)
-    (front-next (sight_of us l) l.pred.now l.key.now h.ordered h.under c.args.cursor n (ap (option_map (named b)) (sym c.in-Some.is) ∙ c.next_front.ensures b h.erased))
+    (front-next (sight_of us l) l.pred.now l.key.now h.ordered h.under c.args.cursor n (ap (option_map (named b)) (sym c.in-Some.is) ∙ c.next_front.ensures.like b h.erased))
 
-pub returns-in-None : goal.returns-in-None
-returns-in-None c = λ us h.
+pub returns-in-None-clause-tells : goal.returns-in-None-clause-tells
+returns-in-None-clause-tells c = λ us h.
     let l = c.args.self.now in
     let b = l.view.place in
-    front-over (sight_of us l) l.pred.now l.key.now h.ordered h.under c.args.cursor (ap (option_map (named b)) (sym c.in-None.is) ∙ c.next_front.ensures b h.erased)
+    front-over (sight_of us l) l.pred.now l.key.now h.ordered h.under c.args.cursor (ap (option_map (named b)) (sym c.in-None.is) ∙ c.next_front.ensures.like b h.erased)
