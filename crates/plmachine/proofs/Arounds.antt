@@ -3,7 +3,8 @@ use Rattle.std.proofs.Common.{◌≡◌, ℕ, List, [], ◌∷◌, refl, ap, ap�
 use Rattle.plterm.specs.declared.indicator.Indicator.{Indicator}
 use Rattle.plsearch.specs.Types.{Case, Element, Handle, Local}
 use Rattle.plsearch.specs.Running.{Runnable}
-use Rattle.plsearch.specs.Rows.{branch, run}
+use Rattle.plsearch.specs.Moves.{run}
+use Rattle.plsearch.specs.Rows.{branch}
 use Rattle.plstack.specs.State.{State}
 use Rattle.plstack.specs.Opening.{around_cases, IsAround}
 use Rattle.plstack.specs.declared.frame.Around.{Around}

@@ -1,22 +1,21 @@
 -- The predicates on clauses.
-use Rattle.std.proofs.Common.{◌≡◌, ℕ, ◌+◌, List, [], ◌∷◌, ◌++◌, length, map, Option, Some, None, option_map, refl, sym, ap, ap₂, ◌∙◌, subst, arith}
+use Rattle.std.proofs.Common.{◌≡◌, ℕ, ◌+◌, List, [], ◌∷◌, ◌++◌, length, map, Option, Some, None, option_map, refl, reverse, sym, ap, ap₂, ◌∙◌, subst, arith}
 use Rattle.std.specs.List.{filter_map, cons_option}
 use Rattle.plterm.specs.Tree.{Tree}
-use Rattle.plterm.specs.declared.indicator.Indicator.{Indicator}
 use Rattle.plsubst.specs.Subst.{shift}
 use Rattle.plsubst.specs.Unify.{unify}
 use Rattle.plclause.specs.Clause.{Clause}
 use Rattle.plevent.specs.declared.update.ClauseName.{ClauseName}
 use Rattle.plevent.specs.declared.update.Living.{Living}
-use Rattle.plevent.specs.declared.update.Update.{Update}
-use Rattle.plevent.specs.declared.request.Request.TheVariants.{EraseOne}
-use Rattle.plevent.specs.Alive.{clauses_of}
+use Rattle.plevent.specs.Alive.{clauses_of, Stamped}
+use Rattle.pltx.specs.Own.{State as Own}
 use Rattle.plprogram.specs.Program.{Program}
-use Rattle.plsearch.specs.Types.{Fail, Case, Choice, Element, Asking, Await, GoesOn, Place, Local, Move, Run}
+use Rattle.plsearch.specs.Types.{Fail, Case, Choice, Element, Erasing, Place, Local, Move, Run, ToRetrieve}
 use Rattle.plsearch.specs.Machines.Machine.{At, Back, Rest, move, turn}
 use Rattle.plsearch.specs.Lists.{bind_goals}
-use Rattle.plsearch.specs.Rows.{resolve, as_fact, choose, raised, retrieve, retrieving, unless, publish, go_on}
-use Rattle.plsearch.specs.Replies.{retract}
+use Rattle.plsearch.specs.Moves.{resolve, choose}
+use Rattle.plsearch.specs.Lookups.{as_fact, retrieve, retract, seek}
+use Rattle.plsearch.specs.Rows.{retrieving}
 use Rattle.plsearch.specs.Search.{ending_of}
 use Rattle.plsearch.proofs.Turns.{Rest-turn}
 use Rattle.plcells.specs.Store.{value}
@@ -27,36 +26,29 @@ use Rattle.plstack.specs.declared.frame.Use.TheVariants as uses
 use Rattle.plstack.specs.declared.frame.Spot.{Spot}
 use Rattle.plstack.specs.declared.frame.Walk.{Walk}
 use Rattle.plstore.specs.Looking.{Views}
-use Rattle.plstack.specs.Places.{candidate_of, candidates_left, clause_by, left_at, place_asked, text_candidate, tried, viewed}
-use Rattle.plstack.specs.State.{State, IsList, goals_of, place_of, walks_in}
+use Rattle.plstack.specs.Basis.{Basis}
+use Rattle.plstack.specs.Places.{candidate_of, candidates_left, clause_by, left_at, place_asked, text_candidate, tried, viewed, walks_of}
+use Rattle.plstack.specs.State.{State, IsList, depth_in, goals_of, place_of, walks_in}
 use Rattle.plstack.specs.StaticCalls.{database_of}
 use Rattle.plstack.specs.Walks.{OpensWalk}
 use Rattle.plstack.proofs.Stacks.{depth-in}
 use Rattle.plmachine.specs.declared.machine.Outcome.TheVariants as outcomes
 use Rattle.plmachine.specs.declared.machine.Mode.TheVariants as modes
 use Rattle.plmachine.specs.declared.machine.Machine.{Machine as Reached}
-use Rattle.plmachine.specs.Machine.{after, cases_in, depth_of, local_of, mode_of, IsPlain, MayAsk, Moved}
+use Rattle.plmachine.specs.Machine.{after, below_in, cases_in, depth_of, local_of, mode_of, run_in, IsPlain, MayAsk, MayCarry, MovedBy}
 use Rattle.plmachine.specs.Lists.{Grown}
 use Rattle.plmachine.specs.Clauses.{mode_by, Walks}
-use Rattle.plmachine.proofs.Moves.{back-asks, grown-depth, grown-stays, machine-is}
-
--- an error, if there is one
-pub unless-some : (o : Option Tree) (e : Tree) (p : Indicator) (rest : List Element) (w : Local) (m : Move) → o ≡ Some e → raised e p rest w ≡ unless o p rest w m
-unless-some o e p rest w m is = ap (λ o. unless o p rest w m) (sym is)
-
-pub unless-none : (o : Option Tree) (p : Indicator) (rest : List Element) (w : Local) (m : Move) → o ≡ None → m ≡ unless o p rest w m
-unless-none o p rest w m is = ap (λ o. unless o p rest w m) (sym is)
-
--- updates, of which there are none or some
-pub publish-none : (us : List Update) (rest : List Element) (n : ℕ) (w : Local) → length us ≡ 0 → go_on rest n w ≡ publish us rest n w
-publish-none [] rest n w none = refl
-publish-none (u ∷ us) rest n w none = absurd (omega (arith, none))
+use Rattle.plmachine.proofs.Moves.{back-asks, grown-depth, machine-is, tied-as}
 
 -- ---- what is next
 
-pub may-by : (s : State) (x : Option ClauseName) → MayAsk s (mode_by x)
-may-by s None = tt
-may-by s (Some x) = tt
+pub may-by : (own : Own) (s : State) (x : Option ClauseName) → MayAsk own s (mode_by x)
+may-by own s None = tt
+may-by own s (Some x) = tt
+
+pub carry-by : (s : State) (x : Option ClauseName) → MayCarry s (mode_by x)
+carry-by s None = tt
+carry-by s (Some x) = tt
 
 pub plain-by : (x : Option ClauseName) → IsPlain (mode_by x)
 plain-by None = tt
@@ -69,7 +61,7 @@ at-by st (Some x) = refl
 -- ---- walks
 
 -- a walk of which no clause was tried is the choice of its places
-pub walks-rest : (P : Program) (cs : List Case) (ps : List Place) (run : Run) → Rest P (move cs run (choose ps run.local)) ≡ Rest P (record { mode = Back Fail; cases = Choice ps ∷ cs; run = run })
+walks-rest : (P : Program) (cs : List Case) (ps : List Place) (run : Run) → Rest P (move cs run (choose ps run.local)) ≡ Rest P (record { mode = Back Fail; cases = Choice ps ∷ cs; run = run })
 unfolding turn
 walks-rest P cs [] run = sym (Rest-turn P (record { mode = Back Fail; cases = Choice [] ∷ cs; run = run }))
 walks-rest P cs (p ∷ ps) run = sym (Rest-turn P (record { mode = Back Fail; cases = Choice (p ∷ ps) ∷ cs; run = run }))
@@ -82,40 +74,41 @@ walks P s st w rest o = record {
   frame = refl;
   ends = λ v most left answers.
       let t = value s.stack.env.heap w.goal in
-      let ps : ℕ → List Place = λ d. candidates_left d s.stack.env t (goals_of s.stack rest) (left_at (database_of P v) w.uses t w.spot) in
-      let run : Run = record { steps = left; answers = answers; local = local_of s } in
-      ap (ending_of most) (walks-rest P (cases_in P v s) (ps (depth_of s)) run)
-      ∙ ap (λ d. ending_of most (Rest P (record { mode = Back Fail; cases = Choice (ps d) ∷ cases_in P v s; run = run }))) (sym (depth-in (database_of P v) s.stack))
-      ∙ ap (λ m. ending_of most (Rest P m)) (sym (machine-is P v (record s { stack = st; mode = modes.Back outcomes.Fail }) (Back Fail) _ (local_of s) tt refl (o.cases (database_of P v)) refl left answers));
+      let db = database_of P v s.layer.own.updates in
+      let ps : ℕ → List Place = λ d. candidates_left d s.stack.env t (goals_of s.stack rest) (left_at db w.uses t w.spot) in
+      ap (ending_of most) (walks-rest P (cases_in P v s) (ps (depth_of s)) (run_in v left answers s))
+      ∙ ap (λ d. ending_of most (Rest P (record { mode = Back Fail; cases = Choice (ps d) ∷ cases_in P v s; run = run_in v left answers s }))) (sym (depth-in db s.stack))
+      ∙ ap (λ m. ending_of most (Rest P m)) (sym (machine-is P v (record s { stack = st; mode = modes.Back outcomes.Fail }) (Back Fail) _ (below_in v s) (local_of s) tt refl (o.cases db) refl refl left answers));
 }
 
 -- where values were added first
-pub walks-grown : (P : Program) (s t new : Reached) (g : Tree) (u : Use) (spot : Spot) (l : Continuation) → Grown s.stack t.stack → t ≡ record s { stack = t.stack } → IsList s.stack l →
-    Walks P t new g u spot (goals_of t.stack l) → Walks P s new g u spot (goals_of s.stack l)
-walks-grown P s t new g u spot l grown is there w =
-    let stay = grown-stays P s t grown is in
-    let local : local_of t ≡ local_of s = stay.local in
-    record {
-      basis = w.basis ∙ stay.basis;
-      walks = (w.walks.0, w.walks.1 ∙ ap (λ ws. viewed (record { goal = w.walks.0; uses = u; spot = spot }) spot ++ ws) stay.walks);
-      frame = w.frame ∙ ap (λ (x : Reached). record x { stack = new.stack; mode = modes.Back outcomes.Fail }) is;
-      ends = λ v most left answers.
-          let xs = left_at (database_of P v) u g spot in
-          ap₂ (λ d n. after P v s most left answers (choose (filter_map (tried d n g (goals_of s.stack l)) xs) (local_of s))) (sym (grown-depth s t grown)) (sym grown.count)
-          ∙ ap (λ es. after P v s most left answers (choose (candidates_left (depth_of t) t.stack.env g es xs) (local_of s))) (sym (grown.extends.lists l there).1)
-          ∙ ap₂ (λ cs w. ending_of most (Rest P (move cs (record { steps = left; answers = answers; local = w }) (choose (candidates_left (depth_of t) t.stack.env g (goals_of t.stack l) xs) w)))) (sym (stay.cases v)) (sym local)
-          ∙ w.ends v most left answers;
-    }
+pub walks-grown : (P : Program) (s new : Reached) (st : State) (g : Tree) (u : Use) (spot : Spot) (l : Continuation) → Grown s.stack st → IsList s.stack l →
+    Walks P (record s { stack = st }) new g u spot (goals_of st l) → Walks P s new g u spot (goals_of s.stack l)
+walks-grown P s new st g u spot l grown there w = record {
+  basis = w.basis ∙ grown.extends.basis;
+  walks = (w.walks.0, w.walks.1 ∙ ap (λ fs. viewed (record { goal = w.walks.0; uses = u; spot = spot }) spot ++ walks_of (reverse fs)) grown.extends.frames);
+  frame = w.frame;
+  ends = λ v most left answers.
+      let db = database_of P v s.layer.own.updates in
+      let xs = left_at db u g spot in
+      ap₂ (λ d n. after P v s most left answers (choose (filter_map (tried d n g (goals_of s.stack l)) xs) (local_of s))) (sym (grown-depth s (record s { stack = st }) grown)) (sym grown.count)
+      ∙ ap (λ es. after P v s most left answers (choose (candidates_left (depth_in st) st.env g es xs) (local_of s))) (sym (grown.extends.lists l there).1)
+      ∙ ap (λ cs. ending_of most (Rest P (move cs (run_in v left answers s) (choose (candidates_left (depth_in st) st.env g (goals_of st l) xs) (local_of s))))) (sym (grown.extends.cases db))
+      ∙ w.ends v most left answers;
+}
 
 -- a walk that has the same places as a move in each view, and goes on in none
-pub walks-moved : (P : Program) (s new : Reached) (t : Tree) (u : Use) (spot : Spot) (es : List Element) (m : Move) → Walks P s new t u spot es → ((w : Walk) → viewed w spot ≡ []) →
-    ((v : Views) → choose (candidates_left (depth_of s) s.stack.env t es (left_at (database_of P v) u t spot)) (local_of s) ≡ m) → Moved P s new m
+pub walks-moved : (P : Program) (s new : Reached) (t : Tree) (u : Use) (spot : Spot) (es : List Element) (m : Views → Move) → Walks P s new t u spot es → ((w : Walk) → viewed w spot ≡ []) →
+    ((v : Views) → choose (candidates_left (depth_of s) s.stack.env t es (left_at (database_of P v s.layer.own.updates) u t spot)) (local_of s) ≡ m v) → MovedBy P s new m
 walks-moved P s new t u spot es m w none same = record {
-  basis = w.basis;
+  code = ap (λ (b : Basis). b.code) w.basis;
+  latest = ap (λ (b : Basis). b.latest.place) w.basis;
+  place = ap (λ x. x.layer.place) w.frame;
   walks = ([], sym (w.walks.1 ∙ ap (λ ws. ws ++ walks_in s.stack) (none (record { goal = w.walks.0; uses = u; spot = spot }))));
-  plain = subst IsPlain (sym (ap (λ x. x.mode) w.frame)) tt;
+  tied = tied-as s new w.basis (ap (λ x. x.layer) w.frame);
   askable = back-asks new outcomes.Fail (ap (λ x. x.mode) w.frame);
-  ends = λ v most left answers. ap (after P v s most left answers) (sym (same v)) ∙ w.ends v most left answers;
+  carry = subst (MayCarry new.stack) (sym (ap (λ x. x.mode) w.frame)) tt;
+  ends = λ v ordered most left answers. ap (after P v s most left answers) (sym (same v)) ∙ w.ends v most left answers;
 }
 
 -- ---- candidates
@@ -146,7 +139,7 @@ tried-erased d n t rest x = go (unify t (shift n (as_fact x.clause).head))
   where
     go : (o : Option (ℕ → Tree)) →
         option_map (place_asked (Some x.name)) (option_map (λ σ. record { goals = bind_goals σ rest; variables = n + x.clause.variables }) o)
-        ≡ option_map (λ σ. record { goals = bind_goals σ (Asking (Await (EraseOne x.name) GoesOn) ∷ rest); variables = n + x.clause.variables }) o
+        ≡ option_map (λ σ. record { goals = bind_goals σ (Erasing x.name ∷ rest); variables = n + x.clause.variables }) o
     go None = refl
     go (Some σ) = refl
 
@@ -154,7 +147,11 @@ pub erased-left : (d n : ℕ) (t : Tree) (rest : List Element) (xs : List Living
 erased-left d n t rest [] = refl
 erased-left d n t rest (x ∷ xs) = ap₂ cons_option (tried-erased d n t rest x) (erased-left d n t rest xs)
 
--- clauses of the program's text, of which there are some
-pub retrieving-some : (cs : List Clause) (d : ℕ) (h b : Tree) (rest : List Element) (n : ℕ) (w : Local) → (length cs ≡ 0 → ⊥) → retrieve d n h b rest cs w ≡ retrieving cs d h b rest n w
-retrieving-some [] d h b rest n w some = absurd (some refl)
-retrieving-some (c ∷ cs) d h b rest n w some = refl
+-- clauses of the program's text, of which there are some, and where there are none
+pub retrieving-some : (below : List Stamped) (cs : List Clause) (d : ℕ) (h b : Tree) (rest : List Element) (n : ℕ) (w : Local) → (length cs ≡ 0 → ⊥) → retrieve d n h b rest cs w ≡ retrieving below cs d h b rest n w
+retrieving-some below [] d h b rest n w some = absurd (some refl)
+retrieving-some below (c ∷ cs) d h b rest n w some = refl
+
+pub retrieving-none : (below : List Stamped) (cs : List Clause) (d : ℕ) (h b : Tree) (rest : List Element) (n : ℕ) (w : Local) → length cs ≡ 0 → seek below (ToRetrieve h b) d rest n w ≡ retrieving below cs d h b rest n w
+retrieving-none below [] d h b rest n w none = refl
+retrieving-none below (c ∷ cs) d h b rest n w none = absurd (omega (arith, none))

@@ -1,10 +1,12 @@
 pub mod Lists
 pub mod Levels
+pub mod Askable
 pub mod Moves
 pub mod Cutting
 pub mod Arounds
 pub mod Values
 pub mod Raising
+pub mod Beginning
 pub mod Ground
 pub mod Offers
 pub mod Calling
@@ -14,6 +16,8 @@ pub mod Stepping
 pub mod Gathering
 pub mod Joining
 pub mod Calculating
+pub mod Seeking
+pub mod Updating
 pub mod Clausal
 pub mod Necks
 pub mod Declaring

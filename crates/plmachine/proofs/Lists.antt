@@ -12,7 +12,7 @@ use Rattle.pllinks.specs.declared.item.Item.TheVariants as items
 use Rattle.pllinks.specs.declared.item.MarkerKind.TheVariants as markers
 use Rattle.pllinks.specs.declared.link.Continuation.{Continuation}
 use Rattle.pllinks.specs.Lists.{goal_of, elements, IsItem}
-use Rattle.plstack.specs.declared.basis.Basis.{Basis}
+use Rattle.plstack.specs.Basis.{Basis}
 use Rattle.plstack.specs.State.{State, goals_in, goals_of, IsList, Extends, AddsList}
 use Rattle.plstack.proofs.Growing.{extends_same}
 pub use Rattle.plstack.proofs.Heads.{extends-trans}

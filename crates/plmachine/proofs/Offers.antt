@@ -12,10 +12,11 @@ use Rattle.plprogram.specs.Program.{Program}
 use Rattle.plprogram.specs.declared.settings.Settings.{Settings}
 use Rattle.plbuiltin.specs.Solution.{Solution, Gives, fails, unifies as unified_to, writes, sets, decides}
 use Rattle.plbuiltin.specs.Terms.{is_none}
-use Rattle.plsearch.specs.Types.{Fail, Kind, Commit, Never, Until, Collect, Lookup, ToCall, ToRetrieve, ToRetract, ToRetractAll, Look, Await, Goal, Marker, Raise, Asking, Element, Local, Move, Give}
+use Rattle.plsearch.specs.Types.{Fail, Kind, Commit, Never, Until, Collect, Transact, Lookup, ToCall, ToRetrieve, ToRetract, ToRetractAll, Look, Begin, Await, Goal, Marker, Raise, Asking, Erasing, Element, Local, Move, Give}
 use Rattle.plsearch.specs.Lists.{bind_lookup, bind_kind, bind_goals}
 use Rattle.plsearch.specs.Machines.Machine.{At}
-use Rattle.plsearch.specs.Rows.{go_on, choose, solved, taken, offer}
+use Rattle.plsearch.specs.Moves.{go_on, choose}
+use Rattle.plsearch.specs.Rows.{solved, taken, offer}
 use Rattle.planswers.specs.Answers.{IsMany}
 use Rattle.pllinks.specs.declared.link.Continuation.{Continuation}
 use Rattle.plstack.specs.Places.{walks_of}
@@ -36,15 +37,15 @@ unfolding cases_of
 unifies P s new t a b l there u is =
     let count : t.env.count ≡ s.stack.env.count + 0 = omega (arith, u.count) in
     subst (λ o. Moved P s new (taken (option_map (λ σ. record { goals = bind_goals σ (goals_of s.stack l); variables = s.stack.env.count + 0 }) o) (local_of s))) (sym u.is)
-    (goes-to P s new [] _ (local_of s) (ap (λ x. x.stack.basis) is ∙ u.basis) (ap (λ x. walks_in x.stack) is ∙ ap (λ fs. walks_of (reverse fs)) u.frames) (visit-asks new (ap (λ x. x.mode) is)) (subst IsPlain (sym (ap (λ x. x.mode) is)) tt)
+    (goes-to P s new [] _ (local_of s) (ap (λ x. x.stack.basis) is ∙ u.basis) (ap (λ x. x.layer) is) (ap (λ x. walks_in x.stack) is ∙ ap (λ fs. walks_of (reverse fs)) u.frames) (visit-asks new (ap (λ x. x.mode) is)) (subst IsPlain (sym (ap (λ x. x.mode) is)) tt)
     (ap (λ x. mode_of x.mode x.stack) is ∙ ap₂ (λ gs n. At (record { goals = gs; variables = n })) (u.lists l there).1 count)
-    (λ v. ap (λ x. cases_in P v x) is ∙ u.cases (database_of P v)) (ap (λ x. local_of x) is))
+    (λ v. ap (λ x. cases_in P v x) is ∙ u.cases (database_of P v s.layer.own.updates)) (ap (λ x. local_of x) is))
 
 pub ununified : (P : Program) (s new : Reached) (a b : Tree) (l : Continuation) → unify a b ≡ None → new ≡ record s { mode = modes.Back outcomes.Fail } →
     Moved P s new (taken (solved (goals_of s.stack l) s.stack.env.count (record { left = a; right = b; new = 0 })) (local_of s))
 ununified P s new a b l none is =
     subst (λ o. Moved P s new (taken (option_map (λ σ. record { goals = bind_goals σ (goals_of s.stack l); variables = s.stack.env.count + 0 }) o) (local_of s))) (sym none)
-    (gave P s new outcomes.Fail is)
+    (gave P s new outcomes.Fail tt is)
 
 -- an equation was solved
 pub solves : (P : Program) (s new : Reached) (t : State) (q : Equation) (l : Continuation) → IsList s.stack l → Solves s.stack t q → new ≡ record s { stack = record t { goals = l }; mode = modes.Visit } →
@@ -52,16 +53,16 @@ pub solves : (P : Program) (s new : Reached) (t : State) (q : Equation) (l : Con
 unfolding cases_of
 solves P s new t q l there u is =
     subst (λ o. Moved P s new (taken (option_map (λ σ. record { goals = bind_goals σ (goals_of s.stack l); variables = s.stack.env.count + q.new }) o) (local_of s))) (sym u.is)
-    (goes-to P s new [] _ (local_of s) (ap (λ x. x.stack.basis) is ∙ u.basis) (ap (λ x. walks_in x.stack) is ∙ ap (λ fs. walks_of (reverse fs)) u.frames) (visit-asks new (ap (λ x. x.mode) is)) (subst IsPlain (sym (ap (λ x. x.mode) is)) tt)
+    (goes-to P s new [] _ (local_of s) (ap (λ x. x.stack.basis) is ∙ u.basis) (ap (λ x. x.layer) is) (ap (λ x. walks_in x.stack) is ∙ ap (λ fs. walks_of (reverse fs)) u.frames) (visit-asks new (ap (λ x. x.mode) is)) (subst IsPlain (sym (ap (λ x. x.mode) is)) tt)
     (ap (λ x. mode_of x.mode x.stack) is ∙ ap₂ (λ gs n. At (record { goals = gs; variables = n })) (u.lists l there).1 u.count)
-    (λ v. ap (λ x. cases_in P v x) is ∙ u.cases (database_of P v)) (ap (λ x. local_of x) is))
+    (λ v. ap (λ x. cases_in P v x) is ∙ u.cases (database_of P v s.layer.own.updates)) (ap (λ x. local_of x) is))
 
 -- two terms with new variables have no unifier
 pub unsolved : (P : Program) (s t new : Reached) (a b : Tree) (k : ℕ) (l : Continuation) → Grown s.stack t.stack → t ≡ record s { stack = t.stack } → unify a b ≡ None → new ≡ record t { mode = modes.Back outcomes.Fail } →
     Moved P s new (taken (solved (goals_of s.stack l) s.stack.env.count (record { left = a; right = b; new = k })) (local_of s))
 unsolved P s t new a b k l g frame none is =
     subst (λ o. Moved P s new (taken (option_map (λ σ. record { goals = bind_goals σ (goals_of s.stack l); variables = s.stack.env.count + k }) o) (local_of s))) (sym none)
-    (moved-grown P s t new (Give Fail (local_of t)) (Give Fail (local_of s)) g frame (ap (λ x. Give Fail (local_of x)) frame) (gave P t new outcomes.Fail is))
+    (moved-grown P s t new (Give Fail (local_of t)) (Give Fail (local_of s)) g frame (ap (λ x. Give Fail (local_of x)) frame) (gave P t new outcomes.Fail tt is))
 
 -- a substitution that changes nothing leaves a list as it is
 bind-kind-var : (m : Kind) → bind_kind var m ≡ m
@@ -69,6 +70,7 @@ bind-kind-var Commit = refl
 bind-kind-var Never = refl
 bind-kind-var Until = refl
 bind-kind-var (Collect t) = ap Collect (bind-var t)
+bind-kind-var (Transact d) = refl
 
 bind-lookup-var : (u : Lookup) → bind_lookup var u ≡ u
 bind-lookup-var (ToCall t) = ap ToCall (bind-var t)
@@ -82,7 +84,9 @@ bind-goals-var (Goal k t ∷ es) = ap₂ (λ u us. Goal k u ∷ us) (bind-var t)
 bind-goals-var (Marker m l ∷ es) = ap₂ (λ k us. Marker k l ∷ us) (bind-kind-var m) (bind-goals-var es)
 bind-goals-var (Raise b ∷ es) = ap (λ us. Raise b ∷ us) (bind-goals-var es)
 bind-goals-var (Asking (Look u) ∷ es) = ap₂ (λ u us. Asking (Look u) ∷ us) (bind-lookup-var u) (bind-goals-var es)
+bind-goals-var (Asking (Begin i g) ∷ es) = ap₂ (λ u us. Asking (Begin i u) ∷ us) (bind-var g) (bind-goals-var es)
 bind-goals-var (Asking (Await q next) ∷ es) = ap (λ us. Asking (Await q next) ∷ us) (bind-goals-var es)
+bind-goals-var (Erasing x ∷ es) = ap (λ us. Erasing x ∷ us) (bind-goals-var es)
 
 -- one that is true once it has written
 pub offer-writes : (bytes : List ℕ) (settings : Settings) (p : Indicator) (es : List Element) (n : ℕ) (w : Local) →
@@ -141,4 +145,4 @@ unfolding cases_of
 unified P s new t a b p es n u is =
     subst (λ o. Moved P s new (offer (decides (is_none o) s.settings) p es n (local_of s))) (sym u.is)
     (moved-as P s new _ _ (offer-fails s.settings p es n (local_of s) refl)
-    (gives P s new outcomes.Fail (local_of s) (ap (λ x. x.stack.basis) is ∙ u.basis) (ap (λ x. walks_in x.stack) is ∙ ap (λ fs. walks_of (reverse fs)) u.frames) (ap (λ x. x.mode) is) (λ v. ap (λ x. cases_in P v x) is ∙ u.cases (database_of P v)) (ap (λ x. local_of x) is)))
+    (gives P s new outcomes.Fail (local_of s) (ap (λ x. x.stack.basis) is ∙ u.basis) (ap (λ x. x.layer) is) (ap (λ x. walks_in x.stack) is ∙ ap (λ fs. walks_of (reverse fs)) u.frames) (ap (λ x. x.mode) is) tt (λ v. ap (λ x. cases_in P v x) is ∙ u.cases (database_of P v s.layer.own.updates)) (ap (λ x. local_of x) is)))

@@ -4,6 +4,7 @@ use Rattle.std.specs.Prelude.{codes}
 use Rattle.plterm.specs.Tree.{Tree, atom}
 use Rattle.plterm.specs.Variables.{AllBelow}
 use Rattle.plsubst.specs.Subst.{bind}
+use Rattle.plevent.specs.Alive.{Stamped}
 use Rattle.plprogram.specs.Program.{Program}
 use Rattle.plsearch.specs.Types.{Choice, Commit, Element, Go, Goal, Local, Marker}
 use Rattle.plsearch.specs.Forms.{Either, IfThenElse, form}
@@ -44,29 +45,29 @@ plain-node c place op at g is same = subst (λ o. IsFor c place o at g) same is
 
 -- ---- the moves of control constructs of branches
 
-module _ (P : Program) (s : State) (r : Run) (d : ℕ) (es : List Element) (n : ℕ) (w : Local) (g : Tree) (converted : IsConverted g) where
+module _ (P : Program) (below : List Stamped) (s : State) (r : Run) (d : ℕ) (es : List Element) (n : ℕ) (w : Local) (g : Tree) (converted : IsConverted g) where
   abbrev t : Tree
   t = bound_at s r g
 
   pub either-move : (a b : Tree) (xs ys : List Element) → form g ≡ Either a b → xs ≡ Goal r.level (bound_at s r a) ∷ [] → ys ≡ Goal r.level (bound_at s r b) ∷ [] →
-      Go (branch (ys ++ es) n ∷ []) (record { goals = xs ++ es; variables = n }) w ≡ row P (form (bound_at s r g)) r.level (bound_at s r g) d es n w
+      Go (branch (ys ++ es) n ∷ []) (record { goals = xs ++ es; variables = n }) w ≡ row P below (form (bound_at s r g)) r.level (bound_at s r g) d es n w
   either-move a b xs ys is ex ey =
       ap₂ (λ xs ys. Go (branch (ys ++ es) n ∷ []) (record { goals = xs ++ es; variables = n }) w) ex ey
-      ∙ either-is P r.level t d es n w (bound_at s r a) (bound_at s r b)
-      ∙ ap (λ f. row P f r.level t d es n w) (sym (form_bound (over s.env r.base) g converted ∙ ap (bound_form (over s.env r.base)) is))
+      ∙ either-is P below r.level t d es n w (bound_at s r a) (bound_at s r b)
+      ∙ ap (λ f. row P below f r.level t d es n w) (sym (form_bound (over s.env r.base) g converted ∙ ap (bound_form (over s.env r.base)) is))
 
   pub then-move : (c a : Tree) (xs ys : List Element) → form g ≡ IfThenElse c a (atom (codes "fail")) → xs ≡ Goal (suc d) (bound_at s r c) ∷ [] → ys ≡ Goal r.level (bound_at s r a) ∷ [] →
-      Go (Choice [] ∷ branch (Goal r.level (atom (codes "fail")) ∷ es) n ∷ []) (record { goals = xs ++ (Marker Commit d ∷ (ys ++ es)); variables = n }) w ≡ row P (form (bound_at s r g)) r.level (bound_at s r g) d es n w
+      Go (Choice [] ∷ branch (Goal r.level (atom (codes "fail")) ∷ es) n ∷ []) (record { goals = xs ++ (Marker Commit d ∷ (ys ++ es)); variables = n }) w ≡ row P below (form (bound_at s r g)) r.level (bound_at s r g) d es n w
   unfolding bind
   then-move c a xs ys is ex ey =
       ap₂ (λ xs ys. Go (Choice [] ∷ branch (Goal r.level (atom (codes "fail")) ∷ es) n ∷ []) (record { goals = xs ++ (Marker Commit d ∷ (ys ++ es)); variables = n }) w) ex ey
-      ∙ then-is P r.level t d es n w (bound_at s r c) (bound_at s r a) (atom (codes "fail"))
-      ∙ ap (λ f. row P f r.level t d es n w) (sym (form_bound (over s.env r.base) g converted ∙ ap (bound_form (over s.env r.base)) is))
+      ∙ then-is P below r.level t d es n w (bound_at s r c) (bound_at s r a) (atom (codes "fail"))
+      ∙ ap (λ f. row P below f r.level t d es n w) (sym (form_bound (over s.env r.base) g converted ∙ ap (bound_form (over s.env r.base)) is))
 
   pub then-else-move : (c a b : Tree) (xs ys zs : List Element) → form g ≡ IfThenElse c a b → xs ≡ Goal (suc d) (bound_at s r c) ∷ [] → ys ≡ Goal r.level (bound_at s r a) ∷ [] → zs ≡ Goal r.level (bound_at s r b) ∷ [] →
-      Go (Choice [] ∷ branch (zs ++ es) n ∷ []) (record { goals = xs ++ (Marker Commit d ∷ (ys ++ es)); variables = n }) w ≡ row P (form (bound_at s r g)) r.level (bound_at s r g) d es n w
+      Go (Choice [] ∷ branch (zs ++ es) n ∷ []) (record { goals = xs ++ (Marker Commit d ∷ (ys ++ es)); variables = n }) w ≡ row P below (form (bound_at s r g)) r.level (bound_at s r g) d es n w
   then-else-move c a b xs ys zs is ex ey ez =
       ap (λ zs. Go (Choice [] ∷ branch (zs ++ es) n ∷ []) (record { goals = xs ++ (Marker Commit d ∷ (ys ++ es)); variables = n }) w) ez
       ∙ ap₂ (λ xs ys. Go (Choice [] ∷ branch ((Goal r.level (bound_at s r b) ∷ []) ++ es) n ∷ []) (record { goals = xs ++ (Marker Commit d ∷ (ys ++ es)); variables = n }) w) ex ey
-      ∙ then-else-is P r.level t d es n w (bound_at s r c) (bound_at s r a) (bound_at s r b)
-      ∙ ap (λ f. row P f r.level t d es n w) (sym (form_bound (over s.env r.base) g converted ∙ ap (bound_form (over s.env r.base)) is))
+      ∙ then-else-is P below r.level t d es n w (bound_at s r c) (bound_at s r a) (bound_at s r b)
+      ∙ ap (λ f. row P below f r.level t d es n w) (sym (form_bound (over s.env r.base) g converted ∙ ap (bound_form (over s.env r.base)) is))

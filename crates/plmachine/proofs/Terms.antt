@@ -89,6 +89,7 @@ module _ (P : Program) (s : Reached) (begun : IsBegun P s) (visits : s.mode ≡ 
     is-call (forms.Once a) known = tt
     is-call (forms.Catching g k r) known = tt
     is-call (forms.FindAll a g l) known = tt
+    is-call (forms.Within i g) known = tt
     is-call (forms.Throwing a) known = tt
     is-call forms.CallWith known = tt
     is-call forms.Cut known = tt

@@ -4,7 +4,8 @@ use Rattle.std.specs.Bool.{⊤}
 use Rattle.plterm.specs.Tree.{Tree, var, int, atom, compound}
 use Rattle.plevent.specs.declared.request.Request.TheVariants.{HaltRun}
 use Rattle.plsearch.specs.Types.{Element, Local, Move, Asking, Await, Ends}
-use Rattle.plsearch.specs.Rows.{go_on, raised, halt_1}
+use Rattle.plsearch.specs.Moves.{go_on, raised}
+use Rattle.plsearch.specs.Rows.{halt_1}
 use Rattle.plmachine.specs.declared.asking.Status.{Status}
 use Rattle.plmachine.specs.declared.asking.Status.TheVariants as statuses
 

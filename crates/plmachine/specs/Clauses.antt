@@ -2,12 +2,11 @@
 use Rattle.std.specs.Prelude.{◌≡◌, ℕ, List, ◌++◌, Option, Some, None}
 use Rattle.plterm.specs.Tree.{Tree}
 use Rattle.plclause.specs.Clausal.{neck_parts}
-use Rattle.plevent.specs.declared.request.Request.TheVariants.{EraseOne}
 use Rattle.plevent.specs.declared.update.ClauseName.{ClauseName}
 use Rattle.plevent.specs.Search.{Answer}
 use Rattle.plprogram.specs.Program.{Program}
 use Rattle.plsearch.specs.Types.{Element}
-use Rattle.plsearch.specs.Rows.{choose}
+use Rattle.plsearch.specs.Moves.{choose}
 use Rattle.plcells.specs.declared.cell.Cell.{Cell}
 use Rattle.plcells.specs.Store.{Store, IsValue, value}
 use Rattle.plstack.specs.declared.frame.Use.{Use}
@@ -23,7 +22,6 @@ use Rattle.plmachine.specs.declared.machine.Outcome.TheVariants as outcomes
 use Rattle.plmachine.specs.declared.machine.Mode.{Mode}
 use Rattle.plmachine.specs.declared.machine.Mode.TheVariants as modes
 use Rattle.plmachine.specs.declared.machine.Question.TheVariants as questions
-use Rattle.plmachine.specs.declared.machine.Then.TheVariants as thens
 use Rattle.plmachine.specs.Machine.{after, depth_of, local_of, now}
 
 -- the values of a head and a body that stand in the term of a value
@@ -35,7 +33,7 @@ pub record IsNeck (h : Store) (c : Cell) (n : Neck) : Type 0 where
 -- what is next, where a candidate was resolved with
 abbrev pub mode_by : Option ClauseName → Mode
 mode_by None = modes.Visit
-mode_by (Some x) = modes.Ask (questions.Await (EraseOne x) thens.GoesOn)
+mode_by (Some x) = modes.Ask (questions.Erase x)
 
 abbrev pub entered_mode : Entered → Mode
 entered_mode e = mode_by e.erased
@@ -46,4 +44,4 @@ pub record Walks (P : Program) (old new : Reached) (t : Tree) (u : Use) (spot : 
   pub walks : (goal : Cell) × (walks_in new.stack ≡ viewed (record { goal = goal; uses = u; spot = spot }) spot ++ walks_in old.stack)
   pub frame : new ≡ record old { stack = new.stack; mode = modes.Back outcomes.Fail }
   pub ends : (v : Views) (most left : ℕ) (answers : List Answer) →
-      after P v old most left answers (choose (candidates_left (depth_of old) old.stack.env t es (left_at (database_of P v) u t spot)) (local_of old)) ≡ now P v new most left answers
+      after P v old most left answers (choose (candidates_left (depth_of old) old.stack.env t es (left_at (database_of P v old.layer.own.updates) u t spot)) (local_of old)) ≡ now P v new most left answers

@@ -1,5 +1,7 @@
 pub mod Predicates
 pub mod Machine
+pub mod Within
+pub mod Seeking
 pub mod Lists
 pub mod Running
 pub mod Asking

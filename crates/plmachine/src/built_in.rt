@@ -12,7 +12,8 @@ ghost use Rattle.plbuiltin.specs.Solution.{decides};
 ghost use Rattle.plbuiltin.specs.Solutions.{solutions};
 ghost use Rattle.plbuiltin.specs.Terms.{is_none};
 ghost use Rattle.planswers.specs.Answers.{meant, IsThere};
-ghost use Rattle.plsearch.specs.Rows.{go_on as went_on, taken, solved, offer, raised};
+ghost use Rattle.plsearch.specs.Moves.{go_on as went_on, raised};
+ghost use Rattle.plsearch.specs.Rows.{taken, solved, offer};
 ghost use Rattle.plstack.specs.State.{goals_of, IsFit, IsList};
 ghost use Rattle.plstack.specs.Arguments.{KeepsArguments};
 ghost use Rattle.plmachine.specs.Lists.{Grown};
@@ -109,6 +110,7 @@ impl Machine {
         requires begun { IsBegun program.now self.old }
         requires source { (t : Tree) × StandsFor self.old.stack source t }
         requires rest { IsList self.old.stack rest }
+        requires fits { IsFit self.old.stack rest }
         ensures ok { (t : Tree) → StandsFor self.old.stack source t → OnOk result (Moved program.now self.old self.new (raised error (indicator t) (goals_of self.old.stack rest) (local_of self.old))) }
         ensures err { OnErr result (Stays program.now self.old self.new) }
     {

@@ -10,16 +10,18 @@ ghost use Rattle.plclause.specs.Named.{indicator_of as named_by, named_terms};
 ghost use Rattle.plevent.specs.Alive.{or_else};
 ghost use Rattle.plevent.specs.declared.update.Update.TheVariants.{Declare};
 ghost use Rattle.plprogram.specs.Program.{clauses_for};
-ghost use Rattle.plsearch.specs.Types.{Asking, Look, ToRetract, ToRetractAll};
-ghost use Rattle.plsearch.specs.Rows.{add, added, go_on as went_on, halves, no_body, no_head, publish, retrieving, unchangeable, undeclarable, unerasable, unless, unreadable};
+ghost use Rattle.plsearch.specs.Types.{ToRetract, ToRetractAll};
+ghost use Rattle.plsearch.specs.Lookups.{seek};
+ghost use Rattle.plsearch.specs.Moves.{publish};
+ghost use Rattle.plsearch.specs.Rows.{add, added, halves, no_body, no_head, retrieving, unchangeable, undeclarable, unerasable, unless, unreadable};
 ghost use Rattle.plstack.specs.State.{goals_of, IsFit, IsList};
 ghost use Rattle.plmachine.specs.Clauses.{entered_mode, IsNeck};
-ghost use Rattle.plmachine.specs.Machine.{depth_of, local_of, IsBegun, Moved, Stays};
+ghost use Rattle.plmachine.specs.Machine.{below_in, depth_of, local_of, IsBegun, IsTied, Moved, MovedBy, Stays};
 ghost use Rattle.plmachine.specs.Selected.{StandsFor};
 
 use crate::error;
 use crate::indicator::indicator_of;
-use crate::machine::{Lookup, Machine, Mode, Outcome, Question, Then};
+use crate::machine::{Lookup, Machine, Mode, Question};
 use crate::naming::{Declaration, declared};
 use crate::refusal::{no_body, no_head, unchangeable, unerasable, unreadable};
 use crate::select::Source;
@@ -29,8 +31,7 @@ use plcells::heap::Heap;
 use plclause::clause::Clause;
 use plclause::form::{ClauseForm, clause_of};
 use plclause::named::named_terms;
-use plevent::request::Request;
-use plevent::update::{Batch, Update};
+use plevent::update::Update;
 use pllinks::link::Continuation;
 use plnames::kind::Side;
 use plprogram::program::Program;
@@ -55,6 +56,7 @@ impl Machine {
         requires source { (t : Tree) × StandsFor self.old.stack source t }
         requires rest { IsList self.old.stack rest }
         requires fits { IsFit self.old.stack rest }
+        requires tied { IsTied self.old }
         ensures ok { (t : Tree) → StandsFor self.old.stack source t → OnOk result (Moved program.now self.old self.new (add program.now side (indicator t) (clausal (value self.old.stack.env.heap c)) (goals_of self.old.stack rest) self.old.stack.env.count (local_of self.old))) }
         ensures err { OnErr result (Stays program.now self.old self.new) }
     {
@@ -85,6 +87,7 @@ impl Machine {
         requires source { (t : Tree) × StandsFor self.old.stack source t }
         requires rest { IsList self.old.stack rest }
         requires fits { IsFit self.old.stack rest }
+        requires tied { IsTied self.old }
         ensures ok { (t : Tree) → StandsFor self.old.stack source t → OnOk result (Moved program.now self.old self.new (unless (unchangeable program.now (indicator clause.head)) (indicator t) (goals_of self.old.stack rest) (local_of self.old) (publish (added side clause ∷ []) (goals_of self.old.stack rest) self.old.stack.env.count (local_of self.old)))) }
         ensures err { OnErr result (Stays program.now self.old self.new) }
     {
@@ -94,22 +97,7 @@ impl Machine {
         }
         let mut updates = Vec::new(self.alloc);
         updates.push(update_of(side, clause))?;
-        self.publish(program, updates, rest);
-        Ok(())
-    }
-
-    /// Updates are published as one batch, of which there is none without an update.
-    pub fn publish(&mut self, program: &Program, updates: Vec<Update>, rest: Continuation)
-        requires rest { IsList self.old.stack rest }
-        requires fits { IsFit self.old.stack rest }
-        ensures { Moved program.now self.old self.new (publish updates.items (goals_of self.old.stack rest) self.old.stack.env.count (local_of self.old)) }
-    {
-        if updates.is_empty() {
-            self.go_on(rest);
-            return;
-        }
-        let request = Request::Publish(Batch::new(updates));
-        self.ask(program, Question::Await(request, Then::GoesOn), rest);
+        self.publish(program, updates, rest)
     }
 
     /// clause/2.
@@ -128,7 +116,8 @@ impl Machine {
         requires source { (t : Tree) × StandsFor self.old.stack source t }
         requires rest { IsList self.old.stack rest }
         requires fits { IsFit self.old.stack rest }
-        ensures ok { (t : Tree) → StandsFor self.old.stack source t → OnOk result (Moved program.now self.old self.new (unless (or_else (no_head (value self.old.stack.env.heap head)) (or_else (no_body (value self.old.stack.env.heap body)) (unreadable (indicator (value self.old.stack.env.heap head))))) (indicator t) (goals_of self.old.stack rest) (local_of self.old) (retrieving (clauses_for program.now (indicator (value self.old.stack.env.heap head))) (depth_of self.old) (value self.old.stack.env.heap head) (value self.old.stack.env.heap body) (goals_of self.old.stack rest) self.old.stack.env.count (local_of self.old)))) }
+        requires tied { IsTied self.old }
+        ensures ok { (t : Tree) → StandsFor self.old.stack source t → OnOk result (MovedBy program.now self.old self.new (λ v. unless (or_else (no_head (value self.old.stack.env.heap head)) (or_else (no_body (value self.old.stack.env.heap body)) (unreadable (indicator (value self.old.stack.env.heap head))))) (indicator t) (goals_of self.old.stack rest) (local_of self.old) (retrieving (below_in v self.old) (clauses_for program.now (indicator (value self.old.stack.env.heap head))) (depth_of self.old) (value self.old.stack.env.heap head) (value self.old.stack.env.heap body) (goals_of self.old.stack rest) self.old.stack.env.count (local_of self.old)))) }
         ensures err { OnErr result (Stays program.now self.old self.new) }
     {
         let heap = self.stack.env().heap();
@@ -150,17 +139,13 @@ impl Machine {
         requires body { IsValue self.old.stack.env.heap body }
         requires rest { IsList self.old.stack rest }
         requires fits { IsFit self.old.stack rest }
-        ensures ok { OnOk result (Moved program.now self.old self.new (retrieving (clauses_for program.now (indicator (value self.old.stack.env.heap head))) (depth_of self.old) (value self.old.stack.env.heap head) (value self.old.stack.env.heap body) (goals_of self.old.stack rest) self.old.stack.env.count (local_of self.old))) }
+        requires tied { IsTied self.old }
+        ensures ok { OnOk result (MovedBy program.now self.old self.new (λ v. retrieving (below_in v self.old) (clauses_for program.now (indicator (value self.old.stack.env.heap head))) (depth_of self.old) (value self.old.stack.env.heap head) (value self.old.stack.env.heap body) (goals_of self.old.stack rest) self.old.stack.env.count (local_of self.old))) }
         ensures err { OnErr result (Stays program.now self.old self.new) }
     {
         let p = indicator_of(self.alloc, self.stack.env().heap(), head)?;
         if program.clauses_of(&p).is_empty() {
-            self.ask(
-                program,
-                Question::Look(Lookup::ToRetrieve(head, body)),
-                rest,
-            );
-            return Ok(());
+            return self.seek(program, Lookup::ToRetrieve(head, body), rest);
         }
         self.tell(program, Neck { head, body }, Use::Tell, Spot::Text(0), rest)
     }
@@ -179,7 +164,8 @@ impl Machine {
         requires source { (t : Tree) × StandsFor self.old.stack source t }
         requires rest { IsList self.old.stack rest }
         requires fits { IsFit self.old.stack rest }
-        ensures ok { (t : Tree) → StandsFor self.old.stack source t → OnOk result (Moved program.now self.old self.new (unless (unerasable program.now (halves (value self.old.stack.env.heap c)).0) (indicator t) (goals_of self.old.stack rest) (local_of self.old) (went_on (Asking (Look (ToRetract (halves (value self.old.stack.env.heap c)).0 (halves (value self.old.stack.env.heap c)).1)) ∷ goals_of self.old.stack rest) self.old.stack.env.count (local_of self.old)))) }
+        requires tied { IsTied self.old }
+        ensures ok { (t : Tree) → StandsFor self.old.stack source t → OnOk result (MovedBy program.now self.old self.new (λ v. unless (unerasable program.now (halves (value self.old.stack.env.heap c)).0) (indicator t) (goals_of self.old.stack rest) (local_of self.old) (seek (below_in v self.old) (ToRetract (halves (value self.old.stack.env.heap c)).0 (halves (value self.old.stack.env.heap c)).1) (depth_of self.old) (goals_of self.old.stack rest) self.old.stack.env.count (local_of self.old)))) }
         ensures err { OnErr result (Stays program.now self.old self.new) }
     {
         let heap = self.stack.env().heap();
@@ -192,8 +178,7 @@ impl Machine {
             Some(neck) => neck.body,
             None => self.stack.put_true(self.alloc)?,
         };
-        self.ask(program, Question::Look(Lookup::ToRetract(head, body)), rest);
-        Ok(())
+        self.seek(program, Lookup::ToRetract(head, body), rest)
     }
 
     /// retractall/1.
@@ -210,15 +195,15 @@ impl Machine {
         requires source { (t : Tree) × StandsFor self.old.stack source t }
         requires rest { IsList self.old.stack rest }
         requires fits { IsFit self.old.stack rest }
-        ensures ok { (t : Tree) → StandsFor self.old.stack source t → OnOk result (Moved program.now self.old self.new (unless (unerasable program.now (value self.old.stack.env.heap head)) (indicator t) (goals_of self.old.stack rest) (local_of self.old) (went_on (Asking (Look (ToRetractAll (value self.old.stack.env.heap head))) ∷ goals_of self.old.stack rest) self.old.stack.env.count (local_of self.old)))) }
+        requires tied { IsTied self.old }
+        ensures ok { (t : Tree) → StandsFor self.old.stack source t → OnOk result (MovedBy program.now self.old self.new (λ v. unless (unerasable program.now (value self.old.stack.env.heap head)) (indicator t) (goals_of self.old.stack rest) (local_of self.old) (seek (below_in v self.old) (ToRetractAll (value self.old.stack.env.heap head)) (depth_of self.old) (goals_of self.old.stack rest) self.old.stack.env.count (local_of self.old)))) }
         ensures err { OnErr result (Stays program.now self.old self.new) }
     {
         let heap = self.stack.env().heap();
         if let Some(error) = unerasable(self.alloc, program, heap, head)? {
             return self.raise_of(program, error, source, rest);
         }
-        self.ask(program, Question::Look(Lookup::ToRetractAll(head)), rest);
-        Ok(())
+        self.seek(program, Lookup::ToRetractAll(head), rest)
     }
 
     /// dynamic/1.
@@ -235,6 +220,7 @@ impl Machine {
         requires source { (t : Tree) × StandsFor self.old.stack source t }
         requires rest { IsList self.old.stack rest }
         requires fits { IsFit self.old.stack rest }
+        requires tied { IsTied self.old }
         ensures ok { (t : Tree) → StandsFor self.old.stack source t → OnOk result (Moved program.now self.old self.new (unless (undeclarable program.now (named_terms (value self.old.stack.env.heap names))) (indicator t) (goals_of self.old.stack rest) (local_of self.old) (publish (map Declare (filter_map named_by (named_terms (value self.old.stack.env.heap names)))) (goals_of self.old.stack rest) self.old.stack.env.count (local_of self.old)))) }
         ensures err { OnErr result (Stays program.now self.old self.new) }
     {
@@ -242,10 +228,7 @@ impl Machine {
         let terms = named_terms(self.alloc, &term.root())?;
         match declared(self.alloc, program, &terms)? {
             Declaration::Refused(error) => self.raise_of(program, error, source, rest),
-            Declaration::Updates(updates) => {
-                self.publish(program, updates, rest);
-                Ok(())
-            }
+            Declaration::Updates(updates) => self.publish(program, updates, rest),
         }
     }
 }
@@ -255,7 +238,7 @@ pub fn mode_of(entered: Entered) -> Mode
     ensures { result ≡ entered_mode entered }
 {
     match entered.erased {
-        Some(name) => Mode::Ask(Question::Await(Request::EraseOne(name), Then::GoesOn)),
+        Some(name) => Mode::Ask(Question::Erase(name)),
         None => Mode::Visit,
     }
 }

@@ -8,8 +8,9 @@ use pllinks::level::Level;
 use plprogram::settings::Settings;
 use plstack::frame::Use;
 use plstack::stack::Stack;
-use plstore::Cursor;
 use plterm::term::Term;
+use pltx::Isolation;
+use plviews::{Layer, Reach, View};
 use std::alloc::Global;
 
 /// How the visit of a list ends.
@@ -19,8 +20,6 @@ pub enum Outcome {
     Stop,
     /// It has no further solution.
     Fail,
-    /// The choices down to a level are given up.
-    CutTo(Level),
     /// A ball was thrown, with the levels of the markers behind it.
     Throw(Term, Vec<Level>),
     /// The run was ended with a number.
@@ -56,24 +55,28 @@ pub enum Lookup {
 pub enum Question {
     /// The view in which clauses are looked up.
     Look(Lookup),
-    /// The reply to a request.
+    /// The view on which a transaction or a snapshot of the goal of a value begins.
+    Begin(Isolation, Cell),
+    /// The reply to the publication of updates, or to the end of the run.
     Await(Request, Then),
+    /// The reply to the erasure of the clause of a name.
+    Erase(ClauseName),
 }
 
-/// How far the clauses of a head, all of which are to be erased, are looked through.
+/// Where the clauses of a head, all of which are to be erased, are looked through.
 #[derive(Clone, Copy)]
-pub enum Reach {
-    /// Behind a cursor.
-    Behind(Cursor),
-    /// At the clause of a name.
-    At(ClauseName),
+pub enum SweepSpot {
+    /// Those that are left.
+    Seek(Reach),
+    /// The clause of a name, and those that are left behind it.
+    At(ClauseName, Reach),
 }
 
-/// The erasure of all clauses of a head: the place of its view, how far these are looked through, and the erasures so far.
+/// The erasure of all clauses of a head: its view, where these are looked through, and the erasures so far.
 #[derive(Drop)]
 pub struct Sweep {
-    pub view: u64,
-    pub reach: Reach,
+    pub view: View,
+    pub spot: SweepSpot,
     pub updates: Vec<Update>,
 }
 
@@ -87,12 +90,12 @@ pub struct Sought {
 /// What is sought in a view that was taken.
 #[derive(Drop)]
 pub enum Find {
-    /// The first clause that may be for a goal, in the view of a place.
-    First(Sought, u64),
-    /// Whether the procedure of a goal exists, in the view of a place in which no clause may be for the goal.
-    Exists(Cell, u64),
-    /// Whether the procedure of a head exists, all of whose clauses are to be erased, in the view of a place.
-    All(Cell, u64),
+    /// The first clause that may be for a goal.
+    First(Sought, View),
+    /// Whether the procedure of a goal exists, in a view in which no clause may be for the goal.
+    Exists(Cell, View),
+    /// Whether the procedure of a head exists, all of whose clauses are to be erased.
+    All(Cell, View),
     /// The clauses of a head, all of which are to be erased.
     Sweep(Cell, Sweep),
 }
@@ -111,6 +114,8 @@ pub enum Mode {
 pub struct Machine {
     pub alloc: Global,
     pub stack: Stack,
+    /// The own updates of its open transactions.
+    pub layer: Layer,
     pub mode: Mode,
     /// The bytes written.
     pub out: Vec<u8>,

@@ -19,6 +19,8 @@ pub enum Predicate {
     CallWith(u16),
     /// halt/1
     Halt,
+    Transaction,
+    Snapshot,
 }
 
 impl Predicate {
@@ -35,6 +37,8 @@ impl Predicate {
             Predicate::Throw => ("throw", 1),
             Predicate::CallWith(further) => ("call", further + 1),
             Predicate::Halt => ("halt", 1),
+            Predicate::Transaction => ("transaction", 1),
+            Predicate::Snapshot => ("snapshot", 1),
         };
         let name = Name::new(alloc, name)?;
         Ok(Indicator { name, arity })

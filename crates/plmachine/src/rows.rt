@@ -1,16 +1,19 @@
 //! The rows of the table of control: what each form of goal makes of a machine (ISO/IEC 13211-1 7.8).
 //!
 //! A row that is refused memory leaves the search where it was.
-ghost use Rattle.std.specs.Prelude.{◌≡◌, ◌+◌, suc, [], ◌∷◌, ◌++◌, codes, OnOk, OnErr};
+ghost use Rattle.std.specs.Prelude.{◌≡◌, ◌+◌, suc, List, [], ◌∷◌, ◌++◌, codes, OnOk, OnErr};
 ghost use Rattle.plterm.specs.Tree.{atom};
 ghost use Rattle.plcells.specs.Store.{value, IsValue};
-ghost use Rattle.plsearch.specs.Types.{Goal, Asking, Commit, Marker, Go, Choice, Mark};
-ghost use Rattle.plsearch.specs.Rows.{thrown, branch, raised, go_on as went_on};
+ghost use Rattle.plsearch.specs.Types.{Goal, Commit, Marker, Go, Choice, Mark};
+ghost use Rattle.plsearch.specs.Moves.{raised, go_on as went_on};
+ghost use Rattle.plsearch.specs.Rows.{thrown, branch};
+ghost use Rattle.plevent.specs.declared.update.Update.{Update};
+ghost use Rattle.plstack.specs.Places.{Database, IsOwnSoFar};
 ghost use Rattle.plstack.specs.Levels.{kinds, FitsIn, Precedes};
-ghost use Rattle.plstack.specs.State.{goals_of, kinds_in, IsFit, IsList};
+ghost use Rattle.plstack.specs.State.{cases_of, goals_of, kinds_in, IsFit, IsList};
 ghost use Rattle.plstack.specs.Opening.{around_cases, branch_of, IsAround};
 ghost use Rattle.plmachine.specs.Lists.{at_level, elements_of, AreGoals, IsPart};
-ghost use Rattle.plmachine.specs.Machine.{depth_of, is_var, local_of, question_of, IsAskable, IsBegun, Moved, Stays};
+ghost use Rattle.plmachine.specs.Machine.{depth_of, is_var, element_of, local_of, IsAskable, IsBegun, Moved, Stays};
 
 use crate::error;
 use crate::list::{at_level, failure, two_before, two_in_turn};
@@ -32,7 +35,8 @@ impl Machine {
     pub fn go_on(&mut self, list: Continuation)
         requires list { IsList self.old.stack list }
         requires fits { IsFit self.old.stack list }
-        ensures { self.new ≡ record self.old { stack = record self.old.stack { goals = list }; mode = Mode.Visit } }
+        ensures is { self.new ≡ record self.old { stack = record self.old.stack { goals = list }; mode = Mode.Visit } }
+        ensures own { (db : Database) (own : List Update) → IsOwnSoFar self.old.stack.basis.latest db own → cases_of (record db { own = own }) self.old.stack ≡ cases_of db self.old.stack }
     {
         self.stack.visit(list);
         self.mode = Mode::Visit;
@@ -54,7 +58,8 @@ impl Machine {
         p: &Indicator,
         rest: Continuation,
     ) -> Result<(), AllocError>
-        requires { IsList self.old.stack rest }
+        requires rest { IsList self.old.stack rest }
+        requires fits { IsFit self.old.stack rest }
         ensures ok { OnOk result (Moved program.now self.old self.new (raised error p.now (goals_of self.old.stack rest) (local_of self.old))) }
         ensures err { OnErr result (Stays program.now self.old self.new) }
     {
@@ -66,10 +71,10 @@ impl Machine {
 
     /// Asks something before a list.
     pub fn ask(&mut self, program: &Program, question: Question, rest: Continuation)
-        requires askable { IsAskable self.old.stack.env.heap question }
+        requires askable { IsAskable self.old.layer.own (record self.old.stack { goals = rest }) question }
         requires rest { IsList self.old.stack rest }
         requires fits { IsFit self.old.stack rest }
-        ensures { Moved program.now self.old self.new (went_on (Asking (question_of self.old.stack.env.heap question) ∷ goals_of self.old.stack rest) self.old.stack.env.count (local_of self.old)) }
+        ensures { Moved program.now self.old self.new (went_on (element_of self.old.stack.env.heap question ∷ goals_of self.old.stack rest) self.old.stack.env.count (local_of self.old)) }
     {
         self.stack.visit(rest);
         self.mode = Mode::Ask(question);
@@ -238,6 +243,7 @@ impl Machine {
     ) -> Result<(), AllocError>
         requires ball { IsValue self.old.stack.env.heap ball }
         requires rest { IsList self.old.stack rest }
+        requires fits { IsFit self.old.stack rest }
         ensures ok { OnOk result (Moved program.now self.old self.new (thrown (value self.old.stack.env.heap ball) (goals_of self.old.stack rest) (local_of self.old))) }
         ensures err { OnErr result (Stays program.now self.old self.new) }
     {

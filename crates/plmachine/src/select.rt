@@ -5,16 +5,18 @@ ghost use Rattle.plterm.specs.declared.indicator.Indicator.{Indicator as OfIndic
 ghost use Rattle.plcells.specs.Store.{value, AreValues, IsValue};
 ghost use Rattle.plprogram.specs.Program.{clauses_for};
 ghost use Rattle.plsearch.specs.Forms.{form as form_of};
-ghost use Rattle.plsearch.specs.Types.{Asking, Look, ToCall};
-ghost use Rattle.plsearch.specs.Rows.{row, user, call as called, go_on as went_on};
+ghost use Rattle.plsearch.specs.Types.{ToCall};
+ghost use Rattle.plsearch.specs.Lookups.{seek};
+ghost use Rattle.plsearch.specs.Moves.{call as called};
+ghost use Rattle.plsearch.specs.Rows.{row, user};
 ghost use Rattle.plstack.specs.Levels.{Precedes};
 ghost use Rattle.plstack.specs.State.{goals_of, kinds_in, IsFit, IsList};
 ghost use Rattle.plmachine.specs.Lists.{Grown};
-ghost use Rattle.plmachine.specs.Machine.{depth_of, local_of, IsBegun, Moved, Stays};
+ghost use Rattle.plmachine.specs.Machine.{below_in, depth_of, local_of, IsBegun, IsTied, Moved, MovedBy, Stays};
 ghost use Rattle.plmachine.specs.Selected.{IsCallOf, IsSelected, IsStaticCall, StandsFor};
 
 use crate::finding::Finding;
-use crate::machine::{Lookup, Machine, Mode, Outcome, Question};
+use crate::machine::{Lookup, Machine, Mode, Outcome};
 use plcells::cell::Cell;
 use plgoals::form::{Form, Procedure};
 use pllinks::item::{Item, Run};
@@ -47,7 +49,8 @@ impl Machine {
         requires selected { (t : Tree) × IsSelected program.now self.old form source t }
         requires rest { IsList self.old.stack rest }
         requires level { Precedes (kinds_in self.old.stack) level (goals_of self.old.stack rest) }
-        ensures ok { (t : Tree) → IsSelected program.now self.old form source t → OnOk result (Moved program.now self.old self.new (row program.now (form_of t) level t (depth_of self.old) (goals_of self.old.stack rest) self.old.stack.env.count (local_of self.old))) }
+        requires tied { IsTied self.old }
+        ensures ok { (t : Tree) → IsSelected program.now self.old form source t → OnOk result (MovedBy program.now self.old self.new (λ v. row program.now (below_in v self.old) (form_of t) level t (depth_of self.old) (goals_of self.old.stack rest) self.old.stack.env.count (local_of self.old))) }
         ensures err { OnErr result (Stays program.now self.old self.new) }
     {
         match form {
@@ -87,6 +90,7 @@ impl Machine {
                 };
                 self.find_all(program, finding, rest)
             }
+            Form::Within(kind, goal) => self.within(program, kind, goal, rest),
             Form::Throwing(ball) => self.throw(program, ball, rest),
             Form::CallWith => self.call_with(program, rest),
             Form::Cut => self.cut(program, level, rest),
@@ -138,7 +142,8 @@ impl Machine {
         requires source { (t : Tree) × StandsFor self.old.stack source t }
         requires rest { IsList self.old.stack rest }
         requires fits { IsFit self.old.stack rest }
-        ensures ok { (p : OfIndicator) (t : Tree) → StandsFor self.old.stack source t → IsCallOf program.now self.old p procedure t → OnOk result (Moved program.now self.old self.new (user (clauses_for program.now p) (depth_of self.old) t (goals_of self.old.stack rest) self.old.stack.env.count (local_of self.old))) }
+        requires tied { IsTied self.old }
+        ensures ok { (p : OfIndicator) (t : Tree) → StandsFor self.old.stack source t → IsCallOf program.now self.old p procedure t → OnOk result (MovedBy program.now self.old self.new (λ v. user (below_in v self.old) (clauses_for program.now p) (depth_of self.old) t (goals_of self.old.stack rest) self.old.stack.env.count (local_of self.old))) }
         ensures err { OnErr result (Stays program.now self.old self.new) }
     {
         match procedure {
@@ -181,11 +186,11 @@ impl Machine {
         requires source { (t : Tree) × StandsFor self.old.stack source t }
         requires rest { IsList self.old.stack rest }
         requires fits { IsFit self.old.stack rest }
-        ensures ok { (t : Tree) → StandsFor self.old.stack source t → OnOk result (Moved program.now self.old self.new (went_on (Asking (Look (ToCall t)) ∷ goals_of self.old.stack rest) self.old.stack.env.count (local_of self.old))) }
+        requires tied { IsTied self.old }
+        ensures ok { (t : Tree) → StandsFor self.old.stack source t → OnOk result (MovedBy program.now self.old self.new (λ v. seek (below_in v self.old) (ToCall t) (depth_of self.old) (goals_of self.old.stack rest) self.old.stack.env.count (local_of self.old))) }
         ensures err { OnErr result (Stays program.now self.old self.new) }
     {
         let goal = self.goal(source)?;
-        self.ask(program, Question::Look(Lookup::ToCall(goal)), rest);
-        Ok(())
+        self.seek(program, Lookup::ToCall(goal), rest)
     }
 }

@@ -5,7 +5,7 @@ ghost use Rattle.plsearch.specs.Forms.{form as form_by_term};
 ghost use Rattle.plsearch.specs.Rows.{row};
 ghost use Rattle.plstack.specs.First.{AtStep};
 ghost use Rattle.plstack.specs.State.{goals_of};
-ghost use Rattle.plmachine.specs.Machine.{depth_of, local_of, IsBegun, Moved, Stays};
+ghost use Rattle.plmachine.specs.Machine.{below_in, depth_of, local_of, IsBegun, IsTied, MovedBy, Stays};
 ghost use Rattle.plmachine.specs.Selected.{bound_at};
 
 use crate::list::branch;
@@ -29,7 +29,8 @@ impl Machine {
         requires begun { IsBegun program.now self.old }
         requires visits { self.old.mode ≡ Mode.Visit }
         requires at { (es : List Element) × AtStep self.old.stack es run step rest }
-        ensures ok { (es : List Element) (at : AtStep self.old.stack es run step rest) → OnOk result (Moved program.now self.old self.new (row program.now (form_by_term (bound_at self.old.stack run at.goal)) run.level (bound_at self.old.stack run at.goal) (depth_of self.old) (goals_of self.old.stack rest) self.old.stack.env.count (local_of self.old))) }
+        requires tied { IsTied self.old }
+        ensures ok { (es : List Element) (at : AtStep self.old.stack es run step rest) → OnOk result (MovedBy program.now self.old self.new (λ v. row program.now (below_in v self.old) (form_by_term (bound_at self.old.stack run at.goal)) run.level (bound_at self.old.stack run at.goal) (depth_of self.old) (goals_of self.old.stack rest) self.old.stack.env.count (local_of self.old))) }
         ensures err { OnErr result (Stays program.now self.old self.new) }
     {
         match step.op {

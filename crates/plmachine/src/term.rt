@@ -8,7 +8,7 @@ ghost use Rattle.plgoals.specs.Callables.{called, IsCallable, IsNoGoal};
 ghost use Rattle.plstack.specs.Levels.{Precedes};
 ghost use Rattle.plstack.specs.State.{goals_of, kinds_in, IsList};
 ghost use Rattle.plmachine.specs.Lists.{Grown};
-ghost use Rattle.plmachine.specs.Machine.{depth_of, local_of, IsBegun, Moved, Stays};
+ghost use Rattle.plmachine.specs.Machine.{below_in, depth_of, local_of, IsBegun, IsTied, MovedBy, Stays};
 ghost use Rattle.plmachine.specs.Selected.{IsSelected, StandsFor};
 
 use crate::machine::{Machine, Mode};
@@ -36,7 +36,8 @@ impl Machine {
         requires goal { IsValue self.old.stack.env.heap goal }
         requires rest { IsList self.old.stack rest }
         requires level { Precedes (kinds_in self.old.stack) level (goals_of self.old.stack rest) }
-        ensures ok { OnOk result (Moved program.now self.old self.new (row program.now (form_by_term (value self.old.stack.env.heap goal)) level (value self.old.stack.env.heap goal) (depth_of self.old) (goals_of self.old.stack rest) self.old.stack.env.count (local_of self.old))) }
+        requires tied { IsTied self.old }
+        ensures ok { OnOk result (MovedBy program.now self.old self.new (λ v. row program.now (below_in v self.old) (form_by_term (value self.old.stack.env.heap goal)) level (value self.old.stack.env.heap goal) (depth_of self.old) (goals_of self.old.stack rest) self.old.stack.env.count (local_of self.old))) }
         ensures err { OnErr result (Stays program.now self.old self.new) }
     {
         self.solve(program, Source::Value(goal), level, rest)
@@ -55,7 +56,8 @@ impl Machine {
         requires source { (t : Tree) × StandsFor self.old.stack source t }
         requires rest { IsList self.old.stack rest }
         requires level { Precedes (kinds_in self.old.stack) level (goals_of self.old.stack rest) }
-        ensures ok { (t : Tree) → StandsFor self.old.stack source t → OnOk result (Moved program.now self.old self.new (row program.now (form_by_term t) level t (depth_of self.old) (goals_of self.old.stack rest) self.old.stack.env.count (local_of self.old))) }
+        requires tied { IsTied self.old }
+        ensures ok { (t : Tree) → StandsFor self.old.stack source t → OnOk result (MovedBy program.now self.old self.new (λ v. row program.now (below_in v self.old) (form_by_term t) level t (depth_of self.old) (goals_of self.old.stack rest) self.old.stack.env.count (local_of self.old))) }
         ensures err { OnErr result (Stays program.now self.old self.new) }
     {
         if let Some(call) = self.calculation(&source) {

@@ -4,12 +4,13 @@
 ghost use Rattle.std.specs.Prelude.{◌≡◌, ◌∷◌, ◌++◌, [], OnOk, OnErr};
 ghost use Rattle.plcells.specs.Store.{value, IsValue};
 ghost use Rattle.plevent.specs.declared.update.Update.TheVariants.{Declare};
-ghost use Rattle.plsearch.specs.Rows.{clause_term, publish};
+ghost use Rattle.plsearch.specs.Moves.{publish};
+ghost use Rattle.plsearch.specs.Lookups.{clause_term};
 ghost use Rattle.plstack.specs.Frames.{IsSpotSeen};
 ghost use Rattle.plstack.specs.Places.{viewed};
 ghost use Rattle.plstack.specs.State.{goals_of, walks_in, IsFit, IsList};
 ghost use Rattle.plmachine.specs.Clauses.{Walks};
-ghost use Rattle.plmachine.specs.Machine.{local_of, Moved, Stays};
+ghost use Rattle.plmachine.specs.Machine.{local_of, IsTied, Moved, Stays};
 
 use crate::machine::{Machine, Mode, Outcome};
 use plcells::cell::Cell;
@@ -66,14 +67,15 @@ impl Machine {
 
     /// A procedure that does not exist is declared: retractall/1.
     pub fn declare_one(&mut self, program: &Program, p: Indicator) -> Result<(), AllocError>
+        requires fits { IsFit self.old.stack self.old.stack.goals }
+        requires tied { IsTied self.old }
         ensures ok { OnOk result (Moved program.now self.old self.new (publish (Declare p ∷ []) (goals_of self.old.stack self.old.stack.goals) self.old.stack.env.count (local_of self.old))) }
         ensures err { OnErr result (Stays program.now self.old self.new) }
     {
         let mut updates = Vec::new(self.alloc);
         updates.push(Update::Declare(p))?;
         let rest = self.stack.visited();
-        self.publish(program, updates, rest);
-        Ok(())
+        self.publish(program, updates, rest)
     }
 }
 

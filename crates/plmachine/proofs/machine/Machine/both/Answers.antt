@@ -12,7 +12,7 @@ returns-in_err-list-clause-err c =
 pub returns-clause-ok : goal.returns-clause-ok
 returns-clause-ok c =
     let s = c.args.self.now in
-    went c.args.program.now s c.go_on.new.self c.two_in_turn.new.stack c.in_ok-list.list _ (lengthened-grown s.stack c.two_in_turn.new.stack c.two_in_turn.ensures.grows) c.in_ok-list.ensures.ok c.go_on.ensures
+    went c.args.program.now s c.go_on.new.self c.two_in_turn.new.stack c.in_ok-list.list _ (lengthened-grown s.stack c.two_in_turn.new.stack c.two_in_turn.ensures.grows) c.in_ok-list.ensures.ok c.go_on.ensures.is
 
 pub go_on-requires-clause-fits : goal.go_on-requires-clause-fits
 go_on-requires-clause-fits c =

@@ -1,4 +1,4 @@
-use Rattle.std.proofs.Common.{◌≡◌, ◌-◌, refl, ap, sym, length, arith, true, ◌∷◌, [], ◌∙◌}
+use Rattle.std.proofs.Common.{◌≡◌, ◌-◌, refl, ap, sym, length, arith, ◌∷◌, [], ◌∙◌}
 use Rattle.plsearch.specs.Rows.{call_with}
 use Rattle.plmachine.specs.Machine.{local_of}
 use Rattle.plmachine.proofs.Moves.{grown-stays, moved-grown, stays-trans, on_err, on_ok_map, on_err_map}
@@ -6,6 +6,7 @@ use Rattle.plmachine.proofs.Arounds.{run-same}
 use Rattle.plmachine.proofs.Values.{some-first}
 use Rattle.plmachine.proofs.Levels.{run-level, depth-kinds}
 use Rattle.plstack.proofs.Naming.{new-precedes}
+use Rattle.plstack.specs.Levels.{Choosing}
 use Rattle.plstack.specs.State.{kinds_in, goals_of}
 use Rattle.plmachine.proofs.machine.Machine.call_with.Goals as goal
 
@@ -44,5 +45,5 @@ run-requires-clause-how c =
       few = omega (arith, c.len.ensures, c.requires.few, c.args.self.now.args.ok.0);
       around = tt;
       list = there.0;
-      level = run-level s t g.extends (true ∷ []) c.depth-level.result c.args.rest (goals_of s c.args.rest) (record { there = there.0; is = there.1 }) (new-precedes (kinds_in s) c.depth-level.result (goals_of s c.args.rest) (c.depth-level.ensures.is ∙ sym (depth-kinds s)) c.requires.fits);
+      level = run-level s t g.extends (Choosing ∷ []) c.depth-level.result c.args.rest (goals_of s c.args.rest) (record { there = there.0; is = there.1 }) (new-precedes (kinds_in s) c.depth-level.result (goals_of s c.args.rest) (c.depth-level.ensures.is ∙ sym (depth-kinds s)) c.requires.fits);
     }

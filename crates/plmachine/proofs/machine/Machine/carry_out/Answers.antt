@@ -33,7 +33,7 @@ returns-in-Fails-clause-ok c t stands =
     let p = indicator t in
     let es = goals_of s.stack c.args.rest in
     let is = ap (meant s.stack.env.heap s.settings n) (sym c.in-Fails.is) in
-    moved-as c.args.program.now s c.give.new.self _ _ (offer-fails s.settings p es n (local_of s) refl ∙ ap (λ x. offer x p es n (local_of s)) is) (gave c.args.program.now s c.give.new.self outcomes.Fail c.give.ensures)
+    moved-as c.args.program.now s c.give.new.self _ _ (offer-fails s.settings p es n (local_of s) refl ∙ ap (λ x. offer x p es n (local_of s)) is) (gave c.args.program.now s c.give.new.self outcomes.Fail tt c.give.ensures)
 
 pub returns-in-Succeeds-clause-ok : goal.returns-in-Succeeds-clause-ok
 returns-in-Succeeds-clause-ok c t stands =
@@ -43,7 +43,7 @@ returns-in-Succeeds-clause-ok c t stands =
     let es = goals_of s.stack c.args.rest in
     let is = ap (meant s.stack.env.heap s.settings n) (sym c.in-Succeeds.is) in
     moved-as c.args.program.now s c.go_on.new.self _ _ (offer-succeeds s.settings p es n (local_of s) refl ∙ ap (λ x. offer x p es n (local_of s)) is)
-    (went c.args.program.now s c.go_on.new.self s.stack c.args.rest es (lengthened-grown s.stack s.stack (lengthened-same s.stack)) (holds-list s.stack c.args.rest c.requires.rest) c.go_on.ensures)
+    (went c.args.program.now s c.go_on.new.self s.stack c.args.rest es (lengthened-grown s.stack s.stack (lengthened-same s.stack)) (holds-list s.stack c.args.rest c.requires.rest) c.go_on.ensures.is)
 
 pub returns-in-Unifies-clause-ok : goal.returns-in-Unifies-clause-ok
 returns-in-Unifies-clause-ok c t stands =

@@ -1,7 +1,8 @@
-use Rattle.std.proofs.Common.{◌≡◌, refl, ap, sym, ◌∙◌, ◌∷◌, suc, arith, true, false, []}
+use Rattle.std.proofs.Common.{◌≡◌, refl, ap, sym, ◌∙◌, ◌∷◌, suc, arith, []}
 use Rattle.plsearch.specs.Types.{Collect, Marker}
 use Rattle.plsearch.specs.Rows.{findall_3}
 use Rattle.plcells.specs.Store.{value}
+use Rattle.plstack.specs.Levels.{Choosing, Guarding}
 use Rattle.plstack.specs.State.{goals_of, kinds_in}
 use Rattle.plstack.specs.declared.frame.Around.TheVariants as arounds
 use Rattle.plstack.specs.declared.frame.Handler.TheVariants as handlers
@@ -22,8 +23,8 @@ run-requires-clause-how c =
       few = tt;
       around = (around-grown s c.ready_before.new.self.stack (arounds.Handle (record { handler = handlers.Gather c.args.finding.whole; list = c.args.rest })) c.ready_before.ensures.grown (record { handler = c.requires.whole; list = c.requires.rest; fits = c.requires.fits })).1;
       list = c.in_ok-ready.ensures.list.there;
-      level = run-level s c.ready_before.new.self.stack c.ready_before.ensures.grown.extends (true ∷ false ∷ []) c.in-Some.level c.in_ok-ready.list _ c.in_ok-ready.ensures.list
-          (inner-precedes (kinds_in s) false c.depth-depth.result (c.depth-depth.ensures.is ∙ sym (depth-kinds s)) (goals_of s c.args.rest) c.requires.fits (Collect (value s.env.heap c.args.finding.template)) c.in-Some.level next (tt));
+      level = run-level s c.ready_before.new.self.stack c.ready_before.ensures.grown.extends (Choosing ∷ Guarding ∷ []) c.in-Some.level c.in_ok-ready.list _ c.in_ok-ready.ensures.list
+          (inner-precedes (kinds_in s) Guarding c.depth-depth.result (c.depth-depth.ensures.is ∙ sym (depth-kinds s)) refl (goals_of s c.args.rest) c.requires.fits (Collect (value s.env.heap c.args.finding.template)) c.in-Some.level next tt refl);
     }
 
 pub returns-clause-ok : goal.returns-clause-ok

@@ -15,4 +15,4 @@ returns-clause-ok c p =
     let s = c.args.self.now in
     let no = c.in_ok-unify.ensures.no c.if-branch.false in
     differs c.args.program.now s c.go_on.new.self (value s.stack.env.heap c.args.a) (value s.stack.env.heap c.args.b) p c.args.rest c.requires.rest no.0
-    (c.go_on.ensures ∙ ap (λ st. record s { stack = record st { goals = c.args.rest }; mode = modes.Visit }) no.1)
+    (c.go_on.ensures.is ∙ ap (λ st. record s { stack = record st { goals = c.args.rest }; mode = modes.Visit }) no.1)

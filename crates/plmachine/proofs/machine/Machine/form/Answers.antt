@@ -4,7 +4,7 @@ use Rattle.plterm.specs.Tree.{Tree}
 use Rattle.platoms.specs.Names.{IsTable}
 use Rattle.plcells.specs.Store.{value}
 use Rattle.plgoals.specs.Callables.{called, IsCallable}
-use Rattle.plstack.specs.declared.basis.Basis.{Basis}
+use Rattle.plstack.specs.Basis.{Basis}
 use Rattle.plmachine.specs.Machine.{IsBegun}
 use Rattle.plmachine.specs.Selected.{StandsFor}
 use Rattle.plmachine.specs.declared.machine.Mode.TheVariants as modes

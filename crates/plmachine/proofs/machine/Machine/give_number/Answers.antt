@@ -48,7 +48,7 @@ returns-then-branch-clause-ok c = λ P u is_one.
     (ap₂ (λ gs n. taken (solved gs n (record { left = bound_at t.stack r u; right = value t.stack.env.heap c.in_ok-v.v; new = 0 })) (local_of t)) list.1 g.count
     ∙ ap₂ (λ a b. taken (solved (goals_of s.stack c.args.rest) s.stack.env.count (record { left = a; right = b; new = 0 })) (local_of t)) kept.1 is
     ∙ ap (λ x. taken (solved (goals_of s.stack c.args.rest) s.stack.env.count (record { left = bound_at s.stack r u; right = int c.args.number; new = 0 })) (local_of x)) frame)
-    (unifies P t c.go_on.new.self c.unify_number.new.self (bound_at t.stack r u) (value t.stack.env.heap c.in_ok-v.v) c.args.rest list.0 (c.in_ok-unify_number.ensures.yes u kept.0 c.if-branch.true) c.go_on.ensures)
+    (unifies P t c.go_on.new.self c.unify_number.new.self (bound_at t.stack r u) (value t.stack.env.heap c.in_ok-v.v) c.args.rest list.0 (c.in_ok-unify_number.ensures.yes u kept.0 c.if-branch.true) c.go_on.ensures.is)
 
 pub returns-clause-ok : goal.returns-clause-ok
 returns-clause-ok c = λ P u is_one.

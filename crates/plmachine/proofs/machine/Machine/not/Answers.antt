@@ -1,6 +1,7 @@
-use Rattle.std.proofs.Common.{◌≡◌, refl, ap, sym, ◌∙◌, ◌∷◌, suc, arith, true, [], inl, inr}
+use Rattle.std.proofs.Common.{◌≡◌, refl, ap, sym, ◌∙◌, ◌∷◌, suc, arith, [], inl, inr}
 use Rattle.plsearch.specs.Types.{Never, Marker}
 use Rattle.plsearch.specs.Rows.{not_1}
+use Rattle.plstack.specs.Levels.{Choosing}
 use Rattle.plstack.specs.State.{goals_of, kinds_in}
 use Rattle.plstack.specs.declared.frame.Around.TheVariants as arounds
 use Rattle.plmachine.specs.Machine.{local_of}
@@ -20,8 +21,8 @@ run-requires-clause-how c =
       few = tt;
       around = ((c.ready_before.ensures.grown.extends.lists c.args.rest c.requires.rest).0, fits-grown s c.ready_before.new.self.stack c.ready_before.ensures.grown c.args.rest c.requires.rest c.requires.fits);
       list = c.in_ok-ready.ensures.list.there;
-      level = run-level s c.ready_before.new.self.stack c.ready_before.ensures.grown.extends (true ∷ true ∷ []) c.in-Some.level c.in_ok-ready.list _ c.in_ok-ready.ensures.list
-          (inner-precedes (kinds_in s) true c.depth-depth.result (c.depth-depth.ensures.is ∙ sym (depth-kinds s)) (goals_of s c.args.rest) c.requires.fits Never c.in-Some.level next (inr (inl (refl, c.depth-depth.ensures.is ∙ sym (depth-kinds s)))));
+      level = run-level s c.ready_before.new.self.stack c.ready_before.ensures.grown.extends (Choosing ∷ Choosing ∷ []) c.in-Some.level c.in_ok-ready.list _ c.in_ok-ready.ensures.list
+          (inner-precedes (kinds_in s) Choosing c.depth-depth.result (c.depth-depth.ensures.is ∙ sym (depth-kinds s)) refl (goals_of s c.args.rest) c.requires.fits Never c.in-Some.level next (inr (inl (refl, c.depth-depth.ensures.is ∙ sym (depth-kinds s)))) refl);
     }
 
 pub returns-clause-ok : goal.returns-clause-ok

@@ -1,6 +1,7 @@
-use Rattle.std.proofs.Common.{refl, ap, sym, ◌∙◌, ◌∷◌, true, []}
+use Rattle.std.proofs.Common.{refl, ap, sym, ◌∙◌, ◌∷◌, []}
 use Rattle.plsearch.specs.Types.{Commit, Marker}
 use Rattle.plsearch.specs.Rows.{once_1}
+use Rattle.plstack.specs.Levels.{Choosing}
 use Rattle.plstack.specs.State.{goals_of, kinds_in}
 use Rattle.plmachine.specs.Machine.{local_of}
 use Rattle.plmachine.proofs.Moves.{grown-stays, moved-grown, stays-trans, on_err, on_ok_map, on_err_map}
@@ -18,7 +19,7 @@ run-requires-clause-how c =
       few = tt;
       around = tt;
       list = c.in_ok-ready.ensures.list.there;
-      level = run-level s c.ready_before.new.self.stack c.ready_before.ensures.grown.extends (true ∷ []) c.depth-depth.result c.in_ok-ready.list _ c.in_ok-ready.ensures.list
+      level = run-level s c.ready_before.new.self.stack c.ready_before.ensures.grown.extends (Choosing ∷ []) c.depth-depth.result c.in_ok-ready.list _ c.in_ok-ready.ensures.list
           (commit-precedes (kinds_in s) c.depth-depth.result (c.depth-depth.ensures.is ∙ sym (depth-kinds s)) (goals_of s c.args.rest) c.requires.fits);
     }
 

@@ -4,7 +4,8 @@ use Rattle.plterm.specs.Tree.{Tree}
 use Rattle.plcells.specs.Store.{value}
 use Rattle.plgenerator.specs.Answers.{left}
 use Rattle.plgenerator.specs.declared.turn.Turn.TheVariants.{Groups}
-use Rattle.plsearch.specs.Rows.{choose, solved}
+use Rattle.plsearch.specs.Moves.{choose}
+use Rattle.plsearch.specs.Rows.{solved}
 use Rattle.plstack.specs.State.{goals_of}
 use Rattle.plmachine.specs.declared.machine.Machine.{Machine as Reached}
 use Rattle.plmachine.specs.Machine.{local_of}

@@ -1,6 +1,7 @@
 use Rattle.std.proofs.Common.{ap₂}
 use Rattle.plsearch.specs.Types.{Throw}
 use Rattle.plstack.specs.State.{goals_of}
+use Rattle.plmachine.proofs.Askable.{named-by}
 use Rattle.plmachine.proofs.Moves.{raises, stays_put, on_err}
 use Rattle.plmachine.proofs.machine.Machine.raise.Goals as goal
 
@@ -13,4 +14,5 @@ returns-in_err-levels-clause-err c = on_err _ (stays_put c.args.program.now c.ar
 pub returns-clause-ok : goal.returns-clause-ok
 returns-clause-ok c =
     let s = c.args.self.now in
-    raises c.args.program.now s c.give.new.self c.args.error c.args.p.now (goals_of s.stack c.args.rest) _ (ap₂ Throw c.in_ok-ball.ensures c.in_ok-levels.ensures) c.give.ensures
+    raises c.args.program.now s c.give.new.self c.args.error c.args.p.now (goals_of s.stack c.args.rest) _ (ap₂ Throw c.in_ok-ball.ensures c.in_ok-levels.ensures.is)
+    (named-by s.stack c.args.rest c.in_ok-levels.levels.items c.in_ok-levels.ensures.named c.requires.fits) c.give.ensures

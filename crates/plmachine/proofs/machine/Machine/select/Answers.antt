@@ -5,14 +5,15 @@ use Rattle.plterm.specs.Tree.{atom}
 use Rattle.plclause.specs.Indicators.{indicator}
 use Rattle.plcells.specs.Store.{value}
 use Rattle.plsearch.specs.Running.{called}
-use Rattle.plsearch.specs.Rows.{row, run, call_with as call_n}
+use Rattle.plsearch.specs.Moves.{run}
+use Rattle.plsearch.specs.Rows.{row, call_with as call_n}
 use Rattle.plgoals.specs.Forms.{shown_form, call_with, IsInside}
 use Rattle.plstack.specs.State.{goals_of}
 use Rattle.plmachine.specs.declared.machine.Outcome.TheVariants as outcomes
-use Rattle.plmachine.specs.Machine.{depth_of, local_of}
+use Rattle.plmachine.specs.Machine.{below_in, depth_of, local_of}
 use Rattle.plmachine.specs.Selected.{IsCall}
 use Rattle.plmachine.proofs.Lists.{holds-list, lengthened-grown, lengthened-same}
-use Rattle.plmachine.proofs.Moves.{went, gave, moved-as, on_ok_map}
+use Rattle.plmachine.proofs.Moves.{went, gave, moved-as, moved-views, on_ok_map}
 use Rattle.plmachine.proofs.Values.{some-first}
 use Rattle.plmachine.proofs.Selecting.{selected, both-is, either-is, then-is, then-else-is}
 use Rattle.plmachine.proofs.machine.Machine.select.Goals as goal
@@ -23,28 +24,28 @@ returns-in-True-clause-ok c t sel =
     let s = c.args.self.now in
     let P = c.args.program.now in
     selected P s c.go_on.new.self c.args.form c.args.source t c.args.level (depth_of s) (goals_of s.stack c.args.rest) s.stack.env.count (local_of s) _ sel (ap (shown_form s.stack.env.heap (indicator t) s.args.items) c.in-True.is)
-    (went P s c.go_on.new.self s.stack c.args.rest (goals_of s.stack c.args.rest) (lengthened-grown s.stack s.stack (lengthened-same s.stack)) (holds-list s.stack c.args.rest c.requires.rest) c.go_on.ensures)
+    (went P s c.go_on.new.self s.stack c.args.rest (goals_of s.stack c.args.rest) (lengthened-grown s.stack s.stack (lengthened-same s.stack)) (holds-list s.stack c.args.rest c.requires.rest) c.go_on.ensures.is).moved
 
 pub returns-in-False-clause-ok : goal.returns-in-False-clause-ok
 unfolding row
 returns-in-False-clause-ok c t sel =
     let s = c.args.self.now in
     let P = c.args.program.now in
-    selected P s c.give.new.self c.args.form c.args.source t c.args.level (depth_of s) (goals_of s.stack c.args.rest) s.stack.env.count (local_of s) _ sel (ap (shown_form s.stack.env.heap (indicator t) s.args.items) c.in-False.is) (gave P s c.give.new.self outcomes.Fail c.give.ensures)
+    selected P s c.give.new.self c.args.form c.args.source t c.args.level (depth_of s) (goals_of s.stack c.args.rest) s.stack.env.count (local_of s) _ sel (ap (shown_form s.stack.env.heap (indicator t) s.args.items) c.in-False.is) (gave P s c.give.new.self outcomes.Fail tt c.give.ensures).moved
 
 pub returns-in-NoGoal-clause-ok : goal.returns-in-NoGoal-clause-ok
 unfolding row
 returns-in-NoGoal-clause-ok c t sel =
     let s = c.args.self.now in
     let P = c.args.program.now in
-    selected P s c.give-in-NoGoal.new.self c.args.form c.args.source t c.args.level (depth_of s) (goals_of s.stack c.args.rest) s.stack.env.count (local_of s) _ sel (ap (shown_form s.stack.env.heap (indicator t) s.args.items) c.in-NoGoal.is) (gave P s c.give-in-NoGoal.new.self outcomes.Fail c.give-in-NoGoal.ensures)
+    selected P s c.give-in-NoGoal.new.self c.args.form c.args.source t c.args.level (depth_of s) (goals_of s.stack c.args.rest) s.stack.env.count (local_of s) _ sel (ap (shown_form s.stack.env.heap (indicator t) s.args.items) c.in-NoGoal.is) (gave P s c.give-in-NoGoal.new.self outcomes.Fail tt c.give-in-NoGoal.ensures).moved
 
 pub returns-in-Halt-clause-ok : goal.returns-in-Halt-clause-ok
 unfolding row
 returns-in-Halt-clause-ok c t sel =
     let s = c.args.self.now in
     let P = c.args.program.now in
-    selected P s c.halt.new.self c.args.form c.args.source t c.args.level (depth_of s) (goals_of s.stack c.args.rest) s.stack.env.count (local_of s) _ sel (ap (shown_form s.stack.env.heap (indicator t) s.args.items) c.in-Halt.is) c.halt.ensures
+    selected P s c.halt.new.self c.args.form c.args.source t c.args.level (depth_of s) (goals_of s.stack c.args.rest) s.stack.env.count (local_of s) _ sel (ap (shown_form s.stack.env.heap (indicator t) s.args.items) c.in-Halt.is) c.halt.ensures.moved
 
 pub returns-in-Both-clause-ok : goal.returns-in-Both-clause-ok
 unfolding row
@@ -53,7 +54,7 @@ returns-in-Both-clause-ok c t sel =
     let P = c.args.program.now in
     on_ok_map c.both.result
     (λ moved. selected P s c.both.new.self c.args.form c.args.source t c.args.level (depth_of s) (goals_of s.stack c.args.rest) s.stack.env.count (local_of s) _ sel (ap (shown_form s.stack.env.heap (indicator t) s.args.items) c.in-Both.is)
-    (moved-as P s c.both.new.self _ _ (both-is P c.args.level t (depth_of s) (goals_of s.stack c.args.rest) s.stack.env.count (local_of s) (value s.stack.env.heap c.in-Both.a) (value s.stack.env.heap c.in-Both.b)) moved))
+    (moved-views P s c.both.new.self _ _ (λ v. both-is P (below_in v s) c.args.level t (depth_of s) (goals_of s.stack c.args.rest) s.stack.env.count (local_of s) (value s.stack.env.heap c.in-Both.a) (value s.stack.env.heap c.in-Both.b)) moved))
     c.both.ensures.ok
 
 pub returns-in-Either-clause-ok : goal.returns-in-Either-clause-ok
@@ -63,7 +64,7 @@ returns-in-Either-clause-ok c t sel =
     let P = c.args.program.now in
     on_ok_map c.either.result
     (λ moved. selected P s c.either.new.self c.args.form c.args.source t c.args.level (depth_of s) (goals_of s.stack c.args.rest) s.stack.env.count (local_of s) _ sel (ap (shown_form s.stack.env.heap (indicator t) s.args.items) c.in-Either.is)
-    (moved-as P s c.either.new.self _ _ (either-is P c.args.level t (depth_of s) (goals_of s.stack c.args.rest) s.stack.env.count (local_of s) (value s.stack.env.heap c.in-Either.a) (value s.stack.env.heap c.in-Either.b)) moved))
+    (moved-views P s c.either.new.self _ _ (λ v. either-is P (below_in v s) c.args.level t (depth_of s) (goals_of s.stack c.args.rest) s.stack.env.count (local_of s) (value s.stack.env.heap c.in-Either.a) (value s.stack.env.heap c.in-Either.b)) moved))
     c.either.ensures.ok
 
 pub returns-in-IfThen-clause-ok : goal.returns-in-IfThen-clause-ok
@@ -73,7 +74,7 @@ returns-in-IfThen-clause-ok c t sel =
     let P = c.args.program.now in
     on_ok_map c.then.result
     (λ moved. selected P s c.then.new.self c.args.form c.args.source t c.args.level (depth_of s) (goals_of s.stack c.args.rest) s.stack.env.count (local_of s) _ sel (ap (shown_form s.stack.env.heap (indicator t) s.args.items) c.in-IfThen.is)
-    (moved-as P s c.then.new.self _ _ (then-is P c.args.level t (depth_of s) (goals_of s.stack c.args.rest) s.stack.env.count (local_of s) (value s.stack.env.heap c.in-IfThen.condition) (value s.stack.env.heap c.in-IfThen.then) (atom (codes "fail"))) moved))
+    (moved-views P s c.then.new.self _ _ (λ v. then-is P (below_in v s) c.args.level t (depth_of s) (goals_of s.stack c.args.rest) s.stack.env.count (local_of s) (value s.stack.env.heap c.in-IfThen.condition) (value s.stack.env.heap c.in-IfThen.then) (atom (codes "fail"))) moved))
     c.then.ensures.ok
 
 pub returns-in-IfThenElse-clause-ok : goal.returns-in-IfThenElse-clause-ok
@@ -83,7 +84,7 @@ returns-in-IfThenElse-clause-ok c t sel =
     let P = c.args.program.now in
     on_ok_map c.then_else.result
     (λ moved. selected P s c.then_else.new.self c.args.form c.args.source t c.args.level (depth_of s) (goals_of s.stack c.args.rest) s.stack.env.count (local_of s) _ sel (ap (shown_form s.stack.env.heap (indicator t) s.args.items) c.in-IfThenElse.is)
-    (moved-as P s c.then_else.new.self _ _ (then-else-is P c.args.level t (depth_of s) (goals_of s.stack c.args.rest) s.stack.env.count (local_of s) (value s.stack.env.heap c.in-IfThenElse.condition) (value s.stack.env.heap c.in-IfThenElse.then) (value s.stack.env.heap c.in-IfThenElse.other)) moved))
+    (moved-views P s c.then_else.new.self _ _ (λ v. then-else-is P (below_in v s) c.args.level t (depth_of s) (goals_of s.stack c.args.rest) s.stack.env.count (local_of s) (value s.stack.env.heap c.in-IfThenElse.condition) (value s.stack.env.heap c.in-IfThenElse.then) (value s.stack.env.heap c.in-IfThenElse.other)) moved))
     c.then_else.ensures.ok
 
 pub returns-in-Not-clause-ok : goal.returns-in-Not-clause-ok
@@ -91,49 +92,56 @@ unfolding row
 returns-in-Not-clause-ok c t sel =
     let s = c.args.self.now in
     let P = c.args.program.now in
-    on_ok_map c.not.result (selected P s c.not.new.self c.args.form c.args.source t c.args.level (depth_of s) (goals_of s.stack c.args.rest) s.stack.env.count (local_of s) _ sel (ap (shown_form s.stack.env.heap (indicator t) s.args.items) c.in-Not.is)) c.not.ensures.ok
+    on_ok_map c.not.result (λ moved. selected P s c.not.new.self c.args.form c.args.source t c.args.level (depth_of s) (goals_of s.stack c.args.rest) s.stack.env.count (local_of s) _ sel (ap (shown_form s.stack.env.heap (indicator t) s.args.items) c.in-Not.is) moved.moved) c.not.ensures.ok
 
 pub returns-in-Once-clause-ok : goal.returns-in-Once-clause-ok
 unfolding row
 returns-in-Once-clause-ok c t sel =
     let s = c.args.self.now in
     let P = c.args.program.now in
-    on_ok_map c.once.result (selected P s c.once.new.self c.args.form c.args.source t c.args.level (depth_of s) (goals_of s.stack c.args.rest) s.stack.env.count (local_of s) _ sel (ap (shown_form s.stack.env.heap (indicator t) s.args.items) c.in-Once.is)) c.once.ensures.ok
+    on_ok_map c.once.result (λ moved. selected P s c.once.new.self c.args.form c.args.source t c.args.level (depth_of s) (goals_of s.stack c.args.rest) s.stack.env.count (local_of s) _ sel (ap (shown_form s.stack.env.heap (indicator t) s.args.items) c.in-Once.is) moved.moved) c.once.ensures.ok
 
 pub returns-in-Catching-clause-ok : goal.returns-in-Catching-clause-ok
 unfolding row
 returns-in-Catching-clause-ok c t sel =
     let s = c.args.self.now in
     let P = c.args.program.now in
-    on_ok_map c.catching.result (selected P s c.catching.new.self c.args.form c.args.source t c.args.level (depth_of s) (goals_of s.stack c.args.rest) s.stack.env.count (local_of s) _ sel (ap (shown_form s.stack.env.heap (indicator t) s.args.items) c.in-Catching.is)) c.catching.ensures.ok
+    on_ok_map c.catching.result (λ moved. selected P s c.catching.new.self c.args.form c.args.source t c.args.level (depth_of s) (goals_of s.stack c.args.rest) s.stack.env.count (local_of s) _ sel (ap (shown_form s.stack.env.heap (indicator t) s.args.items) c.in-Catching.is) moved.moved) c.catching.ensures.ok
 
 pub returns-in-FindAll-clause-ok : goal.returns-in-FindAll-clause-ok
 unfolding row
 returns-in-FindAll-clause-ok c t sel =
     let s = c.args.self.now in
     let P = c.args.program.now in
-    on_ok_map c.find_all.result (selected P s c.find_all.new.self c.args.form c.args.source t c.args.level (depth_of s) (goals_of s.stack c.args.rest) s.stack.env.count (local_of s) _ sel (ap (shown_form s.stack.env.heap (indicator t) s.args.items) c.in-FindAll.is)) c.find_all.ensures.ok
+    on_ok_map c.find_all.result (λ moved. selected P s c.find_all.new.self c.args.form c.args.source t c.args.level (depth_of s) (goals_of s.stack c.args.rest) s.stack.env.count (local_of s) _ sel (ap (shown_form s.stack.env.heap (indicator t) s.args.items) c.in-FindAll.is) moved.moved) c.find_all.ensures.ok
+
+pub returns-in-Within-clause-ok : goal.returns-in-Within-clause-ok
+unfolding row
+returns-in-Within-clause-ok c t sel =
+    let s = c.args.self.now in
+    let P = c.args.program.now in
+    on_ok_map c.within.result (λ moved. selected P s c.within.new.self c.args.form c.args.source t c.args.level (depth_of s) (goals_of s.stack c.args.rest) s.stack.env.count (local_of s) _ sel (ap (shown_form s.stack.env.heap (indicator t) s.args.items) c.in-Within.is) moved.moved) c.within.ensures.ok
 
 pub returns-in-Throwing-clause-ok : goal.returns-in-Throwing-clause-ok
 unfolding row
 returns-in-Throwing-clause-ok c t sel =
     let s = c.args.self.now in
     let P = c.args.program.now in
-    on_ok_map c.throw.result (selected P s c.throw.new.self c.args.form c.args.source t c.args.level (depth_of s) (goals_of s.stack c.args.rest) s.stack.env.count (local_of s) _ sel (ap (shown_form s.stack.env.heap (indicator t) s.args.items) c.in-Throwing.is)) c.throw.ensures.ok
+    on_ok_map c.throw.result (λ moved. selected P s c.throw.new.self c.args.form c.args.source t c.args.level (depth_of s) (goals_of s.stack c.args.rest) s.stack.env.count (local_of s) _ sel (ap (shown_form s.stack.env.heap (indicator t) s.args.items) c.in-Throwing.is) moved.moved) c.throw.ensures.ok
 
 pub returns-in-Cut-clause-ok : goal.returns-in-Cut-clause-ok
 unfolding row
 returns-in-Cut-clause-ok c t sel =
     let s = c.args.self.now in
     let P = c.args.program.now in
-    on_ok_map c.cut.result (selected P s c.cut.new.self c.args.form c.args.source t c.args.level (depth_of s) (goals_of s.stack c.args.rest) s.stack.env.count (local_of s) _ sel (ap (shown_form s.stack.env.heap (indicator t) s.args.items) c.in-Cut.is)) c.cut.ensures.ok
+    on_ok_map c.cut.result (λ moved. selected P s c.cut.new.self c.args.form c.args.source t c.args.level (depth_of s) (goals_of s.stack c.args.rest) s.stack.env.count (local_of s) _ sel (ap (shown_form s.stack.env.heap (indicator t) s.args.items) c.in-Cut.is) moved.moved) c.cut.ensures.ok
 
 pub returns-in-Adding-clause-ok : goal.returns-in-Adding-clause-ok
 unfolding row
 returns-in-Adding-clause-ok c t sel =
     let s = c.args.self.now in
     let P = c.args.program.now in
-    on_ok_map c.add.result (selected P s c.add.new.self c.args.form c.args.source t c.args.level (depth_of s) (goals_of s.stack c.args.rest) s.stack.env.count (local_of s) _ sel (ap (shown_form s.stack.env.heap (indicator t) s.args.items) c.in-Adding.is)) (c.add.ensures.ok t sel.stands)
+    on_ok_map c.add.result (λ moved. selected P s c.add.new.self c.args.form c.args.source t c.args.level (depth_of s) (goals_of s.stack c.args.rest) s.stack.env.count (local_of s) _ sel (ap (shown_form s.stack.env.heap (indicator t) s.args.items) c.in-Adding.is) moved.moved) (c.add.ensures.ok t sel.stands)
 
 pub returns-in-Retrieving-clause-ok : goal.returns-in-Retrieving-clause-ok
 unfolding row
@@ -161,21 +169,21 @@ unfolding row
 returns-in-Declaring-clause-ok c t sel =
     let s = c.args.self.now in
     let P = c.args.program.now in
-    on_ok_map c.declare.result (selected P s c.declare.new.self c.args.form c.args.source t c.args.level (depth_of s) (goals_of s.stack c.args.rest) s.stack.env.count (local_of s) _ sel (ap (shown_form s.stack.env.heap (indicator t) s.args.items) c.in-Declaring.is)) (c.declare.ensures.ok t sel.stands)
+    on_ok_map c.declare.result (λ moved. selected P s c.declare.new.self c.args.form c.args.source t c.args.level (depth_of s) (goals_of s.stack c.args.rest) s.stack.env.count (local_of s) _ sel (ap (shown_form s.stack.env.heap (indicator t) s.args.items) c.in-Declaring.is) moved.moved) (c.declare.ensures.ok t sel.stands)
 
 pub returns-in-HaltWith-clause-ok : goal.returns-in-HaltWith-clause-ok
 unfolding row
 returns-in-HaltWith-clause-ok c t sel =
     let s = c.args.self.now in
     let P = c.args.program.now in
-    on_ok_map c.halt_with.result (selected P s c.halt_with.new.self c.args.form c.args.source t c.args.level (depth_of s) (goals_of s.stack c.args.rest) s.stack.env.count (local_of s) _ sel (ap (shown_form s.stack.env.heap (indicator t) s.args.items) c.in-HaltWith.is)) c.halt_with.ensures.ok
+    on_ok_map c.halt_with.result (λ moved. selected P s c.halt_with.new.self c.args.form c.args.source t c.args.level (depth_of s) (goals_of s.stack c.args.rest) s.stack.env.count (local_of s) _ sel (ap (shown_form s.stack.env.heap (indicator t) s.args.items) c.in-HaltWith.is) moved.moved) c.halt_with.ensures.ok
 
 pub returns-in-BuiltIn-clause-ok : goal.returns-in-BuiltIn-clause-ok
 unfolding row
 returns-in-BuiltIn-clause-ok c t sel =
     let s = c.args.self.now in
     let P = c.args.program.now in
-    on_ok_map c.built_in.result (selected P s c.built_in.new.self c.args.form c.args.source t c.args.level (depth_of s) (goals_of s.stack c.args.rest) s.stack.env.count (local_of s) _ sel (ap (shown_form s.stack.env.heap (indicator t) s.args.items) c.in-BuiltIn.is)) (c.built_in.ensures.ok t sel.stands)
+    on_ok_map c.built_in.result (λ moved. selected P s c.built_in.new.self c.args.form c.args.source t c.args.level (depth_of s) (goals_of s.stack c.args.rest) s.stack.env.count (local_of s) _ sel (ap (shown_form s.stack.env.heap (indicator t) s.args.items) c.in-BuiltIn.is) moved.moved) (c.built_in.ensures.ok t sel.stands)
 
 pub returns-in-Call-clause-ok : goal.returns-in-Call-clause-ok
 unfolding row
@@ -194,7 +202,7 @@ returns-in-CallWith-clause-ok c t sel =
     on_ok_map c.call_with.result
     (λ moved. selected P s c.call_with.new.self c.args.form c.args.source t c.args.level (depth_of s) (goals_of s.stack c.args.rest) s.stack.env.count (local_of s) _ sel
     (ap (shown_form h (indicator t) s.args.items) c.in-CallWith.is ∙ ap (λ xs. call_with (map (value h) xs)) x.2)
-    (moved-as P s c.call_with.new.self _ _ (ap (λ k. run (called (value h x.0) (map (value h) x.1)) (call_n k) [] (depth_of s) (goals_of s.stack c.args.rest) s.stack.env.count (local_of s)) (sym (length-map x.1 (value h)))) moved))
+    (moved-as P s c.call_with.new.self _ _ (ap (λ k. run (called (value h x.0) (map (value h) x.1)) (call_n k) [] (depth_of s) (goals_of s.stack c.args.rest) s.stack.env.count (local_of s)) (sym (length-map x.1 (value h)))) moved).moved)
     (c.call_with.ensures.ok x.0 x.1 x.2)
 
 pub both-requires-clause-first : goal.both-requires-clause-first
@@ -248,6 +256,9 @@ find_all-requires-clause-goal c = (subst (IsInside c.args.self.now.stack.env.hea
 pub find_all-requires-clause-whole : goal.find_all-requires-clause-whole
 find_all-requires-clause-whole c = (subst (IsInside c.args.self.now.stack.env.heap c.args.self.now.args.items) c.in-FindAll.is c.requires.selected.1.inside).2
 
+pub within-requires-clause-goal : goal.within-requires-clause-goal
+within-requires-clause-goal c = (subst (IsInside c.args.self.now.stack.env.heap c.args.self.now.args.items) c.in-Within.is c.requires.selected.1.inside)
+
 pub throw-requires-clause-ball : goal.throw-requires-clause-ball
 throw-requires-clause-ball c = (subst (IsInside c.args.self.now.stack.env.heap c.args.self.now.args.items) c.in-Throwing.is c.requires.selected.1.inside)
 
@@ -276,4 +287,4 @@ pub call_with-requires-clause-some : goal.call_with-requires-clause-some
 call_with-requires-clause-some c = (subst (IsInside c.args.self.now.stack.env.heap c.args.self.now.args.items) c.in-CallWith.is c.requires.selected.1.inside)
 
 pub both-requires-clause-fits : goal.both-requires-clause-fits
-both-requires-clause-fits c = let p = c.requires.level in (p.0, p.1, (le_refl _, p.1, p.2))
+both-requires-clause-fits c = let p = c.requires.level in ((p.0.0, p.0.1, (le_refl _, p.0.1, p.0.2)), p.1)

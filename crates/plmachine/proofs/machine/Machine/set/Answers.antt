@@ -8,4 +8,4 @@ pub returns : goal.returns
 returns c =
     let s = c.args.self.now in
     visits c.args.program.now s c.go_on.new.self s.stack c.args.rest _ _ (lengthened-grown s.stack s.stack (lengthened-same s.stack)) (holds-list s.stack c.args.rest c.requires.rest)
-    (ap (λ x. x.stack) c.go_on.ensures) (ap (λ x. x.mode) c.go_on.ensures) (ap (λ x. local_of x) c.go_on.ensures)
+    (ap (λ x. x.stack) c.go_on.ensures.is) (ap (λ x. x.layer) c.go_on.ensures.is) (ap (λ x. x.mode) c.go_on.ensures.is) (ap (λ x. local_of x) c.go_on.ensures.is)

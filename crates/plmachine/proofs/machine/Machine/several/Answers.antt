@@ -10,11 +10,13 @@ returns-in_err-call_answers-clause-err c = on_err _ (stays-at c.args.program.now
 pub returns-then-branch-clause-ok : goal.returns-then-branch-clause-ok
 returns-then-branch-clause-ok c =
     let P = c.args.program.now in
+    let s = c.args.self.now in
     let a = c.in_ok-call_answers.ensures.yes c.if-branch.true in
-    chooses P c.args.self.now _ c.call_answers.new.self _ c.requires.visits c.call_answers.ensures.basis c.call_answers.ensures.walks refl (λ v. ((a (database_of P v)).others, (a (database_of P v)).places, (a (database_of P v)).cases))
+    chooses P s _ c.call_answers.new.self _ c.requires.visits c.call_answers.ensures.basis c.call_answers.ensures.walks refl (λ v. let x = a (database_of P v s.layer.own.updates) in (x.others, x.places, x.cases))
 
 pub returns-clause-ok : goal.returns-clause-ok
 returns-clause-ok c =
     let P = c.args.program.now in
+    let s = c.args.self.now in
     let a = c.in_ok-call_answers.ensures.no c.if-branch.false in
-    chooses-none P c.args.self.now c.give.new.self c.call_answers.new.self _ c.call_answers.ensures.basis c.call_answers.ensures.walks c.give.ensures (a (database_of P (λ g. []))).none (λ v. (a (database_of P v)).cases)
+    chooses-none P s c.give.new.self c.call_answers.new.self _ c.call_answers.ensures.basis c.call_answers.ensures.walks c.give.ensures (a (database_of P (λ g. []) [])).none (λ v. (a (database_of P v s.layer.own.updates)).cases)

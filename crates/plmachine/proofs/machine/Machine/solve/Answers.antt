@@ -1,16 +1,15 @@
-use Rattle.std.proofs.Common.{ap, ap₂, sym, ◌∙◌, subst}
+use Rattle.std.proofs.Common.{ap, sym, subst}
 use Rattle.plclause.specs.Indicators.{indicator}
 use Rattle.plprogram.specs.Program.{clauses_for}
-use Rattle.plsearch.specs.Forms.{form as form_by_term}
 use Rattle.plsearch.specs.Rows.{row}
 use Rattle.plgoals.specs.Forms.{shown_form}
 use Rattle.plstack.specs.State.{goals_of, kinds_in}
 use Rattle.std.specs.Prelude.{IfSome}
 use Rattle.plmachine.specs.Calculating.{IsCalculation}
-use Rattle.plmachine.specs.Machine.{depth_of, local_of}
+use Rattle.plmachine.specs.Machine.{below_in, depth_of, local_of}
 use Rattle.plmachine.specs.Selected.{IsCall, IsCallOf}
-use Rattle.plmachine.proofs.Moves.{grown-depth, grown-with, moved-as, moved-with, stays-trans, on_err, on_ok_map, on_err_map}
-use Rattle.plmachine.proofs.Selecting.{selected, user-some}
+use Rattle.plmachine.proofs.Moves.{grown-with, moved-views, stays-trans, tied-as, on_err, on_ok_map, on_err_map}
+use Rattle.plmachine.proofs.Selecting.{row-with, selected, user-some}
 use Rattle.plmachine.proofs.Levels.{fits_behind, fits-grown, precedes-grown}
 use Rattle.plmachine.proofs.machine.Machine.solve.Goals as goal
 
@@ -50,11 +49,9 @@ returns-in-Call-Static-clause-ok c u stands =
     let sel = c.in_ok-form.ensures.ok u stands in
     let i = subst (λ q. IsCallOf P t (indicator u) q u) {x = c.in-Call-Static.field-0} (rw c.in-Call-Static.is at c.in-Call-Static.field-0-is) (subst (λ f. IsCall P t f u) c.in-Call-Static.is sel.call) in
     on_ok_map c.resolve.result
-    (λ moved. moved-with P s t c.resolve.new.self _ _ grown c.form.ensures.frame
-    (ap₂ (λ d es. row P (form_by_term u) k u d es t.stack.env.count (local_of t)) (grown-depth s t grown) goals
-    ∙ ap₂ (λ n w. row P (form_by_term u) k u (depth_of s) (goals_of s.stack c.args.rest) n w) grown.count (ap (λ x. local_of x) c.form.ensures.frame))
+    (λ moved. row-with P s t c.resolve.new.self grown c.form.ensures.frame u k _ _ goals
     (selected P t c.resolve.new.self _ c.args.source u k (depth_of t) (goals_of t.stack c.args.rest) t.stack.env.count (local_of t) _ sel (ap (shown_form t.stack.env.heap (indicator u) t.args.items) c.in-Call-Static.is)
-    (moved-as P t c.resolve.new.self _ _ (user-some (clauses_for P (indicator u)) (depth_of t) u (goals_of t.stack c.args.rest) t.stack.env.count (local_of t) i.static.some) moved)))
+    (moved-views P t c.resolve.new.self _ _ (λ v. user-some (below_in v t) (clauses_for P (indicator u)) (depth_of t) u (goals_of t.stack c.args.rest) t.stack.env.count (local_of t) i.static.some) moved)))
     (c.resolve.ensures.ok (indicator u) u i)
 
 pub returns-in-Call-Static-clause-err : goal.returns-in-Call-Static-clause-err
@@ -70,9 +67,7 @@ returns-clause-ok c u stands =
     let k = c.args.level in
     let grown = c.form.ensures.grown in
     let goals = (grown.extends.lists c.args.rest c.requires.rest).1 in
-    on_ok_map c.select.result (moved-with P s t c.select.new.self _ _ grown c.form.ensures.frame
-    (ap₂ (λ d es. row P (form_by_term u) k u d es t.stack.env.count (local_of t)) (grown-depth s t grown) goals
-    ∙ ap₂ (λ n w. row P (form_by_term u) k u (depth_of s) (goals_of s.stack c.args.rest) n w) grown.count (ap (λ x. local_of x) c.form.ensures.frame))) (c.select.ensures.ok u (c.in_ok-form.ensures.ok u stands))
+    on_ok_map c.select.result (row-with P s t c.select.new.self grown c.form.ensures.frame u k _ _ goals) (c.select.ensures.ok u (c.in_ok-form.ensures.ok u stands))
 
 pub returns-clause-err : goal.returns-clause-err
 returns-clause-err c =
@@ -88,7 +83,7 @@ returns-in-Some-clause-ok c = λ u stands.
     let s = c.args.self.now in
     let P = c.args.program.now in
     let k = subst (λ o. IfSome o (λ k. IsCalculation s.stack k u)) c.in-Some.is (c.calculation.ensures P u c.requires.begun stands) in
-    on_ok_map c.calculate.result (moved-as P s c.calculate.new.self _ _ (ap (λ f. row P f c.args.level u (depth_of s) (goals_of s.stack c.args.rest) s.stack.env.count (local_of s)) (sym k.is))) (c.calculate.ensures.ok u k)
+    on_ok_map c.calculate.result (moved-views P s c.calculate.new.self _ _ (λ v. ap (λ f. row P (below_in v s) f c.args.level u (depth_of s) (goals_of s.stack c.args.rest) s.stack.env.count (local_of s)) (sym k.is))) (c.calculate.ensures.ok u k)
 
 pub select-requires-clause-level : goal.select-requires-clause-level
 select-requires-clause-level c = precedes-grown c.args.self.now.stack c.form.new.self.stack c.form.ensures.grown c.args.level c.args.rest c.requires.rest c.requires.level
@@ -100,3 +95,6 @@ resolve-requires-clause-fits c =
 
 pub calculate-requires-clause-fits : goal.calculate-requires-clause-fits
 calculate-requires-clause-fits c = let s = c.args.self.now.stack in fits_behind (kinds_in s) c.args.level (goals_of s c.args.rest) c.requires.level
+
+pub select-requires-clause-tied : goal.select-requires-clause-tied
+select-requires-clause-tied c = let x = grown-with c.args.program.now c.args.self.now c.form.new.self c.form.ensures.grown c.form.ensures.frame in tied-as c.args.self.now c.form.new.self x.basis x.layer c.requires.tied

@@ -13,7 +13,7 @@ returns-in_err-solve-clause-err c =
 
 pub returns-then-branch-clause-ok : goal.returns-then-branch-clause-ok
 returns-then-branch-clause-ok c =
-    solves c.args.program.now c.args.self.now c.go_on.new.self c.solve.new.self c.args.equation c.args.rest c.requires.rest (c.in_ok-solve.ensures.yes c.if-branch.true) c.go_on.ensures
+    solves c.args.program.now c.args.self.now c.go_on.new.self c.solve.new.self c.args.equation c.args.rest c.requires.rest (c.in_ok-solve.ensures.yes c.if-branch.true) c.go_on.ensures.is
 
 pub returns-clause-ok : goal.returns-clause-ok
 returns-clause-ok c =

@@ -11,8 +11,8 @@ pub returns-clause-ok : goal.returns-clause-ok
 returns-clause-ok c =
     let s = c.args.self.now in
     on_ok_map c.walk.result
-    (walks-grown c.args.program.now s (record s { stack = c.put_clause_term.new.self }) c.walk.new.self _ c.args.uses c.args.spot c.args.rest
-    (record { extends = c.put_clause_term.ensures.stays; count = c.put_clause_term.ensures.count }) refl c.requires.rest)
+    (walks-grown c.args.program.now s c.walk.new.self c.put_clause_term.new.self _ c.args.uses c.args.spot c.args.rest
+    (record { extends = c.put_clause_term.ensures.stays; count = c.put_clause_term.ensures.count }) c.requires.rest)
     (rw c.in_ok-goal.ensures.is at c.walk.ensures.ok)
 
 pub returns-clause-err : goal.returns-clause-err

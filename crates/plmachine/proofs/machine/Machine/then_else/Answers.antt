@@ -1,4 +1,4 @@
-use Rattle.std.proofs.Common.{◌≡◌, refl, suc, sym, ap, ap₂, ◌∙◌, ◌∷◌, [], subst, arith, true, ◌++◌}
+use Rattle.std.proofs.Common.{◌≡◌, refl, suc, sym, ap, ap₂, ◌∙◌, ◌∷◌, [], subst, arith, ◌++◌}
 use Rattle.plsearch.specs.Types.{Choice}
 use Rattle.plsearch.specs.Rows.{branch}
 use Rattle.plstack.specs.State.{goals_of, kinds_in}
@@ -8,7 +8,7 @@ use Rattle.plmachine.proofs.Lists.{lengthened-grown, lengthened-trans, part-leve
 use Rattle.plmachine.proofs.Moves.{grown-stays, moved-grown, go-same, stays-trans, on_err, on_ok_map, on_err_map}
 use Rattle.plmachine.proofs.Levels.{holds-fits, same-kinds, condition-fits, depth-kinds}
 use Rattle.plstack.proofs.Fitted.{fits-extends}
-use Rattle.plstack.specs.Levels.{FitsIn}
+use Rattle.plstack.specs.Levels.{Choosing, FitsIn}
 use Rattle.plmachine.proofs.machine.Machine.then_else.Goals as goal
 
 pub returns-in_err-following-clause-err : goal.returns-in_err-following-clause-err
@@ -71,6 +71,6 @@ enter-requires-clause-fits c =
     let next : c.in-Some.inner ≡ suc c.depth-depth.result = omega (arith, c.in-Some.ensures.some) in
     let list = then-list s.stack a b c.args.condition c.args.then c.in_ok-following.following c.in_ok-list.list (goals_of s.stack c.args.rest) c.two_before.ensures.grows c.in_ok-following.ensures.first
     c.at_level.result c.in-Some.inner (suc (depth_of s)) c.depth-depth.result (depth_of s) c.at_level.ensures (next ∙ ap suc depth) depth c.in_ok-list.ensures.ok in
-    subst (λ ks. FitsIn (true ∷ true ∷ ks) (goals_of b c.in_ok-list.list)) (sym (same-kinds s.stack b f.extends))
-    (subst (FitsIn (true ∷ true ∷ kinds_in s.stack)) (sym list.is)
+    subst (λ ks. FitsIn (Choosing ∷ Choosing ∷ ks) (goals_of b c.in_ok-list.list)) (sym (same-kinds s.stack b f.extends))
+    (subst (FitsIn (Choosing ∷ Choosing ∷ kinds_in s.stack)) (sym list.is)
     (condition-fits s.stack (kinds_in s.stack) (depth_of s) (sym (depth-kinds s.stack)) c.args.condition c.requires.goals (elements_of s.stack c.args.then ++ goals_of s.stack c.args.rest) c.requires.then_fits))

@@ -7,7 +7,7 @@ use Rattle.plmachine.proofs.machine.Machine.unify.Goals as goal
 
 pub returns-then-branch-clause-ok : goal.returns-then-branch-clause-ok
 returns-then-branch-clause-ok c =
-    unifies c.args.program.now c.args.self.now c.go_on.new.self c.unify.new.self _ _ c.args.rest c.requires.rest (c.in_ok-unify.ensures.yes c.if-branch.true) c.go_on.ensures
+    unifies c.args.program.now c.args.self.now c.go_on.new.self c.unify.new.self _ _ c.args.rest c.requires.rest (c.in_ok-unify.ensures.yes c.if-branch.true) c.go_on.ensures.is
 
 pub returns-clause-ok : goal.returns-clause-ok
 returns-clause-ok c =

@@ -1,0 +1,139 @@
+//! Clauses that are looked up, and updates that are made: of what is open at once, or else by what is asked.
+//!
+//! A row that is refused memory leaves the search where it was.
+ghost use Rattle.std.specs.Prelude.{◌≡◌, ℕ, ◌∷◌, List, IfOk, OnOk, OnErr};
+ghost use Rattle.plcells.specs.Store.{value};
+ghost use Rattle.plevent.specs.Search.{Answer};
+ghost use Rattle.pltx.specs.Own.{any_open};
+ghost use Rattle.plstore.specs.Looking.{Views};
+ghost use Rattle.plsearch.specs.Lookups.{seek};
+ghost use Rattle.plsearch.specs.Moves.{go_on as went_on, publish};
+ghost use Rattle.plsearch.specs.Types.{Erasing};
+ghost use Rattle.plstack.specs.State.{goals_of, IsEmptyOrFit, IsFit, IsList};
+ghost use Rattle.plmachine.specs.Lists.{Grown};
+ghost use Rattle.plmachine.specs.Machine.{below_in, depth_of, local_of, lookup_of, IsSought, IsTied, Moved, MovedBy, Stays};
+ghost use Rattle.plmachine.specs.Seeking.{ErasesBefore, SeeksBy};
+
+use crate::machine::{Find, Lookup, Machine, Mode, Outcome, Question, Sought, Then};
+use plcells::cell::Cell;
+use plevent::ClauseName;
+use plevent::request::Request;
+use plevent::update::{Batch, Update};
+use pllinks::link::Continuation;
+use plprogram::program::Program;
+use plstack::frame::Use;
+use pltx::Erasure;
+use plviews::View;
+use std::alloc::AllocError;
+
+impl Machine {
+    /// Clauses are looked up before a list, in what is open, or else in a view that is asked for.
+    pub(crate) fn seek(
+        &mut self,
+        program: &Program,
+        lookup: Lookup,
+        rest: Continuation,
+    ) -> Result<(), AllocError>
+        requires sought { IsSought self.old.stack.env.heap lookup }
+        requires rest { IsList self.old.stack rest }
+        requires fits { IsFit self.old.stack rest }
+        requires tied { IsTied self.old }
+        ensures ok { OnOk result (MovedBy program.now self.old self.new (λ v. seek (below_in v self.old) (lookup_of self.old.stack.env.heap lookup) (depth_of self.old) (goals_of self.old.stack rest) self.old.stack.env.count (local_of self.old))) }
+        ensures err { OnErr result (Stays program.now self.old self.new) }
+    {
+        if !self.layer.is_open() {
+            self.ask(program, Question::Look(lookup), rest);
+            return Ok(());
+        }
+        let view = self.layer.view();
+        let find = self.find_of(lookup, view)?;
+        self.stack.sees(view);
+        self.stack.visit(rest);
+        self.mode = Mode::Find(find);
+        Ok(())
+    }
+
+    /// What a look-up seeks in a view.
+    pub fn find_of(&mut self, lookup: Lookup, view: View) -> Result<Find, AllocError>
+        requires { IsSought self.old.stack.env.heap lookup }
+        ensures ok { IfOk result (λ f. SeeksBy self.old self.new lookup view f) }
+        ensures grown { Grown self.old.stack self.new.stack }
+        ensures frame { self.new ≡ record self.old { stack = self.new.stack } }
+    {
+        match lookup {
+            Lookup::ToCall(goal) => Ok(first(goal, Use::Call, view)),
+            Lookup::ToRetrieve(head, body) => {
+                let goal = self.stack.put_clause_term(self.alloc, head, body)?;
+                Ok(first(goal, Use::Tell, view))
+            }
+            Lookup::ToRetract(head, body) => {
+                let goal = self.stack.put_clause_term(self.alloc, head, body)?;
+                Ok(first(goal, Use::Erase, view))
+            }
+            Lookup::ToRetractAll(head) => Ok(Find::All(head, view)),
+        }
+    }
+
+    /// Updates are made of what is open, or else published as one batch, of which there is none without an update.
+    pub fn publish(
+        &mut self,
+        program: &Program,
+        updates: Vec<Update>,
+        rest: Continuation,
+    ) -> Result<(), AllocError>
+        requires rest { IsList self.old.stack rest }
+        requires fits { IsFit self.old.stack rest }
+        requires tied { IsTied self.old }
+        ensures ok { OnOk result (Moved program.now self.old self.new (publish updates.items (goals_of self.old.stack rest) self.old.stack.env.count (local_of self.old))) }
+        ensures err { OnErr result (Stays program.now self.old self.new) }
+    {
+        if self.layer.is_open() {
+            self.layer.make(updates)?;
+            self.go_on(rest);
+            return Ok(());
+        }
+        if updates.is_empty() {
+            self.go_on(rest);
+            return Ok(());
+        }
+        let request = Request::Publish(Batch::new(updates));
+        self.ask(program, Question::Await(request, Then::GoesOn), rest);
+        Ok(())
+    }
+
+    /// The clause of a name is erased before a list: of what is open, unless it was erased there before, or else that is asked for.
+    pub fn erase(
+        &mut self,
+        program: &Program,
+        name: ClauseName,
+        rest: Continuation,
+    ) -> Result<(), AllocError>
+        requires rest { IsList self.old.stack rest }
+        requires fits { IsEmptyOrFit self.old.stack rest }
+        requires tied { IsTied self.old }
+        ensures ok { OnOk result (Moved program.now self.old self.new (went_on (Erasing name ∷ goals_of self.old.stack rest) self.old.stack.env.count (local_of self.old))) }
+        ensures becomes { OnOk result (ErasesBefore program.now (any_open self.old.layer.own) self.old self.new name (goals_of self.old.stack rest)) }
+        ensures err { OnErr result (Stays program.now self.old self.new) }
+    {
+        if !self.layer.is_open() {
+            self.stack.visit(rest);
+            self.mode = Mode::Ask(Question::Erase(name));
+            return Ok(());
+        }
+        match self.layer.erase(name)? {
+            Erasure::Erased => {
+                self.stack.visit(rest);
+                self.mode = Mode::Visit;
+            }
+            Erasure::Gone => self.give(Outcome::Fail),
+        }
+        Ok(())
+    }
+}
+
+/// The first clause that may be for a goal is sought in a view.
+fn first(goal: Cell, uses: Use, view: View) -> Find
+    ensures { result ≡ Find.First (record { goal = goal; uses = uses }) view }
+{
+    Find::First(Sought { goal, uses }, view)
+}
