@@ -22,19 +22,19 @@ use Rattle.plhist.specs.Follows.{is_not_yet, last_of}
 use Rattle.plhist.specs.Legal.{IsDue}
 use Rattle.plhist.proofs.Alone.{main-alone}
 use Rattle.plhist.proofs.OneMore.{reading-push, halted-push}
-use Rattle.plworld.proofs.Push.{before-is, view-stays}
+use Rattle.plworld.proofs.Push.{before-is}
 use Rattle.plprogram.specs.Program.{Program}
 use Rattle.plsearch.specs.Search.{search_of}
 use Rattle.plsearch.specs.Solving.{TakesOne, StandsAt, EndsAt}
 use Rattle.plsolver.specs.Solver.{IsReplyTo}
 use Rattle.plstore.specs.Looking.{Views}
-use Rattle.plrun.specs.Going.{Free, Going, IsClosed, IsRunning, IsHalted, IsStarted, Runs, Halts, views_of}
+use Rattle.plrun.specs.Going.{AreViews, Free, Going, IsClosed, IsRunning, IsHalted, IsStarted, Runs, Halts, views_of}
 use Rattle.plrun.specs.Halts.{IsCommon, HaltsWhenDone, HaltsNoSooner, act_of, told, told_places}
 use Rattle.plrun.specs.Overall.{IsHistory}
 use Rattle.plrun.proofs.Grow.{sound-push}
 use Rattle.plrun.proofs.Free.{is_plain}
 use Rattle.plrun.proofs.Rows.{row-served, publish-due, erase-due, last-served, last-due}
-use Rattle.plrun.proofs.Steps.{GoesAt, TakesAt, asks-same, going-goes, going-view, going-reply, going-act, own-views}
+use Rattle.plrun.proofs.Steps.{GoesAt, TakesAt, asks-same, going-goes, going-view, going-reply, going-act, older-views, own-views}
 use Rattle.plrun.proofs.Ends.{asked-last, ended-told}
 
 -- what is within a journal is within a longer one
@@ -48,14 +48,14 @@ before-length h = before-is (length h) h (omega arith) ∙ ap (λ l. (reading l)
 -- a view
 pub looked : (first : List Update) (search : Search) (limit : ℕ) (old new : Views → Search) (before_used used : ℕ) (out : List ℕ) (h : List Entry) (t : ℕ) (places later : List ℕ) (g : ℕ) →
     IsRunning first search limit old before_used h t places → ((v : Views) → StandsAt View (old v) before_used out) → g ≡ length h →
-    ((v : Views) → TakesOne (Seen g (v g)) (old v) before_used (new v) used) → later ≡ places ++ g ∷ [] → IsRunning first search limit new used h t later
+    ((v : Views) → AreViews h v → TakesOne (Seen g (v g)) (old v) before_used (new v) used) → later ≡ places ++ g ∷ [] → IsRunning first search limit new used h t later
 looked first search limit old new before_used used out h t places later g r at now one pushed = record {
   sound = r.sound;
   going = subst (Going search limit new used h t) (sym (pushed ∙ ap (λ g. places ++ g ∷ []) now))
       (going-view search limit old new before_used used h t places (λ n le. ap (λ e. e.next) (at (views_of h) n le))
       (λ v are.
-      let seen : v g ≡ (reading h).updates = are g (omega (arith, now)) ∙ ap (λ k. before k (reading h).updates) now ∙ before-length h in
-      subst (λ a. TakesOne a (old v) before_used (new v) used) (ap₂ Seen now seen) (one v)) r.going);
+      let seen : v g ≡ (reading h).updates = are.as_far g (omega (arith, now)) ∙ ap (λ k. before k (reading h).updates) now ∙ before-length h in
+      subst (λ a. TakesOne a (old v) before_used (new v) used) (ap₂ Seen now seen) (one v are)) r.going);
 }
 
 -- a request that is answered by a batch of the thread's
@@ -182,10 +182,11 @@ halted first search limit old new before_used used out h h' t places later g n r
     let grown : h' ≡ h ++ e ∷ [] = grows ∙ ap (λ x. h ++ entries_of 1 x.1) is in
     let tells_done : reply ≡ Reply.Done = tells ∙ ap (λ x. x.0) is in
     let v : Views = views_of (h ++ e ∷ []) in
-    let done = subst (λ x. TakesAt h (Got x) old before_used new used) tells_done one v (λ k le. view-stays k h (e ∷ []) le) in
+    let are : AreViews h v = older-views h e v (own-views (h ++ e ∷ [])) in
+    let done = subst (λ x. TakesAt h (Got x) old before_used new used) tells_done one v are in
     let within : used ≤ limit = omega (arith, r.going.within, done.0) in
     let waits : (old (views_of h) limit []).next ≡ Wants (Ask (Request.HaltRun n)) = ap (λ x. x.next) (at (views_of h) limit r.going.within) in
-    let rests : search limit (s.answers ++ Got Reply.Done ∷ []) ≡ new v limit [] = r.going.rests v (λ k le. view-stays k h (e ∷ []) le) limit (Got Reply.Done ∷ []) r.going.within ∙ done.1 limit [] within in
+    let rests : search limit (s.answers ++ Got Reply.Done ∷ []) ≡ new v limit [] = r.going.rests v are limit (Got Reply.Done ∷ []) r.going.within ∙ done.1 limit [] within in
     subst (λ l. IsHalted first search limit new used l t later n) (sym grown)
     (subst (λ p. IsHalted first search limit new used (h ++ e ∷ []) t p n) (sym (pushed ∙ ap (λ g. places ++ g ∷ []) now)) (record {
       sound = sound-push first h e r.sound (last-due (ThreadEnd.Halt n) t (reading h) f) refl;

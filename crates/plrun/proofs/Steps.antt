@@ -1,18 +1,22 @@
 -- The invariant of a thread, turn by turn.
-use Rattle.std.proofs.Common.{◌≡◌, ℕ, suc, ◌≤◌, true, false, List, [], ◌∷◌, ◌++◌, length, Some, None, refl, sym, ap, ◌∙◌, subst, arith, length-append, append_assoc, append-nil, lt-ltb, eq-eqb}
+use Rattle.std.proofs.Common.{◌≡◌, ℕ, suc, ◌≤◌, Bool, true, false, cond, filter, nat_lt, ltb-true, List, [], ◌∷◌, ◌++◌, length, Some, None, refl, sym, ap, ◌∙◌, subst, arith, length-append, append_assoc, append-nil, lt-ltb, eq-eqb}
 use Rattle.std.specs.Option.{option_and_then}
 use Rattle.std.proofs.Math.Seq.{take-append_seam}
 use Rattle.plevent.specs.declared.request.Request.{Request}
 use Rattle.plevent.specs.declared.request.Reply.{Reply}
 use Rattle.plevent.specs.declared.act.Act.{Act}
 use Rattle.plevent.specs.declared.act.Entry.{Entry}
+use Rattle.plevent.specs.Alive.{Stamped, before}
 use Rattle.plevent.specs.Reading.{reading}
 use Rattle.plevent.specs.Rows.{served}
 use Rattle.plevent.specs.Search.{Item, View, Ask, Answer, Seen, Got, Next, Wants, Search, item_of}
 use Rattle.plhist.specs.Follows.{own, own_if, Taken, is_not_yet, noted, guarded, not_below, replied, answered, answer_at, item_at, takes, from_start, asks_of}
 use Rattle.plsearch.specs.Solving.{Goes, TakesOne}
 use Rattle.plstore.specs.Looking.{Views}
-use Rattle.plworld.proofs.Push.{view-stays}
+use Rattle.plstore.specs.Rising.{AllUnder}
+use Rattle.plstore.proofs.Names.{before-ordered}
+use Rattle.plviews.specs.Views.{AreOrdered}
+use Rattle.plworld.proofs.Push.{names-rise, view-stays}
 use Rattle.plrun.specs.Going.{AreViews, Going, views_of}
 use Rattle.plrun.specs.Halts.{IsCommon, AreCommon}
 use Rattle.plrun.proofs.Grow.{own-push, takes-grow, takes-push}
@@ -25,12 +29,26 @@ GoesAt h limit old before new used = (v : Views) → AreViews h v → Goes limit
 abbrev pub TakesAt : List Entry → Answer → (Views → Search) → ℕ → (Views → Search) → ℕ → Type 0
 TakesAt h a old before new used = (v : Views) → AreViews h v → TakesOne a (old v) before (new v) used
 
+-- the batches of a view are below its place
+under_before : (g : ℕ) (us : List Stamped) → AllUnder g (before g us)
+unfolding before
+under_before g [] = tt
+under_before g (s ∷ us) = go (nat_lt s.at.place g) refl (under_before g us)
+  where
+    go : (b : Bool) → nat_lt s.at.place g ≡ b → AllUnder g (filter (λ s. nat_lt s.at.place g) us) → AllUnder g (cond b (s ∷ filter (λ s. nat_lt s.at.place g) us) (filter (λ s. nat_lt s.at.place g) us))
+    go true lt under = (ltb-true s.at.place g lt, under)
+    go false lt under = under
+
+-- a journal's views are in order
+views_ordered : (h : List Entry) → AreOrdered (views_of h)
+views_ordered h = record { ordered = λ g. before-ordered g (reading h).updates (names-rise h); under = λ g. under_before g (reading h).updates }
+
 pub own-views : (h : List Entry) → AreViews h (views_of h)
-own-views h g le = refl
+own-views h = record { as_far = λ g le. refl; ordered = views_ordered h }
 
 -- those of a longer journal are its views
 pub older-views : (h : List Entry) (e : Entry) (v : Views) → AreViews (h ++ e ∷ []) v → AreViews h v
-older-views h e v are g le = are g (omega (arith, le, length-append h (e ∷ []))) ∙ view-stays g h (e ∷ []) le
+older-views h e v are = record { as_far = λ g le. are.as_far g (omega (arith, le, length-append h (e ∷ []))) ∙ view-stays g h (e ∷ []) le; ordered = are.ordered }
 
 -- the solver's own steps
 pub going-goes : (search : Search) (limit : ℕ) (old new : Views → Search) (before used : ℕ) (h : List Entry) (t : ℕ) (places : List ℕ) →

@@ -12,6 +12,7 @@ use Rattle.plevent.specs.Search.{Answer, Finishes, Search}
 use Rattle.plhist.specs.Follows.{own, Taken, takes, from_start, asks_of, HasAsked}
 use Rattle.plhist.specs.Legal.{Legal, ByOneWorker, Over}
 use Rattle.plstore.specs.Looking.{Views}
+use Rattle.plviews.specs.Views.{AreOrdered}
 use Rattle.plrun.specs.Halts.{AreCommon}
 
 -- worker 1 started it, it has not ended, and no thread has ended the run
@@ -22,12 +23,14 @@ pub record Free (t : ℕ) (r : Standing) : Type 0 where
   pub lives : row.ended ≡ None
   pub goes : r.halted ≡ None
 
--- the views of a journal, and views that are those of it as far as it goes
+-- the views of a journal
 abbrev pub views_of : List Entry → Views
 views_of h g = before g (reading h).updates
 
-abbrev pub AreViews : List Entry → Views → Type 0
-AreViews h v = (g : ℕ) → g ≤ length h → v g ≡ views_of h g
+-- views that are those of a journal as far as it goes, with the batches of each in order
+pub record AreViews (h : List Entry) (v : Views) : Type 0 where
+  pub as_far : (g : ℕ) → g ≤ length h → v g ≡ views_of h g
+  pub ordered : AreOrdered v
 
 -- The items at its places came to a state, whatever the limit of steps. With the answers of this state its search is
 -- what its solver stands for, where the views are those of the journal.

@@ -4,7 +4,8 @@ ghost use Rattle.plevent.specs.Search.{View, Ask};
 ghost use Rattle.plsearch.specs.Solving.{StandsAt, EndsAt};
 ghost use Rattle.plsearch.specs.Search.{search_of};
 ghost use Rattle.plstore.specs.Looking.{Views};
-ghost use Rattle.plsolver.specs.Solver.{Fetches, rest_of, WaitsForView, WaitsForReply};
+ghost use Rattle.plsolver.specs.Fetching.{Fetches};
+ghost use Rattle.plsolver.specs.Solver.{rest_of, WaitsForView, WaitsForReply};
 ghost use Rattle.plrun.specs.Halts.{told, told_places};
 ghost use Rattle.plrun.specs.Threads.{GoesOn, IsThread, run_now};
 ghost use Rattle.plrun.specs.Overall.{IsHistory};
@@ -27,7 +28,7 @@ pub struct Running {
     pub solver: Solver,
 }
 
-/// Takes the view that the thread asks: the database as it is now.
+/// Takes the view that the thread asks, for clauses that are looked up or for what begins on it: the database as it is now.
 fn look(program: &Program, world: &World, running: &mut Running) -> Result<(), AllocError>
     requires runs { GoesOn program.now world.now.journal running.old }
     requires waits { WaitsForView running.old.solver }
@@ -57,7 +58,7 @@ fn fetch(
     Ok(())
 }
 
-/// Serves a request of the thread: a batch is published, or the run is ended.
+/// Serves a request of the thread: a batch is published, a clause is erased, or the run is ended.
 fn serve(
     alloc: Global,
     program: &Program,

@@ -1,6 +1,6 @@
 -- A look-up asks nothing twice, and what is behind a name is what is behind the next one and that one.
-use Rattle.std.proofs.Common.{◌≡◌, ◌≢◌, Bool, true, false, cond, List, [], ◌∷◌, filter, Option, Some, None, refl, sym, ap, ◌∙◌, subst, arith}
-use Rattle.std.specs.List.{flat_map, AllByRecursion}
+use Rattle.std.proofs.Common.{◌≡◌, ◌≢◌, Bool, true, false, cond, List, [], ◌∷◌, ◌++◌, filter, Option, Some, None, refl, sym, ap, ◌∙◌, subst, arith}
+use Rattle.std.specs.List.{AllByRecursion}
 use Rattle.std.proofs.lemmas.Bool.{false≢true}
 use Rattle.std.proofs.lemmas.Bool.Decides.{nat_tests}
 use Rattle.plterm.specs.Tree.{Tree}
@@ -14,19 +14,16 @@ use Rattle.plstore.specs.declared.query.Query.{Query}
 use Rattle.plstore.specs.declared.record.Cursor.{Cursor}
 use Rattle.plstore.specs.declared.record.Cursor.TheVariants.{Start, After}
 use Rattle.plstore.specs.Kept.{head}
-use Rattle.plstore.specs.Like.{fits, past, rest, next_like_of}
+use Rattle.plstore.specs.Like.{fits, past, next_like_of}
 use Rattle.plstore.specs.Looking.{NoneNamed, Apart}
 use Rattle.plstore.specs.Rising.{Ordered}
-use Rattle.plstore.proofs.Law.{same-swap}
 use Rattle.plstore.proofs.Names.{apart-alive}
 use Rattle.plstack.specs.declared.frame.Use.{Use}
 use Rattle.plstack.specs.declared.frame.Use.TheVariants as uses
 use Rattle.plstack.specs.Places.{head_in}
-use Rattle.plmachine.specs.declared.machine.Reach.{Reach}
-use Rattle.plmachine.specs.declared.machine.Reach.TheVariants as reaches
 use Rattle.plmachine.specs.declared.machine.Find.TheVariants as finds
-use Rattle.plsolver.specs.Solver.{like}
-use Rattle.plsolver.specs.Asking.{AsksOnce, EachOnce, first_asks, names_behind, names_from_if, none_asks, reach_asks, sweep_asks, walk_asks}
+use Rattle.plsolver.specs.Fetching.{like}
+use Rattle.plsolver.specs.Asking.{AsksNoMore, AsksOnce, EachOnce, behind_asks, first_asks, names_asks, names_behind}
 
 abbrev Absent : Query → List Query → Type 0
 Absent q qs = AllByRecursion (λ r. q ≢ r) qs
@@ -45,23 +42,6 @@ other-is x y e is = false≢true (sym e ∙ ap (same_name x) (sym is) ∙ same-s
 none-past : (z x : ClauseName) (ys : List Living) → NoneNamed z ys → NoneNamed z (past x ys)
 none-past z x [] n = tt
 none-past z x (y ∷ ys) n = elim (same_name x y.name) as (λ b. NoneNamed z (add_if b ys (past x ys))) [ true ↦ n.1 | false ↦ none-past z x ys n.1 ]
-
-apart-past : (x : ClauseName) (ys : List Living) → Apart ys → Apart (past x ys)
-apart-past x [] a = tt
-apart-past x (y ∷ ys) a = elim (same_name x y.name) as (λ b. Apart (add_if b ys (past x ys))) [ true ↦ a.1 | false ↦ apart-past x ys a.1 ]
-
-none-swap : (x y : ClauseName) (zs : List Living) → same_name x y ≡ true → NoneNamed y zs → NoneNamed x zs
-none-swap x y [] e n = tt
-none-swap x y (z ∷ zs) e n = (same-swap x y z.name e ∙ n.0, none-swap x y zs e n.1)
-
--- a name is not behind itself
-none-behind : (x : ClauseName) (ys : List Living) → Apart ys → NoneNamed x (past x ys)
-none-behind x [] a = tt
-none-behind x (y ∷ ys) a = by-case (same_name x y.name) refl (none-behind x ys a.1)
-  where
-    by-case : (b : Bool) → same_name x y.name ≡ b → NoneNamed x (past x ys) → NoneNamed x (add_if b ys (past x ys))
-    by-case true e n = none-swap x y.name ys e a.0
-    by-case false e n = n
 
 module _ (t : Living → Bool) where
   -- the first name that passes a test is that of none that the list has not
@@ -100,6 +80,11 @@ module _ (t : Living → Bool) where
           r h
           ∙ ap (λ b. y ∷ names_of (filter t (add_if b zs (past y zs)))) (sym (first-other z.name y (past x zs) (none-past z.name x zs a.0) h))
 
+-- a name and those behind it, if there is one
+abbrev pub names_from_if : List Stamped → Tree → Option ClauseName → List ClauseName
+names_from_if us h None = []
+names_from_if us h (Some x) = x ∷ names_behind us h (After x)
+
 -- behind a cursor are the next name and those behind it, if there is one
 pub behind-next : (us : List Stamped) (h : Tree) (c : Cursor) (o : Option ClauseName) → Ordered us → next_like_of (first_key h) c (living us (indicator h)) ≡ o → names_behind us h c ≡ names_from_if us h o
 behind-next us h c (Some y) ordered e = go c e
@@ -115,90 +100,84 @@ behind-next us h c None ordered e = go (names_behind us h c) e
 
 -- ---- each query once
 
--- two queries for each of some names
-module _ (a b : ClauseName → Query) (others : (x y : ClauseName) → same_name x y ≡ false → (a x ≢ a y) × (b x ≢ b y)) (crossed : (x y : ClauseName) → (a x ≢ b y) × (b x ≢ a y)) (t : Living → Bool) where
-  abbrev asked : List ClauseName → List Query
-  asked xs = flat_map (λ x. a x ∷ b x ∷ []) xs
-
-  -- where no clause has a name, neither of its queries is asked
-  neither : (x : ClauseName) (ys : List Living) → NoneNamed x ys → Absent (a x) (asked (names_of (filter t ys))) × Absent (b x) (asked (names_of (filter t ys)))
-  neither x [] n = (tt, tt)
-  neither x (y ∷ ys) n = by-case (t y) (neither x ys n.1)
-    where
-      other : (a x ≢ a y.name) × (b x ≢ b y.name)
-      other = others x y.name n.0
-
-      by-case : (v : Bool) → Absent (a x) (asked (names_of (filter t ys))) × Absent (b x) (asked (names_of (filter t ys))) →
-          Absent (a x) (asked (names_of (cond v (y ∷ filter t ys) (filter t ys)))) × Absent (b x) (asked (names_of (cond v (y ∷ filter t ys) (filter t ys))))
-      by-case true r = ((other.0, ((crossed x y.name).0, r.0)), ((crossed x y.name).1, (other.1, r.1)))
-      by-case false r = r
-
-  one-more : (x : ClauseName) (ys : List Living) → NoneNamed x ys → EachOnce (asked (names_of (filter t ys))) → EachOnce (asked (x ∷ names_of (filter t ys)))
-  one-more x ys n once = (((crossed x x).0, (neither x ys n).0), ((neither x ys n).1, once))
-
-  each-once : (ys : List Living) → Apart ys → EachOnce (asked (names_of (filter t ys)))
-  each-once [] apart = tt
-  each-once (y ∷ ys) apart = elim (t y) as (λ v. EachOnce (asked (names_of (cond v (y ∷ filter t ys) (filter t ys))))) [ true ↦ one-more y.name ys apart.0 (each-once ys apart.1) | false ↦ each-once ys apart.1 ]
-
-  each-from : (x : ClauseName) (ys : List Living) → NoneNamed x ys → Apart ys → EachOnce (asked (x ∷ names_of (filter t ys)))
-  each-from x ys n apart = one-more x ys n (each-once ys apart)
-
-  -- what is none of them is absent
-  absent-all : (q : Query) → ((x : ClauseName) → (q ≢ a x) × (q ≢ b x)) → (xs : List ClauseName) → Absent q (asked xs)
-  absent-all q h [] = tt
-  absent-all q h (x ∷ xs) = ((h x).0, ((h x).1, absent-all q h xs))
-
 like-other : (h : Tree) (x y : ClauseName) → same_name x y ≡ false → like h (After x) ≢ like h (After y)
 like-other h x y e is = other-is x y e (cc)
 
 clause-other : (x y : ClauseName) → same_name x y ≡ false → Query.Clause x ≢ Query.Clause y
 clause-other x y e is = other-is x y e (cc)
 
+module _ (h : Tree) (t : Living → Bool) where
+  abbrev asked : List Living → List Query
+  asked ys = names_asks h (names_of (filter t ys))
+
+  -- where no clause has a name, neither of its queries is asked
+  neither : (x : ClauseName) (ys : List Living) → NoneNamed x ys → Absent (Query.Clause x) (asked ys) × Absent (like h (After x)) (asked ys)
+  neither x [] n = (tt, tt)
+  neither x (y ∷ ys) n = by-case (t y) (neither x ys n.1)
+    where
+      by-case : (v : Bool) → Absent (Query.Clause x) (asked ys) × Absent (like h (After x)) (asked ys) →
+          Absent (Query.Clause x) (names_asks h (names_of (cond v (y ∷ filter t ys) (filter t ys)))) × Absent (like h (After x)) (names_asks h (names_of (cond v (y ∷ filter t ys) (filter t ys))))
+      by-case true r = ((clause-other x y.name n.0, ((λ is. cc), r.0)), ((λ is. cc), (like-other h x y.name n.0, r.1)))
+      by-case false r = r
+
+  each-once : (ys : List Living) → Apart ys → EachOnce (asked ys)
+  each-once [] apart = tt
+  each-once (y ∷ ys) apart = by-case (t y) (neither y.name ys apart.0) (each-once ys apart.1)
+    where
+      by-case : (v : Bool) → Absent (Query.Clause y.name) (asked ys) × Absent (like h (After y.name)) (asked ys) → EachOnce (asked ys) → EachOnce (names_asks h (names_of (cond v (y ∷ filter t ys) (filter t ys))))
+      by-case true n once = (((λ is. cc), n.0), (n.1, once))
+      by-case false n once = once
+
+-- what is no query of a name is absent
+absent-all : (h : Tree) (q : Query) → ((x : ClauseName) → (q ≢ Query.Clause x) × (q ≢ like h (After x))) → (xs : List ClauseName) → Absent q (names_asks h xs)
+absent-all h q other [] = tt
+absent-all h q other (x ∷ xs) = ((other x).0, ((other x).1, absent-all h q other xs))
+
+starts-apart : (h : Tree) (xs : List ClauseName) → Absent (like h Start) (names_asks h xs)
+starts-apart h xs = absent-all h (like h Start) (λ x. (λ is. cc, λ is. cc)) xs
+
+exists-apart : (h : Tree) (xs : List ClauseName) → Absent (Query.Exists (indicator h)) (names_asks h xs)
+exists-apart h xs = absent-all h (Query.Exists (indicator h)) (λ x. (λ is. cc, λ is. cc)) xs
+
 module _ (us : List Stamped) (h : Tree) (ordered : Ordered us) where
-  abbrev alive : List Living
-  alive = living us (indicator h)
+  names-once : EachOnce (names_asks h (names_behind us h Start))
+  names-once = each-once h (fits (first_key h)) (living us (indicator h)) (apart-alive (indicator h) us ordered)
 
-  apart : Apart alive
-  apart = apart-alive (indicator h) us ordered
+  first-once : (u : Use) (xs : List ClauseName) → EachOnce (names_asks h xs) → EachOnce (like h Start ∷ first_asks u h xs)
+  first-once uses.Call [] o = (((λ is. cc), tt), (tt, tt))
+  first-once uses.Tell [] o = (tt, tt)
+  first-once uses.Erase [] o = (tt, tt)
+  first-once u (x ∷ xs) o = (starts-apart h (x ∷ xs), o)
 
-  walk-once : EachOnce (walk_asks h (names_behind us h Start))
-  walk-once = each-once (λ x. like h (After x)) Query.Clause (λ x y e. (like-other h x y e, clause-other x y e)) (λ x y. (λ is. cc, λ is. cc)) (fits (first_key h)) alive apart
-
-  walk-starts : (xs : List ClauseName) → Absent (like h Start) (walk_asks h xs)
-  walk-starts xs = absent-all (λ x. like h (After x)) Query.Clause (λ x y e. (like-other h x y e, clause-other x y e)) (λ x y. (λ is. cc, λ is. cc)) (fits (first_key h)) (like h Start) (λ x. (λ is. cc, λ is. cc)) xs
-
-  first-once : (u : Use) (xs : List ClauseName) → EachOnce (walk_asks h xs) → EachOnce (like h Start ∷ first_asks u h xs)
-  first-once u [] o = by-case u
-    where
-      by-case : (u : Use) → EachOnce (like h Start ∷ none_asks u h)
-      by-case uses.Call = (((λ is. cc), tt), (tt, tt))
-      by-case uses.Tell = (tt, tt)
-      by-case uses.Erase = (tt, tt)
-  first-once u (x ∷ xs) o = (walk-starts (x ∷ xs), o)
-
-  sweep-once : (c : Cursor) → EachOnce (sweep_asks h (names_behind us h c))
-  sweep-once c = each-once Query.Clause (λ x. like h (After x)) (λ x y e. (clause-other x y e, like-other h x y e)) (λ x y. (λ is. cc, λ is. cc)) (fits (first_key h)) (rest c alive) (apart-rest c)
-    where
-      apart-rest : (c : Cursor) → Apart (rest c alive)
-      apart-rest Start = apart
-      apart-rest (After x) = apart-past x alive apart
-
-  sweep-after : (x : ClauseName) → EachOnce (sweep_asks h (x ∷ names_behind us h (After x)))
-  sweep-after x = each-from Query.Clause (λ x. like h (After x)) (λ x y e. (clause-other x y e, like-other h x y e)) (λ x y. (λ is. cc, λ is. cc)) (fits (first_key h)) x (past x alive) (none-behind x alive apart) (apart-past x alive apart)
-
-  sweep-starts : (xs : List ClauseName) → Absent (like h Start) (sweep_asks h xs)
-  sweep-starts xs = absent-all Query.Clause (λ x. like h (After x)) (λ x y e. (clause-other x y e, like-other h x y e)) (λ x y. (λ is. cc, λ is. cc)) (fits (first_key h)) (like h Start) (λ x. (λ is. cc, λ is. cc)) xs
-
-  reach-once : (r : Reach) → EachOnce (reach_asks us h r)
-  reach-once (reaches.Behind Start) = (sweep-starts (names_behind us h Start), sweep-once Start)
-  reach-once (reaches.Behind (After x)) = ((sweep-after x).1.0, sweep-once (After x))
-  reach-once (reaches.At x) = sweep-after x
-
-  all-once : EachOnce (Query.Exists (indicator h) ∷ reach_asks us h (reaches.Behind Start))
-  all-once = (((λ is. cc), absent-all Query.Clause (λ x. like h (After x)) (λ x y e. (clause-other x y e, like-other h x y e)) (λ x y. (λ is. cc, λ is. cc)) (fits (first_key h)) (Query.Exists (indicator h)) (λ x. (λ is. cc, λ is. cc)) (names_behind us h Start)), reach-once (reaches.Behind Start))
+  all-once : EachOnce (Query.Exists (indicator h) ∷ behind_asks us h Start)
+  all-once = (((λ is. cc), exists-apart h (names_behind us h Start)), (starts-apart h (names_behind us h Start), names-once))
 
 pub asks_once : AsksOnce
-asks_once v s (finds.First x g) ordered = let h = head_in x.uses (value s x.goal) in first-once (v g) h ordered x.uses (names_behind (v g) h Start) (walk-once (v g) h ordered)
-asks_once v s (finds.Exists c g) ordered = (tt, tt)
-asks_once v s (finds.All c g) ordered = all-once (v g) (value s c) ordered
-asks_once v s (finds.Sweep c w) ordered = reach-once (v w.view) (value s c) ordered w.reach
+asks_once v s (finds.First x g) first ordered = let h = head_in x.uses (value s x.goal) in first-once (v g.place) h ordered x.uses (names_behind (v g.place) h Start) (names-once (v g.place) h ordered)
+asks_once v s (finds.Exists c g) first ordered = (tt, tt)
+asks_once v s (finds.All c g) first ordered = all-once (v g.place) (value s c) ordered
+asks_once v s (finds.Sweep c w) first ordered = absurd first
+
+-- ---- what was asked is asked no more
+
+absent-last : (q : Query) (xs ys : List Query) → Absent q (xs ++ ys) → Absent q ys
+absent-last q [] ys a = a
+absent-last q (x ∷ xs) ys a = absent-last q xs ys a.1
+
+once-last : (xs ys : List Query) → EachOnce (xs ++ ys) → EachOnce ys
+once-last [] ys a = a
+once-last (x ∷ xs) ys a = once-last xs ys a.1
+
+absent-among : (b q : Query) (before gone behind : List Query) → Absent b (before ++ (q ∷ (gone ++ behind))) → (b ≢ q) × Absent b (before ++ behind)
+absent-among b q [] gone behind a = (a.0, absent-last b gone behind a.1)
+absent-among b q (x ∷ before) gone behind a = let r = absent-among b q before gone behind a.1 in (r.0, (a.0, r.1))
+
+spent : (q : Query) (before gone behind : List Query) → EachOnce (before ++ (q ∷ (gone ++ behind))) → Absent q (before ++ behind) × EachOnce (before ++ behind)
+spent q [] gone behind a = (absent-last q gone behind a.0, once-last gone behind a.1)
+spent q (b ∷ before) gone behind a =
+    let r = spent q before gone behind a.1 in
+    let n = absent-among b q before gone behind a.0 in
+    (((λ is. n.0 (sym is)), r.0), (n.1, r.1))
+
+pub asks_no_more : AsksNoMore
+asks_no_more old new q s once = subst (λ qs. Absent q qs × EachOnce qs) (sym s.is) (spent q s.before s.gone s.behind (subst EachOnce s.was once))

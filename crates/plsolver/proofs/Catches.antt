@@ -1,5 +1,5 @@
 -- A catcher and its ball, over the stack.
-use Rattle.std.proofs.Common.{◌≡◌, ℕ, ◌+◌, ◌-◌, true, List, [], ◌∷◌, length, reverse, refl, sym, ap, ap₂, ◌∙◌, subst, arith, Option, Some, None, IfSome, IfNone, drop, Bool}
+use Rattle.std.proofs.Common.{◌≡◌, ℕ, ◌+◌, ◌-◌, true, List, [], ◌∷◌, length, reverse, refl, sym, ap, ap₂, ◌∙◌, subst, arith, Option, Some, None, IfSome, IfNone, drop}
 use Rattle.plterm.specs.Tree.{Tree}
 use Rattle.plterm.specs.Variables.{copied, variables}
 use Rattle.plsubst.specs.Subst.{bind}
@@ -22,23 +22,28 @@ use Rattle.plstack.specs.declared.frame.Handler.TheVariants as handlers
 use Rattle.plstack.specs.declared.frame.Handling.{Handling}
 use Rattle.plstack.specs.declared.frame.Closed.{Closed}
 use Rattle.plstack.specs.declared.frame.Closed.TheVariants as closes
+use Rattle.plstack.specs.declared.frame.Resume.TheVariants as resumes
+use Rattle.plstack.specs.declared.frame.Frame.{Frame}
+use Rattle.plstack.specs.declared.frame.Frame.TheVariants.{Plain, Open}
 use Rattle.plstore.specs.Looking.{Views}
 use Rattle.plstack.specs.Places.{Database}
-use Rattle.plstack.specs.State.{State, IsList, IsHandler, BeginsWith, HasHandler, AtHandler, Extends, Unifies, Recovers, cases_of, goals_of, place_of, kinds_in}
-use Rattle.plstack.specs.StaticCalls.{database_of}
+use Rattle.plstack.specs.State.{State, IsList, IsHandler, IsUndo, BeginsWith, HasHandler, AtHandler, Extends, Unifies, Recovers, cases_of, goals_of, place_of, kinds_in}
+use Rattle.plstack.specs.Basis.{BasisBehind}
 use Rattle.plstack.specs.Opening.{ClosedAs}
+use Rattle.plstack.proofs.Fitted.{kinds-in}
 use Rattle.plstack.proofs.Stacks.{depth-in}
 use Rattle.plmachine.specs.declared.machine.Outcome.{Outcome}
 use Rattle.plmachine.specs.declared.machine.Mode.TheVariants as modes
-use Rattle.plmachine.specs.Machine.{result_of, local_of, cases_in, depth_of}
+use Rattle.plmachine.specs.Machine.{result_of, below_in, local_of, cases_in, depth_of, run_in, IsCarried}
 use Rattle.plmachine.specs.Lists.{Grown}
 use Rattle.plmachine.proofs.Moves.{machine-is, stays-trans, grown-stays as grown-there}
 use Rattle.plsolver.specs.declared.progress.Progress.{Progress}
 use Rattle.plsolver.specs.Solver.{Stays, QuietIn, Recovered, Rethrown}
-use Rattle.plstack.specs.Levels.{kinds_of, FitsIn}
+use Rattle.plstack.specs.Levels.{kinds, kinds_of, AreNamed, Choosing, FitsIn, Sort}
 use Rattle.plstack.proofs.Naming.{fits-bound, new-precedes, no-database}
 use Rattle.plmachine.proofs.Levels.{depth-kinds}
-use Rattle.plsolver.proofs.Quiets.{to, at_stack, carried, quiet-other, quiet-caught}
+use Rattle.plsolver.proofs.Quiets.{to, at_stack, carried, db_in}
+use Rattle.plsolver.proofs.Handling.{quiet-other, quiet-caught}
 
 tail_is : (x y : Case) (xs ys : List Case) → x ∷ xs ≡ y ∷ ys → xs ≡ ys
 tail_is x y xs ys e = cc
@@ -49,16 +54,62 @@ pub closed-below : (db : Database) (s new : State) (h : Case) (below : List Case
 closed-below db s new h below None some none was = let e : h ∷ below ≡ [] = sym was ∙ none db in absurd cc
 closed-below db s new h below (Some closes.Choice) some none was = tail_is _ h _ below (sym (some db).1 ∙ was)
 closed-below db s new h below (Some closes.Handler) some none was = tail_is _ h _ below (sym (some db).2 ∙ was)
+closed-below db s new h below (Some closes.Transaction) some none was = tail_is _ h _ below (sym (some db).1 ∙ was)
 
-pub rethrows : (P : Program) (s new : Progress) (st : State) (e : Tree) (list : Continuation) (o : Outcome) → result_of o ≡ Throw (copied 0 (error_term e catch_3)) (levels (goals_of s.machine.stack list)) → st.basis ≡ s.machine.stack.basis →
-    ((v : Views) (h : Case) (below : List Case) → cases_in P v s.machine ≡ h ∷ below → cases_of (database_of P v) st ≡ below) → new ≡ to s st (modes.Back o) → Rethrown P s new e list
-rethrows P s new st e list o is basis closed made = subst (λ x. Rethrown P s x e list) (sym made) (record {
+-- a handler is not where a transaction ends
+handler-only : (fs : List Frame) → BeginsWith IsHandler fs → BeginsWith IsUndo fs → ⊥
+handler-only [] handler undo = handler
+handler-only (Plain n ∷ fs) handler undo = handler
+handler-only (Open p (resumes.Clauses c) ∷ fs) handler undo = handler
+handler-only (Open p (resumes.Walk w) ∷ fs) handler undo = handler
+handler-only (Open p (resumes.Answers a) ∷ fs) handler undo = handler
+handler-only (Open p resumes.List ∷ fs) handler undo = handler
+handler-only (Open p (resumes.Handle x) ∷ fs) handler undo = undo
+handler-only (Open p resumes.Undo ∷ fs) handler undo = handler
+
+some-frame : (s : State) → HasHandler s → ((db : Database) → cases_of db s ≡ []) → ⊥
+some-frame s has none = go (reverse s.frames) has (no-kinds ∙ refl)
+  where
+    no-kinds : kinds_in s ≡ []
+    no-kinds = sym (kinds-in no-database s) ∙ ap kinds (none no-database)
+
+    go : (fs : List Frame) → BeginsWith IsHandler fs → kinds_of fs ≡ [] → ⊥
+    go [] has e = has
+    go (Plain n ∷ fs) has e = has
+    go (Open p r ∷ fs) has e = cc
+
+-- what the cases rest on stays where a handler is closed
+pub closed-basis : (s new : State) (r : Option Closed) → IfSome r (λ k. (db : Database) → ClosedAs db s new k) → IfNone r ((db : Database) → cases_of db s ≡ []) → IfSome r (λ k. BasisBehind k s.basis new.basis) → HasHandler s → new.basis ≡ s.basis
+closed-basis s new None some none basis has = absurd (some-frame s has none)
+closed-basis s new (Some closes.Choice) some none basis has = basis
+closed-basis s new (Some closes.Handler) some none basis has = basis
+closed-basis s new (Some closes.Transaction) some none basis has = absurd (handler-only (reverse s.frames) has (some no-database).2)
+
+-- a ball with the levels of a list that fits behind the innermost case is for each Undo there
+named-behind : (s new : State) (ls : List ℕ) (list : Continuation) → ((cs : List Case) → FitsIn (kinds cs) (goals_of s list) → AreNamed ls cs) → FitsIn (drop 1 (kinds_in s)) (goals_of s list) →
+    (db : Database) (c : Case) → cases_of db s ≡ c ∷ cases_of db new → AreNamed ls (cases_of db new)
+named-behind s new ls list named fits db c was =
+    named (cases_of db new) (subst (λ ks. FitsIn ks (goals_of s list)) (ap (drop 1) (sym (kinds-in db s) ∙ ap kinds was)) fits)
+
+-- so it is where a handler was closed
+pub closed-named : (s new : State) (ls : List ℕ) (list : Continuation) (r : Option Closed) → IfSome r (λ k. (db : Database) → ClosedAs db s new k) → IfNone r ((db : Database) → cases_of db s ≡ []) → HasHandler s →
+    ((cs : List Case) → FitsIn (kinds cs) (goals_of s list) → AreNamed ls cs) → FitsIn (drop 1 (kinds_in s)) (goals_of s list) → (db : Database) → AreNamed ls (cases_of db new)
+closed-named s new ls list None some none has named fits db = absurd (some-frame s has none)
+closed-named s new ls list (Some closes.Choice) some none has named fits db = named-behind s new ls list named fits db _ (some db).1
+closed-named s new ls list (Some closes.Handler) some none has named fits db = named-behind s new ls list named fits db _ (some db).2
+closed-named s new ls list (Some closes.Transaction) some none has named fits db = named-behind s new ls list named fits db _ (some db).1
+
+pub rethrows : (P : Program) (s new : Progress) (st : State) (e : Tree) (list : Continuation) (o : Outcome) → result_of o ≡ Throw (copied 0 (error_term e catch_3)) (levels (goals_of s.machine.stack list)) → st.basis ≡ s.machine.stack.basis → IsCarried st o →
+    ((v : Views) (h : Case) (below : List Case) → cases_in P v s.machine ≡ h ∷ below → cases_of (db_in P v s.machine) st ≡ below) → new ≡ to s st (modes.Back o) → Rethrown P s new e list
+rethrows P s new st e list o is basis may closed made = subst (λ x. Rethrown P s x e list) (sym made) (record {
   frame = refl;
   basis = basis;
+  plain = tt;
   askable = tt;
+  carry = may;
   is = λ v h below was left answers.
       carried P v (record s.machine { stack = st; mode = modes.Back o }) o below refl (closed v h below was) left answers
-      ∙ ap (λ x. record { mode = Back x; cases = below; run = record { steps = left; answers = answers; local = local_of s.machine } }) is;
+      ∙ ap (λ x. record { mode = Back x; cases = below; run = run_in v left answers s.machine }) is;
 })
 
 -- lists and values were added
@@ -78,11 +129,13 @@ recovered-raises P s new st e recovery list g l runs did = record {
       let same : new.machine.kept ≡ s.machine.kept = ap (λ x. x.machine.kept) did.frame in
       did.frame ∙ ap (λ k. record s { machine = record s.machine { stack = new.machine.stack; mode = new.machine.mode; kept = k } }) (sym same);
   basis = did.basis ∙ g.extends.basis;
+  plain = did.plain;
   askable = did.askable;
+  carry = did.carry;
   is = λ v h below was left answers.
-      did.is v h below (g.extends.cases (database_of P v) ∙ was) left answers
-      ∙ ap (λ es. record { mode = Back (Throw (copied 0 (error_term e catch_3)) (levels es)); cases = below; run = record { steps = left; answers = answers; local = local_of s.machine } }) (g.extends.lists list l).1
-      ∙ ap (λ x. return below (record { steps = left; answers = answers; local = local_of s.machine }) (recovers x (deeper below 0) (goals_of s.machine.stack list) s.machine.stack.env.count (local_of s.machine))) (sym runs);
+      did.is v h below (g.extends.cases (db_in P v s.machine) ∙ was) left answers
+      ∙ ap (λ es. record { mode = Back (Throw (copied 0 (error_term e catch_3)) (levels es)); cases = below; run = run_in v left answers s.machine }) (g.extends.lists list l).1
+      ∙ ap (λ x. return below (run_in v left answers s.machine) (recovers x (deeper below 0) (goals_of s.machine.stack list) s.machine.stack.env.count (local_of s.machine))) (sym runs);
 }
 
 -- the recovery is run
@@ -93,10 +146,12 @@ pub recovered-runs : (P : Program) (s : Progress) (st linked last : State) (reco
 recovered-runs P s st linked last recovery list goal level made g l runs at e env goals did basis kept kept_is = record {
   frame = refl;
   basis = basis ∙ e.basis ∙ g.extends.basis;
+  plain = tt;
   askable = tt;
+  carry = tt;
   is = λ v h below was left answers.
-      let was_st : cases_of (database_of P v) st ≡ h ∷ below = g.extends.cases (database_of P v) ∙ was in
-      let deep : level ≡ deeper below 0 = omega (arith, at (database_of P v), ap (λ cs. deeper cs 0) was_st) in
+      let was_st : cases_of (db_in P v s.machine) st ≡ h ∷ below = g.extends.cases (db_in P v s.machine) ∙ was in
+      let deep : level ≡ deeper below 0 = omega (arith, at (db_in P v s.machine), ap (λ cs. deeper cs 0) was_st) in
       let rest : goals_of st list ≡ goals_of s.machine.stack list = (g.extends.lists list l).1 in
       let count : linked.env.count ≡ s.machine.stack.env.count = ap (λ e. e.count) env ∙ g.count in
       let gs : List Element = Goal (deeper below 0) (value st.env.heap goal) ∷ goals_of s.machine.stack list in
@@ -104,9 +159,9 @@ recovered-runs P s st linked last recovery list goal level made g l runs at e en
       did.place ∙ ap₂ (λ gs n. record { goals = gs; variables = n }) (goals ∙ ap₂ (λ k es. Goal k (value st.env.heap goal) ∷ es) deep rest) count in
       let local : local_of (record s.machine { kept = kept }) ≡ dropped (deeper below 0) (local_of s.machine) =
       ap (λ k. record (local_of s.machine) { kept = k }) (kept_is ∙ ap (λ d. kept_below d s.machine.kept) deep) in
-      machine-is P v (record s.machine { stack = last; mode = modes.Visit; kept = kept }) (At (record { goals = gs; variables = s.machine.stack.env.count })) (Choice [] ∷ below) (dropped (deeper below 0) (local_of s.machine)) tt (ap At place)
-      (did.cases (database_of P v) h below (e.cases (database_of P v) ∙ was_st)) local left answers
-      ∙ ap (λ x. return below (record { steps = left; answers = answers; local = local_of s.machine }) (recovers x (deeper below 0) (goals_of s.machine.stack list) s.machine.stack.env.count (local_of s.machine))) (sym runs);
+      machine-is P v (record s.machine { stack = last; mode = modes.Visit; kept = kept }) (At (record { goals = gs; variables = s.machine.stack.env.count })) (Choice [] ∷ below) (below_in v s.machine) (dropped (deeper below 0) (local_of s.machine)) tt (ap At place)
+      (did.cases (db_in P v s.machine) h below (e.cases (db_in P v s.machine) ∙ was_st)) refl local left answers
+      ∙ ap (λ x. return below (run_in v left answers s.machine) (recovers x (deeper below 0) (goals_of s.machine.stack list) s.machine.stack.env.count (local_of s.machine))) (sym runs);
 }
 
 pub handler-stays : (s t : State) → t.frames ≡ s.frames → HasHandler s → HasHandler t
@@ -123,22 +178,25 @@ module _ (P : Program) (v : Views) (s : Progress) (o : Outcome) (ball : Tree) (f
   abbrev recovery : Tree
   recovery = value st.env.heap x.recovery
 
-  cases-are : cases_in P v s.machine ≡ catching catcher recovery (goals_of st k.list) st.env.count ∷ here.below (database_of P v)
-  cases-are = sym (same (database_of P v)) ∙ here.cases (database_of P v)
+  cases-are : cases_in P v s.machine ≡ catching catcher recovery (goals_of st k.list) st.env.count ∷ here.below (db_in P v s.machine)
+  cases-are = sym (same (db_in P v s.machine)) ∙ here.cases (db_in P v s.machine)
 
-  is-active : has (deeper (here.below (database_of P v)) 0) found ≡ true
+  is-active : has (deeper (here.below (db_in P v s.machine)) 0) found ≡ true
   is-active =
-      let d : depth_of s.machine - 1 ≡ deeper (here.below (database_of P v)) 0 = omega (arith, depth-in (database_of P v) s.machine.stack, ap (λ cs. deeper cs 0) cases-are) in
+      let d : depth_of s.machine - 1 ≡ deeper (here.below (db_in P v s.machine)) 0 = omega (arith, depth-in (db_in P v s.machine) s.machine.stack, ap (λ cs. deeper cs 0) cases-are) in
       subst (λ d. has d found ≡ true) d active
 
   sides : unify catcher (copied st.env.count ball) ≡ unify (value put.env.heap x.catcher) (value put.env.heap b)
   sides = ap₂ unify (sym (grew.values x.catcher here.there.0).1) (sym copy)
 
   pub catches-other : (last : State) → last.basis ≡ put.basis → unify (value put.env.heap x.catcher) (value put.env.heap b) ≡ None →
-      ((h : Case) (below : List Case) → cases_of (database_of P v) put ≡ h ∷ below → cases_of (database_of P v) last ≡ below) → QuietIn P v s (at_stack s last)
+      ((db : Database) (h : Case) (below : List Case) → cases_of db put ≡ h ∷ below → cases_of db last ≡ below) → QuietIn P v s (at_stack s last)
   catches-other last stays none closed =
-      quiet-other P v s o ball found at carries catcher recovery (goals_of st k.list) st.env.count (here.below (database_of P v)) cases-are is-active last (stays ∙ grew.basis ∙ basis) (sides ∙ none)
-      (closed _ (here.below (database_of P v)) (grew.cases (database_of P v) ∙ here.cases (database_of P v)))
+      quiet-other P v s o ball found at carries catcher recovery (goals_of st k.list) st.env.count (here.below (db_in P v s.machine)) cases-are is-active last (stays ∙ grew.basis ∙ basis) (sides ∙ none)
+      (behind (db_in P v s.machine)) (λ ls db named. subst (AreNamed ls) (sym (behind db)) (subst (AreNamed ls) (sym (same db) ∙ here.cases db) named).1)
+    where
+      behind : (db : Database) → cases_of db last ≡ here.below db
+      behind db = closed db _ (here.below db) (grew.cases db ∙ here.cases db)
 
   module _ (count : put.env.count ≡ st.env.count + length (variables ball)) (last : State) (u : Unifies put last x.catcher b) where
     pub recovery-there : IsValue last.env.heap x.recovery
@@ -154,13 +212,13 @@ module _ (P : Program) (v : Views) (s : Progress) (o : Outcome) (ball : Tree) (f
     catches-it new did =
         let list = grew.lists k.list here.list_there in
         let r = grew.values x.recovery here.there.1 in
-        quiet-caught P v s o ball found at carries catcher recovery (goals_of st k.list) st.env.count (here.below (database_of P v)) cases-are is-active
+        quiet-caught P v s o ball found at carries catcher recovery (goals_of st k.list) st.env.count (here.below (db_in P v s.machine)) cases-are is-active
         last new u.unifier x.recovery k.list (catching catcher recovery (goals_of st k.list) st.env.count) (u.basis ∙ grew.basis ∙ basis)
         (sides ∙ u.is)
         ((u.values x.recovery r.0).1 ∙ ap (bind u.unifier) r.1)
         ((u.lists k.list list.0).1 ∙ ap (bind_goals u.unifier) list.1)
         (u.count ∙ count)
-        (u.cases (database_of P v) ∙ grew.cases (database_of P v) ∙ here.cases (database_of P v))
+        (u.cases (db_in P v s.machine) ∙ grew.cases (db_in P v s.machine) ∙ here.cases (db_in P v s.machine))
         did
 
 -- what stays from where it stayed
@@ -176,19 +234,23 @@ stays-after P s t new a b = record {
 pub bound-fits : (s t : State) (l : Continuation) (σ : ℕ → Tree) → t.frames ≡ s.frames → goals_of t l ≡ bind_goals σ (goals_of s l) → FitsIn (drop 1 (kinds_in s)) (goals_of s l) → FitsIn (drop 1 (kinds_in t)) (goals_of t l)
 bound-fits s t l σ frames goals f =
     subst (λ fs. FitsIn (drop 1 (kinds_of (reverse fs))) (goals_of t l)) (sym frames)
-    (subst (FitsIn (drop 1 (kinds_in s))) (sym goals) (fits-bound (drop 1 (kinds_in s)) σ (goals_of s l) (length (drop 1 (kinds_in s))) f))
+    (subst (FitsIn (drop 1 (kinds_in s))) (sym goals) (fits-bound (drop 1 (kinds_in s)) σ (goals_of s l) f))
+
+pub fits-grown-behind : (s t : State) (l : Continuation) → Grown s t → IsList s l → FitsIn (drop 1 (kinds_in s)) (goals_of s l) → FitsIn (drop 1 (kinds_in t)) (goals_of t l)
+fits-grown-behind s t l g i f =
+    subst (λ fs. FitsIn (drop 1 (kinds_of (reverse fs))) (goals_of t l)) (sym g.extends.frames) (subst (FitsIn (drop 1 (kinds_in s))) (sym (g.extends.lists l i).1) f)
 
 -- how many cases are open at a handler
 pub level-kinds : (s : State) (level : ℕ) → ((db : Database) → deeper (cases_of db s) 0 ≡ level + 1) → level + 1 ≡ length (kinds_in s)
 level-kinds s level up = sym (up no-database) ∙ depth-in no-database s ∙ sym (depth-kinds s)
 
-behind-one : (ks : List Bool) (level : ℕ) → level + 1 ≡ length ks → level ≡ length (drop 1 ks)
+behind-one : (ks : List Sort) (level : ℕ) → level + 1 ≡ length ks → level ≡ length (drop 1 ks)
 behind-one [] level e = absurd (omega arith)
 behind-one (b ∷ ks) level e = omega (arith, e)
 
 -- a recovery before it, where its handler becomes a choice
 pub recovery-fits : (s linked : State) (level : ℕ) (t : Tree) (list made : Continuation) → linked.frames ≡ s.frames → level + 1 ≡ length (kinds_in s) → goals_of linked made ≡ Goal level t ∷ goals_of s list → FitsIn (drop 1 (kinds_in s)) (goals_of s list) →
-    FitsIn (true ∷ drop 1 (kinds_in linked)) (goals_of linked made)
+    FitsIn (Choosing ∷ drop 1 (kinds_in linked)) (goals_of linked made)
 recovery-fits s linked level t list made frames many goals f =
-    subst (λ fs. FitsIn (true ∷ drop 1 (kinds_of (reverse fs))) (goals_of linked made)) (sym frames)
-    (subst (FitsIn (true ∷ drop 1 (kinds_in s))) (sym goals) (new-precedes (drop 1 (kinds_in s)) level (goals_of s list) (behind-one (kinds_in s) level many) f))
+    subst (λ fs. FitsIn (Choosing ∷ drop 1 (kinds_of (reverse fs))) (goals_of linked made)) (sym frames)
+    (subst (FitsIn (Choosing ∷ drop 1 (kinds_in s))) (sym goals) (new-precedes (drop 1 (kinds_in s)) level (goals_of s list) (behind-one (kinds_in s) level many) f))

@@ -1,6 +1,6 @@
--- What is sought in a view: look-ups that were answered with it.
+-- What is sought in a view: look-ups that were answered with what is seen there.
 use Rattle.std.specs.Prelude.{Result as Outcomes, Ok, Err}
-use Rattle.std.proofs.Common.{OnOk, OnErr, reverse, ◌⊎◌, inl, inr, ◌≡◌, ℕ, ◌-◌, Bool, true, false, ◌||◌, min, List, [], ◌∷◌, ◌++◌, map, Option, refl, sym, ap, ap₂, ◌∙◌, subst, if◌then◌else◌}
+use Rattle.std.proofs.Common.{OnOk, OnErr, reverse, ◌⊎◌, inl, inr, ◌≡◌, ℕ, Bool, true, false, ◌||◌, List, [], ◌∷◌, map, Option, refl, sym, ap, ◌∙◌, subst, if◌then◌else◌}
 use Rattle.std.specs.List.{filter_map}
 use Rattle.plterm.specs.Tree.{Tree}
 use Rattle.plterm.specs.declared.indicator.Indicator.{Indicator}
@@ -12,23 +12,35 @@ use Rattle.plevent.specs.Alive.{Stamped, exists, living, clauses_of, clauses_ali
 use Rattle.plevent.specs.Keys.{first_key}
 use Rattle.plevent.specs.Search.{Answer, Seen}
 use Rattle.plprogram.specs.Program.{Program}
-use Rattle.plsearch.specs.Types.{Lookup as Wanted, ToCall, Look, Asking, Element, Local, Run, Give, Fail}
-use Rattle.plsearch.specs.Rows.{call, choose, as_fact, meet}
-use Rattle.plsearch.specs.Replies.{answered, looked_up, missing, retract}
-use Rattle.plsearch.specs.Machines.Machine.{At, Rest, turn}
+use Rattle.plsearch.specs.Types.{Lookup as Wanted, ToCall, Element, Local, Give, Fail}
+use Rattle.plsearch.specs.Moves.{call, choose}
+use Rattle.plsearch.specs.Lookups.{as_fact, looked_up, missing, retract}
+use Rattle.plsearch.specs.Rows.{meet}
+use Rattle.plsearch.specs.Replies.{answered}
+use Rattle.plsearch.specs.Machines.Machine.{Rest, turn}
 use Rattle.plsearch.specs.Search.{ending_of}
-use Rattle.plsearch.specs.Solving.{TakesOne}
 use Rattle.plsearch.proofs.Turns.{Rest-turn}
 use Rattle.plstore.specs.Like.{next_like_of}
 use Rattle.plstore.specs.declared.record.Cursor.{Cursor}
 use Rattle.plstore.specs.declared.query.Query.{Query}
 use Rattle.plstore.specs.declared.query.Found.{Found}
-use Rattle.plstore.specs.declared.query.Found.TheVariants.{Next as NextFound, Clause as ClauseFound}
+use Rattle.plstore.specs.declared.query.Found.TheVariants.{Next as NextFound, Clause as ClauseFound, Exists as ExistsFound}
 use Rattle.plstore.specs.Looking.{Views, clause_alive, found}
+use Rattle.plcells.specs.declared.cell.Cell.{Cell}
+use Rattle.plcells.specs.Store.{Store, value}
+use Rattle.plevent.specs.declared.update.Update.{Update}
+use Rattle.plviews.specs.declared.lookup.Reach.{Reach}
+use Rattle.plviews.specs.declared.lookup.Reach.TheVariants as reaches
+use Rattle.plviews.specs.declared.view.View.{View}
+use Rattle.plstack.specs.declared.frame.Ahead.{Ahead}
+use Rattle.plstack.specs.declared.frame.Spot.TheVariants as spots
+use Rattle.plmachine.specs.declared.machine.Find.TheVariants as finds
+use Rattle.plmachine.specs.declared.machine.Sweep.{Sweep}
+use Rattle.plmachine.specs.declared.machine.SweepSpot.TheVariants as sweeps
 use Rattle.plcode.proofs.Numbers.{indicator_same}
 use Rattle.plstack.specs.declared.frame.Use.TheVariants as uses
-use Rattle.plstack.specs.Places.{candidate_of, head_in, tried, walks_of}
-use Rattle.plstack.specs.State.{State, goals_of, seeing, Extends}
+use Rattle.plstack.specs.Places.{candidate_of, head_in, tried}
+use Rattle.plstack.specs.State.{State, goals_of}
 use Rattle.plstack.specs.Walks.{IsWalking}
 use Rattle.plstack.specs.declared.frame.Point.{Point}
 use Rattle.plstack.specs.declared.frame.Walk.{Walk}
@@ -36,69 +48,33 @@ use Rattle.plstack.specs.declared.frame.Resume.TheVariants as resumes
 use Rattle.plstack.specs.declared.frame.Frame.TheVariants.{Open}
 use Rattle.plstack.proofs.Frames.{reverse-push}
 use Rattle.plstack.specs.StaticCalls.{database_of}
-use Rattle.plstack.proofs.Stacks.{depth-in, seeing-cases}
-use Rattle.plmachine.specs.declared.machine.Lookup.{Lookup}
+use Rattle.plstack.proofs.Stacks.{depth-in}
 use Rattle.plmachine.specs.declared.machine.Question.{Question}
 use Rattle.plmachine.specs.declared.machine.Outcome.{Outcome}
 use Rattle.plmachine.specs.declared.machine.Mode.{Mode as Going}
-use Rattle.plmachine.specs.declared.machine.Question.TheVariants as questions
 use Rattle.plmachine.specs.declared.machine.Find.{Find}
-use Rattle.plmachine.specs.declared.machine.Find.TheVariants as finds
 use Rattle.plmachine.specs.declared.machine.Mode.TheVariants as modes
 use Rattle.plmachine.specs.declared.machine.Machine.{Machine as Reached}
-use Rattle.plmachine.specs.Machine.{after, bare, cases_in, depth_of, find_answers, find_mode, local_of, lookup_by, machine, machine_in, mode_of, now, IsPlain, IsTold, Stays}
+use Rattle.plmachine.specs.Machine.{after, bare, depth_of, finding, local_of, looking, lookup_by, machine, machine_in, now, IsLast, IsPlain, IsTold}
 use Rattle.plmachine.proofs.Clausal.{called-left, erased-left, told-left}
-use Rattle.plmachine.proofs.Moves.{machine-is, stays-by}
-use Rattle.plsolver.specs.declared.progress.Progress.{Progress}
-use Rattle.plsolver.specs.Solver.{FindsBy, IsClause, IsFoundFor, IsNext, like, rest_of}
-use Rattle.plsolver.specs.Solver.{Stays as Stands}
+use Rattle.plsolver.specs.Fetching.{like, ClauseAsks, FindAsks, IsClause, IsExists, IsFoundFor, IsNext, ReachAsks, SpotAsks, SweepAsks, WalksOn}
+use Rattle.plsolver.specs.Going.{LooksBehind}
+use Rattle.plsolver.proofs.Behind.{looks-elim}
 
 -- the machine of what is sought
-pub find-machine : (P : Program) (v : Views) (s : Reached) (f : Find) → s.mode ≡ modes.Find f → (left : ℕ) (answers : List Answer) →
-    machine P v left answers s ≡ record { mode = find_mode v f s.stack; cases = cases_in P v s; run = record { steps = left; answers = find_answers v f s.stack.env.heap ++ answers; local = local_of s } }
+pub find-machine : (P : Program) (v : Views) (s : Reached) (f : Find) → s.mode ≡ modes.Find f → (left : ℕ) (answers : List Answer) → machine P v left answers s ≡ finding P v left answers s f
 unfolding machine
 find-machine P v s f at left answers = ap (machine_in P v left answers s) at
 
--- what is sought is the same where a walk may go on in another view
-seeing-mode : (v : Views) (g : ℕ) (f : Find) (s : State) → find_mode v f (seeing g s) ≡ find_mode v f s
-seeing-mode v g (finds.First x h) s = refl
-seeing-mode v g (finds.Exists c h) s = refl
-seeing-mode v g (finds.All c h) s = refl
-seeing-mode v g (finds.Sweep c w) s = refl
-
--- a look-up takes its view
-module _ (P : Program) (v : Views) (s t : Reached) (u : Lookup) (g : ℕ) (f : Find) (at : s.mode ≡ modes.Ask (questions.Look u)) (by : FindsBy s t u g f) (stay : Stays P s t) where
-  refreshed-machine : (left : ℕ) (answers : List Answer) → machine P v left (Seen g (v g) ∷ answers) s ≡ machine P v left answers (record t { stack = seeing g t.stack; mode = modes.Find f })
-  refreshed-machine left answers =
-      machine-is P v s (mode_of (modes.Ask (questions.Look u)) s.stack) (cases_in P v s) (local_of s) (subst IsPlain (sym at) tt) (ap (λ m. mode_of m s.stack) at) refl refl left (Seen g (v g) ∷ answers)
-      ∙ ap₂ (λ m ans. record { mode = m; cases = cases_in P v s; run = record { steps = left; answers = ans ++ answers; local = local_of s } }) (sym (by.mode v)) (sym (by.answers v))
-      ∙ ap₂ (λ cs w. record { mode = find_mode v f t.stack; cases = cs; run = record { steps = left; answers = find_answers v f t.stack.env.heap ++ answers; local = w } }) (sym (stay.cases v)) (sym stay.local)
-      ∙ sym
-      (find-machine P v (record t { stack = seeing g t.stack; mode = modes.Find f }) f refl left answers
-      ∙ ap₂ (λ m cs. record { mode = m; cases = cs; run = record { steps = left; answers = find_answers v f t.stack.env.heap ++ answers; local = local_of t } }) (seeing-mode v g f t.stack) (seeing-cases (database_of P v) g t.stack))
-
-pub takes-view : (P : Program) (v : Views) (s new : Progress) (t : Reached) (u : Lookup) (g : ℕ) (f : Find) → s.machine.mode ≡ modes.Ask (questions.Look u) → FindsBy s.machine t u g f → Stays P s.machine t →
-    new.machine ≡ record t { stack = seeing g t.stack; mode = modes.Find f } → new.used ≡ s.used → new.limit ≡ s.limit → TakesOne (Seen g (v g)) (rest_of P v s) s.used (rest_of P v new) new.used
-unfolding rest_of
-takes-view P v s new t u g f at by stay is used limit = (
-  used,
-  λ n answers le.
-      ap (λ m. ending_of (min n s.limit) (Rest P m)) (refreshed-machine P v s.machine t u g f at by stay (min n s.limit - s.used) answers)
-      ∙ ap (λ m. now P v m (min n s.limit) (min n s.limit - s.used) answers) (sym is)
-      ∙ ap₂ (λ l k. now P v new.machine (min n l) (min n l - k) answers) (sym limit) (sym used),
-)
-
--- a look-up that was answered with a view
+-- a look-up that was answered
 module _ (P : Program) (v : Views) (s : Reached) (f : Find) (at : s.mode ≡ modes.Find f) (u : Wanted) (g : ℕ) (us : List Stamped)
-    (mode : find_mode v f s.stack ≡ At (record { goals = Asking (Look u) ∷ goals_of s.stack s.stack.goals; variables = s.stack.env.count })) (answers_are : find_answers v f s.stack.env.heap ≡ Seen g us ∷ []) where
+    (is : (left : ℕ) (answers : List Answer) → finding P v left answers s f ≡ looking P v left answers s u (Seen g us)) where
   pub looked : (most left : ℕ) (answers : List Answer) → now P v s most left answers ≡ after P v s most left answers (looked_up us u (depth_of s) (goals_of s.stack s.stack.goals) s.stack.env.count (local_of s))
   unfolding turn meet answered
   looked most left answers =
-      let run : List Answer → Run = λ ans. record { steps = left; answers = ans; local = local_of s } in
-      ap (λ m. ending_of most (Rest P m)) (find-machine P v s f at left answers)
-      ∙ ap₂ (λ m ans. ending_of most (Rest P (record { mode = m; cases = cases_in P v s; run = run (ans ++ answers) }))) mode answers_are
-      ∙ ap (ending_of most) (Rest-turn P (record { mode = At (record { goals = Asking (Look u) ∷ goals_of s.stack s.stack.goals; variables = s.stack.env.count }); cases = cases_in P v s; run = run (Seen g us ∷ answers) }))
-      ∙ ap (λ d. after P v s most left answers (looked_up us u d (goals_of s.stack s.stack.goals) s.stack.env.count (local_of s))) (depth-in (database_of P v) s.stack)
+      ap (λ m. ending_of most (Rest P m)) (find-machine P v s f at left answers ∙ is left answers)
+      ∙ ap (ending_of most) (Rest-turn P (looking P v left answers s u (Seen g us)))
+      ∙ ap (λ d. after P v s most left answers (looked_up us u d (goals_of s.stack s.stack.goals) s.stack.env.count (local_of s))) (depth-in (database_of P v s.layer.own.updates) s.stack)
 
 -- ---- what clauses are looked up for
 
@@ -152,15 +128,6 @@ pub ok_or_err : {T E A B C : Type 0} (r : Outcomes T E) → OnOk r A → OnErr r
 ok_or_err (Ok x) a b f g = f a
 ok_or_err (Err e) a b f g = g b
 
--- values were added
-pub put-stays : (P : Program) (s : Progress) (st : State) → Extends s.machine.stack st → st.env.count ≡ s.machine.stack.env.count → Stands P s (record s { machine = record s.machine { stack = st } })
-put-stays P s st e count = record {
-  used = refl;
-  limit = refl;
-  places = refl;
-  there = stays-by P s.machine (record s.machine { stack = st }) e.basis (ap (λ fs. walks_of (reverse fs)) e.frames) refl e.values (ap₂ (λ es n. record { goals = es; variables = n }) e.visited count) (λ v. e.cases (database_of P v)) refl;
-}
-
 -- what an answer tells, by its query
 pub next-told : (v : Views) (g : ℕ) (q : Query) (h : Tree) (c : Cursor) (f : Found) (x : Option ClauseName) → q ≡ like h c → f ≡ found (v g) q → f ≡ NextFound x → x ≡ next_like_of (first_key h) c (living (v g) (indicator h))
 next-told v g q h c f x asked told is = let e : NextFound x ≡ NextFound (next_like_of (first_key h) c (living (v g) (indicator h))) = sym is ∙ told ∙ ap (found (v g)) asked in cc
@@ -168,15 +135,23 @@ next-told v g q h c f x asked told is = let e : NextFound x ≡ NextFound (next_
 pub clause-told : (v : Views) (g : ℕ) (q : Query) (x : ClauseName) (f : Found) (c : Option Clause) → q ≡ Query.Clause x → f ≡ found (v g) q → f ≡ ClauseFound c → c ≡ clause_alive x (v g)
 clause-told v g q x f c asked told is = let e : ClauseFound c ≡ ClauseFound (clause_alive x (v g)) = sym is ∙ told ∙ ap (found (v g)) asked in cc
 
+pub exists-told : (v : Views) (g : ℕ) (q : Query) (p : Indicator) (f : Found) (b : Bool) → q ≡ Query.Exists p → f ≡ found (v g) q → f ≡ ExistsFound b → b ≡ exists (v g) p
+exists-told v g q p f b asked told is = let e : ExistsFound b ≡ ExistsFound (exists (v g) p) = sym is ∙ told ∙ ap (found (v g)) asked in cc
+
 pub next-kind : (h : Tree) (c : Cursor) (f : Found) → IsFoundFor (like h c) f → IsNext f
 next-kind h c (NextFound x) fits = tt
 next-kind h c (ClauseFound x) fits = absurd fits
-next-kind h c (Found.Exists b) fits = absurd fits
+next-kind h c (ExistsFound b) fits = absurd fits
 
 pub clause-kind : (x : ClauseName) (f : Found) → IsFoundFor (Query.Clause x) f → IsClause f
 clause-kind x (NextFound y) fits = absurd fits
 clause-kind x (ClauseFound y) fits = tt
-clause-kind x (Found.Exists b) fits = absurd fits
+clause-kind x (ExistsFound b) fits = absurd fits
+
+pub exists-kind : (p : Indicator) (f : Found) → IsFoundFor (Query.Exists p) f → IsExists f
+exists-kind p (NextFound y) fits = absurd fits
+exists-kind p (ClauseFound y) fits = absurd fits
+exists-kind p (ExistsFound b) fits = tt
 
 -- the innermost walk is the one
 pub same-walking : (s : State) (p q : Point) (w u : Walk) → IsWalking s p w → IsWalking s q u → w ≡ u
@@ -189,3 +164,63 @@ pub finds-none : (m : Going) (f : Find) → m ≡ modes.Find f → (m ≡ modes.
 finds-none m f is (inl at) = let e : modes.Find f ≡ modes.Visit = sym is ∙ at in cc
 finds-none m f is (inr (inl at)) = let e : modes.Find f ≡ modes.Ask at.0 = sym is ∙ at.1 in cc
 finds-none m f is (inr (inr at)) = let e : modes.Find f ≡ modes.Back at.0 = sym is ∙ at.1 in cc
+
+-- so it is no last result, and no plain one
+pub finds-last : (m : Going) (f : Find) → m ≡ modes.Find f → IsLast m → ⊥
+finds-last m f is last = subst IsLast is last
+
+pub finds-plain : (m : Going) (f : Find) → m ≡ modes.Find f → IsPlain m → ⊥
+finds-plain m f is plain = subst IsPlain is plain
+
+pub plain-without : (m : Going) → ((f : Find) → m ≡ modes.Find f → ⊥) → IsPlain m
+plain-without modes.Visit none = tt
+plain-without (modes.Ask q) none = tt
+plain-without (modes.Find f) none = absurd (none f refl)
+plain-without (modes.Back r) none = tt
+
+-- ---- what is asked behind a reach
+
+-- the journal's clauses
+pub base-asks : (h : Tree) (r : Reach) → (q : Query) × ReachAsks h r q → ((c : Cursor) → r ≡ reaches.Base c → ⊥) → ⊥
+base-asks h (reaches.Front k) asks none = asks.1
+base-asks h (reaches.Base c) asks none = none c refl
+base-asks h (reaches.Back k) asks none = asks.1
+
+reach-base : (h : Tree) (r : Reach) (q : Query) → ReachAsks h r q → (c : Cursor) × (r ≡ reaches.Base c) × (q ≡ like h c)
+reach-base h (reaches.Front k) q asks = absurd asks
+reach-base h (reaches.Base c) q asks = (c, refl, asks)
+reach-base h (reaches.Back k) q asks = absurd asks
+
+for-any : (r : Reach) (c : Cursor) → r ≡ reaches.Base c → (h : Tree) → (q : Query) × ReachAsks h r q
+for-any r c is h = (like h c, subst (λ z. ReachAsks h z (like h c)) (sym is) refl)
+
+-- by a sweep
+pub sweep-base : (own : List Update) (st : Store) (f : Find) (c : Cell) (w : Sweep) (r : Reach) (q : Query) → f ≡ finds.Sweep c w → w.spot ≡ sweeps.Seek r → FindAsks own st f q → (cur : Cursor) × (r ≡ reaches.Base cur) × (q ≡ like (value st c) cur)
+sweep-base own st f c w r q is spot asks = reach-base (value st c) r q (subst (λ z. SweepAsks own w.view (value st c) z q) spot (subst (λ y. FindAsks own st y q) is asks))
+
+pub sweep-reach : (own : List Update) (st : Store) (f : Find) (c : Cell) (w : Sweep) (r : Reach) → f ≡ finds.Sweep c w → w.spot ≡ sweeps.Seek r → (q : Query) × FindAsks own st f q → (h : Tree) → (q : Query) × ReachAsks h r q
+sweep-reach own st f c w r is spot asks = let b = sweep-base own st f c w r asks.0 is spot asks.1 in for-any r b.0 b.1
+
+-- and of a clause
+pub sweep-clause : (own : List Update) (st : Store) (f : Find) (c : Cell) (w : Sweep) (x : ClauseName) (r : Reach) (q : Query) → f ≡ finds.Sweep c w → w.spot ≡ sweeps.At x r → FindAsks own st f q → ClauseAsks own w.view x q
+sweep-clause own st f c w x r q is spot asks = subst (λ z. SweepAsks own w.view (value st c) z q) spot (subst (λ y. FindAsks own st y q) is asks)
+
+-- by the innermost walk
+module _ (s : Reached) (p : Point) (w : Walk) (walking : IsWalking s.stack p w) where
+  abbrev head : Tree
+  head = head_in w.uses (value s.stack.env.heap w.goal)
+
+  spot-is : (k : ℕ) (q : Query) → WalksOn s k q → SpotAsks s.layer.own.updates head w.spot k q
+  spot-is k q on = subst (λ u. SpotAsks s.layer.own.updates (head_in u.uses (value s.stack.env.heap u.goal)) u.spot k q) (same-walking s.stack on.point p on.walk w on.at.walking walking) on.asks
+
+  pub walk-base : (g : View) (r : Reach) → LooksBehind w.spot g r → (k : ℕ) (q : Query) → WalksOn s k q → (c : Cursor) × (r ≡ reaches.Base c) × (q ≡ like head c) × (k ≡ g.place)
+  walk-base g r looks k q on =
+      let asks : (k ≡ g.place) × ReachAsks head r q = looks-elim (λ z. SpotAsks s.layer.own.updates head z k q → (k ≡ g.place) × ReachAsks head r q) g r w.spot looks (λ a. a) (λ x a. a) (spot-is k q on) in
+      let b = reach-base head r q asks.1 in
+      (b.0, b.1, b.2, asks.0)
+
+  pub walk-reach : (g : View) (r : Reach) → LooksBehind w.spot g r → (k : ℕ) × (q : Query) × WalksOn s k q → (h : Tree) → (q : Query) × ReachAsks h r q
+  walk-reach g r looks on = let b = walk-base g r looks on.0 on.1 on.2 in for-any r b.0 b.1
+
+  pub walk-clause : (g : View) (x : ClauseName) (y : Option Ahead) → w.spot ≡ spots.Known g x y → (k : ℕ) (q : Query) → WalksOn s k q → (k ≡ g.place) × ClauseAsks s.layer.own.updates g x q
+  walk-clause g x y at k q on = subst (λ z. SpotAsks s.layer.own.updates head z k q) at (spot-is k q on)

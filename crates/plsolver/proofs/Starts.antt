@@ -1,10 +1,13 @@
 -- Where a search starts.
-use Rattle.std.proofs.Common.{◌≡◌, ℕ, ◌+◌, ◌-◌, List, [], ◌∷◌, ◌++◌, map, length, sym, ap, ap₂, ◌∙◌, subst, arith, min, append-nil, reverse, true, inl, refl, le_refl}
+use Rattle.std.proofs.Common.{◌≡◌, ℕ, ◌+◌, ◌-◌, List, [], ◌∷◌, ◌++◌, map, length, sym, ap, ap₂, ◌∙◌, subst, arith, min, append-nil, reverse, true, false, inl, refl, le_refl}
 use Rattle.plterm.specs.Tree.{Tree}
 use Rattle.plterm.specs.Reading.{spelling}
 use Rattle.plterm.specs.Variables.{place, seen_after, renamed, variables, copied}
 use Rattle.plcells.specs.declared.cell.Cell.{Cell}
 use Rattle.plcells.specs.Store.{value}
+use Rattle.pltx.specs.Own.{any_open, nothing}
+use Rattle.plviews.specs.Layers.{bottom, Layered}
+use Rattle.plviews.specs.declared.view.View.{View}
 use Rattle.plprogram.specs.Program.{Program}
 use Rattle.plsearch.specs.Types.{Goal, Place, Choice}
 use Rattle.plsearch.specs.Engine.{out, outs}
@@ -16,7 +19,7 @@ use Rattle.pllinks.specs.declared.link.Continuation.{Continuation}
 use Rattle.pllinks.specs.Lists.{goal_of, all_elements}
 use Rattle.pllinks.specs.Links.{alone, done}
 use Rattle.pllinks.proofs.Arena.{list_at-none}
-use Rattle.plstack.specs.Places.{walks_of}
+use Rattle.plstack.specs.Places.{walks_of, Database}
 use Rattle.plstack.specs.State.{State, IsList, Extends, AddsList, goals_in, goals_of, cases_of, walks_in, IsFit, Opens}
 use Rattle.plstore.specs.Looking.{Views}
 use Rattle.plstack.specs.StaticCalls.{database_of}
@@ -24,13 +27,13 @@ use Rattle.plstack.proofs.Lists.{empty-list}
 use Rattle.plstack.proofs.Stacks.{no-cases}
 use Rattle.plmachine.specs.declared.machine.Mode.TheVariants as modes
 use Rattle.plmachine.specs.declared.machine.Machine.{Machine as Reached}
-use Rattle.plmachine.specs.Machine.{machine, mode_of, IsPlain, MayAsk}
-use Rattle.plmachine.proofs.Moves.{machine-is}
+use Rattle.plmachine.specs.Machine.{cases_in, local_of, machine, mode_of, IsPlain, IsTied, MayAsk, MayCarry}
+use Rattle.plmachine.proofs.Moves.{below-as, machine-is}
 use Rattle.plsolver.specs.declared.progress.Progress.{Progress}
-use Rattle.plstack.specs.Levels.{kinds_of, Fits, FitsIn}
-use Rattle.plstack.specs.declared.basis.Basis.{Basis}
+use Rattle.plstack.specs.Basis.{Basis}
+use Rattle.plstack.specs.Levels.{kinds_of, Choosing, FitsIn}
 use Rattle.plmachine.proofs.Levels.{fits-opened}
-use Rattle.plsolver.specs.Solver.{IsStart, IsEmpty, Starts, StartsGoal, rest_of}
+use Rattle.plsolver.specs.Solver.{IsOf, IsStart, IsEmpty, Starts, StartsGoal, rest_of}
 
 -- once/1 has the variables of its goal
 once-variables : (g : Tree) → variables (once g) ≡ variables g
@@ -72,28 +75,72 @@ starts-goal old st new list made v g t e is same grown l adds = record {
   cases = λ db. adds.stays.cases db ∙ e.cases db;
 }
 
--- the goals fit in the outermost choice
-start-fits : (gs : List Tree) → Fits (true ∷ []) 1 (start_from gs).goals
+-- the goals fit in the outermost choice, and end nothing
+start-fits : (gs : List Tree) → FitsIn (Choosing ∷ []) (start_from gs).goals
 unfolding start_from
-start-fits [] = tt
-start-fits (g ∷ gs) = (le_refl _, inl (refl, refl), start-fits gs)
+start-fits [] = (tt, refl)
+start-fits (g ∷ gs) = ((le_refl _, inl (refl, refl), (start-fits gs).0), (start-fits gs).1)
 
 pub starts-fit : (s opened : State) (list : Continuation) (gs : List Tree) → s.frames ≡ [] → Starts s list gs → Opens s opened (Choice [] ∷ []) → IsFit opened list
 starts-fit s opened list gs frames starts o =
     fits-opened s opened (Choice [] ∷ []) o list starts.list_there
-    (subst (λ fs. FitsIn (true ∷ kinds_of (reverse fs)) (goals_of s list)) (sym frames) (subst (Fits (true ∷ []) 1) (sym (ap (λ (p : Place). p.goals) starts.place)) (start-fits gs)))
+    (subst (λ fs. FitsIn (Choosing ∷ kinds_of (reverse fs)) (goals_of s list)) (sym frames) (subst (FitsIn (Choosing ∷ [])) (sym (ap (λ (p : Place). p.goals) starts.place)) (start-fits gs)))
+
+-- nothing is open at the start
+start-tied : (s : Reached) → s.stack.basis.latest ≡ record { place = 0; count = 0 } → s.stack.basis.starts ≡ [] → s.layer ≡ bottom → IsTied s
+start-tied s latest starts layer = record {
+  starts = ap reverse starts ∙ sym (ap (λ (x : Layered). map (λ l. l.start) x.own.levels) layer);
+  count = omega (arith, none);
+  base = λ opened. let e : false ≡ true = sym (ap (λ (x : Layered). any_open x.own) layer) ∙ opened in absurd cc;
+  closed = λ closed. none;
+  outer = λ k ks is. let e : [] ≡ k ∷ ks = sym starts ∙ is in absurd cc;
+}
+  where
+    none : s.stack.basis.latest.count ≡ 0
+    none = ap (λ (v : View). v.count) latest
 
 -- a machine at the start
-pub is-start : (P : Program) (s : Reached) (stack opened : State) (list : Continuation) → IsProgramCode P stack.basis.code → stack.basis.latest ≡ 0 → stack.frames ≡ [] → Starts stack list P.goals → Opens stack opened (Choice [] ∷ []) → s.stack ≡ record opened { goals = list } → s.mode ≡ modes.Visit → s.out.items ≡ [] → s.settings ≡ P.settings → s.kept ≡ [] → IsStart P s
-unfolding start_of cases_of
-is-start P s stack opened list code latest frames starts o is at out settings kept = record {
-  of = record { begun = subst (λ st. IsProgramCode P st.basis.code) (sym is) (subst (λ (b : Basis). IsProgramCode P b.code) (sym o.basis) code); askable = subst (λ m. MayAsk s.stack m) (sym at) tt };
-  latest = ap (λ (st : State). st.basis.latest) is ∙ ap (λ (b : Basis). b.latest) o.basis ∙ latest;
-  walks = ap walks_in is ∙ o.walks ∙ ap (λ fs. walks_of (reverse fs)) frames;
-  is = λ v left answers.
-      machine-is P v s (At (start_of P)) (Choice [] ∷ []) (record { out = []; settings = P.settings; kept = [] }) (subst IsPlain (sym at) tt) (ap₂ mode_of at is ∙ ap At (ap₂ (λ gs n. record { goals = gs; variables = n }) (o.lists list starts.list_there).1 o.count ∙ starts.place))
-      (ap (cases_of (database_of P v)) is ∙ o.cases (database_of P v) ∙ ap (λ cs. Choice [] ∷ cs) (starts.cases (database_of P v))) (ap₂ (λ o x. record { out = o; settings = x; kept = s.kept }) out settings ∙ ap (λ k. record { out = []; settings = P.settings; kept = k }) kept) left answers;
-}
+module _ (P : Program) (s : Reached) (stack opened : State) (list : Continuation) (code : IsProgramCode P stack.basis.code) (latest : stack.basis.latest ≡ record { place = 0; count = 0 }) (begun : stack.basis.starts ≡ []) (frames : stack.frames ≡ [])
+    (starts : Starts stack list P.goals) (o : Opens stack opened (Choice [] ∷ [])) (is : s.stack ≡ record opened { goals = list }) (layer : s.layer ≡ bottom) (at : s.mode ≡ modes.Visit) (out : s.out.items ≡ []) (settings : s.settings ≡ P.settings) (kept : s.kept ≡ []) where
+  basis-is : s.stack.basis ≡ stack.basis
+  basis-is = ap (λ (st : State). st.basis) is ∙ o.basis
+
+  latest-is : s.stack.basis.latest ≡ record { place = 0; count = 0 }
+  latest-is = ap (λ (b : Basis). b.latest) basis-is ∙ latest
+
+  start-of : IsOf P s
+  start-of = record {
+    begun = subst (λ (b : Basis). IsProgramCode P b.code) (sym basis-is) code;
+    sound = record {
+      tied = λ more. start-tied s latest-is (ap (λ (b : Basis). b.starts) basis-is ∙ begun) layer;
+      askable = subst (MayAsk s.layer.own s.stack) (sym at) tt;
+      carry = subst (MayCarry s.stack) (sym at) tt;
+    };
+  }
+
+  start-cases : (v : Views) → cases_in P v s ≡ Choice [] ∷ []
+  unfolding cases_of
+  start-cases v =
+      let db : Database = database_of P v s.layer.own.updates in
+      ap (cases_of db) is ∙ o.cases db ∙ ap (λ cs. Choice [] ∷ cs) (starts.cases db)
+
+  start-local : local_of s ≡ record { out = []; settings = P.settings; kept = []; own = nothing }
+  start-local =
+      ap₂ (λ o x. record { out = o; settings = x; kept = s.kept; own = s.layer.own }) out settings
+      ∙ ap₂ (λ k (x : Layered). record { out = []; settings = P.settings; kept = k; own = x.own }) kept layer
+
+  pub is-start : IsStart P s
+  unfolding start_of
+  is-start = record {
+    of = start-of;
+    latest = ap (λ (v : View). v.place) latest-is;
+    layer = layer;
+    walks = ap walks_in is ∙ o.walks ∙ ap (λ fs. walks_of (reverse fs)) frames;
+    is = λ v left answers.
+        machine-is P v s (At (start_of P)) (Choice [] ∷ []) [] (record { out = []; settings = P.settings; kept = []; own = nothing }) (subst IsPlain (sym at) tt)
+        (ap₂ mode_of at is ∙ ap At (ap₂ (λ gs n. record { goals = gs; variables = n }) (o.lists list starts.list_there).1 o.count ∙ starts.place))
+        (start-cases v) (below-as v (record s { layer = bottom }) s layer) start-local left answers;
+  }
 
 -- a solver at the start
 pub begins : (P : Program) (v : Views) (s : Progress) → IsStart P s.machine → s.used ≡ 0 → Begins (search_of P s.limit) (rest_of P v s) s.used

@@ -1,5 +1,5 @@
 -- What a look-up, and the walk that it becomes, may still ask.
-use Rattle.std.specs.Prelude.{◌≡◌, ◌≢◌, ◌⊎◌, List, [], ◌∷◌, filter, Option, None, Some}
+use Rattle.std.specs.Prelude.{◌≡◌, ◌≢◌, ◌⊎◌, ◌<◌, List, [], ◌∷◌, ◌++◌, filter, if◌then◌else◌, nat_eq, Option, None, Some}
 use Rattle.std.specs.List.{flat_map, AllByRecursion}
 use Rattle.plterm.specs.Tree.{Tree}
 use Rattle.plcells.specs.declared.cell.Cell.{Cell}
@@ -14,6 +14,10 @@ use Rattle.plstore.specs.declared.record.Cursor.TheVariants.{Start, After}
 use Rattle.plstore.specs.Like.{fits, rest}
 use Rattle.plstore.specs.Looking.{Views}
 use Rattle.plstore.specs.Rising.{Ordered}
+use Rattle.plviews.specs.declared.lookup.Reach.{Reach}
+use Rattle.plviews.specs.declared.lookup.Reach.TheVariants as reaches
+use Rattle.plviews.specs.declared.view.View.{View}
+use Rattle.plstack.specs.declared.frame.Ahead.{Ahead}
 use Rattle.plstack.specs.declared.frame.Use.{Use}
 use Rattle.plstack.specs.declared.frame.Use.TheVariants as uses
 use Rattle.plstack.specs.declared.frame.Spot.{Spot}
@@ -21,47 +25,58 @@ use Rattle.plstack.specs.declared.frame.Spot.TheVariants as spots
 use Rattle.plstack.specs.declared.frame.Point.{Point}
 use Rattle.plstack.specs.declared.frame.Walk.{Walk}
 use Rattle.plstack.specs.Places.{head_in}
-use Rattle.plstack.specs.State.{walks_in, EndsWalks}
+use Rattle.plstack.specs.State.{State, walks_in, EndsWalks}
 use Rattle.plstack.specs.Walks.{AtWalk}
-use Rattle.plmachine.specs.declared.machine.Reach.{Reach}
-use Rattle.plmachine.specs.declared.machine.Reach.TheVariants as reaches
+use Rattle.plmachine.specs.declared.machine.SweepSpot.{SweepSpot}
+use Rattle.plmachine.specs.declared.machine.SweepSpot.TheVariants as sweeps
 use Rattle.plmachine.specs.declared.machine.Find.{Find}
 use Rattle.plmachine.specs.declared.machine.Find.TheVariants as finds
 use Rattle.plmachine.specs.declared.machine.Outcome.TheVariants as outcomes
 use Rattle.plmachine.specs.declared.machine.Mode.TheVariants as modes
 use Rattle.plmachine.specs.declared.machine.Machine.{Machine as Reached}
 use Rattle.plmachine.specs.Machine.{IsPlain}
-use Rattle.plsolver.specs.Solver.{find_view, like}
+use Rattle.plsolver.specs.Fetching.{find_view, like}
 
--- the names of the clauses behind a cursor that may have the head h, in a view
+-- the names of the journal's clauses behind a cursor that may have the head h
 abbrev pub names_behind : List Stamped → Tree → Cursor → List ClauseName
 names_behind us h c = names_of (filter (fits (first_key h)) (rest c (living us (indicator h))))
 
--- a name and those behind it
-abbrev pub names_from : List Stamped → Tree → ClauseName → List ClauseName
-names_from us h x = x ∷ names_behind us h (After x)
+-- of each name its clause may be asked for, and which one is behind it
+abbrev pub names_asks : Tree → List ClauseName → List Query
+names_asks h xs = flat_map (λ x. Query.Clause x ∷ like h (After x) ∷ []) xs
 
-abbrev pub names_from_if : List Stamped → Tree → Option ClauseName → List ClauseName
-names_from_if us h None = []
-names_from_if us h (Some x) = names_from us h x
+abbrev pub behind_asks : List Stamped → Tree → Cursor → List Query
+behind_asks us h c = like h c ∷ names_asks h (names_behind us h c)
 
--- at a name a walk asks which one is behind it, and then for its clause; a sweep asks for the clause first
-abbrev pub walk_asks : Tree → List ClauseName → List Query
-walk_asks h xs = flat_map (λ x. like h (After x) ∷ Query.Clause x ∷ []) xs
+-- behind a reach: own clauses are asked for nowhere
+abbrev pub reach_asks : List Stamped → Tree → Reach → List Query
+reach_asks us h (reaches.Front k) = behind_asks us h Start
+reach_asks us h (reaches.Base c) = behind_asks us h c
+reach_asks us h (reaches.Back k) = []
 
-abbrev pub sweep_asks : Tree → List ClauseName → List Query
-sweep_asks h xs = flat_map (λ x. Query.Clause x ∷ like h (After x) ∷ []) xs
+-- the clause of a name, which is not one of the view's place, where own clauses are
+abbrev pub clause_asks : View → ClauseName → List Query
+clause_asks g x = if nat_eq x.place g.place then [] else Query.Clause x ∷ []
+
+-- a clause, and those behind a reach
+abbrev pub onward_asks : View → List Stamped → Tree → ClauseName → Reach → List Query
+onward_asks g us h x r = clause_asks g x ++ reach_asks us h r
+
+abbrev pub ahead_asks : View → List Stamped → Tree → Option Ahead → List Query
+ahead_asks g us h None = []
+ahead_asks g us h (Some y) = onward_asks g us h y.name y.reach
 
 -- what a walk for the head h may still ask, at a spot
 abbrev pub spot_asks : Views → Tree → Spot → List Query
 spot_asks v h (spots.Text k) = []
-spot_asks v h (spots.At g x) = walk_asks h (names_from (v g) h x)
-spot_asks v h (spots.Known g x y) = Query.Clause x ∷ walk_asks h (names_from_if (v g) h y)
+spot_asks v h (spots.Seek g r) = reach_asks (v g.place) h r
+spot_asks v h (spots.At g x r) = onward_asks g (v g.place) h x r
+spot_asks v h (spots.Known g x y) = clause_asks g x ++ ahead_asks g (v g.place) h y
 
 -- what a sweep may still ask
-abbrev pub reach_asks : List Stamped → Tree → Reach → List Query
-reach_asks us h (reaches.Behind c) = like h c ∷ sweep_asks h (names_behind us h c)
-reach_asks us h (reaches.At x) = sweep_asks h (names_from us h x)
+abbrev pub sweep_asks : View → List Stamped → Tree → SweepSpot → List Query
+sweep_asks g us h (sweeps.Seek r) = reach_asks us h r
+sweep_asks g us h (sweeps.At x r) = onward_asks g us h x r
 
 -- where no clause may be for a goal, of one that is called it is asked whether its procedure exists
 abbrev pub none_asks : Use → Tree → List Query
@@ -71,23 +86,42 @@ none_asks uses.Erase h = []
 
 abbrev pub first_asks : Use → Tree → List ClauseName → List Query
 first_asks u h [] = none_asks u h
-first_asks u h (x ∷ xs) = walk_asks h (x ∷ xs)
+first_asks u h (x ∷ xs) = names_asks h (x ∷ xs)
 
 -- what a look-up may still ask, with the walk that it becomes
 abbrev pub find_asks : Views → Store → Find → List Query
-find_asks v s (finds.First x g) = let h = head_in x.uses (value s x.goal) in like h Start ∷ first_asks x.uses h (names_behind (v g) h Start)
+find_asks v s (finds.First x g) = let h = head_in x.uses (value s x.goal) in like h Start ∷ first_asks x.uses h (names_behind (v g.place) h Start)
 find_asks v s (finds.Exists c g) = Query.Exists (indicator (value s c)) ∷ []
-find_asks v s (finds.All c g) = Query.Exists (indicator (value s c)) ∷ reach_asks (v g) (value s c) (reaches.Behind Start)
-find_asks v s (finds.Sweep c w) = reach_asks (v w.view) (value s c) w.reach
+find_asks v s (finds.All c g) = Query.Exists (indicator (value s c)) ∷ behind_asks (v g.place) (value s c) Start
+find_asks v s (finds.Sweep c w) = sweep_asks w.view (v w.view.place) (value s c) w.spot
 
 -- no query comes twice
 abbrev pub EachOnce : List Query → Type 0
 EachOnce [] = Unit {0}
 EachOnce (q ∷ qs) = AllByRecursion (λ r. q ≢ r) qs × EachOnce qs
 
+-- a look-up at its beginning: a sweep is one whose procedure was found to exist
+abbrev pub IsFirstOf : Find → Type 0
+IsFirstOf (finds.First x g) = Unit {0}
+IsFirstOf (finds.Exists c g) = Unit {0}
+IsFirstOf (finds.All c g) = Unit {0}
+IsFirstOf (finds.Sweep c w) = ⊥
+
 -- what a look-up may ask, in a view whose updates are in order, holds no query twice
 abbrev pub AsksOnce : Type 0
-AsksOnce = (v : Views) (s : Store) (f : Find) → Ordered (v (find_view f)) → EachOnce (find_asks v s f)
+AsksOnce = (v : Views) (s : Store) (f : Find) → IsFirstOf f → Ordered (v (find_view f).place) → EachOnce (find_asks v s f)
+
+-- a query was among these, and is not among those that are left; some that stood behind it may have gone with it
+pub record Spends (old : List Query) (q : Query) (new : List Query) : Type 0 where
+  pub before : List Query
+  pub gone : List Query
+  pub behind : List Query
+  pub was : old ≡ before ++ (q ∷ (gone ++ behind))
+  pub is : new ≡ before ++ behind
+
+-- so it is asked no more where no query comes twice, and none does again
+abbrev pub AsksNoMore : Type 0
+AsksNoMore = (old new : List Query) (q : Query) → Spends old q new → EachOnce old → AllByRecursion (λ r. q ≢ r) new × EachOnce new
 
 -- a walk for the head h stands before the others at a spot where these may still be asked, or has ended
 abbrev pub WalkLeft : Views → Tree → Cell → Use → List Query → List Walk → List Walk → Type 0
@@ -106,22 +140,57 @@ FindLeft v f old new qs =
     ((g : Find) × (new.mode ≡ modes.Find g) × (find_asks v new.stack.env.heap g ≡ qs) × (walks_in new.stack ≡ walks_in old.stack))
     ⊎ (IsPlain new.mode × LeavesWalk v f old new qs)
 
--- it could ask a query first, and may still ask no more than the others
+-- a query was among those that it could ask
 pub record FindAsked (v : Views) (f : Find) (old new : Reached) (q : Query) : Type 0 where
   pub others : List Query
-  pub was : find_asks v old.stack.env.heap f ≡ q ∷ others
+  pub spends : Spends (find_asks v old.stack.env.heap f) q others
   pub left : FindLeft v f old new others
 
--- so could the innermost walk
+-- and so of the innermost walk
 pub record WalkAsked (v : Views) (w : Walk) (old new : Reached) (q : Query) : Type 0 where
   pub others : List Query
-  pub was : spot_asks v (head_in w.uses (value old.stack.env.heap w.goal)) w.spot ≡ q ∷ others
+  pub spends : Spends (spot_asks v (head_in w.uses (value old.stack.env.heap w.goal)) w.spot) q others
   pub outside : List Walk
   pub walks : walks_in old.stack ≡ w ∷ outside
   pub plain : IsPlain new.mode
   pub left : WalkLeft v (head_in w.uses (value old.stack.env.heap w.goal)) w.goal w.uses others outside (walks_in new.stack)
 
--- what was asked was the first that the look-up in hand, or the innermost walk, could ask
+-- what was asked was among what the look-up in hand, or the innermost walk, could ask, and may be asked by it no more
 pub record AsksNext (v : Views) (old new : Reached) (q : Query) : Type 0 where
   pub find : (f : Find) → old.mode ≡ modes.Find f → FindAsked v f old new q
   pub walk : (p : Point) (w : Walk) → AtWalk old.stack p w → old.mode ≡ modes.Back outcomes.Fail → WalkAsked v w old new q
+
+-- the view in which a walk goes on; one over the program's text sees no updates
+abbrev pub view_at : Spot → View
+view_at (spots.Text k) = record { place = 0; count = 0 }
+view_at (spots.Seek g r) = g
+view_at (spots.At g x r) = g
+view_at (spots.Known g x y) = g
+
+-- a walk sees own updates
+abbrev pub SeesOwn : Walk → Type 0
+SeesOwn w = 0 < (view_at w.spot).count
+
+-- a walk stands further on, at a spot where it may ask no more than it could, whatever its head is
+pub record GoesFurther (old new : Walk) : Type 0 where
+  pub goal : new.goal ≡ old.goal
+  pub uses : new.uses ≡ old.uses
+  pub view : view_at new.spot ≡ view_at old.spot
+  pub asks : (v : Views) (h : Tree) → (gone : List Query) × (spot_asks v h old.spot ≡ gone ++ spot_asks v h new.spot)
+
+abbrev pub AllFurther : List Walk → List Walk → Type 0
+AllFurther [] [] = Unit {0}
+AllFurther [] (x ∷ xs) = ⊥
+AllFurther (w ∷ ws) [] = ⊥
+AllFurther (w ∷ ws) (x ∷ xs) = GoesFurther w x × AllFurther ws xs
+
+-- without an answer the innermost walks may have ended, and others have gone on; and walks over own clauses may have begun
+pub record Further (old new : State) : Type 0 where
+  pub ended : List Walk
+  pub kept : List Walk
+  pub begun : List Walk
+  pub left : List Walk
+  pub was : walks_in old ≡ ended ++ kept
+  pub now : walks_in new ≡ begun ++ left
+  pub further : AllFurther kept left
+  pub own : AllByRecursion SeesOwn begun

@@ -1,3 +1,6 @@
+pub mod Fetching
+pub mod Knowing
 pub mod Solver
+pub mod Going
 pub mod Says
 pub mod Asking

@@ -9,7 +9,8 @@ use Rattle.plsolver.specs.declared.solver.Turn.{Turn}
 use Rattle.plsolver.specs.declared.solver.Turn.TheVariants as turns
 use Rattle.plsolver.specs.declared.progress.Due.TheVariants as dues
 use Rattle.plstore.specs.Looking.{Views}
-use Rattle.plsolver.specs.Solver.{Fetches, rest_of, Settled, WaitsForView, WaitsForReply}
+use Rattle.plsolver.specs.Fetching.{Fetches}
+use Rattle.plsolver.specs.Solver.{rest_of, Settled, WaitsForView, WaitsForReply}
 
 -- it waits for a reply or for a view, a goal is to be selected with a step that is left, or it has ended
 unfoldable pub Says : Program → Progress → Turn → Type 0

@@ -7,12 +7,13 @@ ghost use Rattle.plsearch.specs.Solving.{TakesOne};
 ghost use Rattle.plstack.specs.State.{walks_in};
 ghost use Rattle.plstore.specs.Looking.{Views};
 ghost use Rattle.plmachine.specs.Machine.{result_of};
-ghost use Rattle.plsolver.specs.Solver.{IsOf, Stays, rest_of, Waits, ReplyFits, IsOver, after_done, after_reply};
+ghost use Rattle.plsolver.specs.Solver.{IsOf, Stays, latest_view, rest_of, Waits, ReplyFits, IsOver, IsRequestOf, after_done, after_reply, next_after};
+ghost use Rattle.plevent.specs.declared.request.Request.{Request as Requested};
 ghost use Rattle.plsolver.specs.Says.{Says, IsSlice};
 
 use crate::progress::Progress;
 use crate::solver::Turn;
-use plevent::request::{Reply, ThreadEnd};
+use plevent::request::{Reply, Request, ThreadEnd};
 use plmachine::machine::{Mode, Outcome, Question, Then};
 use plprogram::program::Program;
 use std::alloc::{AllocError, Global};
@@ -25,7 +26,7 @@ impl Progress {
         requires within { self.old.used ≤ self.old.limit }
         ensures ok { OnOk result ((v : Views) → TakesOne (Got reply) (rest_of program.now v self.old) self.old.used (rest_of program.now v self.new) self.new.used) }
         ensures of { IsOf program.now self.new.machine }
-        ensures basis { self.new.machine.stack.basis ≡ self.old.machine.stack.basis }
+        ensures latest { latest_view self.new ≡ latest_view self.old }
         ensures places { OnOk result (self.new.places.items ≡ self.old.places.items ++ place ∷ []) }
         ensures limit { self.new.limit ≡ self.old.limit }
         ensures err { OnErr result (Stays program.now self.old self.new) }
@@ -34,10 +35,7 @@ impl Progress {
         let Mode::Ask(question) = &self.machine.mode else {
             unreachable!()
         };
-        let Question::Await(_, next) = question else {
-            unreachable!()
-        };
-        let next = *next;
+        let next = next_of(question);
         self.places.push(place)?;
         self.machine.mode = mode_after(&reply, next);
         Ok(())
@@ -53,10 +51,7 @@ impl Progress {
         let Mode::Ask(question) = &self.machine.mode else {
             unreachable!()
         };
-        let Question::Await(request, _) = question else {
-            unreachable!()
-        };
-        let request = request.copied(self.machine.alloc)?;
+        let request = request_of(self.machine.alloc, question)?;
         Ok(Turn::Ask(request))
     }
 
@@ -72,6 +67,30 @@ impl Progress {
         };
         let end = end_of(self.machine.alloc, outcome)?;
         Ok(Turn::Ended(end))
+    }
+}
+
+/// The request that a question asks.
+fn request_of(alloc: Global, question: &Question) -> Result<Request, AllocError>
+    requires { (q : Requested) × IsRequestOf question.now q }
+    ensures { IfOk result (λ q. IsRequestOf question.now q) }
+{
+    match question {
+        Question::Await(request, _) => request.copied(alloc),
+        Question::Erase(name) => Ok(Request::EraseOne(*name)),
+        Question::Look(_) | Question::Begin(_, _) => unreachable!(),
+    }
+}
+
+/// What follows the request that a question asks.
+fn next_of(question: &Question) -> Then
+    requires { (q : Requested) × IsRequestOf question.now q }
+    ensures { result ≡ next_after question.now }
+{
+    match question {
+        Question::Await(_, next) => *next,
+        Question::Erase(_) => Then::GoesOn,
+        Question::Look(_) | Question::Begin(_, _) => unreachable!(),
     }
 }
 
@@ -107,7 +126,7 @@ fn end_of(alloc: Global, outcome: &Outcome) -> Result<ThreadEnd, AllocError>
 {
     match outcome {
         Outcome::Stop => Ok(ThreadEnd::True),
-        Outcome::Fail | Outcome::CutTo(_) => Ok(ThreadEnd::False),
+        Outcome::Fail => Ok(ThreadEnd::False),
         Outcome::Halted(number) => Ok(ThreadEnd::Halt(*number)),
         Outcome::Spent => Ok(ThreadEnd::Budget),
         Outcome::Throw(ball, _) => {

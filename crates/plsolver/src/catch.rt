@@ -4,6 +4,7 @@
 
 ghost use Rattle.std.specs.Prelude.{◌≡◌, ◌-◌, drop, true, OnOk, OnErr};
 ghost use Rattle.plcells.specs.Store.{IsValue};
+ghost use Rattle.plprogram.specs.Program.{Program as Given};
 ghost use Rattle.plstack.specs.State.{goals_of, kinds_in, EndsWalks, HasCatcher, HasGatherer, HasHandler, IsList};
 ghost use Rattle.plstack.specs.Levels.{FitsIn};
 ghost use Rattle.plmachine.specs.Machine.{depth_of};
@@ -16,7 +17,6 @@ use pllinks::item::Item;
 use pllinks::link::Continuation;
 use plmachine::machine::{Mode, Outcome};
 use plmachine::running::Ready;
-use plprogram::program::Program;
 use plstack::frame::{Handler, Handling};
 use plterm::term::Term;
 use std::alloc::AllocError;
@@ -24,11 +24,11 @@ use std::alloc::AllocError;
 impl Progress {
     /// The ball that is carried, at the innermost case, which is a catcher that is active.
     #[tactic(auto, using(crate::proofs::Ending::ends_same, crate::proofs::Ending::ends_refl))]
-    pub(crate) fn catch(&mut self, program: &Program) -> Result<(), AllocError>
+    pub(crate) fn catch(&mut self) -> Result<(), AllocError>
         requires catch { HasCatcher self.old.machine.stack }
         requires throws { throws_to (depth_of self.old.machine - 1) self.old.machine.mode ≡ true }
-        ensures ok { OnOk result (Quiet program.now self.old self.new) }
-        ensures err { OnErr result (Stays program.now self.old self.new) }
+        ensures ok { OnOk result ((P : Given) → Quiet P self.old self.new) }
+        ensures err { OnErr result ((P : Given) → Stays P self.old self.new) }
         ensures walks { EndsWalks self.old.machine.stack self.new.machine.stack }
     {
         let Handling { handler, list } = self.machine.stack.rewind();
@@ -43,7 +43,7 @@ impl Progress {
         };
         let v = self.machine.stack.put_copy(self.machine.alloc, ball)?;
         if self.machine.stack.unify(catcher.catcher, v)? {
-            self.recover(program, catcher.recovery, list)?;
+            self.recover(catcher.recovery, list)?;
         } else {
             self.machine.stack.close();
         }
@@ -52,11 +52,11 @@ impl Progress {
 
     /// Failure, at the innermost case, which gathers what was kept.
     #[tactic(auto, using(crate::proofs::Ending::ends_same, crate::proofs::Ending::ends_refl))]
-    pub(crate) fn gather(&mut self, program: &Program) -> Result<(), AllocError>
+    pub(crate) fn gather(&mut self) -> Result<(), AllocError>
         requires gathers { HasGatherer self.old.machine.stack }
         requires fails { self.old.machine.mode ≡ Mode.Back Outcome.Fail }
-        ensures ok { OnOk result (Quiet program.now self.old self.new) }
-        ensures err { OnErr result (Stays program.now self.old self.new) }
+        ensures ok { OnOk result ((P : Given) → Quiet P self.old self.new) }
+        ensures err { OnErr result ((P : Given) → Stays P self.old self.new) }
         ensures walks { EndsWalks self.old.machine.stack self.new.machine.stack }
     {
         let Handling { handler, list } = self.machine.stack.rewind();
@@ -77,23 +77,18 @@ impl Progress {
 
     /// Runs a recovery before a list, in place of the innermost case, which is its catcher.
     #[tactic(auto, using(crate::proofs::Ending::ends_same, crate::proofs::Ending::ends_refl))]
-    fn recover(
-        &mut self,
-        program: &Program,
-        recovery: Cell,
-        list: Continuation,
-    ) -> Result<(), AllocError>
+    fn recover(&mut self, recovery: Cell, list: Continuation) -> Result<(), AllocError>
         requires back { IsBack self.old }
         requires catch { HasHandler self.old.machine.stack }
         requires recovery { IsValue self.old.machine.stack.env.heap recovery }
         requires list { IsList self.old.machine.stack list }
         requires fits { FitsIn (drop 1 (kinds_in self.old.machine.stack)) (goals_of self.old.machine.stack list) }
-        ensures ok { OnOk result (Recovered program.now self.old self.new recovery list) }
-        ensures err { OnErr result (Stays program.now self.old self.new) }
+        ensures ok { OnOk result ((P : Given) → Recovered P self.old self.new recovery list) }
+        ensures err { OnErr result ((P : Given) → Stays P self.old self.new) }
         ensures walks { EndsWalks self.old.machine.stack self.new.machine.stack }
     {
         match self.machine.ready(recovery)? {
-            Ready::Raises(error) => self.rethrow(program, error, list),
+            Ready::Raises(error) => self.rethrow(error, list),
             Ready::Runs(goal) => {
                 let level = self.machine.stack.level();
                 let made = self.machine.stack.link(Item::Goal(level, goal), list)?;
@@ -107,15 +102,11 @@ impl Progress {
 
     /// Throws an error of catch/3 before a list, in place of the innermost case.
     #[tactic(auto, using(crate::proofs::Ending::ends_same, crate::proofs::Ending::ends_refl))]
-    fn rethrow(
-        &mut self,
-        program: &Program,
-        error: Term,
-        list: Continuation,
-    ) -> Result<(), AllocError>
+    fn rethrow(&mut self, error: Term, list: Continuation) -> Result<(), AllocError>
         requires catch { HasHandler self.old.machine.stack }
         requires list { IsList self.old.machine.stack list }
-        ensures ok { OnOk result (Rethrown program.now self.old self.new error list) }
+        requires fits { FitsIn (drop 1 (kinds_in self.old.machine.stack)) (goals_of self.old.machine.stack list) }
+        ensures ok { OnOk result ((P : Given) → Rethrown P self.old self.new error list) }
         ensures err { OnErr result (self.new ≡ self.old) }
         ensures walks { EndsWalks self.old.machine.stack self.new.machine.stack }
     {

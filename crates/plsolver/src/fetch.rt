@@ -3,19 +3,19 @@
 ghost use Rattle.std.specs.Prelude.{◌≡◌, ◌≤◌, ℕ, IfOk, OnErr, OnOk};
 ghost use Rattle.plcells.specs.Store.{value, IsValue};
 ghost use Rattle.plclause.specs.Indicators.{indicator};
+ghost use Rattle.plprogram.specs.Program.{Program as Given};
 ghost use Rattle.plstore.specs.Looking.{Views, found as found_of};
-ghost use Rattle.plstore.specs.Rising.{Ordered};
 ghost use Rattle.plstore.specs.declared.query.Query.{Query as Asked};
 ghost use Rattle.plstore.specs.declared.query.Query.TheVariants.{Exists as ExistsOf};
 ghost use Rattle.plstore.specs.declared.query.Found.TheVariants.{Clause as ClauseOf, Exists as ExistsFound, Next as NextOf};
 ghost use Rattle.plterm.specs.Tree.{Tree};
-ghost use Rattle.plmachine.specs.Machine.{IsFound, MayAsk};
-ghost use Rattle.plmachine.specs.declared.machine.Find.TheVariants.{Sweep as SweepOf};
-ghost use Rattle.plmachine.specs.declared.machine.Mode.TheVariants.{Find as Finds};
-ghost use Rattle.plmachine.specs.declared.machine.Sweep.{Sweep as OfSweep};
-ghost use Rattle.plsolver.specs.Asking.{AsksNext, FindAsked};
+ghost use Rattle.plviews.specs.Views.{AreOrdered};
+ghost use Rattle.plmachine.specs.Machine.{IsFound};
+ghost use Rattle.plsolver.specs.Asking.{AsksNext};
+ghost use Rattle.plsolver.specs.Fetching.{Fetches, find_view, FindAsks, IsClause, IsExists, IsFetching, IsFoundFor, IsNext, ReachAsks, Seeks, WalksOn};
+ghost use Rattle.plsolver.specs.Going.{IsSweeping};
 ghost use Rattle.plsolver.specs.Says.{Says, IsSlice};
-ghost use Rattle.plsolver.specs.Solver.{Fetches, find_query, find_view, IsClause, IsExists, IsFetching, IsFoundFor, IsNext, IsOf, KeepsRest, like, reach_query, Stays, Sweeping, WalksOn};
+ghost use Rattle.plsolver.specs.Solver.{latest_view, IsOf, KeepsRest, Stays};
 
 use crate::progress::Progress;
 use crate::solver::Turn;
@@ -23,11 +23,12 @@ use plcells::cell::Cell;
 use plclause::clause::Clause;
 use plevent::ClauseName;
 use plmachine::indicator::indicator_of;
-use plmachine::machine::{Find, Mode, Reach};
+use plmachine::machine::{Find, Mode, SweepSpot};
 use plmachine::sought::{first_key, head_of};
 use plprogram::program::Program;
 use plstack::frame::Spot;
 use plstore::{Cursor, Found, Query};
+use plviews::{Reach, View};
 use std::alloc::AllocError;
 
 impl Progress {
@@ -45,11 +46,15 @@ impl Progress {
         Ok(Turn::Fetch(query))
     }
 
-    /// The next clause of the procedure of a head, behind a cursor, by the key of its first argument.
-    fn like(&self, head: Cell, cursor: Cursor) -> Result<Query, AllocError>
-        requires { IsValue self.now.machine.stack.env.heap head }
-        ensures { IfOk result (λ q. q ≡ like (value self.now.machine.stack.env.heap head) cursor) }
+    /// The next clause of the procedure of a head behind a reach, which is the journal's, by the key of its first argument.
+    fn like(&self, head: Cell, reach: Reach) -> Result<Query, AllocError>
+        requires head { IsValue self.now.machine.stack.env.heap head }
+        requires asks { (h : Tree) → (q : Asked) × ReachAsks h reach q }
+        ensures { IfOk result (ReachAsks (value self.now.machine.stack.env.heap head) reach) }
     {
+        let Reach::Base(cursor) = reach else {
+            unreachable!()
+        };
         let heap = self.machine.stack.env().heap();
         let p = indicator_of(self.machine.alloc, heap, head)?;
         let key = first_key(heap, head)?;
@@ -68,19 +73,21 @@ impl Progress {
 
     /// What a look-up asks.
     fn find_query(&self, find: &Find) -> Result<Query, AllocError>
-        requires { IsFound self.now.machine.stack find.now }
-        ensures { IfOk result (λ q. q ≡ find_query self.now.machine.stack.env.heap find.now) }
+        requires there { IsFound self.now.machine.layer.own self.now.machine.stack find.now }
+        requires asks { (q : Asked) × FindAsks self.now.machine.layer.own.updates self.now.machine.stack.env.heap find.now q }
+        ensures { IfOk result (FindAsks self.now.machine.layer.own.updates self.now.machine.stack.env.heap find.now) }
     {
         match find {
             Find::First(sought, _) => {
                 let heap = self.machine.stack.env().heap();
-                self.like(head_of(heap, sought.uses, sought.goal), Cursor::Start)
+                let head = head_of(heap, sought.uses, sought.goal);
+                self.like(head, Reach::Base(Cursor::Start))
             }
             Find::Exists(goal, _) => self.exists(*goal),
             Find::All(head, _) => self.exists(*head),
-            Find::Sweep(head, sweep) => match sweep.reach {
-                Reach::Behind(cursor) => self.like(*head, cursor),
-                Reach::At(name) => Ok(Query::Clause(name)),
+            Find::Sweep(head, sweep) => match sweep.spot {
+                SweepSpot::Seek(reach) => self.like(*head, reach),
+                SweepSpot::At(name, _) => Ok(Query::Clause(name)),
             },
         }
     }
@@ -95,11 +102,8 @@ impl Progress {
         };
         match at.walk.spot {
             Spot::Text(_) => unreachable!(),
-            Spot::At(_, name) => {
-                let heap = self.machine.stack.env().heap();
-                let head = head_of(heap, at.walk.uses, at.walk.goal);
-                self.like(head, Cursor::After(name))
-            }
+            Spot::Seek(_, reach) => self.like(self.head_at(&at), reach),
+            Spot::At(_, _, reach) => self.like(self.head_at(&at), reach),
             Spot::Known(_, name, _) => Ok(Query::Clause(name)),
         }
     }
@@ -107,12 +111,12 @@ impl Progress {
     /// The place of the view in which something is asked.
     pub(crate) fn view(&self) -> u64
         requires fetching { IsFetching self.now }
-        requires askable { MayAsk self.now.machine.stack self.now.machine.mode }
+        requires of { (P : Given) × IsOf P self.now.machine }
         ensures is { (g : ℕ) (q : Asked) → Fetches self.now g q → result ≡ g }
-        ensures seen { result ≤ self.now.machine.stack.basis.latest }
+        ensures seen { result ≤ latest_view self.now }
     {
         match &self.machine.mode {
-            Mode::Find(find) => view_of(find),
+            Mode::Find(find) => view_of(find).place,
             Mode::Visit | Mode::Ask(_) | Mode::Back(_) => self.walk_view(),
         }
     }
@@ -121,14 +125,16 @@ impl Progress {
     fn walk_view(&self) -> u64
         requires { (g : ℕ) × (q : Asked) × WalksOn self.now.machine g q }
         ensures is { (g : ℕ) (q : Asked) → WalksOn self.now.machine g q → result ≡ g }
-        ensures seen { result ≤ self.now.machine.stack.basis.latest }
+        ensures seen { result ≤ latest_view self.now }
     {
         let Some(at) = self.machine.stack.walking() else {
             unreachable!()
         };
         match at.walk.spot {
             Spot::Text(_) => unreachable!(),
-            Spot::At(g, _) | Spot::Known(g, _, _) => g,
+            Spot::Seek(view, _) => view.place,
+            Spot::At(view, _, _) => view.place,
+            Spot::Known(view, _, _) => view.place,
         }
     }
 
@@ -136,93 +142,81 @@ impl Progress {
     pub(crate) fn fetched(&mut self, program: &Program, found: Found) -> Result<(), AllocError>
         requires of { IsOf program.now self.old.machine }
         requires fits { (g : ℕ) × (q : Asked) × Fetches self.old g q × IsFoundFor q found }
-        ensures ok { OnOk result ((v : Views) (g : ℕ) (q : Asked) → Fetches self.old g q → Ordered (v g) → found ≡ found_of (v g) q → KeepsRest program.now v self.old self.new) }
+        ensures ok { OnOk result ((v : Views) → AreOrdered v → (g : ℕ) (q : Asked) → Fetches self.old g q → found ≡ found_of (v g) q → KeepsRest program.now v self.old self.new) }
         ensures of { IsOf program.now self.new.machine }
-        ensures basis { self.new.machine.stack.basis ≡ self.old.machine.stack.basis }
+        ensures latest { latest_view self.new ≡ latest_view self.old }
         ensures frame { self.new ≡ record self.old { machine = self.new.machine } }
         ensures err { OnErr result (Stays program.now self.old self.new) }
-        ensures asked { OnOk result ((v : Views) (g : ℕ) (q : Asked) → Fetches self.old g q → Ordered (v g) → found ≡ found_of (v g) q → AsksNext v self.old.machine self.new.machine q) }
+        ensures asked { OnOk result ((v : Views) → AreOrdered v → (g : ℕ) (q : Asked) → Fetches self.old g q → found ≡ found_of (v g) q → AsksNext v self.old.machine self.new.machine q) }
     {
         let Mode::Find(find) = &self.machine.mode else {
-            return self.fetched_walk(program, found);
+            return self.fetched_walk(found);
         };
         match find {
-            Find::First(sought, g) => {
-                let (sought, g) = (*sought, *g);
-                self.found_first(program, sought, g, next_in(found))
+            Find::First(sought, view) => {
+                let (sought, view) = (*sought, *view);
+                self.found_first(program, sought, view, next_in(found))
             }
-            Find::Exists(goal, g) => {
-                let (goal, g) = (*goal, *g);
-                self.found_exists(program, goal, g, exists_in(found))
+            Find::Exists(goal, view) => {
+                let (goal, view) = (*goal, *view);
+                self.found_exists(program, goal, view, exists_in(found))
             }
-            Find::All(head, g) => {
-                let (head, g) = (*head, *g);
-                self.found_all(program, head, g, exists_in(found))
+            Find::All(head, view) => {
+                let (head, view) = (*head, *view);
+                self.found_all(program, head, view, exists_in(found))
             }
-            Find::Sweep(_, sweep) => {
-                let reach = sweep.reach;
-                self.fetched_sweep(program, reach, found)
-            }
+            Find::Sweep(_, _) => self.fetched_sweep(program, found),
         }
     }
 
     /// The same for the erasure of all clauses of a head.
-    fn fetched_sweep(
-        &mut self,
-        program: &Program,
-        reach: Reach,
-        found: Found,
-    ) -> Result<(), AllocError>
+    fn fetched_sweep(&mut self, program: &Program, found: Found) -> Result<(), AllocError>
         requires of { IsOf program.now self.old.machine }
-        requires sweeps { Sweeping self.old reach }
-        requires fits { (h : Tree) → IsFoundFor (reach_query h reach) found }
-        ensures ok { OnOk result ((v : Views) (head : Cell) (w : OfSweep) → self.old.machine.mode ≡ Finds (SweepOf head w) → Ordered (v w.view) → found ≡ found_of (v w.view) (reach_query (value self.old.machine.stack.env.heap head) reach) → KeepsRest program.now v self.old self.new) }
+        requires sweeps { IsSweeping self.old }
+        requires fits { (g : ℕ) × (q : Asked) × Seeks self.old.machine g q × IsFoundFor q found }
+        ensures ok { OnOk result ((v : Views) → AreOrdered v → (g : ℕ) (q : Asked) → Seeks self.old.machine g q → found ≡ found_of (v g) q → KeepsRest program.now v self.old self.new) }
         ensures of { IsOf program.now self.new.machine }
-        ensures basis { self.new.machine.stack.basis ≡ self.old.machine.stack.basis }
+        ensures latest { latest_view self.new ≡ latest_view self.old }
         ensures frame { self.new ≡ record self.old { machine = self.new.machine } }
         ensures err { OnErr result (Stays program.now self.old self.new) }
-        ensures asked { OnOk result ((v : Views) (head : Cell) (w : OfSweep) → self.old.machine.mode ≡ Finds (SweepOf head w) → Ordered (v w.view) → found ≡ found_of (v w.view) (reach_query (value self.old.machine.stack.env.heap head) reach) → FindAsked v (SweepOf head w) self.old.machine self.new.machine (reach_query (value self.old.machine.stack.env.heap head) reach)) }
+        ensures asked { OnOk result ((v : Views) → AreOrdered v → (g : ℕ) (q : Asked) → Seeks self.old.machine g q → found ≡ found_of (v g) q → AsksNext v self.old.machine self.new.machine q) }
     {
-        match reach {
-            Reach::Behind(_) => {
-                self.swept_to(program, next_in(found));
-                Ok(())
-            }
-            Reach::At(name) => self.swept(program, name, clause_in(found)),
+        let at = self.sweeping();
+        match at.spot {
+            SweepSpot::Seek(_) => self.swept_behind(program, next_in(found)),
+            SweepSpot::At(name, reach) => self.sweep_past(name, reach, &clause_in(found)),
         }
     }
 
     /// The same for a walk, the innermost case.
-    fn fetched_walk(&mut self, program: &Program, found: Found) -> Result<(), AllocError>
-        requires of { IsOf program.now self.old.machine }
+    fn fetched_walk(&mut self, found: Found) -> Result<(), AllocError>
+        requires of { (P : Given) × IsOf P self.old.machine }
         requires fits { (g : ℕ) × (q : Asked) × WalksOn self.old.machine g q × IsFoundFor q found }
-        ensures ok { OnOk result ((v : Views) (g : ℕ) (q : Asked) → WalksOn self.old.machine g q → Ordered (v g) → found ≡ found_of (v g) q → KeepsRest program.now v self.old self.new) }
-        ensures of { IsOf program.now self.new.machine }
-        ensures basis { self.new.machine.stack.basis ≡ self.old.machine.stack.basis }
+        ensures ok { OnOk result ((P : Given) (v : Views) → AreOrdered v → (g : ℕ) (q : Asked) → WalksOn self.old.machine g q → found ≡ found_of (v g) q → KeepsRest P v self.old self.new) }
+        ensures of { (P : Given) → IsOf P self.old.machine → IsOf P self.new.machine }
+        ensures latest { latest_view self.new ≡ latest_view self.old }
         ensures frame { self.new ≡ record self.old { machine = self.new.machine } }
-        ensures err { OnErr result (Stays program.now self.old self.new) }
-        ensures asked { OnOk result ((v : Views) (g : ℕ) (q : Asked) → WalksOn self.old.machine g q → Ordered (v g) → found ≡ found_of (v g) q → AsksNext v self.old.machine self.new.machine q) }
+        ensures err { OnErr result ((P : Given) → Stays P self.old self.new) }
+        ensures asked { OnOk result ((v : Views) → AreOrdered v → (g : ℕ) (q : Asked) → WalksOn self.old.machine g q → found ≡ found_of (v g) q → AsksNext v self.old.machine self.new.machine q) }
     {
         let Some(at) = self.machine.stack.walking() else {
             unreachable!()
         };
         match at.walk.spot {
             Spot::Text(_) => unreachable!(),
-            Spot::At(_, _) => {
-                self.walked_to(at, next_in(found));
-                Ok(())
-            }
-            Spot::Known(_, _, _) => self.walked(program, at, clause_in(found)),
+            Spot::Seek(view, _) => self.walked_behind(at, view, next_in(found)),
+            Spot::At(view, _, _) => self.walked_behind(at, view, next_in(found)),
+            Spot::Known(_, _, _) => self.walked(at, clause_in(found)),
         }
     }
 }
 
 /// The view in which a look-up seeks.
-fn view_of(find: &Find) -> u64
+fn view_of(find: &Find) -> View
     ensures { result ≡ find_view find.now }
 {
     match find {
-        Find::First(_, g) | Find::Exists(_, g) | Find::All(_, g) => *g,
+        Find::First(_, view) | Find::Exists(_, view) | Find::All(_, view) => *view,
         Find::Sweep(_, sweep) => sweep.view,
     }
 }

@@ -2,6 +2,7 @@
 #![tactic(auto)]
 
 mod answers;
+mod begin;
 mod catch;
 mod error;
 mod fetch;
@@ -10,6 +11,9 @@ mod look;
 pub mod progress;
 pub mod solver;
 mod start;
+mod step;
 mod sweep;
+mod text;
+mod transact;
 mod turns;
 mod walk;

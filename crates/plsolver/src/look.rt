@@ -1,155 +1,209 @@
-//! Look-ups of clauses in a view.
+//! Look-ups of clauses in a view, before a walk over them is opened.
 
-ghost use Rattle.std.specs.Prelude.{◌≡◌, ◌≤◌, [], ◌∷◌, ◌++◌, IfOk, OnOk, OnErr};
-ghost use Rattle.plsolver.specs.Asking.{FindAsked};
-ghost use Rattle.plstore.specs.declared.query.Query.TheVariants.{Exists as ExistsQuery};
-ghost use Rattle.plterm.specs.Tree.{Tree};
-ghost use Rattle.plcells.specs.Store.{value};
+ghost use Rattle.std.specs.Prelude.{◌≡◌, ◌∷◌, ◌++◌, [], IfNone, IfOk, IfSome, OnErr, OnOk};
+ghost use Rattle.plcells.specs.Store.{value, IsValue};
 ghost use Rattle.plclause.specs.Indicators.{indicator};
 ghost use Rattle.plevent.specs.Alive.{exists as exists_of, living};
 ghost use Rattle.plevent.specs.Keys.{first_key};
-ghost use Rattle.plevent.specs.Search.{Seen};
-ghost use Rattle.plsearch.specs.Replies.{missing};
-ghost use Rattle.plsearch.specs.Solving.{TakesOne};
+ghost use Rattle.plprogram.specs.Program.{Program as Given};
 ghost use Rattle.plstore.specs.Like.{next_like_of};
-ghost use Rattle.plstore.specs.Rising.{Ordered};
-ghost use Rattle.plstore.specs.declared.record.Cursor.TheVariants.{Start as StartOf};
 ghost use Rattle.plstore.specs.Looking.{Views};
-ghost use Rattle.plstack.specs.Places.{head_in};
-ghost use Rattle.plstack.specs.State.{goals_of, walks_in};
-ghost use Rattle.plmachine.specs.Machine.{local_of, Moved};
-ghost use Rattle.plmachine.specs.declared.machine.Find.TheVariants.{Exists as ExistsOf, First as FirstOf};
+ghost use Rattle.plstore.specs.declared.query.Query.TheVariants.{Exists as ExistsQuery};
+ghost use Rattle.plstore.specs.declared.record.Cursor.TheVariants.{Start as StartOf};
+ghost use Rattle.plterm.specs.Tree.{Tree};
+ghost use Rattle.plviews.specs.Views.{AreOrdered};
+ghost use Rattle.plsearch.specs.Lookups.{missing};
+ghost use Rattle.plstack.specs.Frames.{IsSpotSeen};
+ghost use Rattle.plstack.specs.Places.{head_in, viewed};
+ghost use Rattle.plstack.specs.State.{goals_of, walks_in, IsFit};
+ghost use Rattle.plmachine.specs.Clauses.{Walks};
+ghost use Rattle.plmachine.specs.Machine.{local_of, IsPlain, Moved};
+ghost use Rattle.plmachine.specs.declared.machine.Find.{Find as OfFind};
+ghost use Rattle.plmachine.specs.declared.machine.Find.TheVariants.{All as AllOf, Exists as ExistsOf, First as FirstOf};
 ghost use Rattle.plmachine.specs.declared.machine.Mode.TheVariants.{Find as Finds};
-ghost use Rattle.plsolver.specs.Solver.{FindsBy, IsOf, KeepsRest, like, LooksUp, mode_none, Stays, rest_of, WaitsForView};
+ghost use Rattle.plsolver.specs.Asking.{FindAsked, Further};
+ghost use Rattle.plsolver.specs.Fetching.{like, mode_none, NoneInFront, NoneNames};
+ghost use Rattle.plsolver.specs.Solver.{latest_view, IsOf, Keeps, KeepsRest, Settled, Stays};
 
 use crate::error;
-use crate::progress::Progress;
+use crate::progress::{Due, Progress};
+use crate::step::spot_behind;
 use plcells::cell::Cell;
 use plevent::ClauseName;
 use plmachine::indicator::indicator_of;
-use plmachine::machine::{Find, Lookup, Mode, Outcome, Question, Sought};
+use plmachine::machine::{Find, Mode, Outcome, Sought};
+use plmachine::sought::head_of;
 use plprogram::program::Program;
 use plprogram::settings::Unknown;
 use plstack::frame::{Spot, Use, Walk};
+use plstore::Cursor;
 use plterm::indicator::Indicator;
+use pltx::OwnCursor;
+use plviews::{Reach, Step, View};
 use std::alloc::AllocError;
 
 impl Progress {
-    /// The place of the view that the look-up which waits has from now on.
-    pub fn refreshed(&mut self, program: &Program, g: u64) -> Result<(), AllocError>
+    /// A look-up in hand goes on, as far as own updates tell: then there is none, or the journal is to be asked.
+    pub(crate) fn find(&mut self, program: &Program) -> Result<Option<Due>, AllocError>
         requires of { IsOf program.now self.old.machine }
-        requires waits { WaitsForView self.old }
-        requires latest { self.old.machine.stack.basis.latest ≤ g }
-        ensures ok { OnOk result ((v : Views) → TakesOne (Seen g (v g)) (rest_of program.now v self.old) self.old.used (rest_of program.now v self.new) self.new.used) }
-        ensures of { IsOf program.now self.new.machine }
-        ensures latest { OnOk result (self.new.machine.stack.basis.latest ≡ g) }
-        ensures places { OnOk result (self.new.places.items ≡ self.old.places.items ++ g ∷ []) }
-        ensures limit { self.new.limit ≡ self.old.limit }
-        ensures err { OnErr result (Stays program.now self.old self.new) }
-        ensures walks { walks_in self.new.machine.stack ≡ walks_in self.old.machine.stack }
+        ensures keeps { Keeps program.now self.old self.new }
+        ensures plain { IfOk result (λ o. IfNone o (IsPlain self.new.machine.mode)) }
+        ensures due { IfOk result (λ o. IfSome o (λ due. Settled program.now self.new due)) }
+        ensures walks { Further self.old.machine.stack self.new.machine.stack }
     {
-        let Mode::Ask(question) = &self.machine.mode else {
-            unreachable!()
+        let Mode::Find(find) = &self.machine.mode else {
+            return Ok(None);
         };
-        let Question::Look(lookup) = question else {
-            unreachable!()
-        };
-        let lookup = *lookup;
-        self.places.reserve(1)?;
-        let find = self.find_of(program, lookup, g)?;
-        self.machine.stack.sees(g);
-        self.machine.mode = Mode::Find(find);
-        match self.places.push(g) {
-            Ok(()) => Ok(()),
-            Err(_) => unreachable!(),
+        match find {
+            Find::First(sought, view) => {
+                let (sought, view) = (*sought, *view);
+                self.find_first(program, sought, view)
+            }
+            Find::Exists(goal, view) => {
+                let (goal, view) = (*goal, *view);
+                self.find_procedure(program, goal, view)
+            }
+            Find::All(head, view) => {
+                let (head, view) = (*head, *view);
+                self.find_all(program, head, view)
+            }
+            Find::Sweep(_, _) => self.sweep(program),
         }
     }
 
-    /// What a look-up seeks in the view of a place.
-    fn find_of(&mut self, program: &Program, lookup: Lookup, g: u64) -> Result<Find, AllocError>
+    /// The first clause for a goal, where that is an own one: it is walked from there.
+    fn find_first(
+        &mut self,
+        program: &Program,
+        sought: Sought,
+        view: View,
+    ) -> Result<Option<Due>, AllocError>
         requires of { IsOf program.now self.old.machine }
-        requires looks { LooksUp self.old lookup }
-        ensures ok { IfOk result (λ f. FindsBy self.old.machine self.new.machine lookup g f) }
-        ensures of { IsOf program.now self.new.machine }
-        ensures basis { self.new.machine.stack.basis ≡ self.old.machine.stack.basis }
+        requires finds { self.old.machine.mode ≡ Finds (FirstOf sought view) }
+        ensures keeps { Keeps program.now self.old self.new }
+        ensures plain { IfOk result (λ o. IfNone o (IsPlain self.new.machine.mode)) }
+        ensures due { IfOk result (λ o. IfSome o (λ due. Settled program.now self.new due)) }
+        ensures walks { Further self.old.machine.stack self.new.machine.stack }
+    {
+        let heap = self.machine.stack.env().heap();
+        let head = head_of(heap, sought.uses, sought.goal);
+        let step = self.step_at(head, view, Reach::Front(OwnCursor::Start))?;
+        match step {
+            Step::Next(name, reach) => {
+                self.walk_from(program, sought, Spot::At(view, name, reach))?;
+                Ok(None)
+            }
+            Step::Nothing => unreachable!(),
+            Step::Asks(_) => Ok(Some(Due::Fetch)),
+        }
+    }
+
+    /// Whether the procedure of a goal exists, where no clause may be for the goal and an own update names the procedure: the goal fails.
+    fn find_procedure(
+        &mut self,
+        program: &Program,
+        goal: Cell,
+        view: View,
+    ) -> Result<Option<Due>, AllocError>
+        requires of { IsOf program.now self.old.machine }
+        requires finds { self.old.machine.mode ≡ Finds (ExistsOf goal view) }
+        ensures keeps { Keeps program.now self.old self.new }
+        ensures plain { IfOk result (λ o. IfNone o (IsPlain self.new.machine.mode)) }
+        ensures due { IfOk result (λ o. IfSome o (λ due. Settled program.now self.new due)) }
+        ensures walks { Further self.old.machine.stack self.new.machine.stack }
+    {
+        if !self.is_named(goal, view)? {
+            return Ok(Some(Due::Fetch));
+        }
+        self.machine.mode = Mode::Back(Outcome::Fail);
+        Ok(None)
+    }
+
+    /// Whether the procedure of a head exists, where an own update names it: its clauses are looked through.
+    fn find_all(
+        &mut self,
+        program: &Program,
+        head: Cell,
+        view: View,
+    ) -> Result<Option<Due>, AllocError>
+        requires of { IsOf program.now self.old.machine }
+        requires finds { self.old.machine.mode ≡ Finds (AllOf head view) }
+        ensures keeps { Keeps program.now self.old self.new }
+        ensures plain { IfOk result (λ o. IfNone o (IsPlain self.new.machine.mode)) }
+        ensures due { IfOk result (λ o. IfSome o (λ due. Settled program.now self.new due)) }
+        ensures walks { Further self.old.machine.stack self.new.machine.stack }
+    {
+        if !self.is_named(head, view)? {
+            return Ok(Some(Due::Fetch));
+        }
+        self.begin_sweep(head, view);
+        self.sweep(program)
+    }
+
+    /// The clauses for a goal are walked through from a spot.
+    fn walk_from(&mut self, program: &Program, sought: Sought, spot: Spot) -> Result<(), AllocError>
+        requires goal { IsValue self.old.machine.stack.env.heap sought.goal }
+        requires seen { IsSpotSeen self.old.machine.stack.basis.latest spot }
+        requires fits { IsFit self.old.machine.stack self.old.machine.stack.goals }
+        ensures ok { OnOk result (Walks program.now self.old.machine self.new.machine (value self.old.machine.stack.env.heap sought.goal) sought.uses spot (goals_of self.old.machine.stack self.old.machine.stack.goals)) }
+        ensures walks { OnOk result (walks_in self.new.machine.stack ≡ viewed (record { goal = sought.goal; uses = sought.uses; spot = spot }) spot ++ walks_in self.old.machine.stack) }
         ensures frame { self.new ≡ record self.old { machine = self.new.machine } }
-        ensures stays { Stays program.now self.old self.new }
+        ensures err { OnErr result (Stays program.now self.old self.new) }
     {
-        match lookup {
-            Lookup::ToCall(goal) => {
-                let uses = Use::Call;
-                Ok(Find::First(Sought { goal, uses }, g))
-            }
-            Lookup::ToRetrieve(head, body) => {
-                let goal = self
-                    .machine
-                    .stack
-                    .put_clause_term(self.machine.alloc, head, body)?;
-                let uses = Use::Tell;
-                Ok(Find::First(Sought { goal, uses }, g))
-            }
-            Lookup::ToRetract(head, body) => {
-                let goal = self
-                    .machine
-                    .stack
-                    .put_clause_term(self.machine.alloc, head, body)?;
-                let uses = Use::Erase;
-                Ok(Find::First(Sought { goal, uses }, g))
-            }
-            Lookup::ToRetractAll(head) => Ok(Find::All(head, g)),
-        }
+        let rest = self.machine.stack.visited();
+        let walk = Walk {
+            goal: sought.goal,
+            uses: sought.uses,
+            spot,
+        };
+        self.machine.walk(program, walk, rest)
     }
 
-    /// The first clause that may be for a goal was sought: it is walked from there, or there is none.
+    /// The first clause of the journal that may be for a goal was sought: the clauses are walked through from there, or there is none.
     pub(crate) fn found_first(
         &mut self,
         program: &Program,
         sought: Sought,
-        g: u64,
-        first: Option<ClauseName>,
+        view: View,
+        found: Option<ClauseName>,
     ) -> Result<(), AllocError>
         requires of { IsOf program.now self.old.machine }
-        requires finds { self.old.machine.mode ≡ Finds (FirstOf sought g) }
-        ensures ok { OnOk result ((v : Views) → Ordered (v g) → first ≡ next_like_of (first_key (head_in sought.uses (value self.old.machine.stack.env.heap sought.goal))) StartOf (living (v g) (indicator (head_in sought.uses (value self.old.machine.stack.env.heap sought.goal)))) → KeepsRest program.now v self.old self.new) }
+        requires finds { self.old.machine.mode ≡ Finds (FirstOf sought view) }
+        ensures ok { OnOk result ((v : Views) → AreOrdered v → let h = head_in sought.uses (value self.old.machine.stack.env.heap sought.goal) in NoneInFront self.old.machine.layer.own.updates view h → found ≡ next_like_of (first_key h) StartOf (living (v view.place) (indicator h)) → KeepsRest program.now v self.old self.new) }
         ensures of { IsOf program.now self.new.machine }
-        ensures basis { self.new.machine.stack.basis ≡ self.old.machine.stack.basis }
+        ensures latest { latest_view self.new ≡ latest_view self.old }
         ensures frame { self.new ≡ record self.old { machine = self.new.machine } }
         ensures err { OnErr result (Stays program.now self.old self.new) }
-        ensures asked { OnOk result ((v : Views) → Ordered (v g) → first ≡ next_like_of (first_key (head_in sought.uses (value self.old.machine.stack.env.heap sought.goal))) StartOf (living (v g) (indicator (head_in sought.uses (value self.old.machine.stack.env.heap sought.goal)))) → FindAsked v (FirstOf sought g) self.old.machine self.new.machine (like (head_in sought.uses (value self.old.machine.stack.env.heap sought.goal)) StartOf)) }
+        ensures asked { OnOk result ((v : Views) → AreOrdered v → let h = head_in sought.uses (value self.old.machine.stack.env.heap sought.goal) in found ≡ next_like_of (first_key h) StartOf (living (v view.place) (indicator h)) → FindAsked v (FirstOf sought view) self.old.machine self.new.machine (like h StartOf)) }
     {
-        match first {
-            Some(name) => {
-                let rest = self.machine.stack.visited();
-                let walk = Walk {
-                    goal: sought.goal,
-                    uses: sought.uses,
-                    spot: Spot::At(g, name),
-                };
-                self.machine.walk(program, walk, rest)
-            }
+        let heap = self.machine.stack.env().heap();
+        let head = head_of(heap, sought.uses, sought.goal);
+        let step = self.step_from(head, view, found)?;
+        match spot_behind(Spot::Seek(view, Reach::Base(Cursor::Start)), step) {
+            Some(spot) => self.walk_from(program, sought, spot),
             None => {
-                self.machine.mode = mode_without(sought, g);
+                self.machine.mode = mode_without(sought, view);
                 Ok(())
             }
         }
     }
 
-    /// Whether the procedure of a goal exists was asked, where no clause may be for the goal: the goal fails, or that is an error.
+    /// Whether the journal has the procedure of a goal was asked, where no clause may be for the goal: the goal fails, or that is an error.
     pub(crate) fn found_exists(
         &mut self,
         program: &Program,
         goal: Cell,
-        g: u64,
+        view: View,
         exists: bool,
     ) -> Result<(), AllocError>
         requires of { IsOf program.now self.old.machine }
-        requires finds { self.old.machine.mode ≡ Finds (ExistsOf goal g) }
-        ensures ok { OnOk result ((v : Views) → exists ≡ exists_of (v g) (indicator (value self.old.machine.stack.env.heap goal)) → KeepsRest program.now v self.old self.new) }
+        requires finds { self.old.machine.mode ≡ Finds (ExistsOf goal view) }
+        ensures ok { OnOk result ((v : Views) → AreOrdered v → let p = indicator (value self.old.machine.stack.env.heap goal) in NoneNames self.old.machine.layer.own.updates view p → exists ≡ exists_of (v view.place) p → KeepsRest program.now v self.old self.new) }
         ensures of { IsOf program.now self.new.machine }
-        ensures basis { self.new.machine.stack.basis ≡ self.old.machine.stack.basis }
+        ensures latest { latest_view self.new ≡ latest_view self.old }
         ensures frame { self.new ≡ record self.old { machine = self.new.machine } }
         ensures err { OnErr result (Stays program.now self.old self.new) }
-        ensures asked { OnOk result ((v : Views) → FindAsked v (ExistsOf goal g) self.old.machine self.new.machine (ExistsQuery (indicator (value self.old.machine.stack.env.heap goal)))) }
+        ensures asked { OnOk result ((v : Views) → FindAsked v (ExistsOf goal view) self.old.machine self.new.machine (ExistsQuery (indicator (value self.old.machine.stack.env.heap goal)))) }
     {
         if exists {
             self.machine.mode = Mode::Back(Outcome::Fail);
@@ -162,9 +216,11 @@ impl Progress {
     /// A call of a procedure that does not exist: an error or failure, by the flag `unknown`.
     fn missing(&mut self, program: &Program, p: &Indicator) -> Result<(), AllocError>
         requires of { IsOf program.now self.old.machine }
+        requires seeks { (f : OfFind) × (self.old.machine.mode ≡ Finds f) }
+        requires fits { IsFit self.old.machine.stack self.old.machine.stack.goals }
         ensures ok { OnOk result ((t : Tree) → p.now ≡ indicator t → Moved program.now self.old.machine self.new.machine (missing self.old.machine.settings.unknown t (goals_of self.old.machine.stack self.old.machine.stack.goals) (local_of self.old.machine))) }
         ensures of { IsOf program.now self.new.machine }
-        ensures basis { self.new.machine.stack.basis ≡ self.old.machine.stack.basis }
+        ensures latest { latest_view self.new ≡ latest_view self.old }
         ensures frame { self.new ≡ record self.old { machine = self.new.machine } }
         ensures err { OnErr result (Stays program.now self.old self.new) }
     {
@@ -183,11 +239,11 @@ impl Progress {
 }
 
 /// What is next where no clause may be for a goal: of one that is called it is asked whether its procedure exists.
-fn mode_without(sought: Sought, g: u64) -> Mode
-    ensures { result ≡ mode_none sought g }
+fn mode_without(sought: Sought, view: View) -> Mode
+    ensures { result ≡ mode_none sought view }
 {
     match sought.uses {
-        Use::Call => Mode::Find(Find::Exists(sought.goal, g)),
+        Use::Call => Mode::Find(Find::Exists(sought.goal, view)),
         Use::Tell | Use::Erase => Mode::Back(Outcome::Fail),
     }
 }

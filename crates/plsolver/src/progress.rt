@@ -6,7 +6,9 @@ ghost use Rattle.plstack.specs.State.{walks_in, EndsWalks};
 ghost use Rattle.plstore.specs.Looking.{Views};
 ghost use Rattle.plsearch.specs.Search.{search_of};
 ghost use Rattle.plsearch.specs.Solving.{Begins};
-ghost use Rattle.plsolver.specs.Solver.{GoesTo, IsOf, IsSelected, Selects, Stays, Stepped, rest_of, Settled};
+ghost use Rattle.plmachine.specs.Machine.{IsPlain};
+ghost use Rattle.plsolver.specs.Asking.{Further};
+ghost use Rattle.plsolver.specs.Solver.{GoesTo, IsOf, IsSelected, Selects, Stays, Stepped, latest_view, rest_of, Settled};
 ghost use Rattle.plsolver.specs.Says.{Says, IsSlice};
 
 use crate::solver::Turn;
@@ -48,7 +50,7 @@ pub enum Selected {
 pub enum Due {
     /// A goal is to be selected.
     Goal(Selected),
-    /// A look-up waits for a view.
+    /// A look-up, or what begins on a view, waits for it.
     Look,
     /// A look-up or a walk asks something in its view.
     Fetch,
@@ -63,7 +65,7 @@ impl Progress {
     pub fn new(alloc: Global, program: &Program, limit: u64) -> Result<Self, AllocError>
         ensures begins { IfOk result (λ s. (v : Views) → Begins (search_of program.now limit) (rest_of program.now v s) s.used) }
         ensures of { IfOk result (λ s. IsOf program.now s.machine) }
-        ensures latest { IfOk result (λ s. s.machine.stack.basis.latest ≡ 0) }
+        ensures latest { IfOk result (λ s. latest_view s ≡ 0) }
         ensures limit { IfOk result (λ s. s.limit ≡ limit) }
         ensures places { IfOk result (λ s. s.places.items ≡ []) }
         ensures walks { IfOk result (λ s. walks_in s.machine.stack ≡ []) }
@@ -78,19 +80,19 @@ impl Progress {
     }
 
     /// Goes on until something is asked, the search ends, or so many steps are taken.
-    #[tactic(auto, using(crate::proofs::Runs::goes_on, crate::proofs::Runs::goes_nowhere, crate::proofs::Runs::stays_goes, crate::proofs::Runs::stays_of, crate::proofs::Ending::ends_refl, crate::proofs::Ending::ends_trans))]
+    #[tactic(auto, using(crate::proofs::Runs::goes_on, crate::proofs::Runs::goes_nowhere, crate::proofs::Runs::stays_goes, crate::proofs::Runs::stays_of, crate::proofs::Further::further_refl, crate::proofs::Further::further_trans))]
     pub fn advance(&mut self, program: &Program, fuel: u64) -> Result<Turn, AllocError>
         requires within { self.old.used ≤ self.old.limit }
         requires of { IsOf program.now self.old.machine }
         ensures goes { GoesTo program.now self.old self.new }
         ensures of { IsOf program.now self.new.machine }
-        ensures basis { self.new.machine.stack.basis ≡ self.old.machine.stack.basis }
+        ensures latest { latest_view self.new ≡ latest_view self.old }
         ensures limit { self.new.limit ≡ self.old.limit }
         ensures places { self.new.places.items ≡ self.old.places.items }
         ensures fuel { self.new.used ≤ self.old.used + fuel }
         ensures slice { IfOk result (λ turn. IsSlice turn → self.new.used ≡ self.old.used + fuel) }
         ensures says { IfOk result (λ turn. Says program.now self.new turn) }
-        ensures walks { EndsWalks self.old.machine.stack self.new.machine.stack }
+        ensures walks { Further self.old.machine.stack self.new.machine.stack }
     {
         let mut left = fuel;
         loop {
@@ -118,7 +120,7 @@ impl Progress {
         requires left { self.old.used + 1 ≤ self.old.limit }
         ensures ok { OnOk result (Stepped program.now self.old self.new) }
         ensures of { IsOf program.now self.new.machine }
-        ensures basis { self.new.machine.stack.basis ≡ self.old.machine.stack.basis }
+        ensures latest { latest_view self.new ≡ latest_view self.old }
         ensures err { OnErr result (Stays program.now self.old self.new) }
         ensures walks { EndsWalks self.old.machine.stack self.new.machine.stack }
     {
@@ -145,7 +147,7 @@ impl Progress {
         requires goal { IsSelected self.old.machine selected.now }
         ensures ok { OnOk result (Selects program.now self.old.machine self.new.machine) }
         ensures of { IsOf program.now self.new.machine }
-        ensures basis { self.new.machine.stack.basis ≡ self.old.machine.stack.basis }
+        ensures latest { latest_view self.new ≡ latest_view self.old }
         ensures frame { self.new ≡ record self.old { machine = self.new.machine } }
         ensures err { OnErr result (Stays program.now self.old self.new) }
         ensures walks { EndsWalks self.old.machine.stack self.new.machine.stack }
@@ -160,19 +162,40 @@ impl Progress {
         }
     }
 
-    /// Quiet turns, up to what is due.
-    #[tactic(auto, using(crate::proofs::Runs::quiet_goes, crate::proofs::Runs::quiet_lighter, crate::proofs::Runs::quiet_of, crate::proofs::Runs::goes_on, crate::proofs::Runs::goes_nowhere, crate::proofs::Runs::stays_goes, crate::proofs::Runs::stays_of, crate::proofs::Ending::ends_refl, crate::proofs::Ending::ends_trans))]
+    /// Goes on without a step, up to what is due.
+    #[tactic(auto, using(crate::proofs::Runs::goes_on, crate::proofs::Further::further_trans))]
     fn settle(&mut self, program: &Program) -> Result<Due, AllocError>
         requires within { self.old.used ≤ self.old.limit }
         requires of { IsOf program.now self.old.machine }
         ensures goes { GoesTo program.now self.old self.new }
         ensures of { IsOf program.now self.new.machine }
-        ensures basis { self.new.machine.stack.basis ≡ self.old.machine.stack.basis }
+        ensures latest { latest_view self.new ≡ latest_view self.old }
         ensures used { self.new.used ≡ self.old.used }
         ensures limit { self.new.limit ≡ self.old.limit }
         ensures places { self.new.places.items ≡ self.old.places.items }
         ensures due { IfOk result (λ due. Settled program.now self.new due) }
-        ensures walks { EndsWalks self.old.machine.stack self.new.machine.stack }
+        ensures walks { Further self.old.machine.stack self.new.machine.stack }
+    {
+        if let Some(due) = self.find(program)? {
+            return Ok(due);
+        }
+        self.go_quietly(program)
+    }
+
+    /// Quiet turns, up to what is due, where nothing is sought.
+    #[tactic(auto, using(crate::proofs::Runs::quiet_goes, crate::proofs::Runs::quiet_lighter, crate::proofs::Runs::quiet_of, crate::proofs::Runs::goes_on, crate::proofs::Runs::goes_nowhere, crate::proofs::Runs::stays_goes, crate::proofs::Runs::stays_of, crate::proofs::Further::further_refl, crate::proofs::Further::further_trans))]
+    fn go_quietly(&mut self, program: &Program) -> Result<Due, AllocError>
+        requires within { self.old.used ≤ self.old.limit }
+        requires of { IsOf program.now self.old.machine }
+        requires plain { IsPlain self.old.machine.mode }
+        ensures goes { GoesTo program.now self.old self.new }
+        ensures of { IsOf program.now self.new.machine }
+        ensures latest { latest_view self.new ≡ latest_view self.old }
+        ensures used { self.new.used ≡ self.old.used }
+        ensures limit { self.new.limit ≡ self.old.limit }
+        ensures places { self.new.places.items ≡ self.old.places.items }
+        ensures due { IfOk result (λ due. Settled program.now self.new due) }
+        ensures walks { Further self.old.machine.stack self.new.machine.stack }
     {
         loop {
             match self.quiet_turn(program)? {

@@ -2,14 +2,15 @@
 
 ghost use Rattle.std.specs.Prelude.{◌≡◌, ℕ, ◌+◌, ◌≤◌, [], ◌∷◌, ◌++◌, IfOk, OnOk, OnErr};
 ghost use Rattle.plevent.specs.Search.{Seen, Got};
-ghost use Rattle.plstack.specs.State.{walks_in, EndsWalks};
+ghost use Rattle.plstack.specs.State.{walks_in};
 ghost use Rattle.plstore.specs.Looking.{Views, found as found_of};
-ghost use Rattle.plstore.specs.Rising.{Ordered};
+ghost use Rattle.plviews.specs.Views.{AreOrdered};
+ghost use Rattle.plprogram.specs.Program.{Program as Given};
 ghost use Rattle.plsearch.specs.Search.{search_of};
 ghost use Rattle.plsearch.specs.Solving.{Begins, Goes, TakesOne};
-ghost use Rattle.plsolver.specs.Solver.{Fetches, GoesTo, IsFoundFor, IsOf, Stays, latest_view, rest_of, WaitsForView, ReplyFits};
-ghost use Rattle.plmachine.specs.Machine.{MayAsk};
-ghost use Rattle.plsolver.specs.Asking.{AsksNext};
+ghost use Rattle.plsolver.specs.Fetching.{Fetches, IsFoundFor};
+ghost use Rattle.plsolver.specs.Solver.{GoesTo, IsOf, Stays, latest_view, rest_of, WaitsForView, ReplyFits};
+ghost use Rattle.plsolver.specs.Asking.{AsksNext, Further};
 ghost use Rattle.plsolver.specs.Says.{Says, IsSlice};
 
 use crate::progress::Progress;
@@ -99,7 +100,7 @@ impl Solver {
         ensures fuel { self.new.used ≤ self.old.used + fuel }
         ensures slice { IfOk result (λ turn. IsSlice turn → self.new.used ≡ self.old.used + fuel) }
         ensures says { IfOk result (λ turn. Says program.now self.new turn) }
-        ensures walks { EndsWalks self.old.machine.stack self.new.machine.stack }
+        ensures walks { Further self.old.machine.stack self.new.machine.stack }
     {
         self.progress.advance(program, fuel)
     }
@@ -120,7 +121,8 @@ impl Solver {
         self.progress.reply(program, place, reply)
     }
 
-    /// The place of the view that the look-up which waits has from now on. A refused growth leaves the solver as it was.
+    /// The place of the view that the look-up which waits has from now on, or that on which a transaction or a snapshot begins. A refused growth
+    /// leaves the solver as it was.
     pub fn refreshed(&mut self, program: &Program, g: u64) -> Result<(), AllocError>
         requires of { IsOf program.now self.old.machine }
         requires waits { WaitsForView self.old }
@@ -139,7 +141,7 @@ impl Solver {
     /// The place of the view in which something is asked.
     pub fn view(&self) -> u64
         requires fetching { (g : ℕ) × (q : Query) × Fetches self.now g q }
-        requires askable { MayAsk self.now.machine.stack self.now.machine.mode }
+        requires of { (P : Given) × IsOf P self.now.machine }
         ensures is { (g : ℕ) (q : Query) → Fetches self.now g q → result ≡ g }
         ensures seen { result ≤ latest_view self.now }
     {
@@ -151,14 +153,14 @@ impl Solver {
         requires of { IsOf program.now self.old.machine }
         requires fits { (g : ℕ) × (q : Query) × Fetches self.old g q × IsFoundFor q found }
         requires within { self.old.used ≤ self.old.limit }
-        ensures ok { OnOk result ((v : Views) (g : ℕ) (q : Query) → Fetches self.old g q → Ordered (v g) → found ≡ found_of (v g) q → Goes self.old.limit (rest_of program.now v self.old) self.old.used (rest_of program.now v self.new) self.new.used) }
+        ensures ok { OnOk result ((v : Views) → AreOrdered v → (g : ℕ) (q : Query) → Fetches self.old g q → found ≡ found_of (v g) q → Goes self.old.limit (rest_of program.now v self.old) self.old.used (rest_of program.now v self.new) self.new.used) }
         ensures of { IsOf program.now self.new.machine }
         ensures latest { latest_view self.new ≡ latest_view self.old }
         ensures used { self.new.used ≡ self.old.used }
         ensures places { self.new.places.items ≡ self.old.places.items }
         ensures limit { self.new.limit ≡ self.old.limit }
         ensures err { OnErr result (Stays program.now self.old self.new) }
-        ensures asked { OnOk result ((v : Views) (g : ℕ) (q : Query) → Fetches self.old g q → Ordered (v g) → found ≡ found_of (v g) q → AsksNext v self.old.machine self.new.machine q) }
+        ensures asked { OnOk result ((v : Views) → AreOrdered v → (g : ℕ) (q : Query) → Fetches self.old g q → found ≡ found_of (v g) q → AsksNext v self.old.machine self.new.machine q) }
     {
         self.progress.fetched(program, found)
     }

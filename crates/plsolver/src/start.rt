@@ -18,6 +18,7 @@ use plprogram::program::Program;
 use plstack::stack::Stack;
 use plterm::name::Name;
 use plterm::term::Term;
+use plviews::Layer;
 use std::alloc::{AllocError, Global};
 
 /// The machine of a program's search: its goals in order, each once, in a choice with nothing left.
@@ -32,6 +33,7 @@ pub fn start(alloc: Global, program: &Program) -> Result<Machine, AllocError>
     Ok(Machine {
         alloc,
         stack,
+        layer: Layer::new(alloc),
         mode: Mode::Visit,
         out: Vec::new(alloc),
         settings,
@@ -44,7 +46,6 @@ pub fn start(alloc: Global, program: &Program) -> Result<Machine, AllocError>
 fn empty(alloc: Global, program: &Program) -> Result<Stack, AllocError>
     ensures empty { IfOk result (λ s. IsEmpty s) }
     ensures code { IfOk result (λ s. IsProgramCode program.now s.basis.code) }
-    ensures latest { IfOk result (λ s. s.basis.latest ≡ 0) }
 {
     let code = ProgramCode::new(alloc, program)?;
     let names = code.names().copied(alloc)?;

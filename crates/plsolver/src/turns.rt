@@ -1,42 +1,44 @@
 //! The turns of a search that take no step: markers are passed, and results go outward.
 
-ghost use Rattle.std.specs.Prelude.{◌≡◌, ◌+◌, ◌-◌, ◌<◌, ◌≤◌, ◌↔◌, IfOk, OnOk, OnErr, IfSome, IfNone, IsTrue, true, ℕ};
+ghost use Rattle.std.specs.Prelude.{◌≡◌, ◌+◌, ◌-◌, ◌≤◌, ◌↔◌, IfOk, OnOk, OnErr, IfSome, IfNone, IsTrue, true};
 ghost use Rattle.plcells.specs.Store.{IsValue, value};
-ghost use Rattle.plsearch.specs.Engine.{stop_cut, deeper};
+ghost use Rattle.plprogram.specs.Program.{Program as Given};
+ghost use Rattle.plsearch.specs.Engine.{deeper};
+ghost use Rattle.pllinks.specs.declared.link.Continuation.{Continuation as Continued};
 ghost use Rattle.plstack.specs.Places.{Database};
-ghost use Rattle.plstack.specs.State.{cases_of, EndsWalks, HasAnswers, HasCatcher, HasClauses, HasWalk, HasBranch, HasGatherer, HasPlain};
+ghost use Rattle.plstack.specs.State.{cases_of, EndsWalks, HasAnswers, HasCatcher, HasClauses, HasWalk, HasBranch, HasGatherer, HasPlain, HasUndo};
 ghost use Rattle.plstack.specs.First.{IsFirst};
 ghost use Rattle.plstack.specs.declared.first.First.TheVariants.{Marker as MarkerFirst};
-ghost use Rattle.plmachine.specs.Machine.{depth_of};
-ghost use Rattle.plsolver.specs.Solver.{IsOf, Stays, Quiet, Settled, IsBack, IsSelected, HasChoice, throws_to, Becomes, Collects};
+ghost use Rattle.plmachine.specs.Machine.{depth_of, IsBegun, IsPlain, IsTied};
+ghost use Rattle.plsolver.specs.Asking.{Further};
+ghost use Rattle.plsolver.specs.Solver.{IsOf, Keeps, Stays, Quiet, Settled, IsBack, IsSelected, HasChoice, throws_to, Collects};
 
 use crate::progress::{Due, Progress, Selected};
 use plcells::cell::Cell;
 use pllinks::item::MarkerKind;
 use pllinks::level::Level;
 use pllinks::link::Continuation;
-use plmachine::machine::{Mode, Outcome, Question};
+use plmachine::machine::{Mode, Outcome};
 use plprogram::program::Program;
 use plstack::first::First;
-use plstack::frame::Closed;
 use std::alloc::AllocError;
 
 impl Progress {
-    /// One turn that takes no step, unless something is due.
-    #[tactic(auto, using(crate::proofs::Ending::ends_same, crate::proofs::Ending::ends_refl))]
+    /// One turn that takes no step, where nothing is sought, unless something is due.
+    #[tactic(auto, using(crate::proofs::Further::further_ends))]
     pub(crate) fn quiet_turn(&mut self, program: &Program) -> Result<Option<Due>, AllocError>
         requires within { self.old.used ≤ self.old.limit }
         requires of { IsOf program.now self.old.machine }
+        requires plain { IsPlain self.old.machine.mode }
         ensures on { IfOk result (λ o. IfNone o (Quiet program.now self.old self.new)) }
-        ensures due { IfOk result (λ o. IfSome o (λ due. Settled program.now self.new due × Stays program.now self.old self.new)) }
-        ensures err { OnErr result (Stays program.now self.old self.new) }
-        ensures walks { EndsWalks self.old.machine.stack self.new.machine.stack }
+        ensures due { IfOk result (λ o. IfSome o (λ due. Settled program.now self.new due × Keeps program.now self.old self.new)) }
+        ensures err { OnErr result (Keeps program.now self.old self.new) }
+        ensures walks { Further self.old.machine.stack self.new.machine.stack }
     {
         match &self.machine.mode {
             Mode::Visit => self.pass(program),
-            Mode::Ask(Question::Look(_)) => Ok(Some(Due::Look)),
-            Mode::Find(_) => Ok(Some(Due::Fetch)),
-            Mode::Ask(Question::Await(_, _)) => Ok(Some(Due::Await)),
+            Mode::Ask(_) => self.wait(program),
+            Mode::Find(_) => unreachable!(),
             Mode::Back(_) => self.back(program),
         }
     }
@@ -46,6 +48,7 @@ impl Progress {
     fn pass(&mut self, program: &Program) -> Result<Option<Due>, AllocError>
         requires visits { self.old.machine.mode ≡ Mode.Visit }
         requires within { self.old.used ≤ self.old.limit }
+        requires of { IsOf program.now self.old.machine }
         ensures on { IfOk result (λ o. IfNone o (Quiet program.now self.old self.new)) }
         ensures due { IfOk result (λ o. IfSome o (λ due. Settled program.now self.new due × Stays program.now self.old self.new)) }
         ensures err { OnErr result (Stays program.now self.old self.new) }
@@ -57,22 +60,22 @@ impl Progress {
                 return Ok(None);
             }
             First::Marker(kind, level, rest) => {
-                self.pass_marker(program, kind, level, rest)?;
+                self.pass_marker(kind, level, rest)?;
                 return Ok(None);
             }
             First::Both(next) => Selected::Both(next),
             First::Step(run, step, rest) => Selected::Step(run, step, rest),
             First::Goal(level, v, rest) => Selected::Goal(level, v, rest),
         };
-        Ok(self.due(program, selected))
+        Ok(self.due(selected))
     }
 
     /// A goal that is first is due, unless no step is left.
-    fn due(&mut self, program: &Program, selected: Selected) -> Option<Due>
+    fn due(&mut self, selected: Selected) -> Option<Due>
         requires first { IsSelected self.old.machine selected }
         requires within { self.old.used ≤ self.old.limit }
-        ensures on { IfNone result (Quiet program.now self.old self.new) }
-        ensures due { IfSome result (λ due. Settled program.now self.new due × (self.new ≡ self.old)) }
+        ensures on { IfNone result ((P : Given) → Quiet P self.old self.new) }
+        ensures due { IfSome result (λ due. ((P : Given) → Settled P self.new due) × (self.new ≡ self.old)) }
         ensures frame { self.new ≡ record self.old { machine = record self.old.machine { mode = self.new.machine.mode } } }
     {
         if self.used == self.limit {
@@ -86,52 +89,54 @@ impl Progress {
     #[tactic(auto, using(crate::proofs::Ending::ends_same, crate::proofs::Ending::ends_refl))]
     fn pass_marker(
         &mut self,
-        program: &Program,
         kind: MarkerKind,
         level: Level,
         rest: Continuation,
     ) -> Result<(), AllocError>
         requires visits { self.old.machine.mode ≡ Mode.Visit }
         requires marker { IsFirst self.old.machine.stack (MarkerFirst kind level rest) }
-        ensures ok { OnOk result (Quiet program.now self.old self.new) }
-        ensures err { OnErr result (Stays program.now self.old self.new) }
+        requires tied { IsTied self.old.machine }
+        ensures ok { OnOk result ((P : Given) → Quiet P self.old self.new) }
+        ensures err { OnErr result (self.new ≡ self.old) }
         ensures walks { EndsWalks self.old.machine.stack self.new.machine.stack }
     {
         match kind {
             MarkerKind::Commit => self.machine.stack.cut(level, rest)?,
-            MarkerKind::Never => self.machine.mode = Mode::Back(Outcome::CutTo(level)),
-            MarkerKind::Until => self.pass_until(program, level, rest),
+            MarkerKind::Never => self.give_up(level),
+            MarkerKind::Until => self.pass_until(level, &rest),
             MarkerKind::Collect(v) => self.collect(v, level)?,
+            MarkerKind::Transact(outer) => self.end_transaction(outer, rest)?,
         }
         Ok(())
     }
 
-    /// The marker up to which a catcher is active: where the catcher is the innermost case, a choice with nothing left takes its place.
+    /// The marker at which the choices down to its level are given up and the list fails.
     #[tactic(auto, using(crate::proofs::Ending::ends_same, crate::proofs::Ending::ends_refl))]
-    fn pass_until(&mut self, program: &Program, level: Level, rest: Continuation)
+    fn give_up(&mut self, level: Level)
         requires visits { self.old.machine.mode ≡ Mode.Visit }
-        requires marker { IsFirst self.old.machine.stack (MarkerFirst MarkerKind.Until level rest) }
-        ensures quiet { Quiet program.now self.old self.new }
+        requires marker { (rest : Continued) × IsFirst self.old.machine.stack (MarkerFirst MarkerKind.Never level rest) }
+        ensures quiet { (P : Given) → Quiet P self.old self.new }
         ensures walks { EndsWalks self.old.machine.stack self.new.machine.stack }
     {
-        if self.is_in_catcher(level) {
-            self.machine.stack.recover(rest);
-            return;
-        }
-        self.machine.stack.visit(rest);
+        self.machine.stack.give_up_to(level);
+        self.machine.mode = Mode::Back(Outcome::Fail);
     }
 
-    /// Whether the innermost case is the catcher of a level, in another case.
-    fn is_in_catcher(&self, level: Level) -> bool
-        ensures catcher { IsTrue result → HasCatcher self.now.machine.stack }
-        ensures level { IsTrue result → depth_of self.now.machine ≡ level + 1 }
-        ensures inside { IsTrue result → 0 < level }
+    /// The marker up to which a catcher is active: where choices with nothing left stand alone in the catcher, it becomes one of these.
+    #[tactic(auto, using(crate::proofs::Ending::ends_same, crate::proofs::Ending::ends_refl))]
+    fn pass_until(&mut self, level: Level, rest: &Continuation)
+        requires visits { self.old.machine.mode ≡ Mode.Visit }
+        requires marker { IsFirst self.old.machine.stack (MarkerFirst MarkerKind.Until level rest.now) }
+        ensures quiet { (P : Given) → Quiet P self.old self.new }
+        ensures walks { EndsWalks self.old.machine.stack self.new.machine.stack }
     {
-        let stack = &self.machine.stack;
-        if !stack.is_catcher() || stack.level() != level {
-            return false;
+        if level == Level::BOTTOM {
+            self.machine.stack.visit(*rest);
+            return;
         }
-        level > Level::BOTTOM
+        if !self.machine.stack.leave_catcher(level, *rest) {
+            self.machine.stack.visit(*rest);
+        }
     }
 
     /// A copy of the term of a value is kept for the handler of a level, and the list fails.
@@ -148,59 +153,64 @@ impl Progress {
     }
 
     /// One turn with a result.
-    #[tactic(auto, using(crate::proofs::Ending::ends_same, crate::proofs::Ending::ends_refl))]
+    #[tactic(auto, using(crate::proofs::Further::further_ends))]
     fn back(&mut self, program: &Program) -> Result<Option<Due>, AllocError>
         requires back { IsBack self.old }
         requires of { IsOf program.now self.old.machine }
         ensures on { IfOk result (λ o. IfNone o (Quiet program.now self.old self.new)) }
-        ensures due { IfOk result (λ o. IfSome o (λ due. Settled program.now self.new due × Stays program.now self.old self.new)) }
-        ensures err { OnErr result (Stays program.now self.old self.new) }
-        ensures walks { EndsWalks self.old.machine.stack self.new.machine.stack }
+        ensures due { IfOk result (λ o. IfSome o (λ due. Settled program.now self.new due × Keeps program.now self.old self.new)) }
+        ensures err { OnErr result (Keeps program.now self.old self.new) }
+        ensures walks { Further self.old.machine.stack self.new.machine.stack }
     {
+        if self.machine.stack.is_plain() {
+            self.close_plain();
+            return Ok(None);
+        }
+        if self.machine.stack.is_undo() {
+            self.undo();
+            return Ok(None);
+        }
         if self.fails() {
             return self.fail(program);
         }
         if self.catches() {
-            self.catch(program)?;
+            self.catch()?;
             return Ok(None);
         }
-        Ok(self.close(program))
+        Ok(self.close())
     }
 
-    /// One turn with failure: the next place of the innermost choice, or it is closed, together with others that have nothing left.
-    #[tactic(auto, using(crate::proofs::Ending::ends_same, crate::proofs::Ending::ends_refl))]
+    /// One turn with failure: the next place of the innermost choice, or it is closed.
+    #[tactic(auto, using(crate::proofs::Further::further_ends))]
     fn fail(&mut self, program: &Program) -> Result<Option<Due>, AllocError>
         requires fails { self.old.machine.mode ≡ Mode.Back Outcome.Fail }
+        requires undone { HasUndo self.old.machine.stack → ⊥ }
         requires of { IsOf program.now self.old.machine }
         ensures on { IfOk result (λ o. IfNone o (Quiet program.now self.old self.new)) }
-        ensures due { IfOk result (λ o. IfSome o (λ due. Settled program.now self.new due × Stays program.now self.old self.new)) }
-        ensures err { OnErr result (Stays program.now self.old self.new) }
-        ensures walks { EndsWalks self.old.machine.stack self.new.machine.stack }
+        ensures due { IfOk result (λ o. IfSome o (λ due. Settled program.now self.new due × Keeps program.now self.old self.new)) }
+        ensures err { OnErr result (Keeps program.now self.old self.new) }
+        ensures walks { Further self.old.machine.stack self.new.machine.stack }
     {
-        if self.machine.stack.is_plain() {
-            self.close_plain(program);
-            return Ok(None);
-        }
         if self.machine.stack.is_walk() {
             return self.next_clause(program);
         }
         if self.is_choice() {
-            self.try_next(program)?;
+            self.try_next()?;
             return Ok(None);
         }
         if self.machine.stack.is_gatherer() {
-            self.gather(program)?;
+            self.gather()?;
             return Ok(None);
         }
-        Ok(self.close(program))
+        Ok(self.close())
     }
 
     /// Closes the innermost choices, which have nothing left.
     #[tactic(auto, using(crate::proofs::Ending::ends_same, crate::proofs::Ending::ends_refl))]
-    fn close_plain(&mut self, program: &Program)
-        requires fails { self.old.machine.mode ≡ Mode.Back Outcome.Fail }
+    fn close_plain(&mut self)
+        requires back { IsBack self.old }
         requires plain { HasPlain self.old.machine.stack }
-        ensures quiet { Quiet program.now self.old self.new }
+        ensures quiet { (P : Given) → Quiet P self.old self.new }
         ensures walks { EndsWalks self.old.machine.stack self.new.machine.stack }
     {
         self.machine.stack.close_plain();
@@ -208,30 +218,30 @@ impl Progress {
 
     /// The next place of the innermost choice.
     #[tactic(auto, using(crate::proofs::Ending::ends_same, crate::proofs::Ending::ends_refl))]
-    fn try_next(&mut self, program: &Program) -> Result<(), AllocError>
+    fn try_next(&mut self) -> Result<(), AllocError>
         requires fails { self.old.machine.mode ≡ Mode.Back Outcome.Fail }
         requires choice { HasChoice self.old.machine.stack }
-        requires of { IsOf program.now self.old.machine }
-        ensures ok { OnOk result (Quiet program.now self.old self.new) }
-        ensures err { OnErr result (Stays program.now self.old self.new) }
+        requires begun { (P : Given) × IsBegun P self.old.machine }
+        ensures ok { OnOk result ((P : Given) → IsBegun P self.old.machine → Quiet P self.old self.new) }
+        ensures err { OnErr result ((P : Given) → IsBegun P self.old.machine → Stays P self.old self.new) }
         ensures walks { EndsWalks self.old.machine.stack self.new.machine.stack }
     {
         if self.machine.stack.is_branch() {
-            self.take_branch(program);
+            self.take_branch();
             return Ok(());
         }
         if self.machine.stack.is_clauses() {
-            return self.retry(program);
+            return self.retry();
         }
-        self.retry_answers(program)
+        self.retry_answers()
     }
 
     /// The list of the innermost choice.
     #[tactic(auto, using(crate::proofs::Ending::ends_same, crate::proofs::Ending::ends_refl))]
-    fn take_branch(&mut self, program: &Program)
+    fn take_branch(&mut self)
         requires fails { self.old.machine.mode ≡ Mode.Back Outcome.Fail }
         requires branch { HasBranch self.old.machine.stack }
-        ensures quiet { Quiet program.now self.old self.new }
+        ensures quiet { (P : Given) → Quiet P self.old self.new }
         ensures walks { EndsWalks self.old.machine.stack self.new.machine.stack }
     {
         self.machine.stack.take_branch();
@@ -240,12 +250,12 @@ impl Progress {
 
     /// The next clause of the innermost case, a call of a static procedure.
     #[tactic(auto, using(crate::proofs::Ending::ends_same, crate::proofs::Ending::ends_refl))]
-    fn retry(&mut self, program: &Program) -> Result<(), AllocError>
+    fn retry(&mut self) -> Result<(), AllocError>
         requires fails { self.old.machine.mode ≡ Mode.Back Outcome.Fail }
         requires call { HasClauses self.old.machine.stack }
-        requires of { IsOf program.now self.old.machine }
-        ensures ok { OnOk result (Quiet program.now self.old self.new) }
-        ensures err { OnErr result (Stays program.now self.old self.new) }
+        requires begun { (P : Given) × IsBegun P self.old.machine }
+        ensures ok { OnOk result ((P : Given) → IsBegun P self.old.machine → Quiet P self.old self.new) }
+        ensures err { OnErr result ((P : Given) → IsBegun P self.old.machine → Stays P self.old self.new) }
         ensures walks { EndsWalks self.old.machine.stack self.new.machine.stack }
     {
         if self.machine.stack.retry()? {
@@ -256,11 +266,11 @@ impl Progress {
 
     /// The next answer of the innermost case, a call of a predicate of several answers.
     #[tactic(auto, using(crate::proofs::Ending::ends_same, crate::proofs::Ending::ends_refl))]
-    fn retry_answers(&mut self, program: &Program) -> Result<(), AllocError>
+    fn retry_answers(&mut self) -> Result<(), AllocError>
         requires fails { self.old.machine.mode ≡ Mode.Back Outcome.Fail }
         requires call { HasAnswers self.old.machine.stack }
-        ensures ok { OnOk result (Quiet program.now self.old self.new) }
-        ensures err { OnErr result (Stays program.now self.old self.new) }
+        ensures ok { OnOk result ((P : Given) → Quiet P self.old self.new) }
+        ensures err { OnErr result ((P : Given) → Stays P self.old self.new) }
         ensures walks { EndsWalks self.old.machine.stack self.new.machine.stack }
     {
         if self.machine.stack.retry_answers(self.machine.alloc)? {
@@ -269,27 +279,22 @@ impl Progress {
         Ok(())
     }
 
-    /// Closes the innermost case, which makes of the result what it does; without one the search is over.
+    /// Closes the innermost case, which has no part in the result; without one the search is over.
     #[tactic(auto, using(crate::proofs::Ending::ends_same, crate::proofs::Ending::ends_refl))]
-    fn close(&mut self, program: &Program) -> Option<Due>
+    fn close(&mut self) -> Option<Due>
         requires back { IsBack self.old }
+        requires undone { HasUndo self.old.machine.stack → ⊥ }
         requires tried { self.old.machine.mode ≡ Mode.Back Outcome.Fail → HasChoice self.old.machine.stack → ⊥ }
         requires walked { self.old.machine.mode ≡ Mode.Back Outcome.Fail → HasWalk self.old.machine.stack → ⊥ }
         requires caught { HasCatcher self.old.machine.stack → throws_to (depth_of self.old.machine - 1) self.old.machine.mode ≡ true → ⊥ }
         requires gathered { HasGatherer self.old.machine.stack → self.old.machine.mode ≡ Mode.Back Outcome.Fail → ⊥ }
-        ensures on { IfNone result (Quiet program.now self.old self.new) }
-        ensures due { IfSome result (λ due. Settled program.now self.new due × (self.new ≡ self.old)) }
+        ensures on { IfNone result ((P : Given) → Quiet P self.old self.new) }
+        ensures due { IfSome result (λ due. ((P : Given) → Settled P self.new due) × (self.new ≡ self.old)) }
         ensures walks { EndsWalks self.old.machine.stack self.new.machine.stack }
     {
-        let Some(closed) = self.machine.stack.close() else {
-            return Some(Due::Over);
-        };
-        match closed {
-            Closed::Handler => None,
-            Closed::Choice => {
-                self.stop_cut();
-                None
-            }
+        match self.machine.stack.close() {
+            Some(_) => None,
+            None => Some(Due::Over),
         }
     }
 
@@ -307,7 +312,6 @@ impl Progress {
             | Mode::Find(_)
             | Mode::Back(Outcome::Stop)
             | Mode::Back(Outcome::Fail)
-            | Mode::Back(Outcome::CutTo(_))
             | Mode::Back(Outcome::Halted(_))
             | Mode::Back(Outcome::Spent) => false,
         }
@@ -325,37 +329,5 @@ impl Progress {
     {
         let stack = &self.machine.stack;
         stack.is_branch() || stack.is_clauses() || stack.is_answers()
-    }
-
-    /// The level that the choices are given up to, if that is the result that is carried.
-    fn cut_level(&self) -> Option<Level>
-        ensures some { IfSome result (λ level. self.now.machine.mode ≡ Mode.Back (Outcome.CutTo level)) }
-        ensures none { IfNone result ((level : ℕ) → self.now.machine.mode ≡ Mode.Back (Outcome.CutTo level) → ⊥) }
-    {
-        let Mode::Back(outcome) = &self.machine.mode else {
-            return None;
-        };
-        match outcome {
-            Outcome::CutTo(level) => Some(*level),
-            Outcome::Stop
-            | Outcome::Fail
-            | Outcome::Throw(_, _)
-            | Outcome::Halted(_)
-            | Outcome::Spent => None,
-        }
-    }
-
-    /// A cut to the level of a choice ends there.
-    fn stop_cut(&mut self)
-        ensures { (db : Database) → Becomes self.old self.new (stop_cut (deeper (cases_of db self.old.machine.stack) 0)) }
-    {
-        let depth = self.machine.stack.depth();
-        let Some(level) = self.cut_level() else {
-            return;
-        };
-        if level == depth {
-            self.machine.mode = Mode::Back(Outcome::Fail);
-            return;
-        }
     }
 }

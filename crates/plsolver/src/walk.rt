@@ -1,194 +1,249 @@
-//! Walks over clauses that go on: the next clause is tried, or what it takes to try it is asked.
+//! Walks over clauses that go on: own clauses are tried one after another, and of the others it is asked what it takes to try the next.
 
-ghost use Rattle.std.specs.Prelude.{◌≡◌, ◌↔◌, ℕ, ◌+◌, ◌<◌, ◌≤◌, IsTrue, ◌∷◌, [], List, Option, length, IfNone, IfOk, IfSome, OnErr, OnOk};
-ghost use Rattle.plsolver.specs.Asking.{WalkAsked};
-ghost use Rattle.plstore.specs.declared.query.Query.TheVariants.{Clause as ClauseQuery};
-ghost use Rattle.plcells.specs.Store.{value};
+ghost use Rattle.std.specs.Prelude.{◌≡◌, IfNone, IfOk, IfSome, None, OnErr, OnOk, Option};
+ghost use Rattle.plcells.specs.Store.{value, IsValue};
 ghost use Rattle.plclause.specs.Indicators.{indicator};
-ghost use Rattle.plevent.specs.declared.update.ClauseName.{ClauseName as Named};
 ghost use Rattle.plevent.specs.Alive.{living};
 ghost use Rattle.plevent.specs.Keys.{first_key};
-ghost use Rattle.plprogram.specs.Program.{Program as Given, clauses_for};
-ghost use Rattle.plsearch.specs.Types.{Case, Choice};
+ghost use Rattle.plevent.specs.declared.update.ClauseName.{ClauseName as Named};
+ghost use Rattle.plprogram.specs.Program.{Program as Given};
 ghost use Rattle.plstore.specs.Like.{next_like_of};
-ghost use Rattle.plstore.specs.Looking.{Views, clause_alive};
-ghost use Rattle.plstore.specs.Rising.{Ordered};
-ghost use Rattle.plstore.specs.declared.record.Cursor.TheVariants.{After as AfterOf};
-ghost use Rattle.plstack.specs.declared.frame.Spot.TheVariants.{At as AtOf, Known as KnownOf, Text as TextOf};
+ghost use Rattle.plstore.specs.Looking.{clause_alive, Views};
+ghost use Rattle.plstore.specs.declared.query.Query.TheVariants.{Clause as ClauseQuery};
+ghost use Rattle.plstore.specs.declared.record.Cursor.{Cursor as OfCursor};
+ghost use Rattle.plviews.specs.Views.{AreOrdered, IsUntouched};
+ghost use Rattle.plviews.specs.declared.lookup.Reach.{Reach as OfReach};
+ghost use Rattle.plviews.specs.declared.lookup.Reach.TheVariants.{Base as BaseOf};
+ghost use Rattle.plviews.specs.declared.view.View.{View as OfView};
 ghost use Rattle.plstack.specs.Frames.{IsSpotSeen};
-ghost use Rattle.plstack.specs.Places.{head_in};
-ghost use Rattle.plstack.specs.State.{cases_of, walks_in, EndsWalks, HasWalk, RetriesBy};
-ghost use Rattle.plstack.specs.StaticCalls.{database_of};
+ghost use Rattle.plstack.specs.State.{HasWalk};
 ghost use Rattle.plstack.specs.Walks.{AtWalk};
-ghost use Rattle.plsolver.specs.Solver.{IsOf, KeepsRest, like, Quiet, Settled, spot_if, Stays};
+ghost use Rattle.plstack.specs.declared.frame.Ahead.{Ahead as OfAhead};
+ghost use Rattle.plstack.specs.declared.frame.Spot.TheVariants.{Known as KnownOf};
+ghost use Rattle.plmachine.specs.Machine.{IsTied};
+ghost use Rattle.plsolver.specs.Asking.{Further, WalkAsked};
+ghost use Rattle.plsolver.specs.Fetching.{like, spot_ahead};
+ghost use Rattle.plsolver.specs.Going.{head_at, walked_on, IsInView, LooksBehind, SameCases, WalkedTo};
+ghost use Rattle.plsolver.specs.Knowing.{Holds, IsKnown, Steps};
+ghost use Rattle.plsolver.specs.Solver.{IsOf, Keeps, KeepsRest, Quiet, Settled, Stays};
 
 use crate::progress::{Due, Progress};
+use crate::step::{Known, spot_ahead, spot_behind};
+use plcells::cell::Cell;
 use plclause::clause::Clause;
 use plevent::ClauseName;
 use plmachine::candidate;
 use plmachine::clauses::mode_of;
-use plmachine::indicator::indicator_of;
 use plmachine::machine::{Mode, Outcome};
 use plmachine::sought::head_of;
 use plprogram::program::Program;
 use plstack::frame::{Spot, Walk};
-use plstack::walk::{Entered, Walking};
+use plstack::walk::{Candidate, Entered, Walking};
+use plviews::{Step, View};
 use std::alloc::AllocError;
 
+/// What a walk came to among own clauses.
+#[derive(Clone, Copy)]
+pub enum Walked {
+    /// It goes on from here.
+    On(Walking),
+    /// A clause fits, and is entered.
+    Into(Entered),
+    /// The journal is to be asked.
+    Asks,
+    /// Nothing is left of it.
+    Over,
+}
+
 impl Progress {
-    /// The innermost case, a walk, goes on: over the program's text at once, and in a view by what it asks.
-    #[tactic(auto, using(crate::proofs::Ending::ends_same, crate::proofs::Ending::ends_refl))]
+    /// The innermost case, a walk, goes on: over the program's text or among own clauses, as far as it takes no answer.
     pub(crate) fn next_clause(&mut self, program: &Program) -> Result<Option<Due>, AllocError>
         requires fails { self.old.machine.mode ≡ Mode.Back Outcome.Fail }
         requires walk { HasWalk self.old.machine.stack }
         requires of { IsOf program.now self.old.machine }
         ensures on { IfOk result (λ o. IfNone o (Quiet program.now self.old self.new)) }
-        ensures due { IfOk result (λ o. IfSome o (λ due. Settled program.now self.new due × Stays program.now self.old self.new)) }
-        ensures err { OnErr result (Stays program.now self.old self.new) }
-        ensures walks { EndsWalks self.old.machine.stack self.new.machine.stack }
+        ensures due { IfOk result (λ o. IfSome o (λ due. Settled program.now self.new due × Keeps program.now self.old self.new)) }
+        ensures err { OnErr result (Keeps program.now self.old self.new) }
+        ensures walks { Further self.old.machine.stack self.new.machine.stack }
     {
         let at = self.machine.stack.rewind_walk();
-        match at.walk.spot {
-            Spot::Text(number) => {
-                self.retry_text(program, at, number)?;
-                Ok(None)
-            }
-            Spot::At(_, _) | Spot::Known(_, _, _) => Ok(Some(Due::Fetch)),
+        if let Spot::Text(number) = at.walk.spot {
+            self.retry_text(program, at, number)?;
+            return Ok(None);
         }
+        self.walk_through(at)
     }
 
-    /// The next clause of the text that fits is visited; where none does the walk is closed.
-    #[tactic(auto, using(crate::proofs::Ending::ends_same, crate::proofs::Ending::ends_refl))]
-    fn retry_text(
-        &mut self,
-        program: &Program,
-        at: Walking,
-        number: usize,
-    ) -> Result<(), AllocError>
-        requires fails { self.old.machine.mode ≡ Mode.Back Outcome.Fail }
-        requires at { AtWalk self.old.machine.stack at.point at.walk }
-        requires text { at.walk.spot ≡ TextOf number }
-        ensures ok { OnOk result (Quiet program.now self.old self.new) }
-        ensures err { OnErr result (Stays program.now self.old self.new) }
-        ensures walks { EndsWalks self.old.machine.stack self.new.machine.stack }
-    {
-        let heap = self.machine.stack.env().heap();
-        let head = head_of(heap, at.walk.uses, at.walk.goal);
-        let p = indicator_of(self.machine.alloc, heap, head)?;
-        let clauses = program.clauses_of(&p);
-        let Some(entered) = self.first_of_text(clauses, at, number)? else {
-            self.machine.stack.close();
-            return Ok(());
-        };
-        self.machine.mode = mode_of(entered);
-        Ok(())
-    }
-
-    /// Tries clauses of the text from a number on, up to the first that fits. Where none does nothing is left of the walk.
-    fn first_of_text(
-        &mut self,
-        clauses: &[Clause],
-        at: Walking,
-        number: usize,
-    ) -> Result<Option<Entered>, AllocError>
-        requires at { AtWalk self.old.machine.stack at.point at.walk }
-        requires text { at.walk.spot ≡ TextOf number }
-        ensures some { IfOk result (λ o. IfSome o (λ entered. (P : Given) (v : Views) → clauses.now ≡ clauses_for P (indicator (head_in at.walk.uses (value self.old.machine.stack.env.heap at.walk.goal))) → RetriesBy (database_of P v) self.old.machine.stack self.new.machine.stack entered.erased)) }
-        ensures none { IfOk result (λ o. IfNone o ((P : Given) (v : Views) → clauses.now ≡ clauses_for P (indicator (head_in at.walk.uses (value self.old.machine.stack.env.heap at.walk.goal))) → (below : List Case) × (cases_of (database_of P v) self.old.machine.stack ≡ Choice [] ∷ below) × (cases_of (database_of P v) self.new.machine.stack ≡ Choice [] ∷ below))) }
-        ensures err { OnErr result ((P : Given) (v : Views) → clauses.now ≡ clauses_for P (indicator (head_in at.walk.uses (value self.old.machine.stack.env.heap at.walk.goal))) → cases_of (database_of P v) self.new.machine.stack ≡ cases_of (database_of P v) self.old.machine.stack) }
-        ensures basis { self.new.machine.stack.basis ≡ self.old.machine.stack.basis }
-        ensures frame { self.new ≡ record self.old { machine = record self.old.machine { stack = self.new.machine.stack } } }
-        ensures walks { walks_in self.new.machine.stack ≡ walks_in self.old.machine.stack }
-    {
-        let mut at = at;
-        let mut number = number;
-        'clauses: while is_before_last(clauses, number) {
-            let next = candidate::of_text(at.walk.uses, &clauses[number])?;
-            let spot = Spot::Text(number + 1);
-            let rest = Some(spot);
-            let behind = at_spot(&at, spot);
-            let stack = &mut self.machine.stack;
-            if let Some(entered) = stack.try_walk(self.machine.alloc, at, &next, rest)? {
-                return Ok(Some(entered));
-            }
-            at = behind;
-            number += 1;
-        }
-        self.last_of_text(clauses, at, number)
-    }
-
-    /// Tries the last clause of the text, if there is one at a number.
-    fn last_of_text(
-        &mut self,
-        clauses: &[Clause],
-        at: Walking,
-        number: usize,
-    ) -> Result<Option<Entered>, AllocError>
-        requires at { AtWalk self.old.machine.stack at.point at.walk }
-        requires text { at.walk.spot ≡ TextOf number }
-        requires last { length clauses.now ≤ number + 1 }
-        ensures some { IfOk result (λ o. IfSome o (λ entered. (P : Given) (v : Views) → clauses.now ≡ clauses_for P (indicator (head_in at.walk.uses (value self.old.machine.stack.env.heap at.walk.goal))) → RetriesBy (database_of P v) self.old.machine.stack self.new.machine.stack entered.erased)) }
-        ensures none { IfOk result (λ o. IfNone o ((P : Given) (v : Views) → clauses.now ≡ clauses_for P (indicator (head_in at.walk.uses (value self.old.machine.stack.env.heap at.walk.goal))) → (below : List Case) × (cases_of (database_of P v) self.old.machine.stack ≡ Choice [] ∷ below) × (cases_of (database_of P v) self.new.machine.stack ≡ Choice [] ∷ below))) }
-        ensures err { OnErr result ((P : Given) (v : Views) → cases_of (database_of P v) self.new.machine.stack ≡ cases_of (database_of P v) self.old.machine.stack) }
-        ensures basis { self.new.machine.stack.basis ≡ self.old.machine.stack.basis }
-        ensures frame { self.new ≡ record self.old { machine = record self.old.machine { stack = self.new.machine.stack } } }
-        ensures walks { walks_in self.new.machine.stack ≡ walks_in self.old.machine.stack }
-    {
-        match clauses.get(number) {
-            Some(clause) => {
-                let alloc = self.machine.alloc;
-                let next = candidate::of_text(at.walk.uses, clause)?;
-                self.machine.stack.try_walk(alloc, at, &next, None)
-            }
-            None => {
-                self.machine.stack.go_on_walk(at, None);
-                Ok(None)
-            }
-        }
-    }
-
-    /// The next clause of a walk that may fit was sought.
-    pub(crate) fn walked_to(&mut self, at: Walking, next: Option<ClauseName>)
+    /// A walk in a view goes through own clauses, up to one that fits, to where the journal is to be asked, or to its end.
+    fn walk_through(&mut self, at: Walking) -> Result<Option<Due>, AllocError>
         requires fails { self.old.machine.mode ≡ Mode.Back Outcome.Fail }
         requires at { AtWalk self.old.machine.stack at.point at.walk }
         requires seen { IsSpotSeen self.old.machine.stack.basis.latest at.walk.spot }
-        requires spot { (g : ℕ) × (name : Named) × (at.walk.spot ≡ AtOf g name) }
-        ensures keeps { (P : Given) (v : Views) (g : ℕ) (name : Named) → at.walk.spot ≡ AtOf g name → Ordered (v g) → next ≡ next_like_of (first_key (head_in at.walk.uses (value self.old.machine.stack.env.heap at.walk.goal))) (AfterOf name) (living (v g) (indicator (head_in at.walk.uses (value self.old.machine.stack.env.heap at.walk.goal)))) → KeepsRest P v self.old self.new }
+        requires viewed { IsInView at.walk.spot }
+        requires tied { IsTied self.old.machine }
+        ensures on { IfOk result (λ o. IfNone o ((P : Given) → Quiet P self.old self.new)) }
+        ensures due { IfOk result (λ o. IfSome o (λ due. (P : Given) → Settled P self.new due × Keeps P self.old self.new)) }
+        ensures err { OnErr result ((P : Given) → Keeps P self.old self.new) }
+        ensures walks { Further self.old.machine.stack self.new.machine.stack }
+    {
+        let mut at = at;
+        'walk: loop {
+            match self.walk_on(at)? {
+                Walked::On(next) => at = next,
+                Walked::Into(entered) => {
+                    self.machine.mode = mode_of(entered);
+                    return Ok(None);
+                }
+                Walked::Asks => return Ok(Some(Due::Fetch)),
+                Walked::Over => {
+                    self.machine.stack.close();
+                    return Ok(None);
+                }
+            }
+        }
+    }
+
+    /// A walk in a view goes on: it is looked for what is behind its spot, or the clause there is tried.
+    fn walk_on(&mut self, at: Walking) -> Result<Walked, AllocError>
+        requires fails { self.old.machine.mode ≡ Mode.Back Outcome.Fail }
+        requires at { AtWalk self.old.machine.stack at.point at.walk }
+        requires seen { IsSpotSeen self.old.machine.stack.basis.latest at.walk.spot }
+        requires viewed { IsInView at.walk.spot }
+        requires tied { IsTied self.old.machine }
+        ensures ok { IfOk result (λ w. WalkedTo self.old.machine self.new.machine at w) }
+        ensures err { OnErr result (SameCases self.old.machine self.new.machine) }
+        ensures basis { self.new.machine.stack.basis ≡ self.old.machine.stack.basis }
+        ensures frame { self.new ≡ record self.old { machine = record self.old.machine { stack = self.new.machine.stack } } }
+        ensures walks { Further self.old.machine.stack self.new.machine.stack }
+    {
+        match at.walk.spot {
+            Spot::Text(_) => unreachable!(),
+            Spot::Seek(view, reach) | Spot::At(view, _, reach) => {
+                let step = self.step_at(self.head_at(&at), view, reach)?;
+                Ok(self.walk_behind(at, step))
+            }
+            Spot::Known(view, name, ahead) => {
+                let rest = spot_ahead(view, ahead);
+                match self.known(at.walk.uses, view, name)? {
+                    Known::Is(next) => self.try_own(at, &next, rest),
+                    Known::Gone => Ok(self.walk_past(at, rest)),
+                    Known::Asks => Ok(Walked::Asks),
+                }
+            }
+        }
+    }
+
+    /// The head for which a walk looks clauses up.
+    pub(crate) fn head_at(&self, at: &Walking) -> Cell
+        requires { IsValue self.now.machine.stack.env.heap at.now.walk.goal }
+        ensures there { IsValue self.now.machine.stack.env.heap result }
+        ensures is { value self.now.machine.stack.env.heap result ≡ head_at self.now.machine at.now.walk }
+    {
+        let heap = self.machine.stack.env().heap();
+        head_of(heap, at.walk.uses, at.walk.goal)
+    }
+
+    /// A walk stands where a step leads.
+    fn walk_behind(&mut self, at: Walking, step: Step) -> Walked
+        requires fails { self.old.machine.mode ≡ Mode.Back Outcome.Fail }
+        requires at { AtWalk self.old.machine.stack at.point at.walk }
+        requires seen { IsSpotSeen self.old.machine.stack.basis.latest at.walk.spot }
+        requires step { (g : OfView) × (r : OfReach) × LooksBehind at.walk.spot g r × Steps self.old.machine.layer.own.updates (head_at self.old.machine at.walk) g r step }
+        ensures to { WalkedTo self.old.machine self.new.machine at result }
+        ensures basis { self.new.machine.stack.basis ≡ self.old.machine.stack.basis }
+        ensures frame { self.new ≡ record self.old { machine = record self.old.machine { stack = self.new.machine.stack } } }
+        ensures walks { Further self.old.machine.stack self.new.machine.stack }
+    {
+        let Some(spot) = spot_behind(at.walk.spot, step) else {
+            self.machine.stack.go_on_walk(at, None);
+            return Walked::Over;
+        };
+        self.machine.stack.go_on_walk(at, Some(spot));
+        match step {
+            Step::Next(_, _) | Step::Nothing => Walked::On(at_spot(&at, spot)),
+            Step::Asks(_) => Walked::Asks,
+        }
+    }
+
+    /// An own clause that is not alive is passed over.
+    fn walk_past(&mut self, at: Walking, rest: Option<Spot>) -> Walked
+        requires at { AtWalk self.old.machine.stack at.point at.walk }
+        requires seen { IsSpotSeen self.old.machine.stack.basis.latest at.walk.spot }
+        requires gone { (g : OfView) × (x : Named) × (y : Option OfAhead) × (at.walk.spot ≡ KnownOf g x y) × (rest ≡ spot_ahead g y) × Holds self.old.machine.layer.own.updates g x None }
+        ensures to { WalkedTo self.old.machine self.new.machine at result }
+        ensures basis { self.new.machine.stack.basis ≡ self.old.machine.stack.basis }
+        ensures frame { self.new ≡ record self.old { machine = record self.old.machine { stack = self.new.machine.stack } } }
+        ensures walks { Further self.old.machine.stack self.new.machine.stack }
+    {
+        self.machine.stack.go_on_walk(at, rest);
+        walked_to(&at, rest)
+    }
+
+    /// An own clause is tried.
+    fn try_own(
+        &mut self,
+        at: Walking,
+        next: &Candidate,
+        rest: Option<Spot>,
+    ) -> Result<Walked, AllocError>
+        requires at { AtWalk self.old.machine.stack at.point at.walk }
+        requires seen { IsSpotSeen self.old.machine.stack.basis.latest at.walk.spot }
+        requires own { (g : OfView) × (x : Named) × (y : Option OfAhead) × (at.walk.spot ≡ KnownOf g x y) × (rest ≡ spot_ahead g y) × IsKnown self.old.machine.layer.own.updates at.walk.uses g x (Known.Is next.now) }
+        ensures ok { IfOk result (λ w. WalkedTo self.old.machine self.new.machine at w) }
+        ensures err { OnErr result (SameCases self.old.machine self.new.machine) }
+        ensures basis { self.new.machine.stack.basis ≡ self.old.machine.stack.basis }
+        ensures frame { self.new ≡ record self.old { machine = record self.old.machine { stack = self.new.machine.stack } } }
+        ensures walks { Further self.old.machine.stack self.new.machine.stack }
+    {
+        let alloc = self.machine.alloc;
+        match self.machine.stack.try_walk(alloc, at, next, rest)? {
+            Some(entered) => Ok(Walked::Into(entered)),
+            None => Ok(walked_to(&at, rest)),
+        }
+    }
+
+    /// The next clause of a walk was sought in the journal.
+    pub(crate) fn walked_behind(
+        &mut self,
+        at: Walking,
+        view: View,
+        found: Option<ClauseName>,
+    ) -> Result<(), AllocError>
+        requires fails { self.old.machine.mode ≡ Mode.Back Outcome.Fail }
+        requires of { (P : Given) × IsOf P self.old.machine }
+        requires at { AtWalk self.old.machine.stack at.point at.walk }
+        requires seen { IsSpotSeen self.old.machine.stack.basis.latest at.walk.spot }
+        requires spot { (c : OfCursor) × LooksBehind at.walk.spot view (BaseOf c) }
+        ensures ok { OnOk result ((P : Given) (v : Views) (c : OfCursor) → AreOrdered v → LooksBehind at.walk.spot view (BaseOf c) → found ≡ next_like_of (first_key (head_at self.old.machine at.walk)) c (living (v view.place) (indicator (head_at self.old.machine at.walk))) → KeepsRest P v self.old self.new) }
         ensures of { (P : Given) → IsOf P self.old.machine → IsOf P self.new.machine }
         ensures basis { self.new.machine.stack.basis ≡ self.old.machine.stack.basis }
         ensures frame { self.new ≡ record self.old { machine = self.new.machine } }
-        ensures asked { (v : Views) (g : ℕ) (name : Named) → at.walk.spot ≡ AtOf g name → Ordered (v g) → next ≡ next_like_of (first_key (head_in at.walk.uses (value self.old.machine.stack.env.heap at.walk.goal))) (AfterOf name) (living (v g) (indicator (head_in at.walk.uses (value self.old.machine.stack.env.heap at.walk.goal)))) → WalkAsked v at.walk self.old.machine self.new.machine (like (head_in at.walk.uses (value self.old.machine.stack.env.heap at.walk.goal)) (AfterOf name)) }
+        ensures err { OnErr result ((P : Given) → Stays P self.old self.new) }
+        ensures asked { OnOk result ((v : Views) (c : OfCursor) → AreOrdered v → LooksBehind at.walk.spot view (BaseOf c) → found ≡ next_like_of (first_key (head_at self.old.machine at.walk)) c (living (v view.place) (indicator (head_at self.old.machine at.walk))) → WalkAsked v at.walk self.old.machine self.new.machine (like (head_at self.old.machine at.walk) c)) }
     {
-        let Spot::At(g, name) = at.walk.spot else {
-            unreachable!()
-        };
-        let spot = Spot::Known(g, name, next);
-        self.machine.stack.go_on_walk(at, Some(spot));
+        let step = self.step_from(self.head_at(&at), view, found)?;
+        let spot = spot_behind(at.walk.spot, step);
+        self.machine.stack.go_on_walk(at, spot);
+        Ok(())
     }
 
-    /// The clause of a walk was sought: it is tried.
-    pub(crate) fn walked(
-        &mut self,
-        program: &Program,
-        at: Walking,
-        clause: Option<Clause>,
-    ) -> Result<(), AllocError>
+    /// The clause of a walk was sought in the journal: it is tried.
+    pub(crate) fn walked(&mut self, at: Walking, clause: Option<Clause>) -> Result<(), AllocError>
         requires fails { self.old.machine.mode ≡ Mode.Back Outcome.Fail }
-        requires of { IsOf program.now self.old.machine }
         requires at { AtWalk self.old.machine.stack at.point at.walk }
         requires seen { IsSpotSeen self.old.machine.stack.basis.latest at.walk.spot }
-        requires spot { (g : ℕ) × (name : Named) × (y : Option Named) × (at.walk.spot ≡ KnownOf g name y) }
-        ensures ok { OnOk result ((v : Views) (g : ℕ) (name : Named) (y : Option Named) → at.walk.spot ≡ KnownOf g name y → clause ≡ clause_alive name (v g) → KeepsRest program.now v self.old self.new) }
-        ensures of { IsOf program.now self.new.machine }
+        requires spot { (g : OfView) × (x : Named) × (y : Option OfAhead) × (at.walk.spot ≡ KnownOf g x y) }
+        ensures ok { OnOk result ((P : Given) (v : Views) (g : OfView) (x : Named) (y : Option OfAhead) → AreOrdered v → at.walk.spot ≡ KnownOf g x y → IsUntouched self.old.machine.layer.own.updates g x → clause ≡ clause_alive x (v g.place) → KeepsRest P v self.old self.new) }
+        ensures of { (P : Given) → IsOf P self.old.machine → IsOf P self.new.machine }
         ensures basis { self.new.machine.stack.basis ≡ self.old.machine.stack.basis }
         ensures frame { self.new ≡ record self.old { machine = self.new.machine } }
-        ensures err { OnErr result (Stays program.now self.old self.new) }
-        ensures asked { OnOk result ((v : Views) (g : ℕ) (name : Named) (y : Option Named) → at.walk.spot ≡ KnownOf g name y → WalkAsked v at.walk self.old.machine self.new.machine (ClauseQuery name)) }
+        ensures err { OnErr result ((P : Given) → Stays P self.old self.new) }
+        ensures asked { OnOk result ((v : Views) (g : OfView) (x : Named) (y : Option OfAhead) → at.walk.spot ≡ KnownOf g x y → IsUntouched self.old.machine.layer.own.updates g x → WalkAsked v at.walk self.old.machine self.new.machine (ClauseQuery x)) }
     {
-        let Spot::Known(g, name, next) = at.walk.spot else {
+        let Spot::Known(view, name, ahead) = at.walk.spot else {
             unreachable!()
         };
-        let rest = spot_at(g, next);
+        let rest = spot_ahead(view, ahead);
         let Some(clause) = clause else {
             self.machine.stack.go_on_walk(at, rest);
             return Ok(());
@@ -203,15 +258,8 @@ impl Progress {
     }
 }
 
-/// Whether a number is that of a clause, and not of the last one.
-fn is_before_last(clauses: &[Clause], number: usize) -> bool
-    ensures { IsTrue result ↔ (number + 1 < length clauses.now) }
-{
-    number < clauses.len() && clauses.len() - number > 1
-}
-
 /// A walk that stands at another spot.
-fn at_spot(at: &Walking, spot: Spot) -> Walking
+pub(crate) fn at_spot(at: &Walking, spot: Spot) -> Walking
     ensures { result ≡ record at.now { walk = record at.now.walk { spot = spot } } }
 {
     let walk = Walk {
@@ -225,12 +273,12 @@ fn at_spot(at: &Walking, spot: Spot) -> Walking
     }
 }
 
-/// The spot at the clause of a name, if there is one.
-fn spot_at(g: u64, next: Option<ClauseName>) -> Option<Spot>
-    ensures { result ≡ spot_if g next }
+/// A walk goes on from a spot, if it has not ended.
+fn walked_to(at: &Walking, rest: Option<Spot>) -> Walked
+    ensures { result ≡ walked_on at.now rest }
 {
-    match next {
-        Some(name) => Some(Spot::At(g, name)),
-        None => None,
+    match rest {
+        Some(spot) => Walked::On(at_spot(at, spot)),
+        None => Walked::Over,
     }
 }

@@ -4,10 +4,8 @@ use Rattle.plevent.specs.Reading.{reading}
 use Rattle.plsearch.specs.Search.{search_of}
 use Rattle.plstore.specs.declared.query.Query.{Query}
 use Rattle.plstore.specs.Looking.{found}
-use Rattle.plstore.specs.Rising.{Ordered}
-use Rattle.plstore.proofs.Names.{before-ordered}
-use Rattle.plworld.proofs.Push.{names-rise}
-use Rattle.plsolver.specs.Solver.{IsFoundFor, rest_of}
+use Rattle.plsolver.specs.Fetching.{IsFoundFor}
+use Rattle.plsolver.specs.Solver.{rest_of}
 use Rattle.plrun.proofs.Serve.{started-gone, used-within}
 use Rattle.plrun.proofs.thread.fetch.Goals as goal
 
@@ -41,7 +39,7 @@ returns-clause-runs c =
       latest = subst (λ n. n ≤ length h) (sym c.fetched.ensures.latest) c.requires.runs.latest;
       started = started-gone P old.limit new.limit (λ v. rest_of P v old) (λ v. rest_of P v new) old.used new.used h c.args.running.now.thread old.places.items new.places.items c.requires.runs.started
           (λ v are.
-          c.in_ok-fetched.ensures.ok v g q c.requires.fetches.1 (subst Ordered (sym (are g within)) (before-ordered g (reading h).updates (names-rise h)))
-          (c.in_ok-found.ensures ∙ ap (λ us. found us q) (ap (λ k. before k (reading h).updates) at ∙ sym (are g within))))
+          c.in_ok-fetched.ensures.ok v are.ordered g q c.requires.fetches.1
+          (c.in_ok-found.ensures ∙ ap (λ us. found us q) (ap (λ k. before k (reading h).updates) at ∙ sym (are.as_far g within))))
           c.fetched.ensures.places c.fetched.ensures.limit;
     }

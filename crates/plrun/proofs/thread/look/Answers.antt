@@ -19,5 +19,5 @@ returns-clause-runs c =
       latest = omega (arith, c.in_ok-refreshed.ensures.latest, c.front.ensures);
       runs = relimit P old.limit new.limit (λ v. rest_of P v new) new.used h t new.places.items c.refreshed.ensures.limit
           (looked P.first (search_of P old.limit) old.limit (λ v. rest_of P v old) (λ v. rest_of P v new) old.used new.used old.machine.out.items h t old.places.items new.places.items c.front.result
-          c.requires.runs.runs c.requires.at c.front.ensures c.in_ok-refreshed.ensures.ok c.in_ok-refreshed.ensures.places);
+          c.requires.runs.runs c.requires.at c.front.ensures (λ v are. c.in_ok-refreshed.ensures.ok v) c.in_ok-refreshed.ensures.places);
     }

@@ -22,7 +22,7 @@ returns-in-Slice-clause-runs c =
     record {
       of = c.advance.ensures.of;
       latest = subst (λ n. n ≤ length c.args.world.now.journal) (sym c.advance.ensures.latest) c.requires.latest;
-      started = started-gone P old.limit new.limit (λ v. rest_of P v old) (λ v. rest_of P v new) old.used new.used c.args.world.now.journal c.args.running.now.thread old.places.items new.places.items c.requires.started (λ v are. c.advance.ensures.goes v) c.advance.ensures.places c.advance.ensures.limit;
+      started = started-gone P old.limit new.limit (λ v. rest_of P v old) (λ v. rest_of P v new) old.used new.used c.args.world.now.journal c.args.running.now.thread old.places.items new.places.items c.requires.started (λ v are. c.advance.ensures.goes v are.ordered) c.advance.ensures.places c.advance.ensures.limit;
     }
 
 pub returns-in-Ended-clause-runs : goal.returns-in-Ended-clause-runs
@@ -34,7 +34,7 @@ returns-in-Ended-clause-runs c =
     record {
       of = c.advance.ensures.of;
       latest = subst (λ n. n ≤ length c.args.world.now.journal) (sym c.advance.ensures.latest) c.requires.latest;
-      started = started-gone P old.limit new.limit (λ v. rest_of P v old) (λ v. rest_of P v new) old.used new.used c.args.world.now.journal c.args.running.now.thread old.places.items new.places.items c.requires.started (λ v are. c.advance.ensures.goes v) c.advance.ensures.places c.advance.ensures.limit;
+      started = started-gone P old.limit new.limit (λ v. rest_of P v old) (λ v. rest_of P v new) old.used new.used c.args.world.now.journal c.args.running.now.thread old.places.items new.places.items c.requires.started (λ v are. c.advance.ensures.goes v are.ordered) c.advance.ensures.places c.advance.ensures.limit;
     }
 
 pub look-requires-clause-runs : goal.look-requires-clause-runs
@@ -50,7 +50,7 @@ look-requires-clause-runs c =
       of = c.advance.ensures.of;
       latest = subst (λ n. n ≤ length c.args.world.now.journal) (sym c.advance.ensures.latest) c.requires.latest;
       runs = still-runs P.first (search_of P new.limit) new.limit (λ v. rest_of P v new) new.used new.machine.out.items h t new.places.items View says.1
-          (started-gone P old.limit new.limit (λ v. rest_of P v old) (λ v. rest_of P v new) old.used new.used h t old.places.items new.places.items c.requires.started (λ v are. c.advance.ensures.goes v) c.advance.ensures.places c.advance.ensures.limit);
+          (started-gone P old.limit new.limit (λ v. rest_of P v old) (λ v. rest_of P v new) old.used new.used h t old.places.items new.places.items c.requires.started (λ v are. c.advance.ensures.goes v are.ordered) c.advance.ensures.places c.advance.ensures.limit);
     }
 
 pub serve-requires-clause-runs : goal.serve-requires-clause-runs
@@ -66,7 +66,7 @@ serve-requires-clause-runs c =
       of = c.advance.ensures.of;
       latest = subst (λ n. n ≤ length c.args.world.now.journal) (sym c.advance.ensures.latest) c.requires.latest;
       runs = still-runs P.first (search_of P new.limit) new.limit (λ v. rest_of P v new) new.used new.machine.out.items h t new.places.items (Ask c.in-Ask.request) says.1
-          (started-gone P old.limit new.limit (λ v. rest_of P v old) (λ v. rest_of P v new) old.used new.used h t old.places.items new.places.items c.requires.started (λ v are. c.advance.ensures.goes v) c.advance.ensures.places c.advance.ensures.limit);
+          (started-gone P old.limit new.limit (λ v. rest_of P v old) (λ v. rest_of P v new) old.used new.used h t old.places.items new.places.items c.requires.started (λ v are. c.advance.ensures.goes v are.ordered) c.advance.ensures.places c.advance.ensures.limit);
     }
 
 pub fetch-requires-clause-runs : goal.fetch-requires-clause-runs
@@ -78,7 +78,7 @@ fetch-requires-clause-runs c =
     record {
       of = c.advance.ensures.of;
       latest = subst (λ n. n ≤ length c.args.world.now.journal) (sym c.advance.ensures.latest) c.requires.latest;
-      started = started-gone P old.limit new.limit (λ v. rest_of P v old) (λ v. rest_of P v new) old.used new.used c.args.world.now.journal c.args.running.now.thread old.places.items new.places.items c.requires.started (λ v are. c.advance.ensures.goes v) c.advance.ensures.places c.advance.ensures.limit;
+      started = started-gone P old.limit new.limit (λ v. rest_of P v old) (λ v. rest_of P v new) old.used new.used c.args.world.now.journal c.args.running.now.thread old.places.items new.places.items c.requires.started (λ v are. c.advance.ensures.goes v are.ordered) c.advance.ensures.places c.advance.ensures.limit;
     }
 
 pub returns-in_ok-look-in-Refresh-clause-runs : goal.returns-in_ok-look-in-Refresh-clause-runs

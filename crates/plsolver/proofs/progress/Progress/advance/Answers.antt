@@ -1,8 +1,9 @@
 use Rattle.std.proofs.Common.{◌∙◌, arith}
 use Rattle.plsolver.specs.Solver.{Settled}
 use Rattle.plsolver.specs.Says.{Says}
-use Rattle.plsolver.proofs.Runs.{goes_on, says-look}
-use Rattle.plsolver.proofs.Ending.{ends_trans}
+use Rattle.plsolver.proofs.Runs.{goes_on}
+use Rattle.plsolver.proofs.Waiting.{says-look}
+use Rattle.plsolver.proofs.Further.{further_ends, further_trans}
 use Rattle.plsolver.proofs.progress.Progress.advance.Goals as goal
 
 pub returns-then-left-eq0-clause-says : goal.returns-then-left-eq0-clause-says
@@ -50,27 +51,27 @@ loop-selected-preserved c =
       within = omega (arith, step.used, more, c.settle.ensures.limit, i.limit);
       limit = step.limit ∙ c.settle.ensures.limit ∙ i.limit;
       places = step.places ∙ c.settle.ensures.places ∙ i.places;
-      basis = c.step.ensures.basis ∙ c.settle.ensures.basis ∙ i.basis;
-      walks = ends_trans _ _ _ (ends_trans _ _ _ i.walks c.settle.ensures.walks) c.step.ensures.walks;
+      latest = c.step.ensures.latest ∙ c.settle.ensures.latest ∙ i.latest;
+      walks = further_trans _ _ _ (further_trans _ _ _ i.walks c.settle.ensures.walks) (further_ends _ _ c.step.ensures.walks);
     }
 
 pub returns-in_err-selected-clause-walks : goal.returns-in_err-selected-clause-walks
-returns-in_err-selected-clause-walks c = ends_trans _ _ _ c.loop-selected.invariant.walks c.settle.ensures.walks
+returns-in_err-selected-clause-walks c = further_trans _ _ _ c.loop-selected.invariant.walks c.settle.ensures.walks
 
 pub returns-then-left-eq0-clause-walks : goal.returns-then-left-eq0-clause-walks
-returns-then-left-eq0-clause-walks c = ends_trans _ _ _ c.loop-selected.invariant.walks c.settle.ensures.walks
+returns-then-left-eq0-clause-walks c = further_trans _ _ _ c.loop-selected.invariant.walks c.settle.ensures.walks
 
 pub returns-in-Look-clause-walks : goal.returns-in-Look-clause-walks
-returns-in-Look-clause-walks c = ends_trans _ _ _ c.loop-selected.invariant.walks c.settle.ensures.walks
+returns-in-Look-clause-walks c = further_trans _ _ _ c.loop-selected.invariant.walks c.settle.ensures.walks
 
 pub returns-in-Fetch-clause-walks : goal.returns-in-Fetch-clause-walks
-returns-in-Fetch-clause-walks c = ends_trans _ _ _ c.loop-selected.invariant.walks c.settle.ensures.walks
+returns-in-Fetch-clause-walks c = further_trans _ _ _ c.loop-selected.invariant.walks c.settle.ensures.walks
 
 pub returns-in-Await-clause-walks : goal.returns-in-Await-clause-walks
-returns-in-Await-clause-walks c = ends_trans _ _ _ c.loop-selected.invariant.walks c.settle.ensures.walks
+returns-in-Await-clause-walks c = further_trans _ _ _ c.loop-selected.invariant.walks c.settle.ensures.walks
 
 pub returns-in-Over-clause-walks : goal.returns-in-Over-clause-walks
-returns-in-Over-clause-walks c = ends_trans _ _ _ c.loop-selected.invariant.walks c.settle.ensures.walks
+returns-in-Over-clause-walks c = further_trans _ _ _ c.loop-selected.invariant.walks c.settle.ensures.walks
 
 pub returns-in_err-step-in-Goal-clause-walks : goal.returns-in_err-step-in-Goal-clause-walks
-returns-in_err-step-in-Goal-clause-walks c = ends_trans _ _ _ (ends_trans _ _ _ c.loop-selected.invariant.walks c.settle.ensures.walks) c.step.ensures.walks
+returns-in_err-step-in-Goal-clause-walks c = further_trans _ _ _ (further_trans _ _ _ c.loop-selected.invariant.walks c.settle.ensures.walks) (further_ends _ _ c.step.ensures.walks)

@@ -1,6 +1,6 @@
 use Rattle.std.proofs.Common.{◌≡◌, ◌+◌, ◌≤◌}
-use Rattle.plstack.specs.State.{EndsWalks}
-use Rattle.plsolver.specs.Solver.{GoesTo, IsOf}
+use Rattle.plsolver.specs.Asking.{Further}
+use Rattle.plsolver.specs.Solver.{latest_view, GoesTo, IsOf}
 use Rattle.plsolver.proofs.progress.Progress.advance.Given as goal
 
 abbrev pub invariant-loop-selected : goal.invariant-loop-selected
@@ -11,8 +11,8 @@ invariant-loop-selected l = record {
   within : l.self.used ≤ l.fn.self.limit;
   limit : l.self.limit ≡ l.fn.self.limit;
   places : l.self.places.items ≡ l.fn.self.places.items;
-  basis : l.self.machine.stack.basis ≡ l.fn.self.machine.stack.basis;
-  walks : EndsWalks l.fn.self.machine.stack l.self.machine.stack;
+  latest : latest_view l.self ≡ latest_view l.fn.self;
+  walks : Further l.fn.self.machine.stack l.self.machine.stack;
 }
 
 abbrev pub decreases-loop-selected : goal.decreases-loop-selected

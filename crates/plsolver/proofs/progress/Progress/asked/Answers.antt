@@ -1,8 +1,8 @@
-use Rattle.std.proofs.Common.{ap, ◌∙◌}
-use Rattle.plmachine.specs.declared.machine.Mode.TheVariants as modes
-use Rattle.plsolver.proofs.Runs.{says-asked}
+use Rattle.plsolver.proofs.Waiting.{asks-request, says-asked}
 use Rattle.plsolver.proofs.progress.Progress.asked.Goals as goal
 
+pub request_of-requires : goal.request_of-requires
+request_of-requires c = (c.requires.waits.0, asks-request c.args.self.now c.requires.waits.0 c.in-Ask.question c.requires.waits.1 c.in-Ask.is)
+
 pub returns-clause-says : goal.returns-clause-says
-returns-clause-says c =
-    says-asked c.args.program.now c.args.self.now c.requires.waits.0 c.in-Await.request c.in_ok-request.request c.in-Await.field-1 c.requires.within c.requires.waits.1 (c.in-Ask.is ∙ ap modes.Ask c.in-Await.is) c.in_ok-request.ensures
+returns-clause-says c = says-asked c.args.program.now c.args.self.now c.in_ok-request.request c.in-Ask.question c.requires.within c.requires.waits c.in-Ask.is c.in_ok-request.ensures

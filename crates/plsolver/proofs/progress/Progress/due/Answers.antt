@@ -4,8 +4,8 @@ use Rattle.plsolver.proofs.Quiets.{quiet-spent}
 use Rattle.plsolver.proofs.progress.Progress.due.Goals as goal
 
 pub returns-then-self-clause-on : goal.returns-then-self-clause-on
-returns-then-self-clause-on c = λ v. quiet-spent c.args.program.now v c.args.self.now c.args.selected c.requires.first c.if-self.true
+returns-then-self-clause-on c = λ P v ordered. quiet-spent P v c.args.self.now c.args.selected c.requires.first c.if-self.true
 
 pub returns-clause-due : goal.returns-clause-due
 unfolding Settled
-returns-clause-due c = ((c.requires.first, omega (arith, c.requires.within, c.if-self.false)), refl)
+returns-clause-due c = ((λ P. (c.requires.first, omega (arith, c.requires.within, c.if-self.false))), refl)

@@ -1,4 +1,4 @@
-use Rattle.plsolver.proofs.Runs.{says-ended}
+use Rattle.plsolver.proofs.Waiting.{says-ended}
 use Rattle.plsolver.proofs.progress.Progress.ended.Goals as goal
 
 pub returns-clause-says : goal.returns-clause-says

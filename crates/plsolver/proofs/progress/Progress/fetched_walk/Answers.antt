@@ -1,58 +1,89 @@
-use Rattle.std.proofs.Common.{◌≡◌, ℕ, subst, sym}
-use Rattle.plcells.specs.Store.{value}
-use Rattle.plstore.specs.declared.record.Cursor.TheVariants.{After}
+use Rattle.std.proofs.Common.{◌≡◌, ℕ, subst, inl, inr}
+use Rattle.plstore.specs.declared.query.Query.{Query}
 use Rattle.plstore.specs.Looking.{found}
-use Rattle.plstore.specs.Rising.{Ordered}
-use Rattle.plstack.specs.declared.frame.Spot.{Spot}
-use Rattle.plstack.specs.declared.frame.Walk.{Walk}
-use Rattle.plstack.specs.Places.{head_in}
 use Rattle.plmachine.proofs.Moves.{on_ok_map}
-use Rattle.plsolver.specs.Solver.{SpotAsks}
-use Rattle.plsolver.proofs.Seeking.{clause-told, next-told, same-walking}
-use Rattle.plsolver.proofs.Asked.{asked-walk}
-use Rattle.plsolver.specs.Asking.{WalkAsked}
+use Rattle.plsolver.specs.Fetching.{like}
+use Rattle.plsolver.specs.Going.{head_at, LooksBehind}
+use Rattle.plsolver.proofs.Asked.{asked-walking}
+use Rattle.plsolver.proofs.Seeking.{clause-told, next-told, walk-base, walk-clause}
 use Rattle.plsolver.proofs.progress.Progress.fetched_walk.Goals as goal
 
-pub returns-in-At-clause-ok : goal.returns-in-At-clause-ok
-returns-in-At-clause-ok c = λ v g q on ordered told.
-    let s = c.args.self.now.machine.stack in
+pub walked_behind-requires-clause-spot : goal.walked_behind-requires-clause-spot
+walked_behind-requires-clause-spot c =
     let w = c.in-Some.at.walk in
-    let same = same-walking s on.point c.in-Some.at.point on.walk w on.at.walking c.in-Some.ensures.some in
-    let asks = subst (λ (x : Spot). SpotAsks w.uses (value s.env.heap w.goal) x g q) c.in-At.is (subst (λ (x : Walk). SpotAsks x.uses (value s.env.heap x.goal) x.spot g q) same on.asks) in
-    c.walked_to.ensures.keeps c.args.program.now v c.in-At.field-0 c.in-At.field-1 c.in-At.is (subst (λ (k : ℕ). Ordered (v k)) asks.0 ordered)
-    (next-told v c.in-At.field-0 q (head_in w.uses (value s.env.heap w.goal)) (After c.in-At.field-1) c.args.found c.next_in.result asks.1 (subst (λ (k : ℕ). c.args.found ≡ found (v k) q) asks.0 told) c.next_in.ensures)
+    let fits = c.requires.fits in
+    let b = walk-base c.args.self.now.machine c.in-Some.at.point w c.in-Some.ensures.some c.in-Seek.view c.in-Seek.field-1 (inl c.in-Seek.is) fits.0 fits.1 fits.2 in
+    (b.0, subst (LooksBehind w.spot c.in-Seek.view) b.1 (inl c.in-Seek.is))
+
+pub returns-in-Seek-clause-ok : goal.returns-in-Seek-clause-ok
+returns-in-Seek-clause-ok c =
+    let s = c.args.self.now.machine in
+    let w = c.in-Some.at.walk in
+    on_ok_map c.walked_behind.result
+    (λ keeps P v ordered g q on told.
+    let b = walk-base s c.in-Some.at.point w c.in-Some.ensures.some c.in-Seek.view c.in-Seek.field-1 (inl c.in-Seek.is) g q on in
+    keeps P v b.0 ordered (subst (LooksBehind w.spot c.in-Seek.view) b.1 (inl c.in-Seek.is))
+    (next-told v c.in-Seek.view.place q (head_at s w) b.0 c.args.found c.next_in.result b.2 (subst (λ (k : ℕ). c.args.found ≡ found (v k) q) b.3 told) c.next_in.ensures))
+    c.walked_behind.ensures.ok
+
+pub returns-in-Seek-clause-asked : goal.returns-in-Seek-clause-asked
+returns-in-Seek-clause-asked c =
+    let s = c.args.self.now.machine in
+    let w = c.in-Some.at.walk in
+    on_ok_map c.walked_behind.result
+    (λ asked v ordered g q on told.
+    let b = walk-base s c.in-Some.at.point w c.in-Some.ensures.some c.in-Seek.view c.in-Seek.field-1 (inl c.in-Seek.is) g q on in
+    asked-walking v s c.walked_behind.new.self.machine c.in-Some.at.point w c.in-Some.ensures.some g q (like (head_at s w) b.0) on b.2
+    (asked v b.0 ordered (subst (LooksBehind w.spot c.in-Seek.view) b.1 (inl c.in-Seek.is))
+    (next-told v c.in-Seek.view.place q (head_at s w) b.0 c.args.found c.next_in.result b.2 (subst (λ (k : ℕ). c.args.found ≡ found (v k) q) b.3 told) c.next_in.ensures)))
+    c.walked_behind.ensures.asked
+
+pub walked_behind-requires-in-At-clause-spot : goal.walked_behind-requires-in-At-clause-spot
+walked_behind-requires-in-At-clause-spot c =
+    let w = c.in-Some.at.walk in
+    let fits = c.requires.fits in
+    let b = walk-base c.args.self.now.machine c.in-Some.at.point w c.in-Some.ensures.some c.in-At.view c.in-At.field-2 (inr (c.in-At.field-1, c.in-At.is)) fits.0 fits.1 fits.2 in
+    (b.0, subst (LooksBehind w.spot c.in-At.view) b.1 (inr (c.in-At.field-1, c.in-At.is)))
+
+pub returns-in-At-clause-ok : goal.returns-in-At-clause-ok
+returns-in-At-clause-ok c =
+    let s = c.args.self.now.machine in
+    let w = c.in-Some.at.walk in
+    on_ok_map c.walked_behind-in-At.result
+    (λ keeps P v ordered g q on told.
+    let b = walk-base s c.in-Some.at.point w c.in-Some.ensures.some c.in-At.view c.in-At.field-2 (inr (c.in-At.field-1, c.in-At.is)) g q on in
+    keeps P v b.0 ordered (subst (LooksBehind w.spot c.in-At.view) b.1 (inr (c.in-At.field-1, c.in-At.is)))
+    (next-told v c.in-At.view.place q (head_at s w) b.0 c.args.found c.next_in-in-At.result b.2 (subst (λ (k : ℕ). c.args.found ≡ found (v k) q) b.3 told) c.next_in-in-At.ensures))
+    c.walked_behind-in-At.ensures.ok
+
+pub returns-in-At-clause-asked : goal.returns-in-At-clause-asked
+returns-in-At-clause-asked c =
+    let s = c.args.self.now.machine in
+    let w = c.in-Some.at.walk in
+    on_ok_map c.walked_behind-in-At.result
+    (λ asked v ordered g q on told.
+    let b = walk-base s c.in-Some.at.point w c.in-Some.ensures.some c.in-At.view c.in-At.field-2 (inr (c.in-At.field-1, c.in-At.is)) g q on in
+    asked-walking v s c.walked_behind-in-At.new.self.machine c.in-Some.at.point w c.in-Some.ensures.some g q (like (head_at s w) b.0) on b.2
+    (asked v b.0 ordered (subst (LooksBehind w.spot c.in-At.view) b.1 (inr (c.in-At.field-1, c.in-At.is)))
+    (next-told v c.in-At.view.place q (head_at s w) b.0 c.args.found c.next_in-in-At.result b.2 (subst (λ (k : ℕ). c.args.found ≡ found (v k) q) b.3 told) c.next_in-in-At.ensures)))
+    c.walked_behind-in-At.ensures.asked
 
 pub returns-in-Known-clause-ok : goal.returns-in-Known-clause-ok
 returns-in-Known-clause-ok c =
-    let s = c.args.self.now.machine.stack in
-    let w = c.in-Some.at.walk in
+    let s = c.args.self.now.machine in
+    let k = c.in-Known in
     on_ok_map c.walked.result
-    (λ keeps v g q on ordered told.
-    let same = same-walking s on.point c.in-Some.at.point on.walk w on.at.walking c.in-Some.ensures.some in
-    let asks = subst (λ (x : Spot). SpotAsks w.uses (value s.env.heap w.goal) x g q) c.in-Known.is (subst (λ (x : Walk). SpotAsks x.uses (value s.env.heap x.goal) x.spot g q) same on.asks) in
-    keeps v c.in-Known.field-0 c.in-Known.field-1 c.in-Known.field-2 c.in-Known.is
-    (clause-told v c.in-Known.field-0 q c.in-Known.field-1 c.args.found c.clause_in.result asks.1 (subst (λ (k : ℕ). c.args.found ≡ found (v k) q) asks.0 told) c.clause_in.ensures))
+    (λ keeps P v ordered g q on told.
+    let b = walk-clause s c.in-Some.at.point c.in-Some.at.walk c.in-Some.ensures.some k.field-0 k.field-1 k.field-2 k.is g q on in
+    keeps P v k.field-0 k.field-1 k.field-2 ordered k.is b.1.0 (clause-told v k.field-0.place q k.field-1 c.args.found c.clause_in.result b.1.1 (subst (λ (k : ℕ). c.args.found ≡ found (v k) q) b.0 told) c.clause_in.ensures))
     c.walked.ensures.ok
-
-pub returns-in-At-clause-asked : goal.returns-in-At-clause-asked
-returns-in-At-clause-asked c = λ v g q on ordered told.
-    let s = c.args.self.now.machine.stack in
-    let w = c.in-Some.at.walk in
-    let same = same-walking s on.point c.in-Some.at.point on.walk w on.at.walking c.in-Some.ensures.some in
-    let asks = subst (λ (x : Spot). SpotAsks w.uses (value s.env.heap w.goal) x g q) c.in-At.is (subst (λ (x : Walk). SpotAsks x.uses (value s.env.heap x.goal) x.spot g q) same on.asks) in
-    asked-walk v c.args.self.now.machine c.walked_to.new.self.machine on.point on.walk q _ on.at on.fails asks.1
-    (subst (λ (x : Walk). WalkAsked v x c.args.self.now.machine c.walked_to.new.self.machine _) (sym same)
-    (c.walked_to.ensures.asked v c.in-At.field-0 c.in-At.field-1 c.in-At.is (subst (λ (k : ℕ). Ordered (v k)) asks.0 ordered)
-    (next-told v c.in-At.field-0 q (head_in w.uses (value s.env.heap w.goal)) (After c.in-At.field-1) c.args.found c.next_in.result asks.1 (subst (λ (k : ℕ). c.args.found ≡ found (v k) q) asks.0 told) c.next_in.ensures)))
 
 pub returns-in-Known-clause-asked : goal.returns-in-Known-clause-asked
 returns-in-Known-clause-asked c =
-    let s = c.args.self.now.machine.stack in
-    let w = c.in-Some.at.walk in
+    let s = c.args.self.now.machine in
+    let k = c.in-Known in
     on_ok_map c.walked.result
-    (λ a v g q on ordered told.
-    let same = same-walking s on.point c.in-Some.at.point on.walk w on.at.walking c.in-Some.ensures.some in
-    let asks = subst (λ (x : Spot). SpotAsks w.uses (value s.env.heap w.goal) x g q) c.in-Known.is (subst (λ (x : Walk). SpotAsks x.uses (value s.env.heap x.goal) x.spot g q) same on.asks) in
-    asked-walk v c.args.self.now.machine c.walked.new.self.machine on.point on.walk q _ on.at on.fails asks.1
-    (subst (λ (x : Walk). WalkAsked v x c.args.self.now.machine c.walked.new.self.machine _) (sym same) (a v c.in-Known.field-0 c.in-Known.field-1 c.in-Known.field-2 c.in-Known.is)))
+    (λ asked v ordered g q on told.
+    let b = walk-clause s c.in-Some.at.point c.in-Some.at.walk c.in-Some.ensures.some k.field-0 k.field-1 k.field-2 k.is g q on in
+    asked-walking v s c.walked.new.self.machine c.in-Some.at.point c.in-Some.at.walk c.in-Some.ensures.some g q (Query.Clause k.field-1) on b.1.1 (asked v k.field-0 k.field-1 k.field-2 k.is b.1.0))
     c.walked.ensures.asked

@@ -1,5 +1,5 @@
 use Rattle.std.proofs.Common.{length, ◌-◌}
-use Rattle.plsolver.proofs.Trying.{AtText}
+use Rattle.plsolver.proofs.Texts.{AtText}
 use Rattle.plsolver.proofs.progress.Progress.first_of_text.Given as goal
 
 abbrev pub invariant-clauses : goal.invariant-clauses

@@ -1,34 +1,44 @@
-use Rattle.std.proofs.Common.{ap, refl}
+use Rattle.std.proofs.Common.{[], refl, sym, ap, ◌∙◌}
 use Rattle.plcells.specs.Store.{value}
-use Rattle.plmachine.proofs.Moves.{on_ok_map}
-use Rattle.plsolver.proofs.Finding.{not-there, there-fails}
-use Rattle.plmachine.specs.declared.machine.Mode.TheVariants as modes
+use Rattle.plclause.specs.Indicators.{indicator}
 use Rattle.plmachine.specs.declared.machine.Outcome.TheVariants as outcomes
+use Rattle.plmachine.specs.declared.machine.Mode.TheVariants as modes
+use Rattle.plmachine.specs.declared.machine.Find.TheVariants as finds
+use Rattle.plmachine.proofs.Moves.{on_ok_map}
 use Rattle.plsolver.proofs.Asked.{exists-asked}
-use Rattle.plsolver.proofs.Ending.{ends_refl}
+use Rattle.plsolver.proofs.Finding.{not-there, there-fails, unnamed-exists}
 use Rattle.plsolver.proofs.progress.Progress.found_exists.Goals as goal
 
 pub returns-then-exists-clause-ok : goal.returns-then-exists-clause-ok
-returns-then-exists-clause-ok c = λ v is.
-    record { used = refl; limit = refl; rest = there-fails c.args.program.now v c.args.self.now.machine c.args.goal c.args.g c.requires.finds c.args.exists is c.if-exists.true }
+returns-then-exists-clause-ok c = λ v ordered none is.
+    let s = c.args.self.now.machine in
+    record {
+      used = refl;
+      limit = refl;
+      rest = there-fails c.args.program.now v s c.args.goal c.args.view c.requires.finds c.args.exists (is ∙ sym (unnamed-exists v s.layer.own.updates c.args.view (indicator (value s.stack.env.heap c.args.goal)) none)) c.if-exists.true;
+    }
+
+pub returns-then-exists-clause-asked : goal.returns-then-exists-clause-asked
+returns-then-exists-clause-asked c = λ v. exists-asked v c.args.goal c.args.view c.args.self.now.machine (record c.args.self.now.machine { mode = modes.Back outcomes.Fail }) tt ([], refl)
+
+pub missing-requires-clause-seeks : goal.missing-requires-clause-seeks
+missing-requires-clause-seeks c = (finds.Exists c.args.goal c.args.view, c.requires.finds)
 
 pub returns-clause-ok : goal.returns-clause-ok
 returns-clause-ok c =
     let s = c.args.self.now.machine in
     let of = rw (c.heap.ensures.is, c.env.ensures) at c.in_ok-p.ensures in
     on_ok_map c.missing.result
-    (λ moved v is. record {
+    (λ moved v ordered none is. record {
       used = ap (λ x. x.used) c.missing.ensures.frame;
       limit = ap (λ x. x.limit) c.missing.ensures.frame;
-      rest = not-there c.args.program.now v s c.args.goal c.args.g c.requires.finds c.args.exists is c.missing.new.self.machine c.if-exists.false (moved (value s.stack.env.heap c.args.goal) of);
+      rest = not-there c.args.program.now v s c.args.goal c.args.view c.requires.finds c.args.exists (is ∙ sym (unnamed-exists v s.layer.own.updates c.args.view (indicator (value s.stack.env.heap c.args.goal)) none)) ordered c.missing.new.self.machine c.if-exists.false
+          (moved (value s.stack.env.heap c.args.goal) of);
     })
     c.missing.ensures.ok
-
-pub returns-then-exists-clause-asked : goal.returns-then-exists-clause-asked
-returns-then-exists-clause-asked c = λ v. exists-asked v c.args.goal c.args.g c.args.self.now.machine (record c.args.self.now.machine { mode = modes.Back outcomes.Fail }) tt (ends_refl _)
 
 pub returns-clause-asked : goal.returns-clause-asked
 returns-clause-asked c =
     let s = c.args.self.now.machine in
     let of = rw (c.heap.ensures.is, c.env.ensures) at c.in_ok-p.ensures in
-    on_ok_map c.missing.result (λ moved v. let m = moved (value s.stack.env.heap c.args.goal) of in exists-asked v c.args.goal c.args.g s c.missing.new.self.machine m.plain m.walks) c.missing.ensures.ok
+    on_ok_map c.missing.result (λ moved v. let m = moved (value s.stack.env.heap c.args.goal) of in exists-asked v c.args.goal c.args.view s c.missing.new.self.machine m.plain m.moved.walks) c.missing.ensures.ok

@@ -1,51 +1,57 @@
-use Rattle.std.proofs.Common.{ap, sym, subst, refl, ◌∙◌}
-use Rattle.plcells.specs.Store.{value}
+use Rattle.std.proofs.Common.{refl, sym, ap, ◌∙◌, inl, subst}
+use Rattle.plstore.specs.declared.record.Cursor.TheVariants.{Start}
+use Rattle.plviews.specs.declared.lookup.Reach.TheVariants as reaches
 use Rattle.plstack.specs.declared.frame.Spot.TheVariants as spots
-use Rattle.plstack.specs.State.{goals_of}
-use Rattle.plmachine.specs.Clauses.{Walks}
-use Rattle.plmachine.specs.Machine.{now, MayAsk}
+use Rattle.plmachine.specs.declared.machine.Machine.{Machine as Reached}
+use Rattle.plmachine.specs.Machine.{IsPlain, MayAsk}
 use Rattle.plmachine.proofs.Moves.{on_ok_map}
-use Rattle.plsolver.proofs.Finding.{found-none, found-some}
-use Rattle.plmachine.specs.Machine.{IsPlain}
+use Rattle.plsolver.specs.Knowing.{StepsFound}
+use Rattle.plsolver.specs.Solver.{KeepsRest}
 use Rattle.plsolver.proofs.Asked.{first-found, first-none, on_ok_both}
+use Rattle.plsolver.proofs.Finding.{found-none, found-some}
+use Rattle.plsolver.proofs.Walking.{behind-viewed}
 use Rattle.plsolver.proofs.progress.Progress.found_first.Goals as goal
 
 pub returns-in-Some-clause-ok : goal.returns-in-Some-clause-ok
 returns-in-Some-clause-ok c =
     let P = c.args.program.now in
     let s = c.args.self.now.machine in
-    let x = c.args.sought in
-    let may = subst (MayAsk s.stack) c.requires.finds c.requires.of.askable in
-    on_ok_map c.walk.result
-    (λ w v ordered is. record {
-      used = refl;
-      limit = refl;
-      rest = found-some P v s x c.args.g c.requires.finds may.1 ordered c.walk.new.self c.in-Some.name (sym is ∙ c.in-Some.is)
-          (subst (λ l. Walks P s c.walk.new.self (value s.stack.env.heap x.goal) x.uses (spots.At c.args.g c.in-Some.name) (goals_of s.stack l)) c.visited-rest.ensures.is w);
+    let found = subst (MayAsk s.layer.own s.stack) c.requires.finds c.requires.of.sound.askable in
+    let step = subst (λ h. StepsFound s.layer.own.updates h c.args.view c.args.found c.in_ok-step.step) (rw (c.heap-heap.ensures.is, c.env.ensures) at c.head_of-head.ensures.is) c.in_ok-step.ensures in
+    on_ok_map c.walk_from.result
+    (λ w v ordered front is. record {
+      used = ap (λ x. x.used) c.walk_from.ensures.frame;
+      limit = ap (λ x. x.limit) c.walk_from.ensures.frame;
+      rest = found-some P v ordered s c.args.sought c.args.view c.requires.finds found.0.1 front c.args.found is c.in_ok-step.step step.tells step.leads c.walk_from.new.self.machine c.in-Some.spot (sym c.spot_behind.ensures ∙ c.in-Some.is) w;
     })
-    c.walk.ensures.ok
-
-pub returns-in-None-clause-ok : goal.returns-in-None-clause-ok
-returns-in-None-clause-ok c = λ v ordered is.
-    let P = c.args.program.now in
-    let s = c.args.self.now.machine in
-    let may = subst (MayAsk s.stack) c.requires.finds c.requires.of.askable in
-    record {
-      used = refl;
-      limit = refl;
-      rest = λ most left answers.
-          found-none P v s c.args.sought c.args.g c.requires.finds may.1 ordered (sym is ∙ c.in-None.is) most left answers
-          ∙ ap (λ m. now P v (record s { mode = m }) most left answers) (sym c.mode_without.ensures);
-    }
+    c.walk_from.ensures.ok
 
 pub returns-in-Some-clause-asked : goal.returns-in-Some-clause-asked
 returns-in-Some-clause-asked c =
     let s = c.args.self.now.machine in
-    on_ok_both c.walk.result
-    (λ w walks v ordered is. first-found v c.args.sought c.args.g s c.walk.new.self ordered c.in-Some.name (sym is ∙ c.in-Some.is) (subst (λ x. IsPlain x.mode) (sym w.frame) tt) walks)
-    c.walk.ensures.ok c.walk.ensures.walks
+    let new = c.walk_from.new.self.machine in
+    let step = subst (λ h. StepsFound s.layer.own.updates h c.args.view c.args.found c.in_ok-step.step) (rw (c.heap-heap.ensures.is, c.env.ensures) at c.head_of-head.ensures.is) c.in_ok-step.ensures in
+    let is = sym c.spot_behind.ensures ∙ c.in-Some.is in
+    on_ok_both c.walk_from.result
+    (λ w walks v ordered told.
+    first-found v c.args.sought c.args.view s new (ordered.ordered c.args.view.place) c.args.found (sym told) c.in_ok-step.step step.leads c.in-Some.spot is (subst (λ (y : Reached). IsPlain y.mode) (sym w.frame) tt) walks
+    (behind-viewed (spots.Seek c.args.view (reaches.Base Start)) c.in-Some.spot c.args.view (reaches.Base Start) c.in_ok-step.step (inl refl) is))
+    c.walk_from.ensures.ok c.walk_from.ensures.walks
+
+pub returns-in-None-clause-ok : goal.returns-in-None-clause-ok
+returns-in-None-clause-ok c = λ v ordered front told.
+    let P = c.args.program.now in
+    let s = c.args.self.now in
+    let found = subst (MayAsk s.machine.layer.own s.machine.stack) c.requires.finds c.requires.of.sound.askable in
+    let step = subst (λ h. StepsFound s.machine.layer.own.updates h c.args.view c.args.found c.in_ok-step.step) (rw (c.heap-heap.ensures.is, c.env.ensures) at c.head_of-head.ensures.is) c.in_ok-step.ensures in
+    subst (λ m. KeepsRest P v s (record s { machine = record s.machine { mode = m } })) (sym c.mode_without.ensures) (record {
+      used = refl;
+      limit = refl;
+      rest = found-none P v ordered s.machine c.args.sought c.args.view c.requires.finds found.0.1 front c.args.found told c.in_ok-step.step step.tells step.leads (sym c.spot_behind.ensures ∙ c.in-None.is);
+    })
 
 pub returns-in-None-clause-asked : goal.returns-in-None-clause-asked
-returns-in-None-clause-asked c = λ v ordered is.
+returns-in-None-clause-asked c = λ v ordered told.
     let s = c.args.self.now.machine in
-    first-none v c.args.sought c.args.g s _ ordered (sym is ∙ c.in-None.is) (ap (λ m. record s { mode = m }) c.mode_without.ensures)
+    let step = subst (λ h. StepsFound s.layer.own.updates h c.args.view c.args.found c.in_ok-step.step) (rw (c.heap-heap.ensures.is, c.env.ensures) at c.head_of-head.ensures.is) c.in_ok-step.ensures in
+    first-none v c.args.sought c.args.view s (record s { mode = c.mode_without.result }) (ordered.ordered c.args.view.place) c.args.found (sym told) c.in_ok-step.step step.leads (sym c.spot_behind.ensures ∙ c.in-None.is) (ap (λ m. record s { mode = m }) c.mode_without.ensures)

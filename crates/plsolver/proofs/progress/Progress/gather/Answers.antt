@@ -1,13 +1,12 @@
 use Rattle.std.proofs.Common.{ap, sym, subst, ◌∙◌, reverse}
 use Rattle.plsearch.specs.Collecting.{kept_below}
 use Rattle.plstack.specs.State.{AtHandler}
-use Rattle.plstack.specs.StaticCalls.{database_of}
 use Rattle.plmachine.specs.declared.machine.Outcome.TheVariants as outcomes
 use Rattle.plmachine.specs.declared.machine.Mode.TheVariants as modes
-use Rattle.plmachine.proofs.Moves.{on_err}
+use Rattle.plsolver.proofs.Runs.{err_stays}
 use Rattle.plsolver.specs.Solver.{Stays, QuietIn}
-use Rattle.plsolver.proofs.Quiets.{stays-back}
-use Rattle.plsolver.proofs.Catches.{closed-below, bound-fits}
+use Rattle.plsolver.proofs.Quiets.{db_in, stays-back}
+use Rattle.plsolver.proofs.Catches.{closed-basis, closed-below, bound-fits, handler-stays}
 use Rattle.plsolver.proofs.Gathering.{gathers-it, gathers-other}
 use Rattle.plstack.specs.Places.{walks_of}
 use Rattle.plsolver.proofs.Ending.{ends_same, ends_trans}
@@ -16,29 +15,27 @@ use Rattle.plsolver.proofs.progress.Progress.gather.Goals as goal
 pub returns-in_err-fits-clause-err : goal.returns-in_err-fits-clause-err
 returns-in_err-fits-clause-err c =
     let s = c.args.self.now in
-    let P = c.args.program.now in
     let e = c.in_err-fits.ensures.err in
-    on_err _ (subst (λ m. Stays P s (record s { machine = m })) (sym c.gather.ensures.frame)
-    (stays-back P s c.gather.new.self.stack outcomes.Fail c.requires.fails (e.basis ∙ c.rewind-handler.ensures.basis) (ap (λ fs. walks_of (reverse fs)) e.frames ∙ c.rewind-handler.ensures.walks) (λ v. e.cases (database_of P v) ∙ c.rewind-handler.ensures.cases (database_of P v))))
+    err_stays s _ _ (λ P. subst (λ m. Stays P s (record s { machine = m })) (sym c.gather.ensures.frame)
+    (stays-back P s c.gather.new.self.stack outcomes.Fail c.requires.fails (e.basis ∙ c.rewind-handler.ensures.basis) (ap (λ fs. walks_of (reverse fs)) e.frames ∙ c.rewind-handler.ensures.walks) (λ db. e.cases db ∙ c.rewind-handler.ensures.cases db)))
 
 pub returns-then-not-fits-clause-ok : goal.returns-then-not-fits-clause-ok
 returns-then-not-fits-clause-ok c =
     let s = c.args.self.now in
-    let P = c.args.program.now in
     let put = c.gather.new.self.stack in
     let here = subst (λ x. AtHandler c.rewind-handler.new.self x c.rewind-handler.result.list) c.in-Gather.is c.rewind-handler.ensures.at in
-    λ v. subst (λ m. QuietIn P v s (record s { machine = record m { stack = c.close.new.self; kept = c.drop_from.new.self } })) (sym c.gather.ensures.frame)
+    λ P v ordered. subst (λ m. QuietIn P v s (record s { machine = record m { stack = c.close.new.self; kept = c.drop_from.new.self } })) (sym c.gather.ensures.frame)
     (gathers-other P v s c.requires.fails c.rewind-handler.new.self c.rewind-handler.result.list c.in-Gather.whole c.rewind-handler.ensures.basis c.rewind-handler.ensures.cases here c.level-level.result c.level-level.ensures
     put c.close.new.self c.drop_from.new.self (c.in_ok-fits.ensures.same c.if-not-fits.true) (c.in_ok-fits.ensures.no c.if-not-fits.true)
-    (λ h below was. closed-below (database_of P v) put c.close.new.self h below c.close.result c.close.ensures.some c.close.ensures.none was) c.close.ensures.basis
+    (λ h below was. closed-below (db_in P v s.machine) put c.close.new.self h below c.close.result c.close.ensures.some c.close.ensures.none was)
+    (closed-basis put c.close.new.self c.close.result c.close.ensures.some c.close.ensures.none c.close.ensures.basis (handler-stays c.rewind-handler.new.self put (c.in_ok-fits.ensures.same c.if-not-fits.true).frames here.has))
     (c.drop_from.ensures ∙ ap (λ m. kept_below c.level-level.result m.kept) c.gather.ensures.frame))
 
 pub returns-clause-ok : goal.returns-clause-ok
 returns-clause-ok c =
     let s = c.args.self.now in
-    let P = c.args.program.now in
     let here = subst (λ x. AtHandler c.rewind-handler.new.self x c.rewind-handler.result.list) c.in-Gather.is c.rewind-handler.ensures.at in
-    λ v. subst (λ m. QuietIn P v s (record s { machine = record m { stack = c.leave.new.self; mode = modes.Visit; kept = c.drop_from.new.self } })) (sym c.gather.ensures.frame)
+    λ P v ordered. subst (λ m. QuietIn P v s (record s { machine = record m { stack = c.leave.new.self; mode = modes.Visit; kept = c.drop_from.new.self } })) (sym c.gather.ensures.frame)
     (gathers-it P v s c.requires.fails c.rewind-handler.new.self c.rewind-handler.result.list c.in-Gather.whole c.rewind-handler.ensures.basis c.rewind-handler.ensures.cases here c.level-level.result c.level-level.ensures
     c.gather.new.self.stack (c.in_ok-fits.ensures.yes c.if-not-fits.false) c.leave.new.self c.drop_from.new.self c.leave.ensures.leaves c.leave.ensures.basis
     (c.drop_from.ensures ∙ ap (λ m. kept_below c.level-level.result m.kept) c.gather.ensures.frame))

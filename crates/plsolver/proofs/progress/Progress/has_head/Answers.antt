@@ -1,4 +1,4 @@
-use Rattle.plsolver.proofs.Seeking.{put-stays}
+use Rattle.plsolver.proofs.Keeping.{put-stays}
 use Rattle.plsolver.proofs.progress.Progress.has_head.Goals as goal
 
 pub returns-in-Some-clause-stays : goal.returns-in-Some-clause-stays

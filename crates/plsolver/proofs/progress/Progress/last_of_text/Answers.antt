@@ -1,7 +1,8 @@
 use Rattle.std.proofs.Common.{◌≡◌, suc, None, refl, sym, ap, ap₂, ◌∙◌, arith, drop, [], ◌∷◌}
 use Rattle.plcells.specs.Store.{value}
 use Rattle.plstack.specs.StaticCalls.{database_of}
-use Rattle.plsolver.proofs.Trying.{drop-at, drop-none, if_none_both, last-ends, text-ends, text-found}
+use Rattle.plsolver.proofs.Texts.{drop-at, drop-none, text-ends, text-found}
+use Rattle.plsolver.proofs.Trying.{if_none_both, last-ends}
 use Rattle.plsolver.proofs.Ending.{text-ended, text-off}
 use Rattle.plsolver.proofs.progress.Progress.last_of_text.Goals as goal
 
@@ -11,17 +12,17 @@ returns-in_ok-next-in-Some-clause-none c =
     let w = c.args.at.walk in
     let k = c.args.number in
     if_none_both c.try_walk.result c.try_walk.ensures.none c.try_walk.ensures.last
-    (λ same ends P v whole.
+    (λ same ends P v own whole.
     let left : drop k c.args.clauses.now ≡ c.in-Some.clause.now ∷ [] =
     drop-at c.args.clauses.now k _ (omega (arith, c.in-Some.ensures.lookup)) ∙ ap₂ (λ x xs. x ∷ xs) (sym c.in-Some.ensures.lookup.1) (drop-none c.args.clauses.now (suc k) (omega (arith, c.requires.last))) in
-    last-ends (database_of P v) s c.try_walk.new.self
-    (same (database_of P v) (text-found P v w (value s.env.heap w.goal) k c.in-Some.clause.now [] None c.in_ok-next-in-Some.next c.requires.text (ap (drop k) (sym whole) ∙ left) c.in_ok-next-in-Some.ensures refl))
-    (ends refl (database_of P v)))
+    last-ends (database_of P v own) s c.try_walk.new.self
+    (same (database_of P v own) (text-found P v own w (value s.env.heap w.goal) k c.in-Some.clause.now [] None c.in_ok-next-in-Some.next c.requires.text (ap (drop k) (sym whole) ∙ left) c.in_ok-next-in-Some.ensures refl))
+    (ends refl (database_of P v own)))
 
 pub returns-in-None-clause-none : goal.returns-in-None-clause-none
-returns-in-None-clause-none c = λ P v whole.
+returns-in-None-clause-none c = λ P v own whole.
     let s = c.args.self.now.machine.stack in
-    text-ends P v s c.go_on_walk.new.self c.args.at.point c.args.at.walk c.args.number c.requires.at (c.go_on_walk.ensures.goes (database_of P v)) c.requires.text
+    text-ends P v own s c.go_on_walk.new.self c.args.at.point c.args.at.walk c.args.number c.requires.at (c.go_on_walk.ensures.goes (database_of P v own)) c.requires.text
     (ap (drop c.args.number) (sym whole) ∙ drop-none c.args.clauses.now c.args.number (omega (arith, c.in-None.ensures.lookup)))
 
 pub returns-in_ok-next-in-Some-clause-walks : goal.returns-in_ok-next-in-Some-clause-walks

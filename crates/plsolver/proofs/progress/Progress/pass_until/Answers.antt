@@ -1,33 +1,26 @@
-use Rattle.plsolver.proofs.Leaving.{until-fits, until-empties, catcher-handles, quiet-emptied}
+use Rattle.std.proofs.Common.{arith, inr, subst, sym, ◌∙◌}
+use Rattle.std.proofs.lemmas.Bool.{eqb-false}
+use Rattle.plstack.specs.State.{IsEmptyOrFit}
+use Rattle.plsolver.proofs.Leaving.{quiet-left, until-fits}
 use Rattle.plsolver.proofs.Quiets.{quiet-until}
-use Rattle.plsolver.proofs.Ending.{ends_same, ends_refl}
 use Rattle.plsolver.proofs.progress.Progress.pass_until.Goals as goal
 
-pub visit-requires-clause-list : goal.visit-requires-clause-list
-visit-requires-clause-list c = c.requires.marker.there
-
 pub visit-requires-clause-fits : goal.visit-requires-clause-fits
-visit-requires-clause-fits c = until-fits c.args.self.now.machine.stack c.args.level c.args.rest c.requires.marker
+visit-requires-clause-fits c = inr (until-fits c.args.self.now.machine.stack c.args.level c.args.rest.now c.requires.marker)
 
-pub recover-requires-clause-fits : goal.recover-requires-clause-fits
-recover-requires-clause-fits c = until-empties c.args.self.now.machine.stack c.args.level c.args.rest c.requires.marker (c.is_in_catcher.ensures.level c.if-is_in_catcher.true)
+pub returns-then-eq-clause-quiet : goal.returns-then-eq-clause-quiet
+returns-then-eq-clause-quiet c = rw c.visit.ensures.is (λ P v ordered. quiet-until P v c.args.self.now c.args.level c.args.rest.now c.requires.visits c.requires.marker)
 
-pub recover-requires-clause-handler : goal.recover-requires-clause-handler
-recover-requires-clause-handler c = catcher-handles c.args.self.now.machine.stack (c.is_in_catcher.ensures.catcher c.if-is_in_catcher.true)
+pub visit-requires-then-not-leave_catcher-clause-fits : goal.visit-requires-then-not-leave_catcher-clause-fits
+visit-requires-then-not-leave_catcher-clause-fits c =
+    let st = c.args.self.now.machine.stack in
+    subst (λ st. IsEmptyOrFit st c.args.rest.now) (sym (c.leave_catcher.ensures.no c.if-not-leave_catcher.true)) (inr (until-fits st c.args.level c.args.rest.now c.requires.marker))
 
-pub recover-requires-clause-list : goal.recover-requires-clause-list
-recover-requires-clause-list c = c.requires.marker.there
+pub returns-then-not-leave_catcher-clause-quiet : goal.returns-then-not-leave_catcher-clause-quiet
+returns-then-not-leave_catcher-clause-quiet c =
+    rw (c.visit-then-not-leave_catcher.ensures.is, c.leave_catcher.ensures.no c.if-not-leave_catcher.true) (λ P v ordered. quiet-until P v c.args.self.now c.args.level c.args.rest.now c.requires.visits c.requires.marker)
 
-pub returns-then-is_in_catcher-clause-quiet : goal.returns-then-is_in_catcher-clause-quiet
-returns-then-is_in_catcher-clause-quiet c = λ v.
-    let yes = c.if-is_in_catcher.true in
-    quiet-emptied c.args.program.now v c.args.self.now c.recover.new.self c.args.level c.args.rest c.requires.visits c.requires.marker (c.is_in_catcher.ensures.catcher yes) (c.is_in_catcher.ensures.level yes) (c.is_in_catcher.ensures.inside yes) c.recover.ensures.recovers c.recover.ensures.basis
-
-pub returns-then-is_in_catcher-clause-walks : goal.returns-then-is_in_catcher-clause-walks
-returns-then-is_in_catcher-clause-walks c = ends_same _ _ c.recover.ensures.walks
-
-pub returns-clause-quiet : goal.returns-clause-quiet
-returns-clause-quiet c = rw c.visit.ensures (λ v. quiet-until c.args.program.now v c.args.self.now c.args.level c.args.rest c.requires.visits c.requires.marker)
-
-pub returns-clause-walks : goal.returns-clause-walks
-returns-clause-walks c = rw c.visit.ensures (ends_refl _)
+pub returns-else-not-leave_catcher-clause-quiet : goal.returns-else-not-leave_catcher-clause-quiet
+returns-else-not-leave_catcher-clause-quiet c = λ P v ordered.
+    let inside = eqb-false c.args.level 0 (sym c.eq.ensures ∙ c.if-eq.false) in
+    quiet-left P v c.args.self.now c.leave_catcher.new.self c.args.level c.args.rest.now c.requires.visits c.requires.marker (omega (arith, inside)) (c.leave_catcher.ensures.yes c.if-not-leave_catcher.false)

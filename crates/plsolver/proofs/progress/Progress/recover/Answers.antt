@@ -4,9 +4,10 @@ use Rattle.plcells.specs.Store.{value}
 use Rattle.plsearch.specs.Running.{runnable, Raises, Runs}
 use Rattle.plmachine.specs.declared.machine.Mode.TheVariants as modes
 use Rattle.plmachine.specs.Lists.{Grown}
-use Rattle.plmachine.proofs.Moves.{on_err, on_ok_map, on_err_map}
+use Rattle.plmachine.proofs.Moves.{on_ok_map, on_err_map}
+use Rattle.plsolver.proofs.Runs.{err_stays}
 use Rattle.plsolver.specs.Solver.{Stays, Recovered, Rethrown}
-use Rattle.plsolver.proofs.Catches.{recovered-raises, recovered-runs, grown-stays, recovery-fits, level-kinds}
+use Rattle.plsolver.proofs.Catches.{recovered-raises, recovered-runs, grown-stays, recovery-fits, fits-grown-behind, level-kinds}
 use Rattle.plstack.specs.Places.{walks_of}
 use Rattle.plstack.specs.State.{walks_in}
 use Rattle.plsolver.proofs.Ending.{ends_same, ends_trans}
@@ -14,40 +15,44 @@ use Rattle.plmachine.proofs.Levels.{same-kinds}
 use Rattle.plsearch.specs.Types.{Goal}
 use Rattle.plsolver.proofs.progress.Progress.recover.Goals as goal
 
+pub rethrow-requires-clause-fits : goal.rethrow-requires-clause-fits
+rethrow-requires-clause-fits c =
+    let s = c.args.self.now.machine.stack in
+    let g = c.ready.ensures.grown in
+    fits-grown-behind s c.ready.new.self.stack c.args.list g c.requires.list c.requires.fits
+
 pub returns-in_err-error-clause-err : goal.returns-in_err-error-clause-err
 returns-in_err-error-clause-err c =
     let s = c.args.self.now in
-    on_err _ (grown-stays c.args.program.now s (record s { machine = c.ready.new.self }) c.ready.ensures.grown (ap (λ m. record s { machine = m }) c.ready.ensures.frame))
+    err_stays s _ _ (λ P. grown-stays P s (record s { machine = c.ready.new.self }) c.ready.ensures.grown (ap (λ m. record s { machine = m }) c.ready.ensures.frame))
 
 pub returns-in_err-made-in-Runs-clause-err : goal.returns-in_err-made-in-Runs-clause-err
 returns-in_err-made-in-Runs-clause-err c =
     let s = c.args.self.now in
     let same : c.link.new.self ≡ c.ready.new.self.stack = c.in_err-made-in-Runs.ensures.err in
-    on_err _ (grown-stays c.args.program.now s (record s { machine = record c.ready.new.self { stack = c.link.new.self } }) (subst (Grown s.machine.stack) (sym same) c.ready.ensures.grown)
+    err_stays s _ _ (λ P. grown-stays P s (record s { machine = record c.ready.new.self { stack = c.link.new.self } }) (subst (Grown s.machine.stack) (sym same) c.ready.ensures.grown)
     (ap (λ m. record s { machine = record m { stack = c.link.new.self } }) c.ready.ensures.frame))
 
 pub returns-in-Raises-clause-err : goal.returns-in-Raises-clause-err
 returns-in-Raises-clause-err c =
     let s = c.args.self.now in
-    on_err_map c.rethrow.result (λ e. subst (Stays c.args.program.now s) (sym e) (grown-stays c.args.program.now s (record s { machine = c.ready.new.self }) c.ready.ensures.grown (ap (λ m. record s { machine = m }) c.ready.ensures.frame))) c.rethrow.ensures.err
+    on_err_map c.rethrow.result (λ e P. subst (Stays P s) (sym e) (grown-stays P s (record s { machine = c.ready.new.self }) c.ready.ensures.grown (ap (λ m. record s { machine = m }) c.ready.ensures.frame))) c.rethrow.ensures.err
 
 pub returns-in-Raises-clause-ok : goal.returns-in-Raises-clause-ok
 returns-in-Raises-clause-ok c =
     let s = c.args.self.now in
-    let P = c.args.program.now in
     let runs : runnable (value s.machine.stack.env.heap c.args.recovery) ≡ Raises c.in-Raises.error = rw c.in-Raises.is at c.in_ok-error.ensures.ok.is in
     on_ok_map c.rethrow.result
-    (λ did. recovered-raises P s c.rethrow.new.self c.ready.new.self.stack c.in-Raises.error c.args.recovery c.args.list c.ready.ensures.grown c.requires.list runs
-    (subst (λ m. Rethrown P (record s { machine = m }) c.rethrow.new.self c.in-Raises.error c.args.list) c.ready.ensures.frame did)) c.rethrow.ensures.ok
+    (λ did P. recovered-raises P s c.rethrow.new.self c.ready.new.self.stack c.in-Raises.error c.args.recovery c.args.list c.ready.ensures.grown c.requires.list runs
+    (subst (λ m. Rethrown P (record s { machine = m }) c.rethrow.new.self c.in-Raises.error c.args.list) c.ready.ensures.frame (did P))) c.rethrow.ensures.ok
 
 pub returns-in_ok-made-in-Runs-clause-ok : goal.returns-in_ok-made-in-Runs-clause-ok
 returns-in_ok-made-in-Runs-clause-ok c =
     let s = c.args.self.now in
-    let P = c.args.program.now in
     let t = c.ready.new.self in
     let adds = c.in_ok-made-in-Runs.ensures.ok in
     let runs : runnable (value s.machine.stack.env.heap c.args.recovery) ≡ Runs (value t.stack.env.heap c.in-Runs.goal) = rw c.in-Runs.is at c.in_ok-error.ensures.ok.is in
-    subst (λ m. Recovered P s (record s { machine = record m { stack = c.recover.new.self; mode = modes.Visit; kept = c.drop_from.new.self } }) c.args.recovery c.args.list) (sym c.ready.ensures.frame)
+    λ P. subst (λ m. Recovered P s (record s { machine = record m { stack = c.recover.new.self; mode = modes.Visit; kept = c.drop_from.new.self } }) c.args.recovery c.args.list) (sym c.ready.ensures.frame)
     (recovered-runs P s t.stack c.link.new.self c.recover.new.self c.args.recovery c.args.list c.in-Runs.goal c.level-level.result c.in_ok-made-in-Runs.made c.ready.ensures.grown c.requires.list runs c.level-level.ensures
     adds.stays adds.env adds.is c.recover.ensures.recovers c.recover.ensures.basis c.drop_from.new.self (c.drop_from.ensures ∙ ap (λ m. kept_below c.level-level.result m.kept) c.ready.ensures.frame))
 

@@ -1,27 +1,44 @@
-use Rattle.std.proofs.Common.{ap₂, subst, sym, le_refl}
+use Rattle.std.proofs.Common.{ap, ap₂, subst, sym, inr, le_refl}
 use Rattle.plcells.specs.Store.{value}
 use Rattle.plstack.specs.State.{goals_of, kinds_in}
+use Rattle.plstack.specs.Levels.{FitsIn}
+use Rattle.plmachine.specs.Machine.{IsLast}
 use Rattle.plmachine.specs.Selected.{bound_at}
 use Rattle.plmachine.proofs.Moves.{on_ok_map}
 use Rattle.plsolver.specs.Solver.{IsSelected}
-use Rattle.plsolver.proofs.Runs.{either_basis, either_of, either_walks}
-use Rattle.plsolver.proofs.Runs.{selects-both, selects-row}
+use Rattle.plsolver.proofs.Runs.{either_latest, either_of, either_walks, moved_of, selects-both, selects-row, visits-tied}
 use Rattle.plsolver.proofs.Ending.{ends_refl}
-use Rattle.plstack.specs.Levels.{FitsIn}
 use Rattle.plsolver.proofs.progress.Progress.select.Goals as goal
+
+-- ---- a conjunction
+
+pub visit-requires-clause-fits : goal.visit-requires-clause-fits
+visit-requires-clause-fits c =
+    let s = c.args.self.now.machine in
+    let both = (subst (IsSelected s) c.in-Both.is c.requires.goal).1 in
+    let p = subst (FitsIn (kinds_in s.stack)) both.goals both.levels in
+    inr (subst (FitsIn (kinds_in s.stack)) (sym both.next_goals) ((p.0.0, p.0.1, (le_refl _, p.0.1, p.0.2)), p.1))
 
 pub returns-in-Both-clause-ok : goal.returns-in-Both-clause-ok
 returns-in-Both-clause-ok c =
     let s = c.args.self.now in
     let both = subst (IsSelected s.machine) c.in-Both.is c.requires.goal in
-    selects-both c.args.program.now s.machine (record s.machine { stack = c.visit.new.self }) c.in-Both.next both.1 (ap₂ (λ st m. record s.machine { stack = st; mode = m }) c.visit.ensures both.0)
+    selects-both c.args.program.now s.machine (record s.machine { stack = c.visit.new.self }) c.in-Both.next both.1 (ap₂ (λ st m. record s.machine { stack = st; mode = m }) c.visit.ensures.is both.0)
 
-pub returns-in-Goal-clause-ok : goal.returns-in-Goal-clause-ok
-returns-in-Goal-clause-ok c =
+pub returns-in-Both-clause-of : goal.returns-in-Both-clause-of
+returns-in-Both-clause-of c =
     let s = c.args.self.now in
-    let first = subst (IsSelected s.machine) c.in-Goal.is c.requires.goal in
-    on_ok_map c.term.result
-    (selects-row c.args.program.now s.machine c.term.new.self c.in-Goal.level (value s.machine.stack.env.heap c.in-Goal.goal) (goals_of s.machine.stack c.in-Goal.rest) first.1.goals) c.term.ensures.ok
+    let both = subst (IsSelected s.machine) c.in-Both.is c.requires.goal in
+    let did = selects-both c.args.program.now s.machine (record s.machine { stack = c.visit.new.self }) c.in-Both.next both.1 (ap₂ (λ st m. record s.machine { stack = st; mode = m }) c.visit.ensures.is both.0) in
+    moved_of c.args.program.now s.machine (record s.machine { stack = c.visit.new.self }) _ c.requires.of (λ last. subst IsLast c.requires.goal.0 last) (did _ _ _ both.1.goals)
+
+pub returns-in-Both-clause-latest : goal.returns-in-Both-clause-latest
+returns-in-Both-clause-latest c = ap (λ st. st.basis.latest.place) c.visit.ensures.is
+
+pub returns-in-Both-clause-walks : goal.returns-in-Both-clause-walks
+returns-in-Both-clause-walks c = rw c.visit.ensures.is (ends_refl _)
+
+-- ---- a term
 
 pub term-requires-clause-visits : goal.term-requires-clause-visits
 term-requires-clause-visits c = c.requires.goal.0
@@ -32,11 +49,41 @@ term-requires-clause-goal c = (subst (IsSelected c.args.self.now.machine) c.in-G
 pub term-requires-clause-rest : goal.term-requires-clause-rest
 term-requires-clause-rest c = (subst (IsSelected c.args.self.now.machine) c.in-Goal.is c.requires.goal).1.there
 
+pub term-requires-clause-level : goal.term-requires-clause-level
+term-requires-clause-level c =
+    let s = c.args.self.now.machine in
+    let first = (subst (IsSelected s) c.in-Goal.is c.requires.goal).1 in
+    subst (FitsIn (kinds_in s.stack)) first.goals first.levels
+
+pub term-requires-clause-tied : goal.term-requires-clause-tied
+term-requires-clause-tied c = visits-tied c.args.program.now c.args.self.now.machine c.requires.goal.0 c.requires.of
+
+pub returns-in-Goal-clause-ok : goal.returns-in-Goal-clause-ok
+returns-in-Goal-clause-ok c =
+    let s = c.args.self.now in
+    let first = subst (IsSelected s.machine) c.in-Goal.is c.requires.goal in
+    on_ok_map c.term.result
+    (selects-row c.args.program.now s.machine c.term.new.self c.in-Goal.level (value s.machine.stack.env.heap c.in-Goal.goal) (goals_of s.machine.stack c.in-Goal.rest) first.1.goals) c.term.ensures.ok
+
+pub returns-in-Goal-clause-of : goal.returns-in-Goal-clause-of
+returns-in-Goal-clause-of c = either_of c.args.program.now c.args.self.now.machine c.term.new.self _ c.term.result c.requires.of (λ last. subst IsLast c.requires.goal.0 last) c.term.ensures.ok c.term.ensures.err
+
+pub returns-in-Goal-clause-latest : goal.returns-in-Goal-clause-latest
+returns-in-Goal-clause-latest c = either_latest c.args.program.now c.args.self.now.machine c.term.new.self _ c.term.result c.term.ensures.ok c.term.ensures.err
+
+pub returns-in-Goal-clause-walks : goal.returns-in-Goal-clause-walks
+returns-in-Goal-clause-walks c = either_walks c.args.program.now c.args.self.now.machine c.term.new.self _ c.term.result c.term.ensures.ok c.term.ensures.err
+
+-- ---- a step of a body
+
 pub step-requires-clause-visits : goal.step-requires-clause-visits
 step-requires-clause-visits c = c.requires.goal.0
 
 pub step-requires-clause-at : goal.step-requires-clause-at
 step-requires-clause-at c = (_, (subst (IsSelected c.args.self.now.machine) c.in-Step.is c.requires.goal).1)
+
+pub step-requires-clause-tied : goal.step-requires-clause-tied
+step-requires-clause-tied c = visits-tied c.args.program.now c.args.self.now.machine c.requires.goal.0 c.requires.of
 
 pub returns-in-Step-clause-ok : goal.returns-in-Step-clause-ok
 returns-in-Step-clause-ok c =
@@ -49,35 +96,16 @@ pub returns-in-Step-clause-of : goal.returns-in-Step-clause-of
 returns-in-Step-clause-of c =
     let s = c.args.self.now in
     let first = subst (IsSelected s.machine) c.in-Step.is c.requires.goal in
-    either_of c.args.program.now s.machine c.step.new.self _ c.step.result c.requires.of (c.step.ensures.ok _ first.1) c.step.ensures.err
+    either_of c.args.program.now s.machine c.step.new.self _ c.step.result c.requires.of (λ last. subst IsLast c.requires.goal.0 last) (c.step.ensures.ok _ first.1) c.step.ensures.err
 
-pub returns-in-Step-clause-basis : goal.returns-in-Step-clause-basis
-returns-in-Step-clause-basis c =
+pub returns-in-Step-clause-latest : goal.returns-in-Step-clause-latest
+returns-in-Step-clause-latest c =
     let s = c.args.self.now in
     let first = subst (IsSelected s.machine) c.in-Step.is c.requires.goal in
-    either_basis c.args.program.now s.machine c.step.new.self _ c.step.result (c.step.ensures.ok _ first.1) c.step.ensures.err
-
-pub returns-in-Both-clause-walks : goal.returns-in-Both-clause-walks
-returns-in-Both-clause-walks c = rw c.visit.ensures (ends_refl _)
-
-pub returns-in-Goal-clause-walks : goal.returns-in-Goal-clause-walks
-returns-in-Goal-clause-walks c = either_walks c.args.program.now c.args.self.now.machine c.term.new.self _ c.term.result c.term.ensures.ok c.term.ensures.err
+    either_latest c.args.program.now s.machine c.step.new.self _ c.step.result (c.step.ensures.ok _ first.1) c.step.ensures.err
 
 pub returns-in-Step-clause-walks : goal.returns-in-Step-clause-walks
 returns-in-Step-clause-walks c =
     let s = c.args.self.now in
     let first = subst (IsSelected s.machine) c.in-Step.is c.requires.goal in
     either_walks c.args.program.now s.machine c.step.new.self _ c.step.result (c.step.ensures.ok _ first.1) c.step.ensures.err
-
-pub visit-requires-clause-fits : goal.visit-requires-clause-fits
-visit-requires-clause-fits c =
-    let s = c.args.self.now.machine in
-    let both = (subst (IsSelected s) c.in-Both.is c.requires.goal).1 in
-    let p = subst (FitsIn (kinds_in s.stack)) both.goals both.levels in
-    subst (FitsIn (kinds_in s.stack)) (sym both.next_goals) (p.0, p.1, (le_refl _, p.1, p.2))
-
-pub term-requires-clause-level : goal.term-requires-clause-level
-term-requires-clause-level c =
-    let s = c.args.self.now.machine in
-    let first = (subst (IsSelected s) c.in-Goal.is c.requires.goal).1 in
-    subst (FitsIn (kinds_in s.stack)) first.goals first.levels

@@ -1,7 +1,7 @@
 use Rattle.std.proofs.Common.{◌+◌, ◌∙◌, ap}
 use Rattle.plsolver.specs.declared.progress.Progress.{Progress}
 use Rattle.plsolver.specs.Solver.{Stepped}
-use Rattle.plsolver.proofs.Runs.{selected-goal, steps, steps_on, stays_of}
+use Rattle.plsolver.proofs.Runs.{selected-goal, steps, steps_on, stays_latest, stays_of}
 use Rattle.plsolver.proofs.Ending.{ends_same, ends_trans}
 use Rattle.plsolver.proofs.progress.Progress.step.Goals as goal
 
@@ -18,8 +18,8 @@ returns-clause-ok c =
 pub returns-clause-of : goal.returns-clause-of
 returns-clause-of c = stays_of c.args.program.now (record c.select.new.self { used = c.select.new.self.used + 1 }) c.give_back.new.self c.select.ensures.of (c.give_back.ensures c.args.program.now)
 
-pub returns-clause-basis : goal.returns-clause-basis
-returns-clause-basis c = (c.give_back.ensures c.args.program.now).there.basis ∙ c.select.ensures.basis
+pub returns-clause-latest : goal.returns-clause-latest
+returns-clause-latest c = stays_latest c.args.program.now (record c.select.new.self { used = c.select.new.self.used + 1 }) c.give_back.new.self (c.give_back.ensures c.args.program.now) ∙ c.select.ensures.latest
 
 pub returns-clause-walks : goal.returns-clause-walks
 returns-clause-walks c = ends_trans _ _ _ c.select.ensures.walks (ends_same _ _ (c.give_back.ensures c.args.program.now).there.walks)

@@ -1,6 +1,6 @@
 use Rattle.std.proofs.Common.{refl, inl, inr}
 use Rattle.plsolver.specs.Says.{Says}
-use Rattle.plsolver.specs.Solver.{find_view}
+use Rattle.plsolver.specs.Fetching.{find_view}
 use Rattle.plsolver.proofs.progress.Progress.wanted.Goals.{in-Find+in_ok-query-in-Find, in-Visit+in_ok-query-in-Visit}
 use Rattle.plsolver.proofs.progress.Progress.wanted.Goals as goal
 
@@ -8,6 +8,6 @@ pub returns-clause-says : goal.returns-clause-says
 unfolding Says
 returns-clause-says c =
     elim c.match-self.branch [
-      | in-Find+in_ok-query-in-Find w ↦ rw w.query-is (find_view w.in-Find.find, inl (w.in-Find.find, w.in-Find.is, refl, w.in_ok-query-in-Find.ensures))
+      | in-Find+in_ok-query-in-Find w ↦ rw w.query-is ((find_view w.in-Find.find).place, inl (w.in-Find.find, w.in-Find.is, refl, w.in_ok-query-in-Find.ensures))
       | in-Visit+in_ok-query-in-Visit w ↦ rw w.query-is (let o = w.in_ok-query-in-Visit.ensures in (o.0, inr o.1))
     ]

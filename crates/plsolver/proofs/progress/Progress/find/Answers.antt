@@ -1,0 +1,18 @@
+use Rattle.std.proofs.Common.{ap, ◌∙◌}
+use Rattle.plmachine.specs.declared.machine.Mode.TheVariants as modes
+use Rattle.plsolver.proofs.Further.{further_refl}
+use Rattle.plsolver.proofs.Keeping.{keeps_same}
+use Rattle.plsolver.proofs.Seeking.{plain-without}
+use Rattle.plsolver.proofs.progress.Progress.find.Goals as goal
+
+pub returns-in_default : goal.returns-in_default
+returns-in_default c =
+    record {
+      keeps = keeps_same c.args.program.now c.args.self.now;
+      plain = plain-without c.args.self.now.machine.mode c.in_default.not-Find;
+      due = tt;
+      walks = further_refl c.args.self.now.machine.stack;
+    }
+
+pub sweep-requires-clause-sweeps : goal.sweep-requires-clause-sweeps
+sweep-requires-clause-sweeps c = (c.in-Sweep.field-0, c.in-Sweep.field-1, c.in-Find.is ∙ ap modes.Find c.in-Sweep.is)

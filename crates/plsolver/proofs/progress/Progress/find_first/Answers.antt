@@ -1,0 +1,51 @@
+use Rattle.std.proofs.Common.{refl, ap, inl, subst}
+use Rattle.plcells.specs.Store.{value}
+use Rattle.plstore.specs.declared.record.Cursor.TheVariants.{Start}
+use Rattle.pltx.specs.declared.own.OwnCursor.TheVariants.{Start as OwnStart}
+use Rattle.plviews.specs.declared.lookup.Step.TheVariants as steps
+use Rattle.plviews.specs.declared.lookup.Reach.TheVariants as reaches
+use Rattle.plstack.specs.Places.{head_in}
+use Rattle.plstack.specs.declared.frame.Spot.TheVariants as spots
+use Rattle.plmachine.specs.declared.machine.Find.TheVariants as finds
+use Rattle.plmachine.specs.Machine.{MayAsk}
+use Rattle.plsolver.specs.Fetching.{like}
+use Rattle.plsolver.specs.Knowing.{Steps}
+use Rattle.plsolver.specs.Solver.{Settled}
+use Rattle.plsolver.proofs.Asked.{opens-further}
+use Rattle.plsolver.proofs.Finding.{found-own, none-in-front}
+use Rattle.plsolver.proofs.Further.{further_refl, further_same}
+use Rattle.plsolver.proofs.Keeping.{finds_keeps, found_of}
+use Rattle.plsolver.proofs.progress.Progress.find_first.Goals as goal
+
+pub returns-in_err-step-clause-walks : goal.returns-in_err-step-clause-walks
+returns-in_err-step-clause-walks c = further_refl c.args.self.now.machine.stack
+
+pub returns-in_err-walk_from-in-Next-clause-walks : goal.returns-in_err-walk_from-in-Next-clause-walks
+returns-in_err-walk_from-in-Next-clause-walks c = further_same c.args.self.now.machine.stack c.walk_from.new.self.machine.stack c.in_err-walk_from-in-Next.ensures.err.there.walks
+
+pub returns-in_ok-walk_from-in-Next-clause-keeps : goal.returns-in_ok-walk_from-in-Next-clause-keeps
+returns-in_ok-walk_from-in-Next-clause-keeps c =
+    let P = c.args.program.now in
+    let s = c.args.self.now in
+    let f = finds.First c.args.sought c.args.view in
+    let w = c.in_ok-walk_from-in-Next.ensures.ok in
+    let found = subst (MayAsk s.machine.layer.own s.machine.stack) c.requires.finds c.requires.of.sound.askable in
+    let step = subst (λ h. Steps s.machine.layer.own.updates h c.args.view (reaches.Front OwnStart) (steps.Next c.in-Next.name c.in-Next.reach)) (rw (c.heap-heap.ensures.is, c.env.ensures) at c.head_of-head.ensures.is) (rw c.in-Next.is at c.in_ok-step.ensures) in
+    finds_keeps P s c.walk_from.new.self f c.requires.finds c.walk_from.ensures.frame (ap (λ b. b.latest.place) w.basis) (found_of P s.machine c.walk_from.new.self.machine f c.requires.finds (ap (λ x. x.mode) w.frame) (ap (λ x. x.layer) w.frame) w.basis)
+    (λ v ordered. found-own P v ordered s.machine c.args.sought c.args.view c.requires.finds found.0.1 c.walk_from.new.self.machine c.in-Next.name c.in-Next.reach step.tells w)
+
+pub returns-in_ok-walk_from-in-Next-clause-walks : goal.returns-in_ok-walk_from-in-Next-clause-walks
+returns-in_ok-walk_from-in-Next-clause-walks c =
+    let step = rw c.in-Next.is at c.in_ok-step.ensures in
+    opens-further c.args.self.now.machine.stack c.walk_from.new.self.machine.stack (record { goal = c.args.sought.goal; uses = c.args.sought.uses; spot = spots.At c.args.view c.in-Next.name c.in-Next.reach }) tt step.leads.0.1 c.in_ok-walk_from-in-Next.ensures.walks
+
+pub returns-in-Asks-clause-due : goal.returns-in-Asks-clause-due
+unfolding Settled
+returns-in-Asks-clause-due c =
+    let s = c.args.self.now.machine in
+    let h = head_in c.args.sought.uses (value s.stack.env.heap c.args.sought.goal) in
+    let step = subst (λ h. Steps s.layer.own.updates h c.args.view (reaches.Front OwnStart) (steps.Asks c.in-Asks.field-0)) (rw (c.heap-heap.ensures.is, c.env.ensures) at c.head_of-head.ensures.is) (rw c.in-Asks.is at c.in_ok-step.ensures) in
+    (c.args.view.place, like h Start, inl (finds.First c.args.sought c.args.view, c.requires.finds, refl, (none-in-front s.layer.own.updates h c.args.view c.in-Asks.field-0 step, refl)))
+
+pub returns-in-Asks-clause-walks : goal.returns-in-Asks-clause-walks
+returns-in-Asks-clause-walks c = further_refl c.args.self.now.machine.stack

@@ -1,0 +1,14 @@
+use Rattle.plclause.specs.Indicators.{indicator}
+use Rattle.plcells.specs.Store.{value}
+use Rattle.plevent.specs.Keys.{first_key}
+use Rattle.plsolver.proofs.Apart.{tells-from}
+use Rattle.plsolver.proofs.progress.Progress.step_at.Goals as goal
+
+pub returns-in-Some : goal.returns-in-Some
+returns-in-Some c =
+    let own = c.args.self.now.machine.layer.own.updates in
+    let h = value c.args.self.now.machine.stack.env.heap c.args.head in
+    record {
+      tells = tells-from own h c.args.view c.args.reach c.in-Some.step (c.own-own.ensures.apart c.args.view c.requires.seen) (c.in-Some.ensures.says own (indicator h) (first_key h));
+      leads = c.in-Some.ensures.leads;
+    }

@@ -1,0 +1,16 @@
+use Rattle.std.proofs.Common.{◌≡◌}
+use Rattle.plstack.specs.State.{walks_in}
+use Rattle.plsolver.specs.Going.{sweeps_left, IsSweeping}
+use Rattle.plsolver.specs.Solver.{IsOf, Keeps}
+use Rattle.plsolver.proofs.progress.Progress.sweep.Given as goal
+
+abbrev pub invariant-sweep : goal.invariant-sweep
+invariant-sweep l = record {
+  keeps : Keeps l.program l.fn.self l.self;
+  of : IsOf l.program l.self.machine;
+  sweeps : IsSweeping l.self;
+  walks : walks_in l.self.machine.stack ≡ walks_in l.fn.self.machine.stack;
+}
+
+abbrev pub decreases-sweep : goal.decreases-sweep
+decreases-sweep l = sweeps_left l.self.machine l.self.machine.mode
