@@ -10,7 +10,8 @@ The same text runs on all systems, in turn, as often as --times says (3); the le
 of a run of no rounds, which is that of the start, of the loading and of what is made before, is taken off. All times
 are divided by the same count, our steps. Before that, one round's answer is written by each system and compared.
 
-A round of `upto`, `findall` or `facts` is millions of steps long, and a run has one at least, so these take minutes.
+A round of `upto`, `findall`, `facts`, `commits` or `explore` is millions of steps long, and a run has one at least, so these
+take minutes. GNU Prolog has no transactions, so it does not run those programs that have some.
 `loop` is an endless loop, ended by --steps, for this system alone. A peak below some 15 MB is that of this script,
 before the program takes its place. GNU Prolog is given more room for terms than it takes by itself, where ROOM says so.
 """
@@ -24,7 +25,7 @@ import tempfile
 
 HERE = os.path.dirname(os.path.realpath(__file__))
 PROLOG = os.path.join(os.path.dirname(HERE), "prolog")
-NAMES = ["nrev", "tak", "queens", "zebra", "deriv", "unify", "deep", "up", "upvar", "catch", "control", "lookup", "output", "count", "itak", "iqueens", "sort", "findall", "codes", "parts", "upto", "counter", "queue", "facts"]
+NAMES = ["nrev", "tak", "queens", "zebra", "deriv", "unify", "deep", "up", "upvar", "catch", "control", "lookup", "output", "count", "itak", "iqueens", "sort", "findall", "codes", "parts", "upto", "counter", "queue", "facts", "commits", "explore", "nested", "among", "amongmany", "ownmany"]
 FACTS = 100000
 # GNU Prolog's room for terms, in kilobytes: with its own 32,768 it breaks off in long loops.
 ROOM = {"GLOBALSZ": "1000000"}
@@ -128,6 +129,8 @@ def rounds_for(steps, a_round):
 
 def compare(name, folder, steps, times, systems):
     bench = Bench(name, folder)
+    if re.search(r"\b(transaction|snapshot)\(", bench.text):
+        systems = [system for system in systems if system != "gprolog"]
     answers = {system: bench.answers(system) for system in systems}
     for system, answer in answers.items():
         if answer != answers["ours"]:

@@ -11,21 +11,26 @@ import sys
 
 HERE = os.path.dirname(os.path.realpath(__file__))
 MADE = os.path.join(os.path.dirname(HERE), "crates", "plrows", "src", "examples.rt")
+# A constant of more programs takes the prover more steps than it has for one declaration.
+MOST = 7
+NAMES = ["FIRST", "SECOND", "THIRD", "FOURTH", "FIFTH"]
 HEAD = '''//! The programs of `examples/`, each with its output. `examples/rows.py` writes this file.
 use plhist::Status;
-use plrow::row::{{RUN, Row, first_wrong}};
+use plrow::row::{RUN, Row, first_wrong};
 use std::test::Fail;
-
-/// The examples.
-const EXAMPLES: [Row; {count}] = [
 '''
-FOOT = '''];
-
+ROWS = '''
+/// The examples from `{first}` to `{last}`.
+const {name}: [Row; {count}] = [
+{rows}
+];
+'''
+TEST = '''
 #[test]
-fn examples(rt: HostRuntime) -> Result<(), Fail> {
-    assert_eq!(rt; first_wrong(&rt, rt.alloc(), &EXAMPLES)?, None);
+fn {test}_examples(rt: HostRuntime) -> Result<(), Fail> {{
+    assert_eq!(rt; first_wrong(&rt, rt.alloc(), &{name})?, None);
     Ok(())
-}
+}}
 '''
 
 
@@ -47,15 +52,22 @@ def status(output):
     return "Status::Raised" if end.startswith("exception(") else {"true": "Status::Done", "false": "Status::Failed"}[end]
 
 
+def row(path):
+    """The lines of a program's row, by the path of its output."""
+    output = read(path)
+    lines = [f"// {os.path.basename(path)[:-4]}", "(", "    RUN,", f"    {literal(read(path[:-4] + '.pl'))},"]
+    lines += [f"    {literal(output).replace(chr(10), chr(92) + 'n')},", f"    {status(output)},", "),"]
+    return ["    " + line for line in lines]
+
+
 def made():
-    rows = []
     outputs = sorted(glob.glob(os.path.join(HERE, "*.out")))
-    for path in outputs:
-        output = read(path)
-        row = [f"// {os.path.basename(path)[:-4]}", "(", "    RUN,", f"    {literal(read(path[:-4] + '.pl'))},"]
-        row += [f"    {literal(output).replace(chr(10), chr(92) + 'n')},", f"    {status(output)},", "),"]
-        rows += ["    " + line for line in row]
-    return HEAD.format(count=len(outputs)) + "\n".join(rows) + "\n" + FOOT
+    groups = [outputs[at : at + MOST] for at in range(0, len(outputs), MOST)]
+    text = HEAD
+    for name, paths in zip(NAMES, groups, strict=False):
+        first, last = (os.path.basename(path)[:-4] for path in (paths[0], paths[-1]))
+        text += ROWS.format(first=first, last=last, name=name, count=len(paths), rows="\n".join(line for path in paths for line in row(path)))
+    return text + "".join(TEST.format(test=name.lower(), name=name) for name, _ in zip(NAMES, groups, strict=False))
 
 
 def main():

@@ -1,6 +1,7 @@
 //! Searches turn by turn (plsolver).
 ghost use Rattle.std.specs.Prelude.{◌≡◌, ◌≤◌, ℕ, true, IfOk, OnOk};
-ghost use Rattle.plsolver.specs.Solver.{Fetches, IsOf, IsReplyTo, WaitsForReply, latest_view};
+ghost use Rattle.plsolver.specs.Fetching.{Fetches};
+ghost use Rattle.plsolver.specs.Solver.{IsOf, IsReplyTo, WaitsForReply, latest_view};
 
 use plevent::{Reply, Request, ThreadEnd};
 use plload::goal::read_goal;

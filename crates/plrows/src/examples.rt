@@ -3,8 +3,124 @@ use plhist::Status;
 use plrow::row::{RUN, Row, first_wrong};
 use std::test::Fail;
 
-/// The examples.
-const EXAMPLES: [Row; 18] = [
+/// The examples from `bank` to `dates`.
+const FIRST: [Row; 7] = [
+    // bank
+    (
+        RUN,
+        "% A bank, whose accounts are facts. A transfer is a transaction: it is made whole, or nothing of it is left, whether it fails or raises an
+% error on its way.
+:- dynamic account/2.
+:- dynamic transfer/3.
+
+account(ann, 100).
+account(ben, 50).
+account(cleo, 0).
+
+% An account gets so much more, or less.
+change(Who, By) :-
+    ( retract(account(Who, Old)) -> true ; throw(no_account(Who)) ),
+    New is Old + By,
+    assertz(account(Who, New)).
+
+% The money is moved first, and then it is looked at whether there was enough.
+pay(From, To, Sum) :-
+    transaction((
+        change(From, -Sum),
+        change(To, Sum),
+        assertz(transfer(From, To, Sum)),
+        account(From, Rest),
+        Rest >= 0
+    )).
+
+% All of some payments, or none of them: what an inner transaction left goes with the outer one.
+pay_all(Payments) :- transaction(each_paid(Payments)).
+
+each_paid([]).
+each_paid([pay(From, To, Sum)|Payments]) :- pay(From, To, Sum), each_paid(Payments).
+
+% What would be left, if it were paid.
+rest_after(Who, Payments, Rest) :- snapshot((each_paid(Payments), account(Who, Rest))).
+
+try(Goal) :-
+    writeq(Goal),
+    catch(( Goal -> write(': done') ; write(': not enough') ), no_account(Who), ( write(': no account of '), write(Who) )),
+    nl.
+
+tell :- findall(Who-Sum, account(Who, Sum), Accounts), keysort(Accounts, Sorted), writeq(Sorted), nl.
+
+main :-
+    try(pay(ann, ben, 30)), tell,
+    try(pay(cleo, ben, 5)), tell,
+    try(pay(ann, dan, 10)), tell,
+    try(pay_all([pay(ann, cleo, 20), pay(cleo, ben, 15), pay(cleo, ann, 5)])), tell,
+    try(pay_all([pay(ann, cleo, 20), pay(cleo, ben, 15), pay(cleo, ann, 50)])), tell,
+    rest_after(ben, [pay(ben, ann, 90), pay(ann, ben, 1)], Rest), writeq(rest(ben, Rest)), nl, tell,
+    findall(pay(From, To, Sum), transfer(From, To, Sum), Made), writeq(Made), nl.
+
+:- initialization(main).
+",
+        "% thread 1 main: true\npay(ann,ben,30): done\n[ann-70,ben-80,cleo-0]\npay(cleo,ben,5): not enough\n[ann-70,ben-80,cleo-0]\npay(ann,dan,10): no account of dan\n[ann-70,ben-80,cleo-0]\npay_all([pay(ann,cleo,20),pay(cleo,ben,15),pay(cleo,ann,5)]): done\n[ann-55,ben-95,cleo-0]\npay_all([pay(ann,cleo,20),pay(cleo,ben,15),pay(cleo,ann,50)]): not enough\n[ann-55,ben-95,cleo-0]\nrest(ben,6)\n[ann-55,ben-95,cleo-0]\n[pay(ann,ben,30),pay(ann,cleo,20),pay(cleo,ben,15),pay(cleo,ann,5)]\n",
+        Status::Done,
+    ),
+    // blocks
+    (
+        RUN,
+        "% A planner of blocks that tries its moves on the facts themselves, each in a snapshot, so that nothing is left of what it tries. The plan
+% that it finds is carried out in one transaction.
+:- dynamic on/2.
+
+on(a, floor).
+on(b, floor).
+on(c, a).
+on(d, c).
+
+wanted([on(a, b), on(b, c), on(c, d), on(d, floor)]).
+
+% Nothing stands on a block that is moved, nor on the one that it comes to stand on.
+free(B) :- \\+ on(_, B).
+
+possible(B, To) :-
+    findall(X, on(X, _), Blocks),
+    member(B, Blocks), free(B),
+    ( To = floor ; member(To, Blocks), To \\== B, free(To) ),
+    \\+ on(B, To).
+
+move(B, To) :- retract(on(B, _)), assertz(on(B, To)).
+
+reached :- wanted(Facts), forall(member(Fact, Facts), Fact).
+
+% A plan of at most so many moves.
+plan(_, []) :- reached, !.
+plan(Most, [move(B, To)|Plan]) :-
+    Most > 0,
+    Less is Most - 1,
+    possible(B, To),
+    snapshot((move(B, To), plan(Less, Plan))).
+
+% The shortest plan.
+shortest(Most, Plan) :- plan(Most, Plan), !.
+shortest(Most, Plan) :- More is Most + 1, shortest(More, Plan).
+
+carried_out(Plan) :- transaction(each(Plan)).
+
+each([]).
+each([move(B, To)|Plan]) :- possible(B, To), !, move(B, To), each(Plan).
+
+tell :- findall(B-On, on(B, On), Facts), msort(Facts, Sorted), writeq(Sorted), nl.
+
+main :-
+    tell,
+    shortest(0, Plan), forall(member(Move, Plan), ( writeq(Move), nl )),
+    write('nothing was moved yet: '), tell,
+    ( carried_out([move(d, floor), move(a, b)]) ; write('no such plan: '), tell ),
+    carried_out(Plan), tell.
+
+:- initialization(main).
+",
+        "% thread 1 main: true\n[a-floor,b-floor,c-a,d-c]\nmove(d,floor)\nmove(c,d)\nmove(b,c)\nmove(a,b)\nnothing was moved yet: [a-floor,b-floor,c-a,d-c]\nno such plan: [a-floor,b-floor,c-a,d-c]\n[a-b,b-c,c-d,d-floor]\n",
+        Status::Done,
+    ),
     // calculator
     (
         RUN,
@@ -140,6 +256,10 @@ two(N) :- write(N).
         "% thread 1 main: true\n1871-03-01\n1889-09-30\n2 dates\n",
         Status::Done,
     ),
+];
+
+/// The examples from `family` to `queens`.
+const SECOND: [Row; 7] = [
     // family
     (
         RUN,
@@ -296,6 +416,10 @@ main :- queens(6, Qs), write(Qs), nl, length(Qs, N), forall(member(Q, Qs), row(N
         "% thread 1 main: true\n[5,3,1,6,4,2]\n . . . . Q .\n . . Q . . .\n Q . . . . .\n . . . . . Q\n . . . Q . .\n . Q . . . .\n",
         Status::Done,
     ),
+];
+
+/// The examples from `report` to `words`.
+const THIRD: [Row; 7] = [
     // report
     (
         RUN,
@@ -380,6 +504,65 @@ show(T) :-
         "% thread 1 main: true\nf(a,b) turned f(b,a) depth 1 variables 0\nf(_1,g(_2,1),_1) turned f(_1,g(1,_2),_1) depth 2 variables 2\n[1,2,3] turned [[[[]|3]|2]|1] depth 3 variables 0\na+b*c turned c*b+a depth 2 variables 0\n42 turned 42 depth 0 variables 0\n_1 turned _1 depth 0 variables 1\n",
         Status::Done,
     ),
+    // undo
+    (
+        RUN,
+        "% A store of values with an undo log. Each change and what undoes it are made in one transaction, so that the log fits the store whatever
+% happens.
+:- dynamic value/2.
+:- dynamic undone_by/1.
+
+% The latest entry of the log stands in front.
+do(Action) :- transaction(( act(Action, Inverse), asserta(undone_by(Inverse)), allowed )).
+
+undo :- transaction(( retract(undone_by(Action)), act(Action, _) )).
+
+% So many, or none.
+undo(Count) :- transaction(undone(Count)).
+undone(0) :- !.
+undone(Count) :- undo, Less is Count - 1, undone(Less).
+
+% An action on the store, and the one that undoes it.
+act(set(Key, New), Inverse) :- retract(value(Key, Old)), !, assertz(value(Key, New)), Inverse = set(Key, Old).
+act(set(Key, New), drop(Key)) :- assertz(value(Key, New)).
+act(drop(Key), set(Key, Old)) :- retract(value(Key, Old)), !.
+act(add(Key, More), set(Key, Old)) :- retract(value(Key, Old)), New is Old + More, assertz(value(Key, New)).
+act(all(Actions), all(Inverses)) :- acts(Actions, [], Inverses).
+
+acts([], Inverses, Inverses).
+acts([Action|Actions], So, Inverses) :- act(Action, Inverse), acts(Actions, [Inverse|So], Inverses).
+
+% No more than ten in all.
+allowed :- findall(V, value(_, V), Vs), sum(Vs, 0, Sum), Sum =< 10.
+sum([], Sum, Sum).
+sum([V|Vs], So, Sum) :- More is So + V, sum(Vs, More, Sum).
+
+try(Goal) :-
+    writeq(Goal),
+    catch(( Goal -> true ; write(' fails') ), error(E, _), ( write(' raises '), writeq(E) )),
+    findall(K=V, value(K, V), Values), msort(Values, Sorted),
+    findall(A, undone_by(A), Log), length(Log, Entries),
+    write('  '), writeq(Sorted), write(', entries: '), write(Entries), nl.
+
+main :-
+    try(do(set(x, 3))),
+    try(do(set(y, 4))),
+    try(do(add(x, 2))),
+    try(do(set(z, 7))),
+    try(do(add(y, w))),
+    try(do(drop(w))),
+    try(do(all([drop(x), set(z, 6), add(y, -1)]))),
+    try(do(all([drop(z), drop(z)]))),
+    try(undo),
+    try(undo(2)),
+    try(undo(2)),
+    try(undo).
+
+:- initialization(main).
+",
+        "% thread 1 main: true\ndo(set(x,3))  [x=3], entries: 1\ndo(set(y,4))  [x=3,y=4], entries: 2\ndo(add(x,2))  [x=5,y=4], entries: 3\ndo(set(z,7)) fails  [x=5,y=4], entries: 3\ndo(add(y,w)) raises type_error(evaluable,w/0)  [x=5,y=4], entries: 3\ndo(drop(w)) fails  [x=5,y=4], entries: 3\ndo(all([drop(x),set(z,6),add(y,-1)]))  [y=3,z=6], entries: 4\ndo(all([drop(z),drop(z)])) fails  [y=3,z=6], entries: 4\nundo  [x=5,y=4], entries: 3\nundo(2)  [x=3], entries: 1\nundo(2) fails  [x=3], entries: 1\nundo  [], entries: 0\n",
+        Status::Done,
+    ),
     // unknown
     (
         RUN,
@@ -443,7 +626,19 @@ line(W, Key) :- N is -Key, atom_length(W, L), write(W), tab(10 - L), writeln(N).
 ];
 
 #[test]
-fn examples(rt: HostRuntime) -> Result<(), Fail> {
-    assert_eq!(rt; first_wrong(&rt, rt.alloc(), &EXAMPLES)?, None);
+fn first_examples(rt: HostRuntime) -> Result<(), Fail> {
+    assert_eq!(rt; first_wrong(&rt, rt.alloc(), &FIRST)?, None);
+    Ok(())
+}
+
+#[test]
+fn second_examples(rt: HostRuntime) -> Result<(), Fail> {
+    assert_eq!(rt; first_wrong(&rt, rt.alloc(), &SECOND)?, None);
+    Ok(())
+}
+
+#[test]
+fn third_examples(rt: HostRuntime) -> Result<(), Fail> {
+    assert_eq!(rt; first_wrong(&rt, rt.alloc(), &THIRD)?, None);
     Ok(())
 }

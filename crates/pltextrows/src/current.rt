@@ -246,8 +246,8 @@ const KEPT: [Row; 4] = [
     ),
     (
         RUN,
-        ":- initialization((catch(snapshot(a), error(E, _), (write(E), nl)), catch(assertz(snapshot(a)), error(F, _), write(F)))).",
-        "% thread 1 main: true\nexistence_error(procedure,snapshot/1)\npermission_error(modify,static_procedure,snapshot/1)\n",
+        ":- initialization((catch(thread_create(a, b, c), error(E, _), (write(E), nl)), catch(assertz(thread_create(a, b, c)), error(F, _), write(F)))).",
+        "% thread 1 main: true\nexistence_error(procedure,thread_create/3)\npermission_error(modify,static_procedure,thread_create/3)\n",
         Status::Done,
     ),
 ];

@@ -1,0 +1,111 @@
+//! Rows, and what runs them.
+use crate::acts::added;
+use plhist::Status;
+use plio::{MemorySink, MemorySource};
+use plrow::row::{called, told, words_of};
+use std::alloc::{AllocError, Global};
+use std::sync::Wait;
+use std::test::Fail;
+use std::thread::Threads;
+
+/// A program's text, and a goal behind its own; the output and the status.
+pub type Case = (&'static str, &'static str, &'static str, Status);
+
+/// The same with a limit of steps in front.
+pub type Limited = (
+    &'static str,
+    &'static str,
+    &'static str,
+    &'static str,
+    Status,
+);
+
+/// A program's text, and a goal; what their run adds to the journal, and what it asks.
+pub type Journaled = (&'static str, &'static str, &'static str);
+
+/// The same with a limit of steps in front.
+pub type Spent = (&'static str, &'static str, &'static str, &'static str);
+
+/// A procedure with two clauses, and what writes all that it has.
+pub const TWO: &str = ":- dynamic p/1. p(1). p(2). all :- findall(X, p(X), L), writeq(L).";
+
+/// Runs rows: the place of the first that comes to anything else.
+pub fn first_wrong<R: Threads + Wait + Sync>(
+    rt: &R,
+    alloc: Global,
+    rows: &[Case],
+) -> Result<Option<usize>, AllocError> {
+    for (place, (text, goal, output, status)) in rows.iter().enumerate() {
+        let words = ["prolog", "run", "--goal", goal, "P"];
+        let (bytes, ended) = told(rt, alloc, &words, text.as_bytes())?;
+        if bytes.as_slice() != output.as_bytes() || ended != *status {
+            return Ok(Some(place));
+        }
+    }
+    Ok(None)
+}
+
+/// The same with limits of steps.
+pub fn first_wrong_limited<R: Threads + Wait + Sync>(
+    rt: &R,
+    alloc: Global,
+    rows: &[Limited],
+) -> Result<Option<usize>, AllocError> {
+    for (place, (steps, text, goal, output, status)) in rows.iter().enumerate() {
+        let words = ["prolog", "run", "--steps", steps, "--goal", goal, "P"];
+        let (bytes, ended) = told(rt, alloc, &words, text.as_bytes())?;
+        if bytes.as_slice() != output.as_bytes() || ended != *status {
+            return Ok(Some(place));
+        }
+    }
+    Ok(None)
+}
+
+/// The same with journals.
+pub fn first_wrong_journal<R: Threads + Wait + Sync>(
+    rt: &R,
+    alloc: Global,
+    rows: &[Journaled],
+) -> Result<Option<usize>, Fail> {
+    for (place, (text, goal, journal)) in rows.iter().enumerate() {
+        let words = ["prolog", "run", "--goal", goal, "P"];
+        if !adds(rt, alloc, &words, text, journal)? {
+            return Ok(Some(place));
+        }
+    }
+    Ok(None)
+}
+
+/// The same with journals and limits of steps.
+pub fn first_wrong_spent<R: Threads + Wait + Sync>(
+    rt: &R,
+    alloc: Global,
+    rows: &[Spent],
+) -> Result<Option<usize>, Fail> {
+    for (place, (steps, text, goal, journal)) in rows.iter().enumerate() {
+        let words = ["prolog", "run", "--steps", steps, "--goal", goal, "P"];
+        if !adds(rt, alloc, &words, text, journal)? {
+            return Ok(Some(place));
+        }
+    }
+    Ok(None)
+}
+
+/// Whether what the words make of a text adds this to the journal.
+fn adds<R: Threads + Wait + Sync>(
+    rt: &R,
+    alloc: Global,
+    words: &[&str],
+    text: &str,
+    journal: &str,
+) -> Result<bool, Fail> {
+    let words = words_of(alloc, words)?;
+    let bytes = Vec::from_slice(alloc, text.as_bytes())?;
+    let source = MemorySource::new(bytes, 4096, Vec::new(alloc));
+    let sink = MemorySink::new(alloc, 1_000_000, Vec::new(alloc))?;
+    let (_, report) = called(rt, alloc, &words, source, sink)?;
+    match &report.history {
+        Some(history) => Ok(added(alloc, history)?.as_slice() == journal.as_bytes()),
+        None => Ok(false),
+    }
+}
