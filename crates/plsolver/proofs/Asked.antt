@@ -1,6 +1,6 @@
 -- What is left to ask, once a query was answered in its view, and where a walk goes on among own clauses.
 use Rattle.std.specs.Prelude.{Result as Outcomes, Ok, Err}
-use Rattle.std.proofs.Common.{OnOk, ◌≡◌, ◌≢◌, ◌⊎◌, ℕ, Bool, true, false, List, [], ◌∷◌, ◌++◌, inl, inr, Option, None, Some, if◌then◌else◌, nat_eq, refl, sym, ap, ap₂, ◌∙◌, subst, arith}
+use Rattle.std.proofs.Common.{IfOk, IfSome, OnOk, append_assoc, ◌≡◌, ◌≢◌, ◌⊎◌, ℕ, Bool, true, false, List, [], ◌∷◌, ◌++◌, inl, inr, Option, None, Some, if◌then◌else◌, nat_eq, refl, sym, ap, ap₂, ◌∙◌, subst, arith}
 use Rattle.std.proofs.lemmas.Bool.Decides.{nat_tests}
 use Rattle.std.proofs.lemmas.List.{append-nil}
 use Rattle.plterm.specs.Tree.{Tree}
@@ -45,12 +45,12 @@ use Rattle.plmachine.specs.declared.machine.Mode.TheVariants as modes
 use Rattle.plmachine.specs.declared.machine.Machine.{Machine as Reached}
 use Rattle.plmachine.specs.Machine.{IsPlain}
 use Rattle.plsolver.specs.Fetching.{find_view, like, mode_none, spot_ahead, spot_behind, sweep_behind, FindAsks, Seeks, WalksOn}
-use Rattle.plsolver.specs.Asking.{ahead_asks, behind_asks, clause_asks, find_asks, first_asks, names_asks, names_behind, none_asks, onward_asks, reach_asks, spot_asks, sweep_asks, view_at, AsksNext, FindAsked, FindLeft, Further, GoesFurther, SeesOwn, Spends, WalkAsked}
+use Rattle.plsolver.specs.Asking.{ahead_asks, behind_asks, clause_asks, find_asks, first_asks, names_asks, names_behind, none_asks, onward_asks, reach_asks, spot_asks, sweep_asks, view_at, AsksNext, FindAsked, FindLeft, Further, GoesFurther, SeeksOn, SeesOwn, Spends, WalkAsked}
 use Rattle.plsolver.specs.Going.{IsInView, LooksBehind}
 use Rattle.plsolver.proofs.Asking.{behind-next, names_from_if}
 use Rattle.plsolver.proofs.Behind.{looks-elim}
 use Rattle.plsolver.proofs.Further.{all_same, further_ends}
-use Rattle.plsolver.proofs.Seeking.{same-walking}
+use Rattle.plsolver.proofs.Seeking.{finds-plain, same-walking}
 
 pub on_ok_both : {T E A B C : Type 0} (r : Outcomes T E) → (A → B → C) → OnOk r A → OnOk r B → OnOk r C
 on_ok_both (Ok x) f a b = f a b
@@ -347,6 +347,12 @@ all-begins v c g s w k view spot = record {
 
 -- ---- a sweep
 
+-- where it stands behind a step
+pub spot-asked : (g : View) (us : List Stamped) (h : Tree) (step : Step) (spot : SweepSpot) → sweep_behind step ≡ Some spot → sweep_asks g us h spot ≡ step_asks g us h step
+spot-asked g us h (steps.Next y r) spot is = ap (sweep_asks g us h) (let same : spot ≡ sweeps.At y r = cc in same)
+spot-asked g us h steps.Nothing spot is = absurd (cc)
+spot-asked g us h (steps.Asks d) spot is = ap (sweep_asks g us h) (let same : spot ≡ sweeps.Seek (reaches.Base d) = cc in same)
+
 module _ (v : Views) (c : Cell) (w : Sweep) (s new : Reached) where
   abbrev head : Tree
   head = value s.stack.env.heap c
@@ -365,18 +371,18 @@ module _ (v : Views) (c : Cell) (w : Sweep) (s new : Reached) where
     sweep-spends = subst (λ z. Spends (sweep_asks w.view (v w.view.place) head z) (like head cur) (step_asks w.view (v w.view.place) head step)) (sym at) (found-spends w.view (v w.view.place) head ordered [] cur o step e leads)
 
     pub sweep-found : (x : Sweep) → x.view ≡ w.view → sweep_behind step ≡ Some x.spot → new.mode ≡ modes.Find (finds.Sweep c x) → value new.stack.env.heap c ≡ head → walks_in new.stack ≡ walks_in s.stack → FindAsked v (finds.Sweep c w) s new (like head cur)
-    sweep-found x view is mode same walks = sweep-left x (like head cur) (step_asks w.view (v w.view.place) head step) view (asks step is) mode same walks sweep-spends
-      where
-        to-spot : {y z : SweepSpot} → Some y ≡ Some z → y ≡ z
-        to-spot e = cc
-
-        asks : (step : Step) → sweep_behind step ≡ Some x.spot → sweep_asks w.view (v w.view.place) head x.spot ≡ step_asks w.view (v w.view.place) head step
-        asks (steps.Next y r) is = ap (sweep_asks w.view (v w.view.place) head) (sym (to-spot is))
-        asks steps.Nothing is = absurd (cc)
-        asks (steps.Asks d) is = ap (sweep_asks w.view (v w.view.place) head) (sym (to-spot is))
+    sweep-found x view is mode same walks = sweep-left x (like head cur) (step_asks w.view (v w.view.place) head step) view (spot-asked w.view (v w.view.place) head step x.spot is) mode same walks sweep-spends
 
     pub sweep-ends : IsPlain new.mode → EndsWalks s.stack new.stack → FindAsked v (finds.Sweep c w) s new (like head cur)
     sweep-ends plain ends = record { others = step_asks w.view (v w.view.place) head step; spends = sweep-spends; left = inr (plain, ends) }
+
+  -- by which no more may be asked
+  pub sweep-on : (x : Sweep) → s.mode ≡ modes.Find (finds.Sweep c w) → new.mode ≡ modes.Find (finds.Sweep c x) → value new.stack.env.heap c ≡ head →
+      (gone : List Query) → sweep_asks w.view (v w.view.place) head w.spot ≡ gone ++ sweep_asks x.view (v x.view.place) head x.spot → SeeksOn v s new
+  sweep-on x at mode same gone asks f is =
+      let e : modes.Find (finds.Sweep c x) ≡ modes.Find f = sym mode ∙ is in
+      let that : finds.Sweep c x ≡ f = cc in
+      (finds.Sweep c w, at, (gone, asks ∙ ap (λ t. gone ++ sweep_asks x.view (v x.view.place) t x.spot) (sym same) ∙ ap (λ y. gone ++ find_asks v new.stack.env.heap y) that))
 
   pub sweep-past : (y : ClauseName) (r : Reach) (x : Sweep) → w.spot ≡ sweeps.At y r → y.place ≢ w.view.place → x.view ≡ w.view → x.spot ≡ sweeps.Seek r → new.mode ≡ modes.Find (finds.Sweep c x) → value new.stack.env.heap c ≡ head → walks_in new.stack ≡ walks_in s.stack →
       FindAsked v (finds.Sweep c w) s new (Query.Clause y)
@@ -388,6 +394,36 @@ module _ (v : Views) (c : Cell) (w : Sweep) (s new : Reached) where
         was = ap (sweep_asks w.view (v w.view.place) head) at ∙ ap (λ qs. qs ++ reach_asks (v w.view.place) head r) (journal-asks w.view y other);
         is = refl;
       })
+
+-- ---- what is sought without an answer
+
+pub seeks-same : (v : Views) (s : Reached) → SeeksOn v s s
+seeks-same v s f at = (f, at, ([], refl))
+
+pub seeks-trans : (v : Views) (a b c : Reached) → SeeksOn v a b → SeeksOn v b c → SeeksOn v a c
+seeks-trans v a b c x y f at =
+    let n = y f at in
+    let m = x n.0 n.1 in
+    (m.0, m.1, (m.2.0 ++ n.2.0, m.2.1 ∙ ap (λ qs. m.2.0 ++ qs) n.2.1 ∙ sym (append_assoc m.2.0 n.2.0 (find_asks v c.stack.env.heap f))))
+
+pub seeks-plain : (v : Views) (s new : Reached) → IsPlain new.mode → SeeksOn v s new
+seeks-plain v s new plain f at = absurd (finds-plain new.mode f at plain)
+
+pub all-on : (v : Views) (c : Cell) (g : View) (s : Reached) (w : Sweep) (k : OwnCursor) → s.mode ≡ modes.Find (finds.All c g) → w.view ≡ g → w.spot ≡ sweeps.Seek (reaches.Front k) → SeeksOn v s (record s { mode = modes.Find (finds.Sweep c w) })
+all-on v c g s w k at view spot f is =
+    let h : Tree = value s.stack.env.heap c in
+    let that : finds.Sweep c w ≡ f = cc in
+    (finds.All c g, at, (Query.Exists (indicator h) ∷ [], ap (λ qs. Query.Exists (indicator h) ∷ qs) (sym (ap₂ (λ (b : View) z. sweep_asks b (v b.place) h z) view spot)) ∙ ap (λ y. Query.Exists (indicator h) ∷ find_asks v s.stack.env.heap y) that))
+
+pub if_ok_all : {T E A : Type 0} (r : Outcomes T E) → A → IfOk r (λ x. A)
+if_ok_all (Ok x) a = a
+if_ok_all (Err e) a = tt
+
+-- what holds where something is due
+pub due-map : {T E A B : Type 0} (r : Outcomes (Option T) E) → (A → B) → IfOk r (λ o. IfSome o (λ x. A)) → IfOk r (λ o. IfSome o (λ x. B))
+due-map (Ok (Some x)) f a = f a
+due-map (Ok None) f a = tt
+due-map (Err e) f a = tt
 
 -- ---- what was asked
 

@@ -49,10 +49,12 @@ use Rattle.plmachine.specs.Machine.{after, cases_in, local_of, machine, now, run
 use Rattle.plmachine.specs.Machine.{Stays as StaysThere}
 use Rattle.plmachine.proofs.Moves.{begun-by, tied-as}
 use Rattle.plsolver.specs.declared.progress.Progress.{Progress}
+use Rattle.plsolver.specs.Asking.{clause_asks, reach_asks, sweep_asks, SeeksOn}
 use Rattle.plsolver.specs.Fetching.{erased_if, has_if, like, sweep_behind, IsFetching, SweepAsks, Sweeping}
 use Rattle.plsolver.specs.Going.{own_behind, sweep_left, sweeps_left, GoesPast, IsSweeping, IsSwept}
 use Rattle.plsolver.specs.Knowing.{Steps, StepsFound, Tells}
 use Rattle.plsolver.specs.Solver.{latest_view, IsOf, Keeps, KeepsRest, Stays}
+use Rattle.plsolver.proofs.Asked.{leads-asks, spot-asked, sweep-on}
 use Rattle.plsolver.proofs.Behind.{alive-is}
 use Rattle.plsolver.proofs.Keeping.{finds_keeps}
 use Rattle.plsolver.proofs.Passing.{heads-as, heads-likely}
@@ -316,6 +318,11 @@ module _ (s : Progress) (c : Cell) (w : Sweep) (r : Reach) (step : Step) (at : s
         (sweeps-keep P s c w (record w { spot = spot }) at refl
         (λ v ordered. swept-behind (sight_in v own w.view) s.machine.stack.env.count sought w (record w { spot = spot }) r step at_spot (told.tells (v w.view.place) (ordered.ordered w.view.place) (ordered.under w.view.place)) is refl))
 
+    pub step-on : (v : Views) → SeeksOn v s.machine new.machine
+    step-on v =
+        sweep-on v c w s.machine new.machine (record w { spot = spot }) at (ap (λ n. n.machine.mode) to) (ap (λ n. value n.machine.stack.env.heap c) to) []
+        (ap (sweep_asks w.view (v w.view.place) sought) at_spot ∙ sym (leads-asks w.view (v w.view.place) sought r step told.leads) ∙ sym (spot-asked w.view (v w.view.place) sought step spot is))
+
     pub step-sweeps : IsSweeping new
     step-sweeps = (c, record w { spot = spot }, ap (λ n. n.machine.mode) to)
 
@@ -423,6 +430,15 @@ module _ (s new : Progress) (y : ClauseName) (r : Reach) (o : Option Clause) (p 
       let sooner : sweeps_left s.machine s.machine.mode ≡ 2 * own_behind s.machine.layer.own.updates h p.was.view r + 1 =
       ap (sweeps_left s.machine) p.mode_was ∙ ap (sweep_left s.machine.layer.own.updates h p.was.view) p.spot_was in
       omega (arith, later, sooner)
+
+  -- and asks no more
+  pub past-on : (v : Views) → SeeksOn v s.machine new.machine
+  past-on v =
+      let h : Tree = value s.machine.stack.env.heap p.head in
+      sweep-on v p.head p.was s.machine new.machine p.now p.mode_was p.mode_now p.same (clause_asks p.was.view y)
+      (ap (sweep_asks p.was.view (v p.was.view.place) h) p.spot_was
+      ∙ ap (λ (k : View). clause_asks p.was.view y ++ reach_asks (v k.place) h r) (sym p.view)
+      ∙ ap (λ z. clause_asks p.was.view y ++ sweep_asks p.now.view (v p.now.view.place) h z) (sym p.spot_now))
 
   -- and keeps what is left, where the clause is known
   pub past-keeps : (P : Program) → new ≡ record s { machine = new.machine } → latest_view new ≡ latest_view s → (IsOf P s.machine → IsOf P new.machine) → ((v : Views) → AreOrdered v → o ≡ clause_alive y (seen_in v s.machine.layer.own.updates p.was.view)) → Keeps P s new

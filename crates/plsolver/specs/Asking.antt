@@ -160,6 +160,11 @@ pub record AsksNext (v : Views) (old new : Reached) (q : Query) : Type 0 where
   pub find : (f : Find) → old.mode ≡ modes.Find f → FindAsked v f old new q
   pub walk : (p : Point) (w : Walk) → AtWalk old.stack p w → old.mode ≡ modes.Back outcomes.Fail → WalkAsked v w old new q
 
+-- nothing is sought but what is left of a look-up that was in hand: it may ask no more than that could
+abbrev pub SeeksOn : Views → Reached → Reached → Type 0
+SeeksOn v old new =
+    (g : Find) → new.mode ≡ modes.Find g → (f : Find) × (old.mode ≡ modes.Find f) × ((gone : List Query) × (find_asks v old.stack.env.heap f ≡ gone ++ find_asks v new.stack.env.heap g))
+
 -- the view in which a walk goes on; one over the program's text sees no updates
 abbrev pub view_at : Spot → View
 view_at (spots.Text k) = record { place = 0; count = 0 }

@@ -7,7 +7,7 @@ ghost use Rattle.plstore.specs.Looking.{Views};
 ghost use Rattle.plsearch.specs.Search.{search_of};
 ghost use Rattle.plsearch.specs.Solving.{Begins};
 ghost use Rattle.plmachine.specs.Machine.{IsPlain};
-ghost use Rattle.plsolver.specs.Asking.{Further};
+ghost use Rattle.plsolver.specs.Asking.{Further, SeeksOn};
 ghost use Rattle.plsolver.specs.Solver.{GoesTo, IsOf, IsSelected, Selects, Stays, Stepped, latest_view, rest_of, Settled};
 ghost use Rattle.plsolver.specs.Says.{Says, IsSlice};
 
@@ -93,6 +93,7 @@ impl Progress {
         ensures slice { IfOk result (λ turn. IsSlice turn → self.new.used ≡ self.old.used + fuel) }
         ensures says { IfOk result (λ turn. Says program.now self.new turn) }
         ensures walks { Further self.old.machine.stack self.new.machine.stack }
+        ensures sought { IfOk result (λ turn. (v : Views) → self.new.used ≡ self.old.used → SeeksOn v self.old.machine self.new.machine) }
     {
         let mut left = fuel;
         loop {
@@ -175,6 +176,7 @@ impl Progress {
         ensures places { self.new.places.items ≡ self.old.places.items }
         ensures due { IfOk result (λ due. Settled program.now self.new due) }
         ensures walks { Further self.old.machine.stack self.new.machine.stack }
+        ensures sought { IfOk result (λ due. (v : Views) → SeeksOn v self.old.machine self.new.machine) }
     {
         if let Some(due) = self.find(program)? {
             return Ok(due);
@@ -196,6 +198,7 @@ impl Progress {
         ensures places { self.new.places.items ≡ self.old.places.items }
         ensures due { IfOk result (λ due. Settled program.now self.new due) }
         ensures walks { Further self.old.machine.stack self.new.machine.stack }
+        ensures plain { IsPlain self.new.machine.mode }
     {
         loop {
             match self.quiet_turn(program)? {

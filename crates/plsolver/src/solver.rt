@@ -10,7 +10,7 @@ ghost use Rattle.plsearch.specs.Search.{search_of};
 ghost use Rattle.plsearch.specs.Solving.{Begins, Goes, TakesOne};
 ghost use Rattle.plsolver.specs.Fetching.{Fetches, IsFoundFor};
 ghost use Rattle.plsolver.specs.Solver.{GoesTo, IsOf, Stays, latest_view, rest_of, WaitsForView, ReplyFits};
-ghost use Rattle.plsolver.specs.Asking.{AsksNext, Further};
+ghost use Rattle.plsolver.specs.Asking.{AsksNext, Further, SeeksOn};
 ghost use Rattle.plsolver.specs.Says.{Says, IsSlice};
 
 use crate::progress::Progress;
@@ -101,6 +101,7 @@ impl Solver {
         ensures slice { IfOk result (λ turn. IsSlice turn → self.new.used ≡ self.old.used + fuel) }
         ensures says { IfOk result (λ turn. Says program.now self.new turn) }
         ensures walks { Further self.old.machine.stack self.new.machine.stack }
+        ensures sought { IfOk result (λ turn. (v : Views) → self.new.used ≡ self.old.used → SeeksOn v self.old.machine self.new.machine) }
     {
         self.progress.advance(program, fuel)
     }

@@ -1,7 +1,8 @@
-use Rattle.std.proofs.Common.{◌∙◌, arith}
+use Rattle.std.proofs.Common.{◌∙◌, arith, sym}
 use Rattle.plsolver.specs.Solver.{Settled}
 use Rattle.plsolver.specs.Says.{Says}
 use Rattle.plsolver.proofs.Runs.{goes_on}
+use Rattle.plsolver.proofs.Asked.{if_ok_all, seeks-trans}
 use Rattle.plsolver.proofs.Waiting.{says-look}
 use Rattle.plsolver.proofs.Further.{further_ends, further_trans}
 use Rattle.plsolver.proofs.progress.Progress.advance.Goals as goal
@@ -52,6 +53,8 @@ loop-selected-preserved c =
       limit = step.limit ∙ c.settle.ensures.limit ∙ i.limit;
       places = step.places ∙ c.settle.ensures.places ∙ i.places;
       latest = c.step.ensures.latest ∙ c.settle.ensures.latest ∙ i.latest;
+      rises = omega (arith, step.used, c.settle.ensures.used, i.rises);
+      sought = λ v same. absurd (omega (arith, same, step.used, c.settle.ensures.used, i.rises));
       walks = further_trans _ _ _ (further_trans _ _ _ i.walks c.settle.ensures.walks) (further_ends _ _ c.step.ensures.walks);
     }
 
@@ -75,3 +78,18 @@ returns-in-Over-clause-walks c = further_trans _ _ _ c.loop-selected.invariant.w
 
 pub returns-in_err-step-in-Goal-clause-walks : goal.returns-in_err-step-in-Goal-clause-walks
 returns-in_err-step-in-Goal-clause-walks c = further_trans _ _ _ (further_trans _ _ _ c.loop-selected.invariant.walks c.settle.ensures.walks) (further_ends _ _ c.step.ensures.walks)
+
+pub returns-then-left-eq0-clause-sought : goal.returns-then-left-eq0-clause-sought
+returns-then-left-eq0-clause-sought c = λ v same. seeks-trans v c.args.self.now.machine c.loop-selected.self.machine c.settle.new.self.machine (c.loop-selected.invariant.sought v (sym c.settle.ensures.used ∙ same)) (c.in_ok-selected.ensures.sought v)
+
+pub returns-in-Look-clause-sought : goal.returns-in-Look-clause-sought
+returns-in-Look-clause-sought c = λ v same. seeks-trans v c.args.self.now.machine c.loop-selected.self.machine c.settle.new.self.machine (c.loop-selected.invariant.sought v (sym c.settle.ensures.used ∙ same)) (c.in_ok-selected.ensures.sought v)
+
+pub returns-in-Fetch-clause-sought : goal.returns-in-Fetch-clause-sought
+returns-in-Fetch-clause-sought c = if_ok_all c.wanted.result (λ v same. seeks-trans v c.args.self.now.machine c.loop-selected.self.machine c.settle.new.self.machine (c.loop-selected.invariant.sought v (sym c.settle.ensures.used ∙ same)) (c.in_ok-selected.ensures.sought v))
+
+pub returns-in-Await-clause-sought : goal.returns-in-Await-clause-sought
+returns-in-Await-clause-sought c = if_ok_all c.asked.result (λ v same. seeks-trans v c.args.self.now.machine c.loop-selected.self.machine c.settle.new.self.machine (c.loop-selected.invariant.sought v (sym c.settle.ensures.used ∙ same)) (c.in_ok-selected.ensures.sought v))
+
+pub returns-in-Over-clause-sought : goal.returns-in-Over-clause-sought
+returns-in-Over-clause-sought c = if_ok_all c.ended.result (λ v same. seeks-trans v c.args.self.now.machine c.loop-selected.self.machine c.settle.new.self.machine (c.loop-selected.invariant.sought v (sym c.settle.ensures.used ∙ same)) (c.in_ok-selected.ensures.sought v))

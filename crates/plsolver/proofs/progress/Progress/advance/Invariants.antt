@@ -1,5 +1,6 @@
 use Rattle.std.proofs.Common.{◌≡◌, ◌+◌, ◌≤◌}
-use Rattle.plsolver.specs.Asking.{Further}
+use Rattle.plstore.specs.Looking.{Views}
+use Rattle.plsolver.specs.Asking.{Further, SeeksOn}
 use Rattle.plsolver.specs.Solver.{latest_view, GoesTo, IsOf}
 use Rattle.plsolver.proofs.progress.Progress.advance.Given as goal
 
@@ -8,10 +9,12 @@ invariant-loop-selected l = record {
   goes : GoesTo l.program l.fn.self l.self;
   of : IsOf l.program l.self.machine;
   used : l.self.used + l.left ≡ l.fn.self.used + l.fuel;
+  rises : l.fn.self.used ≤ l.self.used;
   within : l.self.used ≤ l.fn.self.limit;
   limit : l.self.limit ≡ l.fn.self.limit;
   places : l.self.places.items ≡ l.fn.self.places.items;
   latest : latest_view l.self ≡ latest_view l.fn.self;
+  sought : (v : Views) → l.self.used ≡ l.fn.self.used → SeeksOn v l.fn.self.machine l.self.machine;
   walks : Further l.fn.self.machine.stack l.self.machine.stack;
 }
 

@@ -11,6 +11,7 @@ returns-in_default c =
       keeps = keeps_same c.args.program.now c.args.self.now;
       plain = plain-without c.args.self.now.machine.mode c.in_default.not-Find;
       due = tt;
+      sought = tt;
       walks = further_refl c.args.self.now.machine.stack;
     }
 

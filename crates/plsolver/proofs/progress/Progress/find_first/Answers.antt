@@ -11,7 +11,7 @@ use Rattle.plmachine.specs.Machine.{MayAsk}
 use Rattle.plsolver.specs.Fetching.{like}
 use Rattle.plsolver.specs.Knowing.{Steps}
 use Rattle.plsolver.specs.Solver.{Settled}
-use Rattle.plsolver.proofs.Asked.{opens-further}
+use Rattle.plsolver.proofs.Asked.{opens-further, seeks-same}
 use Rattle.plsolver.proofs.Finding.{found-own, none-in-front}
 use Rattle.plsolver.proofs.Further.{further_refl, further_same}
 use Rattle.plsolver.proofs.Keeping.{finds_keeps, found_of}
@@ -49,3 +49,6 @@ returns-in-Asks-clause-due c =
 
 pub returns-in-Asks-clause-walks : goal.returns-in-Asks-clause-walks
 returns-in-Asks-clause-walks c = further_refl c.args.self.now.machine.stack
+
+pub returns-in-Asks-clause-sought : goal.returns-in-Asks-clause-sought
+returns-in-Asks-clause-sought c = λ v. seeks-same v c.args.self.now.machine

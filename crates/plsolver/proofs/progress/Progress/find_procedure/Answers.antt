@@ -6,6 +6,7 @@ use Rattle.plmachine.specs.declared.machine.Find.TheVariants as finds
 use Rattle.plmachine.specs.declared.machine.Mode.TheVariants as modes
 use Rattle.plmachine.specs.declared.machine.Outcome.TheVariants as outcomes
 use Rattle.plsolver.specs.Solver.{Settled}
+use Rattle.plsolver.proofs.Asked.{seeks-same}
 use Rattle.plsolver.proofs.Finding.{named-exists, there-fails}
 use Rattle.plsolver.proofs.Further.{further_refl}
 use Rattle.plsolver.proofs.Keeping.{finds_keeps, found_of}
@@ -32,3 +33,6 @@ returns-clause-keeps c =
 
 pub returns-clause-walks : goal.returns-clause-walks
 returns-clause-walks c = further_refl c.args.self.now.machine.stack
+
+pub returns-then-not-branch-clause-sought : goal.returns-then-not-branch-clause-sought
+returns-then-not-branch-clause-sought c = λ v. seeks-same v c.args.self.now.machine

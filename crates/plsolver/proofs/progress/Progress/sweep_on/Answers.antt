@@ -2,8 +2,9 @@ use Rattle.std.proofs.Common.{◌≡◌, ◌∙◌, sym, ap, subst, Some}
 use Rattle.plstore.specs.Looking.{clause_alive}
 use Rattle.plstack.specs.declared.walk.Candidate.{Candidate}
 use Rattle.plviews.specs.Views.{seen_in, IsUntouched}
+use Rattle.plsolver.proofs.Asked.{seeks-same}
 use Rattle.plsolver.proofs.Keeping.{stays_keeps_by}
-use Rattle.plsolver.proofs.Sweeping.{as-sweep, past-fewer, past-keeps, spot-asks}
+use Rattle.plsolver.proofs.Sweeping.{as-sweep, past-fewer, past-keeps, past-on, spot-asks}
 use Rattle.plsolver.proofs.progress.Progress.sweep_on.Goals as goal
 
 pub sweep_behind-requires-clause-step : goal.sweep_behind-requires-clause-step
@@ -58,3 +59,12 @@ returns-in-Asks-clause-ok c =
     let s = c.args.self.now in
     let t = c.sweeping-head.ensures in
     spot-asks s c.sweeping-head.result.head t.0 c.in-At.name c.in-At.reach t.1 (t.3 ∙ c.in-At.is) (subst (λ g. IsUntouched s.machine.layer.own.updates g c.in-At.name) (sym t.2) (rw c.in-Asks.is at c.in_ok-next-in-At.ensures))
+
+pub returns-in_ok-sweep_past-in-Is-clause-sought : goal.returns-in_ok-sweep_past-in-Is-clause-sought
+returns-in_ok-sweep_past-in-Is-clause-sought c = past-on c.args.self.now c.sweep_past.new.self c.in-At.name c.in-At.reach _ c.in_ok-sweep_past-in-Is.ensures.ok
+
+pub returns-in_ok-sweep_past-in-Gone-clause-sought : goal.returns-in_ok-sweep_past-in-Gone-clause-sought
+returns-in_ok-sweep_past-in-Gone-clause-sought c = past-on c.args.self.now c.sweep_past-in-Gone.new.self c.in-At.name c.in-At.reach _ c.in_ok-sweep_past-in-Gone.ensures.ok
+
+pub returns-in-Asks-clause-sought : goal.returns-in-Asks-clause-sought
+returns-in-Asks-clause-sought c = λ v. seeks-same v c.args.self.now.machine
