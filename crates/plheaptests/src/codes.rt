@@ -1,5 +1,8 @@
 //! Compiled procedures: the clauses that a goal's key leaves.
+ghost use Rattle.std.specs.Prelude.{◌≤◌, length};
+
 use plcode::callee::Callee;
+use plcode::index::Procedure;
 use plcode::key::Key;
 use plcode::program::ProgramCode;
 use plload::load::load;
@@ -33,20 +36,32 @@ fn program(alloc: Global, text: &str) -> Result<Program, Fail> {
     }
 }
 
-/// The places of the clauses of a text's first procedure that a key leaves, one after the other.
-fn places(alloc: Global, text: &str, key: Key) -> Result<String, Fail> {
-    let program = program(alloc, text)?;
-    let code = ProgramCode::new(alloc, &program)?;
-    let Some(procedure) = code.procedure(0) else {
-        return Err("no procedure".into());
-    };
+/// Whether a key leaves the clause of a place.
+fn leaves(procedure: &Procedure, key: Key, place: usize) -> bool
+    requires { place ≤ length procedure.now }
+{
+    procedure.next(key, place) == Some(place)
+}
+
+/// The places of a procedure's clauses that a key leaves, one after the other.
+fn left(alloc: Global, procedure: &Procedure, key: Key) -> Result<String, Fail> {
     let mut found = String::new(alloc);
-    for from in 0..procedure.clauses().len() {
-        if procedure.next(key, from) == Some(from) {
-            write!(found, "{from} ")?;
+    for place in 0..procedure.clauses().len() {
+        if leaves(procedure, key, place) {
+            write!(found, "{place} ")?;
         }
     }
     Ok(found)
+}
+
+/// The same of a text's first procedure.
+fn places(alloc: Global, text: &str, key: Key) -> Result<String, Fail> {
+    let program = program(alloc, text)?;
+    let code = ProgramCode::new(alloc, &program)?;
+    match code.procedure(0) {
+        Some(procedure) => left(alloc, procedure, key),
+        None => Err("no procedure".into()),
+    }
 }
 
 /// A text four times.

@@ -1,6 +1,5 @@
 //! Terms as goals, terms with further arguments, and the order of terms.
-use crate::made::{empty, put_arguments, shown};
-use plgoals::extend::Extended;
+use crate::made::{empty, put_arguments, shown, told};
 use plorder::compare::{Room, compare};
 use plorder::variables::is_ground;
 use std::alloc::Global;
@@ -53,12 +52,8 @@ fn extended(alloc: Global, goal: &str) -> Result<String, Fail> {
     let [term, further] = args.as_slice() else {
         return Err("no two arguments".into());
     };
-    match env.with_arguments(alloc, *term, &[*further])? {
-        Extended::Is(v) => Ok(shown(alloc, env.heap(), v)?),
-        Extended::Unbound => Ok("unbound".to_string(alloc)?),
-        Extended::Number => Ok("number".to_string(alloc)?),
-        Extended::TooLong => Ok("too long".to_string(alloc)?),
-    }
+    let made = env.with_arguments(alloc, *term, &[*further])?;
+    told(alloc, env.heap(), made)
 }
 
 /// Two terms, as the arguments of a goal, how they are ordered, and whether each of them is ground.

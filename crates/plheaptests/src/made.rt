@@ -1,12 +1,15 @@
 //! Goals that are put into an environment, and the texts of values.
-ghost use Rattle.std.specs.Prelude.{IfOk, OnOk};
+ghost use Rattle.std.specs.Prelude.{◌≡◌, IfOk, OnOk};
 ghost use Rattle.plcells.specs.Store.{AreValues, IsValue};
+ghost use Rattle.plcells.specs.declared.cell.Cell.{Cell as OfCell};
+ghost use Rattle.plgoals.specs.declared.extend.Extended.TheVariants.{Is};
 
 use platoms::names::Names;
 use plcells::cell::Cell;
 use plcells::heap::Heap;
 use plenv::env::Environment;
 use plgoals::callable::arguments_of;
+use plgoals::extend::Extended;
 use plload::goal::read_goal;
 use plops::table::OpTable;
 use plterm::term::Term;
@@ -66,4 +69,16 @@ pub(crate) fn shown(alloc: Global, heap: &Heap, v: Cell) -> Result<String, Alloc
     let operators = OpTable::iso(alloc)?;
     let text = write_term(alloc, &term, &operators, Style::Quoted)?;
     String::from_utf8_lossy(alloc, &text)
+}
+
+/// The text of what was made of a term and further arguments, or why nothing was.
+pub(crate) fn told(alloc: Global, heap: &Heap, made: Extended) -> Result<String, Fail>
+    requires { (v : OfCell) → made ≡ Is v → IsValue heap.now v }
+{
+    match made {
+        Extended::Is(v) => Ok(shown(alloc, heap, v)?),
+        Extended::Unbound => Ok("unbound".to_string(alloc)?),
+        Extended::Number => Ok("number".to_string(alloc)?),
+        Extended::TooLong => Ok("too long".to_string(alloc)?),
+    }
 }

@@ -1,6 +1,10 @@
 //! What two terms come to that are unified.
+ghost use Rattle.plcells.specs.Store.{IsValue};
+
 use crate::made::{empty, put_arguments, shown};
 use crate::pairs::{FIFTH, FIRST, FOURTH, SECOND, THIRD};
+use plcells::cell::Cell;
+use plcells::heap::Heap;
 use std::alloc::Global;
 use std::string::String;
 use std::test::Fail;
@@ -62,6 +66,16 @@ const KEPT: [(&str, &str); 5] = [
     ("a = b", "a and b"),
 ];
 
+/// The texts of two values.
+fn both(alloc: Global, heap: &Heap, left: Cell, right: Cell) -> Result<String, Fail>
+    requires left { IsValue heap.now left }
+    requires right { IsValue heap.now right }
+{
+    let first = shown(alloc, heap, left)?;
+    let second = shown(alloc, heap, right)?;
+    Ok(format!(in alloc; "{first} and {second}")?)
+}
+
 /// Both sides of a goal, once a unification has failed.
 fn kept(alloc: Global, goal: &str) -> Result<String, Fail> {
     let mut env = empty(alloc);
@@ -72,9 +86,7 @@ fn kept(alloc: Global, goal: &str) -> Result<String, Fail> {
     if env.unify(*left, *right)? {
         return Ok("unified".to_string(alloc)?);
     }
-    let first = shown(alloc, env.heap(), *left)?;
-    let second = shown(alloc, env.heap(), *right)?;
-    Ok(format!(in alloc; "{first} and {second}")?)
+    both(alloc, env.heap(), *left, *right)
 }
 
 #[test]
