@@ -27,12 +27,23 @@ pub fn first_wrong<R: Threads + Wait + Sync>(
     rows: &[Row],
 ) -> Result<Option<usize>, AllocError> {
     for (place, (words, text, output, status)) in rows.iter().enumerate() {
-        let (bytes, ended) = told(rt, alloc, words, text.as_bytes())?;
-        if bytes.as_slice() != output.as_bytes() || ended != *status {
+        if !comes_to(rt, alloc, words, text, (output, status))? {
             return Ok(Some(place));
         }
     }
     Ok(None)
+}
+
+/// Whether the words make this output and this status of a text.
+pub fn comes_to<R: Threads + Wait + Sync>(
+    rt: &R,
+    alloc: Global,
+    words: &[&str],
+    text: &str,
+    wanted: (&str, &Status),
+) -> Result<bool, AllocError> {
+    let (bytes, ended) = told(rt, alloc, words, text.as_bytes())?;
+    Ok(bytes.as_slice() == wanted.0.as_bytes() && ended == *wanted.1)
 }
 
 /// Runs goals, each as a program of its own, whose goal it is: the place of the first that comes to anything else.
@@ -81,8 +92,7 @@ fn writes<R: Threads + Wait + Sync>(
     written: &str,
 ) -> Result<bool, AllocError> {
     let output = format!(in alloc; "% thread 1 main: true\n{written}\n")?;
-    let (bytes, ended) = told(rt, alloc, RUN, text.as_bytes())?;
-    Ok(bytes.as_slice() == output.as_bytes() && ended == Status::Done)
+    comes_to(rt, alloc, RUN, text, (output.as_str(), &Status::Done))
 }
 
 /// What the words make of a text: the output and the status.
@@ -92,11 +102,21 @@ pub fn told<R: Threads + Wait + Sync>(
     words: &[&str],
     text: &[u8],
 ) -> Result<(Vec<u8>, Status), AllocError> {
+    let (bytes, report) = reported(rt, alloc, words, text)?;
+    Ok((bytes, report.status))
+}
+
+/// What the words make of a text: the output and the report.
+pub fn reported<R: Threads + Wait + Sync>(
+    rt: &R,
+    alloc: Global,
+    words: &[&str],
+    text: &[u8],
+) -> Result<(Vec<u8>, Report), AllocError> {
     let words = words_of(alloc, words)?;
     let source = MemorySource::new(Vec::from_slice(alloc, text)?, 4096, Vec::new(alloc));
     let sink = MemorySink::new(alloc, 1_000_000, Vec::new(alloc))?;
-    let (bytes, report) = called(rt, alloc, &words, source, sink)?;
-    Ok((bytes, report.status))
+    called(rt, alloc, &words, source, sink)
 }
 
 /// What the words make of what a source gives: what the sink then holds, and the report.

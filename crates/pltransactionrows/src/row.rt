@@ -1,8 +1,7 @@
 //! Rows, and what runs them.
 use crate::acts::added;
 use plhist::Status;
-use plio::{MemorySink, MemorySource};
-use plrow::row::{called, told, words_of};
+use plrow::row::{comes_to, reported};
 use std::alloc::{AllocError, Global};
 use std::sync::Wait;
 use std::test::Fail;
@@ -37,8 +36,7 @@ pub fn first_wrong<R: Threads + Wait + Sync>(
 ) -> Result<Option<usize>, AllocError> {
     for (place, (text, goal, output, status)) in rows.iter().enumerate() {
         let words = ["prolog", "run", "--goal", goal, "P"];
-        let (bytes, ended) = told(rt, alloc, &words, text.as_bytes())?;
-        if bytes.as_slice() != output.as_bytes() || ended != *status {
+        if !comes_to(rt, alloc, &words, text, (output, status))? {
             return Ok(Some(place));
         }
     }
@@ -53,8 +51,7 @@ pub fn first_wrong_limited<R: Threads + Wait + Sync>(
 ) -> Result<Option<usize>, AllocError> {
     for (place, (steps, text, goal, output, status)) in rows.iter().enumerate() {
         let words = ["prolog", "run", "--steps", steps, "--goal", goal, "P"];
-        let (bytes, ended) = told(rt, alloc, &words, text.as_bytes())?;
-        if bytes.as_slice() != output.as_bytes() || ended != *status {
+        if !comes_to(rt, alloc, &words, text, (output, status))? {
             return Ok(Some(place));
         }
     }
@@ -99,11 +96,7 @@ fn adds<R: Threads + Wait + Sync>(
     text: &str,
     journal: &str,
 ) -> Result<bool, Fail> {
-    let words = words_of(alloc, words)?;
-    let bytes = Vec::from_slice(alloc, text.as_bytes())?;
-    let source = MemorySource::new(bytes, 4096, Vec::new(alloc));
-    let sink = MemorySink::new(alloc, 1_000_000, Vec::new(alloc))?;
-    let (_, report) = called(rt, alloc, &words, source, sink)?;
+    let (_, report) = reported(rt, alloc, words, text.as_bytes())?;
     match &report.history {
         Some(history) => Ok(added(alloc, history)?.as_slice() == journal.as_bytes()),
         None => Ok(false),
