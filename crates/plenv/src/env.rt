@@ -52,6 +52,7 @@ pub(crate) fn known(heap: &Heap)
 }
 
 /// Puts free slots behind the others, for variables from a number on.
+#[inline(always)]
 fn push_free(slots: &mut Vec<Slot>, number: u64, width: u32) -> Result<(), AllocError>
     requires { number + width < 2 ^ 64 }
     ensures ok { OnOk result (slots.new.items ≡ slots.old.items ++ free_from number width) }

@@ -91,6 +91,17 @@ fn callee_by(code: &ProgramCode, number: Number) -> Callee
     }
 }
 
+/// The place of the procedure of the program's text that is called by a number, if it is one.
+#[inline(always)]
+pub fn static_of(code: &ProgramCode, number: Number) -> Option<u32>
+    ensures { IfSome result (λ place. callee_at code.now.callees number ≡ callees.Static place) }
+{
+    match callee_by(code, number) {
+        Callee::Static(place) => Some(place),
+        Callee::Control(_) | Callee::BuiltIn(_) | Callee::Unknown => None,
+    }
+}
+
 /// What a goal of this number and these arguments is.
 #[inline(always)]
 pub fn form_of(heap: &Heap, code: &ProgramCode, number: Number, args: &[Cell]) -> Form

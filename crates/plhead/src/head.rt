@@ -218,6 +218,7 @@ fn unify_arguments(
 }
 
 /// Unifies an argument of a head, of a clause whose slots begin at a place, with a value.
+#[inline(always)]
 fn unify_argument(
     env: &mut Environment,
     nodes: &[Node],
@@ -271,6 +272,7 @@ impl Matcher {
 
     /// Unifies the arguments of a head with as many values, in a choice: whether they have a unifier. Where they have none, or memory gives
     /// out, some variables may be bound and slots set, which an undo to a mark in use takes off.
+    #[inline(never)]
     pub fn fit(
         &mut self,
         env: &mut Environment,

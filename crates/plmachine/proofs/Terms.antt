@@ -1,6 +1,7 @@
 -- A goal that comes as a term, by what is called by its number.
-use Rattle.std.proofs.Common.{◌≡◌, ◌≤◌, List, [], ◌∷◌, length, map, refl, sym, ap, ◌∙◌, subst, arith}
+use Rattle.std.proofs.Common.{◌≡◌, ℕ, ◌≤◌, List, [], ◌∷◌, length, map, refl, sym, ap, ◌∙◌, subst, arith}
 use Rattle.std.proofs.lemmas.List.{length-map}
+use Rattle.std.specs.Prelude.{Option, Some, None, IfSome, IfNone, ⊤}
 use Rattle.plterm.specs.Tree.{Tree, var, int, atom, compound, list_of-trees}
 use Rattle.plterm.specs.declared.indicator.Indicator.{Indicator}
 use Rattle.plclause.specs.Indicators.{indicator}
@@ -22,17 +23,24 @@ use Rattle.plgoals.specs.declared.form.Procedure.TheVariants as procedures
 use Rattle.plgoals.specs.Callables.{called as called_by, name_of, procedure_of, IsCallable, IsNoGoal}
 use Rattle.plgoals.specs.Forms.{callee_of, shown_form, IsInside}
 use Rattle.plstack.specs.Places.{called}
+use Rattle.plgoals.proofs.Calling.{form-is}
+use Rattle.plgoals.proofs.Rows.{code-kinds}
 use Rattle.plmachine.specs.declared.machine.Machine.{Machine as Reached}
 use Rattle.plmachine.specs.declared.machine.Mode.TheVariants as modes
 use Rattle.plmachine.specs.declared.select.Source.{Source}
 use Rattle.plmachine.specs.Machine.{IsBegun}
-use Rattle.plmachine.specs.Selected.{IsCall, IsCallOf, IsSelected, StandsFor}
+use Rattle.plmachine.specs.Selected.{IsCall, IsCallOf, IsCalledBy, IsSelected, StandsFor}
 
 pub no-goal-form : (t : Tree) → IsNoGoal t → form t ≡ NoGoal
 no-goal-form (var x) is = refl
 no-goal-form (int i) is = refl
 no-goal-form (atom f) is = absurd is
 no-goal-form (compound f ts) is = absurd is
+
+-- a form of a call is one of what is called
+abbrev IsOfCallee : Callee → Form → Type 0
+IsOfCallee k (forms.Call q) = k ≡ callee_of q
+IsOfCallee k f = ⊤
 
 -- a goal by its number and its values, and by their terms
 same-called : (h : Store) (n : Number) (vs : List Cell) → IsTable h.names → IsCallable h.names n (length vs) → called h (name_of h.names n) vs ≡ called_by h.names n (map (value h) vs)
@@ -117,6 +125,12 @@ module _ (P : Program) (s : Reached) (begun : IsBegun P s) (visits : s.mode ≡ 
       call = is-call f known;
     }
 
+    -- a call of a procedure of the program's text
+    pub selected-static : (i : ℕ) → callee_at s.stack.basis.code.callees n ≡ callees.Static i → IsSelected P s (forms.Call (procedures.Static i)) source t
+    selected-static i e = selected-some (forms.Call (procedures.Static i))
+        (sym (form-is s.stack.env.heap s.stack.basis.code.callees n s.args.items (callees.Static i) (code-kinds P s.stack.basis.code s.stack.env.heap.names begun more table) callable e))
+        tt (λ q same. subst (IsOfCallee (callee_at s.stack.basis.code.callees n)) same e)
+
 -- the same, of a heap, values and code that are those of the machine
 pub selected-by : (P : Program) (s : Reached) → IsBegun P s → s.mode ≡ modes.Visit → AreValues s.stack.env.heap s.args.items → length s.args.items ≤ 1024 → (source : Source) (t : Tree) → StandsFor s.stack source t →
     (n : Number) → IsCallable s.stack.env.heap.names n (length s.args.items) → t ≡ called_by s.stack.env.heap.names n (map (value s.stack.env.heap) s.args.items) → Extends s.stack.basis.code.text.names s.stack.env.heap.names → IsTable s.stack.env.heap.names →
@@ -128,3 +142,21 @@ selected-by P s begun visits args few source t stands n callable is more table h
     (subst (λ xs. shown_form k (procedure_of k.names n (length xs)) xs f ≡ form (called_by k.names n (map (value k) xs))) ex (subst (λ h. shown_form h (procedure_of h.names n (length xs)) xs f ≡ form (called_by h.names n (map (value h) xs))) eh shows))
     (subst (λ xs. IsInside k xs f) ex (subst (λ h. IsInside h xs f) eh inside))
     (subst (λ m. (q : Procedure) → f ≡ forms.Call q → callee_at m.callees n ≡ callee_of q) em known)
+
+-- a goal by its number, once the values of its arguments are there
+pub numbered : (s t : Reached) (source : Source) (o : Option Number) → AreValues t.stack.env.heap t.args.items → length t.args.items ≤ 1024 → ((u : Tree) → StandsFor s.stack source u → StandsFor t.stack source u) →
+    IfSome o (λ n. IsCallable t.stack.env.heap.names n (length t.args.items)) → IfSome o (λ n. (u : Tree) → StandsFor s.stack source u → u ≡ called_by t.stack.env.heap.names n (map (value t.stack.env.heap) t.args.items)) →
+    IfNone o ((u : Tree) → StandsFor s.stack source u → IsNoGoal u) → (u : Tree) → StandsFor s.stack source u → IsCalledBy t o source u
+numbered s t source (Some n) args few stands callable is none u there = record { values = args; few = few; stands = stands u there; callable = callable; is = is u there; none = tt }
+numbered s t source None args few stands callable is none u there = record { values = args; few = few; stands = stands u there; callable = tt; is = tt; none = none u there }
+
+-- a goal that is called by the number of a procedure of the program's text
+pub static-by : (s : Reached) (o : Option Number) (n : Number) → o ≡ Some n → Extends s.stack.basis.code.text.names s.stack.env.heap.names → IsTable s.stack.env.heap.names →
+    (k : Option ℕ) → IfSome k (λ i. callee_at s.stack.basis.code.callees n ≡ callees.Static i) →
+    IfSome k (λ i. (P : Program) (source : Source) (t : Tree) → IsBegun P s → s.mode ≡ modes.Visit → IsCalledBy s o source t → IsSelected P s (forms.Call (procedures.Static i)) source t)
+static-by s o n same more table None known = tt
+static-by s o n same more table (Some i) known = λ P source t begun visits called.
+    selected-static P s begun visits called.values called.few source t called.stands n
+    (subst (λ o. IfSome o (λ n. IsCallable s.stack.env.heap.names n (length s.args.items))) same called.callable)
+    (subst (λ o. IfSome o (λ n. t ≡ called_by s.stack.env.heap.names n (map (value s.stack.env.heap) s.args.items))) same called.is)
+    more table i known

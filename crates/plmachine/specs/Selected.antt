@@ -1,5 +1,5 @@
 -- A goal that is selected.
-use Rattle.std.specs.Prelude.{◌≡◌, ℕ, ◌≤◌, [], length}
+use Rattle.std.specs.Prelude.{◌≡◌, ℕ, ◌≤◌, [], length, map, Option, IfSome, IfNone}
 use Rattle.std.specs.Bool.{⊤}
 use Rattle.plterm.specs.Tree.{Tree}
 use Rattle.plterm.specs.declared.indicator.Indicator.{Indicator}
@@ -8,6 +8,7 @@ use Rattle.plclause.specs.Indicators.{indicator}
 use Rattle.plcells.specs.Store.{value, AreValues, IsValue}
 use Rattle.plprogram.specs.Program.{Program, clauses_for}
 use Rattle.plsearch.specs.Forms.{form as form_of}
+use Rattle.plcode.specs.declared.callee.Number.{Number}
 use Rattle.plcode.specs.Steps.{renamed}
 use Rattle.plcode.specs.Callees.{IsStatic}
 use Rattle.plenv.specs.Env.{over}
@@ -16,6 +17,7 @@ use Rattle.plgoals.specs.declared.form.Form.TheVariants as forms
 use Rattle.plgoals.specs.declared.form.Procedure.{Procedure}
 use Rattle.plgoals.specs.declared.form.Procedure.TheVariants as procedures
 use Rattle.plgoals.specs.Forms.{shown_form, IsInside}
+use Rattle.plgoals.specs.Callables.{called as called_by, IsCallable, IsNoGoal}
 use Rattle.pllinks.specs.declared.item.Run.{Run}
 use Rattle.plstack.specs.Arguments.{IsArgument}
 use Rattle.plstack.specs.Places.{called}
@@ -49,6 +51,15 @@ IsCallOf P s p procedures.Unknown t = clauses_for P p ≡ []
 abbrev pub IsCall : Program → Machine → Form → Tree → Type 0
 IsCall P s (forms.Call procedure) t = IsCallOf P s (indicator t) procedure t
 IsCall P s f t = ⊤
+
+-- a goal, whose term stands at the source, is called by a number, with the values of its arguments; by none where it is a variable or an integer
+pub record IsCalledBy (s : Machine) (number : Option Number) (source : Source) (t : Tree) : Type 0 where
+  pub values : AreValues s.stack.env.heap s.args.items
+  pub few : length s.args.items ≤ 1024
+  pub stands : StandsFor s.stack source t
+  pub callable : IfSome number (λ n. IsCallable s.stack.env.heap.names n (length s.args.items))
+  pub is : IfSome number (λ n. t ≡ called_by s.stack.env.heap.names n (map (value s.stack.env.heap) s.args.items))
+  pub none : IfNone number (IsNoGoal t)
 
 -- a goal of this form is selected, whose term stands at the source
 pub record IsSelected (P : Program) (s : Machine) (f : Form) (source : Source) (t : Tree) : Type 0 where

@@ -9,14 +9,18 @@ ghost use Rattle.plstack.specs.Levels.{Precedes};
 ghost use Rattle.plstack.specs.State.{goals_of, kinds_in, IsList};
 ghost use Rattle.plmachine.specs.Lists.{Grown};
 ghost use Rattle.plmachine.specs.Machine.{below_in, depth_of, local_of, IsBegun, IsTied, MovedBy, Stays};
-ghost use Rattle.plmachine.specs.Selected.{IsSelected, StandsFor};
+ghost use Rattle.plgoals.specs.declared.form.Form.TheVariants as forms;
+ghost use Rattle.plgoals.specs.declared.form.Procedure.TheVariants as procedures;
+ghost use Rattle.plprogram.specs.Program.{Program as OfProgram};
+ghost use Rattle.plmachine.specs.declared.select.Source.{Source as OfSource};
+ghost use Rattle.plmachine.specs.Selected.{IsCalledBy, IsSelected, StandsFor};
 
 use crate::machine::{Machine, Mode};
 use crate::select::Source;
 use plcells::cell::Cell;
 use plcode::callee::Number;
 use plgoals::callable::arguments_of;
-use plgoals::form::{Form, Procedure, form_of};
+use plgoals::form::{Form, form_of, static_of};
 use pllinks::level::Level;
 use pllinks::link::Continuation;
 use plprogram::program::Program;
@@ -63,27 +67,58 @@ impl Machine {
         if let Some(call) = self.calculation(&source) {
             return self.calculate(program, call, rest);
         }
-        let form = self.form(program, &source)?;
-        if let Form::Call(Procedure::Static(place)) = form {
+        let number = self.number(&source)?;
+        if let Some(place) = self.static_by(number) {
             return self.resolve(program, place, rest);
         }
+        self.select_by(program, number, source, level, rest)
+    }
+
+    /// The place of the procedure that a goal calls, where it is one of the program's text, by the goal's number.
+    #[inline(always)]
+    fn static_by(&self, number: Option<Number>) -> Option<u32>
+        ensures { IfSome result (λ place. (P : OfProgram) (source : OfSource) (t : Tree) → IsBegun P self.now → self.now.mode ≡ Mode.Visit → IsCalledBy self.now number source t → IsSelected P self.now (forms.Call (procedures.Static place)) source t) }
+    {
+        let _ = self.stack.env().heap();
+        match number {
+            Some(number) => static_of(self.stack.code(), number),
+            None => None,
+        }
+    }
+
+    /// The row of a goal by its number, where the values of its arguments are those of the goal that is selected.
+    #[inline(never)]
+    fn select_by(
+        &mut self,
+        program: &Program,
+        number: Option<Number>,
+        source: Source,
+        level: Level,
+        rest: Continuation,
+    ) -> Result<(), AllocError>
+        requires begun { IsBegun program.now self.old }
+        requires visits { self.old.mode ≡ Mode.Visit }
+        requires called { (t : Tree) × IsCalledBy self.old number source t }
+        requires rest { IsList self.old.stack rest }
+        requires level { Precedes (kinds_in self.old.stack) level (goals_of self.old.stack rest) }
+        requires tied { IsTied self.old }
+        ensures ok { (t : Tree) → IsCalledBy self.old number source t → OnOk result (MovedBy program.now self.old self.new (λ v. row program.now (below_in v self.old) (form_by_term t) level t (depth_of self.old) (goals_of self.old.stack rest) self.old.stack.env.count (local_of self.old))) }
+        ensures err { OnErr result (Stays program.now self.old self.new) }
+    {
+        let form = self.form(number);
         self.select(program, form, source, level, rest)
     }
 
-    /// What a goal is. The values of its arguments are those of the goal that is selected.
-    fn form(&mut self, program: &Program, source: &Source) -> Result<Form, AllocError>
-        requires begun { IsBegun program.now self.old }
-        requires visits { self.old.mode ≡ Mode.Visit }
-        requires source { (t : Tree) × StandsFor self.old.stack source.now t }
-        ensures ok { IfOk result (λ f. (t : Tree) → StandsFor self.old.stack source.now t → IsSelected program.now self.new f source.now t) }
-        ensures grown { Grown self.old.stack self.new.stack }
-        ensures frame { self.new ≡ record self.old { stack = self.new.stack; args = self.new.args } }
+    /// What a goal is, by its number.
+    fn form(&self, number: Option<Number>) -> Form
+        requires { (P : OfProgram) × (source : OfSource) × (t : Tree) × IsBegun P self.now × IsCalledBy self.now number source t }
+        ensures { (P : OfProgram) (source : OfSource) (t : Tree) → IsBegun P self.now → self.now.mode ≡ Mode.Visit → IsCalledBy self.now number source t → IsSelected P self.now result source t }
     {
-        let Some(number) = self.number(source)? else {
-            return Ok(Form::NoGoal);
+        let Some(number) = number else {
+            return Form::NoGoal;
         };
         let heap = self.stack.env().heap();
-        Ok(form_of(heap, self.stack.code(), number, &self.args))
+        form_of(heap, self.stack.code(), number, &self.args)
     }
 
     /// The number by which a goal is called, and the values of its arguments; none for a variable or an integer.

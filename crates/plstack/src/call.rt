@@ -53,6 +53,7 @@ pub struct Calling {
 
 /// The first clause from a number on that fits the goal, and the next one that may. Where there is none all is as it was at the call; where
 /// memory gives out, an undo to its mark gives back what was changed.
+#[inline(always)]
 fn first_hit(
     env: &mut Environment,
     matcher: &mut Matcher,
@@ -80,6 +81,7 @@ fn first_hit(
 
 /// The first clause of a static procedure that fits a goal, and the next one that may. Where there is none, or memory gives out, all is as it was
 /// at the mark but for more names.
+#[inline(always)]
 fn fit_first(
     env: &mut Environment,
     matcher: &mut Matcher,
@@ -143,14 +145,15 @@ fn body_of(hit: Hit, behind: ListId, level: Level) -> Continuation
 }
 
 /// Opens the case of the clauses of a call from a number on, or where none is left a choice with nothing left.
-fn push_call(frames: &mut Vec<Frame>, at: &Calling, next: Option<usize>)
+#[inline(always)]
+fn push_call(frames: &mut Vec<Frame>, point: &Point, call: Clauses, next: Option<usize>)
     requires room { vec_len frames.old < vec_capacity frames.old }
-    ensures { PushesCall at.now.point at.now.call next frames.old.items frames.new.items }
+    ensures { PushesCall point.now call next frames.old.items frames.new.items }
 {
     match next {
         Some(next) => {
-            let left = Clauses { next, ..at.call };
-            push_frame(frames, Frame::Open(at.point, Resume::Clauses(left)));
+            let left = Clauses { next, ..call };
+            push_frame(frames, Frame::Open(*point, Resume::Clauses(left)));
         }
         None => count_up(frames, 1),
     }
@@ -169,6 +172,7 @@ pub(crate) fn keep_values(saved: &mut Vec<Cell>, values: &[Cell])
 
 impl Stack {
     /// Calls a static procedure before a list: whether a clause fits. The body of the first that does is visited, in a choice of those behind it.
+    #[inline(always)]
     pub fn call(
         &mut self,
         procedure: u32,
@@ -212,6 +216,7 @@ impl Stack {
 
     /// Visits the body of the first clause of a static procedure that fits a goal's values, before a list, and opens the case of the clauses
     /// behind it: whether one fits.
+    #[inline(always)]
     fn open_call(
         &mut self,
         procedure: u32,
@@ -251,11 +256,7 @@ impl Stack {
             count: values.len() as u16,
             next: 0,
         };
-        let at = Calling {
-            point: *point,
-            call,
-        };
-        push_call(&mut self.frames, &at, hit.next);
+        push_call(&mut self.frames, point, call, hit.next);
         self.goals = body_of(hit, point.list.rest, self.depth);
         self.depth = depth;
         match hit.next {

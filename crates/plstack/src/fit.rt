@@ -49,6 +49,7 @@ pub struct Hit {
 
 /// Unifies a clause's head with the goal, its variables new: where its slots begin, if it fits. Where it does not, or memory gives out, an undo
 /// to a mark in use gives back what was changed.
+#[inline(always)]
 fn try_clause(
     env: &mut Environment,
     matcher: &mut Matcher,
@@ -78,6 +79,7 @@ fn try_clause(
 
 /// The first clause from a number on that fits the goal. Where there is none all is as it was at the call; where memory gives out, an undo to its
 /// mark gives back what was changed.
+#[inline(always)]
 pub fn first_fit(
     env: &mut Environment,
     matcher: &mut Matcher,

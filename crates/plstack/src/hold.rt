@@ -18,6 +18,7 @@ pub struct Held {
 }
 
 /// The marks of nothing.
+#[inline(always)]
 fn no_marks() -> Marks
     ensures { result ≡ no_marks }
 {
@@ -41,6 +42,7 @@ fn no_marks() -> Marks
 }
 
 /// How many values a case keeps.
+#[inline(always)]
 fn kept_by(resume: &Resume) -> u32
     ensures { result ≡ kept resume.now }
 {
@@ -84,6 +86,7 @@ pub(crate) fn newest_in(frames: &[Frame]) -> Newest<'_>
 }
 
 /// What the open cases hold, if the newest few frames say it.
+#[inline(always)]
 pub(crate) fn held_in(frames: &[Frame]) -> Option<Held>
     ensures { IfSome result (λ h. h ≡ held (reverse frames.now)) }
 {

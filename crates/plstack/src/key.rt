@@ -8,6 +8,7 @@ use plcells::heap::Heap;
 use plcode::key::Key;
 
 /// The key of a value's term.
+#[inline(always)]
 fn key_of(heap: &Heap, v: Cell) -> Key
     requires { IsValue heap.now v }
     ensures { IsKey heap.now.names result (value heap.now v) }
@@ -25,6 +26,7 @@ fn key_of(heap: &Heap, v: Cell) -> Key
 }
 
 /// The key of the first of some values; that of anything, if there is none.
+#[inline(always)]
 pub(crate) fn first_key(heap: &Heap, values: &[Cell]) -> Key
     requires { AreValues heap.now values.now }
     ensures { IsFirstKey heap.now.names result (map (value heap.now) values.now) }
