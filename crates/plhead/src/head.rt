@@ -6,6 +6,7 @@ ghost use Rattle.plsubst.specs.Unify.{unify};
 ghost use Rattle.plcells.specs.Store.{value, AreValues, IsHeap, IsValue};
 ghost use Rattle.plcode.specs.Nodes.{IsSound};
 ghost use Rattle.plcode.specs.Laying.{IsLaid};
+ghost use Rattle.plcode.specs.declared.node.Node.TheVariants.{Var as VarNode};
 ghost use Rattle.plcode.specs.Packed.{node_at, ArePacked, IsArgument};
 ghost use Rattle.plenv.specs.declared.slot.Slot.TheVariants.{Free as FreeSlot};
 ghost use Rattle.plenv.specs.Env.{over, slot_at, variable, Covers, IsSlot};
@@ -94,6 +95,33 @@ fn put_and_unify(
     env.unify_in_choice(own, v)
 }
 
+/// What a node that is no variable, of a clause whose slots begin at a place, and a value come to.
+#[inline(always)]
+fn meet_other(
+    env: &mut Environment,
+    nodes: &[Node],
+    base: u32,
+    at: u32,
+    v: Cell,
+) -> Result<Verdict, AllocError>
+    requires sound { IsSound env.old.heap.names nodes.now }
+    requires packed { ArePacked nodes.now }
+    requires few { length nodes.now < 2 ^ 32 }
+    requires within { at < length nodes.now }
+    requires whole { IsArgument 0 at (node_at nodes.now at) }
+    requires covers { Covers env.old base (tree_at env.old.heap.names nodes.now at) }
+    requires value { IsValue env.old.heap v }
+    requires node { (s : ℕ) → node_at nodes.now at ≡ VarNode s → ⊥ }
+    ensures comes { IfOk result (λ r. Comes env.old env.new nodes.now (tree_at env.old.heap.names nodes.now) (tree_at env.old.heap.names nodes.now at) (bind (over env.old base) (tree_at env.old.heap.names nodes.now at)) (value env.old.heap v) r) }
+    ensures keeps { Keeps env.old env.new }
+{
+    let root = env.heap().root(v);
+    if let Cell::Ref(_) = root {
+        return Ok(verdict_of(put_and_unify(env, nodes, base, at, root)?));
+    }
+    Ok(compare(env.heap(), nodes, at, root))
+}
+
 /// What a node, of a clause whose slots begin at a place, and a value come to: a unifier was put, they have none, or their arguments are left.
 #[inline(always)]
 fn meet(
@@ -117,11 +145,7 @@ fn meet(
         let slot = env.slot_of(base, x);
         return Ok(verdict_of(meet_slot(env, slot, v)?));
     }
-    let root = env.heap().root(v);
-    if let Cell::Ref(_) = root {
-        return Ok(verdict_of(put_and_unify(env, nodes, base, at, root)?));
-    }
-    Ok(compare(env.heap(), nodes, at, root))
+    meet_other(env, nodes, base, at, v)
 }
 
 /// Solves equations of nodes, of a clause whose slots begin at a place, and values: whether they have a solution.
