@@ -181,4 +181,5 @@ def main():
                 compare(name, folder, given.steps, given.times, systems)
 
 
-main()
+if __name__ == "__main__":
+    main()
