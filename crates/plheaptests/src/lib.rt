@@ -2,9 +2,13 @@
 #![tactic(auto)]
 
 #[cfg(test)]
+mod cells;
+#[cfg(test)]
 mod codes;
 #[cfg(test)]
 mod goals;
+#[cfg(test)]
+mod heads;
 #[cfg(test)]
 mod lists;
 #[cfg(test)]
