@@ -83,7 +83,7 @@ const COMPARISONS: [Goal; 9] = [
 ];
 
 /// The errors, each with the predicate that was called.
-const ERRORS: [Goal; 23] = [
+const ERRORS: [Goal; 31] = [
     ("_ is _", "instantiation_error of (is)/2"),
     ("X is X + 1", "instantiation_error of (is)/2"),
     ("_ is foo + _", "type_error(evaluable,foo/0) of (is)/2"),
@@ -111,6 +111,14 @@ const ERRORS: [Goal; 23] = [
     ("1 =:= _", "instantiation_error of (=:=)/2"),
     ("a =\\= _", "type_error(evaluable,a/0) of (=\\=)/2"),
     ("_ < a", "instantiation_error of (<)/2"),
+    ("1 < foo", "type_error(evaluable,foo/0) of (<)/2"),
+    ("1 > _", "instantiation_error of (>)/2"),
+    ("foo > 1", "type_error(evaluable,foo/0) of (>)/2"),
+    ("1 > 1 // 0", "evaluation_error(zero_divisor) of (>)/2"),
+    ("_ >= 1", "instantiation_error of (>=)/2"),
+    ("foo =:= 1", "type_error(evaluable,foo/0) of (=:=)/2"),
+    ("1 =:= 1 mod 0", "evaluation_error(zero_divisor) of (=:=)/2"),
+    ("_ =\\= 1", "instantiation_error of (=\\=)/2"),
     ("1 // 0 >= _", "evaluation_error(zero_divisor) of (>=)/2"),
     (
         "assertz((X is X))",

@@ -3,7 +3,7 @@ use plrow::row::{Goal, first_wrong_goal};
 use std::test::Fail;
 
 /// atom_chars/2, atom_codes/2 and char_code/2.
-const TEXTS: [Goal; 32] = [
+const TEXTS: [Goal; 33] = [
     ("atom_chars(abc, L), writeq(L)", "[a,b,c]"),
     ("atom_chars('', L), writeq(L)", "[]"),
     ("atom_chars([], L), writeq(L)", "['[',']']"),
@@ -37,6 +37,7 @@ const TEXTS: [Goal; 32] = [
     ("char_code(a, X), writeq(X)", "97"),
     ("char_code(X, 97), writeq(X)", "a"),
     ("char_code('😀', X), writeq(X)", "128512"),
+    ("char_code(X, 233), write(X)", "é"),
     (
         "char_code(X, 0x10FFFF), char_code(X, Y), writeq(Y)",
         "1114111",
@@ -47,7 +48,7 @@ const TEXTS: [Goal; 32] = [
 ];
 
 /// number_chars/2, number_codes/2 and atom_number/2.
-const NUMBERS: [Goal; 36] = [
+const NUMBERS: [Goal; 39] = [
     ("number_chars(X, ['1','2']), writeq(X)", "12"),
     ("number_chars(X, [-,'1']), writeq(X)", "-1"),
     ("number_chars(X, [' ','1']), writeq(X)", "1"),
@@ -67,6 +68,9 @@ const NUMBERS: [Goal; 36] = [
     ("number_codes(X, \"0b101\"), writeq(X)", "5"),
     ("number_codes(X, \"0'a\"), writeq(X)", "97"),
     ("number_codes(X, \"-0'a\"), writeq(X)", "-97"),
+    ("number_codes(X, \"0'é\"), writeq(X)", "233"),
+    ("number_chars(X, ['0','\\'','é']), writeq(X)", "233"),
+    ("atom_number('é', _) ; write(no)", "no"),
     ("number_codes(X, \"% c\\n7\"), writeq(X)", "7"),
     ("number_codes(X, \"/* c */7\"), writeq(X)", "7"),
     (
@@ -93,7 +97,7 @@ const NUMBERS: [Goal; 36] = [
 ];
 
 /// Their errors, in the order of their checks.
-const TEXT_ERRORS: [Goal; 49] = [
+const TEXT_ERRORS: [Goal; 52] = [
     ("atom_chars(_, _)", "instantiation_error of atom_chars/2"),
     (
         "atom_chars(_, [a|_])",
@@ -235,6 +239,18 @@ const TEXT_ERRORS: [Goal; 49] = [
     (
         "number_chars(1, [a])",
         "syntax_error(illegal_number) of number_chars/2",
+    ),
+    (
+        "number_codes(_, _)",
+        "instantiation_error of number_codes/2",
+    ),
+    (
+        "number_codes(_, foo)",
+        "type_error(list,foo) of number_codes/2",
+    ),
+    (
+        "number_codes(a, _)",
+        "type_error(number,a) of number_codes/2",
     ),
     (
         "number_codes(_, \"1.5\")",
