@@ -18,6 +18,7 @@ use crate::compare::{Verdict, compare, verdict_of};
 use crate::work::push_arguments;
 use plcells::cell::Cell;
 use plcells::heap::Heap;
+use plcells::id::CellId;
 use plcode::node::Node;
 use plenv::env::Environment;
 use plenv::slot::{Row, Slot};
@@ -25,12 +26,12 @@ use std::alloc::{AllocError, Global};
 
 /// Whether a value is an unbound variable of a number above this one.
 #[inline(always)]
-fn is_younger(heap: &Heap, v: Cell, number: u64) -> bool
-    requires { IsValue heap.now v }
-    ensures variable { (n : ℕ) → value heap.now v ≡ var n → IsTrue result ↔ (number < n) }
-    ensures other { ((n : ℕ) → value heap.now v ≡ var n → ⊥) → result ≡ false }
+fn is_younger(heap: &Heap, v: &Cell, number: u64) -> bool
+    requires { IsValue heap.now v.now }
+    ensures variable { (n : ℕ) → value heap.now v.now ≡ var n → IsTrue result ↔ (number < n) }
+    ensures other { ((n : ℕ) → value heap.now v.now ≡ var n → ⊥) → result ≡ false }
 {
-    match heap.root(v) {
+    match heap.root(*v) {
         Cell::Ref(x) => number < heap.number(x),
         _ => false,
     }
@@ -48,7 +49,7 @@ fn meet_free(env: &mut Environment, slot: u32, number: u64, v: Cell) -> Result<b
     ensures no { IfOk result (λ fits. fits ≡ false → unify (var number) (value env.old.heap v) ≡ None) }
     ensures keeps { Keeps env.old env.new }
 {
-    if is_younger(env.heap(), v, number) {
+    if is_younger(env.heap(), &v, number) {
         let own = env.put_variable(slot)?;
         env.unify_in_choice(own, v)
     } else {
@@ -138,8 +139,8 @@ fn solve(
     ensures answers { IfOk result (λ fits. (s t : Tree) → Stands env.old base (tree_at env.old.heap.names nodes.now) work.old.items s t → Answers env.old env.new s t fits) }
     ensures keeps { Keeps env.old env.new }
 {
-    while let Some((at, v)) = work.pop() {
-        match meet(env, nodes, base, at, v)? {
+    while let Some(equation) = work.pop() {
+        match meet(env, nodes, base, equation.0, equation.1)? {
             Verdict::Same => {}
             Verdict::Clash => return Ok(false),
             Verdict::Args(first, cells, count) => push_arguments(
@@ -186,7 +187,7 @@ fn unify_node(
 #[derive(Clone, Copy)]
 struct Arguments {
     first: u32,
-    cells: u32,
+    cells: CellId,
     count: u16,
 }
 
@@ -208,7 +209,7 @@ fn unify_arguments(
     ensures keeps { Keeps env.old env.new }
 {
     for i in 0..args.count {
-        let v = env.heap().argument(args.cells + u32::from(i));
+        let v = env.heap().argument(args.cells.after(u32::from(i)));
         let equation = (args.first + u32::from(i), v);
         if !unify_node(env, nodes, base, equation, work)? {
             return Ok(false);

@@ -28,14 +28,14 @@ argument-v-requires-clause-within c =
     let refs = references c.args.args.cells c.args.args.count in
     let lt : c.loop-i.i < length refs = omega (arith, c.loop-i-test.true, length-references c.args.args.count c.args.args.cells) in
     let there = cell-here c.loop-i.env c.args.base (tree_at c.loop-i.env.heap.names c.args.nodes.now) c.args.args.first c.args.args.cells c.args.args.count c.loop-i.i c.from.result (Free 0) c.from.ensures c.loop-i-test.true c.args.nodes.now (next-equation c.args.args.first refs c.args.env.now c.loop-i.env c.args.base c.args.nodes.now c.requires.laid c.loop-i.invariant.keeps c.loop-i.i lt c.loop-i.invariant.equations) in
-    (subst (λ (h : Store). IsValue h (Ref (c.args.args.cells + c.from.result))) (sym c.heap.ensures.is) there).0
+    rw c.after.ensures (subst (λ (h : Store). IsValue h (Ref (c.args.args.cells + c.from.result))) (sym c.heap.ensures.is) there).0
 
 pub argument-v-requires-clause-plain : goal.argument-v-requires-clause-plain
 argument-v-requires-clause-plain c =
     let refs = references c.args.args.cells c.args.args.count in
     let lt : c.loop-i.i < length refs = omega (arith, c.loop-i-test.true, length-references c.args.args.count c.args.args.cells) in
     let there = cell-here c.loop-i.env c.args.base (tree_at c.loop-i.env.heap.names c.args.nodes.now) c.args.args.first c.args.args.cells c.args.args.count c.loop-i.i c.from.result (Free 0) c.from.ensures c.loop-i-test.true c.args.nodes.now (next-equation c.args.args.first refs c.args.env.now c.loop-i.env c.args.base c.args.nodes.now c.requires.laid c.loop-i.invariant.keeps c.loop-i.i lt c.loop-i.invariant.equations) in
-    (subst (λ (h : Store). IsValue h (Ref (c.args.args.cells + c.from.result))) (sym c.heap.ensures.is) there).1
+    rw c.after.ensures (subst (λ (h : Store). IsValue h (Ref (c.args.args.cells + c.from.result))) (sym c.heap.ensures.is) there).1
 
 pub unify_node-requires-clause-sound : goal.unify_node-requires-clause-sound
 unify_node-requires-clause-sound c = sound-now c.args.env.now c.loop-i.env c.args.nodes.now c.requires.laid c.loop-i.invariant.keeps
@@ -55,7 +55,7 @@ unfolding Answers
 returns-then-not-branch-clause-answers c = λ s t stands.
     let refs = references c.args.args.cells c.args.args.count in
     let lt : c.loop-i.i < length refs = omega (arith, c.loop-i-test.true, length-references c.args.args.count c.args.args.cells) in
-    let is = subst (λ (h : Store). value h c.argument-v.result ≡ term h (c.args.args.cells + c.from.result)) c.heap.ensures.is c.argument-v.ensures.same in
+    let is = subst (λ (h : Store). value h c.argument-v.result ≡ term h (c.args.args.cells + c.from.result)) c.heap.ensures.is (rw c.after.ensures at c.argument-v.ensures.same) in
     let here = is ∙ cells-same c.loop-i.env.heap c.args.args.cells c.from.result c.from-in-loop-i.result c.loop-i.i c.from.ensures c.from-in-loop-i.ensures in
     let never = sides-here c.loop-i.env c.args.base (tree_at c.loop-i.env.heap.names c.args.nodes.now) c.args.args.first c.args.args.cells c.args.args.count c.loop-i.i c.from-in-loop-i.result c.argument-v.result c.from-in-loop-i.ensures c.loop-i-test.true (λ a b. unify a b ≡ None) here (c.in_ok-unify_node.ensures.no c.if-not-branch.true) in
     next-never c.args.args.first refs c.args.env.now c.loop-i.env c.args.base c.args.nodes.now c.requires.laid c.loop-i.invariant.keeps c.loop-i.i lt c.loop-i.invariant.equations never s t (c.loop-i.invariant.progress s t stands)
@@ -68,7 +68,7 @@ loop-i-preserved c =
     let refs = references c.args.args.cells c.args.args.count in
     let lt : c.loop-i.i < length refs = omega (arith, c.loop-i-test.true, length-references c.args.args.count c.args.args.cells) in
     let new = c.unify_node.new.env in
-    let is = subst (λ (h : Store). value h c.argument-v.result ≡ term h (c.args.args.cells + c.from.result)) c.heap.ensures.is c.argument-v.ensures.same in
+    let is = subst (λ (h : Store). value h c.argument-v.result ≡ term h (c.args.args.cells + c.from.result)) c.heap.ensures.is (rw c.after.ensures at c.argument-v.ensures.same) in
     let here = is ∙ cells-same c.loop-i.env.heap c.args.args.cells c.from.result c.from-in-loop-i.result c.loop-i.i c.from.ensures c.from-in-loop-i.ensures in
     let made = sides-here c.loop-i.env c.args.base (tree_at c.loop-i.env.heap.names c.args.nodes.now) c.args.args.first c.args.args.cells c.args.args.count c.loop-i.i c.from-in-loop-i.result c.argument-v.result c.from-in-loop-i.ensures c.loop-i-test.true (Unifies c.loop-i.env new) here (c.in_ok-unify_node.ensures.yes c.if-not-branch.false) in
     record {

@@ -8,7 +8,7 @@ use Rattle.plhead.proofs.head.unify_arguments.Given as goal
 
 abbrev pub invariant-loop-i : goal.invariant-loop-i
 invariant-loop-i l = record {
-  equations : AreEquations l.env l.base l.nodes (tree_at l.initial.env.heap.names l.nodes) (pairs (l.args.first + l.i) (drop l.i (references l.args.cells l.args.count)));
-  progress : (s t : Tree) → Stands l.initial.env l.base (tree_at l.initial.env.heap.names l.nodes) (pairs l.args.first (references l.args.cells l.args.count)) s t → Progress l.initial.env l.env l.base (tree_at l.initial.env.heap.names l.nodes) s t (pairs (l.args.first + l.i) (drop l.i (references l.args.cells l.args.count)));
+  equations : AreEquations l.env l.base l.nodes (tree_at l.initial.env.heap.names l.nodes) (pairs (l.fn.args.first + l.i) (drop l.i (references l.fn.args.cells l.fn.args.count)));
+  progress : (s t : Tree) → Stands l.initial.env l.base (tree_at l.initial.env.heap.names l.nodes) (pairs l.fn.args.first (references l.fn.args.cells l.fn.args.count)) s t → Progress l.initial.env l.env l.base (tree_at l.initial.env.heap.names l.nodes) s t (pairs (l.fn.args.first + l.i) (drop l.i (references l.fn.args.cells l.fn.args.count)));
   keeps : Keeps l.initial.env l.env;
 }
