@@ -24,7 +24,7 @@ ghost use Rattle.plstack.specs.Trials.{IsMarked};
 use crate::fit::{Attempt, Hit, first_fit};
 use crate::frame::{Clauses, Frame, Point, Resume};
 use crate::key::first_key;
-use crate::open::{count_up, deeper, push_frame};
+use crate::open::{count_up, deeper, push_within};
 use crate::stack::Stack;
 use plcells::cell::Cell;
 use plcode::program::ProgramCode;
@@ -150,7 +150,7 @@ fn push_call(frames: &mut Vec<Frame>, at: &Calling, next: Option<usize>)
     match next {
         Some(next) => {
             let left = Clauses { next, ..at.call };
-            push_frame(frames, Frame::Open(at.point, Resume::Clauses(left)));
+            push_within(frames, Frame::Open(at.point, Resume::Clauses(left)));
         }
         None => count_up(frames, 1),
     }
@@ -281,7 +281,7 @@ impl Stack {
         self.saved.truncate(point.marks.saved + call.count as usize);
         self.goals = Continuation::alone(ListId::EMPTY);
         let at = Calling { point, call };
-        push_frame(
+        push_within(
             &mut self.frames,
             Frame::Open(at.point, Resume::Clauses(at.call)),
         );
@@ -415,7 +415,7 @@ impl Stack {
             count: call.count,
             next,
         };
-        push_frame(&mut self.frames, Frame::Open(point, Resume::Clauses(left)));
+        push_within(&mut self.frames, Frame::Open(point, Resume::Clauses(left)));
     }
 
     /// Of the innermost call nothing is left.

@@ -18,7 +18,7 @@ ghost use Rattle.plstack.specs.Walks.{AtWalk, EndsPlain, Finds, FitsCall, GoesOn
 
 use crate::frame::{Frame, Marks, Point, Resume, Spot, Use, Walk};
 use crate::list::link_before;
-use crate::open::{count_up, push_frame};
+use crate::open::{count_up, push_within};
 use crate::pair::clause_of_two;
 use crate::stack::Stack;
 use plcells::cell::Cell;
@@ -314,7 +314,7 @@ impl Stack {
         self.saved.truncate(point.marks.saved);
         self.goals = Continuation::alone(ListId::EMPTY);
         let at = Walking { point, walk };
-        push_frame(
+        push_within(
             &mut self.frames,
             Frame::Open(at.point, Resume::Walk(at.walk)),
         );
@@ -426,7 +426,7 @@ impl Stack {
             uses: walk.uses,
             spot,
         };
-        push_frame(&mut self.frames, Frame::Open(point, Resume::Walk(left)));
+        push_within(&mut self.frames, Frame::Open(point, Resume::Walk(left)));
     }
 
     /// Of the innermost case, a walk, nothing is left.

@@ -15,7 +15,7 @@ invariant_of-self c =
     let p : Point = c.in-Some-Open-default-Walk.point in
     let k : Walk = c.in-Some-Open-default-Walk.walk in
     let popped : s.frames ≡ c.pop.new.self.items ++ Open p (resumes.Walk k) ∷ [] = c.in-Some-Open-default-Walk.ensures.items ∙ ap (λ f. c.pop.new.self.items ++ f ∷ []) (c.in-Some-Open-default-Walk.field-0-is ∙ ap (Open p) c.in-Some-Open-default-Walk.field-0-1-is) in
-    let back : c.push_frame.new.frames.items ≡ s.frames = c.push_frame.ensures.is ∙ sym popped in
+    let back : c.push_within.new.items.items ≡ s.frames = c.push_within.ensures.is ∙ sym popped in
     rw (c.undo.ensures, c.truncate.ensures.items, c.truncate-2.ensures.items, c.alone-self-inside.ensures, back) (gone-stack s c.self.inside.depth c.self.invariant c.pop.new.self.items p k popped)
 
 pub returns-clause-cases : goal.returns-clause-cases
@@ -24,7 +24,7 @@ returns-clause-cases c = λ db.
     let p : Point = c.in-Some-Open-default-Walk.point in
     let k : Walk = c.in-Some-Open-default-Walk.walk in
     let popped : s.frames ≡ c.pop.new.self.items ++ Open p (resumes.Walk k) ∷ [] = c.in-Some-Open-default-Walk.ensures.items ∙ ap (λ f. c.pop.new.self.items ++ f ∷ []) (c.in-Some-Open-default-Walk.field-0-is ∙ ap (Open p) c.in-Some-Open-default-Walk.field-0-1-is) in
-    let back : c.push_frame.new.frames.items ≡ s.frames = c.push_frame.ensures.is ∙ sym popped in
+    let back : c.push_within.new.items.items ≡ s.frames = c.push_within.ensures.is ∙ sym popped in
     rw (← c.self.view_is) (rw (c.undo.ensures, c.truncate.ensures.items, c.truncate-2.ensures.items, c.alone-self-inside.ensures, back) (gone-cases s c.self.inside.depth c.self.invariant c.pop.new.self.items p k popped db))
 
 pub returns-clause-at : goal.returns-clause-at
@@ -33,7 +33,7 @@ returns-clause-at c =
     let p : Point = c.in-Some-Open-default-Walk.point in
     let k : Walk = c.in-Some-Open-default-Walk.walk in
     let popped : s.frames ≡ c.pop.new.self.items ++ Open p (resumes.Walk k) ∷ [] = c.in-Some-Open-default-Walk.ensures.items ∙ ap (λ f. c.pop.new.self.items ++ f ∷ []) (c.in-Some-Open-default-Walk.field-0-is ∙ ap (Open p) c.in-Some-Open-default-Walk.field-0-1-is) in
-    let back : c.push_frame.new.frames.items ≡ s.frames = c.push_frame.ensures.is ∙ sym popped in
+    let back : c.push_within.new.items.items ≡ s.frames = c.push_within.ensures.is ∙ sym popped in
     rw (c.undo.ensures, c.truncate.ensures.items, c.truncate-2.ensures.items, c.alone-self-inside.ensures, back) (gone-at s c.self.inside.depth c.self.invariant c.pop.new.self.items p k popped)
 
 pub returns-clause-walks : goal.returns-clause-walks
@@ -42,5 +42,5 @@ returns-clause-walks c =
     let p : Point = c.in-Some-Open-default-Walk.point in
     let k : Walk = c.in-Some-Open-default-Walk.walk in
     let popped : s.frames ≡ c.pop.new.self.items ++ Open p (resumes.Walk k) ∷ [] = c.in-Some-Open-default-Walk.ensures.items ∙ ap (λ f. c.pop.new.self.items ++ f ∷ []) (c.in-Some-Open-default-Walk.field-0-is ∙ ap (Open p) c.in-Some-Open-default-Walk.field-0-1-is) in
-    let back : c.push_frame.new.frames.items ≡ s.frames = c.push_frame.ensures.is ∙ sym popped in
+    let back : c.push_within.new.items.items ≡ s.frames = c.push_within.ensures.is ∙ sym popped in
     rw (← c.self.view_is) (ap (λ fs. walks_of (reverse fs)) back)
