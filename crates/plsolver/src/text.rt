@@ -45,7 +45,7 @@ impl Progress {
     {
         let heap = self.machine.stack.env().heap();
         let head = head_of(heap, at.walk.uses, at.walk.goal);
-        let p = indicator_of(self.machine.alloc, heap, head)?;
+        let p = indicator_of(self.machine.alloc, heap, &head)?;
         let clauses = program.clauses_of(&p);
         let Some(entered) = self.first_of_text(clauses, at, number)? else {
             self.machine.stack.close();
