@@ -16,6 +16,8 @@ import tempfile
 import compare
 
 FEW, MANY = 20000, 120000
+# More than any program makes in so many steps.
+ROUNDS = 1000000
 # The program that ./prolog builds and runs.
 BUILT = os.path.join(os.path.dirname(compare.PROLOG), "crates", "prolog", "out", "prolog")
 
@@ -33,10 +35,7 @@ def instructions(path, steps):
 def main():
     with tempfile.TemporaryDirectory() as folder:
         for name in sys.argv[1:] or compare.NAMES:
-            text = compare.program(name)
-            path = os.path.join(folder, name + ".pl")
-            with open(path, "w", encoding="utf-8") as file:
-                file.write(text + compare.driver(text, 1000000))
+            path = compare.Bench(name, folder).file(ROUNDS)
             taken = instructions(path, MANY) - instructions(path, FEW)
             print(f"{name:<10}{taken / (MANY - FEW):>8.0f}", flush=True)
 
