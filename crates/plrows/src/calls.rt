@@ -4,7 +4,7 @@ use plrow::row::{RUN, Row, first_wrong};
 use std::test::Fail;
 
 /// What a program says of a run as a whole, and calls.
-const CALLS: [Row; 19] = [
+const CALLS: [Row; 22] = [
     // What the program says of a run as a whole.
     (
         RUN,
@@ -119,6 +119,25 @@ const CALLS: [Row; 19] = [
         RUN,
         ":- initialization((catch(foo(1, 2), error(existence_error(procedure, N/A), _), true), write(N), write(A))).",
         "% thread 1 main: true\nfoo2\n",
+        Status::Done,
+    ),
+    // Arguments are added up to 1,024 and no further.
+    (
+        RUN,
+        ":- initialization((length(L, 1023), G =.. [f|L], catch(call(G, a), error(E, P), true), writeq(of(E, P)))).",
+        "% thread 1 main: true\nof(existence_error(procedure,f/1024),f/1024)\n",
+        Status::Done,
+    ),
+    (
+        RUN,
+        ":- initialization((length(L, 1024), G =.. [f|L], catch(call(G, a), error(E, P), true), writeq(of(E, P)))).",
+        "% thread 1 main: true\nof(representation_error(max_arity),call/2)\n",
+        Status::Done,
+    ),
+    (
+        RUN,
+        ":- initialization((length(L, 1018), G =.. [f|L], catch(call(G, a, b, c, d, e, f, g), error(E, P), true), writeq(of(E, P)))).",
+        "% thread 1 main: true\nof(representation_error(max_arity),call/8)\n",
         Status::Done,
     ),
 ];

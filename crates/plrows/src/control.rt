@@ -4,7 +4,7 @@ use plrow::row::{RUN, Row, first_wrong};
 use std::test::Fail;
 
 /// Control constructs.
-const CONTROL: [Row; 30] = [
+const CONTROL: [Row; 32] = [
     // The second side of a disjunction is tried where the first fails, and where its solutions are used up.
     (
         RUN,
@@ -193,6 +193,18 @@ const CONTROL: [Row; 30] = [
         ":- throw(_).",
         "% thread 1 main: exception(error(instantiation_error,throw/1))\n",
         Status::Raised,
+    ),
+    (
+        RUN,
+        ":- initialization((catch(\\+ _, error(E, P), true), writeq(of(E, P)))).",
+        "% thread 1 main: true\nof(instantiation_error,(\\+)/1)\n",
+        Status::Done,
+    ),
+    (
+        RUN,
+        ":- initialization((catch((G = _, \\+ G), error(E, P), true), writeq(of(E, P)))).",
+        "% thread 1 main: true\nof(instantiation_error,(\\+)/1)\n",
+        Status::Done,
     ),
 ];
 

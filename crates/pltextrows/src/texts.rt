@@ -1,5 +1,6 @@
 //! Built-in predicates on the texts of atoms and numbers.
-use plrow::row::{Goal, first_wrong_goal};
+use plhist::Status;
+use plrow::row::{Goal, RUN, Row, first_wrong, first_wrong_goal};
 use std::test::Fail;
 
 /// atom_chars/2, atom_codes/2 and char_code/2.
@@ -284,6 +285,41 @@ const TEXT_ERRORS: [Goal; 52] = [
     ),
 ];
 
+/// A name has at most 65,535 bytes, however many characters these are: of eight bytes, doubled thirteen times, there are 65,536.
+const LONGEST: [Row; 5] = [
+    (
+        RUN,
+        "d(0, A, A) :- !.\nd(N, A, C) :- atom_concat(A, A, B), M is N - 1, d(M, B, C).\n:- initialization((d(12, abcdefgh, A), atom_chars(A, L), append(L, L, [_|M]), atom_chars(B, M), atom_length(B, N), write(N))).",
+        "% thread 1 main: true\n65535\n",
+        Status::Done,
+    ),
+    (
+        RUN,
+        "d(0, A, A) :- !.\nd(N, A, C) :- atom_concat(A, A, B), M is N - 1, d(M, B, C).\n:- initialization((d(12, abcdefgh, A), atom_chars(A, L), append(L, L, M), atom_chars(_, M))).",
+        "% thread 1 main: exception(error(representation_error(max_atom_length),atom_chars/2))\n",
+        Status::Raised,
+    ),
+    (
+        RUN,
+        "d(0, A, A) :- !.\nd(N, A, C) :- atom_concat(A, A, B), M is N - 1, d(M, B, C).\n:- initialization((d(12, 'éééé', A), atom_codes(A, L), append(L, L, [_|M]), atom_codes(B, M), atom_length(B, N), write(N))).",
+        "% thread 1 main: true\n32767\n",
+        Status::Done,
+    ),
+    (
+        RUN,
+        "d(0, A, A) :- !.\nd(N, A, C) :- atom_concat(A, A, B), M is N - 1, d(M, B, C).\n:- initialization((d(12, 'éééé', A), atom_codes(A, L), append(L, L, M), atom_codes(_, M))).",
+        "% thread 1 main: exception(error(representation_error(max_atom_length),atom_codes/2))\n",
+        Status::Raised,
+    ),
+    // An element that is no character comes first, wherever it stands.
+    (
+        RUN,
+        "d(0, A, A) :- !.\nd(N, A, C) :- atom_concat(A, A, B), M is N - 1, d(M, B, C).\n:- initialization((d(12, abcdefgh, A), atom_chars(A, L), append(L, L, M), append(M, [1], K), atom_chars(_, K))).",
+        "% thread 1 main: exception(error(type_error(character,1),atom_chars/2))\n",
+        Status::Raised,
+    ),
+];
+
 #[test]
 fn rows_of_texts(rt: HostRuntime) -> Result<(), Fail> {
     assert_eq!(rt; first_wrong_goal(&rt, rt.alloc(), &TEXTS)?, None);
@@ -299,5 +335,11 @@ fn rows_of_numbers(rt: HostRuntime) -> Result<(), Fail> {
 #[test]
 fn rows_of_text_errors(rt: HostRuntime) -> Result<(), Fail> {
     assert_eq!(rt; first_wrong_goal(&rt, rt.alloc(), &TEXT_ERRORS)?, None);
+    Ok(())
+}
+
+#[test]
+fn rows_of_longest_names(rt: HostRuntime) -> Result<(), Fail> {
+    assert_eq!(rt; first_wrong(&rt, rt.alloc(), &LONGEST)?, None);
     Ok(())
 }
