@@ -154,6 +154,58 @@ pub end_stopped : served (Request.Finish ThreadEnd.True) 1 (reading halted) ≡ 
 unfolding served reading
 end_stopped = refl
 
+-- Leave alone is served behind a halt: it adds one entry, and a second one adds none
+abbrev left : List Entry
+left = halted ++ record { worker = 1; thread = 1; act = Act.Left } ∷ []
+
+pub leave_adds : halted ++ adds halted 1 1 Request.Leave ≡ left
+unfolding served reading
+leave_adds = refl
+
+pub leave_is_told : reply_to halted 1 Request.Leave ≡ Reply.Done
+unfolding served reading
+leave_is_told = refl
+
+pub second_leave : served Request.Leave 1 (reading left) ≡ (Reply.Done, None)
+unfolding served reading
+second_leave = refl
+
+-- what is known of a thread that has left: it is started, it has not ended, and the run stays as it was ended
+pub leave_reads : (reading left).standing ≡ record { size = 4; threads = record { number = 1; alias = Some main; goal = None; worker = Some 1; ended = None; left = true } ∷ []; halted = Some 44 }
+unfolding reading
+leave_reads = refl
+
+pub leave_changes_no_clause : (reading left).updates ≡ (reading halted).updates
+unfolding reading
+leave_changes_no_clause = refl
+
+-- others are stopped behind it as before it
+pub stopped_behind : served (Request.Publish []) 1 (reading left) ≡ (Reply.Stopped, None)
+unfolding served reading
+stopped_behind = refl
+
+-- before the run is over no thread leaves, one that is not started neither
+pub leave_waits : served Request.Leave 1 (reading started) ≡ (Reply.NotYet Request.Leave, None)
+unfolding served reading
+leave_waits = refl
+
+pub leave_unstarted_waits : served Request.Leave 1 (reading opened) ≡ (Reply.NotYet Request.Leave, None)
+unfolding served reading
+leave_unstarted_waits = refl
+
+-- one that has ended, that is not started or that was never created does not leave
+pub leave_ended : served Request.Leave 1 (reading ended) ≡ (Reply.Done, None)
+unfolding served reading
+leave_ended = refl
+
+pub leave_unstarted : served Request.Leave 1 (reading (opened ++ record { worker = 2; thread = 2; act = Act.Halt 44 } ∷ [])) ≡ (Reply.Done, None)
+unfolding served reading
+leave_unstarted = refl
+
+pub leave_unknown : served Request.Leave 7 (reading halted) ≡ (Reply.Done, None)
+unfolding served reading
+leave_unknown = refl
+
 -- an end of the run is no end that is told
 pub halt_is_asked : served (Request.Finish (ThreadEnd.Halt 44)) 1 (reading started) ≡ (Reply.NotYet (Request.Finish (ThreadEnd.Halt 44)), None)
 unfolding served reading
