@@ -115,9 +115,9 @@ fn main_leaves(rt: HostRuntime) -> Result<(), Fail> {
     standing.start(2, 1);
     standing.halt(44);
     assert!(rt; standing.stays(1));
+    assert_eq!(rt; standing.size, 2);
     standing.leave(1);
     assert!(rt; !standing.stays(1));
-    assert!(rt; standing.is_over());
     assert_eq!(rt; standing.size, 3);
     Ok(())
 }
