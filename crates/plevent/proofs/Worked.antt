@@ -1,9 +1,8 @@
 -- Journals of small runs, computed.
-use Rattle.std.specs.Prelude.{◌≡◌, ℕ, Bool, true, false, List, [], ◌∷◌, ◌++◌, Option, Some, None, refl}
-use Rattle.plterm.specs.Tree.{Tree, atom}
+use Rattle.std.specs.Prelude.{◌≡◌, true, false, List, [], ◌∷◌, ◌++◌, Some, None, refl}
+use Rattle.plterm.specs.Tree.{atom}
 use Rattle.plterm.specs.declared.indicator.Indicator.{Indicator}
 use Rattle.plclause.specs.Clause.{Clause}
-use Rattle.plevent.specs.declared.update.Update.{Update}
 use Rattle.plevent.specs.declared.update.Update.TheVariants.{First, Last, Erase, EraseOwn, Declare}
 use Rattle.plevent.specs.declared.request.ThreadEnd.{ThreadEnd}
 use Rattle.plevent.specs.declared.request.Request.{Request}
@@ -11,9 +10,8 @@ use Rattle.plevent.specs.declared.request.Reply.{Reply}
 use Rattle.plevent.specs.declared.act.Act.{Act}
 use Rattle.plevent.specs.declared.act.Entry.{Entry}
 use Rattle.plevent.specs.Alive.{Stamped, stamped, named, living, alive, clauses_alive, exists, is_alive, before, view}
-use Rattle.plevent.specs.Reading.{Reading, reading, main}
+use Rattle.plevent.specs.Reading.{reading, main}
 use Rattle.plevent.specs.Rows.{served, is_over, adds, reply_to}
-use Rattle.plevent.specs.Search.{Search}
 
 -- p/0 and its facts
 abbrev p : Indicator

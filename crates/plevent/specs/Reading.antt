@@ -1,5 +1,5 @@
 -- What a journal says: a fold over its entries.
-use Rattle.std.specs.Prelude.{ℕ, suc, ◌+◌, Bool, true, false, List, [], ◌∷◌, ◌++◌, fold, nat_eq, Option, Some, None}
+use Rattle.std.specs.Prelude.{ℕ, suc, Bool, true, false, List, [], ◌∷◌, ◌++◌, fold, nat_eq, Option, Some, None}
 use Rattle.plevent.specs.declared.update.Update.{Update}
 use Rattle.plevent.specs.declared.act.Act.{Act}
 use Rattle.plevent.specs.declared.act.Entry.{Entry}
