@@ -1,8 +1,7 @@
 -- What `position` gives is the first that passes.
-use Rattle.std.proofs.Common.{◌≡◌, refl, sym, ◌∙◌, ap, arith, ℕ, suc, zero, ◌<◌, Bool, true, false, List, [], ◌∷◌, Option, Some, None, ◌++◌, take, drop, length, get_or, set, cond, not}
+use Rattle.std.proofs.Common.{◌≡◌, refl, sym, ◌∙◌, ap, arith, ℕ, suc, zero, ◌<◌, Bool, true, false, List, [], ◌∷◌, Option, Some, None, length, get_or, set, cond, not}
 use Rattle.std.specs.Prelude.{MatchOption, nat_lt, ◌≤◌, ◌+◌}
-use Rattle.std.specs.Prelude.{◌||◌}
-use Rattle.std.specs.List.{position, position_or_len, list_any}
+use Rattle.std.specs.List.{position, position_or_len}
 use Rattle.std.proofs.lemmas.Bool.Decides.{nat_tests}
 use Rattle.std.proofs.lemmas.List.Quantifiers.{position-Some}
 use Rattle.plevent.specs.Reading.{changed_first}

@@ -1,9 +1,8 @@
 -- Journals of small runs, computed.
-use Rattle.std.specs.Prelude.{◌≡◌, ℕ, Bool, true, false, List, [], ◌∷◌, ◌++◌, Option, Some, None, refl}
-use Rattle.plterm.specs.Tree.{Tree, atom}
+use Rattle.std.specs.Prelude.{◌≡◌, true, false, List, [], ◌∷◌, ◌++◌, Some, None, refl}
+use Rattle.plterm.specs.Tree.{atom}
 use Rattle.plterm.specs.declared.indicator.Indicator.{Indicator}
 use Rattle.plclause.specs.Clause.{Clause}
-use Rattle.plevent.specs.declared.update.Update.{Update}
 use Rattle.plevent.specs.declared.update.Update.TheVariants.{First, Last, Erase, EraseOwn, Declare}
 use Rattle.plevent.specs.declared.request.ThreadEnd.{ThreadEnd}
 use Rattle.plevent.specs.declared.request.Request.{Request}
@@ -11,9 +10,8 @@ use Rattle.plevent.specs.declared.request.Reply.{Reply}
 use Rattle.plevent.specs.declared.act.Act.{Act}
 use Rattle.plevent.specs.declared.act.Entry.{Entry}
 use Rattle.plevent.specs.Alive.{Stamped, stamped, named, living, alive, clauses_alive, exists, is_alive, before, view}
-use Rattle.plevent.specs.Reading.{Reading, reading, main}
+use Rattle.plevent.specs.Reading.{reading, main}
 use Rattle.plevent.specs.Rows.{served, is_over, adds, reply_to}
-use Rattle.plevent.specs.Search.{Search}
 
 -- p/0 and its facts
 abbrev p : Indicator
@@ -153,6 +151,58 @@ stopped = refl
 pub end_stopped : served (Request.Finish ThreadEnd.True) 1 (reading halted) ≡ (Reply.Stopped, None)
 unfolding served reading
 end_stopped = refl
+
+-- Leave alone is served behind a halt: it adds one entry, and a second one adds none
+abbrev left : List Entry
+left = halted ++ record { worker = 1; thread = 1; act = Act.Left } ∷ []
+
+pub leave_adds : halted ++ adds halted 1 1 Request.Leave ≡ left
+unfolding served reading
+leave_adds = refl
+
+pub leave_is_told : reply_to halted 1 Request.Leave ≡ Reply.Done
+unfolding served reading
+leave_is_told = refl
+
+pub second_leave : served Request.Leave 1 (reading left) ≡ (Reply.Done, None)
+unfolding served reading
+second_leave = refl
+
+-- what is known of a thread that has left: it is started, it has not ended, and the run stays as it was ended
+pub leave_reads : (reading left).standing ≡ record { size = 4; threads = record { number = 1; alias = Some main; goal = None; worker = Some 1; ended = None; left = true } ∷ []; halted = Some 44 }
+unfolding reading
+leave_reads = refl
+
+pub leave_changes_no_clause : (reading left).updates ≡ (reading halted).updates
+unfolding reading
+leave_changes_no_clause = refl
+
+-- others are stopped behind it as before it
+pub stopped_behind : served (Request.Publish []) 1 (reading left) ≡ (Reply.Stopped, None)
+unfolding served reading
+stopped_behind = refl
+
+-- before the run is over no thread leaves, one that is not started neither
+pub leave_waits : served Request.Leave 1 (reading started) ≡ (Reply.NotYet Request.Leave, None)
+unfolding served reading
+leave_waits = refl
+
+pub leave_unstarted_waits : served Request.Leave 1 (reading opened) ≡ (Reply.NotYet Request.Leave, None)
+unfolding served reading
+leave_unstarted_waits = refl
+
+-- one that has ended, that is not started or that was never created does not leave
+pub leave_ended : served Request.Leave 1 (reading ended) ≡ (Reply.Done, None)
+unfolding served reading
+leave_ended = refl
+
+pub leave_unstarted : served Request.Leave 1 (reading (opened ++ record { worker = 2; thread = 2; act = Act.Halt 44 } ∷ [])) ≡ (Reply.Done, None)
+unfolding served reading
+leave_unstarted = refl
+
+pub leave_unknown : served Request.Leave 7 (reading halted) ≡ (Reply.Done, None)
+unfolding served reading
+leave_unknown = refl
 
 -- an end of the run is no end that is told
 pub halt_is_asked : served (Request.Finish (ThreadEnd.Halt 44)) 1 (reading started) ≡ (Reply.NotYet (Request.Finish (ThreadEnd.Halt 44)), None)

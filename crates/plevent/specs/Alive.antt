@@ -1,5 +1,5 @@
 -- The clauses that are alive after some updates, and those of a view.
-use Rattle.std.specs.Prelude.{ℕ, suc, Bool, true, false, ◌||◌, ◌&&◌, not, List, [], ◌∷◌, ◌++◌, take, map, filter, fold, nat_eq, nat_lt, bytes_eq, Option, Some, None}
+use Rattle.std.specs.Prelude.{ℕ, suc, Bool, true, false, ◌||◌, ◌&&◌, not, List, [], ◌∷◌, ◌++◌, take, map, filter, fold, nat_eq, nat_lt, Option, Some, None}
 use Rattle.std.specs.List.{list_any}
 use Rattle.plterm.specs.declared.indicator.Indicator.{Indicator}
 use Rattle.plterm.specs.Indicators.{same_indicator}

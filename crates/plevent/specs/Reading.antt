@@ -1,5 +1,5 @@
 -- What a journal says: a fold over its entries.
-use Rattle.std.specs.Prelude.{ℕ, suc, ◌+◌, Bool, true, false, List, [], ◌∷◌, ◌++◌, fold, nat_eq, Option, Some, None}
+use Rattle.std.specs.Prelude.{ℕ, suc, Bool, true, false, List, [], ◌∷◌, ◌++◌, fold, nat_eq, Option, Some, None}
 use Rattle.plevent.specs.declared.update.Update.{Update}
 use Rattle.plevent.specs.declared.act.Act.{Act}
 use Rattle.plevent.specs.declared.act.Entry.{Entry}
@@ -22,7 +22,7 @@ abbrev pub is_thread : ℕ → Thread → Bool
 is_thread n t = nat_eq t.number n
 
 abbrev pub new_thread : ℕ → Option (List ℕ) → Thread
-new_thread n alias = record { number = n; alias = alias; goal = None; worker = None; ended = None }
+new_thread n alias = record { number = n; alias = alias; goal = None; worker = None; ended = None; left = false }
 
 -- the threads after an act of thread t, by worker w
 abbrev pub threads_after : ℕ → ℕ → Act → List Thread → List Thread
@@ -30,6 +30,7 @@ threads_after w t Act.Start ts = changed_first (is_thread t) (λ x. record x { w
 threads_after w t (Act.Batch us) ts = ts
 threads_after w t (Act.End e) ts = changed_first (is_thread t) (λ x. record x { ended = Some e }) ts
 threads_after w t (Act.Halt n) ts = ts
+threads_after w t Act.Left ts = changed_first (is_thread t) (λ x. record x { left = true }) ts
 
 -- the number with which the run was ended, after an act; the first one counts
 abbrev pub halted_after : Act → Option ℕ → Option ℕ
@@ -38,6 +39,7 @@ halted_after (Act.Batch us) n = n
 halted_after (Act.End e) n = n
 halted_after (Act.Halt m) None = Some m
 halted_after (Act.Halt m) (Some n) = Some n
+halted_after Act.Left n = n
 
 -- an entry without a batch counts as one with an empty batch
 abbrev pub updates_of : Act → List Update
@@ -45,6 +47,7 @@ updates_of Act.Start = []
 updates_of (Act.Batch us) = us
 updates_of (Act.End e) = []
 updates_of (Act.Halt n) = []
+updates_of Act.Left = []
 
 -- what stands after one more entry
 abbrev pub stand : Standing → Entry → Standing

@@ -1,5 +1,5 @@
 -- The table of requests: for each its reply and its act, in one row.
-use Rattle.std.specs.Prelude.{ℕ, Bool, true, false, ◌||◌, ◌&&◌, not, List, [], ◌∷◌, ◌++◌, find, option_to_list, Option, Some, None}
+use Rattle.std.specs.Prelude.{ℕ, Bool, true, false, ◌||◌, ◌&&◌, not, List, [], ◌∷◌, find, Option, Some, None}
 use Rattle.std.specs.Option.{is_some}
 use Rattle.std.specs.List.{list_any}
 use Rattle.plevent.specs.declared.request.ThreadEnd.{ThreadEnd}
@@ -37,6 +37,10 @@ is_new t = not (is_some t.worker)
 abbrev pub runs : ℕ → Standing → Bool
 runs t r = list_any (λ x. is_thread t x && is_some x.worker && not (is_some x.ended)) r.threads
 
+-- thread t is started, and has neither ended nor left
+abbrev pub stays : ℕ → Standing → Bool
+stays t r = list_any (λ x. is_thread t x && is_some x.worker && not (is_some x.ended) && not x.left) r.threads
+
 -- a start names the thread that is started, whoever asks
 abbrev pub start_row : Standing → Option Thread → Row
 start_row r None = (add_if (is_over r) Reply.RunOver (Reply.NotYet Request.Start), None)
@@ -55,12 +59,17 @@ abbrev pub erase_row : Bool → ClauseName → ℕ → Row
 erase_row true x t = (Reply.Erased, Some (t, Act.Batch (Erase x ∷ [])))
 erase_row false x t = (Reply.Gone, None)
 
+-- where the run is over, a thread that has neither ended nor left leaves; of another one there is nothing to add
+abbrev pub leave_row : Standing → ℕ → Row
+leave_row r t = add_if (is_over r) (Reply.Done, add_if (stays t r) (Some (t, Act.Left)) None) (Reply.NotYet Request.Leave, None)
+
 abbrev pub row : Request → ℕ → Reading → Row
 row Request.Start t r = start_row r.standing (find is_new r.standing.threads)
 row (Request.Publish us) t r = (Reply.Published, Some (t, Act.Batch us))
 row (Request.EraseOne x) t r = erase_row (is_alive x r.updates) x t
 row (Request.Finish e) t r = finish_row e t
 row (Request.HaltRun n) t r = (Reply.Done, Some (t, Act.Halt n))
+row Request.Leave t r = leave_row r.standing t
 
 -- a worker asks it, and no thread
 abbrev pub is_workers : Request → Bool
@@ -69,14 +78,24 @@ is_workers (Request.Publish us) = false
 is_workers (Request.EraseOne x) = false
 is_workers (Request.Finish e) = false
 is_workers (Request.HaltRun n) = false
+is_workers Request.Leave = true
+
+-- it says that a thread goes no further
+abbrev pub is_leave : Request → Bool
+is_leave Request.Start = false
+is_leave (Request.Publish us) = false
+is_leave (Request.EraseOne x) = false
+is_leave (Request.Finish e) = false
+is_leave (Request.HaltRun n) = false
+is_leave Request.Leave = true
 
 -- a thread that is not started, or has ended, waits
 abbrev pub served_while : Request → ℕ → Reading → Row
 served_while q t r = add_if (is_workers q || runs t r.standing) (row q t r) (Reply.NotYet q, None)
 
--- where a thread has ended the run, all stop
+-- where a thread has ended the run, all stop, but for those that leave
 unfoldable pub served : Request → ℕ → Reading → Row
-served q t r = add_if (is_halted r.standing) (Reply.Stopped, None) (served_while q t r)
+served q t r = add_if (is_halted r.standing && not (is_leave q)) (Reply.Stopped, None) (served_while q t r)
 
 -- the entry of a row, asked by worker w
 abbrev pub entries_of : ℕ → Option (ℕ × Act) → List Entry

@@ -16,6 +16,8 @@ pub enum Act {
     End(ThreadEnd),
     /// The thread ends the run, with this number as its status.
     Halt(u8),
+    /// The thread goes no further, since the run is over.
+    Left,
 }
 
 /// One entry of the journal. Its place in the journal, from 0, is its time.
@@ -44,6 +46,7 @@ impl Act {
                 return Ok(Act::End(copy));
             }
             Act::Halt(number) => return Ok(Act::Halt(*number)),
+            Act::Left => return Ok(Act::Left),
         }
     }
 }

@@ -52,6 +52,8 @@ pub enum Request {
     Finish(ThreadEnd),
     /// A thread ends the run, with this number as its status.
     HaltRun(u8),
+    /// A worker says that a thread which it started goes no further, since the run is over.
+    Leave,
 }
 
 impl Request {
@@ -71,6 +73,7 @@ impl Request {
                 return Ok(Request::Finish(copy));
             }
             Request::HaltRun(number) => return Ok(Request::HaltRun(*number)),
+            Request::Leave => return Ok(Request::Leave),
         }
     }
 }
@@ -98,4 +101,6 @@ pub enum Reply {
     Gone,
     /// It is done.
     Done,
+    /// The world is stopped, and serves nothing more.
+    Shut,
 }

@@ -5,7 +5,7 @@ ghost use Rattle.plevent.specs.declared.update.Update.{Update};
 ghost use Rattle.std.specs.List.{list_any};
 ghost use Rattle.std.specs.Option.{option_copied, is_some};
 ghost use Rattle.plevent.specs.Reading.{changed_first, is_thread, stand, blank};
-ghost use Rattle.plevent.specs.Rows.{is_new, is_settled, is_halted, is_over, runs};
+ghost use Rattle.plevent.specs.Rows.{is_new, is_settled, is_halted, is_over, runs, stays};
 ghost use Rattle.plevent.specs.First.{NoneFirst, FirstAt};
 
 use crate::request::ThreadEnd;
@@ -26,6 +26,8 @@ pub struct Thread {
     pub worker: Option<u32>,
     /// Its end, if it has ended.
     pub ended: Option<ThreadEnd>,
+    /// Whether it goes no further, since the run is over.
+    pub left: bool,
 }
 
 /// All threads created, by rising number.
@@ -79,6 +81,16 @@ impl Threads {
         self.rows.iter().any(|x| x.number == number && x.worker.is_some() && !x.ended.is_some())
     }
 
+    /// Whether a thread is started, and has neither ended nor left.
+    pub fn stays(&self, number: u32) -> bool
+        ensures { result ≡ list_any (λ x. is_thread number x && is_some x.worker && not (is_some x.ended) && not x.left) self.now }
+    {
+        self.rows.iter().any(|x| x.number == number
+            && x.worker.is_some()
+            && !x.ended.is_some()
+            && !x.left)
+    }
+
     /// Whether each thread was started and has ended.
     pub fn are_settled(&self) -> bool
         ensures { result ≡ not (list_any (λ t. not (is_settled t)) self.now) }
@@ -105,6 +117,13 @@ impl Threads {
         ensures { self.new ≡ changed_first (is_thread number) (λ x. record x { ended = Some end }) self.old }
     {
         end_at(self.rows.as_mut_slice(), number, end);
+    }
+
+    /// A thread goes no further.
+    fn leave(&mut self, number: u32)
+        ensures { self.new ≡ changed_first (is_thread number) (λ x. record x { left = true }) self.old }
+    {
+        leave_at(self.rows.as_mut_slice(), number);
     }
 }
 
@@ -149,6 +168,20 @@ fn end_at(rows: &mut [Thread], number: u32, end: ThreadEnd)
     }
 }
 
+fn leave_row(row: &mut Thread)
+    ensures { row.new ≡ record row.old { left = true } }
+{
+    row.left = true;
+}
+
+fn leave_at(rows: &mut [Thread], number: u32)
+    ensures { rows.new ≡ changed_first (is_thread number) (λ x. record x { left = true }) rows.old }
+{
+    if let Some(at) = thread_place(rows, number) {
+        leave_row(&mut rows[at]);
+    }
+}
+
 /// The alias of thread 1.
 const MAIN: &str = "main";
 
@@ -165,6 +198,7 @@ impl Standing {
             goal: None,
             worker: None,
             ended: None,
+            left: false,
         })?;
         let threads = Threads { rows };
         Ok(Standing {
@@ -179,6 +213,13 @@ impl Standing {
         ensures { result ≡ runs number self.now }
     {
         self.threads.runs(number)
+    }
+
+    /// Whether a thread is started, and has neither ended nor left.
+    pub fn stays(&self, number: u32) -> bool
+        ensures { result ≡ stays number self.now }
+    {
+        self.threads.stays(number)
     }
 
     /// Whether a thread has ended the run.
@@ -229,6 +270,15 @@ impl Standing {
         if self.halted.is_none() {
             self.halted = Some(number);
         }
+        self.size += 1;
+    }
+
+    /// One more entry: a thread goes no further.
+    pub fn leave(&mut self, thread: u32)
+        requires { self.old.size < 2 ^ 63 }
+        ensures { (w : ℕ) → self.new ≡ stand self.old (record { worker = w; thread = thread; act = Act.Left }) }
+    {
+        self.threads.leave(thread);
         self.size += 1;
     }
 }

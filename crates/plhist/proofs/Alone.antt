@@ -19,6 +19,9 @@ alone-after r w t n o Act.Start m =
     (alone-changed (nat_eq m.row.number t) r n o (λ x. record x { worker = Some w }) m (λ x. refl) (λ x. refl) (λ x. refl))
 alone-after r w t n o (Act.Batch us) m = record { row = m.row; threads = m.threads; number = m.number; alias = m.alias; goal = m.goal }
 alone-after r w t n o (Act.Halt k) m = record { row = m.row; threads = m.threads; number = m.number; alias = m.alias; goal = m.goal }
+alone-after r w t n o Act.Left m =
+    subst (λ l. MainAlone (record { size = n; threads = changed_first (is_thread t) (λ x. record x { left = true }) l; halted = o })) (sym m.threads)
+    (alone-changed (nat_eq m.row.number t) r n o (λ x. record x { left = true }) m (λ x. refl) (λ x. refl) (λ x. refl))
 alone-after r w t n o (Act.End e) m =
     subst (λ l. MainAlone (record { size = n; threads = changed_first (is_thread t) (λ x. record x { ended = Some e }) l; halted = o })) (sym m.threads)
     (alone-changed (nat_eq m.row.number t) r n o (λ x. record x { ended = Some e }) m (λ x. refl) (λ x. refl) (λ x. refl))

@@ -28,6 +28,11 @@ start_changed : (b : Bool) (m : Thread) (w : ℕ) → m.number ≡ 1 →
 start_changed true m w is = rw is refl
 start_changed false m w is = refl
 
+left_changed : (b : Bool) (m : Thread) → m.number ≡ 1 →
+    status_of_end (end_of 1 (add_if b (record m { left = true } ∷ []) (m ∷ []))) ≡ status_of_end (end_of 1 (m ∷ []))
+left_changed true m is = rw is refl
+left_changed false m is = refl
+
 same_test : (n t : ℕ) → n ≡ 1 → nat_eq n t ≡ nat_eq t 1
 same_test n t is = go (nat_eq n t) refl
   where
@@ -54,6 +59,12 @@ status_row ts w t (Act.Batch us) m alone is = sym (quiet (nat_eq t 1) (status_of
 status_row ts w t (Act.Halt n) m alone is = sym (quiet (nat_eq t 1) (status_of_end (end_of 1 ts)))
   where
     quiet : (b : Bool) (s : Status) → status_after b (Act.Halt n) s ≡ s
+    quiet true s = refl
+    quiet false s = refl
+status_row ts w t Act.Left m alone is =
+    rw alone (left_changed (nat_eq m.number t) m is ∙ sym (quiet (nat_eq t 1) (status_of_end (end_of 1 (m ∷ [])))))
+  where
+    quiet : (b : Bool) (s : Status) → status_after b Act.Left s ≡ s
     quiet true s = refl
     quiet false s = refl
 status_row ts w t (Act.End e) m alone is =

@@ -1,5 +1,5 @@
 -- Worked histories.
-use Rattle.std.proofs.Common.{◌≡◌, ℕ, Bool, true, false, nat_eq, List, [], ◌∷◌, ◌++◌, Option, Some, None, refl, sym, ap, ◌∙◌, subst, arith}
+use Rattle.std.proofs.Common.{◌≡◌, ℕ, Bool, true, false, nat_eq, eqb-true, List, [], ◌∷◌, ◌++◌, Option, Some, None, refl, sym, ap, ◌∙◌, subst, arith}
 use Rattle.std.specs.Option.{option_and_then}
 use Rattle.plevent.specs.declared.request.ThreadEnd.{ThreadEnd}
 use Rattle.plevent.specs.declared.request.Request.{Request}
@@ -8,12 +8,12 @@ use Rattle.plevent.specs.declared.update.Update.{Update}
 use Rattle.plevent.specs.declared.act.Act.{Act}
 use Rattle.plevent.specs.declared.act.Entry.{Entry}
 use Rattle.plevent.specs.Reading.{reading}
-use Rattle.plevent.specs.Rows.{served, is_workers, is_over}
+use Rattle.plevent.specs.Rows.{served, is_workers, is_leave, is_over}
 use Rattle.plevent.specs.Search.{Item, View, Ask, Answer, Seen, Got, Wants, Finishes, Search, item_of}
 use Rattle.plhist.specs.declared.history.Run.{Run}
 use Rattle.plhist.specs.declared.history.RunEnd.{RunEnd}
 use Rattle.plhist.specs.Follows.{own, Taken, answer_at, takes, from_start, asks_of, Follows}
-use Rattle.plhist.specs.Legal.{IsDue, AllDue, opening, Legal, Over}
+use Rattle.plhist.specs.Legal.{worker_of, MayAsk, IsDue, AllDue, opening, Legal, Over}
 
 -- a search that takes a view, publishes a batch, and has then ended
 abbrev erases : List Update
@@ -212,6 +212,7 @@ first_start e due = go due.asked due.thread due.made
     go (Request.EraseOne x) t made = absurd (none_is_some (e.thread, e.act) (sym (idle (Request.EraseOne x) t (nat_eq 1 t) refl refl) ∙ made))
     go (Request.Finish x) t made = absurd (none_is_some (e.thread, e.act) (sym (idle (Request.Finish x) t (nat_eq 1 t) refl refl) ∙ made))
     go (Request.HaltRun n) t made = absurd (none_is_some (e.thread, e.act) (sym (idle (Request.HaltRun n) t (nat_eq 1 t) refl refl) ∙ made))
+    go Request.Leave t made = absurd (none_is_some (e.thread, e.act) made)
 
 -- a start that names another thread is not legal
 starts_seven : Legal [] (opening [] ∷ record { worker = 1; thread = 7; act = Act.Start } ∷ []) → ⊥
@@ -234,6 +235,8 @@ ended (Request.Finish e) t true is = rw is refl
 ended (Request.Finish e) t false is = rw is refl
 ended (Request.HaltRun n) t true is = rw is refl
 ended (Request.HaltRun n) t false is = rw is refl
+ended Request.Leave t true is = rw is refl
+ended Request.Leave t false is = rw is refl
 
 -- so a batch behind it is not legal
 extra_batch : (us : List Update) → Legal [] (opening [] ∷ start ∷ end ∷ batch us ∷ []) → ⊥
@@ -297,18 +300,86 @@ halt_over : Over (halted 44)
 unfolding reading
 halt_over = refl
 
--- behind a halt no request has an act, so that no entry is legal there
-stopped : (n : ℕ) (q : Request) (t : ℕ) → (served q t (reading (halted n))).1 ≡ None
-unfolding served reading
-stopped n q t = refl
+-- behind a halt no request but Leave has an act, and the one entry that is legal there is that the thread has left
+abbrev leave : Entry
+leave = record { worker = 1; thread = 1; act = Act.Left }
 
-behind_halt : (n : ℕ) (e : Entry) → Legal [] (opening [] ∷ start ∷ halt n ∷ e ∷ []) → ⊥
+stopped : (n : ℕ) (q : Request) (t : ℕ) → is_leave q ≡ false → (served q t (reading (halted n))).1 ≡ None
+unfolding served reading
+stopped n q t other = rw other refl
+
+leaves : (n t : ℕ) → nat_eq 1 t ≡ false → (served Request.Leave t (reading (halted n))).1 ≡ None
+unfolding served reading
+leaves n t is = rw is refl
+
+leave_is : (w t : ℕ) (a : Act) (e : Entry) → e ≡ record { worker = w; thread = t; act = a } → Some 1 ≡ Some w → ◌≡◌ {A = Option (ℕ × Act)} (Some (1, Act.Left)) (Some (t, a)) → e ≡ leave
+leave_is w t a e is by made =
+    let worker : 1 ≡ w = cc in
+    let pair : ◌≡◌ {A = ℕ × Act} (1, Act.Left) (t, a) = cc in
+    let thread : 1 ≡ t = ap (λ x. x.0) pair in
+    let act : Act.Left ≡ a = ap (λ x. x.1) pair in
+    is ∙ rw (← worker, ← thread, ← act) refl
+
+left_behind : (n t : ℕ) (e : Entry) → 1 ≡ t → worker_of t (reading (halted n)).standing.threads ≡ Some e.worker → (served Request.Leave t (reading (halted n))).1 ≡ Some (e.thread, e.act) → e ≡ leave
+unfolding served reading
+left_behind n t e is by made =
+    leave_is e.worker e.thread e.act e refl (subst (λ t. worker_of t (reading (halted n)).standing.threads ≡ Some e.worker) (sym is) by) (subst (λ t. (served Request.Leave t (reading (halted n))).1 ≡ Some (e.thread, e.act)) (sym is) made)
+
+due_behind : (n t : ℕ) (q : Request) (e : Entry) → MayAsk (reading (halted n)).standing e.worker t q → (served q t (reading (halted n))).1 ≡ Some (e.thread, e.act) → e ≡ leave
+due_behind n t q e may made = go q may made
+  where
+    none : (q : Request) → is_leave q ≡ false → (served q t (reading (halted n))).1 ≡ Some (e.thread, e.act) → e ≡ leave
+    none q other made = absurd (none_is_some (e.thread, e.act) (sym (stopped n q t other) ∙ made))
+
+    left : (b : Bool) → nat_eq 1 t ≡ b → worker_of t (reading (halted n)).standing.threads ≡ Some e.worker → (served Request.Leave t (reading (halted n))).1 ≡ Some (e.thread, e.act) → e ≡ leave
+    left true is by made = left_behind n t e (eqb-true 1 t is) by made
+    left false is by made = absurd (none_is_some (e.thread, e.act) (sym (leaves n t is) ∙ made))
+
+    go : (q : Request) → MayAsk (reading (halted n)).standing e.worker t q → (served q t (reading (halted n))).1 ≡ Some (e.thread, e.act) → e ≡ leave
+    go Request.Start may made = none Request.Start refl made
+    go (Request.Publish us) may made = none (Request.Publish us) refl made
+    go (Request.EraseOne x) may made = none (Request.EraseOne x) refl made
+    go (Request.Finish f) may made = none (Request.Finish f) refl made
+    go (Request.HaltRun k) may made = none (Request.HaltRun k) refl made
+    go Request.Leave by made = left (nat_eq 1 t) refl by made
+
+behind_halt : (n : ℕ) (e : Entry) → Legal [] (opening [] ∷ start ∷ halt n ∷ e ∷ []) → e ≡ leave
 unfolding tail_of reading
 behind_halt n e legal =
     let later : legal.later ≡ start ∷ halt n ∷ e ∷ [] = sym (ap tail_of legal.opens) in
     let all : AllDue (reading (opening [] ∷ [])) (start ∷ halt n ∷ e ∷ []) = subst (AllDue (reading (opening [] ∷ []))) later legal.due in
     let due : IsDue (reading (halted n)) e = all.1.1.0 in
-    none_is_some (e.thread, e.act) (sym (stopped n due.asked due.thread) ∙ due.made)
+    due_behind n due.thread due.asked e due.may due.made
+
+-- that entry is legal, once
+leave_legal : Legal [] (opening [] ∷ start ∷ halt 44 ∷ leave ∷ [])
+unfolding served reading
+leave_legal = record {
+  later = start ∷ halt 44 ∷ leave ∷ [];
+  opens = refl;
+  due = (
+    record { asked = Request.Start; thread = 0; may = (omega arith, omega arith); made = refl },
+    (record { asked = Request.HaltRun 44; thread = 1; may = refl; made = refl }, (record { asked = Request.Leave; thread = 1; may = refl; made = refl }, tt)),
+  );
+}
+
+no_act_behind : (n t : ℕ) (q : Request) (b : Bool) → nat_eq 1 t ≡ b → (served q t (reading (opening [] ∷ start ∷ halt n ∷ leave ∷ []))).1 ≡ None
+unfolding served reading
+no_act_behind n t Request.Start b is = refl
+no_act_behind n t (Request.Publish us) b is = refl
+no_act_behind n t (Request.EraseOne x) b is = refl
+no_act_behind n t (Request.Finish e) b is = refl
+no_act_behind n t (Request.HaltRun k) b is = refl
+no_act_behind n t Request.Leave true is = rw is refl
+no_act_behind n t Request.Leave false is = rw is refl
+
+behind_leave : (n : ℕ) (e : Entry) → Legal [] (opening [] ∷ start ∷ halt n ∷ leave ∷ e ∷ []) → ⊥
+unfolding tail_of reading
+behind_leave n e legal =
+    let later : legal.later ≡ start ∷ halt n ∷ leave ∷ e ∷ [] = sym (ap tail_of legal.opens) in
+    let all : AllDue (reading (opening [] ∷ [])) (start ∷ halt n ∷ leave ∷ e ∷ []) = subst (AllDue (reading (opening [] ∷ []))) later legal.due in
+    let due : IsDue (reading (opening [] ∷ start ∷ halt n ∷ leave ∷ [])) e = all.1.1.1.0 in
+    none_is_some (e.thread, e.act) (sym (no_act_behind n due.thread due.asked (nat_eq 1 due.thread) refl) ∙ due.made)
 
 -- the number of a request that ends the run
 number_asked : Option Item → ℕ

@@ -44,6 +44,7 @@ is_not_yet Reply.Published = false
 is_not_yet Reply.Erased = false
 is_not_yet Reply.Gone = false
 is_not_yet Reply.Done = false
+is_not_yet Reply.Shut = false
 
 -- a reply at place g; where it comes with an act, the next item's place is above it
 abbrev pub noted : Bool → ℕ → Taken → Reply → Option (ℕ × Act) → Option Taken

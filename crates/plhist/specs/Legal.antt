@@ -21,6 +21,7 @@ MayAsk r w t (Request.Publish us) = worker_of t r.threads ≡ Some w
 MayAsk r w t (Request.EraseOne x) = worker_of t r.threads ≡ Some w
 MayAsk r w t (Request.Finish e) = worker_of t r.threads ≡ Some w
 MayAsk r w t (Request.HaltRun n) = worker_of t r.threads ≡ Some w
+MayAsk r w t Request.Leave = worker_of t r.threads ≡ Some w
 
 -- an entry is the act of a request that may be asked
 pub record IsDue (r : Reading) (e : Entry) : Type 0 where

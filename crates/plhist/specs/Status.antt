@@ -77,4 +77,5 @@ status_after true (Act.End e) s = status_of_end (Some e)
 status_after true Act.Start s = s
 status_after true (Act.Batch us) s = s
 status_after true (Act.Halt n) s = s
+status_after true Act.Left s = s
 status_after false a s = s

@@ -278,16 +278,20 @@ reply_fits Request.Start next Reply.Gone rest n w p common proper = tt
 reply_fits (Request.Finish e) next Reply.Erased rest n w p common proper = tt
 reply_fits (Request.Finish e) next Reply.Gone rest n w p common proper = tt
 reply_fits (Request.HaltRun k) next Reply.Erased rest n w p common proper = tt
+reply_fits Request.Leave next Reply.Erased rest n w p common proper = tt
 reply_fits (Request.HaltRun k) next Reply.Gone rest n w p common proper = tt
+reply_fits Request.Leave next Reply.Gone rest n w p common proper = tt
 reply_fits (Request.Publish us) (Ends k) Reply.Published rest n w p common proper = absurd p
 reply_fits Request.Start next Reply.Published rest n w p common proper = tt
 reply_fits (Request.Finish e) next Reply.Published rest n w p common proper = tt
 reply_fits (Request.HaltRun k) next Reply.Published rest n w p common proper = tt
+reply_fits Request.Leave next Reply.Published rest n w p common proper = tt
 reply_fits q next (Reply.Started i a g) rest n w p common proper = absurd common
 reply_fits q next Reply.RunOver rest n w p common proper = absurd common
 reply_fits q next Reply.Stopped rest n w p common proper = absurd common
 reply_fits q next (Reply.NotYet x) rest n w p common proper = absurd common
 reply_fits q next Reply.Done rest n w p common proper = absurd common
+reply_fits q next Reply.Shut rest n w p common proper = absurd common
 
 pub answered-fits : (e : Element) (a : Answer) (d : ℕ) (rest : List Element) (n : ℕ) (w : Local) → IsProper e → IsCommon a → AreProper rest → MoveFits (answered e a d rest n w)
 unfolding answered

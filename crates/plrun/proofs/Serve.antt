@@ -217,6 +217,7 @@ served-by first search limit old new before_used used out h h' t places later g 
     Halts n (halted first search limit old new before_used used out h h' t places later g n reply halts r at now tells grows one pushed)
 served-by first search limit old new before_used used out h h' t places later g Request.Start reply halts never r at now tells grows one pushed = absurd never
 served-by first search limit old new before_used used out h h' t places later g (Request.Finish e) reply halts never r at now tells grows one pushed = absurd never
+served-by first search limit old new before_used used out h h' t places later g Request.Leave reply halts never r at now tells grows one pushed = absurd never
 
 -- a thread that asks has not ended the run
 pub still-runs : (first : List Update) (search : Search) (limit : ℕ) (rest : Views → Search) (used : ℕ) (out : List ℕ) (h : List Entry) (t : ℕ) (places : List ℕ) (q : Item) →
@@ -341,3 +342,4 @@ reply-fits h t (Request.EraseOne x) r may f tells = go (is_alive x (reading h).u
 reply-fits h t (Request.HaltRun n) r may f tells = subst (IsReplyTo (Request.HaltRun n)) (sym (tells ∙ ap (λ x. x.0) (last-served (ThreadEnd.Halt n) t (reading h) f))) refl
 reply-fits h t Request.Start r never f tells = absurd never
 reply-fits h t (Request.Finish e) r never f tells = absurd never
+reply-fits h t Request.Leave r never f tells = absurd never

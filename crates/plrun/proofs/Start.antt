@@ -1,5 +1,5 @@
 -- What Start comes to, before main runs and when all is over.
-use Rattle.std.proofs.Common.{◌≡◌, ℕ, true, List, [], ◌∷◌, ◌++◌, Option, Some, None, refl, sym, ap, ap₂, ◌∙◌, subst, arith, append-nil, true≢false, inl, inr, ◌⊎◌}
+use Rattle.std.proofs.Common.{◌≡◌, ℕ, true, ◌&&◌, List, [], ◌∷◌, ◌++◌, Option, Some, None, refl, sym, ap, ap₂, ◌∙◌, subst, arith, append-nil, true≢false, inl, inr, ◌⊎◌}
 use Rattle.std.specs.List.{find}
 use Rattle.std.specs.Option.{is_some}
 use Rattle.plterm.specs.Tree.{Tree}
@@ -41,6 +41,7 @@ number_of Reply.Published = 0
 number_of Reply.Done = 0
 number_of Reply.Erased = 0
 number_of Reply.Gone = 0
+number_of Reply.Shut = 0
 
 main_begun : (first : List Update) (search : Search) (limit : ℕ) (rest : Views → Search) (used : ℕ) → ((v : Views) → Begins search (rest v) used) → IsRunning first search limit rest used (opening first ∷ start_entry ∷ []) 1 []
 unfolding takes reading own start_entry
@@ -82,7 +83,7 @@ unfolding served
 over_served h over = go (reading h).standing.halted refl
   where
     stopped : (n : ℕ) → (reading h).standing.halted ≡ Some n → served Request.Start 0 (reading h) ≡ (Reply.Stopped, None)
-    stopped n is = ap (λ o. add_if (is_some o) (Reply.Stopped, None) (served_while Request.Start 0 (reading h))) is
+    stopped n is = ap (λ o. add_if (is_some o && true) (Reply.Stopped, None) (served_while Request.Start 0 (reading h))) is
 
     go : (o : Option ℕ) → (reading h).standing.halted ≡ o → Unstarted h
     go (Some n) is = record { told = Reply.Stopped; row = stopped n is; never = λ n a g same. cc }

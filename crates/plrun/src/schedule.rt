@@ -3,6 +3,7 @@ ghost use Rattle.std.specs.Prelude.{◌≡◌, ◌⊎◌, ◌∷◌, [], IfOk, I
 ghost use Rattle.plsearch.specs.Search.{search_of};
 ghost use Rattle.plhist.specs.Legal.{opening, Legal, ByOneWorker, Over};
 ghost use Rattle.plhist.specs.Runs.{AllFollow, OneEach};
+ghost use Rattle.plworld.specs.Worlds.{IsServing};
 ghost use Rattle.plrun.specs.Threads.{IsThread};
 ghost use Rattle.plrun.specs.Overall.{IsHistory};
 
@@ -21,11 +22,13 @@ fn start(
     world: &mut World,
     steps: u64,
 ) -> Result<Option<Running>, AllocError>
-    requires { (world.old.journal ≡ opening program.now.first ∷ []) ⊎ Over world.old.journal }
+    requires at { (world.old.journal ≡ opening program.now.first ∷ []) ⊎ Over world.old.journal }
+    requires serves { IsServing world.old }
     ensures begun { IfOk result (λ o. IfSome o (λ running. IsThread program.now world.new.journal running)) }
     ensures limit { IfOk result (λ o. IfSome o (λ running. running.solver.limit ≡ steps)) }
     ensures first { IfOk result (λ o. IfSome o (λ running. world.old.journal ≡ opening program.now.first ∷ [])) }
     ensures over { IfOk result (λ o. IfNone o (Over world.old.journal × (world.new.journal ≡ world.old.journal))) }
+    ensures serves { IsServing world.new }
 {
     match world.step(alloc, 1, 0, &Request::Start)? {
         Reply::Started { number, .. } => {
@@ -46,7 +49,8 @@ fn run_all(
     world: &mut World,
     steps: u64,
 ) -> Result<Vec<Run>, AllocError>
-    requires { world.old.journal ≡ opening program.now.first ∷ [] }
+    requires opens { world.old.journal ≡ opening program.now.first ∷ [] }
+    requires serves { IsServing world.old }
     ensures { IfOk result (λ runs. IsHistory program.now.first (λ t. search_of program.now steps) steps world.new.journal runs.items) }
 {
     let mut runs = Vec::new(alloc);

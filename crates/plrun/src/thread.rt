@@ -6,6 +6,7 @@ ghost use Rattle.plsearch.specs.Search.{search_of};
 ghost use Rattle.plstore.specs.Looking.{Views};
 ghost use Rattle.plsolver.specs.Fetching.{Fetches};
 ghost use Rattle.plsolver.specs.Solver.{rest_of, WaitsForView, WaitsForReply};
+ghost use Rattle.plworld.specs.Worlds.{IsServing};
 ghost use Rattle.plrun.specs.Halts.{told, told_places};
 ghost use Rattle.plrun.specs.Threads.{GoesOn, IsThread, run_now};
 ghost use Rattle.plrun.specs.Overall.{IsHistory};
@@ -67,10 +68,12 @@ fn serve(
     request: &Request,
 ) -> Result<(), AllocError>
     requires runs { GoesOn program.now world.old.journal running.old }
+    requires serves { IsServing world.old }
     requires waits { WaitsForReply running.old.solver request.now }
     requires at { (v : Views) → StandsAt (Ask request.now) (rest_of program.now v running.old.solver) running.old.solver.used running.old.solver.machine.out.items }
     ensures runs { OnOk result (IsThread program.now world.new.journal running.new) }
     ensures limit { running.new.solver.limit ≡ running.old.solver.limit }
+    ensures serves { IsServing world.new }
 {
     let place = world.front();
     let reply = world.step(alloc, 1, running.thread, request)?;
@@ -86,10 +89,12 @@ fn turn(
     world: &mut World,
     running: &mut Running,
 ) -> Result<Option<ThreadEnd>, AllocError>
-    requires { IsThread program.now world.old.journal running.old }
+    requires runs { IsThread program.now world.old.journal running.old }
+    requires serves { IsServing world.old }
     ensures runs { OnOk result (IsThread program.now world.new.journal running.new) }
     ensures ended { IfOk result (λ o. IfSome o (λ e. (v : Views) → EndsAt running.new.solver.limit e (rest_of program.now v running.new.solver) running.new.solver.used running.new.solver.machine.out.items)) }
     ensures limit { running.new.solver.limit ≡ running.old.solver.limit }
+    ensures serves { IsServing world.new }
 {
     match running.solver.advance(program, SLICE)? {
         Turn::Slice => Ok(None),
@@ -117,8 +122,10 @@ fn tell(
     end: &ThreadEnd,
     places: &mut Vec<u64>,
 ) -> Result<(), AllocError>
+    requires { IsServing world.old }
     ensures journal { OnOk result (world.new.journal ≡ told end.now thread world.old.journal) }
     ensures places { OnOk result (places.new.items ≡ told_places end.now world.old.journal places.old.items) }
+    ensures serves { IsServing world.new }
 {
     match end {
         ThreadEnd::Halt(_) => Ok(()),
@@ -138,8 +145,10 @@ fn finish(
     running: &Running,
     end: ThreadEnd,
 ) -> Result<Run, AllocError>
+    requires { IsServing world.old }
     ensures journal { OnOk result (world.new.journal ≡ told end running.now.thread world.old.journal) }
     ensures run { IfOk result (λ run. run ≡ run_now world.old.journal running.now end) }
+    ensures serves { IsServing world.new }
 {
     let mut places = Vec::from_slice(alloc, running.solver.places())?;
     let output = Vec::from_slice(alloc, running.solver.output())?;
@@ -160,8 +169,10 @@ pub fn run_thread(
     world: &mut World,
     running: Running,
 ) -> Result<Run, AllocError>
-    requires { IsThread program.now world.old.journal running }
-    ensures { IfOk result (λ run. IsHistory program.now.first (λ t. search_of program.now running.solver.limit) running.solver.limit world.new.journal (run ∷ [])) }
+    requires runs { IsThread program.now world.old.journal running }
+    requires serves { IsServing world.old }
+    ensures history { IfOk result (λ run. IsHistory program.now.first (λ t. search_of program.now running.solver.limit) running.solver.limit world.new.journal (run ∷ [])) }
+    ensures serves { IsServing world.new }
 {
     let mut running = running;
     'turns: for _ in 0..u64::MAX {

@@ -44,7 +44,7 @@ fn are_one_of_each(updates: &[Update]) -> bool {
 fn batch_of(alloc: Global, entry: &Entry) -> Result<Option<Batch>, AllocError> {
     match entry.copied(alloc)?.act {
         Act::Batch(copy) => Ok(Some(copy)),
-        Act::Start | Act::End(_) | Act::Halt(_) => Ok(None),
+        Act::Start | Act::End(_) | Act::Halt(_) | Act::Left => Ok(None),
     }
 }
 
@@ -103,6 +103,21 @@ fn main_from_start_to_end(rt: HostRuntime) -> Result<(), Fail> {
     standing.end(1, ThreadEnd::True);
     assert!(rt; !standing.runs(1));
     assert!(rt; standing.is_over());
+    assert_eq!(rt; standing.size, 3);
+    Ok(())
+}
+
+// Main is started, ends the run with 44, and leaves.
+#[test]
+fn main_leaves(rt: HostRuntime) -> Result<(), Fail> {
+    let mut standing = Standing::blank(rt.alloc())?;
+    assert!(rt; !standing.stays(1));
+    standing.start(2, 1);
+    standing.halt(44);
+    assert!(rt; standing.stays(1));
+    assert_eq!(rt; standing.size, 2);
+    standing.leave(1);
+    assert!(rt; !standing.stays(1));
     assert_eq!(rt; standing.size, 3);
     Ok(())
 }

@@ -22,7 +22,9 @@ fn next(
     let query = Query::NextLike(indicator(alloc, arity)?, key_of(alloc, key)?, cursor);
     match world.look(g, &query)? {
         Found::Next(name) => Ok(name),
-        Found::Clause(_) | Found::Exists(_) => Err("an answer of another kind".into()),
+        Found::Clause(_) | Found::Alive(_) | Found::Exists(_) => Err(
+            "an answer of another kind".into(),
+        ),
     }
 }
 

@@ -35,9 +35,11 @@ fn told(reply: &Reply) -> &'static str {
         Reply::Stopped => "stopped",
         Reply::NotYet(Request::Start) => "no start yet",
         Reply::NotYet(Request::EraseOne(_)) => "no erasure yet",
+        Reply::NotYet(Request::Leave) => "no leave yet",
         Reply::Erased => "erased",
         Reply::Gone => "gone",
         Reply::Done => "done",
+        Reply::Shut => "shut",
         Reply::Started { .. } | Reply::NotYet(_) | Reply::Published => "another",
     }
 }
@@ -72,7 +74,9 @@ fn named(place: u64, number: u64) -> ClauseName {
 fn is_found_at(world: &World, g: u64) -> Result<bool, Fail> {
     match world.look(g, &Query::Clause(named(2, 0)))? {
         Found::Clause(clause) => Ok(clause.is_some()),
-        Found::Next(_) | Found::Exists(_) => Err("an answer of another kind".into()),
+        Found::Next(_) | Found::Alive(_) | Found::Exists(_) => Err(
+            "an answer of another kind".into(),
+        ),
     }
 }
 
@@ -200,7 +204,9 @@ fn a_clause_is_erased_once(rt: HostRuntime) -> Result<(), Fail> {
 fn exists_at(alloc: Global, world: &World, g: u64) -> Result<bool, Fail> {
     match world.look(g, &Query::Exists(indicator(alloc, 0)?))? {
         Found::Exists(there) => Ok(there),
-        Found::Next(_) | Found::Clause(_) => Err("an answer of another kind".into()),
+        Found::Next(_) | Found::Clause(_) | Found::Alive(_) => Err(
+            "an answer of another kind".into(),
+        ),
     }
 }
 
@@ -210,7 +216,9 @@ fn first_at(alloc: Global, world: &World, g: u64) -> Result<Option<u64>, Fail> {
     match world.look(g, &query)? {
         Found::Next(Some(name)) => Ok(Some(name.place)),
         Found::Next(None) => Ok(None),
-        Found::Clause(_) | Found::Exists(_) => Err("an answer of another kind".into()),
+        Found::Clause(_) | Found::Alive(_) | Found::Exists(_) => {
+            Err("an answer of another kind".into())
+        }
     }
 }
 
@@ -232,6 +240,48 @@ fn looks_by_time(rt: HostRuntime) -> Result<(), Fail> {
         assert!(rt; first_at(alloc, &world, g)? == first, "at {g}");
         assert!(rt; is_found_at(&world, g)? == is_found, "at {g}");
     }
+    Ok(())
+}
+
+/// The place of the clause of p/0 that is next behind a cursor at a time, by name alone.
+fn next_at(alloc: Global, world: &World, g: u64, cursor: Cursor) -> Result<Option<u64>, Fail> {
+    match world.look(g, &Query::Next(indicator(alloc, 0)?, cursor))? {
+        Found::Next(Some(name)) => Ok(Some(name.place)),
+        Found::Next(None) => Ok(None),
+        Found::Clause(_) | Found::Alive(_) | Found::Exists(_) => {
+            Err("an answer of another kind".into())
+        }
+    }
+}
+
+/// Whether the clause of place 2 is alive at a time.
+fn is_alive_at(world: &World, g: u64) -> Result<bool, Fail> {
+    match world.look(g, &Query::Alive(named(2, 0)))? {
+        Found::Alive(is_alive) => Ok(is_alive),
+        Found::Next(_) | Found::Clause(_) | Found::Exists(_) => {
+            Err("an answer of another kind".into())
+        }
+    }
+}
+
+/// A time, the place of the first clause of p/0 then, and whether that of place 2 is alive.
+const NEXTS: [(u64, Option<u64>, bool); 3] = [
+    (2, None, false),
+    (3, Some(2), true),
+    (4, None, false),
+];
+
+// The next clause by name alone and what is alive are told as of their time, and behind main's clause there is none.
+#[test]
+fn next_and_alive_by_time(rt: HostRuntime) -> Result<(), Fail> {
+    let alloc = rt.alloc();
+    let mut world = begun(alloc)?;
+    ask(alloc, &mut world, (1, 1), &Request::EraseOne(named(2, 0)))?;
+    for (g, next, is_alive) in NEXTS {
+        assert!(rt; next_at(alloc, &world, g, Cursor::Start)? == next, "at {g}");
+        assert!(rt; is_alive_at(&world, g)? == is_alive, "at {g}");
+    }
+    assert!(rt; next_at(alloc, &world, 3, Cursor::After(named(2, 0)))?.is_none());
     Ok(())
 }
 
@@ -274,5 +324,61 @@ fn no_erasure_before_a_start(rt: HostRuntime) -> Result<(), Fail> {
     ask(alloc, &mut world, (1, 0), &Request::Start)?;
     let late = erased_twice(alloc, &mut world, named(0, 0))?;
     assert!(rt; late == ("erased", "gone"));
+    Ok(())
+}
+
+/// Asks twice that main leaves, and that it publishes a batch, and tells what comes of each.
+fn left_twice(
+    alloc: Global,
+    world: &mut World,
+) -> Result<(&'static str, &'static str, &'static str), AllocError> {
+    let first = ask(alloc, world, (1, 1), &Request::Leave)?;
+    let second = ask(alloc, world, (1, 1), &Request::Leave)?;
+    let publish = Request::Publish(Batch::new(Vec::new(alloc)));
+    let behind = ask(alloc, world, (1, 1), &publish)?;
+    Ok((first, second, behind))
+}
+
+/// Whether the last of five entries is that main has left, by worker 1.
+fn is_left_last(entries: &[Entry]) -> bool {
+    match entries {
+        [_, _, _, _, last] => (last.worker, last.thread) == (1, 1)
+            && matches!(&last.act, Act::Left),
+        _ => false,
+    }
+}
+
+// Behind a halt main leaves, by one entry more. The second time nothing is added, and a batch is stopped.
+#[test]
+fn main_leaves_once(rt: HostRuntime) -> Result<(), Fail> {
+    let mut world = begun(rt.alloc())?;
+    ask(rt.alloc(), &mut world, (1, 1), &Request::HaltRun(44))?;
+    let replies = left_twice(rt.alloc(), &mut world)?;
+    assert!(rt; replies == ("done", "done", "stopped"));
+    assert!(rt; is_left_last(world.close().as_slice()));
+    Ok(())
+}
+
+// While the run goes on nobody leaves, and nothing is added but by a batch.
+#[test]
+fn no_leave_before_the_end(rt: HostRuntime) -> Result<(), Fail> {
+    let mut world = begun(rt.alloc())?;
+    let replies = left_twice(rt.alloc(), &mut world)?;
+    assert!(rt; replies == ("no leave yet", "no leave yet", "another"));
+    assert_eq!(rt; world.front(), 4);
+    Ok(())
+}
+
+// A world that is stopped serves nothing, Leave neither, adds nothing, and is looked at as before.
+#[test]
+fn a_stopped_world_is_shut(rt: HostRuntime) -> Result<(), Fail> {
+    let mut world = begun(rt.alloc())?;
+    assert!(rt; !world.stopped());
+    world.stop();
+    assert!(rt; world.stopped());
+    let replies = left_twice(rt.alloc(), &mut world)?;
+    assert!(rt; replies == ("shut", "shut", "shut"));
+    assert_eq!(rt; world.front(), 3);
+    assert!(rt; is_alive_at(&world, 3)?);
     Ok(())
 }

@@ -24,7 +24,7 @@ use Rattle.plstore.specs.Like.{next_like_of}
 use Rattle.plstore.specs.declared.record.Cursor.{Cursor}
 use Rattle.plstore.specs.declared.query.Query.{Query}
 use Rattle.plstore.specs.declared.query.Found.{Found}
-use Rattle.plstore.specs.declared.query.Found.TheVariants.{Next as NextFound, Clause as ClauseFound, Exists as ExistsFound}
+use Rattle.plstore.specs.declared.query.Found.TheVariants.{Next as NextFound, Clause as ClauseFound, Alive as AliveFound, Exists as ExistsFound}
 use Rattle.plstore.specs.Looking.{Views, clause_alive, found}
 use Rattle.plcells.specs.declared.cell.Cell.{Cell}
 use Rattle.plcells.specs.Store.{Store, value}
@@ -141,16 +141,19 @@ exists-told v g q p f b asked told is = let e : ExistsFound b ≡ ExistsFound (e
 pub next-kind : (h : Tree) (c : Cursor) (f : Found) → IsFoundFor (like h c) f → IsNext f
 next-kind h c (NextFound x) fits = tt
 next-kind h c (ClauseFound x) fits = absurd fits
+next-kind h c (AliveFound b) fits = absurd fits
 next-kind h c (ExistsFound b) fits = absurd fits
 
 pub clause-kind : (x : ClauseName) (f : Found) → IsFoundFor (Query.Clause x) f → IsClause f
 clause-kind x (NextFound y) fits = absurd fits
 clause-kind x (ClauseFound y) fits = tt
+clause-kind x (AliveFound b) fits = absurd fits
 clause-kind x (ExistsFound b) fits = absurd fits
 
 pub exists-kind : (p : Indicator) (f : Found) → IsFoundFor (Query.Exists p) f → IsExists f
 exists-kind p (NextFound y) fits = absurd fits
 exists-kind p (ClauseFound y) fits = absurd fits
+exists-kind p (AliveFound b) fits = absurd fits
 exists-kind p (ExistsFound b) fits = tt
 
 -- the innermost walk is the one

@@ -4,7 +4,7 @@ use Rattle.plevent.specs.Alive.{Stamped}
 use Rattle.plevent.specs.Search.{Item, View, Ask, Answer, Wants, Finishes, Got, Ending}
 use Rattle.plevent.specs.declared.request.ThreadEnd.{ThreadEnd}
 use Rattle.plevent.specs.declared.request.Request.{Request}
-use Rattle.plevent.specs.declared.request.Request.TheVariants.{Start, Publish, EraseOne, Finish, HaltRun}
+use Rattle.plevent.specs.declared.request.Request.TheVariants.{Start, Publish, EraseOne, Finish, HaltRun, Leave}
 use Rattle.plevent.specs.declared.request.Reply.{Reply}
 use Rattle.plevent.specs.declared.request.Reply.TheVariants as replies
 use Rattle.plevent.specs.declared.update.ClauseName.{ClauseName}
@@ -90,6 +90,7 @@ awaited s Start waits = absurd waits
 awaited s (Publish us) waits = (questions.Await (Publish us) thens.GoesOn, waits, refl, refl, λ r d n es w. refl)
 awaited s (EraseOne x) waits = (questions.Erase x, waits.0, refl, erasing-asks x (local_of s.machine) waits.1, λ r d n es w. refl)
 awaited s (Finish e) waits = absurd waits
+awaited s Leave waits = absurd waits
 awaited s (HaltRun n) waits = (questions.Await (HaltRun n) (thens.Ends n), waits, refl, refl, λ r d k es w. refl)
 
 same-question : (s : Progress) (x y : Question) → AsksFor s x → AsksFor s y → x ≡ y
@@ -127,6 +128,8 @@ waits-await s q next asked fits = (q, go q next asked fits)
     go (EraseOne x) (thens.Ends m) asked fits = absurd fits
     go (Finish e) thens.GoesOn asked fits = absurd fits
     go (Finish e) (thens.Ends m) asked fits = absurd fits
+    go Leave thens.GoesOn asked fits = absurd fits
+    go Leave (thens.Ends m) asked fits = absurd fits
     go (HaltRun n) thens.GoesOn asked fits = absurd fits
     go (HaltRun n) (thens.Ends m) asked fits = subst (λ m. AsksFor s (questions.Await (HaltRun n) (thens.Ends m))) (sym fits) asked
 
@@ -205,6 +208,7 @@ follows-as P v s q next r fits most left answers = go r fits
     go replies.Done fits = fitting replies.Done Served fits ∙ served P v s next most left answers
     go replies.Stopped fits = fitting replies.Stopped Served fits ∙ served P v s next most left answers
     go replies.RunOver fits = fitting replies.RunOver Served fits ∙ served P v s next most left answers
+    go replies.Shut fits = fitting replies.Shut Served fits ∙ served P v s next most left answers
     go (replies.NotYet x) fits = fitting (replies.NotYet x) Served fits ∙ served P v s next most left answers
     go (replies.Started i a g) fits = fitting (replies.Started i a g) Served fits ∙ served P v s next most left answers
 
@@ -258,5 +262,6 @@ replied-of P s new x r asked of is =
     by replies.Done next = done next
     by replies.Stopped next = done next
     by replies.RunOver next = done next
+    by replies.Shut next = done next
     by (replies.NotYet y) next = done next
     by (replies.Started i a g) next = done next

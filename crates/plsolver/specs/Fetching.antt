@@ -113,7 +113,9 @@ IsFetching s = (g : ℕ) × (q : Query) × Fetches s g q
 -- an answer of the kind of its query
 abbrev pub IsFoundFor : Query → Found → Type 0
 IsFoundFor (Query.NextLike p k c) (Found.Next x) = Unit {0}
+IsFoundFor (Query.Next p c) (Found.Next x) = Unit {0}
 IsFoundFor (Query.Clause x) (Found.Clause c) = Unit {0}
+IsFoundFor (Query.Alive x) (Found.Alive b) = Unit {0}
 IsFoundFor (Query.Exists p) (Found.Exists b) = Unit {0}
 IsFoundFor q f = ⊥
 

@@ -6,7 +6,7 @@ use Rattle.plcells.specs.declared.cell.Cell.{Cell}
 use Rattle.plcells.specs.Store.{value}
 use Rattle.plevent.specs.Search.{Answer, Search, Seen}
 use Rattle.plevent.specs.declared.request.Request.{Request}
-use Rattle.plevent.specs.declared.request.Request.TheVariants.{Start, Publish, EraseOne, Finish, HaltRun}
+use Rattle.plevent.specs.declared.request.Request.TheVariants.{Start, Publish, EraseOne, Finish, HaltRun, Leave}
 use Rattle.plevent.specs.declared.request.Reply.{Reply}
 use Rattle.plevent.specs.declared.request.Reply.TheVariants as replies
 use Rattle.plevent.specs.declared.update.ClauseName.{ClauseName}
@@ -131,6 +131,7 @@ WaitsForReply s (EraseOne x) = Asks s (questions.Erase x) × IsClosed s.machine.
 WaitsForReply s (HaltRun n) = Asks s (questions.Await (HaltRun n) (thens.Ends n))
 WaitsForReply s Start = ⊥
 WaitsForReply s (Finish e) = ⊥
+WaitsForReply s Leave = ⊥
 
 -- the request that a question asks, and what follows it
 abbrev pub IsRequestOf : Question → Request → Type 0

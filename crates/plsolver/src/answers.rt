@@ -106,7 +106,8 @@ fn mode_after(reply: &Reply, next: Then) -> Mode
         | Reply::NotYet(_)
         | Reply::Published
         | Reply::Erased
-        | Reply::Done => mode_of(next),
+        | Reply::Done
+        | Reply::Shut => mode_of(next),
     }
 }
 

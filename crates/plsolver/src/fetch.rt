@@ -228,7 +228,7 @@ fn next_in(found: Found) -> Option<ClauseName>
 {
     match found {
         Found::Next(name) => name,
-        Found::Clause(_) | Found::Exists(_) => unreachable!(),
+        Found::Clause(_) | Found::Alive(_) | Found::Exists(_) => unreachable!(),
     }
 }
 
@@ -239,7 +239,7 @@ fn clause_in(found: Found) -> Option<Clause>
 {
     match found {
         Found::Clause(clause) => clause,
-        Found::Next(_) | Found::Exists(_) => unreachable!(),
+        Found::Next(_) | Found::Alive(_) | Found::Exists(_) => unreachable!(),
     }
 }
 
@@ -250,6 +250,6 @@ fn exists_in(found: Found) -> bool
 {
     match found {
         Found::Exists(exists) => exists,
-        Found::Next(_) | Found::Clause(_) => unreachable!(),
+        Found::Next(_) | Found::Clause(_) | Found::Alive(_) => unreachable!(),
     }
 }

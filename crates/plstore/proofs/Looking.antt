@@ -5,10 +5,10 @@ use Rattle.std.proofs.lemmas.Bool.Decides.{nat_tests}
 use Rattle.plevent.specs.declared.update.Update.{Update}
 use Rattle.plevent.specs.declared.update.Update.TheVariants.{First, Last, Erase, EraseOwn, Declare}
 use Rattle.plevent.specs.declared.update.ClauseName.{ClauseName}
-use Rattle.plevent.specs.Alive.{Stamped, same_name, add_if, before, is_alive, lives, clause_named, made_in, clause_in, or_else}
+use Rattle.plevent.specs.Alive.{Stamped, same_name, add_if, before, names_of, is_alive, lives, clause_named, made_in, clause_in, or_else}
 use Rattle.plstore.specs.declared.query.Query.{Query}
 use Rattle.plstore.specs.declared.query.Found.{Found}
-use Rattle.plstore.specs.Kept.{nothing, keep}
+use Rattle.plstore.specs.Kept.{nothing, keep, next_of}
 use Rattle.plstore.specs.Like.{next_like_of}
 use Rattle.plstore.specs.Rising.{Rises}
 use Rattle.plstore.specs.Looking.{found, found_in, clause_alive, clause_seen}
@@ -64,5 +64,7 @@ clause-found g x us up = ap₂ (λ v o. add_if v o None) (here-is g x us up) (cl
 
 pub look-is : (g : ℕ) (q : Query) (us : List Stamped) → Rises 0 us → found_in g q (fold keep nothing us) ≡ found (before g us) q
 look-is g (Query.NextLike p k c) us up = ap (λ l. Found.Next (next_like_of k c l)) (walk-is g p us up)
+look-is g (Query.Next p c) us up = ap (λ l. Found.Next (next_of c (names_of l))) (walk-is g p us up)
+look-is g (Query.Alive x) us up = ap Found.Alive (here-is g x us up)
 look-is g (Query.Clause x) us up = ap Found.Clause (clause-found g x us up)
 look-is g (Query.Exists p) us up = ap Found.Exists (there-is g p us)

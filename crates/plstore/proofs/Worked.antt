@@ -149,6 +149,34 @@ query_before = refl
 pub query_erased : found_in 5 (Query.Clause (named 0 1)) both ≡ Found.Clause None
 query_erased = refl
 
+-- the next clause by name alone, from the start, behind one, and behind the last
+pub query_first : found_in 5 (Query.Next p Start) both ≡ Found.Next (Some (named 4 1))
+unfolding walk
+query_first = refl
+
+pub query_behind : found_in 5 (Query.Next p (After (named 4 1))) both ≡ Found.Next (Some (named 0 2))
+unfolding walk
+query_behind = refl
+
+pub query_last : found_in 5 (Query.Next p (After (named 0 2))) both ≡ Found.Next None
+unfolding walk
+query_last = refl
+
+-- no clause is passed over by its first argument: behind p(X) comes p(2)
+pub query_by_name : found_in 1 (Query.Next q (After (named 0 2))) four ≡ Found.Next (Some (named 0 3))
+unfolding walk
+query_by_name = refl
+
+-- what is alive is told as of its time
+pub query_alive : found_in 4 (Query.Alive (named 0 1)) both ≡ Found.Alive true
+query_alive = refl
+
+pub query_not_alive : found_in 5 (Query.Alive (named 0 1)) both ≡ Found.Alive false
+query_not_alive = refl
+
+pub query_not_made : found_in 4 (Query.Alive (named 4 1)) both ≡ Found.Alive false
+query_not_made = refl
+
 pub query_there : found_in 1 (Query.Exists p) both ≡ Found.Exists true
 query_there = refl
 

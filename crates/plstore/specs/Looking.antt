@@ -3,10 +3,10 @@ use Rattle.std.specs.Prelude.{◌≡◌, ℕ, true, false, List, [], ◌∷◌, 
 use Rattle.plclause.specs.Clause.{Clause}
 use Rattle.plevent.specs.declared.update.ClauseName.{ClauseName}
 use Rattle.plevent.specs.declared.update.Living.{Living}
-use Rattle.plevent.specs.Alive.{Stamped, same_name, add_if, living, exists, is_alive, clause_named}
+use Rattle.plevent.specs.Alive.{Stamped, same_name, add_if, living, names_of, exists, is_alive, clause_named}
 use Rattle.plstore.specs.declared.query.Query.{Query}
 use Rattle.plstore.specs.declared.query.Found.{Found}
-use Rattle.plstore.specs.Kept.{Kept, walk, here, is_there, clause_of}
+use Rattle.plstore.specs.Kept.{Kept, walk, here, is_there, clause_of, next_of}
 use Rattle.plstore.specs.Like.{next_like_of}
 
 -- the updates of the batches below each place of a journal
@@ -20,7 +20,9 @@ clause_alive x us = add_if (is_alive x us) (clause_named x us) None
 -- what a query finds after some updates
 abbrev pub found : List Stamped → Query → Found
 found us (Query.NextLike p k c) = Found.Next (next_like_of k c (living us p))
+found us (Query.Next p c) = Found.Next (next_of c (names_of (living us p)))
 found us (Query.Clause x) = Found.Clause (clause_alive x us)
+found us (Query.Alive x) = Found.Alive (is_alive x us)
 found us (Query.Exists p) = Found.Exists (exists us p)
 
 -- the clause of a name, where it is seen at g
@@ -30,7 +32,9 @@ clause_seen g x k = add_if (here g x k) (clause_of x k) None
 -- what a query finds at g in what a store keeps
 abbrev pub found_in : ℕ → Query → Kept → Found
 found_in g (Query.NextLike p k c) s = Found.Next (next_like_of k c (walk g p s.records))
+found_in g (Query.Next p c) s = Found.Next (next_of c (names_of (walk g p s.records)))
 found_in g (Query.Clause x) s = Found.Clause (clause_seen g x s)
+found_in g (Query.Alive x) s = Found.Alive (here g x s)
 found_in g (Query.Exists p) s = Found.Exists (is_there g p s)
 
 -- no clause of a list has the name

@@ -9,8 +9,12 @@ use plterm::indicator::Indicator;
 pub enum Query {
     /// The name of the first clause of a procedure behind a cursor that may be for a goal of this key.
     NextLike(Indicator, Key, Cursor),
+    /// The name of the next clause of a procedure behind a cursor, whatever its first argument is.
+    Next(Indicator, Cursor),
     /// The clause of a name, where it is alive.
     Clause(ClauseName),
+    /// Whether the clause of a name is alive.
+    Alive(ClauseName),
     /// Whether a procedure is there.
     Exists(Indicator),
 }
@@ -22,6 +26,8 @@ pub enum Found {
     Next(Option<ClauseName>),
     /// The clause; none where it is not alive.
     Clause(Option<Clause>),
+    /// Whether the clause is alive.
+    Alive(bool),
     /// Whether the procedure is there.
     Exists(bool),
 }

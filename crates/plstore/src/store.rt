@@ -113,9 +113,17 @@ impl Store {
                 let next = self.next_like(g, pred, key, *cursor);
                 Ok(Found::Next(next))
             }
+            Query::Next(pred, cursor) => {
+                let next = self.next_visible(g, pred, *cursor);
+                Ok(Found::Next(next))
+            }
             Query::Clause(name) => {
                 let clause = self.clause_seen(g, *name)?;
                 Ok(Found::Clause(clause))
+            }
+            Query::Alive(name) => {
+                let alive = self.alive(g, *name);
+                Ok(Found::Alive(alive))
             }
             Query::Exists(pred) => {
                 let exists = self.exists(g, pred);

@@ -39,6 +39,7 @@ fn act(alloc: Global, act: &Act) -> Result<Term, TermError> {
         Act::Batch(batch) => one(alloc, "batch", updates(alloc, batch)?),
         Act::End(end) => one(alloc, "end", ended(alloc, end)?),
         Act::Halt(number) => one(alloc, "halt", Term::int(alloc, i64::from(*number))?),
+        Act::Left => atom(alloc, "left"),
     }
 }
 

@@ -58,6 +58,7 @@ own-renamed b n us h = ap₂ (λ v o. add_if v o None) (alive-renamed b n 0 us f
 abbrev told : Found → Option Clause
 told (Found.Next x) = None
 told (Found.Clause o) = o
+told (Found.Alive v) = None
 told (Found.Exists v) = None
 
 pub own-clause : (b m n : ℕ) (us : List Update) (draft : Kept) → draft ≡ fold keep nothing (drafted 0 us) → AllErasedApart b (take m us) → clause_seen m (named n 0) draft ≡ clause_alive (named b n) (own_batch b m us)

@@ -1,13 +1,10 @@
 -- One more entry of a world.
-use Rattle.std.proofs.Common.{◌≡◌, ◌++◌, ◌+◌, ◌<◌, ◌≤◌, ℕ, suc, true, false, List, [], ◌∷◌, Option, Some, None, refl, sym, ◌∙◌, ap, ap₂, subst, arith, length, length-append, fold}
+use Rattle.std.proofs.Common.{◌≡◌, ◌++◌, ◌+◌, ◌<◌, ◌≤◌, ℕ, suc, true, false, List, [], ◌∷◌, refl, sym, ◌∙◌, ap, ap₂, subst, arith, length, length-append, fold}
 use Rattle.std.proofs.lemmas.List.{append-nil, take-append-drop, take-append-le, length-take-le}
 use Rattle.std.proofs.lemmas.List.Sums.{fold-append}
 use Rattle.std.proofs.Math.Seq.{take-length}
 use Rattle.plevent.specs.declared.update.Update.{Update}
 use Rattle.plevent.specs.declared.update.ClauseName.{ClauseName}
-use Rattle.plevent.specs.declared.request.Request.{Request}
-use Rattle.plevent.specs.declared.request.Reply.{Reply}
-use Rattle.plevent.specs.declared.act.Act.{Act}
 use Rattle.plevent.specs.declared.act.Entry.{Entry}
 use Rattle.plevent.specs.declared.standing.Standing.{Standing}
 use Rattle.std.specs.Prelude.{nat_lt, cond, take, drop}
@@ -15,7 +12,6 @@ use Rattle.std.proofs.lemmas.List.Elements.{filter-append}
 use Rattle.std.proofs.lemmas.Bool.Decides.{nat_tests}
 use Rattle.plevent.specs.Alive.{Stamped, stamped, named, before, living, exists, is_alive}
 use Rattle.plevent.specs.Reading.{Reading, read, reading, stand, updates_of, blank}
-use Rattle.plevent.specs.Rows.{served, adds, entries_of}
 use Rattle.plstore.specs.Kept.{Kept, keep, nothing, walk, is_there, here}
 use Rattle.plstore.specs.Rising.{AllBelowPlace, Rises, AllUnder, Ordered}
 use Rattle.plstore.proofs.Search.{place-keep}
@@ -138,12 +134,6 @@ empty = record { standing = refl; store = refl; size = refl; below = λ k d l. a
 
 pub IsWorld-blank : (h : List Entry) (s : Standing) (rs : Kept) → h ≡ [] → s ≡ blank.standing → rs ≡ nothing → IsWorld h s rs
 IsWorld-blank h s rs eh es er = subst (λ h. IsWorld h s rs) (sym eh) (subst (λ s. IsWorld [] s rs) (sym es) (subst (λ rs. IsWorld [] blank.standing rs) (sym er) empty))
-
-pub adds-none : (h : List Entry) (w t : ℕ) (q : Request) (r : Reply) (a : Option (ℕ × Act)) → served q t (reading h) ≡ (r, a) → a ≡ None → adds h w t q ≡ []
-adds-none h w t q r a e k = ap (λ x. entries_of w x.1) e ∙ ap (entries_of w) k
-
-pub adds-some : (h : List Entry) (w t : ℕ) (q : Request) (r : Reply) (a : Option (ℕ × Act)) (x : ℕ × Act) → served q t (reading h) ≡ (r, a) → a ≡ Some x → adds h w t q ≡ record { worker = w; thread = x.0; act = x.1 } ∷ []
-adds-some h w t q r a x e k = ap (λ x. entries_of w x.1) e ∙ ap (entries_of w) k
 
 pub under-is : (h : List Entry) → AllUnder (length h) (reading h).updates
 under-is h = subst (λ n. AllUnder n (reading h).updates) (size-is h) (ordered h).under

@@ -1,8 +1,8 @@
 //! The rows of the table of requests: each computes its reply and its act, and changes nothing.
-ghost use Rattle.std.specs.Prelude.{◌≡◌, IfOk, List, find};
+ghost use Rattle.std.specs.Prelude.{◌≡◌, ◌&&◌, not, IfOk, List, find};
 ghost use Rattle.plevent.specs.declared.act.Entry.{Entry};
 ghost use Rattle.plevent.specs.Reading.{reading};
-ghost use Rattle.plevent.specs.Rows.{is_new, is_workers, start_row, erase_row, finish_row, row, served_while, served};
+ghost use Rattle.plevent.specs.Rows.{is_new, is_workers, is_halted, is_leave, start_row, erase_row, finish_row, leave_row, row, served_while, served};
 ghost use Rattle.plworld.specs.Worlds.{IsWorld};
 
 use plevent::{Act, Batch, ClauseName, Reply, Request, Standing, Thread, ThreadEnd, Update};
@@ -15,7 +15,7 @@ use std::alloc::{AllocError, Global};
 pub type Row = (Reply, Option<(u32, Act)>);
 
 /// The row of a request of a thread, after the journal that the standing and the store are those of: where a thread has
-/// ended the run, all stop.
+/// ended the run, all stop, but for those that leave.
 pub fn serve(
     standing: &Standing,
     store: &Store,
@@ -25,13 +25,13 @@ pub fn serve(
 ) -> Result<Row, AllocError>
     ensures { IfOk result (λ r. (h : List Entry) → IsWorld h standing.now store.now → r ≡ served request.now thread (reading h)) }
 {
-    if standing.is_halted() {
+    if stops(standing, request) {
         return Ok((Reply::Stopped, None));
     }
     serve_while(standing, store, alloc, thread, request)
 }
 
-/// The row while no thread has ended the run: a thread that is not started, or has ended, is told to wait.
+/// The row of a request that no halt stops: a thread that is not started, or has ended, is told to wait.
 fn serve_while(
     standing: &Standing,
     store: &Store,
@@ -48,12 +48,33 @@ fn serve_while(
     Ok((Reply::NotYet(again), None))
 }
 
+/// Whether a request is stopped, since a thread has ended the run: each but `Leave`.
+fn stops(standing: &Standing, request: &Request) -> bool
+    ensures { result ≡ (is_halted standing.now && not (is_leave request.now)) }
+{
+    standing.is_halted() && !is_leave(request)
+}
+
+/// Whether it says that a thread goes no further.
+fn is_leave(request: &Request) -> bool
+    ensures { result ≡ is_leave request.now }
+{
+    match request {
+        Request::Leave => true,
+        Request::Start
+        | Request::Publish(_)
+        | Request::EraseOne(_)
+        | Request::Finish(_)
+        | Request::HaltRun(_) => false,
+    }
+}
+
 /// Whether a worker asks it, and no thread.
 fn is_of_workers(request: &Request) -> bool
     ensures { result ≡ is_workers request.now }
 {
     match request {
-        Request::Start => true,
+        Request::Start | Request::Leave => true,
         Request::Publish(_) | Request::EraseOne(_) | Request::Finish(_) | Request::HaltRun(_) =>
             false,
     }
@@ -82,6 +103,7 @@ fn row_of(
         Request::HaltRun(number) => {
             return Ok((Reply::Done, Some((thread, Act::Halt(*number)))));
         }
+        Request::Leave => return Ok(leave_of(standing, thread)),
     }
 }
 
@@ -107,6 +129,19 @@ fn finish_of(end: &ThreadEnd, alloc: Global, thread: u32) -> Result<Row, AllocEr
             return Ok((Reply::Done, Some((thread, Act::End(copy)))));
         }
     }
+}
+
+/// The row of a thread that goes no further: where the run is over, one that has neither ended nor left leaves.
+fn leave_of(standing: &Standing, thread: u32) -> Row
+    ensures { result ≡ leave_row standing.now thread }
+{
+    if !standing.is_over() {
+        return (Reply::NotYet(Request::Leave), None);
+    }
+    if standing.stays(thread) {
+        return (Reply::Done, Some((thread, Act::Left)));
+    }
+    (Reply::Done, None)
 }
 
 /// The row of a start.

@@ -1,12 +1,12 @@
 //! All that the threads of a run share.
-ghost use Rattle.std.specs.Prelude.{◌≡◌, ◌<◌, ◌^◌, ◌++◌, ◌∷◌, [], IfOk, OnOk, OnErr, length, fold};
+ghost use Rattle.std.specs.Prelude.{◌≡◌, ◌<◌, ◌^◌, ◌++◌, ◌∷◌, [], IfOk, OnOk, OnErr, true, false, length, fold};
 ghost use Rattle.plevent.specs.Alive.{before, stamped};
 ghost use Rattle.plevent.specs.Reading.{stand, updates_of, reading};
-ghost use Rattle.plevent.specs.Rows.{adds, reply_to, is_over};
+ghost use Rattle.plevent.specs.Rows.{is_over};
 ghost use Rattle.plstore.specs.Kept.{keep};
 ghost use Rattle.plstore.specs.Looking.{found};
 ghost use Rattle.plstore.specs.Rising.{AllBelowPlace};
-ghost use Rattle.plworld.specs.Worlds.{opening};
+ghost use Rattle.plworld.specs.Worlds.{opening, reply_in, adds_in};
 
 use crate::rows::serve;
 use plevent::{Act, Batch, Entry, Reply, Request, Standing};
@@ -14,12 +14,13 @@ use plstore::{Found, Query, Store};
 use std::alloc::{AllocError, Global};
 use std::marker::Model;
 
-/// A journal, and what it says: of its threads, and of its clauses.
+/// A journal, and what it says: of its threads, and of its clauses. Once it is stopped no request is served.
 #[derive(Drop)]
 pub struct World {
     journal: Vec<Entry>,
     standing: Standing,
     store: Store,
+    stopped: bool,
 }
 
 impl Model for World {
@@ -29,21 +30,22 @@ impl Model for World {
 
     ghost coded = { shared_code };
 
-    ghost view = { λ a. record { journal = a.journal.items } };
+    ghost view = { λ a. record { journal = a.journal.items; stopped = a.stopped } };
 
     ghost invariant = { λ a. IsWorld a.journal.items a.standing a.store };
 }
 
 impl World {
-    /// A world whose one entry is the program's first batch. Main is created, and not started.
+    /// A world whose one entry is the program's first batch. Main is created, and not started; the world is not stopped.
     pub fn open(alloc: Global, first: &Batch) -> Result<World, AllocError>
-        ensures { IfOk result (λ w. w ≡ record { journal = opening first.now }) }
+        ensures { IfOk result (λ w. w ≡ record { journal = opening first.now; stopped = false }) }
     {
         let standing = Standing::blank(alloc)?;
         let mut world = World {
             journal: Vec::new(alloc),
             standing,
             store: Store::new(alloc),
+            stopped: false,
         };
         let batch = first.copied(alloc)?;
         match world.add(alloc, 0, 0, Act::Batch(batch)) {
@@ -52,7 +54,8 @@ impl World {
         }
     }
 
-    /// The reply to a request that a worker asks of a thread, and the entry that it adds.
+    /// The reply to a request that a worker asks of a thread, and the entry that it adds. Where the world is stopped the
+    /// reply is `Shut`, and nothing is added.
     pub fn step(
         &mut self,
         alloc: Global,
@@ -60,10 +63,14 @@ impl World {
         thread: u32,
         request: &Request,
     ) -> Result<Reply, AllocError>
-        ensures reply { IfOk result (λ r. r ≡ reply_to self.old.journal thread request.now) }
-        ensures entry { OnOk result (self.new ≡ record self.old { journal = self.old.journal ++ adds self.old.journal worker thread request.now }) }
+        ensures reply { IfOk result (λ r. r ≡ reply_in self.old thread request.now) }
+        ensures entry { OnOk result (self.new ≡ record self.old { journal = self.old.journal ++ adds_in self.old worker thread request.now }) }
         ensures refused { OnErr result (self.new ≡ self.old) }
+        ensures stays { self.new.stopped ≡ self.old.stopped }
     {
+        if self.stopped {
+            return Ok(Reply::Shut);
+        }
         let (reply, act) = serve(&self.standing, &self.store, alloc, thread, request)?;
         match act {
             None => return Ok(reply),
@@ -72,6 +79,20 @@ impl World {
                 Err(error) => return Err(error),
             },
         }
+    }
+
+    /// From now on no request is served. What the journal says stays as it is, and can be looked at.
+    pub fn stop(&mut self)
+        ensures { self.new ≡ record self.old { stopped = true } }
+    {
+        self.stopped = true;
+    }
+
+    /// Whether the world is stopped.
+    pub fn stopped(&self) -> bool
+        ensures { result ≡ self.now.stopped }
+    {
+        self.stopped
     }
 
     /// How many entries there are: the place of the next one, and the time that it is now.
@@ -168,6 +189,10 @@ fn change(
         }
         Act::Halt(number) => {
             standing.halt(*number);
+            return Ok(());
+        }
+        Act::Left => {
+            standing.leave(thread);
             return Ok(());
         }
     }

@@ -9,7 +9,7 @@ loop-runs-smaller c =
     let P = c.args.program.now in
     let n = c.args.steps in
     let old = c.loop-runs.runs.items in
-    let none : old ≡ [] = stage-first P.first (λ t. search_of P n) n c.loop-runs.world.journal old c.loop-runs.invariant (rw c.in-Some.is at c.in_ok-running.ensures.first) in
+    let none : old ≡ [] = stage-first P.first (λ t. search_of P n) n c.loop-runs.world.journal old c.loop-runs.invariant.stage (rw c.in-Some.is at c.in_ok-running.ensures.first) in
     omega (arith, ap length none, ap length c.in_ok-push.ensures.items, length-append old (c.in_ok-run_thread.field-0 ∷ []))
 
 pub loop-runs-preserved : goal.loop-runs-preserved
@@ -17,13 +17,16 @@ loop-runs-preserved c =
     let P = c.args.program.now in
     let n = c.args.steps in
     let old = c.loop-runs.runs.items in
-    let none : old ≡ [] = stage-first P.first (λ t. search_of P n) n c.loop-runs.world.journal old c.loop-runs.invariant (rw c.in-Some.is at c.in_ok-running.ensures.first) in
-    stage-run P.first (λ t. search_of P n) n c.run_thread.new.world.journal old c.push.new.self.items c.in_ok-run_thread.field-0 none c.in_ok-push.ensures.items
-    (subst (λ m. IsHistory P.first (λ t. search_of P m) m c.run_thread.new.world.journal (c.in_ok-run_thread.field-0 ∷ [])) (rw c.in-Some.is at c.in_ok-running.ensures.limit) c.in_ok-run_thread.ensures)
+    let none : old ≡ [] = stage-first P.first (λ t. search_of P n) n c.loop-runs.world.journal old c.loop-runs.invariant.stage (rw c.in-Some.is at c.in_ok-running.ensures.first) in
+    record {
+      stage = stage-run P.first (λ t. search_of P n) n c.run_thread.new.world.journal old c.push.new.self.items c.in_ok-run_thread.field-0 none c.in_ok-push.ensures.items
+          (subst (λ m. IsHistory P.first (λ t. search_of P m) m c.run_thread.new.world.journal (c.in_ok-run_thread.field-0 ∷ [])) (rw c.in-Some.is at c.in_ok-running.ensures.limit) c.in_ok-run_thread.ensures.history);
+      serves = c.run_thread.ensures.serves;
+    }
 
 pub returns : goal.returns
 returns c =
     let P = c.args.program.now in
     let n = c.args.steps in
     let both = rw c.in_default.is at c.in_ok-running.ensures.over in
-    stage-over P.first (λ t. search_of P n) n c.loop-runs.world.journal c.start.new.world.journal c.loop-runs.runs.items c.loop-runs.invariant both.0 both.1
+    stage-over P.first (λ t. search_of P n) n c.loop-runs.world.journal c.start.new.world.journal c.loop-runs.runs.items c.loop-runs.invariant.stage both.0 both.1

@@ -1,20 +1,23 @@
-use Rattle.std.proofs.Common.{ap, arith, sym, subst}
+use Rattle.std.proofs.Common.{◌∙◌, arith, sym, subst}
+use Rattle.plevent.specs.declared.request.Request.{Request}
 use Rattle.plsearch.specs.Search.{search_of}
 use Rattle.plsolver.specs.Solver.{rest_of}
 use Rattle.plrun.specs.Going.{IsRunning, Runs}
 use Rattle.plrun.proofs.Serve.{relimit}
 use Rattle.plrun.proofs.Start.{begun, not_begun}
+use Rattle.plworld.proofs.Serving.{grows-in, replies-in}
 use Rattle.plrun.proofs.schedule.start.Goals as goal
 
 pub returns-in-Started-clause-begun : goal.returns-in-Started-clause-begun
 returns-in-Started-clause-begun c =
     let P = c.args.program.now in
     let n = c.args.steps in
+    let w = c.args.world.now in
     let s = c.in_ok-solver-in-Started.solver in
     let h = c.step.new.self.journal in
     let t = c.in-Started.number in
-    let all = begun P.first (search_of P n) n (λ v. rest_of P v s) s.used c.args.world.now.journal h c.in_ok-number.field-0 t _ _
-    c.requires c.in_ok-number.ensures.reply (ap (λ w. w.journal) c.in_ok-number.ensures.entry) c.in-Started.is c.in_ok-solver-in-Started.ensures.begins in
+    let all = begun P.first (search_of P n) n (λ v. rest_of P v s) s.used w.journal h c.in_ok-number.field-0 t _ _
+    c.requires.at (c.in_ok-number.ensures.reply ∙ replies-in w 0 Request.Start c.requires.serves) (grows-in w c.step.new.self 1 0 Request.Start c.requires.serves c.in_ok-number.ensures.entry) c.in-Started.is c.in_ok-solver-in-Started.ensures.begins in
     record {
       of = c.in_ok-solver-in-Started.ensures.of;
       latest = omega (arith, c.in_ok-solver-in-Started.ensures.latest);
@@ -26,15 +29,16 @@ pub returns-in-Started-clause-first : goal.returns-in-Started-clause-first
 returns-in-Started-clause-first c =
     let P = c.args.program.now in
     let n = c.args.steps in
+    let w = c.args.world.now in
     let s = c.in_ok-solver-in-Started.solver in
-    let all = begun P.first (search_of P n) n (λ v. rest_of P v s) s.used c.args.world.now.journal c.step.new.self.journal c.in_ok-number.field-0 c.in-Started.number _ _
-    c.requires c.in_ok-number.ensures.reply (ap (λ w. w.journal) c.in_ok-number.ensures.entry) c.in-Started.is c.in_ok-solver-in-Started.ensures.begins in all.1
+    let all = begun P.first (search_of P n) n (λ v. rest_of P v s) s.used w.journal c.step.new.self.journal c.in_ok-number.field-0 c.in-Started.number _ _
+    c.requires.at (c.in_ok-number.ensures.reply ∙ replies-in w 0 Request.Start c.requires.serves) (grows-in w c.step.new.self 1 0 Request.Start c.requires.serves c.in_ok-number.ensures.entry) c.in-Started.is c.in_ok-solver-in-Started.ensures.begins in all.1
 
 pub returns : goal.returns
-returns c = record {
+returns c = let w = c.args.world.now in record {
   begun = tt;
   limit = tt;
   first = tt;
-  over = not_begun c.args.program.now.first c.args.world.now.journal c.step.new.self.journal c.in_ok-number.field-0
-      c.requires c.in_ok-number.ensures.reply (ap (λ w. w.journal) c.in_ok-number.ensures.entry) c.in_default.not-Started;
+  over = not_begun c.args.program.now.first w.journal c.step.new.self.journal c.in_ok-number.field-0
+      c.requires.at (c.in_ok-number.ensures.reply ∙ replies-in w 0 Request.Start c.requires.serves) (grows-in w c.step.new.self 1 0 Request.Start c.requires.serves c.in_ok-number.ensures.entry) c.in_default.not-Started;
 }

@@ -11,7 +11,9 @@ use Rattle.plrun.proofs.thread.fetch.Goals as goal
 
 found-for : (us : List Stamped) (q : Query) → IsFoundFor q (found us q)
 found-for us (Query.NextLike p k c) = tt
+found-for us (Query.Next p c) = tt
 found-for us (Query.Clause x) = tt
+found-for us (Query.Alive x) = tt
 found-for us (Query.Exists p) = tt
 
 pub fetched-requires-clause-fits : goal.fetched-requires-clause-fits

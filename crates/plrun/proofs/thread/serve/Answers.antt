@@ -1,10 +1,11 @@
-use Rattle.std.proofs.Common.{◌≤◌, ap, length, subst, sym}
+use Rattle.std.proofs.Common.{◌≤◌, ◌∙◌, length, subst, sym}
 use Rattle.plevent.specs.declared.request.Request.{Request}
 use Rattle.plsearch.specs.Search.{search_of}
 use Rattle.plsolver.specs.declared.progress.Progress.{Progress}
 use Rattle.plsolver.specs.Solver.{latest_view, rest_of, WaitsForReply}
 use Rattle.plrun.proofs.Halting.{halts-when-done}
 use Rattle.plrun.proofs.Serve.{MayWait, longer, served-by, started-same, reply-fits}
+use Rattle.plworld.proofs.Serving.{grows-in, replies-in}
 use Rattle.plrun.proofs.thread.serve.Goals as goal
 
 may_wait : (s : Progress) (q : Request) → WaitsForReply s q → MayWait q
@@ -13,12 +14,13 @@ may_wait s (Request.EraseOne x) waits = tt
 may_wait s (Request.HaltRun n) waits = tt
 may_wait s Request.Start never = never
 may_wait s (Request.Finish e) never = never
+may_wait s Request.Leave never = never
 
 pub reply-requires-clause-fits : goal.reply-requires-clause-fits
 reply-requires-clause-fits c =
     let s = c.args.running.now.solver in
     let q = c.args.request.now in
-    (q, c.requires.waits, reply-fits c.args.world.now.journal c.args.running.now.thread q c.in_ok-reply.reply (may_wait s q c.requires.waits) c.requires.runs.runs.going.free c.in_ok-reply.ensures.reply)
+    (q, c.requires.waits, reply-fits c.args.world.now.journal c.args.running.now.thread q c.in_ok-reply.reply (may_wait s q c.requires.waits) c.requires.runs.runs.going.free (c.in_ok-reply.ensures.reply ∙ replies-in c.args.world.now c.args.running.now.thread q c.requires.serves))
 
 pub returns-clause-runs : goal.returns-clause-runs
 returns-clause-runs c =
@@ -29,12 +31,13 @@ returns-clause-runs c =
     let h = c.args.world.now.journal in
     let later = c.step.new.self.journal in
     let t = c.args.running.now.thread in
+    let grows = grows-in c.args.world.now c.step.new.self 1 t q c.requires.serves c.in_ok-reply.ensures.entry in
     let started = started-same P old.limit new.limit (λ v. rest_of P v new) new.used later t new.places.items c.reply.ensures.limit
     (served-by P.first (search_of P old.limit) old.limit (λ v. rest_of P v old) (λ v. rest_of P v new) old.used new.used old.machine.out.items h later t old.places.items new.places.items c.front-place.result q c.in_ok-reply.reply
     (halts-when-done P old.limit) (may_wait old q c.requires.waits) c.requires.runs.runs c.requires.at c.front-place.ensures
-    c.in_ok-reply.ensures.reply (ap (λ w. w.journal) c.in_ok-reply.ensures.entry) (λ v are. c.in_ok-reply-2.ensures.ok v) c.in_ok-reply-2.ensures.places) in
+    (c.in_ok-reply.ensures.reply ∙ replies-in c.args.world.now t q c.requires.serves) grows (λ v are. c.in_ok-reply-2.ensures.ok v) c.in_ok-reply-2.ensures.places) in
     record {
       of = c.reply.ensures.of;
-      latest = longer h later _ (latest_view new) (ap (λ w. w.journal) c.in_ok-reply.ensures.entry) (subst (λ n. n ≤ length h) (sym c.reply.ensures.latest) c.requires.runs.latest);
+      latest = longer h later _ (latest_view new) grows (subst (λ n. n ≤ length h) (sym c.reply.ensures.latest) c.requires.runs.latest);
       started = started;
     }

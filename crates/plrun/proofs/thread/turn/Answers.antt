@@ -11,7 +11,7 @@ pub advance-requires-clause-within : goal.advance-requires-clause-within
 advance-requires-clause-within c =
     let P = c.args.program.now in
     let s = c.args.running.now.solver in
-    used-within P.first (search_of P s.limit) s.limit (λ v. rest_of P v s) s.used c.args.world.now.journal c.args.running.now.thread s.places.items c.requires.started
+    used-within P.first (search_of P s.limit) s.limit (λ v. rest_of P v s) s.used c.args.world.now.journal c.args.running.now.thread s.places.items c.requires.runs.started
 
 pub returns-in-Slice-clause-runs : goal.returns-in-Slice-clause-runs
 unfolding GoesTo
@@ -21,8 +21,8 @@ returns-in-Slice-clause-runs c =
     let new = c.advance.new.self in
     record {
       of = c.advance.ensures.of;
-      latest = subst (λ n. n ≤ length c.args.world.now.journal) (sym c.advance.ensures.latest) c.requires.latest;
-      started = started-gone P old.limit new.limit (λ v. rest_of P v old) (λ v. rest_of P v new) old.used new.used c.args.world.now.journal c.args.running.now.thread old.places.items new.places.items c.requires.started (λ v are. c.advance.ensures.goes v are.ordered) c.advance.ensures.places c.advance.ensures.limit;
+      latest = subst (λ n. n ≤ length c.args.world.now.journal) (sym c.advance.ensures.latest) c.requires.runs.latest;
+      started = started-gone P old.limit new.limit (λ v. rest_of P v old) (λ v. rest_of P v new) old.used new.used c.args.world.now.journal c.args.running.now.thread old.places.items new.places.items c.requires.runs.started (λ v are. c.advance.ensures.goes v are.ordered) c.advance.ensures.places c.advance.ensures.limit;
     }
 
 pub returns-in-Ended-clause-runs : goal.returns-in-Ended-clause-runs
@@ -33,8 +33,8 @@ returns-in-Ended-clause-runs c =
     let new = c.advance.new.self in
     record {
       of = c.advance.ensures.of;
-      latest = subst (λ n. n ≤ length c.args.world.now.journal) (sym c.advance.ensures.latest) c.requires.latest;
-      started = started-gone P old.limit new.limit (λ v. rest_of P v old) (λ v. rest_of P v new) old.used new.used c.args.world.now.journal c.args.running.now.thread old.places.items new.places.items c.requires.started (λ v are. c.advance.ensures.goes v are.ordered) c.advance.ensures.places c.advance.ensures.limit;
+      latest = subst (λ n. n ≤ length c.args.world.now.journal) (sym c.advance.ensures.latest) c.requires.runs.latest;
+      started = started-gone P old.limit new.limit (λ v. rest_of P v old) (λ v. rest_of P v new) old.used new.used c.args.world.now.journal c.args.running.now.thread old.places.items new.places.items c.requires.runs.started (λ v are. c.advance.ensures.goes v are.ordered) c.advance.ensures.places c.advance.ensures.limit;
     }
 
 pub look-requires-clause-runs : goal.look-requires-clause-runs
@@ -48,9 +48,9 @@ look-requires-clause-runs c =
     let says = rw c.in-Refresh.is at c.in_ok-advance.ensures.says in
     record {
       of = c.advance.ensures.of;
-      latest = subst (λ n. n ≤ length c.args.world.now.journal) (sym c.advance.ensures.latest) c.requires.latest;
+      latest = subst (λ n. n ≤ length c.args.world.now.journal) (sym c.advance.ensures.latest) c.requires.runs.latest;
       runs = still-runs P.first (search_of P new.limit) new.limit (λ v. rest_of P v new) new.used new.machine.out.items h t new.places.items View says.1
-          (started-gone P old.limit new.limit (λ v. rest_of P v old) (λ v. rest_of P v new) old.used new.used h t old.places.items new.places.items c.requires.started (λ v are. c.advance.ensures.goes v are.ordered) c.advance.ensures.places c.advance.ensures.limit);
+          (started-gone P old.limit new.limit (λ v. rest_of P v old) (λ v. rest_of P v new) old.used new.used h t old.places.items new.places.items c.requires.runs.started (λ v are. c.advance.ensures.goes v are.ordered) c.advance.ensures.places c.advance.ensures.limit);
     }
 
 pub serve-requires-clause-runs : goal.serve-requires-clause-runs
@@ -64,9 +64,9 @@ serve-requires-clause-runs c =
     let says = rw c.in-Ask.is at c.in_ok-advance.ensures.says in
     record {
       of = c.advance.ensures.of;
-      latest = subst (λ n. n ≤ length c.args.world.now.journal) (sym c.advance.ensures.latest) c.requires.latest;
+      latest = subst (λ n. n ≤ length c.args.world.now.journal) (sym c.advance.ensures.latest) c.requires.runs.latest;
       runs = still-runs P.first (search_of P new.limit) new.limit (λ v. rest_of P v new) new.used new.machine.out.items h t new.places.items (Ask c.in-Ask.request) says.1
-          (started-gone P old.limit new.limit (λ v. rest_of P v old) (λ v. rest_of P v new) old.used new.used h t old.places.items new.places.items c.requires.started (λ v are. c.advance.ensures.goes v are.ordered) c.advance.ensures.places c.advance.ensures.limit);
+          (started-gone P old.limit new.limit (λ v. rest_of P v old) (λ v. rest_of P v new) old.used new.used h t old.places.items new.places.items c.requires.runs.started (λ v are. c.advance.ensures.goes v are.ordered) c.advance.ensures.places c.advance.ensures.limit);
     }
 
 pub fetch-requires-clause-runs : goal.fetch-requires-clause-runs
@@ -77,8 +77,8 @@ fetch-requires-clause-runs c =
     let new = c.advance.new.self in
     record {
       of = c.advance.ensures.of;
-      latest = subst (λ n. n ≤ length c.args.world.now.journal) (sym c.advance.ensures.latest) c.requires.latest;
-      started = started-gone P old.limit new.limit (λ v. rest_of P v old) (λ v. rest_of P v new) old.used new.used c.args.world.now.journal c.args.running.now.thread old.places.items new.places.items c.requires.started (λ v are. c.advance.ensures.goes v are.ordered) c.advance.ensures.places c.advance.ensures.limit;
+      latest = subst (λ n. n ≤ length c.args.world.now.journal) (sym c.advance.ensures.latest) c.requires.runs.latest;
+      started = started-gone P old.limit new.limit (λ v. rest_of P v old) (λ v. rest_of P v new) old.used new.used c.args.world.now.journal c.args.running.now.thread old.places.items new.places.items c.requires.runs.started (λ v are. c.advance.ensures.goes v are.ordered) c.advance.ensures.places c.advance.ensures.limit;
     }
 
 pub returns-in_ok-look-in-Refresh-clause-runs : goal.returns-in_ok-look-in-Refresh-clause-runs

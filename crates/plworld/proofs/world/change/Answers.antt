@@ -8,3 +8,6 @@ returns-in-End-clause-standing c = rw (c.in-End.is, ← c.in_ok-end-in-End.ensur
 
 pub returns-in-Halt-clause-standing : goal.returns-in-Halt-clause-standing
 returns-in-Halt-clause-standing c = rw c.in-Halt.is (c.halt.ensures c.args.worker c.args.thread)
+
+pub returns-in-Left-clause-standing : goal.returns-in-Left-clause-standing
+returns-in-Left-clause-standing c = rw c.in-Left.is (c.leave.ensures c.args.worker)
