@@ -312,13 +312,18 @@ leaves : (n t : ℕ) → nat_eq 1 t ≡ false → (served Request.Leave t (readi
 unfolding served reading
 leaves n t is = rw is refl
 
-is_leave : (w t : ℕ) (a : Act) (e : Entry) → e ≡ record { worker = w; thread = t; act = a } → Some 1 ≡ Some w → Some (1, Act.Left) ≡ Some (t, a) → e ≡ leave
-is_leave w t a e is by made = let worker : 1 ≡ w = cc in let thread : 1 ≡ t = cc in let act : Act.Left ≡ a = cc in is ∙ rw (← worker, ← thread, ← act) refl
+leave_is : (w t : ℕ) (a : Act) (e : Entry) → e ≡ record { worker = w; thread = t; act = a } → Some 1 ≡ Some w → ◌≡◌ {A = Option (ℕ × Act)} (Some (1, Act.Left)) (Some (t, a)) → e ≡ leave
+leave_is w t a e is by made =
+    let worker : 1 ≡ w = cc in
+    let pair : ◌≡◌ {A = ℕ × Act} (1, Act.Left) (t, a) = cc in
+    let thread : 1 ≡ t = ap (λ x. x.0) pair in
+    let act : Act.Left ≡ a = ap (λ x. x.1) pair in
+    is ∙ rw (← worker, ← thread, ← act) refl
 
 left_behind : (n t : ℕ) (e : Entry) → 1 ≡ t → worker_of t (reading (halted n)).standing.threads ≡ Some e.worker → (served Request.Leave t (reading (halted n))).1 ≡ Some (e.thread, e.act) → e ≡ leave
 unfolding served reading
 left_behind n t e is by made =
-    is_leave e.worker e.thread e.act e refl (subst (λ t. worker_of t (reading (halted n)).standing.threads ≡ Some e.worker) (sym is) by) (subst (λ t. (served Request.Leave t (reading (halted n))).1 ≡ Some (e.thread, e.act)) (sym is) made)
+    leave_is e.worker e.thread e.act e refl (subst (λ t. worker_of t (reading (halted n)).standing.threads ≡ Some e.worker) (sym is) by) (subst (λ t. (served Request.Leave t (reading (halted n))).1 ≡ Some (e.thread, e.act)) (sym is) made)
 
 due_behind : (n t : ℕ) (q : Request) (e : Entry) → MayAsk (reading (halted n)).standing e.worker t q → (served q t (reading (halted n))).1 ≡ Some (e.thread, e.act) → e ≡ leave
 due_behind n t q e may made = go q may made
