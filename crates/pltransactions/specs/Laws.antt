@@ -8,7 +8,7 @@ use Rattle.pltx.specs.declared.level.Isolation.{Isolation}
 use Rattle.pltx.specs.declared.level.Isolation.TheVariants.{Transaction, Snapshot}
 use Rattle.pltx.specs.declared.level.Level.{Level}
 use Rattle.plprogram.specs.Program.{Program}
-use Rattle.plsearch.specs.Types.{Result, Stop, Fail, CutTo, Throw, Awaits, Kind, Transact, Element, Goal, Marker, Raise, Asking, Erasing, Place, Case, Choice, Mark, Handle, Undo, Local, Meeting, Asks, Run}
+use Rattle.plsearch.specs.Types.{Result, Stop, Fail, CutTo, Throw, Halted, Awaits, Stopped, Unfit, Kind, Transact, Element, Goal, Marker, Raise, Asking, Erasing, Place, Case, Choice, Mark, Handle, Undo, Local, Meeting, Asks, Run}
 use Rattle.plsearch.specs.Moves.{publishing}
 use Rattle.plsearch.specs.Rows.{meet}
 use Rattle.plsearch.specs.Handlers.{has}
@@ -87,6 +87,18 @@ ClosesAtItsEnd = (P : Program) (m : Machine) → any_open m.run.local.own ≡ tr
 -- where a transaction or a snapshot is open, nothing is asked but that the run ends
 abbrev pub OpenAsksNothing : Type 0
 OpenAsksNothing = (P : Program) (m : Machine) (q : Item) → IsReached P m → any_open m.run.local.own ≡ true → wanted m ≡ Some q → (n : ℕ) × (q ≡ Ask (HaltRun n))
+
+-- nothing goes on behind it: it passes all that is open
+abbrev pub IsLast : Result → Type 0
+IsLast (Halted n) = Unit {0}
+IsLast Stopped = Unit {0}
+IsLast Unfit = Unit {0}
+IsLast r = ⊥
+
+-- and the answer to that ends the search: what is open stays open
+abbrev pub OpenAnswerEnds : Type 0
+OpenAnswerEnds = (P : Program) (m : Machine) (q : Item) (a : Answer) (more : List Answer) → IsReached P m → any_open m.run.local.own ≡ true →
+    wanted m ≡ Some q → m.run.answers ≡ a ∷ more → (r : Result) × IsLast r × ((turn P m).mode ≡ Back r) × ((turn P m).run.local ≡ m.run.local)
 
 -- at its end with success
 abbrev pub at_end : ℕ → ℕ → Place → List Case → Run → Machine
