@@ -1,1 +1,7 @@
+mod Items
+mod Machines
 pub mod Batches
+pub mod Standing
+pub mod Transactions
+pub mod Unended
+mod Worked

@@ -1,0 +1,213 @@
+-- A run that ends inside of a transaction or a snapshot.
+use Rattle.std.proofs.Common.{◌≡◌, ℕ, zero, suc, ◌+◌, ◌<◌, Bool, true, false, ◌||◌, ◌&&◌, not, All, List, [], ◌∷◌, ◌++◌, take, Option, Some, None, refl, sym, ap, ◌∙◌, subst, arith, append_assoc, append-nil}
+use Rattle.std.proofs.lemmas.List.{append_cancel_left, append_cancel_right}
+use Rattle.std.proofs.lemmas.List.Elements.{All-nil, All-cons, All-append}
+use Rattle.plevent.specs.declared.request.ThreadEnd.{ThreadEnd}
+use Rattle.plevent.specs.declared.request.Request.{Request}
+use Rattle.plevent.specs.declared.request.Request.TheVariants.{Finish, HaltRun}
+use Rattle.plevent.specs.declared.request.Reply.{Reply}
+use Rattle.plevent.specs.declared.act.Act.{Act}
+use Rattle.plevent.specs.declared.act.Entry.{Entry}
+use Rattle.plevent.specs.Alive.{add_if}
+use Rattle.plevent.specs.Reading.{Reading, reading}
+use Rattle.plevent.specs.Rows.{is_halted, is_workers, is_leave, runs, finish_row, row, served_while, served}
+use Rattle.plevent.specs.Search.{Item, View, Ask, Answer, Next, Finishes, item_of_end, item_of}
+use Rattle.plhist.specs.Follows.{Taken, is_not_yet, noted, item_at, takes}
+use Rattle.pltx.specs.Own.{any_open}
+use Rattle.plsearch.specs.Types.{Result, Run}
+use Rattle.plsearch.specs.Engine.{outs}
+use Rattle.plsearch.specs.Search.{next_of}
+use Rattle.plsearch.specs.Machines.Machine.{Back, Rest, turn}
+use Rattle.plsearch.proofs.Ends.{ends_ignore}
+use Rattle.pltransactions.specs.Laws.{turns, machine_of, wanted}
+use Rattle.pltransactions.proofs.Transactions.{search-by-turns, open-asks-nothing, open-answer-ends}
+use Rattle.pltransactions.proofs.Opening.{opens-with-view}
+use Rattle.plrunlaws.specs.Standing.{Followed, asks, answers, at_turn, started, StandsAt, AreFrom}
+use Rattle.plrunlaws.specs.Transactions.{IsEnd, LastsToTheEnd, NothingOfItStays}
+use Rattle.plrunlaws.proofs.Items.{the-same, below-more, answer-is, item-adds, takes-first, takes-none}
+use Rattle.plrunlaws.proofs.Machines.{turns-both, with_answers, final-rest}
+use Rattle.plrunlaws.proofs.Standing.{least-same, search-at, ends-with, short-of, asked-at, stands-somewhere, stays-else, started-below, entries-in-order}
+use Rattle.plrunlaws.proofs.Transactions.{reached, next-turn, last-final, viewed}
+
+none-some : {A : Type 0} (s : Taken) → ◌≡◌ {A = Option Taken} None (Some s) → A
+none-some s is = absurd (never is)
+  where
+    never : ◌≡◌ {A = Option Taken} None (Some s) → ⊥
+    never is = cc
+
+-- an act that ends the thread or the run, or none
+abbrev EndsIt : Option (ℕ × Act) → Type 0
+EndsIt None = Unit {0}
+EndsIt (Some x) = IsEnd x.1
+
+served-ends : (q : Request) (t : ℕ) (r : Reading) → EndsIt (row q t r).1 → EndsIt (served q t r).1
+unfolding served
+served-ends q t r h = halts (is_halted r.standing && not (is_leave q))
+  where
+    waits : (b : Bool) → EndsIt (add_if b (row q t r) (Reply.NotYet q, None)).1
+    waits true = h
+    waits false = tt
+
+    halts : (b : Bool) → EndsIt (add_if b (Reply.Stopped, None) (served_while q t r)).1
+    halts true = tt
+    halts false = waits (is_workers q || runs t r.standing)
+
+finish-ends : (e : ThreadEnd) (t : ℕ) → EndsIt (finish_row e t).1
+finish-ends ThreadEnd.True t = tt
+finish-ends ThreadEnd.False t = tt
+finish-ends (ThreadEnd.Exception b) t = tt
+finish-ends ThreadEnd.Budget t = tt
+finish-ends (ThreadEnd.Halt n) t = tt
+
+-- items that make such entries alone
+record AddsEnds (s s' : Taken) : Type 0 where
+  new : List (ℕ × Act)
+  made : s'.made ≡ s.made ++ new
+  ends : All (λ x. IsEnd x.1) new
+
+adds-none : (s : Taken) → AddsEnds s s
+adds-none s = record { new = []; made = sym (append-nil s.made); ends = All-nil (λ x. IsEnd x.1) }
+
+adds-both : (s m s' : Taken) → AddsEnds s m → AddsEnds m s' → AddsEnds s s'
+adds-both s m s' a b = record {
+  new = a.new ++ b.new;
+  made = b.made ∙ ap (λ l. l ++ b.new) a.made ∙ append_assoc s.made a.new b.new;
+  ends = All-append (λ x. IsEnd x.1) a.new b.new a.ends b.ends;
+}
+
+noted-ends : (b : Bool) (g : ℕ) (s s' : Taken) (q : Reply) (a : Option (ℕ × Act)) → EndsIt a → noted b g s q a ≡ Some s' → AddsEnds s s'
+noted-ends true g s s' q a h is = none-some s' is
+noted-ends false g s s' q None h is = record { new = []; made = ap (λ s. s.made) (sym (the-same _ s' is)) ∙ sym (append-nil s.made); ends = All-nil (λ x. IsEnd x.1) }
+noted-ends false g s s' q (Some a) h is = record {
+  new = (g, a.1) ∷ [];
+  made = ap (λ s. s.made) (sym (the-same _ s' is));
+  ends = All-cons (λ x. IsEnd x.1) (g, a.1) [] h (All-nil (λ x. IsEnd x.1));
+}
+
+item-ends : (h : List Entry) (t : ℕ) (q : Request) (g : ℕ) (s s' : Taken) → ((r : Reading) → EndsIt (row q t r).1) → item_at h t (Some (Ask q)) g s ≡ Some s' → AddsEnds s s'
+item-ends h t q g s s' ends is =
+    let r = reading (take g h) in
+    let x = served q t r in
+    noted-ends (is_not_yet x.0) g s s' x.0 x.1 (served-ends q t r (ends r)) (answer-is h t (Ask q) g s s' is).1
+
+end-ends : (h : List Entry) (t : ℕ) (e : ThreadEnd) (g : ℕ) (s s' : Taken) → item_at h t (item_of_end e) g s ≡ Some s' → AddsEnds s s'
+end-ends h t ThreadEnd.True g s s' is = item-ends h t (Finish ThreadEnd.True) g s s' (λ r. finish-ends ThreadEnd.True t) is
+end-ends h t ThreadEnd.False g s s' is = item-ends h t (Finish ThreadEnd.False) g s s' (λ r. finish-ends ThreadEnd.False t) is
+end-ends h t (ThreadEnd.Exception b) g s s' is = item-ends h t (Finish (ThreadEnd.Exception b)) g s s' (λ r. finish-ends (ThreadEnd.Exception b) t) is
+end-ends h t ThreadEnd.Budget g s s' is = item-ends h t (Finish ThreadEnd.Budget) g s s' (λ r. finish-ends ThreadEnd.Budget t) is
+end-ends h t (ThreadEnd.Halt n) g s s' is = none-some s' is
+
+takes-ends : (asks : List Answer → Next) (h : List Entry) (t : ℕ) (e : ThreadEnd) (gs : List ℕ) (s s' : Taken) → ((xs : List Answer) → asks (s.answers ++ xs) ≡ Finishes e) →
+    takes asks h t gs s ≡ Some s' → AddsEnds s s'
+takes-ends asks h t e [] s s' over is = subst (AddsEnds s) (takes-none asks h t s s' is) (adds-none s)
+takes-ends asks h t e (g ∷ gs) s s' over is =
+    let one = takes-first asks h t g gs s s' is in
+    let m = one.0 in
+    let next : asks s.answers ≡ Finishes e = ap asks (sym (append-nil s.answers)) ∙ over [] in
+    let first = item-adds h t (item_of (asks s.answers)) g s m one.1 in
+    let m_is : m.answers ≡ s.answers ++ first.answer ∷ [] = first.adds.answered ∙ ap (λ l. s.answers ++ l) first.only in
+    adds-both s m s' (end-ends h t e g s m (ap (λ x. item_at h t (item_of x) g s) (sym next) ∙ one.1))
+    (takes-ends asks h t e gs m s' (λ xs. ap (λ l. asks (l ++ xs)) m_is ∙ ap asks (append_assoc s.answers (first.answer ∷ []) xs) ∙ over (first.answer ∷ xs)) one.2)
+
+-- a search that has ended ignores further answers
+stays-ended : (f : Followed) (s : Taken) (e : ThreadEnd) → asks f s.answers ≡ Finishes e → (xs : List Answer) → asks f (s.answers ++ xs) ≡ Finishes e
+stays-ended f s e is xs = ap (λ x. x.next) (ends_ignore f.program f.limit f.limit s.answers xs e is) ∙ is
+
+-- what is asked after the answers so far is what the machine then comes to
+asks-then : (f : Followed) (k : ℕ) (s : Taken) → StandsAt f k s → asks f s.answers ≡ next_of (Rest f.program (with_answers [] (at_turn f k))).0
+asks-then f k s stood =
+    let P = f.program in
+    let used = short-of f k in
+    let same : used.used ≡ s.answers = append_cancel_right used.used s.answers (at_turn f k).run.answers (sym used.all ∙ stood.taken) in
+    ap (λ e. e.next) (search-at P f.limit k s.answers) ∙ ap (λ m. next_of (Rest P m).0) (ap (λ xs. turns P k (machine_of P f.limit xs)) (sym same) ∙ used.comes)
+
+over-rest : (f : Followed) (r : Result) (run : Run) → Rest f.program (record { mode = Back r; cases = []; run = run }) ≡ (r, run)
+unfolding Rest outs
+over-rest f r run = refl
+
+-- an end of the machine's turns that comes later than any turn
+over-late : (f : Followed) → (n : ℕ) → (k : ℕ) (r : Result) (run : Run) → at_turn f k ≡ record { mode = Back r; cases = []; run = run } → at_turn f (k + n) ≡ record { mode = Back r; cases = []; run = run }
+unfolding turn
+over-late f n k r run is = turns-both f.program k n (machine_of f.program f.limit (answers f)) ∙ ap (turns f.program n) is ∙ still n
+  where
+    still : (n : ℕ) → turns f.program n (record { mode = Back r; cases = []; run = run }) ≡ record { mode = Back r; cases = []; run = run }
+    still zero = refl
+    still (suc n) = still n
+
+comes-to-end : (f : Followed) → (n : ℕ) × (r : Result) × (run : Run) × (at_turn f n ≡ record { mode = Back r; cases = []; run = run })
+comes-to-end f =
+    let end = search-by-turns f.program f.limit f.limit (answers f) in
+    (end.0, end.1, end.2, ap (λ steps. turns f.program end.0 (machine_of f.program steps (answers f))) (sym (least-same f.limit)) ∙ end.3)
+
+module _ (f : Followed) (k : ℕ) (lasts : LastsToTheEnd f k) (begun : Taken) where
+  abbrev last : Taken
+  last = f.ended.asked.last
+
+  -- it asks to end the run
+  halts : (i : ℕ) (q : Item) → k < i → StandsAt f i begun → wanted (at_turn f i) ≡ Some q → AddsEnds begun last
+  halts i q after stood is =
+      let now = lasts.behind i after in
+      let one = asked-at f i begun q stood is in
+      let end = open-answer-ends f.program (at_turn f i) q one.answer one.others (reached f i) now is one.left in
+      let halt = open-asks-nothing f.program (at_turn f i) q (reached f i) now is in
+      let there : (at_turn f (suc i)).mode ≡ Back end.0 = ap (λ m. m.mode) (next-turn f i) ∙ end.2 in
+      let cases = (at_turn f (suc i)).cases in
+      let run = (at_turn f (suc i)).run in
+      let rest : Rest f.program (at_turn f (suc i)) ≡ (end.0, run) =
+      ap (λ mode. Rest f.program (record { mode = mode; cases = cases; run = run })) there ∙ final-rest f.program end.0 cases run (last-final end.0 end.1) in
+      let short : Run = record run { answers = [] } in
+      let rest_short : Rest f.program (with_answers [] (at_turn f (suc i))) ≡ (end.0, short) =
+      ap (λ mode. Rest f.program (record { mode = mode; cases = cases; run = short })) there ∙ final-rest f.program end.0 cases short (last-final end.0 end.1) in
+      let over : asks f one.after.answers ≡ Finishes f.came_to =
+      asks-then f (suc i) one.after one.stands ∙ ap (λ e. next_of e.0) rest_short ∙ ends-with f (suc i) end.0 run rest in
+      adds-both begun one.after last
+      (item-ends f.journal f.run.thread (HaltRun halt.0) one.place begun one.after (λ r. tt) (ap (λ q. item_at f.journal f.run.thread (Some q) one.place begun) (sym halt.1) ∙ one.answered))
+      (takes-ends (asks f) f.journal f.run.thread f.came_to one.stands.later one.after last (stays-ended f one.after f.came_to over) one.stands.rest)
+
+  -- or it comes to its end with nothing asked
+  ceases : (i : ℕ) (r : Result) (run : Run) → StandsAt f i begun → at_turn f i ≡ record { mode = Back r; cases = []; run = run } → AddsEnds begun last
+  ceases i r run stood is =
+      let over : asks f begun.answers ≡ Finishes f.came_to =
+      asks-then f i begun stood
+      ∙ ap (λ m. next_of (Rest f.program (with_answers [] m)).0) is
+      ∙ ap (λ e. next_of e.0) (over-rest f r (record run { answers = [] }))
+      ∙ ends-with f i r run (ap (Rest f.program) is ∙ over-rest f r run) in
+      takes-ends (asks f) f.journal f.run.thread f.came_to stood.later begun last (stays-ended f begun f.came_to over) stood.rest
+
+  looks : (n i : ℕ) (r : Result) (run : Run) → k < i → StandsAt f i begun → at_turn f (i + n) ≡ record { mode = Back r; cases = []; run = run } → AddsEnds begun last
+  looks zero i r run after stood is = let same : i ≡ i + 0 = omega arith in ceases i r run stood (ap (at_turn f) same ∙ is)
+  looks (suc n) i r run after stood is = go (wanted (at_turn f i)) refl (looks n (suc i) r run (omega (arith, after)))
+    where
+      go : (o : Option Item) → wanted (at_turn f i) ≡ o → (StandsAt f (suc i) begun → at_turn f (suc i + n) ≡ record { mode = Back r; cases = []; run = run } → AddsEnds begun last) → AddsEnds begun last
+      go None none more = let same : suc i + n ≡ i + suc n = omega arith in more (stays-else f i begun stood none) (ap (at_turn f) same ∙ is)
+      go (Some q) asked more = halts i q after stood asked
+
+pub nothing-of-it-stays : NothingOfItStays
+nothing-of-it-stays f k lasts =
+    let here = stands-somewhere f k in
+    let before = here.0 in
+    let begins : wanted (at_turn f k) ≡ Some View =
+    opens-with-view f.program (at_turn f k) lasts.before (ap (λ m. any_open m.run.local.own) (sym (next-turn f k)) ∙ lasts.behind (suc k) (omega arith)) in
+    let one = asked-at f k before View here.1 begins in
+    let begun = one.after in
+    let view = viewed f before one.place begun one.answered in
+    let part = entries-in-order f (suc k) begun one.stands in
+    let made : started f begun.made ≡ started f before.made = ap (started f) view.made in
+    let turned = comes-to-end f in
+    let late : turned.0 + suc k ≡ suc k + turned.0 = omega arith in
+    let ends = looks f k lasts begun turned.0 (suc k) turned.1 turned.2 (omega arith) one.stands (ap (at_turn f) (sym late) ∙ over-late f (suc k) turned.0 turned.1 turned.2 turned.3) in
+    let same : ends.new ≡ part.later =
+    append_cancel_left (started f begun.made) ends.new part.later (sym (ap (started f) ends.made) ∙ sym f.ended.asked.entries ∙ part.entries) in record {
+      before = before;
+      place = one.place;
+      begun = begun;
+      stood = here.1;
+      views = one.answered;
+      later = part.later;
+      entries = part.entries ∙ ap (λ l. l ++ part.later) made;
+      below = below-more before.low one.place (started f before.made) view.behind (started-below f k before here.1);
+      from = subst (λ g. AreFrom g part.later) view.low part.from;
+      ends = subst (All (λ x. IsEnd x.1)) same ends.ends;
+    }
+
+pub ruleset laws = (nothing-of-it-stays)

@@ -1,0 +1,91 @@
+-- What a transaction or a snapshot does to the journal of a run that follows main's search.
+use Rattle.std.specs.Prelude.{◌≡◌, ℕ, suc, ◌<◌, ◌≤◌, true, false, List, [], ◌∷◌, ◌++◌}
+use Rattle.std.specs.List.{All}
+use Rattle.plevent.specs.declared.request.Reply.{Reply}
+use Rattle.plevent.specs.declared.update.Update.{Update}
+use Rattle.plevent.specs.declared.act.Act.{Act}
+use Rattle.plevent.specs.Search.{View, Got}
+use Rattle.plhist.specs.Follows.{own, Taken}
+use Rattle.pltx.specs.Own.{State}
+use Rattle.pltx.specs.declared.level.Level.{Level}
+use Rattle.plsearch.specs.Machines.Machine.{Mode, At, Back, Machine}
+use Rattle.pltransactions.specs.Laws.{its_updates}
+use Rattle.plrunlaws.specs.Standing.{Followed, at_turn, is_open, IsAnswered, started, StandsAt, AreBelow, AreFrom}
+
+-- turn k begins an outermost transaction or snapshot, and turn j ends it: nothing is open before it and behind it, and something is between
+pub record Lasts (f : Followed) (k j : ℕ) : Type 0 where
+  pub longer : k < j
+  pub before : is_open f k ≡ false
+  pub between : (i : ℕ) → k < i → i ≤ j → is_open f i ≡ true
+  pub behind : is_open f (suc j) ≡ false
+
+-- What the end of the only one that is open publishes: with success, where a list is visited, the updates of a transaction; and nothing
+-- where a result is carried outward.
+abbrev pub updates_at : List Level → List Update → List Update
+updates_at (level ∷ []) us = its_updates level.kind us
+updates_at levels us = []
+
+abbrev pub published_in : Mode → State → List Update
+published_in (At p) own = updates_at own.levels own.updates
+published_in (Back r) own = []
+
+abbrev pub published_by : Machine → List Update
+published_by m = published_in m.mode m.run.local.own
+
+-- where items came to s, updates are published at the place g
+abbrev pub with_batch : ℕ → List Update → Taken → Taken
+with_batch g us s = record { answers = s.answers ++ Got Reply.Published ∷ []; low = suc g; made = s.made ++ (g, Act.Batch us) ∷ [] }
+
+-- updates, if there are any, are published as one batch by the turn j: it is the first of the entries that are made later
+abbrev pub Publishes : Followed → ℕ → Taken → List Update → List (ℕ × Act) → Type 0
+Publishes f j s [] later = Unit {0}
+Publishes f j s (u ∷ us) later =
+    (g : ℕ) × (more : List (ℕ × Act)) × (later ≡ (g, Act.Batch (u ∷ us)) ∷ more) × StandsAt f (suc j) (with_batch g (u ∷ us) s)
+
+-- An outermost transaction or snapshot begins with a view, at a place of the journal. To its end nothing else is asked: the run stands
+-- where the view put it. So the thread makes no entry meanwhile: its entries are those that it made before the view, which stand below
+-- the view's place, and those that are asked for behind the end, which do not. If it is a transaction that ends with success and has
+-- updates, then the first of these is their batch.
+pub record StandsAlone (f : Followed) (k j : ℕ) : Type 0 where
+  pub before : Taken
+  pub place : ℕ
+  pub begun : Taken
+  pub stood : StandsAt f k before
+  pub views : IsAnswered f View place before begun
+  pub stays : (i : ℕ) → k < i → i ≤ suc j → StandsAt f i begun
+  pub later : List (ℕ × Act)
+  pub entries : own f.run.thread f.journal ≡ started f before.made ++ later
+  pub below : AreBelow place (started f before.made)
+  pub from : AreFrom place later
+  pub publishes : Publishes f (suc j) begun (published_by (at_turn f j)) later
+
+abbrev pub TransactionsStandAlone : Type 0
+TransactionsStandAlone = (f : Followed) (k j : ℕ) → Lasts f k j → StandsAlone f k j
+
+-- an entry that ends its thread, or the run
+abbrev pub IsEnd : Act → Type 0
+IsEnd (Act.End e) = Unit {0}
+IsEnd (Act.Halt n) = Unit {0}
+IsEnd a = ⊥
+
+-- turn k begins one in which the run ends: from then on something is open
+pub record LastsToTheEnd (f : Followed) (k : ℕ) : Type 0 where
+  pub before : is_open f k ≡ false
+  pub behind : (i : ℕ) → k < i → is_open f i ≡ true
+
+-- Where a run ends inside of one, as it takes its last step or ends the run there, nothing of it is published: what stands behind its view
+-- of the thread's entries ends the thread or the run.
+pub record EndsInside (f : Followed) (k : ℕ) : Type 0 where
+  pub before : Taken
+  pub place : ℕ
+  pub begun : Taken
+  pub stood : StandsAt f k before
+  pub views : IsAnswered f View place before begun
+  pub later : List (ℕ × Act)
+  pub entries : own f.run.thread f.journal ≡ started f before.made ++ later
+  pub below : AreBelow place (started f before.made)
+  pub from : AreFrom place later
+  pub ends : All (λ x. IsEnd x.1) later
+
+abbrev pub NothingOfItStays : Type 0
+NothingOfItStays = (f : Followed) (k : ℕ) → LastsToTheEnd f k → EndsInside f k
