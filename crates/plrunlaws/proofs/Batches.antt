@@ -14,7 +14,7 @@ use Rattle.plhist.specs.Legal.{worker_of, MayAsk, IsDue, AllDue, opening}
 use Rattle.plrunlaws.specs.Batches.{MakesBatch, IsAskedBatch, EachBatchIsAsked}
 
 -- a row whose act is a batch of a thread
-abbrev Makes : Row → ℕ → List Update → Type 0
+abbrev pub Makes : Row → ℕ → List Update → Type 0
 Makes x t us = x.1 ≡ Some (t, Act.Batch us)
 
 abbrev owner_in : Option (ℕ × Act) → ℕ
@@ -29,12 +29,12 @@ none-made : (t : ℕ) (us : List Update) → ◌≡◌ {A = Option (ℕ × Act)}
 none-made t us is = cc
 
 -- what is behind such a row
-record Behind (q : Request) (t : ℕ) (r : Reading) (owner : ℕ) (us : List Update) : Type 0 where
-  own : t ≡ owner
-  remains : is_leave q ≡ false
-  makes : MakesBatch r q us
-  worker : (w : ℕ) → MayAsk r.standing w t q → worker_of t r.standing.threads ≡ Some w
-  running : IsTrue (runs t r.standing)
+pub record Behind (q : Request) (t : ℕ) (r : Reading) (owner : ℕ) (us : List Update) : Type 0 where
+  pub own : t ≡ owner
+  pub remains : is_leave q ≡ false
+  pub makes : MakesBatch r q us
+  pub worker : (w : ℕ) → MayAsk r.standing w t q → worker_of t r.standing.threads ≡ Some w
+  pub running : IsTrue (runs t r.standing)
 
 start-makes : (q : Request) (t : ℕ) (r : Reading) (owner : ℕ) (us : List Update) (x : Option Thread) → Makes (start_row r.standing x) owner us → Behind q t r owner us
 start-makes q t r owner us None is = absurd (none-made owner us is)
@@ -105,7 +105,7 @@ not-halted (Some n) is = absurd (never is)
     never : true ≡ false → ⊥
     never is = cc
 
-served-makes : (q : Request) (t : ℕ) (r : Reading) (owner : ℕ) (us : List Update) → Makes (served q t r) owner us → Behind q t r owner us × (r.standing.halted ≡ None)
+pub served-makes : (q : Request) (t : ℕ) (r : Reading) (owner : ℕ) (us : List Update) → Makes (served q t r) owner us → Behind q t r owner us × (r.standing.halted ≡ None)
 unfolding served
 served-makes q t r owner us is = halts (is_halted r.standing && not (is_leave q)) refl is
   where

@@ -193,6 +193,15 @@ pub record Splits (asks : List Answer → Next) (h : List Entry) (t : ℕ) (gs :
 first-same : (x y : Answer) (xs ys : List Answer) → x ∷ xs ≡ y ∷ ys → (x ≡ y) × (xs ≡ ys)
 first-same x y xs ys is = (cc, cc)
 
+-- where one answer comes first, and then others, and the first and some of them are known
+answers-part : (old new all others : List Answer) (x a : Answer) (xs rest : List Answer) → new ≡ old ++ a ∷ [] → all ≡ new ++ others → all ≡ old ++ (x ∷ (xs ++ rest)) →
+    (all ≡ new ++ (xs ++ rest)) × (new ++ xs ≡ old ++ (x ∷ xs))
+answers-part old new all others x a xs rest new_is all_is whole =
+    let joined : x ∷ (xs ++ rest) ≡ a ∷ others =
+    append_cancel_left old (x ∷ (xs ++ rest)) (a ∷ others) (sym whole ∙ all_is ∙ ap (λ l. l ++ others) new_is ∙ append_assoc old (a ∷ []) others) in
+    let same = first-same x a (xs ++ rest) others joined in
+    (all_is ∙ ap (λ l. new ++ l) (sym same.1), ap (λ l. l ++ xs) (new_is ∙ ap (λ a. old ++ a ∷ []) (sym same.0)) ∙ append_assoc old (x ∷ []) xs)
+
 pub takes-split : (asks : List Answer → Next) (h : List Entry) (t : ℕ) (gs : List ℕ) (s s' : Taken) (xs rest : List Answer) → takes asks h t gs s ≡ Some s' → s'.answers ≡ s.answers ++ (xs ++ rest) → Splits asks h t gs s s' xs
 unfolding takes
 takes-split asks h t gs s s' [] rest is all = record { earlier = []; later = gs; split = refl; so_far = s; items = refl; rest = is; answers = sym (append-nil s.answers) }
@@ -206,15 +215,13 @@ takes-split asks h t (g ∷ gs) s s' (x ∷ xs) rest is all =
     let first = item-adds h t (item_of (asks s.answers)) g s m one.1 in
     let others = takes-adds asks h t gs m s' one.2 in
     let m_is : m.answers ≡ s.answers ++ first.answer ∷ [] = first.adds.answered ∙ ap (λ l. s.answers ++ l) first.only in
-    let joined : x ∷ (xs ++ rest) ≡ first.answer ∷ others.answers =
-    append_cancel_left s.answers (x ∷ (xs ++ rest)) (first.answer ∷ others.answers) (sym all ∙ others.answered ∙ ap (λ l. l ++ others.answers) m_is ∙ append_assoc s.answers (first.answer ∷ []) others.answers) in
-    let same = first-same x first.answer (xs ++ rest) others.answers joined in
-    let found = takes-split asks h t gs m s' xs rest one.2 (others.answered ∙ ap (λ l. m.answers ++ l) (sym same.1)) in record {
+    let both = answers-part s.answers m.answers s'.answers others.answers x first.answer xs rest m_is others.answered all in
+    let found = takes-split asks h t gs m s' xs rest one.2 both.0 in record {
       earlier = g ∷ found.earlier;
       later = found.later;
       split = ap (λ l. g ∷ l) found.split;
       so_far = found.so_far;
       items = takes-more asks h t g found.earlier s m found.so_far one.1 found.items;
       rest = found.rest;
-      answers = found.answers ∙ ap (λ l. l ++ xs) (m_is ∙ ap (λ a. s.answers ++ a ∷ []) (sym same.0)) ∙ append_assoc s.answers (x ∷ []) xs;
+      answers = found.answers ∙ both.1;
     }

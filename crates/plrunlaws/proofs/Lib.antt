@@ -4,4 +4,5 @@ pub mod Batches
 pub mod Standing
 pub mod Transactions
 pub mod Unended
+pub mod InTurn
 mod Worked

@@ -34,7 +34,7 @@ ends-with f k r run is =
     ap (λ e. next_of e.0) (sym is) ∙ ap (λ e. e.next) (sym (search-at f.program f.limit k (answers f))) ∙ ap (λ e. e.next) f.ended.ends
 
 -- all items of the run, the last one among them
-whole : (f : Followed) → takes (asks f) f.journal f.run.thread f.run.places (from_start (start_of f)) ≡ Some f.ended.asked.last
+pub whole : (f : Followed) → takes (asks f) f.journal f.run.thread f.run.places (from_start (start_of f)) ≡ Some f.ended.asked.last
 whole f =
     let a = f.ended.asked in
     let one : item_at f.journal f.run.thread (item_of (asks f a.before.answers)) a.final a.before ≡ Some a.last =

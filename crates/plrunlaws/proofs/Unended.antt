@@ -36,11 +36,11 @@ none-some s is = absurd (never is)
     never is = cc
 
 -- an act that ends the thread or the run, or none
-abbrev EndsIt : Option (ℕ × Act) → Type 0
+abbrev pub EndsIt : Option (ℕ × Act) → Type 0
 EndsIt None = Unit {0}
 EndsIt (Some x) = IsEnd x.1
 
-served-ends : (q : Request) (t : ℕ) (r : Reading) → EndsIt (row q t r).1 → EndsIt (served q t r).1
+pub served-ends : (q : Request) (t : ℕ) (r : Reading) → EndsIt (row q t r).1 → EndsIt (served q t r).1
 unfolding served
 served-ends q t r h = halts (is_halted r.standing && not (is_leave q))
   where
@@ -60,10 +60,10 @@ finish-ends ThreadEnd.Budget t = tt
 finish-ends (ThreadEnd.Halt n) t = tt
 
 -- items that make such entries alone
-record AddsEnds (s s' : Taken) : Type 0 where
-  new : List (ℕ × Act)
-  made : s'.made ≡ s.made ++ new
-  ends : All (λ x. IsEnd x.1) new
+pub record AddsEnds (s s' : Taken) : Type 0 where
+  pub new : List (ℕ × Act)
+  pub made : s'.made ≡ s.made ++ new
+  pub ends : All (λ x. IsEnd x.1) new
 
 adds-none : (s : Taken) → AddsEnds s s
 adds-none s = record { new = []; made = sym (append-nil s.made); ends = All-nil (λ x. IsEnd x.1) }
@@ -125,6 +125,16 @@ over-rest : (f : Followed) (r : Result) (run : Run) → Rest f.program (record {
 unfolding Rest outs
 over-rest f r run = refl
 
+-- behind the end of its machine's turns a thread makes nothing but its end
+pub ceases : (f : Followed) (s : Taken) (i : ℕ) (r : Result) (run : Run) → StandsAt f i s → at_turn f i ≡ record { mode = Back r; cases = []; run = run } → AddsEnds s f.ended.asked.last
+ceases f s i r run stood is =
+    let over : asks f s.answers ≡ Finishes f.came_to =
+    asks-then f i s stood
+    ∙ ap (λ m. next_of (Rest f.program (with_answers [] m)).0) is
+    ∙ ap (λ e. next_of e.0) (over-rest f r (record run { answers = [] }))
+    ∙ ends-with f i r run (ap (Rest f.program) is ∙ over-rest f r run) in
+    takes-ends (asks f) f.journal f.run.thread f.came_to stood.later s f.ended.asked.last (stays-ended f s f.came_to over) stood.rest
+
 -- an end of the machine's turns that comes later than any turn
 over-late : (f : Followed) → (n : ℕ) → (k : ℕ) (r : Result) (run : Run) → at_turn f k ≡ record { mode = Back r; cases = []; run = run } → at_turn f (k + n) ≡ record { mode = Back r; cases = []; run = run }
 unfolding turn
@@ -134,7 +144,7 @@ over-late f n k r run is = turns-both f.program k n (machine_of f.program f.limi
     still zero = refl
     still (suc n) = still n
 
-comes-to-end : (f : Followed) → (n : ℕ) × (r : Result) × (run : Run) × (at_turn f n ≡ record { mode = Back r; cases = []; run = run })
+pub comes-to-end : (f : Followed) → (n : ℕ) × (r : Result) × (run : Run) × (at_turn f n ≡ record { mode = Back r; cases = []; run = run })
 comes-to-end f =
     let end = search-by-turns f.program f.limit f.limit (answers f) in
     (end.0, end.1, end.2, ap (λ steps. turns f.program end.0 (machine_of f.program steps (answers f))) (sym (least-same f.limit)) ∙ end.3)
@@ -164,18 +174,8 @@ module _ (f : Followed) (k : ℕ) (lasts : LastsToTheEnd f k) (begun : Taken) wh
       (item-ends f.journal f.run.thread (HaltRun halt.0) one.place begun one.after (λ r. tt) (ap (λ q. item_at f.journal f.run.thread (Some q) one.place begun) (sym halt.1) ∙ one.answered))
       (takes-ends (asks f) f.journal f.run.thread f.came_to one.stands.later one.after last (stays-ended f one.after f.came_to over) one.stands.rest)
 
-  -- or it comes to its end with nothing asked
-  ceases : (i : ℕ) (r : Result) (run : Run) → StandsAt f i begun → at_turn f i ≡ record { mode = Back r; cases = []; run = run } → AddsEnds begun last
-  ceases i r run stood is =
-      let over : asks f begun.answers ≡ Finishes f.came_to =
-      asks-then f i begun stood
-      ∙ ap (λ m. next_of (Rest f.program (with_answers [] m)).0) is
-      ∙ ap (λ e. next_of e.0) (over-rest f r (record run { answers = [] }))
-      ∙ ends-with f i r run (ap (Rest f.program) is ∙ over-rest f r run) in
-      takes-ends (asks f) f.journal f.run.thread f.came_to stood.later begun last (stays-ended f begun f.came_to over) stood.rest
-
   looks : (n i : ℕ) (r : Result) (run : Run) → k < i → StandsAt f i begun → at_turn f (i + n) ≡ record { mode = Back r; cases = []; run = run } → AddsEnds begun last
-  looks zero i r run after stood is = let same : i ≡ i + 0 = omega arith in ceases i r run stood (ap (at_turn f) same ∙ is)
+  looks zero i r run after stood is = let same : i ≡ i + 0 = omega arith in ceases f begun i r run stood (ap (at_turn f) same ∙ is)
   looks (suc n) i r run after stood is = go (wanted (at_turn f i)) refl (looks n (suc i) r run (omega (arith, after)))
     where
       go : (o : Option Item) → wanted (at_turn f i) ≡ o → (StandsAt f (suc i) begun → at_turn f (suc i + n) ≡ record { mode = Back r; cases = []; run = run } → AddsEnds begun last) → AddsEnds begun last

@@ -1,15 +1,18 @@
 -- What a transaction or a snapshot does to the journal of a run that follows main's search.
-use Rattle.std.specs.Prelude.{◌≡◌, ℕ, suc, ◌<◌, ◌≤◌, true, false, List, [], ◌∷◌, ◌++◌}
+use Rattle.std.specs.Prelude.{◌≡◌, ℕ, suc, ◌<◌, ◌≤◌, true, false, List, [], ◌∷◌, ◌++◌, take, Some}
 use Rattle.std.specs.List.{All}
+use Rattle.plevent.specs.declared.request.Request.{Request}
 use Rattle.plevent.specs.declared.request.Reply.{Reply}
 use Rattle.plevent.specs.declared.update.Update.{Update}
 use Rattle.plevent.specs.declared.act.Act.{Act}
-use Rattle.plevent.specs.Search.{View, Got}
+use Rattle.plevent.specs.Reading.{reading}
+use Rattle.plevent.specs.Search.{View, Ask, Got}
 use Rattle.plhist.specs.Follows.{own, Taken}
 use Rattle.pltx.specs.Own.{State}
 use Rattle.pltx.specs.declared.level.Level.{Level}
 use Rattle.plsearch.specs.Machines.Machine.{Mode, At, Back, Machine}
-use Rattle.pltransactions.specs.Laws.{its_updates}
+use Rattle.pltransactions.specs.Laws.{wanted, its_updates}
+use Rattle.plrunlaws.specs.Batches.{MakesBatch}
 use Rattle.plrunlaws.specs.Standing.{Followed, at_turn, is_open, IsAnswered, started, StandsAt, AreBelow, AreFrom}
 
 -- turn k begins an outermost transaction or snapshot, and turn j ends it: nothing is open before it and behind it, and something is between
@@ -89,3 +92,22 @@ pub record EndsInside (f : Followed) (k : ℕ) : Type 0 where
 
 abbrev pub NothingOfItStays : Type 0
 NothingOfItStays = (f : Followed) (k : ℕ) → LastsToTheEnd f k → EndsInside f k
+
+-- A batch of the thread at the place g, with some of its entries before it: a turn at which nothing is open asks for it, a publication or
+-- the erasure of one clause that is alive, when the thread has made those entries; and there it is answered.
+pub record IsAskedInTurn (f : Followed) (before : List (ℕ × Act)) (g : ℕ) (us : List Update) : Type 0 where
+  pub turn : ℕ
+  pub so_far : Taken
+  pub stood : StandsAt f turn so_far
+  pub made : before ≡ started f so_far.made
+  pub closed : is_open f turn ≡ false
+  pub asked : Request
+  pub asks : wanted (at_turn f turn) ≡ Some (Ask asked)
+  pub makes : MakesBatch (reading (take g f.journal)) asked us
+  pub after : Taken
+  pub answered : IsAnswered f (Ask asked) g so_far after
+  pub stands : StandsAt f (suc turn) after
+
+abbrev pub EachBatchInTurn : Type 0
+EachBatchInTurn = (f : Followed) (before behind : List (ℕ × Act)) (g : ℕ) (us : List Update) →
+    own f.run.thread f.journal ≡ before ++ (g, Act.Batch us) ∷ behind → IsAskedInTurn f before g us

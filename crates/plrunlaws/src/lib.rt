@@ -8,7 +8,7 @@
 
 ghost use Rattle.plrunlaws.specs.Batches.{EachBatchIsAsked};
 ghost use Rattle.plrunlaws.specs.Standing.{StandsSomewhere, StandsOnce, AsksInTurn, StaysElse, EntriesInOrder};
-ghost use Rattle.plrunlaws.specs.Transactions.{TransactionsStandAlone, NothingOfItStays};
+ghost use Rattle.plrunlaws.specs.Transactions.{TransactionsStandAlone, NothingOfItStays, EachBatchInTurn};
 
 /// Each batch behind the first entry of a legal journal is the act of a publication, or of the erasure of one clause that was alive.
 #[tactic(auto, using(crate::proofs::Batches::laws))]
@@ -47,4 +47,10 @@ pub fn transactions_stand_alone()
 #[tactic(auto, using(crate::proofs::Unended::laws))]
 pub fn nothing_of_it_stays()
     ensures { NothingOfItStays }
+{}
+
+/// Each batch of a run's thread is what a turn asks at which nothing is open: a publication, or the erasure of one clause.
+#[tactic(auto, using(crate::proofs::InTurn::laws))]
+pub fn each_batch_in_turn()
+    ensures { EachBatchInTurn }
 {}
