@@ -2,12 +2,13 @@
 use Rattle.std.proofs.Common.{◌≡◌, ℕ, zero, suc, ◌+◌, ◌⊎◌, inl, inr, Bool, true, false, All, List, [], ◌∷◌, ◌++◌, take, Option, Some, None, refl, sym, ap, ◌∙◌, subst, arith, append_assoc}
 use Rattle.std.proofs.lemmas.List.{append_cancel_left}
 use Rattle.std.proofs.lemmas.List.Elements.{All-head, All-tail}
+use Rattle.plevent.specs.declared.request.ThreadEnd.{ThreadEnd}
 use Rattle.plevent.specs.declared.request.Request.{Request}
 use Rattle.plevent.specs.declared.request.Request.TheVariants.{HaltRun}
 use Rattle.plevent.specs.declared.request.Reply.{Reply}
 use Rattle.plevent.specs.declared.update.Update.{Update}
 use Rattle.plevent.specs.declared.act.Act.{Act}
-use Rattle.plevent.specs.Reading.{Reading, reading}
+use Rattle.plevent.specs.Reading.{reading}
 use Rattle.plevent.specs.Rows.{served}
 use Rattle.plevent.specs.Search.{Item, View, Ask}
 use Rattle.plhist.specs.Follows.{own, Taken, is_not_yet, noted, answered, from_start}
@@ -15,13 +16,12 @@ use Rattle.plsearch.specs.Types.{Result, Run}
 use Rattle.plsearch.specs.Machines.Machine.{Back}
 use Rattle.pltransactions.specs.Laws.{wanted}
 use Rattle.pltransactions.proofs.Transactions.{open-asks-nothing}
-use Rattle.plrunlaws.specs.Batches.{MakesBatch}
 use Rattle.plrunlaws.specs.Standing.{Followed, asks, at_turn, is_open, IsAnswered, start_of, started, StandsAt}
-use Rattle.plrunlaws.specs.Transactions.{IsEnd, IsAskedInTurn, EachBatchInTurn}
+use Rattle.plrunlaws.specs.Transactions.{act_of, IsAskedInTurn, EachBatchInTurn}
 use Rattle.plrunlaws.proofs.Items.{the-same, answer-is, takes-nothing}
 use Rattle.plrunlaws.proofs.Standing.{whole, AskedAt, asked-at, stays-else, entries-in-order}
 use Rattle.plrunlaws.proofs.Transactions.{reached}
-use Rattle.plrunlaws.proofs.Unended.{EndsIt, served-ends, AddsEnds, ceases, comes-to-end}
+use Rattle.plrunlaws.proofs.Unended.{IsThat, served-ends, ceases, comes-to-end}
 use Rattle.plrunlaws.proofs.Batches.{served-makes}
 
 none-some : {A : Type 0} (s : Taken) → ◌≡◌ {A = Option Taken} None (Some s) → A
@@ -59,9 +59,9 @@ Mine = List (ℕ × Act)
 heads : (x y : ℕ × Act) (xs ys : Mine) → x ∷ xs ≡ y ∷ ys → (x ≡ y) × (xs ≡ ys)
 heads x y xs ys is = (cc, cc)
 
-all-at : (xs : Mine) (y : ℕ × Act) (ys : Mine) → All (λ x. IsEnd x.1) (xs ++ y ∷ ys) → IsEnd y.1
-all-at [] y ys all = All-head (λ x. IsEnd x.1) y ys all
-all-at (x ∷ xs) y ys all = all-at xs y ys (All-tail (λ x. IsEnd x.1) x (xs ++ y ∷ ys) all)
+all-at : (a : Act) (xs : Mine) (y : ℕ × Act) (ys : Mine) → All (λ x. x.1 ≡ a) (xs ++ y ∷ ys) → y.1 ≡ a
+all-at a [] y ys all = All-head (λ x. x.1 ≡ a) y ys all
+all-at a (x ∷ xs) y ys all = all-at a xs y ys (All-tail (λ x. x.1 ≡ a) x (xs ++ y ∷ ys) all)
 
 module _ (f : Followed) (before behind : Mine) (g : ℕ) (us : List Update) (owns : own f.run.thread f.journal ≡ before ++ (g, Act.Batch us) ∷ behind) where
   abbrev entry : ℕ × Act
@@ -80,7 +80,17 @@ module _ (f : Followed) (before behind : Mine) (g : ℕ) (us : List Update) (own
           let halt = open-asks-nothing f.program (at_turn f k) (Ask q) (reached f k) now is in
           let same = request (HaltRun halt.0) halt.1 in
           let r = reading (take g f.journal) in
-          absurd (subst EndsIt row (subst (λ q. EndsIt (served q f.run.thread r).1) (sym same) (served-ends (HaltRun halt.0) f.run.thread r tt)))
+          absurd (apart (subst (IsThat (Act.Halt halt.0)) row (subst (λ q. IsThat (Act.Halt halt.0) (served q f.run.thread r).1) (sym same) (served-ends (Act.Halt halt.0) (HaltRun halt.0) f.run.thread r refl))))
+        where
+          apart : {n : ℕ} → Act.Batch us ≡ Act.Halt n → ⊥
+          apart is = cc
+
+  no-end : (e : ThreadEnd) → Act.Batch us ≡ act_of e → ⊥
+  no-end (ThreadEnd.Halt n) is = cc
+  no-end ThreadEnd.True is = cc
+  no-end ThreadEnd.False is = cc
+  no-end (ThreadEnd.Exception b) is = cc
+  no-end ThreadEnd.Budget is = cc
 
   -- the turn that makes it
   found : (k : ℕ) (s : Taken) (q : Item) → StandsAt f k s → wanted (at_turn f k) ≡ Some q → (one : AskedAt f k s q) → (e : Entered f q one.place s one.after) → before ≡ started f s.made → (one.place, e.act) ≡ entry → IsAskedInTurn f before g us
@@ -110,7 +120,7 @@ module _ (f : Followed) (before behind : Mine) (g : ℕ) (us : List Update) (own
       let rest : ends.new ≡ extra ++ entry ∷ behind =
       append_cancel_left (started f s.made) ends.new (extra ++ entry ∷ behind)
       (sym (ap (started f) ends.made) ∙ sym f.ended.asked.entries ∙ owns ∙ ap (λ l. l ++ entry ∷ behind) front ∙ append_assoc (started f s.made) extra (entry ∷ behind)) in
-      absurd (all-at extra entry behind (subst (All (λ x. IsEnd x.1)) rest ends.ends))
+      absurd (no-end f.came_to (all-at (act_of f.came_to) extra entry behind (subst (All (λ x. x.1 ≡ act_of f.came_to)) rest ends.ends)))
   looks (suc n) k s extra r run stood front is = go (wanted (at_turn f k)) refl (λ s extra. looks n (suc k) s extra r run)
     where
       at_end : at_turn f (suc k + n) ≡ record { mode = Back r; cases = []; run = run }

@@ -202,6 +202,18 @@ answers-part old new all others x a xs rest new_is all_is whole =
     let same = first-same x a (xs ++ rest) others joined in
     (all_is ∙ ap (λ l. new ++ l) (sym same.1), ap (λ l. l ++ xs) (new_is ∙ ap (λ a. old ++ a ∷ []) (sym same.0)) ∙ append_assoc old (x ∷ []) xs)
 
+splits-more : (asks : List Answer → Next) (h : List Entry) (t g : ℕ) (gs : List ℕ) (s m s' : Taken) (x : Answer) (xs : List Answer) → item_at h t (item_of (asks s.answers)) g s ≡ Some m →
+    m.answers ++ xs ≡ s.answers ++ (x ∷ xs) → Splits asks h t gs m s' xs → Splits asks h t (g ∷ gs) s s' (x ∷ xs)
+splits-more asks h t g gs s m s' x xs one all found = record {
+  earlier = g ∷ found.earlier;
+  later = found.later;
+  split = ap (λ l. g ∷ l) found.split;
+  so_far = found.so_far;
+  items = takes-more asks h t g found.earlier s m found.so_far one found.items;
+  rest = found.rest;
+  answers = found.answers ∙ all;
+}
+
 pub takes-split : (asks : List Answer → Next) (h : List Entry) (t : ℕ) (gs : List ℕ) (s s' : Taken) (xs rest : List Answer) → takes asks h t gs s ≡ Some s' → s'.answers ≡ s.answers ++ (xs ++ rest) → Splits asks h t gs s s' xs
 unfolding takes
 takes-split asks h t gs s s' [] rest is all = record { earlier = []; later = gs; split = refl; so_far = s; items = refl; rest = is; answers = sym (append-nil s.answers) }
@@ -216,12 +228,4 @@ takes-split asks h t (g ∷ gs) s s' (x ∷ xs) rest is all =
     let others = takes-adds asks h t gs m s' one.2 in
     let m_is : m.answers ≡ s.answers ++ first.answer ∷ [] = first.adds.answered ∙ ap (λ l. s.answers ++ l) first.only in
     let both = answers-part s.answers m.answers s'.answers others.answers x first.answer xs rest m_is others.answered all in
-    let found = takes-split asks h t gs m s' xs rest one.2 both.0 in record {
-      earlier = g ∷ found.earlier;
-      later = found.later;
-      split = ap (λ l. g ∷ l) found.split;
-      so_far = found.so_far;
-      items = takes-more asks h t g found.earlier s m found.so_far one.1 found.items;
-      rest = found.rest;
-      answers = found.answers ∙ both.1;
-    }
+    splits-more asks h t g gs s m s' x xs one.1 both.1 (takes-split asks h t gs m s' xs rest one.2 both.0)

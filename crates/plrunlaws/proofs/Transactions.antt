@@ -20,7 +20,7 @@ use Rattle.plsearch.specs.Rows.{meet}
 use Rattle.plsearch.specs.Replies.{answered}
 use Rattle.plsearch.specs.Machines.Machine.{Mode, At, Back, Machine, Rest, ask, turn}
 use Rattle.pltransactions.specs.Laws.{turns, machine_of, IsReached, wanted, IsLast, IsEnding, at_end, its_updates}
-use Rattle.pltransactions.proofs.Transactions.{open-answer-ends, outer-end-publishes}
+use Rattle.pltransactions.proofs.Transactions.{open-asks-nothing, open-answer-ends, outer-end-publishes}
 use Rattle.pltransactions.proofs.Opening.{opens-with-view, closes-at-its-end}
 use Rattle.plrunlaws.specs.Standing.{Followed, answers, at_turn, IsAnswered, started, StandsAt, AreFrom}
 use Rattle.plrunlaws.specs.Transactions.{Lasts, updates_at, published_in, with_batch, Publishes, TransactionsStandAlone}
@@ -40,16 +40,16 @@ reached f k = (f.limit, answers f, k, refl)
 pub next-turn : (f : Followed) (k : ℕ) → at_turn f (suc k) ≡ turn f.program (at_turn f k)
 next-turn f k = turns-next f.program k (machine_of f.program f.limit (answers f))
 
-pub last-final : (r : Result) → IsLast r → IsFinal r
-last-final (Halted n) is = tt
-last-final Stopped is = tt
-last-final Unfit is = tt
-last-final r is = absurd is
+pub last-final : (n : ℕ) (r : Result) → IsLast n r → IsFinal r
+last-final n (Halted k) is = tt
+last-final n Stopped is = tt
+last-final n Unfit is = tt
+last-final n r is = absurd is
 
 -- where a result that nothing goes on behind is carried outward, what is open stays open
-last-stays : (P : Program) (n : ℕ) (m : Machine) (r : Result) → IsLast r → m.mode ≡ Back r → (turns P n m).run ≡ m.run
-last-stays P n m r is at =
-    ap (λ mode. (turns P n (record { mode = mode; cases = m.cases; run = m.run })).run) at ∙ final-stays P n r m.cases m.run (last-final r is)
+last-stays : (P : Program) (n i : ℕ) (m : Machine) (r : Result) → IsLast i r → m.mode ≡ Back r → (turns P n m).run ≡ m.run
+last-stays P n i m r is at =
+    ap (λ mode. (turns P n (record { mode = mode; cases = m.cases; run = m.run })).run) at ∙ final-stays P n r m.cases m.run (last-final i r is)
 
 -- the view with which it begins
 pub record Viewed (f : Followed) (s : Taken) (g : ℕ) (s' : Taken) : Type 0 where
@@ -76,13 +76,14 @@ module _ (f : Followed) (k j : ℕ) (lasts : Lasts f k j) where
       go (Some q) is =
           let now = lasts.between i after within in
           let one = asked-at f i s q stood is in
-          let end = open-answer-ends f.program (at_turn f i) q one.answer one.others (reached f i) now is one.left in
+          let halt = open-asks-nothing f.program (at_turn f i) q (reached f i) now is in
+          let end = open-answer-ends f.program (at_turn f i) halt.0 one.answer one.others (reached f i) now (is ∙ ap Some halt.1) one.left in
           let far : suc i + (j - i) ≡ suc j = omega (arith, within) in
           let there : (at_turn f (suc j)).run ≡ (turn f.program (at_turn f i)).run =
           ap (λ n. (at_turn f n).run) (sym far)
           ∙ ap (λ m. m.run) (turns-both f.program (suc i) (j - i) (machine_of f.program f.limit (answers f)))
           ∙ ap (λ m. (turns f.program (j - i) m).run) (next-turn f i)
-          ∙ last-stays f.program (j - i) (turn f.program (at_turn f i)) end.0 end.1 end.2 in
+          ∙ last-stays f.program (j - i) halt.0 (turn f.program (at_turn f i)) end.0 end.1 end.2 in
           absurd (apart (ap (λ run. any_open run.local.own) there ∙ ap (λ w. any_open w.own) end.3 ∙ now) lasts.behind)
 
   -- so the run stands where the view put it
@@ -108,7 +109,7 @@ module _ (f : Followed) (k j : ℕ) (lasts : Lasts f k j) where
           stays-else f i s here (silent i s later (omega (arith, within)) here)
 
 -- the answer to a publication
-ceases-ends : {A : Type 0} (e : ThreadEnd) → Ceases ≡ Finishes e → A
+pub ceases-ends : {A : Type 0} (e : ThreadEnd) → Ceases ≡ Finishes e → A
 ceases-ends e is = absurd (never is)
   where
     never : Ceases ≡ Finishes e → ⊥

@@ -1,6 +1,7 @@
 -- What a transaction or a snapshot does to the journal of a run that follows main's search.
 use Rattle.std.specs.Prelude.{◌≡◌, ℕ, suc, ◌<◌, ◌≤◌, true, false, List, [], ◌∷◌, ◌++◌, take, Some}
 use Rattle.std.specs.List.{All}
+use Rattle.plevent.specs.declared.request.ThreadEnd.{ThreadEnd}
 use Rattle.plevent.specs.declared.request.Request.{Request}
 use Rattle.plevent.specs.declared.request.Reply.{Reply}
 use Rattle.plevent.specs.declared.update.Update.{Update}
@@ -65,19 +66,24 @@ pub record StandsAlone (f : Followed) (k j : ℕ) : Type 0 where
 abbrev pub TransactionsStandAlone : Type 0
 TransactionsStandAlone = (f : Followed) (k j : ℕ) → Lasts f k j → StandsAlone f k j
 
--- an entry that ends its thread, or the run
-abbrev pub IsEnd : Act → Type 0
-IsEnd (Act.End e) = Unit {0}
-IsEnd (Act.Halt n) = Unit {0}
-IsEnd a = ⊥
+-- the entry that tells of an end
+abbrev pub act_of : ThreadEnd → Act
+act_of (ThreadEnd.Halt n) = Act.Halt n
+act_of e = Act.End e
+
+-- its last step was taken, or it ended the run
+abbrev pub IsCutShort : ThreadEnd → Type 0
+IsCutShort ThreadEnd.Budget = Unit {0}
+IsCutShort (ThreadEnd.Halt n) = Unit {0}
+IsCutShort e = ⊥
 
 -- turn k begins one in which the run ends: from then on something is open
 pub record LastsToTheEnd (f : Followed) (k : ℕ) : Type 0 where
   pub before : is_open f k ≡ false
   pub behind : (i : ℕ) → k < i → is_open f i ≡ true
 
--- Where a run ends inside of one, as it takes its last step or ends the run there, nothing of it is published: what stands behind its view
--- of the thread's entries ends the thread or the run.
+-- A run ends inside of one where it has no step left, or ends the run there. Nothing of it is published then: the thread's entries from the
+-- place of the view on tell of that end.
 pub record EndsInside (f : Followed) (k : ℕ) : Type 0 where
   pub before : Taken
   pub place : ℕ
@@ -88,7 +94,8 @@ pub record EndsInside (f : Followed) (k : ℕ) : Type 0 where
   pub entries : own f.run.thread f.journal ≡ started f before.made ++ later
   pub below : AreBelow place (started f before.made)
   pub from : AreFrom place later
-  pub ends : All (λ x. IsEnd x.1) later
+  pub short : IsCutShort f.came_to
+  pub ends : All (λ x. x.1 ≡ act_of f.came_to) later
 
 abbrev pub NothingOfItStays : Type 0
 NothingOfItStays = (f : Followed) (k : ℕ) → LastsToTheEnd f k → EndsInside f k

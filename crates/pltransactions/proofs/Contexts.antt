@@ -82,9 +82,9 @@ Fits Γ (Raise b ∷ es) = Fits Γ es
 Fits Γ (Asking q ∷ es) = ⊥
 Fits Γ (Erasing x ∷ es) = Fits Γ es
 
--- it asks to end the run, and nothing goes on behind it
+-- it asks to end the run with a number, and nothing goes on behind it
 abbrev pub Halts : Question → Type 0
-Halts q = (n k : ℕ) × (q ≡ Await (HaltRun n) (Ends k))
+Halts q = (n : ℕ) × (q ≡ Await (HaltRun n) (Ends n))
 
 -- what a machine is at may ask besides, where nothing is open
 unfoldable pub FitsFirst : List Entry → State → List Element → Type 0

@@ -183,9 +183,8 @@ waits-for-what-it-asks P m q is none = go m.mode is
 -- a list at which the end of the run is asked for
 record AsksToHalt (mode : Mode) (q : Item) : Type 0 where
   number : ℕ
-  status : ℕ
   behind : Place
-  at : mode ≡ At (record { goals = Asking (Await (HaltRun number) (Ends status)) ∷ behind.goals; variables = behind.variables })
+  at : mode ≡ At (record { goals = Asking (Await (HaltRun number) (Ends number)) ∷ behind.goals; variables = behind.variables })
   item : q ≡ Ask (HaltRun number)
 
 -- where something is open, nothing else is asked
@@ -201,9 +200,8 @@ open-asks P m q reached now is = go m.mode (reached-fits P m reached).here is
       where
         never : false ≡ true → ⊥
         never is = cc
-    asks x es n (inr (i, k, same)) is = record {
+    asks x es n (inr (i, same)) is = record {
       number = i;
-      status = k;
       behind = record { goals = es; variables = n };
       at = ap (λ x. At (record { goals = Asking x ∷ es; variables = n })) same;
       item = let one : asked x ≡ q = cc in sym one ∙ ap asked same;
@@ -237,32 +235,36 @@ pub open-asks-nothing : OpenAsksNothing
 open-asks-nothing P m q reached now is = let halt = open-asks P m q reached now is in (halt.number, halt.item)
 
 -- what is made of the answer
-halt-answered : (i k : ℕ) (a : Answer) (d : ℕ) (es : List Element) (n : ℕ) (w : Local) → (r : Result) × IsLast r × (answered (Asking (Await (HaltRun i) (Ends k))) a d es n w ≡ Give r w)
+halt-answered : (i : ℕ) (a : Answer) (d : ℕ) (es : List Element) (n : ℕ) (w : Local) → (r : Result) × IsLast i r × (answered (Asking (Await (HaltRun i) (Ends i))) a d es n w ≡ Give r w)
 unfolding answered
-halt-answered i k (Seen g us) d es n w = (Unfit, tt, refl)
-halt-answered i k (Got replies.Done) d es n w = (Halted k, tt, refl)
-halt-answered i k (Got replies.Stopped) d es n w = (Stopped, tt, refl)
-halt-answered i k (Got r) d es n w = (Unfit, tt, refl)
+halt-answered i (Seen g us) d es n w = (Unfit, tt, refl)
+halt-answered i (Got replies.Done) d es n w = (Halted i, refl, refl)
+halt-answered i (Got replies.Stopped) d es n w = (Stopped, tt, refl)
+halt-answered i (Got r) d es n w = (Unfit, tt, refl)
 
 pub open-answer-ends : OpenAnswerEnds
 unfolding turn meet
-open-answer-ends P m q a more reached now is some = go (open-asks P m q reached now is)
+open-answer-ends P m i a more reached now is some = go (open-asks P m (Ask (HaltRun i)) reached now is)
   where
-    Last : Machine → Type 0
-    Last x = (r : Result) × IsLast r × (x.mode ≡ Back r) × (x.run.local ≡ m.run.local)
+    Last : ℕ → Machine → Type 0
+    Last i x = (r : Result) × IsLast i r × (x.mode ≡ Back r) × (x.run.local ≡ m.run.local)
 
-    answers : (i k : ℕ) (es : List Element) (n : ℕ) → Last (ask m.cases (Asking (Await (HaltRun i) (Ends k))) es n (Ask (HaltRun i)) m.run (a ∷ more))
-    answers i k es n =
-        let e = Asking (Await (HaltRun i) (Ends k)) in
+    number : (i k : ℕ) → Ask (HaltRun i) ≡ Ask (HaltRun k) → k ≡ i
+    number i k is = cc
+
+    answers : (i : ℕ) (es : List Element) (n : ℕ) → Last i (ask m.cases (Asking (Await (HaltRun i) (Ends i))) es n (Ask (HaltRun i)) m.run (a ∷ more))
+    answers i es n =
+        let e = Asking (Await (HaltRun i) (Ends i)) in
         let run = record m.run { answers = more; below = founded e a m.run.below } in
-        let end = halt-answered i k a (deeper m.cases 0) es n m.run.local in
+        let end = halt-answered i a (deeper m.cases 0) es n m.run.local in
         (end.0, end.1, ap (λ x. (move m.cases run x).mode) end.2, ap (λ x. (move m.cases run x).run.local) end.2)
 
-    go : AsksToHalt m.mode q → Last (turn_in P m.cases m.run m.mode)
+    go : AsksToHalt m.mode (Ask (HaltRun i)) → Last i (turn_in P m.cases m.run m.mode)
     go halt =
-        let e = Asking (Await (HaltRun halt.number) (Ends halt.status)) in
-        subst (λ mode. Last (turn_in P m.cases m.run mode)) (sym halt.at)
-        (subst (λ xs. Last (ask m.cases e halt.behind.goals halt.behind.variables (Ask (HaltRun halt.number)) m.run xs)) (sym some) (answers halt.number halt.status halt.behind.goals halt.behind.variables))
+        let e = Asking (Await (HaltRun halt.number) (Ends halt.number)) in
+        subst (λ i. Last i (turn_in P m.cases m.run m.mode)) (number i halt.number halt.item)
+        (subst (λ mode. Last halt.number (turn_in P m.cases m.run mode)) (sym halt.at)
+        (subst (λ xs. Last halt.number (ask m.cases e halt.behind.goals halt.behind.variables (Ask (HaltRun halt.number)) m.run xs)) (sym some) (answers halt.number halt.behind.goals halt.behind.variables)))
 
 -- ends with success
 outer-updates : (us : List Update) (level : Level) (i : Isolation) → level.kind ≡ i → published (ending_at true us (level ∷ [])) ≡ its_updates i us

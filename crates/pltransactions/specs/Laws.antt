@@ -88,17 +88,17 @@ ClosesAtItsEnd = (P : Program) (m : Machine) → any_open m.run.local.own ≡ tr
 abbrev pub OpenAsksNothing : Type 0
 OpenAsksNothing = (P : Program) (m : Machine) (q : Item) → IsReached P m → any_open m.run.local.own ≡ true → wanted m ≡ Some q → (n : ℕ) × (q ≡ Ask (HaltRun n))
 
--- nothing goes on behind it: it passes all that is open
-abbrev pub IsLast : Result → Type 0
-IsLast (Halted n) = Unit {0}
-IsLast Stopped = Unit {0}
-IsLast Unfit = Unit {0}
-IsLast r = ⊥
+-- the run has ended with this number, or has stopped, or was answered amiss: nothing goes on behind it, and it passes all that is open
+abbrev pub IsLast : ℕ → Result → Type 0
+IsLast n (Halted k) = k ≡ n
+IsLast n Stopped = Unit {0}
+IsLast n Unfit = Unit {0}
+IsLast n r = ⊥
 
 -- and the answer to that ends the search: what is open stays open
 abbrev pub OpenAnswerEnds : Type 0
-OpenAnswerEnds = (P : Program) (m : Machine) (q : Item) (a : Answer) (more : List Answer) → IsReached P m → any_open m.run.local.own ≡ true →
-    wanted m ≡ Some q → m.run.answers ≡ a ∷ more → (r : Result) × IsLast r × ((turn P m).mode ≡ Back r) × ((turn P m).run.local ≡ m.run.local)
+OpenAnswerEnds = (P : Program) (m : Machine) (n : ℕ) (a : Answer) (more : List Answer) → IsReached P m → any_open m.run.local.own ≡ true →
+    wanted m ≡ Some (Ask (HaltRun n)) → m.run.answers ≡ a ∷ more → (r : Result) × IsLast n r × ((turn P m).mode ≡ Back r) × ((turn P m).run.local ≡ m.run.local)
 
 -- at its end with success
 abbrev pub at_end : ℕ → ℕ → Place → List Case → Run → Machine
