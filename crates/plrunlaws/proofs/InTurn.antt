@@ -16,8 +16,8 @@ use Rattle.plsearch.specs.Types.{Result, Run}
 use Rattle.plsearch.specs.Machines.Machine.{Back}
 use Rattle.pltransactions.specs.Laws.{wanted}
 use Rattle.pltransactions.proofs.Transactions.{open-asks-nothing}
-use Rattle.plrunlaws.specs.Standing.{Followed, asks, at_turn, is_open, IsAnswered, start_of, started, StandsAt}
-use Rattle.plrunlaws.specs.Transactions.{act_of, IsAskedInTurn, EachBatchInTurn}
+use Rattle.plrunlaws.specs.Standing.{Followed, asks, at_turn, is_open, IsAnswered, start_of, started, StandsAt, act_of}
+use Rattle.plrunlaws.specs.Transactions.{IsAskedInTurn, EachBatchInTurn}
 use Rattle.plrunlaws.proofs.Items.{the-same, answer-is, takes-nothing}
 use Rattle.plrunlaws.proofs.Standing.{whole, AskedAt, asked-at, stays-else, entries-in-order}
 use Rattle.plrunlaws.proofs.Transactions.{reached}

@@ -22,8 +22,8 @@ use Rattle.plsearch.proofs.Ends.{ends_ignore}
 use Rattle.pltransactions.specs.Laws.{turns, machine_of, wanted, IsLast, IsDone}
 use Rattle.pltransactions.proofs.Transactions.{search-by-turns, open-asks-nothing, open-answer-ends, nothing-left-open}
 use Rattle.pltransactions.proofs.Opening.{opens-with-view}
-use Rattle.plrunlaws.specs.Standing.{Followed, asks, answers, at_turn, started, StandsAt, AreFrom}
-use Rattle.plrunlaws.specs.Transactions.{act_of, IsCutShort, LastsToTheEnd, NothingOfItStays}
+use Rattle.plrunlaws.specs.Standing.{Followed, asks, answers, at_turn, started, StandsAt, AreFrom, act_of}
+use Rattle.plrunlaws.specs.Transactions.{IsCutShort, LastsToTheEnd, NothingOfItStays}
 use Rattle.plrunlaws.proofs.Items.{the-same, below-more, answer-is, item-adds, takes-first, takes-none}
 use Rattle.plrunlaws.proofs.Machines.{turns-both, with_answers, final-rest}
 use Rattle.plrunlaws.proofs.Standing.{least-same, search-at, ends-with, short-of, asked-at, stands-somewhere, stays-else, started-below, entries-in-order}

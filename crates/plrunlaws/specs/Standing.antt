@@ -1,5 +1,5 @@
 -- Where a run that follows main's search stands in the journal, at each turn of the machine that does the search.
-use Rattle.std.specs.Prelude.{◌≡◌, ℕ, suc, ◌<◌, ◌≤◌, Bool, List, ◌∷◌, ◌++◌, Some, None}
+use Rattle.std.specs.Prelude.{◌≡◌, ℕ, suc, ◌<◌, ◌≤◌, Bool, List, [], ◌∷◌, ◌++◌, Some, None}
 use Rattle.std.specs.List.{All}
 use Rattle.plevent.specs.declared.request.ThreadEnd.{ThreadEnd}
 use Rattle.plevent.specs.declared.act.Act.{Act}
@@ -92,3 +92,12 @@ pub record EntriesPart (f : Followed) (s : Taken) : Type 0 where
 
 abbrev pub EntriesInOrder : Type 0
 EntriesInOrder = (f : Followed) (k : ℕ) (s : Taken) → StandsAt f k s → EntriesPart f s
+
+-- the entry that tells of an end
+abbrev pub act_of : ThreadEnd → Act
+act_of (ThreadEnd.Halt n) = Act.Halt n
+act_of e = Act.End e
+
+-- the last of them tells of its end, at the last of the places
+abbrev pub EndsWithItsEnd : Type 0
+EndsWithItsEnd = (f : Followed) → own f.run.thread f.journal ≡ started f f.ended.asked.before.made ++ (f.ended.asked.final, act_of f.came_to) ∷ []

@@ -14,7 +14,7 @@ use Rattle.pltx.specs.declared.level.Level.{Level}
 use Rattle.plsearch.specs.Machines.Machine.{Mode, At, Back, Machine}
 use Rattle.pltransactions.specs.Laws.{wanted, its_updates}
 use Rattle.plrunlaws.specs.Batches.{MakesBatch}
-use Rattle.plrunlaws.specs.Standing.{Followed, at_turn, is_open, IsAnswered, started, StandsAt, AreBelow, AreFrom}
+use Rattle.plrunlaws.specs.Standing.{Followed, at_turn, is_open, IsAnswered, started, StandsAt, AreBelow, AreFrom, act_of}
 
 -- turn k begins an outermost transaction or snapshot, and turn j ends it: nothing is open before it and behind it, and something is between
 pub record Lasts (f : Followed) (k j : ℕ) : Type 0 where
@@ -65,11 +65,6 @@ pub record StandsAlone (f : Followed) (k j : ℕ) : Type 0 where
 
 abbrev pub TransactionsStandAlone : Type 0
 TransactionsStandAlone = (f : Followed) (k j : ℕ) → Lasts f k j → StandsAlone f k j
-
--- the entry that tells of an end
-abbrev pub act_of : ThreadEnd → Act
-act_of (ThreadEnd.Halt n) = Act.Halt n
-act_of e = Act.End e
 
 -- its last step was taken, or it ended the run
 abbrev pub IsCutShort : ThreadEnd → Type 0

@@ -7,7 +7,7 @@
 #![tactic(auto)]
 
 ghost use Rattle.plrunlaws.specs.Batches.{EachBatchIsAsked};
-ghost use Rattle.plrunlaws.specs.Standing.{StandsSomewhere, StandsOnce, AsksInTurn, StaysElse, EntriesInOrder};
+ghost use Rattle.plrunlaws.specs.Standing.{StandsSomewhere, StandsOnce, AsksInTurn, StaysElse, EntriesInOrder, EndsWithItsEnd};
 ghost use Rattle.plrunlaws.specs.Transactions.{TransactionsStandAlone, NothingOfItStays, EachBatchInTurn};
 
 /// Each batch behind the first entry of a legal journal is the act of a publication, or of the erasure of one clause that was alive.
@@ -30,10 +30,11 @@ pub fn asks_in_turn()
     ensures stays { StaysElse }
 {}
 
-/// The entries that a thread made by a turn stand before all that it makes later.
+/// The entries that a thread made by a turn stand before all that it makes later, and the last of all tells of its end.
 #[tactic(auto, using(crate::proofs::Standing::laws))]
 pub fn entries_in_order()
-    ensures { EntriesInOrder }
+    ensures order { EntriesInOrder }
+    ensures ends { EndsWithItsEnd }
 {}
 
 /// From the view with which an outermost transaction or snapshot begins to its end, the journal gets no entry of its thread; and if it
