@@ -5,7 +5,7 @@ use Rattle.std.proofs.lemmas.Bool.Decides.{nat_tests}
 use Rattle.plterm.specs.Tree.{Tree}
 use Rattle.pltx.specs.Own.{State, any_open, nothing}
 use Rattle.plevent.specs.declared.request.Request.TheVariants.{HaltRun}
-use Rattle.plsearch.specs.Types.{Commit, Never, Until, Collect, Transact, Then, Question, Await, Element, Goal, Marker, Raise, Asking, Erasing, Case, Choice, Mark, Handle, Handler, Catch, Gather, Undo}
+use Rattle.plsearch.specs.Types.{Commit, Never, Until, Collect, Transact, Ends, Question, Await, Element, Goal, Marker, Raise, Asking, Erasing, Case, Choice, Mark, Handle, Handler, Catch, Gather, Undo}
 use Rattle.plsearch.specs.Lists.{bind_goals}
 use Rattle.plsearch.specs.Engine.{deeper}
 
@@ -82,9 +82,9 @@ Fits Γ (Raise b ∷ es) = Fits Γ es
 Fits Γ (Asking q ∷ es) = ⊥
 Fits Γ (Erasing x ∷ es) = Fits Γ es
 
--- it asks to end the run
+-- it asks to end the run with a number, and nothing goes on behind it
 abbrev pub Halts : Question → Type 0
-Halts q = (n : ℕ) × (next : Then) × (q ≡ Await (HaltRun n) next)
+Halts q = (n : ℕ) × (q ≡ Await (HaltRun n) (Ends n))
 
 -- what a machine is at may ask besides, where nothing is open
 unfoldable pub FitsFirst : List Entry → State → List Element → Type 0

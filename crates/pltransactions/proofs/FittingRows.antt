@@ -169,7 +169,7 @@ module _ (cs : List Case) (fit : CasesFit cs) where
 
   halting-fits : (t : Tree) (rest : List Element) (n : ℕ) (w : Local) → Fits Γ rest → Open w → MoveFits cs (halting t rest n w)
   halting-fits (var x) rest n w all is = raises _ _ rest w all is
-  halting-fits (int i) rest n w all is = asks-first _ rest n w all is (inr (_, _, refl))
+  halting-fits (int i) rest n w all is = asks-first _ rest n w all is (inr (_, refl))
   halting-fits (atom f) rest n w all is = raises _ _ rest w all is
   halting-fits (compound f ts) rest n w all is = raises _ _ rest w all is
 

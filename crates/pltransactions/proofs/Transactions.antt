@@ -2,7 +2,8 @@
 use Rattle.std.specs.Prelude.{not, min}
 use Rattle.std.proofs.Common.{◌≡◌, ℕ, zero, suc, ◌<◌, ◌⊎◌, inl, inr, Bool, true, false, if◌then◌else◌, List, [], ◌∷◌, length, Option, Some, None, refl, sym, ap, ◌∙◌, subst, arith}
 use Rattle.plterm.specs.Tree.{Tree}
-use Rattle.plevent.specs.Search.{Item, Ask, Answer}
+use Rattle.plevent.specs.Search.{Item, Ask, Answer, Seen, Got}
+use Rattle.plevent.specs.declared.request.Reply.TheVariants as replies
 use Rattle.plevent.specs.declared.request.Request.TheVariants.{HaltRun, EraseOne}
 use Rattle.plevent.specs.declared.update.ClauseName.{ClauseName}
 use Rattle.plevent.specs.declared.update.Update.{Update}
@@ -12,7 +13,7 @@ use Rattle.pltx.specs.declared.level.Level.{Level}
 use Rattle.pltx.specs.declared.level.Isolation.{Isolation}
 use Rattle.pltx.specs.declared.level.Isolation.TheVariants.{Transaction, Snapshot}
 use Rattle.plprogram.specs.Program.{Program}
-use Rattle.plsearch.specs.Types.{Result, Stop, Fail, CutTo, Throw, Awaits, Commit, Never, Until, Collect, Transact, Question, Element, Goal, Marker, Raise, Asking, Erasing, Place, Case, Choice, Mark, Handle, Undo, Move, Give, Go, Meeting, Select, Asks, End, Pass, Marked, Return, Keep, Again, Anew, Run}
+use Rattle.plsearch.specs.Types.{Result, Stop, Fail, CutTo, Throw, Halted, Awaits, Stopped, Unfit, Commit, Never, Until, Collect, Transact, Ends, Question, Await, Element, Goal, Marker, Raise, Asking, Erasing, Place, Case, Choice, Mark, Handle, Undo, Local, Move, Give, Go, Meeting, Select, Asks, End, Pass, Marked, Return, Keep, Again, Anew, Run}
 use Rattle.plsearch.specs.Moves.{publishing}
 use Rattle.plsearch.specs.Rows.{select, asked, published, meet}
 use Rattle.plsearch.specs.Replies.{answered, founded}
@@ -21,7 +22,7 @@ use Rattle.plsearch.specs.Engine.{out, outs, deeper, left}
 use Rattle.plsearch.specs.Search.{start_from, start_of, ending_of, search_of}
 use Rattle.plsearch.specs.Machines.Machine.{Mode, At, Back, Machine, Rest, move, step, ask, meets, visits, choose, return, backs, turn_in, turn}
 use Rattle.plsearch.specs.Machines.Weight.{weight, Lighter}
-use Rattle.pltransactions.specs.Laws.{turns, machine_of, IsReached, SearchByTurns, asked_by, asked_first, asked_in, left_of, TakesWhatItAsks, WaitsForWhatItAsks, OpenAsksNothing, its_updates, OuterEndPublishes, InnerEndAsksNothing, ends, OpenHaveEnds, UndoEndsOne, NothingLeftOpen}
+use Rattle.pltransactions.specs.Laws.{turns, machine_of, IsReached, SearchByTurns, asked_by, asked_first, asked_in, wanted, left_of, TakesWhatItAsks, WaitsForWhatItAsks, OpenAsksNothing, IsLast, OpenAnswerEnds, its_updates, OuterEndPublishes, InnerEndAsksNothing, ends, OpenHaveEnds, UndoEndsOne, NothingLeftOpen}
 use Rattle.plsearch.proofs.Turns.{Rest-turn}
 use Rattle.plsearch.proofs.Weight.{lighter-turn}
 use Rattle.pltransactions.proofs.Contexts.{Choosing, Guarding, Undoing, Entry, entry, around, undos, Fits, FitsFirst, Halts, Stands, leads-undos}
@@ -179,50 +180,91 @@ waits-for-what-it-asks P m q is none = go m.mode is
     go (At p) is = first p.goals p.variables is
     go (Back r) is = absurd (nothing-asked is)
 
--- where something is open, nothing is asked
-pub open-asks-nothing : OpenAsksNothing
-unfolding meet FitsFirst
-open-asks-nothing P m q reached now is = go m.mode (reached-fits P m reached).here is
-  where
-    Ends : Type 0
-    Ends = (n : ℕ) × (q ≡ Ask (HaltRun n))
+-- a list at which the end of the run is asked for
+record AsksToHalt (mode : Mode) (q : Item) : Type 0 where
+  number : ℕ
+  behind : Place
+  at : mode ≡ At (record { goals = Asking (Await (HaltRun number) (Ends number)) ∷ behind.goals; variables = behind.variables })
+  item : q ≡ Ask (HaltRun number)
 
+-- where something is open, nothing else is asked
+open-asks : (P : Program) (m : Machine) (q : Item) → IsReached P m → any_open m.run.local.own ≡ true → wanted m ≡ Some q → AsksToHalt m.mode q
+unfolding meet FitsFirst
+open-asks P m q reached now is = go m.mode (reached-fits P m reached).here is
+  where
     nothing-asked : ◌≡◌ {A = Option Item} None (Some q) → ⊥
     nothing-asked is = cc
 
-    asks : (x : Question) → ((any_open m.run.local.own ≡ false) ⊎ Halts x) → Some (asked x) ≡ Some q → Ends
-    asks x (inl closed) is = absurd (never (sym closed ∙ now))
+    asks : (x : Question) (es : List Element) (n : ℕ) → ((any_open m.run.local.own ≡ false) ⊎ Halts x) → Some (asked x) ≡ Some q → AsksToHalt (At (record { goals = Asking x ∷ es; variables = n })) q
+    asks x es n (inl closed) is = absurd (never (sym closed ∙ now))
       where
         never : false ≡ true → ⊥
         never is = cc
-    asks x (inr (n, next, same)) is = (n, here)
-      where
-        here : q ≡ Ask (HaltRun n)
-        here = let one : asked x ≡ q = cc in sym one ∙ ap asked same
+    asks x es n (inr (i, same)) is = record {
+      number = i;
+      behind = record { goals = es; variables = n };
+      at = ap (λ x. At (record { goals = Asking x ∷ es; variables = n })) same;
+      item = let one : asked x ≡ q = cc in sym one ∙ ap asked same;
+    }
 
-    erases : (x : ClauseName) (b c : Bool) → b ≡ true → asked_by (if not b then Asks (Ask (EraseOne x)) else (if c then End Fail m.run.local else Pass (record m.run.local { own = made (Erase x) m.run.local.own }))) ≡ Some q → Ends
-    erases x true true open_now is = absurd (nothing-asked is)
-    erases x true false open_now is = absurd (nothing-asked is)
-    erases x false c open_now is = absurd (never open_now)
+    erases : (x : ClauseName) (b c : Bool) → b ≡ true → asked_by (if not b then Asks (Ask (EraseOne x)) else (if c then End Fail m.run.local else Pass (record m.run.local { own = made (Erase x) m.run.local.own }))) ≡ Some q → ⊥
+    erases x true true open_now is = nothing-asked is
+    erases x true false open_now is = nothing-asked is
+    erases x false c open_now is = never open_now
       where
         never : false ≡ true → ⊥
         never is = cc
 
-    first : (es : List Element) → FitsFirst (around m.cases) m.run.local.own es → asked_first es m.run.local ≡ Some q → Ends
-    first [] fit is = absurd (nothing-asked is)
-    first (Goal k t ∷ es) fit is = absurd (nothing-asked is)
-    first (Marker Commit l ∷ es) fit is = absurd (nothing-asked is)
-    first (Marker Never l ∷ es) fit is = absurd (nothing-asked is)
-    first (Marker Until l ∷ es) fit is = absurd (nothing-asked is)
-    first (Marker (Collect t) l ∷ es) fit is = absurd (nothing-asked is)
-    first (Marker (Transact d) l ∷ es) fit is = absurd (nothing-asked is)
-    first (Raise b ∷ es) fit is = absurd (nothing-asked is)
-    first (Asking x ∷ es) fit is = asks x fit.0 is
-    first (Erasing x ∷ es) fit is = erases x (any_open m.run.local.own) (erased_in (target_at m.run.local.own.base x) m.run.local.own.updates) now is
+    first : (es : List Element) (n : ℕ) → FitsFirst (around m.cases) m.run.local.own es → asked_first es m.run.local ≡ Some q → AsksToHalt (At (record { goals = es; variables = n })) q
+    first [] n fit is = absurd (nothing-asked is)
+    first (Goal k t ∷ es) n fit is = absurd (nothing-asked is)
+    first (Marker Commit l ∷ es) n fit is = absurd (nothing-asked is)
+    first (Marker Never l ∷ es) n fit is = absurd (nothing-asked is)
+    first (Marker Until l ∷ es) n fit is = absurd (nothing-asked is)
+    first (Marker (Collect t) l ∷ es) n fit is = absurd (nothing-asked is)
+    first (Marker (Transact d) l ∷ es) n fit is = absurd (nothing-asked is)
+    first (Raise b ∷ es) n fit is = absurd (nothing-asked is)
+    first (Asking x ∷ es) n fit is = asks x es n fit.0 is
+    first (Erasing x ∷ es) n fit is = absurd (erases x (any_open m.run.local.own) (erased_in (target_at m.run.local.own.base x) m.run.local.own.updates) now is)
 
-    go : (mode : Mode) → ModeFits m.cases m.run.local.own mode → asked_in mode m.run.local ≡ Some q → Ends
-    go (At p) fit is = first p.goals fit.list is
+    go : (mode : Mode) → ModeFits m.cases m.run.local.own mode → asked_in mode m.run.local ≡ Some q → AsksToHalt mode q
+    go (At p) fit is = first p.goals p.variables fit.list is
     go (Back r) fit is = absurd (nothing-asked is)
+
+pub open-asks-nothing : OpenAsksNothing
+open-asks-nothing P m q reached now is = let halt = open-asks P m q reached now is in (halt.number, halt.item)
+
+-- what is made of the answer
+halt-answered : (i : ℕ) (a : Answer) (d : ℕ) (es : List Element) (n : ℕ) (w : Local) → (r : Result) × IsLast i r × (answered (Asking (Await (HaltRun i) (Ends i))) a d es n w ≡ Give r w)
+unfolding answered
+halt-answered i (Seen g us) d es n w = (Unfit, tt, refl)
+halt-answered i (Got replies.Done) d es n w = (Halted i, refl, refl)
+halt-answered i (Got replies.Stopped) d es n w = (Stopped, tt, refl)
+halt-answered i (Got r) d es n w = (Unfit, tt, refl)
+
+pub open-answer-ends : OpenAnswerEnds
+unfolding turn meet
+open-answer-ends P m i a more reached now is some = go (open-asks P m (Ask (HaltRun i)) reached now is)
+  where
+    Last : ℕ → Machine → Type 0
+    Last i x = (r : Result) × IsLast i r × (x.mode ≡ Back r) × (x.run.local ≡ m.run.local)
+
+    number : (i k : ℕ) → Ask (HaltRun i) ≡ Ask (HaltRun k) → k ≡ i
+    number i k is = cc
+
+    answers : (i : ℕ) (es : List Element) (n : ℕ) → Last i (ask m.cases (Asking (Await (HaltRun i) (Ends i))) es n (Ask (HaltRun i)) m.run (a ∷ more))
+    answers i es n =
+        let e = Asking (Await (HaltRun i) (Ends i)) in
+        let run = record m.run { answers = more; below = founded e a m.run.below } in
+        let end = halt-answered i a (deeper m.cases 0) es n m.run.local in
+        (end.0, end.1, ap (λ x. (move m.cases run x).mode) end.2, ap (λ x. (move m.cases run x).run.local) end.2)
+
+    go : AsksToHalt m.mode (Ask (HaltRun i)) → Last i (turn_in P m.cases m.run m.mode)
+    go halt =
+        let e = Asking (Await (HaltRun halt.number) (Ends halt.number)) in
+        subst (λ i. Last i (turn_in P m.cases m.run m.mode)) (number i halt.number halt.item)
+        (subst (λ mode. Last halt.number (turn_in P m.cases m.run mode)) (sym halt.at)
+        (subst (λ xs. Last halt.number (ask m.cases e halt.behind.goals halt.behind.variables (Ask (HaltRun halt.number)) m.run xs)) (sym some) (answers halt.number halt.behind.goals halt.behind.variables)))
 
 -- ends with success
 outer-updates : (us : List Update) (level : Level) (i : Isolation) → level.kind ≡ i → published (ending_at true us (level ∷ [])) ≡ its_updates i us
@@ -301,4 +343,4 @@ nothing-left-open P (CutTo l) run reached is = absurd (never (reached-fits P (re
 nothing-left-open P (Throw b ls) run reached is = (reached-fits P (record { mode = Back (Throw b ls); cases = []; run = run }) reached).here.open_here.none refl
 nothing-left-open P r run reached is = absurd is
 
-pub ruleset laws = (search-by-turns, takes-what-it-asks, waits-for-what-it-asks, open-asks-nothing, outer-end-publishes, inner-end-asks-nothing, open-have-ends, undo-ends-one, nothing-left-open)
+pub ruleset laws = (search-by-turns, takes-what-it-asks, waits-for-what-it-asks, open-asks-nothing, open-answer-ends, outer-end-publishes, inner-end-asks-nothing, open-have-ends, undo-ends-one, nothing-left-open)

@@ -8,7 +8,7 @@ use Rattle.pltx.specs.declared.level.Isolation.{Isolation}
 use Rattle.pltx.specs.declared.level.Isolation.TheVariants.{Transaction, Snapshot}
 use Rattle.pltx.specs.declared.level.Level.{Level}
 use Rattle.plprogram.specs.Program.{Program}
-use Rattle.plsearch.specs.Types.{Result, Stop, Fail, CutTo, Throw, Awaits, Kind, Transact, Element, Goal, Marker, Raise, Asking, Erasing, Place, Case, Choice, Mark, Handle, Undo, Local, Meeting, Asks, Run}
+use Rattle.plsearch.specs.Types.{Result, Stop, Fail, CutTo, Throw, Halted, Awaits, Stopped, Unfit, Kind, Transact, Element, Goal, Marker, Raise, Asking, Erasing, Place, Case, Choice, Mark, Handle, Undo, Local, Meeting, Asks, Run}
 use Rattle.plsearch.specs.Moves.{publishing}
 use Rattle.plsearch.specs.Rows.{meet}
 use Rattle.plsearch.specs.Handlers.{has}
@@ -87,6 +87,18 @@ ClosesAtItsEnd = (P : Program) (m : Machine) → any_open m.run.local.own ≡ tr
 -- where a transaction or a snapshot is open, nothing is asked but that the run ends
 abbrev pub OpenAsksNothing : Type 0
 OpenAsksNothing = (P : Program) (m : Machine) (q : Item) → IsReached P m → any_open m.run.local.own ≡ true → wanted m ≡ Some q → (n : ℕ) × (q ≡ Ask (HaltRun n))
+
+-- the run has ended with this number, or has stopped, or was answered amiss: nothing goes on behind it, and it passes all that is open
+abbrev pub IsLast : ℕ → Result → Type 0
+IsLast n (Halted k) = k ≡ n
+IsLast n Stopped = Unit {0}
+IsLast n Unfit = Unit {0}
+IsLast n r = ⊥
+
+-- and the answer to that ends the search: what is open stays open
+abbrev pub OpenAnswerEnds : Type 0
+OpenAnswerEnds = (P : Program) (m : Machine) (n : ℕ) (a : Answer) (more : List Answer) → IsReached P m → any_open m.run.local.own ≡ true →
+    wanted m ≡ Some (Ask (HaltRun n)) → m.run.answers ≡ a ∷ more → (r : Result) × IsLast n r × ((turn P m).mode ≡ Back r) × ((turn P m).run.local ≡ m.run.local)
 
 -- at its end with success
 abbrev pub at_end : ℕ → ℕ → Place → List Case → Run → Machine

@@ -4,7 +4,7 @@
 //! It has no code.
 #![tactic(auto)]
 
-ghost use Rattle.pltransactions.specs.Laws.{SearchByTurns, TakesWhatItAsks, WaitsForWhatItAsks, OpensWithView, ClosesAtItsEnd, OpenAsksNothing, OuterEndPublishes, InnerEndAsksNothing, OpenHaveEnds, UndoEndsOne, NothingLeftOpen};
+ghost use Rattle.pltransactions.specs.Laws.{SearchByTurns, TakesWhatItAsks, WaitsForWhatItAsks, OpensWithView, ClosesAtItsEnd, OpenAsksNothing, OpenAnswerEnds, OuterEndPublishes, InnerEndAsksNothing, OpenHaveEnds, UndoEndsOne, NothingLeftOpen};
 
 /// The turns of main's machine come to the end that the search has.
 #[tactic(auto, using(crate::proofs::Transactions::laws))]
@@ -26,10 +26,11 @@ pub fn opens_with_view()
     ensures closes { ClosesAtItsEnd }
 {}
 
-/// From the view with which it begins to its end nothing is asked, but that the run ends.
+/// From the view with which it begins to its end nothing is asked, but that the run ends; and the answer to that ends the search.
 #[tactic(auto, using(crate::proofs::Transactions::laws))]
 pub fn open_asks_nothing()
-    ensures { OpenAsksNothing }
+    ensures asks { OpenAsksNothing }
+    ensures ends { OpenAnswerEnds }
 {}
 
 /// An outermost transaction that ends with success asks that its updates are published, as one batch, if it has any; a snapshot and an

@@ -1,0 +1,9 @@
+mod Items
+mod Machines
+pub mod Batches
+pub mod Standing
+pub mod Ends
+pub mod Transactions
+pub mod Unended
+pub mod InTurn
+mod Worked

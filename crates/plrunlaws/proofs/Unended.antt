@@ -1,0 +1,259 @@
+-- A run that ends inside of a transaction or a snapshot.
+use Rattle.std.proofs.Common.{◌≡◌, ℕ, zero, suc, ◌+◌, ◌<◌, Bool, true, false, ◌||◌, ◌&&◌, not, All, List, [], ◌∷◌, ◌++◌, take, Option, Some, None, refl, sym, ap, ◌∙◌, subst, arith, append_assoc, append-nil}
+use Rattle.std.proofs.lemmas.List.{append_cancel_left, append_cancel_right}
+use Rattle.std.proofs.lemmas.List.Elements.{All-nil, All-cons, All-append}
+use Rattle.plevent.specs.declared.request.ThreadEnd.{ThreadEnd}
+use Rattle.plevent.specs.declared.request.Request.{Request}
+use Rattle.plevent.specs.declared.request.Request.TheVariants.{Finish, HaltRun}
+use Rattle.plevent.specs.declared.request.Reply.{Reply}
+use Rattle.plevent.specs.declared.act.Act.{Act}
+use Rattle.plevent.specs.declared.act.Entry.{Entry}
+use Rattle.plevent.specs.Alive.{add_if}
+use Rattle.plevent.specs.Reading.{Reading, reading}
+use Rattle.plevent.specs.Rows.{is_halted, is_workers, is_leave, runs, finish_row, row, served_while, served}
+use Rattle.plevent.specs.Search.{Item, View, Ask, Answer, Next, Wants, Finishes, item_of_end, item_of}
+use Rattle.plhist.specs.Follows.{Taken, is_not_yet, noted, item_at, takes}
+use Rattle.pltx.specs.Own.{any_open}
+use Rattle.plsearch.specs.Types.{Result, Stop, Fail, CutTo, Throw, Halted, Spent, Awaits, Stopped, Unfit, Run}
+use Rattle.plsearch.specs.Engine.{outs}
+use Rattle.plsearch.specs.Search.{next_of}
+use Rattle.plsearch.specs.Machines.Machine.{Back, Rest, turn}
+use Rattle.plsearch.proofs.Ends.{ends_ignore}
+use Rattle.pltransactions.specs.Laws.{turns, machine_of, wanted, IsLast, IsDone}
+use Rattle.pltransactions.proofs.Transactions.{search-by-turns, open-asks-nothing, open-answer-ends, nothing-left-open}
+use Rattle.pltransactions.proofs.Opening.{opens-with-view}
+use Rattle.plrunlaws.specs.Standing.{Followed, asks, answers, at_turn, started, StandsAt, AreFrom, act_of}
+use Rattle.plrunlaws.specs.Transactions.{IsCutShort, LastsToTheEnd, NothingOfItStays}
+use Rattle.plrunlaws.proofs.Items.{the-same, below-more, answer-is, item-adds, takes-first, takes-none}
+use Rattle.plrunlaws.proofs.Machines.{turns-both, with_answers, final-rest}
+use Rattle.plrunlaws.proofs.Standing.{least-same, search-at, ends-with, short-of, asked-at, stands-somewhere, stays-else, started-below, entries-in-order}
+use Rattle.plrunlaws.proofs.Transactions.{reached, next-turn, last-final, viewed, ceases-ends}
+
+none-some : {A : Type 0} (s : Taken) → ◌≡◌ {A = Option Taken} None (Some s) → A
+none-some s is = absurd (never is)
+  where
+    never : ◌≡◌ {A = Option Taken} None (Some s) → ⊥
+    never is = cc
+
+-- this act, or none
+abbrev pub IsThat : Act → Option (ℕ × Act) → Type 0
+IsThat a None = Unit {0}
+IsThat a (Some x) = x.1 ≡ a
+
+pub served-ends : (a : Act) (q : Request) (t : ℕ) (r : Reading) → IsThat a (row q t r).1 → IsThat a (served q t r).1
+unfolding served
+served-ends a q t r h = halts (is_halted r.standing && not (is_leave q))
+  where
+    waits : (b : Bool) → IsThat a (add_if b (row q t r) (Reply.NotYet q, None)).1
+    waits true = h
+    waits false = tt
+
+    halts : (b : Bool) → IsThat a (add_if b (Reply.Stopped, None) (served_while q t r)).1
+    halts true = tt
+    halts false = waits (is_workers q || runs t r.standing)
+
+finish-ends : (e : ThreadEnd) (t : ℕ) → IsThat (act_of e) (finish_row e t).1
+finish-ends ThreadEnd.True t = refl
+finish-ends ThreadEnd.False t = refl
+finish-ends (ThreadEnd.Exception b) t = refl
+finish-ends ThreadEnd.Budget t = refl
+finish-ends (ThreadEnd.Halt n) t = tt
+
+-- items that make such entries alone
+pub record AddsEnds (a : Act) (s s' : Taken) : Type 0 where
+  pub new : List (ℕ × Act)
+  pub made : s'.made ≡ s.made ++ new
+  pub ends : All (λ x. x.1 ≡ a) new
+
+adds-none : (a : Act) (s : Taken) → AddsEnds a s s
+adds-none a s = record { new = []; made = sym (append-nil s.made); ends = All-nil (λ x. x.1 ≡ a) }
+
+adds-both : (a : Act) (s m s' : Taken) → AddsEnds a s m → AddsEnds a m s' → AddsEnds a s s'
+adds-both a s m s' one more = record {
+  new = one.new ++ more.new;
+  made = more.made ∙ ap (λ l. l ++ more.new) one.made ∙ append_assoc s.made one.new more.new;
+  ends = All-append (λ x. x.1 ≡ a) one.new more.new one.ends more.ends;
+}
+
+noted-ends : (a : Act) (b : Bool) (g : ℕ) (s s' : Taken) (q : Reply) (o : Option (ℕ × Act)) → IsThat a o → noted b g s q o ≡ Some s' → AddsEnds a s s'
+noted-ends a true g s s' q o h is = none-some s' is
+noted-ends a false g s s' q None h is = record { new = []; made = ap (λ s. s.made) (sym (the-same _ s' is)) ∙ sym (append-nil s.made); ends = All-nil (λ x. x.1 ≡ a) }
+noted-ends a false g s s' q (Some x) h is = record {
+  new = (g, x.1) ∷ [];
+  made = ap (λ s. s.made) (sym (the-same _ s' is));
+  ends = All-cons (λ x. x.1 ≡ a) (g, x.1) [] h (All-nil (λ x. x.1 ≡ a));
+}
+
+item-ends : (a : Act) (h : List Entry) (t : ℕ) (q : Request) (g : ℕ) (s s' : Taken) → ((r : Reading) → IsThat a (row q t r).1) → item_at h t (Some (Ask q)) g s ≡ Some s' → AddsEnds a s s'
+item-ends a h t q g s s' ends is =
+    let r = reading (take g h) in
+    let x = served q t r in
+    noted-ends a (is_not_yet x.0) g s s' x.0 x.1 (served-ends a q t r (ends r)) (answer-is h t (Ask q) g s s' is).1
+
+end-ends : (h : List Entry) (t : ℕ) (e : ThreadEnd) (g : ℕ) (s s' : Taken) → item_at h t (item_of_end e) g s ≡ Some s' → AddsEnds (act_of e) s s'
+end-ends h t ThreadEnd.True g s s' is = item-ends (Act.End ThreadEnd.True) h t (Finish ThreadEnd.True) g s s' (λ r. finish-ends ThreadEnd.True t) is
+end-ends h t ThreadEnd.False g s s' is = item-ends (Act.End ThreadEnd.False) h t (Finish ThreadEnd.False) g s s' (λ r. finish-ends ThreadEnd.False t) is
+end-ends h t (ThreadEnd.Exception b) g s s' is = item-ends (Act.End (ThreadEnd.Exception b)) h t (Finish (ThreadEnd.Exception b)) g s s' (λ r. finish-ends (ThreadEnd.Exception b) t) is
+end-ends h t ThreadEnd.Budget g s s' is = item-ends (Act.End ThreadEnd.Budget) h t (Finish ThreadEnd.Budget) g s s' (λ r. finish-ends ThreadEnd.Budget t) is
+end-ends h t (ThreadEnd.Halt n) g s s' is = none-some s' is
+
+takes-ends : (asks : List Answer → Next) (h : List Entry) (t : ℕ) (e : ThreadEnd) (gs : List ℕ) (s s' : Taken) → ((xs : List Answer) → asks (s.answers ++ xs) ≡ Finishes e) →
+    takes asks h t gs s ≡ Some s' → AddsEnds (act_of e) s s'
+takes-ends asks h t e [] s s' over is = subst (AddsEnds (act_of e) s) (takes-none asks h t s s' is) (adds-none (act_of e) s)
+takes-ends asks h t e (g ∷ gs) s s' over is =
+    let one = takes-first asks h t g gs s s' is in
+    let m = one.0 in
+    let next : asks s.answers ≡ Finishes e = ap asks (sym (append-nil s.answers)) ∙ over [] in
+    let first = item-adds h t (item_of (asks s.answers)) g s m one.1 in
+    let m_is : m.answers ≡ s.answers ++ first.answer ∷ [] = first.adds.answered ∙ ap (λ l. s.answers ++ l) first.only in
+    adds-both (act_of e) s m s' (end-ends h t e g s m (ap (λ x. item_at h t (item_of x) g s) (sym next) ∙ one.1))
+    (takes-ends asks h t e gs m s' (λ xs. ap (λ l. asks (l ++ xs)) m_is ∙ ap asks (append_assoc s.answers (first.answer ∷ []) xs) ∙ over (first.answer ∷ xs)) one.2)
+
+-- a search that has ended ignores further answers
+stays-ended : (f : Followed) (s : Taken) (e : ThreadEnd) → asks f s.answers ≡ Finishes e → (xs : List Answer) → asks f (s.answers ++ xs) ≡ Finishes e
+stays-ended f s e is xs = ap (λ x. x.next) (ends_ignore f.program f.limit f.limit s.answers xs e is) ∙ is
+
+-- what is asked after the answers so far is what the machine then comes to
+asks-then : (f : Followed) (k : ℕ) (s : Taken) → StandsAt f k s → asks f s.answers ≡ next_of (Rest f.program (with_answers [] (at_turn f k))).0
+asks-then f k s stood =
+    let P = f.program in
+    let used = short-of f k in
+    let same : used.used ≡ s.answers = append_cancel_right used.used s.answers (at_turn f k).run.answers (sym used.all ∙ stood.taken) in
+    ap (λ e. e.next) (search-at P f.limit k s.answers) ∙ ap (λ m. next_of (Rest P m).0) (ap (λ xs. turns P k (machine_of P f.limit xs)) (sym same) ∙ used.comes)
+
+over-rest : (f : Followed) (r : Result) (run : Run) → Rest f.program (record { mode = Back r; cases = []; run = run }) ≡ (r, run)
+unfolding Rest outs
+over-rest f r run = refl
+
+-- behind the end of its machine's turns a thread makes nothing but its end
+pub ceases : (f : Followed) (s : Taken) (i : ℕ) (r : Result) (run : Run) → StandsAt f i s → at_turn f i ≡ record { mode = Back r; cases = []; run = run } → AddsEnds (act_of f.came_to) s f.ended.asked.last
+ceases f s i r run stood is =
+    let over : asks f s.answers ≡ Finishes f.came_to =
+    asks-then f i s stood
+    ∙ ap (λ m. next_of (Rest f.program (with_answers [] m)).0) is
+    ∙ ap (λ e. next_of e.0) (over-rest f r (record run { answers = [] }))
+    ∙ ends-with f i r run (ap (Rest f.program) is ∙ over-rest f r run) in
+    takes-ends (asks f) f.journal f.run.thread f.came_to stood.later s f.ended.asked.last (stays-ended f s f.came_to over) stood.rest
+
+-- an end of the machine's turns that comes later than any turn
+over-late : (f : Followed) → (n : ℕ) → (k : ℕ) (r : Result) (run : Run) → at_turn f k ≡ record { mode = Back r; cases = []; run = run } → at_turn f (k + n) ≡ record { mode = Back r; cases = []; run = run }
+unfolding turn
+over-late f n k r run is = turns-both f.program k n (machine_of f.program f.limit (answers f)) ∙ ap (turns f.program n) is ∙ still n
+  where
+    still : (n : ℕ) → turns f.program n (record { mode = Back r; cases = []; run = run }) ≡ record { mode = Back r; cases = []; run = run }
+    still zero = refl
+    still (suc n) = still n
+
+pub comes-to-end : (f : Followed) → (n : ℕ) × (r : Result) × (run : Run) × (at_turn f n ≡ record { mode = Back r; cases = []; run = run })
+comes-to-end f =
+    let end = search-by-turns f.program f.limit f.limit (answers f) in
+    (end.0, end.1, end.2, ap (λ steps. turns f.program end.0 (machine_of f.program steps (answers f))) (sym (least-same f.limit)) ∙ end.3)
+
+wants-ends : {A : Type 0} (q : Item) (e : ThreadEnd) → Wants q ≡ Finishes e → A
+wants-ends q e is = absurd (never is)
+  where
+    never : Wants q ≡ Finishes e → ⊥
+    never is = cc
+
+-- where a result comes to the outside and something is open, there was no step left, or the run was ended
+short-end : (r : Result) (e : ThreadEnd) → (IsDone r → ⊥) → next_of r ≡ Finishes e → IsCutShort e
+short-end Stop e open_now is = absurd (open_now tt)
+short-end Fail e open_now is = absurd (open_now tt)
+short-end (CutTo l) e open_now is = absurd (open_now tt)
+short-end (Throw b ls) e open_now is = absurd (open_now tt)
+short-end (Halted n) e open_now is = let same : ThreadEnd.Halt n ≡ e = cc in subst IsCutShort same tt
+short-end Spent e open_now is = let same : ThreadEnd.Budget ≡ e = cc in subst IsCutShort same tt
+short-end (Awaits q) e open_now is = wants-ends q e is
+short-end Stopped e open_now is = ceases-ends e is
+short-end Unfit e open_now is = ceases-ends e is
+
+-- where an answer ended the run
+halted-end : (n : ℕ) (r : Result) (e : ThreadEnd) → IsLast n r → next_of r ≡ Finishes e → ThreadEnd.Halt n ≡ e
+halted-end n (Halted k) e last is = let same : ThreadEnd.Halt k ≡ e = cc in ap ThreadEnd.Halt (sym last) ∙ same
+halted-end n Stopped e last is = ceases-ends e is
+halted-end n Unfit e last is = ceases-ends e is
+halted-end n r e last is = absurd last
+
+module _ (f : Followed) (k : ℕ) (lasts : LastsToTheEnd f k) (begun : Taken) where
+  abbrev ItsEnd : Type 0
+  ItsEnd = IsCutShort f.came_to × AddsEnds (act_of f.came_to) begun f.ended.asked.last
+
+  -- it asks to end the run
+  halts : (i : ℕ) (q : Item) → k < i → StandsAt f i begun → wanted (at_turn f i) ≡ Some q → ItsEnd
+  halts i q after stood is =
+      let last = f.ended.asked.last in
+      let now = lasts.behind i after in
+      let one = asked-at f i begun q stood is in
+      let halt = open-asks-nothing f.program (at_turn f i) q (reached f i) now is in
+      let end = open-answer-ends f.program (at_turn f i) halt.0 one.answer one.others (reached f i) now (is ∙ ap Some halt.1) one.left in
+      let there : (at_turn f (suc i)).mode ≡ Back end.0 = ap (λ m. m.mode) (next-turn f i) ∙ end.2 in
+      let cases = (at_turn f (suc i)).cases in
+      let run = (at_turn f (suc i)).run in
+      let final = last-final halt.0 end.0 end.1 in
+      let rest : Rest f.program (at_turn f (suc i)) ≡ (end.0, run) =
+      ap (λ mode. Rest f.program (record { mode = mode; cases = cases; run = run })) there ∙ final-rest f.program end.0 cases run final in
+      let short : Run = record run { answers = [] } in
+      let rest_short : Rest f.program (with_answers [] (at_turn f (suc i))) ≡ (end.0, short) =
+      ap (λ mode. Rest f.program (record { mode = mode; cases = cases; run = short })) there ∙ final-rest f.program end.0 cases short final in
+      let ends = ends-with f (suc i) end.0 run rest in
+      let over : asks f one.after.answers ≡ Finishes f.came_to = asks-then f (suc i) one.after one.stands ∙ ap (λ e. next_of e.0) rest_short ∙ ends in
+      let halted : ThreadEnd.Halt halt.0 ≡ f.came_to = halted-end halt.0 end.0 f.came_to end.1 ends in
+      let asked : AddsEnds (Act.Halt halt.0) begun one.after =
+      item-ends (Act.Halt halt.0) f.journal f.run.thread (HaltRun halt.0) one.place begun one.after (λ r. refl) (ap (λ q. item_at f.journal f.run.thread (Some q) one.place begun) (sym halt.1) ∙ one.answered) in (
+        subst IsCutShort halted tt,
+        adds-both (act_of f.came_to) begun one.after last
+            (subst (λ e. AddsEnds (act_of e) begun one.after) halted asked)
+            (takes-ends (asks f) f.journal f.run.thread f.came_to one.stands.later one.after last (stays-ended f one.after f.came_to over) one.stands.rest),
+      )
+
+  -- or it comes to its end with nothing asked
+  spends : (i : ℕ) (r : Result) (run : Run) → k < i → StandsAt f i begun → at_turn f i ≡ record { mode = Back r; cases = []; run = run } → ItsEnd
+  spends i r run after stood is = (short-end r f.came_to open_there (ends-with f i r run (ap (Rest f.program) is ∙ over-rest f r run)), ceases f begun i r run stood is)
+    where
+      open_there : IsDone r → ⊥
+      open_there done =
+          let none = nothing-left-open f.program r run (f.limit, answers f, i, sym is) done in
+          never (sym (lasts.behind i after) ∙ ap (λ m. any_open m.run.local.own) is ∙ ap any_open none)
+        where
+          never : true ≡ false → ⊥
+          never is = cc
+
+  looks : (n i : ℕ) (r : Result) (run : Run) → k < i → StandsAt f i begun → at_turn f (i + n) ≡ record { mode = Back r; cases = []; run = run } → ItsEnd
+  looks zero i r run after stood is = let same : i ≡ i + 0 = omega arith in spends i r run after stood (ap (at_turn f) same ∙ is)
+  looks (suc n) i r run after stood is = go (wanted (at_turn f i)) refl (looks n (suc i) r run (omega (arith, after)))
+    where
+      go : (o : Option Item) → wanted (at_turn f i) ≡ o → (StandsAt f (suc i) begun → at_turn f (suc i + n) ≡ record { mode = Back r; cases = []; run = run } → ItsEnd) → ItsEnd
+      go None none more = let same : suc i + n ≡ i + suc n = omega arith in more (stays-else f i begun stood none) (ap (at_turn f) same ∙ is)
+      go (Some q) asked more = halts i q after stood asked
+
+pub nothing-of-it-stays : NothingOfItStays
+nothing-of-it-stays f k lasts =
+    let here = stands-somewhere f k in
+    let before = here.0 in
+    let begins : wanted (at_turn f k) ≡ Some View =
+    opens-with-view f.program (at_turn f k) lasts.before (ap (λ m. any_open m.run.local.own) (sym (next-turn f k)) ∙ lasts.behind (suc k) (omega arith)) in
+    let one = asked-at f k before View here.1 begins in
+    let begun = one.after in
+    let view = viewed f before one.place begun one.answered in
+    let part = entries-in-order f (suc k) begun one.stands in
+    let made : started f begun.made ≡ started f before.made = ap (started f) view.made in
+    let turned = comes-to-end f in
+    let late : turned.0 + suc k ≡ suc k + turned.0 = omega arith in
+    let found = looks f k lasts begun turned.0 (suc k) turned.1 turned.2 (omega arith) one.stands (ap (at_turn f) (sym late) ∙ over-late f (suc k) turned.0 turned.1 turned.2 turned.3) in
+    let ends = found.1 in
+    let same : ends.new ≡ part.later =
+    append_cancel_left (started f begun.made) ends.new part.later (sym (ap (started f) ends.made) ∙ sym f.ended.asked.entries ∙ part.entries) in record {
+      before = before;
+      place = one.place;
+      begun = begun;
+      stood = here.1;
+      views = one.answered;
+      later = part.later;
+      entries = part.entries ∙ ap (λ l. l ++ part.later) made;
+      below = below-more before.low one.place (started f before.made) view.behind (started-below f k before here.1);
+      from = subst (λ g. AreFrom g part.later) view.low part.from;
+      short = found.0;
+      ends = subst (All (λ x. x.1 ≡ act_of f.came_to)) same ends.ends;
+    }
+
+pub ruleset laws = (nothing-of-it-stays)

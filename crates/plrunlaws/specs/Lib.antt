@@ -1,0 +1,3 @@
+pub mod Batches
+pub mod Standing
+pub mod Transactions

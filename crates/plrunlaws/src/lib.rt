@@ -1,0 +1,57 @@
+//! The laws of runs and their journals: what makes a batch, where a run stands in its journal at each turn of its search, and what a
+//! transaction or a snapshot does to the journal.
+//!
+//! It has no code. `specs/Batches.antt` says what makes a batch. `specs/Standing.antt` ties a run that follows main's search to the
+//! machine that does the search by turns, and `specs/Transactions.antt` states over both what the laws of the machine's turns in
+//! pltransactions come to in the journal.
+#![tactic(auto)]
+
+ghost use Rattle.plrunlaws.specs.Batches.{EachBatchIsAsked};
+ghost use Rattle.plrunlaws.specs.Standing.{StandsSomewhere, StandsOnce, AsksInTurn, StaysElse, EntriesInOrder, EndsWithItsEnd};
+ghost use Rattle.plrunlaws.specs.Transactions.{TransactionsStandAlone, NothingOfItStays, EachBatchInTurn};
+
+/// Each batch behind the first entry of a legal journal is the act of a publication, or of the erasure of one clause that was alive.
+#[tactic(auto, using(crate::proofs::Batches::laws))]
+pub fn each_batch_is_asked()
+    ensures { EachBatchIsAsked }
+{}
+
+/// At each turn of its machine a run stands at one place of its journal: its items so far are those whose answers the machine has taken.
+#[tactic(auto, using(crate::proofs::Standing::laws))]
+pub fn stands_at_each_turn()
+    ensures somewhere { StandsSomewhere }
+    ensures once { StandsOnce }
+{}
+
+/// What a turn asks is an item of the run, answered at the next of its places; and else the run stays where it stands.
+#[tactic(auto, using(crate::proofs::Standing::laws))]
+pub fn asks_in_turn()
+    ensures asks { AsksInTurn }
+    ensures stays { StaysElse }
+{}
+
+/// The entries that a thread made by a turn stand before all that it makes later, and the last of all tells of its end.
+#[tactic(auto, using(crate::proofs::Standing::laws))]
+pub fn entries_in_order()
+    ensures order { EntriesInOrder }
+    ensures ends { EndsWithItsEnd }
+{}
+
+/// From the view with which an outermost transaction or snapshot begins to its end, the journal gets no entry of its thread; and if it
+/// is a transaction that ends with success and has updates, then the thread's next entry is their batch.
+#[tactic(auto, using(crate::proofs::Transactions::laws))]
+pub fn transactions_stand_alone()
+    ensures { TransactionsStandAlone }
+{}
+
+/// Where a run ends inside of a transaction or a snapshot, its thread makes no batch from the view on: what it still makes ends it.
+#[tactic(auto, using(crate::proofs::Unended::laws))]
+pub fn nothing_of_it_stays()
+    ensures { NothingOfItStays }
+{}
+
+/// Each batch of a run's thread is what a turn asks at which nothing is open: a publication, or the erasure of one clause.
+#[tactic(auto, using(crate::proofs::InTurn::laws))]
+pub fn each_batch_in_turn()
+    ensures { EachBatchInTurn }
+{}
