@@ -8,6 +8,7 @@ ghost use Rattle.plstore.specs.Runs.{end_at, no_place, HasRuns, IsGone, IsRun, S
 ghost use Rattle.plstore.specs.Trail.{HadRun, HadRuns, MoreRuns, OneRun, WasRun};
 
 use crate::ends::Ends;
+use crate::leap::{Leap, leap_over};
 
 /// Erased records of one side of a class that follow one another: from one on up to `last`, each erased by a batch at
 /// `latest` or below.
@@ -22,10 +23,11 @@ pub(crate) struct Run {
 pub(crate) struct Place {
     /// The run that begins here.
     pub(crate) run: Option<Run>,
-    /// The record whose link leads here. Nothing but time depends on it, nor on the next.
+    /// The record whose link leads here. Nothing but time depends on it, nor on those below.
     pub(crate) from: Option<usize>,
     /// Where the run that ends here begins.
     pub(crate) start: usize,
+    pub(crate) leap: Leap,
 }
 
 /// A run that was noted, with what was noted before at its first record and at its last one.
@@ -238,11 +240,12 @@ pub(crate) fn add_place(places: &mut Vec<Place>, front: bool, number: usize, end
     ensures room { vec_capacity places.old ≤ vec_capacity places.new }
     ensures len { vec_len places.new ≡ vec_len places.old + 1 }
 {
+    let leap = leap_over(places.as_slice(), ends.newest(front), number);
     if !front {
-        append(places, ends.newest_back, number);
+        append(places, ends.newest_back, number, leap);
         return;
     }
-    append(places, None, number);
+    append(places, None, number, leap);
     if let Some(first) = ends.newest_front {
         set_from(places.as_mut_slice(), first, Some(number));
     }
@@ -261,7 +264,7 @@ pub(crate) fn drop_place(places: &mut Vec<Place>, front: bool, ends: Ends)
     }
 }
 
-fn append(places: &mut Vec<Place>, from: Option<usize>, number: usize)
+fn append(places: &mut Vec<Place>, from: Option<usize>, number: usize, leap: Leap)
     requires { vec_len places.old < vec_capacity places.old }
     ensures runs { (c : Class) (rs : List Record) (r : Record) → HasRuns c rs places.old.items → HasRuns c (rs ++ r ∷ []) places.new.items }
     ensures more { MoreRuns places.old.items places.new.items }
@@ -272,6 +275,7 @@ fn append(places: &mut Vec<Place>, from: Option<usize>, number: usize)
         run: None,
         from,
         start: number,
+        leap,
     };
     match places.push(place) {
         Ok(()) => {}
