@@ -6,7 +6,7 @@ use Rattle.plterm.specs.declared.indicator.Indicator.{Indicator}
 use Rattle.plevent.specs.declared.key.Key.{Key}
 use Rattle.plevent.specs.declared.update.ClauseName.{ClauseName}
 use Rattle.plevent.specs.declared.update.Living.{Living}
-use Rattle.plevent.specs.Alive.{add_if, is_of}
+use Rattle.plevent.specs.Alive.{add_if, is_of, or_else}
 use Rattle.plstore.specs.declared.chain.Chain.{Chain}
 use Rattle.plstore.specs.declared.chain.Chain.TheVariants.{Procedure, Slot}
 use Rattle.plstore.specs.declared.ends.Ends.{Ends}
@@ -14,11 +14,12 @@ use Rattle.plstore.specs.declared.links.Links.{Links}
 use Rattle.plstore.specs.declared.record.Record.{Record}
 use Rattle.plstore.specs.declared.tables.Tables.{Tables}
 use Rattle.plstore.specs.Chains.{in_chain, IsChain}
-use Rattle.plstore.specs.Kept.{seen, picked}
-use Rattle.plstore.specs.Like.{fits, first_like, first_where, is_met, suits}
-use Rattle.plstore.specs.Links.{back_of, up, Class, Marked}
-use Rattle.plstore.specs.Merged.{Covers, MayStand}
+use Rattle.plstore.specs.Kept.{seen, picked, walk}
+use Rattle.plstore.specs.Like.{fits, first_like, is_met, past, suits}
+use Rattle.plstore.specs.Links.{back_of, down, up, Class, Marked}
+use Rattle.plstore.specs.Merged.{found_after, Covers, MayStand}
 use Rattle.plstore.specs.Parts.{after, comes, extent_behind, first_head, is_behind, left, marks, moved, side, side_of}
+use Rattle.plstore.specs.Rising.{OneIs}
 use Rattle.plstore.specs.Runs.{end_at, no_place}
 use Rattle.plstore.specs.Tables.{chain_ends, links_in, Chained}
 use Rattle.plstore.proofs.Law.{cons_if, own}
@@ -26,7 +27,7 @@ use Rattle.plstore.proofs.Bits.{cases}
 use Rattle.plstore.proofs.Chains.{drop-records, like-cons, some-record}
 use Rattle.plstore.proofs.Leading.{after-within, mark-in, marks-is, over-within, step-order, step-stands}
 use Rattle.plstore.proofs.Same.{left-true, right-true, nat-same, nat-self}
-use Rattle.plstore.proofs.Visible.{down-list, up-list}
+use Rattle.plstore.proofs.Visible.{down-list, up-list, first-is, shown-front, shown-back}
 
 pub chain-is : (t : Tables) (p : Indicator) (ch : Chain) → Chained t → IsChain (in_chain p ch) t.records.items (links_in t ch) (chain_ends t p ch)
 chain-is t p Procedure h = h.procedures p
@@ -308,3 +309,17 @@ module _ (f : Bool) (p : Indicator) (k : Key) (g : ℕ) (rs : List Record) (c d 
     where
       nothing : (z : Option ℕ) → z ≡ None → left f (length rs) z ≤ 0
       nothing z q = subst (λ z. left f (length rs) z ≤ 0) (sym q) (omega arith)
+
+-- what is found behind a clause that is shown, and from the beginning
+all-behind : (p : Indicator) (k : Key) (g : ℕ) (rs : List Record) → first_like k (side false (is_of p) g rs (length rs)) ≡ first_like k (up (is_of p) g rs 0)
+all-behind p k g rs = let e : length rs - length rs ≡ 0 = omega arith in ap (λ n. first_like k (up (is_of p) g rs n)) e
+
+pub found-first : (g : ℕ) (p : Indicator) (k : Key) (rs : List Record) (o : Option ClauseName) → o ≡ or_else (first_like k (side true (is_of p) g rs (length rs))) (first_like k (side false (is_of p) g rs (length rs))) → o ≡ first_like k (walk g p rs)
+found-first g p k rs o e = first-is g p k rs o (e ∙ ap (or_else (first_like k (down (is_of p) g rs (length rs)))) (all-behind p k g rs))
+
+pub found-behind : (f : Bool) (g : ℕ) (p : Indicator) (k : Key) (x : ClauseName) (rs : List Record) (i : ℕ) (r : Record) (o : Option ClauseName) → OneIs x rs i → r ≡ get_or rs i r → seen g r && is_of p r.clause ≡ true → r.front ≡ f →
+    o ≡ found_after f (first_like k (side f (is_of p) g rs (after f (length rs) i))) (first_like k (side false (is_of p) g rs (length rs))) → o ≡ first_like k (past x (walk g p rs))
+found-behind true g p k x rs i r o one is shown front e = shown-front g p k x rs i r o one is shown front (e ∙ ap (or_else (first_like k (down (is_of p) g rs i))) (all-behind p k g rs))
+found-behind false g p k x rs i r o one is shown front e =
+    let q : length rs - (length rs - suc i) ≡ suc i = omega (arith, one.within) in
+    shown-back g p k x rs i r o one is shown front (e ∙ ap (λ n. first_like k (up (is_of p) g rs n)) q)

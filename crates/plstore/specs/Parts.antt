@@ -6,14 +6,10 @@ use Rattle.plstore.specs.declared.part.Part.{Part}
 use Rattle.plstore.specs.declared.record.Record.{Record}
 use Rattle.plstore.specs.Links.{Class, fronts, backs, front_of, back_of, down, up}
 
--- how many of n records a walk comes to behind the record i, and before it
+-- how many of n records a walk comes to behind the record i
 abbrev pub after : Bool → ℕ → ℕ → ℕ
 after true n i = i
 after false n i = n - suc i
-
-abbrev pub before : Bool → ℕ → ℕ → ℕ
-before true n i = n - i
-before false n i = i
 
 -- how many are left where a walk stands at a record
 abbrev pub left : Bool → ℕ → Option ℕ → ℕ

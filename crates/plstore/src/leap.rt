@@ -1,9 +1,8 @@
 //! Leaps: links over many records of a side, by which one close to another is found. Nothing but time depends on them.
-ghost use Rattle.std.specs.Prelude.{◌<◌, IfSome, length};
-ghost use Rattle.plstore.specs.Parts.{before};
+ghost use Rattle.std.specs.Prelude.{◌<◌, IfSome};
 
 use crate::links::Links;
-use crate::runs::{Place, run_end};
+use crate::runs::{Place, passed_from};
 
 /// A link from a record to an older one of its side, and how many it leads over. With these one of n records is found in
 /// about log n steps.
@@ -54,7 +53,7 @@ pub(crate) fn near(links: &Links, front: bool, newest: usize, number: usize, g: 
         Some(below) if !front && number < above => below,
         Some(_) | None => above,
     };
-    run_start(links.places.as_slice(), front, close, g)
+    passed_from(links.places.as_slice(), close, g)
 }
 
 /// The lowest record of a side above a number, from its newest one on.
@@ -88,29 +87,5 @@ fn older(links: &Links, front: bool, number: usize) -> Option<usize> {
         *links.next.get(number)?
     } else {
         links.places.get(number)?.from
-    }
-}
-
-/// Where the run of erased records begins that a walk at `g` passes over, if this one is among them.
-fn run_start(places: &[Place], front: bool, number: usize, g: u64) -> usize {
-    let mut at = number;
-    while let Some(start) = earlier_start(places, front, at, g) {
-        at = start;
-    }
-    at
-}
-
-/// Where a run begins that has the one that begins here.
-fn earlier_start(places: &[Place], front: bool, number: usize, g: u64) -> Option<usize>
-    ensures { IfSome result (λ start. before front (length places.now) start < before front (length places.now) number) }
-{
-    places.get(number)?.run?;
-    let start = places.get(run_end(places, number, g))?.start;
-    let run = places.get(start)?.run?;
-    let is_earlier = if front { number < start } else { start < number };
-    if is_earlier && run.latest < g {
-        Some(start)
-    } else {
-        None
     }
 }

@@ -5,6 +5,7 @@ mod asked;
 mod chain;
 pub mod draft;
 mod ends;
+mod group;
 pub mod laws;
 mod leap;
 mod links;
