@@ -1,5 +1,7 @@
 -- Where links and runs lead, on either side: a walk comes to no clause between that is seen.
 use Rattle.std.proofs.Common.{◌≡◌, ◌+◌, ◌-◌, inl, inr, refl, sym, ◌∙◌, ap, subst, arith, ℕ, suc, zero, ◌<◌, ◌≤◌, Bool, true, false, List, Option, Some, None, length, get_or, drop, nat_lt}
+use Rattle.std.specs.Prelude.{IfSome}
+use Rattle.std.specs.Option.{option_or}
 use Rattle.std.proofs.lemmas.List.{length-drop, length-map}
 use Rattle.std.proofs.lemmas.Bool.Decides.{nat_tests}
 use Rattle.plevent.specs.Alive.{add_if}
@@ -160,3 +162,8 @@ module _ (f : Bool) (c : Class) (g : ℕ) (rs : List Record) (links : Links) (e 
 
     pub step-stands : (m : ℕ) → m ≤ after f (length rs) i → MayStand f c g rs m to
     step-stands m l = record { mark = leads.mark; passed = λ j d w k s b. leads.passed j k (over.passed j d w k s (omega (arith, l, b))) }
+
+-- one that is found, or else the other
+pub either : (P : Option ℕ → Type 0) (o q : Option ℕ) → IfSome o (λ i. P (Some i)) → P q → P (option_or o q)
+either P None q h k = k
+either P (Some i) q h k = h

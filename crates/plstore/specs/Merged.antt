@@ -13,7 +13,7 @@ use Rattle.plstore.specs.Chains.{in_chain}
 use Rattle.plstore.specs.Kept.{seen}
 use Rattle.plstore.specs.Like.{first_like, suits}
 use Rattle.plstore.specs.Links.{Class, Marked}
-use Rattle.plstore.specs.Parts.{after, extent, left, marks, side}
+use Rattle.plstore.specs.Parts.{after, extent, left, marks, side, whole}
 use Rattle.plstore.specs.Tables.{chain_ends, links_in}
 
 -- each clause of p that may be for a goal of the key is in one of two classes
@@ -36,9 +36,6 @@ pub record MayStand (f : Bool) (c : Class) (g : ℕ) (rs : List Record) (m : ℕ
 -- the name of the first clause that is sought in a part of a side; and in one in front and in all behind
 abbrev pub found : Sought → List Record → Part → Option ClauseName
 found s rs part = first_like s.key.now (side part.front (is_of s.pred.now) s.g rs (extent part (length rs)))
-
-abbrev pub whole : Bool → Part
-whole f = record { front = f; behind = None }
 
 abbrev pub found_after : Bool → Option ClauseName → Option ClauseName → Option ClauseName
 found_after true here behind = or_else here behind

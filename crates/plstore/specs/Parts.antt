@@ -28,6 +28,9 @@ is_behind f (Some i) j = comes f i j
 abbrev pub is_part : Part → ℕ → Bool
 is_part part j = is_behind part.front part.behind j
 
+abbrev pub whole : Bool → Part
+whole f = record { front = f; behind = None }
+
 -- how many of n records there are behind one, or in all
 abbrev pub extent_behind : Bool → ℕ → Option ℕ → ℕ
 extent_behind f n None = n

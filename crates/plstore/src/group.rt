@@ -14,13 +14,12 @@ pub(crate) struct Group {
     pub(crate) first: usize,
 }
 
-/// Two groups that were joined, as they were at their tops.
+/// Two groups that were joined, by their tops, and where the run of the one above began.
 #[derive(Clone, Copy)]
 pub(crate) struct United {
     low: usize,
-    below: Group,
     top: usize,
-    above: Group,
+    first: usize,
 }
 
 /// The group of a record alone.
@@ -70,13 +69,9 @@ pub(crate) fn unite(places: &mut [Place], first: usize, last: usize) -> United
         (other, one)
     };
     let below = group_at(places, low);
-    let above = group_at(places, top);
+    let was = group_at(places, top);
+    let size = if low == top { was.size } else { was.size.wrapping_add(below.size) };
     set_group(places, low, Group { up: top, ..below });
-    let size = if low == top {
-        above.size
-    } else {
-        above.size.wrapping_add(below.size)
-    };
     set_group(
         places,
         top,
@@ -88,9 +83,8 @@ pub(crate) fn unite(places: &mut [Place], first: usize, last: usize) -> United
     );
     United {
         low,
-        below,
         top,
-        above,
+        first: was.first,
     }
 }
 
@@ -98,8 +92,20 @@ pub(crate) fn unite(places: &mut [Place], first: usize, last: usize) -> United
 pub(crate) fn separate(places: &mut [Place], united: &United)
     ensures same { SameRuns places.old places.new }
 {
-    set_group(places, united.top, united.above);
-    set_group(places, united.low, united.below);
+    let (low, top) = (united.low, united.top);
+    let below = group_at(places, low);
+    let above = group_at(places, top);
+    let size = if low == top { above.size } else { above.size.wrapping_sub(below.size) };
+    set_group(places, low, Group { up: low, ..below });
+    set_group(
+        places,
+        top,
+        Group {
+            up: top,
+            size,
+            first: united.first,
+        },
+    );
 }
 
 fn set_group(places: &mut [Place], number: usize, group: Group)

@@ -1,6 +1,6 @@
 //! What of a side a walk has still to pass.
 ghost use Rattle.std.specs.Prelude.{◌≡◌};
-ghost use Rattle.plstore.specs.Parts.{comes, first_head, is_part, moved};
+ghost use Rattle.plstore.specs.Parts.{comes, first_head, is_part, moved, whole};
 
 /// The records of one side behind one of them, or all of them.
 #[derive(Clone, Copy)]
@@ -11,6 +11,16 @@ pub(crate) struct Part {
 }
 
 impl Part {
+    /// A whole side.
+    pub(crate) fn whole(front: bool) -> Part
+        ensures { result ≡ whole front }
+    {
+        Part {
+            front,
+            behind: None,
+        }
+    }
+
     /// Whether a record of the side belongs to it.
     pub(crate) fn has(self, number: usize) -> bool
         ensures { result ≡ is_part self number }

@@ -19,11 +19,7 @@ pub(crate) fn first_sought(tables: &Tables, sought: &Sought<'_>) -> Option<Claus
     requires chained { Chained tables.now }
     ensures { result ≡ first_like sought.now.key.now (walk sought.now.g sought.now.pred.now tables.now.records.items) }
 {
-    let part = Part {
-        front: true,
-        behind: None,
-    };
-    sought_from(tables, sought, part)
+    sought_from(tables, sought, Part::whole(true))
 }
 
 /// The name of the first one of a part, and where that is in front, then of those behind.
@@ -35,11 +31,7 @@ fn sought_from(tables: &Tables, sought: &Sought<'_>, part: Part) -> Option<Claus
     let merged = merge(tables, sought);
     let found = seek(tables, sought, &merged, part);
     if part.front && found.is_none() {
-        let rest = Part {
-            front: false,
-            behind: None,
-        };
-        return seek(tables, sought, &merged, rest);
+        return seek(tables, sought, &merged, Part::whole(false));
     }
     found
 }
@@ -49,11 +41,7 @@ pub(crate) fn first_back(tables: &Tables, sought: &Sought<'_>) -> Option<ClauseN
     requires { Chained tables.now }
     ensures { result ≡ first_like sought.now.key.now (picked (behind_all sought.now.pred.now) sought.now.g tables.now.records.items) }
 {
-    let part = Part {
-        front: false,
-        behind: None,
-    };
-    sought_from(tables, sought, part)
+    sought_from(tables, sought, Part::whole(false))
 }
 
 /// The name of the first clause that is sought behind the one with this name; none where that one is not alive, or is of

@@ -58,7 +58,7 @@ fn start(
     ensures order { left part.front (length tables.now.records.items) result ≤ extent part (length tables.now.records.items) }
 {
     let links = chain.links(tables);
-    let mut at = entry(tables, sought, chain, ends, part);
+    let mut at = close(tables, sought, chain, ends, part).or(ends.first(part.front));
     while let Some(number) = at {
         if part.has(number) {
             return at;
@@ -66,25 +66,6 @@ fn start(
         at = links.next_behind(number, sought.g);
     }
     None
-}
-
-/// A record of a chain from which a walk may go on to a part: one close before it, or the chain's first.
-fn entry(
-    tables: &Tables,
-    sought: &Sought<'_>,
-    chain: Chain,
-    ends: Ends,
-    part: Part,
-) -> Option<usize>
-    requires chained { Chained tables.now }
-    requires ends { ends ≡ chain_ends tables.now sought.now.pred.now chain }
-    requires within { IfSome part.behind (λ i. i < length tables.now.records.items) }
-    ensures { MayStand part.front (in_chain sought.now.pred.now chain) sought.now.g tables.now.records.items (extent part (length tables.now.records.items)) result }
-{
-    if let Some(number) = close(tables, sought, chain, ends, part) {
-        return Some(number);
-    }
-    ends.first(part.front)
 }
 
 /// A record of a chain close before a part, or the one behind which that begins, if such a one is found.

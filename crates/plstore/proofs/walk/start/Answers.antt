@@ -1,10 +1,24 @@
-use Rattle.std.proofs.Common.{◌∙◌, ◌<◌, sym, subst, arith, length}
-use Rattle.plstore.specs.Links.{Marked}
+use Rattle.std.proofs.Common.{◌∙◌, ◌<◌, sym, ap, subst, arith, length, ℕ, Option}
+use Rattle.plstore.specs.Links.{first_end, Marked}
 use Rattle.plstore.specs.Chains.{in_chain}
-use Rattle.plstore.specs.Parts.{left, marks}
-use Rattle.plstore.proofs.Leading.{over-within, step-order, step-stands}
-use Rattle.plstore.proofs.Merging.{before-part, chain-at}
+use Rattle.plstore.specs.Merged.{MayStand}
+use Rattle.plstore.specs.Parts.{extent, left, marks}
+use Rattle.plstore.proofs.Leading.{either, over-within, stand-first, step-order, step-stands}
+use Rattle.plstore.proofs.Merging.{before-part, chain-at, chain-is}
 use Rattle.plstore.proofs.walk.start.Goals as goal
+
+pub loop-at-init : goal.loop-at-init
+loop-at-init c =
+    let q = c.args.sought.now in
+    let t = c.args.tables.now in
+    let f = c.args.part.front in
+    let class = in_chain q.pred.now c.args.chain in
+    let rs = t.records.items in
+    let m = extent c.args.part (length rs) in
+    let stands : Option ℕ → Type 0 = MayStand f class q.g rs m in
+    let first : stands c.first.result =
+        subst stands (sym (c.first.ensures ∙ ap (first_end f) c.requires.ends)) (stand-first f class q.g rs _ _ m (chain-is t q.pred.now c.args.chain c.requires.chained).indexed) in
+    subst stands (sym c.or-at.ensures) (either stands c.close.result c.first.result c.close.ensures first)
 
 pub next_behind-at-requires-clause-end : goal.next_behind-at-requires-clause-end
 next_behind-at-requires-clause-end c =
