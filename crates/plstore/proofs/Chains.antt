@@ -1,5 +1,5 @@
 -- The links of a class pass all its clauses.
-use Rattle.std.proofs.Common.{◌≡◌, ◌+◌, ◌-◌, refl, sym, ◌∙◌, ap, subst, arith, ℕ, suc, zero, ◌<◌, ◌≤◌, Bool, true, false, cond, List, [], ◌∷◌, ◌++◌, Option, Some, None, length, get_or, take, drop, map, filter, reverse, drop-cons}
+use Rattle.std.proofs.Common.{◌≡◌, ◌+◌, refl, sym, ◌∙◌, ap, subst, arith, ℕ, suc, zero, ◌<◌, ◌≤◌, Bool, true, false, cond, List, [], ◌∷◌, ◌++◌, Some, None, length, get_or, take, drop, map, filter, reverse, drop-cons}
 use Rattle.std.specs.Prelude.{◌&&◌}
 use Rattle.std.proofs.Math.Seq.{take-suc}
 use Rattle.std.proofs.lemmas.List.{append-nil, reverse-append, length-map}
@@ -32,14 +32,6 @@ down-step p g rs m d v l e =
     ∙ reverse-cons (seen g r && front_of p r) (own r) (picked (front_of p) g (take m rs))
     ∙ ap (λ v. cons_if (seen g r && v) (own r) (down p g rs m)) side
 
-pub cons-out : (s : Bool) (x : Living) (xs : List Living) → cons_if (s && false) x xs ≡ xs
-cons-out true x xs = refl
-cons-out false x xs = refl
-
-cons-in : (s : Bool) (x : Living) (xs : List Living) → cons_if (s && true) x xs ≡ cons_if s x xs
-cons-in true x xs = refl
-cons-in false x xs = refl
-
 some-same : {a b : ℕ} → Some a ≡ Some b → a ≡ b
 some-same e = cc
 
@@ -52,11 +44,10 @@ up-step p g rs k d v l e =
     ap (picked (back_of p) g) (drop-cons rs k d l) ∙ picked-cons (back_of p) g r (drop (suc k) rs)
     ∙ ap (λ v. cons_if (seen g r && v) (own r) (up p g rs (suc k))) side
 
-pub record UpIs (p : Class) (g : ℕ) (rs : List Record) (k i : ℕ) (d : Record) : Type 0 where
+pub record UpIs (p : Class) (rs : List Record) (k i : ℕ) : Type 0 where
   pub above : k ≤ i
   pub within : i < length rs
   pub mark : get_or (backs p rs) i false ≡ true
-  pub rest : up p g rs k ≡ cons_if (seen g (get_or rs i d)) (own (get_or rs i d)) (up p g rs (suc i))
 
 pub drop-records : (rs : List Record) (k : ℕ) → length rs ≤ k → drop k rs ≡ []
 drop-records [] zero h = refl
@@ -67,32 +58,21 @@ drop-records (b ∷ bs) (suc k) h = drop-records bs k (omega arith)
 no-marks : (p : Class) (rs : List Record) (k : ℕ) → length rs ≤ k → first_from k (drop k (backs p rs)) ≡ None
 no-marks p rs k h = ap (first_from k) (drop-whole (backs p rs) k (omega (arith, length-map rs (back_of p))))
 
-pub up-some : (p : Class) (g : ℕ) (rs : List Record) (m k i : ℕ) (d : Record) → k + m ≡ length rs → first_from k (drop k (backs p rs)) ≡ Some i → UpIs p g rs k i d
-up-some p g rs zero k i d s e = let z : None ≡ Some i = sym (no-marks p rs k (omega arith)) ∙ e in absurd (cc)
-up-some p g rs (suc m) k i d s e = by-mark (get_or (backs p rs) k false) refl (λ e. up-some p g rs m (suc k) i d (omega arith) e)
+pub up-some : (p : Class) (rs : List Record) (m k i : ℕ) → k + m ≡ length rs → first_from k (drop k (backs p rs)) ≡ Some i → UpIs p rs k i
+up-some p rs zero k i s e = let z : None ≡ Some i = sym (no-marks p rs k (omega arith)) ∙ e in absurd (cc)
+up-some p rs (suc m) k i s e = by-mark (get_or (backs p rs) k false) refl (λ e. up-some p rs m (suc k) i (omega arith) e)
   where
-    by-mark : (v : Bool) → get_or (backs p rs) k false ≡ v → (first_from (suc k) (drop (suc k) (backs p rs)) ≡ Some i → UpIs p g rs (suc k) i d) → UpIs p g rs k i d
+    by-mark : (v : Bool) → get_or (backs p rs) k false ≡ v → (first_from (suc k) (drop (suc k) (backs p rs)) ≡ Some i → UpIs p rs (suc k) i) → UpIs p rs k i
     by-mark true h next =
         let l : k < length (backs p rs) = omega (arith, length-map rs (back_of p)) in
         let z : Some k ≡ Some i = sym (drop-mark (backs p rs) k l ∙ ap (λ v. add_if v (Some k) (first_from (suc k) (drop (suc k) (backs p rs)))) h) ∙ e in
         let q : k ≡ i = some-same z in
-        record {
-          above = omega arith;
-          within = omega arith;
-          mark = subst (λ n. get_or (backs p rs) n false ≡ true) q h;
-          rest = up-step p g rs k d true (omega arith) h ∙ cons-in (seen g (get_or rs k d)) (own (get_or rs k d)) (up p g rs (suc k))
-              ∙ ap (λ n. cons_if (seen g (get_or rs n d)) (own (get_or rs n d)) (up p g rs (suc n))) q;
-        }
+        record { above = omega arith; within = omega arith; mark = subst (λ n. get_or (backs p rs) n false ≡ true) q h }
     by-mark false h next =
         let l : k < length (backs p rs) = omega (arith, length-map rs (back_of p)) in
         let z : first_from (suc k) (drop (suc k) (backs p rs)) ≡ Some i = sym (drop-mark (backs p rs) k l ∙ ap (λ v. add_if v (Some k) (first_from (suc k) (drop (suc k) (backs p rs)))) h) ∙ e in
         let u = next z in
-        record {
-          above = omega (arith, u.above);
-          within = u.within;
-          mark = u.mark;
-          rest = up-step p g rs k d false (omega arith) h ∙ cons-out (seen g (get_or rs k d)) (own (get_or rs k d)) (up p g rs (suc k)) ∙ u.rest;
-        }
+        record { above = omega (arith, u.above); within = u.within; mark = u.mark }
 
 pub some-record : Record
 some-record = record { name = named 0 0; clause = record { head = atom []; body = atom []; variables = 0 }; front = true; erased = None }

@@ -1,5 +1,5 @@
 -- Where links and runs lead, on either side: a walk comes to no clause between that is seen.
-use Rattle.std.proofs.Common.{◌≡◌, ◌+◌, ◌-◌, inl, inr, refl, sym, ◌∙◌, ap, subst, arith, ℕ, suc, zero, ◌<◌, ◌≤◌, Bool, true, false, List, Option, Some, None, length, get_or, drop, nat_lt}
+use Rattle.std.proofs.Common.{◌≡◌, ◌+◌, ◌-◌, inl, inr, refl, sym, ◌∙◌, ap, subst, arith, ℕ, suc, ◌<◌, ◌≤◌, Bool, true, false, List, Option, Some, None, length, get_or, drop, nat_lt}
 use Rattle.std.specs.Prelude.{IfSome}
 use Rattle.std.specs.Option.{option_or}
 use Rattle.std.proofs.lemmas.List.{length-drop, length-map}
@@ -16,8 +16,8 @@ use Rattle.plstore.specs.Links.{last_below, first_from, first_end, front_of, bac
 use Rattle.plstore.specs.Merged.{MayStand}
 use Rattle.plstore.specs.Parts.{after, left, marks, side_of}
 use Rattle.plstore.specs.Runs.{end_at, no_place, AllGone, HasRuns}
-use Rattle.plstore.proofs.Bits.{LastIs, cases, get-drop, get-in, last-none, last-some, none-first}
-use Rattle.plstore.proofs.Chains.{mark-within, some-record, up-some}
+use Rattle.plstore.proofs.Bits.{LastIs, cases, get-drop, last-none, last-some, none-first}
+use Rattle.plstore.proofs.Chains.{mark-within, up-some}
 use Rattle.plstore.proofs.Passing.{first-above, hidden, linked}
 use Rattle.plstore.proofs.Visible.{front-is, back-is}
 
@@ -64,7 +64,7 @@ first-leads c rs k None b e = record { mark = tt; order = omega arith; passed = 
         let z : get_or (backs c rs) j false ≡ false = ap (λ n. get_or (backs c rs) n false) (sym at) ∙ sym (get-drop k (backs c rs) (j - k)) ∙ none-first k (drop k (backs c rs)) (sym e) (j - k) len in
         absurd (cc)
 first-leads c rs k (Some i) b e =
-    let u = up-some c 0 rs (length rs - k) k i some-record (omega (arith, b)) (sym e) in
+    let u = up-some c rs (length rs - k) k i (omega (arith, b)) (sym e) in
     record {
       mark = u.mark;
       order = omega (arith, u.above, u.within);
@@ -133,14 +133,11 @@ ends-at f c g rs places i n runs h e = subst (EndsAt f c g rs i) (sym e) (by-run
     by-run None k = here
     by-run (Some r) k = by-test r k (nat_lt r.latest g) refl
 
--- a walk may begin at the first record, at one that is there before, or behind one
+-- a walk may begin at the first record of all
 pub stand-first : (f : Bool) (c : Class) (g : ℕ) (rs : List Record) (next : List (Option ℕ)) (e : Ends) (m : ℕ) → IsIndexed c rs next e → MayStand f c g rs m (first_end f e)
 stand-first f c g rs next e m ix =
     let a = head-leads f c rs next e ix in
     record { mark = a.mark; passed = λ j d w h s l. a.passed j h (after-within f (length rs) j w) }
-
-pub stand-at : (f : Bool) (c : Class) (g : ℕ) (rs : List Record) (m i : ℕ) → get_or (marks f c rs) i false ≡ true → m ≤ after f (length rs) i → MayStand f c g rs m (Some i)
-stand-at f c g rs m i h l = record { mark = h; passed = λ j d w k s b. omega (arith, l, b) }
 
 -- what the link behind a run leads to
 module _ (f : Bool) (c : Class) (g : ℕ) (rs : List Record) (links : Links) (e : Ends) (ch : IsChain c rs links e) (i : ℕ) (h : get_or (marks f c rs) i false ≡ true) where
@@ -149,9 +146,6 @@ module _ (f : Bool) (c : Class) (g : ℕ) (rs : List Record) (links : Links) (e 
 
   pub over-within : end_at g i (get_or links.places.items i no_place).run < length links.next.items
   over-within = let l = mark-in f c rs _ over.mark in omega (arith, l, ch.indexed.count)
-
-  pub step-within : i < length links.places.items
-  step-within = let l = mark-in f c rs i h in omega (arith, l, ch.runs.count)
 
   module _ (to : Option ℕ) (t : to ≡ get_or links.next.items (end_at g i (get_or links.places.items i no_place).run) None) where
     leads : LeadsTo f c rs (after f (length rs) (end_at g i (get_or links.places.items i no_place).run)) to

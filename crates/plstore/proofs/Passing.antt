@@ -11,13 +11,13 @@ use Rattle.plstore.specs.declared.runs.Run.{Run}
 use Rattle.plstore.specs.declared.runs.Place.{Place}
 use Rattle.plstore.specs.declared.ends.Ends.{Ends}
 use Rattle.plstore.specs.Kept.{seen, not_below, first_of, erase_at, change_if, changed_where, is_named}
-use Rattle.plstore.specs.Links.{last_below, first_from, front_of, back_of, fronts, backs, down, up, Class, IsLinked, IsIndexed}
+use Rattle.plstore.specs.Links.{last_below, first_from, front_of, back_of, fronts, backs, Class, IsLinked, IsIndexed}
 use Rattle.plstore.specs.Trail.{OneRun, run_at}
-use Rattle.plstore.specs.Runs.{IsGone, AllGone, IsRunDown, IsRunUp, IsRun, no_place, HasRuns, SameRuns, end_at}
-use Rattle.plstore.proofs.Law.{cons_if, own}
+use Rattle.plstore.specs.Runs.{IsGone, IsRunDown, IsRunUp, IsRun, no_place, HasRuns, SameRuns}
+use Rattle.plstore.proofs.Law.{own}
 use Rattle.plstore.proofs.Bits.{LastIs, get-in, length-push, last-some, drop-mark, cases}
 use Rattle.plstore.proofs.Index.{fronts-erased, backs-erased, length-erased}
-use Rattle.plstore.proofs.Chains.{up-some, UpIs, some-record}
+use Rattle.plstore.proofs.Chains.{up-some, UpIs}
 
 gone-later : (b c : ℕ) (o : Option ℕ) → b ≤ c → IsGone b o → IsGone c o
 gone-later b c None l h = h
@@ -78,7 +78,7 @@ join-up p rs i n m r q a e b la lb =
     let within : r.last < length bs = get-in bs r.last a.mark in
     let whole : suc r.last + (length rs - suc r.last) ≡ length rs = omega (arith, within, length-map rs (back_of p)) in
     let whole2 : suc r.last + (length bs - suc r.last) ≡ length bs = omega (arith, within) in
-    let u : UpIs p 0 rs (suc r.last) n some-record = up-some p 0 rs (length rs - suc r.last) (suc r.last) n some-record whole e in
+    let u : UpIs p rs (suc r.last) n = up-some p rs (length rs - suc r.last) (suc r.last) n whole e in
     record {
       order = omega (arith, a.order, b.order, u.above);
       mark = b.mark;
@@ -106,7 +106,7 @@ run-joined p rs next places i n m r q links runs to at la lb own = record {
       let e : first_from (suc r.last) (drop (suc r.last) (backs p rs)) ≡ Some n = sym (links.newer r.last a.mark) ∙ to in
       let within : r.last < length (backs p rs) = get-in (backs p rs) r.last a.mark in
       let whole : suc r.last + (length rs - suc r.last) ≡ length rs = omega (arith, within, length-map rs (back_of p)) in
-      join-up p rs i n m r q a e ((runs.each n q at).up (up-some p 0 rs (length rs - suc r.last) (suc r.last) n some-record whole e).mark) la lb;
+      join-up p rs i n m r q a e ((runs.each n q at).up (up-some p rs (length rs - suc r.last) (suc r.last) n whole e).mark) la lb;
 }
 
 -- a place beyond the last one has no run

@@ -1,7 +1,5 @@
 -- The slot of a key and that of variables have each clause that may be for a goal of the key.
-use Rattle.std.proofs.Common.{◌≡◌, ◌≢◌, ◌⊎◌, inl, inr, refl, sym, ◌∙◌, ap, ap₂, arith, ℕ, ◌<◌, Bool, true, false, List, Option, None, length, get_or, nat_eq, bytes_eq}
-use Rattle.std.specs.Prelude.{◌&&◌, not}
-use Rattle.std.proofs.lemmas.List.{length-map}
+use Rattle.std.proofs.Common.{◌≡◌, ◌≢◌, ◌⊎◌, inl, inr, refl, sym, ◌∙◌, ap, ap₂, ℕ, true, List, get_or, nat_eq, bytes_eq}
 use Rattle.std.proofs.lemmas.Slice.Eq.{bytes_eq-Decides}
 use Rattle.std.specs.declared.hash.FoldHasher.{FoldHasher}
 use Rattle.plterm.specs.Tree.{Tree}
@@ -13,14 +11,10 @@ use Rattle.plevent.specs.declared.key.Key.TheVariants.{Any, Int, Atom, Functor}
 use Rattle.plevent.specs.Keys.{first_key, may_fit}
 use Rattle.plevent.specs.Alive.{is_of}
 use Rattle.plsubst.proofs.Unify.{same_int}
-use Rattle.plstore.specs.declared.ends.Ends.{Ends}
 use Rattle.plstore.specs.declared.record.Record.{Record}
-use Rattle.plstore.specs.Links.{back_of, fronts, backs, Class, IsIndexed}
 use Rattle.plstore.specs.Slots.{in_slot, pred_hash, slot, slot_behind, slot_of}
 use Rattle.plstore.specs.Merged.{Covers}
 use Rattle.plstore.proofs.Same.{left-true, right-true, nat-self, nat-same, same-is}
-use Rattle.plstore.proofs.Bits.{last-none, none-first}
-use Rattle.plstore.proofs.Visible.{front-is, back-is}
 
 -- the procedure's own chain has them all
 pub procedure-covers : (p : Indicator) (k : Key) (rs : List Record) → Covers (is_of p) (is_of p) p k rs

@@ -70,7 +70,11 @@ pub(crate) fn unite(places: &mut [Place], first: usize, last: usize) -> United
     };
     let below = group_at(places, low);
     let was = group_at(places, top);
-    let size = if low == top { was.size } else { was.size.wrapping_add(below.size) };
+    let size = if low == top {
+        was.size
+    } else {
+        was.size.wrapping_add(below.size)
+    };
     set_group(places, low, Group { up: top, ..below });
     set_group(
         places,
@@ -95,7 +99,11 @@ pub(crate) fn separate(places: &mut [Place], united: &United)
     let (low, top) = (united.low, united.top);
     let below = group_at(places, low);
     let above = group_at(places, top);
-    let size = if low == top { above.size } else { above.size.wrapping_sub(below.size) };
+    let size = if low == top {
+        above.size
+    } else {
+        above.size.wrapping_sub(below.size)
+    };
     set_group(places, low, Group { up: low, ..below });
     set_group(
         places,

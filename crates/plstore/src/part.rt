@@ -81,12 +81,6 @@ fn moved(number: usize, link: Option<usize>, head: Option<usize>) -> Option<usiz
 {
     match head {
         None => None,
-        Some(at) => {
-            if at == number {
-                link
-            } else {
-                head
-            }
-        }
+        Some(at) => { if at == number { link } else { head } }
     }
 }

@@ -1,4 +1,4 @@
-use Rattle.std.proofs.Common.{sym, ◌∙◌, arith, ◌<◌, ◌≤◌, length}
+use Rattle.std.proofs.Common.{sym, ◌∙◌, arith, ◌<◌, length}
 use Rattle.plstore.proofs.Search.{below-middle, above-middle, one-is}
 use Rattle.plstore.proofs.tables.find.Goals as goal
 

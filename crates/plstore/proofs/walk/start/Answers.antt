@@ -17,7 +17,7 @@ loop-at-init c =
     let m = extent c.args.part (length rs) in
     let stands : Option ℕ → Type 0 = MayStand f class q.g rs m in
     let first : stands c.first.result =
-        subst stands (sym (c.first.ensures ∙ ap (first_end f) c.requires.ends)) (stand-first f class q.g rs _ _ m (chain-is t q.pred.now c.args.chain c.requires.chained).indexed) in
+    subst stands (sym (c.first.ensures ∙ ap (first_end f) c.requires.ends)) (stand-first f class q.g rs _ _ m (chain-is t q.pred.now c.args.chain c.requires.chained).indexed) in
     subst stands (sym c.or-at.ensures) (either stands c.close.result c.first.result c.close.ensures first)
 
 pub next_behind-at-requires-clause-end : goal.next_behind-at-requires-clause-end
