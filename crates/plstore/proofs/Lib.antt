@@ -13,7 +13,8 @@ pub mod Passing
 pub mod Keys
 mod Worked
 pub mod Visible
-pub mod Covering
+pub mod Leading
+pub mod Merging
 pub mod Slotted
 pub mod Names
 pub mod Looking

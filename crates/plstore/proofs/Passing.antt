@@ -11,13 +11,13 @@ use Rattle.plstore.specs.declared.runs.Run.{Run}
 use Rattle.plstore.specs.declared.runs.Place.{Place}
 use Rattle.plstore.specs.declared.ends.Ends.{Ends}
 use Rattle.plstore.specs.Kept.{seen, not_below, first_of, erase_at, change_if, changed_where, is_named}
-use Rattle.plstore.specs.Links.{last_below, first_from, front_of, back_of, fronts, backs, down, up, Class, IsLinked, IsIndexed}
+use Rattle.plstore.specs.Links.{last_below, first_from, front_of, back_of, fronts, backs, Class, IsLinked, IsIndexed}
 use Rattle.plstore.specs.Trail.{OneRun, run_at}
-use Rattle.plstore.specs.Runs.{IsGone, AllGone, IsRunDown, IsRunUp, IsRun, no_place, HasRuns, SameRuns, end_at}
-use Rattle.plstore.proofs.Law.{cons_if, own}
+use Rattle.plstore.specs.Runs.{IsGone, IsRunDown, IsRunUp, IsRun, no_place, HasRuns, SameRuns}
+use Rattle.plstore.proofs.Law.{own}
 use Rattle.plstore.proofs.Bits.{LastIs, get-in, length-push, last-some, drop-mark, cases}
 use Rattle.plstore.proofs.Index.{fronts-erased, backs-erased, length-erased}
-use Rattle.plstore.proofs.Chains.{down-step, up-step, cons-out, up-some, UpIs, EndDown, EndUp, some-record}
+use Rattle.plstore.proofs.Chains.{up-some, UpIs}
 
 gone-later : (b c : ℕ) (o : Option ℕ) → b ≤ c → IsGone b o → IsGone c o
 gone-later b c None l h = h
@@ -34,7 +34,7 @@ run-alone p rs i b gone = record {
     alone j d e = subst (λ j. IsGone b (get_or rs j d).erased) e (gone d)
 
 -- no mark stands between one and the next
-first-above : (bs : List Bool) (m k i : ℕ) → k + m ≡ length bs → first_from k (drop k bs) ≡ Some i → (j : ℕ) → k ≤ j → j < i → get_or bs j false ≡ true → ⊥
+pub first-above : (bs : List Bool) (m k i : ℕ) → k + m ≡ length bs → first_from k (drop k bs) ≡ Some i → (j : ℕ) → k ≤ j → j < i → get_or bs j false ≡ true → ⊥
 first-above bs m k i s e j l u h = by-size m k s e l
   where
     in-list : j < length bs
@@ -78,7 +78,7 @@ join-up p rs i n m r q a e b la lb =
     let within : r.last < length bs = get-in bs r.last a.mark in
     let whole : suc r.last + (length rs - suc r.last) ≡ length rs = omega (arith, within, length-map rs (back_of p)) in
     let whole2 : suc r.last + (length bs - suc r.last) ≡ length bs = omega (arith, within) in
-    let u : UpIs p 0 rs (suc r.last) n some-record = up-some p 0 rs (length rs - suc r.last) (suc r.last) n some-record whole e in
+    let u : UpIs p rs (suc r.last) n = up-some p rs (length rs - suc r.last) (suc r.last) n whole e in
     record {
       order = omega (arith, a.order, b.order, u.above);
       mark = b.mark;
@@ -106,7 +106,7 @@ run-joined p rs next places i n m r q links runs to at la lb own = record {
       let e : first_from (suc r.last) (drop (suc r.last) (backs p rs)) ≡ Some n = sym (links.newer r.last a.mark) ∙ to in
       let within : r.last < length (backs p rs) = get-in (backs p rs) r.last a.mark in
       let whole : suc r.last + (length rs - suc r.last) ≡ length rs = omega (arith, within, length-map rs (back_of p)) in
-      join-up p rs i n m r q a e ((runs.each n q at).up (up-some p 0 rs (length rs - suc r.last) (suc r.last) n some-record whole e).mark) la lb;
+      join-up p rs i n m r q a e ((runs.each n q at).up (up-some p rs (length rs - suc r.last) (suc r.last) n whole e).mark) la lb;
 }
 
 -- a place beyond the last one has no run
@@ -242,7 +242,7 @@ pub written : {A : Type 0} (n : ℕ) (xs ys : List A) → n ≡ length xs → ta
 written n xs ys e = ap (λ n. take n (xs ++ ys)) e ∙ take-append_seam xs ys
 
 -- what was erased below a place is not seen there
-hidden : (b g : ℕ) (r : Record) → b < g → IsGone b r.erased → seen g r ≡ false
+pub hidden : (b g : ℕ) (r : Record) → b < g → IsGone b r.erased → seen g r ≡ false
 hidden b g r l h = by-erasure r.erased h ∙ and-false (nat_lt r.name.place g)
   where
     and-false : (v : Bool) → v && false ≡ false
@@ -255,61 +255,3 @@ hidden b g r l h = by-erasure r.erased h ∙ and-false (nat_lt r.name.place g)
     by-erasure : (o : Option ℕ) → IsGone b o → nat_lt r.name.place g && not_below g o ≡ nat_lt r.name.place g && false
     by-erasure None h = absurd h
     by-erasure (Some e) h = ap (λ v. nat_lt r.name.place g && not v) (below-it e h)
-
--- a walk passes over a run
-pass-down : (p : Class) (g b : ℕ) (rs : List Record) (low high : ℕ) → b < g → high < length rs → AllGone (fronts p rs) rs b low high → (m : ℕ) → low ≤ m → m ≤ suc high → down p g rs m ≡ down p g rs low
-pass-down p g b rs low high l w gone zero lo hi = let e : 0 ≡ low = omega arith in ap (down p g rs) e
-pass-down p g b rs low high l w gone (suc m) lo hi = elim (cases low (suc m)) [
-  | inl lt ↦ step (omega arith) (get_or (fronts p rs) m false) refl ∙ pass-down p g b rs low high l w gone m (omega arith) (omega arith)
-  | inr o ↦ elim o [ inl e ↦ ap (down p g rs) (sym e) | inr gt ↦ absurd (omega arith) ]
-]
-  where
-    step : low ≤ m → (v : Bool) → get_or (fronts p rs) m false ≡ v → down p g rs (suc m) ≡ down p g rs m
-    step q false e = down-step p g rs m some-record false (omega arith) e ∙ cons-out (seen g (get_or rs m some-record)) (own (get_or rs m some-record)) (down p g rs m)
-    step q true e = down-step p g rs m some-record true (omega arith) e
-        ∙ ap (λ v. cons_if (v && true) (own (get_or rs m some-record)) (down p g rs m)) (hidden b g (get_or rs m some-record) l (gone m some-record q (omega arith) e))
-
-pass-up : (p : Class) (g b : ℕ) (rs : List Record) (low high : ℕ) → b < g → high < length rs → AllGone (backs p rs) rs b low high → (m k : ℕ) → low ≤ k → k + m ≡ suc high → up p g rs k ≡ up p g rs (suc high)
-pass-up p g b rs low high l w gone zero k lo s = let e : k ≡ suc high = omega arith in ap (up p g rs) e
-pass-up p g b rs low high l w gone (suc m) k lo s = step (get_or (backs p rs) k false) refl ∙ pass-up p g b rs low high l w gone m (suc k) (omega arith) (omega arith)
-  where
-    step : (v : Bool) → get_or (backs p rs) k false ≡ v → up p g rs k ≡ up p g rs (suc k)
-    step false e = up-step p g rs k some-record false (omega arith) e ∙ cons-out (seen g (get_or rs k some-record)) (own (get_or rs k some-record)) (up p g rs (suc k))
-    step true e = up-step p g rs k some-record true (omega arith) e
-        ∙ ap (λ v. cons_if (v && true) (own (get_or rs k some-record)) (up p g rs (suc k))) (hidden b g (get_or rs k some-record) l (gone k some-record lo (omega arith) e))
-
-lt-below : (a b : ℕ) → nat_lt a b ≡ true → a < b
-lt-below a b e = grind (arith, nat_tests)
-
-pub end-down : (p : Class) (g : ℕ) (rs : List Record) (places : List Place) (i n : ℕ) → HasRuns p rs places → get_or (fronts p rs) i false ≡ true → n ≡ end_at g i (get_or places i no_place).run → EndDown p g rs i n
-end-down p g rs places i n runs h e = subst (EndDown p g rs i) (sym e) (by-run (get_or places i no_place).run refl)
-  where
-    by-test : (r : Run) → (get_or places i no_place).run ≡ Some r → (v : Bool) → nat_lt r.latest g ≡ v → EndDown p g rs i (add_if v r.last i)
-    by-test r k false t = record { order = omega arith; mark = h; same = refl }
-    by-test r k true t =
-        let a = (runs.each i r k).down h in
-        let w = get-in (fronts p rs) i h in
-        record { order = a.order; mark = a.mark; same = pass-down p g r.latest rs r.last i (lt-below r.latest g t) (omega (arith, w, length-map rs (front_of p))) a.gone i a.order (omega arith) }
-
-    by-run : (o : Option Run) → (get_or places i no_place).run ≡ o → EndDown p g rs i (end_at g i o)
-    by-run None k = record { order = omega arith; mark = h; same = refl }
-    by-run (Some r) k = by-test r k (nat_lt r.latest g) refl
-
-pub end-up : (p : Class) (g : ℕ) (rs : List Record) (places : List Place) (i n : ℕ) → HasRuns p rs places → get_or (backs p rs) i false ≡ true → n ≡ end_at g i (get_or places i no_place).run → EndUp p g rs i n
-end-up p g rs places i n runs h e = subst (EndUp p g rs i) (sym e) (by-run (get_or places i no_place).run refl)
-  where
-    by-test : (r : Run) → (get_or places i no_place).run ≡ Some r → (v : Bool) → nat_lt r.latest g ≡ v → EndUp p g rs i (add_if v r.last i)
-    by-test r k false t = record { order = omega arith; mark = h; same = refl }
-    by-test r k true t =
-        let a = (runs.each i r k).up h in
-        let w = get-in (backs p rs) r.last a.mark in
-        let within : r.last < length rs = omega (arith, w, length-map rs (back_of p)) in
-        record {
-          order = a.order;
-          mark = a.mark;
-          same = pass-up p g r.latest rs i r.last (lt-below r.latest g t) within a.gone (r.last - i) (suc i) (omega arith) (omega (arith, a.order));
-        }
-
-    by-run : (o : Option Run) → (get_or places i no_place).run ≡ o → EndUp p g rs i (end_at g i o)
-    by-run None k = record { order = omega arith; mark = h; same = refl }
-    by-run (Some r) k = by-test r k (nat_lt r.latest g) refl

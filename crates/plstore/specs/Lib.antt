@@ -8,6 +8,8 @@ pub mod Slots
 pub mod Plan
 pub mod Room
 pub mod Chains
+pub mod Parts
+pub mod Merged
 pub mod Tables
 pub mod Cut
 pub mod Trail

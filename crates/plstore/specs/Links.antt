@@ -54,6 +54,11 @@ Index K = HashMap K Ends (BuildHasherDefault FoldHasher)
 abbrev pub no_ends : Ends
 no_ends = record { since = None; newest_front = None; oldest_back = None; newest_back = None }
 
+-- the record of a side to which a walk comes first
+abbrev pub first_end : Bool → Ends → Option ℕ
+first_end true e = e.newest_front
+first_end false e = e.oldest_back
+
 abbrev pub ends_in : {K : Type 0} → (K → K → Bool) → Index K → K → Ends
 ends_in eq m k = unwrap_or (get eq m k) no_ends
 
@@ -100,12 +105,3 @@ pub record IsLinked (c : Class) (rs : List Record) (next : List (Option ℕ)) : 
 abbrev pub Marked : List Bool → Option ℕ → Type 0
 Marked bs None = Unit {0}
 Marked bs (Some i) = slice_index_or bs i false ≡ true
-
--- how many records a link downward has still to pass, and from which record on one upward does
-abbrev pub below : Option ℕ → ℕ
-below None = 0
-below (Some i) = suc i
-
-abbrev pub onward : ℕ → Option ℕ → ℕ
-onward n None = n
-onward n (Some i) = i

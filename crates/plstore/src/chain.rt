@@ -1,8 +1,9 @@
 //! What links the clauses that a walk passes.
-ghost use Rattle.std.specs.Prelude.{◌≡◌, ◌<◌, ℕ, length, slice_index_or, true};
+ghost use Rattle.std.specs.Prelude.{◌≡◌, true};
 ghost use Rattle.plevent.specs.Alive.{is_of};
-ghost use Rattle.plstore.specs.Chains.{in_chain, Covers};
-ghost use Rattle.plstore.specs.Tables.{chain_ends, links_in, Chained};
+ghost use Rattle.plstore.specs.Chains.{in_chain};
+ghost use Rattle.plstore.specs.Merged.{IsMerged};
+ghost use Rattle.plstore.specs.Tables.{chain_ends, links_in};
 
 use crate::ends::{Ends, ends_of};
 use crate::links::Links;
@@ -39,36 +40,50 @@ impl Chain {
             Chain::Slot(slot) => ends_of(&tables.slots, &slot),
         }
     }
+
+    /// Whether it has a record of the procedure.
+    pub(crate) fn has(self, pred: &Indicator, one: &Record) -> bool
+        requires { is_of pred.now one.now.clause ≡ true }
+        ensures { result ≡ in_chain pred.now self one.now.clause }
+    {
+        match self {
+            Chain::Procedure => true,
+            Chain::Slot(slot) => Slots::new(pred).of_head(&one.clause.head().root()) == slot,
+        }
+    }
 }
 
-/// A chain that has each clause that is sought: the short one of the key's slot, where no clause of the procedure was ever
-/// made with a variable, or nothing, as its first argument; else that of the procedure.
-pub(crate) fn chain_of(tables: &Tables, sought: &Sought<'_>) -> Chain
-    requires { Chained tables.now }
-    ensures { Covers (in_chain sought.now.pred.now result) sought.now.pred.now sought.now.key.now tables.now.records.items }
+/// The chains of a look-up, which together have each clause that is sought, and where they begin and end.
+#[derive(Clone, Copy)]
+pub(crate) struct Merged {
+    pub(crate) own: Chain,
+    pub(crate) own_ends: Ends,
+    pub(crate) any: Chain,
+    pub(crate) any_ends: Ends,
+}
+
+/// The chain of the key's slot, and that of the clauses with a variable, or nothing, as their first argument. For a goal of
+/// any key both are the procedure's.
+pub(crate) fn merge(tables: &Tables, sought: &Sought<'_>) -> Merged
+    ensures { IsMerged tables.now sought.now.pred.now sought.now.key.now result }
 {
     if matches!(sought.key, Key::Any) {
-        return Chain::Procedure;
+        let chain = Chain::Procedure;
+        let ends = chain.ends(tables, sought.pred);
+        return Merged {
+            own: chain,
+            own_ends: ends,
+            any: chain,
+            any_ends: ends,
+        };
     }
     let slots = Slots::new(sought.pred);
-    let any = slots.any();
-    if ends_of(&tables.slots, &any).is_empty() {
-        Chain::Slot(slots.of_key(sought.key))
-    } else {
-        Chain::Procedure
-    }
-}
-
-/// The same to go on from a clause of the procedure: the chain has that one too.
-pub(crate) fn chain_behind(tables: &Tables, sought: &Sought<'_>, one: &Record) -> Chain
-    requires { Chained tables.now }
-    ensures covers { Covers (in_chain sought.now.pred.now result) sought.now.pred.now sought.now.key.now tables.now.records.items }
-    ensures held { (i : ℕ) → i < length tables.now.records.items → one.now ≡ slice_index_or tables.now.records.items i one.now → is_of sought.now.pred.now one.now.clause ≡ true →
-        in_chain sought.now.pred.now result one.now.clause ≡ true }
-{
-    if sought.key.fits(&one.clause.head().root()) {
-        chain_of(tables, sought)
-    } else {
-        Chain::Procedure
+    let own = Chain::Slot(slots.of_key(sought.key));
+    let any = Chain::Slot(slots.any());
+    Merged {
+        own,
+        own_ends: own.ends(tables, sought.pred),
+        any,
+        any_ends: any.ends(tables, sought.pred),
     }
 }

@@ -2,7 +2,7 @@
 ghost use Rattle.std.specs.Prelude.{◌≡◌, ◌+◌, ◌<◌, ◌≤◌, ◌↔◌, IsTrue, ℕ, ◌≢◌, None, Some, cond, length, vec_len, ◌++◌, ◌∷◌, [], List, Option, slice_set};
 ghost use Rattle.std.specs.Vec.{vec_capacity};
 ghost use Rattle.std.specs.HashMap.{get, spare};
-ghost use Rattle.plstore.specs.Links.{earlier, ends_after, ends_in, links_after, no_ends, since_below};
+ghost use Rattle.plstore.specs.Links.{earlier, ends_after, ends_in, first_end, links_after, no_ends, since_below};
 ghost use Rattle.plstore.specs.Trail.{MaySet, WasEnd};
 
 use std::collections::HashMap;
@@ -33,14 +33,30 @@ impl Ends {
     fn is_nothing(self) -> bool
         ensures { IsTrue result ↔ (self ≡ no_ends) }
     {
-        self.since.is_none() && self.newest_back.is_none() && self.is_empty()
+        self.since.is_none()
+            && self.newest_front.is_none()
+            && self.oldest_back.is_none()
+            && self.newest_back.is_none()
     }
 
-    /// Whether there are no records.
-    pub(crate) fn is_empty(self) -> bool
-        ensures { IsTrue result ↔ ((self.newest_front ≡ None) × (self.oldest_back ≡ None)) }
+    /// The record of a side to which a walk comes first.
+    pub(crate) fn first(self, front: bool) -> Option<usize>
+        ensures { result ≡ first_end front self }
     {
-        self.newest_front.is_none() && self.oldest_back.is_none()
+        if front {
+            self.newest_front
+        } else {
+            self.oldest_back
+        }
+    }
+
+    /// The record of a side that was made last.
+    pub(crate) fn newest(self, front: bool) -> Option<usize> {
+        if front {
+            self.newest_front
+        } else {
+            self.newest_back
+        }
     }
 }
 

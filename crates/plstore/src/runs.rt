@@ -8,6 +8,8 @@ ghost use Rattle.plstore.specs.Runs.{end_at, no_place, HasRuns, IsGone, IsRun, S
 ghost use Rattle.plstore.specs.Trail.{HadRun, HadRuns, MoreRuns, OneRun, WasRun};
 
 use crate::ends::Ends;
+use crate::group::{Group, United, alone, first_of, separate, unite};
+use crate::leap::{Leap, leap_over};
 
 /// Erased records of one side of a class that follow one another: from one on up to `last`, each erased by a batch at
 /// `latest` or below.
@@ -22,21 +24,19 @@ pub(crate) struct Run {
 pub(crate) struct Place {
     /// The run that begins here.
     pub(crate) run: Option<Run>,
-    /// The record whose link leads here. Nothing but time depends on it, nor on the next.
+    /// The record whose link leads here. Nothing but time depends on it, nor on those below.
     pub(crate) from: Option<usize>,
-    /// Where the run that ends here begins.
-    pub(crate) start: usize,
+    pub(crate) group: Group,
+    pub(crate) leap: Leap,
 }
 
-/// A run that was noted, with what was noted before at its first record and at its last one.
+/// A run that was noted, with what was noted before.
 #[derive(Clone, Copy)]
 pub(crate) struct Noted {
     pub(crate) first: usize,
     /// The run that began at the first one.
     pub(crate) run: Option<Run>,
-    pub(crate) last: usize,
-    /// Where a run began that ended at the last one.
-    pub(crate) start: usize,
+    pub(crate) united: United,
 }
 
 /// What an erasure changed: the run that begins at the record, and the one before it, which now reaches over it.
@@ -53,6 +53,15 @@ pub(crate) fn run_end(places: &[Place], number: usize, g: u64) -> usize
 {
     match places[number].run {
         Some(run) if run.latest < g => run.last,
+        Some(_) | None => number,
+    }
+}
+
+/// The first record of the run that this one is in, where a walk at `g` passes over that; else this record.
+pub(crate) fn passed_from(places: &[Place], number: usize, g: u64) -> usize {
+    let first = first_of(places, number);
+    match run_at(places, first) {
+        Some(run) if run.latest < g => first,
         Some(_) | None => number,
     }
 }
@@ -93,7 +102,7 @@ fn bury_in(places: &mut [Place], next: &[Option<usize>], number: usize, place: u
 /// Where the run begins that ends with the record before this one, if that is erased.
 fn start_before(places: &[Place], number: usize) -> Option<usize> {
     let before = places.get(number)?.from?;
-    Some(places.get(before)?.start)
+    Some(first_of(places, before))
 }
 
 /// Joins the run that begins here with the one behind it.
@@ -154,29 +163,19 @@ fn later(a: u64, b: u64) -> u64
     if a < b { b } else { a }
 }
 
-/// Notes a run at its first record, and where it begins at its last one.
+/// Notes a run at its first record, and joins the groups of that and of its last one.
 fn begin(places: &mut [Place], first: usize, run: Run) -> Noted
     ensures runs { (c : Class) (rs : List Record) → HasRuns c rs places.old → IsRun c rs first run → HasRuns c rs places.new }
     ensures noted { WasRun result places.old places.new }
     ensures len { length places.new ≡ length places.old }
 {
-    let noted = Noted {
-        first,
-        run: run_at(places, first),
-        last: run.last,
-        start: start_at(places, run.last),
-    };
+    let was = run_at(places, first);
     set_run(places, first, Some(run));
-    set_start(places, run.last, first);
-    noted
-}
-
-/// Where a run began that ended at a record.
-fn start_at(places: &[Place], number: usize) -> usize {
-    if number < places.len() {
-        places[number].start
-    } else {
-        number
+    let united = unite(places, first, run.last);
+    Noted {
+        first,
+        run: was,
+        united,
     }
 }
 
@@ -201,7 +200,7 @@ fn unbury_in(places: &mut [Place], buried: &Buried)
 fn unnote(places: &mut [Place], noted: &Noted)
     ensures back { OneRun noted.now.first noted.now.run places.old places.new }
 {
-    set_start(places, noted.last, noted.start);
+    separate(places, &noted.united);
     set_run(places, noted.first, noted.run);
 }
 
@@ -210,14 +209,6 @@ fn set_run(places: &mut [Place], first: usize, run: Option<Run>)
 {
     if first < places.len() {
         places[first].run = run;
-    }
-}
-
-fn set_start(places: &mut [Place], last: usize, start: usize)
-    ensures same { SameRuns places.old places.new }
-{
-    if last < places.len() {
-        places[last].start = start;
     }
 }
 
@@ -238,11 +229,12 @@ pub(crate) fn add_place(places: &mut Vec<Place>, front: bool, number: usize, end
     ensures room { vec_capacity places.old ≤ vec_capacity places.new }
     ensures len { vec_len places.new ≡ vec_len places.old + 1 }
 {
+    let leap = leap_over(places.as_slice(), ends.newest(front), number);
     if !front {
-        append(places, ends.newest_back, number);
+        append(places, ends.newest_back, number, leap);
         return;
     }
-    append(places, None, number);
+    append(places, None, number, leap);
     if let Some(first) = ends.newest_front {
         set_from(places.as_mut_slice(), first, Some(number));
     }
@@ -261,7 +253,7 @@ pub(crate) fn drop_place(places: &mut Vec<Place>, front: bool, ends: Ends)
     }
 }
 
-fn append(places: &mut Vec<Place>, from: Option<usize>, number: usize)
+fn append(places: &mut Vec<Place>, from: Option<usize>, number: usize, leap: Leap)
     requires { vec_len places.old < vec_capacity places.old }
     ensures runs { (c : Class) (rs : List Record) (r : Record) → HasRuns c rs places.old.items → HasRuns c (rs ++ r ∷ []) places.new.items }
     ensures more { MoreRuns places.old.items places.new.items }
@@ -271,7 +263,8 @@ fn append(places: &mut Vec<Place>, from: Option<usize>, number: usize)
     let place = Place {
         run: None,
         from,
-        start: number,
+        group: alone(number),
+        leap,
     };
     match places.push(place) {
         Ok(()) => {}

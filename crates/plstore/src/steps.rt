@@ -1,18 +1,17 @@
 //! From one clause of a walk to the next.
-ghost use Rattle.std.specs.Prelude.{◌≡◌, ◌<◌, length};
+ghost use Rattle.std.specs.Prelude.{◌≡◌, ◌<◌, IfSome, length};
 ghost use Rattle.plevent.specs.declared.update.ClauseName.{ClauseName as Named};
-ghost use Rattle.plevent.specs.Alive.{or_else};
-ghost use Rattle.plstore.specs.Chains.{found_down, found_up, in_chain};
 ghost use Rattle.plstore.specs.Kept.{behind_all, picked, walk};
 ghost use Rattle.plstore.specs.Like.{first_like, past};
-ghost use Rattle.plstore.specs.Links.{below, fronts, Marked};
+ghost use Rattle.plstore.specs.Merged.{found_from};
 ghost use Rattle.plstore.specs.Rising.{IsRising, OneIs};
 ghost use Rattle.plstore.specs.Tables.{Chained};
 
-use crate::chain::{Chain, chain_behind, chain_of};
+use crate::chain::merge;
+use crate::part::Part;
 use crate::sought::Sought;
 use crate::tables::{Tables, find};
-use crate::walk::{record_at, seek_back, seek_front};
+use crate::walk::{record_at, seek};
 use plevent::ClauseName;
 
 /// The name of the first clause that is sought.
@@ -20,29 +19,21 @@ pub(crate) fn first_sought(tables: &Tables, sought: &Sought<'_>) -> Option<Claus
     requires chained { Chained tables.now }
     ensures { result ≡ first_like sought.now.key.now (walk sought.now.g sought.now.pred.now tables.now.records.items) }
 {
-    let chain = chain_of(tables, sought);
-    let ends = chain.ends(tables, sought.pred);
-    sought_from(tables, sought, chain, ends.newest_front)
+    sought_from(tables, sought, Part::whole(true))
 }
 
-/// The name of the first one of a chain from a record in front on, downward, and then of those behind.
-fn sought_from(
-    tables: &Tables,
-    sought: &Sought<'_>,
-    chain: Chain,
-    newest: Option<usize>,
-) -> Option<ClauseName>
+/// The name of the first one of a part, and where that is in front, then of those behind.
+fn sought_from(tables: &Tables, sought: &Sought<'_>, part: Part) -> Option<ClauseName>
     requires chained { Chained tables.now }
-    requires newest { Marked (fronts (in_chain sought.now.pred.now chain) tables.now.records.items) newest }
-    ensures { result ≡ or_else (found_down sought.now chain tables.now.records.items (below newest)) (found_up sought.now chain tables.now.records.items 0) }
+    requires within { IfSome part.behind (λ i. i < length tables.now.records.items) }
+    ensures { result ≡ found_from sought.now tables.now.records.items part }
 {
-    match seek_front(tables, sought, chain, newest) {
-        Some(name) => return Some(name),
-        None => {
-            let ends = chain.ends(tables, sought.pred);
-            return seek_back(tables, sought, chain, ends.oldest_back);
-        }
+    let merged = merge(tables, sought);
+    let found = seek(tables, sought, &merged, part);
+    if part.front && found.is_none() {
+        return seek(tables, sought, &merged, Part::whole(false));
     }
+    found
 }
 
 /// The name of the first clause that is sought among those put behind.
@@ -50,9 +41,7 @@ pub(crate) fn first_back(tables: &Tables, sought: &Sought<'_>) -> Option<ClauseN
     requires { Chained tables.now }
     ensures { result ≡ first_like sought.now.key.now (picked (behind_all sought.now.pred.now) sought.now.g tables.now.records.items) }
 {
-    let chain = chain_of(tables, sought);
-    let ends = chain.ends(tables, sought.pred);
-    seek_back(tables, sought, chain, ends.oldest_back)
+    sought_from(tables, sought, Part::whole(false))
 }
 
 /// The name of the first clause that is sought behind the one with this name; none where that one is not alive, or is of
@@ -83,10 +72,9 @@ fn sought_behind(tables: &Tables, sought: &Sought<'_>, number: usize) -> Option<
     if !sought.is_shown(one) {
         return None;
     }
-    let chain = chain_behind(tables, sought, one);
-    let link = chain.links(tables).next_to(number);
-    if one.front {
-        return sought_from(tables, sought, chain, link);
-    }
-    seek_back(tables, sought, chain, link)
+    let part = Part {
+        front: one.front,
+        behind: Some(number),
+    };
+    sought_from(tables, sought, part)
 }

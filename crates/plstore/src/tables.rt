@@ -309,15 +309,17 @@ fn first(erased: Option<u64>, place: u64) -> Option<u64>
     }
 }
 
-/// Where the record of a name stands, by halving.
+/// Where the record of a name stands: a guess from the names at both ends, and a half, in turn.
 pub(crate) fn find(records: &[Record], name: ClauseName) -> Option<usize>
     requires { IsRising records.now }
     ensures { MatchOption result (NoneIs name records.now) (λ i. OneIs name records.now i) }
 {
     let mut low = 0;
     let mut high = records.len();
+    let mut halve = false;
     while low < high {
-        let middle = low + (high - low) / 2;
+        let middle = probe(records, name, low, high, halve);
+        halve = !halve;
         let found = records[middle].name;
         if precedes(found, name) {
             low = middle + 1;
@@ -328,6 +330,45 @@ pub(crate) fn find(records: &[Record], name: ClauseName) -> Option<usize>
         }
     }
     None
+}
+
+/// Which of the records from `low` to `high` is looked at: that in their middle, or one that is guessed.
+fn probe(records: &[Record], name: ClauseName, low: usize, high: usize, halve: bool) -> usize
+    requires order { low < high }
+    requires within { high ≤ length records.now }
+    ensures above { low ≤ result }
+    ensures below { result < high }
+{
+    let count = high - low;
+    if halve {
+        return low + count / 2;
+    }
+    low + guess(records[low].name, records[high - 1].name, name, count)
+}
+
+/// Where a name may stand among so many records from one to another, as if their places rose evenly. Nothing but time
+/// depends on it.
+fn guess(first: ClauseName, last: ClauseName, name: ClauseName, count: usize) -> usize
+    requires { 0 < count }
+    ensures { result < count }
+{
+    let far = if first.place == last.place {
+        share(name.number, first.number, last.number, count)
+    } else {
+        share(name.place, first.place, last.place, count)
+    };
+    match far {
+        Some(far) if far < count => far,
+        Some(_) | None => count / 2,
+    }
+}
+
+/// As much of a count as a number is on its way from the first to the last.
+fn share(number: u64, first: u64, last: u64, count: usize) -> Option<usize> {
+    let way = number.checked_sub(first)?;
+    let whole = last.checked_sub(first)?;
+    let much = way.checked_mul((count as u64).checked_sub(1)?)?;
+    usize::try_from(much.checked_div(whole)?).ok()
 }
 
 fn precedes(x: ClauseName, y: ClauseName) -> bool

@@ -1,61 +1,108 @@
-//! The walk over the clauses of a chain, by its links.
-ghost use Rattle.std.specs.Prelude.{◌≡◌, ◌<◌, length, slice_index_or};
-ghost use Rattle.plstore.specs.Chains.{found_down, found_up, in_chain};
-ghost use Rattle.plstore.specs.Links.{below, onward, fronts, backs, Marked};
-ghost use Rattle.plstore.specs.Tables.{Chained};
+//! The walk over the clauses of two chains, merged by place.
+ghost use Rattle.std.specs.Prelude.{◌≡◌, ◌<◌, ◌≤◌, IfSome, Some, length, slice_index_or, true};
+ghost use Rattle.plstore.specs.Chains.{in_chain};
+ghost use Rattle.plstore.specs.Links.{Marked};
+ghost use Rattle.plstore.specs.Merged.{found, IsMerged, MayStand};
+ghost use Rattle.plstore.specs.Parts.{extent, left, marks};
+ghost use Rattle.plstore.specs.Tables.{chain_ends, Chained};
 
-use crate::chain::Chain;
+use crate::chain::{Chain, Merged};
+use crate::ends::Ends;
+use crate::leap::near;
+use crate::part::{Heads, Part};
 use crate::record::Record;
 use crate::sought::Sought;
 use crate::tables::Tables;
 use plevent::ClauseName;
 
-/// The name of the first clause that is sought, of those put in front, from one on, the newest first.
-pub(crate) fn seek_front(
+/// The name of the first clause of a part that is sought.
+pub(crate) fn seek(
     tables: &Tables,
     sought: &Sought<'_>,
-    chain: Chain,
-    newest: Option<usize>,
+    merged: &Merged,
+    part: Part,
 ) -> Option<ClauseName>
     requires chained { Chained tables.now }
-    requires newest { Marked (fronts (in_chain sought.now.pred.now chain) tables.now.records.items) newest }
-    ensures { result ≡ found_down sought.now chain tables.now.records.items (below newest) }
+    requires merged { IsMerged tables.now sought.now.pred.now sought.now.key.now merged.now }
+    requires within { IfSome part.behind (λ i. i < length tables.now.records.items) }
+    ensures { result ≡ found sought.now tables.now.records.items part }
 {
     let records = tables.records.as_slice();
-    let links = chain.links(tables);
-    let mut at = newest;
-    while let Some(number) = at {
+    let links = merged.own.links(tables);
+    let mut at = Heads {
+        own: start(tables, sought, merged.own, merged.own_ends, part),
+        any: start(tables, sought, merged.any, merged.any_ends, part),
+    };
+    while let Some(number) = at.first(part.front) {
         let record = record_at(records, number);
         if sought.is_met(record) {
             return Some(record.name);
+        }
+        at = at.behind(number, links.next_behind(number, sought.g));
+    }
+    None
+}
+
+/// The first record of a chain in a part, but for those that are not seen.
+fn start(
+    tables: &Tables,
+    sought: &Sought<'_>,
+    chain: Chain,
+    ends: Ends,
+    part: Part,
+) -> Option<usize>
+    requires chained { Chained tables.now }
+    requires ends { ends ≡ chain_ends tables.now sought.now.pred.now chain }
+    requires within { IfSome part.behind (λ i. i < length tables.now.records.items) }
+    ensures stands { MayStand part.front (in_chain sought.now.pred.now chain) sought.now.g tables.now.records.items (extent part (length tables.now.records.items)) result }
+    ensures order { left part.front (length tables.now.records.items) result ≤ extent part (length tables.now.records.items) }
+{
+    let links = chain.links(tables);
+    let mut at = close(tables, sought, chain, ends, part).or(ends.first(part.front));
+    while let Some(number) = at {
+        if part.has(number) {
+            return at;
         }
         at = links.next_behind(number, sought.g);
     }
     None
 }
 
-/// The same of those put behind, the oldest first.
-pub(crate) fn seek_back(
+/// A record of a chain close before a part, or the one behind which that begins, if such a one is found.
+fn close(
     tables: &Tables,
     sought: &Sought<'_>,
     chain: Chain,
-    oldest: Option<usize>,
-) -> Option<ClauseName>
-    requires chained { Chained tables.now }
-    requires oldest { Marked (backs (in_chain sought.now.pred.now chain) tables.now.records.items) oldest }
-    ensures { result ≡ found_up sought.now chain tables.now.records.items (onward (length tables.now.records.items) oldest) }
+    ends: Ends,
+    part: Part,
+) -> Option<usize>
+    ensures { IfSome result (λ i. MayStand part.front (in_chain sought.now.pred.now chain) sought.now.g tables.now.records.items (extent part (length tables.now.records.items)) (Some i)) }
+{
+    let number = part.behind?;
+    if part.has(ends.first(part.front)?) {
+        return None;
+    }
+    if is_held(tables, sought, chain, part.front, number) {
+        return Some(number);
+    }
+    let newest = ends.newest(part.front)?;
+    let before = near(chain.links(tables), part.front, newest, number, sought.g);
+    if part.has(before) || !is_held(tables, sought, chain, part.front, before) {
+        return None;
+    }
+    Some(before)
+}
+
+/// Whether there is such a record on a side of a chain.
+fn is_held(tables: &Tables, sought: &Sought<'_>, chain: Chain, front: bool, number: usize) -> bool
+    ensures { result ≡ true → Marked (marks front (in_chain sought.now.pred.now chain) tables.now.records.items) (Some number) }
 {
     let records = tables.records.as_slice();
-    let links = chain.links(tables);
-    let mut at = oldest;
-    while let Some(number) = at {
-        let record = record_at(records, number);
-        if sought.is_met(record) {
-            return Some(record.name);
-        }
-        at = links.next_behind(number, sought.g);
+    if records.len() <= number {
+        return false;
     }
-    None
+    let one = record_at(records, number);
+    one.front == front && one.is_of(sought.pred) && chain.has(sought.pred, one)
 }
 
 pub(crate) fn record_at(records: &[Record], number: usize) -> &Record

@@ -1,12 +1,12 @@
-use Rattle.std.proofs.Common.{sym, ◌∙◌, arith, ◌<◌, ◌≤◌, ◌+◌, ◌-◌, ◌/◌, length}
+use Rattle.std.proofs.Common.{sym, ◌∙◌, arith, ◌<◌, length}
 use Rattle.plstore.proofs.Search.{below-middle, above-middle, one-is}
 use Rattle.plstore.proofs.tables.find.Goals as goal
 
 pub loop-low-preserved-then-precedes : goal.loop-low-preserved-then-precedes
 loop-low-preserved-then-precedes c =
-    let m : c.loop-low.low + (c.loop-low.high - c.loop-low.low) / 2 < c.loop-low.high = omega arith in
-    let l : c.loop-low.low + (c.loop-low.high - c.loop-low.low) / 2 < length c.args.records.now = omega arith in (
-      omega arith,
+    let m = c.probe-middle.ensures.below in
+    let l : c.probe-middle.result < length c.args.records.now = omega (arith, m) in (
+      omega (arith, m),
       c.loop-low.invariant.1,
       below-middle _ c.args.name _ c.index-records-middle.result c.requires l (sym c.precedes.ensures ∙ c.if-precedes.true),
       c.loop-low.invariant.3,
@@ -14,16 +14,15 @@ loop-low-preserved-then-precedes c =
 
 pub loop-low-preserved : goal.loop-low-preserved
 loop-low-preserved c =
-    let m : c.loop-low.low + (c.loop-low.high - c.loop-low.low) / 2 < c.loop-low.high = omega arith in
-    let l : c.loop-low.low + (c.loop-low.high - c.loop-low.low) / 2 ≤ length c.args.records.now = omega arith in (
-      omega arith,
-      l,
+    let m = c.probe-middle.ensures in (
+      m.above,
+      omega (arith, m.below),
       c.loop-low.invariant.2,
       above-middle _ c.args.name _ c.index-records-middle.result c.requires (sym c.precedes-else-precedes.ensures ∙ c.if-precedes-2.true),
     )
 
 pub returns-else-precedes-2 : goal.returns-else-precedes-2
 returns-else-precedes-2 c =
-    let m : c.loop-low.low + (c.loop-low.high - c.loop-low.low) / 2 < c.loop-low.high = omega arith in
-    let l : c.loop-low.low + (c.loop-low.high - c.loop-low.low) / 2 < length c.args.records.now = omega arith in
+    let m = c.probe-middle.ensures.below in
+    let l : c.probe-middle.result < length c.args.records.now = omega (arith, m) in
     one-is _ c.args.name _ c.index-records-middle.result c.requires l (sym c.precedes.ensures ∙ c.if-precedes.false) (sym c.precedes-else-precedes.ensures ∙ c.if-precedes-2.false)

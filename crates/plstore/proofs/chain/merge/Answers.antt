@@ -1,0 +1,27 @@
+use Rattle.std.proofs.Common.{◌≡◌, ◌≢◌, ◌∙◌, refl, sym, ap, true, false}
+use Rattle.plevent.specs.declared.key.Key.TheVariants.{Any}
+use Rattle.plstore.specs.Slots.{slot_behind}
+use Rattle.plstore.proofs.Slotted.{procedure-covers, slots-cover}
+use Rattle.plstore.proofs.chain.merge.Goals as goal
+use Rattle.plstore.proofs.chain.merge.Goals.{in-Any, in_default}
+
+pub returns-then-matches : goal.returns-then-matches
+returns-then-matches c =
+    let q = c.args.sought.now in
+    record { own = c.ends-ends.ensures; any = c.ends-ends.ensures; links = refl; covers = procedure-covers q.pred.now q.key.now c.args.tables.now.records.items }
+
+pub returns : goal.returns
+returns c =
+    let q = c.args.sought.now in
+    let slots = c.new-slots.ensures in
+    let not-any : q.key.now ≢ Any = λ e. elim c.match-matches.branch [
+      | in-Any w ↦ let z : true ≡ false = sym w.matches-is ∙ c.if-matches.false in absurd (cc)
+      | in_default w ↦ absurd (w.in_default.not-Any e)
+    ] in
+    record {
+      own = c.ends.ensures;
+      any = c.ends-2.ensures;
+      links = refl;
+      covers = slots-cover q.pred.now q.key.now c.args.tables.now.records.items c.any.result c.of_key.result not-any
+          (c.any.ensures ∙ ap (λ h. slot_behind h Any) slots) (c.of_key.ensures ∙ ap (λ h. slot_behind h q.key.now) slots);
+    }
