@@ -17,7 +17,18 @@ use plterm::term::Term;
 use std::alloc::{AllocError, Global};
 
 impl Heap {
-    /// A new block of these values, of which the last one is the first argument. It is ground where none of them is known to hold a variable.
+    /// A new block of these values. It is ground where none of them is known to hold a variable.
+    pub fn put_block(&mut self, f: u32, values: &[Argument]) -> Result<u32, AllocError>
+        requires functor { IsFunctorOf self.old.names f (length values.now) }
+        requires given { AreGiven self.old values.now }
+        ensures ok { IfOk result (λ p. AddsBlock self.old self.new p (functor_name self.old.names f) (map (stands_for self.old) values.now) []) }
+        ensures err { OnErr result (self.new ≡ self.old) }
+    {
+        let ground = self.are_solid(values);
+        self.build(f, ground, values)
+    }
+
+    /// A new block of these values, of which the last one is the first argument.
     fn put_reversed(&mut self, f: u32, values: &mut [Argument]) -> Result<u32, AllocError>
         requires functor { IsFunctorOf self.old.names f (length values.old) }
         requires given { AreGiven self.old (reverse values.old) }
@@ -25,8 +36,7 @@ impl Heap {
         ensures err { OnErr result (self.new ≡ self.old) }
     {
         values.reverse();
-        let ground = self.are_solid(values);
-        self.build(f, ground, values)
+        self.put_block(f, values)
     }
 
     /// A new compound of the topmost values, the first argument on top: it takes their place on the stack.

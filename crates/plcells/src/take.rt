@@ -12,7 +12,7 @@ use plterm::term::Term;
 use std::alloc::{AllocError, Global};
 
 /// Puts a run of cells on a stack, the first one on top.
-fn push_run(stack: &mut Vec<u32>, first: u32, count: u16) -> Result<(), AllocError>
+pub fn push_run(stack: &mut Vec<u32>, first: u32, count: u16) -> Result<(), AllocError>
     requires { first + count < 2 ^ 32 }
     ensures { OnOk result (stack.new.items ≡ stack.old.items ++ run first count) }
 {

@@ -7,7 +7,7 @@ use Rattle.plterm.specs.declared.node.Node.TheVariants.{Var, Int, Atom, Compound
 use Rattle.plterm.specs.Reading.{arity, tree_of, Fits, IsTerm, tree_of-spelling}
 use Rattle.plterm.specs.Variables.{copied}
 use Rattle.plpack.specs.Packing.{item, packed, IsPackable}
-use Rattle.plpack.specs.Items.{IsLong, IsItemAt, NoItem, IsNumbered, after}
+use Rattle.plpack.specs.Items.{IsLong, IsItemAt, NoItem, IsNumbered, NoNext, after}
 use Rattle.plpack.specs.Unpacking.{IsFault}
 use Rattle.plpack.proofs.Nodes.{same_item}
 use Rattle.plpack.proofs.Numberings.{some_byte, few_variables}
@@ -20,21 +20,17 @@ few_arguments (Int i) h = omega arith
 few_arguments (Atom s) h = omega arith
 few_arguments (Compound s k) h = h.2
 
--- no good node begins the bytes
-abbrev pub NoneGood : ℕ → List ℕ → Type 0
-NoneGood seen bytes = (n : Node) (rest : List ℕ) → Fits n → IsNumbered seen n → bytes ≡ item n ++ rest → ⊥
-
 IsLong-numbered : (n : Node) (k : ℕ) → IsNumbered k n → k < 2 ^ 63 → IsLong n
 IsLong-numbered (Var v) k h lt = omega arith
 IsLong-numbered (Int i) k h lt = tt
 IsLong-numbered (Atom s) k h lt = tt
 IsLong-numbered (Compound s j) k h lt = tt
 
-pub none_found : (seen : ℕ) (bytes : List ℕ) → seen < 2 ^ 63 → NoItem bytes → NoneGood seen bytes
+pub none_found : (seen : ℕ) (bytes : List ℕ) → seen < 2 ^ 63 → NoItem bytes → NoNext seen bytes
 unfolding NoItem
 none_found seen bytes few none n rest fits num e = none n rest (record { fits = fits; long = IsLong-numbered n seen num few; parts = e })
 
-pub none_numbered : (seen : ℕ) (bytes behind : List ℕ) (m : Node) → seen < 2 ^ 63 → IsItemAt bytes m behind → (IsNumbered seen m → ⊥) → NoneGood seen bytes
+pub none_numbered : (seen : ℕ) (bytes behind : List ℕ) (m : Node) → seen < 2 ^ 63 → IsItemAt bytes m behind → (IsNumbered seen m → ⊥) → NoNext seen bytes
 none_numbered seen bytes behind m few at bad n rest fits num e =
     let same = same_item n m rest behind fits at.fits (IsLong-numbered n seen num few) at.long (sym e ∙ at.parts) in
     bad (subst (IsNumbered seen) same.0 num)
@@ -73,7 +69,7 @@ module _ (bytes : List ℕ) (nodes : List Node) (missing seen : ℕ) (rest : Lis
   rest_is : drop (length bytes - length rest) bytes ≡ rest
   rest_is = ap (drop (length bytes - length rest)) u.parts ∙ drop_at (flat_map item nodes) rest (length bytes - length rest) (sym size_is)
 
-  pub unpacks_fault : 0 < missing → NoneGood seen rest → IsFault bytes (length bytes - length rest)
+  pub unpacks_fault : 0 < missing → NoNext seen rest → IsFault bytes (length bytes - length rest)
   unpacks_fault some none =
       record {
         nodes = nodes;

@@ -50,3 +50,7 @@ after k (Var v) = if v == k then k + 1 else k
 after k (Int i) = k
 after k (Atom s) = k
 after k (Compound s n) = k
+
+-- no node's bytes begin the bytes that may follow others in which k variables were seen
+abbrev pub NoNext : ℕ → List ℕ → Type 0
+NoNext k bytes = (n : Node) (rest : List ℕ) → Fits n → IsNumbered k n → bytes ≡ item n ++ rest → ⊥

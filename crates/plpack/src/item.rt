@@ -1,6 +1,8 @@
 //! Nodes at the front of bytes.
-ghost use Rattle.std.specs.Prelude.{◌<◌, ◌≤◌, ◌↔◌, ◌∷◌, IfOk, IsTrue};
-ghost use Rattle.plpack.specs.Finding.{Finds};
+ghost use Rattle.std.specs.Prelude.{◌<◌, ◌≤◌, ◌^◌, ◌↔◌, ◌∷◌, IfOk, IsTrue};
+ghost use Rattle.std.specs.Option.{SomeIff};
+ghost use Rattle.plpack.specs.Items.{after, IsNumbered};
+ghost use Rattle.plpack.specs.Finding.{Finds, FindsNext};
 
 use crate::parts::{long_of, name_of, short_of};
 use crate::tag::{ATOM, COMPOUND, INTEGER, VARIABLE};
@@ -11,13 +13,52 @@ use std::alloc::{AllocError, Global};
 
 /// A node, and the bytes behind its own.
 #[derive(Drop)]
-pub struct Item<'a> {
+pub(crate) struct Item<'a> {
     pub node: Node,
     pub behind: &'a [u8],
 }
 
+/// A node that may follow others of a term, the bytes behind its own, and how many variables were seen with it.
+#[derive(Drop)]
+pub struct Next<'a> {
+    pub node: Node,
+    pub behind: &'a [u8],
+    pub seen: u64,
+}
+
+/// The node whose bytes begin the bytes, where it may follow nodes of a term in which so many variables were seen: it does not if it is a variable that
+/// leaves out a number.
+pub fn next_item(
+    alloc: Global,
+    bytes: &[u8],
+    seen: u64,
+) -> Result<Option<Next<'_>>, AllocError>
+    requires { seen < 2 ^ 63 }
+    ensures { IfOk result (FindsNext bytes.now seen) }
+{
+    let Some(Item { node, behind }) = item_at(alloc, bytes)? else {
+        return Ok(None);
+    };
+    let Some(seen) = seen_with(seen, &node) else {
+        return Ok(None);
+    };
+    Ok(Some(Next { node, behind, seen }))
+}
+
+/// How many variables were seen with the node, if it is no variable that leaves out a number.
+fn seen_with(seen: u64, node: &Node) -> Option<u64>
+    requires { seen < 2 ^ 63 }
+    ensures { SomeIff result (IsNumbered seen node.now) (after seen node.now) }
+{
+    match node {
+        Node::Var(number) if *number > seen => None,
+        Node::Var(number) if *number == seen => Some(seen + 1),
+        _ => Some(seen),
+    }
+}
+
 /// The node whose bytes begin the bytes.
-pub fn item_at(alloc: Global, bytes: &[u8]) -> Result<Option<Item<'_>>, AllocError>
+fn item_at(alloc: Global, bytes: &[u8]) -> Result<Option<Item<'_>>, AllocError>
     ensures { IfOk result (Finds bytes.now) }
 {
     match bytes {

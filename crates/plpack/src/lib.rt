@@ -4,7 +4,7 @@
 //! a compound's arity, of two bytes, and its name. Before a name stands how many bytes it has, in two. Numbers are big-endian.
 #![tactic(auto)]
 
-mod item;
+pub mod item;
 pub mod laws;
 pub mod packing;
 mod parts;

@@ -1,14 +1,11 @@
 //! Terms from bytes.
-ghost use Rattle.std.specs.Prelude.{◌≡◌, ◌<◌, ◌≤◌, ◌^◌, length, take, IfErr, IfOk};
-ghost use Rattle.std.specs.Option.{SomeIff};
+ghost use Rattle.std.specs.Prelude.{◌≡◌, ◌≤◌, length, take, IfErr, IfOk};
 ghost use Rattle.plterm.specs.Variables.{copied};
 ghost use Rattle.plpack.specs.Packing.{packed, IsPackable};
-ghost use Rattle.plpack.specs.Items.{after, IsNumbered};
 ghost use Rattle.plpack.specs.Faults.{Tells, TellsNone};
 ghost use Rattle.plpack.specs.declared.unpacking.UnpackError.TheVariants.{NoMemory};
 
-use crate::item::{Item, item_at};
-use plterm::node::Node;
+use crate::item::next_item;
 use plterm::term::Term;
 use std::alloc::{AllocError, AllocFailed, Global};
 
@@ -65,26 +62,14 @@ pub fn unpack(alloc: Global, bytes: &[u8]) -> Result<Unpacked, UnpackError>
     let mut rest = bytes;
     'items: while missing > 0 {
         let bad = UnpackError::BadPack(bytes.len() - rest.len());
-        let Item { node, behind } = item_at(alloc, rest)?.ok_or(bad)?;
-        seen = seen_with(seen, &node).ok_or(bad)?;
-        missing = missing - 1 + node.arity() as u128;
-        rest = behind;
-        nodes.push(node)?;
+        let next = next_item(alloc, rest, seen)?.ok_or(bad)?;
+        missing = missing - 1 + next.node.arity() as u128;
+        seen = next.seen;
+        rest = next.behind;
+        nodes.push(next.node)?;
     }
     Ok(Unpacked {
         term: Term::from_prefix(nodes),
         size: bytes.len() - rest.len(),
     })
-}
-
-/// How many variables were seen with the node, if it is no variable that leaves out a number.
-fn seen_with(seen: u64, node: &Node) -> Option<u64>
-    requires { seen < 2 ^ 63 }
-    ensures { SomeIff result (IsNumbered seen node.now) (after seen node.now) }
-{
-    match node {
-        Node::Var(number) if *number > seen => None,
-        Node::Var(number) if *number == seen => Some(seen + 1),
-        _ => Some(seen),
-    }
 }

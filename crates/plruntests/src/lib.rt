@@ -1,4 +1,4 @@
-//! Tests of the crates of the database and the run, from the public calls of each.
+//! Tests of the crates of the database and the run, and of packed terms and values, from the public calls of each.
 #![tactic(auto)]
 
 #[cfg(test)]
@@ -13,6 +13,8 @@ mod owns;
 mod packs;
 #[cfg(test)]
 mod stores;
+#[cfg(test)]
+mod values;
 #[cfg(test)]
 mod views;
 #[cfg(test)]

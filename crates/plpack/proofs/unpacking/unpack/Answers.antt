@@ -6,9 +6,9 @@ use Rattle.plpack.specs.declared.unpacking.UnpackError.TheVariants.{BadPack}
 use Rattle.plpack.specs.Faults.{Tells, TellsNone}
 use Rattle.plpack.specs.Unpacking.{IsFault}
 use Rattle.plpack.proofs.Following.{fault_none}
-use Rattle.plpack.proofs.Wholes.{none_found, none_numbered, unpacks_step, unpacks_fault, unpacks_term, unpacks_bytes, unpacks_numbered, unpacks_limits}
+use Rattle.plpack.proofs.Wholes.{unpacks_step, unpacks_fault, unpacks_term, unpacks_bytes, unpacks_numbered, unpacks_limits}
 use Rattle.plpack.proofs.unpacking.unpack.Goals as goal
-use Rattle.plpack.proofs.unpacking.unpack.Goals.{After-drop-nodes-in_err-node, After-drop-nodes-in_err-seen}
+use Rattle.plpack.proofs.unpacking.unpack.Goals.{After-drop-nodes-in_err-next}
 
 refused : {T : Type 0} (o : Option T) (bad e : UnpackError) → Err e ≡ ok_or o bad → (o ≡ None) × (e ≡ bad)
 refused None bad e h = (refl, cc)
@@ -22,47 +22,27 @@ passed_on : {T : Type 0} (r : Result T UnpackError) (P : UnpackError → Type 0)
 passed_on (Ok x) P e h p = tt
 passed_on (Err x) P e h p = rw h p
 
-no_item : (c : After-drop-nodes-in_err-node) → (c.in_err-node.field-0.0 ≡ BadPack (length c.args.bytes.now - length c.items.rest.now)) × IsFault c.args.bytes.now (length c.args.bytes.now - length c.items.rest.now)
-no_item c =
-    let r = refused _ _ _ c.in_err-node.ensures.value in
-    let none = rw r.0 at c.in_ok-item_at.ensures in
-    (r.1, unpacks_fault _ _ _ _ _ c.items.invariant c.items-test.true (none_found _ _ (omega arith) none))
+no_next : (c : After-drop-nodes-in_err-next) → (c.in_err-next.field-0.0 ≡ BadPack (length c.args.bytes.now - length c.items.rest.now)) × IsFault c.args.bytes.now (length c.args.bytes.now - length c.items.rest.now)
+no_next c =
+    let r = refused _ _ _ c.in_err-next.ensures.value in
+    let none = rw r.0 at c.in_ok-next_item.ensures in
+    (r.1, unpacks_fault _ _ _ _ _ c.items.invariant c.items-test.true none)
 
-pub returns-in_err-node-clause-fault : goal.returns-in_err-node-clause-fault
-returns-in_err-node-clause-fault c =
-    let n = no_item c in
-    passed_on _ (Tells c.args.bytes.now) _ c.from_residual-in_err-node.ensures.1 (rw n.0 n.1)
+pub returns-in_err-next-clause-fault : goal.returns-in_err-next-clause-fault
+returns-in_err-next-clause-fault c =
+    let n = no_next c in
+    passed_on _ (Tells c.args.bytes.now) _ c.from_residual-in_err-next.ensures.1 (rw n.0 n.1)
 
-pub returns-in_err-node-clause-none : goal.returns-in_err-node-clause-none
-returns-in_err-node-clause-none c =
-    let n = no_item c in
-    passed_on _ (TellsNone c.args.bytes.now) _ c.from_residual-in_err-node.ensures.1 (rw n.0 (fault_none _ _ n.1 (omega arith)))
-
-no_number : (c : After-drop-nodes-in_err-seen) → (c.in_err-seen.field-0.0 ≡ BadPack (length c.args.bytes.now - length c.items.rest.now)) × IsFault c.args.bytes.now (length c.args.bytes.now - length c.items.rest.now)
-no_number c =
-    let d = taken _ _ _ c.in_ok-node.ensures.value in
-    let r = refused _ _ _ c.in_err-seen.ensures.value in
-    let at = rw d at c.in_ok-item_at.ensures in
-    let bad = rw r.0 at c.seen_with.ensures in
-    (r.1, unpacks_fault _ _ _ _ _ c.items.invariant c.items-test.true (none_numbered _ _ _ _ (omega arith) at bad))
-
-pub returns-in_err-seen-clause-fault : goal.returns-in_err-seen-clause-fault
-returns-in_err-seen-clause-fault c =
-    let n = no_number c in
-    passed_on _ (Tells c.args.bytes.now) _ c.from_residual-in_err-seen.ensures.1 (rw n.0 n.1)
-
-pub returns-in_err-seen-clause-none : goal.returns-in_err-seen-clause-none
-returns-in_err-seen-clause-none c =
-    let n = no_number c in
-    passed_on _ (TellsNone c.args.bytes.now) _ c.from_residual-in_err-seen.ensures.1 (rw n.0 (fault_none _ _ n.1 (omega arith)))
+pub returns-in_err-next-clause-none : goal.returns-in_err-next-clause-none
+returns-in_err-next-clause-none c =
+    let n = no_next c in
+    passed_on _ (TellsNone c.args.bytes.now) _ c.from_residual-in_err-next.ensures.1 (rw n.0 (fault_none _ _ n.1 (omega arith)))
 
 pub items-preserved : goal.items-preserved
 items-preserved c =
-    let d = taken _ _ _ c.in_ok-node.ensures.value in
-    let s = taken _ _ _ c.in_ok-seen.ensures.value in
-    let at = rw d at c.in_ok-item_at.ensures in
-    let n = rw s at c.seen_with.ensures in
-    unpacks_step _ _ _ _ _ _ _ _ _ _ c.items.invariant c.items-test.true at n.0 c.in_ok-push.ensures.items (omega (arith, c.arity.ensures)) n.1
+    let d = taken _ _ _ c.in_ok-next.ensures.value in
+    let n = rw d at c.in_ok-next_item.ensures in
+    unpacks_step _ _ _ _ _ _ _ _ _ _ c.items.invariant c.items-test.true n.item n.numbered c.in_ok-push.ensures.items (omega (arith, c.arity.ensures)) n.seen
 
 pub from_prefix-requires : goal.from_prefix-requires
 from_prefix-requires c = unpacks_term _ _ _ _ _ c.items.invariant (omega arith)

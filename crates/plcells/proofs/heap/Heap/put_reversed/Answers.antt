@@ -1,25 +1,14 @@
-use Rattle.std.proofs.Common.{◌≡◌, ◌∙◌, IfOk, map, reverse, length, sym, subst, ap, arith}
+use Rattle.std.proofs.Common.{[], IfOk, map, sym, subst}
 use Rattle.platoms.specs.Names.{functor_name}
 use Rattle.plcells.specs.Store.{AddsBlock}
-use Rattle.plcells.specs.Blocks.{AreParts, numbers_of, stands_for}
-use Rattle.plcells.proofs.Given.{given-parts, given-numbers}
+use Rattle.plcells.specs.Blocks.{stands_for}
+use Rattle.plcells.specs.Putting.{AreGiven}
 use Rattle.plcells.proofs.heap.Heap.put_reversed.Goals as goal
 
-pub build-requires-clause-parts : goal.build-requires-clause-parts
-build-requires-clause-parts c =
-    let h = c.args.self.now in
-    subst (AreParts h) (sym c.reverse.ensures.after) (given-parts h (reverse c.args.values.now) c.requires.given)
-
-pub build-requires-clause-numbers : goal.build-requires-clause-numbers
-build-requires-clause-numbers c =
-    let h = c.args.self.now in
-    let none : length (numbers_of c.reverse.new.self) ≡ 0 = ap (λ xs. length (numbers_of xs)) c.reverse.ensures.after ∙ ap length (given-numbers h (reverse c.args.values.now) c.requires.given) in
-    λ j k jl kl e. absurd (omega (arith, jl, none))
+pub put_block-requires-clause-given : goal.put_block-requires-clause-given
+put_block-requires-clause-given c = subst (AreGiven c.args.self.now) (sym c.reverse.ensures.after) c.requires.given
 
 pub returns-clause-ok : goal.returns-clause-ok
 returns-clause-ok c =
     let h = c.args.self.now in
-    let name = functor_name h.names c.args.f in
-    let xs = reverse c.args.values.now in
-    let made = subst (λ ys. IfOk c.build.result (λ p. AddsBlock h c.build.new.self p name (map (stands_for h) ys) (numbers_of ys))) c.reverse.ensures.after c.build.ensures.ok in
-    subst (λ ns. IfOk c.build.result (λ p. AddsBlock h c.build.new.self p name (map (stands_for h) xs) ns)) (given-numbers h xs c.requires.given) made
+    subst (λ ys. IfOk c.put_block.result (λ p. AddsBlock h c.put_block.new.self p (functor_name h.names c.args.f) (map (stands_for h) ys) [])) c.reverse.ensures.after c.put_block.ensures.ok

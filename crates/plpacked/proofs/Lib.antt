@@ -1,0 +1,5 @@
+pub mod Writing
+pub mod Nesting
+pub mod Closing
+pub mod Adding
+pub mod Steps
