@@ -18,3 +18,16 @@ pub fn clause(alloc: Global, body: &str) -> Result<Clause, TermError> {
     let body = Term::atom(alloc, Name::new(alloc, body)?)?;
     Ok(Clause::new(alloc, &head.root(), &body.root())?)
 }
+
+/// The clause of p/1 with this number as its first argument, or with a variable, and with the body true.
+pub fn fact(alloc: Global, first: Option<i64>) -> Result<Clause, TermError> {
+    let first = match first {
+        None => Term::var(alloc, 0)?,
+        Some(value) => Term::int(alloc, value)?,
+    };
+    let mut args = Vec::new(alloc);
+    args.push(first)?;
+    let head = Term::compound(alloc, Name::new(alloc, "p")?, args)?;
+    let body = Term::atom(alloc, Name::new(alloc, "true")?)?;
+    Ok(Clause::new(alloc, &head.root(), &body.root())?)
+}

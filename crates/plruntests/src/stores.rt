@@ -1,7 +1,7 @@
 //! The clauses of all batches (plstore).
-use crate::made::{clause, indicator};
+use crate::made::{clause, fact, indicator};
 use plclause::clause::Clause;
-use plevent::{Batch, ClauseName, Update};
+use plevent::{Batch, ClauseName, Key, Update};
 use plstore::record::Cursor;
 use plstore::store::Store;
 use plterm::error::TermError;
@@ -79,6 +79,90 @@ fn procedures_of_a_batch(rt: HostRuntime) -> Result<(), Fail> {
     for (arity, g, there) in EXISTS {
         let pred = indicator(rt.alloc(), arity)?;
         assert!(rt; store.exists(g, &pred) == there, "p/{arity} at {g}");
+    }
+    Ok(())
+}
+
+/// The clauses of p/1 in the order in which one batch makes them: whether a clause goes before all others, and its first
+/// argument, where that is no variable.
+const FACTS: [(bool, Option<i64>); 8] = [
+    (false, Some(1)),
+    (false, None),
+    (false, Some(2)),
+    (true, Some(2)),
+    (true, None),
+    (false, None),
+    (false, Some(2)),
+    (true, Some(1)),
+];
+
+/// One of them, as an update.
+fn update(alloc: Global, front: bool, first: Option<i64>) -> Result<Update, TermError> {
+    let clause = fact(alloc, first)?;
+    if front {
+        Ok(Update::First(clause))
+    } else {
+        Ok(Update::Last(clause))
+    }
+}
+
+/// A store with one batch, at 3: it makes them, and erases the first one with a variable.
+fn keyed(alloc: Global) -> Result<Store, TermError> {
+    let mut updates = Vec::new(alloc);
+    for (front, first) in FACTS {
+        updates.push(update(alloc, front, first)?)?;
+    }
+    updates.push(Update::EraseOwn(1))?;
+    let mut store = Store::new(alloc);
+    store.apply(alloc, Batch::new(updates), 3)?;
+    Ok(store)
+}
+
+/// The first argument of a goal, the number of a clause, if the walk does not begin, and the number of the next one that may
+/// be for the goal, if there is one. The walk is 7, 4, 3, 0, 2, 5, 6.
+const NEXT: [(i64, Option<u64>, Option<u64>); 18] = [
+    (2, None, Some(4)),
+    (2, Some(7), Some(4)),
+    (2, Some(4), Some(3)),
+    (2, Some(3), Some(2)),
+    (2, Some(0), Some(2)),
+    (2, Some(2), Some(5)),
+    (2, Some(5), Some(6)),
+    (2, Some(6), None),
+    (2, Some(1), None),
+    (1, None, Some(7)),
+    (1, Some(7), Some(4)),
+    (1, Some(4), Some(0)),
+    (1, Some(3), Some(0)),
+    (1, Some(0), Some(5)),
+    (1, Some(6), None),
+    (3, None, Some(4)),
+    (3, Some(3), Some(5)),
+    (3, Some(5), None),
+];
+
+/// The number of the next clause of p/1 for a goal with this first argument, behind the one with a number or from the start.
+fn next_number(
+    alloc: Global,
+    store: &Store,
+    first: i64,
+    behind: Option<u64>,
+) -> Result<Option<u64>, AllocError> {
+    let cursor = match behind {
+        None => Cursor::Start,
+        Some(number) => Cursor::After(ClauseName { place: 3, number }),
+    };
+    let next = store.next_like(4, &indicator(alloc, 1)?, &Key::Int(first), cursor);
+    Ok(next.map(|name| name.number))
+}
+
+// Clauses with a variable stand in a walk by a key where they stand among all, and a cursor may stand at any clause.
+#[test]
+fn walk_of_a_key(rt: HostRuntime) -> Result<(), Fail> {
+    let store = keyed(rt.alloc())?;
+    for (first, behind, next) in NEXT {
+        let found = next_number(rt.alloc(), &store, first, behind)?;
+        assert!(rt; found == next, "p({first}) behind {behind:?}");
     }
     Ok(())
 }
