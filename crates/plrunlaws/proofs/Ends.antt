@@ -1,5 +1,5 @@
 -- The last entry of a run tells of its end.
-use Rattle.std.proofs.Common.{◌≡◌, ℕ, Bool, true, false, ◌||◌, ◌&&◌, not, List, [], ◌∷◌, ◌++◌, take, Option, Some, None, sym, ap, ◌∙◌}
+use Rattle.std.proofs.Common.{◌≡◌, ℕ, Bool, true, false, ◌||◌, ◌&&◌, not, [], ◌∷◌, ◌++◌, take, Some, None, sym, ap, ◌∙◌}
 use Rattle.std.proofs.lemmas.List.{append_cancel_left}
 use Rattle.plevent.specs.declared.request.ThreadEnd.{ThreadEnd}
 use Rattle.plevent.specs.declared.request.Reply.{Reply}
@@ -7,15 +7,9 @@ use Rattle.plevent.specs.Alive.{add_if}
 use Rattle.plevent.specs.Reading.{Reading, reading}
 use Rattle.plevent.specs.Rows.{Row, is_halted, is_workers, is_leave, runs, row, served_while, served}
 use Rattle.plevent.specs.Search.{Ask, Answer, Got}
-use Rattle.plhist.specs.Follows.{Taken, is_not_yet, noted, replied, last_of}
+use Rattle.plhist.specs.Follows.{Taken, replied, last_of}
 use Rattle.plrunlaws.specs.Standing.{started, act_of, EndsWithItsEnd}
-use Rattle.plrunlaws.proofs.Items.{the-same, answer-is}
-
-none-some : {A : Type 0} (s : Taken) → ◌≡◌ {A = Option Taken} None (Some s) → A
-none-some s is = absurd (never is)
-  where
-    never : ◌≡◌ {A = Option Taken} None (Some s) → ⊥
-    never is = cc
+use Rattle.plrunlaws.proofs.Items.{none-some, the-same, answer-is}
 
 -- a last request that is answered Done makes the entry of the end
 done-makes : (e : ThreadEnd) (t : ℕ) (r : Reading) (g : ℕ) (s s' : Taken) → replied (served (last_of e) t r) g s ≡ Some s' → s'.answers ≡ s.answers ++ Got Reply.Done ∷ [] → s'.made ≡ s.made ++ (g, act_of e) ∷ []

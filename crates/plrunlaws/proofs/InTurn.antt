@@ -18,17 +18,11 @@ use Rattle.pltransactions.specs.Laws.{wanted}
 use Rattle.pltransactions.proofs.Transactions.{open-asks-nothing}
 use Rattle.plrunlaws.specs.Standing.{Followed, asks, at_turn, is_open, IsAnswered, start_of, started, StandsAt, act_of}
 use Rattle.plrunlaws.specs.Transactions.{IsAskedInTurn, EachBatchInTurn}
-use Rattle.plrunlaws.proofs.Items.{the-same, answer-is, takes-nothing}
+use Rattle.plrunlaws.proofs.Items.{none-some, the-same, answer-is, takes-nothing}
 use Rattle.plrunlaws.proofs.Standing.{whole, AskedAt, asked-at, stays-else, entries-in-order}
 use Rattle.plrunlaws.proofs.Transactions.{reached}
 use Rattle.plrunlaws.proofs.Unended.{IsThat, served-ends, ceases, comes-to-end}
 use Rattle.plrunlaws.proofs.Batches.{served-makes}
-
-none-some : {A : Type 0} (s : Taken) → ◌≡◌ {A = Option Taken} None (Some s) → A
-none-some s is = absurd (never is)
-  where
-    never : ◌≡◌ {A = Option Taken} None (Some s) → ⊥
-    never is = cc
 
 -- an item's entry is that of its row
 record Entered (f : Followed) (q : Item) (g : ℕ) (s s' : Taken) : Type 0 where

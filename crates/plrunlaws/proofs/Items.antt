@@ -15,7 +15,7 @@ use Rattle.plrunlaws.specs.Standing.{AreBelow, AreFrom}
 pub the-same : {A : Type 0} (a b : A) → Some a ≡ Some b → a ≡ b
 the-same a b is = cc
 
-none-some : {A B : Type 0} (a : A) → ◌≡◌ {A = Option A} None (Some a) → B
+pub none-some : {A B : Type 0} (a : A) → ◌≡◌ {A = Option A} None (Some a) → B
 none-some {A} {B} a is = absurd (never is)
   where
     never : ◌≡◌ {A = Option A} None (Some a) → ⊥

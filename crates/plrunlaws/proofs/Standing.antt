@@ -12,10 +12,10 @@ use Rattle.plsearch.specs.Engine.{out, outs}
 use Rattle.plsearch.specs.Search.{next_of, ending_of, search_of}
 use Rattle.plsearch.specs.Machines.Machine.{Back, Rest, turn}
 use Rattle.pltransactions.specs.Laws.{turns, machine_of, wanted, left_of}
-use Rattle.pltransactions.proofs.Transactions.{takes-what-it-asks, waits-for-what-it-asks}
+use Rattle.pltransactions.proofs.Transactions.{turns-rest, takes-what-it-asks, waits-for-what-it-asks}
 use Rattle.plrunlaws.specs.Standing.{Followed, asks, answers, at_turn, IsAnswered, start_of, started, StandsAt, StandsSomewhere, StandsOnce, AsksInTurn, StaysElse, AreBelow, EntriesInOrder}
 use Rattle.plrunlaws.proofs.Items.{the-same, answer-adds, takes-first, takes-more, takes-nothing, takes-none, takes-both, takes-adds, takes-count, takes-split}
-use Rattle.plrunlaws.proofs.Machines.{turns-next, turns-rest, with_answers, Short, short, final-rest}
+use Rattle.plrunlaws.proofs.Machines.{turns-next, with_answers, Short, short, final-rest}
 
 -- the search of a run, with some answers, is what its machine comes to from each turn on
 search-from : (P : Program) (limit n k : ℕ) (xs : List Answer) → search_of P limit n xs ≡ ending_of (min n limit) (Rest P (turns P k (machine_of P (min n limit) xs)))
@@ -96,7 +96,7 @@ asks-there f k s q stood is =
     ∙ ap (λ m. next_of (Rest P m).0) waits
     ∙ ap (λ e. next_of e.0) (final-rest P (Awaits q) (at_turn f k).cases (record (at_turn f k).run { answers = [] }) tt)
 
-wants-ends : {A : Type 0} (q : Item) (e : ThreadEnd) → Wants q ≡ Finishes e → A
+pub wants-ends : {A : Type 0} (q : Item) (e : ThreadEnd) → Wants q ≡ Finishes e → A
 wants-ends q e is = absurd (never is)
   where
     never : Wants q ≡ Finishes e → ⊥

@@ -8,9 +8,9 @@ use Rattle.plevent.specs.declared.update.Update.{Update}
 use Rattle.plevent.specs.declared.act.Act.{Act}
 use Rattle.plevent.specs.Alive.{add_if}
 use Rattle.plevent.specs.Reading.{Reading, reading}
-use Rattle.plevent.specs.Rows.{is_halted, is_leave, runs, row, served_while, served}
+use Rattle.plevent.specs.Rows.{Row, is_halted, is_leave, runs, row, served_while, served}
 use Rattle.plevent.specs.Search.{Item, View, Ask, Answer, Seen, Got, Ceases, Finishes}
-use Rattle.plhist.specs.Follows.{own, Taken, is_not_yet, noted}
+use Rattle.plhist.specs.Follows.{own, Taken, replied}
 use Rattle.pltx.specs.Own.{any_open, nothing}
 use Rattle.pltx.specs.declared.level.Level.{Level}
 use Rattle.plprogram.specs.Program.{Program}
@@ -24,7 +24,7 @@ use Rattle.pltransactions.proofs.Transactions.{open-asks-nothing, open-answer-en
 use Rattle.pltransactions.proofs.Opening.{opens-with-view, closes-at-its-end}
 use Rattle.plrunlaws.specs.Standing.{Followed, answers, at_turn, IsAnswered, started, StandsAt, AreFrom}
 use Rattle.plrunlaws.specs.Transactions.{Lasts, updates_at, published_in, with_batch, Publishes, TransactionsStandAlone}
-use Rattle.plrunlaws.proofs.Items.{the-same, below-more, answer-is}
+use Rattle.plrunlaws.proofs.Items.{none-some, the-same, below-more, answer-is}
 use Rattle.plrunlaws.proofs.Machines.{turns-next, turns-both, IsFinal, final-rest, final-stays}
 use Rattle.plrunlaws.proofs.Standing.{ends-with, AskedAt, asked-at, stands-somewhere, stays-else, started-below, entries-in-order}
 
@@ -115,24 +115,18 @@ ceases-ends e is = absurd (never is)
     never : Ceases ≡ Finishes e → ⊥
     never is = cc
 
-none-some : {A : Type 0} (s : Taken) → ◌≡◌ {A = Option Taken} None (Some s) → A
-none-some s is = absurd (never is)
-  where
-    never : ◌≡◌ {A = Option Taken} None (Some s) → ⊥
-    never is = cc
-
 -- a publication is served, or the run has been ended
-published-or : (t : ℕ) (us : List Update) (r : Reading) (g : ℕ) (s s' : Taken) → (let x = served (Publish us) t r in noted (is_not_yet x.0) g s x.0 x.1) ≡ Some s' →
+published-or : (t : ℕ) (us : List Update) (r : Reading) (g : ℕ) (s s' : Taken) → replied (served (Publish us) t r) g s ≡ Some s' →
     (s' ≡ with_batch g us s) ⊎ (s'.answers ≡ s.answers ++ Got Reply.Stopped ∷ [])
 unfolding served
 published-or t us r g s s' is = halts (is_halted r.standing && not (is_leave (Publish us))) is
   where
-    waits : (b : Bool) → (let x = add_if b (row (Publish us) t r) (Reply.NotYet (Publish us), None) in noted (is_not_yet x.0) g s x.0 x.1) ≡ Some s' →
+    waits : (b : Bool) → replied (add_if {A = Row} b (row (Publish us) t r) (Reply.NotYet (Publish us), None)) g s ≡ Some s' →
         (s' ≡ with_batch g us s) ⊎ (s'.answers ≡ s.answers ++ Got Reply.Stopped ∷ [])
     waits true is = inl (sym (the-same (with_batch g us s) s' is))
     waits false is = none-some s' is
 
-    halts : (b : Bool) → (let x = add_if b (Reply.Stopped, None) (served_while (Publish us) t r) in noted (is_not_yet x.0) g s x.0 x.1) ≡ Some s' →
+    halts : (b : Bool) → replied (add_if {A = Row} b (Reply.Stopped, None) (served_while (Publish us) t r)) g s ≡ Some s' →
         (s' ≡ with_batch g us s) ⊎ (s'.answers ≡ s.answers ++ Got Reply.Stopped ∷ [])
     halts true is = inr (sym (ap (λ s. s.answers) (the-same _ s' is)))
     halts false is = waits (runs t r.standing) is

@@ -11,7 +11,7 @@ use Rattle.plevent.specs.declared.act.Entry.{Entry}
 use Rattle.plevent.specs.Alive.{add_if}
 use Rattle.plevent.specs.Reading.{Reading, reading}
 use Rattle.plevent.specs.Rows.{is_halted, is_workers, is_leave, runs, finish_row, row, served_while, served}
-use Rattle.plevent.specs.Search.{Item, View, Ask, Answer, Next, Wants, Finishes, item_of_end, item_of}
+use Rattle.plevent.specs.Search.{Item, View, Ask, Answer, Next, Finishes, item_of_end, item_of}
 use Rattle.plhist.specs.Follows.{Taken, is_not_yet, noted, item_at, takes}
 use Rattle.pltx.specs.Own.{any_open}
 use Rattle.plsearch.specs.Types.{Result, Stop, Fail, CutTo, Throw, Halted, Spent, Awaits, Stopped, Unfit, Run}
@@ -24,16 +24,10 @@ use Rattle.pltransactions.proofs.Transactions.{search-by-turns, open-asks-nothin
 use Rattle.pltransactions.proofs.Opening.{opens-with-view}
 use Rattle.plrunlaws.specs.Standing.{Followed, asks, answers, at_turn, started, StandsAt, AreFrom, act_of}
 use Rattle.plrunlaws.specs.Transactions.{IsCutShort, LastsToTheEnd, NothingOfItStays}
-use Rattle.plrunlaws.proofs.Items.{the-same, below-more, answer-is, item-adds, takes-first, takes-none}
+use Rattle.plrunlaws.proofs.Items.{none-some, the-same, below-more, answer-is, item-adds, takes-first, takes-none}
 use Rattle.plrunlaws.proofs.Machines.{turns-both, with_answers, final-rest}
-use Rattle.plrunlaws.proofs.Standing.{least-same, search-at, ends-with, short-of, asked-at, stands-somewhere, stays-else, started-below, entries-in-order}
+use Rattle.plrunlaws.proofs.Standing.{wants-ends, least-same, search-at, ends-with, short-of, asked-at, stands-somewhere, stays-else, started-below, entries-in-order}
 use Rattle.plrunlaws.proofs.Transactions.{reached, next-turn, last-final, viewed, ceases-ends}
-
-none-some : {A : Type 0} (s : Taken) → ◌≡◌ {A = Option Taken} None (Some s) → A
-none-some s is = absurd (never is)
-  where
-    never : ◌≡◌ {A = Option Taken} None (Some s) → ⊥
-    never is = cc
 
 -- this act, or none
 abbrev pub IsThat : Act → Option (ℕ × Act) → Type 0
@@ -148,12 +142,6 @@ pub comes-to-end : (f : Followed) → (n : ℕ) × (r : Result) × (run : Run) �
 comes-to-end f =
     let end = search-by-turns f.program f.limit f.limit (answers f) in
     (end.0, end.1, end.2, ap (λ steps. turns f.program end.0 (machine_of f.program steps (answers f))) (sym (least-same f.limit)) ∙ end.3)
-
-wants-ends : {A : Type 0} (q : Item) (e : ThreadEnd) → Wants q ≡ Finishes e → A
-wants-ends q e is = absurd (never is)
-  where
-    never : Wants q ≡ Finishes e → ⊥
-    never is = cc
 
 -- where a result comes to the outside and something is open, there was no step left, or the run was ended
 short-end : (r : Result) (e : ThreadEnd) → (IsDone r → ⊥) → next_of r ≡ Finishes e → IsCutShort e
