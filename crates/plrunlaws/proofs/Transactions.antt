@@ -1,5 +1,5 @@
 -- What a transaction or a snapshot does to the journal of a run.
-use Rattle.std.proofs.Common.{◌≡◌, ℕ, zero, suc, ◌+◌, ◌-◌, ◌<◌, ◌≤◌, ◌⊎◌, inl, inr, Bool, true, false, not, ◌&&◌, List, [], ◌∷◌, ◌++◌, take, Option, Some, None, refl, sym, ap, ◌∙◌, subst, arith, append_assoc}
+use Rattle.std.proofs.Common.{◌≡◌, ℕ, zero, suc, ◌+◌, ◌-◌, ◌<◌, ◌≤◌, ◌⊎◌, inl, inr, Bool, true, false, not, ◌&&◌, List, [], ◌∷◌, ◌++◌, take, Option, Some, None, refl, sym, ap, ◌∙◌, subst, arith, append_assoc, eq-or-lt_of_le}
 use Rattle.std.proofs.lemmas.List.{append_cancel_left}
 use Rattle.plevent.specs.declared.request.ThreadEnd.{ThreadEnd}
 use Rattle.plevent.specs.declared.request.Request.TheVariants.{Publish}
@@ -89,24 +89,11 @@ module _ (f : Followed) (k j : ℕ) (lasts : Lasts f k j) where
   -- so the run stands where the view put it
   stays : (s : Taken) → StandsAt f (suc k) s → (i : ℕ) → k < i → i ≤ suc j → StandsAt f i s
   stays s stood zero after within = absurd (omega (arith, after))
-  stays s stood (suc i) after within = go (either k i) (stays s stood i)
+  stays s stood (suc i) after within = go (eq-or-lt_of_le {n = k} {m = i} (omega (arith, after))) (stays s stood i)
     where
-      either : (k i : ℕ) → (k ≡ i) ⊎ ((k ≡ i) → ⊥)
-      either zero zero = inl refl
-      either zero (suc i) = inr (λ is. omega (arith, is))
-      either (suc k) zero = inr (λ is. omega (arith, is))
-      either (suc k) (suc i) = more (either k i)
-        where
-          more : ((k ≡ i) ⊎ ((k ≡ i) → ⊥)) → (suc k ≡ suc i) ⊎ ((suc k ≡ suc i) → ⊥)
-          more (inl is) = inl (ap suc is)
-          more (inr other) = inr (λ is. other (omega (arith, is)))
-
-      go : ((k ≡ i) ⊎ ((k ≡ i) → ⊥)) → (k < i → i ≤ suc j → StandsAt f i s) → StandsAt f (suc i) s
+      go : ((k ≡ i) ⊎ (k < i)) → (k < i → i ≤ suc j → StandsAt f i s) → StandsAt f (suc i) s
       go (inl is) before = subst (λ n. StandsAt f (suc n) s) is stood
-      go (inr other) before =
-          let later : k < i = grind (arith, after, other) in
-          let here = before later (omega (arith, within)) in
-          stays-else f i s here (silent i s later (omega (arith, within)) here)
+      go (inr later) before = let here = before later (omega (arith, within)) in stays-else f i s here (silent i s later (omega (arith, within)) here)
 
 -- the answer to a publication
 pub ceases-ends : {A : Type 0} (e : ThreadEnd) → Ceases ≡ Finishes e → A

@@ -1,5 +1,6 @@
 -- A run that ends inside of a transaction or a snapshot.
-use Rattle.std.proofs.Common.{◌≡◌, ℕ, zero, suc, ◌+◌, ◌<◌, Bool, true, false, ◌||◌, ◌&&◌, not, All, List, [], ◌∷◌, ◌++◌, take, Option, Some, None, refl, sym, ap, ◌∙◌, subst, arith, append_assoc, append-nil}
+use Rattle.std.proofs.Common.{◌≡◌, ℕ, zero, suc, ◌+◌, ◌<◌, Bool, true, false, ◌||◌, ◌&&◌, not, All, List, [], ◌∷◌, ◌++◌, take, Option, Some, None, refl, sym, ap, ◌∙◌, subst, arith, append_assoc, append-nil, ◌-◌, ◌≤◌, ◌⊎◌, inl, inr, eq-or-lt_of_le}
+use Rattle.std.proofs.lemmas.Bool.{cases_lt}
 use Rattle.std.proofs.lemmas.List.{append_cancel_left, append_cancel_right}
 use Rattle.std.proofs.lemmas.List.Elements.{All-nil, All-cons, All-append}
 use Rattle.plevent.specs.declared.request.ThreadEnd.{ThreadEnd}
@@ -22,8 +23,8 @@ use Rattle.plsearch.proofs.Ends.{ends_ignore}
 use Rattle.pltransactions.specs.Laws.{turns, machine_of, wanted, IsLast, IsDone}
 use Rattle.pltransactions.proofs.Transactions.{search-by-turns, open-asks-nothing, open-answer-ends, nothing-left-open}
 use Rattle.pltransactions.proofs.Opening.{opens-with-view}
-use Rattle.plrunlaws.specs.Standing.{Followed, asks, answers, at_turn, started, StandsAt, AreFrom, act_of}
-use Rattle.plrunlaws.specs.Transactions.{IsCutShort, LastsToTheEnd, NothingOfItStays}
+use Rattle.plrunlaws.specs.Standing.{Followed, asks, answers, at_turn, is_open, started, StandsAt, AreFrom, act_of}
+use Rattle.plrunlaws.specs.Transactions.{IsCutShort, LastsToTheEnd, NothingOfItStays, Lasts, EndsOrLasts}
 use Rattle.plrunlaws.proofs.Items.{none-some, the-same, below-more, answer-is, item-adds, takes-first, takes-none}
 use Rattle.plrunlaws.proofs.Machines.{turns-both, with_answers, final-rest}
 use Rattle.plrunlaws.proofs.Standing.{wants-ends, least-same, search-at, ends-with, short-of, asked-at, stands-somewhere, stays-else, started-below, entries-in-order}
@@ -214,6 +215,50 @@ module _ (f : Followed) (k : ℕ) (lasts : LastsToTheEnd f k) (begun : Taken) wh
       go None none more = let same : suc i + n ≡ i + suc n = omega arith in more (stays-else f i begun stood none) (ap (at_turn f) same ∙ is)
       go (Some q) asked more = halts i q after stood asked
 
+-- what begins has its end, or something is open to the end of the run
+scans : (f : Followed) (k : ℕ) → is_open f k ≡ false → (n j : ℕ) (r : Result) (run : Run) → k < j → ((i : ℕ) → k < i → i ≤ j → is_open f i ≡ true) →
+    at_turn f (j + n) ≡ record { mode = Back r; cases = []; run = run } → ((j : ℕ) × Lasts f k j) ⊎ LastsToTheEnd f k
+scans f k before zero j r run longer between is = inr (record { before = before; behind = behind })
+  where
+    over : at_turn f j ≡ record { mode = Back r; cases = []; run = run }
+    over = let same : j ≡ j + 0 = omega arith in ap (at_turn f) same ∙ is
+
+    later : (i : ℕ) → j ≤ i → is_open f i ≡ true
+    later i le =
+        let far : j + (i - j) ≡ i = omega (arith, le) in
+        ap (is_open f) (sym far) ∙ ap (λ m. any_open m.run.local.own) (over-late f (i - j) j r run over ∙ sym over) ∙ between j longer (omega arith)
+
+    behind : (i : ℕ) → k < i → is_open f i ≡ true
+    behind i after = go (cases_lt j i)
+      where
+        go : ((j < i) ⊎ (i ≤ j)) → is_open f i ≡ true
+        go (inl lt) = later i (omega (arith, lt))
+        go (inr le) = between i after le
+scans f k before (suc n) j r run longer between is = go (is_open f (suc j)) refl (scans f k before n (suc j) r run (omega (arith, longer)))
+  where
+    Ends : Type 0
+    Ends = ((j : ℕ) × Lasts f k j) ⊎ LastsToTheEnd f k
+
+    further : is_open f (suc j) ≡ true → (i : ℕ) → k < i → i ≤ suc j → is_open f i ≡ true
+    further now i after within = one-of (eq-or-lt_of_le within)
+      where
+        one-of : ((i ≡ suc j) ⊎ (i < suc j)) → is_open f i ≡ true
+        one-of (inl same) = ap (is_open f) same ∙ now
+        one-of (inr lt) = between i after (omega (arith, lt))
+
+    go : (b : Bool) → is_open f (suc j) ≡ b → (((i : ℕ) → k < i → i ≤ suc j → is_open f i ≡ true) → at_turn f (suc j + n) ≡ record { mode = Back r; cases = []; run = run } → Ends) → Ends
+    go false closed more = inl (j, record { longer = longer; before = before; between = between; behind = closed })
+    go true now more = let same : suc j + n ≡ j + suc n = omega arith in more (further now) (ap (at_turn f) same ∙ is)
+
+pub ends-or-lasts : EndsOrLasts
+ends-or-lasts f k before now =
+    let end = comes-to-end f in
+    let late : end.0 + suc k ≡ suc k + end.0 = omega arith in
+    scans f k before end.0 (suc k) end.1 end.2 (omega arith) first (ap (at_turn f) (sym late) ∙ over-late f (suc k) end.0 end.1 end.2 end.3)
+  where
+    first : (i : ℕ) → k < i → i ≤ suc k → is_open f i ≡ true
+    first i after within = let same : i ≡ suc k = omega (arith, after, within) in ap (is_open f) same ∙ now
+
 pub nothing-of-it-stays : NothingOfItStays
 nothing-of-it-stays f k lasts =
     let here = stands-somewhere f k in
@@ -244,4 +289,4 @@ nothing-of-it-stays f k lasts =
       ends = subst (All (λ x. x.1 ≡ act_of f.came_to)) same ends.ends;
     }
 
-pub ruleset laws = (nothing-of-it-stays)
+pub ruleset laws = (ends-or-lasts, nothing-of-it-stays)

@@ -1,5 +1,5 @@
 -- What a transaction or a snapshot does to the journal of a run that follows main's search.
-use Rattle.std.specs.Prelude.{◌≡◌, ℕ, suc, ◌<◌, ◌≤◌, true, false, List, [], ◌∷◌, ◌++◌, take, Some}
+use Rattle.std.specs.Prelude.{◌≡◌, ℕ, suc, ◌<◌, ◌≤◌, ◌⊎◌, true, false, List, [], ◌∷◌, ◌++◌, take, Some}
 use Rattle.std.specs.List.{All}
 use Rattle.plevent.specs.declared.request.ThreadEnd.{ThreadEnd}
 use Rattle.plevent.specs.declared.request.Request.{Request}
@@ -76,6 +76,10 @@ IsCutShort e = ⊥
 pub record LastsToTheEnd (f : Followed) (k : ℕ) : Type 0 where
   pub before : is_open f k ≡ false
   pub behind : (i : ℕ) → k < i → is_open f i ≡ true
+
+-- each that begins has its end, or the run ends inside of it
+abbrev pub EndsOrLasts : Type 0
+EndsOrLasts = (f : Followed) (k : ℕ) → is_open f k ≡ false → is_open f (suc k) ≡ true → ((j : ℕ) × Lasts f k j) ⊎ LastsToTheEnd f k
 
 -- A run ends inside of one where it has no step left, or ends the run there. Nothing of it is published then: the thread's entries from the
 -- place of the view on tell of that end.

@@ -8,7 +8,7 @@
 
 ghost use Rattle.plrunlaws.specs.Batches.{EachBatchIsAsked};
 ghost use Rattle.plrunlaws.specs.Standing.{StandsSomewhere, StandsOnce, AsksInTurn, StaysElse, EntriesInOrder, EndsWithItsEnd};
-ghost use Rattle.plrunlaws.specs.Transactions.{TransactionsStandAlone, NothingOfItStays, EachBatchInTurn};
+ghost use Rattle.plrunlaws.specs.Transactions.{TransactionsStandAlone, EndsOrLasts, NothingOfItStays, EachBatchInTurn};
 
 /// Each batch behind the first entry of a legal journal is the act of a publication, or of the erasure of one clause that was alive.
 #[tactic(auto, using(crate::proofs::Batches::laws))]
@@ -44,10 +44,12 @@ pub fn transactions_stand_alone()
     ensures { TransactionsStandAlone }
 {}
 
-/// Where a run ends inside of a transaction or a snapshot, its thread makes no batch from the view on: what it still makes ends it.
+/// An outermost transaction or snapshot has its end, or the run ends inside of it: because it has no step left, or ends the run there.
+/// From the view on its thread then makes no entry but those that tell of that end.
 #[tactic(auto, using(crate::proofs::Unended::laws))]
 pub fn nothing_of_it_stays()
-    ensures { NothingOfItStays }
+    ensures either { EndsOrLasts }
+    ensures inside { NothingOfItStays }
 {}
 
 /// Each batch of a run's thread is what a turn asks at which nothing is open: a publication, or the erasure of one clause.
