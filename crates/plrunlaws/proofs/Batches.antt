@@ -9,10 +9,11 @@ use Rattle.plevent.specs.declared.act.Entry.{Entry}
 use Rattle.plevent.specs.declared.standing.Thread.{Thread}
 use Rattle.plevent.specs.Alive.{add_if, is_alive}
 use Rattle.plevent.specs.Reading.{Reading, reading, read}
-use Rattle.plevent.specs.Rows.{Row, is_over, is_halted, is_new, stays, is_workers, is_leave, runs, start_row, finish_row, erase_row, leave_row, row, served_while, served}
+use Rattle.plevent.specs.Rows.{Row, is_over, is_halted, is_new, stays, is_workers, is_leave, runs, start_row, finish_row, erase_row, leave_row, row, served}
 use Rattle.plhist.specs.Legal.{worker_of, MayAsk, IsDue, AllDue, opening}
 use Rattle.plrunlaws.proofs.Items.{none-some}
 use Rattle.plrunlaws.specs.Batches.{MakesBatch, IsAskedBatch, EachBatchIsAsked}
+use Rattle.plrunlaws.proofs.Served.{served-as}
 
 -- a row whose act is a batch of a thread
 abbrev pub Makes : Row → ℕ → List Update → Type 0
@@ -104,22 +105,13 @@ not-halted (Some n) is = absurd (never is)
     never is = cc
 
 pub served-makes : (q : Request) (t : ℕ) (r : Reading) (owner : ℕ) (us : List Update) → Makes (served q t r) owner us → Behind q t r owner us × (r.standing.halted ≡ None)
-unfolding served
-served-makes q t r owner us is = halts (is_halted r.standing && not (is_leave q)) refl is
+served-makes q t r owner us is =
+    served-as q t r (λ x. Makes x owner us → Behind q t r owner us × (r.standing.halted ≡ None)) (λ is. none-some (owner, Act.Batch us) is) (λ is. none-some (owner, Act.Batch us) is)
+    (λ may on is. let behind = row-makes q t r owner us may is in (behind, not-halted r.standing.halted (goes (is_halted r.standing) on behind.remains))) is
   where
     goes : (b : Bool) → (b && not (is_leave q)) ≡ false → is_leave q ≡ false → b ≡ false
     goes true is remains = sym (ap not remains) ∙ is
     goes false is remains = refl
-
-    waits : (b : Bool) → (is_workers q || runs t r.standing) ≡ b → Makes (add_if b (row q t r) (Reply.NotYet q, None)) owner us → Behind q t r owner us
-    waits true runs is = row-makes q t r owner us runs is
-    waits false stands is = none-some (owner, Act.Batch us) is
-
-    halts : (b : Bool) → (is_halted r.standing && not (is_leave q)) ≡ b → Makes (add_if b (Reply.Stopped, None) (served_while q t r)) owner us → Behind q t r owner us × (r.standing.halted ≡ None)
-    halts true stopped is = none-some (owner, Act.Batch us) is
-    halts false on is =
-        let behind = waits (is_workers q || runs t r.standing) refl is in
-        (behind, not-halted r.standing.halted (goes (is_halted r.standing) on behind.remains))
 
 asked-batch : (r : Reading) (e : Entry) (us : List Update) → IsDue r e → e.act ≡ Act.Batch us → IsAskedBatch r e us
 asked-batch r e us due batch =

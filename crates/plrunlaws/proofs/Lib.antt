@@ -1,4 +1,5 @@
 mod Items
+mod Served
 mod Machines
 pub mod Batches
 pub mod Standing

@@ -5,7 +5,7 @@ use Rattle.std.proofs.lemmas.List.Elements.{All-cons}
 use Rattle.plevent.specs.declared.request.ThreadEnd.{ThreadEnd}
 use Rattle.plevent.specs.declared.act.Act.{Act}
 use Rattle.plevent.specs.Search.{Item, Answer, Wants, Finishes, item_of}
-use Rattle.plhist.specs.Follows.{Taken, item_at, takes, from_start}
+use Rattle.plhist.specs.Follows.{Taken, item_at, takes, from_start, FollowsAs}
 use Rattle.plprogram.specs.Program.{Program}
 use Rattle.plsearch.specs.Types.{Result, Awaits, Run}
 use Rattle.plsearch.specs.Engine.{out, outs}
@@ -13,9 +13,13 @@ use Rattle.plsearch.specs.Search.{next_of, ending_of, search_of}
 use Rattle.plsearch.specs.Machines.Machine.{Back, Rest, turn}
 use Rattle.pltransactions.specs.Laws.{turns, machine_of, wanted, left_of}
 use Rattle.pltransactions.proofs.Transactions.{turns-rest, takes-what-it-asks, waits-for-what-it-asks}
-use Rattle.plrunlaws.specs.Standing.{Followed, asks, answers, at_turn, IsAnswered, start_of, started, StandsAt, StandsSomewhere, StandsOnce, AsksInTurn, StaysElse, AreBelow, EntriesInOrder}
+use Rattle.plrunlaws.specs.Standing.{Followed, FollowsToItsEnd, asks, answers, at_turn, IsAnswered, start_of, started, StandsAt, StandsSomewhere, StandsOnce, AsksInTurn, StaysElse, AreBelow, EntriesInOrder}
 use Rattle.plrunlaws.proofs.Items.{the-same, answer-adds, takes-first, takes-more, takes-nothing, takes-none, takes-both, takes-adds, takes-count, takes-split}
 use Rattle.plrunlaws.proofs.Machines.{turns-next, with_answers, Short, short, final-rest}
+
+pub follows-to-its-end : FollowsToItsEnd
+follows-to-its-end P limit h run e follows is =
+    (record { program = P; limit = limit; journal = h; run = run; came_to = e; ended = subst (FollowsAs (search_of P limit) limit h run) is follows }, refl, refl, refl, refl, refl)
 
 -- the search of a run, with some answers, is what its machine comes to from each turn on
 search-from : (P : Program) (limit n k : ℕ) (xs : List Answer) → search_of P limit n xs ≡ ending_of (min n limit) (Rest P (turns P k (machine_of P (min n limit) xs)))
@@ -184,4 +188,4 @@ entries-in-order f k s stood =
       from = more.from;
     }
 
-pub ruleset laws = (stands-somewhere, stands-once, asks-in-turn, stays-else, entries-in-order)
+pub ruleset laws = (follows-to-its-end, stands-somewhere, stands-once, asks-in-turn, stays-else, entries-in-order)

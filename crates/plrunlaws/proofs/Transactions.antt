@@ -1,14 +1,13 @@
 -- What a transaction or a snapshot does to the journal of a run.
-use Rattle.std.proofs.Common.{◌≡◌, ℕ, zero, suc, ◌+◌, ◌-◌, ◌<◌, ◌≤◌, ◌⊎◌, inl, inr, Bool, true, false, not, ◌&&◌, List, [], ◌∷◌, ◌++◌, take, Option, Some, None, refl, sym, ap, ◌∙◌, subst, arith, append_assoc, eq-or-lt_of_le}
+use Rattle.std.proofs.Common.{◌≡◌, ℕ, zero, suc, ◌+◌, ◌-◌, ◌<◌, ◌≤◌, ◌⊎◌, inl, inr, Bool, true, false, List, [], ◌∷◌, ◌++◌, take, Option, Some, None, refl, sym, ap, ◌∙◌, subst, arith, append_assoc, eq-or-lt_of_le}
 use Rattle.std.proofs.lemmas.List.{append_cancel_left}
 use Rattle.plevent.specs.declared.request.ThreadEnd.{ThreadEnd}
 use Rattle.plevent.specs.declared.request.Request.TheVariants.{Publish}
 use Rattle.plevent.specs.declared.request.Reply.{Reply}
 use Rattle.plevent.specs.declared.update.Update.{Update}
 use Rattle.plevent.specs.declared.act.Act.{Act}
-use Rattle.plevent.specs.Alive.{add_if}
 use Rattle.plevent.specs.Reading.{Reading, reading}
-use Rattle.plevent.specs.Rows.{Row, is_halted, is_leave, runs, row, served_while, served}
+use Rattle.plevent.specs.Rows.{served}
 use Rattle.plevent.specs.Search.{Item, View, Ask, Answer, Seen, Got, Ceases, Finishes}
 use Rattle.plhist.specs.Follows.{own, Taken, replied}
 use Rattle.pltx.specs.Own.{any_open, nothing}
@@ -27,6 +26,7 @@ use Rattle.plrunlaws.specs.Transactions.{Lasts, updates_at, published_in, with_b
 use Rattle.plrunlaws.proofs.Items.{none-some, the-same, below-more, answer-is}
 use Rattle.plrunlaws.proofs.Machines.{turns-next, turns-both, IsFinal, final-rest, final-stays}
 use Rattle.plrunlaws.proofs.Standing.{ends-with, AskedAt, asked-at, stands-somewhere, stays-else, started-below, entries-in-order}
+use Rattle.plrunlaws.proofs.Served.{served-as}
 
 apart : {b : Bool} → b ≡ true → b ≡ false → ⊥
 apart holds fails = never (sym holds ∙ fails)
@@ -105,18 +105,11 @@ ceases-ends e is = absurd (never is)
 -- a publication is served, or the run has been ended
 published-or : (t : ℕ) (us : List Update) (r : Reading) (g : ℕ) (s s' : Taken) → replied (served (Publish us) t r) g s ≡ Some s' →
     (s' ≡ with_batch g us s) ⊎ (s'.answers ≡ s.answers ++ Got Reply.Stopped ∷ [])
-unfolding served
-published-or t us r g s s' is = halts (is_halted r.standing && not (is_leave (Publish us))) is
-  where
-    waits : (b : Bool) → replied (add_if {A = Row} b (row (Publish us) t r) (Reply.NotYet (Publish us), None)) g s ≡ Some s' →
-        (s' ≡ with_batch g us s) ⊎ (s'.answers ≡ s.answers ++ Got Reply.Stopped ∷ [])
-    waits true is = inl (sym (the-same (with_batch g us s) s' is))
-    waits false is = none-some s' is
-
-    halts : (b : Bool) → replied (add_if {A = Row} b (Reply.Stopped, None) (served_while (Publish us) t r)) g s ≡ Some s' →
-        (s' ≡ with_batch g us s) ⊎ (s'.answers ≡ s.answers ++ Got Reply.Stopped ∷ [])
-    halts true is = inr (sym (ap (λ s. s.answers) (the-same _ s' is)))
-    halts false is = waits (runs t r.standing) is
+published-or t us r g s s' is =
+    served-as (Publish us) t r (λ x. replied x g s ≡ Some s' → (s' ≡ with_batch g us s) ⊎ (s'.answers ≡ s.answers ++ Got Reply.Stopped ∷ []))
+    (λ is. inr (sym (ap (λ s. s.answers) (the-same _ s' is))))
+    (λ is. none-some s' is)
+    (λ may goes is. inl (sym (the-same (with_batch g us s) s' is))) is
 
 -- a machine that is to publish updates, with the answer that the run has stopped
 stops : (P : Program) (us : List Update) (es : List Element) (n : ℕ) (cases : List Case) (run : Run) (others : List Answer) → run.answers ≡ Got Reply.Stopped ∷ others →

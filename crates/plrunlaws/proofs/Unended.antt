@@ -1,5 +1,5 @@
 -- A run that ends inside of a transaction or a snapshot.
-use Rattle.std.proofs.Common.{◌≡◌, ℕ, zero, suc, ◌+◌, ◌<◌, Bool, true, false, ◌||◌, ◌&&◌, not, All, List, [], ◌∷◌, ◌++◌, take, Option, Some, None, refl, sym, ap, ◌∙◌, subst, arith, append_assoc, append-nil, ◌-◌, ◌≤◌, ◌⊎◌, inl, inr, eq-or-lt_of_le}
+use Rattle.std.proofs.Common.{◌≡◌, ℕ, zero, suc, ◌+◌, ◌<◌, Bool, true, false, All, List, [], ◌∷◌, ◌++◌, take, Option, Some, None, refl, sym, ap, ◌∙◌, subst, arith, append_assoc, append-nil, ◌-◌, ◌≤◌, ◌⊎◌, inl, inr, eq-or-lt_of_le}
 use Rattle.std.proofs.lemmas.Bool.{cases_lt}
 use Rattle.std.proofs.lemmas.List.{append_cancel_left, append_cancel_right}
 use Rattle.std.proofs.lemmas.List.Elements.{All-nil, All-cons, All-append}
@@ -9,9 +9,8 @@ use Rattle.plevent.specs.declared.request.Request.TheVariants.{Finish, HaltRun}
 use Rattle.plevent.specs.declared.request.Reply.{Reply}
 use Rattle.plevent.specs.declared.act.Act.{Act}
 use Rattle.plevent.specs.declared.act.Entry.{Entry}
-use Rattle.plevent.specs.Alive.{add_if}
 use Rattle.plevent.specs.Reading.{Reading, reading}
-use Rattle.plevent.specs.Rows.{is_halted, is_workers, is_leave, runs, finish_row, row, served_while, served}
+use Rattle.plevent.specs.Rows.{finish_row, row, served}
 use Rattle.plevent.specs.Search.{Item, View, Ask, Answer, Next, Finishes, item_of_end, item_of}
 use Rattle.plhist.specs.Follows.{Taken, is_not_yet, noted, item_at, takes}
 use Rattle.pltx.specs.Own.{any_open}
@@ -29,6 +28,7 @@ use Rattle.plrunlaws.proofs.Items.{none-some, the-same, below-more, answer-is, i
 use Rattle.plrunlaws.proofs.Machines.{turns-both, with_answers, final-rest}
 use Rattle.plrunlaws.proofs.Standing.{wants-ends, least-same, search-at, ends-with, short-of, asked-at, stands-somewhere, stays-else, started-below, entries-in-order}
 use Rattle.plrunlaws.proofs.Transactions.{reached, next-turn, last-final, viewed, ceases-ends}
+use Rattle.plrunlaws.proofs.Served.{served-as}
 
 -- this act, or none
 abbrev pub IsThat : Act → Option (ℕ × Act) → Type 0
@@ -36,16 +36,7 @@ IsThat a None = Unit {0}
 IsThat a (Some x) = x.1 ≡ a
 
 pub served-ends : (a : Act) (q : Request) (t : ℕ) (r : Reading) → IsThat a (row q t r).1 → IsThat a (served q t r).1
-unfolding served
-served-ends a q t r h = halts (is_halted r.standing && not (is_leave q))
-  where
-    waits : (b : Bool) → IsThat a (add_if b (row q t r) (Reply.NotYet q, None)).1
-    waits true = h
-    waits false = tt
-
-    halts : (b : Bool) → IsThat a (add_if b (Reply.Stopped, None) (served_while q t r)).1
-    halts true = tt
-    halts false = waits (is_workers q || runs t r.standing)
+served-ends a q t r h = served-as q t r (λ x. IsThat a x.1) tt tt (λ may goes. h)
 
 finish-ends : (e : ThreadEnd) (t : ℕ) → IsThat (act_of e) (finish_row e t).1
 finish-ends ThreadEnd.True t = refl

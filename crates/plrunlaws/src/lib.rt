@@ -7,7 +7,7 @@
 #![tactic(auto)]
 
 ghost use Rattle.plrunlaws.specs.Batches.{EachBatchIsAsked};
-ghost use Rattle.plrunlaws.specs.Standing.{StandsSomewhere, StandsOnce, AsksInTurn, StaysElse, EntriesInOrder, EndsWithItsEnd};
+ghost use Rattle.plrunlaws.specs.Standing.{FollowsToItsEnd, StandsSomewhere, StandsOnce, AsksInTurn, StaysElse, EntriesInOrder, EndsWithItsEnd};
 ghost use Rattle.plrunlaws.specs.Transactions.{TransactionsStandAlone, EndsOrLasts, NothingOfItStays, EachBatchInTurn};
 
 /// Each batch behind the first entry of a legal journal is the act of a publication, or of the erasure of one clause that was alive.
@@ -16,9 +16,11 @@ pub fn each_batch_is_asked()
     ensures { EachBatchIsAsked }
 {}
 
-/// At each turn of its machine a run stands at one place of its journal: its items so far are those whose answers the machine has taken.
+/// Each run that follows main's search to an end of its own is one that the laws here are about. At each turn of its machine it stands at
+/// one place of its journal: its items so far are those whose answers the machine has taken.
 #[tactic(auto, using(crate::proofs::Standing::laws))]
 pub fn stands_at_each_turn()
+    ensures follows { FollowsToItsEnd }
     ensures somewhere { StandsSomewhere }
     ensures once { StandsOnce }
 {}
