@@ -12,7 +12,7 @@ use Rattle.plrunlaws.proofs.Items.{none-some, the-same, answer-is}
 use Rattle.plrunlaws.proofs.Served.{served-as}
 
 -- a last request that is answered Done makes the entry of the end
-done-makes : (e : ThreadEnd) (t : ℕ) (r : Reading) (g : ℕ) (s s' : Taken) → replied (served (last_of e) t r) g s ≡ Some s' → s'.answers ≡ s.answers ++ Got Reply.Done ∷ [] → s'.made ≡ s.made ++ (g, act_of e) ∷ []
+pub done-makes : (e : ThreadEnd) (t : ℕ) (r : Reading) (g : ℕ) (s s' : Taken) → replied (served (last_of e) t r) g s ≡ Some s' → s'.answers ≡ s.answers ++ Got Reply.Done ∷ [] → s'.made ≡ s.made ++ (g, act_of e) ∷ []
 done-makes e t r g s s' is told =
     served-as (last_of e) t r (λ x. replied x g s ≡ Some s' → s'.made ≡ s.made ++ (g, act_of e) ∷ [])
     (λ is. absurd (unlike (first (Got Reply.Stopped) (Got Reply.Done) (ap (λ s. s.answers) (the-same _ s' is) ∙ told))))

@@ -4,6 +4,7 @@ mod Machines
 pub mod Batches
 pub mod Standing
 pub mod Ends
+mod Once
 pub mod Transactions
 pub mod Unended
 pub mod InTurn

@@ -173,11 +173,14 @@ stays-else f k s stood is = record {
 }
 
 -- the entries so far, below the least place of the next item
-pub started-below : (f : Followed) (k : ℕ) (s : Taken) → StandsAt f k s → AreBelow s.low (started f s.made)
-started-below f k s stood =
-    let adds = takes-adds (asks f) f.journal f.run.thread stood.earlier (from_start (start_of f)) s stood.so_far in
+pub made-below : (f : Followed) (gs : List ℕ) (s : Taken) → takes (asks f) f.journal f.run.thread gs (from_start (start_of f)) ≡ Some s → AreBelow s.low (started f s.made)
+made-below f gs s items =
+    let adds = takes-adds (asks f) f.journal f.run.thread gs (from_start (start_of f)) s items in
     let rises : suc (start_of f) ≤ s.low = adds.rises in
     All-cons (λ x. x.0 < s.low) (start_of f, Act.Start) s.made (omega (arith, rises)) (subst (AreBelow s.low) (sym adds.made) adds.below)
+
+pub started-below : (f : Followed) (k : ℕ) (s : Taken) → StandsAt f k s → AreBelow s.low (started f s.made)
+started-below f k s stood = made-below f stood.earlier s stood.so_far
 
 pub entries-in-order : EntriesInOrder
 entries-in-order f k s stood =

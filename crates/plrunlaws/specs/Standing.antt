@@ -107,3 +107,12 @@ act_of e = Act.End e
 -- the last of them tells of its end, at the last of the places
 abbrev pub EndsWithItsEnd : Type 0
 EndsWithItsEnd = (f : Followed) → own f.run.thread f.journal ≡ started f f.ended.asked.before.made ++ (f.ended.asked.final, act_of f.came_to) ∷ []
+
+-- and no other of them tells of an end
+abbrev pub IsNoEnd : Act → Type 0
+IsNoEnd (Act.End e) = ⊥
+IsNoEnd (Act.Halt n) = ⊥
+IsNoEnd a = Unit {0}
+
+abbrev pub EndsOnce : Type 0
+EndsOnce = (f : Followed) → All (λ x. IsNoEnd x.1) (started f f.ended.asked.before.made)

@@ -7,7 +7,7 @@
 #![tactic(auto)]
 
 ghost use Rattle.plrunlaws.specs.Batches.{EachBatchIsAsked};
-ghost use Rattle.plrunlaws.specs.Standing.{FollowsToItsEnd, StandsSomewhere, StandsOnce, AsksInTurn, StaysElse, EntriesInOrder, EndsWithItsEnd};
+ghost use Rattle.plrunlaws.specs.Standing.{FollowsToItsEnd, StandsSomewhere, StandsOnce, AsksInTurn, StaysElse, EntriesInOrder, EndsWithItsEnd, EndsOnce};
 ghost use Rattle.plrunlaws.specs.Transactions.{TransactionsStandAlone, EndsOrLasts, NothingOfItStays, EachBatchInTurn};
 
 /// Each batch behind the first entry of a legal journal is the act of a publication, or of the erasure of one clause that was alive.
@@ -32,11 +32,12 @@ pub fn asks_in_turn()
     ensures stays { StaysElse }
 {}
 
-/// The entries that a thread made by a turn stand before all that it makes later, and the last of all tells of its end.
+/// The entries that a thread made by a turn stand before all that it makes later, and the last of all tells of its end, which no other does.
 #[tactic(auto, using(crate::proofs::Standing::laws))]
 pub fn entries_in_order()
     ensures order { EntriesInOrder }
     ensures ends { EndsWithItsEnd }
+    ensures alone { EndsOnce }
 {}
 
 /// From the view with which an outermost transaction or snapshot begins to its end, the journal gets no entry of its thread; and if it
