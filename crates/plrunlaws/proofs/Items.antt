@@ -1,5 +1,5 @@
 -- What the items of a run come to: each adds an answer, and at most one entry, which stands at its place.
-use Rattle.std.proofs.Common.{◌≡◌, ℕ, suc, ◌+◌, ◌<◌, ◌≤◌, Bool, true, false, All, List, [], ◌∷◌, ◌++◌, length, take, Option, Some, None, refl, sym, ap, ◌∙◌, subst, arith, append_assoc, append-nil, length-append, ltb-true}
+use Rattle.std.proofs.Common.{◌≡◌, ℕ, suc, ◌+◌, ◌<◌, ◌≤◌, Bool, true, false, All, List, [], ◌∷◌, ◌++◌, length, take, Option, Some, None, refl, sym, ap, ◌∙◌, subst, arith, append_assoc, append-nil, length-append, ltb-true, ◌⊎◌, inl, inr}
 use Rattle.std.specs.Option.{option_and_then}
 use Rattle.std.proofs.lemmas.List.{append_cancel_left}
 use Rattle.std.proofs.lemmas.List.Elements.{All-nil, All-cons, All-append}
@@ -229,3 +229,43 @@ takes-split asks h t (g ∷ gs) s s' (x ∷ xs) rest is all =
     let m_is : m.answers ≡ s.answers ++ first.answer ∷ [] = first.adds.answered ∙ ap (λ l. s.answers ++ l) first.only in
     let both = answers-part s.answers m.answers s'.answers others.answers x first.answer xs rest m_is others.answered all in
     splits-more asks h t g gs s m s' x xs one.1 both.1 (takes-split asks h t gs m s' xs rest one.2 both.0)
+
+pub takes-behind : (asks : List Answer → Next) (h : List Entry) (t : ℕ) (gs ks : List ℕ) (s m s' : Taken) → takes asks h t gs s ≡ Some m → takes asks h t (gs ++ ks) s ≡ Some s' → takes asks h t ks m ≡ Some s'
+takes-behind asks h t [] ks s m s' first is = subst (λ x. takes asks h t ks x ≡ Some s') (takes-none asks h t s m first) is
+takes-behind asks h t (g ∷ gs) ks s m s' first is =
+    let one = takes-first asks h t g gs s m first in
+    let other = takes-first asks h t g (gs ++ ks) s s' is in
+    let same : one.0 ≡ other.0 = the-same one.0 other.0 (sym one.1 ∙ other.1) in
+    takes-behind asks h t gs ks one.0 m s' one.2 (subst (λ x. takes asks h t (gs ++ ks) x ≡ Some s') (sym same) other.2)
+
+-- a list in two parts whose last element is known
+module _ {A : Type 0} where
+  heads : (x y : A) (xs ys : List A) → x ∷ xs ≡ y ∷ ys → (x ≡ y) × (xs ≡ ys)
+  heads x y xs ys is = (cc, cc)
+
+  no-cons : (x : A) (xs : List A) → ◌≡◌ {A = List A} (x ∷ xs) [] → ⊥
+  no-cons x xs is = cc
+
+  none-behind : (xs ys : List A) → xs ++ ys ≡ [] → ys ≡ []
+  none-behind [] ys is = is
+  none-behind (x ∷ xs) ys is = absurd (no-cons x (xs ++ ys) is)
+
+  pub part-last : (front later before : List A) (z : A) → front ++ later ≡ before ++ z ∷ [] → (later ≡ []) ⊎ ((us : List A) × (before ≡ front ++ us) × (later ≡ us ++ z ∷ []))
+  part-last [] later before z is = inr (before, refl, is)
+  part-last (x ∷ xs) later [] z is = inl (none-behind xs later (heads x z (xs ++ later) [] is).1)
+  part-last (x ∷ xs) later (y ∷ ys) z is = let same = heads x y (xs ++ later) (ys ++ z ∷ []) is in go same.0 (part-last xs later ys z same.1)
+    where
+      go : x ≡ y → ((later ≡ []) ⊎ ((us : List A) × (ys ≡ xs ++ us) × (later ≡ us ++ z ∷ []))) → (later ≡ []) ⊎ ((us : List A) × (y ∷ ys ≡ x ∷ (xs ++ us)) × (later ≡ us ++ z ∷ []))
+      go same (inl none) = inl none
+      go same (inr some) = inr (some.0, ap (λ a. a ∷ ys) (sym same) ∙ ap (λ l. x ∷ l) some.1, some.2)
+
+  pub last-same : (xs ys : List A) (a b : A) → xs ++ a ∷ [] ≡ ys ++ b ∷ [] → a ≡ b
+  last-same xs ys a b is = go (part-last xs (a ∷ []) ys b is)
+    where
+      one : (us : List A) → a ∷ [] ≡ us ++ b ∷ [] → a ≡ b
+      one [] is = (heads a b [] [] is).0
+      one (u ∷ us) is = absurd (no-cons b [] (none-behind us (b ∷ []) (sym (heads a u [] (us ++ b ∷ []) is).1)))
+
+      go : ((a ∷ [] ≡ []) ⊎ ((us : List A) × (ys ≡ xs ++ us) × (a ∷ [] ≡ us ++ b ∷ []))) → a ≡ b
+      go (inl none) = absurd (no-cons a [] none)
+      go (inr some) = one some.0 some.2

@@ -56,12 +56,13 @@ pub record Viewed (f : Followed) (s : Taken) (g : ℕ) (s' : Taken) : Type 0 whe
   pub behind : s.low ≤ g
   pub made : s'.made ≡ s.made
   pub low : s'.low ≡ g
+  pub answers : s'.answers ≡ s.answers ++ Seen g (reading (take g f.journal)).updates ∷ []
 
 pub viewed : (f : Followed) (s : Taken) (g : ℕ) (s' : Taken) → IsAnswered f View g s s' → Viewed f s g s'
 viewed f s g s' is =
     let at = answer-is f.journal f.run.thread View g s s' is in
-    let same = the-same (record { answers = s.answers ++ Seen g (reading (take g f.journal)).updates ∷ []; low = g; made = s.made }) s' at.1 in
-    record { behind = at.0; made = ap (λ s. s.made) (sym same); low = ap (λ s. s.low) (sym same) }
+    let same : s' ≡ record { answers = s.answers ++ Seen g (reading (take g f.journal)).updates ∷ []; low = g; made = s.made } = sym (the-same _ s' at.1) in
+    record { behind = at.0; made = ap (λ s. s.made) same; low = ap (λ s. s.low) same; answers = ap (λ s. s.answers) same }
 
 module _ (f : Followed) (k j : ℕ) (lasts : Lasts f k j) where
   begins : wanted (at_turn f k) ≡ Some View

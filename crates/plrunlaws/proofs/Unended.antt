@@ -11,8 +11,8 @@ use Rattle.plevent.specs.declared.act.Act.{Act}
 use Rattle.plevent.specs.declared.act.Entry.{Entry}
 use Rattle.plevent.specs.Reading.{Reading, reading}
 use Rattle.plevent.specs.Rows.{finish_row, row, served}
-use Rattle.plevent.specs.Search.{Item, View, Ask, Answer, Next, Finishes, item_of_end, item_of}
-use Rattle.plhist.specs.Follows.{Taken, is_not_yet, noted, item_at, takes}
+use Rattle.plevent.specs.Search.{Item, View, Ask, Answer, Next, Finishes, item_of_end, item_of, Seen, Got}
+use Rattle.plhist.specs.Follows.{Taken, is_not_yet, noted, item_at, takes, from_start, last_of, own}
 use Rattle.pltx.specs.Own.{any_open}
 use Rattle.plsearch.specs.Types.{Result, Stop, Fail, CutTo, Throw, Halted, Spent, Awaits, Stopped, Unfit, Run}
 use Rattle.plsearch.specs.Engine.{outs}
@@ -22,13 +22,16 @@ use Rattle.plsearch.proofs.Ends.{ends_ignore}
 use Rattle.pltransactions.specs.Laws.{turns, machine_of, wanted, IsLast, IsDone}
 use Rattle.pltransactions.proofs.Transactions.{search-by-turns, open-asks-nothing, open-answer-ends, nothing-left-open}
 use Rattle.pltransactions.proofs.Opening.{opens-with-view}
-use Rattle.plrunlaws.specs.Standing.{Followed, asks, answers, at_turn, is_open, started, StandsAt, AreFrom, act_of}
+use Rattle.plrunlaws.specs.Standing.{Followed, asks, answers, at_turn, is_open, started, StandsAt, act_of, IsNoEnd, start_of, AreBelow}
 use Rattle.plrunlaws.specs.Transactions.{IsCutShort, LastsToTheEnd, NothingOfItStays, Lasts, EndsOrLasts}
-use Rattle.plrunlaws.proofs.Items.{none-some, the-same, below-more, answer-is, item-adds, takes-first, takes-none}
+use Rattle.plrunlaws.proofs.Items.{none-some, the-same, below-more, answer-is, item-adds, takes-first, takes-none, part-last, last-same, takes-behind, takes-adds}
 use Rattle.plrunlaws.proofs.Machines.{turns-both, with_answers, final-rest}
 use Rattle.plrunlaws.proofs.Standing.{wants-ends, least-same, search-at, ends-with, short-of, asked-at, stands-somewhere, stays-else, started-below, entries-in-order}
 use Rattle.plrunlaws.proofs.Transactions.{reached, next-turn, last-final, viewed, ceases-ends}
 use Rattle.plrunlaws.proofs.Served.{served-as}
+use Rattle.plrunlaws.proofs.Once.{all-at, ends-once}
+use Rattle.plrunlaws.proofs.Ends.{ends-with-its-end}
+use Rattle.plevent.specs.Alive.{Stamped}
 
 -- this act, or none
 abbrev pub IsThat : Act → Option (ℕ × Act) → Type 0
@@ -250,6 +253,66 @@ ends-or-lasts f k before now =
     first : (i : ℕ) → k < i → i ≤ suc k → is_open f i ≡ true
     first i after within = let same : i ≡ suc k = omega (arith, after, within) in ap (is_open f) same ∙ now
 
+-- what tells of an end is the last entry
+ends-it : (e : ThreadEnd) (x : Act) → x ≡ act_of e → IsNoEnd x → ⊥
+ends-it e x is no_end = go e (subst IsNoEnd is no_end)
+  where
+    go : (e : ThreadEnd) → IsNoEnd (act_of e) → ⊥
+    go ThreadEnd.True h = h
+    go ThreadEnd.False h = h
+    go (ThreadEnd.Exception b) h = h
+    go ThreadEnd.Budget h = h
+    go (ThreadEnd.Halt n) h = h
+
+module _ (f : Followed) where
+  abbrev its_end : ℕ × Act
+  its_end = (f.ended.asked.final, act_of f.came_to)
+
+  only-end : (front later : List (ℕ × Act)) → own f.run.thread f.journal ≡ front ++ later → All (λ x. x.1 ≡ act_of f.came_to) later → (later ≡ []) ⊎ (later ≡ its_end ∷ [])
+  only-end front later owns ends = go (part-last front later (started f f.ended.asked.before.made) its_end (sym owns ∙ ends-with-its-end f))
+    where
+      go : ((later ≡ []) ⊎ ((us : List (ℕ × Act)) × (started f f.ended.asked.before.made ≡ front ++ us) × (later ≡ us ++ its_end ∷ []))) → (later ≡ []) ⊎ (later ≡ its_end ∷ [])
+      go (inl none) = inl none
+      go (inr some) = rest some.0 some.1 some.2
+        where
+          rest : (us : List (ℕ × Act)) → started f f.ended.asked.before.made ≡ front ++ us → later ≡ us ++ its_end ∷ [] → (later ≡ []) ⊎ (later ≡ its_end ∷ [])
+          rest [] all is = inr is
+          rest (u ∷ us) all is =
+              let tells : u.1 ≡ act_of f.came_to = all-at (λ x. x.1 ≡ act_of f.came_to) [] u (us ++ its_end ∷ []) (subst (All (λ x. x.1 ≡ act_of f.came_to)) is ends) in
+              let other : IsNoEnd u.1 = all-at (λ x. IsNoEnd x.1) front u us (subst (All (λ x. IsNoEnd x.1)) all (ends-once f)) in
+              absurd (ends-it f.came_to u.1 tells other)
+
+  -- an item that is not the last stands before the last
+  before-last : (k : ℕ) (s : Taken) → StandsAt f k s → (s ≡ f.ended.asked.last → ⊥) → s.low ≤ f.ended.asked.final
+  before-last k s stood other = go (part-last stood.earlier stood.later f.ended.asked.earlier f.ended.asked.final (sym stood.split ∙ f.ended.asked.split))
+    where
+      low : f.ended.asked.before.low ≤ f.ended.asked.final
+      low = (answer-is f.journal f.run.thread (Ask (last_of f.came_to)) f.ended.asked.final f.ended.asked.before f.ended.asked.last f.ended.asked.finished).0
+
+      go : ((stood.later ≡ []) ⊎ ((us : List ℕ) × (f.ended.asked.earlier ≡ stood.earlier ++ us) × (stood.later ≡ us ++ f.ended.asked.final ∷ []))) → s.low ≤ f.ended.asked.final
+      go (inl none) = absurd (other (takes-none (asks f) f.journal f.run.thread s f.ended.asked.last (subst (λ gs. takes (asks f) f.journal f.run.thread gs s ≡ Some f.ended.asked.last) none stood.rest)))
+      go (inr some) =
+          let start = from_start (start_of f) in
+          let items = subst (λ gs. takes (asks f) f.journal f.run.thread gs start ≡ Some f.ended.asked.before) some.1 f.ended.asked.items in
+          let rises = (takes-adds (asks f) f.journal f.run.thread some.0 s f.ended.asked.before (takes-behind (asks f) f.journal f.run.thread stood.earlier some.0 start s f.ended.asked.before stood.so_far items)).rises in
+          let le = low in
+          omega (arith, rises, le)
+
+  one-entry : (front later : List (ℕ × Act)) (low : ℕ) → own f.run.thread f.journal ≡ front ++ later → All (λ x. x.1 ≡ act_of f.came_to) later → AreBelow low front → low ≤ f.ended.asked.final →
+      own f.run.thread f.journal ≡ front ++ its_end ∷ []
+  one-entry front later low owns ends below le = go (only-end front later owns ends)
+    where
+      go : ((later ≡ []) ⊎ (later ≡ its_end ∷ [])) → own f.run.thread f.journal ≡ front ++ its_end ∷ []
+      go (inr is) = owns ∙ ap (λ l. front ++ l) is
+      go (inl none) =
+          let made = started f f.ended.asked.before.made in
+          let all : made ++ its_end ∷ [] ≡ front = sym (ends-with-its-end f) ∙ owns ∙ ap (λ l. front ++ l) none ∙ append-nil front in
+          let lt : f.ended.asked.final < low = all-at (λ x. x.0 < low) made its_end [] (subst (AreBelow low) (sym all) below) in
+          absurd (omega (arith, lt, le))
+
+seen-done : (g : ℕ) (us : List Stamped) → Seen g us ≡ Got Reply.Done → ⊥
+seen-done g us is = cc
+
 pub nothing-of-it-stays : NothingOfItStays
 nothing-of-it-stays f k lasts =
     let here = stands-somewhere f k in
@@ -266,18 +329,20 @@ nothing-of-it-stays f k lasts =
     let found = looks f k lasts begun turned.0 (suc k) turned.1 turned.2 (omega arith) one.stands (ap (at_turn f) (sym late) ∙ over-late f (suc k) turned.0 turned.1 turned.2 turned.3) in
     let ends = found.1 in
     let same : ends.new ≡ part.later =
-    append_cancel_left (started f begun.made) ends.new part.later (sym (ap (started f) ends.made) ∙ sym f.ended.asked.entries ∙ part.entries) in record {
+    append_cancel_left (started f begun.made) ends.new part.later (sym (ap (started f) ends.made) ∙ sym f.ended.asked.entries ∙ part.entries) in
+    let below = below-more before.low one.place (started f before.made) view.behind (started-below f k before here.1) in
+    let goes_on : begun ≡ f.ended.asked.last → ⊥ =
+    λ is. seen-done one.place (reading (take one.place f.journal)).updates (last-same before.answers f.ended.asked.before.answers (Seen one.place (reading (take one.place f.journal)).updates) (Got Reply.Done) (sym view.answers ∙ ap (λ s. s.answers) is ∙ f.ended.asked.told)) in
+    let behind : one.place ≤ f.ended.asked.final = subst (λ g. g ≤ f.ended.asked.final) view.low (before-last f (suc k) begun one.stands goes_on) in record {
       before = before;
       place = one.place;
       begun = begun;
       stood = here.1;
       views = one.answered;
-      later = part.later;
-      entries = part.entries ∙ ap (λ l. l ++ part.later) made;
-      below = below-more before.low one.place (started f before.made) view.behind (started-below f k before here.1);
-      from = subst (λ g. AreFrom g part.later) view.low part.from;
+      entries = one-entry f (started f before.made) part.later one.place (part.entries ∙ ap (λ l. l ++ part.later) made) (subst (All (λ x. x.1 ≡ act_of f.came_to)) same ends.ends) below behind;
+      below = below;
+      behind = behind;
       short = found.0;
-      ends = subst (All (λ x. x.1 ≡ act_of f.came_to)) same ends.ends;
     }
 
 pub ruleset laws = (ends-or-lasts, nothing-of-it-stays)
