@@ -14,6 +14,7 @@ use Rattle.plhist.specs.Legal.{worker_of, MayAsk, IsDue, AllDue, opening}
 use Rattle.plrunlaws.proofs.Items.{none-some}
 use Rattle.plrunlaws.specs.Batches.{MakesBatch, IsAskedBatch, EachBatchIsAsked}
 use Rattle.plrunlaws.proofs.Served.{served-as}
+use Rattle.plrunlaws.proofs.Lists.{heads}
 
 -- a row whose act is a batch of a thread
 abbrev pub Makes : Row → ℕ → List Update → Type 0
@@ -128,19 +129,13 @@ due-at : (r : Reading) (xs : List Entry) (e : Entry) (ys : List Entry) → AllDu
 due-at r [] e ys all = all.0
 due-at r (x ∷ xs) e ys all = due-at (read r x) xs e ys all.1
 
-first-of : (x y : Entry) (xs ys : List Entry) → x ∷ xs ≡ y ∷ ys → x ≡ y
-first-of x y xs ys is = cc
-
-rest-of : (x y : Entry) (xs ys : List Entry) → x ∷ xs ≡ y ∷ ys → xs ≡ ys
-rest-of x y xs ys is = cc
-
 pub each-batch-is-asked : EachBatchIsAsked
 unfolding reading
 each-batch-is-asked first h [] behind e us legal is some batch = absurd (some refl)
 each-batch-is-asked first h (b ∷ bs) behind e us legal is some batch =
     let same : opening first ∷ legal.later ≡ b ∷ (bs ++ e ∷ behind) = sym legal.opens ∙ is in
-    let all = subst (AllDue (reading (opening first ∷ []))) (rest-of (opening first) b legal.later (bs ++ e ∷ behind) same) legal.due in
-    subst (λ x. IsAskedBatch (reading (x ∷ bs)) e us) (first-of (opening first) b legal.later (bs ++ e ∷ behind) same)
+    let all = subst (AllDue (reading (opening first ∷ []))) ((heads (opening first) b legal.later (bs ++ e ∷ behind) same).1) legal.due in
+    subst (λ x. IsAskedBatch (reading (x ∷ bs)) e us) (heads (opening first) b legal.later (bs ++ e ∷ behind) same).0
     (asked-batch (reading (opening first ∷ bs)) e us (due-at (reading (opening first ∷ [])) bs e behind all) batch)
 
 pub ruleset laws = (each-batch-is-asked)

@@ -1,5 +1,5 @@
 -- What the items of a run come to: each adds an answer, and at most one entry, which stands at its place.
-use Rattle.std.proofs.Common.{◌≡◌, ℕ, suc, ◌+◌, ◌<◌, ◌≤◌, Bool, true, false, All, List, [], ◌∷◌, ◌++◌, length, take, Option, Some, None, refl, sym, ap, ◌∙◌, subst, arith, append_assoc, append-nil, length-append, ltb-true, ◌⊎◌, inl, inr}
+use Rattle.std.proofs.Common.{◌≡◌, ℕ, suc, ◌+◌, ◌<◌, ◌≤◌, Bool, true, false, List, [], ◌∷◌, ◌++◌, length, take, Option, Some, None, refl, sym, ap, ◌∙◌, subst, arith, append_assoc, append-nil, length-append, ltb-true}
 use Rattle.std.specs.Option.{option_and_then}
 use Rattle.std.proofs.lemmas.List.{append_cancel_left}
 use Rattle.std.proofs.lemmas.List.Elements.{All-nil, All-cons, All-append}
@@ -11,6 +11,7 @@ use Rattle.plevent.specs.Rows.{served}
 use Rattle.plevent.specs.Search.{Item, View, Ask, Answer, Seen, Got, Next, item_of}
 use Rattle.plhist.specs.Follows.{Taken, is_not_yet, noted, guarded, not_below, answered, answer_at, item_at, takes}
 use Rattle.plrunlaws.specs.Standing.{AreBelow, AreFrom}
+use Rattle.plrunlaws.proofs.Lists.{heads, all-more}
 
 pub the-same : {A : Type 0} (a b : A) → Some a ≡ Some b → a ≡ b
 the-same a b is = cc
@@ -20,9 +21,6 @@ none-some {A} {B} a is = absurd (never is)
   where
     never : ◌≡◌ {A = Option A} None (Some a) → ⊥
     never is = cc
-
-all-more : {A : Type 0} (P Q : A → Type 0) (xs : List A) → ((x : A) → P x → Q x) → All P xs → All Q xs
-all-more P Q xs more all k d lt = more _ (all k d lt)
 
 pub below-more : (g g' : ℕ) (xs : List (ℕ × Act)) → g ≤ g' → AreBelow g xs → AreBelow g' xs
 below-more g g' xs le all = all-more (λ x. x.0 < g) (λ x. x.0 < g') xs (λ x lt. omega (arith, le, lt)) all
@@ -190,16 +188,13 @@ pub record Splits (asks : List Answer → Next) (h : List Entry) (t : ℕ) (gs :
   pub rest : takes asks h t later so_far ≡ Some s'
   pub answers : so_far.answers ≡ s.answers ++ xs
 
-first-same : (x y : Answer) (xs ys : List Answer) → x ∷ xs ≡ y ∷ ys → (x ≡ y) × (xs ≡ ys)
-first-same x y xs ys is = (cc, cc)
-
 -- where one answer comes first, and then others, and the first and some of them are known
 answers-part : (old new all others : List Answer) (x a : Answer) (xs rest : List Answer) → new ≡ old ++ a ∷ [] → all ≡ new ++ others → all ≡ old ++ (x ∷ (xs ++ rest)) →
     (all ≡ new ++ (xs ++ rest)) × (new ++ xs ≡ old ++ (x ∷ xs))
 answers-part old new all others x a xs rest new_is all_is whole =
     let joined : x ∷ (xs ++ rest) ≡ a ∷ others =
     append_cancel_left old (x ∷ (xs ++ rest)) (a ∷ others) (sym whole ∙ all_is ∙ ap (λ l. l ++ others) new_is ∙ append_assoc old (a ∷ []) others) in
-    let same = first-same x a (xs ++ rest) others joined in
+    let same = heads x a (xs ++ rest) others joined in
     (all_is ∙ ap (λ l. new ++ l) (sym same.1), ap (λ l. l ++ xs) (new_is ∙ ap (λ a. old ++ a ∷ []) (sym same.0)) ∙ append_assoc old (x ∷ []) xs)
 
 splits-more : (asks : List Answer → Next) (h : List Entry) (t g : ℕ) (gs : List ℕ) (s m s' : Taken) (x : Answer) (xs : List Answer) → item_at h t (item_of (asks s.answers)) g s ≡ Some m →
@@ -237,35 +232,3 @@ takes-behind asks h t (g ∷ gs) ks s m s' first is =
     let other = takes-first asks h t g (gs ++ ks) s s' is in
     let same : one.0 ≡ other.0 = the-same one.0 other.0 (sym one.1 ∙ other.1) in
     takes-behind asks h t gs ks one.0 m s' one.2 (subst (λ x. takes asks h t (gs ++ ks) x ≡ Some s') (sym same) other.2)
-
--- a list in two parts whose last element is known
-module _ {A : Type 0} where
-  heads : (x y : A) (xs ys : List A) → x ∷ xs ≡ y ∷ ys → (x ≡ y) × (xs ≡ ys)
-  heads x y xs ys is = (cc, cc)
-
-  no-cons : (x : A) (xs : List A) → ◌≡◌ {A = List A} (x ∷ xs) [] → ⊥
-  no-cons x xs is = cc
-
-  none-behind : (xs ys : List A) → xs ++ ys ≡ [] → ys ≡ []
-  none-behind [] ys is = is
-  none-behind (x ∷ xs) ys is = absurd (no-cons x (xs ++ ys) is)
-
-  pub part-last : (front later before : List A) (z : A) → front ++ later ≡ before ++ z ∷ [] → (later ≡ []) ⊎ ((us : List A) × (before ≡ front ++ us) × (later ≡ us ++ z ∷ []))
-  part-last [] later before z is = inr (before, refl, is)
-  part-last (x ∷ xs) later [] z is = inl (none-behind xs later (heads x z (xs ++ later) [] is).1)
-  part-last (x ∷ xs) later (y ∷ ys) z is = let same = heads x y (xs ++ later) (ys ++ z ∷ []) is in go same.0 (part-last xs later ys z same.1)
-    where
-      go : x ≡ y → ((later ≡ []) ⊎ ((us : List A) × (ys ≡ xs ++ us) × (later ≡ us ++ z ∷ []))) → (later ≡ []) ⊎ ((us : List A) × (y ∷ ys ≡ x ∷ (xs ++ us)) × (later ≡ us ++ z ∷ []))
-      go same (inl none) = inl none
-      go same (inr some) = inr (some.0, ap (λ a. a ∷ ys) (sym same) ∙ ap (λ l. x ∷ l) some.1, some.2)
-
-  pub last-same : (xs ys : List A) (a b : A) → xs ++ a ∷ [] ≡ ys ++ b ∷ [] → a ≡ b
-  last-same xs ys a b is = go (part-last xs (a ∷ []) ys b is)
-    where
-      one : (us : List A) → a ∷ [] ≡ us ++ b ∷ [] → a ≡ b
-      one [] is = (heads a b [] [] is).0
-      one (u ∷ us) is = absurd (no-cons b [] (none-behind us (b ∷ []) (sym (heads a u [] (us ++ b ∷ []) is).1)))
-
-      go : ((a ∷ [] ≡ []) ⊎ ((us : List A) × (ys ≡ xs ++ us) × (a ∷ [] ≡ us ++ b ∷ []))) → a ≡ b
-      go (inl none) = absurd (no-cons a [] none)
-      go (inr some) = one some.0 some.2

@@ -1,3 +1,4 @@
+mod Lists
 mod Items
 mod Served
 mod Machines

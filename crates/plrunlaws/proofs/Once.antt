@@ -1,8 +1,6 @@
 -- A thread's end is told once: behind it the thread asks for nothing that is served.
 use Rattle.std.proofs.Common.{◌≡◌, ℕ, zero, suc, ◌+◌, ◌<◌, ◌≤◌, Bool, true, false, ◌||◌, ◌&&◌, not, is_some, All, List, [], ◌∷◌, ◌++◌, length, take, fold, nat_eq, Option, Some, None, refl, sym, ap, ◌∙◌, subst, arith, append_assoc, eq-eqb, eqb-true}
 use Rattle.std.specs.List.{list_any}
-use Rattle.std.proofs.lemmas.List.{append_cancel_left}
-use Rattle.std.proofs.lemmas.List.Elements.{All-nil, All-cons, All-head, All-tail}
 use Rattle.plevent.specs.declared.request.ThreadEnd.{ThreadEnd}
 use Rattle.plevent.specs.declared.request.Reply.{Reply}
 use Rattle.plevent.specs.declared.act.Act.{Act}
@@ -11,7 +9,7 @@ use Rattle.plevent.specs.declared.standing.Thread.{Thread}
 use Rattle.plevent.specs.Alive.{add_if}
 use Rattle.plevent.specs.Reading.{Reading, reading, read, blank, changed_first, is_thread, threads_after, halted_after}
 use Rattle.plevent.specs.Rows.{is_halted, is_workers, is_leave, runs, served}
-use Rattle.plevent.specs.Search.{Ask, Answer, Got}
+use Rattle.plevent.specs.Search.{Ask, Got}
 use Rattle.plhist.specs.Follows.{own, own_from, own_if, Taken, replied, last_of}
 use Rattle.plhist.proofs.Alone.{main-alone}
 use Rattle.plhist.proofs.OneMore.{after-append}
@@ -20,6 +18,7 @@ use Rattle.plrunlaws.proofs.Items.{none-some, the-same, answer-is}
 use Rattle.plrunlaws.proofs.Served.{served-as}
 use Rattle.plrunlaws.proofs.Standing.{made-below}
 use Rattle.plrunlaws.proofs.Ends.{ends-with-its-end}
+use Rattle.plrunlaws.proofs.Lists.{heads, all-parts, all-at, last-same}
 
 -- all rows of a thread have ended
 abbrev AllEnded : ℕ → List Thread → Type 0
@@ -85,9 +84,6 @@ end-all t w e row ts alone = subst (λ l. AllEnded t (threads_after w t (Act.End
 abbrev Mine : Type 0
 Mine = List (ℕ × Act)
 
-heads : (x y : ℕ × Act) (xs ys : Mine) → x ∷ xs ≡ y ∷ ys → (x ≡ y) × (xs ≡ ys)
-heads x y xs ys is = (cc, cc)
-
 -- an entry of a thread in a journal
 record IsEntry (i t : ℕ) (h : List Entry) (x : ℕ × Act) : Type 0 where
   before : List Entry
@@ -146,13 +142,10 @@ done-needs : (e : ThreadEnd) (t : ℕ) (r : Reading) (g : ℕ) (s s' : Taken) �
     (runs t r.standing ≡ true) × (is_halted r.standing ≡ false)
 done-needs e t r g s s' is told =
     served-as (last_of e) t r (λ x. replied x g s ≡ Some s' → (runs t r.standing ≡ true) × (is_halted r.standing ≡ false))
-    (λ is. absurd (unlike (first (Got Reply.Stopped) (Got Reply.Done) (ap (λ s. s.answers) (the-same _ s' is) ∙ told))))
+    (λ is. absurd (unlike (last-same s.answers s.answers (Got Reply.Stopped) (Got Reply.Done) (ap (λ s. s.answers) (the-same _ s' is) ∙ told))))
     (λ is. none-some s' is)
     (λ may goes is. (sym (ap (λ b. b || runs t r.standing) (threads-ask e)) ∙ may, clear (is_halted r.standing) goes)) is
   where
-    first : (a b : Answer) → s.answers ++ a ∷ [] ≡ s.answers ++ b ∷ [] → a ≡ b
-    first a b is = let same : a ∷ [] ≡ b ∷ [] = append_cancel_left s.answers (a ∷ []) (b ∷ []) is in cc
-
     unlike : Got Reply.Stopped ≡ Got Reply.Done → ⊥
     unlike is = cc
 
@@ -173,15 +166,6 @@ done-needs e t r g s s' is told =
     clear : (b : Bool) → (b && not (is_leave (last_of e))) ≡ false → b ≡ false
     clear true goes = sym (ap not (stays e)) ∙ goes
     clear false goes = refl
-
--- each element where the list is parted
-all-parts : (P : ℕ × Act → Type 0) (l : Mine) → ((xs ys : Mine) (x : ℕ × Act) → l ≡ xs ++ x ∷ ys → P x) → All P l
-all-parts P [] h = All-nil P
-all-parts P (y ∷ l) h = All-cons P y l (h [] l y refl) (all-parts P l (λ xs ys x is. h (y ∷ xs) ys x (ap (λ l. y ∷ l) is)))
-
-pub all-at : (P : ℕ × Act → Type 0) (xs : Mine) (y : ℕ × Act) (ys : Mine) → All P (xs ++ y ∷ ys) → P y
-all-at P [] y ys all = All-head P y ys all
-all-at P (x ∷ xs) y ys all = all-at P xs y ys (All-tail P x (xs ++ y ∷ ys) all)
 
 no-end : (f : Followed) (xs ys : Mine) (x : ℕ × Act) → started f f.ended.asked.before.made ≡ xs ++ x ∷ ys → IsNoEnd x.1
 unfolding own

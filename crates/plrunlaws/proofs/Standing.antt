@@ -16,6 +16,7 @@ use Rattle.pltransactions.proofs.Transactions.{turns-rest, takes-what-it-asks, w
 use Rattle.plrunlaws.specs.Standing.{Followed, FollowsToItsEnd, asks, answers, at_turn, IsAnswered, start_of, started, StandsAt, StandsSomewhere, StandsOnce, AsksInTurn, StaysElse, AreBelow, EntriesInOrder}
 use Rattle.plrunlaws.proofs.Items.{the-same, answer-adds, takes-first, takes-more, takes-nothing, takes-none, takes-both, takes-adds, takes-count, takes-split}
 use Rattle.plrunlaws.proofs.Machines.{turns-next, with_answers, Short, short, final-rest}
+use Rattle.plrunlaws.proofs.Lists.{heads}
 
 pub follows-to-its-end : FollowsToItsEnd
 follows-to-its-end P limit h run e follows is =
@@ -71,11 +72,8 @@ front-same [] ys [] ys' is same = refl
 front-same [] ys (x ∷ xs) ys' is same = absurd (omega (arith, same))
 front-same (x ∷ xs) ys [] ys' is same = absurd (omega (arith, same))
 front-same (x ∷ xs) ys (y ∷ xs') ys' is same =
-    let both = apart x y (xs ++ ys) (xs' ++ ys') is in
+    let both = heads x y (xs ++ ys) (xs' ++ ys') is in
     ap (λ a. a ∷ xs) both.0 ∙ ap (λ l. y ∷ l) (front-same xs ys xs' ys' both.1 (omega (arith, same)))
-  where
-    apart : (x y : ℕ) (xs ys : List ℕ) → x ∷ xs ≡ y ∷ ys → (x ≡ y) × (xs ≡ ys)
-    apart x y xs ys is = (cc, cc)
 
 pub stands-once : StandsOnce
 stands-once f k s s' one other =

@@ -27,6 +27,7 @@ use Rattle.plrunlaws.proofs.Items.{none-some, the-same, below-more, answer-is}
 use Rattle.plrunlaws.proofs.Machines.{turns-next, turns-both, IsFinal, final-rest, final-stays}
 use Rattle.plrunlaws.proofs.Standing.{ends-with, AskedAt, asked-at, stands-somewhere, stays-else, started-below, entries-in-order}
 use Rattle.plrunlaws.proofs.Served.{served-as}
+use Rattle.plrunlaws.proofs.Lists.{last-same}
 
 apart : {b : Bool} → b ≡ true → b ≡ false → ⊥
 apart holds fails = never (sym holds ∙ fails)
@@ -129,13 +130,10 @@ module _ (f : Followed) (k : ℕ) (s : Taken) (stood : StandsAt f k s) (u : Upda
       one : AskedAt f k s (Ask (Publish (u ∷ us)))
       one = asked-at f k s (Ask (Publish (u ∷ us))) stood (ap wanted at)
 
-      first : (a b : Answer) → s.answers ++ a ∷ [] ≡ s.answers ++ b ∷ [] → a ≡ b
-      first a b is = let same : a ∷ [] ≡ b ∷ [] = append_cancel_left s.answers (a ∷ []) (b ∷ []) is in cc
-
       go : ((one.after ≡ with_batch one.place (u ∷ us) s) ⊎ (one.after.answers ≡ s.answers ++ Got Reply.Stopped ∷ [])) → (g : ℕ) × StandsAt f (suc k) (with_batch g (u ∷ us) s)
       go (inl is) = (one.place, subst (StandsAt f (suc k)) is one.stands)
       go (inr is) =
-          let answer : one.answer ≡ Got Reply.Stopped = first one.answer (Got Reply.Stopped) (sym one.takes_it ∙ is) in
+          let answer : one.answer ≡ Got Reply.Stopped = last-same s.answers s.answers one.answer (Got Reply.Stopped) (sym one.takes_it ∙ is) in
           let left : run.answers ≡ Got Reply.Stopped ∷ one.others = ap (λ m. m.run.answers) (sym at) ∙ one.left ∙ ap (λ a. a ∷ one.others) answer in
           let there : at_turn f (suc k) ≡ record { mode = Back Stopped; cases = cases; run = record run { answers = one.others } } =
           next-turn f k ∙ ap (turn f.program) at ∙ stops f.program (u ∷ us) es n cases run one.others left in

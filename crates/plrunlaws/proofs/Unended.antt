@@ -24,14 +24,15 @@ use Rattle.pltransactions.proofs.Transactions.{search-by-turns, open-asks-nothin
 use Rattle.pltransactions.proofs.Opening.{opens-with-view}
 use Rattle.plrunlaws.specs.Standing.{Followed, asks, answers, at_turn, is_open, started, StandsAt, act_of, IsNoEnd, start_of, AreBelow}
 use Rattle.plrunlaws.specs.Transactions.{IsCutShort, LastsToTheEnd, NothingOfItStays, Lasts, EndsOrLasts}
-use Rattle.plrunlaws.proofs.Items.{none-some, the-same, below-more, answer-is, item-adds, takes-first, takes-none, part-last, last-same, takes-behind, takes-adds}
+use Rattle.plrunlaws.proofs.Items.{none-some, the-same, below-more, answer-is, item-adds, takes-first, takes-none, takes-behind, takes-adds}
 use Rattle.plrunlaws.proofs.Machines.{turns-both, with_answers, final-rest}
 use Rattle.plrunlaws.proofs.Standing.{wants-ends, least-same, search-at, ends-with, short-of, asked-at, stands-somewhere, stays-else, started-below, entries-in-order}
 use Rattle.plrunlaws.proofs.Transactions.{reached, next-turn, last-final, viewed, ceases-ends}
 use Rattle.plrunlaws.proofs.Served.{served-as}
-use Rattle.plrunlaws.proofs.Once.{all-at, ends-once}
+use Rattle.plrunlaws.proofs.Once.{ends-once}
 use Rattle.plrunlaws.proofs.Ends.{ends-with-its-end}
 use Rattle.plevent.specs.Alive.{Stamped}
+use Rattle.plrunlaws.proofs.Lists.{part-last, last-same, all-at}
 
 -- this act, or none
 abbrev pub IsThat : Act → Option (ℕ × Act) → Type 0
