@@ -9,9 +9,12 @@ use Rattle.plevent.specs.declared.act.Entry.{Entry}
 use Rattle.plevent.specs.declared.standing.Thread.{Thread}
 use Rattle.plevent.specs.Alive.{add_if, is_alive}
 use Rattle.plevent.specs.Reading.{Reading, reading, read}
-use Rattle.plevent.specs.Rows.{Row, is_over, is_halted, is_new, stays, is_workers, is_leave, runs, start_row, finish_row, erase_row, leave_row, row, served_while, served}
+use Rattle.plevent.specs.Rows.{Row, is_over, is_halted, is_new, stays, is_workers, is_leave, runs, start_row, finish_row, erase_row, leave_row, row, served}
 use Rattle.plhist.specs.Legal.{worker_of, MayAsk, IsDue, AllDue, opening}
+use Rattle.plrunlaws.proofs.Items.{none-some}
 use Rattle.plrunlaws.specs.Batches.{MakesBatch, IsAskedBatch, EachBatchIsAsked}
+use Rattle.plrunlaws.proofs.Served.{served-as}
+use Rattle.plrunlaws.proofs.Lists.{heads}
 
 -- a row whose act is a batch of a thread
 abbrev pub Makes : Row → ℕ → List Update → Type 0
@@ -25,9 +28,6 @@ abbrev act_in : Option (ℕ × Act) → Act
 act_in None = Act.Start
 act_in (Some x) = x.1
 
-none-made : (t : ℕ) (us : List Update) → ◌≡◌ {A = Option (ℕ × Act)} None (Some (t, Act.Batch us)) → ⊥
-none-made t us is = cc
-
 -- what is behind such a row
 pub record Behind (q : Request) (t : ℕ) (r : Reading) (owner : ℕ) (us : List Update) : Type 0 where
   pub own : t ≡ owner
@@ -37,7 +37,7 @@ pub record Behind (q : Request) (t : ℕ) (r : Reading) (owner : ℕ) (us : List
   pub running : IsTrue (runs t r.standing)
 
 start-makes : (q : Request) (t : ℕ) (r : Reading) (owner : ℕ) (us : List Update) (x : Option Thread) → Makes (start_row r.standing x) owner us → Behind q t r owner us
-start-makes q t r owner us None is = absurd (none-made owner us is)
+start-makes q t r owner us None is = none-some (owner, Act.Batch us) is
 start-makes q t r owner us (Some x) is = absurd (never is)
   where
     never : ◌≡◌ {A = Option (ℕ × Act)} (Some (x.number, Act.Start)) (Some (owner, Act.Batch us)) → ⊥
@@ -54,7 +54,7 @@ finish-makes q e t r owner us is = absurd (go e is)
     go ThreadEnd.False is = end-made ThreadEnd.False is
     go (ThreadEnd.Exception b) is = end-made (ThreadEnd.Exception b) is
     go ThreadEnd.Budget is = end-made ThreadEnd.Budget is
-    go (ThreadEnd.Halt n) is = none-made owner us is
+    go (ThreadEnd.Halt n) is = none-some (owner, Act.Batch us) is
 
 leave-makes : (q : Request) (t : ℕ) (r : Reading) (owner : ℕ) (us : List Update) → Makes (leave_row r.standing t) owner us → Behind q t r owner us
 leave-makes q t r owner us is = absurd (over (is_over r.standing) is)
@@ -64,11 +64,11 @@ leave-makes q t r owner us is = absurd (over (is_over r.standing) is)
 
     stood : (b : Bool) → add_if {A = Option (ℕ × Act)} b (Some (t, Act.Left)) None ≡ Some (owner, Act.Batch us) → ⊥
     stood true is = left is
-    stood false is = none-made owner us is
+    stood false is = none-some (owner, Act.Batch us) is
 
     over : (b : Bool) → Makes (add_if b (Reply.Done, add_if (stays t r.standing) (Some (t, Act.Left)) None) (Reply.NotYet Request.Leave, None)) owner us → ⊥
     over true is = stood (stays t r.standing) is
-    over false is = none-made owner us is
+    over false is = none-some (owner, Act.Batch us) is
 
 batch-owner : (t owner : ℕ) (us vs : List Update) → ◌≡◌ {A = Option (ℕ × Act)} (Some (t, Act.Batch vs)) (Some (owner, Act.Batch us)) → t ≡ owner
 batch-owner t owner us vs is = ap owner_in is
@@ -90,7 +90,7 @@ row-makes (Request.EraseOne x) t r owner us runs is = go (is_alive x r.updates) 
       worker = λ w may. may;
       running = runs;
     }
-    go false gone is = absurd (none-made owner us is)
+    go false gone is = none-some (owner, Act.Batch us) is
 row-makes (Request.Finish e) t r owner us runs is = finish-makes (Request.Finish e) e t r owner us is
 row-makes (Request.HaltRun n) t r owner us runs is = absurd (never is)
   where
@@ -106,22 +106,13 @@ not-halted (Some n) is = absurd (never is)
     never is = cc
 
 pub served-makes : (q : Request) (t : ℕ) (r : Reading) (owner : ℕ) (us : List Update) → Makes (served q t r) owner us → Behind q t r owner us × (r.standing.halted ≡ None)
-unfolding served
-served-makes q t r owner us is = halts (is_halted r.standing && not (is_leave q)) refl is
+served-makes q t r owner us is =
+    served-as q t r (λ x. Makes x owner us → Behind q t r owner us × (r.standing.halted ≡ None)) (λ is. none-some (owner, Act.Batch us) is) (λ is. none-some (owner, Act.Batch us) is)
+    (λ may on is. let behind = row-makes q t r owner us may is in (behind, not-halted r.standing.halted (goes (is_halted r.standing) on behind.remains))) is
   where
     goes : (b : Bool) → (b && not (is_leave q)) ≡ false → is_leave q ≡ false → b ≡ false
     goes true is remains = sym (ap not remains) ∙ is
     goes false is remains = refl
-
-    waits : (b : Bool) → (is_workers q || runs t r.standing) ≡ b → Makes (add_if b (row q t r) (Reply.NotYet q, None)) owner us → Behind q t r owner us
-    waits true runs is = row-makes q t r owner us runs is
-    waits false stands is = absurd (none-made owner us is)
-
-    halts : (b : Bool) → (is_halted r.standing && not (is_leave q)) ≡ b → Makes (add_if b (Reply.Stopped, None) (served_while q t r)) owner us → Behind q t r owner us × (r.standing.halted ≡ None)
-    halts true stopped is = absurd (none-made owner us is)
-    halts false on is =
-        let behind = waits (is_workers q || runs t r.standing) refl is in
-        (behind, not-halted r.standing.halted (goes (is_halted r.standing) on behind.remains))
 
 asked-batch : (r : Reading) (e : Entry) (us : List Update) → IsDue r e → e.act ≡ Act.Batch us → IsAskedBatch r e us
 asked-batch r e us due batch =
@@ -138,19 +129,13 @@ due-at : (r : Reading) (xs : List Entry) (e : Entry) (ys : List Entry) → AllDu
 due-at r [] e ys all = all.0
 due-at r (x ∷ xs) e ys all = due-at (read r x) xs e ys all.1
 
-first-of : (x y : Entry) (xs ys : List Entry) → x ∷ xs ≡ y ∷ ys → x ≡ y
-first-of x y xs ys is = cc
-
-rest-of : (x y : Entry) (xs ys : List Entry) → x ∷ xs ≡ y ∷ ys → xs ≡ ys
-rest-of x y xs ys is = cc
-
 pub each-batch-is-asked : EachBatchIsAsked
 unfolding reading
 each-batch-is-asked first h [] behind e us legal is some batch = absurd (some refl)
 each-batch-is-asked first h (b ∷ bs) behind e us legal is some batch =
     let same : opening first ∷ legal.later ≡ b ∷ (bs ++ e ∷ behind) = sym legal.opens ∙ is in
-    let all = subst (AllDue (reading (opening first ∷ []))) (rest-of (opening first) b legal.later (bs ++ e ∷ behind) same) legal.due in
-    subst (λ x. IsAskedBatch (reading (x ∷ bs)) e us) (first-of (opening first) b legal.later (bs ++ e ∷ behind) same)
+    let all = subst (AllDue (reading (opening first ∷ []))) ((heads (opening first) b legal.later (bs ++ e ∷ behind) same).1) legal.due in
+    subst (λ x. IsAskedBatch (reading (x ∷ bs)) e us) (heads (opening first) b legal.later (bs ++ e ∷ behind) same).0
     (asked-batch (reading (opening first ∷ bs)) e us (due-at (reading (opening first ∷ [])) bs e behind all) batch)
 
 pub ruleset laws = (each-batch-is-asked)

@@ -1,30 +1,24 @@
 -- The last entry of a run tells of its end.
-use Rattle.std.proofs.Common.{◌≡◌, ℕ, Bool, true, false, ◌||◌, ◌&&◌, not, List, [], ◌∷◌, ◌++◌, take, Option, Some, None, sym, ap, ◌∙◌}
-use Rattle.std.proofs.lemmas.List.{append_cancel_left}
+use Rattle.std.proofs.Common.{◌≡◌, ℕ, [], ◌∷◌, ◌++◌, take, Some, sym, ap, ◌∙◌}
 use Rattle.plevent.specs.declared.request.ThreadEnd.{ThreadEnd}
 use Rattle.plevent.specs.declared.request.Reply.{Reply}
-use Rattle.plevent.specs.Alive.{add_if}
 use Rattle.plevent.specs.Reading.{Reading, reading}
-use Rattle.plevent.specs.Rows.{Row, is_halted, is_workers, is_leave, runs, row, served_while, served}
-use Rattle.plevent.specs.Search.{Ask, Answer, Got}
-use Rattle.plhist.specs.Follows.{Taken, is_not_yet, noted, replied, last_of}
+use Rattle.plevent.specs.Rows.{row, served}
+use Rattle.plevent.specs.Search.{Ask, Got}
+use Rattle.plhist.specs.Follows.{Taken, replied, last_of}
 use Rattle.plrunlaws.specs.Standing.{started, act_of, EndsWithItsEnd}
-use Rattle.plrunlaws.proofs.Items.{the-same, answer-is}
-
-none-some : {A : Type 0} (s : Taken) → ◌≡◌ {A = Option Taken} None (Some s) → A
-none-some s is = absurd (never is)
-  where
-    never : ◌≡◌ {A = Option Taken} None (Some s) → ⊥
-    never is = cc
+use Rattle.plrunlaws.proofs.Items.{none-some, the-same, answer-is}
+use Rattle.plrunlaws.proofs.Served.{served-as}
+use Rattle.plrunlaws.proofs.Lists.{last-same}
 
 -- a last request that is answered Done makes the entry of the end
-done-makes : (e : ThreadEnd) (t : ℕ) (r : Reading) (g : ℕ) (s s' : Taken) → replied (served (last_of e) t r) g s ≡ Some s' → s'.answers ≡ s.answers ++ Got Reply.Done ∷ [] → s'.made ≡ s.made ++ (g, act_of e) ∷ []
-unfolding served
-done-makes e t r g s s' is told = halts (is_halted r.standing && not (is_leave (last_of e))) is
+pub done-makes : (e : ThreadEnd) (t : ℕ) (r : Reading) (g : ℕ) (s s' : Taken) → replied (served (last_of e) t r) g s ≡ Some s' → s'.answers ≡ s.answers ++ Got Reply.Done ∷ [] → s'.made ≡ s.made ++ (g, act_of e) ∷ []
+done-makes e t r g s s' is told =
+    served-as (last_of e) t r (λ x. replied x g s ≡ Some s' → s'.made ≡ s.made ++ (g, act_of e) ∷ [])
+    (λ is. absurd (unlike (last-same s.answers s.answers (Got Reply.Stopped) (Got Reply.Done) (ap (λ s. s.answers) (the-same _ s' is) ∙ told))))
+    (λ is. none-some s' is)
+    (λ may goes. rows e) is
   where
-    first : (a b : Answer) → s.answers ++ a ∷ [] ≡ s.answers ++ b ∷ [] → a ≡ b
-    first a b is = let same : a ∷ [] ≡ b ∷ [] = append_cancel_left s.answers (a ∷ []) (b ∷ []) is in cc
-
     unlike : Got Reply.Stopped ≡ Got Reply.Done → ⊥
     unlike is = cc
 
@@ -34,14 +28,6 @@ done-makes e t r g s s' is told = halts (is_halted r.standing && not (is_leave (
     rows (ThreadEnd.Exception b) is = ap (λ s. s.made) (sym (the-same _ s' is))
     rows ThreadEnd.Budget is = ap (λ s. s.made) (sym (the-same _ s' is))
     rows (ThreadEnd.Halt n) is = ap (λ s. s.made) (sym (the-same _ s' is))
-
-    waits : (b : Bool) → replied (add_if {A = Row} b (row (last_of e) t r) (Reply.NotYet (last_of e), None)) g s ≡ Some s' → s'.made ≡ s.made ++ (g, act_of e) ∷ []
-    waits true is = rows e is
-    waits false is = none-some s' is
-
-    halts : (b : Bool) → replied (add_if {A = Row} b (Reply.Stopped, None) (served_while (last_of e) t r)) g s ≡ Some s' → s'.made ≡ s.made ++ (g, act_of e) ∷ []
-    halts true is = absurd (unlike (first (Got Reply.Stopped) (Got Reply.Done) (ap (λ s. s.answers) (the-same _ s' is) ∙ told)))
-    halts false is = waits (is_workers (last_of e) || runs t r.standing) is
 
 pub ends-with-its-end : EndsWithItsEnd
 ends-with-its-end f =

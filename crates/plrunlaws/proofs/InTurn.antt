@@ -1,7 +1,6 @@
 -- Each batch of a thread is asked for by a turn.
 use Rattle.std.proofs.Common.{◌≡◌, ℕ, zero, suc, ◌+◌, ◌⊎◌, inl, inr, Bool, true, false, All, List, [], ◌∷◌, ◌++◌, take, Option, Some, None, refl, sym, ap, ◌∙◌, subst, arith, append_assoc}
 use Rattle.std.proofs.lemmas.List.{append_cancel_left}
-use Rattle.std.proofs.lemmas.List.Elements.{All-head, All-tail}
 use Rattle.plevent.specs.declared.request.ThreadEnd.{ThreadEnd}
 use Rattle.plevent.specs.declared.request.Request.{Request}
 use Rattle.plevent.specs.declared.request.Request.TheVariants.{HaltRun}
@@ -18,17 +17,12 @@ use Rattle.pltransactions.specs.Laws.{wanted}
 use Rattle.pltransactions.proofs.Transactions.{open-asks-nothing}
 use Rattle.plrunlaws.specs.Standing.{Followed, asks, at_turn, is_open, IsAnswered, start_of, started, StandsAt, act_of}
 use Rattle.plrunlaws.specs.Transactions.{IsAskedInTurn, EachBatchInTurn}
-use Rattle.plrunlaws.proofs.Items.{the-same, answer-is, takes-nothing}
+use Rattle.plrunlaws.proofs.Items.{none-some, the-same, answer-is, takes-nothing}
 use Rattle.plrunlaws.proofs.Standing.{whole, AskedAt, asked-at, stays-else, entries-in-order}
 use Rattle.plrunlaws.proofs.Transactions.{reached}
 use Rattle.plrunlaws.proofs.Unended.{IsThat, served-ends, ceases, comes-to-end}
 use Rattle.plrunlaws.proofs.Batches.{served-makes}
-
-none-some : {A : Type 0} (s : Taken) → ◌≡◌ {A = Option Taken} None (Some s) → A
-none-some s is = absurd (never is)
-  where
-    never : ◌≡◌ {A = Option Taken} None (Some s) → ⊥
-    never is = cc
+use Rattle.plrunlaws.proofs.Lists.{heads, all-at}
 
 -- an item's entry is that of its row
 record Entered (f : Followed) (q : Item) (g : ℕ) (s s' : Taken) : Type 0 where
@@ -55,13 +49,6 @@ enters f q g s s' is = go q (answer-is f.journal f.run.thread q g s s' is).1
 
 abbrev Mine : Type 0
 Mine = List (ℕ × Act)
-
-heads : (x y : ℕ × Act) (xs ys : Mine) → x ∷ xs ≡ y ∷ ys → (x ≡ y) × (xs ≡ ys)
-heads x y xs ys is = (cc, cc)
-
-all-at : (a : Act) (xs : Mine) (y : ℕ × Act) (ys : Mine) → All (λ x. x.1 ≡ a) (xs ++ y ∷ ys) → y.1 ≡ a
-all-at a [] y ys all = All-head (λ x. x.1 ≡ a) y ys all
-all-at a (x ∷ xs) y ys all = all-at a xs y ys (All-tail (λ x. x.1 ≡ a) x (xs ++ y ∷ ys) all)
 
 module _ (f : Followed) (before behind : Mine) (g : ℕ) (us : List Update) (owns : own f.run.thread f.journal ≡ before ++ (g, Act.Batch us) ∷ behind) where
   abbrev entry : ℕ × Act
@@ -120,7 +107,7 @@ module _ (f : Followed) (before behind : Mine) (g : ℕ) (us : List Update) (own
       let rest : ends.new ≡ extra ++ entry ∷ behind =
       append_cancel_left (started f s.made) ends.new (extra ++ entry ∷ behind)
       (sym (ap (started f) ends.made) ∙ sym f.ended.asked.entries ∙ owns ∙ ap (λ l. l ++ entry ∷ behind) front ∙ append_assoc (started f s.made) extra (entry ∷ behind)) in
-      absurd (no-end f.came_to (all-at (act_of f.came_to) extra entry behind (subst (All (λ x. x.1 ≡ act_of f.came_to)) rest ends.ends)))
+      absurd (no-end f.came_to (all-at (λ x. x.1 ≡ act_of f.came_to) extra entry behind (subst (All (λ x. x.1 ≡ act_of f.came_to)) rest ends.ends)))
   looks (suc n) k s extra r run stood front is = go (wanted (at_turn f k)) refl (λ s extra. looks n (suc k) s extra r run)
     where
       at_end : at_turn f (suc k + n) ≡ record { mode = Back r; cases = []; run = run }

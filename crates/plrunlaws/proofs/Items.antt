@@ -1,5 +1,5 @@
 -- What the items of a run come to: each adds an answer, and at most one entry, which stands at its place.
-use Rattle.std.proofs.Common.{◌≡◌, ℕ, suc, ◌+◌, ◌<◌, ◌≤◌, Bool, true, false, All, List, [], ◌∷◌, ◌++◌, length, take, Option, Some, None, refl, sym, ap, ◌∙◌, subst, arith, append_assoc, append-nil, length-append, ltb-true}
+use Rattle.std.proofs.Common.{◌≡◌, ℕ, suc, ◌+◌, ◌<◌, ◌≤◌, Bool, true, false, List, [], ◌∷◌, ◌++◌, length, take, Option, Some, None, refl, sym, ap, ◌∙◌, subst, arith, append_assoc, append-nil, length-append, ltb-true}
 use Rattle.std.specs.Option.{option_and_then}
 use Rattle.std.proofs.lemmas.List.{append_cancel_left}
 use Rattle.std.proofs.lemmas.List.Elements.{All-nil, All-cons, All-append}
@@ -11,18 +11,16 @@ use Rattle.plevent.specs.Rows.{served}
 use Rattle.plevent.specs.Search.{Item, View, Ask, Answer, Seen, Got, Next, item_of}
 use Rattle.plhist.specs.Follows.{Taken, is_not_yet, noted, guarded, not_below, answered, answer_at, item_at, takes}
 use Rattle.plrunlaws.specs.Standing.{AreBelow, AreFrom}
+use Rattle.plrunlaws.proofs.Lists.{heads, all-more}
 
 pub the-same : {A : Type 0} (a b : A) → Some a ≡ Some b → a ≡ b
 the-same a b is = cc
 
-none-some : {A B : Type 0} (a : A) → ◌≡◌ {A = Option A} None (Some a) → B
+pub none-some : {A B : Type 0} (a : A) → ◌≡◌ {A = Option A} None (Some a) → B
 none-some {A} {B} a is = absurd (never is)
   where
     never : ◌≡◌ {A = Option A} None (Some a) → ⊥
     never is = cc
-
-all-more : {A : Type 0} (P Q : A → Type 0) (xs : List A) → ((x : A) → P x → Q x) → All P xs → All Q xs
-all-more P Q xs more all k d lt = more _ (all k d lt)
 
 pub below-more : (g g' : ℕ) (xs : List (ℕ × Act)) → g ≤ g' → AreBelow g xs → AreBelow g' xs
 below-more g g' xs le all = all-more (λ x. x.0 < g) (λ x. x.0 < g') xs (λ x lt. omega (arith, le, lt)) all
@@ -190,16 +188,13 @@ pub record Splits (asks : List Answer → Next) (h : List Entry) (t : ℕ) (gs :
   pub rest : takes asks h t later so_far ≡ Some s'
   pub answers : so_far.answers ≡ s.answers ++ xs
 
-first-same : (x y : Answer) (xs ys : List Answer) → x ∷ xs ≡ y ∷ ys → (x ≡ y) × (xs ≡ ys)
-first-same x y xs ys is = (cc, cc)
-
 -- where one answer comes first, and then others, and the first and some of them are known
 answers-part : (old new all others : List Answer) (x a : Answer) (xs rest : List Answer) → new ≡ old ++ a ∷ [] → all ≡ new ++ others → all ≡ old ++ (x ∷ (xs ++ rest)) →
     (all ≡ new ++ (xs ++ rest)) × (new ++ xs ≡ old ++ (x ∷ xs))
 answers-part old new all others x a xs rest new_is all_is whole =
     let joined : x ∷ (xs ++ rest) ≡ a ∷ others =
     append_cancel_left old (x ∷ (xs ++ rest)) (a ∷ others) (sym whole ∙ all_is ∙ ap (λ l. l ++ others) new_is ∙ append_assoc old (a ∷ []) others) in
-    let same = first-same x a (xs ++ rest) others joined in
+    let same = heads x a (xs ++ rest) others joined in
     (all_is ∙ ap (λ l. new ++ l) (sym same.1), ap (λ l. l ++ xs) (new_is ∙ ap (λ a. old ++ a ∷ []) (sym same.0)) ∙ append_assoc old (x ∷ []) xs)
 
 splits-more : (asks : List Answer → Next) (h : List Entry) (t g : ℕ) (gs : List ℕ) (s m s' : Taken) (x : Answer) (xs : List Answer) → item_at h t (item_of (asks s.answers)) g s ≡ Some m →
@@ -229,3 +224,11 @@ takes-split asks h t (g ∷ gs) s s' (x ∷ xs) rest is all =
     let m_is : m.answers ≡ s.answers ++ first.answer ∷ [] = first.adds.answered ∙ ap (λ l. s.answers ++ l) first.only in
     let both = answers-part s.answers m.answers s'.answers others.answers x first.answer xs rest m_is others.answered all in
     splits-more asks h t g gs s m s' x xs one.1 both.1 (takes-split asks h t gs m s' xs rest one.2 both.0)
+
+pub takes-behind : (asks : List Answer → Next) (h : List Entry) (t : ℕ) (gs ks : List ℕ) (s m s' : Taken) → takes asks h t gs s ≡ Some m → takes asks h t (gs ++ ks) s ≡ Some s' → takes asks h t ks m ≡ Some s'
+takes-behind asks h t [] ks s m s' first is = subst (λ x. takes asks h t ks x ≡ Some s') (takes-none asks h t s m first) is
+takes-behind asks h t (g ∷ gs) ks s m s' first is =
+    let one = takes-first asks h t g gs s m first in
+    let other = takes-first asks h t g (gs ++ ks) s s' is in
+    let same : one.0 ≡ other.0 = the-same one.0 other.0 (sym one.1 ∙ other.1) in
+    takes-behind asks h t gs ks one.0 m s' one.2 (subst (λ x. takes asks h t (gs ++ ks) x ≡ Some s') (sym same) other.2)

@@ -1,8 +1,11 @@
+mod Lists
 mod Items
+mod Served
 mod Machines
 pub mod Batches
 pub mod Standing
 pub mod Ends
+mod Once
 pub mod Transactions
 pub mod Unended
 pub mod InTurn

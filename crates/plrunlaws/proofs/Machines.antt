@@ -11,6 +11,7 @@ use Rattle.plsearch.specs.Machines.Machine.{Mode, At, Back, Machine, Rest, move,
 use Rattle.pltransactions.specs.Laws.{turns, asked_by, asked_first, asked_in, wanted, left_of}
 use Rattle.plsearch.proofs.Turns.{Rest-turn}
 use Rattle.pltransactions.proofs.Transactions.{takes-what-it-asks}
+use Rattle.plrunlaws.proofs.Items.{none-some}
 
 -- turns, one more
 pub turns-next : (P : Program) (k : ℕ) (m : Machine) → turns P (suc k) m ≡ turn P (turns P k m)
@@ -21,22 +22,12 @@ pub turns-both : (P : Program) (k n : ℕ) (m : Machine) → turns P (k + n) m �
 turns-both P zero n m = let same : 0 + n ≡ n = omega arith in ap (λ i. turns P i m) same
 turns-both P (suc k) n m = let same : suc k + n ≡ suc (k + n) = omega arith in ap (λ i. turns P i m) same ∙ turns-both P k n (turn P m)
 
-pub turns-rest : (P : Program) (k : ℕ) (m : Machine) → Rest P m ≡ Rest P (turns P k m)
-turns-rest P zero m = refl
-turns-rest P (suc k) m = Rest-turn P m ∙ turns-rest P k (turn P m)
-
 -- other answers in the place of those that are left
 abbrev pub with_answers : List Answer → Machine → Machine
 with_answers xs m = record m { run = record m.run { answers = xs } }
 
 some-none : {A : Type 0} (q : Item) → ◌≡◌ {A = Option Item} (Some q) None → A
-some-none q is = absurd (never is)
-  where
-    never : ◌≡◌ {A = Option Item} (Some q) None → ⊥
-    never is = cc
-
-none-some : {A : Type 0} (q : Item) → ◌≡◌ {A = Option Item} None (Some q) → A
-none-some q is = some-none q (sym is)
+some-none q is = none-some q (sym is)
 
 move-with : (cases : List Case) (run : Run) (xs : List Answer) (m : Move) → move cases (record run { answers = xs }) m ≡ with_answers xs (move cases run m)
 move-with cases run xs (Give r w) = refl

@@ -5,17 +5,22 @@ use Rattle.std.proofs.lemmas.List.Elements.{All-cons}
 use Rattle.plevent.specs.declared.request.ThreadEnd.{ThreadEnd}
 use Rattle.plevent.specs.declared.act.Act.{Act}
 use Rattle.plevent.specs.Search.{Item, Answer, Wants, Finishes, item_of}
-use Rattle.plhist.specs.Follows.{Taken, item_at, takes, from_start}
+use Rattle.plhist.specs.Follows.{Taken, item_at, takes, from_start, FollowsAs}
 use Rattle.plprogram.specs.Program.{Program}
 use Rattle.plsearch.specs.Types.{Result, Awaits, Run}
 use Rattle.plsearch.specs.Engine.{out, outs}
 use Rattle.plsearch.specs.Search.{next_of, ending_of, search_of}
 use Rattle.plsearch.specs.Machines.Machine.{Back, Rest, turn}
 use Rattle.pltransactions.specs.Laws.{turns, machine_of, wanted, left_of}
-use Rattle.pltransactions.proofs.Transactions.{takes-what-it-asks, waits-for-what-it-asks}
-use Rattle.plrunlaws.specs.Standing.{Followed, asks, answers, at_turn, IsAnswered, start_of, started, StandsAt, StandsSomewhere, StandsOnce, AsksInTurn, StaysElse, AreBelow, EntriesInOrder}
+use Rattle.pltransactions.proofs.Transactions.{turns-rest, takes-what-it-asks, waits-for-what-it-asks}
+use Rattle.plrunlaws.specs.Standing.{Followed, FollowsToItsEnd, asks, answers, at_turn, IsAnswered, start_of, started, StandsAt, StandsSomewhere, StandsOnce, AsksInTurn, StaysElse, AreBelow, EntriesInOrder}
 use Rattle.plrunlaws.proofs.Items.{the-same, answer-adds, takes-first, takes-more, takes-nothing, takes-none, takes-both, takes-adds, takes-count, takes-split}
-use Rattle.plrunlaws.proofs.Machines.{turns-next, turns-rest, with_answers, Short, short, final-rest}
+use Rattle.plrunlaws.proofs.Machines.{turns-next, with_answers, Short, short, final-rest}
+use Rattle.plrunlaws.proofs.Lists.{heads}
+
+pub follows-to-its-end : FollowsToItsEnd
+follows-to-its-end P limit h run e follows is =
+    (record { program = P; limit = limit; journal = h; run = run; came_to = e; ended = subst (FollowsAs (search_of P limit) limit h run) is follows }, refl, refl, refl, refl, refl)
 
 -- the search of a run, with some answers, is what its machine comes to from each turn on
 search-from : (P : Program) (limit n k : ℕ) (xs : List Answer) → search_of P limit n xs ≡ ending_of (min n limit) (Rest P (turns P k (machine_of P (min n limit) xs)))
@@ -67,11 +72,8 @@ front-same [] ys [] ys' is same = refl
 front-same [] ys (x ∷ xs) ys' is same = absurd (omega (arith, same))
 front-same (x ∷ xs) ys [] ys' is same = absurd (omega (arith, same))
 front-same (x ∷ xs) ys (y ∷ xs') ys' is same =
-    let both = apart x y (xs ++ ys) (xs' ++ ys') is in
+    let both = heads x y (xs ++ ys) (xs' ++ ys') is in
     ap (λ a. a ∷ xs) both.0 ∙ ap (λ l. y ∷ l) (front-same xs ys xs' ys' both.1 (omega (arith, same)))
-  where
-    apart : (x y : ℕ) (xs ys : List ℕ) → x ∷ xs ≡ y ∷ ys → (x ≡ y) × (xs ≡ ys)
-    apart x y xs ys is = (cc, cc)
 
 pub stands-once : StandsOnce
 stands-once f k s s' one other =
@@ -96,7 +98,7 @@ asks-there f k s q stood is =
     ∙ ap (λ m. next_of (Rest P m).0) waits
     ∙ ap (λ e. next_of e.0) (final-rest P (Awaits q) (at_turn f k).cases (record (at_turn f k).run { answers = [] }) tt)
 
-wants-ends : {A : Type 0} (q : Item) (e : ThreadEnd) → Wants q ≡ Finishes e → A
+pub wants-ends : {A : Type 0} (q : Item) (e : ThreadEnd) → Wants q ≡ Finishes e → A
 wants-ends q e is = absurd (never is)
   where
     never : Wants q ≡ Finishes e → ⊥
@@ -169,11 +171,14 @@ stays-else f k s stood is = record {
 }
 
 -- the entries so far, below the least place of the next item
-pub started-below : (f : Followed) (k : ℕ) (s : Taken) → StandsAt f k s → AreBelow s.low (started f s.made)
-started-below f k s stood =
-    let adds = takes-adds (asks f) f.journal f.run.thread stood.earlier (from_start (start_of f)) s stood.so_far in
+pub made-below : (f : Followed) (gs : List ℕ) (s : Taken) → takes (asks f) f.journal f.run.thread gs (from_start (start_of f)) ≡ Some s → AreBelow s.low (started f s.made)
+made-below f gs s items =
+    let adds = takes-adds (asks f) f.journal f.run.thread gs (from_start (start_of f)) s items in
     let rises : suc (start_of f) ≤ s.low = adds.rises in
     All-cons (λ x. x.0 < s.low) (start_of f, Act.Start) s.made (omega (arith, rises)) (subst (AreBelow s.low) (sym adds.made) adds.below)
+
+pub started-below : (f : Followed) (k : ℕ) (s : Taken) → StandsAt f k s → AreBelow s.low (started f s.made)
+started-below f k s stood = made-below f stood.earlier s stood.so_far
 
 pub entries-in-order : EntriesInOrder
 entries-in-order f k s stood =
@@ -184,4 +189,4 @@ entries-in-order f k s stood =
       from = more.from;
     }
 
-pub ruleset laws = (stands-somewhere, stands-once, asks-in-turn, stays-else, entries-in-order)
+pub ruleset laws = (follows-to-its-end, stands-somewhere, stands-once, asks-in-turn, stays-else, entries-in-order)

@@ -1,16 +1,15 @@
 -- What a transaction or a snapshot does to the journal of a run.
-use Rattle.std.proofs.Common.{◌≡◌, ℕ, zero, suc, ◌+◌, ◌-◌, ◌<◌, ◌≤◌, ◌⊎◌, inl, inr, Bool, true, false, not, ◌&&◌, List, [], ◌∷◌, ◌++◌, take, Option, Some, None, refl, sym, ap, ◌∙◌, subst, arith, append_assoc}
+use Rattle.std.proofs.Common.{◌≡◌, ℕ, zero, suc, ◌+◌, ◌-◌, ◌<◌, ◌≤◌, ◌⊎◌, inl, inr, Bool, true, false, List, [], ◌∷◌, ◌++◌, take, Option, Some, None, refl, sym, ap, ◌∙◌, subst, arith, append_assoc, eq-or-lt_of_le}
 use Rattle.std.proofs.lemmas.List.{append_cancel_left}
 use Rattle.plevent.specs.declared.request.ThreadEnd.{ThreadEnd}
 use Rattle.plevent.specs.declared.request.Request.TheVariants.{Publish}
 use Rattle.plevent.specs.declared.request.Reply.{Reply}
 use Rattle.plevent.specs.declared.update.Update.{Update}
 use Rattle.plevent.specs.declared.act.Act.{Act}
-use Rattle.plevent.specs.Alive.{add_if}
 use Rattle.plevent.specs.Reading.{Reading, reading}
-use Rattle.plevent.specs.Rows.{is_halted, is_leave, runs, row, served_while, served}
+use Rattle.plevent.specs.Rows.{served}
 use Rattle.plevent.specs.Search.{Item, View, Ask, Answer, Seen, Got, Ceases, Finishes}
-use Rattle.plhist.specs.Follows.{own, Taken, is_not_yet, noted}
+use Rattle.plhist.specs.Follows.{own, Taken, replied}
 use Rattle.pltx.specs.Own.{any_open, nothing}
 use Rattle.pltx.specs.declared.level.Level.{Level}
 use Rattle.plprogram.specs.Program.{Program}
@@ -24,9 +23,11 @@ use Rattle.pltransactions.proofs.Transactions.{open-asks-nothing, open-answer-en
 use Rattle.pltransactions.proofs.Opening.{opens-with-view, closes-at-its-end}
 use Rattle.plrunlaws.specs.Standing.{Followed, answers, at_turn, IsAnswered, started, StandsAt, AreFrom}
 use Rattle.plrunlaws.specs.Transactions.{Lasts, updates_at, published_in, with_batch, Publishes, TransactionsStandAlone}
-use Rattle.plrunlaws.proofs.Items.{the-same, below-more, answer-is}
+use Rattle.plrunlaws.proofs.Items.{none-some, the-same, below-more, answer-is}
 use Rattle.plrunlaws.proofs.Machines.{turns-next, turns-both, IsFinal, final-rest, final-stays}
 use Rattle.plrunlaws.proofs.Standing.{ends-with, AskedAt, asked-at, stands-somewhere, stays-else, started-below, entries-in-order}
+use Rattle.plrunlaws.proofs.Served.{served-as}
+use Rattle.plrunlaws.proofs.Lists.{last-same}
 
 apart : {b : Bool} → b ≡ true → b ≡ false → ⊥
 apart holds fails = never (sym holds ∙ fails)
@@ -56,12 +57,13 @@ pub record Viewed (f : Followed) (s : Taken) (g : ℕ) (s' : Taken) : Type 0 whe
   pub behind : s.low ≤ g
   pub made : s'.made ≡ s.made
   pub low : s'.low ≡ g
+  pub answers : s'.answers ≡ s.answers ++ Seen g (reading (take g f.journal)).updates ∷ []
 
 pub viewed : (f : Followed) (s : Taken) (g : ℕ) (s' : Taken) → IsAnswered f View g s s' → Viewed f s g s'
 viewed f s g s' is =
     let at = answer-is f.journal f.run.thread View g s s' is in
-    let same = the-same (record { answers = s.answers ++ Seen g (reading (take g f.journal)).updates ∷ []; low = g; made = s.made }) s' at.1 in
-    record { behind = at.0; made = ap (λ s. s.made) (sym same); low = ap (λ s. s.low) (sym same) }
+    let same : s' ≡ record { answers = s.answers ++ Seen g (reading (take g f.journal)).updates ∷ []; low = g; made = s.made } = sym (the-same _ s' at.1) in
+    record { behind = at.0; made = ap (λ s. s.made) same; low = ap (λ s. s.low) same; answers = ap (λ s. s.answers) same }
 
 module _ (f : Followed) (k j : ℕ) (lasts : Lasts f k j) where
   begins : wanted (at_turn f k) ≡ Some View
@@ -89,24 +91,11 @@ module _ (f : Followed) (k j : ℕ) (lasts : Lasts f k j) where
   -- so the run stands where the view put it
   stays : (s : Taken) → StandsAt f (suc k) s → (i : ℕ) → k < i → i ≤ suc j → StandsAt f i s
   stays s stood zero after within = absurd (omega (arith, after))
-  stays s stood (suc i) after within = go (either k i) (stays s stood i)
+  stays s stood (suc i) after within = go (eq-or-lt_of_le {n = k} {m = i} (omega (arith, after))) (stays s stood i)
     where
-      either : (k i : ℕ) → (k ≡ i) ⊎ ((k ≡ i) → ⊥)
-      either zero zero = inl refl
-      either zero (suc i) = inr (λ is. omega (arith, is))
-      either (suc k) zero = inr (λ is. omega (arith, is))
-      either (suc k) (suc i) = more (either k i)
-        where
-          more : ((k ≡ i) ⊎ ((k ≡ i) → ⊥)) → (suc k ≡ suc i) ⊎ ((suc k ≡ suc i) → ⊥)
-          more (inl is) = inl (ap suc is)
-          more (inr other) = inr (λ is. other (omega (arith, is)))
-
-      go : ((k ≡ i) ⊎ ((k ≡ i) → ⊥)) → (k < i → i ≤ suc j → StandsAt f i s) → StandsAt f (suc i) s
+      go : ((k ≡ i) ⊎ (k < i)) → (k < i → i ≤ suc j → StandsAt f i s) → StandsAt f (suc i) s
       go (inl is) before = subst (λ n. StandsAt f (suc n) s) is stood
-      go (inr other) before =
-          let later : k < i = grind (arith, after, other) in
-          let here = before later (omega (arith, within)) in
-          stays-else f i s here (silent i s later (omega (arith, within)) here)
+      go (inr later) before = let here = before later (omega (arith, within)) in stays-else f i s here (silent i s later (omega (arith, within)) here)
 
 -- the answer to a publication
 pub ceases-ends : {A : Type 0} (e : ThreadEnd) → Ceases ≡ Finishes e → A
@@ -115,27 +104,14 @@ ceases-ends e is = absurd (never is)
     never : Ceases ≡ Finishes e → ⊥
     never is = cc
 
-none-some : {A : Type 0} (s : Taken) → ◌≡◌ {A = Option Taken} None (Some s) → A
-none-some s is = absurd (never is)
-  where
-    never : ◌≡◌ {A = Option Taken} None (Some s) → ⊥
-    never is = cc
-
 -- a publication is served, or the run has been ended
-published-or : (t : ℕ) (us : List Update) (r : Reading) (g : ℕ) (s s' : Taken) → (let x = served (Publish us) t r in noted (is_not_yet x.0) g s x.0 x.1) ≡ Some s' →
+published-or : (t : ℕ) (us : List Update) (r : Reading) (g : ℕ) (s s' : Taken) → replied (served (Publish us) t r) g s ≡ Some s' →
     (s' ≡ with_batch g us s) ⊎ (s'.answers ≡ s.answers ++ Got Reply.Stopped ∷ [])
-unfolding served
-published-or t us r g s s' is = halts (is_halted r.standing && not (is_leave (Publish us))) is
-  where
-    waits : (b : Bool) → (let x = add_if b (row (Publish us) t r) (Reply.NotYet (Publish us), None) in noted (is_not_yet x.0) g s x.0 x.1) ≡ Some s' →
-        (s' ≡ with_batch g us s) ⊎ (s'.answers ≡ s.answers ++ Got Reply.Stopped ∷ [])
-    waits true is = inl (sym (the-same (with_batch g us s) s' is))
-    waits false is = none-some s' is
-
-    halts : (b : Bool) → (let x = add_if b (Reply.Stopped, None) (served_while (Publish us) t r) in noted (is_not_yet x.0) g s x.0 x.1) ≡ Some s' →
-        (s' ≡ with_batch g us s) ⊎ (s'.answers ≡ s.answers ++ Got Reply.Stopped ∷ [])
-    halts true is = inr (sym (ap (λ s. s.answers) (the-same _ s' is)))
-    halts false is = waits (runs t r.standing) is
+published-or t us r g s s' is =
+    served-as (Publish us) t r (λ x. replied x g s ≡ Some s' → (s' ≡ with_batch g us s) ⊎ (s'.answers ≡ s.answers ++ Got Reply.Stopped ∷ []))
+    (λ is. inr (sym (ap (λ s. s.answers) (the-same _ s' is))))
+    (λ is. none-some s' is)
+    (λ may goes is. inl (sym (the-same (with_batch g us s) s' is))) is
 
 -- a machine that is to publish updates, with the answer that the run has stopped
 stops : (P : Program) (us : List Update) (es : List Element) (n : ℕ) (cases : List Case) (run : Run) (others : List Answer) → run.answers ≡ Got Reply.Stopped ∷ others →
@@ -154,13 +130,10 @@ module _ (f : Followed) (k : ℕ) (s : Taken) (stood : StandsAt f k s) (u : Upda
       one : AskedAt f k s (Ask (Publish (u ∷ us)))
       one = asked-at f k s (Ask (Publish (u ∷ us))) stood (ap wanted at)
 
-      first : (a b : Answer) → s.answers ++ a ∷ [] ≡ s.answers ++ b ∷ [] → a ≡ b
-      first a b is = let same : a ∷ [] ≡ b ∷ [] = append_cancel_left s.answers (a ∷ []) (b ∷ []) is in cc
-
       go : ((one.after ≡ with_batch one.place (u ∷ us) s) ⊎ (one.after.answers ≡ s.answers ++ Got Reply.Stopped ∷ [])) → (g : ℕ) × StandsAt f (suc k) (with_batch g (u ∷ us) s)
       go (inl is) = (one.place, subst (StandsAt f (suc k)) is one.stands)
       go (inr is) =
-          let answer : one.answer ≡ Got Reply.Stopped = first one.answer (Got Reply.Stopped) (sym one.takes_it ∙ is) in
+          let answer : one.answer ≡ Got Reply.Stopped = last-same s.answers s.answers one.answer (Got Reply.Stopped) (sym one.takes_it ∙ is) in
           let left : run.answers ≡ Got Reply.Stopped ∷ one.others = ap (λ m. m.run.answers) (sym at) ∙ one.left ∙ ap (λ a. a ∷ one.others) answer in
           let there : at_turn f (suc k) ≡ record { mode = Back Stopped; cases = cases; run = record run { answers = one.others } } =
           next-turn f k ∙ ap (turn f.program) at ∙ stops f.program (u ∷ us) es n cases run one.others left in

@@ -1,5 +1,6 @@
 -- A run that ends inside of a transaction or a snapshot.
-use Rattle.std.proofs.Common.{◌≡◌, ℕ, zero, suc, ◌+◌, ◌<◌, Bool, true, false, ◌||◌, ◌&&◌, not, All, List, [], ◌∷◌, ◌++◌, take, Option, Some, None, refl, sym, ap, ◌∙◌, subst, arith, append_assoc, append-nil}
+use Rattle.std.proofs.Common.{◌≡◌, ℕ, zero, suc, ◌+◌, ◌<◌, Bool, true, false, All, List, [], ◌∷◌, ◌++◌, take, Option, Some, None, refl, sym, ap, ◌∙◌, subst, arith, append_assoc, append-nil, ◌-◌, ◌≤◌, ◌⊎◌, inl, inr, eq-or-lt_of_le}
+use Rattle.std.proofs.lemmas.Bool.{cases_lt}
 use Rattle.std.proofs.lemmas.List.{append_cancel_left, append_cancel_right}
 use Rattle.std.proofs.lemmas.List.Elements.{All-nil, All-cons, All-append}
 use Rattle.plevent.specs.declared.request.ThreadEnd.{ThreadEnd}
@@ -8,11 +9,10 @@ use Rattle.plevent.specs.declared.request.Request.TheVariants.{Finish, HaltRun}
 use Rattle.plevent.specs.declared.request.Reply.{Reply}
 use Rattle.plevent.specs.declared.act.Act.{Act}
 use Rattle.plevent.specs.declared.act.Entry.{Entry}
-use Rattle.plevent.specs.Alive.{add_if}
 use Rattle.plevent.specs.Reading.{Reading, reading}
-use Rattle.plevent.specs.Rows.{is_halted, is_workers, is_leave, runs, finish_row, row, served_while, served}
-use Rattle.plevent.specs.Search.{Item, View, Ask, Answer, Next, Wants, Finishes, item_of_end, item_of}
-use Rattle.plhist.specs.Follows.{Taken, is_not_yet, noted, item_at, takes}
+use Rattle.plevent.specs.Rows.{finish_row, row, served}
+use Rattle.plevent.specs.Search.{Item, View, Ask, Answer, Next, Finishes, item_of_end, item_of, Seen, Got}
+use Rattle.plhist.specs.Follows.{Taken, is_not_yet, noted, item_at, takes, from_start, last_of, own}
 use Rattle.pltx.specs.Own.{any_open}
 use Rattle.plsearch.specs.Types.{Result, Stop, Fail, CutTo, Throw, Halted, Spent, Awaits, Stopped, Unfit, Run}
 use Rattle.plsearch.specs.Engine.{outs}
@@ -22,18 +22,17 @@ use Rattle.plsearch.proofs.Ends.{ends_ignore}
 use Rattle.pltransactions.specs.Laws.{turns, machine_of, wanted, IsLast, IsDone}
 use Rattle.pltransactions.proofs.Transactions.{search-by-turns, open-asks-nothing, open-answer-ends, nothing-left-open}
 use Rattle.pltransactions.proofs.Opening.{opens-with-view}
-use Rattle.plrunlaws.specs.Standing.{Followed, asks, answers, at_turn, started, StandsAt, AreFrom, act_of}
-use Rattle.plrunlaws.specs.Transactions.{IsCutShort, LastsToTheEnd, NothingOfItStays}
-use Rattle.plrunlaws.proofs.Items.{the-same, below-more, answer-is, item-adds, takes-first, takes-none}
+use Rattle.plrunlaws.specs.Standing.{Followed, asks, answers, at_turn, is_open, started, StandsAt, act_of, IsNoEnd, start_of, AreBelow}
+use Rattle.plrunlaws.specs.Transactions.{IsCutShort, LastsToTheEnd, NothingOfItStays, Lasts, EndsOrLasts}
+use Rattle.plrunlaws.proofs.Items.{none-some, the-same, below-more, answer-is, item-adds, takes-first, takes-none, takes-behind, takes-adds}
 use Rattle.plrunlaws.proofs.Machines.{turns-both, with_answers, final-rest}
-use Rattle.plrunlaws.proofs.Standing.{least-same, search-at, ends-with, short-of, asked-at, stands-somewhere, stays-else, started-below, entries-in-order}
+use Rattle.plrunlaws.proofs.Standing.{wants-ends, least-same, search-at, ends-with, short-of, asked-at, stands-somewhere, stays-else, started-below, entries-in-order}
 use Rattle.plrunlaws.proofs.Transactions.{reached, next-turn, last-final, viewed, ceases-ends}
-
-none-some : {A : Type 0} (s : Taken) → ◌≡◌ {A = Option Taken} None (Some s) → A
-none-some s is = absurd (never is)
-  where
-    never : ◌≡◌ {A = Option Taken} None (Some s) → ⊥
-    never is = cc
+use Rattle.plrunlaws.proofs.Served.{served-as}
+use Rattle.plrunlaws.proofs.Once.{ends-once}
+use Rattle.plrunlaws.proofs.Ends.{ends-with-its-end}
+use Rattle.plevent.specs.Alive.{Stamped}
+use Rattle.plrunlaws.proofs.Lists.{part-last, last-same, all-at}
 
 -- this act, or none
 abbrev pub IsThat : Act → Option (ℕ × Act) → Type 0
@@ -41,16 +40,7 @@ IsThat a None = Unit {0}
 IsThat a (Some x) = x.1 ≡ a
 
 pub served-ends : (a : Act) (q : Request) (t : ℕ) (r : Reading) → IsThat a (row q t r).1 → IsThat a (served q t r).1
-unfolding served
-served-ends a q t r h = halts (is_halted r.standing && not (is_leave q))
-  where
-    waits : (b : Bool) → IsThat a (add_if b (row q t r) (Reply.NotYet q, None)).1
-    waits true = h
-    waits false = tt
-
-    halts : (b : Bool) → IsThat a (add_if b (Reply.Stopped, None) (served_while q t r)).1
-    halts true = tt
-    halts false = waits (is_workers q || runs t r.standing)
+served-ends a q t r h = served-as q t r (λ x. IsThat a x.1) tt tt (λ may goes. h)
 
 finish-ends : (e : ThreadEnd) (t : ℕ) → IsThat (act_of e) (finish_row e t).1
 finish-ends ThreadEnd.True t = refl
@@ -149,12 +139,6 @@ comes-to-end f =
     let end = search-by-turns f.program f.limit f.limit (answers f) in
     (end.0, end.1, end.2, ap (λ steps. turns f.program end.0 (machine_of f.program steps (answers f))) (sym (least-same f.limit)) ∙ end.3)
 
-wants-ends : {A : Type 0} (q : Item) (e : ThreadEnd) → Wants q ≡ Finishes e → A
-wants-ends q e is = absurd (never is)
-  where
-    never : Wants q ≡ Finishes e → ⊥
-    never is = cc
-
 -- where a result comes to the outside and something is open, there was no step left, or the run was ended
 short-end : (r : Result) (e : ThreadEnd) → (IsDone r → ⊥) → next_of r ≡ Finishes e → IsCutShort e
 short-end Stop e open_now is = absurd (open_now tt)
@@ -226,6 +210,110 @@ module _ (f : Followed) (k : ℕ) (lasts : LastsToTheEnd f k) (begun : Taken) wh
       go None none more = let same : suc i + n ≡ i + suc n = omega arith in more (stays-else f i begun stood none) (ap (at_turn f) same ∙ is)
       go (Some q) asked more = halts i q after stood asked
 
+-- what begins has its end, or something is open to the end of the run
+scans : (f : Followed) (k : ℕ) → is_open f k ≡ false → (n j : ℕ) (r : Result) (run : Run) → k < j → ((i : ℕ) → k < i → i ≤ j → is_open f i ≡ true) →
+    at_turn f (j + n) ≡ record { mode = Back r; cases = []; run = run } → ((j : ℕ) × Lasts f k j) ⊎ LastsToTheEnd f k
+scans f k before zero j r run longer between is = inr (record { before = before; behind = behind })
+  where
+    over : at_turn f j ≡ record { mode = Back r; cases = []; run = run }
+    over = let same : j ≡ j + 0 = omega arith in ap (at_turn f) same ∙ is
+
+    later : (i : ℕ) → j ≤ i → is_open f i ≡ true
+    later i le =
+        let far : j + (i - j) ≡ i = omega (arith, le) in
+        ap (is_open f) (sym far) ∙ ap (λ m. any_open m.run.local.own) (over-late f (i - j) j r run over ∙ sym over) ∙ between j longer (omega arith)
+
+    behind : (i : ℕ) → k < i → is_open f i ≡ true
+    behind i after = go (cases_lt j i)
+      where
+        go : ((j < i) ⊎ (i ≤ j)) → is_open f i ≡ true
+        go (inl lt) = later i (omega (arith, lt))
+        go (inr le) = between i after le
+scans f k before (suc n) j r run longer between is = go (is_open f (suc j)) refl (scans f k before n (suc j) r run (omega (arith, longer)))
+  where
+    Ends : Type 0
+    Ends = ((j : ℕ) × Lasts f k j) ⊎ LastsToTheEnd f k
+
+    further : is_open f (suc j) ≡ true → (i : ℕ) → k < i → i ≤ suc j → is_open f i ≡ true
+    further now i after within = one-of (eq-or-lt_of_le within)
+      where
+        one-of : ((i ≡ suc j) ⊎ (i < suc j)) → is_open f i ≡ true
+        one-of (inl same) = ap (is_open f) same ∙ now
+        one-of (inr lt) = between i after (omega (arith, lt))
+
+    go : (b : Bool) → is_open f (suc j) ≡ b → (((i : ℕ) → k < i → i ≤ suc j → is_open f i ≡ true) → at_turn f (suc j + n) ≡ record { mode = Back r; cases = []; run = run } → Ends) → Ends
+    go false closed more = inl (j, record { longer = longer; before = before; between = between; behind = closed })
+    go true now more = let same : suc j + n ≡ j + suc n = omega arith in more (further now) (ap (at_turn f) same ∙ is)
+
+pub ends-or-lasts : EndsOrLasts
+ends-or-lasts f k before now =
+    let end = comes-to-end f in
+    let late : end.0 + suc k ≡ suc k + end.0 = omega arith in
+    scans f k before end.0 (suc k) end.1 end.2 (omega arith) first (ap (at_turn f) (sym late) ∙ over-late f (suc k) end.0 end.1 end.2 end.3)
+  where
+    first : (i : ℕ) → k < i → i ≤ suc k → is_open f i ≡ true
+    first i after within = let same : i ≡ suc k = omega (arith, after, within) in ap (is_open f) same ∙ now
+
+-- what tells of an end is the last entry
+ends-it : (e : ThreadEnd) (x : Act) → x ≡ act_of e → IsNoEnd x → ⊥
+ends-it e x is no_end = go e (subst IsNoEnd is no_end)
+  where
+    go : (e : ThreadEnd) → IsNoEnd (act_of e) → ⊥
+    go ThreadEnd.True h = h
+    go ThreadEnd.False h = h
+    go (ThreadEnd.Exception b) h = h
+    go ThreadEnd.Budget h = h
+    go (ThreadEnd.Halt n) h = h
+
+module _ (f : Followed) where
+  abbrev its_end : ℕ × Act
+  its_end = (f.ended.asked.final, act_of f.came_to)
+
+  only-end : (front later : List (ℕ × Act)) → own f.run.thread f.journal ≡ front ++ later → All (λ x. x.1 ≡ act_of f.came_to) later → (later ≡ []) ⊎ (later ≡ its_end ∷ [])
+  only-end front later owns ends = go (part-last front later (started f f.ended.asked.before.made) its_end (sym owns ∙ ends-with-its-end f))
+    where
+      go : ((later ≡ []) ⊎ ((us : List (ℕ × Act)) × (started f f.ended.asked.before.made ≡ front ++ us) × (later ≡ us ++ its_end ∷ []))) → (later ≡ []) ⊎ (later ≡ its_end ∷ [])
+      go (inl none) = inl none
+      go (inr some) = rest some.0 some.1 some.2
+        where
+          rest : (us : List (ℕ × Act)) → started f f.ended.asked.before.made ≡ front ++ us → later ≡ us ++ its_end ∷ [] → (later ≡ []) ⊎ (later ≡ its_end ∷ [])
+          rest [] all is = inr is
+          rest (u ∷ us) all is =
+              let tells : u.1 ≡ act_of f.came_to = all-at (λ x. x.1 ≡ act_of f.came_to) [] u (us ++ its_end ∷ []) (subst (All (λ x. x.1 ≡ act_of f.came_to)) is ends) in
+              let other : IsNoEnd u.1 = all-at (λ x. IsNoEnd x.1) front u us (subst (All (λ x. IsNoEnd x.1)) all (ends-once f)) in
+              absurd (ends-it f.came_to u.1 tells other)
+
+  -- an item that is not the last stands before the last
+  before-last : (k : ℕ) (s : Taken) → StandsAt f k s → (s ≡ f.ended.asked.last → ⊥) → s.low ≤ f.ended.asked.final
+  before-last k s stood other = go (part-last stood.earlier stood.later f.ended.asked.earlier f.ended.asked.final (sym stood.split ∙ f.ended.asked.split))
+    where
+      low : f.ended.asked.before.low ≤ f.ended.asked.final
+      low = (answer-is f.journal f.run.thread (Ask (last_of f.came_to)) f.ended.asked.final f.ended.asked.before f.ended.asked.last f.ended.asked.finished).0
+
+      go : ((stood.later ≡ []) ⊎ ((us : List ℕ) × (f.ended.asked.earlier ≡ stood.earlier ++ us) × (stood.later ≡ us ++ f.ended.asked.final ∷ []))) → s.low ≤ f.ended.asked.final
+      go (inl none) = absurd (other (takes-none (asks f) f.journal f.run.thread s f.ended.asked.last (subst (λ gs. takes (asks f) f.journal f.run.thread gs s ≡ Some f.ended.asked.last) none stood.rest)))
+      go (inr some) =
+          let start = from_start (start_of f) in
+          let items = subst (λ gs. takes (asks f) f.journal f.run.thread gs start ≡ Some f.ended.asked.before) some.1 f.ended.asked.items in
+          let rises = (takes-adds (asks f) f.journal f.run.thread some.0 s f.ended.asked.before (takes-behind (asks f) f.journal f.run.thread stood.earlier some.0 start s f.ended.asked.before stood.so_far items)).rises in
+          let le = low in
+          omega (arith, rises, le)
+
+  one-entry : (front later : List (ℕ × Act)) (low : ℕ) → own f.run.thread f.journal ≡ front ++ later → All (λ x. x.1 ≡ act_of f.came_to) later → AreBelow low front → low ≤ f.ended.asked.final →
+      own f.run.thread f.journal ≡ front ++ its_end ∷ []
+  one-entry front later low owns ends below le = go (only-end front later owns ends)
+    where
+      go : ((later ≡ []) ⊎ (later ≡ its_end ∷ [])) → own f.run.thread f.journal ≡ front ++ its_end ∷ []
+      go (inr is) = owns ∙ ap (λ l. front ++ l) is
+      go (inl none) =
+          let made = started f f.ended.asked.before.made in
+          let all : made ++ its_end ∷ [] ≡ front = sym (ends-with-its-end f) ∙ owns ∙ ap (λ l. front ++ l) none ∙ append-nil front in
+          let lt : f.ended.asked.final < low = all-at (λ x. x.0 < low) made its_end [] (subst (AreBelow low) (sym all) below) in
+          absurd (omega (arith, lt, le))
+
+seen-done : (g : ℕ) (us : List Stamped) → Seen g us ≡ Got Reply.Done → ⊥
+seen-done g us is = cc
+
 pub nothing-of-it-stays : NothingOfItStays
 nothing-of-it-stays f k lasts =
     let here = stands-somewhere f k in
@@ -242,18 +330,20 @@ nothing-of-it-stays f k lasts =
     let found = looks f k lasts begun turned.0 (suc k) turned.1 turned.2 (omega arith) one.stands (ap (at_turn f) (sym late) ∙ over-late f (suc k) turned.0 turned.1 turned.2 turned.3) in
     let ends = found.1 in
     let same : ends.new ≡ part.later =
-    append_cancel_left (started f begun.made) ends.new part.later (sym (ap (started f) ends.made) ∙ sym f.ended.asked.entries ∙ part.entries) in record {
+    append_cancel_left (started f begun.made) ends.new part.later (sym (ap (started f) ends.made) ∙ sym f.ended.asked.entries ∙ part.entries) in
+    let below = below-more before.low one.place (started f before.made) view.behind (started-below f k before here.1) in
+    let goes_on : begun ≡ f.ended.asked.last → ⊥ =
+    λ is. seen-done one.place (reading (take one.place f.journal)).updates (last-same before.answers f.ended.asked.before.answers (Seen one.place (reading (take one.place f.journal)).updates) (Got Reply.Done) (sym view.answers ∙ ap (λ s. s.answers) is ∙ f.ended.asked.told)) in
+    let behind : one.place ≤ f.ended.asked.final = subst (λ g. g ≤ f.ended.asked.final) view.low (before-last f (suc k) begun one.stands goes_on) in record {
       before = before;
       place = one.place;
       begun = begun;
       stood = here.1;
       views = one.answered;
-      later = part.later;
-      entries = part.entries ∙ ap (λ l. l ++ part.later) made;
-      below = below-more before.low one.place (started f before.made) view.behind (started-below f k before here.1);
-      from = subst (λ g. AreFrom g part.later) view.low part.from;
+      entries = one-entry f (started f before.made) part.later one.place (part.entries ∙ ap (λ l. l ++ part.later) made) (subst (All (λ x. x.1 ≡ act_of f.came_to)) same ends.ends) below behind;
+      below = below;
+      behind = behind;
       short = found.0;
-      ends = subst (All (λ x. x.1 ≡ act_of f.came_to)) same ends.ends;
     }
 
-pub ruleset laws = (nothing-of-it-stays)
+pub ruleset laws = (ends-or-lasts, nothing-of-it-stays)

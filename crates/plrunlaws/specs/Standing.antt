@@ -6,7 +6,8 @@ use Rattle.plevent.specs.declared.act.Act.{Act}
 use Rattle.plevent.specs.declared.act.Entry.{Entry}
 use Rattle.plevent.specs.Search.{Item, Answer, Next}
 use Rattle.plhist.specs.declared.history.Run.{Run}
-use Rattle.plhist.specs.Follows.{own, Taken, answer_at, takes, from_start, asks_of, HasEnded}
+use Rattle.plhist.specs.declared.history.RunEnd.{RunEnd}
+use Rattle.plhist.specs.Follows.{own, Taken, answer_at, takes, from_start, asks_of, HasEnded, Follows}
 use Rattle.pltx.specs.Own.{any_open}
 use Rattle.plprogram.specs.Program.{Program}
 use Rattle.plsearch.specs.Search.{search_of}
@@ -21,6 +22,11 @@ pub record Followed : Type 0 where
   pub run : Run
   pub came_to : ThreadEnd
   pub ended : HasEnded (search_of program limit) limit journal run came_to
+
+-- each run that follows that search is one, if it came to an end of its own
+abbrev pub FollowsToItsEnd : Type 0
+FollowsToItsEnd = (P : Program) (limit : ℕ) (h : List Entry) (run : Run) (e : ThreadEnd) → Follows (search_of P limit) limit h run → run.«end» ≡ RunEnd.Ended e →
+    (f : Followed) × (f.program ≡ P) × (f.limit ≡ limit) × (f.journal ≡ h) × (f.run ≡ run) × (f.came_to ≡ e)
 
 -- what it asks after some answers, and all answers that it got
 abbrev pub asks : Followed → List Answer → Next
@@ -101,3 +107,12 @@ act_of e = Act.End e
 -- the last of them tells of its end, at the last of the places
 abbrev pub EndsWithItsEnd : Type 0
 EndsWithItsEnd = (f : Followed) → own f.run.thread f.journal ≡ started f f.ended.asked.before.made ++ (f.ended.asked.final, act_of f.came_to) ∷ []
+
+-- and no other of them tells of an end
+abbrev pub IsNoEnd : Act → Type 0
+IsNoEnd (Act.End e) = ⊥
+IsNoEnd (Act.Halt n) = ⊥
+IsNoEnd a = Unit {0}
+
+abbrev pub EndsOnce : Type 0
+EndsOnce = (f : Followed) → All (λ x. IsNoEnd x.1) (started f f.ended.asked.before.made)

@@ -1,6 +1,5 @@
 -- What a transaction or a snapshot does to the journal of a run that follows main's search.
-use Rattle.std.specs.Prelude.{◌≡◌, ℕ, suc, ◌<◌, ◌≤◌, true, false, List, [], ◌∷◌, ◌++◌, take, Some}
-use Rattle.std.specs.List.{All}
+use Rattle.std.specs.Prelude.{◌≡◌, ℕ, suc, ◌<◌, ◌≤◌, ◌⊎◌, true, false, List, [], ◌∷◌, ◌++◌, take, Some}
 use Rattle.plevent.specs.declared.request.ThreadEnd.{ThreadEnd}
 use Rattle.plevent.specs.declared.request.Request.{Request}
 use Rattle.plevent.specs.declared.request.Reply.{Reply}
@@ -77,20 +76,22 @@ pub record LastsToTheEnd (f : Followed) (k : ℕ) : Type 0 where
   pub before : is_open f k ≡ false
   pub behind : (i : ℕ) → k < i → is_open f i ≡ true
 
--- A run ends inside of one where it has no step left, or ends the run there. Nothing of it is published then: the thread's entries from the
--- place of the view on tell of that end.
+-- each that begins has its end, or the run ends inside of it
+abbrev pub EndsOrLasts : Type 0
+EndsOrLasts = (f : Followed) (k : ℕ) → is_open f k ≡ false → is_open f (suc k) ≡ true → ((j : ℕ) × Lasts f k j) ⊎ LastsToTheEnd f k
+
+-- A run ends inside of one where it has no step left, or ends the run there. Nothing of it is published then: from the place of the view on
+-- the thread has one entry, which tells of that end.
 pub record EndsInside (f : Followed) (k : ℕ) : Type 0 where
   pub before : Taken
   pub place : ℕ
   pub begun : Taken
   pub stood : StandsAt f k before
   pub views : IsAnswered f View place before begun
-  pub later : List (ℕ × Act)
-  pub entries : own f.run.thread f.journal ≡ started f before.made ++ later
+  pub entries : own f.run.thread f.journal ≡ started f before.made ++ (f.ended.asked.final, act_of f.came_to) ∷ []
   pub below : AreBelow place (started f before.made)
-  pub from : AreFrom place later
+  pub behind : place ≤ f.ended.asked.final
   pub short : IsCutShort f.came_to
-  pub ends : All (λ x. x.1 ≡ act_of f.came_to) later
 
 abbrev pub NothingOfItStays : Type 0
 NothingOfItStays = (f : Followed) (k : ℕ) → LastsToTheEnd f k → EndsInside f k

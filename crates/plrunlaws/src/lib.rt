@@ -7,8 +7,8 @@
 #![tactic(auto)]
 
 ghost use Rattle.plrunlaws.specs.Batches.{EachBatchIsAsked};
-ghost use Rattle.plrunlaws.specs.Standing.{StandsSomewhere, StandsOnce, AsksInTurn, StaysElse, EntriesInOrder, EndsWithItsEnd};
-ghost use Rattle.plrunlaws.specs.Transactions.{TransactionsStandAlone, NothingOfItStays, EachBatchInTurn};
+ghost use Rattle.plrunlaws.specs.Standing.{FollowsToItsEnd, StandsSomewhere, StandsOnce, AsksInTurn, StaysElse, EntriesInOrder, EndsWithItsEnd, EndsOnce};
+ghost use Rattle.plrunlaws.specs.Transactions.{TransactionsStandAlone, EndsOrLasts, NothingOfItStays, EachBatchInTurn};
 
 /// Each batch behind the first entry of a legal journal is the act of a publication, or of the erasure of one clause that was alive.
 #[tactic(auto, using(crate::proofs::Batches::laws))]
@@ -16,9 +16,11 @@ pub fn each_batch_is_asked()
     ensures { EachBatchIsAsked }
 {}
 
-/// At each turn of its machine a run stands at one place of its journal: its items so far are those whose answers the machine has taken.
+/// Each run that follows main's search to an end of its own is one that the laws here are about. At each turn of its machine it stands at
+/// one place of its journal: its items so far are those whose answers the machine has taken.
 #[tactic(auto, using(crate::proofs::Standing::laws))]
 pub fn stands_at_each_turn()
+    ensures follows { FollowsToItsEnd }
     ensures somewhere { StandsSomewhere }
     ensures once { StandsOnce }
 {}
@@ -30,11 +32,12 @@ pub fn asks_in_turn()
     ensures stays { StaysElse }
 {}
 
-/// The entries that a thread made by a turn stand before all that it makes later, and the last of all tells of its end.
+/// The entries that a thread made by a turn stand before all that it makes later, and the last of all tells of its end, which no other does.
 #[tactic(auto, using(crate::proofs::Standing::laws))]
 pub fn entries_in_order()
     ensures order { EntriesInOrder }
     ensures ends { EndsWithItsEnd }
+    ensures alone { EndsOnce }
 {}
 
 /// From the view with which an outermost transaction or snapshot begins to its end, the journal gets no entry of its thread; and if it
@@ -44,10 +47,12 @@ pub fn transactions_stand_alone()
     ensures { TransactionsStandAlone }
 {}
 
-/// Where a run ends inside of a transaction or a snapshot, its thread makes no batch from the view on: what it still makes ends it.
+/// An outermost transaction or snapshot has its end, or the run ends inside of it: because it has no step left, or ends the run there.
+/// From the view on its thread then makes no entry but those that tell of that end.
 #[tactic(auto, using(crate::proofs::Unended::laws))]
 pub fn nothing_of_it_stays()
-    ensures { NothingOfItStays }
+    ensures either { EndsOrLasts }
+    ensures inside { NothingOfItStays }
 {}
 
 /// Each batch of a run's thread is what a turn asks at which nothing is open: a publication, or the erasure of one clause.

@@ -97,7 +97,7 @@ finishes P zero m low = absurd (never low)
     never low = omega (arith, low)
 finishes P (suc l) m low = by-weight P (left m.run) (λ x less. finishes P l x (omega (arith, less, low))) (suc (weight m)) m refl (omega arith)
 
-turns-rest : (P : Program) (k : ℕ) (m : Machine) → Rest P m ≡ Rest P (turns P k m)
+pub turns-rest : (P : Program) (k : ℕ) (m : Machine) → Rest P m ≡ Rest P (turns P k m)
 turns-rest P zero m = refl
 turns-rest P (suc k) m = Rest-turn P m ∙ turns-rest P k (turn P m)
 
