@@ -28,11 +28,7 @@ pub struct Next<'a> {
 
 /// The node whose bytes begin the bytes, where it may follow nodes of a term in which so many variables were seen: it does not if it is a variable that
 /// leaves out a number.
-pub fn next_item(
-    alloc: Global,
-    bytes: &[u8],
-    seen: u64,
-) -> Result<Option<Next<'_>>, AllocError>
+pub fn next_item(alloc: Global, bytes: &[u8], seen: u64) -> Result<Option<Next<'_>>, AllocError>
     requires { seen < 2 ^ 63 }
     ensures { IfOk result (FindsNext bytes.now seen) }
 {

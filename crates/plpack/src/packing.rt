@@ -40,11 +40,7 @@ fn put_node(out: &mut Vec<u8>, seen: &mut Numbers, node: &Node) -> Result<(), Al
 }
 
 /// Adds the item of a variable, with its place among those seen, which it is one of from then on.
-pub fn put_variable(
-    out: &mut Vec<u8>,
-    seen: &mut Numbers,
-    variable: u64,
-) -> Result<(), AllocError>
+pub fn put_variable(out: &mut Vec<u8>, seen: &mut Numbers, variable: u64) -> Result<(), AllocError>
     ensures bytes { OnOk result (out.new.items ≡ out.old.items ++ item (Var (place variable seen.old))) }
     ensures seen { OnOk result (seen.new ≡ added seen.old variable) }
 {

@@ -3,3 +3,4 @@ pub mod Nesting
 pub mod Closing
 pub mod Adding
 pub mod Steps
+pub mod Shifting

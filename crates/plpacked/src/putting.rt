@@ -1,7 +1,8 @@
 //! Packed bytes to values.
-ghost use Rattle.std.specs.Prelude.{◌≡◌, ◌≤◌, ℕ, IfErr, IfOk, OnErr};
+ghost use Rattle.std.specs.Prelude.{◌≡◌, ◌≤◌, ℕ, take, IfErr, IfOk, OnErr};
+ghost use Rattle.plpack.specs.Packing.{packed};
 ghost use Rattle.plpack.specs.Faults.{Tells, TellsNone};
-ghost use Rattle.plcells.specs.Store.{renamed, IsFresh, Keeps, Preserves};
+ghost use Rattle.plcells.specs.Store.{renamed, value, IsFresh, Keeps, Preserves};
 ghost use Rattle.plpacked.specs.Putting.{PutsPacked};
 
 use crate::unfinished::{Stage, Unfinished};
@@ -66,6 +67,10 @@ pub fn put_packed(
     requires fresh { (n : ℕ) → number ≤ n → IsFresh heap.old n }
     ensures ok { IfOk result (PutsPacked heap.old heap.new bytes.now number) }
     ensures preserves { Preserves heap.old heap.new }
+    ensures boundary { heap.new.boundary ≡ heap.old.boundary }
+
+    // Packed again it is the same bytes.
+    ensures again { IfOk result (λ put. packed (value heap.new put.value) ≡ take put.size bytes.now) }
 
     // The place is that of the first bad item, and then no term's bytes begin the bytes.
     ensures fault { IfErr result (Tells bytes.now) }

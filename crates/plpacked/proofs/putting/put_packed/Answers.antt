@@ -4,6 +4,8 @@ use Rattle.plcells.specs.Store.{Preserves, bounded_by}
 use Rattle.plcells.proofs.Marking.{mark-cells, marked-heap, given-back, own-heap, preserves-under}
 use Rattle.plcells.proofs.Renaming.{Preserves-renamed}
 use Rattle.plpacked.specs.Putting.{PutsPacked}
+use Rattle.plpack.specs.Packing.{packed}
+use Rattle.plpacked.proofs.Shifting.{packed-shifted}
 use Rattle.plpacked.proofs.Steps.{packed-under}
 use Rattle.plpacked.proofs.putting.put_packed.Goals as goal
 
@@ -26,6 +28,14 @@ returns-in-Ok-clause-ok c =
     let made = subst (λ s. PutsPacked s new bytes n put) c.mark-mark.ensures.same c.in-Ok.ensures.ok in
     let whole = packed-under h new (length h.cells) (omega (arith, c.boundary-boundary.ensures.is, c.boundary-boundary.ensures.within)) bytes n put made in
     subst (λ s. PutsPacked h s bytes n put) (sym (c.forget.ensures ∙ ap (bounded_by new) c.boundary-boundary.ensures.is)) whole
+
+pub returns-in-Ok-clause-boundary : goal.returns-in-Ok-clause-boundary
+returns-in-Ok-clause-boundary c = ap (λ s. s.boundary) c.forget.ensures ∙ c.boundary-boundary.ensures.is
+
+pub returns-in-Ok-clause-again : goal.returns-in-Ok-clause-again
+returns-in-Ok-clause-again c =
+    let p = returns-in-Ok-clause-ok c in
+    ap packed p.is ∙ packed-shifted c.args.number p.term ∙ sym p.own
 
 pub returns-in-Ok-clause-preserves : goal.returns-in-Ok-clause-preserves
 returns-in-Ok-clause-preserves c =
