@@ -41,4 +41,5 @@ returns c = let w = c.args.world.now in record {
   first = tt;
   over = not_begun c.args.program.now.first w.journal c.step.new.self.journal c.in_ok-number.field-0
       c.requires.at (c.in_ok-number.ensures.reply ∙ replies-in w 0 Request.Start c.requires.serves) (grows-in w c.step.new.self 1 0 Request.Start c.requires.serves c.in_ok-number.ensures.entry) c.in_default.not-Started;
+  serves = c.step.ensures.stays ∙ c.requires.serves;
 }

@@ -10,8 +10,8 @@ if_both : {T E A : Type 0} {B C : T → Type 0} (r : Result T E) → OnOk r A �
 if_both (Ok x) a b f = f x a b
 if_both (Err e) a b f = tt
 
-pub returns-in-Some : goal.returns-in-Some
-returns-in-Some c =
+pub returns-in-Some-clause-history : goal.returns-in-Some-clause-history
+returns-in-Some-clause-history c =
     let P = c.args.program.now in
     let r = c.turn.new.running in
     let s = r.solver in
