@@ -10,7 +10,7 @@ use Rattle.plevent.specs.declared.update.Living.{Living}
 use Rattle.plevent.specs.Alive.{clauses_of, Stamped}
 use Rattle.pltx.specs.Own.{State as Own}
 use Rattle.plprogram.specs.Program.{Program}
-use Rattle.plsearch.specs.Types.{Fail, Case, Choice, Element, Erasing, Place, Local, Move, Run, ToRetrieve}
+use Rattle.plsearch.specs.Types.{Asking, Fail, Case, Choice, Element, Erase, Place, Local, Move, Run, ToRetrieve}
 use Rattle.plsearch.specs.Machines.Machine.{At, Back, Rest, move, turn}
 use Rattle.plsearch.specs.Lists.{bind_goals}
 use Rattle.plsearch.specs.Moves.{resolve, choose}
@@ -139,7 +139,7 @@ tried-erased d n t rest x = go (unify t (shift n (as_fact x.clause).head))
   where
     go : (o : Option (ℕ → Tree)) →
         option_map (place_asked (Some x.name)) (option_map (λ σ. record { goals = bind_goals σ rest; variables = n + x.clause.variables }) o)
-        ≡ option_map (λ σ. record { goals = bind_goals σ (Erasing x.name ∷ rest); variables = n + x.clause.variables }) o
+        ≡ option_map (λ σ. record { goals = bind_goals σ (Asking (Erase x.name) ∷ rest); variables = n + x.clause.variables }) o
     go None = refl
     go (Some σ) = refl
 

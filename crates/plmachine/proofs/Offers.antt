@@ -12,7 +12,7 @@ use Rattle.plprogram.specs.Program.{Program}
 use Rattle.plprogram.specs.declared.settings.Settings.{Settings}
 use Rattle.plbuiltin.specs.Solution.{Solution, Gives, fails, unifies as unified_to, writes, sets, decides}
 use Rattle.plbuiltin.specs.Terms.{is_none}
-use Rattle.plsearch.specs.Types.{Fail, Kind, Commit, Never, Until, Collect, Transact, Lookup, ToCall, ToRetrieve, ToRetract, ToRetractAll, Look, Begin, Await, Goal, Marker, Raise, Asking, Erasing, Element, Local, Move, Give}
+use Rattle.plsearch.specs.Types.{Fail, Kind, Commit, Never, Until, Collect, Transact, Lookup, ToCall, ToRetrieve, ToRetract, ToRetractAll, Look, Begin, Await, Erase, Goal, Marker, Raise, Asking, Element, Local, Move, Give}
 use Rattle.plsearch.specs.Lists.{bind_lookup, bind_kind, bind_goals}
 use Rattle.plsearch.specs.Machines.Machine.{At}
 use Rattle.plsearch.specs.Moves.{go_on, choose}
@@ -86,7 +86,7 @@ bind-goals-var (Raise b ∷ es) = ap (λ us. Raise b ∷ us) (bind-goals-var es)
 bind-goals-var (Asking (Look u) ∷ es) = ap₂ (λ u us. Asking (Look u) ∷ us) (bind-lookup-var u) (bind-goals-var es)
 bind-goals-var (Asking (Begin i g) ∷ es) = ap₂ (λ u us. Asking (Begin i u) ∷ us) (bind-var g) (bind-goals-var es)
 bind-goals-var (Asking (Await q next) ∷ es) = ap (λ us. Asking (Await q next) ∷ us) (bind-goals-var es)
-bind-goals-var (Erasing x ∷ es) = ap (λ us. Erasing x ∷ us) (bind-goals-var es)
+bind-goals-var (Asking (Erase x) ∷ es) = ap (λ us. Asking (Erase x) ∷ us) (bind-goals-var es)
 
 -- one that is true once it has written
 pub offer-writes : (bytes : List ℕ) (settings : Settings) (p : Indicator) (es : List Element) (n : ℕ) (w : Local) →

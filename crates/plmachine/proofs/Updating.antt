@@ -17,7 +17,7 @@ use Rattle.plviews.specs.Layers.{Grows, Layered}
 use Rattle.plviews.proofs.Layering.{all-made-grows, made-grows}
 use Rattle.plprogram.specs.Program.{Program}
 use Rattle.plevent.specs.declared.request.Request.TheVariants.{EraseOne}
-use Rattle.plsearch.specs.Types.{Asks, Element, End, Erasing, Fail, Give, Local, Meeting, Move, Pass}
+use Rattle.plsearch.specs.Types.{Asking, Asks, Element, End, Fail, Give, Local, Meeting, Move, Pass, Question}
 use Rattle.plsearch.specs.Moves.{go_on, publish, publishing}
 use Rattle.plsearch.specs.Machines.Machine.{At, Rest, meets, move, turn}
 use Rattle.plsearch.specs.Rows.{erasing as erasing_row, meet}
@@ -124,13 +124,13 @@ module _ (P : Program) (v : Views) (left : ℕ) (answers : List Answer) (s : Rea
   row-is : (b : Bool) → gone ≡ b → erasing_row x (local_of s) ≡ after-row b
   row-is b e = ap (λ (open_now : Bool). if not open_now then Asks (Ask (EraseOne x)) else after-row gone) some ∙ ap after-row e
 
-  turn-is : (b : Bool) → gone ≡ b → turn P (erasing P v left answers s x es) ≡ meets P (cases_in P v s) (Erasing x) es s.stack.env.count (run_in v left answers s) (after-row b)
+  turn-is : (b : Bool) → gone ≡ b → turn P (erasing P v left answers s x es) ≡ meets P (cases_in P v s) (Asking (Question.Erase x)) es s.stack.env.count (run_in v left answers s) (after-row b)
   unfolding turn meet
-  turn-is b e = ap (meets P (cases_in P v s) (Erasing x) es s.stack.env.count (run_in v left answers s)) (row-is b e)
+  turn-is b e = ap (meets P (cases_in P v s) (Asking (Question.Erase x)) es s.stack.env.count (run_in v left answers s)) (row-is b e)
 
 -- a move that is made a turn later
 next-turn : (P : Program) (s new : Reached) (x : ClauseName) (es : List Element) (m : Move) → Moved P s new m →
-    ((v : Views) (left : ℕ) (answers : List Answer) → turn P (erasing P v left answers s x es) ≡ move (cases_in P v s) (run_in v left answers s) m) → Moved P s new (go_on (Erasing x ∷ es) s.stack.env.count (local_of s))
+    ((v : Views) (left : ℕ) (answers : List Answer) → turn P (erasing P v left answers s x es) ≡ move (cases_in P v s) (run_in v left answers s) m) → Moved P s new (go_on (Asking (Question.Erase x) ∷ es) s.stack.env.count (local_of s))
 next-turn P s new x es m moved turns = record {
   plain = moved.plain;
   moved = record {
@@ -163,7 +163,7 @@ module _ (P : Program) (s new : Reached) (x : ClauseName) (l : Continuation) whe
       gone-turns : (v : Views) (left : ℕ) (answers : List Answer) → turn P (erasing P v left answers s x (goals_of s.stack l)) ≡ move (cases_in P v s) (run_in v left answers s) (Give Fail (local_of s))
       gone-turns v left answers = turn-is P v left answers s x (goals_of s.stack l) some true (gone-when _ (sym was ∙ answer))
 
-      pub gone-moved : Moved P s new (go_on (Erasing x ∷ goals_of s.stack l) s.stack.env.count (local_of s))
+      pub gone-moved : Moved P s new (go_on (Asking (Question.Erase x) ∷ goals_of s.stack l) s.stack.env.count (local_of s))
       gone-moved = next-turn P s new x (goals_of s.stack l) (Give Fail (local_of s)) (gave P s new outcomes.Fail tt gone-same) gone-turns
 
       pub gone-becomes : ErasesBefore P true s new x (goals_of s.stack l)
@@ -177,7 +177,7 @@ module _ (P : Program) (s new : Reached) (x : ClauseName) (l : Continuation) whe
           turn P (erasing P v left answers s x (goals_of s.stack l)) ≡ move (cases_in P v s) (run_in v left answers s) (go_on (goals_of s.stack l) s.stack.env.count (record (local_of s) { own = made (Erase x) s.layer.own }))
       erased-turns v left answers = turn-is P v left answers s x (goals_of s.stack l) some false (erased-when _ (sym now_is ∙ answer))
 
-      pub erased-moved : Moved P s new (go_on (Erasing x ∷ goals_of s.stack l) s.stack.env.count (local_of s))
+      pub erased-moved : Moved P s new (go_on (Asking (Question.Erase x) ∷ goals_of s.stack l) s.stack.env.count (local_of s))
       erased-moved =
           next-turn P s new x (goals_of s.stack l) _ (grows-on P s (record s.layer { own = made (Erase x) s.layer.own }) l (made-grows (Erase x) s.layer.own) refl tied stay new is) erased-turns
 

@@ -19,7 +19,7 @@ use Rattle.plviews.specs.Lookups.{rest_at}
 use Rattle.plviews.specs.Views.{seen_in, sight_in, AreOrdered, Sight}
 use Rattle.plviews.specs.declared.view.View.{View}
 use Rattle.plprogram.specs.Program.{Program}
-use Rattle.plsearch.specs.Types.{Result, Stop, Fail, Throw, Halted, Spent, Element, Asking, Erasing, Lookup, ToCall, ToRetrieve, ToRetract, ToRetractAll, Look, Begin, Await, GoesOn, Ends, Case, Local, Move, Run}
+use Rattle.plsearch.specs.Types.{Result, Stop, Fail, Throw, Halted, Spent, Element, Asking, Lookup, ToCall, ToRetrieve, ToRetract, ToRetractAll, Question, Look, Begin, Await, GoesOn, Ends, Case, Local, Move, Run}
 use Rattle.plsearch.specs.Types.{Then as Following}
 use Rattle.plsearch.specs.Lookups.{clause_term, has_head}
 use Rattle.plsearch.specs.Moves.{publish}
@@ -67,12 +67,15 @@ lookup_of h (lookups.ToRetrieve v w) = ToRetrieve (value h v) (value h w)
 lookup_of h (lookups.ToRetract v w) = ToRetract (value h v) (value h w)
 lookup_of h (lookups.ToRetractAll v) = ToRetractAll (value h v)
 
+abbrev pub question_of : Store → Asked → Question
+question_of h (questions.Look u) = Look (lookup_of h u)
+question_of h (questions.Begin i v) = Begin i (value h v)
+question_of h (questions.Await q next) = Await q (then_of next)
+question_of h (questions.Erase x) = Question.Erase x
+
 -- the element that asks
 abbrev pub element_of : Store → Asked → Element
-element_of h (questions.Look u) = Asking (Look (lookup_of h u))
-element_of h (questions.Begin i v) = Asking (Begin i (value h v))
-element_of h (questions.Await q next) = Asking (Await q (then_of next))
-element_of h (questions.Erase x) = Erasing x
+element_of h q = Asking (question_of h q)
 
 -- some elements before the visited list, as a place
 abbrev pub place_behind : State → List Element → Mode

@@ -7,7 +7,7 @@ use Rattle.pltx.specs.Own.{State as Own}
 use Rattle.plviews.specs.Views.{seen_in}
 use Rattle.plviews.specs.declared.view.View.{View}
 use Rattle.plprogram.specs.Program.{Program}
-use Rattle.plsearch.specs.Types.{Element, Erasing}
+use Rattle.plsearch.specs.Types.{Asking, Element, Erase}
 use Rattle.plsearch.specs.Machines.Machine.{Machine, turn}
 use Rattle.plstack.specs.State.{State}
 use Rattle.plmachine.specs.declared.machine.Lookup.{Lookup as Sought}
@@ -23,7 +23,7 @@ pub record SeeksBy (old new : Reached) (u : Sought) (g : View) (f : Find) : Type
 
 -- the machine before a list in which a clause is erased first
 abbrev pub erasing : Program → Views → ℕ → List Answer → Reached → ClauseName → List Element → Machine
-erasing P v left answers s x es = record { mode = place_behind s.stack (Erasing x ∷ es); cases = cases_in P v s; run = run_in v left answers s }
+erasing P v left answers s x es = record { mode = place_behind s.stack (Asking (Erase x) ∷ es); cases = cases_in P v s; run = run_in v left answers s }
 
 -- one turn further, or not
 abbrev pub turned : Bool → Program → Machine → Machine

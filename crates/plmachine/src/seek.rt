@@ -8,7 +8,7 @@ ghost use Rattle.pltx.specs.Own.{any_open};
 ghost use Rattle.plstore.specs.Looking.{Views};
 ghost use Rattle.plsearch.specs.Lookups.{seek};
 ghost use Rattle.plsearch.specs.Moves.{go_on as went_on, publish};
-ghost use Rattle.plsearch.specs.Types.{Erasing};
+ghost use Rattle.plsearch.specs.Types.{Asking, Erase};
 ghost use Rattle.plstack.specs.State.{goals_of, IsEmptyOrFit, IsFit, IsList};
 ghost use Rattle.plmachine.specs.Lists.{Grown};
 ghost use Rattle.plmachine.specs.Machine.{below_in, depth_of, local_of, lookup_of, IsSought, IsTied, Moved, MovedBy, Stays};
@@ -111,7 +111,7 @@ impl Machine {
         requires rest { IsList self.old.stack rest }
         requires fits { IsEmptyOrFit self.old.stack rest }
         requires tied { IsTied self.old }
-        ensures ok { OnOk result (Moved program.now self.old self.new (went_on (Erasing name ∷ goals_of self.old.stack rest) self.old.stack.env.count (local_of self.old))) }
+        ensures ok { OnOk result (Moved program.now self.old self.new (went_on (Asking (Erase name) ∷ goals_of self.old.stack rest) self.old.stack.env.count (local_of self.old))) }
         ensures becomes { OnOk result (ErasesBefore program.now (any_open self.old.layer.own) self.old self.new name (goals_of self.old.stack rest)) }
         ensures err { OnErr result (Stays program.now self.old self.new) }
     {

@@ -10,7 +10,7 @@ use Rattle.plevent.specs.Alive.{Stamped}
 use Rattle.plevent.specs.Search.{Item, View, Ask, Answer, Got, Wants, Finishes}
 use Rattle.pltx.specs.Own.{any_open, ending, erased_in, made, target_at}
 use Rattle.plprogram.specs.Program.{Program}
-use Rattle.plsearch.specs.Types.{Result, Stop, Fail, CutTo, Throw, Halted, Spent, Awaits, Stopped, Unfit, Commit, Never, Until, Collect, Transact, Then, GoesOn, Ends, Question, Look, Begin, Await, Element, Goal, Marker, Raise, Asking, Erasing, Place, Case, Choice, Mark, Handle, Catch, Gather, Undo, Return, Keep, Again, Anew, Local, Move, Give, Go, Meeting, Asks, End, Pass, Run}
+use Rattle.plsearch.specs.Types.{Result, Stop, Fail, CutTo, Throw, Halted, Spent, Awaits, Stopped, Unfit, Commit, Never, Until, Collect, Transact, Then, GoesOn, Ends, Question, Look, Begin, Await, Element, Goal, Marker, Raise, Asking, Place, Case, Choice, Mark, Handle, Catch, Gather, Undo, Return, Keep, Again, Anew, Local, Move, Give, Go, Meeting, Asks, End, Pass, Run}
 use Rattle.plsearch.specs.Rows.{asked, erasing, published, select, meet}
 use Rattle.plsearch.specs.Replies.{answered, founded}
 use Rattle.plsearch.specs.Handlers.{resume}
@@ -114,7 +114,7 @@ founded_got (Raise b) r below = refl
 founded_got (Asking (Look u)) r below = refl
 founded_got (Asking (Begin i g)) r below = refl
 founded_got (Asking (Await q next)) r below = refl
-founded_got (Erasing x) r below = refl
+founded_got (Asking (Question.Erase x)) r below = refl
 
 same_request : (q : Request) (i : ℕ) → Ask q ≡ Ask (Request.HaltRun i) → q ≡ Request.HaltRun i
 same_request q i is = cc
@@ -166,19 +166,24 @@ module _ (P : Program) where
   halting_item (Await q next) i d es n w proper is =
       let same : q ≡ Request.HaltRun i = same_request q i is in
       ap (λ q. answered (Asking (Await q next)) (Got Reply.Done) d es n w) same ∙ halted_by next i d es n w (subst (λ q. IsProper (Asking (Await q next))) same proper)
+  halting_item (Question.Erase x) i d es n w proper is = absurd (no_erasure x i is)
+
+  asking_turned : (cases : List Case) (q : Question) (es : List Element) (n : ℕ) (run : Run) → IsProper (Asking q) → AreProper es → AreProperCases cases → AreCommon run.answers →
+      Turned cases run (ask cases (Asking q) es n (asked q) run run.answers) (ask cases (Asking q) es n (asked q) (done run) (run.answers ++ Got Reply.Done ∷ []))
+  asking_turned cases q es n run may proper fine common =
+      ask_turned cases (Asking q) es n (asked q) run run.answers fine common
+      (λ a is. answered-fits (Asking q) a (deeper cases 0) es n run.local may is proper) (λ i is. halting_item q i (deeper cases 0) es n run.local may is)
 
   -- a clause is erased by a request, or of what is open
   erasing_turned : (cases : List Case) (x : ClauseName) (es : List Element) (n : ℕ) (run : Run) → AreProper es → AreProperCases cases → AreCommon run.answers →
-      Turned cases run (meets P cases (Erasing x) es n run (erasing x run.local)) (meets P cases (Erasing x) es n (done run) (erasing x run.local))
+      Turned cases run (meets P cases (Asking (Question.Erase x)) es n run (erasing x run.local)) (meets P cases (Asking (Question.Erase x)) es n (done run) (erasing x run.local))
   erasing_turned cases x es n run proper fine common = go (not (any_open run.local.own)) (erased_in (target_at run.local.own.base x) run.local.own.updates)
     where
       meeting : Bool → Bool → Meeting
       meeting asks gone = if asks then Asks (Ask (Request.EraseOne x)) else if gone then End Fail run.local else Pass (record run.local { own = made (Erase x) run.local.own })
 
-      go : (asks gone : Bool) → Turned cases run (meets P cases (Erasing x) es n run (meeting asks gone)) (meets P cases (Erasing x) es n (done run) (meeting asks gone))
-      go true gone =
-          ask_turned cases (Erasing x) es n (Ask (Request.EraseOne x)) run run.answers fine common
-          (λ a is. answered-fits (Erasing x) a (deeper cases 0) es n run.local tt is proper) (λ i is. absurd (no_erasure x i is))
+      go : (asks gone : Bool) → Turned cases run (meets P cases (Asking (Question.Erase x)) es n run (meeting asks gone)) (meets P cases (Asking (Question.Erase x)) es n (done run) (meeting asks gone))
+      go true gone = asking_turned cases (Question.Erase x) es n run tt proper fine common
       go false true = Goes refl (record { mode = tt; cases = fine; answers = common })
       go false false = Goes refl (record { mode = proper; cases = fine; answers = common })
 
@@ -194,10 +199,8 @@ module _ (P : Program) where
   visit_turned cases (Marker (Transact d) l ∷ es) n run r proper common =
       Goes refl (record { mode = publishing-proper (published (ending true run.local.own)) es r.1; cases = (tt, proper); answers = common })
   visit_turned cases (Raise b ∷ es) n run r proper common = Goes refl (record { mode = tt; cases = proper; answers = common })
-  visit_turned cases (Asking q ∷ es) n run r proper common =
-      ask_turned cases (Asking q) es n (asked q) run run.answers proper common
-      (λ a is. answered-fits (Asking q) a (deeper cases 0) es n run.local r.0 is r.1) (λ i is. halting_item q i (deeper cases 0) es n run.local r.0 is)
-  visit_turned cases (Erasing x ∷ es) n run r proper common = erasing_turned cases x es n run r.1 proper common
+  visit_turned cases (Asking (Question.Erase x) ∷ es) n run r proper common = erasing_turned cases x es n run r.1 proper common
+  visit_turned cases (Asking q ∷ es) n run r proper common = asking_turned cases q es n run r.0 r.1 proper common
 
   choose_turned : (cases : List Case) (run : Run) (ps : List Place) (r : Result) → AllProper ps → IsOther r → AreProperCases cases → AreCommon run.answers →
       Turned (Choice ps ∷ cases) run (machines.choose cases run ps r) (machines.choose cases (done run) ps r)

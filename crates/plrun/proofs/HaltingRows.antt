@@ -31,7 +31,7 @@ use Rattle.plbuiltin.specs.Errors.{type_error}
 use Rattle.plbuiltin.specs.Lists.{may_be_list}
 use Rattle.plbuiltin.specs.Solution.{Solution, Solved, Gives, Raises as Refuses}
 use Rattle.plbuiltin.specs.Solutions.{solutions}
-use Rattle.plsearch.specs.Types.{Result, Fail, CutTo, Throw, Halted, Awaits, Commit, Never, Until, Collect, Transact, Then, GoesOn, Ends, Lookup, ToCall, ToRetrieve, ToRetract, ToRetractAll, Look, Begin, Await, Element, Goal, Marker, Raise, Asking, Erasing, Place, Case, Choice, Mark, Handle, Handler, Catch, Gather, Undo, Return, Keep, Again, Anew, Local, Move, Give, Go}
+use Rattle.plsearch.specs.Types.{Result, Fail, CutTo, Throw, Halted, Awaits, Commit, Never, Until, Collect, Transact, Then, GoesOn, Ends, Lookup, ToCall, ToRetrieve, ToRetract, ToRetractAll, Look, Begin, Await, Erase, Element, Goal, Marker, Raise, Asking, Place, Case, Choice, Mark, Handle, Handler, Catch, Gather, Undo, Return, Keep, Again, Anew, Local, Move, Give, Go}
 use Rattle.plsearch.specs.Lists.{bind_element, bind_goals}
 use Rattle.plsearch.specs.Forms.{Form, True, False, Both, Either, IfThenElse, Not, Once, Catching, FindAll, Within, Throwing, CallWith, Cut, Halting, Adding, Retrieving, Retracting, RetractingAll, Declaring, BuiltIn, Call, NoGoal, form}
 use Rattle.plsearch.specs.Running.{Runnable, Runs, Raises, runnable, called}
@@ -86,7 +86,7 @@ element_bound σ (Raise b) p = tt
 element_bound σ (Asking (Look u)) p = tt
 element_bound σ (Asking (Begin i g)) p = tt
 element_bound σ (Asking (Await q next)) p = p
-element_bound σ (Erasing x) p = tt
+element_bound σ (Asking (Erase x)) p = tt
 
 bound : (σ : ℕ → Tree) (es : List Element) → AreProper es → AreProper (bind_goals σ es)
 bound σ [] p = tt
@@ -111,7 +111,7 @@ resolved d n t rest proper (c ∷ cs) = resolved_first d n t rest proper c (filt
 retracted : (d n : ℕ) (t : Tree) (rest : List Element) → AreProper rest → (xs : List Living) → AllProper (filter_map (retract d n t rest) xs)
 retracted d n t rest proper [] = tt
 retracted d n t rest proper (x ∷ xs) =
-    resolved_first d n t (Erasing x.name ∷ rest) (tt, proper) (as_fact x.clause) (filter_map (retract d n t rest) xs) (retracted d n t rest proper xs)
+    resolved_first d n t (Asking (Erase x.name) ∷ rest) (tt, proper) (as_fact x.clause) (filter_map (retract d n t rest) xs) (retracted d n t rest proper xs)
 
 solutions_fit : (rest : List Element) (n : ℕ) → AreProper rest → (ss : List Solution) → AllProper (filter_map (solved rest n) ss)
 solutions_fit rest n proper [] = tt
@@ -301,8 +301,8 @@ answered-fits (Asking (Begin i g)) (Seen v us) d rest n w p common proper = open
 answered-fits (Asking (Begin i g)) (Got r) d rest n w p common proper = tt
 answered-fits (Asking (Await q next)) (Seen g us) d rest n w p common proper = tt
 answered-fits (Asking (Await q next)) (Got r) d rest n w p common proper = reply_fits q next r rest n w p common proper
-answered-fits (Erasing x) (Seen g us) d rest n w p common proper = tt
-answered-fits (Erasing x) (Got r) d rest n w p common proper = reply_fits (Request.EraseOne x) GoesOn r rest n w tt common proper
+answered-fits (Asking (Erase x)) (Seen g us) d rest n w p common proper = tt
+answered-fits (Asking (Erase x)) (Got r) d rest n w p common proper = reply_fits (Request.EraseOne x) GoesOn r rest n w tt common proper
 answered-fits (Goal k t) a d rest n w p common proper = tt
 answered-fits (Marker m l) a d rest n w p common proper = tt
 answered-fits (Raise b) a d rest n w p common proper = tt

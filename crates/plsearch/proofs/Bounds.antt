@@ -14,7 +14,7 @@ use Rattle.plevent.specs.Search.{Item, Ask, Answer}
 use Rattle.pltx.specs.Own.{any_open, ended, ending, erased_in, made, target_at}
 use Rattle.plprogram.specs.Program.{Program}
 use Rattle.plbuiltin.specs.Solution.{Solution}
-use Rattle.plsearch.specs.Types.{Result, Stop, Fail, CutTo, Throw, Halted, Spent, Awaits, Stopped, Unfit, Commit, Never, Until, Collect, Transact, GoesOn, Await, Element, Goal, Marker, Raise, Asking, Erasing, Place, Case, Choice, Mark, Handle, Handler, Catch, Gather, Undo, Return, Keep, Again, Anew, Local, Move, Give, Go, Asks, End, Pass, Run}
+use Rattle.plsearch.specs.Types.{Result, Stop, Fail, CutTo, Throw, Halted, Spent, Awaits, Stopped, Unfit, Commit, Never, Until, Collect, Transact, GoesOn, Question, Await, Element, Goal, Marker, Raise, Asking, Place, Case, Choice, Mark, Handle, Handler, Catch, Gather, Undo, Return, Keep, Again, Anew, Local, Move, Give, Go, Asks, End, Pass, Run}
 use Rattle.plsearch.specs.Lists.{bind_goals}
 use Rattle.plsearch.specs.Running.{Runnable, Runs, Raises, runnable}
 use Rattle.plsearch.specs.Collecting.{copies_from, dropped, gathered}
@@ -170,13 +170,13 @@ module _ (P : Program) where
 
   erasing-bounded : (k : ℕ) → Claim k → (C N : Levels) (d : ℕ) → Holds N d → (x : ClauseName) (es : List Element) (n : ℕ) → AllAllow C N es →
       (run : Run) → left run ≤ k → ((w : Local) → Bounded C N (walk P (Visit P) es n d (record run { local = w })).0) →
-      Bounded C N (met P (Visit P) (walk P (Visit P) es n) (Erasing x) es n d run (erasing x run.local)).0
+      Bounded C N (met P (Visit P) (walk P (Visit P) es n) (Asking (Question.Erase x)) es n d run (erasing x run.local)).0
   unfolding Bounded
   erasing-bounded k h C N d holds x es n all run le on = go (not (any_open run.local.own)) (erased_in (target_at run.local.own.base x) run.local.own.updates)
     where
-      go : (b c : Bool) → Bounded C N (met P (Visit P) (walk P (Visit P) es n) (Erasing x) es n d run
+      go : (b c : Bool) → Bounded C N (met P (Visit P) (walk P (Visit P) es n) (Asking (Question.Erase x)) es n d run
           (if b then Asks (Ask (EraseOne x)) else (if c then End Fail run.local else Pass (record run.local { own = made (Erase x) run.local.own })))).0
-      go true c = asks-bounded k h C N d holds (Erasing x) es n all (Ask (EraseOne x)) run run.answers le
+      go true c = asks-bounded k h C N d holds (Asking (Question.Erase x)) es n all (Ask (EraseOne x)) run run.answers le
       go false true = tt
       go false false = on (record run.local { own = made (Erase x) run.local.own })
 
@@ -204,9 +204,9 @@ module _ (P : Program) where
       mark-out C N d c (publishes (Visit P) (walk P (Visit P) es n) es n (published (ending true run.local.own)) (suc d) (record run { local = w })) all.0.0
       (publishes-bounded k h C N (suc d) further es n all.1 (record run { local = w }) le (walk-bounded k h C N es n (suc d) further (record run { local = w }) le all.1) (published (ending true run.local.own)))
   walk-bounded k h C N (Raise b ∷ es) n d holds run le all = levels-in C N es all.1
-  walk-bounded k h C N (Asking q ∷ es) n d holds run le all = asks-bounded k h C N d holds (Asking q) es n all.1 (asked q) run run.answers le
-  walk-bounded k h C N (Erasing x ∷ es) n d holds run le all =
+  walk-bounded k h C N (Asking (Question.Erase x) ∷ es) n d holds run le all =
       erasing-bounded k h C N d holds x es n all.1 run le (λ w. walk-bounded k h C N es n d holds (record run { local = w }) le all.1)
+  walk-bounded k h C N (Asking q ∷ es) n d holds run le all = asks-bounded k h C N d holds (Asking q) es n all.1 (asked q) run run.answers le
 
   claims : (k : ℕ) → Claim k
   unfolding Claim

@@ -4,7 +4,7 @@ use Rattle.std.specs.Prelude.{nat_le}
 use Rattle.std.proofs.lemmas.Bool.Decides.{nat_tests}
 use Rattle.plterm.specs.Tree.{Tree}
 use Rattle.plprogram.specs.Program.{Program}
-use Rattle.plsearch.specs.Types.{Result, Stop, Fail, CutTo, Throw, Halted, Spent, Awaits, Stopped, Unfit, Kind, Commit, Never, Until, Collect, Transact, Element, Goal, Marker, Raise, Asking, Erasing, Place, Case, Choice, Mark, Handle, Handler, Catch, Gather, Undo, Run}
+use Rattle.plsearch.specs.Types.{Result, Stop, Fail, CutTo, Throw, Halted, Spent, Awaits, Stopped, Unfit, Kind, Commit, Never, Until, Collect, Transact, Element, Goal, Marker, Raise, Asking, Place, Case, Choice, Mark, Handle, Handler, Catch, Gather, Undo, Run}
 use Rattle.plsearch.specs.Handlers.{has, resume}
 use Rattle.plsearch.specs.Engine.{stop_cut, mark, deeper, choice, returned, out, outs, Visit}
 use Rattle.plsearch.specs.Machines.Levels.{IsKindAtMost, IsAtMost, AreAtMost, emptied}
@@ -42,7 +42,6 @@ allowed k d (Goal l t) h = at-most l k h
 allowed k d (Marker m l) h = (gives-up k m l h.0 h.1, in-apart _ _ (at-most l k h.1))
 allowed k d (Raise b) h = tt
 allowed k d (Asking q) h = tt
-allowed k d (Erasing x) h = tt
 
 all-allowed : (k d : ℕ) (es : List Element) → AreAtMost k es → AllAllow (low k) (apart k d) es
 unfolding AllAllow

@@ -32,7 +32,7 @@ use Rattle.plbuiltin.specs.Lists.{may_be_list}
 use Rattle.plbuiltin.specs.Solution.{Solution, Solved, Gives, Raises as Refuses}
 use Rattle.plbuiltin.specs.Solutions.{solutions}
 use Rattle.plsearch.specs.Errors.{error_term}
-use Rattle.plsearch.specs.Types.{Result, Stop, Fail, CutTo, Throw, Halted, Spent, Awaits, Stopped, Unfit, Kind, Commit, Never, Until, Collect, Transact, Then, GoesOn, Ends, Lookup, ToCall, ToRetrieve, ToRetract, ToRetractAll, Question, Look, Begin, Await, Element, Goal, Marker, Raise, Asking, Erasing, Place, Case, Choice, Mark, Handle, Local, Move, Give, Go}
+use Rattle.plsearch.specs.Types.{Result, Stop, Fail, CutTo, Throw, Halted, Spent, Awaits, Stopped, Unfit, Kind, Commit, Never, Until, Collect, Transact, Then, GoesOn, Ends, Lookup, ToCall, ToRetrieve, ToRetract, ToRetractAll, Question, Look, Begin, Await, Erase, Element, Goal, Marker, Raise, Asking, Place, Case, Choice, Mark, Handle, Local, Move, Give, Go}
 use Rattle.plsearch.specs.Lists.{bind_kind, bind_element, bind_goals, levels}
 use Rattle.plsearch.specs.Forms.{Form, True, False, Both, Either, IfThenElse, Not, Once, Catching, FindAll, Within, Throwing, CallWith, Cut, Halting, Adding, Retrieving, Retracting, RetractingAll, Declaring, BuiltIn, Call, NoGoal, form}
 use Rattle.plsearch.specs.Running.{Runnable, Runs, Raises, runnable, called}
@@ -83,7 +83,6 @@ Allows C N (Goal k t) = C k ≡ true
 Allows C N (Marker m l) = GivesUp C m l × (N l ≡ true)
 Allows C N (Raise b) = Unit {0}
 Allows C N (Asking q) = Unit {0}
-Allows C N (Erasing x) = Unit {0}
 
 unfoldable pub AllAllow : Levels → Levels → List Element → Type 0
 AllAllow C N [] = Unit {0}
@@ -119,7 +118,6 @@ allows-more C N d (Goal k t) h = also-others C d k h
 allows-more C N d (Marker m l) h = (gives-up-more C d m l h.0, h.1)
 allows-more C N d (Raise b) h = tt
 allows-more C N d (Asking q) h = tt
-allows-more C N d (Erasing x) h = tt
 
 pub allow-more : (C N : Levels) (d : ℕ) (es : List Element) → AllAllow C N es → AllAllow (also C d) N es
 unfolding AllAllow
@@ -140,7 +138,6 @@ allows-bound C N σ (Goal k t) h = h
 allows-bound C N σ (Marker m l) h = (gives-up-bound C σ m l h.0, h.1)
 allows-bound C N σ (Raise b) h = tt
 allows-bound C N σ (Asking q) h = tt
-allows-bound C N σ (Erasing x) h = tt
 
 pub allow-bound : (C N : Levels) (σ : ℕ → Tree) (es : List Element) → AllAllow C N es → AllAllow C N (bind_goals σ es)
 unfolding AllAllow
@@ -154,7 +151,6 @@ levels-in C N (Goal k t ∷ es) h = levels-in C N es h.1
 levels-in C N (Marker m l ∷ es) h = (h.0.1, levels-in C N es h.1)
 levels-in C N (Raise b ∷ es) h = levels-in C N es h.1
 levels-in C N (Asking q ∷ es) h = levels-in C N es h.1
-levels-in C N (Erasing x ∷ es) h = levels-in C N es h.1
 
 -- cases that are open at the depth d, of which the results cut to levels of C alone: what they hold, and what may come from inside
 unfoldable pub PlacesAllow : Levels → Levels → List Place → Type 0
@@ -323,7 +319,7 @@ module _ (C N : Levels) (d : ℕ) (holds : Holds N d) where
   unfolding AllAllow Allows
   retracts-allowed n t rest all [] = none-allowed
   retracts-allowed n t rest all (x ∷ xs) =
-      place-allowed n t (Erasing x.name ∷ rest) (tt, all) (as_fact x.clause) (filter_map (retract d n t rest) xs) (retracts-allowed n t rest all xs)
+      place-allowed n t (Asking (Erase x.name) ∷ rest) (tt, all) (as_fact x.clause) (filter_map (retract d n t rest) xs) (retracts-allowed n t rest all xs)
 
   missing-allowed : (u : Unknown) (t : Tree) (rest : List Element) (w : Local) → AllAllow C N rest → MoveAllows C N d (missing u t rest w)
   missing-allowed unknown.Error t rest w all = raises _ _ rest w all
@@ -459,5 +455,5 @@ module _ (C N : Levels) (d : ℕ) (holds : Holds N d) where
   answered-allowed (Asking (Look u)) (Seen g us) rest n w all = looked-up-allowed us u rest n w all
   answered-allowed (Asking (Begin i g)) (Seen v us) rest n w all = opened-allowed i v g rest n w all
   answered-allowed (Asking (Await q t)) (Got r) rest n w all = follows-allowed (outcome q r) t rest n w all
-  answered-allowed (Erasing x) (Got r) rest n w all = follows-allowed (outcome (EraseOne x) r) GoesOn rest n w all
+  answered-allowed (Asking (Erase x)) (Got r) rest n w all = follows-allowed (outcome (EraseOne x) r) GoesOn rest n w all
   answered-allowed e a rest n w all = misfits w

@@ -13,7 +13,7 @@ use Rattle.plterm.specs.Tree.{Tree}
 use Rattle.plterm.specs.Variables.{variables, copied}
 use Rattle.plsubst.specs.Subst.{bind}
 use Rattle.plsubst.specs.Unify.{unify}
-use Rattle.plsearch.specs.Types.{Catch, Gather, Undo, Throw, Result, Fail, Kind, Commit, Never, Until, Collect, Transact, Element, Goal, Marker, Raise, Asking, Erasing, Place, Case, Choice, Mark, Handle, Handler, Local, Move, Give, Go, Asks, End, Pass, Return, Keep, Again, Anew, Run}
+use Rattle.plsearch.specs.Types.{Catch, Gather, Undo, Throw, Result, Fail, Kind, Commit, Never, Until, Collect, Transact, Question, Element, Goal, Marker, Raise, Asking, Place, Case, Choice, Mark, Handle, Handler, Local, Move, Give, Go, Asks, End, Pass, Return, Keep, Again, Anew, Run}
 use Rattle.plsearch.specs.Lists.{bind_kind, bind_element, bind_goals}
 use Rattle.plsearch.specs.Running.{Runnable, Runs, Raises, runnable}
 use Rattle.plbuiltin.specs.Solution.{Solution}
@@ -39,7 +39,6 @@ element-bound σ (Goal k t) = refl
 element-bound σ (Marker m l) = kind-bound σ m
 element-bound σ (Raise b) = refl
 element-bound σ (Asking q) = refl
-element-bound σ (Erasing x) = refl
 
 goals-bound : (σ : ℕ → Tree) (es : List Element) → goals_weight (bind_goals σ es) ≡ goals_weight es
 goals-bound σ [] = refl
@@ -111,13 +110,13 @@ publishing-weight [] es = omega arith
 publishing-weight (u ∷ us) es = omega arith
 
 lighter-erasing : (P : Program) (cases : List Case) (x : ClauseName) (es : List Element) (n : ℕ) (run : Run) →
-    Lighter (at_goals (record { goals = Erasing x ∷ es; variables = n }) cases run) (meets P cases (Erasing x) es n run (erasing x run.local))
+    Lighter (at_goals (record { goals = Asking (Question.Erase x) ∷ es; variables = n }) cases run) (meets P cases (Asking (Question.Erase x)) es n run (erasing x run.local))
 unfolding weight
 lighter-erasing P cases x es n run = go (not (any_open run.local.own)) (erased_in (target_at run.local.own.base x) run.local.own.updates)
   where
-    go : (b c : Bool) → Lighter (at_goals (record { goals = Erasing x ∷ es; variables = n }) cases run)
-        (meets P cases (Erasing x) es n run (if b then Asks (Ask (EraseOne x)) else (if c then End Fail run.local else Pass (record run.local { own = made (Erase x) run.local.own }))))
-    go true c = lighter-ask cases (Erasing x) es n (Ask (EraseOne x)) run
+    go : (b c : Bool) → Lighter (at_goals (record { goals = Asking (Question.Erase x) ∷ es; variables = n }) cases run)
+        (meets P cases (Asking (Question.Erase x)) es n run (if b then Asks (Ask (EraseOne x)) else (if c then End Fail run.local else Pass (record run.local { own = made (Erase x) run.local.own }))))
+    go true c = lighter-ask cases (Asking (Question.Erase x)) es n (Ask (EraseOne x)) run
     go false true = inr (refl, omega arith)
     go false false = inr (refl, omega arith)
 
@@ -131,8 +130,8 @@ lighter-meets P cases (Marker Until l) es n run = inr (refl, omega arith)
 lighter-meets P cases (Marker (Collect t) l) es n run = inr (refl, omega arith)
 lighter-meets P cases (Marker (Transact d) l) es n run = inr (refl, omega (arith, publishing-weight (published (ending true run.local.own)) es))
 lighter-meets P cases (Raise b) es n run = inr (refl, omega arith)
+lighter-meets P cases (Asking (Question.Erase x)) es n run = lighter-erasing P cases x es n run
 lighter-meets P cases (Asking q) es n run = lighter-ask cases (Asking q) es n (asked q) run
-lighter-meets P cases (Erasing x) es n run = lighter-erasing P cases x es n run
 
 lighter-choose : (cases : List Case) (run : Run) (ps : List Place) (r : Result) → Lighter (record { mode = Back r; cases = Choice ps ∷ cases; run = run }) (choose cases run ps r)
 unfolding weight

@@ -2,7 +2,7 @@
 use Rattle.std.specs.Prelude.{ℕ, List, [], ◌∷◌, map}
 use Rattle.plterm.specs.Tree.{Tree}
 use Rattle.plsubst.specs.Subst.{bind}
-use Rattle.plsearch.specs.Types.{Kind, Commit, Never, Until, Collect, Transact, Lookup, ToCall, ToRetrieve, ToRetract, ToRetractAll, Question, Look, Begin, Await, Element, Goal, Marker, Raise, Asking, Erasing}
+use Rattle.plsearch.specs.Types.{Kind, Commit, Never, Until, Collect, Transact, Lookup, ToCall, ToRetrieve, ToRetract, ToRetractAll, Question, Look, Begin, Await, Erase, Element, Goal, Marker, Raise, Asking}
 
 abbrev pub bind_lookup : (ℕ → Tree) → Lookup → Lookup
 bind_lookup σ (ToCall t) = ToCall (bind σ t)
@@ -14,6 +14,7 @@ abbrev pub bind_question : (ℕ → Tree) → Question → Question
 bind_question σ (Look u) = Look (bind_lookup σ u)
 bind_question σ (Begin i g) = Begin i (bind σ g)
 bind_question σ (Await q next) = Await q next
+bind_question σ (Erase x) = Erase x
 
 abbrev pub bind_kind : (ℕ → Tree) → Kind → Kind
 bind_kind σ Commit = Commit
@@ -28,7 +29,6 @@ bind_element σ (Goal k t) = Goal k (bind σ t)
 bind_element σ (Marker m l) = Marker (bind_kind σ m) l
 bind_element σ (Raise b) = Raise b
 bind_element σ (Asking q) = Asking (bind_question σ q)
-bind_element σ (Erasing x) = Erasing x
 
 abbrev pub bind_goals : (ℕ → Tree) → List Element → List Element
 bind_goals σ = map (bind_element σ)
@@ -40,4 +40,3 @@ levels (Goal k t ∷ es) = levels es
 levels (Marker m l ∷ es) = l ∷ levels es
 levels (Raise b ∷ es) = levels es
 levels (Asking q ∷ es) = levels es
-levels (Erasing x ∷ es) = levels es

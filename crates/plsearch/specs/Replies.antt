@@ -8,7 +8,7 @@ use Rattle.plevent.specs.declared.request.Request.TheVariants.{EraseOne, HaltRun
 use Rattle.plevent.specs.declared.request.Request.{Request}
 use Rattle.plsearch.specs.Lookups.{looked_up}
 use Rattle.plsearch.specs.Moves.{go_on, opened}
-use Rattle.plsearch.specs.Types.{Asking, Await, Begin, Element, Ends, Erasing, Fail, Give, GoesOn, Halted, Local, Look, Move, Stopped, Then, Unfit}
+use Rattle.plsearch.specs.Types.{Asking, Await, Begin, Element, Ends, Erase, Fail, Give, GoesOn, Halted, Local, Look, Move, Stopped, Then, Unfit}
 
 -- what a reply says of the request that was asked: it was served; it came too late; the run has stopped; or it is no reply to it
 pub data Outcome : Type 0 where
@@ -37,7 +37,7 @@ unfoldable pub answered : Element → Answer → ℕ → List Element → ℕ �
 answered (Asking (Look u)) (Seen g us) d rest n w = looked_up us u d rest n w
 answered (Asking (Begin i g)) (Seen v us) d rest n w = opened i v g d rest n w
 answered (Asking (Await q next)) (Got r) d rest n w = follows (outcome q r) next rest n w
-answered (Erasing x) (Got r) d rest n w = follows (outcome (EraseOne x) r) GoesOn rest n w
+answered (Asking (Erase x)) (Got r) d rest n w = follows (outcome (EraseOne x) r) GoesOn rest n w
 answered e a d rest n w = Give Unfit w
 
 -- what is open stands on the view with which it began

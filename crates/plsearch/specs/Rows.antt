@@ -36,7 +36,7 @@ use Rattle.plsearch.specs.Lists.{bind_goals, levels}
 use Rattle.plsearch.specs.Lookups.{retrieve, seek}
 use Rattle.plsearch.specs.Moves.{call, choose, go_on, opened, publish, raised, run}
 use Rattle.plsearch.specs.Running.{called, runnable}
-use Rattle.plsearch.specs.Types.{Asking, Asks, Await, Begin, Case, Catch, Choice, Collect, Commit, CutTo, Element, End, Ends, Erasing, Fail, Gather, Give, Go, Goal, Handle, Local, Look, Mark, Marked, Marker, Meeting, Move, Never, Pass, Place, Question, Raise, Select, Throw, ToCall, ToRetract, ToRetractAll, ToRetrieve, Transact, Until}
+use Rattle.plsearch.specs.Types.{Asking, Asks, Await, Begin, Case, Catch, Choice, Collect, Commit, CutTo, Element, End, Ends, Fail, Gather, Give, Go, Goal, Handle, Local, Look, Mark, Marked, Marker, Meeting, Move, Never, Pass, Place, Question, Raise, Select, Throw, ToCall, ToRetract, ToRetractAll, ToRetrieve, Transact, Until}
 
 abbrev pub once_1 : Indicator
 once_1 = record { name = codes "once"; arity = 1 }
@@ -232,11 +232,12 @@ abbrev pub asked : Question → Item
 asked (Look u) = View
 asked (Begin i g) = View
 asked (Await q next) = Ask q
+asked (Question.Erase x) = Ask (EraseOne x)
 
 -- a clause is erased: of what is open at once, unless it was erased there before, or else by a request
 abbrev pub erasing : ClauseName → Local → Meeting
 erasing x w =
-    if not (any_open w.own) then Asks (Ask (EraseOne x))
+    if not (any_open w.own) then Asks (asked (Question.Erase x))
     else if erased_in (target_at w.own.base x) w.own.updates then End Fail w
     else Pass (record w { own = made (Erase x) w.own })
 
@@ -255,5 +256,5 @@ meet (Marker Until l) rest w = Pass w
 meet (Marker (Collect t) l) rest w = End Fail (collected l t w)
 meet (Marker (Transact d) l) rest w = Marked d (published (ending true w.own)) (record w { own = ended true w.own })
 meet (Raise b) rest w = End (Throw b (levels rest)) w
+meet (Asking (Question.Erase x)) rest w = erasing x w
 meet (Asking q) rest w = Asks (asked q)
-meet (Erasing x) rest w = erasing x w

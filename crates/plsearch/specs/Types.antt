@@ -47,20 +47,21 @@ pub data Lookup : Type 0 where
   ToRetract : Tree → Tree → Lookup
   ToRetractAll : Tree → Lookup
 
--- what a list asks: the view in which clauses are looked up, that on which a transaction or a snapshot of a goal begins, or a request
+-- what a list asks: the view in which clauses are looked up, that on which a transaction or a snapshot of a goal begins, a request, or
+-- that a clause is erased
 pub data Question : Type 0 where
   Look : Lookup → Question
   Begin : Isolation → Tree → Question
   Await : Request → Then → Question
+  Erase : ClauseName → Question
 
 -- what a goal list holds: goals, each with its cut level; markers, each with the level of the case that put it;
--- a ball that is thrown here; what is asked here; and a clause that is erased here
+-- a ball that is thrown here; and what is asked here
 pub data Element : Type 0 where
   Goal : ℕ → Tree → Element
   Marker : Kind → ℕ → Element
   Raise : Tree → Element
   Asking : Question → Element
-  Erasing : ClauseName → Element
 
 -- what is left to do: a goal list, its terms with all that stands for their variables put in, and how many variables are in use
 pub record Place : Type 0 where

@@ -16,7 +16,7 @@ use Rattle.pltx.specs.declared.level.Level.{Level}
 use Rattle.plviews.specs.Layers.{Layered}
 use Rattle.plprogram.specs.Program.{Program}
 use Rattle.plterm.specs.Tree.{Tree}
-use Rattle.plsearch.specs.Types.{Throw, Undo, Transact, Marker, Element, Erasing, Asking, Await, GoesOn, Handle, Keep, Place, Mark, Local, Move, Run}
+use Rattle.plsearch.specs.Types.{Throw, Undo, Transact, Marker, Element, Asking, Erase, Await, GoesOn, Handle, Keep, Place, Mark, Local, Move, Run}
 use Rattle.plsearch.specs.Moves.{publishing}
 use Rattle.plsearch.specs.Rows.{meet, published}
 use Rattle.plsearch.specs.Handlers.{has, resume, undone}
@@ -400,8 +400,8 @@ quiet-erase P v s t x m at opened moved erases =
     (λ left answers few.
     erases v left answers
     ∙ ap (λ b. turned b P (erasing P v left answers s.machine x (goals_of s.machine.stack s.machine.stack.goals))) opened
-    ∙ sym (ap (turn P) (at-place P v s.machine (record { goals = Erasing x ∷ goals_of s.machine.stack s.machine.stack.goals; variables = s.machine.stack.env.count }) (subst IsPlain (sym at) tt) (ap (λ m. mode_of m s.machine.stack) at) left answers)))
-    (λ r is no. let f : At (record { goals = Erasing x ∷ goals_of s.machine.stack s.machine.stack.goals; variables = s.machine.stack.env.count }) ≡ Back r = ap (λ m. mode_of m s.machine.stack) (sym at) ∙ is in absurd cc)
+    ∙ sym (ap (turn P) (at-place P v s.machine (record { goals = Asking (Erase x) ∷ goals_of s.machine.stack s.machine.stack.goals; variables = s.machine.stack.env.count }) (subst IsPlain (sym at) tt) (ap (λ m. mode_of m s.machine.stack) at) left answers)))
+    (λ r is no. let f : At (record { goals = Asking (Erase x) ∷ goals_of s.machine.stack s.machine.stack.goals; variables = s.machine.stack.env.count }) ≡ Back r = ap (λ m. mode_of m s.machine.stack) (sym at) ∙ is in absurd cc)
 
 pub erased-ok : {T E : Type 0} (P : Program) (s : Progress) (t : Reached) (x : ClauseName) (m : Move) (r : Outcomes T E) → s.machine.mode ≡ modes.Ask (questions.Erase x) → any_open s.machine.layer.own ≡ true → OnOk r (Moved P s.machine t m) →
     OnOk r (ErasesBefore P (any_open s.machine.layer.own) s.machine t x (goals_of s.machine.stack s.machine.stack.goals)) → OnOk r (Quiet P s (record s { machine = t }))

@@ -8,7 +8,7 @@ use Rattle.plcells.specs.Store.{Store}
 use Rattle.plsubst.specs.Subst.{bind, shift}
 use Rattle.plsubst.specs.Unify.{unify}
 use Rattle.plclause.specs.Clause.{Clause}
-use Rattle.plsearch.specs.Types.{Kind, Commit, Never, Until, Collect, Transact, Element, Goal, Marker, Raise, Asking, Erasing, Place, Case}
+use Rattle.plsearch.specs.Types.{Kind, Commit, Never, Until, Collect, Transact, Element, Goal, Marker, Raise, Asking, Place, Case}
 use Rattle.plsearch.specs.Moves.{before_rest, is_true, resolve}
 use Rattle.plsearch.specs.Lists.{bind_kind, bind_goals}
 use Rattle.plsearch.specs.Machines.Levels.{IsKindAtMost, AreAtMost}
@@ -90,7 +90,6 @@ fits-more old new w (Goal k t ∷ es) d d' le f = (omega (arith, f.0), w.choices
 fits-more old new w (Marker m k ∷ es) d d' le f = (omega (arith, f.0), may-cut-more old new w m k f.1, fits-more old new w es (top_behind m k) (top_behind m k) (le_refl _) f.2)
 fits-more old new w (Raise b ∷ es) d d' le f = fits-more old new w es d d' le f
 fits-more old new w (Asking q ∷ es) d d' le f = fits-more old new w es d d' le f
-fits-more old new w (Erasing x ∷ es) d d' le f = fits-more old new w es d d' le f
 
 pub fits-widen : (old new : List Sort) → Widens old new → undoings new ≡ undoings old → (es : List Element) → FitsIn old es → FitsIn new es
 fits-widen old new w same es f = (fits-more old new w es (length old) (length new) w.more f.0, f.1 ∙ sym same)
@@ -209,7 +208,6 @@ levels-bound ks σ (Marker m k ∷ es) d f =
     (f.0, bound-cut ks σ m k f.1, subst (λ n. Fits ks n (bind_goals σ es)) (sym (bound-top σ m k)) (levels-bound ks σ es (top_behind m k) f.2))
 levels-bound ks σ (Raise b ∷ es) d f = levels-bound ks σ es d f
 levels-bound ks σ (Asking q ∷ es) d f = levels-bound ks σ es d f
-levels-bound ks σ (Erasing x ∷ es) d f = levels-bound ks σ es d f
 
 transacts-bound : (σ : ℕ → Tree) (es : List Element) → transacts (bind_goals σ es) ≡ transacts es
 transacts-bound σ [] = refl
@@ -217,7 +215,6 @@ transacts-bound σ (Goal k t ∷ es) = transacts-bound σ es
 transacts-bound σ (Marker m k ∷ es) = ap₂ (λ ks ls. ks ++ ls) (bound-transact σ m k) (transacts-bound σ es)
 transacts-bound σ (Raise b ∷ es) = transacts-bound σ es
 transacts-bound σ (Asking q ∷ es) = transacts-bound σ es
-transacts-bound σ (Erasing x ∷ es) = transacts-bound σ es
 
 pub fits-bound : (ks : List Sort) (σ : ℕ → Tree) (es : List Element) → FitsIn ks es → FitsIn ks (bind_goals σ es)
 fits-bound ks σ es f = (levels-bound ks σ es (length ks) f.0, transacts-bound σ es ∙ f.1)
@@ -248,7 +245,6 @@ fits-most ks k (Goal l t ∷ es) f = (omega (arith, f.0), fits-most ks k es (fit
 fits-most ks k (Marker m l ∷ es) f = ((kind-most ks m l k f.1 (omega (arith, f.0)), omega (arith, f.0)), fits-most ks k es (fits-top ks es (top_behind m l) (suc k) (omega (arith, f.0, top-le m l)) f.2))
 fits-most ks k (Raise b ∷ es) f = (tt, fits-most ks k es f)
 fits-most ks k (Asking q ∷ es) f = (tt, fits-most ks k es f)
-fits-most ks k (Erasing x ∷ es) f = (tt, fits-most ks k es f)
 
 -- a database without clauses
 pub no-database : Database

@@ -2,7 +2,7 @@
 use Rattle.std.proofs.Common.{◌≡◌, ℕ, zero, suc, ◌<◌, ◌≤◌, ◌⊎◌, inl, inr, true, ◌==◌, List, [], ◌∷◌, ◌++◌, length, drop, get_or, refl, sym, ap, ◌∙◌, subst, arith, le_refl}
 use Rattle.std.specs.List.{AllByRecursion}
 use Rattle.std.proofs.lemmas.Bool.{or_left, or_right, eq-eqb}
-use Rattle.plsearch.specs.Types.{Commit, Never, Until, Collect, Transact, Element, Goal, Marker, Raise, Asking, Erasing, Catch, Gather, Undo, Case, Choice, Mark, Handle}
+use Rattle.plsearch.specs.Types.{Commit, Never, Until, Collect, Transact, Element, Goal, Marker, Raise, Asking, Catch, Gather, Undo, Case, Choice, Mark, Handle}
 use Rattle.plsearch.specs.Lists.{levels}
 use Rattle.plsearch.specs.Engine.{deeper}
 use Rattle.plsearch.specs.Handlers.{has}
@@ -138,7 +138,6 @@ transacts-below ks (Marker (Collect t) k ∷ es) d n le f = transacts-below ks e
 transacts-below ks (Marker (Transact c) k ∷ es) d n le f = (omega (arith, f.0, le), transacts-below ks es k n (omega (arith, f.0, le)) f.2)
 transacts-below ks (Raise b ∷ es) d n le f = transacts-below ks es d n le f
 transacts-below ks (Asking q ∷ es) d n le f = transacts-below ks es d n le f
-transacts-below ks (Erasing x ∷ es) d n le f = transacts-below ks es d n le f
 
 -- a cut to the level of a choice gives up no transaction
 pub cuts-none : (xs : List Frame) (f : Frame) (ys : List Frame) (k : ℕ) (es : List Element) → IsChoice f → k < depth_of (f ∷ ys) → Precedes (kinds_of (xs ++ f ∷ ys)) k es →
@@ -182,7 +181,6 @@ transacts-named (Marker (Collect t) k ∷ es) = all-more k (levels es) (transact
 transacts-named (Marker (Transact d) k ∷ es) = (has-first k (levels es), all-more k (levels es) (transacts es) (transacts-named es))
 transacts-named (Raise b ∷ es) = transacts-named es
 transacts-named (Asking q ∷ es) = transacts-named es
-transacts-named (Erasing x ∷ es) = transacts-named es
 
 deeper-kinds : (cs : List Case) → length (kinds cs) ≡ deeper cs 0
 deeper-kinds [] = refl

@@ -1,7 +1,7 @@
 -- The levels that goal lists name.
 use Rattle.std.specs.Prelude.{◌≡◌, ℕ, zero, suc, ◌<◌, true, List, [], ◌∷◌, ◌++◌, ◌⊎◌, length, map}
 use Rattle.std.specs.Bool.{⊤}
-use Rattle.plsearch.specs.Types.{Kind, Commit, Never, Until, Collect, Transact, Element, Goal, Marker, Raise, Asking, Erasing, Handler, Catch, Gather, Undo, Case, Choice, Mark, Handle}
+use Rattle.plsearch.specs.Types.{Kind, Commit, Never, Until, Collect, Transact, Element, Goal, Marker, Raise, Asking, Handler, Catch, Gather, Undo, Case, Choice, Mark, Handle}
 use Rattle.plsearch.specs.Engine.{deeper}
 use Rattle.plsearch.specs.Handlers.{has}
 use Rattle.pllinks.specs.declared.item.Item.{Item}
@@ -90,7 +90,6 @@ Fits ks d (Goal k t ∷ es) = (k < d) × ChoiceIn ks k × Fits ks (suc k) es
 Fits ks d (Marker m k ∷ es) = (k < d) × MayCut ks m k × Fits ks (top_behind m k) es
 Fits ks d (Raise b ∷ es) = Fits ks d es
 Fits ks d (Asking q ∷ es) = Fits ks d es
-Fits ks d (Erasing x ∷ es) = Fits ks d es
 
 -- the levels of the markers of transactions, in the order of a list
 abbrev pub transact_at : Kind → ℕ → List ℕ
@@ -106,7 +105,6 @@ transacts (Goal k t ∷ es) = transacts es
 transacts (Marker m k ∷ es) = transact_at m k ++ transacts es
 transacts (Raise b ∷ es) = transacts es
 transacts (Asking q ∷ es) = transacts es
-transacts (Erasing x ∷ es) = transacts es
 
 -- in the cases that are open outside of it, each marker of a transaction stands for the case Undo of its level, and there are no others
 abbrev pub FitsIn : List Sort → List Element → Type 0

@@ -15,7 +15,7 @@ use Rattle.plviews.specs.Views.{Sight, sight, whole}
 use Rattle.plviews.specs.Lookups.{rest_at}
 use Rattle.plcells.specs.declared.cell.Cell.{Cell}
 use Rattle.plcells.specs.Store.{Store, value}
-use Rattle.plsearch.specs.Types.{Element, Erasing, Place, Handler, Catch, Gather, Undo, Case, Choice, Handle}
+use Rattle.plsearch.specs.Types.{Asking, Element, Erase, Place, Handler, Catch, Gather, Undo, Case, Choice, Handle}
 use Rattle.plsearch.specs.Moves.{resolve}
 use Rattle.plsearch.specs.Lookups.{as_fact}
 use Rattle.plsearch.specs.Rows.{solved}
@@ -75,7 +75,7 @@ places_left d e t rest cs = filter_map (resolve d e.count t rest) cs
 -- a list before which a clause is to be erased, if there is one
 abbrev pub first_asked : Option ClauseName → List Element → List Element
 first_asked None es = es
-first_asked (Some x) es = Erasing x ∷ es
+first_asked (Some x) es = Asking (Erase x) ∷ es
 
 abbrev pub place_asked : Option ClauseName → Place → Place
 place_asked x p = record { goals = first_asked x p.goals; variables = p.variables }

@@ -1,7 +1,7 @@
 -- Balls: the levels behind a ball name each Undo that is open, and no handler that a mark gave up.
 use Rattle.std.proofs.Common.{◌≡◌, ℕ, suc, ◌<◌, ◌≤◌, ◌⊎◌, inl, inr, Bool, true, false, ◌||◌, if◌then◌else◌, List, [], ◌∷◌, refl, sym, ap, ◌∙◌, subst, arith, nat_eq}
 use Rattle.std.proofs.lemmas.Bool.Decides.{nat_tests}
-use Rattle.plsearch.specs.Types.{Commit, Never, Until, Collect, Transact, Element, Goal, Marker, Raise, Asking, Erasing, Case, Choice, Mark, Handle, Handler, Catch, Gather, Undo}
+use Rattle.plsearch.specs.Types.{Commit, Never, Until, Collect, Transact, Erase, Element, Goal, Marker, Raise, Asking, Case, Choice, Mark, Handle, Handler, Catch, Gather, Undo}
 use Rattle.plsearch.specs.Lists.{levels}
 use Rattle.plsearch.specs.Handlers.{has}
 use Rattle.plsearch.specs.Engine.{deeper}
@@ -118,8 +118,8 @@ fits-names Γ (Marker (Collect t) l ∷ es) h = let more = fits-names h.0 es h.2
 fits-names Γ (Marker (Transact d) l ∷ es) h =
     let more = fits-names (entry d Choosing ∷ h.0) es h.2 in names-marker Γ Undoing l (entry d Choosing ∷ h.0) (levels es) h.1 more.undoing (λ k is. inr (more.among k is))
 fits-names Γ (Raise b ∷ es) h = fits-names Γ es h
+fits-names Γ (Asking (Erase x) ∷ es) h = fits-names Γ es h
 fits-names Γ (Asking q ∷ es) h = absurd h
-fits-names Γ (Erasing x ∷ es) h = fits-names Γ es h
 
 among-below : (d : ℕ) (Γ : List Entry) (l : ℕ) → Falls d Γ → IsAmong l Γ → l < d
 among-below d [] l f h = absurd h

@@ -5,7 +5,7 @@ use Rattle.std.proofs.lemmas.Bool.Decides.{nat_tests}
 use Rattle.plterm.specs.Tree.{Tree}
 use Rattle.pltx.specs.Own.{State, any_open, nothing}
 use Rattle.plevent.specs.declared.request.Request.TheVariants.{HaltRun}
-use Rattle.plsearch.specs.Types.{Commit, Never, Until, Collect, Transact, Ends, Question, Await, Element, Goal, Marker, Raise, Asking, Erasing, Case, Choice, Mark, Handle, Handler, Catch, Gather, Undo}
+use Rattle.plsearch.specs.Types.{Commit, Never, Until, Collect, Transact, Ends, Question, Await, Erase, Element, Goal, Marker, Raise, Asking, Case, Choice, Mark, Handle, Handler, Catch, Gather, Undo}
 use Rattle.plsearch.specs.Lists.{bind_goals}
 use Rattle.plsearch.specs.Engine.{deeper}
 
@@ -79,8 +79,8 @@ Fits Γ (Marker Until l ∷ es) = (Δ : List Entry) × Leads Γ Guarding l Δ ×
 Fits Γ (Marker (Collect t) l ∷ es) = (Δ : List Entry) × Leads Γ Guarding l Δ × Fits Δ es
 Fits Γ (Marker (Transact d) l ∷ es) = (Δ : List Entry) × Leads Γ Undoing l (entry d Choosing ∷ Δ) × Fits (entry d Choosing ∷ Δ) es
 Fits Γ (Raise b ∷ es) = Fits Γ es
+Fits Γ (Asking (Erase x) ∷ es) = Fits Γ es
 Fits Γ (Asking q ∷ es) = ⊥
-Fits Γ (Erasing x ∷ es) = Fits Γ es
 
 -- it asks to end the run with a number, and nothing goes on behind it
 abbrev pub Halts : Question → Type 0
@@ -89,6 +89,7 @@ Halts q = (n : ℕ) × (q ≡ Await (HaltRun n) (Ends n))
 -- what a machine is at may ask besides, where nothing is open
 unfoldable pub FitsFirst : List Entry → State → List Element → Type 0
 unfolding Fits
+FitsFirst Γ x (Asking (Erase y) ∷ es) = Fits Γ es
 FitsFirst Γ x (Asking q ∷ es) = ((any_open x ≡ false) ⊎ Halts q) × Fits Γ es
 FitsFirst Γ x es = Fits Γ es
 
@@ -219,8 +220,8 @@ fits-more e Γ (Marker Until l ∷ es) is h = (h.0, inr (is, h.1), h.2)
 fits-more e Γ (Marker (Collect t) l ∷ es) is h = (h.0, inr (is, h.1), h.2)
 fits-more e Γ (Marker (Transact d) l ∷ es) is h = (h.0, inr (is, h.1), h.2)
 fits-more e Γ (Raise b ∷ es) is h = fits-more e Γ es is h
+fits-more e Γ (Asking (Erase x) ∷ es) is h = fits-more e Γ es is h
 fits-more e Γ (Asking q ∷ es) is h = absurd h
-fits-more e Γ (Erasing x ∷ es) is h = fits-more e Γ es is h
 
 pub leads-fits : (Γ : List Entry) (s : Sort) (l : ℕ) (Δ : List Entry) (es : List Element) → sort_undos s ≡ 0 → Leads Γ s l Δ → Fits (entry l s ∷ Δ) es → Fits Γ es
 leads-fits [] s l Δ es is h fit = absurd h
@@ -237,10 +238,11 @@ fits-bound σ Γ (Marker Until l ∷ es) h = (h.0, h.1, fits-bound σ h.0 es h.2
 fits-bound σ Γ (Marker (Collect t) l ∷ es) h = (h.0, h.1, fits-bound σ h.0 es h.2)
 fits-bound σ Γ (Marker (Transact d) l ∷ es) h = (h.0, h.1, fits-bound σ (entry d Choosing ∷ h.0) es h.2)
 fits-bound σ Γ (Raise b ∷ es) h = fits-bound σ Γ es h
+fits-bound σ Γ (Asking (Erase x) ∷ es) h = fits-bound σ Γ es h
 fits-bound σ Γ (Asking q ∷ es) h = absurd h
-fits-bound σ Γ (Erasing x ∷ es) h = fits-bound σ Γ es h
 
 pub fits-first : (Γ : List Entry) (x : State) (es : List Element) → Fits Γ es → FitsFirst Γ x es
 unfolding Fits FitsFirst
+fits-first Γ x (Asking (Erase y) ∷ es) h = h
 fits-first Γ x (Asking q ∷ es) h = absurd h
 fits-first Γ x es h = h

@@ -31,7 +31,7 @@ use Rattle.plbuiltin.specs.Lists.{may_be_list}
 use Rattle.plbuiltin.specs.Solution.{Solution, Solved, Gives, Raises as Refuses}
 use Rattle.plbuiltin.specs.Solutions.{solutions}
 use Rattle.plsearch.specs.Errors.{error_term}
-use Rattle.plsearch.specs.Types.{Fail, Throw, Halted, Stopped, Unfit, Commit, Never, Until, Collect, Transact, Then, GoesOn, Ends, Lookup, ToCall, ToRetrieve, ToRetract, ToRetractAll, Question, Look, Begin, Await, Element, Goal, Marker, Asking, Erasing, Place, Case, Choice, Mark, Local, Move, Give, Go}
+use Rattle.plsearch.specs.Types.{Fail, Throw, Halted, Stopped, Unfit, Commit, Never, Until, Collect, Transact, Then, GoesOn, Ends, Lookup, ToCall, ToRetrieve, ToRetract, ToRetractAll, Question, Look, Begin, Await, Erase, Element, Goal, Marker, Asking, Place, Case, Choice, Mark, Local, Move, Give, Go}
 use Rattle.plsearch.specs.Lists.{bind_goals, levels}
 use Rattle.plsearch.specs.Forms.{Form, True, False, Both, Either, IfThenElse, Not, Once, Catching, FindAll, Within, Throwing, CallWith, Cut, Halting, Adding, Retrieving, Retracting, RetractingAll, Declaring, BuiltIn, Call, NoGoal, form}
 use Rattle.plsearch.specs.Running.{Runnable, Runs, Raises, runnable, called}
@@ -87,6 +87,7 @@ module _ (cs : List Case) (fit : CasesFit cs) where
 
   asks-first : (q : Question) (rest : List Element) (n : ℕ) (w : Local) → Fits Γ rest → Open w → ((any_open w.own ≡ false) ⊎ Halts q) → MoveFits cs (go_on (Asking q ∷ rest) n w)
   unfolding FitsFirst
+  asks-first (Erase x) rest n w all is may = goes (Asking (Erase x) ∷ rest) n w all is
   asks-first q rest n w all is may = goes (Asking q ∷ rest) n w (may, all) is
 
   throws : (b : Tree) (rest : List Element) (w : Local) → Fits Γ rest → Open w → MoveFits cs (Give (Throw b (levels rest)) w)
@@ -196,7 +197,7 @@ module _ (cs : List Case) (fit : CasesFit cs) where
   retracts-fit : (n : ℕ) (t : Tree) (rest : List Element) → Fits Γ rest → (xs : List Living) → PlacesFit Inner (filter_map (retract d n t rest) xs)
   unfolding Fits
   retracts-fit n t rest all [] = tt
-  retracts-fit n t rest all (x ∷ xs) = place-fits n t (Erasing x.name ∷ rest) all (as_fact x.clause) (filter_map (retract d n t rest) xs) (retracts-fit n t rest all xs)
+  retracts-fit n t rest all (x ∷ xs) = place-fits n t (Asking (Erase x.name) ∷ rest) all (as_fact x.clause) (filter_map (retract d n t rest) xs) (retracts-fit n t rest all xs)
 
   missing-fits : (u : Unknown) (t : Tree) (rest : List Element) (w : Local) → Fits Γ rest → Open w → MoveFits cs (missing u t rest w)
   missing-fits unknown.Error t rest w all is = raises _ _ rest w all is
@@ -330,5 +331,5 @@ module _ (cs : List Case) (fit : CasesFit cs) where
   answered-fits (Asking (Look u)) (Seen g us) rest n w all is = looked-up-fits us u rest n w all is
   answered-fits (Asking (Begin i g)) (Seen v us) rest n w all is = opened-fits i v g rest n w all is
   answered-fits (Asking (Await q t)) (Got r) rest n w all is = follows-fits (outcome q r) t rest n w all is
-  answered-fits (Erasing x) (Got r) rest n w all is = follows-fits (outcome (EraseOne x) r) GoesOn rest n w all is
+  answered-fits (Asking (Erase x)) (Got r) rest n w all is = follows-fits (outcome (EraseOne x) r) GoesOn rest n w all is
   answered-fits e a rest n w all is = misfits w

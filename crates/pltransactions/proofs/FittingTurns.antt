@@ -18,7 +18,7 @@ use Rattle.pltx.specs.declared.level.Isolation.TheVariants.{Transaction, Snapsho
 use Rattle.pltx.specs.declared.level.Isolation.{Isolation}
 use Rattle.plprogram.specs.Program.{Program}
 use Rattle.plbuiltin.specs.Solution.{Solution}
-use Rattle.plsearch.specs.Types.{Result, Stop, Fail, CutTo, Throw, Halted, Spent, Awaits, Stopped, Unfit, Commit, Never, Until, Collect, Transact, Element, Goal, Marker, Raise, Asking, Erasing, Place, Case, Choice, Mark, Handle, Handler, Catch, Gather, Undo, Local, Move, Give, Go, Asks, End, Pass, Return, Keep, Again, Anew, Run}
+use Rattle.plsearch.specs.Types.{Result, Stop, Fail, CutTo, Throw, Halted, Spent, Awaits, Stopped, Unfit, Commit, Never, Until, Collect, Transact, Question, Element, Goal, Marker, Raise, Asking, Place, Case, Choice, Mark, Handle, Handler, Catch, Gather, Undo, Local, Move, Give, Go, Asks, End, Pass, Return, Keep, Again, Anew, Run}
 use Rattle.plsearch.specs.Lists.{bind_goals, levels}
 use Rattle.plsearch.specs.Running.{Runnable, Runs, Raises, runnable}
 use Rattle.plsearch.specs.Collecting.{copies_from, dropped, gathered}
@@ -85,13 +85,13 @@ ask-fits cs fit e es n q run [] all is = record { outside = fit; here = tt }
 ask-fits cs fit e es n q run (a ∷ more) all is = move-fits cs fit (record run { answers = more; below = founded e a run.below }) (answered e a (deeper cs 0) es n run.local) (answered-fits cs fit e a es n run.local all is)
 
 erasing-fits : (P : Program) (cs : List Case) → CasesFit cs → (x : ClauseName) (es : List Element) (n : ℕ) (run : Run) → Fits (around cs) es → Stands run.local.own (undos (around cs)) →
-    Fitting (meets P cs (Erasing x) es n run (erasing x run.local))
+    Fitting (meets P cs (Asking (Question.Erase x)) es n run (erasing x run.local))
 unfolding ResultFits
 erasing-fits P cs fit x es n run all is = go (any_open run.local.own) refl (erased_in (target_at run.local.own.base x) run.local.own.updates)
   where
     go : (b : Bool) → any_open run.local.own ≡ b → (c : Bool) →
-        Fitting (meets P cs (Erasing x) es n run (if not b then Asks (Ask (EraseOne x)) else (if c then End Fail run.local else Pass (record run.local { own = made (Erase x) run.local.own }))))
-    go false closed c = ask-fits cs fit (Erasing x) es n (Ask (EraseOne x)) run run.answers all is
+        Fitting (meets P cs (Asking (Question.Erase x)) es n run (if not b then Asks (Ask (EraseOne x)) else (if c then End Fail run.local else Pass (record run.local { own = made (Erase x) run.local.own }))))
+    go false closed c = ask-fits cs fit (Asking (Question.Erase x)) es n (Ask (EraseOne x)) run run.answers all is
     go true now true = record { outside = fit; here = is }
     go true now false = record { outside = fit; here = record { list = fits-first (around cs) _ es all; open_here = stands-made (Erase x ∷ []) run.local.own (undos (around cs)) now is } }
 
@@ -125,8 +125,8 @@ visits-fit P cs fit (Marker (Transact d) l ∷ es) n run all is =
           (stands-ended true own (undos all.0) (subst (Stands own) (leads-undos (around cs) Undoing l (entry d Choosing ∷ all.0) all.1) is));
     }
 visits-fit P cs fit (Raise b ∷ es) n run all is = record { outside = fit; here = thrown cs b es run.local.own all is }
+visits-fit P cs fit (Asking (Question.Erase x) ∷ es) n run all is = erasing-fits P cs fit x es n run all is
 visits-fit P cs fit (Asking q ∷ es) n run all is = ask-fits cs fit (Asking q) es n (asked q) run run.answers all.1 is
-visits-fit P cs fit (Erasing x ∷ es) n run all is = erasing-fits P cs fit x es n run all is
 
 -- a result outside of a choice
 unlike : (l d : ℕ) → l < d → nat_eq l d ≡ false

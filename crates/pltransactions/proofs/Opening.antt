@@ -30,7 +30,7 @@ use Rattle.plbuiltin.specs.Errors.{type_error}
 use Rattle.plbuiltin.specs.Lists.{may_be_list}
 use Rattle.plbuiltin.specs.Solution.{Solution, Solved, Gives, Raises as Refuses}
 use Rattle.plbuiltin.specs.Solutions.{solutions}
-use Rattle.plsearch.specs.Types.{Result, Fail, Throw, Commit, Never, Until, Collect, Transact, Then, GoesOn, Ends, Lookup, ToCall, ToRetrieve, ToRetract, ToRetractAll, Question, Look, Begin, Await, Element, Goal, Marker, Raise, Asking, Erasing, Place, Case, Choice, Mark, Handle, Handler, Catch, Gather, Undo, Local, Move, Give, Go, Asks, End, Pass, Return, Keep, Again, Anew, Run}
+use Rattle.plsearch.specs.Types.{Result, Fail, Throw, Commit, Never, Until, Collect, Transact, Then, GoesOn, Ends, Lookup, ToCall, ToRetrieve, ToRetract, ToRetractAll, Question, Look, Begin, Await, Element, Goal, Marker, Raise, Asking, Place, Case, Choice, Mark, Handle, Handler, Catch, Gather, Undo, Local, Move, Give, Go, Asks, End, Pass, Return, Keep, Again, Anew, Run}
 use Rattle.plsearch.specs.Lists.{bind_goals}
 use Rattle.plsearch.specs.Forms.{Form, True, False, Both, Either, IfThenElse, Not, Once, Catching, FindAll, Within, Throwing, CallWith, Cut, Halting, Adding, Retrieving, Retracting, RetractingAll, Declaring, BuiltIn, Call, NoGoal, form}
 use Rattle.plsearch.specs.Running.{Runnable, Runs, Raises, runnable}
@@ -211,26 +211,19 @@ asking-does cases (Begin i g) es n run (Got r ∷ more) = Same refl
 asking-does cases (Await q t) es n run (Got r ∷ more) =
     move-does cases (record run { answers = more }) (follows (outcome q r) t es n run.local) (Asking (Await q t) ∷ es) (follows-keeps (outcome q r) t es n run.local)
 asking-does cases (Await q t) es n run (Seen g us ∷ more) = Same refl
+asking-does cases (Question.Erase x) es n run (Got r ∷ more) =
+    move-does cases (record run { answers = more }) (follows (outcome (EraseOne x) r) GoesOn es n run.local) (Asking (Question.Erase x) ∷ es) (follows-keeps (outcome (EraseOne x) r) GoesOn es n run.local)
+asking-does cases (Question.Erase x) es n run (Seen g us ∷ more) = Same refl
 
-erasing-asks : (cases : List Case) (x : ClauseName) (es : List Element) (n : ℕ) (q : Item) (run : Run) (xs : List Answer) → any_open (ask cases (Erasing x) es n q run xs).run.local.own ≡ any_open run.local.own
-unfolding answered
-erasing-asks cases x es n q run [] = refl
-erasing-asks cases x es n q run (Seen g us ∷ more) = refl
-erasing-asks cases x es n q run (Got r ∷ more) = go (follows (outcome (EraseOne x) r) GoesOn es n run.local) (follows-keeps (outcome (EraseOne x) r) GoesOn es n run.local)
-  where
-    go : (m : Move) → Keeps run.local m → any_open (move cases (record run { answers = more }) m).run.local.own ≡ any_open run.local.own
-    go (Give r w) h = h
-    go (Go cs p w) h = h
-
-erasing-does : (P : Program) (cases : List Case) (x : ClauseName) (es : List Element) (n : ℕ) (run : Run) → any_open (meets P cases (Erasing x) es n run (erasing x run.local)).run.local.own ≡ any_open run.local.own
+erasing-does : (P : Program) (cases : List Case) (x : ClauseName) (es : List Element) (n : ℕ) (run : Run) →
+    AtList run (Asking (Question.Erase x) ∷ es) (meets P cases (Asking (Question.Erase x)) es n run (erasing x run.local)).run.local.own
 erasing-does P cases x es n run = go (not (any_open run.local.own)) (erased_in (target_at run.local.own.base x) run.local.own.updates)
   where
-    go : (b c : Bool) →
-        any_open (meets P cases (Erasing x) es n run (if b then Asks (Ask (EraseOne x)) else (if c then End Fail run.local else Pass (record run.local { own = made (Erase x) run.local.own })))).run.local.own
-        ≡ any_open run.local.own
-    go true c = erasing-asks cases x es n (Ask (EraseOne x)) run run.answers
-    go false true = refl
-    go false false = made-keeps (Erase x ∷ []) run.local.own
+    go : (b c : Bool) → AtList run (Asking (Question.Erase x) ∷ es)
+        (meets P cases (Asking (Question.Erase x)) es n run (if b then Asks (Ask (EraseOne x)) else (if c then End Fail run.local else Pass (record run.local { own = made (Erase x) run.local.own })))).run.local.own
+    go true c = asking-does cases (Question.Erase x) es n run run.answers
+    go false true = Same refl
+    go false false = Same (made-keeps (Erase x ∷ []) run.local.own)
 
 visits-do : (P : Program) (cases : List Case) (es : List Element) (n : ℕ) (run : Run) → AtList run es (visits P cases es n run).run.local.own
 unfolding meet
@@ -247,8 +240,8 @@ visits-do P cases (Marker Until l ∷ es) n run = Same refl
 visits-do P cases (Marker (Collect t) l ∷ es) n run = Same refl
 visits-do P cases (Marker (Transact d) l ∷ es) n run = Closes tt (ended-closed true run.local.own)
 visits-do P cases (Raise b ∷ es) n run = Same refl
+visits-do P cases (Asking (Question.Erase x) ∷ es) n run = erasing-does P cases x es n run
 visits-do P cases (Asking q ∷ es) n run = asking-does cases q es n run run.answers
-visits-do P cases (Erasing x ∷ es) n run = Same (erasing-does P cases x es n run)
 
 -- of a turn with a result
 choose-does : (cases : List Case) (run : Run) (ps : List Place) (r : Result) → any_open (chooses cases run ps r).run.local.own ≡ any_open run.local.own

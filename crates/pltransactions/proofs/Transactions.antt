@@ -13,7 +13,7 @@ use Rattle.pltx.specs.declared.level.Level.{Level}
 use Rattle.pltx.specs.declared.level.Isolation.{Isolation}
 use Rattle.pltx.specs.declared.level.Isolation.TheVariants.{Transaction, Snapshot}
 use Rattle.plprogram.specs.Program.{Program}
-use Rattle.plsearch.specs.Types.{Result, Stop, Fail, CutTo, Throw, Halted, Awaits, Stopped, Unfit, Commit, Never, Until, Collect, Transact, Ends, Question, Await, Element, Goal, Marker, Raise, Asking, Erasing, Place, Case, Choice, Mark, Handle, Undo, Local, Move, Give, Go, Meeting, Select, Asks, End, Pass, Marked, Return, Keep, Again, Anew, Run}
+use Rattle.plsearch.specs.Types.{Result, Stop, Fail, CutTo, Throw, Halted, Awaits, Stopped, Unfit, Commit, Never, Until, Collect, Transact, Ends, Question, Await, Element, Goal, Marker, Raise, Asking, Place, Case, Choice, Mark, Handle, Undo, Local, Move, Give, Go, Meeting, Select, Asks, End, Pass, Marked, Return, Keep, Again, Anew, Run}
 use Rattle.plsearch.specs.Moves.{publishing}
 use Rattle.plsearch.specs.Rows.{select, asked, published, meet}
 use Rattle.plsearch.specs.Replies.{answered, founded}
@@ -224,8 +224,8 @@ open-asks P m q reached now is = go m.mode (reached-fits P m reached).here is
     first (Marker (Collect t) l ∷ es) n fit is = absurd (nothing-asked is)
     first (Marker (Transact d) l ∷ es) n fit is = absurd (nothing-asked is)
     first (Raise b ∷ es) n fit is = absurd (nothing-asked is)
+    first (Asking (Question.Erase x) ∷ es) n fit is = absurd (erases x (any_open m.run.local.own) (erased_in (target_at m.run.local.own.base x) m.run.local.own.updates) now is)
     first (Asking x ∷ es) n fit is = asks x es n fit.0 is
-    first (Erasing x ∷ es) n fit is = absurd (erases x (any_open m.run.local.own) (erased_in (target_at m.run.local.own.base x) m.run.local.own.updates) now is)
 
     go : (mode : Mode) → ModeFits m.cases m.run.local.own mode → asked_in mode m.run.local ≡ Some q → AsksToHalt mode q
     go (At p) fit is = first p.goals p.variables fit.list is
@@ -301,17 +301,17 @@ fits-ends Γ (Marker Until l ∷ es) h = fits-ends h.0 es h.2 ∙ sym (leads-und
 fits-ends Γ (Marker (Collect t) l ∷ es) h = fits-ends h.0 es h.2 ∙ sym (leads-undos Γ Guarding l h.0 h.1)
 fits-ends Γ (Marker (Transact d) l ∷ es) h = ap suc (fits-ends (entry d Choosing ∷ h.0) es h.2) ∙ sym (leads-undos Γ Undoing l (entry d Choosing ∷ h.0) h.1)
 fits-ends Γ (Raise b ∷ es) h = fits-ends Γ es h
+fits-ends Γ (Asking (Question.Erase x) ∷ es) h = fits-ends Γ es h
 fits-ends Γ (Asking q ∷ es) h = absurd h
-fits-ends Γ (Erasing x ∷ es) h = fits-ends Γ es h
 
 first-ends : (Γ : List Entry) (x : State) (es : List Element) → FitsFirst Γ x es → ends es ≡ undos Γ
 unfolding FitsFirst
+first-ends Γ x (Asking (Question.Erase y) ∷ es) h = fits-ends Γ es h
 first-ends Γ x (Asking q ∷ es) h = fits-ends Γ es h.1
 first-ends Γ x [] h = fits-ends Γ [] h
 first-ends Γ x (Goal k t ∷ es) h = fits-ends Γ (Goal k t ∷ es) h
 first-ends Γ x (Marker m l ∷ es) h = fits-ends Γ (Marker m l ∷ es) h
 first-ends Γ x (Raise b ∷ es) h = fits-ends Γ (Raise b ∷ es) h
-first-ends Γ x (Erasing y ∷ es) h = fits-ends Γ (Erasing y ∷ es) h
 
 pub open-have-ends : OpenHaveEnds
 open-have-ends P m p reached is = go (subst (ModeFits m.cases m.run.local.own) is (reached-fits P m reached).here)

@@ -8,7 +8,7 @@ use Rattle.pltx.specs.declared.level.Isolation.{Isolation}
 use Rattle.pltx.specs.declared.level.Isolation.TheVariants.{Transaction, Snapshot}
 use Rattle.pltx.specs.declared.level.Level.{Level}
 use Rattle.plprogram.specs.Program.{Program}
-use Rattle.plsearch.specs.Types.{Result, Stop, Fail, CutTo, Throw, Halted, Awaits, Stopped, Unfit, Kind, Transact, Element, Goal, Marker, Raise, Asking, Erasing, Place, Case, Choice, Mark, Handle, Undo, Local, Meeting, Asks, Run}
+use Rattle.plsearch.specs.Types.{Result, Stop, Fail, CutTo, Throw, Halted, Awaits, Stopped, Unfit, Kind, Transact, Element, Goal, Marker, Raise, Asking, Place, Case, Choice, Mark, Handle, Undo, Local, Meeting, Asks, Run}
 use Rattle.plsearch.specs.Moves.{publishing}
 use Rattle.plsearch.specs.Rows.{meet}
 use Rattle.plsearch.specs.Handlers.{has}
@@ -134,7 +134,6 @@ ends (Goal k t ∷ es) = ends es
 ends (Marker m l ∷ es) = ends_with m (ends es)
 ends (Raise b ∷ es) = ends es
 ends (Asking q ∷ es) = ends es
-ends (Erasing x ∷ es) = ends es
 
 -- as many are open as the list has ends
 abbrev pub OpenHaveEnds : Type 0

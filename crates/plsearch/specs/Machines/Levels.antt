@@ -1,6 +1,6 @@
 -- The levels that a goal list names, and cases that do nothing but keep their levels.
 use Rattle.std.specs.Prelude.{ℕ, ◌≤◌, List, [], ◌∷◌}
-use Rattle.plsearch.specs.Types.{Kind, Transact, Element, Goal, Marker, Raise, Asking, Erasing, Case, Choice}
+use Rattle.plsearch.specs.Types.{Kind, Transact, Element, Goal, Marker, Raise, Asking, Case, Choice}
 
 abbrev pub IsKindAtMost : ℕ → Kind → Type 0
 IsKindAtMost k (Transact d) = d ≤ k
@@ -12,7 +12,6 @@ IsAtMost k (Goal l t) = l ≤ k
 IsAtMost k (Marker m l) = IsKindAtMost k m × l ≤ k
 IsAtMost k (Raise b) = Unit {0}
 IsAtMost k (Asking q) = Unit {0}
-IsAtMost k (Erasing x) = Unit {0}
 
 abbrev pub AreAtMost : ℕ → List Element → Type 0
 AreAtMost k [] = Unit {0}
