@@ -1,11 +1,11 @@
 -- What is left to ask, once a query was answered in its view, and where a walk goes on among own clauses.
 use Rattle.std.specs.Prelude.{Result as Outcomes, Ok, Err}
-use Rattle.std.proofs.Common.{IfOk, IfSome, OnOk, append_assoc, ◌≡◌, ◌≢◌, ◌⊎◌, ℕ, Bool, true, false, List, [], ◌∷◌, ◌++◌, inl, inr, Option, None, Some, if◌then◌else◌, nat_eq, refl, sym, ap, ap₂, ◌∙◌, subst, arith}
+use Rattle.std.proofs.Common.{IfOk, OnOk, ◌≡◌, ◌≢◌, ◌⊎◌, ℕ, Bool, true, false, List, [], ◌∷◌, ◌++◌, inl, inr, Option, None, Some, if◌then◌else◌, nat_eq, refl, sym, ap, ap₂, ◌∙◌, subst, arith}
 use Rattle.std.proofs.lemmas.Bool.Decides.{nat_tests}
 use Rattle.std.proofs.lemmas.List.{append-nil}
 use Rattle.plterm.specs.Tree.{Tree}
 use Rattle.plcells.specs.declared.cell.Cell.{Cell}
-use Rattle.plcells.specs.Store.{value}
+use Rattle.plcells.specs.Store.{Store, value}
 use Rattle.plclause.specs.Indicators.{indicator}
 use Rattle.plevent.specs.declared.update.ClauseName.{ClauseName}
 use Rattle.plevent.specs.Alive.{Stamped, living}
@@ -45,12 +45,12 @@ use Rattle.plmachine.specs.declared.machine.Mode.TheVariants as modes
 use Rattle.plmachine.specs.declared.machine.Machine.{Machine as Reached}
 use Rattle.plmachine.specs.Machine.{IsPlain}
 use Rattle.plsolver.specs.Fetching.{find_view, like, mode_none, spot_ahead, spot_behind, sweep_behind, FindAsks, Seeks, WalksOn}
-use Rattle.plsolver.specs.Asking.{ahead_asks, behind_asks, clause_asks, find_asks, first_asks, names_asks, names_behind, none_asks, onward_asks, reach_asks, spot_asks, sweep_asks, view_at, AsksNext, FindAsked, FindLeft, Further, GoesFurther, SeeksOn, SeesOwn, Spends, WalkAsked}
+use Rattle.plsolver.specs.Asking.{ahead_asks, behind_asks, clause_asks, find_asks, first_asks, names_asks, names_behind, none_asks, onward_asks, reach_asks, spot_asks, sweep_asks, view_at, AllGone, AsksNext, BecomesWalk, FindAsked, FindLeft, Further, GoesFurther, IsPart, LooksOn, SeeksOn, Spends, WalkAsked}
 use Rattle.plsolver.specs.Going.{IsInView, LooksBehind}
 use Rattle.plsolver.proofs.Asking.{behind-next, names_from_if}
 use Rattle.plsolver.proofs.Behind.{looks-elim}
-use Rattle.plsolver.proofs.Further.{all_same, further_ends}
-use Rattle.plsolver.proofs.Seeking.{finds-plain, same-walking}
+use Rattle.plsolver.proofs.Further.{further_ends, looks_same, looks_trans, walks_same}
+use Rattle.plsolver.proofs.Seeking.{same-walking}
 
 pub on_ok_both : {T E A B C : Type 0} (r : Outcomes T E) → (A → B → C) → OnOk r A → OnOk r B → OnOk r C
 on_ok_both (Ok x) f a b = f a b
@@ -211,26 +211,26 @@ moves-further s t w None in_view m goes = further_ends s t (w ∷ [], walk-was s
 moves-further s t w (Some x) in_view m goes = record {
   ended = [];
   kept = w ∷ m.more;
-  begun = [];
-  left = spotted w x ∷ m.more;
   was = walk-was s t w (Some x) in_view m;
-  now = m.walks ∙ ap (λ ws. ws ++ m.more) (viewed-is (spotted w x) x (goes x refl).0);
-  further = ((goes x refl).1, all_same m.more);
-  own = tt;
+  further = subst (AllGone GoesFurther (w ∷ m.more)) (sym (m.walks ∙ ap (λ ws. ws ++ m.more) (viewed-is (spotted w x) x (goes x refl).0))) ((goes x refl).1, walks_same m.more);
 }
 
--- a walk that sees own updates has begun
-pub opens-further : (s t : State) (w : Walk) → IsInView w.spot → SeesOwn w → walks_in t ≡ viewed w w.spot ++ walks_in s → Further s t
-opens-further s t w in_view own walks = record {
-  ended = [];
-  kept = walks_in s;
-  begun = w ∷ [];
-  left = walks_in s;
-  was = refl;
-  now = walks ∙ ap (λ ws. ws ++ walks_in s) (viewed-is w w.spot in_view);
-  further = all_same (walks_in s);
-  own = (own, tt);
-}
+-- a look-up became a walk at an own clause
+module _ (s : Store) (x : Sought) (g : View) (k : OwnCursor) (y : ClauseName) (r : Reach) (leads : Leads g (reaches.Front k) (steps.Next y r)) where
+  abbrev begun : Walk
+  begun = record { goal = x.goal; uses = x.uses; spot = spots.At g y r }
+
+  begun-part : (v : Views) → IsPart (find_asks v s (finds.First x g)) (spot_asks v (head_in x.uses (value s x.goal)) (spots.At g y r))
+  begun-part v =
+      let h = head_in x.uses (value s x.goal) in
+      subst (IsPart (find_asks v s (finds.First x g))) (sym (leads-asks g (v g.place) h (reaches.Front k) (steps.Next y r) leads)) (go h (names_behind (v g.place) h Start))
+    where
+      go : (h : Tree) (xs : List ClauseName) → IsPart (like h Start ∷ first_asks x.uses h xs) (like h Start ∷ names_asks h xs)
+      go h [] = record { before = []; behind = none_asks x.uses h; is = refl }
+      go h (z ∷ zs) = record { before = []; behind = []; is = sym (append-nil (like h Start ∷ names_asks h (z ∷ zs))) }
+
+  pub becomes-own : BecomesWalk s (finds.First x g) begun
+  becomes-own = record { sought = x; view = g; first = refl; goal = refl; uses = refl; seen = refl; own = leads.0.1; asks = begun-part }
 
 -- ---- a walk that was answered
 
@@ -376,14 +376,6 @@ module _ (v : Views) (c : Cell) (w : Sweep) (s new : Reached) where
     pub sweep-ends : IsPlain new.mode → EndsWalks s.stack new.stack → FindAsked v (finds.Sweep c w) s new (like head cur)
     sweep-ends plain ends = record { others = step_asks w.view (v w.view.place) head step; spends = sweep-spends; left = inr (plain, ends) }
 
-  -- by which no more may be asked
-  pub sweep-on : (x : Sweep) → s.mode ≡ modes.Find (finds.Sweep c w) → new.mode ≡ modes.Find (finds.Sweep c x) → value new.stack.env.heap c ≡ head →
-      (gone : List Query) → sweep_asks w.view (v w.view.place) head w.spot ≡ gone ++ sweep_asks x.view (v x.view.place) head x.spot → SeeksOn v s new
-  sweep-on x at mode same gone asks f is =
-      let e : modes.Find (finds.Sweep c x) ≡ modes.Find f = sym mode ∙ is in
-      let that : finds.Sweep c x ≡ f = cc in
-      (finds.Sweep c w, at, (gone, asks ∙ ap (λ t. gone ++ sweep_asks x.view (v x.view.place) t x.spot) (sym same) ∙ ap (λ y. gone ++ find_asks v new.stack.env.heap y) that))
-
   pub sweep-past : (y : ClauseName) (r : Reach) (x : Sweep) → w.spot ≡ sweeps.At y r → y.place ≢ w.view.place → x.view ≡ w.view → x.spot ≡ sweeps.Seek r → new.mode ≡ modes.Find (finds.Sweep c x) → value new.stack.env.heap c ≡ head → walks_in new.stack ≡ walks_in s.stack →
       FindAsked v (finds.Sweep c w) s new (Query.Clause y)
   sweep-past y r x at other view spot mode same walks =
@@ -397,33 +389,39 @@ module _ (v : Views) (c : Cell) (w : Sweep) (s new : Reached) where
 
 -- ---- what is sought without an answer
 
-pub seeks-same : (v : Views) (s : Reached) → SeeksOn v s s
-seeks-same v s f at = (f, at, ([], refl))
+pub seeks-same : (s : Reached) → SeeksOn s s
+seeks-same s f at = (f, at, looks_same s.stack.env.heap f)
 
-pub seeks-trans : (v : Views) (a b c : Reached) → SeeksOn v a b → SeeksOn v b c → SeeksOn v a c
-seeks-trans v a b c x y f at =
+pub seeks-trans : (a b c : Reached) → SeeksOn a b → SeeksOn b c → SeeksOn a c
+seeks-trans a b c x y f at =
     let n = y f at in
     let m = x n.0 n.1 in
-    (m.0, m.1, (m.2.0 ++ n.2.0, m.2.1 ∙ ap (λ qs. m.2.0 ++ qs) n.2.1 ∙ sym (append_assoc m.2.0 n.2.0 (find_asks v c.stack.env.heap f))))
+    (m.0, m.1, looks_trans a.stack.env.heap b.stack.env.heap c.stack.env.heap m.0 n.0 f m.2 n.2)
 
-pub seeks-plain : (v : Views) (s new : Reached) → IsPlain new.mode → SeeksOn v s new
-seeks-plain v s new plain f at = absurd (finds-plain new.mode f at plain)
+-- a look-up goes on as a sweep
+to-sweep : (f : Find) (c : Cell) (x : Sweep) (s new : Reached) → s.mode ≡ modes.Find f → new.mode ≡ modes.Find (finds.Sweep c x) →
+    ((v : Views) → (gone : List Query) × (find_asks v s.stack.env.heap f ≡ gone ++ find_asks v new.stack.env.heap (finds.Sweep c x))) → SeeksOn s new
+to-sweep f c x s new at mode asks g is =
+    let e : modes.Find (finds.Sweep c x) ≡ modes.Find g = sym mode ∙ is in
+    let that : finds.Sweep c x ≡ g = cc in
+    (f, at, subst (LooksOn s.stack.env.heap f new.stack.env.heap) that (record { first = λ y b e. absurd (cc); asks = asks }))
 
-pub all-on : (v : Views) (c : Cell) (g : View) (s : Reached) (w : Sweep) (k : OwnCursor) → s.mode ≡ modes.Find (finds.All c g) → w.view ≡ g → w.spot ≡ sweeps.Seek (reaches.Front k) → SeeksOn v s (record s { mode = modes.Find (finds.Sweep c w) })
-all-on v c g s w k at view spot f is =
+-- a sweep as another one
+pub sweep-on : (c : Cell) (w x : Sweep) (s new : Reached) → s.mode ≡ modes.Find (finds.Sweep c w) → new.mode ≡ modes.Find (finds.Sweep c x) → value new.stack.env.heap c ≡ value s.stack.env.heap c → (gone : Views → List Query) →
+    ((v : Views) → sweep_asks w.view (v w.view.place) (value s.stack.env.heap c) w.spot ≡ gone v ++ sweep_asks x.view (v x.view.place) (value s.stack.env.heap c) x.spot) → SeeksOn s new
+sweep-on c w x s new at mode same gone asks =
+    to-sweep (finds.Sweep c w) c x s new at mode (λ v. (gone v, asks v ∙ ap (λ t. gone v ++ sweep_asks x.view (v x.view.place) t x.spot) (sym same)))
+
+-- and one at its beginning
+pub all-on : (c : Cell) (g : View) (s : Reached) (w : Sweep) (k : OwnCursor) → s.mode ≡ modes.Find (finds.All c g) → w.view ≡ g → w.spot ≡ sweeps.Seek (reaches.Front k) → SeeksOn s (record s { mode = modes.Find (finds.Sweep c w) })
+all-on c g s w k at view spot =
     let h : Tree = value s.stack.env.heap c in
-    let that : finds.Sweep c w ≡ f = cc in
-    (finds.All c g, at, (Query.Exists (indicator h) ∷ [], ap (λ qs. Query.Exists (indicator h) ∷ qs) (sym (ap₂ (λ (b : View) z. sweep_asks b (v b.place) h z) view spot)) ∙ ap (λ y. Query.Exists (indicator h) ∷ find_asks v s.stack.env.heap y) that))
+    to-sweep (finds.All c g) c w s (record s { mode = modes.Find (finds.Sweep c w) }) at refl
+    (λ v. (Query.Exists (indicator h) ∷ [], ap (λ qs. Query.Exists (indicator h) ∷ qs) (sym (ap₂ (λ (b : View) z. sweep_asks b (v b.place) h z) view spot))))
 
 pub if_ok_all : {T E A : Type 0} (r : Outcomes T E) → A → IfOk r (λ x. A)
 if_ok_all (Ok x) a = a
 if_ok_all (Err e) a = tt
-
--- what holds where something is due
-pub due-map : {T E A B : Type 0} (r : Outcomes (Option T) E) → (A → B) → IfOk r (λ o. IfSome o (λ x. A)) → IfOk r (λ o. IfSome o (λ x. B))
-due-map (Ok (Some x)) f a = f a
-due-map (Ok None) f a = tt
-due-map (Err e) f a = tt
 
 -- ---- what was asked
 

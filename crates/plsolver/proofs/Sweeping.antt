@@ -318,10 +318,10 @@ module _ (s : Progress) (c : Cell) (w : Sweep) (r : Reach) (step : Step) (at : s
         (sweeps-keep P s c w (record w { spot = spot }) at refl
         (λ v ordered. swept-behind (sight_in v own w.view) s.machine.stack.env.count sought w (record w { spot = spot }) r step at_spot (told.tells (v w.view.place) (ordered.ordered w.view.place) (ordered.under w.view.place)) is refl))
 
-    pub step-on : (v : Views) → SeeksOn v s.machine new.machine
-    step-on v =
-        sweep-on v c w s.machine new.machine (record w { spot = spot }) at (ap (λ n. n.machine.mode) to) (ap (λ n. value n.machine.stack.env.heap c) to) []
-        (ap (sweep_asks w.view (v w.view.place) sought) at_spot ∙ sym (leads-asks w.view (v w.view.place) sought r step told.leads) ∙ sym (spot-asked w.view (v w.view.place) sought step spot is))
+    pub step-on : SeeksOn s.machine new.machine
+    step-on =
+        sweep-on c w (record w { spot = spot }) s.machine new.machine at (ap (λ n. n.machine.mode) to) (ap (λ n. value n.machine.stack.env.heap c) to) (λ v. [])
+        (λ v. ap (sweep_asks w.view (v w.view.place) sought) at_spot ∙ sym (leads-asks w.view (v w.view.place) sought r step told.leads) ∙ sym (spot-asked w.view (v w.view.place) sought step spot is))
 
     pub step-sweeps : IsSweeping new
     step-sweeps = (c, record w { spot = spot }, ap (λ n. n.machine.mode) to)
@@ -432,11 +432,11 @@ module _ (s new : Progress) (y : ClauseName) (r : Reach) (o : Option Clause) (p 
       omega (arith, later, sooner)
 
   -- and asks no more
-  pub past-on : (v : Views) → SeeksOn v s.machine new.machine
-  past-on v =
+  pub past-on : SeeksOn s.machine new.machine
+  past-on =
       let h : Tree = value s.machine.stack.env.heap p.head in
-      sweep-on v p.head p.was s.machine new.machine p.now p.mode_was p.mode_now p.same (clause_asks p.was.view y)
-      (ap (sweep_asks p.was.view (v p.was.view.place) h) p.spot_was
+      sweep-on p.head p.was p.now s.machine new.machine p.mode_was p.mode_now p.same (λ v. clause_asks p.was.view y)
+      (λ v. ap (sweep_asks p.was.view (v p.was.view.place) h) p.spot_was
       ∙ ap (λ (k : View). clause_asks p.was.view y ++ reach_asks (v k.place) h r) (sym p.view)
       ∙ ap (λ z. clause_asks p.was.view y ++ sweep_asks p.now.view (v p.now.view.place) h z) (sym p.spot_now))
 

@@ -1,5 +1,5 @@
 -- What a look-up, and the walk that it becomes, may still ask.
-use Rattle.std.specs.Prelude.{◌≡◌, ◌≢◌, ◌⊎◌, ◌<◌, List, [], ◌∷◌, ◌++◌, filter, if◌then◌else◌, nat_eq, Option, None, Some}
+use Rattle.std.specs.Prelude.{◌≡◌, ◌≢◌, ◌⊎◌, ℕ, ◌<◌, ◌≤◌, List, [], ◌∷◌, ◌++◌, filter, length, map, if◌then◌else◌, nat_eq, Option, None, Some}
 use Rattle.std.specs.List.{flat_map, AllByRecursion}
 use Rattle.plterm.specs.Tree.{Tree}
 use Rattle.plcells.specs.declared.cell.Cell.{Cell}
@@ -29,9 +29,11 @@ use Rattle.plstack.specs.State.{State, walks_in, EndsWalks}
 use Rattle.plstack.specs.Walks.{AtWalk}
 use Rattle.plmachine.specs.declared.machine.SweepSpot.{SweepSpot}
 use Rattle.plmachine.specs.declared.machine.SweepSpot.TheVariants as sweeps
+use Rattle.plmachine.specs.declared.machine.Sought.{Sought}
 use Rattle.plmachine.specs.declared.machine.Find.{Find}
 use Rattle.plmachine.specs.declared.machine.Find.TheVariants as finds
 use Rattle.plmachine.specs.declared.machine.Outcome.TheVariants as outcomes
+use Rattle.plmachine.specs.declared.machine.Mode.{Mode as Going}
 use Rattle.plmachine.specs.declared.machine.Mode.TheVariants as modes
 use Rattle.plmachine.specs.declared.machine.Machine.{Machine as Reached}
 use Rattle.plmachine.specs.Machine.{IsPlain}
@@ -160,11 +162,6 @@ pub record AsksNext (v : Views) (old new : Reached) (q : Query) : Type 0 where
   pub find : (f : Find) → old.mode ≡ modes.Find f → FindAsked v f old new q
   pub walk : (p : Point) (w : Walk) → AtWalk old.stack p w → old.mode ≡ modes.Back outcomes.Fail → WalkAsked v w old new q
 
--- nothing is sought but what is left of a look-up that was in hand: it may ask no more than that could
-abbrev pub SeeksOn : Views → Reached → Reached → Type 0
-SeeksOn v old new =
-    (g : Find) → new.mode ≡ modes.Find g → (f : Find) × (old.mode ≡ modes.Find f) × ((gone : List Query) × (find_asks v old.stack.env.heap f ≡ gone ++ find_asks v new.stack.env.heap g))
-
 -- the view in which a walk goes on; one over the program's text sees no updates
 abbrev pub view_at : Spot → View
 view_at (spots.Text k) = record { place = 0; count = 0 }
@@ -183,19 +180,85 @@ pub record GoesFurther (old new : Walk) : Type 0 where
   pub view : view_at new.spot ≡ view_at old.spot
   pub asks : (v : Views) (h : Tree) → (gone : List Query) × (spot_asks v h old.spot ≡ gone ++ spot_asks v h new.spot)
 
-abbrev pub AllFurther : List Walk → List Walk → Type 0
-AllFurther [] [] = Unit {0}
-AllFurther [] (x ∷ xs) = ⊥
-AllFurther (w ∷ ws) [] = ⊥
-AllFurther (w ∷ ws) (x ∷ xs) = GoesFurther w x × AllFurther ws xs
+-- a look-up, over the heap where its goal stands, goes on as another one, which may ask no more than it could: one for a goal's first clause
+-- is the same
+pub record LooksOn (s : Store) (f : Find) (t : Store) (g : Find) : Type 0 where
+  pub first : (x : Sought) (b : View) → g ≡ finds.First x b → (f ≡ g) × (value t x.goal ≡ value s x.goal)
+  pub asks : (v : Views) → (gone : List Query) × (find_asks v s f ≡ gone ++ find_asks v t g)
 
--- without an answer the innermost walks may have ended, and others have gone on; and walks over own clauses may have begun
+-- queries that stand together among others
+pub record IsPart (all part : List Query) : Type 0 where
+  pub before : List Query
+  pub behind : List Query
+  pub is : all ≡ before ++ (part ++ behind)
+
+-- a look-up for a goal's first clause has become a walk of that goal in its view, which may ask no more than it could
+pub record BecomesWalk (s : Store) (f : Find) (w : Walk) : Type 0 where
+  pub sought : Sought
+  pub view : View
+  pub first : f ≡ finds.First sought view
+  pub goal : w.goal ≡ sought.goal
+  pub uses : w.uses ≡ sought.uses
+  pub seen : view_at w.spot ≡ view
+  pub own : SeesOwn w
+  pub asks : (v : Views) → IsPart (find_asks v s f) (spot_asks v (head_in sought.uses (value s sought.goal)) w.spot)
+
+-- what an activation has that may still ask: a look-up that is in hand, over a heap, or a walk, which is an open case
+pub data Activation : Type 0 where
+  InHand : Store → Find → Activation
+  InCase : Walk → Activation
+
+-- it has gone on without an answer, and may ask no more than it could
+abbrev pub GoesOnAs : Activation → Activation → Type 0
+GoesOnAs (InHand s f) (InHand t g) = LooksOn s f t g
+GoesOnAs (InHand s f) (InCase w) = BecomesWalk s f w
+GoesOnAs (InCase w) (InHand t g) = ⊥
+GoesOnAs (InCase w) (InCase x) = GoesFurther w x
+
+-- as many of both, each gone on as the one that stands for it
+abbrev pub AllGone : {A : Type 0} → (A → A → Type 0) → List A → List A → Type 0
+AllGone R [] [] = Unit {0}
+AllGone R [] (x ∷ xs) = ⊥
+AllGone R (w ∷ ws) [] = ⊥
+AllGone R (w ∷ ws) (x ∷ xs) = R w x × AllGone R ws xs
+
+-- without an answer the innermost walks may have ended, and the others have gone on
 pub record Further (old new : State) : Type 0 where
   pub ended : List Walk
   pub kept : List Walk
-  pub begun : List Walk
-  pub left : List Walk
   pub was : walks_in old ≡ ended ++ kept
-  pub now : walks_in new ≡ begun ++ left
-  pub further : AllFurther kept left
-  pub own : AllByRecursion SeesOwn begun
+  pub further : AllGone GoesFurther kept (walks_in new)
+
+-- the activations of a machine that may still ask: that of the look-up in hand, and those of the walks, the innermost first
+abbrev pub in_hand : Store → Going → List Activation
+in_hand s modes.Visit = []
+in_hand s (modes.Ask q) = []
+in_hand s (modes.Find f) = InHand s f ∷ []
+in_hand s (modes.Back r) = []
+
+abbrev pub in_cases : State → List Activation
+in_cases s = map InCase (walks_in s)
+
+abbrev pub activations : Reached → List Activation
+activations s = in_hand s.stack.env.heap s.mode ++ in_cases s.stack
+
+-- what begins without an answer: a walk of those sees own updates
+abbrev pub MayBegin : Activation → Type 0
+MayBegin (InHand s f) = Unit {0}
+MayBegin (InCase w) = SeesOwn w
+
+-- the first of the activations may have ended, and the others have gone on; and at most so many have begun
+pub record Onward (most : ℕ) (old new : List Activation) : Type 0 where
+  pub ended : List Activation
+  pub kept : List Activation
+  pub begun : List Activation
+  pub left : List Activation
+  pub was : old ≡ ended ++ kept
+  pub now : new ≡ begun ++ left
+  pub further : AllGone GoesOnAs kept left
+  pub own : AllByRecursion MayBegin begun
+  pub few : length begun ≤ most
+
+-- nothing is sought but what is left of a look-up that was in hand
+abbrev pub SeeksOn : Reached → Reached → Type 0
+SeeksOn old new = (g : Find) → new.mode ≡ modes.Find g → (f : Find) × (old.mode ≡ modes.Find f) × LooksOn old.stack.env.heap f new.stack.env.heap g

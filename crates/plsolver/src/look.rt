@@ -21,7 +21,7 @@ ghost use Rattle.plmachine.specs.Machine.{local_of, IsPlain, Moved};
 ghost use Rattle.plmachine.specs.declared.machine.Find.{Find as OfFind};
 ghost use Rattle.plmachine.specs.declared.machine.Find.TheVariants.{All as AllOf, Exists as ExistsOf, First as FirstOf};
 ghost use Rattle.plmachine.specs.declared.machine.Mode.TheVariants.{Find as Finds};
-ghost use Rattle.plsolver.specs.Asking.{FindAsked, Further, SeeksOn};
+ghost use Rattle.plsolver.specs.Asking.{activations, in_cases, FindAsked, Onward};
 ghost use Rattle.plsolver.specs.Fetching.{like, mode_none, NoneInFront, NoneNames};
 ghost use Rattle.plsolver.specs.Solver.{latest_view, IsOf, Keeps, KeepsRest, Settled, Stays};
 
@@ -49,8 +49,8 @@ impl Progress {
         ensures keeps { Keeps program.now self.old self.new }
         ensures plain { IfOk result (λ o. IfNone o (IsPlain self.new.machine.mode)) }
         ensures due { IfOk result (λ o. IfSome o (λ due. Settled program.now self.new due)) }
-        ensures walks { Further self.old.machine.stack self.new.machine.stack }
-        ensures sought { IfOk result (λ o. IfSome o (λ due. (v : Views) → SeeksOn v self.old.machine self.new.machine)) }
+        ensures walks { Onward 0 (activations self.old.machine) (in_cases self.new.machine.stack) }
+        ensures asks { IfOk result (λ o. Onward 0 (activations self.old.machine) (activations self.new.machine)) }
     {
         let Mode::Find(find) = &self.machine.mode else {
             return Ok(None);
@@ -84,8 +84,8 @@ impl Progress {
         ensures keeps { Keeps program.now self.old self.new }
         ensures plain { IfOk result (λ o. IfNone o (IsPlain self.new.machine.mode)) }
         ensures due { IfOk result (λ o. IfSome o (λ due. Settled program.now self.new due)) }
-        ensures walks { Further self.old.machine.stack self.new.machine.stack }
-        ensures sought { IfOk result (λ o. IfSome o (λ due. (v : Views) → SeeksOn v self.old.machine self.new.machine)) }
+        ensures walks { Onward 0 (activations self.old.machine) (in_cases self.new.machine.stack) }
+        ensures asks { IfOk result (λ o. Onward 0 (activations self.old.machine) (activations self.new.machine)) }
     {
         let heap = self.machine.stack.env().heap();
         let head = head_of(heap, sought.uses, sought.goal);
@@ -112,8 +112,8 @@ impl Progress {
         ensures keeps { Keeps program.now self.old self.new }
         ensures plain { IfOk result (λ o. IfNone o (IsPlain self.new.machine.mode)) }
         ensures due { IfOk result (λ o. IfSome o (λ due. Settled program.now self.new due)) }
-        ensures walks { Further self.old.machine.stack self.new.machine.stack }
-        ensures sought { IfOk result (λ o. IfSome o (λ due. (v : Views) → SeeksOn v self.old.machine self.new.machine)) }
+        ensures walks { Onward 0 (activations self.old.machine) (in_cases self.new.machine.stack) }
+        ensures asks { IfOk result (λ o. Onward 0 (activations self.old.machine) (activations self.new.machine)) }
     {
         if !self.is_named(goal, view)? {
             return Ok(Some(Due::Fetch));
@@ -134,8 +134,8 @@ impl Progress {
         ensures keeps { Keeps program.now self.old self.new }
         ensures plain { IfOk result (λ o. IfNone o (IsPlain self.new.machine.mode)) }
         ensures due { IfOk result (λ o. IfSome o (λ due. Settled program.now self.new due)) }
-        ensures walks { Further self.old.machine.stack self.new.machine.stack }
-        ensures sought { IfOk result (λ o. IfSome o (λ due. (v : Views) → SeeksOn v self.old.machine self.new.machine)) }
+        ensures walks { Onward 0 (activations self.old.machine) (in_cases self.new.machine.stack) }
+        ensures asks { IfOk result (λ o. Onward 0 (activations self.old.machine) (activations self.new.machine)) }
     {
         if !self.is_named(head, view)? {
             return Ok(Some(Due::Fetch));

@@ -1,13 +1,13 @@
 //! How far a search has come, and how it goes on.
 
-ghost use Rattle.std.specs.Prelude.{◌≡◌, ◌+◌, ◌≤◌, [], IfOk, OnOk, OnErr};
+ghost use Rattle.std.specs.Prelude.{◌≡◌, ◌+◌, ◌-◌, ◌≤◌, [], IfOk, OnOk, OnErr};
 ghost use Rattle.plprogram.specs.Program.{Program as Given};
 ghost use Rattle.plstack.specs.State.{walks_in, EndsWalks};
 ghost use Rattle.plstore.specs.Looking.{Views};
 ghost use Rattle.plsearch.specs.Search.{search_of};
 ghost use Rattle.plsearch.specs.Solving.{Begins};
 ghost use Rattle.plmachine.specs.Machine.{IsPlain};
-ghost use Rattle.plsolver.specs.Asking.{Further, SeeksOn};
+ghost use Rattle.plsolver.specs.Asking.{activations, in_cases, Further, Onward};
 ghost use Rattle.plsolver.specs.Solver.{GoesTo, IsOf, IsSelected, Selects, Stays, Stepped, latest_view, rest_of, Settled};
 ghost use Rattle.plsolver.specs.Says.{Says, IsSlice};
 
@@ -80,7 +80,7 @@ impl Progress {
     }
 
     /// Goes on until something is asked, the search ends, or so many steps are taken.
-    #[tactic(auto, using(crate::proofs::Runs::goes_on, crate::proofs::Runs::goes_nowhere, crate::proofs::Runs::stays_goes, crate::proofs::Runs::stays_of, crate::proofs::Further::further_refl, crate::proofs::Further::further_trans))]
+    #[tactic(auto, using(crate::proofs::Runs::goes_on, crate::proofs::Runs::goes_nowhere, crate::proofs::Runs::stays_goes, crate::proofs::Runs::stays_of, crate::proofs::Further::onward_refl))]
     pub fn advance(&mut self, program: &Program, fuel: u64) -> Result<Turn, AllocError>
         requires within { self.old.used ≤ self.old.limit }
         requires of { IsOf program.now self.old.machine }
@@ -92,8 +92,8 @@ impl Progress {
         ensures fuel { self.new.used ≤ self.old.used + fuel }
         ensures slice { IfOk result (λ turn. IsSlice turn → self.new.used ≡ self.old.used + fuel) }
         ensures says { IfOk result (λ turn. Says program.now self.new turn) }
-        ensures walks { Further self.old.machine.stack self.new.machine.stack }
-        ensures sought { IfOk result (λ turn. (v : Views) → self.new.used ≡ self.old.used → SeeksOn v self.old.machine self.new.machine) }
+        ensures walks { Onward (self.new.used - self.old.used) (activations self.old.machine) (in_cases self.new.machine.stack) }
+        ensures asks { IfOk result (λ turn. Onward (self.new.used - self.old.used) (activations self.old.machine) (activations self.new.machine)) }
     {
         let mut left = fuel;
         loop {
@@ -164,7 +164,7 @@ impl Progress {
     }
 
     /// Goes on without a step, up to what is due.
-    #[tactic(auto, using(crate::proofs::Runs::goes_on, crate::proofs::Further::further_trans))]
+    #[tactic(auto, using(crate::proofs::Runs::goes_on))]
     fn settle(&mut self, program: &Program) -> Result<Due, AllocError>
         requires within { self.old.used ≤ self.old.limit }
         requires of { IsOf program.now self.old.machine }
@@ -175,8 +175,8 @@ impl Progress {
         ensures limit { self.new.limit ≡ self.old.limit }
         ensures places { self.new.places.items ≡ self.old.places.items }
         ensures due { IfOk result (λ due. Settled program.now self.new due) }
-        ensures walks { Further self.old.machine.stack self.new.machine.stack }
-        ensures sought { IfOk result (λ due. (v : Views) → SeeksOn v self.old.machine self.new.machine) }
+        ensures walks { Onward 0 (activations self.old.machine) (in_cases self.new.machine.stack) }
+        ensures asks { IfOk result (λ due. Onward 0 (activations self.old.machine) (activations self.new.machine)) }
     {
         if let Some(due) = self.find(program)? {
             return Ok(due);

@@ -19,7 +19,7 @@ ghost use Rattle.plmachine.specs.declared.machine.Mode.TheVariants.{Find as Find
 ghost use Rattle.plmachine.specs.declared.machine.Sweep.{Sweep as OfSweep};
 ghost use Rattle.plmachine.specs.declared.machine.SweepSpot.TheVariants.{At as AtOf, Seek as SeekOf};
 ghost use Rattle.plmachine.specs.Machine.{IsPlain};
-ghost use Rattle.plsolver.specs.Asking.{FindAsked, Further, SeeksOn};
+ghost use Rattle.plsolver.specs.Asking.{activations, in_cases, FindAsked, Onward, SeeksOn};
 ghost use Rattle.plsolver.specs.Fetching.{erased_if, has_if, like, sweep_behind, NoneNames, Sweeping};
 ghost use Rattle.plstack.specs.State.{walks_in, EndsWalks};
 ghost use Rattle.plviews.specs.declared.view.View.{View as OfView};
@@ -106,8 +106,8 @@ impl Progress {
         ensures keeps { Keeps program.now self.old self.new }
         ensures plain { IfOk result (λ o. IfNone o (IsPlain self.new.machine.mode)) }
         ensures due { IfOk result (λ o. IfSome o (λ due. Settled program.now self.new due)) }
-        ensures walks { Further self.old.machine.stack self.new.machine.stack }
-        ensures sought { IfOk result (λ o. IfSome o (λ due. (v : Views) → SeeksOn v self.old.machine self.new.machine)) }
+        ensures walks { Onward 0 (activations self.old.machine) (in_cases self.new.machine.stack) }
+        ensures asks { IfOk result (λ o. Onward 0 (activations self.old.machine) (activations self.new.machine)) }
     {
         'sweep: loop {
             match self.sweep_on()? {
@@ -128,7 +128,7 @@ impl Progress {
         ensures ok { IfOk result (λ r. SweptTo self.old self.new r) }
         ensures keeps { (P : Given) → Keeps P self.old self.new }
         ensures walks { walks_in self.new.machine.stack ≡ walks_in self.old.machine.stack }
-        ensures sought { IfOk result (λ r. (v : Views) → SeeksOn v self.old.machine self.new.machine) }
+        ensures sought { IfOk result (λ r. SeeksOn self.old.machine self.new.machine) }
     {
         let SweepPlace { head, view, spot } = self.sweeping();
         match spot {
@@ -176,7 +176,7 @@ impl Progress {
         ensures to { SweptTo self.old self.new result }
         ensures keeps { (P : Given) → Keeps P self.old self.new }
         ensures walks { walks_in self.new.machine.stack ≡ walks_in self.old.machine.stack }
-        ensures sought { (v : Views) → SeeksOn v self.old.machine self.new.machine }
+        ensures sought { SeeksOn self.old.machine self.new.machine }
     {
         let Some(spot) = sweep_behind(step) else {
             return Swept::Over;

@@ -1,11 +1,21 @@
-use Rattle.std.proofs.Common.{◌∙◌, arith, sym}
+use Rattle.std.proofs.Common.{◌≡◌, ◌-◌, ◌∙◌, arith, sym, subst}
+use Rattle.plmachine.specs.Machine.{IsPlain}
+use Rattle.plsolver.specs.declared.progress.Progress.{Progress}
+use Rattle.plsolver.specs.Asking.{activations, in_cases, Onward}
 use Rattle.plsolver.specs.Solver.{Settled}
 use Rattle.plsolver.specs.Says.{Says}
 use Rattle.plsolver.proofs.Runs.{goes_on}
-use Rattle.plsolver.proofs.Asked.{if_ok_all, seeks-trans}
+use Rattle.plsolver.proofs.Asked.{if_ok_all}
 use Rattle.plsolver.proofs.Waiting.{says-look}
-use Rattle.plsolver.proofs.Further.{further_ends, further_trans}
+use Rattle.plsolver.proofs.Further.{further_ends, onward_further, onward_step, onward_trans}
 use Rattle.plsolver.proofs.progress.Progress.advance.Goals as goal
+
+-- what is due, behind the steps so far
+settled : (s mid t : Progress) → t.used ≡ mid.used → Onward (mid.used - s.used) (activations s.machine) (activations mid.machine) → Onward 0 (activations mid.machine) (activations t.machine) → Onward (t.used - s.used) (activations s.machine) (activations t.machine)
+settled s mid t same before after = onward_trans (mid.used - s.used) 0 (t.used - s.used) (activations s.machine) (activations mid.machine) (activations t.machine) (omega (arith, same)) before after
+
+settled-walks : (s mid t : Progress) → t.used ≡ mid.used → Onward (mid.used - s.used) (activations s.machine) (activations mid.machine) → Onward 0 (activations mid.machine) (in_cases t.machine.stack) → Onward (t.used - s.used) (activations s.machine) (in_cases t.machine.stack)
+settled-walks s mid t same before after = onward_trans (mid.used - s.used) 0 (t.used - s.used) (activations s.machine) (activations mid.machine) (in_cases t.machine.stack) (omega (arith, same)) before after
 
 pub returns-then-left-eq0-clause-says : goal.returns-then-left-eq0-clause-says
 unfolding Says
@@ -54,42 +64,47 @@ loop-selected-preserved c =
       places = step.places ∙ c.settle.ensures.places ∙ i.places;
       latest = c.step.ensures.latest ∙ c.settle.ensures.latest ∙ i.latest;
       rises = omega (arith, step.used, c.settle.ensures.used, i.rises);
-      sought = λ v same. absurd (omega (arith, same, step.used, c.settle.ensures.used, i.rises));
-      walks = further_trans _ _ _ (further_trans _ _ _ i.walks c.settle.ensures.walks) (further_ends _ _ c.step.ensures.walks);
+      asks = onward_trans (t.used - s.used) 1 (c.step.new.self.used - s.used) (activations s.machine) (activations t.machine) (activations c.step.new.self.machine) (omega (arith, step.used, c.settle.ensures.used, i.rises))
+          (settled s c.loop-selected.self t c.settle.ensures.used i.asks c.in_ok-selected.ensures.asks) (onward_step t.machine c.step.new.self.machine (subst IsPlain (sym (rw c.in-Goal.is at c.in_ok-selected.ensures.due).0.0) tt) c.step.ensures.walks);
     }
 
 pub returns-in_err-selected-clause-walks : goal.returns-in_err-selected-clause-walks
-returns-in_err-selected-clause-walks c = further_trans _ _ _ c.loop-selected.invariant.walks c.settle.ensures.walks
+returns-in_err-selected-clause-walks c = settled-walks c.args.self.now c.loop-selected.self c.settle.new.self c.settle.ensures.used c.loop-selected.invariant.asks c.settle.ensures.walks
 
 pub returns-then-left-eq0-clause-walks : goal.returns-then-left-eq0-clause-walks
-returns-then-left-eq0-clause-walks c = further_trans _ _ _ c.loop-selected.invariant.walks c.settle.ensures.walks
+returns-then-left-eq0-clause-walks c = settled-walks c.args.self.now c.loop-selected.self c.settle.new.self c.settle.ensures.used c.loop-selected.invariant.asks c.settle.ensures.walks
 
 pub returns-in-Look-clause-walks : goal.returns-in-Look-clause-walks
-returns-in-Look-clause-walks c = further_trans _ _ _ c.loop-selected.invariant.walks c.settle.ensures.walks
+returns-in-Look-clause-walks c = settled-walks c.args.self.now c.loop-selected.self c.settle.new.self c.settle.ensures.used c.loop-selected.invariant.asks c.settle.ensures.walks
 
 pub returns-in-Fetch-clause-walks : goal.returns-in-Fetch-clause-walks
-returns-in-Fetch-clause-walks c = further_trans _ _ _ c.loop-selected.invariant.walks c.settle.ensures.walks
+returns-in-Fetch-clause-walks c = settled-walks c.args.self.now c.loop-selected.self c.settle.new.self c.settle.ensures.used c.loop-selected.invariant.asks c.settle.ensures.walks
 
 pub returns-in-Await-clause-walks : goal.returns-in-Await-clause-walks
-returns-in-Await-clause-walks c = further_trans _ _ _ c.loop-selected.invariant.walks c.settle.ensures.walks
+returns-in-Await-clause-walks c = settled-walks c.args.self.now c.loop-selected.self c.settle.new.self c.settle.ensures.used c.loop-selected.invariant.asks c.settle.ensures.walks
 
 pub returns-in-Over-clause-walks : goal.returns-in-Over-clause-walks
-returns-in-Over-clause-walks c = further_trans _ _ _ c.loop-selected.invariant.walks c.settle.ensures.walks
+returns-in-Over-clause-walks c = settled-walks c.args.self.now c.loop-selected.self c.settle.new.self c.settle.ensures.used c.loop-selected.invariant.asks c.settle.ensures.walks
 
 pub returns-in_err-step-in-Goal-clause-walks : goal.returns-in_err-step-in-Goal-clause-walks
-returns-in_err-step-in-Goal-clause-walks c = further_trans _ _ _ (further_trans _ _ _ c.loop-selected.invariant.walks c.settle.ensures.walks) (further_ends _ _ c.step.ensures.walks)
+returns-in_err-step-in-Goal-clause-walks c =
+    let s = c.args.self.now in
+    let t = c.settle.new.self in
+    let new = c.step.new.self in
+    onward_trans (t.used - s.used) 0 (new.used - s.used) (activations s.machine) (in_cases t.machine.stack) (in_cases new.machine.stack) (omega (arith, c.in_err-step-in-Goal.ensures.err.used))
+    (settled-walks s c.loop-selected.self t c.settle.ensures.used c.loop-selected.invariant.asks c.settle.ensures.walks) (onward_further t.machine.stack new.machine.stack (further_ends t.machine.stack new.machine.stack c.step.ensures.walks))
 
-pub returns-then-left-eq0-clause-sought : goal.returns-then-left-eq0-clause-sought
-returns-then-left-eq0-clause-sought c = λ v same. seeks-trans v c.args.self.now.machine c.loop-selected.self.machine c.settle.new.self.machine (c.loop-selected.invariant.sought v (sym c.settle.ensures.used ∙ same)) (c.in_ok-selected.ensures.sought v)
+pub returns-then-left-eq0-clause-asks : goal.returns-then-left-eq0-clause-asks
+returns-then-left-eq0-clause-asks c = settled c.args.self.now c.loop-selected.self c.settle.new.self c.settle.ensures.used c.loop-selected.invariant.asks c.in_ok-selected.ensures.asks
 
-pub returns-in-Look-clause-sought : goal.returns-in-Look-clause-sought
-returns-in-Look-clause-sought c = λ v same. seeks-trans v c.args.self.now.machine c.loop-selected.self.machine c.settle.new.self.machine (c.loop-selected.invariant.sought v (sym c.settle.ensures.used ∙ same)) (c.in_ok-selected.ensures.sought v)
+pub returns-in-Look-clause-asks : goal.returns-in-Look-clause-asks
+returns-in-Look-clause-asks c = settled c.args.self.now c.loop-selected.self c.settle.new.self c.settle.ensures.used c.loop-selected.invariant.asks c.in_ok-selected.ensures.asks
 
-pub returns-in-Fetch-clause-sought : goal.returns-in-Fetch-clause-sought
-returns-in-Fetch-clause-sought c = if_ok_all c.wanted.result (λ v same. seeks-trans v c.args.self.now.machine c.loop-selected.self.machine c.settle.new.self.machine (c.loop-selected.invariant.sought v (sym c.settle.ensures.used ∙ same)) (c.in_ok-selected.ensures.sought v))
+pub returns-in-Fetch-clause-asks : goal.returns-in-Fetch-clause-asks
+returns-in-Fetch-clause-asks c = if_ok_all c.wanted.result (settled c.args.self.now c.loop-selected.self c.settle.new.self c.settle.ensures.used c.loop-selected.invariant.asks c.in_ok-selected.ensures.asks)
 
-pub returns-in-Await-clause-sought : goal.returns-in-Await-clause-sought
-returns-in-Await-clause-sought c = if_ok_all c.asked.result (λ v same. seeks-trans v c.args.self.now.machine c.loop-selected.self.machine c.settle.new.self.machine (c.loop-selected.invariant.sought v (sym c.settle.ensures.used ∙ same)) (c.in_ok-selected.ensures.sought v))
+pub returns-in-Await-clause-asks : goal.returns-in-Await-clause-asks
+returns-in-Await-clause-asks c = if_ok_all c.asked.result (settled c.args.self.now c.loop-selected.self c.settle.new.self c.settle.ensures.used c.loop-selected.invariant.asks c.in_ok-selected.ensures.asks)
 
-pub returns-in-Over-clause-sought : goal.returns-in-Over-clause-sought
-returns-in-Over-clause-sought c = if_ok_all c.ended.result (λ v same. seeks-trans v c.args.self.now.machine c.loop-selected.self.machine c.settle.new.self.machine (c.loop-selected.invariant.sought v (sym c.settle.ensures.used ∙ same)) (c.in_ok-selected.ensures.sought v))
+pub returns-in-Over-clause-asks : goal.returns-in-Over-clause-asks
+returns-in-Over-clause-asks c = if_ok_all c.ended.result (settled c.args.self.now c.loop-selected.self c.settle.new.self c.settle.ensures.used c.loop-selected.invariant.asks c.in_ok-selected.ensures.asks)

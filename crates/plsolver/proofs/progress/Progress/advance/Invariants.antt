@@ -1,6 +1,5 @@
-use Rattle.std.proofs.Common.{◌≡◌, ◌+◌, ◌≤◌}
-use Rattle.plstore.specs.Looking.{Views}
-use Rattle.plsolver.specs.Asking.{Further, SeeksOn}
+use Rattle.std.proofs.Common.{◌≡◌, ◌+◌, ◌-◌, ◌≤◌}
+use Rattle.plsolver.specs.Asking.{activations, Onward}
 use Rattle.plsolver.specs.Solver.{latest_view, GoesTo, IsOf}
 use Rattle.plsolver.proofs.progress.Progress.advance.Given as goal
 
@@ -14,8 +13,7 @@ invariant-loop-selected l = record {
   limit : l.self.limit ≡ l.fn.self.limit;
   places : l.self.places.items ≡ l.fn.self.places.items;
   latest : latest_view l.self ≡ latest_view l.fn.self;
-  sought : (v : Views) → l.self.used ≡ l.fn.self.used → SeeksOn v l.fn.self.machine l.self.machine;
-  walks : Further l.fn.self.machine.stack l.self.machine.stack;
+  asks : Onward (l.self.used - l.fn.self.used) (activations l.fn.self.machine) (activations l.self.machine);
 }
 
 abbrev pub decreases-loop-selected : goal.decreases-loop-selected

@@ -1,6 +1,8 @@
 use Rattle.std.proofs.Common.{ap, ◌∙◌}
 use Rattle.plmachine.specs.declared.machine.Mode.TheVariants as modes
-use Rattle.plsolver.proofs.Further.{further_refl}
+use Rattle.plsolver.specs.Asking.{activations}
+use Rattle.plsolver.proofs.Ending.{ends_refl}
+use Rattle.plsolver.proofs.Further.{onward_ends, onward_refl}
 use Rattle.plsolver.proofs.Keeping.{keeps_same}
 use Rattle.plsolver.proofs.Seeking.{plain-without}
 use Rattle.plsolver.proofs.progress.Progress.find.Goals as goal
@@ -11,8 +13,8 @@ returns-in_default c =
       keeps = keeps_same c.args.program.now c.args.self.now;
       plain = plain-without c.args.self.now.machine.mode c.in_default.not-Find;
       due = tt;
-      sought = tt;
-      walks = further_refl c.args.self.now.machine.stack;
+      walks = onward_ends c.args.self.now.machine c.args.self.now.machine.stack (ends_refl _);
+      asks = onward_refl 0 (activations c.args.self.now.machine);
     }
 
 pub sweep-requires-clause-sweeps : goal.sweep-requires-clause-sweeps

@@ -1,4 +1,4 @@
-use Rattle.std.proofs.Common.{refl, ap, inl, subst}
+use Rattle.std.proofs.Common.{refl, sym, ap, inl, subst}
 use Rattle.plcells.specs.Store.{value}
 use Rattle.plstore.specs.declared.record.Cursor.TheVariants.{Start}
 use Rattle.pltx.specs.declared.own.OwnCursor.TheVariants.{Start as OwnStart}
@@ -7,21 +7,24 @@ use Rattle.plviews.specs.declared.lookup.Reach.TheVariants as reaches
 use Rattle.plstack.specs.Places.{head_in}
 use Rattle.plstack.specs.declared.frame.Spot.TheVariants as spots
 use Rattle.plmachine.specs.declared.machine.Find.TheVariants as finds
-use Rattle.plmachine.specs.Machine.{MayAsk}
+use Rattle.plmachine.specs.declared.machine.Machine.{Machine as Reached}
+use Rattle.plmachine.specs.Machine.{IsPlain, MayAsk}
 use Rattle.plsolver.specs.Fetching.{like}
 use Rattle.plsolver.specs.Knowing.{Steps}
 use Rattle.plsolver.specs.Solver.{Settled}
-use Rattle.plsolver.proofs.Asked.{opens-further, seeks-same}
+use Rattle.plsolver.specs.Asking.{activations, Onward}
+use Rattle.plsolver.proofs.Asked.{becomes-own}
+use Rattle.plsolver.proofs.Ending.{ends_refl, ends_same}
 use Rattle.plsolver.proofs.Finding.{found-own, none-in-front}
-use Rattle.plsolver.proofs.Further.{further_refl, further_same}
+use Rattle.plsolver.proofs.Further.{onward_becomes, onward_ends, onward_refl, plain_cases}
 use Rattle.plsolver.proofs.Keeping.{finds_keeps, found_of}
 use Rattle.plsolver.proofs.progress.Progress.find_first.Goals as goal
 
 pub returns-in_err-step-clause-walks : goal.returns-in_err-step-clause-walks
-returns-in_err-step-clause-walks c = further_refl c.args.self.now.machine.stack
+returns-in_err-step-clause-walks c = onward_ends c.args.self.now.machine c.args.self.now.machine.stack (ends_refl _)
 
 pub returns-in_err-walk_from-in-Next-clause-walks : goal.returns-in_err-walk_from-in-Next-clause-walks
-returns-in_err-walk_from-in-Next-clause-walks c = further_same c.args.self.now.machine.stack c.walk_from.new.self.machine.stack c.in_err-walk_from-in-Next.ensures.err.there.walks
+returns-in_err-walk_from-in-Next-clause-walks c = onward_ends c.args.self.now.machine c.walk_from.new.self.machine.stack (ends_same _ _ c.in_err-walk_from-in-Next.ensures.err.there.walks)
 
 pub returns-in_ok-walk_from-in-Next-clause-keeps : goal.returns-in_ok-walk_from-in-Next-clause-keeps
 returns-in_ok-walk_from-in-Next-clause-keeps c =
@@ -34,10 +37,22 @@ returns-in_ok-walk_from-in-Next-clause-keeps c =
     finds_keeps P s c.walk_from.new.self f c.requires.finds c.walk_from.ensures.frame (ap (λ b. b.latest.place) w.basis) (found_of P s.machine c.walk_from.new.self.machine f c.requires.finds (ap (λ x. x.mode) w.frame) (ap (λ x. x.layer) w.frame) w.basis)
     (λ v ordered. found-own P v ordered s.machine c.args.sought c.args.view c.requires.finds found.0.1 c.walk_from.new.self.machine c.in-Next.name c.in-Next.reach step.tells w)
 
+pub returns-in_ok-walk_from-in-Next-clause-asks : goal.returns-in_ok-walk_from-in-Next-clause-asks
+returns-in_ok-walk_from-in-Next-clause-asks c =
+    let s = c.args.self.now.machine in
+    let x = c.args.sought in
+    let g = c.args.view in
+    let y = c.in-Next.name in
+    let r = c.in-Next.reach in
+    let step = rw c.in-Next.is at c.in_ok-step.ensures in
+    let w = c.in_ok-walk_from-in-Next.ensures in
+    onward_becomes s c.walk_from.new.self.machine (finds.First x g) (record { goal = x.goal; uses = x.uses; spot = spots.At g y r }) c.requires.finds (subst (λ (n : Reached). IsPlain n.mode) (sym w.ok.frame) tt) w.walks
+    (becomes-own s.stack.env.heap x g OwnStart y r step.leads)
+
 pub returns-in_ok-walk_from-in-Next-clause-walks : goal.returns-in_ok-walk_from-in-Next-clause-walks
 returns-in_ok-walk_from-in-Next-clause-walks c =
-    let step = rw c.in-Next.is at c.in_ok-step.ensures in
-    opens-further c.args.self.now.machine.stack c.walk_from.new.self.machine.stack (record { goal = c.args.sought.goal; uses = c.args.sought.uses; spot = spots.At c.args.view c.in-Next.name c.in-Next.reach }) tt step.leads.0.1 c.in_ok-walk_from-in-Next.ensures.walks
+    let t = c.walk_from.new.self.machine in
+    subst (Onward 0 (activations c.args.self.now.machine)) (plain_cases t (subst (λ (n : Reached). IsPlain n.mode) (sym c.in_ok-walk_from-in-Next.ensures.ok.frame) tt)) (returns-in_ok-walk_from-in-Next-clause-asks c)
 
 pub returns-in-Asks-clause-due : goal.returns-in-Asks-clause-due
 unfolding Settled
@@ -48,7 +63,7 @@ returns-in-Asks-clause-due c =
     (c.args.view.place, like h Start, inl (finds.First c.args.sought c.args.view, c.requires.finds, refl, (none-in-front s.layer.own.updates h c.args.view c.in-Asks.field-0 step, refl)))
 
 pub returns-in-Asks-clause-walks : goal.returns-in-Asks-clause-walks
-returns-in-Asks-clause-walks c = further_refl c.args.self.now.machine.stack
+returns-in-Asks-clause-walks c = onward_ends c.args.self.now.machine c.args.self.now.machine.stack (ends_refl _)
 
-pub returns-in-Asks-clause-sought : goal.returns-in-Asks-clause-sought
-returns-in-Asks-clause-sought c = λ v. seeks-same v c.args.self.now.machine
+pub returns-in-Asks-clause-asks : goal.returns-in-Asks-clause-asks
+returns-in-Asks-clause-asks c = onward_refl 0 (activations c.args.self.now.machine)

@@ -1,4 +1,7 @@
-use Rattle.plsolver.proofs.Asked.{if_ok_all, seeks-plain}
+use Rattle.std.proofs.Common.{arith, sym, subst}
+use Rattle.plsolver.specs.Asking.{activations, in_cases, Onward}
+use Rattle.plsolver.proofs.Asked.{if_ok_all}
+use Rattle.plsolver.proofs.Further.{onward_further, onward_trans, plain_cases}
 use Rattle.plsolver.proofs.Keeping.{keeps-goes}
 use Rattle.plsolver.proofs.Runs.{goes_on}
 use Rattle.plsolver.proofs.progress.Progress.settle.Goals as goal
@@ -16,5 +19,13 @@ returns-clause-goes c =
     let t = c.find.new.self in
     goes_on P s t c.go_quietly.new.self c.find.ensures.keeps.limit (keeps-goes P s t c.requires.within c.find.ensures.keeps) c.go_quietly.ensures.goes
 
-pub returns-clause-sought : goal.returns-clause-sought
-returns-clause-sought c = if_ok_all c.go_quietly.result (λ v. seeks-plain v c.args.self.now.machine c.go_quietly.new.self.machine c.go_quietly.ensures.plain)
+pub returns-clause-walks : goal.returns-clause-walks
+returns-clause-walks c =
+    let t = c.find.new.self.machine.stack in
+    let new = c.go_quietly.new.self.machine.stack in
+    onward_trans 0 0 0 (activations c.args.self.now.machine) (in_cases t) (in_cases new) omega arith c.find.ensures.walks (onward_further t new c.go_quietly.ensures.walks)
+
+pub returns-clause-asks : goal.returns-clause-asks
+returns-clause-asks c =
+    if_ok_all c.go_quietly.result
+    (subst (Onward 0 (activations c.args.self.now.machine)) (sym (plain_cases c.go_quietly.new.self.machine c.go_quietly.ensures.plain)) (returns-clause-walks c))

@@ -1,29 +1,43 @@
-use Rattle.std.proofs.Common.{◌∙◌}
+use Rattle.std.proofs.Common.{◌≡◌, ◌∙◌}
+use Rattle.plstack.specs.State.{walks_in, EndsWalks, State}
 use Rattle.plsolver.specs.Solver.{Settled}
 use Rattle.plsolver.proofs.Asked.{seeks-trans}
 use Rattle.plsolver.proofs.Keeping.{keeps_trans}
 use Rattle.plsolver.proofs.Ending.{ends_same, ends_trans}
-use Rattle.plsolver.proofs.Further.{further_ends}
+use Rattle.plsolver.proofs.Further.{onward_ends, onward_plain, onward_seeks}
 use Rattle.plsolver.proofs.progress.Progress.sweep.Goals as goal
 
+-- the walks that have ended once the erasures were made
+ended : (s t mid new : State) → walks_in t ≡ walks_in s → walks_in mid ≡ walks_in t → EndsWalks mid new → EndsWalks s new
+ended s t mid new first second ends = ends_trans (walks_in s) (walks_in mid) (walks_in new) (ends_same (walks_in s) (walks_in mid) (second ∙ first)) ends
+
 pub returns-in_err-sweep_on-clause-walks : goal.returns-in_err-sweep_on-clause-walks
-returns-in_err-sweep_on-clause-walks c = further_ends _ _ (ends_same _ _ (c.sweep_on.ensures.walks ∙ c.sweep.invariant.walks))
+returns-in_err-sweep_on-clause-walks c = onward_ends c.args.self.now.machine c.sweep_on.new.self.machine.stack (ends_same (walks_in c.args.self.now.machine.stack) (walks_in c.sweep_on.new.self.machine.stack) (c.sweep_on.ensures.walks ∙ c.sweep.invariant.walks))
 
 pub returns-in-Asks-clause-due : goal.returns-in-Asks-clause-due
 unfolding Settled
 returns-in-Asks-clause-due c = rw c.in-Asks.is at c.in_ok-sweep_on.ensures.ok
 
 pub returns-in-Asks-clause-walks : goal.returns-in-Asks-clause-walks
-returns-in-Asks-clause-walks c = further_ends _ _ (ends_same _ _ (c.sweep_on.ensures.walks ∙ c.sweep.invariant.walks))
+returns-in-Asks-clause-walks c = onward_ends c.args.self.now.machine c.sweep_on.new.self.machine.stack (ends_same (walks_in c.args.self.now.machine.stack) (walks_in c.sweep_on.new.self.machine.stack) (c.sweep_on.ensures.walks ∙ c.sweep.invariant.walks))
 
 pub returns-in_err-publish_swept-in-Over-clause-walks : goal.returns-in_err-publish_swept-in-Over-clause-walks
-returns-in_err-publish_swept-in-Over-clause-walks c = further_ends _ _ (ends_trans _ _ _ (ends_same _ _ (c.sweep_on.ensures.walks ∙ c.sweep.invariant.walks)) c.publish_swept.ensures.walks)
+returns-in_err-publish_swept-in-Over-clause-walks c = onward_ends c.args.self.now.machine c.publish_swept.new.self.machine.stack (ended c.args.self.now.machine.stack c.sweep.self.machine.stack c.sweep_on.new.self.machine.stack c.publish_swept.new.self.machine.stack c.sweep.invariant.walks c.sweep_on.ensures.walks c.publish_swept.ensures.walks)
 
 pub returns-in-Over-clause-walks : goal.returns-in-Over-clause-walks
-returns-in-Over-clause-walks c = further_ends _ _ (ends_trans _ _ _ (ends_same _ _ (c.sweep_on.ensures.walks ∙ c.sweep.invariant.walks)) c.publish_swept.ensures.walks)
+returns-in-Over-clause-walks c = onward_ends c.args.self.now.machine c.publish_swept.new.self.machine.stack (ended c.args.self.now.machine.stack c.sweep.self.machine.stack c.sweep_on.new.self.machine.stack c.publish_swept.new.self.machine.stack c.sweep.invariant.walks c.sweep_on.ensures.walks c.publish_swept.ensures.walks)
 
-pub returns-in-Asks-clause-sought : goal.returns-in-Asks-clause-sought
-returns-in-Asks-clause-sought c = λ v. seeks-trans v c.args.self.now.machine c.sweep.self.machine c.sweep_on.new.self.machine (c.sweep.invariant.sought v) (c.in_ok-sweep_on.ensures.sought v)
+pub returns-in-Asks-clause-asks : goal.returns-in-Asks-clause-asks
+returns-in-Asks-clause-asks c =
+    let s = c.args.self.now.machine in
+    let t = c.sweep_on.new.self.machine in
+    onward_seeks s t (c.sweep_on.ensures.walks ∙ c.sweep.invariant.walks) (seeks-trans s c.sweep.self.machine t c.sweep.invariant.sought c.in_ok-sweep_on.ensures.sought)
+
+pub returns-in-Over-clause-asks : goal.returns-in-Over-clause-asks
+returns-in-Over-clause-asks c =
+    let over = (rw c.in-Over.is at c.in_ok-sweep_on.ensures.ok).0 in
+    onward_plain c.args.self.now.machine c.publish_swept.new.self.machine (c.in_ok-publish_swept-in-Over.ensures.ok over.0 over.1 over.2).0
+    (ended c.args.self.now.machine.stack c.sweep.self.machine.stack c.sweep_on.new.self.machine.stack c.publish_swept.new.self.machine.stack c.sweep.invariant.walks c.sweep_on.ensures.walks c.publish_swept.ensures.walks)
 
 pub sweep-preserved : goal.sweep-preserved
 sweep-preserved c =
@@ -37,6 +51,6 @@ sweep-preserved c =
       keeps = keeps_trans P s t new i.keeps (on.keeps P);
       of = (on.keeps P).of i.of;
       sweeps = (rw c.in-On.is at on.ok).0;
-      sought = λ v. seeks-trans v s.machine t.machine new.machine (i.sought v) (on.sought v);
+      sought = seeks-trans s.machine t.machine new.machine i.sought on.sought;
       walks = on.walks ∙ i.walks;
     }

@@ -1,5 +1,4 @@
 use Rattle.std.proofs.Common.{◌≡◌}
-use Rattle.plstore.specs.Looking.{Views}
 use Rattle.plstack.specs.State.{walks_in}
 use Rattle.plsolver.specs.Asking.{SeeksOn}
 use Rattle.plsolver.specs.Going.{sweeps_left, IsSweeping}
@@ -11,7 +10,7 @@ invariant-sweep l = record {
   keeps : Keeps l.program l.fn.self l.self;
   of : IsOf l.program l.self.machine;
   sweeps : IsSweeping l.self;
-  sought : (v : Views) → SeeksOn v l.fn.self.machine l.self.machine;
+  sought : SeeksOn l.fn.self.machine l.self.machine;
   walks : walks_in l.self.machine.stack ≡ walks_in l.fn.self.machine.stack;
 }
 

@@ -57,4 +57,4 @@ returns-in-Asks-clause-sought c =
     step-on s r.0 w r.2 c.args.step r.3.1 r.3.3 steps c.in-Some.spot c.sweep_at.new.self (sym c.sweep_behind.ensures ∙ c.in-Some.is) (c.sweep_at.ensures r.0 w r.3.1)
 
 pub returns-in_default-clause-sought : goal.returns-in_default-clause-sought
-returns-in_default-clause-sought c = λ v. seeks-same v c.args.self.now.machine
+returns-in_default-clause-sought c = seeks-same c.args.self.now.machine

@@ -67,4 +67,4 @@ pub returns-in_ok-sweep_past-in-Gone-clause-sought : goal.returns-in_ok-sweep_pa
 returns-in_ok-sweep_past-in-Gone-clause-sought c = past-on c.args.self.now c.sweep_past-in-Gone.new.self c.in-At.name c.in-At.reach _ c.in_ok-sweep_past-in-Gone.ensures.ok
 
 pub returns-in-Asks-clause-sought : goal.returns-in-Asks-clause-sought
-returns-in-Asks-clause-sought c = λ v. seeks-same v c.args.self.now.machine
+returns-in-Asks-clause-sought c = seeks-same c.args.self.now.machine

@@ -1,4 +1,7 @@
 use Rattle.plsolver.proofs.solver.Solver.advance.Goals as goal
 
-pub returns-clause-sought : goal.returns-clause-sought
-returns-clause-sought c = rw (← c.self.view_is) c.advance.ensures.sought
+pub returns-clause-asks : goal.returns-clause-asks
+returns-clause-asks c = rw (← c.self.view_is) c.advance.ensures.asks
+
+pub returns-clause-walks : goal.returns-clause-walks
+returns-clause-walks c = rw (← c.self.view_is) c.advance.ensures.walks
