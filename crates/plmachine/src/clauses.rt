@@ -176,7 +176,7 @@ impl Machine {
         }
         let body = match neck {
             Some(neck) => neck.body,
-            None => self.stack.put_true(self.alloc)?,
+            None => self.stack.put_true()?,
         };
         self.seek(program, Lookup::ToRetract(head, body), rest)
     }

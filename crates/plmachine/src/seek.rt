@@ -63,11 +63,11 @@ impl Machine {
         match lookup {
             Lookup::ToCall(goal) => Ok(first(goal, Use::Call, view)),
             Lookup::ToRetrieve(head, body) => {
-                let goal = self.stack.put_clause_term(self.alloc, head, body)?;
+                let goal = self.stack.put_clause_term(head, body)?;
                 Ok(first(goal, Use::Tell, view))
             }
             Lookup::ToRetract(head, body) => {
-                let goal = self.stack.put_clause_term(self.alloc, head, body)?;
+                let goal = self.stack.put_clause_term(head, body)?;
                 Ok(first(goal, Use::Erase, view))
             }
             Lookup::ToRetractAll(head) => Ok(Find::All(head, view)),

@@ -59,9 +59,7 @@ impl Machine {
         ensures ok { OnOk result (Walks program.now self.old self.new (clause_term (value self.old.stack.env.heap neck.head) (value self.old.stack.env.heap neck.body)) uses spot (goals_of self.old.stack rest)) }
         ensures err { OnErr result (Stays program.now self.old self.new) }
     {
-        let goal = self
-            .stack
-            .put_clause_term(self.alloc, neck.head, neck.body)?;
+        let goal = self.stack.put_clause_term(neck.head, neck.body)?;
         self.walk(program, Walk { goal, uses, spot }, rest)
     }
 

@@ -50,7 +50,8 @@ fn empty(alloc: Global, program: &Program) -> Result<Stack, AllocError>
     let code = ProgramCode::new(alloc, program)?;
     let names = code.names().copied(alloc)?;
     let env = Environment::new(alloc, names);
-    Ok(Stack::new(alloc, code, env))
+    let stack = Stack::new(alloc, code, env)?;
+    Ok(stack)
 }
 
 /// The list of goals, each once.

@@ -288,10 +288,7 @@ impl Progress {
         ensures head { value self.new.machine.stack.env.heap head ≡ value self.old.machine.stack.env.heap head }
     {
         match clause {
-            Some(clause) => {
-                let alloc = self.machine.alloc;
-                self.machine.stack.has_head(alloc, head, clause)
-            }
+            Some(clause) => self.machine.stack.has_head(head, clause),
             None => Ok(false),
         }
     }

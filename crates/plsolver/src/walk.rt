@@ -39,7 +39,7 @@ use plmachine::sought::head_of;
 use plprogram::program::Program;
 use plstack::frame::{Spot, Walk};
 use plstack::walk::{Candidate, Entered, Walking};
-use plviews::{Step, View};
+use plviews::{Reach, Step, View};
 use std::alloc::AllocError;
 
 /// What a walk came to among own clauses.
@@ -118,6 +118,7 @@ impl Progress {
     {
         match at.walk.spot {
             Spot::Text(_) => unreachable!(),
+            Spot::Seek(_, Reach::Base(_)) | Spot::At(_, _, Reach::Base(_)) => Ok(Walked::Asks),
             Spot::Seek(view, reach) | Spot::At(view, _, reach) => {
                 let step = self.step_at(self.head_at(&at), view, reach)?;
                 Ok(self.walk_behind(at, step))
@@ -195,8 +196,7 @@ impl Progress {
         ensures frame { self.new ≡ record self.old { machine = record self.old.machine { stack = self.new.machine.stack } } }
         ensures walks { Further self.old.machine.stack self.new.machine.stack }
     {
-        let alloc = self.machine.alloc;
-        match self.machine.stack.try_walk(alloc, at, next, rest)? {
+        match self.machine.stack.try_walk(at, next, rest)? {
             Some(entered) => Ok(Walked::Into(entered)),
             None => Ok(walked_to(&at, rest)),
         }
@@ -248,9 +248,8 @@ impl Progress {
             self.machine.stack.go_on_walk(at, rest);
             return Ok(());
         };
-        let alloc = self.machine.alloc;
         let next = candidate::of_name(at.walk.uses, name, &clause)?;
-        let Some(entered) = self.machine.stack.try_walk(alloc, at, &next, rest)? else {
+        let Some(entered) = self.machine.stack.try_walk(at, &next, rest)? else {
             return Ok(());
         };
         self.machine.mode = mode_of(entered);

@@ -83,7 +83,7 @@ neck-shifted n h b = refl
 
 -- a clause's head and body that are put as one term
 module _ (old mid then new : Env) (x : Clause) (vs : List Cell) (head body v : Cell) (puts : PutsHead old mid x vs head) (below : AllBelow x.variables x.body)
-    (put : Puts mid then body (bind (standing mid.heap vs) x.body)) (both : Puts then new v (bind (standing then.heap (head ∷ body ∷ [])) (clause_term (var 0) (var 1)))) where
+    (put : Puts mid then body (bind (standing mid.heap vs) x.body)) (both : Puts then new v (clause_term (value then.heap head) (value then.heap body))) where
   body-put : value then.heap body ≡ shift old.count x.body
   body-put = put.is ∙ bind-agree (standing mid.heap vs) (λ n. var (old.count + n)) x.variables x.body puts.are below
 
@@ -102,7 +102,7 @@ module _ (old mid then new : Env) (x : Clause) (vs : List Cell) (head body v : C
         let p = put.extends.values (at vs n) m in
         (both.extends.values (at vs n) p.0).1 ∙ p.1 ∙ puts.are n lt;
     head_fits = both.fits;
-    head_is = both.is ∙ clause_over then.heap head body ∙ ap₂ clause_term head-put body-put ∙ neck-shifted old.count x.head x.body;
+    head_is = both.is ∙ ap₂ clause_term head-put body-put ∙ neck-shifted old.count x.head x.body;
     extends = fact-extends;
     slots = both.slots ∙ put.slots ∙ puts.slots;
     count = both.count ∙ put.count ∙ puts.count;

@@ -7,18 +7,19 @@ ghost use Rattle.plenv.specs.Changes.{Keeps};
 ghost use Rattle.plenv.specs.Env.{cut, renamed, IsEnv, IsMark};
 ghost use Rattle.plstack.specs.State.{Extends};
 
+use crate::copier::Copier;
 use crate::stack::Stack;
 use crate::walk::put_head;
 use plcells::cell::Cell;
 use plclause::clause::Clause;
 use plenv::env::Environment;
 use plenv::slot::Mark;
-use std::alloc::{AllocError, Global};
+use std::alloc::AllocError;
 
 /// Unifies a goal with a clause's head, its variables new: whether they have a unifier.
 fn try_head(
     env: &mut Environment,
-    alloc: Global,
+    copier: &mut Copier,
     goal: Cell,
     clause: &Clause,
 ) -> Result<bool, AllocError>
@@ -26,14 +27,14 @@ fn try_head(
     ensures is { IfOk result (λ has. has ≡ is_some (unify (value env.old.heap goal) (shift env.old.count clause.now.head))) }
     ensures keeps { Keeps env.old env.new }
 {
-    let head = put_head(env, alloc, clause)?;
+    let head = put_head(env, copier, clause)?;
     env.unify_in_choice(goal, head.value)
 }
 
 /// Whether a goal unifies with a clause's head, its variables new. All is as it was at a mark of now but for more names.
 fn fits_head(
     env: &mut Environment,
-    alloc: Global,
+    copier: &mut Copier,
     goal: Cell,
     clause: &Clause,
     mark: Mark,
@@ -46,7 +47,7 @@ fn fits_head(
     ensures keeps { Keeps env.old env.new }
     ensures env { IsEnv env.new }
 {
-    let has = try_head(env, alloc, goal, clause);
+    let has = try_head(env, copier, goal, clause);
     let _ = env.heap();
     env.undo(mark);
     let _ = env.heap();
@@ -55,18 +56,13 @@ fn fits_head(
 
 impl Stack {
     /// Whether a goal unifies with a clause's head, its variables new. All stands for what it did.
-    pub fn has_head(
-        &mut self,
-        alloc: Global,
-        goal: Cell,
-        clause: &Clause,
-    ) -> Result<bool, AllocError>
+    pub fn has_head(&mut self, goal: Cell, clause: &Clause) -> Result<bool, AllocError>
         requires { IsValue self.old.env.heap goal }
         ensures is { IfOk result (λ has. has ≡ is_some (unify (value self.old.env.heap goal) (shift self.old.env.count clause.now.head))) }
         ensures count { self.new.env.count ≡ self.old.env.count }
         ensures stays { Extends self.old self.new }
     {
         let marks = self.marks();
-        fits_head(&mut self.env, alloc, goal, clause, marks.env)
+        fits_head(&mut self.env, &mut self.copier, goal, clause, marks.env)
     }
 }

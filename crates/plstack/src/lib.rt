@@ -5,6 +5,7 @@ pub mod answer;
 pub mod back;
 pub mod basis;
 pub mod call;
+pub mod copier;
 pub mod cut;
 pub mod expression;
 pub mod first;

@@ -1,5 +1,5 @@
 //! The stack.
-ghost use Rattle.std.specs.Prelude.{◌≡◌, ◌+◌, ◌⊎◌, ◌↔◌, [], IsTrue};
+ghost use Rattle.std.specs.Prelude.{◌≡◌, ◌+◌, ◌⊎◌, ◌↔◌, [], IfOk, IsTrue};
 ghost use Rattle.platoms.specs.Names.{Extends as ExtendsNames};
 ghost use Rattle.plcode.specs.Steps.{goals_from};
 ghost use Rattle.plsearch.specs.Engine.{deeper};
@@ -9,6 +9,7 @@ ghost use Rattle.plstack.specs.Basis.{IsShown};
 ghost use Rattle.plstack.specs.State.{cases_of, depth_in, seeing, HasAnswers, HasBranch, HasCatcher, HasClauses, HasWalk, HasGatherer, HasHandler, HasPlain, HasUndo};
 
 use crate::basis::Basis;
+use crate::copier::Copier;
 use crate::frame::{Frame, Handler, Resume};
 use plcells::cell::Cell;
 use plcode::program::ProgramCode;
@@ -18,7 +19,7 @@ use pllinks::level::Level;
 use pllinks::link::{Continuation, Link};
 use pllinks::list::ListId;
 use plviews::View;
-use std::alloc::Global;
+use std::alloc::{AllocError, Global};
 use std::marker::Model;
 
 /// What the cases rest on, an environment, the goal lists over it, the values that open cases keep, the open cases of a search, and the list
@@ -28,6 +29,7 @@ pub struct Stack {
     pub(crate) basis: Basis,
     pub(crate) env: Environment,
     pub(crate) matcher: Matcher,
+    pub(crate) copier: Copier,
     pub(crate) links: Vec<Link>,
     pub(crate) saved: Vec<Cell>,
     pub(crate) frames: Vec<Frame>,
@@ -51,13 +53,14 @@ impl Model for Stack {
 
 impl Stack {
     /// A stack with nothing on it, of a program's code, over an environment with the names of the code.
-    pub fn new(alloc: Global, code: ProgramCode, env: Environment) -> Stack
+    pub fn new(alloc: Global, code: ProgramCode, env: Environment) -> Result<Stack, AllocError>
         requires names { ExtendsNames code.text.names env.heap.names }
         requires none { goals_from code.text 0 0 ≡ [] }
-        ensures { result ≡ record { basis = record { code = code; latest = record { place = 0; count = 0 }; starts = [] }; env = env; links = []; saved = []; frames = []; goals = alone 0 } }
+        ensures { IfOk result (λ s. s ≡ record { basis = record { code = code; latest = record { place = 0; count = 0 }; starts = [] }; env = env; links = []; saved = []; frames = []; goals = alone 0 }) }
     {
+        let copier = Copier::new(alloc)?;
         let _ = env.heap();
-        Stack {
+        Ok(Stack {
             basis: Basis {
                 code,
                 latest: View { place: 0, count: 0 },
@@ -65,12 +68,13 @@ impl Stack {
             },
             env,
             matcher: Matcher::new(alloc),
+            copier,
             links: Vec::new(alloc),
             saved: Vec::new(alloc),
             frames: Vec::new(alloc),
             goals: Continuation::alone(ListId::EMPTY),
             depth: Level::BOTTOM,
-        }
+        })
     }
 
     /// The program's code.

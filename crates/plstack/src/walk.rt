@@ -16,10 +16,10 @@ ghost use Rattle.plstack.specs.Cutting.{Settles};
 ghost use Rattle.plstack.specs.Trials.{ComesBack, IsMarked, IsOpened, ListsBody, PutsBody, PutsHead, Resolved};
 ghost use Rattle.plstack.specs.Walks.{AtWalk, EndsPlain, Finds, FitsCall, GoesOn, IsWalking, LeftSame, Moves, OpensWalk};
 
+use crate::copier::Copier;
 use crate::frame::{Frame, Marks, Point, Resume, Spot, Use, Walk};
 use crate::list::link_before;
 use crate::open::{count_up, push_frame};
-use crate::pair::clause_of_two;
 use crate::stack::Stack;
 use plcells::cell::Cell;
 use plclause::clause::Clause;
@@ -32,7 +32,7 @@ use pllinks::link::{Continuation, Link};
 use pllinks::list::ListId;
 use plterm::term::Term;
 use plterm::walk::Shape;
-use std::alloc::{AllocError, Global};
+use std::alloc::AllocError;
 
 /// A clause that a goal is tried with: the clause, what is done with it, and its name if it is to be erased before the list goes on.
 #[derive(Drop)]
@@ -81,7 +81,7 @@ pub struct Entered {
 /// Puts a clause's head, its variables new.
 pub(crate) fn put_head(
     env: &mut Environment,
-    alloc: Global,
+    copier: &mut Copier,
     clause: &Clause,
 ) -> Result<Head, AllocError>
     ensures ok { IfOk result (λ h. PutsHead env.old env.new clause.now h.values.items h.value) }
@@ -90,20 +90,19 @@ pub(crate) fn put_head(
     let Ok(count) = u32::try_from(clause.variables()) else {
         return Err(AllocError);
     };
-    let values = env.new_values(alloc, count)?;
-    let value = env.put_over(alloc, clause.head(), &values)?;
+    let values = env.new_values(copier.alloc, count)?;
+    let value = copier.put(env, clause.head(), &values)?;
     Ok(Head { values, value })
 }
 
 /// Puts the term `Head :- Body` of a clause, its variables new.
-fn put_fact(env: &mut Environment, alloc: Global, clause: &Clause) -> Result<Head, AllocError>
+fn put_fact(env: &mut Environment, copier: &mut Copier, clause: &Clause) -> Result<Head, AllocError>
     ensures ok { IfOk result (λ h. PutsHead env.old env.new (as_fact clause.now) h.values.items h.value) }
     ensures keeps { Keeps env.old env.new }
 {
-    let head = put_head(env, alloc, clause)?;
-    let body = env.put_over(alloc, clause.body(), &head.values)?;
-    let term = clause_of_two(alloc)?;
-    let value = env.put_over(alloc, &term, &[head.value, body])?;
+    let head = put_head(env, copier, clause)?;
+    let body = copier.put(env, clause.body(), &head.values)?;
+    let value = copier.put_clause(env, head.value, body)?;
     Ok(Head {
         values: head.values,
         value,
@@ -111,20 +110,24 @@ fn put_fact(env: &mut Environment, alloc: Global, clause: &Clause) -> Result<Hea
 }
 
 /// Puts what a goal is unified with to try a clause: for a call the clause's head, else the term `Head :- Body`.
-fn put_tried(env: &mut Environment, alloc: Global, next: &Candidate) -> Result<Head, AllocError>
+fn put_tried(
+    env: &mut Environment,
+    copier: &mut Copier,
+    next: &Candidate,
+) -> Result<Head, AllocError>
     ensures ok { IfOk result (λ h. PutsHead env.old env.new (clause_by next.now.uses next.now.clause) h.values.items h.value) }
     ensures keeps { Keeps env.old env.new }
 {
     match next.uses {
-        Use::Call => put_head(env, alloc, &next.clause),
-        Use::Tell | Use::Erase => put_fact(env, alloc, &next.clause),
+        Use::Call => put_head(env, copier, &next.clause),
+        Use::Tell | Use::Erase => put_fact(env, copier, &next.clause),
     }
 }
 
 /// Puts a clause's body over the values of its variables, unless it is the atom true, which is no goal.
 fn put_called(
     env: &mut Environment,
-    alloc: Global,
+    copier: &mut Copier,
     clause: &Clause,
     values: &[Cell],
 ) -> Result<Option<Cell>, AllocError>
@@ -136,14 +139,14 @@ fn put_called(
     if is_true(clause.body()) {
         return Ok(None);
     }
-    let body = env.put_over(alloc, clause.body(), values)?;
+    let body = copier.put(env, clause.body(), values)?;
     Ok(Some(body))
 }
 
 /// Puts what is left to do where a clause fits, over the values of its variables: for a call its body, else nothing.
 fn put_body(
     env: &mut Environment,
-    alloc: Global,
+    copier: &mut Copier,
     next: &Candidate,
     values: &[Cell],
 ) -> Result<Option<Cell>, AllocError>
@@ -153,7 +156,7 @@ fn put_body(
     ensures keeps { Keeps env.old env.new }
 {
     match next.uses {
-        Use::Call => put_called(env, alloc, &next.clause, values),
+        Use::Call => put_called(env, copier, &next.clause, values),
         Use::Tell | Use::Erase => Ok(None),
     }
 }
@@ -162,7 +165,7 @@ fn put_body(
 /// an undo to a mark in use gives back what was changed.
 fn try_copy(
     env: &mut Environment,
-    alloc: Global,
+    copier: &mut Copier,
     goal: Cell,
     next: &Candidate,
 ) -> Result<Option<Option<Cell>>, AllocError>
@@ -171,11 +174,11 @@ fn try_copy(
     ensures none { IfOk result (λ o. IfNone o (unify (value env.old.heap goal) (shift env.old.count (clause_by next.now.uses next.now.clause).head) ≡ None)) }
     ensures keeps { Keeps env.old env.new }
 {
-    let head = put_tried(env, alloc, next)?;
+    let head = put_tried(env, copier, next)?;
     if !env.unify_in_choice(goal, head.value)? {
         return Ok(None);
     }
-    let body = put_body(env, alloc, next, &head.values)?;
+    let body = put_body(env, copier, next, &head.values)?;
     Ok(Some(body))
 }
 
@@ -211,7 +214,7 @@ fn list_body(
 fn first_step(
     env: &mut Environment,
     links: &mut Vec<Link>,
-    alloc: Global,
+    copier: &mut Copier,
     call: &Trial,
     next: &Candidate,
 ) -> Result<Option<Continuation>, AllocError>
@@ -226,7 +229,7 @@ fn first_step(
     ensures err { OnErr result (links.new.items ≡ links.old.items) }
     ensures keeps { Keeps env.old env.new }
 {
-    let Some(body) = try_copy(env, alloc, call.goal, next)? else {
+    let Some(body) = try_copy(env, copier, call.goal, next)? else {
         let _ = env.heap();
         env.undo(call.mark);
         let _ = env.heap();
@@ -241,7 +244,7 @@ fn first_step(
 fn resolve_clause(
     env: &mut Environment,
     links: &mut Vec<Link>,
-    alloc: Global,
+    copier: &mut Copier,
     call: &Trial,
     next: &Candidate,
 ) -> Result<Option<Continuation>, AllocError>
@@ -255,7 +258,7 @@ fn resolve_clause(
     ensures env { IsEnv env.new }
     ensures err { OnErr result (ComesBack env.old env.new links.old.items links.new.items) }
 {
-    match first_step(env, links, alloc, call, next) {
+    match first_step(env, links, copier, call, next) {
         Ok(list) => {
             let _ = env.heap();
             Ok(list)
@@ -306,18 +309,14 @@ impl Stack {
         ensures walks { walks_in self.new ≡ walks_in self.old }
         ensures basis { self.new.basis ≡ self.old.basis }
     {
-        let Some(Frame::Open(point, Resume::Walk(walk))) = self.frames.pop() else {
+        let Some(at) = self.walking() else {
             unreachable!()
         };
-        self.env.undo(point.marks.env);
-        self.links.truncate(point.marks.links);
-        self.saved.truncate(point.marks.saved);
+        let marks = at.point.marks;
+        self.env.undo(marks.env);
+        self.links.truncate(marks.links);
+        self.saved.truncate(marks.saved);
         self.goals = Continuation::alone(ListId::EMPTY);
-        let at = Walking { point, walk };
-        push_frame(
-            &mut self.frames,
-            Frame::Open(at.point, Resume::Walk(at.walk)),
-        );
         at
     }
 
@@ -325,7 +324,6 @@ impl Stack {
     /// on, if it fits. The walk stands then behind it, or nothing is left of it. After an `Err` the cases are as they were.
     pub fn try_walk(
         &mut self,
-        alloc: Global,
         at: Walking,
         next: &Candidate,
         rest: Option<Spot>,
@@ -343,7 +341,7 @@ impl Stack {
         ensures basis { self.new.basis ≡ self.old.basis }
     {
         let level = self.depth.down(1);
-        let fits = self.fit_walk(alloc, &at, level, next)?;
+        let fits = self.fit_walk(&at, level, next)?;
         self.go_on_walk(at, rest);
         if !fits {
             return Ok(None);
@@ -354,13 +352,7 @@ impl Stack {
 
     /// Resolves the goal of the innermost case, a walk, against a clause: whether they fit. The clause's body is visited then before the list
     /// behind the goal, and the unifier is put into all. Else all stands for what it did.
-    fn fit_walk(
-        &mut self,
-        alloc: Global,
-        at: &Walking,
-        level: Level,
-        next: &Candidate,
-    ) -> Result<bool, AllocError>
+    fn fit_walk(&mut self, at: &Walking, level: Level, next: &Candidate) -> Result<bool, AllocError>
         requires at { AtWalk self.old at.now.point at.now.walk }
         requires level { depth_in self.old ≡ level + 1 }
         ensures yes { IfOk result (λ fits. fits ≡ true → resolve level self.old.env.count (value self.old.env.heap at.now.walk.goal) (goals_of self.old at.now.point.list) (clause_by next.now.uses next.now.clause) ≡ Some (place_of self.new)) }
@@ -378,7 +370,13 @@ impl Stack {
             level,
             rest: at.point.list,
         };
-        match resolve_clause(&mut self.env, &mut self.links, alloc, &call, next)? {
+        match resolve_clause(
+            &mut self.env,
+            &mut self.links,
+            &mut self.copier,
+            &call,
+            next,
+        )? {
             Some(list) => {
                 self.goals = list;
                 Ok(true)

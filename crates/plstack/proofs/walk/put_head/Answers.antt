@@ -13,5 +13,5 @@ pub returns-clause-ok : goal.returns-clause-ok
 returns-clause-ok c =
     let x = c.args.clause.now in
     let many : c.in-Ok.count ≡ x.variables = omega (arith, c.in-Ok.ensures, c.variables.ensures) in
-    puts-head c.args.env.now c.new_values.new.self c.put_over.new.self x c.in_ok-values.values.items c.in_ok-value.value c.in-Ok.count many c.in_ok-values.ensures.ok c.head.ensures.below
+    puts-head c.args.env.now c.new_values.new.self c.put.new.env x c.in_ok-values.values.items c.in_ok-value.value c.in-Ok.count many c.in_ok-values.ensures.ok c.head.ensures.below
     (rw (c.head.ensures.value, c.deref.ensures.value) at c.in_ok-value.ensures.ok)

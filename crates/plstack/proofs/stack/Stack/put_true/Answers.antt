@@ -1,36 +1,31 @@
-use Rattle.std.proofs.Common.{◌∙◌, ap, []}
-use Rattle.plsubst.specs.Subst.{bind}
-use Rattle.plcells.specs.Putting.{standing}
 use Rattle.plstack.proofs.Stacks.{inside}
 use Rattle.plstack.proofs.Growing.{if_ok, puts-stay, stack-env, extends-env}
 use Rattle.plstack.proofs.Arguments.{arguments-stay}
-use Rattle.plstack.proofs.Pairing.{true_over}
 use Rattle.plstack.proofs.stack.Stack.put_true.Goals as goal
 
 pub invariant_of-self : goal.invariant_of-self
 invariant_of-self c =
     let s = inside c.self.inside in
-    let e = c.put_over-put.new.self in
-    stack-env s c.self.inside.depth e (puts-stay s.env e _ c.put_over-put.result c.put_over-put.ensures.ok c.put_over-put.ensures.err).extends c.heap.ensures.env c.self.invariant
+    let e = c.put_true-put.new.env in
+    stack-env s c.self.inside.depth e (puts-stay s.env e _ c.put_true-put.result c.put_true-put.ensures.ok c.put_true-put.ensures.err).extends c.heap.ensures.env c.self.invariant
 
 pub returns-clause-is : goal.returns-clause-is
 returns-clause-is c =
-    let h = (inside c.self.inside).env.heap in
-    if_ok _ _ c.put_over-put.result (λ v puts. puts.is ∙ ap (bind (standing h [])) c.in_ok-term.ensures ∙ true_over h) c.put_over-put.ensures.ok
+    if_ok _ _ c.put_true-put.result (λ v puts. puts.is) c.put_true-put.ensures.ok
 
 pub returns-clause-count : goal.returns-clause-count
 returns-clause-count c =
     let s = inside c.self.inside in
-    rw (← c.self.view_is) (puts-stay s.env c.put_over-put.new.self _ c.put_over-put.result c.put_over-put.ensures.ok c.put_over-put.ensures.err).count
+    rw (← c.self.view_is) (puts-stay s.env c.put_true-put.new.env _ c.put_true-put.result c.put_true-put.ensures.ok c.put_true-put.ensures.err).count
 
 pub returns-clause-arguments : goal.returns-clause-arguments
 returns-clause-arguments c =
     let s = inside c.self.inside in
-    let e = c.put_over-put.new.self in
-    rw (← c.self.view_is) (arguments-stay s e (puts-stay s.env e _ c.put_over-put.result c.put_over-put.ensures.ok c.put_over-put.ensures.err).extends)
+    let e = c.put_true-put.new.env in
+    rw (← c.self.view_is) (arguments-stay s e (puts-stay s.env e _ c.put_true-put.result c.put_true-put.ensures.ok c.put_true-put.ensures.err).extends)
 
 pub returns-clause-stays : goal.returns-clause-stays
 returns-clause-stays c =
     let s = inside c.self.inside in
-    let e = c.put_over-put.new.self in
-    rw (← c.self.view_is) (extends-env s c.self.inside.depth e (puts-stay s.env e _ c.put_over-put.result c.put_over-put.ensures.ok c.put_over-put.ensures.err).extends c.heap.ensures.env c.self.invariant)
+    let e = c.put_true-put.new.env in
+    rw (← c.self.view_is) (extends-env s c.self.inside.depth e (puts-stay s.env e _ c.put_true-put.result c.put_true-put.ensures.ok c.put_true-put.ensures.err).extends c.heap.ensures.env c.self.invariant)
