@@ -266,6 +266,20 @@ impl Stack {
         Ok(true)
     }
 
+    /// The innermost case, if it is a call of a static procedure.
+    fn calling(&self) -> Option<Calling>
+        ensures some { IfSome result (λ at. IsCalling self.now at.point at.call) }
+        ensures none { IfNone result (HasClauses self.now → ⊥) }
+    {
+        match self.frames.last() {
+            Some(Frame::Open(point, Resume::Clauses(call))) => Some(Calling {
+                point: *point,
+                call: *call,
+            }),
+            _ => None,
+        }
+    }
+
     /// Goes back to where the innermost case was opened, which is a call of a static procedure and stays open.
     fn rewind_call(&mut self) -> Calling
         requires { HasClauses self.old }
@@ -274,18 +288,14 @@ impl Stack {
         ensures basis { self.new.basis ≡ self.old.basis }
         ensures walks { walks_in self.new ≡ walks_in self.old }
     {
-        let Some(Frame::Open(point, Resume::Clauses(call))) = self.frames.pop() else {
+        let Some(at) = self.calling() else {
             unreachable!()
         };
-        self.env.undo(point.marks.env);
-        self.links.truncate(point.marks.links);
-        self.saved.truncate(point.marks.saved + call.count as usize);
+        let marks = at.point.marks;
+        self.env.undo(marks.env);
+        self.links.truncate(marks.links);
+        self.saved.truncate(marks.saved + at.call.count as usize);
         self.goals = Continuation::alone(ListId::EMPTY);
-        let at = Calling { point, call };
-        push_frame(
-            &mut self.frames,
-            Frame::Open(at.point, Resume::Clauses(at.call)),
-        );
         at
     }
 

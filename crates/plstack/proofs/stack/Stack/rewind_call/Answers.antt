@@ -1,46 +1,27 @@
-use Rattle.std.proofs.Common.{◌≡◌, ◌++◌, ◌∷◌, [], ap, sym, ◌∙◌, reverse}
-use Rattle.plstack.specs.declared.frame.Point.{Point}
-use Rattle.plstack.specs.declared.frame.Clauses.{Clauses}
 use Rattle.plstack.specs.declared.frame.Resume.TheVariants as resumes
-use Rattle.plstack.specs.declared.frame.Frame.TheVariants.{Open}
 use Rattle.plstack.specs.State.{State}
+use Rattle.plstack.specs.StaticCalls.{IsCalling}
 use Rattle.plstack.proofs.Stacks.{inside}
 use Rattle.plstack.proofs.Rewinding.{rewound-stack, rewound-cases, at-call}
-use Rattle.plstack.specs.Places.{walks_of}
 use Rattle.plstack.proofs.stack.Stack.rewind_call.Goals as goal
 
 pub invariant_of-self : goal.invariant_of-self
 invariant_of-self c =
     let s : State = inside c.self.inside in
-    let p : Point = c.in-Some-Open-default-Clauses.point in
-    let k : Clauses = c.in-Some-Open-default-Clauses.call in
-    let popped : s.frames ≡ c.pop.new.self.items ++ Open p (resumes.Clauses k) ∷ [] = c.in-Some-Open-default-Clauses.ensures.items ∙ ap (λ f. c.pop.new.self.items ++ f ∷ []) (c.in-Some-Open-default-Clauses.field-0-is ∙ ap (Open p) c.in-Some-Open-default-Clauses.field-0-1-is) in
-    let back : c.push_frame.new.frames.items ≡ s.frames = c.push_frame.ensures.is ∙ sym popped in
-    rw (c.undo.ensures, c.truncate.ensures.items, c.truncate-2.ensures.items, c.alone-self-inside.ensures, back) (rewound-stack s c.self.inside.depth c.self.invariant c.pop.new.self.items p (resumes.Clauses k) popped (λ i. i))
+    let at = c.in-Some.at in
+    let w : IsCalling s at.point at.call = rw (← c.self.view_is) at c.in-Some.ensures.some in
+    rw (c.undo.ensures, c.truncate.ensures.items, c.truncate-2.ensures.items, c.alone-self-inside.ensures) (rewound-stack s c.self.inside.depth c.self.invariant w.rest at.point (resumes.Clauses at.call) w.top (λ i. i))
 
 pub returns-clause-cases : goal.returns-clause-cases
 returns-clause-cases c = λ db.
     let s : State = inside c.self.inside in
-    let p : Point = c.in-Some-Open-default-Clauses.point in
-    let k : Clauses = c.in-Some-Open-default-Clauses.call in
-    let popped : s.frames ≡ c.pop.new.self.items ++ Open p (resumes.Clauses k) ∷ [] = c.in-Some-Open-default-Clauses.ensures.items ∙ ap (λ f. c.pop.new.self.items ++ f ∷ []) (c.in-Some-Open-default-Clauses.field-0-is ∙ ap (Open p) c.in-Some-Open-default-Clauses.field-0-1-is) in
-    let back : c.push_frame.new.frames.items ≡ s.frames = c.push_frame.ensures.is ∙ sym popped in
-    rw (← c.self.view_is) (rw (c.undo.ensures, c.truncate.ensures.items, c.truncate-2.ensures.items, c.alone-self-inside.ensures, back) (rewound-cases s c.self.inside.depth c.self.invariant c.pop.new.self.items p (resumes.Clauses k) popped db))
+    let at = c.in-Some.at in
+    let w : IsCalling s at.point at.call = rw (← c.self.view_is) at c.in-Some.ensures.some in
+    rw (← c.self.view_is) (rw (c.undo.ensures, c.truncate.ensures.items, c.truncate-2.ensures.items, c.alone-self-inside.ensures) (rewound-cases s c.self.inside.depth c.self.invariant w.rest at.point (resumes.Clauses at.call) w.top db))
 
 pub returns-clause-at : goal.returns-clause-at
 returns-clause-at c =
     let s : State = inside c.self.inside in
-    let p : Point = c.in-Some-Open-default-Clauses.point in
-    let k : Clauses = c.in-Some-Open-default-Clauses.call in
-    let popped : s.frames ≡ c.pop.new.self.items ++ Open p (resumes.Clauses k) ∷ [] = c.in-Some-Open-default-Clauses.ensures.items ∙ ap (λ f. c.pop.new.self.items ++ f ∷ []) (c.in-Some-Open-default-Clauses.field-0-is ∙ ap (Open p) c.in-Some-Open-default-Clauses.field-0-1-is) in
-    let back : c.push_frame.new.frames.items ≡ s.frames = c.push_frame.ensures.is ∙ sym popped in
-    rw (c.undo.ensures, c.truncate.ensures.items, c.truncate-2.ensures.items, c.alone-self-inside.ensures, back) (at-call s c.self.inside.depth c.self.invariant c.pop.new.self.items p k popped)
-
-pub returns-clause-walks : goal.returns-clause-walks
-returns-clause-walks c =
-    let s : State = inside c.self.inside in
-    let p : Point = c.in-Some-Open-default-Clauses.point in
-    let k : Clauses = c.in-Some-Open-default-Clauses.call in
-    let popped : s.frames ≡ c.pop.new.self.items ++ Open p (resumes.Clauses k) ∷ [] = c.in-Some-Open-default-Clauses.ensures.items ∙ ap (λ f. c.pop.new.self.items ++ f ∷ []) (c.in-Some-Open-default-Clauses.field-0-is ∙ ap (Open p) c.in-Some-Open-default-Clauses.field-0-1-is) in
-    let back : c.push_frame.new.frames.items ≡ s.frames = c.push_frame.ensures.is ∙ sym popped in
-    rw (← c.self.view_is) (ap (λ fs. walks_of (reverse fs)) back)
+    let at = c.in-Some.at in
+    let w : IsCalling s at.point at.call = rw (← c.self.view_is) at c.in-Some.ensures.some in
+    rw (c.undo.ensures, c.truncate.ensures.items, c.truncate-2.ensures.items, c.alone-self-inside.ensures) (at-call s c.self.inside.depth c.self.invariant w.rest at.point at.call w.top)
