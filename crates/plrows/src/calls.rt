@@ -143,7 +143,7 @@ const CALLS: [Row; 22] = [
 ];
 
 /// Balls and catchers.
-const CATCHERS: [Row; 29] = [
+const CATCHERS: [Row; 30] = [
     // The ball is a copy, made where it is thrown, and what the goal bound is undone before the catcher is met.
     (
         RUN,
@@ -258,6 +258,13 @@ const CATCHERS: [Row; 29] = [
         RUN,
         "n(z) :- throw(b). n(s(X)) :- catch(n(X), B, (write(s), throw(B))). :- initialization((catch(n(s(s(z))), B, write(B)))).",
         "% thread 1 main: true\nssb\n",
+        Status::Done,
+    ),
+    // The innermost of many catchers that unifies takes it, with one that is not active any more between each two.
+    (
+        RUN,
+        "t(1). t(2). n(0, B) :- throw(B). n(N, B) :- N > 0, M is N - 1, catch(t(_), B, write(no)), catch(n(M, B), N, write(N)). m :- n(20000, 20000), write(' '), n(20000, 777), write(' '), n(20000, 1). :- initialization((m, catch(n(20000, b), b, write(b)))).",
+        "% thread 1 main: true\n20000 777 1b\n",
         Status::Done,
     ),
     // A recovery runs outside of its catcher, as by call/1; the errors of catch/3's own goal meet its catcher.

@@ -26,7 +26,7 @@ const DOUBLES: &str = "
 ";
 
 /// Programs over `d17`, each of which writes `end`.
-const DEEP: [&str; 16] = [
+const DEEP: [&str; 17] = [
     // Constructs in one another, to the right and to the left, proved and gone back through.
     "g((true, T), T). :- d17(g, C, write(end)), call(C).",
     "g((T, true), T). :- d17(g, C, write(end)), call(C).",
@@ -40,6 +40,8 @@ const DEEP: [&str; 16] = [
     // A choice point for each call, given up by a cut and by a ball.
     "g(_, _). g(_, _). :- once(d17(g, _, _)), fail ; write(end).",
     "g(_, _). g(_, _). :- catch((d17(g, _, _), throw(x)), x, write(end)).",
+    // Catchers in one another, all of which a ball passes but the outermost.
+    "g(catch(T, x, write(no)), T). :- d17(g, C, throw(y)), catch(C, y, write(end)).",
     // Calls in one another, each with a choice point, one for each number of 17 binary digits.
     "i([o|T], [i|T]). i([i|T], [o|U]) :- i(T, U). n(X) :- i(X, Y), n(Y), true. n(_). :- n([o,o,o,o,o,o,o,o,o,o,o,o,o,o,o,o,o]), !, write(end).",
     // Terms: unified, not unified with a part, thrown, published.

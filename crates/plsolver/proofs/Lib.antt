@@ -6,6 +6,7 @@ pub mod Handling
 pub mod Waiting
 pub mod Leaving
 pub mod Catches
+pub mod Falling
 pub mod Gathering
 pub mod Closing
 pub mod Transacting

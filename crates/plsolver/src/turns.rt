@@ -1,9 +1,11 @@
 //! The turns of a search that take no step: markers are passed, and results go outward.
 
-ghost use Rattle.std.specs.Prelude.{◌≡◌, ◌+◌, ◌-◌, ◌≤◌, ◌↔◌, IfOk, OnOk, OnErr, IfSome, IfNone, IsTrue, true};
+ghost use Rattle.std.specs.Prelude.{◌≡◌, ◌+◌, ◌-◌, ◌≤◌, ◌↔◌, IfOk, OnOk, OnErr, IfSome, IfNone, IsTrue, true, false, length, nat_lt, AllPairs};
+ghost use Rattle.std.specs.List.Sorted.{IsPartitionPoint};
 ghost use Rattle.plcells.specs.Store.{IsValue, value};
 ghost use Rattle.plprogram.specs.Program.{Program as Given};
 ghost use Rattle.plsearch.specs.Engine.{deeper};
+ghost use Rattle.plsearch.specs.Handlers.{has};
 ghost use Rattle.pllinks.specs.declared.link.Continuation.{Continuation as Continued};
 ghost use Rattle.plstack.specs.Places.{Database};
 ghost use Rattle.plstack.specs.State.{cases_of, EndsWalks, HasAnswers, HasCatcher, HasClauses, HasWalk, HasBranch, HasGatherer, HasPlain, HasUndo};
@@ -300,13 +302,14 @@ impl Progress {
 
     /// Whether a ball is carried to the innermost case, and that is a catcher that is active.
     fn catches(&self) -> bool
+        requires of { (P : Given) × IsOf P self.now.machine }
         ensures { (db : Database) → IsTrue result ↔ (HasCatcher self.now.machine.stack × (throws_to (deeper (cases_of db self.now.machine.stack) 0 - 1) self.now.machine.mode ≡ true)) }
     {
         if !self.machine.stack.is_catcher() {
             return false;
         }
         match &self.machine.mode {
-            Mode::Back(Outcome::Throw(_, levels)) => levels.contains(&self.machine.stack.level()),
+            Mode::Back(Outcome::Throw(_, levels)) => has_level(levels, self.machine.stack.level()),
             Mode::Visit
             | Mode::Ask(_)
             | Mode::Find(_)
@@ -330,4 +333,25 @@ impl Progress {
         let stack = &self.machine.stack;
         stack.is_branch() || stack.is_clauses() || stack.is_answers()
     }
+}
+
+/// Whether a level is among those of a ball, which never rise.
+fn has_level(levels: &[Level], level: Level) -> bool
+    requires falls { AllPairs (λ k l. l ≤ k) levels.now }
+    ensures { result ≡ has level levels.now }
+{
+    let place = place_of(levels, level);
+    match levels.get(place) {
+        Some(found) => *found == level,
+        None => false,
+    }
+}
+
+/// Where the levels of a ball that are not above a level begin.
+fn place_of(levels: &[Level], level: Level) -> usize
+    requires falls { AllPairs (λ k l. l ≤ k) levels.now }
+    ensures within { result ≤ length levels.now }
+    ensures point { IsPartitionPoint (λ k. nat_lt level k ≡ true) (λ k. nat_lt level k ≡ false) levels.now result }
+{
+    levels.partition_point(|found| *found > level)
 }

@@ -1,8 +1,10 @@
 -- The levels of the cases at which transactions end, and the markers that stand for them.
-use Rattle.std.proofs.Common.{◌≡◌, ℕ, zero, suc, ◌<◌, ◌≤◌, ◌⊎◌, inl, inr, true, ◌==◌, List, [], ◌∷◌, ◌++◌, length, drop, get_or, refl, sym, ap, ◌∙◌, subst, arith, le_refl}
+use Rattle.std.proofs.Common.{◌≡◌, ℕ, zero, suc, ◌<◌, ◌≤◌, ◌⊎◌, inl, inr, true, ◌==◌, List, [], ◌∷◌, ◌++◌, length, drop, get_or, All, AllPairs, refl, sym, ap, ◌∙◌, subst, arith, le_refl}
 use Rattle.std.specs.List.{AllByRecursion}
+use Rattle.std.proofs.lemmas.List.Elements.{All-cons, All-nil}
+use Rattle.std.proofs.lemmas.List.Kept.{AllPairs-cons}
 use Rattle.std.proofs.lemmas.Bool.{or_left, or_right, eq-eqb}
-use Rattle.plsearch.specs.Types.{Commit, Never, Until, Collect, Transact, Element, Goal, Marker, Raise, Asking, Catch, Gather, Undo, Case, Choice, Mark, Handle}
+use Rattle.plsearch.specs.Types.{Kind, Commit, Never, Until, Collect, Transact, Element, Goal, Marker, Raise, Asking, Catch, Gather, Undo, Case, Choice, Mark, Handle}
 use Rattle.plsearch.specs.Lists.{levels}
 use Rattle.plsearch.specs.Engine.{deeper}
 use Rattle.plsearch.specs.Handlers.{has}
@@ -12,10 +14,10 @@ use Rattle.plstack.specs.declared.frame.Resume.TheVariants as resumes
 use Rattle.plstack.specs.declared.frame.Frame.{Frame}
 use Rattle.plstack.specs.declared.frame.Frame.TheVariants.{Plain, Open}
 use Rattle.plstack.specs.Places.{depth_of}
-use Rattle.plstack.specs.Levels.{Sort, Choosing, Guarding, Undoing, sort_of, kinds, choices, kinds_of, undoings, Fits, transacts, FitsIn, Precedes, AreNamed}
+use Rattle.plstack.specs.Levels.{Sort, Choosing, Guarding, Undoing, sort_of, kinds, choices, kinds_of, undoings, top_behind, Fits, transacts, FitsIn, Precedes, AreNamed}
 use Rattle.plstack.specs.State.{IsUndo}
 use Rattle.plstack.specs.Cutting.{IsChoice}
-use Rattle.plstack.proofs.Naming.{kinds-length}
+use Rattle.plstack.proofs.Naming.{fits-top, kinds-length}
 
 -- ---- the levels of the cases
 
@@ -186,14 +188,40 @@ deeper-kinds : (cs : List Case) → length (kinds cs) ≡ deeper cs 0
 deeper-kinds [] = refl
 deeper-kinds (c ∷ cs) = ap suc (deeper-kinds cs)
 
-cases-named : (ls : List ℕ) (cs : List Case) → AllByRecursion (λ k. has k ls ≡ true) (undoings (kinds cs)) → AreNamed ls cs
-cases-named ls [] a = tt
-cases-named ls (Choice ps ∷ cs) a = cases-named ls cs a
-cases-named ls (Mark l ∷ cs) a = cases-named ls cs a
-cases-named ls (Handle (Catch c r) p ∷ cs) a = (tt, cases-named ls cs a)
-cases-named ls (Handle (Gather l) p ∷ cs) a = (tt, cases-named ls cs a)
-cases-named ls (Handle Undo p ∷ cs) a = (subst (λ d. has d ls ≡ true) (deeper-kinds cs) a.0, cases-named ls cs a.1)
+-- they never rise along a list that fits
+top-low : (m : Kind) (k : ℕ) → top_behind m k ≤ suc k
+top-low Commit k = le_refl (suc k)
+top-low Never k = le_refl (suc k)
+top-low Until k = omega arith
+top-low (Collect t) k = omega arith
+top-low (Transact d) k = omega arith
+
+module _ (ks : List Sort) where
+  levels-low : (es : List Element) (d : ℕ) → Fits ks d es → All (λ k. k < d) (levels es)
+  levels-low [] d f = All-nil (λ k. k < d)
+  levels-low (Goal k t ∷ es) d f = levels-low es d (fits-top ks es (suc k) d (omega (arith, f.0)) f.2)
+  levels-low (Marker m k ∷ es) d f = All-cons (λ l. l < d) k (levels es) f.0 (levels-low es d (fits-top ks es (top_behind m k) d (omega (arith, f.0, top-low m k)) f.2))
+  levels-low (Raise b ∷ es) d f = levels-low es d f
+  levels-low (Asking q ∷ es) d f = levels-low es d f
+
+  levels-fall : (es : List Element) (d : ℕ) → Fits ks d es → AllPairs (λ k l. l ≤ k) (levels es)
+  levels-fall [] d f = λ i j e before within. absurd (omega (arith, within))
+  levels-fall (Goal k t ∷ es) d f = levels-fall es (suc k) f.2
+  levels-fall (Marker m k ∷ es) d f =
+      let low = levels-low es (suc k) (fits-top ks es (top_behind m k) (suc k) (top-low m k) f.2) in
+      AllPairs-cons (λ a b. b ≤ a) k (levels es) (λ i e within. omega (arith, low i e within)) (levels-fall es (top_behind m k) f.2)
+  levels-fall (Raise b ∷ es) d f = levels-fall es d f
+  levels-fall (Asking q ∷ es) d f = levels-fall es d f
+
+module _ (ls : List ℕ) (fall : AllPairs (λ k l. l ≤ k) ls) where
+  cases-named : (cs : List Case) → AllByRecursion (λ k. has k ls ≡ true) (undoings (kinds cs)) → AreNamed ls cs
+  cases-named [] a = fall
+  cases-named (Choice ps ∷ cs) a = cases-named cs a
+  cases-named (Mark l ∷ cs) a = cases-named cs a
+  cases-named (Handle (Catch c r) p ∷ cs) a = (tt, cases-named cs a)
+  cases-named (Handle (Gather l) p ∷ cs) a = (tt, cases-named cs a)
+  cases-named (Handle Undo p ∷ cs) a = (subst (λ d. has d ls ≡ true) (deeper-kinds cs) a.0, cases-named cs a.1)
 
 -- those of a list that fits are the levels of all transactions that are open
 pub fits-named : (cs : List Case) (es : List Element) → FitsIn (kinds cs) es → AreNamed (levels es) cs
-fits-named cs es f = cases-named (levels es) cs (subst (AllByRecursion (λ k. has k (levels es) ≡ true)) f.1 (transacts-named es))
+fits-named cs es f = cases-named (levels es) (levels-fall (kinds cs) es (length (kinds cs)) f.0) cs (subst (AllByRecursion (λ k. has k (levels es) ≡ true)) f.1 (transacts-named es))

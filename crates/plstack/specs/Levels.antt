@@ -1,5 +1,5 @@
 -- The levels that goal lists name.
-use Rattle.std.specs.Prelude.{◌≡◌, ℕ, zero, suc, ◌<◌, true, List, [], ◌∷◌, ◌++◌, ◌⊎◌, length, map}
+use Rattle.std.specs.Prelude.{◌≡◌, ℕ, zero, suc, ◌<◌, ◌≤◌, true, List, [], ◌∷◌, ◌++◌, ◌⊎◌, length, map, AllPairs}
 use Rattle.std.specs.Bool.{⊤}
 use Rattle.plsearch.specs.Types.{Kind, Commit, Never, Until, Collect, Transact, Element, Goal, Marker, Raise, Asking, Handler, Catch, Gather, Undo, Case, Choice, Mark, Handle}
 use Rattle.plsearch.specs.Engine.{deeper}
@@ -124,9 +124,9 @@ IsNamed ls d (Catch c r) = ⊤
 IsNamed ls d (Gather l) = ⊤
 IsNamed ls d Undo = has d ls ≡ true
 
--- so it is for each Undo among some cases
+-- so it is for each Undo among some cases, and its levels never rise
 abbrev pub AreNamed : List ℕ → List Case → Type 0
-AreNamed ls [] = ⊤
+AreNamed ls [] = AllPairs (λ k l. l ≤ k) ls
 AreNamed ls (Choice ps ∷ cs) = AreNamed ls cs
 AreNamed ls (Mark l ∷ cs) = AreNamed ls cs
 AreNamed ls (Handle h p ∷ cs) = IsNamed ls (deeper cs 0) h × AreNamed ls cs

@@ -72,7 +72,8 @@ impl Stack {
         self.goals
     }
 
-    /// The levels of the markers of a list. Where it fits in some cases, those at which a transaction ends without success are among them.
+    /// The levels of the markers of a list. Where it fits in some cases, they never rise, and those at which a transaction ends without success are
+    /// among them.
     pub fn levels(&self, alloc: Global, list: Continuation) -> Result<Vec<Level>, AllocError>
         requires { IsList self.now list }
         ensures is { IfOk result (λ found. found.items ≡ levels (goals_of self.now list)) }
