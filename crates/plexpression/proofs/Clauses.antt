@@ -68,7 +68,7 @@ module _ (e : Env) (nodes : List Node) (base : ℕ) where
   opens_value t (Two f (operands.Value v) (operands.Node n)) opens = absurd (All-head (IsHeapOperand e.heap) (operands.Node n) [] (All-tail (IsHeapOperand e.heap) (operands.Value v) (operands.Node n ∷ []) opens.there))
   opens_value t (Two f (operands.Node n) q) opens = absurd (All-head (IsHeapOperand e.heap) (operands.Node n) (q ∷ []) opens.there)
 
-  shows : (at : ℕ) (n : Node) → IsNode e nodes base at → node_at nodes at ≡ n → tree_at e.heap.names nodes at ≡ node_tree e.heap.names nodes n
+  pub shows : (at : ℕ) (n : Node) → IsNode e nodes base at → node_at nodes at ≡ n → tree_at e.heap.names nodes at ≡ node_tree e.heap.names nodes n
   shows at n is here = tree-at e.heap.names nodes is.laid.sound at n is.within here
 
   -- a variable has a slot

@@ -1,2 +1,2 @@
 pub mod Clauses
-mod Numbers
+pub mod Numbers

@@ -1,13 +1,14 @@
 -- The nodes of a compiled clause as operands.
-use Rattle.std.specs.Prelude.{◌≡◌, ℕ, zero, suc, ◌+◌, ◌<◌, List, [], ◌∷◌, length}
-use Rattle.plterm.specs.Tree.{Tree, compound, trees}
+use Rattle.std.specs.Prelude.{◌≡◌, ℕ, zero, suc, ◌+◌, ◌<◌, List, [], ◌∷◌, length, ◌⊎◌}
+use Rattle.plterm.specs.Tree.{Tree, var, compound, trees}
 use Rattle.platoms.specs.Names.{functor_arity, functor_name}
 use Rattle.plsubst.specs.Subst.{bind}
 use Rattle.plcells.specs.Store.{IsValue, value}
 use Rattle.plcode.specs.declared.node.Node.{Node}
 use Rattle.plcode.specs.Laying.{IsLaid}
 use Rattle.plcode.specs.Packed.{node_at, IsArgument}
-use Rattle.plenv.specs.Env.{Env, over, Covers}
+use Rattle.plenv.specs.declared.slot.Slot.TheVariants.{Free}
+use Rattle.plenv.specs.Env.{Env, over, slot_at, Covers}
 use Rattle.plenv.specs.Rows.{tree_at}
 use Rattle.plarith.specs.declared.operand.Operand.{Operand}
 use Rattle.plarith.specs.declared.operand.Operand.TheVariants as operands
@@ -46,3 +47,14 @@ pub record IsPair (e : Env) (nodes : List Node) (base at : ℕ) (p : Pair) : Typ
   pub known : p.functor < length e.heap.names.functors
   pub arity : functor_arity e.heap.names p.functor ≡ 2
   pub is : tree_at e.heap.names nodes at ≡ compound (functor_name e.heap.names p.functor) (trees (tree_at e.heap.names nodes p.left ∷ tree_at e.heap.names nodes p.right ∷ []))
+
+-- a term of a clause, whose slots begin at a place, is a variable with a free slot
+pub record IsFree (e : Env) (base : ℕ) (t : Tree) : Type 0 where
+  pub place : ℕ
+  pub number : ℕ
+  pub is : t ≡ var place
+  pub free : slot_at e.slots (base + place) ≡ Free number
+
+-- it stands for no variable of the heap: it is one with a free slot, or stands for none
+abbrev pub IsOffHeap : Env → ℕ → Tree → Type 0
+IsOffHeap e base t = IsFree e base t ⊎ ((n : ℕ) → bind (over e base) t ≡ var n → ⊥)

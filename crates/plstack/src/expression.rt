@@ -6,6 +6,7 @@ ghost use Rattle.plsubst.specs.Unify.{unify};
 ghost use Rattle.plcells.specs.Store.{value, IsValue};
 ghost use Rattle.plarith.specs.Evaluation.{eval};
 ghost use Rattle.plenv.specs.Env.{over};
+ghost use Rattle.plexpression.specs.Nodes.{IsOffHeap};
 ghost use Rattle.pllinks.specs.declared.item.Run.{Run as OfRun};
 ghost use Rattle.plstack.specs.State.{Extends, UnifiesTerms};
 ghost use Rattle.plstack.specs.Arguments.{IsArgument, IsPair};
@@ -40,7 +41,7 @@ impl Stack {
     }
 
     /// Unifies the term of a node of a clause, whose slots are those of a run, with an integer's value: whether they have a unifier. Where they have
-    /// none, or memory gives out, all stands for what it did.
+    /// none, or memory gives out, all stands for what it did. The heap changes for a variable that stands there alone.
     pub fn unify_number(&mut self, run: &Run, node: u32, v: Cell) -> Result<bool, AllocError>
         requires node { (t : Tree) × IsArgument self.old run.now node t }
         requires value { IsValue self.old.env.heap v }
@@ -49,6 +50,7 @@ impl Stack {
         ensures no { (t : Tree) → IsArgument self.old run.now node t → IfOk result (λ fits. fits ≡ false → unify (bind (over self.old.env run.now.base) t) (value self.old.env.heap v) ≡ None) }
         ensures same { IfOk result (λ fits. fits ≡ false → Extends self.old self.new × (self.new.env.count ≡ self.old.env.count)) }
         ensures err { OnErr result (Extends self.old self.new × (self.new.env.count ≡ self.old.env.count)) }
+        ensures heap { (t : Tree) → IsArgument self.old run.now node t → IsOffHeap self.old.env run.now.base t → self.new.env.heap ≡ self.old.env.heap }
     {
         let _ = self.env.heap();
         let fits = unify_number(&mut self.env, self.basis.code.nodes(), node, run.base, v);

@@ -25,7 +25,7 @@ returns-in_ok-set-in-Free-clause-yes c = λ yes_is.
     (number-unifies e c.set.new.self n c.args.v c.requires.number.0 c.slot.ensures.env.heap fits.0 c.requires.value c.requires.number.1 made)
 
 pub returns-in-Set-clause-same : goal.returns-in-Set-clause-same
-returns-in-Set-clause-same c = stays-no c.args.env.now c.unify.new.self c.unify.result _ c.unify.ensures.no
+returns-in-Set-clause-same c = stays-no c.args.env.now c.meet_value.new.env c.meet_value.result _ c.meet_value.ensures.no
 
 pub returns-in-Set-clause-err : goal.returns-in-Set-clause-err
-returns-in-Set-clause-err c = stays-err c.args.env.now c.unify.new.self c.unify.result c.unify.ensures.err
+returns-in-Set-clause-err c = stays-err c.args.env.now c.meet_value.new.env c.meet_value.result c.meet_value.ensures.err

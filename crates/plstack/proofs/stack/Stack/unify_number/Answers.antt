@@ -1,9 +1,10 @@
 use Rattle.std.specs.Prelude.{◌≡◌, true, false, None, IfOk}
-use Rattle.std.proofs.Common.{subst}
+use Rattle.std.proofs.Common.{subst, sym}
 use Rattle.plsubst.specs.Subst.{bind}
 use Rattle.plsubst.specs.Unify.{unify}
 use Rattle.plcells.specs.Store.{value}
 use Rattle.plenv.specs.Env.{over}
+use Rattle.plexpression.specs.Nodes.{IsOffHeap}
 use Rattle.plstack.specs.State.{UnifiesTerms}
 use Rattle.plstack.proofs.Stacks.{inside}
 use Rattle.plstack.proofs.Growing.{err-extends, number-same, number-stack, number-unified}
@@ -39,3 +40,9 @@ returns-clause-same c = rw (← c.self.view_is) (number-same (inside c.self.insi
 
 pub returns-clause-err : goal.returns-clause-err
 returns-clause-err c = rw (← c.self.view_is) (err-extends (inside c.self.inside) c.self.inside.depth c.unify_number-fits.new.env c.heap-2.ensures.env c.self.invariant c.unify_number-fits.result c.unify_number-fits.ensures.err)
+
+pub returns-clause-heap : goal.returns-clause-heap
+returns-clause-heap c = rw (← c.self.view_is) (λ t is_one off.
+    let s = inside c.self.inside in
+    let there = one-is s c.self.invariant.0 c.nodes.ensures.laid c.nodes.result.now c.nodes.ensures.is c.args.run.now c.args.node t is_one in
+    c.unify_number-fits.ensures.heap (subst (IsOffHeap s.env c.args.run.now.base) (sym there) off))
