@@ -96,13 +96,6 @@ module _ (old new : Env) {E : Type 0} (r : Result Bool E) where
       go (Ok b) f = tt
       go (Err x) f = subst (Stays old) (sym f) (Stays-refl old)
 
-  pub none-no : (X : Type 0) → IfOk r (λ fits. fits ≡ false → X × (new ≡ old)) → IfOk r (λ fits. fits ≡ false → X)
-  none-no X f = go r f
-    where
-      go : (q : Result Bool E) → IfOk q (λ fits. fits ≡ false → X × (new ≡ old)) → IfOk q (λ fits. fits ≡ false → X)
-      go (Ok b) f = λ e. (f e).0
-      go (Err x) f = tt
-
   -- a unification that can have no unifier changes nothing
   pub unchanged : (X : Type 0) (t u : Tree) → unify t u ≡ None → IfOk r (λ fits. fits ≡ true → Unifies old new t u) → IfOk r (λ fits. fits ≡ false → X × (new ≡ old)) → OnErr r (new ≡ old) → new ≡ old
   unchanged X t u none f g h = go r f g h

@@ -1,26 +1,32 @@
 //! Arithmetic over the expressions of clauses: they are evaluated where they stand, and nothing is put (ISO/IEC 13211-1 8.6, 8.7).
 //!
 //! A row that is refused memory leaves the search where it was.
-ghost use Rattle.std.specs.Prelude.{◌≡◌, IfSome, OnOk, OnErr};
+ghost use Rattle.std.specs.Prelude.{◌≡◌, ℕ, FitsSigned, IfSome, IfNone, OnOk, OnErr};
+ghost use Rattle.std.specs.Int.{w32};
 ghost use Rattle.plterm.specs.Tree.{int, Tree};
 ghost use Rattle.plclause.specs.Indicators.{indicator};
+ghost use Rattle.plarith.specs.Errors.{error_of};
 ghost use Rattle.plarith.specs.Evaluation.{eval};
 ghost use Rattle.plprogram.specs.Program.{Program as OfProgram};
 ghost use Rattle.plbuiltin.specs.Arithmetic.{compared as compared_of, equals, of_two};
+ghost use Rattle.plsearch.specs.Moves.{raised};
 ghost use Rattle.plsearch.specs.Rows.{offer, solved, taken};
+ghost use Rattle.plexpression.specs.Nodes.{IsOffHeap};
+ghost use Rattle.pllinks.specs.declared.item.Run.{Run as OfRun};
 ghost use Rattle.plstack.specs.Arguments.{IsArgument};
 ghost use Rattle.plstack.specs.State.{goals_of, IsFit, IsList};
-ghost use Rattle.plmachine.specs.Calculating.{IsCalculation};
+ghost use Rattle.plmachine.specs.Calculating.{HasSmallValue, HasValue, IsArithmetic, IsCalculation, NeedsNoCell};
 ghost use Rattle.plmachine.specs.Machine.{local_of, IsBegun, Moved, Stays};
 ghost use Rattle.plmachine.specs.Selected.{bound_at, StandsFor};
 
-use crate::machine::{Machine, Mode, Outcome};
+use crate::machine::{Machine, Outcome};
 use crate::select::Source;
+use plarith::error::ArithError;
 use plcode::callee::Callee;
 use pllinks::item::Run;
 use pllinks::link::Continuation;
 use plnames::kind::{Arithmetic, BuiltIn, Comparison};
-use plpredicates::arithmetic::{compared, raises};
+use plpredicates::arithmetic::compares;
 use plprogram::program::Program;
 use std::alloc::AllocError;
 
@@ -38,18 +44,19 @@ impl Machine {
     /// The goal of an arithmetic predicate that stands in a clause at a source, if there is one.
     pub(crate) fn calculation(&self, source: &Source) -> Option<Calculation>
         requires { (t : Tree) × StandsFor self.now.stack source.now t }
-        ensures { (P : OfProgram) (t : Tree) → IsBegun P self.now → StandsFor self.now.stack source.now t → IfSome result (λ k. IsCalculation self.now.stack k t) }
+        ensures some { (P : OfProgram) (t : Tree) → IsBegun P self.now → StandsFor self.now.stack source.now t → IfSome result (λ k. IsCalculation self.now.stack k t) }
+        ensures source { IfSome result (λ k. source.now ≡ Source.Node k.run k.node) }
+        ensures none { (P : OfProgram) (r : OfRun) (node : ℕ) (t : Tree) → IsBegun P self.now → source.now ≡ Source.Node r node → IsArgument self.now.stack r node t → IfNone result (IsArithmetic t → ⊥) }
     {
         let Source::Node(run, node) = source else {
             return None;
         };
         let _ = self.stack.env().heap();
         let pair = self.stack.pair_at(*node)?;
-        let Callee::BuiltIn(BuiltIn::Arithmetic(predicate)) = self
-            .stack
-            .code()
-            .callee_of_functor(pair.functor)
-        else {
+        let Callee::BuiltIn(called) = self.stack.code().callee_of_functor(pair.functor) else {
+            return None;
+        };
+        let BuiltIn::Arithmetic(predicate) = called else {
             return None;
         };
         Some(Calculation {
@@ -61,7 +68,8 @@ impl Machine {
         })
     }
 
-    /// A goal of an arithmetic predicate that stands in a clause.
+    /// A goal of an arithmetic predicate that stands in a clause. Where its expressions have values, and it binds no variable of the heap, the
+    /// heap stays as it is.
     pub(crate) fn calculate(
         &mut self,
         program: &Program,
@@ -69,12 +77,12 @@ impl Machine {
         rest: Continuation,
     ) -> Result<(), AllocError>
         requires begun { IsBegun program.now self.old }
-        requires visits { self.old.mode ≡ Mode.Visit }
         requires call { (t : Tree) × IsCalculation self.old.stack call t }
         requires rest { IsList self.old.stack rest }
         requires fits { IsFit self.old.stack rest }
         ensures ok { (t : Tree) (c : IsCalculation self.old.stack call t) → OnOk result (Moved program.now self.old self.new (offer (of_two call.predicate (bound_at self.old.stack call.run c.left) (bound_at self.old.stack call.run c.right) self.old.settings) (indicator t) (goals_of self.old.stack rest) self.old.stack.env.count (local_of self.old))) }
         ensures err { OnErr result (Stays program.now self.old self.new) }
+        ensures heap { (t : Tree) (c : IsCalculation self.old.stack call t) → NeedsNoCell self.old.stack call.run call.predicate c.left c.right → self.new.stack.env.heap ≡ self.old.stack.env.heap }
     {
         match call.predicate {
             Arithmetic::Is => self.evaluate(program, call, rest),
@@ -90,24 +98,20 @@ impl Machine {
         rest: Continuation,
     ) -> Result<(), AllocError>
         requires begun { IsBegun program.now self.old }
-        requires visits { self.old.mode ≡ Mode.Visit }
         requires call { (t : Tree) × IsCalculation self.old.stack call t }
         requires rest { IsList self.old.stack rest }
         requires fits { IsFit self.old.stack rest }
         ensures ok { (t : Tree) (c : IsCalculation self.old.stack call t) → OnOk result (Moved program.now self.old self.new (offer (equals (bound_at self.old.stack call.run c.left) (eval (bound_at self.old.stack call.run c.right)) self.old.settings) (indicator t) (goals_of self.old.stack rest) self.old.stack.env.count (local_of self.old))) }
         ensures err { OnErr result (Stays program.now self.old self.new) }
+        ensures heap { (t : Tree) (c : IsCalculation self.old.stack call t) → IsOffHeap self.old.stack.env call.run.base c.left → HasSmallValue self.old.stack call.run c.right → self.new.stack.env.heap ≡ self.old.stack.env.heap }
     {
         match self.stack.eval_node(self.alloc, &call.run, call.right)? {
             Ok(number) => self.give_number(&call.run, call.left, number, rest),
-            Err(error) => {
-                let answer = raises(self.alloc, &error)?;
-                let goal = Source::Node(call.run, call.node);
-                self.carry_out(program, answer, goal, rest)
-            }
+            Err(error) => self.raise_for(program, &error, call, rest),
         }
     }
 
-    /// `=:=`/2, `=\=`/2, `<`/2, `=<`/2, `>`/2 and `>=`/2 (8.7.1).
+    /// `=:=`/2, `=\=`/2, `<`/2, `=<`/2, `>`/2 and `>=`/2; an error of the left expression comes first (8.7.1).
     fn compare(
         &mut self,
         program: &Program,
@@ -116,18 +120,47 @@ impl Machine {
         rest: Continuation,
     ) -> Result<(), AllocError>
         requires begun { IsBegun program.now self.old }
-        requires visits { self.old.mode ≡ Mode.Visit }
         requires call { (t : Tree) × IsCalculation self.old.stack call t }
         requires rest { IsList self.old.stack rest }
         requires fits { IsFit self.old.stack rest }
         ensures ok { (t : Tree) (k : IsCalculation self.old.stack call t) → OnOk result (Moved program.now self.old self.new (offer (compared_of c (eval (bound_at self.old.stack call.run k.left)) (eval (bound_at self.old.stack call.run k.right)) self.old.settings) (indicator t) (goals_of self.old.stack rest) self.old.stack.env.count (local_of self.old))) }
         ensures err { OnErr result (Stays program.now self.old self.new) }
+        ensures heap { (t : Tree) (k : IsCalculation self.old.stack call t) → HasValue self.old.stack call.run k.left → HasValue self.old.stack call.run k.right → self.new.stack.env.heap ≡ self.old.stack.env.heap }
     {
-        let left = self.stack.eval_node(self.alloc, &call.run, call.left)?;
-        let right = self.stack.eval_node(self.alloc, &call.run, call.right)?;
-        let answer = compared(self.alloc, c, left, right)?;
+        let x = match self.stack.eval_node(self.alloc, &call.run, call.left)? {
+            Ok(x) => x,
+            Err(error) => return self.raise_for(program, &error, call, rest),
+        };
+        let y = match self.stack.eval_node(self.alloc, &call.run, call.right)? {
+            Ok(y) => y,
+            Err(error) => return self.raise_for(program, &error, call, rest),
+        };
+        if compares(c, x, y) {
+            self.go_on(rest);
+        } else {
+            self.give(Outcome::Fail);
+        }
+        Ok(())
+    }
+
+    /// Raises the error of an expression of a goal.
+    fn raise_for(
+        &mut self,
+        program: &Program,
+        error: &ArithError,
+        call: Calculation,
+        rest: Continuation,
+    ) -> Result<(), AllocError>
+        requires begun { IsBegun program.now self.old }
+        requires call { (t : Tree) × IsCalculation self.old.stack call t }
+        requires rest { IsList self.old.stack rest }
+        requires fits { IsFit self.old.stack rest }
+        ensures ok { (t : Tree) → IsCalculation self.old.stack call t → OnOk result (Moved program.now self.old self.new (raised (error_of error.now) (indicator t) (goals_of self.old.stack rest) (local_of self.old))) }
+        ensures err { OnErr result (Stays program.now self.old self.new) }
+    {
+        let term = error.term(self.alloc)?;
         let goal = Source::Node(call.run, call.node);
-        self.carry_out(program, answer, goal, rest)
+        self.raise_of(program, term, goal, rest)
     }
 
     /// The term of a node is unified with an integer: the one solution of a built-in predicate.
@@ -143,6 +176,7 @@ impl Machine {
         requires fits { IsFit self.old.stack rest }
         ensures ok { (P : OfProgram) (t : Tree) → IsArgument self.old.stack run.now node t → OnOk result (Moved P self.old self.new (taken (solved (goals_of self.old.stack rest) self.old.stack.env.count (record { left = bound_at self.old.stack run.now t; right = int number; new = 0 })) (local_of self.old))) }
         ensures err { (P : OfProgram) → OnErr result (Stays P self.old self.new) }
+        ensures heap { (t : Tree) → IsArgument self.old.stack run.now node t → IsOffHeap self.old.stack.env run.now.base t → FitsSigned w32 number → self.new.stack.env.heap ≡ self.old.stack.env.heap }
     {
         let v = self.integer(number)?;
         if self.stack.unify_number(run, node, v)? {

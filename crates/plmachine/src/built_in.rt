@@ -1,7 +1,8 @@
 //! The one row of the built-in predicates (ISO/IEC 13211-1 8).
 //!
 //! A row that is refused memory leaves the search where it was.
-ghost use Rattle.std.specs.Prelude.{◌≡◌, ◌++◌, map, IfOk, OnOk, OnErr};
+ghost use Rattle.std.specs.Prelude.{◌≡◌, ◌++◌, map, FitsSigned, IfOk, OnOk, OnErr};
+ghost use Rattle.std.specs.Int.{w32};
 ghost use Rattle.plterm.specs.Tree.{Tree, int};
 ghost use Rattle.plterm.specs.declared.indicator.Indicator.{Indicator};
 ghost use Rattle.plsubst.specs.Unify.{unify};
@@ -160,13 +161,14 @@ impl Machine {
         self.unify(program, v, w, rest)
     }
 
-    /// The value of an integer.
+    /// The value of an integer. One of at most 32 bits needs nothing.
     pub(crate) fn integer(&mut self, number: i64) -> Result<Cell, AllocError>
         ensures fits { IfOk result (λ w. IsValue self.new.stack.env.heap w) }
         ensures is { IfOk result (λ w. value self.new.stack.env.heap w ≡ int number) }
         ensures arguments { KeepsArguments self.old.stack self.new.stack }
         ensures grown { Grown self.old.stack self.new.stack }
         ensures frame { self.new ≡ record self.old { stack = self.new.stack } }
+        ensures small { FitsSigned w32 number → self.new ≡ self.old }
     {
         if let Ok(small) = i32::try_from(number) {
             return Ok(Cell::Int(small));

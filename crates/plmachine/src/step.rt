@@ -5,6 +5,7 @@ ghost use Rattle.plsearch.specs.Forms.{form as form_by_term};
 ghost use Rattle.plsearch.specs.Rows.{row};
 ghost use Rattle.plstack.specs.First.{AtStep};
 ghost use Rattle.plstack.specs.State.{goals_of};
+ghost use Rattle.plmachine.specs.Calculating.{IsArithmetic, NeedsNoCell};
 ghost use Rattle.plmachine.specs.Machine.{below_in, depth_of, local_of, IsBegun, IsTied, MovedBy, Stays};
 ghost use Rattle.plmachine.specs.Selected.{bound_at};
 
@@ -18,7 +19,8 @@ use plprogram::program::Program;
 use std::alloc::AllocError;
 
 impl Machine {
-    /// The row of a goal of a clause's body, by its step, with the slots of a run for its variables.
+    /// The row of a goal of a clause's body, by its step, with the slots of a run for its variables. One of an arithmetic predicate that needs
+    /// no cell leaves the heap as it is.
     pub fn step(
         &mut self,
         program: &Program,
@@ -32,6 +34,7 @@ impl Machine {
         requires tied { IsTied self.old }
         ensures ok { (es : List Element) (at : AtStep self.old.stack es run step rest) → OnOk result (MovedBy program.now self.old self.new (λ v. row program.now (below_in v self.old) (form_by_term (bound_at self.old.stack run at.goal)) run.level (bound_at self.old.stack run at.goal) (depth_of self.old) (goals_of self.old.stack rest) self.old.stack.env.count (local_of self.old))) }
         ensures err { OnErr result (Stays program.now self.old self.new) }
+        ensures heap { (es : List Element) (at : AtStep self.old.stack es run step rest) (a : IsArithmetic at.goal) → NeedsNoCell self.old.stack run a.predicate a.left a.right → self.new.stack.env.heap ≡ self.old.stack.env.heap }
     {
         match step.op {
             Op::Or(left, right) => {

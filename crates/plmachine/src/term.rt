@@ -1,12 +1,15 @@
 //! A goal by where its term stands (ISO/IEC 13211-1 7.7.7).
-ghost use Rattle.std.specs.Prelude.{◌≡◌, ◌≤◌, length, map, IfOk, IfSome, IfNone, OnOk, OnErr};
+ghost use Rattle.std.specs.Prelude.{◌≡◌, ◌≤◌, ℕ, length, map, IfOk, IfSome, IfNone, OnOk, OnErr};
 ghost use Rattle.plterm.specs.Tree.{Tree};
 ghost use Rattle.plcells.specs.Store.{value, AreValues, IsValue};
 ghost use Rattle.plsearch.specs.Forms.{form as form_by_term};
 ghost use Rattle.plsearch.specs.Rows.{row};
 ghost use Rattle.plgoals.specs.Callables.{called, IsCallable, IsNoGoal};
+ghost use Rattle.pllinks.specs.declared.item.Run.{Run as OfRun};
+ghost use Rattle.plstack.specs.Arguments.{IsArgument};
 ghost use Rattle.plstack.specs.Levels.{Precedes};
 ghost use Rattle.plstack.specs.State.{goals_of, kinds_in, IsList};
+ghost use Rattle.plmachine.specs.Calculating.{IsArithmetic, NeedsNoCell};
 ghost use Rattle.plmachine.specs.Lists.{Grown};
 ghost use Rattle.plmachine.specs.Machine.{below_in, depth_of, local_of, IsBegun, IsTied, MovedBy, Stays};
 ghost use Rattle.plgoals.specs.declared.form.Form.TheVariants as forms;
@@ -47,7 +50,8 @@ impl Machine {
         self.solve(program, Source::Value(goal), level, rest)
     }
 
-    /// The row of a goal by where its term stands.
+    /// The row of a goal by where its term stands. One of an arithmetic predicate that stands in a clause, and needs no cell, leaves the heap
+    /// as it is.
     pub(crate) fn solve(
         &mut self,
         program: &Program,
@@ -63,6 +67,7 @@ impl Machine {
         requires tied { IsTied self.old }
         ensures ok { (t : Tree) → StandsFor self.old.stack source t → OnOk result (MovedBy program.now self.old self.new (λ v. row program.now (below_in v self.old) (form_by_term t) level t (depth_of self.old) (goals_of self.old.stack rest) self.old.stack.env.count (local_of self.old))) }
         ensures err { OnErr result (Stays program.now self.old self.new) }
+        ensures heap { (r : OfRun) (node : ℕ) (t : Tree) (a : IsArithmetic t) → source ≡ Source.Node r node → IsArgument self.old.stack r node t → NeedsNoCell self.old.stack r a.predicate a.left a.right → self.new.stack.env.heap ≡ self.old.stack.env.heap }
     {
         if let Some(call) = self.calculation(&source) {
             return self.calculate(program, call, rest);

@@ -54,7 +54,7 @@ fn equals(alloc: Global, heap: &Heap, term: Cell, expression: Cell) -> Result<An
 }
 
 /// What `=:=`/2, `=\=`/2, `<`/2, `=<`/2, `>`/2 and `>=`/2 make of what their expressions come to; an error of the left one comes first (8.7.1).
-pub fn compared(
+fn compared(
     alloc: Global,
     c: Comparison,
     left: Evaluated,
@@ -75,7 +75,7 @@ pub fn compared(
 }
 
 /// An error of an expression is raised.
-pub fn raises(alloc: Global, error: &ArithError) -> Result<Answer, AllocError>
+fn raises(alloc: Global, error: &ArithError) -> Result<Answer, AllocError>
     ensures is { IfOk result (λ answer. (h : Store) (s : Settings) (n : ℕ) → meant h s n answer ≡ Raises (error_of error.now)) }
     ensures there { IfOk result (λ answer. (h : Store) → IsThere h answer) }
 {
@@ -84,7 +84,7 @@ pub fn raises(alloc: Global, error: &ArithError) -> Result<Answer, AllocError>
 }
 
 /// Whether two integers compare so.
-fn compares(c: Comparison, x: i64, y: i64) -> bool
+pub fn compares(c: Comparison, x: i64, y: i64) -> bool
     ensures { result ≡ compares_of c x y }
 {
     match c {

@@ -1,4 +1,4 @@
-use Rattle.std.proofs.Common.{sym, ◌∙◌}
+use Rattle.std.proofs.Common.{◌∙◌}
 use Rattle.plhead.proofs.Clashes.{no-integer}
 use Rattle.plexpression.proofs.number.integer_at.Goals as goal
 

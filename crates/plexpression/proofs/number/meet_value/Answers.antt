@@ -1,6 +1,5 @@
-use Rattle.std.proofs.Common.{◌≡◌, ap, sym, refl, rules, w64, FitsSigned}
+use Rattle.std.proofs.Common.{refl, rules, w64, FitsSigned}
 use Rattle.std.proofs.lemmas.Int.{to_z-of_z}
-use Rattle.plterm.specs.Tree.{int}
 use Rattle.plcells.specs.Store.{value}
 use Rattle.plexpression.proofs.Numbers.{integer-apart, integers-apart, integers-same, unchanged}
 use Rattle.plexpression.proofs.number.meet_value.Goals as goal

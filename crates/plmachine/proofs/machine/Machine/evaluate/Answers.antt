@@ -1,4 +1,4 @@
-use Rattle.std.proofs.Common.{ap, sym, ◌∙◌, refl, rules, w64}
+use Rattle.std.proofs.Common.{◌≡◌, Ok, Err, ap, sym, ◌∙◌, refl, rules, subst, w32, w64}
 use Rattle.std.specs.Prelude.{FitsSigned}
 use Rattle.std.proofs.lemmas.Int.{to_z-of_z}
 use Rattle.plterm.specs.Tree.{int}
@@ -11,9 +11,6 @@ use Rattle.plmachine.specs.Selected.{bound_at}
 use Rattle.plmachine.proofs.Moves.{moved-as, on_ok_map}
 use Rattle.plmachine.proofs.Offers.{offer-unifies}
 use Rattle.plmachine.proofs.machine.Machine.evaluate.Goals as goal
-
-pub carry_out-requires-clause-answer : goal.carry_out-requires-clause-answer
-carry_out-requires-clause-answer c = c.in_ok-answer-in-Err.ensures.there c.args.self.now.stack.env.heap
 
 pub returns-in-Ok-clause-ok : goal.returns-in-Ok-clause-ok
 returns-in-Ok-clause-ok c = λ t k.
@@ -28,13 +25,25 @@ returns-in-Ok-clause-ok c = λ t k.
     let moved = rw (to_z-of_z w64 c.in-Ok.number fits) at (c.give_number.ensures.ok c.args.program.now k.left k.left_there) in
     on_ok_map c.give_number.result (moved-as c.args.program.now s c.give_number.new.self _ _ (offer-unifies term (int c.in-Ok.number) s.settings p es n (local_of s) refl ∙ ap (λ x. offer x p es n (local_of s)) is)) moved
 
-pub returns-in_ok-answer-in-Err-clause-ok : goal.returns-in_ok-answer-in-Err-clause-ok
-returns-in_ok-answer-in-Err-clause-ok c = λ t k.
+pub returns-in-Err-clause-ok : goal.returns-in-Err-clause-ok
+returns-in-Err-clause-ok c = λ t k.
     let s = c.args.self.now in
-    let n = s.stack.env.count in
     let found = c.in_ok-number.ensures k.right k.right_there in
-    let is = c.in_ok-answer-in-Err.ensures.is s.stack.env.heap s.settings n ∙ ap (λ x. equals (bound_at s.stack c.args.call.run k.left) x s.settings) (sym c.in-Err.is ∙ found) in
-    on_ok_map c.carry_out.result (moved-as c.args.program.now s c.carry_out.new.self _ _ (ap (λ x. offer x (indicator t) (goals_of s.stack c.args.rest) n (local_of s)) is)) (c.carry_out.ensures.ok t k.stands)
+    let is = ap (λ x. offer (equals (bound_at s.stack c.args.call.run k.left) x s.settings) (indicator t) (goals_of s.stack c.args.rest) s.stack.env.count (local_of s)) (sym c.in-Err.is ∙ found) in
+    on_ok_map c.raise_for.result (moved-as c.args.program.now s c.raise_for.new.self _ _ is) (c.raise_for.ensures.ok t k)
 
 pub returns-in-Ok-clause-err : goal.returns-in-Ok-clause-err
 returns-in-Ok-clause-err c = c.give_number.ensures.err c.args.program.now
+
+pub returns-in-Ok-clause-heap : goal.returns-in-Ok-clause-heap
+returns-in-Ok-clause-heap c = λ t k off small.
+    let found : Ok c.in-Ok.number ≡ Ok small.0 = sym c.in-Ok.is ∙ c.in_ok-number.ensures k.right k.right_there ∙ small.1 in
+    let same : c.in-Ok.number ≡ small.0 = cc in
+    let fits : FitsSigned w64 c.in-Ok.number = search rules in
+    let kept = rw (to_z-of_z w64 c.in-Ok.number fits) at (c.give_number.ensures.heap k.left k.left_there off) in
+    kept (subst (FitsSigned w32) (sym same) small.2)
+
+pub returns-in-Err-clause-heap : goal.returns-in-Err-clause-heap
+returns-in-Err-clause-heap c = λ t k off small.
+    let found : Err c.in-Err.error ≡ Ok small.0 = sym c.in-Err.is ∙ c.in_ok-number.ensures k.right k.right_there ∙ small.1 in
+    absurd (cc)

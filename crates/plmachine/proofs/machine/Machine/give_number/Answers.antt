@@ -11,6 +11,7 @@ use Rattle.plmachine.specs.Selected.{bound_at}
 use Rattle.plmachine.proofs.Lists.{grown-trans}
 use Rattle.plmachine.proofs.Moves.{moved-grown, grown-stays, stays-trans, on_err}
 use Rattle.plmachine.proofs.Offers.{unifies, unsolved}
+use Rattle.plmachine.proofs.Calculating.{off-heap-from}
 use Rattle.plmachine.proofs.Levels.{fits-grown}
 use Rattle.plstack.proofs.Fitted.{fits-unified}
 use Rattle.plmachine.proofs.machine.Machine.give_number.Goals as goal
@@ -70,3 +71,31 @@ go_on-requires-clause-fits c =
     let g = c.integer.ensures.grown in
     let kept = c.integer.ensures.arguments c.args.run.now c.args.node c.requires.node.0 c.requires.node.1 in
     fits-unified t c.unify_number.new.self _ _ (c.in_ok-unify_number.ensures.yes c.requires.node.0 kept.0 c.if-branch.true) c.args.rest (g.extends.lists c.args.rest c.requires.rest).0 (fits-grown s t g c.args.rest c.requires.rest c.requires.fits)
+
+pub returns-in_err-v-clause-heap : goal.returns-in_err-v-clause-heap
+returns-in_err-v-clause-heap c = λ u is_one off small.
+    let kept = rw (to_z-of_z w64 c.args.number c.ranges.number) at c.integer.ensures.small in
+    ap (λ (x : Reached). x.stack.env.heap) (kept small)
+
+pub returns-in_err-unify_number-clause-heap : goal.returns-in_err-unify_number-clause-heap
+returns-in_err-unify_number-clause-heap c = λ u is_one off small.
+    let s = c.args.self.now in
+    let r = c.args.run.now in
+    let kept = rw (to_z-of_z w64 c.args.number c.ranges.number) at c.integer.ensures.small in
+    off-heap-from s c.integer.new.self c.unify_number.new.self r.base u (kept small) off (c.unify_number.ensures.heap u (c.integer.ensures.arguments r c.args.node u is_one).0)
+
+pub returns-then-branch-clause-heap : goal.returns-then-branch-clause-heap
+returns-then-branch-clause-heap c = λ u is_one off small.
+    let s = c.args.self.now in
+    let r = c.args.run.now in
+    let kept = rw (to_z-of_z w64 c.args.number c.ranges.number) at c.integer.ensures.small in
+    ap (λ (x : Reached). x.stack.env.heap) c.go_on.ensures.is
+    ∙ off-heap-from s c.integer.new.self c.unify_number.new.self r.base u (kept small) off (c.unify_number.ensures.heap u (c.integer.ensures.arguments r c.args.node u is_one).0)
+
+pub returns-clause-heap : goal.returns-clause-heap
+returns-clause-heap c = λ u is_one off small.
+    let s = c.args.self.now in
+    let r = c.args.run.now in
+    let kept = rw (to_z-of_z w64 c.args.number c.ranges.number) at c.integer.ensures.small in
+    ap (λ (x : Reached). x.stack.env.heap) c.give.ensures
+    ∙ off-heap-from s c.integer.new.self c.unify_number.new.self r.base u (kept small) off (c.unify_number.ensures.heap u (c.integer.ensures.arguments r c.args.node u is_one).0)

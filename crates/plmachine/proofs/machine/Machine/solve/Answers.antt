@@ -10,10 +10,12 @@ use Rattle.plstack.specs.State.{goals_of, kinds_in}
 use Rattle.std.specs.Prelude.{IfSome}
 use Rattle.plmachine.specs.Calculating.{IsCalculation}
 use Rattle.plmachine.specs.Machine.{below_in, depth_of, local_of, IsBegun}
-use Rattle.plmachine.specs.Selected.{IsCalledBy, IsSelected}
+use Rattle.plmachine.specs.Selected.{bound_at, IsCalledBy, IsSelected, StandsFor}
 use Rattle.plmachine.specs.declared.machine.Mode.TheVariants as modes
 use Rattle.plmachine.specs.declared.machine.Mode.{Mode}
 use Rattle.plmachine.specs.declared.select.Source.{Source}
+use Rattle.plmachine.specs.declared.select.Source.TheVariants.{Node}
+use Rattle.plmachine.proofs.Calculating.{found-needs}
 use Rattle.plmachine.proofs.Moves.{grown-with, moved-views, stays-trans, on_err, on_ok_map, on_err_map}
 use Rattle.plmachine.proofs.Selecting.{row-with, selected, user-some}
 use Rattle.plmachine.proofs.Terms.{numbered}
@@ -24,14 +26,14 @@ pub returns-in_err-number-clause-err : goal.returns-in_err-number-clause-err
 returns-in_err-number-clause-err c = on_err _ (grown-with c.args.program.now c.args.self.now c.number.new.self c.number.ensures.grown c.number.ensures.frame)
 
 pub calculate-requires-clause-call : goal.calculate-requires-clause-call
-calculate-requires-clause-call c = (c.requires.source.0, subst (λ o. IfSome o (λ k. IsCalculation c.args.self.now.stack k c.requires.source.0)) c.in-Some.is (c.calculation.ensures c.args.program.now c.requires.source.0 c.requires.begun c.requires.source.1))
+calculate-requires-clause-call c = (c.requires.source.0, subst (λ o. IfSome o (λ k. IsCalculation c.args.self.now.stack k c.requires.source.0)) c.in-Some.is (c.calculation.ensures.some c.args.program.now c.requires.source.0 c.requires.begun c.requires.source.1))
 
 pub returns-in-Some-clause-ok : goal.returns-in-Some-clause-ok
 unfolding row
 returns-in-Some-clause-ok c = λ u stands.
     let s = c.args.self.now in
     let P = c.args.program.now in
-    let k = subst (λ o. IfSome o (λ k. IsCalculation s.stack k u)) c.in-Some.is (c.calculation.ensures P u c.requires.begun stands) in
+    let k = subst (λ o. IfSome o (λ k. IsCalculation s.stack k u)) c.in-Some.is (c.calculation.ensures.some P u c.requires.begun stands) in
     on_ok_map c.calculate.result (moved-views P s c.calculate.new.self _ _ (λ v. ap (λ f. row P (below_in v s) f c.args.level u (depth_of s) (goals_of s.stack c.args.rest) s.stack.env.count (local_of s)) (sym k.is))) (c.calculate.ensures.ok u k)
 
 pub calculate-requires-clause-fits : goal.calculate-requires-clause-fits
@@ -84,3 +86,21 @@ pub returns-clause-err : goal.returns-clause-err
 returns-clause-err c =
     let s = c.args.self.now in
     on_err_map c.select_by.result (stays-trans c.args.program.now s c.number.new.self c.select_by.new.self (grown-with c.args.program.now s c.number.new.self c.number.ensures.grown c.number.ensures.frame)) c.select_by.ensures.err
+
+pub returns-in-Some-clause-heap : goal.returns-in-Some-clause-heap
+returns-in-Some-clause-heap c = λ r node t a at there needs.
+    let s = c.args.self.now in
+    let u = bound_at s.stack r t in
+    let stands : StandsFor s.stack c.args.source u = subst (λ src. StandsFor s.stack src u) (sym at) (t, there, refl) in
+    let k = subst (λ o. IfSome o (λ k. IsCalculation s.stack k u)) c.in-Some.is (c.calculation.ensures.some c.args.program.now u c.requires.begun stands) in
+    let from : c.args.source ≡ Node c.in-Some.call.run c.in-Some.call.node = subst (λ o. IfSome o (λ k. c.args.source ≡ Node k.run k.node)) c.in-Some.is c.calculation.ensures.source in
+    c.calculate.ensures.heap u k (found-needs s.stack r node t c.in-Some.call k a (sym at ∙ from) there needs)
+
+pub returns-in_err-number-clause-heap : goal.returns-in_err-number-clause-heap
+returns-in_err-number-clause-heap c = λ r node t a at there needs. absurd (c.in_default.ensures.none c.args.program.now r node t c.requires.begun at there a)
+
+pub returns-in-Some-static_by-clause-heap : goal.returns-in-Some-static_by-clause-heap
+returns-in-Some-static_by-clause-heap c = λ r node t a at there needs. absurd (c.in_default.ensures.none c.args.program.now r node t c.requires.begun at there a)
+
+pub returns-clause-heap : goal.returns-clause-heap
+returns-clause-heap c = λ r node t a at there needs. absurd (c.in_default.ensures.none c.args.program.now r node t c.requires.begun at there a)

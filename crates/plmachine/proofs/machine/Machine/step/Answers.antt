@@ -1,10 +1,11 @@
-use Rattle.std.proofs.Common.{suc, ap, subst, refl, ◌∙◌}
+use Rattle.std.proofs.Common.{suc, ap, subst, refl, sym, ◌∙◌}
 use Rattle.plcode.specs.Steps.{IsFor}
 use Rattle.plstack.specs.State.{goals_of, kinds_in}
 use Rattle.plmachine.specs.Lists.{at_level, elements_of, branch_at}
 use Rattle.plmachine.specs.Machine.{below_in, depth_of, local_of}
 use Rattle.plmachine.proofs.Moves.{moved-views, on_ok_map}
 use Rattle.plmachine.specs.Selected.{bound_at}
+use Rattle.plmachine.proofs.Calculating.{form-arithmetic}
 use Rattle.plmachine.proofs.Stepping.{branch-is, branch-level, either-move, plain-node, then-move, then-else-move}
 use Rattle.plmachine.proofs.Levels.{goals-fit-in}
 use Rattle.plstack.specs.Levels.{FitsIn}
@@ -115,3 +116,27 @@ then_else-requires-clause-other_fits c =
     let at = c.requires.at.1 in
     let p = subst (FitsIn (kinds_in s)) at.goals at.levels in
     rw c.branch-other.ensures (goals-fit-in s (kinds_in s) c.args.run.level (branch_at c.args.run c.in-IfThenElse.other) tt (goals_of s c.args.rest) p)
+
+pub returns-in-Goal-clause-heap : goal.returns-in-Goal-clause-heap
+returns-in-Goal-clause-heap c es at a needs =
+    let s = c.args.self.now.stack in
+    let node = plain-node s.basis.code.text c.args.run.position c.args.step.op c.args.step.goal at.goal at.is c.in-Goal.is in
+    c.solve.ensures.heap c.args.run c.args.step.goal at.goal a refl (record { stand = node; width = at.width; below = at.below; own = at.own; slots = at.slots }) needs
+
+pub returns-in-Or-clause-heap : goal.returns-in-Or-clause-heap
+returns-in-Or-clause-heap c es at a needs =
+    let e = subst (λ o. IsFor c.args.self.now.stack.basis.code.text c.args.run.position o c.args.step.goal at.goal) c.in-Or.is at.is in
+    let forms = sym e.form_is ∙ form-arithmetic at.goal a in
+    absurd (cc)
+
+pub returns-in-IfThen-clause-heap : goal.returns-in-IfThen-clause-heap
+returns-in-IfThen-clause-heap c es at a needs =
+    let e = subst (λ o. IsFor c.args.self.now.stack.basis.code.text c.args.run.position o c.args.step.goal at.goal) c.in-IfThen.is at.is in
+    let forms = sym e.form_is ∙ form-arithmetic at.goal a in
+    absurd (cc)
+
+pub returns-in-IfThenElse-clause-heap : goal.returns-in-IfThenElse-clause-heap
+returns-in-IfThenElse-clause-heap c es at a needs =
+    let e = subst (λ o. IsFor c.args.self.now.stack.basis.code.text c.args.run.position o c.args.step.goal at.goal) c.in-IfThenElse.is at.is in
+    let forms = sym e.form_is ∙ form-arithmetic at.goal a in
+    absurd (cc)
