@@ -26,3 +26,4 @@ pub mod Finding
 pub mod Sweeping
 pub mod Asking
 pub mod Asked
+pub mod Advancing

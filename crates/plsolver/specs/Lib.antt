@@ -4,3 +4,4 @@ pub mod Solver
 pub mod Going
 pub mod Says
 pub mod Asking
+pub mod Advancing

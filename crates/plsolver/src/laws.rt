@@ -1,5 +1,6 @@
-//! What a look-up may ask.
+//! What a look-up may ask, and what begins where a search advances.
 
+ghost use Rattle.plsolver.specs.Advancing.{BeginsBySteps, WalksBySteps};
 ghost use Rattle.plsolver.specs.Asking.{AsksNoMore, AsksOnce};
 
 /// A look-up, with the walk that it becomes, asks nothing twice.
@@ -12,4 +13,16 @@ pub fn asks_once()
 #[tactic(auto, using(crate::proofs::Asking::asks_no_more))]
 pub fn asks_no_more()
     ensures { AsksNoMore }
+{}
+
+/// Where a search advances, at most as many look-ups and walks begin as it takes steps.
+#[tactic(auto, using(crate::proofs::Advancing::begins_by_steps))]
+pub fn begins_by_steps()
+    ensures { BeginsBySteps }
+{}
+
+/// And so of the walks where memory was refused on the way.
+#[tactic(auto, using(crate::proofs::Advancing::walks_by_steps))]
+pub fn walks_by_steps()
+    ensures { WalksBySteps }
 {}

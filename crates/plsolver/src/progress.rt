@@ -1,14 +1,15 @@
 //! How far a search has come, and how it goes on.
 
-ghost use Rattle.std.specs.Prelude.{◌≡◌, ◌+◌, ◌-◌, ◌≤◌, [], IfOk, OnOk, OnErr};
+ghost use Rattle.std.specs.Prelude.{◌≡◌, ◌+◌, ◌≤◌, [], IfOk, OnOk, OnErr};
 ghost use Rattle.plprogram.specs.Program.{Program as Given};
 ghost use Rattle.plstack.specs.State.{walks_in, EndsWalks};
 ghost use Rattle.plstore.specs.Looking.{Views};
 ghost use Rattle.plsearch.specs.Search.{search_of};
 ghost use Rattle.plsearch.specs.Solving.{Begins};
 ghost use Rattle.plmachine.specs.Machine.{IsPlain};
+ghost use Rattle.plsolver.specs.Advancing.{AdvancesInPart, AdvancesTo, SettlesTo, StepsTo};
 ghost use Rattle.plsolver.specs.Asking.{activations, in_cases, Further, Onward};
-ghost use Rattle.plsolver.specs.Solver.{GoesTo, IsOf, IsSelected, Selects, Stays, Stepped, latest_view, rest_of, Settled};
+ghost use Rattle.plsolver.specs.Solver.{GoesTo, IsOf, IsSelected, Selects, Stays, latest_view, rest_of, Settled};
 ghost use Rattle.plsolver.specs.Says.{Says, IsSlice};
 
 use crate::solver::Turn;
@@ -80,7 +81,7 @@ impl Progress {
     }
 
     /// Goes on until something is asked, the search ends, or so many steps are taken.
-    #[tactic(auto, using(crate::proofs::Runs::goes_on, crate::proofs::Runs::goes_nowhere, crate::proofs::Runs::stays_goes, crate::proofs::Runs::stays_of, crate::proofs::Further::onward_refl))]
+    #[tactic(auto, using(crate::proofs::Runs::goes_on, crate::proofs::Runs::goes_nowhere, crate::proofs::Runs::stays_goes, crate::proofs::Runs::stays_of, crate::proofs::Advancing::advances_nowhere))]
     pub fn advance(&mut self, program: &Program, fuel: u64) -> Result<Turn, AllocError>
         requires within { self.old.used ≤ self.old.limit }
         requires of { IsOf program.now self.old.machine }
@@ -92,8 +93,8 @@ impl Progress {
         ensures fuel { self.new.used ≤ self.old.used + fuel }
         ensures slice { IfOk result (λ turn. IsSlice turn → self.new.used ≡ self.old.used + fuel) }
         ensures says { IfOk result (λ turn. Says program.now self.new turn) }
-        ensures walks { Onward (self.new.used - self.old.used) (activations self.old.machine) (in_cases self.new.machine.stack) }
-        ensures asks { IfOk result (λ turn. Onward (self.new.used - self.old.used) (activations self.old.machine) (activations self.new.machine)) }
+        ensures walks { AdvancesInPart program.now self.old self.new }
+        ensures advances { IfOk result (λ turn. AdvancesTo program.now self.old self.new) }
     {
         let mut left = fuel;
         loop {
@@ -119,7 +120,7 @@ impl Progress {
         requires of { IsOf program.now self.old.machine }
         requires goal { IsSelected self.old.machine selected }
         requires left { self.old.used + 1 ≤ self.old.limit }
-        ensures ok { OnOk result (Stepped program.now self.old self.new) }
+        ensures ok { OnOk result (StepsTo program.now self.old self.new) }
         ensures of { IsOf program.now self.new.machine }
         ensures latest { latest_view self.new ≡ latest_view self.old }
         ensures err { OnErr result (Stays program.now self.old self.new) }
@@ -176,7 +177,7 @@ impl Progress {
         ensures places { self.new.places.items ≡ self.old.places.items }
         ensures due { IfOk result (λ due. Settled program.now self.new due) }
         ensures walks { Onward 0 (activations self.old.machine) (in_cases self.new.machine.stack) }
-        ensures asks { IfOk result (λ due. Onward 0 (activations self.old.machine) (activations self.new.machine)) }
+        ensures settles { IfOk result (λ due. SettlesTo program.now self.old self.new) }
     {
         if let Some(due) = self.find(program)? {
             return Ok(due);

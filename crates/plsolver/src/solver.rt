@@ -1,6 +1,6 @@
 //! The solver.
 
-ghost use Rattle.std.specs.Prelude.{◌≡◌, ℕ, ◌+◌, ◌-◌, ◌≤◌, [], ◌∷◌, ◌++◌, IfOk, OnOk, OnErr};
+ghost use Rattle.std.specs.Prelude.{◌≡◌, ℕ, ◌+◌, ◌≤◌, [], ◌∷◌, ◌++◌, IfOk, OnOk, OnErr};
 ghost use Rattle.plevent.specs.Search.{Seen, Got};
 ghost use Rattle.plstack.specs.State.{walks_in};
 ghost use Rattle.plstore.specs.Looking.{Views, found as found_of};
@@ -10,7 +10,8 @@ ghost use Rattle.plsearch.specs.Search.{search_of};
 ghost use Rattle.plsearch.specs.Solving.{Begins, Goes, TakesOne};
 ghost use Rattle.plsolver.specs.Fetching.{Fetches, IsFoundFor};
 ghost use Rattle.plsolver.specs.Solver.{GoesTo, IsOf, Stays, latest_view, rest_of, WaitsForView, ReplyFits};
-ghost use Rattle.plsolver.specs.Asking.{activations, in_cases, AsksNext, Onward};
+ghost use Rattle.plsolver.specs.Advancing.{AdvancesInPart, AdvancesTo};
+ghost use Rattle.plsolver.specs.Asking.{AsksNext};
 ghost use Rattle.plsolver.specs.Says.{Says, IsSlice};
 
 use crate::progress::Progress;
@@ -100,8 +101,8 @@ impl Solver {
         ensures fuel { self.new.used ≤ self.old.used + fuel }
         ensures slice { IfOk result (λ turn. IsSlice turn → self.new.used ≡ self.old.used + fuel) }
         ensures says { IfOk result (λ turn. Says program.now self.new turn) }
-        ensures walks { Onward (self.new.used - self.old.used) (activations self.old.machine) (in_cases self.new.machine.stack) }
-        ensures asks { IfOk result (λ turn. Onward (self.new.used - self.old.used) (activations self.old.machine) (activations self.new.machine)) }
+        ensures walks { AdvancesInPart program.now self.old self.new }
+        ensures advances { IfOk result (λ turn. AdvancesTo program.now self.old self.new) }
     {
         self.progress.advance(program, fuel)
     }

@@ -1,21 +1,16 @@
-use Rattle.std.proofs.Common.{◌≡◌, ◌-◌, ◌∙◌, arith, sym, subst}
-use Rattle.plmachine.specs.Machine.{IsPlain}
+use Rattle.std.proofs.Common.{◌≡◌, ◌∙◌, arith}
+use Rattle.plprogram.specs.Program.{Program}
 use Rattle.plsolver.specs.declared.progress.Progress.{Progress}
+use Rattle.plsolver.specs.Advancing.{AdvancesInPart, AdvancesTo}
 use Rattle.plsolver.specs.Asking.{activations, in_cases, Onward}
 use Rattle.plsolver.specs.Solver.{Settled}
 use Rattle.plsolver.specs.Says.{Says}
-use Rattle.plsolver.proofs.Runs.{goes_on}
+use Rattle.plsolver.proofs.Advancing.{advances_settles, advances_steps}
 use Rattle.plsolver.proofs.Asked.{if_ok_all}
+use Rattle.plsolver.proofs.Further.{further_ends, onward_further, onward_trans}
+use Rattle.plsolver.proofs.Runs.{goes_on}
 use Rattle.plsolver.proofs.Waiting.{says-look}
-use Rattle.plsolver.proofs.Further.{further_ends, onward_further, onward_step, onward_trans}
 use Rattle.plsolver.proofs.progress.Progress.advance.Goals as goal
-
--- what is due, behind the steps so far
-settled : (s mid t : Progress) → t.used ≡ mid.used → Onward (mid.used - s.used) (activations s.machine) (activations mid.machine) → Onward 0 (activations mid.machine) (activations t.machine) → Onward (t.used - s.used) (activations s.machine) (activations t.machine)
-settled s mid t same before after = onward_trans (mid.used - s.used) 0 (t.used - s.used) (activations s.machine) (activations mid.machine) (activations t.machine) (omega (arith, same)) before after
-
-settled-walks : (s mid t : Progress) → t.used ≡ mid.used → Onward (mid.used - s.used) (activations s.machine) (activations mid.machine) → Onward 0 (activations mid.machine) (in_cases t.machine.stack) → Onward (t.used - s.used) (activations s.machine) (in_cases t.machine.stack)
-settled-walks s mid t same before after = onward_trans (mid.used - s.used) 0 (t.used - s.used) (activations s.machine) (activations mid.machine) (in_cases t.machine.stack) (omega (arith, same)) before after
 
 pub returns-then-left-eq0-clause-says : goal.returns-then-left-eq0-clause-says
 unfolding Says
@@ -53,7 +48,8 @@ loop-selected-preserved c =
     let s = c.args.self.now in
     let t = c.settle.new.self in
     let i = c.loop-selected.invariant in
-    let step = c.in_ok-step-in-Goal.ensures.ok in
+    let steps = c.in_ok-step-in-Goal.ensures.ok in
+    let step = steps.stepped in
     let more = (rw c.in-Goal.is at c.in_ok-selected.ensures.due).1 in
     record {
       goes = goes_on P s t c.step.new.self (c.settle.ensures.limit ∙ i.limit) (goes_on P s c.loop-selected.self t i.limit i.goes c.settle.ensures.goes) step.goes;
@@ -64,47 +60,52 @@ loop-selected-preserved c =
       places = step.places ∙ c.settle.ensures.places ∙ i.places;
       latest = c.step.ensures.latest ∙ c.settle.ensures.latest ∙ i.latest;
       rises = omega (arith, step.used, c.settle.ensures.used, i.rises);
-      asks = onward_trans (t.used - s.used) 1 (c.step.new.self.used - s.used) (activations s.machine) (activations t.machine) (activations c.step.new.self.machine) (omega (arith, step.used, c.settle.ensures.used, i.rises))
-          (settled s c.loop-selected.self t c.settle.ensures.used i.asks c.in_ok-selected.ensures.asks) (onward_step t.machine c.step.new.self.machine (subst IsPlain (sym (rw c.in-Goal.is at c.in_ok-selected.ensures.due).0.0) tt) c.step.ensures.walks);
+      advances = advances_steps P s t c.step.new.self (advances_settles P s c.loop-selected.self t i.advances c.in_ok-selected.ensures.settles) steps;
     }
 
+
+-- ---- how far it advanced
+
+in_part : (P : Program) (s mid t : Progress) → AdvancesTo P s mid → t.used ≡ mid.used → Onward 0 (activations mid.machine) (in_cases t.machine.stack) → AdvancesInPart P s t
+in_part P s mid t far used walks = record { reached = mid; advances = far; used = used; walks = walks }
+
 pub returns-in_err-selected-clause-walks : goal.returns-in_err-selected-clause-walks
-returns-in_err-selected-clause-walks c = settled-walks c.args.self.now c.loop-selected.self c.settle.new.self c.settle.ensures.used c.loop-selected.invariant.asks c.settle.ensures.walks
+returns-in_err-selected-clause-walks c = in_part c.args.program.now c.args.self.now c.loop-selected.self c.settle.new.self c.loop-selected.invariant.advances c.settle.ensures.used c.settle.ensures.walks
 
 pub returns-then-left-eq0-clause-walks : goal.returns-then-left-eq0-clause-walks
-returns-then-left-eq0-clause-walks c = settled-walks c.args.self.now c.loop-selected.self c.settle.new.self c.settle.ensures.used c.loop-selected.invariant.asks c.settle.ensures.walks
+returns-then-left-eq0-clause-walks c = in_part c.args.program.now c.args.self.now c.loop-selected.self c.settle.new.self c.loop-selected.invariant.advances c.settle.ensures.used c.settle.ensures.walks
 
 pub returns-in-Look-clause-walks : goal.returns-in-Look-clause-walks
-returns-in-Look-clause-walks c = settled-walks c.args.self.now c.loop-selected.self c.settle.new.self c.settle.ensures.used c.loop-selected.invariant.asks c.settle.ensures.walks
+returns-in-Look-clause-walks c = in_part c.args.program.now c.args.self.now c.loop-selected.self c.settle.new.self c.loop-selected.invariant.advances c.settle.ensures.used c.settle.ensures.walks
 
 pub returns-in-Fetch-clause-walks : goal.returns-in-Fetch-clause-walks
-returns-in-Fetch-clause-walks c = settled-walks c.args.self.now c.loop-selected.self c.settle.new.self c.settle.ensures.used c.loop-selected.invariant.asks c.settle.ensures.walks
+returns-in-Fetch-clause-walks c = in_part c.args.program.now c.args.self.now c.loop-selected.self c.settle.new.self c.loop-selected.invariant.advances c.settle.ensures.used c.settle.ensures.walks
 
 pub returns-in-Await-clause-walks : goal.returns-in-Await-clause-walks
-returns-in-Await-clause-walks c = settled-walks c.args.self.now c.loop-selected.self c.settle.new.self c.settle.ensures.used c.loop-selected.invariant.asks c.settle.ensures.walks
+returns-in-Await-clause-walks c = in_part c.args.program.now c.args.self.now c.loop-selected.self c.settle.new.self c.loop-selected.invariant.advances c.settle.ensures.used c.settle.ensures.walks
 
 pub returns-in-Over-clause-walks : goal.returns-in-Over-clause-walks
-returns-in-Over-clause-walks c = settled-walks c.args.self.now c.loop-selected.self c.settle.new.self c.settle.ensures.used c.loop-selected.invariant.asks c.settle.ensures.walks
+returns-in-Over-clause-walks c = in_part c.args.program.now c.args.self.now c.loop-selected.self c.settle.new.self c.loop-selected.invariant.advances c.settle.ensures.used c.settle.ensures.walks
 
 pub returns-in_err-step-in-Goal-clause-walks : goal.returns-in_err-step-in-Goal-clause-walks
 returns-in_err-step-in-Goal-clause-walks c =
-    let s = c.args.self.now in
     let t = c.settle.new.self in
     let new = c.step.new.self in
-    onward_trans (t.used - s.used) 0 (new.used - s.used) (activations s.machine) (in_cases t.machine.stack) (in_cases new.machine.stack) (omega (arith, c.in_err-step-in-Goal.ensures.err.used))
-    (settled-walks s c.loop-selected.self t c.settle.ensures.used c.loop-selected.invariant.asks c.settle.ensures.walks) (onward_further t.machine.stack new.machine.stack (further_ends t.machine.stack new.machine.stack c.step.ensures.walks))
+    let err = c.in_err-step-in-Goal.ensures.err in
+    in_part c.args.program.now c.args.self.now c.loop-selected.self new c.loop-selected.invariant.advances (err.used ∙ c.settle.ensures.used)
+    (onward_trans 0 0 0 (activations c.loop-selected.self.machine) (in_cases t.machine.stack) (in_cases new.machine.stack) (omega arith) c.settle.ensures.walks (onward_further t.machine.stack new.machine.stack (further_ends t.machine.stack new.machine.stack c.step.ensures.walks)))
 
-pub returns-then-left-eq0-clause-asks : goal.returns-then-left-eq0-clause-asks
-returns-then-left-eq0-clause-asks c = settled c.args.self.now c.loop-selected.self c.settle.new.self c.settle.ensures.used c.loop-selected.invariant.asks c.in_ok-selected.ensures.asks
+pub returns-then-left-eq0-clause-advances : goal.returns-then-left-eq0-clause-advances
+returns-then-left-eq0-clause-advances c = advances_settles c.args.program.now c.args.self.now c.loop-selected.self c.settle.new.self c.loop-selected.invariant.advances c.in_ok-selected.ensures.settles
 
-pub returns-in-Look-clause-asks : goal.returns-in-Look-clause-asks
-returns-in-Look-clause-asks c = settled c.args.self.now c.loop-selected.self c.settle.new.self c.settle.ensures.used c.loop-selected.invariant.asks c.in_ok-selected.ensures.asks
+pub returns-in-Look-clause-advances : goal.returns-in-Look-clause-advances
+returns-in-Look-clause-advances c = advances_settles c.args.program.now c.args.self.now c.loop-selected.self c.settle.new.self c.loop-selected.invariant.advances c.in_ok-selected.ensures.settles
 
-pub returns-in-Fetch-clause-asks : goal.returns-in-Fetch-clause-asks
-returns-in-Fetch-clause-asks c = if_ok_all c.wanted.result (settled c.args.self.now c.loop-selected.self c.settle.new.self c.settle.ensures.used c.loop-selected.invariant.asks c.in_ok-selected.ensures.asks)
+pub returns-in-Fetch-clause-advances : goal.returns-in-Fetch-clause-advances
+returns-in-Fetch-clause-advances c = if_ok_all c.wanted.result (advances_settles c.args.program.now c.args.self.now c.loop-selected.self c.settle.new.self c.loop-selected.invariant.advances c.in_ok-selected.ensures.settles)
 
-pub returns-in-Await-clause-asks : goal.returns-in-Await-clause-asks
-returns-in-Await-clause-asks c = if_ok_all c.asked.result (settled c.args.self.now c.loop-selected.self c.settle.new.self c.settle.ensures.used c.loop-selected.invariant.asks c.in_ok-selected.ensures.asks)
+pub returns-in-Await-clause-advances : goal.returns-in-Await-clause-advances
+returns-in-Await-clause-advances c = if_ok_all c.asked.result (advances_settles c.args.program.now c.args.self.now c.loop-selected.self c.settle.new.self c.loop-selected.invariant.advances c.in_ok-selected.ensures.settles)
 
-pub returns-in-Over-clause-asks : goal.returns-in-Over-clause-asks
-returns-in-Over-clause-asks c = if_ok_all c.ended.result (settled c.args.self.now c.loop-selected.self c.settle.new.self c.settle.ensures.used c.loop-selected.invariant.asks c.in_ok-selected.ensures.asks)
+pub returns-in-Over-clause-advances : goal.returns-in-Over-clause-advances
+returns-in-Over-clause-advances c = if_ok_all c.ended.result (advances_settles c.args.program.now c.args.self.now c.loop-selected.self c.settle.new.self c.loop-selected.invariant.advances c.in_ok-selected.ensures.settles)

@@ -1,5 +1,5 @@
-use Rattle.std.proofs.Common.{◌≡◌, ◌+◌, ◌-◌, ◌≤◌}
-use Rattle.plsolver.specs.Asking.{activations, Onward}
+use Rattle.std.proofs.Common.{◌≡◌, ◌+◌, ◌≤◌}
+use Rattle.plsolver.specs.Advancing.{AdvancesTo}
 use Rattle.plsolver.specs.Solver.{latest_view, GoesTo, IsOf}
 use Rattle.plsolver.proofs.progress.Progress.advance.Given as goal
 
@@ -13,7 +13,7 @@ invariant-loop-selected l = record {
   limit : l.self.limit ≡ l.fn.self.limit;
   places : l.self.places.items ≡ l.fn.self.places.items;
   latest : latest_view l.self ≡ latest_view l.fn.self;
-  asks : Onward (l.self.used - l.fn.self.used) (activations l.fn.self.machine) (activations l.self.machine);
+  advances : AdvancesTo l.program l.fn.self l.self;
 }
 
 abbrev pub decreases-loop-selected : goal.decreases-loop-selected

@@ -1,4 +1,4 @@
-use Rattle.std.proofs.Common.{arith, sym, subst}
+use Rattle.std.proofs.Common.{arith, sym, subst, ◌∙◌}
 use Rattle.plsolver.specs.Asking.{activations, in_cases, Onward}
 use Rattle.plsolver.proofs.Asked.{if_ok_all}
 use Rattle.plsolver.proofs.Further.{onward_further, onward_trans, plain_cases}
@@ -25,7 +25,15 @@ returns-clause-walks c =
     let new = c.go_quietly.new.self.machine.stack in
     onward_trans 0 0 0 (activations c.args.self.now.machine) (in_cases t) (in_cases new) omega arith c.find.ensures.walks (onward_further t new c.go_quietly.ensures.walks)
 
-pub returns-clause-asks : goal.returns-clause-asks
-returns-clause-asks c =
-    if_ok_all c.go_quietly.result
-    (subst (Onward 0 (activations c.args.self.now.machine)) (sym (plain_cases c.go_quietly.new.self.machine c.go_quietly.ensures.plain)) (returns-clause-walks c))
+pub returns-in-Some-clause-settles : goal.returns-in-Some-clause-settles
+returns-in-Some-clause-settles c = record { goes = returns-in-Some-clause-goes c; used = c.find.ensures.keeps.used; limit = c.find.ensures.keeps.limit; asks = c.in_ok-find.ensures.asks }
+
+pub returns-clause-settles : goal.returns-clause-settles
+returns-clause-settles c =
+    let new = c.go_quietly.new.self in
+    if_ok_all c.go_quietly.result record {
+      goes = returns-clause-goes c;
+      used = c.go_quietly.ensures.used ∙ c.find.ensures.keeps.used;
+      limit = c.go_quietly.ensures.limit ∙ c.find.ensures.keeps.limit;
+      asks = subst (Onward 0 (activations c.args.self.now.machine)) (sym (plain_cases new.machine c.go_quietly.ensures.plain)) (returns-clause-walks c);
+    }

@@ -2,6 +2,7 @@ use Rattle.std.proofs.Common.{◌+◌, ◌∙◌, ap}
 use Rattle.plsolver.specs.declared.progress.Progress.{Progress}
 use Rattle.plsolver.specs.Solver.{Stepped}
 use Rattle.plsolver.proofs.Runs.{selected-goal, steps, steps_on, stays_latest, stays_of}
+use Rattle.plsolver.proofs.Advancing.{selects_on}
 use Rattle.plsolver.proofs.Ending.{ends_same, ends_trans}
 use Rattle.plsolver.proofs.progress.Progress.step.Goals as goal
 
@@ -13,7 +14,12 @@ returns-clause-ok c =
     let t : Progress = record c.select.new.self { used = c.select.new.self.used + 1 } in
     let stepped : Stepped P s t = steps P s t first.0 first.1 first.2 c.requires.goal.0 first.3 c.requires.left c.in_ok-select.ensures.ok
     (ap (λ x. x.used + 1) c.select.ensures.frame) (ap (λ x. x.limit) c.select.ensures.frame) (ap (λ x. x.places) c.select.ensures.frame) in
-    steps_on P s t c.give_back.new.self c.select.ensures.of stepped (c.give_back.ensures P)
+    record {
+      selected = c.args.selected;
+      first = c.requires.goal;
+      selects = selects_on P s.machine t.machine c.give_back.new.self.machine c.in_ok-select.ensures.ok (c.give_back.ensures P).there;
+      stepped = steps_on P s t c.give_back.new.self c.select.ensures.of stepped (c.give_back.ensures P);
+    }
 
 pub returns-clause-of : goal.returns-clause-of
 returns-clause-of c = stays_of c.args.program.now (record c.select.new.self { used = c.select.new.self.used + 1 }) c.give_back.new.self c.select.ensures.of (c.give_back.ensures c.args.program.now)
