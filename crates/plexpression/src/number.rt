@@ -64,7 +64,7 @@ fn meet_value(env: &mut Environment, own: Cell, v: Cell) -> Result<bool, AllocEr
 }
 
 /// Unifies the variable of a slot with an integer's value: whether they have a unifier. Where they have none, or memory gives out, all stands
-/// for what it did. The heap changes for a variable that stands there alone.
+/// for what it did. The heap changes only where a variable that stands there is bound.
 fn meet_slot(env: &mut Environment, slot: u32, v: Cell) -> Result<bool, AllocError>
     requires within { slot < length env.old.slots }
     requires value { IsValue env.old.heap v }
@@ -87,7 +87,7 @@ fn meet_slot(env: &mut Environment, slot: u32, v: Cell) -> Result<bool, AllocErr
 
 /// Unifies the term of a node, of a clause whose slots begin at a place, with an integer's value: whether they have a unifier. Where they have
 /// none, or memory gives out, all stands for what it did. A variable at its first occurrence takes the value, and no term is put: the heap
-/// changes for a variable that stands there alone.
+/// changes only where a variable that stands there is bound.
 pub fn unify_number(
     env: &mut Environment,
     nodes: &[Node],

@@ -68,8 +68,7 @@ impl Machine {
         })
     }
 
-    /// A goal of an arithmetic predicate that stands in a clause. Where its expressions have values, and it binds no variable of the heap, the
-    /// heap stays as it is.
+    /// A goal of an arithmetic predicate that stands in a clause. Where it needs no cell, the heap stays as it is.
     pub(crate) fn calculate(
         &mut self,
         program: &Program,

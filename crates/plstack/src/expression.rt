@@ -41,7 +41,7 @@ impl Stack {
     }
 
     /// Unifies the term of a node of a clause, whose slots are those of a run, with an integer's value: whether they have a unifier. Where they have
-    /// none, or memory gives out, all stands for what it did. The heap changes for a variable that stands there alone.
+    /// none, or memory gives out, all stands for what it did. The heap changes only where a variable that stands there is bound.
     pub fn unify_number(&mut self, run: &Run, node: u32, v: Cell) -> Result<bool, AllocError>
         requires node { (t : Tree) × IsArgument self.old run.now node t }
         requires value { IsValue self.old.env.heap v }
