@@ -1,5 +1,5 @@
 -- A walk in a view that goes on among own clauses.
-use Rattle.std.proofs.Common.{◌≡◌, ◌<◌, suc, List, [], length, Option, Some, None, refl, sym, ap, ◌∙◌, subst, arith}
+use Rattle.std.proofs.Common.{◌≡◌, ◌<◌, ℕ, suc, List, [], length, Option, Some, None, refl, sym, ap, ◌∙◌, subst, arith}
 use Rattle.plterm.specs.Tree.{Tree}
 use Rattle.plcells.specs.Store.{value}
 use Rattle.plclause.specs.Clause.{Clause}
@@ -7,9 +7,11 @@ use Rattle.plevent.specs.declared.update.ClauseName.{ClauseName}
 use Rattle.plevent.specs.declared.update.Update.{Update}
 use Rattle.plevent.specs.Alive.{lives_as}
 use Rattle.plprogram.specs.Program.{Program}
+use Rattle.plstore.specs.declared.query.Query.{Query}
 use Rattle.plstore.specs.declared.record.Cursor.{Cursor}
 use Rattle.plstore.specs.Looking.{Views}
 use Rattle.plviews.specs.declared.lookup.Reach.{Reach}
+use Rattle.plviews.specs.declared.lookup.Reach.TheVariants as reaches
 use Rattle.plviews.specs.declared.lookup.Step.{Step}
 use Rattle.plviews.specs.declared.lookup.Step.TheVariants as steps
 use Rattle.plviews.specs.declared.view.View.{View}
@@ -30,7 +32,7 @@ use Rattle.plstack.specs.Walks.{AtWalk, EndsPlain, Finds, GoesOn, IsWalking}
 use Rattle.plmachine.specs.declared.machine.Machine.{Machine as Reached}
 use Rattle.plmachine.specs.declared.machine.Outcome.TheVariants as outcomes
 use Rattle.plmachine.specs.declared.machine.Mode.TheVariants as modes
-use Rattle.plsolver.specs.Fetching.{like, spot_ahead, spot_behind, SpotAsks}
+use Rattle.plsolver.specs.Fetching.{like, spot_ahead, spot_behind, ComesToJournal, SpotAsks}
 use Rattle.plsolver.specs.Going.{goes_left, head_at, own_behind, walked_on, GoesOnTo, HasEnded, IsInView, IsToAsk, LooksBehind, SameCases, WalkedTo}
 use Rattle.plsolver.specs.Knowing.{Holds, Steps, Tells}
 use Rattle.plsolver.proofs.Behind.{behind-left, clause-found, gone-left, looks-elim, SameLeft}
@@ -243,3 +245,15 @@ module _ (s : Reached) (st : State) (at : Walking) (there : AtWalk s.stack at.po
       ((z : Spot) → rest ≡ Some z → value st.env.heap at.walk.goal ≡ value s.stack.env.heap at.walk.goal) → (rest ≡ None → (db : Database) → EndsPlain db st) → WalkedTo s (over s st) at (walked_on at rest)
   tries-past rest is cases basis seen walking same ends =
       goes-past rest is cases basis seen walking same (λ none P v ordered. last-ends (database_of P v s.layer.own.updates) s.stack st (cases P v ordered) (ends none (database_of P v s.layer.own.updates)))
+
+-- ---- where the journal comes next it is asked, whatever the own updates are
+
+pub journal-asks : (own : List Update) (h : Tree) (x : Spot) → ComesToJournal x → (g : ℕ) × (q : Query) × SpotAsks own h x g q
+journal-asks own h (spots.Text k) comes = absurd comes
+journal-asks own h (spots.Seek b (reaches.Front c)) comes = absurd comes
+journal-asks own h (spots.Seek b (reaches.Base c)) comes = (b.place, like h c, (refl, refl))
+journal-asks own h (spots.Seek b (reaches.Back c)) comes = absurd comes
+journal-asks own h (spots.At b y (reaches.Front c)) comes = absurd comes
+journal-asks own h (spots.At b y (reaches.Base c)) comes = (b.place, like h c, (refl, refl))
+journal-asks own h (spots.At b y (reaches.Back c)) comes = absurd comes
+journal-asks own h (spots.Known b y z) comes = absurd comes

@@ -91,6 +91,18 @@ SpotAsks own h (spots.Seek b r) g q = (g ≡ b.place) × ReachAsks h r q
 SpotAsks own h (spots.At b x r) g q = (g ≡ b.place) × ReachAsks h r q
 SpotAsks own h (spots.Known b x y) g q = (g ≡ b.place) × ClauseAsks own b x q
 
+-- the clauses of the journal behind a cursor come next
+abbrev pub IsBase : Reach → Type 0
+IsBase (reaches.Front c) = ⊥
+IsBase (reaches.Base c) = Unit {0}
+IsBase (reaches.Back c) = ⊥
+
+abbrev pub ComesToJournal : Spot → Type 0
+ComesToJournal (spots.Text k) = ⊥
+ComesToJournal (spots.Seek b r) = IsBase r
+ComesToJournal (spots.At b x r) = IsBase r
+ComesToJournal (spots.Known b x y) = ⊥
+
 -- a look-up asks in its view
 abbrev pub Seeks : Reached → ℕ → Query → Type 0
 Seeks s g q = (f : Find) × (s.mode ≡ modes.Find f) × (g ≡ (find_view f).place) × FindAsks s.layer.own.updates s.stack.env.heap f q

@@ -22,7 +22,6 @@ pub fn begins_by_steps()
 {}
 
 /// And so of the walks where memory was refused on the way.
-#[tactic(auto, using(crate::proofs::Advancing::walks_by_steps))]
 pub fn walks_by_steps()
     ensures { WalksBySteps }
 {}

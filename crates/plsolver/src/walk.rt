@@ -1,6 +1,6 @@
 //! Walks over clauses that go on: own clauses are tried one after another, and of the others it is asked what it takes to try the next.
 
-ghost use Rattle.std.specs.Prelude.{◌≡◌, IfNone, IfOk, IfSome, None, OnErr, OnOk, Option};
+ghost use Rattle.std.specs.Prelude.{◌≡◌, IsTrue, IfNone, IfOk, IfSome, None, OnErr, OnOk, Option};
 ghost use Rattle.plcells.specs.Store.{value, IsValue};
 ghost use Rattle.plclause.specs.Indicators.{indicator};
 ghost use Rattle.plevent.specs.Alive.{living};
@@ -22,7 +22,7 @@ ghost use Rattle.plstack.specs.declared.frame.Ahead.{Ahead as OfAhead};
 ghost use Rattle.plstack.specs.declared.frame.Spot.TheVariants.{Known as KnownOf};
 ghost use Rattle.plmachine.specs.Machine.{IsTied};
 ghost use Rattle.plsolver.specs.Asking.{Further, WalkAsked};
-ghost use Rattle.plsolver.specs.Fetching.{like, spot_ahead};
+ghost use Rattle.plsolver.specs.Fetching.{like, spot_ahead, ComesToJournal, IsBase};
 ghost use Rattle.plsolver.specs.Going.{head_at, walked_on, IsInView, LooksBehind, SameCases, WalkedTo};
 ghost use Rattle.plsolver.specs.Knowing.{Holds, IsKnown, Steps};
 ghost use Rattle.plsolver.specs.Solver.{IsOf, Keeps, KeepsRest, Quiet, Settled, Stays};
@@ -116,9 +116,11 @@ impl Progress {
         ensures frame { self.new ≡ record self.old { machine = record self.old.machine { stack = self.new.machine.stack } } }
         ensures walks { Further self.old.machine.stack self.new.machine.stack }
     {
+        if asks_journal(at.walk.spot) {
+            return Ok(Walked::Asks);
+        }
         match at.walk.spot {
             Spot::Text(_) => unreachable!(),
-            Spot::Seek(_, Reach::Base(_)) | Spot::At(_, _, Reach::Base(_)) => Ok(Walked::Asks),
             Spot::Seek(view, reach) | Spot::At(view, _, reach) => {
                 let step = self.step_at(self.head_at(&at), view, reach)?;
                 Ok(self.walk_behind(at, step))
@@ -254,6 +256,27 @@ impl Progress {
         };
         self.machine.mode = mode_of(entered);
         Ok(())
+    }
+}
+
+/// Whether the clauses of the journal behind a cursor come next, of which it is to be asked.
+fn asks_journal(spot: Spot) -> bool
+    ensures { IsTrue result → ComesToJournal spot }
+{
+    match spot {
+        Spot::Text(_) | Spot::Known(_, _, _) => false,
+        Spot::Seek(_, reach) => is_base(reach),
+        Spot::At(_, _, reach) => is_base(reach),
+    }
+}
+
+/// Whether the clauses of the journal behind a cursor come next.
+fn is_base(reach: Reach) -> bool
+    ensures { IsTrue result → IsBase reach }
+{
+    match reach {
+        Reach::Base(_) => true,
+        Reach::Front(_) | Reach::Back(_) => false,
     }
 }
 

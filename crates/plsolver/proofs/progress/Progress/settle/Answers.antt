@@ -26,7 +26,7 @@ returns-clause-walks c =
     onward_trans 0 0 0 (activations c.args.self.now.machine) (in_cases t) (in_cases new) omega arith c.find.ensures.walks (onward_further t new c.go_quietly.ensures.walks)
 
 pub returns-in-Some-clause-settles : goal.returns-in-Some-clause-settles
-returns-in-Some-clause-settles c = record { goes = returns-in-Some-clause-goes c; used = c.find.ensures.keeps.used; limit = c.find.ensures.keeps.limit; asks = c.in_ok-find.ensures.asks }
+returns-in-Some-clause-settles c = record { goes = returns-in-Some-clause-goes c; used = c.find.ensures.keeps.used; limit = c.find.ensures.keeps.limit; asks = c.in_ok-due.ensures.asks }
 
 pub returns-clause-settles : goal.returns-clause-settles
 returns-clause-settles c =

@@ -4,6 +4,7 @@ use Rattle.plstack.specs.declared.frame.Spot.{Spot}
 use Rattle.plsolver.specs.Fetching.{SpotAsks}
 use Rattle.plsolver.specs.Going.{head_at}
 use Rattle.plsolver.proofs.Further.{further_refl}
+use Rattle.plsolver.proofs.Walking.{journal-asks}
 use Rattle.plsolver.proofs.progress.Progress.walk_on.Goals as goal
 
 pub returns-in_err-next-in-Known-clause-walks : goal.returns-in_err-next-in-Known-clause-walks
@@ -32,3 +33,13 @@ returns-in-Asks-clause-ok c =
 
 pub returns-in-Asks-clause-walks : goal.returns-in-Asks-clause-walks
 returns-in-Asks-clause-walks c = further_refl c.args.self.now.machine.stack
+
+pub returns-then-asks_journal-clause-ok : goal.returns-then-asks_journal-clause-ok
+returns-then-asks_journal-clause-ok c =
+    let at = c.args.at in
+    let m = c.args.self.now.machine in
+    let asked = journal-asks m.layer.own.updates (head_at m at.walk) at.walk.spot (c.asks_journal.ensures c.if-asks_journal.true) in
+    (λ P v ordered. refl, (asked.0, asked.1, record { point = at.point; walk = at.walk; at = c.requires.at; fails = c.requires.fails; asks = asked.2 }))
+
+pub returns-then-asks_journal-clause-walks : goal.returns-then-asks_journal-clause-walks
+returns-then-asks_journal-clause-walks c = further_refl c.args.self.now.machine.stack
