@@ -3,14 +3,16 @@ ghost use Rattle.std.specs.Prelude.{◌≡◌};
 ghost use Rattle.std.specs.Option.{option_copied};
 ghost use Rattle.plstore.specs.Kept.{here, clause_of, is_there, walk};
 ghost use Rattle.plstore.specs.Like.{next_like_of};
+ghost use Rattle.plstore.specs.Looking.{clause_seen};
 ghost use Rattle.plstore.specs.Rising.{IsRising};
 ghost use Rattle.plstore.specs.Tables.{kept_in, Chained, IsStored};
 
 use crate::ends::ends_of;
+use crate::named::find;
 use crate::record::Cursor;
 use crate::sought::Sought;
 use crate::steps::{first_sought, sought_after};
-use crate::tables::{Tables, find};
+use crate::tables::Tables;
 use plclause::clause::Clause;
 use plevent::ClauseName;
 use plterm::indicator::Indicator;
@@ -21,7 +23,7 @@ impl Tables {
         requires { IsRising self.now.records.items }
         ensures { result ≡ here g name (kept_in self.now) }
     {
-        match find(&self.records, name) {
+        match find(&self.records, &self.starts, name) {
             None => false,
             Some(index) => self.records[index].is_seen(g),
         }
@@ -32,9 +34,20 @@ impl Tables {
         requires { IsRising self.now.records.items }
         ensures { option_copied result ≡ clause_of name (kept_in self.now) }
     {
-        match find(&self.records, name) {
+        match find(&self.records, &self.starts, name) {
             None => None,
             Some(index) => Some(&self.records[index].clause),
+        }
+    }
+
+    /// The clause of a name, where it is alive after the batches below `g`.
+    pub(crate) fn clause_seen(&self, g: u64, name: ClauseName) -> Option<&Clause>
+        requires { IsRising self.now.records.items }
+        ensures { option_copied result ≡ clause_seen g name (kept_in self.now) }
+    {
+        match find(&self.records, &self.starts, name) {
+            None => None,
+            Some(index) => self.records[index].clause_at(g),
         }
     }
 
