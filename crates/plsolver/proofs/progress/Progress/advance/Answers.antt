@@ -63,7 +63,6 @@ loop-selected-preserved c =
       advances = advances_steps P s t c.step.new.self (advances_settles P s c.loop-selected.self t i.advances c.in_ok-selected.ensures.settles) steps;
     }
 
-
 -- ---- how far it advanced
 
 in_part : (P : Program) (s mid t : Progress) → AdvancesTo P s mid → t.used ≡ mid.used → Onward 0 (activations mid.machine) (in_cases t.machine.stack) → AdvancesInPart P s t

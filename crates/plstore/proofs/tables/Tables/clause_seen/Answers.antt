@@ -1,9 +1,8 @@
-use Rattle.std.proofs.Common.{◌≡◌, ◌∙◌, refl, sym, ap, ap₂, subst, Bool, true, false, Option, Some, None}
+use Rattle.std.proofs.Common.{◌∙◌, sym, ap, ap₂, subst, Some, None}
 use Rattle.std.specs.Option.{option_map}
-use Rattle.plclause.specs.Clause.{Clause}
 use Rattle.plevent.specs.Alive.{add_if}
 use Rattle.plstore.specs.declared.record.Record.{Record}
-use Rattle.plstore.specs.Kept.{clause_of, here, seen}
+use Rattle.plstore.specs.Kept.{clause_of, seen}
 use Rattle.plstore.specs.Rising.{NoneIs, OneIs}
 use Rattle.plstore.specs.Tables.{kept_in}
 use Rattle.plstore.proofs.Look.{find-one, here-none, here-one}
