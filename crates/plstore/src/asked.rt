@@ -7,10 +7,11 @@ ghost use Rattle.plstore.specs.Rising.{IsRising};
 ghost use Rattle.plstore.specs.Tables.{kept_in, Chained, IsStored};
 
 use crate::ends::ends_of;
+use crate::named::find;
 use crate::record::Cursor;
 use crate::sought::Sought;
 use crate::steps::{first_sought, sought_after};
-use crate::tables::{Tables, find};
+use crate::tables::Tables;
 use plclause::clause::Clause;
 use plevent::ClauseName;
 use plterm::indicator::Indicator;
@@ -21,7 +22,7 @@ impl Tables {
         requires { IsRising self.now.records.items }
         ensures { result ≡ here g name (kept_in self.now) }
     {
-        match find(&self.records, name) {
+        match find(&self.records, &self.starts, name) {
             None => false,
             Some(index) => self.records[index].is_seen(g),
         }
@@ -32,7 +33,7 @@ impl Tables {
         requires { IsRising self.now.records.items }
         ensures { option_copied result ≡ clause_of name (kept_in self.now) }
     {
-        match find(&self.records, name) {
+        match find(&self.records, &self.starts, name) {
             None => None,
             Some(index) => Some(&self.records[index].clause),
         }

@@ -8,9 +8,10 @@ ghost use Rattle.plstore.specs.Rising.{IsRising, OneIs};
 ghost use Rattle.plstore.specs.Tables.{Chained};
 
 use crate::chain::merge;
+use crate::named::find;
 use crate::part::Part;
 use crate::sought::Sought;
-use crate::tables::{Tables, find};
+use crate::tables::Tables;
 use crate::walk::{record_at, seek};
 use plevent::ClauseName;
 
@@ -55,7 +56,7 @@ pub(crate) fn sought_after(
     requires chained { Chained tables.now }
     ensures { result ≡ first_like sought.now.key.now (past name (walk sought.now.g sought.now.pred.now tables.now.records.items)) }
 {
-    match find(tables.records.as_slice(), name) {
+    match find(tables.records.as_slice(), &tables.starts, name) {
         None => return None,
         Some(number) => return sought_behind(tables, sought, number),
     }

@@ -1,11 +1,11 @@
 //! The tables of a store, and how an update changes them.
-ghost use Rattle.std.specs.Prelude.{◌≡◌, ◌+◌, ◌<◌, ◌≤◌, ◌++◌, ◌∷◌, [], IfSome, OnOk, MatchOption, slice_index_or, ℕ, None, Some, fold, length, nat_eq, ◌≢◌, vec_len};
+ghost use Rattle.std.specs.Prelude.{◌≡◌, ◌+◌, ◌<◌, ◌++◌, ◌∷◌, [], IfSome, OnOk, MatchOption, slice_index_or, ℕ, None, Some, fold, length, nat_eq, ◌≢◌, vec_len};
 ghost use Rattle.std.specs.Vec.{vec_capacity};
 ghost use Rattle.plclause.specs.Indicators.{indicator};
 ghost use Rattle.plevent.specs.Alive.{stamped, named};
 ghost use Rattle.plstore.specs.Kept.{keep, made, erase_at, first_of, changed_where, is_named, nothing};
 ghost use Rattle.plstore.specs.Plan.{update_of, updates_of, IsPlanned, AllPlanned};
-ghost use Rattle.plstore.specs.Rising.{less, IsRising, InOrder, NoneIs, OneIs};
+ghost use Rattle.plstore.specs.Rising.{IsRising, InOrder};
 ghost use Rattle.plstore.specs.Room.{HasRoom};
 ghost use Rattle.plstore.specs.Runs.{IsGone};
 ghost use Rattle.plstore.specs.Tables.{kept_in, Chained, IsStored};
@@ -17,10 +17,12 @@ ghost use Rattle.plstore.specs.declared.record.Record.{Record as Recorded};
 
 use crate::ends::{Ends, earlier, ends_of, restore_ends, set_ends};
 use crate::links::{Added, Links, add};
+use crate::named::find;
 use crate::plan::Planned;
 use crate::record::{Declared, Record};
 use crate::runs::Buried;
 use crate::slot::Slots;
+use crate::starts::Starts;
 use plclause::clause::Clause;
 use plevent::ClauseName;
 use plterm::indicator::Indicator;
@@ -31,6 +33,8 @@ use std::collections::HashMap;
 /// those of a slot.
 #[derive(Drop)]
 pub(crate) struct Tables {
+    /// Where the records of a place stand.
+    pub(crate) starts: Starts,
     pub(crate) records: Vec<Record>,
     pub(crate) declared: Vec<Declared>,
     /// Where the records of each procedure begin and end, and how they are linked.
@@ -63,6 +67,7 @@ impl Tables {
         ensures stored { IsStored result }
     {
         Tables {
+            starts: Starts::new(alloc),
             records: Vec::new(alloc),
             declared: Vec::new(alloc),
             index: HashMap::new(alloc),
@@ -156,6 +161,7 @@ pub(crate) fn put(
         front,
         place: name.place,
     };
+    tables.starts.note(name.place, added.number);
     let slot = Slots::new(&pred).of_head(&clause.head().root());
     let by_procedure = add(&mut tables.by_procedure, &mut tables.index, pred, added);
     let by_slot = add(&mut tables.by_slot, &mut tables.slots, slot, added);
@@ -190,7 +196,16 @@ pub(crate) fn unput(tables: &mut Tables, key: Indicator, linked: &Linked)
             let front = last.front;
             tables.by_procedure.drop_last(front, linked.by_procedure);
             tables.by_slot.drop_last(front, linked.by_slot);
+            tables.starts.forget_above(last_place(&tables.records));
         }
+    }
+}
+
+/// The place of the last record.
+fn last_place(records: &[Record]) -> u64 {
+    match records.last() {
+        None => 0,
+        Some(last) => last.name.place,
     }
 }
 
@@ -235,7 +250,7 @@ pub(crate) fn erase(tables: &mut Tables, of: ClauseName, place: u64) -> Option<E
     ensures was { MatchOption result (SameTables tables.old tables.new) (λ e. WasErased e tables.old tables.new) }
     ensures room { (n : ℕ) → HasRoom (n + 1) tables.old → HasRoom n tables.new }
 {
-    match erase_record(&mut tables.records, of, place) {
+    match erase_record(&mut tables.records, &tables.starts, of, place) {
         None => return None,
         Some(number) => {
             let by_procedure = tables.by_procedure.bury(number, place);
@@ -260,7 +275,12 @@ pub(crate) fn revive(tables: &mut Tables, erasure: &Erasure)
 }
 
 /// The number of the record that is erased now, and was not before.
-fn erase_record(records: &mut Vec<Record>, of: ClauseName, place: u64) -> Option<usize>
+fn erase_record(
+    records: &mut Vec<Record>,
+    starts: &Starts,
+    of: ClauseName,
+    place: u64,
+) -> Option<usize>
     requires { IsRising records.old.items }
     ensures erased { records.new.items ≡ changed_where (is_named of) (erase_at place) records.old.items }
     ensures within { IfSome result (λ i. i < length records.old.items) }
@@ -269,17 +289,17 @@ fn erase_record(records: &mut Vec<Record>, of: ClauseName, place: u64) -> Option
     ensures room { vec_capacity records.new ≡ vec_capacity records.old }
     ensures len { vec_len records.new ≡ vec_len records.old }
 {
-    erase_in(records.as_mut_slice(), of, place)
+    erase_in(records.as_mut_slice(), starts, of, place)
 }
 
-fn erase_in(records: &mut [Record], of: ClauseName, place: u64) -> Option<usize>
+fn erase_in(records: &mut [Record], starts: &Starts, of: ClauseName, place: u64) -> Option<usize>
     requires { IsRising records.old }
     ensures erased { records.new ≡ changed_where (is_named of) (erase_at place) records.old }
     ensures within { IfSome result (λ i. i < length records.old) }
     ensures gone { IfSome result (λ i. (d : Recorded) → IsGone place (slice_index_or records.new i d).erased) }
     ensures was { MatchOption result (records.new ≡ records.old) (λ i. WasRecord i records.old records.new) }
 {
-    if let Some(number) = find(records, of) {
+    if let Some(number) = find(records, starts, of) {
         let record = &mut records[number];
         let was = record.erased;
         record.erased = first(was, place);
@@ -307,72 +327,4 @@ fn first(erased: Option<u64>, place: u64) -> Option<u64>
         None => Some(place),
         Some(at) => Some(at),
     }
-}
-
-/// Where the record of a name stands: a guess from the names at both ends, and a half, in turn.
-pub(crate) fn find(records: &[Record], name: ClauseName) -> Option<usize>
-    requires { IsRising records.now }
-    ensures { MatchOption result (NoneIs name records.now) (λ i. OneIs name records.now i) }
-{
-    let mut low = 0;
-    let mut high = records.len();
-    let mut halve = false;
-    while low < high {
-        let middle = probe(records, name, low, high, halve);
-        halve = !halve;
-        let found = records[middle].name;
-        if precedes(found, name) {
-            low = middle + 1;
-        } else if precedes(name, found) {
-            high = middle;
-        } else {
-            return Some(middle);
-        }
-    }
-    None
-}
-
-/// Which of the records from `low` to `high` is looked at: that in their middle, or one that is guessed.
-fn probe(records: &[Record], name: ClauseName, low: usize, high: usize, halve: bool) -> usize
-    requires order { low < high }
-    requires within { high ≤ length records.now }
-    ensures above { low ≤ result }
-    ensures below { result < high }
-{
-    let count = high - low;
-    if halve {
-        return low + count / 2;
-    }
-    low + guess(records[low].name, records[high - 1].name, name, count)
-}
-
-/// Where a name may stand among so many records from one to another, as if their places rose evenly. Nothing but time
-/// depends on it.
-fn guess(first: ClauseName, last: ClauseName, name: ClauseName, count: usize) -> usize
-    requires { 0 < count }
-    ensures { result < count }
-{
-    let far = if first.place == last.place {
-        share(name.number, first.number, last.number, count)
-    } else {
-        share(name.place, first.place, last.place, count)
-    };
-    match far {
-        Some(far) if far < count => far,
-        Some(_) | None => count / 2,
-    }
-}
-
-/// As much of a count as a number is on its way from the first to the last.
-fn share(number: u64, first: u64, last: u64, count: usize) -> Option<usize> {
-    let way = number.checked_sub(first)?;
-    let whole = last.checked_sub(first)?;
-    let much = way.checked_mul((count as u64).checked_sub(1)?)?;
-    usize::try_from(much.checked_div(whole)?).ok()
-}
-
-fn precedes(x: ClauseName, y: ClauseName) -> bool
-    ensures { result ≡ less x y }
-{
-    x.place < y.place || x.place == y.place && x.number < y.number
 }

@@ -1,0 +1,71 @@
+//! Starts: where the records of a place stand. Nothing but time depends on them.
+use plevent::ClauseName;
+use std::alloc::Global;
+
+/// How many places one number is kept for.
+const SPAN: u64 = 16;
+
+/// How many numbers may be kept beside one for each record.
+const SPARE: usize = 1024;
+
+/// How many records there are before each span of places. The first batch, which has many clauses as a rule, stands before
+/// the first span.
+#[derive(Drop)]
+pub(crate) struct Starts {
+    numbers: Vec<usize>,
+}
+
+impl Starts {
+    pub(crate) fn new(alloc: Global) -> Starts {
+        Starts {
+            numbers: Vec::new(alloc),
+        }
+    }
+
+    /// Takes note of one more record, at a place not below those before it. Nothing is noted where there is no memory for it,
+    /// or the places are far more than the records.
+    pub(crate) fn note(&mut self, place: u64, number: usize) {
+        let spans = spans_to(place);
+        if number.saturating_add(SPARE) < spans {
+            return;
+        }
+        for _ in self.numbers.len()..spans {
+            if self.numbers.push(number).is_err() {
+                return;
+            }
+        }
+    }
+
+    /// Forgets the spans that begin above a place.
+    pub(crate) fn forget_above(&mut self, place: u64) {
+        self.numbers.truncate(spans_to(place));
+    }
+
+    /// Where the record of a name may stand among so many, as if the places of its span had equally many.
+    pub(crate) fn guess(&self, name: ClauseName, count: usize) -> usize {
+        let number = name.number as usize;
+        match name.place.checked_sub(1) {
+            None => number,
+            Some(place) => {
+                let span = (place / SPAN) as usize;
+                let low = self.before(span, count);
+                let among = self.before(span.saturating_add(1), count).wrapping_sub(low);
+                let share = among.wrapping_mul((place % SPAN) as usize) / SPAN as usize;
+                low.wrapping_add(share).wrapping_add(number)
+            }
+        }
+    }
+
+    /// How many of so many records there are before a span; all, where it is not noted.
+    fn before(&self, span: usize, count: usize) -> usize {
+        match self.numbers.get(span) {
+            None => count,
+            Some(number) => *number,
+        }
+    }
+}
+
+/// How many spans begin at a place or below.
+fn spans_to(place: u64) -> usize {
+    place.div_ceil(SPAN) as usize
+}
