@@ -3,6 +3,7 @@ ghost use Rattle.std.specs.Prelude.{◌≡◌};
 ghost use Rattle.std.specs.Option.{option_copied};
 ghost use Rattle.plstore.specs.Kept.{here, clause_of, is_there, walk};
 ghost use Rattle.plstore.specs.Like.{next_like_of};
+ghost use Rattle.plstore.specs.Looking.{clause_seen};
 ghost use Rattle.plstore.specs.Rising.{IsRising};
 ghost use Rattle.plstore.specs.Tables.{kept_in, Chained, IsStored};
 
@@ -36,6 +37,17 @@ impl Tables {
         match find(&self.records, &self.starts, name) {
             None => None,
             Some(index) => Some(&self.records[index].clause),
+        }
+    }
+
+    /// The clause of a name, where it is alive after the batches below `g`.
+    pub(crate) fn clause_seen(&self, g: u64, name: ClauseName) -> Option<&Clause>
+        requires { IsRising self.now.records.items }
+        ensures { option_copied result ≡ clause_seen g name (kept_in self.now) }
+    {
+        match find(&self.records, &self.starts, name) {
+            None => None,
+            Some(index) => self.records[index].clause_at(g),
         }
     }
 

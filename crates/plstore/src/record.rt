@@ -1,9 +1,10 @@
 //! One clause that was made, and a place in a walk.
-ghost use Rattle.std.specs.Prelude.{◌≡◌, nat_eq, length};
+ghost use Rattle.std.specs.Prelude.{◌≡◌, None, Some, nat_eq, length};
+ghost use Rattle.std.specs.Option.{option_copied};
 ghost use Rattle.plterm.specs.Indicators.{same_indicator};
 ghost use Rattle.plterm.specs.Tree.{trees, list_of};
 ghost use Rattle.plclause.specs.Indicators.{indicator};
-ghost use Rattle.plevent.specs.Alive.{is_of};
+ghost use Rattle.plevent.specs.Alive.{add_if, is_of};
 ghost use Rattle.plstore.specs.Kept.{seen, not_below};
 
 use plclause::clause::Clause;
@@ -42,6 +43,17 @@ impl Record {
         ensures { result ≡ seen g self.now }
     {
         self.name.place < g && self.is_kept(g)
+    }
+
+    /// Its clause, where it is made, and not erased, by the batches below `g`.
+    pub(crate) fn clause_at(&self, g: u64) -> Option<&Clause>
+        ensures { option_copied result ≡ add_if (seen g self.now) (Some self.now.clause) None }
+    {
+        if self.is_seen(g) {
+            Some(&self.clause)
+        } else {
+            None
+        }
     }
 
     /// Whether no batch below `g` erased it.

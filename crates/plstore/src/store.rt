@@ -136,10 +136,7 @@ impl Store {
     fn clause_seen(&self, g: u64, name: ClauseName) -> Result<Option<Clause>, AllocError>
         ensures { IfOk result (λ c. c ≡ clause_seen g name self.now) }
     {
-        if !self.alive(g, name) {
-            return Ok(None);
-        }
-        match self.clause(name) {
+        match self.tables.clause_seen(g, name) {
             None => Ok(None),
             Some(clause) => Ok(Some(clause.copied()?)),
         }
