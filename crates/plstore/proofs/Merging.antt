@@ -15,14 +15,14 @@ use Rattle.plstore.specs.declared.tables.Tables.{Tables}
 use Rattle.plstore.specs.Chains.{in_chain, IsChain}
 use Rattle.plstore.specs.Kept.{seen, picked, walk}
 use Rattle.plstore.specs.Like.{fits, first_like, is_met, past, suits}
-use Rattle.plstore.specs.Links.{back_of, down, up, Class, Marked}
+use Rattle.plstore.specs.Links.{back_of, backs, down, last_below, up, Class, IsIndexed, Marked}
 use Rattle.plstore.specs.Merged.{found_after, Covers, MayStand}
-use Rattle.plstore.specs.Parts.{after, comes, extent_behind, first_head, is_behind, left, marks, moved, side, side_of}
+use Rattle.plstore.specs.Parts.{after, comes, extent_behind, first_head, is_behind, left, marks, moved, reaches, side, side_of}
 use Rattle.plstore.specs.Rising.{OneIs}
 use Rattle.plstore.specs.Runs.{end_at, no_place}
 use Rattle.plstore.specs.Tables.{chain_ends, links_in, Chained}
 use Rattle.plstore.proofs.Law.{cons_if, own}
-use Rattle.plstore.proofs.Bits.{cases}
+use Rattle.plstore.proofs.Bits.{cases, last-none, last-some}
 use Rattle.plstore.proofs.Chains.{drop-records, like-cons, some-record}
 use Rattle.plstore.proofs.Leading.{after-within, mark-in, marks-is, over-within, step-order, step-stands}
 use Rattle.plstore.proofs.Same.{left-true, right-true, nat-same, nat-self}
@@ -161,6 +161,25 @@ in-part f n (Some i) j e l = comes-before f n i j e l
 pub before-part : (f : Bool) (n : ℕ) (o : Option ℕ) (j : ℕ) → is_behind f o j ≡ false → extent_behind f n o ≤ after f n j
 before-part f n None j e = absurd (cc)
 before-part f n (Some i) j e = comes-not f n i j e
+
+-- a walk is over behind the newest one of those put behind
+none-newest : (bs : List Bool) (n : ℕ) (e o : Option ℕ) → e ≡ last_below bs n → reaches (record { front = false; behind = o }) e ≡ false → (j : ℕ) → j < n → get_or bs j false ≡ true → extent_behind false n o ≤ after false n j
+none-newest bs n None o e h j l m = let z = last-none bs n (sym e) j l in absurd (cc)
+none-newest bs n (Some i) o e h j l m =
+    let b = last-some bs n i (sym e) in
+    let p = before-part false n o i h in
+    elim (cases i j) [
+      | inl lt ↦ let z = b.above j lt l in absurd (cc)
+      | inr q ↦ omega (arith, p, elim q as (λ _. j ≤ i) [ inl r ↦ omega arith | inr r ↦ omega arith ])
+    ]
+
+pub stand-over : (f : Bool) (c : Class) (g : ℕ) (rs : List Record) (next : List (Option ℕ)) (e : Ends) (o : Option ℕ) → not f ≡ true → IsIndexed c rs next e → reaches (record { front = f; behind = o }) e.newest_back ≡ false →
+    MayStand f c g rs (extent_behind f (length rs) o) None
+stand-over true c g rs next e o k ix h = absurd (cc)
+stand-over false c g rs next e o k ix h = record {
+  mark = tt;
+  passed = λ j d w m s l. let b = none-newest (backs c rs) (length rs) e.newest_back o ix.newest h j w m in absurd (omega (arith, b, l));
+}
 
 pub record IsFirst (f : Bool) (n : ℕ) (x y : Option ℕ) (i : ℕ) : Type 0 where
   pub one : (x ≡ Some i) ⊎ (y ≡ Some i)

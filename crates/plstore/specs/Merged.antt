@@ -1,9 +1,10 @@
 -- The chains of a look-up, and what is found by them.
-use Rattle.std.specs.Prelude.{◌≡◌, ℕ, ◌<◌, ◌⊎◌, Bool, true, false, List, length, slice_index_or, Option}
+use Rattle.std.specs.Prelude.{◌≡◌, ℕ, ◌<◌, ◌≤◌, ◌⊎◌, Bool, true, false, List, length, slice_index_or, Option}
 use Rattle.plterm.specs.declared.indicator.Indicator.{Indicator}
 use Rattle.plevent.specs.declared.key.Key.{Key}
 use Rattle.plevent.specs.declared.update.ClauseName.{ClauseName}
 use Rattle.plevent.specs.Alive.{is_of, lives_as, or_else}
+use Rattle.plstore.specs.declared.chain.Chain.{Chain}
 use Rattle.plstore.specs.declared.chain.Merged.{Merged}
 use Rattle.plstore.specs.declared.part.Part.{Part}
 use Rattle.plstore.specs.declared.record.Record.{Record}
@@ -32,6 +33,11 @@ pub record IsMerged (t : Tables) (p : Indicator) (k : Key) (m : Merged) : Type 0
 pub record MayStand (f : Bool) (c : Class) (g : ℕ) (rs : List Record) (m : ℕ) (at : Option ℕ) : Type 0 where
   pub mark : Marked (marks f c rs) at
   pub passed : (j : ℕ) (d : Record) → j < length rs → slice_index_or (marks f c rs) j false ≡ true → seen g (slice_index_or rs j d) ≡ true → after f (length rs) j < m → after f (length rs) j < left f (length rs) at
+
+-- a walk over a part of a side may begin at a record of a chain, or be over
+pub record MayBegin (t : Tables) (s : Sought) (ch : Chain) (part : Part) (at : Option ℕ) : Type 0 where
+  pub stands : MayStand part.front (in_chain s.pred.now ch) s.g t.records.items (extent part (length t.records.items)) at
+  pub order : left part.front (length t.records.items) at ≤ extent part (length t.records.items)
 
 -- the name of the first clause that is sought in a part of a side; and in one in front and in all behind
 abbrev pub found : Sought → List Record → Part → Option ClauseName

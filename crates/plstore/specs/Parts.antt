@@ -28,6 +28,11 @@ is_behind f (Some i) j = comes f i j
 abbrev pub is_part : Part → ℕ → Bool
 is_part part j = is_behind part.front part.behind j
 
+-- a record, if there is one, is of a part
+abbrev pub reaches : Part → Option ℕ → Bool
+reaches part None = false
+reaches part (Some i) = is_part part i
+
 abbrev pub whole : Bool → Part
 whole f = record { front = f; behind = None }
 

@@ -62,6 +62,15 @@ pub(crate) struct Merged {
     pub(crate) any_ends: Ends,
 }
 
+impl Merged {
+    /// Whether both are known to be one chain, that of the procedure.
+    pub(crate) fn is_one(&self) -> bool
+        ensures { result ≡ true → self.now.any ≡ self.now.own }
+    {
+        matches!((self.own, self.any), (Chain::Procedure, Chain::Procedure))
+    }
+}
+
 /// The chain of the key's slot, and that of the clauses with a variable, or nothing, as their first argument. For a goal of
 /// any key both are the procedure's.
 pub(crate) fn merge(tables: &Tables, sought: &Sought<'_>) -> Merged

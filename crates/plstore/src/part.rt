@@ -1,6 +1,6 @@
 //! What of a side a walk has still to pass.
 ghost use Rattle.std.specs.Prelude.{◌≡◌};
-ghost use Rattle.plstore.specs.Parts.{comes, first_head, is_part, moved, whole};
+ghost use Rattle.plstore.specs.Parts.{comes, first_head, is_part, moved, reaches, whole};
 
 /// The records of one side behind one of them, or all of them.
 #[derive(Clone, Copy)]
@@ -28,6 +28,16 @@ impl Part {
         match self.behind {
             None => true,
             Some(at) => comes(self.front, at, number),
+        }
+    }
+
+    /// Whether a record of the side, if there is one, belongs to it.
+    pub(crate) fn reaches(self, number: Option<usize>) -> bool
+        ensures { result ≡ reaches self number }
+    {
+        match number {
+            None => false,
+            Some(number) => self.has(number),
         }
     }
 }

@@ -1,9 +1,9 @@
 //! The walk over the clauses of two chains, merged by place.
-ghost use Rattle.std.specs.Prelude.{◌≡◌, ◌<◌, ◌≤◌, IfSome, Some, length, slice_index_or, true};
+ghost use Rattle.std.specs.Prelude.{◌≡◌, ◌<◌, IfSome, Some, length, slice_index_or, true};
 ghost use Rattle.plstore.specs.Chains.{in_chain};
 ghost use Rattle.plstore.specs.Links.{Marked};
-ghost use Rattle.plstore.specs.Merged.{found, IsMerged, MayStand};
-ghost use Rattle.plstore.specs.Parts.{extent, left, marks};
+ghost use Rattle.plstore.specs.Merged.{found, IsMerged, MayBegin, MayStand};
+ghost use Rattle.plstore.specs.Parts.{extent, marks};
 ghost use Rattle.plstore.specs.Tables.{chain_ends, Chained};
 
 use crate::chain::{Chain, Merged};
@@ -29,10 +29,7 @@ pub(crate) fn seek(
 {
     let records = tables.records.as_slice();
     let links = merged.own.links(tables);
-    let mut at = Heads {
-        own: start(tables, sought, merged.own, merged.own_ends, part),
-        any: start(tables, sought, merged.any, merged.any_ends, part),
-    };
+    let mut at = heads(tables, sought, merged, part);
     while let Some(number) = at.first(part.front) {
         let record = record_at(records, number);
         if sought.is_met(record) {
@@ -41,6 +38,22 @@ pub(crate) fn seek(
         at = at.behind(number, links.next_behind(number, sought.g));
     }
     None
+}
+
+/// Where the walk over a part stands in both chains at its beginning.
+fn heads(tables: &Tables, sought: &Sought<'_>, merged: &Merged, part: Part) -> Heads
+    requires chained { Chained tables.now }
+    requires merged { IsMerged tables.now sought.now.pred.now sought.now.key.now merged.now }
+    requires within { IfSome part.behind (λ i. i < length tables.now.records.items) }
+    ensures own { MayBegin tables.now sought.now merged.now.own part result.own }
+    ensures any { MayBegin tables.now sought.now merged.now.any part result.any }
+{
+    let own = start(tables, sought, merged.own, merged.own_ends, part);
+    if merged.is_one() {
+        return Heads { own, any: own };
+    }
+    let any = start(tables, sought, merged.any, merged.any_ends, part);
+    Heads { own, any }
 }
 
 /// The first record of a chain in a part, but for those that are not seen.
@@ -54,9 +67,12 @@ fn start(
     requires chained { Chained tables.now }
     requires ends { ends ≡ chain_ends tables.now sought.now.pred.now chain }
     requires within { IfSome part.behind (λ i. i < length tables.now.records.items) }
-    ensures stands { MayStand part.front (in_chain sought.now.pred.now chain) sought.now.g tables.now.records.items (extent part (length tables.now.records.items)) result }
-    ensures order { left part.front (length tables.now.records.items) result ≤ extent part (length tables.now.records.items) }
+    ensures { MayBegin tables.now sought.now chain part result }
 {
+    // Behind the newest of those put behind there is none.
+    if !part.front && !part.reaches(ends.newest_back) {
+        return None;
+    }
     let links = chain.links(tables);
     let mut at = close(tables, sought, chain, ends, part).or(ends.first(part.front));
     while let Some(number) = at {

@@ -1,11 +1,24 @@
 use Rattle.std.proofs.Common.{◌∙◌, ◌<◌, sym, ap, subst, arith, length, ℕ, Option}
+use Rattle.plstore.specs.declared.ends.Ends.{Ends}
 use Rattle.plstore.specs.Links.{first_end, Marked}
 use Rattle.plstore.specs.Chains.{in_chain}
 use Rattle.plstore.specs.Merged.{MayStand}
-use Rattle.plstore.specs.Parts.{extent, left, marks}
+use Rattle.plstore.specs.Parts.{extent, left, marks, reaches}
 use Rattle.plstore.proofs.Leading.{either, over-within, stand-first, step-order, step-stands}
-use Rattle.plstore.proofs.Merging.{before-part, chain-at, chain-is}
+use Rattle.plstore.proofs.Merging.{before-part, chain-at, chain-is, stand-over}
 use Rattle.plstore.proofs.walk.start.Goals as goal
+
+pub returns-then-not-reaches : goal.returns-then-not-reaches
+returns-then-not-reaches c =
+    let q = c.args.sought.now in
+    let t = c.args.tables.now in
+    let part = c.args.part in
+    let indexed = (chain-is t q.pred.now c.args.chain c.requires.chained).indexed in
+    let over = sym c.reaches.ensures ∙ c.if-not-reaches.true in
+    record {
+      stands = stand-over part.front _ q.g t.records.items _ _ part.behind c.if-not-part.true indexed (ap (λ (e : Ends). reaches part e.newest_back) (sym c.requires.ends) ∙ over);
+      order = omega arith;
+    }
 
 pub loop-at-init : goal.loop-at-init
 loop-at-init c =
