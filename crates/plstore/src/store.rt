@@ -1,19 +1,19 @@
 //! The store: every clause ever made, so that the database can be looked at as it was at each time.
 ghost use Rattle.std.specs.Prelude.{◌≡◌, IfOk, OnOk, OnErr, fold, length};
 ghost use Rattle.std.specs.Option.{option_copied};
-ghost use Rattle.plevent.specs.Alive.{stamped, names_of};
+ghost use Rattle.plevent.specs.Alive.{named, names_of, stamped};
 ghost use Rattle.plstore.specs.Kept.{keep, nothing, here, clause_of, is_there, next_of, walk};
 ghost use Rattle.plstore.specs.Like.{next_like_of};
 ghost use Rattle.plstore.specs.Looking.{clause_seen, found_in};
 ghost use Rattle.plstore.specs.Rising.{AllBelowPlace};
 
-use crate::plan::plan;
+use crate::plan::{made_plan, plan};
 use crate::query::{Found, Query};
 use crate::record::{Cursor, Declared, Record};
 use crate::sought::Sought;
-use crate::tables::{Tables, make_all, reserve};
+use crate::tables::{Tables, make, make_all, reserve};
 use plclause::clause::Clause;
-use plevent::{Batch, ClauseName, Key};
+use plevent::{Batch, ClauseName, Key, Update};
 use plterm::indicator::Indicator;
 use std::alloc::{AllocError, Global};
 use std::marker::Model;
@@ -54,9 +54,28 @@ impl Store {
         ensures made { OnOk result (self.new ≡ fold keep self.old (stamped place 0 batch)) }
         ensures refused { OnErr result (self.new ≡ self.old) }
     {
-        let plan = plan(alloc, batch.into_vec())?;
+        let mut updates = batch.into_vec();
+        if updates.len() == 1 {
+            match updates.pop() {
+                None => unreachable!(),
+                Some(update) => return self.make_one(update, place),
+            }
+        }
+        let plan = plan(alloc, updates)?;
         reserve(&mut self.tables, plan.len())?;
         make_all(&mut self.tables, plan, place);
+        Ok(())
+    }
+
+    /// Makes an update that is alone in its batch.
+    fn make_one(&mut self, update: Update, place: u64) -> Result<(), AllocError>
+        requires { AllBelowPlace place self.old.records }
+        ensures made { OnOk result (self.new ≡ keep self.old (record { at = named place 0; update = update })) }
+        ensures refused { OnErr result (self.new ≡ self.old) }
+    {
+        let planned = made_plan(update)?;
+        reserve(&mut self.tables, 1)?;
+        make(&mut self.tables, ClauseName { place, number: 0 }, planned);
         Ok(())
     }
 

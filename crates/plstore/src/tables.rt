@@ -112,8 +112,8 @@ pub(crate) fn make_all(tables: &mut Tables, plan: Vec<Planned>, place: u64)
     }
 }
 
-/// Makes one update.
-fn make(tables: &mut Tables, name: ClauseName, planned: Planned)
+/// Makes one update, for which there is room.
+pub(crate) fn make(tables: &mut Tables, name: ClauseName, planned: Planned)
     requires room { HasRoom 1 tables.old }
     requires planned { IsPlanned planned }
     requires order { InOrder name tables.old.records.items }

@@ -1,0 +1,18 @@
+use Rattle.std.proofs.Common.{sym, ap, subst}
+use Rattle.plevent.specs.Alive.{named}
+use Rattle.plstore.specs.Kept.{Kept}
+use Rattle.plstore.specs.Plan.{update_of}
+use Rattle.plstore.specs.Rising.{AllBelowPlace, InOrder, IsRising}
+use Rattle.plstore.proofs.Search.{order-keep, order-start}
+use Rattle.plstore.proofs.store.Store.make_one.Goals as goal
+
+pub invariant_of-self-2 : goal.invariant_of-self-2
+invariant_of-self-2 c =
+    let p = c.args.place in
+    let t = c.self.inside.tables in
+    let below = subst (λ (k : Kept). AllBelowPlace p k.records) (sym c.self.view_is) c.requires in
+    let order = subst (InOrder (named p 0)) (sym (ap (λ k. k.records) c.in_ok-reserve.ensures.kept)) (order-start p t.records.items c.self.invariant.rising below) in
+    record {
+      rising = subst IsRising (sym (ap (λ k. k.records) c.make.ensures.made)) (order-keep p 0 (update_of c.in_ok-planned.planned) c.reserve.new.tables.records.items order).rising;
+      chained = c.make.ensures.chained;
+    }
