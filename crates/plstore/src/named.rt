@@ -1,5 +1,5 @@
 //! Where the record of a name stands.
-ghost use Rattle.std.specs.Prelude.{◌≡◌, ◌<◌, ◌≤◌, MatchOption, length};
+ghost use Rattle.std.specs.Prelude.{◌≡◌, ◌<◌, ◌≤◌, MatchOption};
 ghost use Rattle.plstore.specs.Rising.{less, IsRising, NoneIs, OneIs};
 
 use crate::record::Record;

@@ -1,11 +1,11 @@
 //! The tables of a store, and how an update changes them.
-ghost use Rattle.std.specs.Prelude.{◌≡◌, ◌+◌, ◌<◌, ◌≤◌, ◌++◌, ◌∷◌, [], IfSome, OnOk, MatchOption, slice_index_or, ℕ, None, Some, fold, length, nat_eq, ◌≢◌, vec_len};
+ghost use Rattle.std.specs.Prelude.{◌≡◌, ◌+◌, ◌<◌, ◌++◌, ◌∷◌, [], IfSome, OnOk, MatchOption, slice_index_or, ℕ, None, Some, fold, length, nat_eq, ◌≢◌, vec_len};
 ghost use Rattle.std.specs.Vec.{vec_capacity};
 ghost use Rattle.plclause.specs.Indicators.{indicator};
 ghost use Rattle.plevent.specs.Alive.{stamped, named};
 ghost use Rattle.plstore.specs.Kept.{keep, made, erase_at, first_of, changed_where, is_named, nothing};
 ghost use Rattle.plstore.specs.Plan.{update_of, updates_of, IsPlanned, AllPlanned};
-ghost use Rattle.plstore.specs.Rising.{less, IsRising, InOrder, NoneIs, OneIs};
+ghost use Rattle.plstore.specs.Rising.{IsRising, InOrder};
 ghost use Rattle.plstore.specs.Room.{HasRoom};
 ghost use Rattle.plstore.specs.Runs.{IsGone};
 ghost use Rattle.plstore.specs.Tables.{kept_in, Chained, IsStored};
