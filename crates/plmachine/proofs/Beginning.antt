@@ -35,7 +35,7 @@ use Rattle.plmachine.specs.declared.within.Entry.TheVariants as entries
 use Rattle.plmachine.specs.Machine.{below_at, cases_in, local_of, mode_of, now, run_in, IsPlain, IsTied, MayAsk, MayCarry, Moved, Stays}
 use Rattle.plmachine.specs.Within.{entered, transaction_cases, BeginsAt, IsEntry, IsEntryFit}
 use Rattle.plmachine.proofs.Levels.{fits-opened}
-use Rattle.plmachine.proofs.Moves.{machine-is}
+use Rattle.plmachine.proofs.Moves.{machine-is, seeks-none}
 
 -- ---- own updates
 
@@ -219,6 +219,7 @@ module _ (P : Program) (s : Reached) (rest : Continuation) (st : State) (new : R
             latest = ap (λ (b : Basis). b.latest.place) basis ∙ sym (tied.base some);
             place = ap (λ (x : Layered). x.place) layer;
             walks = ([], sym (walks-in P s inner s.layer.place here rest st opens new e is));
+            seeks = seeks-none new.mode (plain-in P s inner s.layer.place here rest st opens new e is);
             tied = λ was.
                 tied-begun s new here inner basis (ap (λ (x : Layered). x.own) layer)
                 (ap (λ (ls : List Level). map (λ (l : Level). l.start) ls) facts.0 ∙ ap (λ ks. length s.layer.own.updates ∷ ks) (sym was.starts))

@@ -22,7 +22,7 @@ use Rattle.plmachine.specs.declared.machine.Mode.TheVariants as modes
 use Rattle.plmachine.specs.declared.machine.Machine.{Machine as Reached}
 use Rattle.plmachine.specs.Machine.{IsPlain, after, below_in, cases_in, depth_of, local_of, machine, mode_of, MayCarry, Moved, Stays}
 use Rattle.plmachine.specs.Selected.{IsStaticCall}
-use Rattle.plmachine.proofs.Moves.{below-as, gives, goes-at, machine-is, moved-as, tied-as, visit-asks}
+use Rattle.plmachine.proofs.Moves.{below-as, gives, goes-at, machine-is, moved-as, seeks-none, tied-as, visit-asks}
 
 -- the first of some places is visited, in a choice of the others
 pub chooses : (P : Program) (s new : Reached) (st : State) (ps : List Place) → s.mode ≡ modes.Visit → st.basis ≡ s.stack.basis → walks_in st ≡ walks_in s.stack → new ≡ record s { stack = st } →
@@ -38,6 +38,7 @@ chooses P s new st ps at basis walks made chosen =
         latest = ap (λ (b : Basis). b.latest.place) rests;
         place = ap (λ (x : Layered). x.place) layer;
         walks = ([], sym walks ∙ ap (λ x. walks_in x.stack) (sym made));
+        seeks = seeks-none new.mode (subst IsPlain (sym visits) tt);
         tied = tied-as s new rests layer;
         askable = visit-asks new visits;
         carry = subst (MayCarry new.stack) (sym visits) tt;

@@ -38,7 +38,7 @@ use Rattle.plmachine.specs.declared.machine.Machine.{Machine as Reached}
 use Rattle.plmachine.specs.Machine.{after, below_in, cases_in, depth_of, local_of, mode_of, run_in, IsPlain, MayAsk, MayCarry, MovedBy}
 use Rattle.plmachine.specs.Lists.{Grown}
 use Rattle.plmachine.specs.Clauses.{mode_by, Walks}
-use Rattle.plmachine.proofs.Moves.{back-asks, grown-depth, machine-is, tied-as}
+use Rattle.plmachine.proofs.Moves.{back-asks, grown-depth, machine-is, seeks-none, tied-as}
 
 -- ---- what is next
 
@@ -105,6 +105,7 @@ walks-moved P s new t u spot es m w none same = record {
   latest = ap (λ (b : Basis). b.latest.place) w.basis;
   place = ap (λ x. x.layer.place) w.frame;
   walks = ([], sym (w.walks.1 ∙ ap (λ ws. ws ++ walks_in s.stack) (none (record { goal = w.walks.0; uses = u; spot = spot }))));
+  seeks = seeks-none new.mode (subst IsPlain (sym (ap (λ x. x.mode) w.frame)) tt);
   tied = tied-as s new w.basis (ap (λ x. x.layer) w.frame);
   askable = back-asks new outcomes.Fail (ap (λ x. x.mode) w.frame);
   carry = subst (MayCarry new.stack) (sym (ap (λ x. x.mode) w.frame)) tt;

@@ -15,7 +15,7 @@ use Rattle.plstack.specs.Cutting.{Cuts}
 use Rattle.plmachine.specs.declared.machine.Mode.TheVariants as modes
 use Rattle.plmachine.specs.declared.machine.Machine.{Machine as Reached}
 use Rattle.plmachine.specs.Machine.{IsPlain, below_in, local_of, mode_of, cases_in, run_in, MayCarry, Moved}
-use Rattle.plmachine.proofs.Moves.{below-as, machine-is, tied-as, visit-asks}
+use Rattle.plmachine.proofs.Moves.{below-as, machine-is, seeks-none, tied-as, visit-asks}
 
 module _ (P : Program) (old new : State) (level : ℕ) (list : Continuation) (there : IsList old list) (cut : Cuts old new level list) where
   abbrev place : Place
@@ -45,6 +45,7 @@ cuts P s new st level list there cut is =
         latest = ap (λ (b : Basis). b.latest.place) rests;
         place = ap (λ (x : Layered). x.place) layer;
         walks = (cut.walks.0, cut.walks.1 ∙ ap (λ x. cut.walks.0 ++ walks_in x.stack) (sym is));
+        seeks = seeks-none new.mode (subst (λ x. IsPlain x.mode) (sym is) tt);
         tied = tied-as s new rests layer;
         askable = visit-asks new (ap (λ x. x.mode) is);
         carry = subst (MayCarry new.stack) (sym (ap (λ x. x.mode) is)) tt;

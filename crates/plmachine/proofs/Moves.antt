@@ -29,7 +29,7 @@ use Rattle.plmachine.specs.declared.machine.Mode.{Mode as Going}
 use Rattle.plmachine.specs.declared.machine.Mode.TheVariants as modes
 use Rattle.plmachine.specs.declared.machine.Machine.{Machine as Reached}
 use Rattle.plmachine.specs.Lists.{Grown, Holds}
-use Rattle.plmachine.specs.Machine.{result_of, element_of, machine_in, mode_of, below_in, local_of, run_in, after, cases_in, depth_of, machine, now, is_var, IsAskable, IsCarried, IsPlain, IsTied, MayAsk, MayCarry, Moved, MovedBy, Stays}
+use Rattle.plmachine.specs.Machine.{result_of, element_of, machine_in, mode_of, below_in, local_of, run_in, after, cases_in, depth_of, machine, now, is_var, IsAskable, IsCarried, IsPlain, IsTied, MayAsk, MayCarry, Moved, MovedBy, Stays, SeeksAnew}
 use Rattle.plmachine.proofs.Askable.{carry-as, kinds-as, may-ask, same-machine, ValuesStay}
 
 -- ---- a machine by its parts
@@ -128,12 +128,20 @@ grown-depth s t g = ap (λ fs. frames_depth (reverse fs)) g.extends.frames
 
 -- ---- moves
 
+-- nothing is sought
+pub seeks-none : (m : Going) → IsPlain m → SeeksAnew m
+seeks-none modes.Visit plain = tt
+seeks-none (modes.Ask q) plain = tt
+seeks-none (modes.Find f) plain = absurd plain
+seeks-none (modes.Back r) plain = tt
+
 pub moved-by-as : (P : Program) (s new : Reached) (m m' : Views → Move) → ((v : Views) → m v ≡ m' v) → MovedBy P s new m → MovedBy P s new m'
 moved-by-as P s new m m' same moved = record {
   code = moved.code;
   latest = moved.latest;
   place = moved.place;
   walks = moved.walks;
+  seeks = moved.seeks;
   tied = moved.tied;
   askable = moved.askable;
   carry = moved.carry;
@@ -154,6 +162,7 @@ moved-by-from P s t new m stay moved = record {
   latest = moved.latest ∙ ap (λ (b : Basis). b.latest.place) stay.basis;
   place = moved.place ∙ ap (λ (x : Layered). x.place) stay.layer;
   walks = (moved.walks.0, sym stay.walks ∙ moved.walks.1);
+  seeks = moved.seeks;
   tied = λ tied. moved.tied (tied-as s t stay.basis stay.layer tied);
   askable = moved.askable;
   carry = moved.carry;
@@ -191,6 +200,7 @@ goes-to P s new cs p w basis layer walks may plain at cases local = record {
     latest = ap (λ (b : Basis). b.latest.place) basis;
     place = ap (λ (x : Layered). x.place) layer;
     walks = ([], sym walks);
+    seeks = seeks-none new.mode plain;
     tied = tied-as s new basis layer;
     askable = may;
     carry = carry-at new.stack new.mode p at;
@@ -219,6 +229,7 @@ gives P s new r w basis layer walks at carried cases local = record {
     latest = ap (λ (b : Basis). b.latest.place) basis;
     place = ap (λ (x : Layered). x.place) layer;
     walks = ([], sym walks);
+    seeks = seeks-none new.mode (subst IsPlain (sym at) tt);
     tied = tied-as s new basis layer;
     askable = back-asks new r at;
     carry = subst (MayCarry new.stack) (sym at) carried;

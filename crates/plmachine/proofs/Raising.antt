@@ -21,7 +21,7 @@ use Rattle.plmachine.specs.declared.machine.Mode.TheVariants as modes
 use Rattle.plmachine.specs.declared.machine.Machine.{Machine as Reached}
 use Rattle.plmachine.specs.Machine.{IsPlain, below_in, result_of, mode_of, local_of, cases_in, run_in, IsCarried, MayCarry, Moved}
 use Rattle.plmachine.proofs.Levels.{fits_behind}
-use Rattle.plmachine.proofs.Moves.{below-as, machine-is, back-asks, tied-as}
+use Rattle.plmachine.proofs.Moves.{back-asks, below-as, machine-is, seeks-none, tied-as}
 
 -- a ball with the levels of a list that fits in them
 pub named-in : (s t : State) (more : List Case) (l : Continuation) (k : ℕ) (found : List ℕ) → ((cs : List Case) → FitsIn (kinds cs) (goals_of s l) → AreNamed found cs) → Opens s t more →
@@ -44,6 +44,7 @@ raises-in P s new st more list ball r is o carried made =
         latest = ap (λ (b : Basis). b.latest.place) rests;
         place = ap (λ (x : Layered). x.place) layer;
         walks = ([], sym o.walks ∙ ap (λ x. walks_in x.stack) (sym made));
+        seeks = seeks-none new.mode (subst (λ x. IsPlain x.mode) (sym made) tt);
         tied = tied-as s new rests layer;
         askable = back-asks new r (ap (λ x. x.mode) made);
         carry = subst (λ (x : Reached). MayCarry x.stack x.mode) (sym made) carried;

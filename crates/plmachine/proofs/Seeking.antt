@@ -100,6 +100,7 @@ module _ (P : Program) (s t : Reached) (u : Sought) (g : View) (f : Find) (l : C
     latest = ap (λ (g : View). g.place) all ∙ sym (tied.base some);
     place = refl;
     walks = ([], sym (ap (λ fs. walks_of (reverse fs)) grown.extends.frames));
+    seeks = sought.first;
     tied = λ tied. finds-tied;
     askable = (sought.there s.layer.own found.stack refl finds-viewed, fits-extends s.stack t.stack grown.extends l there fits);
     carry = tt;

@@ -80,6 +80,7 @@ module _ (P : Program) (s : Reached) (x : Layered) (l : Continuation) (grows : G
       latest = refl;
       place = place;
       walks = ([], refl);
+      seeks = tt;
       tied = λ tied. grown-tied;
       askable = tt;
       carry = tt;
@@ -138,6 +139,7 @@ next-turn P s new x es m moved turns = record {
     latest = moved.moved.latest;
     place = moved.moved.place;
     walks = moved.moved.walks;
+    seeks = moved.moved.seeks;
     tied = moved.moved.tied;
     askable = moved.moved.askable;
     carry = moved.moved.carry;

@@ -276,12 +276,27 @@ pub record IsMachine (s : Reached) : Type 0 where
   pub askable : MayAsk s.layer.own s.stack s.mode
   pub carry : MayCarry s.stack s.mode
 
+-- a look-up at its beginning: a sweep is one whose procedure was found to exist
+abbrev pub IsFirstOf : Find → Type 0
+IsFirstOf (finds.First x g) = ⊤
+IsFirstOf (finds.Exists c g) = ⊤
+IsFirstOf (finds.All c g) = ⊤
+IsFirstOf (finds.Sweep c w) = ⊥
+
+-- what is sought, if anything, is at its beginning
+abbrev pub SeeksAnew : Going → Type 0
+SeeksAnew modes.Visit = ⊤
+SeeksAnew (modes.Ask q) = ⊤
+SeeksAnew (modes.Find f) = IsFirstOf f
+SeeksAnew (modes.Back r) = ⊤
+
 -- it made a move, by the views; it takes no view itself
 pub record MovedBy (P : Program) (old new : Reached) (m : Views → Move) : Type 0 where
   pub code : new.stack.basis.code ≡ old.stack.basis.code
   pub latest : new.stack.basis.latest.place ≡ old.stack.basis.latest.place
   pub place : new.layer.place ≡ old.layer.place
   pub walks : EndsWalks old.stack new.stack
+  pub seeks : SeeksAnew new.mode
   pub tied : IsTied old → IsTied new
   pub askable : MayAsk new.layer.own new.stack new.mode
   pub carry : MayCarry new.stack new.mode

@@ -13,10 +13,11 @@ use Rattle.plstack.specs.State.{State}
 use Rattle.plmachine.specs.declared.machine.Lookup.{Lookup as Sought}
 use Rattle.plmachine.specs.declared.machine.Find.{Find}
 use Rattle.plmachine.specs.declared.machine.Machine.{Machine as Reached}
-use Rattle.plmachine.specs.Machine.{cases_in, finding, lookup_of, looking, machine, place_behind, run_in, IsFound, IsViewed}
+use Rattle.plmachine.specs.Machine.{cases_in, finding, lookup_of, looking, machine, place_behind, run_in, IsFirstOf, IsFound, IsViewed}
 
--- what a look-up seeks in a view, over the values of a stack that has grown
+-- what a look-up seeks in a view, over the values of a stack that has grown: it is at its beginning
 pub record SeeksBy (old new : Reached) (u : Sought) (g : View) (f : Find) : Type 0 where
+  pub first : IsFirstOf f
   pub there : (own : Own) (s : State) → s.env.heap ≡ new.stack.env.heap → IsViewed own s g → IsFound own s f
   pub is : (P : Program) (v : Views) (left : ℕ) (answers : List Answer) (s : Reached) → s.stack.env.heap ≡ new.stack.env.heap →
       finding P v left answers s f ≡ looking P v left answers s (lookup_of old.stack.env.heap u) (Seen g.place (seen_in v s.layer.own.updates g))

@@ -1,5 +1,5 @@
 -- Steps that are taken in one advance, and what begins by them.
-use Rattle.std.proofs.Common.{◌+◌, ◌-◌, ◌≤◌, ap, sym, subst, ◌∙◌, refl, arith}
+use Rattle.std.proofs.Common.{◌≡◌, ◌+◌, ◌-◌, ◌≤◌, ap, sym, subst, ◌∙◌, refl, arith}
 use Rattle.plprogram.specs.Program.{Program}
 use Rattle.plsearch.specs.Types.{Move}
 use Rattle.plsearch.specs.Machines.Machine.{Rest}
@@ -8,7 +8,7 @@ use Rattle.plstore.specs.Looking.{Views}
 use Rattle.plviews.specs.Layers.{Layered}
 use Rattle.plstack.specs.Basis.{Basis}
 use Rattle.plmachine.specs.declared.machine.Machine.{Machine as Reached}
-use Rattle.plmachine.specs.Machine.{IsPlain, MovedBy}
+use Rattle.plmachine.specs.Machine.{IsPlain, MovedBy, SeeksAnew}
 use Rattle.plmachine.specs.Machine.{Stays as StaysThere}
 use Rattle.plmachine.proofs.Moves.{tied-as}
 use Rattle.plsolver.specs.declared.progress.Progress.{Progress}
@@ -21,20 +21,21 @@ use Rattle.plsolver.proofs.Runs.{goes_nowhere, goes_on, selected-goal}
 
 -- ---- a step, and then no more than it gave back
 
-moved_on : (P : Program) (s t new : Reached) (m : Views → Move) → MovedBy P s t m → StaysThere P t new → MovedBy P s new m
-moved_on P s t new m moved stays = record {
+moved_on : (P : Program) (s t new : Reached) (m : Views → Move) → MovedBy P s t m → StaysThere P t new → new.mode ≡ t.mode → MovedBy P s new m
+moved_on P s t new m moved stays mode = record {
   code = ap (λ (b : Basis). b.code) stays.basis ∙ moved.code;
   latest = ap (λ (b : Basis). b.latest.place) stays.basis ∙ moved.latest;
   place = ap (λ (x : Layered). x.place) stays.layer ∙ moved.place;
   walks = ends_trans _ _ _ moved.walks (ends_same _ _ stays.walks);
+  seeks = subst SeeksAnew (sym mode) moved.seeks;
   tied = λ tied. tied-as t new stays.basis stays.layer (moved.tied tied);
   askable = stays.askable moved.askable;
   carry = stays.carry moved.carry;
   ends = λ v ordered most left answers. moved.ends v ordered most left answers ∙ ap (λ x. ending_of most (Rest P x)) (sym (stays.same moved.askable v left answers));
 }
 
-pub selects_on : (P : Program) (s t new : Reached) → Selects P s t → StaysThere P t new → Selects P s new
-selects_on P s t new did stays k x rest goals = moved_on P s t new _ (did k x rest goals) stays
+pub selects_on : (P : Program) (s t new : Reached) → Selects P s t → StaysThere P t new → new.mode ≡ t.mode → Selects P s new
+selects_on P s t new did stays mode k x rest goals = moved_on P s t new _ (did k x rest goals) stays mode
 
 -- ---- one after another
 

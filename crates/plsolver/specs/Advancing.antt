@@ -14,7 +14,7 @@ pub record SettlesTo (P : Program) (old new : Progress) : Type 0 where
   pub asks : Onward 0 (activations old.machine) (activations new.machine)
 
 -- with a step: nothing was sought, and the goal that stood first was selected, once. Walks may have ended and none has gone on or begun, and
--- what is left is what the row of that goal leaves, in whatever views: so what is sought now, if anything, that goal seeks
+-- what is left is what the row of that goal leaves, in whatever views: so what is sought now, if anything, that goal seeks, from its beginning
 pub record StepsTo (P : Program) (old new : Progress) : Type 0 where
   pub selected : Selected
   pub first : IsSelected old.machine selected

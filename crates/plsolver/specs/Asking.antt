@@ -36,7 +36,7 @@ use Rattle.plmachine.specs.declared.machine.Outcome.TheVariants as outcomes
 use Rattle.plmachine.specs.declared.machine.Mode.{Mode as Going}
 use Rattle.plmachine.specs.declared.machine.Mode.TheVariants as modes
 use Rattle.plmachine.specs.declared.machine.Machine.{Machine as Reached}
-use Rattle.plmachine.specs.Machine.{IsPlain}
+use Rattle.plmachine.specs.Machine.{IsFirstOf, IsPlain}
 use Rattle.plsolver.specs.Fetching.{find_view, like}
 
 -- the names of the journal's clauses behind a cursor that may have the head h
@@ -101,13 +101,6 @@ find_asks v s (finds.Sweep c w) = sweep_asks w.view (v w.view.place) (value s c)
 abbrev pub EachOnce : List Query → Type 0
 EachOnce [] = Unit {0}
 EachOnce (q ∷ qs) = AllByRecursion (λ r. q ≢ r) qs × EachOnce qs
-
--- a look-up at its beginning: a sweep is one whose procedure was found to exist
-abbrev pub IsFirstOf : Find → Type 0
-IsFirstOf (finds.First x g) = Unit {0}
-IsFirstOf (finds.Exists c g) = Unit {0}
-IsFirstOf (finds.All c g) = Unit {0}
-IsFirstOf (finds.Sweep c w) = ⊥
 
 -- what a look-up may ask, in a view whose updates are in order, holds no query twice
 abbrev pub AsksOnce : Type 0

@@ -5,6 +5,7 @@ ghost use Rattle.plevent.specs.Search.{Seen};
 ghost use Rattle.plsearch.specs.Solving.{TakesOne};
 ghost use Rattle.plstack.specs.State.{walks_in};
 ghost use Rattle.plstore.specs.Looking.{Views};
+ghost use Rattle.plmachine.specs.Machine.{SeeksAnew};
 ghost use Rattle.plmachine.specs.declared.machine.Question.TheVariants.{Look as LookOf};
 ghost use Rattle.plsolver.specs.Solver.{Asks, IsOf, Stays, latest_view, rest_of, TakesView, WaitsForView};
 
@@ -29,6 +30,7 @@ impl Progress {
         ensures limit { self.new.limit ≡ self.old.limit }
         ensures err { OnErr result (Stays program.now self.old self.new) }
         ensures walks { walks_in self.new.machine.stack ≡ walks_in self.old.machine.stack }
+        ensures seeks { OnOk result (SeeksAnew self.new.machine.mode) }
     {
         self.places.reserve(1)?;
         self.take_view(program, g)?;
@@ -48,6 +50,7 @@ impl Progress {
         ensures frame { self.new ≡ record self.old { machine = self.new.machine } }
         ensures err { OnErr result (Stays program.now self.old self.new) }
         ensures walks { walks_in self.new.machine.stack ≡ walks_in self.old.machine.stack }
+        ensures seeks { OnOk result (SeeksAnew self.new.machine.mode) }
     {
         let Mode::Ask(question) = &self.machine.mode else {
             unreachable!()
@@ -75,6 +78,7 @@ impl Progress {
         ensures frame { self.new ≡ record self.old { machine = self.new.machine } }
         ensures err { OnErr result (Stays program.now self.old self.new) }
         ensures walks { walks_in self.new.machine.stack ≡ walks_in self.old.machine.stack }
+        ensures seeks { OnOk result (SeeksAnew self.new.machine.mode) }
     {
         let view = View { place: g, count: 0 };
         let find = self.machine.find_of(lookup, view)?;

@@ -134,7 +134,8 @@ impl Progress {
 
     /// Gives back goal lists and slots that nothing holds, once a goal was selected. A conjunction leaves none.
     fn give_back(&mut self, selected: &Selected)
-        ensures { (P : Given) → Stays P self.old self.new }
+        ensures stays { (P : Given) → Stays P self.old self.new }
+        ensures mode { self.new.machine.mode ≡ self.old.machine.mode }
     {
         if let Selected::Both(_) = selected {
             return;

@@ -5,6 +5,7 @@ ghost use Rattle.plevent.specs.Search.{Seen, Got};
 ghost use Rattle.plstack.specs.State.{walks_in};
 ghost use Rattle.plstore.specs.Looking.{Views, found as found_of};
 ghost use Rattle.plviews.specs.Views.{AreOrdered};
+ghost use Rattle.plmachine.specs.Machine.{SeeksAnew};
 ghost use Rattle.plprogram.specs.Program.{Program as Given};
 ghost use Rattle.plsearch.specs.Search.{search_of};
 ghost use Rattle.plsearch.specs.Solving.{Begins, Goes, TakesOne};
@@ -136,6 +137,7 @@ impl Solver {
         ensures limit { self.new.limit ≡ self.old.limit }
         ensures err { OnErr result (Stays program.now self.old self.new) }
         ensures walks { walks_in self.new.machine.stack ≡ walks_in self.old.machine.stack }
+        ensures seeks { OnOk result (SeeksAnew self.new.machine.mode) }
     {
         self.progress.refreshed(program, g)
     }

@@ -27,3 +27,6 @@ returns-clause-of c =
     let t = c.find_of.new.self in
     looks-of c.args.program.now s (record s { machine = record t { stack = c.sees.new.self; mode = modes.Find c.in_ok-find.find } }) t c.args.lookup c.args.g c.in_ok-find.find c.requires.looks c.requires.of c.requires.latest c.find_of.ensures.grown c.find_of.ensures.frame
     c.in_ok-find.ensures.ok (ap (λ st. record t { stack = st; mode = modes.Find c.in_ok-find.find }) c.sees.ensures)
+
+pub returns-clause-seeks : goal.returns-clause-seeks
+returns-clause-seeks c = c.in_ok-find.ensures.ok.first

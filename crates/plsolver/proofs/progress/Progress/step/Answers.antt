@@ -17,15 +17,15 @@ returns-clause-ok c =
     record {
       selected = c.args.selected;
       first = c.requires.goal;
-      selects = selects_on P s.machine t.machine c.give_back.new.self.machine c.in_ok-select.ensures.ok (c.give_back.ensures P).there;
-      stepped = steps_on P s t c.give_back.new.self c.select.ensures.of stepped (c.give_back.ensures P);
+      selects = selects_on P s.machine t.machine c.give_back.new.self.machine c.in_ok-select.ensures.ok (c.give_back.ensures.stays P).there c.give_back.ensures.mode;
+      stepped = steps_on P s t c.give_back.new.self c.select.ensures.of stepped (c.give_back.ensures.stays P);
     }
 
 pub returns-clause-of : goal.returns-clause-of
-returns-clause-of c = stays_of c.args.program.now (record c.select.new.self { used = c.select.new.self.used + 1 }) c.give_back.new.self c.select.ensures.of (c.give_back.ensures c.args.program.now)
+returns-clause-of c = stays_of c.args.program.now (record c.select.new.self { used = c.select.new.self.used + 1 }) c.give_back.new.self c.select.ensures.of (c.give_back.ensures.stays c.args.program.now)
 
 pub returns-clause-latest : goal.returns-clause-latest
-returns-clause-latest c = stays_latest c.args.program.now (record c.select.new.self { used = c.select.new.self.used + 1 }) c.give_back.new.self (c.give_back.ensures c.args.program.now) ∙ c.select.ensures.latest
+returns-clause-latest c = stays_latest c.args.program.now (record c.select.new.self { used = c.select.new.self.used + 1 }) c.give_back.new.self (c.give_back.ensures.stays c.args.program.now) ∙ c.select.ensures.latest
 
 pub returns-clause-walks : goal.returns-clause-walks
-returns-clause-walks c = ends_trans _ _ _ c.select.ensures.walks (ends_same _ _ (c.give_back.ensures c.args.program.now).there.walks)
+returns-clause-walks c = ends_trans _ _ _ c.select.ensures.walks (ends_same _ _ (c.give_back.ensures.stays c.args.program.now).there.walks)

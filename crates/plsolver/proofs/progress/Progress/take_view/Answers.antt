@@ -1,6 +1,6 @@
 use Rattle.std.proofs.Common.{ap, ◌∙◌}
 use Rattle.plmachine.specs.declared.machine.Mode.TheVariants as modes
-use Rattle.plmachine.proofs.Moves.{on_ok_map}
+use Rattle.plmachine.proofs.Moves.{on_ok_map, seeks-none}
 use Rattle.plsolver.proofs.Taking.{begins-on}
 use Rattle.plsolver.proofs.progress.Progress.take_view.Goals as goal
 
@@ -8,3 +8,6 @@ pub returns-in-Begin-clause-ok : goal.returns-in-Begin-clause-ok
 returns-in-Begin-clause-ok c =
     let s = c.args.self.now in
     on_ok_map c.begin_at.result (begins-on c.args.program.now s (record s { machine = c.begin_at.new.self }) c.in-Begin.kind c.in-Begin.goal c.args.g (c.in-Ask.is ∙ ap modes.Ask c.in-Begin.is)) c.begin_at.ensures.ok
+
+pub returns-in-Begin-clause-seeks : goal.returns-in-Begin-clause-seeks
+returns-in-Begin-clause-seeks c = on_ok_map c.begin_at.result (λ begins. seeks-none c.begin_at.new.self.mode begins.plain) c.begin_at.ensures.ok
