@@ -1,8 +1,8 @@
 #!/usr/bin/env python3
-"""The examples as a test of the gate: writes crates/plrows/src/examples.rt, whose rows hold each program's text and its output.
+"""The examples as a test of the gate: writes the files crates/plrows/src/examples_A_to_B.rt, whose rows hold each program's text and its output.
 
-    examples/rows.py            writes the file
-    examples/rows.py --check    says whether it holds the examples as they are
+    examples/rows.py            writes the files
+    examples/rows.py --check    says whether they hold the examples as they are
 """
 import glob
 import os
@@ -10,25 +10,21 @@ import re
 import sys
 
 HERE = os.path.dirname(os.path.realpath(__file__))
-MADE = os.path.join(os.path.dirname(HERE), "crates", "plrows", "src", "examples.rt")
+MADE = os.path.join(os.path.dirname(HERE), "crates", "plrows", "src")
 # A constant of more programs takes the prover more steps than it has for one declaration.
 MOST = 7
-NAMES = ["FIRST", "SECOND", "THIRD", "FOURTH", "FIFTH"]
-HEAD = '''//! The programs of `examples/`, each with its output. `examples/rows.py` writes this file.
+TEXT = '''//! The programs of `examples/` from `{first}` to `{last}`, each with its output. `examples/rows.py` writes this file.
 use plhist::Status;
-use plrow::row::{RUN, Row, first_wrong};
+use plrow::row::{{RUN, Row, first_wrong}};
 use std::test::Fail;
-'''
-ROWS = '''
-/// The examples from `{first}` to `{last}`.
-const {name}: [Row; {count}] = [
+
+const EXAMPLES: [Row; {count}] = [
 {rows}
 ];
-'''
-TEST = '''
+
 #[test]
-fn {test}_examples(rt: HostRuntime) -> Result<(), Fail> {{
-    assert_eq!(rt; first_wrong(&rt, rt.alloc(), &{name})?, None);
+fn outputs_{first}_to_{last}(rt: HostRuntime) -> Result<(), Fail> {{
+    assert_eq!(rt; first_wrong(&rt, rt.alloc(), &EXAMPLES)?, None);
     Ok(())
 }}
 '''
@@ -61,22 +57,27 @@ def row(path):
 
 
 def made():
+    """The texts of the files, by their names."""
     outputs = sorted(glob.glob(os.path.join(HERE, "*.out")))
-    groups = [outputs[at : at + MOST] for at in range(0, len(outputs), MOST)]
-    text = HEAD
-    for name, paths in zip(NAMES, groups, strict=False):
+    files = {}
+    for paths in (outputs[at : at + MOST] for at in range(0, len(outputs), MOST)):
         first, last = (os.path.basename(path)[:-4] for path in (paths[0], paths[-1]))
-        text += ROWS.format(first=first, last=last, name=name, count=len(paths), rows="\n".join(line for path in paths for line in row(path)))
-    return text + "".join(TEST.format(test=name.lower(), name=name) for name, _ in zip(NAMES, groups, strict=False))
+        text = TEXT.format(first=first, last=last, count=len(paths), rows="\n".join(line for path in paths for line in row(path)))
+        files[f"examples_{first}_to_{last}.rt"] = text
+    return files
 
 
 def main():
+    files = made()
     if sys.argv[1:] == ["--check"]:
-        same = os.path.exists(MADE) and read(MADE) == made()
-        print("the same" if same else "crates/plrows/src/examples.rt holds other texts: run examples/rows.py")
-        return 0 if same else 1
-    with open(MADE, "w", encoding="utf-8") as file:
-        file.write(made())
+        there = {os.path.basename(path): read(path) for path in glob.glob(os.path.join(MADE, "examples_*.rt"))}
+        print("the same" if there == files else "crates/plrows/src holds other examples: run examples/rows.py, and name its files in lib.rt")
+        return 0 if there == files else 1
+    for path in glob.glob(os.path.join(MADE, "examples_*.rt")):
+        os.remove(path)
+    for name, text in files.items():
+        with open(os.path.join(MADE, name), "w", encoding="utf-8") as file:
+            file.write(text)
     return 0
 
 

@@ -14,7 +14,11 @@ mod deep;
 #[cfg(test)]
 mod ends;
 #[cfg(test)]
-mod examples;
+mod examples_bank_to_dates;
+#[cfg(test)]
+mod examples_family_to_queens;
+#[cfg(test)]
+mod examples_report_to_words;
 #[cfg(test)]
 mod faults;
 #[cfg(test)]
