@@ -1,4 +1,7 @@
 //! The clauses of all batches (plstore).
+ghost use Rattle.std.specs.Prelude.{◌+◌, ◌<◌, ◌^◌, OnOk};
+ghost use Rattle.plstore.specs.Rising.{AllBelowPlace};
+
 use crate::made::{clause, fact, indicator};
 use plclause::clause::Clause;
 use plevent::{Batch, ClauseName, Key, Update};
@@ -163,6 +166,62 @@ fn walk_of_a_key(rt: HostRuntime) -> Result<(), Fail> {
     for (first, behind, next) in NEXT {
         let found = next_number(rt.alloc(), &store, first, behind)?;
         assert!(rt; found == next, "p({first}) behind {behind:?}");
+    }
+    Ok(())
+}
+
+/// How often a clause is added and erased again.
+const TIMES: u64 = 1000;
+
+/// Adds a clause of p/0 at a place, and erases it at the next one.
+fn renew(alloc: Global, store: &mut Store, place: u64) -> Result<(), TermError>
+    requires below { AllBelowPlace place store.old.records }
+    requires room { place + 1 < 2 ^ 64 }
+    ensures { OnOk result (AllBelowPlace (place + 2) store.new.records) }
+{
+    let mut added = Vec::new(alloc);
+    added.push(Update::Last(clause(alloc, "a")?))?;
+    store.apply(alloc, Batch::new(added), place)?;
+    let name = ClauseName { place, number: 0 };
+    let mut erased = Vec::new(alloc);
+    erased.push(Update::Erase(name))?;
+    store.apply(alloc, Batch::new(erased), place + 1)?;
+    Ok(())
+}
+
+/// A store that declares p/0 at 0, adds a clause of it at 1, erases it at 2, adds one at 3 and so on.
+fn renewed(alloc: Global) -> Result<Store, TermError> {
+    let mut declared = Vec::new(alloc);
+    declared.push(Update::Declare(indicator(alloc, 0)?))?;
+    let mut store = Store::new(alloc);
+    store.apply(alloc, Batch::new(declared), 0)?;
+    for i in 0..TIMES {
+        renew(alloc, &mut store, 2 * i + 1)?;
+    }
+    Ok(store)
+}
+
+/// The places of the clauses of p/0 that are alive at a time, up to two.
+fn places(alloc: Global, store: &Store, g: u64) -> Result<(Option<u64>, Option<u64>), AllocError> {
+    let pred = indicator(alloc, 0)?;
+    let Some(first) = store.next_visible(g, &pred, Cursor::Start) else {
+        return Ok((None, None));
+    };
+    let next = store.next_visible(g, &pred, Cursor::After(first));
+    Ok((Some(first.place), next.map(|name| name.place)))
+}
+
+// At each time there is the one clause that was added last, or none, whatever came behind it.
+#[test]
+fn a_clause_that_is_renewed(rt: HostRuntime) -> Result<(), Fail> {
+    let alloc = rt.alloc();
+    let store = renewed(alloc)?;
+    for i in 0..TIMES {
+        let place = 2 * i + 1;
+        let there = places(alloc, &store, place + 1)?;
+        assert!(rt; there == (Some(place), None), "at {place}");
+        let gone = places(alloc, &store, place + 2)?;
+        assert!(rt; gone == (None, None), "behind {place}");
     }
     Ok(())
 }
