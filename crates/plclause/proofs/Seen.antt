@@ -7,6 +7,7 @@ use Rattle.plterm.specs.Reading.{spelling, tree_of, tree_of-spelling}
 use Rattle.plterm.specs.Variables.{place, added, seen_after, variables, renamed, rename, AllBelow}
 use Rattle.plterm.proofs.Spellings.{place-added, place-seen_after, spelling-renamed}
 use Rattle.plterm.proofs.Belows.{NodesBelow, AllBelow-spelling, known_after}
+use Rattle.plclause.specs.declared.clause.Parts.{Parts}
 use Rattle.plclause.specs.Clause.{Clause}
 use Rattle.plclause.specs.Soundness.{IsCallable, both_variables, clause_from}
 
@@ -79,3 +80,7 @@ clause_parts_is head goal h g first seen n first_is seen_is h_is g_is n_is =
     ap (λ (x : Tree). made x g n) front
     ∙ ap (λ (y : Tree). made (renamed (λ v. place v (both_variables head goal)) head) y n) back
     ∙ ap (λ (k : ℕ). made (renamed (λ v. place v (both_variables head goal)) head) (renamed (λ v. place v (both_variables head goal)) goal) k) count
+
+-- the clause that is stored as these parts
+abbrev pub as_clause : Parts → Clause
+as_clause p = record { head = p.head; body = p.body; variables = p.variables }

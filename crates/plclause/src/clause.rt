@@ -1,5 +1,6 @@
 //! Clauses, whose parts are shared.
-ghost use Rattle.std.specs.Prelude.{◌≡◌, Some, IfOk};
+ghost use Rattle.std.specs.Prelude.{◌≡◌, Some, IfOk, codes};
+ghost use Rattle.plterm.specs.Tree.{atom};
 ghost use Rattle.plterm.specs.Variables.{AllBelow};
 ghost use Rattle.plclause.specs.Conversion.{converted};
 ghost use Rattle.plclause.specs.Soundness.{clause_from, IsCallable};
@@ -53,6 +54,26 @@ impl Clause {
     {
         let (head, seen) = head.numbered(alloc, Numbers::new(alloc))?;
         let (body, seen) = goal.numbered(alloc, seen)?;
+        let variables = seen.count();
+        let parts = Arc::new(
+            alloc,
+            Parts {
+                head,
+                body,
+                variables,
+            },
+        )?;
+        Ok(Clause { parts })
+    }
+
+    /// The clause of a head whose body is `true`, with its variables numbered anew. The body shares the name of the term `true` that is given.
+    pub fn fact(alloc: Global, head: &TermRef<'_>, truth: &Term) -> Result<Clause, AllocError>
+        requires callable { IsCallable head.now }
+        requires truth { truth.now ≡ atom (codes "true") }
+        ensures { IfOk result (λ c. c ≡ clause_from head.now (atom (codes "true"))) }
+    {
+        let (head, seen) = head.numbered(alloc, Numbers::new(alloc))?;
+        let body = truth.copied(alloc)?;
         let variables = seen.count();
         let parts = Arc::new(
             alloc,

@@ -29,13 +29,19 @@ pub enum ClauseForm {
 pub fn clause_of(alloc: Global, term: &Term) -> Result<ClauseForm, AllocError>
     ensures { IfOk result (λ form. form ≡ clausal term.now) }
 {
+    let truth = true_term(alloc)?;
+    clause_with(alloc, term, &truth)
+}
+
+/// The same for a caller that has the atom `true` as a term: of a head alone, the body is a copy that shares its name.
+pub fn clause_with(alloc: Global, term: &Term, truth: &Term) -> Result<ClauseForm, AllocError>
+    requires truth { truth.now ≡ atom (codes "true") }
+    ensures { IfOk result (λ form. form ≡ clausal term.now) }
+{
     let root = term.root();
     match parted(&root) {
         Some((head, body)) => form_of(alloc, &head, &body),
-        None => {
-            let body = truth(alloc)?;
-            form_of(alloc, &root, &body.root())
-        }
+        None => fact_of(alloc, &root, truth),
     }
 }
 
@@ -61,11 +67,11 @@ fn parted<'a>(term: &TermRef<'a>) -> Option<(TermRef<'a>, TermRef<'a>)>
 }
 
 /// The atom `true`.
-fn truth(alloc: Global) -> Result<Term, AllocError>
+pub fn true_term(alloc: Global) -> Result<Term, AllocError>
     ensures { IfOk result (λ t. t ≡ atom (codes "true")) }
 {
-    let mut nodes = Vec::new(alloc);
-    nodes.push(Node::Atom(Name::new(alloc, "true")?))?;
+    let name = Name::new(alloc, "true")?;
+    let nodes = vec![in alloc; Node::Atom(name)]?;
     Ok(Term::from_prefix(nodes))
 }
 
@@ -81,5 +87,20 @@ fn form_of(alloc: Global, head: &TermRef<'_>, body: &TermRef<'_>) -> Result<Clau
     match convert(alloc, body)? {
         None => Ok(ClauseForm::BadBody(body.copied(alloc)?)),
         Some(goal) => Ok(ClauseForm::IsClause(Clause::new(alloc, head, &goal.root())?)),
+    }
+}
+
+/// The clause of a head alone, whose body is `true`: nothing is converted.
+fn fact_of(alloc: Global, head: &TermRef<'_>, truth: &Term) -> Result<ClauseForm, AllocError>
+    requires truth { truth.now ≡ atom (codes "true") }
+    ensures { IfOk result (λ form. form ≡ clause_parts head.now (atom (codes "true"))) }
+{
+    match head.shape() {
+        Shape::Var(_) => Ok(ClauseForm::NoHead),
+        Shape::Int(_) => Ok(ClauseForm::BadHead(head.copied(alloc)?)),
+        Shape::Atom(_) | Shape::Compound(_, _) => {
+            let clause = Clause::fact(alloc, head, truth)?;
+            Ok(ClauseForm::IsClause(clause))
+        }
     }
 }

@@ -1,6 +1,6 @@
 //! The terms of a compiled clause as expressions.
 ghost use Rattle.std.specs.Prelude.{◌≡◌, ◌<◌, ◌^◌, length, IfOk, IfSome};
-ghost use Rattle.plterm.specs.Tree.{Tree};
+ghost use Rattle.plterm.specs.Tree.{int, Tree};
 ghost use Rattle.plsubst.specs.Subst.{bind};
 ghost use Rattle.platoms.specs.Names.{functor_name};
 ghost use Rattle.plcode.specs.Laying.{IsLaid};
@@ -13,6 +13,7 @@ ghost use Rattle.plarith.specs.Operands.{Opens};
 ghost use Rattle.plarith.specs.Values.{IsOperand as IsHeapOperand, tree as heap_tree};
 ghost use Rattle.plexpression.specs.Nodes.{IsOperand, IsNode, tree, seen_block};
 
+use crate::number::integer_at;
 use plarith::error::{ArithError, Evaluated};
 use plarith::evaluate::evaluate;
 use plarith::functor::Binary;
@@ -87,24 +88,51 @@ impl Operands for ClauseTerms<'_> {
     }
 }
 
+/// The number that the variable of a slot stands for, if it stands for one.
+fn number_in_slot(env: &Environment, slot: u32) -> Option<i64>
+    requires { slot < length env.now.slots }
+    ensures { IfSome result (λ i. variable env.now slot ≡ int i) }
+{
+    match env.slot(slot) {
+        Slot::Free(_) => None,
+        Slot::Set(v) => integer_at(env.heap(), v),
+    }
+}
+
+/// The number that a node, of a clause whose slots begin at a place, stands for, if it stands for one.
+fn number_at(env: &Environment, nodes: &[Node], at: u32, base: u32) -> Option<i64>
+    requires { IsNode env.now nodes.now base at }
+    ensures { IfSome result (λ i. bind (over env.now base) (tree_at env.now.heap.names nodes.now at) ≡ int i) }
+{
+    match nodes[at as usize] {
+        Node::Int(i) => Some(i),
+        Node::Var(x) => number_in_slot(env, env.slot_of(base, x)),
+        _ => None,
+    }
+}
+
+impl ClauseTerms<'_> {
+    /// The number that an operand is as it stands, if it is one.
+    fn number(&self, operand: Operand) -> Option<i64>
+        requires { IsOperand self.now.env.now self.now.nodes.now self.now.base operand }
+        ensures { IfSome result (λ i. tree self.now.env.now self.now.nodes.now self.now.base operand ≡ int i) }
+    {
+        match operand {
+            Operand::Value(v) => integer_at(self.env.heap(), v),
+            Operand::Node(at) => number_at(self.env, self.nodes, at, self.base),
+        }
+    }
+}
+
 /// What an operation comes to whose operands are numbers as they stand.
-fn of_numbers(
-    terms: &ClauseTerms,
-    f: Binary,
-    left: Operand,
-    right: Operand,
-) -> Result<Option<Evaluated>, AllocError>
+fn of_numbers(terms: &ClauseTerms, f: Binary, left: Operand, right: Operand) -> Option<Evaluated>
     requires left { IsOperand terms.now.env.now terms.now.nodes.now terms.now.base left }
     requires right { IsOperand terms.now.env.now terms.now.nodes.now terms.now.base right }
-    ensures { IfOk result (λ o. IfSome o (λ found. found ≡ with_two f (eval (tree terms.now.env.now terms.now.nodes.now terms.now.base left)) (eval (tree terms.now.env.now terms.now.nodes.now terms.now.base right)))) }
+    ensures { IfSome result (λ found. found ≡ with_two f (eval (tree terms.now.env.now terms.now.nodes.now terms.now.base left)) (eval (tree terms.now.env.now terms.now.nodes.now terms.now.base right))) }
 {
-    let Opened::Known(Ok(x)) = terms.open(left)? else {
-        return Ok(None);
-    };
-    let Opened::Known(Ok(y)) = terms.open(right)? else {
-        return Ok(None);
-    };
-    Ok(Some(f.apply(x, y)))
+    let x = terms.number(left)?;
+    let y = terms.number(right)?;
+    Some(f.apply(x, y))
 }
 
 /// What an expression comes to that is no operation, or one of two numbers: no operation has to wait.
@@ -114,7 +142,7 @@ fn at_once(terms: &ClauseTerms, operand: Operand) -> Result<Option<Evaluated>, A
 {
     match terms.open(operand)? {
         Opened::Known(found) => Ok(Some(found)),
-        Opened::Two(f, left, right) => of_numbers(terms, f, left, right),
+        Opened::Two(f, left, right) => Ok(of_numbers(terms, f, left, right)),
         Opened::One(_, _) => Ok(None),
     }
 }

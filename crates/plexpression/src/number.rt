@@ -18,7 +18,7 @@ use plenv::slot::Slot;
 use std::alloc::AllocError;
 
 /// The integer that the term of a value is, if it is one.
-fn integer_at(heap: &Heap, v: Cell) -> Option<i64>
+pub(crate) fn integer_at(heap: &Heap, v: Cell) -> Option<i64>
     requires { IsValue heap.now v }
     ensures some { IfSome result (λ i. value heap.now v ≡ int i) }
     ensures none { IfNone result ((i : ℤ) → value heap.now v ≡ int i → ⊥) }

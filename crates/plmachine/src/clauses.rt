@@ -29,7 +29,7 @@ use crate::walk::Neck;
 use plcells::cell::Cell;
 use plcells::heap::Heap;
 use plclause::clause::Clause;
-use plclause::form::{ClauseForm, clause_of};
+use plclause::form::{ClauseForm, clause_with};
 use plclause::named::named_terms;
 use plevent::update::Update;
 use pllinks::link::Continuation;
@@ -61,7 +61,7 @@ impl Machine {
         ensures err { OnErr result (Stays program.now self.old self.new) }
     {
         let term = self.stack.env().heap().take(self.alloc, c)?;
-        match clause_of(self.alloc, &term)? {
+        match clause_with(self.alloc, &term, self.stack.truth())? {
             ClauseForm::NoHead => {
                 let error = error::instantiation(self.alloc)?;
                 self.raise_of(program, error, source, rest)

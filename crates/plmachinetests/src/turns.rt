@@ -57,7 +57,7 @@ fn serve(alloc: Global, program: &Program, going: &mut Going, request: &Request)
     ensures latest { going.new.latest ≡ going.old.latest }
 {
     let place = going.world.front();
-    let reply = going.world.step(alloc, 1, 1, request)?;
+    let reply = going.world.step(alloc, 1, 1, request.copied(alloc)?)?;
     if !is_served(request, &reply) {
         return Err("another reply".into());
     }
@@ -158,7 +158,7 @@ fn told(alloc: Global, going: &Going, end: &ThreadEnd) -> Result<String, Fail> {
 /// A world in which main has started.
 fn started(alloc: Global, program: &Program) -> Result<World, AllocError> {
     let mut world = World::open(alloc, program.first())?;
-    world.step(alloc, 1, 0, &Request::Start)?;
+    world.step(alloc, 1, 0, Request::Start)?;
     Ok(world)
 }
 

@@ -30,7 +30,7 @@ fn start(
     ensures over { IfOk result (λ o. IfNone o (Over world.old.journal × (world.new.journal ≡ world.old.journal))) }
     ensures serves { IsServing world.new }
 {
-    match world.step(alloc, 1, 0, &Request::Start)? {
+    match world.step(alloc, 1, 0, Request::Start)? {
         Reply::Started { number, .. } => {
             let solver = Solver::new(alloc, program, steps)?;
             Ok(Some(Running {

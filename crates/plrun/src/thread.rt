@@ -65,12 +65,12 @@ fn serve(
     program: &Program,
     world: &mut World,
     running: &mut Running,
-    request: &Request,
+    request: Request,
 ) -> Result<(), AllocError>
     requires runs { GoesOn program.now world.old.journal running.old }
     requires serves { IsServing world.old }
-    requires waits { WaitsForReply running.old.solver request.now }
-    requires at { (v : Views) → StandsAt (Ask request.now) (rest_of program.now v running.old.solver) running.old.solver.used running.old.solver.machine.out.items }
+    requires waits { WaitsForReply running.old.solver request }
+    requires at { (v : Views) → StandsAt (Ask request) (rest_of program.now v running.old.solver) running.old.solver.used running.old.solver.machine.out.items }
     ensures runs { OnOk result (IsThread program.now world.new.journal running.new) }
     ensures limit { running.new.solver.limit ≡ running.old.solver.limit }
     ensures serves { IsServing world.new }
@@ -107,7 +107,7 @@ fn turn(
             Ok(None)
         }
         Turn::Ask(request) => {
-            serve(alloc, program, world, running, &request)?;
+            serve(alloc, program, world, running, request)?;
             Ok(None)
         }
         Turn::Ended(end) => Ok(Some(end)),
@@ -132,7 +132,7 @@ fn tell(
         ThreadEnd::True | ThreadEnd::False | ThreadEnd::Exception(_) | ThreadEnd::Budget => {
             let request = Request::Finish(end.copied(alloc)?);
             places.push(world.front())?;
-            world.step(alloc, 1, thread, &request)?;
+            world.step(alloc, 1, thread, request)?;
             Ok(())
         }
     }

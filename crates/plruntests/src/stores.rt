@@ -23,7 +23,7 @@ pub fn one_batch(alloc: Global) -> Result<Store, TermError> {
     updates.push(Update::EraseOwn(0))?;
     updates.push(Update::Declare(indicator(alloc, 2)?))?;
     let mut store = Store::new(alloc);
-    store.apply(alloc, Batch::new(updates), 3)?;
+    store.apply(alloc, &Batch::new(updates), 3)?;
     Ok(store)
 }
 
@@ -117,7 +117,7 @@ fn keyed(alloc: Global) -> Result<Store, TermError> {
     }
     updates.push(Update::EraseOwn(1))?;
     let mut store = Store::new(alloc);
-    store.apply(alloc, Batch::new(updates), 3)?;
+    store.apply(alloc, &Batch::new(updates), 3)?;
     Ok(store)
 }
 
@@ -181,11 +181,11 @@ fn renew(alloc: Global, store: &mut Store, place: u64) -> Result<(), TermError>
 {
     let mut added = Vec::new(alloc);
     added.push(Update::Last(clause(alloc, "a")?))?;
-    store.apply(alloc, Batch::new(added), place)?;
+    store.apply(alloc, &Batch::new(added), place)?;
     let name = ClauseName { place, number: 0 };
     let mut erased = Vec::new(alloc);
     erased.push(Update::Erase(name))?;
-    store.apply(alloc, Batch::new(erased), place + 1)?;
+    store.apply(alloc, &Batch::new(erased), place + 1)?;
     Ok(())
 }
 
@@ -194,7 +194,7 @@ fn renewed(alloc: Global) -> Result<Store, TermError> {
     let mut declared = Vec::new(alloc);
     declared.push(Update::Declare(indicator(alloc, 0)?))?;
     let mut store = Store::new(alloc);
-    store.apply(alloc, Batch::new(declared), 0)?;
+    store.apply(alloc, &Batch::new(declared), 0)?;
     for i in 0..TIMES {
         renew(alloc, &mut store, 2 * i + 1)?;
     }

@@ -59,7 +59,7 @@ fn renewed(alloc: Global) -> Result<World, TermError> {
     let mut declared = Vec::new(alloc);
     declared.push(Update::Declare(indicator(alloc, 0)?))?;
     let mut world = World::open(alloc, &Batch::new(declared))?;
-    world.step(alloc, 1, 0, &Request::Start)?;
+    world.step(alloc, 1, 0, Request::Start)?;
     for _ in 0..TIMES {
         renew(alloc, &mut world)?;
     }
@@ -71,9 +71,9 @@ fn renew(alloc: Global, world: &mut World) -> Result<(), TermError> {
     let place = world.front();
     let mut added = Vec::new(alloc);
     added.push(Update::Last(clause(alloc, "a")?))?;
-    world.step(alloc, 1, 1, &Request::Publish(Batch::new(added)))?;
+    world.step(alloc, 1, 1, Request::Publish(Batch::new(added)))?;
     let name = ClauseName { place, number: 0 };
-    world.step(alloc, 1, 1, &Request::EraseOne(name))?;
+    world.step(alloc, 1, 1, Request::EraseOne(name))?;
     Ok(())
 }
 

@@ -17,9 +17,9 @@ fn batch(alloc: Global) -> Result<Batch, TermError> {
 /// A world in which worker 1 has started main, which has published a clause.
 fn begun(alloc: Global) -> Result<World, TermError> {
     let mut world = World::open(alloc, &Batch::new(Vec::new(alloc)))?;
-    world.step(alloc, 1, 0, &Request::Start)?;
+    world.step(alloc, 1, 0, Request::Start)?;
     let publish = Request::Publish(batch(alloc)?);
-    world.step(alloc, 1, 1, &publish)?;
+    world.step(alloc, 1, 1, publish)?;
     Ok(world)
 }
 
@@ -49,7 +49,7 @@ fn ask(
     alloc: Global,
     world: &mut World,
     (worker, thread): (u32, u32),
-    request: &Request,
+    request: Request,
 ) -> Result<&'static str, AllocError> {
     let reply = world.step(alloc, worker, thread, request)?;
     Ok(told(&reply))
@@ -60,7 +60,7 @@ fn ask(
 fn main_is_started(rt: HostRuntime) -> Result<(), Fail> {
     let alloc = rt.alloc();
     let mut world = World::open(alloc, &Batch::new(Vec::new(alloc)))?;
-    let reply = ask(alloc, &mut world, (1, 0), &Request::Start)?;
+    let reply = ask(alloc, &mut world, (1, 0), Request::Start)?;
     assert!(rt; reply == "main is started");
     Ok(())
 }
@@ -94,11 +94,11 @@ fn clauses_by_time(rt: HostRuntime) -> Result<(), Fail> {
 /// Asks for a start, for an end of main, and for a start, and tells whether the run is over before and behind the end, and
 /// what comes of each.
 fn ended(alloc: Global, world: &mut World) -> Result<(bool, bool, [&'static str; 3]), AllocError> {
-    let start = ask(alloc, world, (1, 0), &Request::Start)?;
+    let start = ask(alloc, world, (1, 0), Request::Start)?;
     let before = world.is_over();
-    let finish = ask(alloc, world, (1, 1), &Request::Finish(ThreadEnd::False))?;
+    let finish = ask(alloc, world, (1, 1), Request::Finish(ThreadEnd::False))?;
     let behind = world.is_over();
-    let last = ask(alloc, world, (1, 0), &Request::Start)?;
+    let last = ask(alloc, world, (1, 0), Request::Start)?;
     Ok((before, behind, [start, finish, last]))
 }
 
@@ -130,10 +130,10 @@ fn a_whole_run(rt: HostRuntime) -> Result<(), Fail> {
 /// Ends the run with 44, and tells what comes of it, of a start by another worker and of an end of main, and whether the
 /// run is over behind the first.
 fn halted(alloc: Global, world: &mut World) -> Result<(bool, [&'static str; 3]), AllocError> {
-    let halt = ask(alloc, world, (1, 1), &Request::HaltRun(44))?;
+    let halt = ask(alloc, world, (1, 1), Request::HaltRun(44))?;
     let is_over = world.is_over();
-    let start = ask(alloc, world, (2, 0), &Request::Start)?;
-    let finish = ask(alloc, world, (1, 1), &Request::Finish(ThreadEnd::True))?;
+    let start = ask(alloc, world, (2, 0), Request::Start)?;
+    let finish = ask(alloc, world, (1, 1), Request::Finish(ThreadEnd::True))?;
     Ok((is_over, [halt, start, finish]))
 }
 
@@ -163,8 +163,8 @@ fn erased_twice(
     world: &mut World,
     name: ClauseName,
 ) -> Result<(&'static str, &'static str), AllocError> {
-    let first = ask(alloc, world, (1, 1), &Request::EraseOne(name))?;
-    let second = ask(alloc, world, (1, 1), &Request::EraseOne(name))?;
+    let first = ask(alloc, world, (1, 1), Request::EraseOne(name))?;
+    let second = ask(alloc, world, (1, 1), Request::EraseOne(name))?;
     Ok((first, second))
 }
 
@@ -234,7 +234,7 @@ const LOOKS: [(u64, bool, Option<u64>, bool); 3] = [
 fn looks_by_time(rt: HostRuntime) -> Result<(), Fail> {
     let alloc = rt.alloc();
     let mut world = begun(alloc)?;
-    ask(alloc, &mut world, (1, 1), &Request::EraseOne(named(2, 0)))?;
+    ask(alloc, &mut world, (1, 1), Request::EraseOne(named(2, 0)))?;
     for (g, exists, first, is_found) in LOOKS {
         assert!(rt; exists_at(alloc, &world, g)? == exists, "at {g}");
         assert!(rt; first_at(alloc, &world, g)? == first, "at {g}");
@@ -276,7 +276,7 @@ const NEXTS: [(u64, Option<u64>, bool); 3] = [
 fn next_and_alive_by_time(rt: HostRuntime) -> Result<(), Fail> {
     let alloc = rt.alloc();
     let mut world = begun(alloc)?;
-    ask(alloc, &mut world, (1, 1), &Request::EraseOne(named(2, 0)))?;
+    ask(alloc, &mut world, (1, 1), Request::EraseOne(named(2, 0)))?;
     for (g, next, is_alive) in NEXTS {
         assert!(rt; next_at(alloc, &world, g, Cursor::Start)? == next, "at {g}");
         assert!(rt; is_alive_at(&world, g)? == is_alive, "at {g}");
@@ -305,7 +305,7 @@ fn no_other_clause_is_erased(rt: HostRuntime) -> Result<(), Fail> {
 #[test]
 fn no_erasure_behind_a_halt(rt: HostRuntime) -> Result<(), Fail> {
     let mut world = begun(rt.alloc())?;
-    ask(rt.alloc(), &mut world, (1, 1), &Request::HaltRun(44))?;
+    ask(rt.alloc(), &mut world, (1, 1), Request::HaltRun(44))?;
     let replies = erased_twice(rt.alloc(), &mut world, named(2, 0))?;
     assert!(rt; replies == ("stopped", "stopped"));
     assert_eq!(rt; world.front(), 4);
@@ -321,7 +321,7 @@ fn no_erasure_before_a_start(rt: HostRuntime) -> Result<(), Fail> {
     let early = erased_twice(alloc, &mut world, named(0, 0))?;
     assert!(rt; early == ("no erasure yet", "no erasure yet"));
     assert_eq!(rt; world.front(), 1);
-    ask(alloc, &mut world, (1, 0), &Request::Start)?;
+    ask(alloc, &mut world, (1, 0), Request::Start)?;
     let late = erased_twice(alloc, &mut world, named(0, 0))?;
     assert!(rt; late == ("erased", "gone"));
     Ok(())
@@ -332,10 +332,10 @@ fn left_twice(
     alloc: Global,
     world: &mut World,
 ) -> Result<(&'static str, &'static str, &'static str), AllocError> {
-    let first = ask(alloc, world, (1, 1), &Request::Leave)?;
-    let second = ask(alloc, world, (1, 1), &Request::Leave)?;
+    let first = ask(alloc, world, (1, 1), Request::Leave)?;
+    let second = ask(alloc, world, (1, 1), Request::Leave)?;
     let publish = Request::Publish(Batch::new(Vec::new(alloc)));
-    let behind = ask(alloc, world, (1, 1), &publish)?;
+    let behind = ask(alloc, world, (1, 1), publish)?;
     Ok((first, second, behind))
 }
 
@@ -352,7 +352,7 @@ fn is_left_last(entries: &[Entry]) -> bool {
 #[test]
 fn main_leaves_once(rt: HostRuntime) -> Result<(), Fail> {
     let mut world = begun(rt.alloc())?;
-    ask(rt.alloc(), &mut world, (1, 1), &Request::HaltRun(44))?;
+    ask(rt.alloc(), &mut world, (1, 1), Request::HaltRun(44))?;
     let replies = left_twice(rt.alloc(), &mut world)?;
     assert!(rt; replies == ("done", "done", "stopped"));
     assert!(rt; is_left_last(world.close().as_slice()));

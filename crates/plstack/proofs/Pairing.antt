@@ -24,9 +24,6 @@ neck_name = (omega arith, is_utf8-from_IsUtf8 (codes ":-") (IsUtf8-from_ascii (c
 pub neck_nodes : IsTerm (Compound (codes ":-") 2 ∷ Var 0 ∷ Var 1 ∷ [])
 neck_nodes = record { forest = ((neck_name, omega arith, omega arith), omega arith, (tt, omega arith, (tt, omega arith, tt))); one = refl }
 
-pub true_nodes : IsTerm (Atom (codes "true") ∷ [])
-true_nodes = record { forest = (IsName-true, omega arith, tt); one = refl }
-
 pub clause_over : (h : Store) (head body : Cell) → bind (standing h (head ∷ body ∷ [])) (clause_term (var 0) (var 1)) ≡ clause_term (value h head) (value h body)
 unfolding bind
 clause_over h head body = refl

@@ -9,6 +9,7 @@ ghost use Rattle.plenv.specs.Changes.{Puts, Stays};
 ghost use Rattle.plsearch.specs.Lookups.{clause_term};
 
 use plcells::cell::{Argument, Cell};
+use plclause::form::true_term;
 use plenv::env::Environment;
 use plterm::name::Name;
 use plterm::node::Node;
@@ -37,15 +38,6 @@ fn clause_of_two(alloc: Global) -> Result<Term, AllocError>
     Ok(Term::from_prefix(nodes))
 }
 
-/// The atom true.
-fn true_term(alloc: Global) -> Result<Term, AllocError>
-    ensures { IfOk result (λ t. t ≡ atom (codes "true")) }
-{
-    let name = Name::new(alloc, "true")?;
-    let nodes = vec![in alloc; Node::Atom(name)]?;
-    Ok(Term::from_prefix(nodes))
-}
-
 impl Copier {
     /// With no work done.
     pub fn new(alloc: Global) -> Result<Copier, AllocError> {
@@ -57,6 +49,13 @@ impl Copier {
             clause,
             truth,
         })
+    }
+
+    /// The atom true, as a term.
+    pub(crate) fn truth(&self) -> &Term
+        ensures { result.now ≡ atom (codes "true") }
+    {
+        &self.truth
     }
 
     /// Puts a term, whose variable x is what value number x stands for: its value.

@@ -8,6 +8,7 @@ ghost use Rattle.plstack.specs.Arguments.{KeepsArguments};
 
 use crate::stack::Stack;
 use plcells::cell::Cell;
+use plterm::term::Term;
 use std::alloc::AllocError;
 
 impl Stack {
@@ -24,6 +25,13 @@ impl Stack {
         let put = self.copier.put_clause(&mut self.env, head, body);
         let _ = self.env.heap();
         put
+    }
+
+    /// The atom true, as a term.
+    pub fn truth(&self) -> &Term
+        ensures { result.now ≡ atom (codes "true") }
+    {
+        self.copier.truth()
     }
 
     /// Puts the atom true: its value. After an `Err` all stands for what it did.

@@ -53,9 +53,9 @@ impl Draft {
     }
 
     /// Makes an update, alone in its batch, at a place above those of all before it.
-    pub fn add(&mut self, update: Update, place: u64) -> Result<(), AllocError>
+    pub fn add(&mut self, update: &Update, place: u64) -> Result<(), AllocError>
         requires { cut place self.old ≡ self.old }
-        ensures made { OnOk result (self.new ≡ fold keep self.old (stamped place 0 (update ∷ []))) }
+        ensures made { OnOk result (self.new ≡ fold keep self.old (stamped place 0 (update.now ∷ []))) }
         ensures refused { OnErr result (self.new ≡ self.old) }
     {
         let planned = made_plan(update)?;

@@ -1,6 +1,6 @@
 //! Updates with the procedures that they name: what can be refused is taken before anything changes.
 ghost use Rattle.std.specs.Prelude.{◌≡◌, IfOk};
-ghost use Rattle.plstore.specs.Plan.{update_of, updates_of, IsPlanned, AllPlanned};
+ghost use Rattle.plstore.specs.Plan.{put_update, update_of, updates_of, IsPlanned, AllPlanned};
 
 use plclause::clause::Clause;
 use plevent::{ClauseName, Update};
@@ -18,9 +18,9 @@ pub(crate) enum Planned {
     Name(Indicator, Indicator),
 }
 
-/// The plan of updates, in order.
-pub(crate) fn plan(alloc: Global, updates: Vec<Update>) -> Result<Vec<Planned>, AllocError>
-    ensures updates { IfOk result (λ plan. updates_of plan.items ≡ updates.items) }
+/// The plan of updates, in order. It shares their clauses.
+pub(crate) fn plan(alloc: Global, updates: &[Update]) -> Result<Vec<Planned>, AllocError>
+    ensures updates { IfOk result (λ plan. updates_of plan.items ≡ updates.now) }
     ensures planned { IfOk result (λ plan. AllPlanned plan.items) }
 {
     let mut plan = Vec::with_capacity(alloc, updates.len())?;
@@ -31,24 +31,29 @@ pub(crate) fn plan(alloc: Global, updates: Vec<Update>) -> Result<Vec<Planned>, 
 }
 
 /// The plan of one update.
-pub(crate) fn made_plan(update: Update) -> Result<Planned, AllocError>
-    ensures update { IfOk result (λ made. update_of made ≡ update) }
+pub(crate) fn made_plan(update: &Update) -> Result<Planned, AllocError>
+    ensures update { IfOk result (λ made. update_of made ≡ update.now) }
     ensures planned { IfOk result (λ made. IsPlanned made) }
 {
     match update {
-        Update::First(clause) => {
-            let pred = clause.indicator()?;
-            return Ok(Planned::Put(clause, pred, true));
-        }
-        Update::Last(clause) => {
-            let pred = clause.indicator()?;
-            return Ok(Planned::Put(clause, pred, false));
-        }
-        Update::Erase(name) => return Ok(Planned::Drop(name)),
-        Update::EraseOwn(number) => return Ok(Planned::DropOwn(number)),
+        Update::First(clause) => put(clause, true),
+        Update::Last(clause) => put(clause, false),
+        Update::Erase(name) => Ok(Planned::Drop(*name)),
+        Update::EraseOwn(number) => Ok(Planned::DropOwn(*number)),
         Update::Declare(pred) => {
+            let name = pred.copied()?;
             let key = pred.copied()?;
-            return Ok(Planned::Name(pred, key));
+            Ok(Planned::Name(name, key))
         }
     }
+}
+
+/// The plan of a clause that is added, before all others of its procedure or behind them.
+fn put(clause: &Clause, is_first: bool) -> Result<Planned, AllocError>
+    ensures update { IfOk result (λ made. update_of made ≡ put_update is_first clause.now) }
+    ensures planned { IfOk result (λ made. IsPlanned made) }
+{
+    let pred = clause.indicator()?;
+    let copy = clause.copied()?;
+    Ok(Planned::Put(copy, pred, is_first))
 }

@@ -49,17 +49,14 @@ impl Store {
     }
 
     /// Makes the updates of a batch, whose place is above those of all batches before it.
-    pub fn apply(&mut self, alloc: Global, batch: Batch, place: u64) -> Result<(), AllocError>
+    pub fn apply(&mut self, alloc: Global, batch: &Batch, place: u64) -> Result<(), AllocError>
         requires { AllBelowPlace place self.old.records }
-        ensures made { OnOk result (self.new ≡ fold keep self.old (stamped place 0 batch)) }
+        ensures made { OnOk result (self.new ≡ fold keep self.old (stamped place 0 batch.now)) }
         ensures refused { OnErr result (self.new ≡ self.old) }
     {
-        let mut updates = batch.into_vec();
-        if updates.len() == 1 {
-            match updates.pop() {
-                None => unreachable!(),
-                Some(update) => return self.make_one(update, place),
-            }
+        let updates = batch.as_slice();
+        if let [update] = updates {
+            return self.make_one(update, place);
         }
         let plan = plan(alloc, updates)?;
         reserve(&mut self.tables, plan.len())?;
@@ -68,9 +65,9 @@ impl Store {
     }
 
     /// Makes an update that is alone in its batch.
-    fn make_one(&mut self, update: Update, place: u64) -> Result<(), AllocError>
+    fn make_one(&mut self, update: &Update, place: u64) -> Result<(), AllocError>
         requires { AllBelowPlace place self.old.records }
-        ensures made { OnOk result (self.new ≡ keep self.old (record { at = named place 0; update = update })) }
+        ensures made { OnOk result (self.new ≡ keep self.old (record { at = named place 0; update = update.now })) }
         ensures refused { OnErr result (self.new ≡ self.old) }
     {
         let planned = made_plan(update)?;

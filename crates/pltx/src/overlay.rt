@@ -82,9 +82,8 @@ impl Overlay {
         ensures kept { IsOverlay self.new }
     {
         let number = self.updates.len() as u64;
-        let copy = update.copied()?;
         self.updates.reserve(1)?;
-        self.draft.add(copy, number)?;
+        self.draft.add(&update, number)?;
         append(&mut self.updates, update);
         Ok(number)
     }
@@ -295,7 +294,7 @@ fn erase_in(draft: &mut Draft, target: &Target, number: u64) -> Result<(), Alloc
         Target::Committed(_) => return Ok(()),
         Target::Own(own) => {
             let name = draft_name(*own);
-            return draft.add(Update::Erase(name), number);
+            return draft.add(&Update::Erase(name), number);
         }
     }
 }

@@ -21,11 +21,11 @@ pub fn serve(
     store: &Store,
     alloc: Global,
     thread: u32,
-    request: &Request,
+    request: Request,
 ) -> Result<Row, AllocError>
-    ensures { IfOk result (λ r. (h : List Entry) → IsWorld h standing.now store.now → r ≡ served request.now thread (reading h)) }
+    ensures { IfOk result (λ r. (h : List Entry) → IsWorld h standing.now store.now → r ≡ served request thread (reading h)) }
 {
-    if stops(standing, request) {
+    if stops(standing, &request) {
         return Ok((Reply::Stopped, None));
     }
     serve_while(standing, store, alloc, thread, request)
@@ -37,15 +37,14 @@ fn serve_while(
     store: &Store,
     alloc: Global,
     thread: u32,
-    request: &Request,
+    request: Request,
 ) -> Result<Row, AllocError>
-    ensures { IfOk result (λ r. (h : List Entry) → IsWorld h standing.now store.now → r ≡ served_while request.now thread (reading h)) }
+    ensures { IfOk result (λ r. (h : List Entry) → IsWorld h standing.now store.now → r ≡ served_while request thread (reading h)) }
 {
-    if is_of_workers(request) || standing.runs(thread) {
+    if is_of_workers(&request) || standing.runs(thread) {
         return row_of(standing, store, alloc, thread, request);
     }
-    let again = request.copied(alloc)?;
-    Ok((Reply::NotYet(again), None))
+    Ok((Reply::NotYet(request), None))
 }
 
 /// Whether a request is stopped, since a thread has ended the run: each but `Leave`.
@@ -85,23 +84,22 @@ fn row_of(
     store: &Store,
     alloc: Global,
     thread: u32,
-    request: &Request,
+    request: Request,
 ) -> Result<Row, AllocError>
-    ensures { IfOk result (λ r. (h : List Entry) → IsWorld h standing.now store.now → r ≡ row request.now thread (reading h)) }
+    ensures { IfOk result (λ r. (h : List Entry) → IsWorld h standing.now store.now → r ≡ row request thread (reading h)) }
 {
     match request {
         Request::Start => return start_of(standing, alloc),
         Request::Publish(batch) => {
-            let copy = batch.copied(alloc)?;
-            return Ok((Reply::Published, Some((thread, Act::Batch(copy)))));
+            return Ok((Reply::Published, Some((thread, Act::Batch(batch)))));
         }
         Request::EraseOne(name) => {
-            let is_alive = store.alive(standing.size, *name);
-            return erase_of(is_alive, *name, alloc, thread);
+            let is_alive = store.alive(standing.size, name);
+            return erase_of(is_alive, name, alloc, thread);
         }
-        Request::Finish(end) => return finish_of(end, alloc, thread),
+        Request::Finish(end) => return Ok(finish_of(end, thread)),
         Request::HaltRun(number) => {
-            return Ok((Reply::Done, Some((thread, Act::Halt(*number)))));
+            return Ok((Reply::Done, Some((thread, Act::Halt(number)))));
         }
         Request::Leave => return Ok(leave_of(standing, thread)),
     }
@@ -119,14 +117,13 @@ fn erase_of(is_alive: bool, name: ClauseName, alloc: Global, thread: u32) -> Res
 }
 
 /// The row of an end: one that ends the run is asked for by `HaltRun` alone.
-fn finish_of(end: &ThreadEnd, alloc: Global, thread: u32) -> Result<Row, AllocError>
-    ensures { IfOk result (λ r. r ≡ finish_row end.now thread) }
+fn finish_of(end: ThreadEnd, thread: u32) -> Row
+    ensures { result ≡ finish_row end thread }
 {
-    let copy = end.copied(alloc)?;
     match end {
-        ThreadEnd::Halt(_) => return Ok((Reply::NotYet(Request::Finish(copy)), None)),
+        ThreadEnd::Halt(_) => (Reply::NotYet(Request::Finish(end)), None),
         ThreadEnd::True | ThreadEnd::False | ThreadEnd::Exception(_) | ThreadEnd::Budget => {
-            return Ok((Reply::Done, Some((thread, Act::End(copy)))));
+            (Reply::Done, Some((thread, Act::End(end))))
         }
     }
 }

@@ -61,10 +61,10 @@ impl World {
         alloc: Global,
         worker: u32,
         thread: u32,
-        request: &Request,
+        request: Request,
     ) -> Result<Reply, AllocError>
-        ensures reply { IfOk result (λ r. r ≡ reply_in self.old thread request.now) }
-        ensures entry { OnOk result (self.new ≡ record self.old { journal = self.old.journal ++ adds_in self.old worker thread request.now }) }
+        ensures reply { IfOk result (λ r. r ≡ reply_in self.old thread request) }
+        ensures entry { OnOk result (self.new ≡ record self.old { journal = self.old.journal ++ adds_in self.old worker thread request }) }
         ensures refused { OnErr result (self.new ≡ self.old) }
         ensures stays { self.new.stopped ≡ self.old.stopped }
     {
@@ -177,7 +177,6 @@ fn change(
             return Ok(());
         }
         Act::Batch(batch) => {
-            let batch = batch.copied(alloc)?;
             store.apply(alloc, batch, standing.size)?;
             standing.publish();
             return Ok(());

@@ -19,7 +19,7 @@ may_wait s Request.Leave never = never
 pub reply-requires-clause-fits : goal.reply-requires-clause-fits
 reply-requires-clause-fits c =
     let s = c.args.running.now.solver in
-    let q = c.args.request.now in
+    let q = c.args.request in
     (q, c.requires.waits, reply-fits c.args.world.now.journal c.args.running.now.thread q c.in_ok-reply.reply (may_wait s q c.requires.waits) c.requires.runs.runs.going.free (c.in_ok-reply.ensures.reply ∙ replies-in c.args.world.now c.args.running.now.thread q c.requires.serves))
 
 pub returns-clause-runs : goal.returns-clause-runs
@@ -27,7 +27,7 @@ returns-clause-runs c =
     let P = c.args.program.now in
     let old = c.args.running.now.solver in
     let new = c.reply.new.self in
-    let q = c.args.request.now in
+    let q = c.args.request in
     let h = c.args.world.now.journal in
     let later = c.step.new.self.journal in
     let t = c.args.running.now.thread in

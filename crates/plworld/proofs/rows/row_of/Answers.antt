@@ -13,5 +13,5 @@ returns-in-EraseOne c =
     let k = c.args.store.now in
     let x = c.in-EraseOne.name in
     let t = c.args.thread in
-    IfOk-weaker c.erase_of.result (λ r. r ≡ erase_row c.alive-is_alive.result x t) (λ r. (h : List Entry) → IsWorld h s k → r ≡ row c.args.request.now t (reading h))
+    IfOk-weaker c.erase_of.result (λ r. r ≡ erase_row c.alive-is_alive.result x t) (λ r. (h : List Entry) → IsWorld h s k → r ≡ row c.args.request t (reading h))
     (λ r e h w. e ∙ ap (λ b. erase_row b x t) (c.alive-is_alive.ensures ∙ alive-now h s k x w) ∙ ap (λ q. row q t (reading h)) (sym c.in-EraseOne.is)) c.erase_of.ensures

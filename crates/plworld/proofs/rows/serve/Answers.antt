@@ -17,13 +17,13 @@ unfolding served
 served-by b h s k q t w e = ap (λ b. add_if b (Reply.Stopped, None) (served_while q t (reading h))) (sym e ∙ ap (λ s. is_halted s && not (is_leave q)) w.standing)
 
 pub returns-then-stops : goal.returns-then-stops
-returns-then-stops c = λ h w. served-by true h _ _ c.args.request.now c.args.thread w (sym c.stops.ensures ∙ c.if-stops.true)
+returns-then-stops c = λ h w. served-by true h _ _ c.args.request c.args.thread w (sym c.stops.ensures ∙ c.if-stops.true)
 
 pub returns : goal.returns
 returns c =
     let s = c.args.standing.now in
     let k = c.args.store.now in
-    let q = c.args.request.now in
+    let q = c.args.request in
     let t = c.args.thread in
     IfOk-weaker c.serve_while.result (λ r. (h : List Entry) → IsWorld h s k → r ≡ served_while q t (reading h)) (λ r. (h : List Entry) → IsWorld h s k → r ≡ served q t (reading h))
     (λ r e h w. e h w ∙ served-by false h s k q t w (sym c.stops.ensures ∙ c.if-stops.false)) c.serve_while.ensures

@@ -2,21 +2,16 @@ use Rattle.std.proofs.Common.{◌≡◌, ◌∙◌, ap}
 use Rattle.std.specs.Arc.{arc_value}
 use Rattle.plterm.specs.Reading.{spelling}
 use Rattle.plterm.specs.Variables.{seen_after}
-use Rattle.plclause.specs.declared.clause.Parts.{Parts}
-use Rattle.plclause.specs.Clause.{Clause}
 use Rattle.plclause.specs.Soundness.{clause_from}
 use Rattle.plclause.proofs.Numbered.{clause_is_sound}
-use Rattle.plclause.proofs.Seen.{clause_parts_is}
+use Rattle.plclause.proofs.Seen.{as_clause, clause_parts_is}
 use Rattle.plclause.proofs.clause.Clause.new.Goals as goal
 use Rattle.plclause.proofs.clause.Clause.new.Goals.{In_ok-parts}
 
-abbrev part : Parts → Clause
-part p = record { head = p.head; body = p.body; variables = p.variables }
-
 module _ (c : In_ok-parts) where
-  parts : record { head = (arc_value c.in_ok-parts.parts).head; body = (arc_value c.in_ok-parts.parts).body; variables = (arc_value c.in_ok-parts.parts).variables } ≡ clause_from c.args.head.now c.args.goal.now
+  parts : as_clause (arc_value c.in_ok-parts.parts) ≡ clause_from c.args.head.now c.args.goal.now
   parts =
-      ap part c.in_ok-parts.ensures.ok
+      ap as_clause c.in_ok-parts.ensures.ok
       ∙ clause_parts_is c.args.head.now c.args.goal.now c.in_ok-head.head c.in_ok-body.body c.in_ok-head.seen c.in_ok-body.seen c.count-variables.result
       (c.in_ok-head.ensures.seen ∙ ap (λ vs. seen_after vs (spelling c.args.head.now)) c.new.ensures) c.in_ok-body.ensures.seen c.in_ok-head.ensures.tree c.in_ok-body.ensures.tree c.count-variables.ensures
 

@@ -1,4 +1,4 @@
-use Rattle.std.proofs.Common.{◌≡◌, sym, ap, ◌∙◌, ◌||◌, Bool, is_some, List, ℕ}
+use Rattle.std.proofs.Common.{sym, ap, ◌∙◌, ◌||◌, Bool, is_some, List, ℕ}
 use Rattle.plnames.specs.Names.{kind_of, kept, is_among}
 use Rattle.plnames.proofs.table.NameTable.is_fixed.Goals as goal
 

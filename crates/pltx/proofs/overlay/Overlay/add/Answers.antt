@@ -1,6 +1,6 @@
 use Rattle.std.proofs.Common.{◌≡◌, ◌∙◌, sym, ap, fold, ◌++◌, ◌∷◌, [], Some, true, false}
 use Rattle.std.specs.HashMap.{get}
-use Rattle.plevent.specs.Alive.{add_if, stamped}
+use Rattle.plevent.specs.Alive.{add_if}
 use Rattle.plstore.specs.Kept.{keep}
 use Rattle.pltx.specs.Own.{is_target, same_target}
 use Rattle.pltx.proofs.Drafting.{draft-above, drafts-addition, tracked-more}
@@ -18,7 +18,7 @@ returns-clause-kept c =
     let none = addition-none u c.requires.addition in
     record {
       tracked = tracked-more o _ n u c.requires.kept.tracked (c.len-number.ensures ∙ o.updates.ok.0) (c.append.ensures ∙ ap (λ l. l ++ u ∷ []) c.reserve.ensures.items)
-          (c.in_ok-add.ensures.made ∙ ap (λ u. fold keep o.draft (stamped n 0 (u ∷ []))) c.in_ok-copy.ensures ∙ ap (fold keep o.draft) (sym (drafts-addition n u c.requires.addition)))
+          (c.in_ok-add.ensures.made ∙ ap (fold keep o.draft) (sym (drafts-addition n u c.requires.addition)))
           (λ t. sym (ap (λ a. add_if (is_target t a) (Some n) (get same_target o.marks t)) none)) (λ t h. let z : false ≡ true = sym (ap (is_target t) none) ∙ h in absurd (cc));
       closed = λ e. absurd (c.requires.open e);
     }
