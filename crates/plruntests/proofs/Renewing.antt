@@ -1,5 +1,5 @@
 -- A batch of one update, at a place above those before it.
-use Rattle.std.proofs.Common.{◌≡◌, ℕ, ◌+◌, ◌<◌, List, [], ◌∷◌, fold, ap, sym, subst, ◌∙◌, arith}
+use Rattle.std.proofs.Common.{◌≡◌, ℕ, ◌+◌, List, [], ◌∷◌, fold, ap, sym, subst, ◌∙◌, arith}
 use Rattle.plevent.specs.declared.update.Update.{Update}
 use Rattle.plevent.specs.Alive.{stamped, named}
 use Rattle.plstore.specs.Kept.{keep, Kept}

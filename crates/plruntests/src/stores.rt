@@ -181,11 +181,13 @@ fn renew(alloc: Global, store: &mut Store, place: u64) -> Result<(), TermError>
 {
     let mut added = Vec::new(alloc);
     added.push(Update::Last(clause(alloc, "a")?))?;
-    store.apply(alloc, &Batch::new(added), place)?;
+    let addition = Batch::new(added);
+    store.apply(alloc, &addition, place)?;
     let name = ClauseName { place, number: 0 };
     let mut erased = Vec::new(alloc);
     erased.push(Update::Erase(name))?;
-    store.apply(alloc, &Batch::new(erased), place + 1)?;
+    let erasure = Batch::new(erased);
+    store.apply(alloc, &erasure, place + 1)?;
     Ok(())
 }
 

@@ -1,5 +1,5 @@
 -- Steps that are taken in one advance, and what begins by them.
-use Rattle.std.proofs.Common.{◌≡◌, ◌+◌, ◌-◌, ◌≤◌, ap, sym, subst, ◌∙◌, refl, arith}
+use Rattle.std.proofs.Common.{◌≡◌, ◌-◌, ◌≤◌, ap, sym, subst, ◌∙◌, refl, arith}
 use Rattle.plprogram.specs.Program.{Program}
 use Rattle.plsearch.specs.Types.{Move}
 use Rattle.plsearch.specs.Machines.Machine.{Rest}
@@ -12,7 +12,7 @@ use Rattle.plmachine.specs.Machine.{IsPlain, MovedBy, SeeksAnew}
 use Rattle.plmachine.specs.Machine.{Stays as StaysThere}
 use Rattle.plmachine.proofs.Moves.{tied-as}
 use Rattle.plsolver.specs.declared.progress.Progress.{Progress}
-use Rattle.plsolver.specs.Advancing.{AdvancesInPart, AdvancesTo, BeginsBySteps, NoStep, OneMore, SettlesTo, StepsTo, WalksBySteps}
+use Rattle.plsolver.specs.Advancing.{AdvancesTo, BeginsBySteps, NoStep, OneMore, SettlesTo, StepsTo, WalksBySteps}
 use Rattle.plsolver.specs.Asking.{activations, in_cases, Onward}
 use Rattle.plsolver.specs.Solver.{Selects}
 use Rattle.plsolver.proofs.Ending.{ends_same, ends_trans}

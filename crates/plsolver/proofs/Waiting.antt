@@ -35,9 +35,12 @@ use Rattle.plmachine.specs.declared.machine.Machine.{Machine as Reached}
 use Rattle.plmachine.specs.Machine.{below_in, cases_in, depth_of, element_of, local_of, machine, mode_of, now, result_of, run_in, then_of, IsFollowed, IsLast, IsPlain, MayAsk, MayCarry}
 use Rattle.plmachine.proofs.Moves.{machine-is}
 use Rattle.plsolver.specs.declared.progress.Progress.{Progress}
+use Rattle.plsolver.specs.declared.progress.Selected.{Selected}
+use Rattle.plsolver.specs.declared.progress.Due.{Due}
+use Rattle.plsolver.specs.declared.progress.Due.TheVariants as dues
 use Rattle.plsolver.specs.declared.solver.Turn.TheVariants as turns
 use Rattle.plsolver.specs.Says.{Says}
-use Rattle.plsolver.specs.Solver.{after_done, after_reply, next_after, rest_of, Asks as AsksFor, IsOf, IsReplyTo, IsRequestOf, ReplyFits, Waits, WaitsForReply, WaitsForView}
+use Rattle.plsolver.specs.Solver.{after_done, after_reply, next_after, rest_of, Asks as AsksFor, IsNoGoal, IsOf, IsReplyTo, IsRequestOf, ReplyFits, Waits, WaitsForReply, WaitsForView}
 use Rattle.plsolver.proofs.Runs.{at-place}
 
 -- ---- where it waits
@@ -74,6 +77,14 @@ stands P v s x q within at asks = λ n le.
     ∙ ap (λ m. ending_of k (Rest P (meets P (cases_in P v s.machine) e es s.machine.stack.env.count (run_in v (k - s.used) [] s.machine) m))) asks
     ∙ ap (ending_of k) (asks-rest P (cases_in P v s.machine) q (run_in v (k - s.used) [] s.machine))
     ∙ ap (λ u. record { next = Wants q; used = u; out = s.machine.out.items }) few
+
+-- what is no goal
+pub is_no_goal : (d : Due) → ((x : Selected) → d ≡ dues.Goal x → ⊥) → IsNoGoal d
+is_no_goal (dues.Goal x) other = other x refl
+is_no_goal dues.Look other = tt
+is_no_goal dues.Fetch other = tt
+is_no_goal dues.Await other = tt
+is_no_goal dues.Over other = tt
 
 pub says-look : (P : Program) (s : Progress) → s.used ≤ s.limit → WaitsForView s → Says P s turns.Refresh
 unfolding Says meet

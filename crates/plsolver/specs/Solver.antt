@@ -189,6 +189,14 @@ Settled P s dues.Fetch = IsFetching s
 Settled P s dues.Await = Waits s
 Settled P s dues.Over = IsOver P s
 
+-- something other than a goal is due
+abbrev pub IsNoGoal : Due → Type 0
+IsNoGoal (dues.Goal x) = ⊥
+IsNoGoal dues.Look = Unit {0}
+IsNoGoal dues.Fetch = Unit {0}
+IsNoGoal dues.Await = Unit {0}
+IsNoGoal dues.Over = Unit {0}
+
 -- the goal that stands first was selected
 abbrev pub Selects : Program → Reached → Reached → Type 0
 Selects P old new = (k : ℕ) (t : Tree) (rest : List Element) → goals_of old.stack old.stack.goals ≡ GoalOf k t ∷ rest →

@@ -7,11 +7,11 @@ ghost use Rattle.plsearch.specs.Solving.{TakesOne};
 ghost use Rattle.plstack.specs.State.{walks_in};
 ghost use Rattle.plstore.specs.Looking.{Views};
 ghost use Rattle.plmachine.specs.Machine.{result_of};
-ghost use Rattle.plsolver.specs.Solver.{IsOf, Stays, latest_view, rest_of, Waits, ReplyFits, IsOver, IsRequestOf, after_done, after_reply, next_after};
+ghost use Rattle.plsolver.specs.Solver.{IsOf, Stays, latest_view, rest_of, Waits, ReplyFits, IsNoGoal, IsOver, IsRequestOf, Settled, after_done, after_reply, next_after};
 ghost use Rattle.plevent.specs.declared.request.Request.{Request as Requested};
 ghost use Rattle.plsolver.specs.Says.{Says, IsSlice};
 
-use crate::progress::Progress;
+use crate::progress::{Due, Progress};
 use crate::solver::Turn;
 use plevent::request::{Reply, Request, ThreadEnd};
 use plmachine::machine::{Mode, Outcome, Question, Then};
@@ -41,8 +41,26 @@ impl Progress {
         Ok(())
     }
 
+    /// What is said where something other than a goal is due.
+    pub(crate) fn told(&self, program: &Program, due: Due) -> Result<Turn, AllocError>
+        requires of { IsOf program.now self.now.machine }
+        requires within { self.now.used ≤ self.now.limit }
+        requires due { Settled program.now self.now due }
+        requires another { IsNoGoal due }
+        ensures says { IfOk result (λ turn. Says program.now self.now turn) }
+        ensures other { IfOk result (λ turn. IsSlice turn → ⊥) }
+    {
+        match due {
+            Due::Goal(_) => unreachable!(),
+            Due::Look => Ok(Turn::Refresh),
+            Due::Fetch => self.wanted(program),
+            Due::Await => self.asked(program),
+            Due::Over => self.ended(program),
+        }
+    }
+
     /// The request that waits.
-    pub(crate) fn asked(&self, program: &Program) -> Result<Turn, AllocError>
+    fn asked(&self, program: &Program) -> Result<Turn, AllocError>
         requires waits { Waits self.now }
         requires within { self.now.used ≤ self.now.limit }
         ensures says { IfOk result (λ turn. Says program.now self.now turn) }
@@ -56,7 +74,7 @@ impl Progress {
     }
 
     /// The end of the search.
-    pub(crate) fn ended(&self, program: &Program) -> Result<Turn, AllocError>
+    fn ended(&self, program: &Program) -> Result<Turn, AllocError>
         requires over { IsOver program.now self.now }
         requires within { self.now.used ≤ self.now.limit }
         ensures says { IfOk result (λ turn. Says program.now self.now turn) }

@@ -98,19 +98,15 @@ impl Progress {
     {
         let mut left = fuel;
         loop {
-            match self.settle(program)? {
-                Due::Goal(selected) => {
-                    if left == 0 {
-                        return Ok(Turn::Slice);
-                    }
-                    self.step(program, selected)?;
-                    left -= 1;
-                }
-                Due::Look => return Ok(Turn::Refresh),
-                Due::Fetch => return self.wanted(program),
-                Due::Await => return self.asked(program),
-                Due::Over => return self.ended(program),
+            let due = self.settle(program)?;
+            let Due::Goal(selected) = due else {
+                return self.told(program, due);
+            };
+            if left == 0 {
+                return Ok(Turn::Slice);
             }
+            self.step(program, selected)?;
+            left -= 1;
         }
     }
 

@@ -3,8 +3,8 @@ use Rattle.plsolver.specs.Advancing.{AdvancesTo}
 use Rattle.plsolver.specs.Solver.{latest_view, GoesTo, IsOf}
 use Rattle.plsolver.proofs.progress.Progress.advance.Given as goal
 
-abbrev pub invariant-loop-selected : goal.invariant-loop-selected
-invariant-loop-selected l = record {
+abbrev pub invariant-loop-due : goal.invariant-loop-due
+invariant-loop-due l = record {
   goes : GoesTo l.program l.fn.self l.self;
   of : IsOf l.program l.self.machine;
   used : l.self.used + l.left ≡ l.fn.self.used + l.fuel;
@@ -16,5 +16,5 @@ invariant-loop-selected l = record {
   advances : AdvancesTo l.program l.fn.self l.self;
 }
 
-abbrev pub decreases-loop-selected : goal.decreases-loop-selected
-decreases-loop-selected l = l.left
+abbrev pub decreases-loop-due : goal.decreases-loop-due
+decreases-loop-due l = l.left
