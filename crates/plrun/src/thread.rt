@@ -162,6 +162,26 @@ fn finish(
     })
 }
 
+/// Gives a thread its turns up to its end, and tells the world of it. More than 2^64 turns are want of memory.
+fn run(
+    alloc: Global,
+    program: &Program,
+    world: &mut World,
+    running: &mut Running,
+) -> Result<Run, AllocError>
+    requires runs { IsThread program.now world.old.journal running.old }
+    requires serves { IsServing world.old }
+    ensures history { IfOk result (λ run. IsHistory program.now.first (λ t. search_of program.now running.old.solver.limit) running.old.solver.limit world.new.journal (run ∷ [])) }
+    ensures serves { IsServing world.new }
+{
+    'turns: for _ in 0..u64::MAX {
+        if let Some(end) = turn(alloc, program, world, running)? {
+            return finish(alloc, world, running, end);
+        }
+    }
+    Err(AllocError)
+}
+
 /// Runs a thread to its end, by slices of 256 steps, and tells the world of it. More than 2^64 turns are want of memory.
 pub fn run_thread(
     alloc: Global,
@@ -175,10 +195,5 @@ pub fn run_thread(
     ensures serves { IsServing world.new }
 {
     let mut running = running;
-    'turns: for _ in 0..u64::MAX {
-        if let Some(end) = turn(alloc, program, world, &mut running)? {
-            return finish(alloc, world, &running, end);
-        }
-    }
-    Err(AllocError)
+    run(alloc, program, world, &mut running)
 }

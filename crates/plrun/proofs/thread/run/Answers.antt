@@ -4,7 +4,7 @@ use Rattle.plsolver.specs.Solver.{rest_of}
 use Rattle.plrun.specs.Overall.{IsHistory}
 use Rattle.plrun.proofs.Halting.{halts-no-sooner}
 use Rattle.plrun.proofs.Serve.{finished}
-use Rattle.plrun.proofs.thread.run_thread.Goals as goal
+use Rattle.plrun.proofs.thread.run.Goals as goal
 
 if_both : {T E A : Type 0} {B C : T → Type 0} (r : Result T E) → OnOk r A → IfOk r B → ((x : T) → A → B x → C x) → IfOk r C
 if_both (Ok x) a b f = f x a b
