@@ -1,6 +1,6 @@
 //! The table of names.
 
-ghost use Rattle.std.specs.Prelude.{◌≡◌, ◌<◌, ◌≤◌, [], length, IfOk, OnOk, OnErr};
+ghost use Rattle.std.specs.Prelude.{◌≡◌, ◌<◌, ◌≤◌, [], length, IfOk, IfSome, OnOk, OnErr};
 ghost use Rattle.plterm.specs.Reading.{IsName};
 ghost use Rattle.platoms.specs.Names.{Table, IsTable, IsFunctor, Extends, HasAtom, HasFunctor, atom_at, functor_at};
 
@@ -16,11 +16,17 @@ pub struct Functor {
     pub arity: u16,
 }
 
+/// How many names, and functors, that were asked for lately are found without a look-up.
+const RECENT: usize = 64;
+
 /// The names of atoms and the functors of compounds, by number. A table holds fewer than 2^32 of each.
 #[derive(Drop)]
 pub struct Names {
     atoms: IndexSet<Name>,
     functors: IndexSet<Functor>,
+    /// Numbers of names and of functors that were asked for lately, by their places. Nothing but time depends on them.
+    recent_atoms: [u32; RECENT],
+    recent_functors: [u32; RECENT],
 }
 
 impl Model for Names {
@@ -58,6 +64,25 @@ fn copied_functors(
     Ok(copy)
 }
 
+/// Where the number of a name is noted when it was asked for: names of other lengths or with other ends mostly have other places.
+fn place_of_name(name: &str) -> usize
+    ensures { result < 64 }
+{
+    let bytes = name.as_bytes();
+    let ends = match (bytes.first(), bytes.last()) {
+        (Some(first), Some(last)) => usize::from(*first) + 2 * usize::from(*last),
+        _ => 0,
+    };
+    (ends + 16 * (bytes.len() % 4)) % RECENT
+}
+
+/// Where the number of a functor is noted when it was asked for.
+fn place_of_functor(functor: Functor) -> usize
+    ensures { result < 64 }
+{
+    (functor.name as usize + 16 * usize::from(functor.arity % 4)) % RECENT
+}
+
 impl Names {
     /// A table with no names.
     pub fn new(alloc: Global) -> Names
@@ -67,6 +92,8 @@ impl Names {
         Names {
             atoms: IndexSet::new(alloc),
             functors: IndexSet::new(alloc),
+            recent_atoms: [0; RECENT],
+            recent_functors: [0; RECENT],
         }
     }
 
@@ -77,7 +104,12 @@ impl Names {
     {
         let atoms = copied_atoms(alloc, &self.atoms)?;
         let functors = copied_functors(alloc, &self.functors)?;
-        Ok(Names { atoms, functors })
+        Ok(Names {
+            atoms,
+            functors,
+            recent_atoms: self.recent_atoms,
+            recent_functors: self.recent_functors,
+        })
     }
 
     /// The number of a name, which is a new one where the table does not have it. A full table takes no call.
@@ -89,11 +121,36 @@ impl Names {
         ensures table { IsTable self.new }
         ensures err { OnErr result (self.new ≡ self.old) }
     {
+        let recent = place_of_name(name.as_str());
+        if let Some(a) = self.recent_atom(recent, &name) {
+            return Ok(a);
+        }
         if self.atoms.len() >= u32::MAX as usize {
             return Err(AllocError);
         }
         let (place, _) = self.atoms.insert_full(name)?;
+        self.recent_atoms[recent] = place as u32;
         Ok(place as u32)
+    }
+
+    /// The number of a name, if it is the one that was asked for last at a place.
+    fn recent_atom(&self, recent: usize, name: &Name) -> Option<u32>
+        requires { recent < 64 }
+        ensures { IfSome result (λ a. HasAtom self.now a name.now) }
+    {
+        let a = self.recent_atoms[recent];
+        let held = self.atoms.get_index(a as usize)?;
+        if held.is_same(name) { Some(a) } else { None }
+    }
+
+    /// The number of a functor, if it is the one that was asked for last at a place.
+    fn recent_functor(&self, recent: usize, functor: Functor) -> Option<u32>
+        requires { recent < 64 }
+        ensures { IfSome result (λ f. HasFunctor self.now f functor) }
+    {
+        let f = self.recent_functors[recent];
+        let held = *self.functors.get_index(f as usize)?;
+        if held == functor { Some(f) } else { None }
     }
 
     /// The number of a functor, which is a new one where the table does not have it. A full table takes no call.
@@ -105,10 +162,15 @@ impl Names {
         ensures table { IsTable self.new }
         ensures err { OnErr result (self.new ≡ self.old) }
     {
+        let recent = place_of_functor(functor);
+        if let Some(f) = self.recent_functor(recent, functor) {
+            return Ok(f);
+        }
         if self.functors.len() >= u32::MAX as usize {
             return Err(AllocError);
         }
         let (place, _) = self.functors.insert_full(functor)?;
+        self.recent_functors[recent] = place as u32;
         Ok(place as u32)
     }
 

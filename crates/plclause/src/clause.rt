@@ -3,7 +3,7 @@ ghost use Rattle.std.specs.Prelude.{◌≡◌, Some, IfOk, codes};
 ghost use Rattle.plterm.specs.Tree.{atom};
 ghost use Rattle.plterm.specs.Variables.{AllBelow};
 ghost use Rattle.plclause.specs.Conversion.{converted};
-ghost use Rattle.plclause.specs.Soundness.{clause_from, IsCallable};
+ghost use Rattle.plclause.specs.Soundness.{clause_from, IsCallable, IsSound};
 ghost use Rattle.plclause.specs.Indicators.{indicator};
 
 use plterm::indicator::Indicator;
@@ -54,16 +54,7 @@ impl Clause {
     {
         let (head, seen) = head.numbered(alloc, Numbers::new(alloc))?;
         let (body, seen) = goal.numbered(alloc, seen)?;
-        let variables = seen.count();
-        let parts = Arc::new(
-            alloc,
-            Parts {
-                head,
-                body,
-                variables,
-            },
-        )?;
-        Ok(Clause { parts })
+        Clause::shared(alloc, head, body, seen.count())
     }
 
     /// The clause of a head whose body is `true`, with its variables numbered anew. The body shares the name of the term `true` that is given.
@@ -74,15 +65,25 @@ impl Clause {
     {
         let (head, seen) = head.numbered(alloc, Numbers::new(alloc))?;
         let body = truth.copied(alloc)?;
-        let variables = seen.count();
-        let parts = Arc::new(
-            alloc,
-            Parts {
-                head,
-                body,
-                variables,
-            },
-        )?;
+        Clause::shared(alloc, head, body, seen.count())
+    }
+
+    /// The clause of these parts, which are shared from now on.
+    fn shared(
+        alloc: Global,
+        head: Term,
+        body: Term,
+        variables: u64,
+    ) -> Result<Clause, AllocError>
+        requires { IsSound (record { head = head; body = body; variables = variables }) }
+        ensures { IfOk result (λ c. c ≡ record { head = head; body = body; variables = variables }) }
+    {
+        let parts = Parts {
+            head,
+            body,
+            variables,
+        };
+        let parts = Arc::new(alloc, parts)?;
         Ok(Clause { parts })
     }
 

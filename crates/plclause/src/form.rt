@@ -29,8 +29,11 @@ pub enum ClauseForm {
 pub fn clause_of(alloc: Global, term: &Term) -> Result<ClauseForm, AllocError>
     ensures { IfOk result (λ form. form ≡ clausal term.now) }
 {
-    let truth = true_term(alloc)?;
-    clause_with(alloc, term, &truth)
+    let root = term.root();
+    match parted(&root) {
+        Some((head, body)) => form_of(alloc, &head, &body),
+        None => fact_of(alloc, &root, &true_term(alloc)?),
+    }
 }
 
 /// The same for a caller that has the atom `true` as a term: of a head alone, the body is a copy that shares its name.

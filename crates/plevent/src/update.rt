@@ -95,13 +95,6 @@ impl Batch {
         self.updates.as_slice()
     }
 
-    /// The updates, in order, for the caller to keep.
-    pub fn into_vec(self) -> Vec<Update>
-        ensures { result.items ≡ self }
-    {
-        self.updates
-    }
-
     /// The same batch again; it shares its clauses.
     pub fn copied(&self, alloc: Global) -> Result<Batch, AllocError>
         ensures { IfOk result (λ b. b ≡ self.now) }

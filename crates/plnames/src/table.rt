@@ -48,7 +48,7 @@ fn is_among(names: &[(&'static str, u16)], indicator: &Indicator) -> bool
     let name = indicator.name.as_str();
     names
         .iter()
-        .any(|row| indicator.arity == row.1 && name == row.0)
+        .any(|row| indicator.arity == row.1 && name.len() == row.0.len() && name == row.0)
 }
 
 /// The kinds of rows, by name and arity.

@@ -60,7 +60,7 @@ fn batches_and_entries(rt: HostRuntime) -> Result<(), Fail> {
         act: Act::Batch(batch),
     };
     let copy = batch_of(alloc, &entry)?.ok_or("another act")?;
-    assert!(rt; are_one_of_each(copy.into_vec().as_slice()));
+    assert!(rt; are_one_of_each(copy.as_slice()));
     Ok(())
 }
 

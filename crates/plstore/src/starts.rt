@@ -13,18 +13,22 @@ const SPARE: usize = 1024;
 #[derive(Drop)]
 pub(crate) struct Starts {
     numbers: Vec<usize>,
+    /// The place of the last record.
+    last: u64,
 }
 
 impl Starts {
     pub(crate) fn new(alloc: Global) -> Starts {
         Starts {
             numbers: Vec::new(alloc),
+            last: 0,
         }
     }
 
     /// Takes note of one more record, at a place not below those before it. Nothing is noted where there is no memory for it,
     /// or the places are far more than the records.
     pub(crate) fn note(&mut self, place: u64, number: usize) {
+        self.last = place;
         let spans = spans_to(place);
         if number.saturating_add(SPARE) < spans {
             return;
@@ -36,24 +40,27 @@ impl Starts {
         }
     }
 
-    /// Forgets the spans that begin above a place.
+    /// Forgets the spans that begin above a place, which is that of the last record now.
     pub(crate) fn forget_above(&mut self, place: u64) {
+        self.last = place;
         self.numbers.truncate(spans_to(place));
     }
 
-    /// Where the record of a name may stand among so many, as if the places of its span had equally many.
+    /// Where the record of a name may stand among so many: the last ones are of the last place.
     pub(crate) fn guess(&self, name: ClauseName, count: usize) -> usize {
-        let number = name.number as usize;
         match name.place.checked_sub(1) {
-            None => number,
-            Some(place) => {
-                let span = (place / SPAN) as usize;
-                let low = self.before(span, count);
-                let among = self.before(span.saturating_add(1), count).wrapping_sub(low);
-                let share = among.wrapping_mul((place % SPAN) as usize) / SPAN as usize;
-                low.wrapping_add(share).wrapping_add(number)
-            }
+            None => name.number as usize,
+            Some(_) if name.place == self.last => count.wrapping_sub(1),
+            Some(before) => self.guess_within(before, count).wrapping_add(name.number as usize),
         }
+    }
+
+    /// Where the records of the place behind one may begin, as if the places of its span had equally many.
+    fn guess_within(&self, before: u64, count: usize) -> usize {
+        let span = (before / SPAN) as usize;
+        let low = self.before(span, count);
+        let among = self.before(span.saturating_add(1), count).wrapping_sub(low);
+        low.wrapping_add(among.wrapping_mul((before % SPAN) as usize) / SPAN as usize)
     }
 
     /// How many of so many records there are before a span; all, where it is not noted.
