@@ -69,12 +69,7 @@ impl Clause {
     }
 
     /// The clause of these parts, which are shared from now on.
-    fn shared(
-        alloc: Global,
-        head: Term,
-        body: Term,
-        variables: u64,
-    ) -> Result<Clause, AllocError>
+    fn shared(alloc: Global, head: Term, body: Term, variables: u64) -> Result<Clause, AllocError>
         requires { IsSound (record { head = head; body = body; variables = variables }) }
         ensures { IfOk result (λ c. c ≡ record { head = head; body = body; variables = variables }) }
     {

@@ -46,9 +46,7 @@ fn is_among(names: &[(&'static str, u16)], indicator: &Indicator) -> bool
     ensures { result ≡ list_any (λ n. is_named indicator.now n.0.now n.1) names.now }
 {
     let name = indicator.name.as_str();
-    names
-        .iter()
-        .any(|row| indicator.arity == row.1 && name.len() == row.0.len() && name == row.0)
+    names.iter().any(|row| indicator.arity == row.1 && name.len() == row.0.len() && name == row.0)
 }
 
 /// The kinds of rows, by name and arity.

@@ -51,7 +51,9 @@ impl Starts {
         match name.place.checked_sub(1) {
             None => name.number as usize,
             Some(_) if name.place == self.last => count.wrapping_sub(1),
-            Some(before) => self.guess_within(before, count).wrapping_add(name.number as usize),
+            Some(before) => self
+                .guess_within(before, count)
+                .wrapping_add(name.number as usize),
         }
     }
 
