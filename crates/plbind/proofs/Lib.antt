@@ -2,3 +2,4 @@ mod Work
 mod Verdicts
 mod Progressing
 mod Giving
+pub mod Clashing

@@ -1,6 +1,6 @@
 //! Terms copied to the heap, and the terms that clause/2 and retract/1 put around what they copy.
 ghost use Rattle.std.specs.Prelude.{◌≡◌, codes, length, IfOk, OnErr};
-ghost use Rattle.plterm.specs.Tree.{atom, var};
+ghost use Rattle.plterm.specs.Tree.{atom};
 ghost use Rattle.plterm.specs.Variables.{AllBelow};
 ghost use Rattle.plsubst.specs.Subst.{bind};
 ghost use Rattle.plcells.specs.Putting.{standing};
@@ -12,41 +12,35 @@ use plcells::cell::{Argument, Cell};
 use plclause::form::true_term;
 use plenv::env::Environment;
 use plterm::name::Name;
-use plterm::node::Node;
 use plterm::term::Term;
 use std::alloc::{AllocError, Global};
 
-/// Room for the work of copying terms, which keeps its memory between calls, and two terms that are copied often.
+/// Room for the work of copying terms, which keeps its memory between calls, and names and a term that are put often.
 #[derive(Drop)]
 pub struct Copier {
     pub(crate) alloc: Global,
     stack: Vec<Argument>,
-    /// The clause whose head is variable 0 and whose body is variable 1, as a term.
-    clause: Term,
-    /// The atom true.
+    /// The name of a clause as a term.
+    neck: Name,
+    /// The name of the atom true, and the atom as a term.
+    yes: Name,
     truth: Term,
-    ghost is_clause: { clause ≡ clause_term (var 0) (var 1) },
+    ghost is_neck: { neck ≡ codes ":-" },
+    ghost is_yes: { yes ≡ codes "true" },
     ghost is_truth: { truth ≡ atom (codes "true") },
-}
-
-/// The clause whose head is variable 0 and whose body is variable 1, as a term.
-fn clause_of_two(alloc: Global) -> Result<Term, AllocError>
-    ensures { IfOk result (λ t. t ≡ clause_term (var 0) (var 1)) }
-{
-    let neck = Name::new(alloc, ":-")?;
-    let nodes = vec![in alloc; Node::Compound(neck, 2), Node::Var(0), Node::Var(1)]?;
-    Ok(Term::from_prefix(nodes))
 }
 
 impl Copier {
     /// With no work done.
     pub fn new(alloc: Global) -> Result<Copier, AllocError> {
-        let clause = clause_of_two(alloc)?;
+        let neck = Name::new(alloc, ":-")?;
+        let yes = Name::new(alloc, "true")?;
         let truth = true_term(alloc)?;
         Ok(Copier {
             alloc,
             stack: Vec::new(alloc),
-            clause,
+            neck,
+            yes,
             truth,
         })
     }
@@ -75,7 +69,7 @@ impl Copier {
 
     /// Puts `Head :- Body` of the values of a head and a body: its value.
     pub(crate) fn put_clause(
-        &mut self,
+        &self,
         env: &mut Environment,
         head: Cell,
         body: Cell,
@@ -85,14 +79,14 @@ impl Copier {
         ensures ok { IfOk result (λ v. Puts env.old env.new v (clause_term (value env.old.heap head) (value env.old.heap body))) }
         ensures err { OnErr result (Stays env.old env.new) }
     {
-        env.put_nodes(&mut self.stack, self.clause.nodes(), &[head, body])
+        env.put_named(&self.neck, &[head, body])
     }
 
     /// Puts the atom true: its value.
-    pub(crate) fn put_true(&mut self, env: &mut Environment) -> Result<Cell, AllocError>
+    pub(crate) fn put_true(&self, env: &mut Environment) -> Result<Cell, AllocError>
         ensures ok { IfOk result (λ v. Puts env.old env.new v (atom (codes "true"))) }
         ensures err { OnErr result (Stays env.old env.new) }
     {
-        env.put_nodes(&mut self.stack, self.truth.nodes(), &[])
+        env.put_atom(&self.yes)
     }
 }

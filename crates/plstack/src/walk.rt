@@ -1,14 +1,15 @@
 //! Walks over the clauses of a procedure: each is copied and tried in its turn (ISO/IEC 13211-1 7.7.7), and one that is to be erased (8.9.3)
 //! is named.
 ghost use Rattle.std.specs.Prelude.{◌≡◌, ◌+◌, ◌≤◌, length, reverse, true, false, None, Some, Option, IfOk, IfSome, IfNone, OnErr, OnOk};
-ghost use Rattle.plsubst.specs.Subst.{shift};
+ghost use Rattle.plterm.specs.Variables.{AllBelow};
+ghost use Rattle.plsubst.specs.Subst.{bind, shift};
 ghost use Rattle.plsubst.specs.Unify.{unify};
 ghost use Rattle.plcells.specs.Putting.{standing};
 ghost use Rattle.plcells.specs.Store.{value, AreValues, IsValue};
 ghost use Rattle.plsearch.specs.Moves.{is_true as is_true_of, resolve};
 ghost use Rattle.plsearch.specs.Lookups.{as_fact};
 ghost use Rattle.plenv.specs.Env.{cut, IsEnv, IsMark, IsWithin};
-ghost use Rattle.plenv.specs.Changes.{Keeps};
+ghost use Rattle.plenv.specs.Changes.{Keeps, Puts, Stays};
 ghost use Rattle.plstack.specs.Places.{clause_by, Database};
 ghost use Rattle.plstack.specs.Frames.{AreOlder, IsLeftSeen, IsSpotSeen};
 ghost use Rattle.plstack.specs.State.{cases_of, depth_in, goals_of, place_of, walks_in, Extends, HasWalk, IsFit, IsList, IsState, RetriesBy, State};
@@ -21,6 +22,7 @@ use crate::frame::{Frame, Marks, Point, Resume, Spot, Use, Walk};
 use crate::list::link_before;
 use crate::open::{count_up, push_frame};
 use crate::stack::Stack;
+use plbind::apart::are_apart;
 use plcells::cell::Cell;
 use plclause::clause::Clause;
 use plenv::env::Environment;
@@ -95,13 +97,32 @@ pub(crate) fn put_head(
     Ok(Head { values, value })
 }
 
+/// Puts a clause's body over the values of its variables: its value. Mostly it is the atom true.
+fn put_told(
+    env: &mut Environment,
+    copier: &mut Copier,
+    body: &Term,
+    values: &[Cell],
+) -> Result<Cell, AllocError>
+    requires below { AllBelow (length values.now) body.now }
+    requires values { AreValues env.old.heap values.now }
+    ensures ok { IfOk result (λ v. Puts env.old env.new v (bind (standing env.old.heap values.now) body.now)) }
+    ensures err { OnErr result (Stays env.old env.new) }
+{
+    if is_true(body) {
+        copier.put_true(env)
+    } else {
+        copier.put(env, body, values)
+    }
+}
+
 /// Puts the term `Head :- Body` of a clause, its variables new.
 fn put_fact(env: &mut Environment, copier: &mut Copier, clause: &Clause) -> Result<Head, AllocError>
     ensures ok { IfOk result (λ h. PutsHead env.old env.new (as_fact clause.now) h.values.items h.value) }
     ensures keeps { Keeps env.old env.new }
 {
     let head = put_head(env, copier, clause)?;
-    let body = copier.put(env, clause.body(), &head.values)?;
+    let body = put_told(env, copier, clause.body(), &head.values)?;
     let value = copier.put_clause(env, head.value, body)?;
     Ok(Head {
         values: head.values,
@@ -161,6 +182,17 @@ fn put_body(
     }
 }
 
+/// Whether a goal is seen to have no unifier with the head of a clause that it calls, without putting that.
+fn is_apart(env: &Environment, goal: Cell, next: &Candidate) -> bool
+    requires { IsValue env.now.heap goal }
+    ensures { result ≡ true → unify (value env.now.heap goal) (shift env.now.count (clause_by next.now.uses next.now.clause).head) ≡ None }
+{
+    match next.uses {
+        Use::Call => are_apart(env.heap(), goal, &next.clause.head().root()),
+        Use::Tell | Use::Erase => false,
+    }
+}
+
 /// Resolves a goal against a clause, its variables new: what is left to do, if they fit. Where they do not, or memory gives out,
 /// an undo to a mark in use gives back what was changed.
 fn try_copy(
@@ -174,6 +206,9 @@ fn try_copy(
     ensures none { IfOk result (λ o. IfNone o (unify (value env.old.heap goal) (shift env.old.count (clause_by next.now.uses next.now.clause).head) ≡ None)) }
     ensures keeps { Keeps env.old env.new }
 {
+    if is_apart(env, goal, next) {
+        return Ok(None);
+    }
     let head = put_tried(env, copier, next)?;
     if !env.unify_in_choice(goal, head.value)? {
         return Ok(None);

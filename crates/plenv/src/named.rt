@@ -1,0 +1,62 @@
+//! Atoms and compounds put by their names.
+ghost use Rattle.std.specs.Prelude.{◌≡◌, ◌<◌, ◌≤◌, length, map, IfOk, OnErr};
+ghost use Rattle.plterm.specs.Reading.{IsName};
+ghost use Rattle.plterm.specs.Tree.{atom, compound, trees};
+ghost use Rattle.plcells.specs.Putting.{PutsTerm};
+ghost use Rattle.plcells.specs.Store.{renamed, value, AreValues, Preserves};
+ghost use Rattle.plenv.specs.Changes.{Puts, Stays};
+
+use crate::env::Environment;
+use plcells::cell::Cell;
+use plcells::heap::Heap;
+use plterm::name::Name;
+use std::alloc::AllocError;
+
+/// Puts an atom on a heap: its value.
+fn atom_on(heap: &mut Heap, name: &Name) -> Result<Cell, AllocError>
+    requires { IsName name.now }
+    ensures ok { IfOk result (λ v. PutsTerm heap.old heap.new v (atom name.now)) }
+    ensures preserves { Preserves heap.old heap.new }
+    ensures err { OnErr result (heap.new ≡ renamed heap.old heap.new.names) }
+{
+    let name = name.copied()?;
+    let a = heap.atom(name)?;
+    Ok(Cell::Atom(a))
+}
+
+/// Puts a compound of values on a heap: its value.
+fn compound_on(heap: &mut Heap, name: &Name, values: &[Cell]) -> Result<Cell, AllocError>
+    requires name { IsName name.now }
+    requires some { 0 < length values.now }
+    requires few { length values.now ≤ 1024 }
+    requires values { AreValues heap.old values.now }
+    ensures ok { IfOk result (λ v. PutsTerm heap.old heap.new v (compound name.now (trees (map (value heap.old) values.now)))) }
+    ensures preserves { Preserves heap.old heap.new }
+    ensures err { OnErr result (heap.new ≡ renamed heap.old heap.new.names) }
+{
+    let f = heap.functor_named(name, values.len() as u16)?;
+    heap.compound(f, values)
+}
+
+impl Environment {
+    /// Puts an atom: its value.
+    pub fn put_atom(&mut self, name: &Name) -> Result<Cell, AllocError>
+        requires { IsName name.now }
+        ensures ok { IfOk result (λ v. Puts self.old self.new v (atom name.now)) }
+        ensures err { OnErr result (Stays self.old self.new) }
+    {
+        atom_on(&mut self.heap, name)
+    }
+
+    /// Puts a compound of values: its value.
+    pub fn put_named(&mut self, name: &Name, values: &[Cell]) -> Result<Cell, AllocError>
+        requires name { IsName name.now }
+        requires some { 0 < length values.now }
+        requires few { length values.now ≤ 1024 }
+        requires values { AreValues self.old.heap values.now }
+        ensures ok { IfOk result (λ v. Puts self.old self.new v (compound name.now (trees (map (value self.old.heap) values.now)))) }
+        ensures err { OnErr result (Stays self.old self.new) }
+    {
+        compound_on(&mut self.heap, name, values)
+    }
+}
