@@ -38,3 +38,15 @@ fn names_by_number(rt: HostRuntime) -> Result<(), Fail> {
     assert!(rt; functor_of(alloc, &mut names, "b")? == (1, 0, true));
     Ok(())
 }
+
+// Names of one length that begin and end alike, asked for in turns, keep their numbers.
+#[test]
+fn names_that_are_alike(rt: HostRuntime) -> Result<(), Fail> {
+    let alloc = rt.alloc();
+    let mut names = Names::new(alloc);
+    assert_eq!(rt; number_of(alloc, &mut names, "axb")?, 0);
+    assert_eq!(rt; number_of(alloc, &mut names, "ayb")?, 1);
+    assert_eq!(rt; number_of(alloc, &mut names, "axb")?, 0);
+    assert_eq!(rt; number_of(alloc, &mut names, "ayb")?, 1);
+    Ok(())
+}

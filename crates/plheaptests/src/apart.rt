@@ -1,0 +1,44 @@
+//! Terms that are seen to be apart from a value.
+use crate::made::{empty, put_text};
+use plbind::apart::are_apart;
+use plload::goal::read_goal;
+use std::alloc::Global;
+use std::test::Fail;
+
+/// A value and a term, and whether they are seen to be apart: by an argument that is no variable, and no further in.
+const APART: [(&str, &str, bool); 15] = [
+    ("f(X, b)", "f(a, c)", true),
+    ("f(X, b)", "f(a, b)", false),
+    ("f(X, b)", "f(a, Y)", false),
+    ("f(X, X)", "f(a, b)", false),
+    ("f(a)", "f(1)", true),
+    ("f(a)", "f(g(a))", true),
+    ("f(1)", "f(1)", false),
+    ("f(1)", "f(2)", true),
+    ("f(1)", "f(a)", true),
+    ("f(1)", "f(g(1))", true),
+    ("f(4294967296)", "f(4294967296)", false),
+    ("f(4294967296)", "f(0)", true),
+    ("f(g(a))", "f(a)", true),
+    ("f(g(a))", "f(1)", true),
+    ("f(g(a))", "f(g(b))", false),
+];
+
+/// Whether the value of a text and the term of another one are seen to be apart.
+fn apart(alloc: Global, value: &str, text: &str) -> Result<bool, Fail> {
+    let mut env = empty(alloc);
+    let v = put_text(&mut env, alloc, value)?;
+    let Some(term) = read_goal(alloc, text)? else {
+        return Err("no goal".into());
+    };
+    Ok(are_apart(env.heap(), v, &term.root()))
+}
+
+#[test]
+fn rows_of_what_is_apart(rt: HostRuntime) -> Result<(), Fail> {
+    let alloc = rt.alloc();
+    for (value, text, wanted) in APART {
+        assert!(rt; apart(alloc, value, text)? == wanted, "{value} and {text}");
+    }
+    Ok(())
+}
