@@ -1,12 +1,10 @@
-use Rattle.std.proofs.Common.{map}
 use Rattle.std.proofs.lemmas.Result.{IfOk-weaker, on_err_weaker}
-use Rattle.plterm.specs.Tree.{Tree, atom, compound, trees}
-use Rattle.plcells.specs.Store.{value}
+use Rattle.plterm.specs.Tree.{Tree, atom}
 use Rattle.plcells.specs.Putting.{PutsTerm}
 use Rattle.plenv.specs.Env.{Env}
 use Rattle.plenv.proofs.Putting.{stays-grown}
 use Rattle.plenv.proofs.Terms.{slots-given, puts-given}
-use Rattle.plenv.proofs.named.Environment.put_atom.Goals as goal
+use Rattle.plenv.proofs.env.Environment.put_atom.Goals as goal
 
 pub invariant_of-self : goal.invariant_of-self
 invariant_of-self c =
