@@ -1,5 +1,5 @@
 -- A head and a body as one term, put over their values.
-use Rattle.std.proofs.Common.{◌≡◌, ◌∙◌, zero, suc, true, List, [], ◌∷◌, codes, refl, ap, arith, lit<}
+use Rattle.std.proofs.Common.{◌≡◌, ◌∙◌, zero, suc, true, List, codes, refl, ap, arith, lit<}
 use Rattle.std.proofs.lemmas.Slice.Eq.{bytes_eq-Decides}
 use Rattle.std.specs.Str.{IsAscii}
 use Rattle.std.proofs.lemmas.Str.{is_utf8-from_IsUtf8, IsUtf8-from_ascii}
@@ -7,10 +7,9 @@ use Rattle.plterm.specs.Tree.{Tree, var, int, atom, compound}
 use Rattle.plterm.specs.Reading.{IsName}
 use Rattle.plsubst.specs.Subst.{bind}
 use Rattle.plcells.specs.declared.cell.Cell.{Cell}
-use Rattle.plcells.specs.Store.{Store, value}
+use Rattle.plcells.specs.Store.{Store}
 use Rattle.plcells.specs.Putting.{standing}
 use Rattle.plsearch.specs.Moves.{is_true}
-use Rattle.plsearch.specs.Lookups.{clause_term}
 
 neck_ascii : IsAscii (codes ":-")
 neck_ascii zero = lit< tt
@@ -20,10 +19,6 @@ neck_ascii (suc (suc (suc i))) = lit< tt
 
 pub neck_name : IsName (codes ":-")
 neck_name = (omega arith, is_utf8-from_IsUtf8 (codes ":-") (IsUtf8-from_ascii (codes ":-") neck_ascii))
-
-pub clause_over : (h : Store) (head body : Cell) → bind (standing h (head ∷ body ∷ [])) (clause_term (var 0) (var 1)) ≡ clause_term (value h head) (value h body)
-unfolding bind
-clause_over h head body = refl
 
 true-is : (t : Tree) → is_true t ≡ true → t ≡ atom (codes "true")
 true-is (var v) e = cc

@@ -22,7 +22,6 @@ use Rattle.plstack.specs.declared.frame.Use.{Use}
 use Rattle.plstack.specs.declared.frame.Use.TheVariants as uses
 use Rattle.plstack.specs.Places.{clause_by}
 use Rattle.plstack.specs.Trials.{PutsBody, PutsHead, Resolved}
-use Rattle.plstack.proofs.Pairing.{clause_over}
 use Rattle.plstack.proofs.Renaming.{stays, agrees-renamed}
 
 -- values stay where the terms that they stand for change

@@ -8,7 +8,7 @@ returns-in_err-value-clause-keeps c =
 
 pub returns-clause-ok : goal.returns-clause-ok
 returns-clause-ok c =
-    puts-fact c.args.env.now c.put_head.new.env c.put.new.env c.put_clause.new.env c.args.clause.now c.in_ok-head.head.values.items c.in_ok-head.head.value c.in_ok-body.body c.in_ok-value.value
+    puts-fact c.args.env.now c.put_head.new.env c.put_told.new.env c.put_clause.new.env c.args.clause.now c.in_ok-head.head.values.items c.in_ok-head.head.value c.in_ok-body.body c.in_ok-value.value
     c.in_ok-head.ensures.ok c.body.ensures.below (rw (c.body.ensures.value, c.deref.ensures.value) at c.in_ok-body.ensures.ok) c.in_ok-value.ensures.ok
 
 pub returns-clause-keeps : goal.returns-clause-keeps
