@@ -1,4 +1,4 @@
--- A head and a body as one term, put over their values.
+-- The name of a head and a body as one term, and the atom true over values.
 use Rattle.std.proofs.Common.{◌≡◌, ◌∙◌, zero, suc, true, List, codes, refl, ap, arith, lit<}
 use Rattle.std.proofs.lemmas.Slice.Eq.{bytes_eq-Decides}
 use Rattle.std.specs.Str.{IsAscii}
