@@ -58,5 +58,8 @@ fn main(rt: HostRuntime) -> ExitCode {
         &mut out,
         &NoGate,
     );
-    ended(&rt, report.status)
+    let status = report.status;
+    // The process ends, which gives all memory back at once.
+    std::mem::forget(report.history);
+    ended(&rt, status)
 }
