@@ -7,3 +7,4 @@ pub mod Names
 pub mod Worked
 pub mod Arguments
 pub mod Each
+mod Grounded

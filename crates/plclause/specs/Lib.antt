@@ -6,3 +6,4 @@ pub mod Indicators
 pub mod Goals
 pub mod Lists
 pub mod Named
+pub mod Heads

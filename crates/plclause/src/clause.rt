@@ -57,14 +57,18 @@ impl Clause {
         Clause::shared(alloc, head, body, seen.count())
     }
 
-    /// The clause of a head whose body is `true`, with its variables numbered anew. The body shares the name of the term `true` that is given.
-    pub fn fact(alloc: Global, head: &TermRef<'_>, truth: &Term) -> Result<Clause, AllocError>
-        requires callable { IsCallable head.now }
+    /// The clause of a head whose body is `true`, with its variables numbered anew. The body shares the name of the term `true` that is given;
+    /// a head without variables is kept as it is.
+    pub fn fact(alloc: Global, head: Term, truth: &Term) -> Result<Clause, AllocError>
+        requires callable { IsCallable head }
         requires truth { truth.now ≡ atom (codes "true") }
-        ensures { IfOk result (λ c. c ≡ clause_from head.now (atom (codes "true"))) }
+        ensures { IfOk result (λ c. c ≡ clause_from head (atom (codes "true"))) }
     {
-        let (head, seen) = head.numbered(alloc, Numbers::new(alloc))?;
         let body = truth.copied(alloc)?;
+        if head.is_ground() {
+            return Clause::shared(alloc, head, body, 0);
+        }
+        let (head, seen) = head.root().numbered(alloc, Numbers::new(alloc))?;
         Clause::shared(alloc, head, body, seen.count())
     }
 

@@ -2,6 +2,7 @@
 ghost use Rattle.std.specs.Prelude.{◌≡◌, IfOk, codes};
 ghost use Rattle.plterm.specs.Tree.{atom};
 ghost use Rattle.plclause.specs.Clausal.{clausal, clause_parts, neck_parts};
+ghost use Rattle.plclause.specs.Heads.{head_of};
 
 use crate::clause::Clause;
 use crate::convert::convert;
@@ -32,20 +33,19 @@ pub fn clause_of(alloc: Global, term: &Term) -> Result<ClauseForm, AllocError>
     let root = term.root();
     match parted(&root) {
         Some((head, body)) => form_of(alloc, &head, &body),
-        None => fact_of(alloc, &root, &true_term(alloc)?),
+        None => fact_of(alloc, term.copied(alloc)?, &true_term(alloc)?),
     }
 }
 
-/// The same for a caller that has the atom `true` as a term: of a head alone, the body is a copy that shares its name.
-pub fn clause_with(alloc: Global, term: &Term, truth: &Term) -> Result<ClauseForm, AllocError>
+/// The same for a caller that gives the term away and has the atom `true` as a term: of a head alone, the body is a copy that shares its name.
+pub fn clause_with(alloc: Global, term: Term, truth: &Term) -> Result<ClauseForm, AllocError>
     requires truth { truth.now ≡ atom (codes "true") }
-    ensures { IfOk result (λ form. form ≡ clausal term.now) }
+    ensures { IfOk result (λ form. form ≡ clausal term) }
 {
-    let root = term.root();
-    match parted(&root) {
-        Some((head, body)) => form_of(alloc, &head, &body),
-        None => fact_of(alloc, &root, truth),
+    if let Some((head, body)) = parted(&term.root()) {
+        return form_of(alloc, &head, &body);
     }
+    fact_of(alloc, term, truth)
 }
 
 /// The head and the body of a term `Head :- Body`.
@@ -78,6 +78,24 @@ pub fn true_term(alloc: Global) -> Result<Term, AllocError>
     Ok(Term::from_prefix(nodes))
 }
 
+/// What the head of a clause may be.
+#[derive(Clone, Copy)]
+pub(crate) enum Head {
+    Variable,
+    Number,
+    Callable,
+}
+
+fn head_of(term: &TermRef<'_>) -> Head
+    ensures { result ≡ head_of term.now }
+{
+    match term.shape() {
+        Shape::Var(_) => Head::Variable,
+        Shape::Int(_) => Head::Number,
+        Shape::Atom(_) | Shape::Compound(_, _) => Head::Callable,
+    }
+}
+
 /// The clause of a head and a body.
 fn form_of(alloc: Global, head: &TermRef<'_>, body: &TermRef<'_>) -> Result<ClauseForm, AllocError>
     ensures { IfOk result (λ form. form ≡ clause_parts head.now body.now) }
@@ -94,14 +112,14 @@ fn form_of(alloc: Global, head: &TermRef<'_>, body: &TermRef<'_>) -> Result<Clau
 }
 
 /// The clause of a head alone, whose body is `true`: nothing is converted.
-fn fact_of(alloc: Global, head: &TermRef<'_>, truth: &Term) -> Result<ClauseForm, AllocError>
+fn fact_of(alloc: Global, head: Term, truth: &Term) -> Result<ClauseForm, AllocError>
     requires truth { truth.now ≡ atom (codes "true") }
-    ensures { IfOk result (λ form. form ≡ clause_parts head.now (atom (codes "true"))) }
+    ensures { IfOk result (λ form. form ≡ clause_parts head (atom (codes "true"))) }
 {
-    match head.shape() {
-        Shape::Var(_) => Ok(ClauseForm::NoHead),
-        Shape::Int(_) => Ok(ClauseForm::BadHead(head.copied(alloc)?)),
-        Shape::Atom(_) | Shape::Compound(_, _) => {
+    match head_of(&head.root()) {
+        Head::Variable => Ok(ClauseForm::NoHead),
+        Head::Number => Ok(ClauseForm::BadHead(head)),
+        Head::Callable => {
             let clause = Clause::fact(alloc, head, truth)?;
             Ok(ClauseForm::IsClause(clause))
         }

@@ -1,3 +1,4 @@
+pub mod Batches
 pub mod Alive
 pub mod Reading
 pub mod Rows

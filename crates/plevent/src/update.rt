@@ -1,5 +1,5 @@
 //! Updates of the database, and batches of them.
-ghost use Rattle.std.specs.Prelude.{◌≡◌, IfOk};
+ghost use Rattle.std.specs.Prelude.{◌≡◌, ◌∷◌, [], IfOk};
 
 use plclause::clause::Clause;
 use plterm::indicator::Indicator;
@@ -61,23 +61,31 @@ impl Update {
     }
 }
 
+/// The updates of a batch: mostly it is one.
+#[derive(Drop)]
+pub(crate) enum Held {
+    One(Update),
+    Many(Vec<Update>),
+}
+
 /// Updates that are made at once, in their order.
 #[derive(Drop)]
 pub struct Batch {
-    updates: Vec<Update>,
+    held: Held,
 }
 
 impl Model for Batch {
     ghost use Rattle.std.specs.Prelude.{List};
     ghost use Rattle.plevent.specs.declared.update.Update.{Update};
     ghost use Rattle.std.specs.Coded.{coded_list};
+    ghost use Rattle.plevent.specs.Batches.{updates_held};
     ghost use Rattle.plevent.specs.contracts.update.Update.{the_row};
 
     ghost Value = { List Update };
 
     ghost coded = { coded_list the_row.coded };
 
-    ghost view = { λ a. a.updates.items };
+    ghost view = { λ a. updates_held a.held };
 }
 
 impl Batch {
@@ -85,24 +93,58 @@ impl Batch {
     pub fn new(updates: Vec<Update>) -> Batch
         ensures { result ≡ updates.items }
     {
-        Batch { updates }
+        let mut updates = updates;
+        if updates.len() != 1 {
+            return Batch {
+                held: Held::Many(updates),
+            };
+        }
+        match updates.pop() {
+            Some(update) => Batch::of(update),
+            None => unreachable!(),
+        }
+    }
+
+    /// The batch of one update.
+    pub fn of(update: Update) -> Batch
+        ensures { result ≡ update ∷ [] }
+    {
+        Batch {
+            held: Held::One(update),
+        }
     }
 
     /// The updates, in order.
     pub fn as_slice(&self) -> &[Update]
         ensures { result.now ≡ self.now }
     {
-        self.updates.as_slice()
+        match &self.held {
+            Held::One(update) => std::array::from_ref(update).as_slice(),
+            Held::Many(updates) => updates.as_slice(),
+        }
     }
 
     /// The same batch again; it shares its clauses.
     pub fn copied(&self, alloc: Global) -> Result<Batch, AllocError>
         ensures { IfOk result (λ b. b ≡ self.now) }
     {
-        let mut updates = Vec::with_capacity(alloc, self.updates.len())?;
-        for update in self.updates.as_slice() {
-            updates.push(update.copied()?)?;
+        match &self.held {
+            Held::One(update) => Ok(Batch::of(update.copied()?)),
+            Held::Many(updates) => {
+                let held = Held::Many(copied_all(alloc, updates)?);
+                Ok(Batch { held })
+            }
         }
-        Ok(Batch { updates })
     }
+}
+
+/// The same updates again.
+fn copied_all(alloc: Global, updates: &[Update]) -> Result<Vec<Update>, AllocError>
+    ensures { IfOk result (λ us. us.items ≡ updates.now) }
+{
+    let mut copies = Vec::with_capacity(alloc, updates.len())?;
+    for update in updates {
+        copies.push(update.copied()?)?;
+    }
+    Ok(copies)
 }

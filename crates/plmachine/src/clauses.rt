@@ -61,7 +61,7 @@ impl Machine {
         ensures err { OnErr result (Stays program.now self.old self.new) }
     {
         let term = self.stack.env().heap().take(self.alloc, c)?;
-        match clause_with(self.alloc, &term, self.stack.truth())? {
+        match clause_with(self.alloc, term, self.stack.truth())? {
             ClauseForm::NoHead => {
                 let error = error::instantiation(self.alloc)?;
                 self.raise_of(program, error, source, rest)

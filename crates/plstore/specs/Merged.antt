@@ -15,19 +15,17 @@ use Rattle.plstore.specs.Kept.{seen}
 use Rattle.plstore.specs.Like.{first_like, suits}
 use Rattle.plstore.specs.Links.{Class, Marked}
 use Rattle.plstore.specs.Parts.{after, extent, left, marks, side, whole}
-use Rattle.plstore.specs.Tables.{chain_ends, links_in}
+use Rattle.plstore.specs.Tables.{links_in}
 
 -- each clause of p that may be for a goal of the key is in one of two classes
 unfoldable pub Covers : Class → Class → Indicator → Key → List Record → Type 0
 Covers c d p k rs = (i : ℕ) (r : Record) → i < length rs → suits p k (lives_as (slice_index_or rs i r).name (slice_index_or rs i r).clause) ≡ true →
     (c (slice_index_or rs i r).clause ≡ true) ⊎ (d (slice_index_or rs i r).clause ≡ true)
 
--- two chains with the same links, with their ends, that have each clause that is sought
-pub record IsMerged (t : Tables) (p : Indicator) (k : Key) (m : Merged) : Type 0 where
-  pub own : m.own_ends ≡ chain_ends t p m.own
-  pub any : m.any_ends ≡ chain_ends t p m.any
-  pub links : links_in t m.any ≡ links_in t m.own
-  pub covers : Covers (in_chain p m.own) (in_chain p m.any) p k t.records.items
+-- two chains with the same links that have each clause that is sought
+pub record IsMerged (p : Indicator) (k : Key) (m : Merged) : Type 0 where
+  pub links : (t : Tables) → links_in t m.any ≡ links_in t m.own
+  pub covers : (rs : List Record) → Covers (in_chain p m.own) (in_chain p m.any) p k rs
 
 -- a walk of m records may stand at a record of the class, or be over: it comes to none of the class before that is seen at g
 pub record MayStand (f : Bool) (c : Class) (g : ℕ) (rs : List Record) (m : ℕ) (at : Option ℕ) : Type 0 where

@@ -53,13 +53,18 @@ impl Chain {
     }
 }
 
-/// The chains of a look-up, which together have each clause that is sought, and where they begin and end.
+/// The chains of a look-up, which together have each clause that is sought.
 #[derive(Clone, Copy)]
 pub(crate) struct Merged {
     pub(crate) own: Chain,
-    pub(crate) own_ends: Ends,
     pub(crate) any: Chain,
-    pub(crate) any_ends: Ends,
+}
+
+/// Where the chains of a look-up begin and end.
+#[derive(Clone, Copy)]
+pub(crate) struct MergedEnds {
+    pub(crate) own: Ends,
+    pub(crate) any: Ends,
 }
 
 impl Merged {
@@ -69,30 +74,35 @@ impl Merged {
     {
         matches!((self.own, self.any), (Chain::Procedure, Chain::Procedure))
     }
+
+    /// Where they begin and end.
+    pub(crate) fn ends(&self, tables: &Tables, pred: &Indicator) -> MergedEnds
+        ensures own { result.own ≡ chain_ends tables.now pred.now self.now.own }
+        ensures any { result.any ≡ chain_ends tables.now pred.now self.now.any }
+    {
+        let own = self.own.ends(tables, pred);
+        if self.is_one() {
+            return MergedEnds { own, any: own };
+        }
+        let any = self.any.ends(tables, pred);
+        MergedEnds { own, any }
+    }
 }
 
 /// The chain of the key's slot, and that of the clauses with a variable, or nothing, as their first argument. For a goal of
 /// any key both are the procedure's.
-pub(crate) fn merge(tables: &Tables, sought: &Sought<'_>) -> Merged
-    ensures { IsMerged tables.now sought.now.pred.now sought.now.key.now result }
+pub(crate) fn merge(sought: &Sought<'_>) -> Merged
+    ensures { IsMerged sought.now.pred.now sought.now.key.now result }
 {
     if matches!(sought.key, Key::Any) {
-        let chain = Chain::Procedure;
-        let ends = chain.ends(tables, sought.pred);
         return Merged {
-            own: chain,
-            own_ends: ends,
-            any: chain,
-            any_ends: ends,
+            own: Chain::Procedure,
+            any: Chain::Procedure,
         };
     }
     let slots = Slots::new(sought.pred);
-    let own = Chain::Slot(slots.of_key(sought.key));
-    let any = Chain::Slot(slots.any());
     Merged {
-        own,
-        own_ends: own.ends(tables, sought.pred),
-        any,
-        any_ends: any.ends(tables, sought.pred),
+        own: Chain::Slot(slots.of_key(sought.key)),
+        any: Chain::Slot(slots.any()),
     }
 }

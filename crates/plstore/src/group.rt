@@ -4,14 +4,15 @@ ghost use Rattle.plstore.specs.Runs.{SameRuns};
 
 use crate::runs::Place;
 
-/// A group is a tree of the records of a run, in which the smaller of two that are joined goes below the larger.
+/// A group is a tree of the records of a run, in which the smaller of two that are joined goes below the larger. It tells records by 32 bits of
+/// their numbers: where these are too few a run is passed over in more steps.
 #[derive(Clone, Copy)]
 pub(crate) struct Group {
     /// The record above this one; itself at the top.
-    pub(crate) up: usize,
+    pub(crate) up: u32,
     /// At the top, how many records the group has, and with which one its run begins.
-    pub(crate) size: usize,
-    pub(crate) first: usize,
+    pub(crate) size: u32,
+    pub(crate) first: u32,
 }
 
 /// Two groups that were joined, by their tops, and where the run of the one above began.
@@ -19,28 +20,33 @@ pub(crate) struct Group {
 pub(crate) struct United {
     low: usize,
     top: usize,
-    first: usize,
+    first: u32,
+}
+
+/// The number of a record in 32 bits, as far as these go.
+pub(crate) fn short(number: usize) -> u32 {
+    (number % (1 << 32)) as u32
 }
 
 /// The group of a record alone.
 pub(crate) fn alone(number: usize) -> Group {
     Group {
-        up: number,
+        up: short(number),
         size: 1,
-        first: number,
+        first: short(number),
     }
 }
 
 /// The first record of the run that one is in; itself where it is not erased.
 pub(crate) fn first_of(places: &[Place], number: usize) -> usize {
-    group_at(places, top_of(places, number)).first
+    group_at(places, top_of(places, number)).first as usize
 }
 
 /// The top of its group. No tree is higher than there are bits in a number.
 fn top_of(places: &[Place], number: usize) -> usize {
     let mut at = number;
     for _ in 0..usize::BITS {
-        let up = group_at(places, at).up;
+        let up = group_at(places, at).up as usize;
         if up == at {
             return at;
         }
@@ -75,14 +81,21 @@ pub(crate) fn unite(places: &mut [Place], first: usize, last: usize) -> United
     } else {
         was.size.wrapping_add(below.size)
     };
-    set_group(places, low, Group { up: top, ..below });
+    set_group(
+        places,
+        low,
+        Group {
+            up: short(top),
+            ..below
+        },
+    );
     set_group(
         places,
         top,
         Group {
-            up: top,
+            up: short(top),
             size,
-            first,
+            first: short(first),
         },
     );
     United {
@@ -104,12 +117,19 @@ pub(crate) fn separate(places: &mut [Place], united: &United)
     } else {
         above.size.wrapping_sub(below.size)
     };
-    set_group(places, low, Group { up: low, ..below });
+    set_group(
+        places,
+        low,
+        Group {
+            up: short(low),
+            ..below
+        },
+    );
     set_group(
         places,
         top,
         Group {
-            up: top,
+            up: short(top),
             size,
             first: united.first,
         },

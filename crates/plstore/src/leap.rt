@@ -1,6 +1,7 @@
 //! Leaps: links over many records of a side, by which one close to another is found. Nothing but time depends on them.
 ghost use Rattle.std.specs.Prelude.{◌<◌, IfSome};
 
+use crate::group::short;
 use crate::links::Links;
 use crate::runs::{Place, passed_from};
 
@@ -8,27 +9,30 @@ use crate::runs::{Place, passed_from};
 /// about log n steps.
 #[derive(Clone, Copy)]
 pub(crate) struct Leap {
-    pub(crate) to: usize,
-    pub(crate) over: usize,
+    pub(crate) to: u32,
+    pub(crate) over: u32,
 }
 
 /// The leap of one more record: over the last two leaps where they are as wide as one another, else to the record before.
 pub(crate) fn leap_over(places: &[Place], older: Option<usize>, number: usize) -> Leap {
     match older {
         None => Leap {
-            to: number,
+            to: short(number),
             over: 0,
         },
         Some(to) => {
             let last = leap_at(places, to);
-            let second = leap_at(places, last.to);
+            let second = leap_at(places, last.to as usize);
             if last.over == second.over {
                 Leap {
                     to: second.to,
                     over: last.over.wrapping_add(last.over).wrapping_add(1),
                 }
             } else {
-                Leap { to, over: 1 }
+                Leap {
+                    to: short(to),
+                    over: 1,
+                }
             }
         }
     }
@@ -39,7 +43,7 @@ fn leap_at(places: &[Place], number: usize) -> Leap {
         places[number].leap
     } else {
         Leap {
-            to: number,
+            to: short(number),
             over: 0,
         }
     }
@@ -69,9 +73,9 @@ fn lowest_above(links: &Links, front: bool, newest: usize, number: usize) -> usi
 fn lower(links: &Links, front: bool, at: usize, number: usize) -> Option<usize>
     ensures { IfSome result (λ to. to < at) }
 {
-    let leap = leap_at(links.places.as_slice(), at);
-    if number < leap.to && leap.to < at {
-        return Some(leap.to);
+    let to = leap_at(links.places.as_slice(), at).to as usize;
+    if number < to && to < at {
+        return Some(to);
     }
     let below = older(links, front, at)?;
     if number < below && below < at {
@@ -86,6 +90,6 @@ fn older(links: &Links, front: bool, number: usize) -> Option<usize> {
     if front {
         *links.next.get(number)?
     } else {
-        links.places.get(number)?.from
+        links.places.get(number)?.before()
     }
 }

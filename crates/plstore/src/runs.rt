@@ -8,7 +8,7 @@ ghost use Rattle.plstore.specs.Runs.{end_at, no_place, HasRuns, IsGone, IsRun, S
 ghost use Rattle.plstore.specs.Trail.{HadRun, HadRuns, MoreRuns, OneRun, WasRun};
 
 use crate::ends::Ends;
-use crate::group::{Group, United, alone, first_of, separate, unite};
+use crate::group::{Group, United, alone, first_of, separate, short, unite};
 use crate::leap::{Leap, leap_over};
 
 /// Erased records of one side of a class that follow one another: from one on up to `last`, each erased by a batch at
@@ -24,10 +24,28 @@ pub(crate) struct Run {
 pub(crate) struct Place {
     /// The run that begins here.
     pub(crate) run: Option<Run>,
-    /// The record whose link leads here. Nothing but time depends on it, nor on those below.
-    pub(crate) from: Option<usize>,
+    /// 32 bits of the number of the record whose link leads here. Nothing but time depends on it, nor on those below.
+    pub(crate) from: Option<u32>,
     pub(crate) group: Group,
     pub(crate) leap: Leap,
+}
+
+impl Place {
+    /// The record whose link leads here.
+    pub(crate) fn before(&self) -> Option<usize> {
+        match self.from {
+            Some(number) => Some(number as usize),
+            None => None,
+        }
+    }
+}
+
+/// The number of a record in 32 bits.
+fn narrow(number: Option<usize>) -> Option<u32> {
+    match number {
+        Some(number) => Some(short(number)),
+        None => None,
+    }
 }
 
 /// A run that was noted, with what was noted before.
@@ -101,7 +119,7 @@ fn bury_in(places: &mut [Place], next: &[Option<usize>], number: usize, place: u
 
 /// Where the run begins that ends with the record before this one, if that is erased.
 fn start_before(places: &[Place], number: usize) -> Option<usize> {
-    let before = places.get(number)?.from?;
+    let before = places.get(number)?.before()?;
     Some(first_of(places, before))
 }
 
@@ -217,7 +235,7 @@ fn set_from(places: &mut [Place], number: usize, from: Option<usize>)
     ensures same { SameRuns places.old places.new }
 {
     if number < places.len() {
-        places[number].from = from;
+        places[number].from = narrow(from);
     }
 }
 
@@ -260,6 +278,7 @@ fn append(places: &mut Vec<Place>, from: Option<usize>, number: usize, leap: Lea
     ensures room { vec_capacity places.old ≤ vec_capacity places.new }
     ensures len { vec_len places.new ≡ vec_len places.old + 1 }
 {
+    let from = narrow(from);
     let place = Place {
         run: None,
         from,

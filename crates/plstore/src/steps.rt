@@ -1,5 +1,5 @@
 //! From one clause of a walk to the next.
-ghost use Rattle.std.specs.Prelude.{◌≡◌, ◌<◌, IfSome, length};
+ghost use Rattle.std.specs.Prelude.{◌≡◌, ◌<◌, IfSome, false, length};
 ghost use Rattle.plevent.specs.declared.update.ClauseName.{ClauseName as Named};
 ghost use Rattle.plstore.specs.Kept.{behind_all, picked, walk};
 ghost use Rattle.plstore.specs.Like.{first_like, past};
@@ -12,7 +12,7 @@ use crate::named::find;
 use crate::part::Part;
 use crate::sought::Sought;
 use crate::tables::Tables;
-use crate::walk::{record_at, seek};
+use crate::walk::{heads, heads_behind, record_at, seek};
 use plevent::ClauseName;
 
 /// The name of the first clause that is sought.
@@ -29,10 +29,14 @@ fn sought_from(tables: &Tables, sought: &Sought<'_>, part: Part) -> Option<Claus
     requires within { IfSome part.behind (λ i. i < length tables.now.records.items) }
     ensures { result ≡ found_from sought.now tables.now.records.items part }
 {
-    let merged = merge(tables, sought);
-    let found = seek(tables, sought, &merged, part);
+    let merged = merge(sought);
+    let ends = merged.ends(tables, sought.pred);
+    let here = heads(tables, sought, &merged, &ends, part);
+    let found = seek(tables, sought, &merged, part, here);
     if part.front && found.is_none() {
-        return seek(tables, sought, &merged, Part::whole(false));
+        let behind = Part::whole(false);
+        let there = heads(tables, sought, &merged, &ends, behind);
+        return seek(tables, sought, &merged, behind, there);
     }
     found
 }
@@ -77,5 +81,22 @@ fn sought_behind(tables: &Tables, sought: &Sought<'_>, number: usize) -> Option<
         front: one.front,
         behind: Some(number),
     };
+    if !part.front {
+        return found_behind(tables, sought, part);
+    }
     sought_from(tables, sought, part)
+}
+
+/// The name of the first one of a part behind a record that was put behind.
+fn found_behind(tables: &Tables, sought: &Sought<'_>, part: Part) -> Option<ClauseName>
+    requires back { part.front ≡ false }
+    requires chained { Chained tables.now }
+    requires within { IfSome part.behind (λ i. i < length tables.now.records.items) }
+    ensures { result ≡ found_from sought.now tables.now.records.items part }
+{
+    let merged = merge(sought);
+    let Some(at) = heads_behind(tables, sought, &merged, part) else {
+        return sought_from(tables, sought, part);
+    };
+    seek(tables, sought, &merged, part, at)
 }

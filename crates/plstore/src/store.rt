@@ -11,7 +11,7 @@ use crate::plan::{made_plan, plan};
 use crate::query::{Found, Query};
 use crate::record::{Cursor, Declared, Record};
 use crate::sought::Sought;
-use crate::tables::{Tables, make, make_all, reserve};
+use crate::tables::{Tables, erase, make, make_all, reserve};
 use plclause::clause::Clause;
 use plevent::{Batch, ClauseName, Key, Update};
 use plterm::indicator::Indicator;
@@ -64,12 +64,16 @@ impl Store {
         Ok(())
     }
 
-    /// Makes an update that is alone in its batch.
+    /// Makes an update that is alone in its batch. An erasure takes no memory.
     fn make_one(&mut self, update: &Update, place: u64) -> Result<(), AllocError>
         requires { AllBelowPlace place self.old.records }
         ensures made { OnOk result (self.new ≡ keep self.old (record { at = named place 0; update = update.now })) }
         ensures refused { OnErr result (self.new ≡ self.old) }
     {
+        if let Update::Erase(name) = update {
+            erase(&mut self.tables, *name, place);
+            return Ok(());
+        }
         let planned = made_plan(update)?;
         reserve(&mut self.tables, 1)?;
         make(&mut self.tables, ClauseName { place, number: 0 }, planned);

@@ -6,7 +6,7 @@ ghost use Rattle.plstore.specs.Merged.{found, IsMerged, MayBegin, MayStand};
 ghost use Rattle.plstore.specs.Parts.{extent, marks};
 ghost use Rattle.plstore.specs.Tables.{chain_ends, Chained};
 
-use crate::chain::{Chain, Merged};
+use crate::chain::{Chain, Merged, MergedEnds};
 use crate::ends::Ends;
 use crate::leap::near;
 use crate::part::{Heads, Part};
@@ -15,21 +15,24 @@ use crate::sought::Sought;
 use crate::tables::Tables;
 use plevent::ClauseName;
 
-/// The name of the first clause of a part that is sought.
+/// The name of the first clause of a part that is sought, from where a walk over it may begin.
 pub(crate) fn seek(
     tables: &Tables,
     sought: &Sought<'_>,
     merged: &Merged,
     part: Part,
+    heads: Heads,
 ) -> Option<ClauseName>
     requires chained { Chained tables.now }
-    requires merged { IsMerged tables.now sought.now.pred.now sought.now.key.now merged.now }
+    requires merged { IsMerged sought.now.pred.now sought.now.key.now merged.now }
+    requires own { MayBegin tables.now sought.now merged.now.own part heads.own }
+    requires any { MayBegin tables.now sought.now merged.now.any part heads.any }
     requires within { IfSome part.behind (λ i. i < length tables.now.records.items) }
     ensures { result ≡ found sought.now tables.now.records.items part }
 {
     let records = tables.records.as_slice();
     let links = merged.own.links(tables);
-    let mut at = heads(tables, sought, merged, part);
+    let mut at = heads;
     while let Some(number) = at.first(part.front) {
         let record = record_at(records, number);
         if sought.is_met(record) {
@@ -41,19 +44,49 @@ pub(crate) fn seek(
 }
 
 /// Where the walk over a part stands in both chains at its beginning.
-fn heads(tables: &Tables, sought: &Sought<'_>, merged: &Merged, part: Part) -> Heads
+pub(crate) fn heads(
+    tables: &Tables,
+    sought: &Sought<'_>,
+    merged: &Merged,
+    ends: &MergedEnds,
+    part: Part,
+) -> Heads
     requires chained { Chained tables.now }
-    requires merged { IsMerged tables.now sought.now.pred.now sought.now.key.now merged.now }
+    requires own_ends { ends.now.own ≡ chain_ends tables.now sought.now.pred.now merged.now.own }
+    requires any_ends { ends.now.any ≡ chain_ends tables.now sought.now.pred.now merged.now.any }
     requires within { IfSome part.behind (λ i. i < length tables.now.records.items) }
     ensures own { MayBegin tables.now sought.now merged.now.own part result.own }
     ensures any { MayBegin tables.now sought.now merged.now.any part result.any }
 {
-    let own = start(tables, sought, merged.own, merged.own_ends, part);
+    let own = start(tables, sought, merged.own, ends.own, part);
     if merged.is_one() {
         return Heads { own, any: own };
     }
-    let any = start(tables, sought, merged.any, merged.any_ends, part);
+    let any = start(tables, sought, merged.any, ends.any, part);
     Heads { own, any }
+}
+
+/// The same where both are one chain, and the part begins behind a record of it: its ends are not asked for.
+pub(crate) fn heads_behind(
+    tables: &Tables,
+    sought: &Sought<'_>,
+    merged: &Merged,
+    part: Part,
+) -> Option<Heads>
+    requires chained { Chained tables.now }
+    requires within { IfSome part.behind (λ i. i < length tables.now.records.items) }
+    ensures own { IfSome result (λ at. MayBegin tables.now sought.now merged.now.own part at.own) }
+    ensures any { IfSome result (λ at. MayBegin tables.now sought.now merged.now.any part at.any) }
+{
+    if !merged.is_one() {
+        return None;
+    }
+    let held = held(tables, sought, merged.own, part)?;
+    let next = onward(tables, sought, merged.own, part, Some(held));
+    Some(Heads {
+        own: next,
+        any: next,
+    })
 }
 
 /// The first record of a chain in a part, but for those that are not seen.
@@ -73,8 +106,25 @@ fn start(
     if !part.front && !part.reaches(ends.newest_back) {
         return None;
     }
+    let at = close(tables, sought, chain, ends, part).or(ends.first(part.front));
+    onward(tables, sought, chain, part, at)
+}
+
+/// The first record of a chain in a part, but for those that are not seen, from one on.
+fn onward(
+    tables: &Tables,
+    sought: &Sought<'_>,
+    chain: Chain,
+    part: Part,
+    from: Option<usize>,
+) -> Option<usize>
+    requires chained { Chained tables.now }
+    requires from { MayStand part.front (in_chain sought.now.pred.now chain) sought.now.g tables.now.records.items (extent part (length tables.now.records.items)) from }
+    requires within { IfSome part.behind (λ i. i < length tables.now.records.items) }
+    ensures { MayBegin tables.now sought.now chain part result }
+{
     let links = chain.links(tables);
-    let mut at = close(tables, sought, chain, ends, part).or(ends.first(part.front));
+    let mut at = from;
     while let Some(number) = at {
         if part.has(number) {
             return at;
@@ -107,6 +157,17 @@ fn close(
         return None;
     }
     Some(before)
+}
+
+/// The record behind which a part begins, if it is one of a chain.
+fn held(tables: &Tables, sought: &Sought<'_>, chain: Chain, part: Part) -> Option<usize>
+    ensures { IfSome result (λ i. MayStand part.front (in_chain sought.now.pred.now chain) sought.now.g tables.now.records.items (extent part (length tables.now.records.items)) (Some i)) }
+{
+    let number = part.behind?;
+    if !is_held(tables, sought, chain, part.front, number) {
+        return None;
+    }
+    Some(number)
 }
 
 /// Whether there is such a record on a side of a chain.

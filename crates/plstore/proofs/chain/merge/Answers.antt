@@ -8,7 +8,7 @@ use Rattle.plstore.proofs.chain.merge.Goals.{in-Any, in_default}
 pub returns-then-matches : goal.returns-then-matches
 returns-then-matches c =
     let q = c.args.sought.now in
-    record { own = c.ends-ends.ensures; any = c.ends-ends.ensures; links = refl; covers = procedure-covers q.pred.now q.key.now c.args.tables.now.records.items }
+    record { links = λ t. refl; covers = λ rs. procedure-covers q.pred.now q.key.now rs }
 
 pub returns : goal.returns
 returns c =
@@ -19,9 +19,7 @@ returns c =
       | in_default w ↦ absurd (w.in_default.not-Any e)
     ] in
     record {
-      own = c.ends.ensures;
-      any = c.ends-2.ensures;
-      links = refl;
-      covers = slots-cover q.pred.now q.key.now c.args.tables.now.records.items c.any.result c.of_key.result not-any
+      links = λ t. refl;
+      covers = λ rs. slots-cover q.pred.now q.key.now rs c.any.result c.of_key.result not-any
           (c.any.ensures ∙ ap (λ h. slot_behind h Any) slots) (c.of_key.ensures ∙ ap (λ h. slot_behind h q.key.now) slots);
     }

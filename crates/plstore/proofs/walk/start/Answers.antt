@@ -1,11 +1,11 @@
-use Rattle.std.proofs.Common.{◌∙◌, ◌<◌, sym, ap, subst, arith, length, ℕ, Option}
+use Rattle.std.proofs.Common.{◌∙◌, sym, ap, subst, arith, length, ℕ, Option}
 use Rattle.plstore.specs.declared.ends.Ends.{Ends}
-use Rattle.plstore.specs.Links.{first_end, Marked}
+use Rattle.plstore.specs.Links.{first_end}
 use Rattle.plstore.specs.Chains.{in_chain}
 use Rattle.plstore.specs.Merged.{MayStand}
-use Rattle.plstore.specs.Parts.{extent, left, marks, reaches}
-use Rattle.plstore.proofs.Leading.{either, over-within, stand-first, step-order, step-stands}
-use Rattle.plstore.proofs.Merging.{before-part, chain-at, chain-is, stand-over}
+use Rattle.plstore.specs.Parts.{extent, reaches}
+use Rattle.plstore.proofs.Leading.{either, stand-first}
+use Rattle.plstore.proofs.Merging.{chain-is, stand-over}
 use Rattle.plstore.proofs.walk.start.Goals as goal
 
 pub returns-then-not-reaches : goal.returns-then-not-reaches
@@ -20,8 +20,8 @@ returns-then-not-reaches c =
       order = omega arith;
     }
 
-pub loop-at-init : goal.loop-at-init
-loop-at-init c =
+pub onward-requires-clause-from : goal.onward-requires-clause-from
+onward-requires-clause-from c =
     let q = c.args.sought.now in
     let t = c.args.tables.now in
     let f = c.args.part.front in
@@ -32,35 +32,3 @@ loop-at-init c =
     let first : stands c.first.result =
     subst stands (sym (c.first.ensures ∙ ap (first_end f) c.requires.ends)) (stand-first f class q.g rs _ _ m (chain-is t q.pred.now c.args.chain c.requires.chained).indexed) in
     subst stands (sym c.or-at.ensures) (either stands c.close.result c.first.result c.close.ensures first)
-
-pub next_behind-at-requires-clause-end : goal.next_behind-at-requires-clause-end
-next_behind-at-requires-clause-end c =
-    let q = c.args.sought.now in
-    let f = c.args.part.front in
-    let class = in_chain q.pred.now c.args.chain in
-    let rs = c.args.tables.now.records.items in
-    let ch = chain-at c.args.tables.now q.pred.now c.args.chain c.links-links.result.now c.requires.chained c.links-links.ensures in
-    let mark = subst (Marked (marks f class rs)) c.in-Some.is c.loop-at.invariant.mark in
-    over-within f class q.g rs c.links-links.result.now _ ch c.in-Some.number mark
-
-pub loop-at-smaller : goal.loop-at-smaller
-loop-at-smaller c =
-    let q = c.args.sought.now in
-    let f = c.args.part.front in
-    let class = in_chain q.pred.now c.args.chain in
-    let rs = c.args.tables.now.records.items in
-    let ch = chain-at c.args.tables.now q.pred.now c.args.chain c.links-links.result.now c.requires.chained c.links-links.ensures in
-    let mark = subst (Marked (marks f class rs)) c.in-Some.is c.loop-at.invariant.mark in
-    let l = step-order f class q.g rs c.links-links.result.now _ ch c.in-Some.number mark c.next_behind-at.result c.next_behind-at.ensures in
-    subst (λ o. left f (length rs) c.next_behind-at.result < left f (length rs) o) (sym c.in-Some.is) (omega (arith, l))
-
-pub loop-at-preserved : goal.loop-at-preserved
-loop-at-preserved c =
-    let q = c.args.sought.now in
-    let f = c.args.part.front in
-    let class = in_chain q.pred.now c.args.chain in
-    let rs = c.args.tables.now.records.items in
-    let ch = chain-at c.args.tables.now q.pred.now c.args.chain c.links-links.result.now c.requires.chained c.links-links.ensures in
-    let mark = subst (Marked (marks f class rs)) c.in-Some.is c.loop-at.invariant.mark in
-    step-stands f class q.g rs c.links-links.result.now _ ch c.in-Some.number mark c.next_behind-at.result c.next_behind-at.ensures _
-    (before-part f (length rs) c.args.part.behind c.in-Some.number (sym c.has.ensures ∙ c.if-has.false))

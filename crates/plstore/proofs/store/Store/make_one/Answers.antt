@@ -1,10 +1,21 @@
 use Rattle.std.proofs.Common.{sym, ap, subst}
+use Rattle.plevent.specs.declared.update.Update.TheVariants.{Erase}
 use Rattle.plevent.specs.Alive.{named}
 use Rattle.plstore.specs.Kept.{Kept}
 use Rattle.plstore.specs.Plan.{update_of}
 use Rattle.plstore.specs.Rising.{AllBelowPlace, InOrder, IsRising}
 use Rattle.plstore.proofs.Search.{order-keep, order-start}
 use Rattle.plstore.proofs.store.Store.make_one.Goals as goal
+
+pub invariant_of-self : goal.invariant_of-self
+invariant_of-self c =
+    let p = c.args.place in
+    let t = c.self.inside.tables in
+    let below = subst (λ (k : Kept). AllBelowPlace p k.records) (sym c.self.view_is) c.requires in
+    record {
+      rising = subst IsRising (sym c.erase.ensures.erased) (order-keep p 0 (Erase c.in-Erase.name) t.records.items (order-start p t.records.items c.self.invariant.rising below)).rising;
+      chained = c.erase.ensures.chained;
+    }
 
 pub invariant_of-self-2 : goal.invariant_of-self-2
 invariant_of-self-2 c =
