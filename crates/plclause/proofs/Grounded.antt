@@ -14,6 +14,7 @@ both false q e = cc
 
 mutual
   unfolding is_ground
+
   renamed-ground : (f : ℕ → ℕ) (t : Tree) → is_ground t ≡ true → renamed f t ≡ t
   renamed-ground f (var v) e = cc
   renamed-ground f (int i) e = refl
@@ -26,6 +27,7 @@ mutual
 
 mutual
   unfolding is_ground
+
   seen-ground : (t : Tree) (ns : List Node) (seen : List ℕ) → is_ground t ≡ true → seen_after seen (spelling t ++ ns) ≡ seen_after seen ns
   seen-ground (var v) ns seen e = cc
   seen-ground (int i) ns seen e = refl

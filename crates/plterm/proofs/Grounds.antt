@@ -17,6 +17,7 @@ both false q = refl
 
 mutual
   unfolding is_ground
+
   pub ground-nodes : (t : Tree) → not (list_any is_var (spelling t)) ≡ is_ground t
   ground-nodes (var v) = refl
   ground-nodes (int i) = refl
