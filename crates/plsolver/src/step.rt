@@ -2,10 +2,11 @@
 //!
 //! No own update is looked at where a view shows none.
 
-ghost use Rattle.std.specs.Prelude.{◌≡◌, IfOk};
+ghost use Rattle.std.specs.Prelude.{◌≡◌, IfOk, IsTrue};
 ghost use Rattle.plcells.specs.Store.{value, IsValue};
 ghost use Rattle.plclause.specs.Indicators.{indicator};
 ghost use Rattle.plevent.specs.Alive.{exists};
+ghost use Rattle.plviews.specs.Views.{IsUntouched};
 ghost use Rattle.plviews.specs.declared.view.View.{View as OfView};
 ghost use Rattle.pltx.specs.Walks.{own_batch};
 ghost use Rattle.plstack.specs.Basis.{IsShown};
@@ -98,6 +99,15 @@ impl Progress {
         let heap = self.machine.stack.env().heap();
         let pred = indicator_of(self.machine.alloc, heap, head)?;
         Ok(view.names(self.machine.layer.own(), &pred))
+    }
+
+    /// Whether the journal is to be asked for the clause of a name.
+    pub(crate) fn is_untouched(&self, view: View, name: ClauseName) -> bool
+        requires seen { IsShown view self.now.machine.stack.basis.latest }
+        requires tied { IsTied self.now.machine }
+        ensures { IsTrue result → IsUntouched self.now.machine.layer.own.updates view name }
+    {
+        matches!(view.clause(self.own(), name), Told::Asks)
     }
 
     /// What own updates tell of the clause of a name, which is used so.

@@ -23,7 +23,7 @@ ghost use Rattle.plstack.specs.declared.frame.Spot.TheVariants.{Known as KnownOf
 ghost use Rattle.plmachine.specs.Machine.{IsTied};
 ghost use Rattle.plsolver.specs.Asking.{Further, WalkAsked};
 ghost use Rattle.plsolver.specs.Fetching.{like, spot_ahead, ComesToJournal, IsBase};
-ghost use Rattle.plsolver.specs.Going.{head_at, walked_on, IsInView, LooksBehind, SameCases, WalkedTo};
+ghost use Rattle.plsolver.specs.Going.{head_at, walked_on, IsInView, IsToAsk, LooksBehind, SameCases, WalkedTo};
 ghost use Rattle.plsolver.specs.Knowing.{Holds, IsKnown, Steps};
 ghost use Rattle.plsolver.specs.Solver.{IsOf, Keeps, KeepsRest, Quiet, Settled, Stays};
 
@@ -71,7 +71,25 @@ impl Progress {
             self.retry_text(program, at, number)?;
             return Ok(None);
         }
+        // Most walks look at no own clauses.
+        if self.asks(&at) {
+            return Ok(Some(Due::Fetch));
+        }
         self.walk_through(at)
+    }
+
+    /// Whether a walk is to ask the journal where it stands.
+    fn asks(&self, at: &Walking) -> bool
+        requires fails { self.now.machine.mode ≡ Mode.Back Outcome.Fail }
+        requires at { AtWalk self.now.machine.stack at.now.point at.now.walk }
+        requires seen { IsSpotSeen self.now.machine.stack.basis.latest at.now.walk.spot }
+        requires tied { IsTied self.now.machine }
+        ensures { IsTrue result → IsToAsk self.now.machine }
+    {
+        match at.walk.spot {
+            Spot::Known(view, name, _) => self.is_untouched(view, name),
+            Spot::Text(_) | Spot::Seek(_, _) | Spot::At(_, _, _) => asks_journal(at.walk.spot),
+        }
     }
 
     /// A walk in a view goes through own clauses, up to one that fits, to where the journal is to be asked, or to its end.

@@ -1,5 +1,7 @@
+use Rattle.std.proofs.Common.{inr}
 use Rattle.plmachine.specs.declared.machine.Outcome.TheVariants as outcomes
 use Rattle.plmachine.proofs.Moves.{on_err, on_err_map}
+use Rattle.plsolver.specs.Solver.{Settled}
 use Rattle.plsolver.proofs.Further.{further_ends, further_same, further_trans}
 use Rattle.plsolver.proofs.Keeping.{keeps_trans, stays_keeps}
 use Rattle.plsolver.proofs.Quiets.{at_stack, stays-back}
@@ -33,6 +35,19 @@ returns-in-Text-clause-walks c =
     let s = c.args.self.now.machine.stack in
     let t = c.rewind_walk-at.new.self in
     further_trans s t c.retry_text.new.self.machine.stack (further_same s t c.rewind_walk-at.ensures.walks) (further_ends t c.retry_text.new.self.machine.stack c.retry_text.ensures.walks)
+
+pub returns-then-asks-clause-due : goal.returns-then-asks-clause-due
+unfolding Settled
+returns-then-asks-clause-due c =
+    let P = c.args.program.now in
+    let s = c.args.self.now in
+    let t = at_stack s c.rewind_walk-at.new.self in
+    let stay = stays-back P s c.rewind_walk-at.new.self outcomes.Fail c.requires.fails c.rewind_walk-at.ensures.basis c.rewind_walk-at.ensures.walks c.rewind_walk-at.ensures.cases in
+    let asks = c.asks.ensures c.if-asks.true in
+    ((asks.0, asks.1, inr asks.2), stays_keeps P s t c.requires.of stay)
+
+pub returns-then-asks-clause-walks : goal.returns-then-asks-clause-walks
+returns-then-asks-clause-walks c = further_same c.args.self.now.machine.stack c.rewind_walk-at.new.self c.rewind_walk-at.ensures.walks
 
 pub returns : goal.returns
 returns c =
