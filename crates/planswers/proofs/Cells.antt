@@ -10,8 +10,12 @@ use Rattle.plcells.specs.declared.cell.Cell.TheVariants.{Free, Lone, Ref, Int, W
 use Rattle.plcells.specs.Store.{Store, term, terms, spread, value, IsValue, IsEnd, IsHeap, IsBlock}
 use Rattle.plcells.specs.Walking.{weight}
 use Rattle.plbuiltin.specs.Lists.{Elements, Tail, Empty, Other, ends, before, elements_of, elements_in}
-use Rattle.planswers.specs.Lists.{IsCell, tail_at, joined}
+use Rattle.planswers.specs.Lists.{IsCell, tail_at}
 use Rattle.planswers.proofs.Roots.{variable_at}
+
+-- some elements before others
+abbrev pub joined : List Tree → Elements → Elements
+joined ts es = record { items = ts ++ es.items; tail = es.tail }
 
 no_element : (w : ℕ → Tree) (c k : ℕ) → (k ≡ 2 → ⊥) → elements_in (trees (spread w c k)) ≡ ends Other
 unfolding elements_in

@@ -31,10 +31,6 @@ pub record IsCell (h : Store) (t : Tree) (first rest : Cell) : Type 0 where
   pub is : elements_of t ≡ before (value h first) (elements_of (value h rest))
   pub lighter : weight (value h rest) < weight t
 
--- some elements before others
-abbrev pub joined : List Tree → Elements → Elements
-joined ts es = record { items = ts ++ es.items; tail = es.tail }
-
 abbrev pub checked_as : Store → Looked → Checked
 checked_as h (looks.Whole vs) = Whole (map (value h) vs.items)
 checked_as h (looks.Amiss e) = Amiss e

@@ -11,7 +11,16 @@ use Rattle.plcells.specs.declared.cell.Cell.{Cell}
 use Rattle.plcells.specs.Store.{Store, term, value, IsFresh, Binds}
 use Rattle.plcells.proofs.Absence.{bind_put-same}
 use Rattle.plcells.proofs.Kept.{Keeps-refl, Keeps-trans}
-use Rattle.plbind.specs.Unifying.{Unifies, IsInside, IsPlain, HasLeft, HasNear, IsNear, Stands, Substitutes, Progress, Unified, Bindings, Answers, KeepsAll}
+use Rattle.plbind.specs.Unifying.{Unifies, IsInside, IsPlain, HasLeft, HasNear, IsNear, Stands, Substitutes, Unified, Bindings, Answers, KeepsAll}
+
+-- how far the unification of s and t has come: what has been put for variables, and the pairs that are left
+pub record Progress (old new : Store) (s t : Tree) (work : List (ℕ × ℕ)) : Type 0 where
+  pub put_for : ℕ → Tree
+  pub made : Substitutes old new put_for
+  pub forced : (τ : ℕ → Tree) → bind τ s ≡ bind τ t → (y : ℕ) → bind τ (put_for y) ≡ τ y
+  pub left : (τ : ℕ → Tree) → bind τ s ≡ bind τ t → Unifies τ new work
+  pub enough : (τ : ℕ → Tree) → Unifies τ new work → bind τ (bind put_for s) ≡ bind τ (bind put_for t)
+  pub younger : BindsYounger put_for
 
 younger-var : BindsYounger var
 younger-var w z e = subst (λ v. v ≤ w) (var-variable e) (le_refl w)

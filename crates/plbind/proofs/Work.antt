@@ -7,7 +7,16 @@ use Rattle.plcells.specs.declared.cell.Cell.{Cell}
 use Rattle.plcells.specs.Store.{Store, term, terms}
 use Rattle.plcells.specs.Walking.{weight, weights}
 use Rattle.plcells.proofs.Searching.{weight-some}
-use Rattle.plbind.specs.Unifying.{Equates, Unifies, weigh_pairs, IsPlain, IsInside, pairs, HasArgs, HasNear, Equal, HasLeft, Stands}
+use Rattle.plbind.specs.Unifying.{Equates, Unifies, IsPlain, IsInside, pairs, HasArgs, HasNear, HasLeft, Stands}
+
+abbrev pub weigh_pairs : Store → List (ℕ × ℕ) → ℕ
+weigh_pairs h [] = 0
+weigh_pairs h (p ∷ ps) = weight (term h p.0) + weigh_pairs h ps
+
+-- the same unifiers are left
+pub record Equal (h : Store) (old new : List (ℕ × ℕ)) : Type 0 where
+  pub to : (τ : ℕ → Tree) → Unifies τ h old → Unifies τ h new
+  pub back : (τ : ℕ → Tree) → Unifies τ h new → Unifies τ h old
 
 pub unifies-left : (τ : ℕ → Tree) (h : Store) (xs ys : List (ℕ × ℕ)) → Unifies τ h (xs ++ ys) → Unifies τ h xs
 unifies-left τ h [] ys u = tt

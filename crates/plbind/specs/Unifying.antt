@@ -3,7 +3,7 @@ use Rattle.std.specs.Prelude.{◌≡◌, ℕ, zero, suc, ◌+◌, ◌^◌, ◌<�
 use Rattle.std.specs.Bool.{⊤}
 use Rattle.plterm.specs.Tree.{Tree, var, trees}
 use Rattle.plsubst.specs.Subst.{bind, bind_all, occurs}
-use Rattle.plsubst.specs.Unify.{unify, BindsYounger}
+use Rattle.plsubst.specs.Unify.{unify}
 use Rattle.plsubst.proofs.UnifyFinds.{NotSelf}
 use Rattle.plcells.specs.declared.cell.Cell.{Cell}
 use Rattle.plcells.specs.declared.cell.Cell.TheVariants.{Free, Lone, Ref, Int, Wide, Atom, Str, Fun, Ground}
@@ -51,10 +51,6 @@ abbrev pub Unifies : (ℕ → Tree) → Store → List (ℕ × ℕ) → Type 0
 Unifies τ h [] = ⊤
 Unifies τ h (p ∷ ps) = Equates τ h p.0 p.1 × Unifies τ h ps
 
-abbrev pub weigh_pairs : Store → List (ℕ × ℕ) → ℕ
-weigh_pairs h [] = 0
-weigh_pairs h (p ∷ ps) = weight (term h p.0) + weigh_pairs h ps
-
 -- a cell that begins no block
 abbrev pub IsPlain : Store → ℕ → Type 0
 IsPlain h c = (c < length h.cells) × (IsHead (at h.cells c) → ⊥)
@@ -101,11 +97,6 @@ Says h s t Clash = (τ : ℕ → Tree) → bind τ s ≡ bind τ t → ⊥
 Says h s t (Binds x v) = HasNear h s t x v
 Says h s t (Args p q k) = HasArgs h s t p q k
 
--- the same unifiers are left
-pub record Equal (h : Store) (old new : List (ℕ × ℕ)) : Type 0 where
-  pub to : (τ : ℕ → Tree) → Unifies τ h old → Unifies τ h new
-  pub back : (τ : ℕ → Tree) → Unifies τ h new → Unifies τ h old
-
 -- a variable that has to stand for a value, and the pairs that are left
 pub record HasLeft (h : Store) (old new : List (ℕ × ℕ)) (x : ℕ) (v : Cell) : Type 0 where
   pub number : ℕ
@@ -142,15 +133,6 @@ pub record Substitutes (old new : Store) (σ : ℕ → Tree) : Type 0 where
   pub keeps : Keeps old new
   pub length : length new.cells ≡ length old.cells
   pub names : new.names ≡ old.names
-
--- how far the unification of s and t has come: what has been put for variables, and the pairs that are left
-pub record Progress (old new : Store) (s t : Tree) (work : List (ℕ × ℕ)) : Type 0 where
-  pub put_for : ℕ → Tree
-  pub made : Substitutes old new put_for
-  pub forced : (τ : ℕ → Tree) → bind τ s ≡ bind τ t → (y : ℕ) → bind τ (put_for y) ≡ τ y
-  pub left : (τ : ℕ → Tree) → bind τ s ≡ bind τ t → Unifies τ new work
-  pub enough : (τ : ℕ → Tree) → Unifies τ new work → bind τ (bind put_for s) ≡ bind τ (bind put_for t)
-  pub younger : BindsYounger put_for
 
 -- the most general unifier has been put into each term
 pub record Unified (old new : Store) (s t : Tree) : Type 0 where

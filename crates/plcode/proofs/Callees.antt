@@ -18,9 +18,14 @@ use Rattle.plcode.specs.declared.callee.Callees.{Callees}
 use Rattle.plcode.specs.declared.clause.ClauseCode.{ClauseCode}
 use Rattle.plcode.specs.Steps.{Text}
 use Rattle.plcode.specs.Clauses.{AreCodeOf, AreProcedures}
-use Rattle.plcode.specs.Callees.{IsNumber, IsNumbered, same_number, is_of, found, callee_at, of_kind, row_callee, of_clauses, statics, AreEntries, callee_in, IsCallee}
+use Rattle.plcode.specs.Callees.{IsNumber, IsNumbered, same_number, is_of, found, callee_at, of_kind, row_callee, of_clauses, statics, AreEntries, IsCallee}
 use Rattle.plprogram.proofs.Procedures.{indicator_is}
 use Rattle.plcode.proofs.Numbers.{number_is, number_refl, indicator_same, number_one, procedure_one, IsNumbered-more}
+
+-- what the first entry of a procedure says
+abbrev pub callee_in : List (Indicator × Callee) → Indicator → Callee
+callee_in [] p = Unknown
+callee_in (w ∷ ws) p = if same_indicator p w.0 then w.1 else callee_in ws p
 
 -- ---- entries by number
 

@@ -8,9 +8,15 @@ use Rattle.plcode.specs.declared.body.Piece.{Piece}
 use Rattle.plcode.specs.declared.body.Piece.TheVariants.{And, Or, IfThen, Single}
 use Rattle.plcode.specs.Laying.{IsLaid}
 use Rattle.plcode.specs.Steps.{Text, Extended}
-use Rattle.plcode.specs.Bodies.{step, AreForTwo, HasTwo, Holds, IsCode, IsNext, Made, Means, Splits, Leads, Ready, Folding, Begins}
+use Rattle.plcode.specs.Bodies.{step, AreForTwo, HasTwo, Holds, IsCode, IsNext, Made, Means, Splits, Leads, Ready, Begins}
 use Rattle.plcode.proofs.Stays.{Args-more}
 use Rattle.plcode.proofs.Pushing.{with_steps, sequence_code, sequence_begins, sequence_extended}
+
+-- the parts made are for goals to which the pieces that are left lead
+pub record Folding (c : Text) (g : Tree) (left : List Piece) (ps : List Part) (made : List Step) : Type 0 where
+  pub goals : List Tree
+  pub leads : Leads c left (g ∷ []) goals
+  pub parts : Made c ps made goals
 
 -- ---- more code
 

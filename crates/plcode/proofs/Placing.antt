@@ -13,10 +13,10 @@ use Rattle.platoms.proofs.Extending.{Extends-refl, Extends-trans}
 use Rattle.plcode.specs.declared.node.Node.{Node}
 use Rattle.plcode.specs.declared.node.Node.TheVariants.{Var, Int, Atom, Fun, Sub}
 use Rattle.plcode.specs.Nodes.{Value, tree, value, values, row, IsNamed}
-use Rattle.plcode.specs.Laying.{Grows, IsLaid, IsLeaf, IsRow, Waits}
+use Rattle.plcode.specs.Laying.{Grows, IsLaid, IsRow, Waits}
 use Rattle.plcode.proofs.Values.{values-append, length-values, EachRests-take, AllNamed-take, IsSound-row}
 use Rattle.plcode.proofs.Packing.{ArePacked-row, IsChain-take, chain_row, row_whole}
-use Rattle.plcode.proofs.Waiting.{row_terms, Waits-leaf}
+use Rattle.plcode.proofs.Waiting.{row_terms, Waits-leaf, IsLeaf}
 
 pub Grows-refl : (ns : List Node) → Grows ns ns
 Grows-refl ns = record { added = []; nodes = sym (append-nil ns) }

@@ -7,9 +7,17 @@ use Rattle.platoms.specs.Names.{Table, Extends, IsTable, functor_name}
 use Rattle.plcode.specs.declared.node.Node.{Node}
 use Rattle.plcode.specs.declared.node.Node.TheVariants.{Var, Int, Atom, Fun, Sub}
 use Rattle.plcode.specs.Nodes.{Value, Head, tree, block, value, values, IsBlock, IsNamed, Rests}
-use Rattle.plcode.specs.Laying.{lowest, over, EachRests, IsChain, IsLaid, IsLeaf, Waits}
+use Rattle.plcode.specs.Laying.{lowest, over, EachRests, IsChain, IsLaid, Waits}
 use Rattle.plcode.proofs.Packing.{block_packed, block_chain}
 use Rattle.plcode.proofs.Values.{values-append, values-names, length-values, over-more, over-names, EachRests-more, EachRests-take, EachRests-drop, AllNamed-take, AllNamed-drop, AllNamed-names, IsSound-row, IsSound-names}
+
+-- a node that stands for a term alone
+abbrev pub IsLeaf : Node → Type 0
+IsLeaf (Var s) = Unit {0}
+IsLeaf (Int i) = Unit {0}
+IsLeaf (Atom a) = Unit {0}
+IsLeaf (Fun f k) = ⊥
+IsLeaf (Sub from root) = ⊥
 
 pub IsLaid-names : (s t : Table) (nodes : List Node) → Extends s t → IsTable t → IsLaid s nodes → IsLaid t nodes
 IsLaid-names s t nodes more table h = record { table = table; sound = IsSound-names s t more h.table nodes h.sound; packed = h.packed; few = h.few }

@@ -151,9 +151,3 @@ Ready And ps n = HasTwo ps n
 Ready Or ps n = HasTwo ps n
 Ready IfThen ps n = HasTwo ps n
 Ready (Single at) ps n = Unit {0}
-
--- the parts made are for goals to which the pieces that are left lead
-pub record Folding (c : Text) (g : Tree) (left : List Piece) (ps : List Part) (made : List Step) : Type 0 where
-  pub goals : List Tree
-  pub leads : Leads c left (g ∷ []) goals
-  pub parts : Made c ps made goals

@@ -83,11 +83,6 @@ AreEntries t [] (e ∷ es) = ⊥
 AreEntries t (w ∷ ws) [] = ⊥
 AreEntries t (w ∷ ws) (e ∷ es) = IsNumbered t w.0 e.number × (e.callee ≡ w.1) × AreEntries t ws es
 
--- what the first entry of a procedure says
-abbrev pub callee_in : List (Indicator × Callee) → Indicator → Callee
-callee_in [] p = Unknown
-callee_in (w ∷ ws) p = if same_indicator p w.0 then w.1 else callee_in ws p
-
 -- ---- the code of a program
 
 -- a procedure of a program's text, by its place, with its code

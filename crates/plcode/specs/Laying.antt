@@ -19,14 +19,6 @@ lower low (Sub from root) = from
 abbrev pub lowest : ℕ → List Node → ℕ
 lowest low nodes = fold lower low nodes
 
--- a node that stands for a term alone
-abbrev pub IsLeaf : Node → Type 0
-IsLeaf (Var s) = Unit {0}
-IsLeaf (Int i) = Unit {0}
-IsLeaf (Atom a) = Unit {0}
-IsLeaf (Fun f k) = ⊥
-IsLeaf (Sub from root) = ⊥
-
 -- the terms that nodes stand for, each behind the same others
 abbrev pub over : Table → List Value → List Node → List Tree
 over t vs ns = map (λ n. tree (value t vs n)) ns

@@ -11,8 +11,8 @@ use Rattle.plenv.specs.Env.{Env}
 use Rattle.plenv.specs.Changes.{Keeps, Unifies}
 use Rattle.plenv.specs.Rows.{tree_at}
 use Rattle.plhead.specs.Equations.{Terms, left, right, IsEquation, AreEquations, pairs}
-use Rattle.plhead.specs.Fitting.{Progress, Stands}
-use Rattle.plhead.proofs.Solving.{came-on, equations-after, never-solved, started}
+use Rattle.plhead.specs.Fitting.{Stands}
+use Rattle.plhead.proofs.Solving.{came-on, equations-after, never-solved, started, Progress}
 use Rattle.plhead.proofs.Steps.{equation-now, none-then, others, top, unifies-then}
 
 module _ (at : ℕ) (values : List Cell) where

@@ -10,7 +10,12 @@ use Rattle.plcells.proofs.Searching.{weight-some}
 use Rattle.plcode.specs.declared.node.Node.{Node}
 use Rattle.plcode.specs.Packed.{node_at, IsArgument}
 use Rattle.plenv.specs.Env.{Env, Covers, over}
-use Rattle.plhead.specs.Equations.{Terms, Solves, AreEquations, pairs, Pushes, weigh}
+use Rattle.plhead.specs.Equations.{Terms, Solves, AreEquations, pairs, Pushes, left}
+
+-- how many nodes the terms of the left sides have
+abbrev pub weigh : Terms → List (ℕ × Cell) → ℕ
+weigh w [] = 0
+weigh w (p ∷ ps) = weight (w p.0) + weigh w ps
 
 module _ (τ : ℕ → Tree) (e : Env) (base : ℕ) (w : Terms) where
   pub solves-left : (ps qs : List (ℕ × Cell)) → Solves τ e base w (ps ++ qs) → Solves τ e base w ps

@@ -15,11 +15,11 @@ use Rattle.plcode.specs.Packed.{node_at, IsArgument}
 use Rattle.plenv.specs.Env.{Env, over}
 use Rattle.plenv.specs.Changes.{Unifies}
 use Rattle.plenv.specs.Rows.{AllBelowEach, CoversAll}
-use Rattle.plhead.specs.Equations.{Terms, Solves, left, right, IsEquation, AreEquations, pairs, Pushes, weigh}
-use Rattle.plhead.specs.Fitting.{HasArgs, Progress, Stands, UnifiesAll}
+use Rattle.plhead.specs.Equations.{Terms, Solves, left, right, IsEquation, AreEquations, pairs, Pushes}
+use Rattle.plhead.specs.Fitting.{HasArgs, Stands, UnifiesAll}
 use Rattle.plhead.proofs.Trees.{length-spread}
-use Rattle.plhead.proofs.Listing.{solves-left, solves-right, solves-both, pairs-solved, solved-pairs, equations-both, pairs-equations, split-lighter}
-use Rattle.plhead.proofs.Solving.{apart, join, unifier-general, unifier-younger}
+use Rattle.plhead.proofs.Listing.{solves-left, solves-right, solves-both, pairs-solved, solved-pairs, equations-both, pairs-equations, split-lighter, weigh}
+use Rattle.plhead.proofs.Solving.{apart, join, unifier-general, unifier-younger, Progress}
 
 bind_all-trees : (σ : ℕ → Tree) (ts : List Tree) → bind_all σ (trees ts) ≡ trees (map (bind σ) ts)
 unfolding bind

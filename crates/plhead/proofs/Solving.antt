@@ -12,9 +12,18 @@ use Rattle.plcode.specs.declared.node.Node.{Node}
 use Rattle.plenv.specs.Env.{Env, Covers, over}
 use Rattle.plenv.specs.Changes.{Substitutes, Unifies}
 use Rattle.plhead.specs.Equations.{Terms, Solves, left, right, AreEquations}
-use Rattle.plhead.specs.Fitting.{Progress, Stands}
+use Rattle.plhead.specs.Fitting.{Stands}
 use Rattle.plhead.proofs.Listing.{solves-left, solves-right, solves-both}
 use Rattle.plhead.proofs.Slots.{substitutes-none, substitutes-trans}
+
+-- how far the unification of s and t has come: what has been put for variables, and the equations that are left
+pub record Progress (old new : Env) (base : ℕ) (w : Terms) (s t : Tree) (work : List (ℕ × Cell)) : Type 0 where
+  pub put_for : ℕ → Tree
+  pub made : Substitutes old new put_for
+  pub forced : (τ : ℕ → Tree) → bind τ s ≡ bind τ t → (y : ℕ) → bind τ (put_for y) ≡ τ y
+  pub left : (τ : ℕ → Tree) → bind τ s ≡ bind τ t → Solves τ new base w work
+  pub enough : (τ : ℕ → Tree) → Solves τ new base w work → bind τ (bind put_for s) ≡ bind τ (bind put_for t)
+  pub younger : BindsYounger put_for
 
 -- a unifier that a definition gives is most general, and binds the younger
 pub unifier-general : (a b : Tree) (σ : ℕ → Tree) → unify a b ≡ Some σ → IsMostGeneral a b σ

@@ -16,11 +16,11 @@ use Rattle.plenv.specs.Changes.{Keeps, Unifies}
 use Rattle.plenv.specs.Rows.{tree_at}
 use Rattle.plhead.specs.declared.compare.Verdict.{Verdict}
 use Rattle.plhead.specs.declared.compare.Verdict.TheVariants.{Same, Clash, Args}
-use Rattle.plhead.specs.Equations.{Terms, left, right, IsEquation, AreEquations, Pushes, weigh}
-use Rattle.plhead.specs.Fitting.{Answers, Comes, HasArgs, Progress, Stands}
+use Rattle.plhead.specs.Equations.{Terms, left, right, IsEquation, AreEquations, Pushes}
+use Rattle.plhead.specs.Fitting.{Answers, Comes, HasArgs, Stands}
 use Rattle.plhead.proofs.Trees.{tree-names}
-use Rattle.plhead.proofs.Listing.{equations-left, equations-right}
-use Rattle.plhead.proofs.Solving.{came-on, equations-after, never-solved}
+use Rattle.plhead.proofs.Listing.{equations-left, equations-right, weigh}
+use Rattle.plhead.proofs.Solving.{came-on, equations-after, never-solved, Progress}
 use Rattle.plhead.proofs.Rows.{args-stand, split-equations, split-on, split-weight}
 
 -- nodes stand for the same under the names that there are now

@@ -52,8 +52,3 @@ pub record Pushes (h : Store) (old new : List (ℕ × Cell)) (at c k : ℕ) : Ty
   pub items : new ≡ old ++ pairs at values
   pub fit : AreValues h values
   pub are : map (value h) values ≡ terms h c k
-
--- how many nodes the terms of the left sides have
-abbrev pub weigh : Terms → List (ℕ × Cell) → ℕ
-weigh w [] = 0
-weigh w (p ∷ ps) = weight (w p.0) + weigh w ps

@@ -69,15 +69,6 @@ pub record Stands (e : Env) (base : ℕ) (w : Terms) (work : List (ℕ × Cell))
   pub to : (τ : ℕ → Tree) → bind τ s ≡ bind τ t → Solves τ e base w work
   pub back : (τ : ℕ → Tree) → Solves τ e base w work → bind τ s ≡ bind τ t
 
--- how far the unification of s and t has come: what has been put for variables, and the equations that are left
-pub record Progress (old new : Env) (base : ℕ) (w : Terms) (s t : Tree) (work : List (ℕ × Cell)) : Type 0 where
-  pub put_for : ℕ → Tree
-  pub made : Substitutes old new put_for
-  pub forced : (τ : ℕ → Tree) → bind τ s ≡ bind τ t → (y : ℕ) → bind τ (put_for y) ≡ τ y
-  pub left : (τ : ℕ → Tree) → bind τ s ≡ bind τ t → Solves τ new base w work
-  pub enough : (τ : ℕ → Tree) → Solves τ new base w work → bind τ (bind put_for s) ≡ bind τ (bind put_for t)
-  pub younger : BindsYounger put_for
-
 -- the answer of a unification
 unfoldable pub Answers : Env → Env → Tree → Tree → Bool → Type 0
 Answers old new s t true = Unifies old new s t

@@ -6,7 +6,15 @@ use Rattle.plevent.specs.declared.standing.Thread.{Thread}
 use Rattle.plevent.specs.declared.standing.Standing.{Standing}
 use Rattle.plevent.specs.Alive.{add_if}
 use Rattle.plevent.specs.Reading.{Reading, reading, read, blank, new_thread, main, changed_first, is_thread, threads_after, halted_after}
-use Rattle.plhist.specs.Main.{MainAlone}
+use Rattle.std.specs.Prelude.{None}
+
+-- main is there, and no other thread
+pub record MainAlone (r : Standing) : Type 0 where
+  pub row : Thread
+  pub threads : r.threads ≡ row ∷ []
+  pub number : row.number ≡ 1
+  pub alias : row.alias ≡ Some main
+  pub goal : row.goal ≡ None
 
 alone-changed : (b : Bool) (r : Standing) (n : ℕ) (o : Option ℕ) (f : Thread → Thread) (m : MainAlone r) → ((x : Thread) → (f x).number ≡ x.number) → ((x : Thread) → (f x).alias ≡ x.alias) → ((x : Thread) → (f x).goal ≡ x.goal) →
     MainAlone (record { size = n; threads = add_if b (f m.row ∷ []) (m.row ∷ []); halted = o })

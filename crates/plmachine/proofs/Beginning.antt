@@ -14,7 +14,7 @@ use Rattle.plviews.specs.Layers.{Layered}
 use Rattle.plviews.specs.declared.view.View.{View}
 use Rattle.plprogram.specs.Program.{Program}
 use Rattle.plterm.specs.Tree.{Tree}
-use Rattle.plsearch.specs.Types.{Element, Go, Goal, Move, Raise, Throw}
+use Rattle.plsearch.specs.Types.{Element, Go, Goal, Move, Raise, Throw, Case, Choice}
 use Rattle.plsearch.specs.Moves.{first_of}
 use Rattle.plsearch.specs.Rows.{meet}
 use Rattle.plsearch.specs.Running.{Runnable}
@@ -33,9 +33,14 @@ use Rattle.plmachine.specs.declared.machine.Machine.{Machine as Reached}
 use Rattle.plmachine.specs.declared.within.Entry.{Entry}
 use Rattle.plmachine.specs.declared.within.Entry.TheVariants as entries
 use Rattle.plmachine.specs.Machine.{below_at, cases_in, local_of, mode_of, now, run_in, IsPlain, IsTied, MayAsk, MayCarry, Moved, Stays}
-use Rattle.plmachine.specs.Within.{entered, transaction_cases, BeginsAt, IsEntry, IsEntryFit}
+use Rattle.plmachine.specs.Within.{entered, BeginsAt, IsEntry, IsEntryFit}
 use Rattle.plmachine.proofs.Levels.{fits-opened}
 use Rattle.plmachine.proofs.Moves.{machine-is, seeks-none}
+use Rattle.plstack.specs.Opening.{undo_of}
+
+-- the cases in which its goal runs, before a list
+abbrev pub transaction_cases : State → Continuation → List Case
+transaction_cases s l = Choice [] ∷ undo_of s l ∷ Choice [] ∷ []
 
 -- ---- own updates
 

@@ -12,9 +12,8 @@ use Rattle.plsearch.specs.Rows.{branch, row}
 use Rattle.plcode.specs.declared.op.Op.{Op}
 use Rattle.plcode.specs.declared.op.Op.TheVariants as ops
 use Rattle.plcode.specs.Converted.{AreConverted, IsConverted}
-use Rattle.plcode.specs.Bound.{bound_form}
 use Rattle.plcode.specs.Steps.{Text, Args, of_two, IsFor}
-use Rattle.plcode.proofs.Bound.{form_bound}
+use Rattle.plcode.proofs.Bound.{form_bound, bound_form}
 use Rattle.plenv.specs.Env.{over}
 use Rattle.plenv.specs.Rows.{AllBelowEach}
 use Rattle.pllinks.specs.declared.item.Run.{Run}

@@ -37,10 +37,6 @@ pub record BeginsAt (P : Program) (old new : Reached) (g : ℕ) (m : Move) : Typ
   pub ends : (v : Views) (most left : ℕ) (answers : List Answer) →
       ending_of most (Rest P (move (cases_in P v old) (record (run_in v left answers old) { below = v g }) m)) ≡ now P v new most left answers
 
--- the cases in which its goal runs, before a list
-abbrev pub transaction_cases : State → Continuation → List Case
-transaction_cases s l = Choice [] ∷ undo_of s l ∷ Choice [] ∷ []
-
 -- what comes first in them, of a term that is run by p at the cut level k before a list: that list with its goal, or the ball of its error
 abbrev pub IsEntry : State → Runnable → Indicator → ℕ → List Element → Entry → Type 0
 IsEntry s r p k es (entries.Visits l) = (t : Tree) × (first_of r p k ≡ Goal k t) × Holds s l (Goal k t ∷ es)

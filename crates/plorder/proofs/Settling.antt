@@ -12,7 +12,12 @@ use Rattle.plcells.specs.Walking.{weight, weights}
 use Rattle.plcells.proofs.Searching.{weight-some}
 use Rattle.plorder.specs.declared.compare.Run.{Run}
 use Rattle.plorder.specs.declared.compare.Verdict.{Verdict}
-use Rattle.plorder.specs.Runs.{IsRun, AreRuns, HasRun, Says, run_order, runs_order, weigh_runs, rest_of}
+use Rattle.plorder.specs.Runs.{IsRun, AreRuns, HasRun, Says, run_order, runs_order, rest_of}
+
+-- how many nodes the terms on the left have
+abbrev pub weigh_runs : Store → List Run → ℕ
+weigh_runs h [] = 0
+weigh_runs h (r ∷ rs) = weights (trees (terms h r.left r.count)) + weigh_runs h rs
 
 pub says-along : (h : Store) (s t u v : Tree) (verdict : Verdict) → s ≡ u → t ≡ v → Says h s t verdict → Says h u v verdict
 says-along h s t u v verdict e f is = subst (λ x. Says h x v verdict) e (subst (λ y. Says h s y verdict) f is)

@@ -34,11 +34,6 @@ run_order h r = arguments_order (trees (terms h r.left r.count)) (trees (terms h
 abbrev pub runs_order : Store → List Run → Ordering
 runs_order h rs = fold (λ o r. ordering_then (run_order h r) o) Equal rs
 
--- how many nodes the terms on the left have
-abbrev pub weigh_runs : Store → List Run → ℕ
-weigh_runs h [] = 0
-weigh_runs h (r ∷ rs) = weights (trees (terms h r.left r.count)) + weigh_runs h rs
-
 -- a run without its first pair, if there is another
 abbrev pub rest_of : Run → List Run
 rest_of r = if nat_lt 1 r.count then record { left = r.left + 1; right = r.right + 1; count = r.count - 1 } ∷ [] else []

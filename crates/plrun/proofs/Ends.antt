@@ -11,9 +11,9 @@ use Rattle.plhist.specs.Follows.{replied, HasAsked, HasEnded, from_start, asks_o
 use Rattle.plsearch.specs.Solving.{EndsAt}
 use Rattle.plstore.specs.Looking.{Views}
 use Rattle.plrun.specs.Going.{Going, views_of}
-use Rattle.plrun.specs.Halts.{act_of}
 use Rattle.plrun.proofs.Grow.{takes-grow}
 use Rattle.plrun.proofs.Steps.{asks-same, answer-ask, own-grows, own-views}
+use Rattle.plrun.proofs.Rows.{act_of}
 
 -- the last request was answered Done, at the journal's length
 unfoldable pub asked-last : (search : Search) (limit : ℕ) (rest : Views → Search) (used : ℕ) (h : List Entry) (t w : ℕ) (places : List ℕ) (e : ThreadEnd) →

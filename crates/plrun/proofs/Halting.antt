@@ -7,7 +7,7 @@ use Rattle.plevent.specs.declared.request.ThreadEnd.{ThreadEnd}
 use Rattle.plevent.specs.declared.update.ClauseName.{ClauseName}
 use Rattle.plevent.specs.declared.update.Update.TheVariants.{Erase}
 use Rattle.plevent.specs.Alive.{Stamped}
-use Rattle.plevent.specs.Search.{Item, View, Ask, Answer, Got, Wants, Finishes}
+use Rattle.plevent.specs.Search.{Item, View, Ask, Answer, Got, Wants, Finishes, Search}
 use Rattle.pltx.specs.Own.{any_open, ending, erased_in, made, target_at}
 use Rattle.plprogram.specs.Program.{Program}
 use Rattle.plsearch.specs.Types.{Result, Stop, Fail, CutTo, Throw, Halted, Spent, Awaits, Stopped, Unfit, Commit, Never, Until, Collect, Transact, Then, GoesOn, Ends, Question, Look, Begin, Await, Element, Goal, Marker, Raise, Asking, Place, Case, Choice, Mark, Handle, Catch, Gather, Undo, Return, Keep, Again, Anew, Local, Move, Give, Go, Meeting, Asks, End, Pass, Run}
@@ -21,8 +21,17 @@ use Rattle.plsearch.specs.Machines.Weight.{weight, Lighter}
 use Rattle.plsearch.specs.Search.{start_from, start_of, from_start, next_of, search_of}
 use Rattle.plsearch.proofs.Turns.{Rest-turn}
 use Rattle.plsearch.proofs.Weight.{lighter-turn}
-use Rattle.plrun.specs.Halts.{HaltsWhenDone, HaltsNoSooner, IsCommon, AreCommon}
+use Rattle.plrun.specs.Halts.{IsCommon, AreCommon}
 use Rattle.plrun.proofs.HaltingRows.{AreProper, IsProper, AllProper, AreProperCases, IsOther, MoveFits, ReturnFits, answered-fits, cut-other, mark-other, publishing-proper, resume-fits, select-fits}
+
+-- a search that asks to end the run has ended so once that is done
+abbrev pub HaltsWhenDone : Search → Type 0
+HaltsWhenDone search = (n i : ℕ) (answers : List Answer) → AreCommon answers → (search n answers).next ≡ Wants (Ask (Request.HaltRun i)) →
+    (search n (answers ++ Got Reply.Done ∷ [])).next ≡ Finishes (ThreadEnd.Halt i)
+
+-- and not before that is done
+abbrev pub HaltsNoSooner : Search → Type 0
+HaltsNoSooner search = (n i : ℕ) (answers : List Answer) → AreCommon answers → (search n answers).next ≡ Finishes (ThreadEnd.Halt i) → ⊥
 
 -- a machine that carries no end of the run, and has no answer that would make it one
 abbrev ModeFits : Mode → Type 0

@@ -17,7 +17,11 @@ use Rattle.plevent.specs.Rows.{row, erase_row, served, served_while, is_workers,
 use Rattle.plhist.specs.Follows.{last_of}
 use Rattle.plhist.specs.Legal.{MayAsk, IsDue, worker_of}
 use Rattle.plrun.specs.Going.{Free}
-use Rattle.plrun.specs.Halts.{act_of}
+
+-- the act of a thread's last request
+abbrev pub act_of : ThreadEnd → Act
+act_of (ThreadEnd.Halt n) = Act.Halt n
+act_of e = Act.End e
 
 runs-found : (t : ℕ) (xs : List Thread) (x : Thread) → find (is_thread t) xs ≡ Some x → is_some x.worker ≡ true → is_some x.ended ≡ false →
     list_any (λ x. is_thread t x && is_some x.worker && not (is_some x.ended)) xs ≡ true

@@ -21,9 +21,14 @@ use Rattle.plhist.proofs.Alone.{main-alone}
 use Rattle.plsearch.specs.Solving.{Begins}
 use Rattle.plstore.specs.Looking.{Views}
 use Rattle.plrun.specs.Going.{IsRunning}
-use Rattle.plrun.specs.Overall.{IsHistory, Stage, Before, Behind}
+use Rattle.plrun.specs.Overall.{IsHistory, Before, Behind}
 use Rattle.plrun.proofs.Grow.{one-worker}
 use Rattle.plrun.proofs.Rows.{start-due, start-served}
+
+-- nothing has run yet, or all has
+pub data Stage (first : List Update) (searches : ℕ → Search) (limit : ℕ) (h : List Entry) (runs : List Run) : Type 0 where
+  Before : h ≡ opening first ∷ [] → runs ≡ [] → Stage first searches limit h runs
+  Behind : IsHistory first searches limit h runs → Stage first searches limit h runs
 
 first_row : (first : List Update) → served Request.Start 0 (reading (opening first ∷ [])) ≡ (Reply.Started 1 (Some main) None, Some (1, Act.Start))
 unfolding served reading

@@ -20,20 +20,6 @@ abbrev pub AreCommon : List Answer → Type 0
 AreCommon [] = Unit {0}
 AreCommon (a ∷ more) = IsCommon a × AreCommon more
 
--- a search that asks to end the run has ended so once that is done
-abbrev pub HaltsWhenDone : Search → Type 0
-HaltsWhenDone search = (n i : ℕ) (answers : List Answer) → AreCommon answers → (search n answers).next ≡ Wants (Ask (Request.HaltRun i)) →
-    (search n (answers ++ Got Reply.Done ∷ [])).next ≡ Finishes (ThreadEnd.Halt i)
-
--- and not before that is done
-abbrev pub HaltsNoSooner : Search → Type 0
-HaltsNoSooner search = (n i : ℕ) (answers : List Answer) → AreCommon answers → (search n answers).next ≡ Finishes (ThreadEnd.Halt i) → ⊥
-
--- the act of a thread's last request
-abbrev pub act_of : ThreadEnd → Act
-act_of (ThreadEnd.Halt n) = Act.Halt n
-act_of e = Act.End e
-
 -- the journal once thread t has told of its end: one that has ended the run tells nothing more
 abbrev pub told : ThreadEnd → ℕ → List Entry → List Entry
 told (ThreadEnd.Halt n) t h = h

@@ -14,8 +14,3 @@ pub record IsHistory (first : List Update) (searches : ℕ → Search) (limit : 
   pub over : Over h
   pub follow : AllFollow searches limit h runs
   pub each : OneEach h runs
-
--- nothing has run yet, or all has
-pub data Stage (first : List Update) (searches : ℕ → Search) (limit : ℕ) (h : List Entry) (runs : List Run) : Type 0 where
-  Before : h ≡ opening first ∷ [] → runs ≡ [] → Stage first searches limit h runs
-  Behind : IsHistory first searches limit h runs → Stage first searches limit h runs

@@ -10,10 +10,9 @@ use Rattle.plcode.specs.declared.op.Op.TheVariants as ops
 use Rattle.plcode.specs.declared.op.Step.{Step}
 use Rattle.plcode.specs.Steps.{Text, of_two, step_at, ends, meanings, joined, behind, goal as goal_by, goals_from, Selects}
 use Rattle.plcode.specs.Converted.{IsConverted, AreConverted}
-use Rattle.plcode.specs.Bound.{bound_form}
 use Rattle.plcode.proofs.Meanings.{meaning-ends}
 use Rattle.plcode.proofs.Converted.{selects_converted, runs_converted}
-use Rattle.plcode.proofs.Bound.{form_bound}
+use Rattle.plcode.proofs.Bound.{form_bound, bound_form}
 use Rattle.plenv.specs.Env.{over}
 use Rattle.plenv.specs.Rows.{AllBelowEach}
 use Rattle.pllinks.specs.declared.item.Run.{Run}

@@ -23,10 +23,11 @@ use Rattle.plstack.specs.Places.{Database, called, places_left, size}
 use Rattle.plstack.specs.Levels.{Choosing, kinds_of, FitsIn, Precedes}
 use Rattle.plstack.specs.State.{State, IsStack, goals_of, kinds_in, place_of, cases_of, IsList, AddsList, Retries, IsClauses, IsUndo, BeginsWith, HasClauses}
 use Rattle.plstack.specs.Calls.{places_of, Calls, CallsNone, StaysAt}
-use Rattle.plstack.specs.StaticCalls.{AtCall, IsCalling, further, onward, Binds, Enters, Hits, OpensCall}
+use Rattle.plstack.specs.StaticCalls.{AtCall, IsCalling, further, onward, Binds, Enters, Hits}
 use Rattle.plstack.proofs.Frames.{reverse-push}
 use Rattle.plstack.proofs.Naming.{fits-bound, first-precedes, kinds-length}
 use Rattle.plstack.proofs.Stacks.{popped-cases, popped-stack, is-last}
+use Rattle.plstack.proofs.Opened.{OpensCall}
 
 -- the list behind the goal has a number
 module _ (s t : State) (p : Point) (c : Clauses) (n : ℕ) (at : AtCall s p c) (adds : AddsList s t (alone n) (goals_of s p.list)) where

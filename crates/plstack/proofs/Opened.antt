@@ -19,15 +19,22 @@ use Rattle.plstack.specs.declared.frame.Frame.TheVariants.{Open}
 use Rattle.plstack.specs.Places.{Database, called, places_left, kept, kept_values, cases}
 use Rattle.plstack.specs.Frames.{AreOlder, IsOpen, IsResume, AreFrames}
 use Rattle.plstack.specs.Trials.{IsMarked}
-use Rattle.plstack.specs.State.{State, IsStack, goals_in, goals_of, cases_of, AddsList, Extends, IsFit, IsList, IsClauses}
+use Rattle.plstack.specs.State.{State, IsStack, goals_in, goals_of, cases_of, AddsList, Extends, IsFit, IsList, IsClauses, place_of, HasClauses}
 use Rattle.plstack.specs.Calls.{places_of, Calls, CallsNone, StaysAt}
 use Rattle.pllinks.specs.declared.link.Continuation.{Continuation}
 use Rattle.plclause.specs.Clause.{Clause}
-use Rattle.plstack.specs.StaticCalls.{AtCall, OpensCall}
+use Rattle.plstack.specs.StaticCalls.{AtCall}
 use Rattle.plstack.proofs.Frames.{cases-kept, AreFrames-kept, reverse-push}
 use Rattle.plstack.proofs.Opening.{older-frames}
 use Rattle.plstack.proofs.Stacks.{opened-cases, opened-state, has-last}
 use Rattle.plstack.specs.Levels.{FitsIn, kinds_of}
+
+-- the case of a call is opened, and no clause is tried
+pub record OpensCall (old new : State) (procedure : ℕ) (values : List Cell) (list : Continuation) : Type 0 where
+  pub has : HasClauses new
+  pub cases : (db : Database) → cases_of db new ≡ Choice (places_of db old (called old.env.heap (db.statics procedure).name values) list (db.statics procedure).clauses) ∷ cases_of db old
+  pub place : place_of new ≡ place_of old
+  pub basis : new.basis ≡ old.basis
 
 -- what is kept for a call
 run_end : (xs vs : List Cell) → take (length vs) (drop (length xs) (xs ++ vs)) ≡ vs

@@ -25,7 +25,7 @@ use Rattle.plstack.specs.Frames.{AreFrames, AreOlder}
 use Rattle.plstack.specs.Places.{Database, called, kept_values, cases}
 use Rattle.plstack.specs.State.{State, IsStack, goals_in, goals_of, place_of, cases_of, AddsList, CountsUp, IsFit, IsList, kinds_in}
 use Rattle.plstack.specs.Levels.{kinds_of, FitsIn, Precedes}
-use Rattle.plstack.specs.StaticCalls.{body_at, AreStatics, AtCall, IsCalling, Binds, Enters, FindsHit, FitsFirst, GoesOn, Hits, OpensCall, PushesCall}
+use Rattle.plstack.specs.StaticCalls.{body_at, AreStatics, AtCall, IsCalling, Binds, Enters, FindsHit, FitsFirst, GoesOn, Hits, PushesCall}
 use Rattle.plstack.specs.Trials.{IsMarked}
 use Rattle.plstack.proofs.Entering.{calls-entered, retries-entered}
 use Rattle.plstack.proofs.Finding.{hit-binds, hit-stack, hits}
@@ -33,7 +33,7 @@ use Rattle.plstack.proofs.Going.{body-fits, body-goals, body-there, pushes-kinds
 use Rattle.plstack.proofs.Naming.{fits-env, kinds-length, new-precedes}
 use Rattle.plstack.proofs.Growing.{cases-grown, extends_same, extends-env, frames-grown, stack-env}
 use Rattle.plstack.proofs.Hitting.{cases-stay, extends-renamed}
-use Rattle.plstack.proofs.Opened.{call-at, call-opens, call-stack, kept-there, opened, older-then}
+use Rattle.plstack.proofs.Opened.{call-at, call-opens, call-stack, kept-there, opened, older-then, OpensCall}
 
 -- a list that is there has its number
 same-list : (s : State) (l : Continuation) (n : ℕ) → l ≡ alone n → IsList s l → AddsList s s (alone n) (goals_of s l)

@@ -107,13 +107,6 @@ pub record FindsHit (old new : Env) (t : Tree) (key : Key) (ks : List ClauseCode
   pub clause : (d : ClauseCode) → slice_index_or ks found.place d ≡ hit.clause
   pub next : IsNext key ks (found.place + 1) hit.next
 
--- the case of a call is opened, and no clause is tried
-pub record OpensCall (old new : State) (procedure : ℕ) (values : List Cell) (list : Continuation) : Type 0 where
-  pub has : HasClauses new
-  pub cases : (db : Database) → cases_of db new ≡ Choice (places_of db old (called old.env.heap (db.statics procedure).name values) list (db.statics procedure).clauses) ∷ cases_of db old
-  pub place : place_of new ≡ place_of old
-  pub basis : new.basis ≡ old.basis
-
 -- a clause of the innermost call is entered: its body is visited before a list, and the clauses behind it are left
 pub record Enters (db : Database) (old new : State) (p : Point) (c : Clauses) (hit : Hit) (behind : ℕ) : Type 0 where
   pub goes : GoesOn db old new p c hit.next

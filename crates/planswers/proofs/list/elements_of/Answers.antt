@@ -1,9 +1,8 @@
 use Rattle.std.proofs.Common.{◌≡◌, ◌++◌, ◌∷◌, [], map, sym, ap, ◌∙◌, subst, rules}
 use Rattle.plcells.specs.Store.{value, AreValues}
 use Rattle.plbuiltin.specs.Lists.{elements_of}
-use Rattle.planswers.specs.Lists.{joined}
 use Rattle.plorder.proofs.Occurring.{values-append}
-use Rattle.planswers.proofs.Cells.{joined-more}
+use Rattle.planswers.proofs.Cells.{joined-more, joined}
 use Rattle.planswers.proofs.list.elements_of.Goals as goal
 
 pub loop-first-preserved : goal.loop-first-preserved

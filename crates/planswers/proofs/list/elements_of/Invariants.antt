@@ -2,8 +2,8 @@ use Rattle.std.proofs.Common.{◌≡◌, map}
 use Rattle.plcells.specs.Store.{IsValue, AreValues, value}
 use Rattle.plcells.specs.Walking.{weight}
 use Rattle.plbuiltin.specs.Lists.{elements_of}
-use Rattle.planswers.specs.Lists.{joined}
 use Rattle.planswers.proofs.list.elements_of.Given as goal
+use Rattle.planswers.proofs.Cells.{joined}
 
 abbrev pub invariant-loop-first : goal.invariant-loop-first
 invariant-loop-first l = record {

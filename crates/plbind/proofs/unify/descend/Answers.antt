@@ -2,9 +2,9 @@ use Rattle.std.proofs.Common.{◌+◌, arith, subst}
 use Rattle.std.proofs.lemmas.List.{nil_from_length}
 use Rattle.plcells.specs.Store.{term, value}
 use Rattle.plbind.specs.declared.unify.Verdict.TheVariants.{Same, Clash, Binds, Args}
-use Rattle.plbind.specs.Unifying.{Says, Leaves, Equal}
+use Rattle.plbind.specs.Unifying.{Says, Leaves}
 use Rattle.plbind.proofs.Verdicts.{says-along}
-use Rattle.plbind.proofs.Work.{taken_inside, taken_left, taken_right, taken_lighter, equal_same, equal_args, inside_args, lighter_args, leaves_clash, leaves_near, leaves_none}
+use Rattle.plbind.proofs.Work.{taken_inside, taken_left, taken_right, taken_lighter, equal_same, equal_args, inside_args, lighter_args, leaves_clash, leaves_near, leaves_none, Equal}
 use Rattle.plbind.proofs.unify.descend.Goals as goal
 
 pub argument-requires-clause-within : goal.argument-requires-clause-within

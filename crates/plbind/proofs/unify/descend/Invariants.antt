@@ -1,5 +1,6 @@
-use Rattle.plbind.specs.Unifying.{IsInside, Equal, weigh_pairs}
+use Rattle.plbind.specs.Unifying.{IsInside}
 use Rattle.plbind.proofs.unify.descend.Given as goal
+use Rattle.plbind.proofs.Work.{Equal, weigh_pairs}
 
 abbrev pub invariant-loop-a : goal.invariant-loop-a
 invariant-loop-a l = record {

@@ -1,7 +1,8 @@
 use Rattle.plterm.specs.Tree.{Tree}
 use Rattle.plcells.specs.Store.{frees}
-use Rattle.plbind.specs.Unifying.{IsInside, Progress, Stands, KeepsAll}
+use Rattle.plbind.specs.Unifying.{IsInside, Stands, KeepsAll}
 use Rattle.plbind.proofs.unify.solve.Given as goal
+use Rattle.plbind.proofs.Progressing.{Progress}
 
 abbrev pub invariant-loop-x : goal.invariant-loop-x
 invariant-loop-x l = record {

@@ -1,8 +1,9 @@
 use Rattle.std.proofs.Common.{◌∷◌, [], length, reverse}
 use Rattle.plterm.specs.Tree.{Tree}
 use Rattle.plcode.specs.Steps.{text, Extended}
-use Rattle.plcode.specs.Bodies.{Folding, IsCode, Leads}
+use Rattle.plcode.specs.Bodies.{IsCode, Leads}
 use Rattle.plcode.proofs.body.put_body.Given as goal
+use Rattle.plcode.proofs.Folds.{Folding}
 
 abbrev pub invariant-pieces : goal.invariant-pieces
 invariant-pieces l = record {

@@ -1,9 +1,11 @@
 use Rattle.plterm.specs.Tree.{Tree}
 use Rattle.plenv.specs.Changes.{Keeps}
 use Rattle.plenv.specs.Rows.{tree_at}
-use Rattle.plhead.specs.Equations.{AreEquations, weigh}
-use Rattle.plhead.specs.Fitting.{Progress, Stands}
+use Rattle.plhead.specs.Equations.{AreEquations}
+use Rattle.plhead.specs.Fitting.{Stands}
 use Rattle.plhead.proofs.head.solve.Given as goal
+use Rattle.plhead.proofs.Listing.{weigh}
+use Rattle.plhead.proofs.Solving.{Progress}
 
 abbrev pub invariant-loop-at : goal.invariant-loop-at
 invariant-loop-at l = record {

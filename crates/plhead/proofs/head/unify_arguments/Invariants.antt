@@ -3,8 +3,9 @@ use Rattle.plterm.specs.Tree.{Tree}
 use Rattle.plenv.specs.Changes.{Keeps}
 use Rattle.plenv.specs.Rows.{tree_at}
 use Rattle.plhead.specs.Equations.{AreEquations, pairs, references}
-use Rattle.plhead.specs.Fitting.{Progress, Stands}
+use Rattle.plhead.specs.Fitting.{Stands}
 use Rattle.plhead.proofs.head.unify_arguments.Given as goal
+use Rattle.plhead.proofs.Solving.{Progress}
 
 abbrev pub invariant-loop-i : goal.invariant-loop-i
 invariant-loop-i l = record {

@@ -1,6 +1,7 @@
 use Rattle.std.proofs.Common.{◌≡◌}
-use Rattle.plorder.specs.Runs.{AreRuns, runs_order, weigh_runs}
+use Rattle.plorder.specs.Runs.{AreRuns, runs_order}
 use Rattle.plorder.proofs.compare.settle.Given as goal
+use Rattle.plorder.proofs.Settling.{weigh_runs}
 
 abbrev pub invariant-runs : goal.invariant-runs
 invariant-runs l = record {

@@ -10,8 +10,8 @@ use Rattle.plstack.specs.Levels.{FitsIn}
 use Rattle.plstack.specs.State.{beginning, goals_of, kinds_in, Opens}
 use Rattle.plmachine.specs.declared.machine.Machine.{Machine as Reached}
 use Rattle.plmachine.specs.Machine.{depth_of, local_of, IsTied, Stays}
-use Rattle.plmachine.specs.Within.{entered, transaction_cases}
-use Rattle.plmachine.proofs.Beginning.{begins-inside, begun-ended, begun-inner, entered-as, entry-fit}
+use Rattle.plmachine.specs.Within.{entered}
+use Rattle.plmachine.proofs.Beginning.{begins-inside, begun-ended, begun-inner, entered-as, entry-fit, transaction_cases}
 use Rattle.plmachine.proofs.Levels.{depth-kinds, same-kinds, transact-fits, transact-goal}
 use Rattle.plmachine.proofs.Moves.{grown-depth, grown-stays, moved-grown, on_err, tied-as}
 use Rattle.plmachine.proofs.machine.Machine.within.Goals as goal
