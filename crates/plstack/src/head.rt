@@ -1,5 +1,5 @@
 //! Whether a goal unifies with the head of a clause (ISO/IEC 13211-1 8.9.5).
-ghost use Rattle.std.specs.Prelude.{◌≡◌, is_some, IfOk};
+ghost use Rattle.std.specs.Prelude.{◌≡◌, is_some, true, None, IfOk};
 ghost use Rattle.plsubst.specs.Subst.{shift};
 ghost use Rattle.plsubst.specs.Unify.{unify};
 ghost use Rattle.plcells.specs.Store.{value, IsValue};
@@ -10,11 +10,20 @@ ghost use Rattle.plstack.specs.State.{Extends};
 use crate::copier::Copier;
 use crate::stack::Stack;
 use crate::walk::put_head;
+use plbind::apart::are_apart;
 use plcells::cell::Cell;
 use plclause::clause::Clause;
 use plenv::env::Environment;
 use plenv::slot::Mark;
 use std::alloc::AllocError;
+
+/// Whether a goal is seen to have no unifier with a clause's head, without putting that.
+pub(crate) fn misses_head(env: &Environment, goal: Cell, clause: &Clause) -> bool
+    requires { IsValue env.now.heap goal }
+    ensures { result ≡ true → unify (value env.now.heap goal) (shift env.now.count clause.now.head) ≡ None }
+{
+    are_apart(env.heap(), goal, &clause.head().root())
+}
 
 /// Unifies a goal with a clause's head, its variables new: whether they have a unifier.
 fn try_head(
@@ -27,6 +36,9 @@ fn try_head(
     ensures is { IfOk result (λ has. has ≡ is_some (unify (value env.old.heap goal) (shift env.old.count clause.now.head))) }
     ensures keeps { Keeps env.old env.new }
 {
+    if misses_head(env, goal, clause) {
+        return Ok(false);
+    }
     let head = put_head(env, copier, clause)?;
     env.unify_in_choice(goal, head.value)
 }

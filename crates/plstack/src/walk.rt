@@ -19,10 +19,10 @@ ghost use Rattle.plstack.specs.Walks.{AtWalk, EndsPlain, Finds, FitsCall, GoesOn
 
 use crate::copier::Copier;
 use crate::frame::{Frame, Marks, Point, Resume, Spot, Use, Walk};
+use crate::head::misses_head;
 use crate::list::link_before;
 use crate::open::{count_up, push_frame};
 use crate::stack::Stack;
-use plbind::apart::are_apart;
 use plcells::cell::Cell;
 use plclause::clause::Clause;
 use plenv::env::Environment;
@@ -188,7 +188,7 @@ fn is_apart(env: &Environment, goal: Cell, next: &Candidate) -> bool
     ensures { result ≡ true → unify (value env.now.heap goal) (shift env.now.count (clause_by next.now.uses next.now.clause).head) ≡ None }
 {
     match next.uses {
-        Use::Call => are_apart(env.heap(), goal, &next.clause.head().root()),
+        Use::Call => misses_head(env, goal, &next.clause),
         Use::Tell | Use::Erase => false,
     }
 }
@@ -206,9 +206,6 @@ fn try_copy(
     ensures none { IfOk result (λ o. IfNone o (unify (value env.old.heap goal) (shift env.old.count (clause_by next.now.uses next.now.clause).head) ≡ None)) }
     ensures keeps { Keeps env.old env.new }
 {
-    if is_apart(env, goal, next) {
-        return Ok(None);
-    }
     let head = put_tried(env, copier, next)?;
     if !env.unify_in_choice(goal, head.value)? {
         return Ok(None);
@@ -375,6 +372,10 @@ impl Stack {
         ensures err_walks { OnErr result (walks_in self.new ≡ walks_in self.old) }
         ensures basis { self.new.basis ≡ self.old.basis }
     {
+        if is_apart(&self.env, at.walk.goal, next) {
+            self.go_on_walk(at, rest);
+            return Ok(None);
+        }
         let level = self.depth.down(1);
         let fits = self.fit_walk(&at, level, next)?;
         self.go_on_walk(at, rest);

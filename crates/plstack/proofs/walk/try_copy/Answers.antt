@@ -1,12 +1,9 @@
 use Rattle.std.proofs.Common.{◌∙◌, sym, subst}
 use Rattle.plcells.specs.Store.{AreValues}
-use Rattle.plenv.proofs.Keeping.{Keeps-refl, Keeps-trans}
+use Rattle.plenv.proofs.Keeping.{Keeps-trans}
 use Rattle.plstack.specs.Places.{clause_by}
 use Rattle.plstack.proofs.Resolving.{same-variables, values-bound, resolved}
 use Rattle.plstack.proofs.walk.try_copy.Goals as goal
-
-pub returns-then-is_apart-clause-keeps : goal.returns-then-is_apart-clause-keeps
-returns-then-is_apart-clause-keeps c = Keeps-refl _
 
 pub returns-in_err-unify_in_choice-clause-keeps : goal.returns-in_err-unify_in_choice-clause-keeps
 returns-in_err-unify_in_choice-clause-keeps c = Keeps-trans _ _ _ c.in_ok-head.ensures.keeps c.unify_in_choice.ensures.keeps

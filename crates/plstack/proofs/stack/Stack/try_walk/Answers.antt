@@ -7,6 +7,22 @@ use Rattle.plstack.proofs.Walking.{at-framed, fitted-at, plain-end, value-framed
 use Rattle.plstack.proofs.Ending.{moves-between}
 use Rattle.plstack.proofs.stack.Stack.try_walk.Goals as goal
 
+pub returns-then-is_apart-clause-none : goal.returns-then-is_apart-clause-none
+returns-then-is_apart-clause-none c = λ db finds.
+    let s = c.args.self.now in
+    went-past db s s c.go_on_walk.new.self c.args.at.point c.args.at.walk c.requires.at refl (λ d xs. refl) c.args.next.now c.args.rest (c.go_on_walk.ensures.goes db) finds
+    (rw (← c.self.view_is) (c.is_apart.ensures c.if-is_apart.true))
+
+pub returns-then-is_apart-clause-last : goal.returns-then-is_apart-clause-last
+returns-then-is_apart-clause-last c = λ none db. plain-end db c.args.self.now c.go_on_walk.new.self c.args.at.point c.args.at.walk c.args.rest none (c.go_on_walk.ensures.goes db)
+
+pub returns-then-is_apart-clause-at_next : goal.returns-then-is_apart-clause-at_next
+returns-then-is_apart-clause-at_next c = λ spot is.
+    at-framed c.args.self.now c.go_on_walk.new.self c.args.at.point c.args.at.walk spot (c.go_on_walk.ensures.same spot is) (c.go_on_walk.ensures.walking spot is) c.requires.at
+
+pub returns-then-is_apart-clause-values : goal.returns-then-is_apart-clause-values
+returns-then-is_apart-clause-values c = λ spot is. value-framed c.args.self.now c.go_on_walk.new.self c.args.at.walk.goal (c.go_on_walk.ensures.same spot is)
+
 pub returns-in_err-fits-clause-err : goal.returns-in_err-fits-clause-err
 returns-in_err-fits-clause-err c = on_err _ c.from_residual.result c.fit_walk.ensures.cases
 
