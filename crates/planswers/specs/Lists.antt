@@ -1,12 +1,12 @@
 -- The terms of values as lists.
-use Rattle.std.specs.Prelude.{◌≡◌, ◌<◌, List, ◌++◌, map, codes, if◌then◌else◌}
+use Rattle.std.specs.Prelude.{◌≡◌, ◌<◌, map, codes, if◌then◌else◌}
 use Rattle.std.specs.Bool.{⊤}
 use Rattle.std.specs.Str.{bytes_eq}
 use Rattle.plterm.specs.Tree.{Tree, var, int, atom, compound}
 use Rattle.plcells.specs.declared.cell.Cell.{Cell}
 use Rattle.plcells.specs.Store.{Store, value, IsValue, AreValues}
 use Rattle.plcells.specs.Walking.{weight}
-use Rattle.plbuiltin.specs.Lists.{Tail, Empty, Unbound, Other, Elements, Checked, Whole, Amiss, elements_of, before}
+use Rattle.plbuiltin.specs.Lists.{Tail, Empty, Unbound, Other, Checked, Whole, Amiss, elements_of, before}
 use Rattle.planswers.specs.declared.list.Tail.{Tail as Seen}
 use Rattle.planswers.specs.declared.list.Tail.TheVariants as tails
 use Rattle.planswers.specs.declared.list.Checked.{Checked as Looked}
