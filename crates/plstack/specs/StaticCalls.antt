@@ -33,8 +33,7 @@ use Rattle.plevent.specs.declared.update.Update.{Update}
 use Rattle.plstore.specs.Looking.{Views}
 use Rattle.plstack.specs.Places.{Static, Database, called, places_left, kept_values}
 use Rattle.plstack.specs.Fits.{AreOwn, Finds}
-use Rattle.plstack.specs.State.{State, goals_in, goals_of, place_of, cases_of, CountsUp, HasClauses, IsList, kinds_in}
-use Rattle.plstack.specs.Calls.{places_of}
+use Rattle.plstack.specs.State.{State, goals_in, goals_of, place_of, cases_of, CountsUp, IsList, kinds_in}
 use Rattle.plstack.specs.Levels.{FitsIn}
 
 abbrev pub static_of : Indicator × List Clause → Static
