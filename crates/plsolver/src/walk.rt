@@ -86,10 +86,10 @@ impl Progress {
         requires tied { IsTied self.now.machine }
         ensures { IsTrue result → IsToAsk self.now.machine }
     {
-        match at.walk.spot {
-            Spot::Known(view, name, _) => self.is_untouched(view, name),
-            Spot::Text(_) | Spot::Seek(_, _) | Spot::At(_, _, _) => asks_journal(at.walk.spot),
+        if let Spot::Known(view, name, _) = at.walk.spot {
+            return self.is_untouched(view, name);
         }
+        asks_journal(at.walk.spot)
     }
 
     /// A walk in a view goes through own clauses, up to one that fits, to where the journal is to be asked, or to its end.
