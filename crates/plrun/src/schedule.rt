@@ -7,7 +7,7 @@ ghost use Rattle.plworld.specs.Worlds.{IsServing};
 ghost use Rattle.plrun.specs.Threads.{IsThread};
 ghost use Rattle.plrun.specs.Overall.{IsHistory};
 
-use crate::thread::{Running, run};
+use crate::thread::{Running, run_thread};
 use plevent::{Reply, Request};
 use plhist::{History, Journal, Run, Runs};
 use plprogram::program::Program;
@@ -54,8 +54,8 @@ fn run_all(
     ensures { IfOk result (λ runs. IsHistory program.now.first (λ t. search_of program.now steps) steps world.new.journal runs.items) }
 {
     let mut runs = Vec::new(alloc);
-    while let Some(mut running) = start(alloc, program, world, steps)? {
-        runs.push(run(alloc, program, world, &mut running)?)?;
+    while let Some(running) = start(alloc, program, world, steps)? {
+        runs.push(run_thread(alloc, program, world, running)?)?;
     }
     Ok(runs)
 }

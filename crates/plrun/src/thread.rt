@@ -162,8 +162,8 @@ fn finish(
     })
 }
 
-/// Runs a thread to its end, by slices of 256 steps, and tells the world of it. More than 2^64 turns are want of memory.
-pub fn run(
+/// Gives a thread its turns up to its end, and tells the world of it. More than 2^64 turns are want of memory.
+fn run(
     alloc: Global,
     program: &Program,
     world: &mut World,
@@ -180,4 +180,20 @@ pub fn run(
         }
     }
     Err(AllocError)
+}
+
+/// Runs a thread to its end, by slices of 256 steps, and tells the world of it. More than 2^64 turns are want of memory.
+pub fn run_thread(
+    alloc: Global,
+    program: &Program,
+    world: &mut World,
+    running: Running,
+) -> Result<Run, AllocError>
+    requires runs { IsThread program.now world.old.journal running }
+    requires serves { IsServing world.old }
+    ensures history { IfOk result (λ run. IsHistory program.now.first (λ t. search_of program.now running.solver.limit) running.solver.limit world.new.journal (run ∷ [])) }
+    ensures serves { IsServing world.new }
+{
+    let mut running = running;
+    run(alloc, program, world, &mut running)
 }

@@ -10,7 +10,7 @@ loop-runs-smaller c =
     let n = c.args.steps in
     let old = c.loop-runs.runs.items in
     let none : old ≡ [] = stage-first P.first (λ t. search_of P n) n c.loop-runs.world.journal old c.loop-runs.invariant.stage (rw c.in-Some.is at c.in_ok-running.ensures.first) in
-    omega (arith, ap length none, ap length c.in_ok-push.ensures.items, length-append old (c.in_ok-run.field-0 ∷ []))
+    omega (arith, ap length none, ap length c.in_ok-push.ensures.items, length-append old (c.in_ok-run_thread.field-0 ∷ []))
 
 pub loop-runs-preserved : goal.loop-runs-preserved
 loop-runs-preserved c =
@@ -19,9 +19,9 @@ loop-runs-preserved c =
     let old = c.loop-runs.runs.items in
     let none : old ≡ [] = stage-first P.first (λ t. search_of P n) n c.loop-runs.world.journal old c.loop-runs.invariant.stage (rw c.in-Some.is at c.in_ok-running.ensures.first) in
     record {
-      stage = stage-run P.first (λ t. search_of P n) n c.run.new.world.journal old c.push.new.self.items c.in_ok-run.field-0 none c.in_ok-push.ensures.items
-          (subst (λ m. IsHistory P.first (λ t. search_of P m) m c.run.new.world.journal (c.in_ok-run.field-0 ∷ [])) (rw c.in-Some.is at c.in_ok-running.ensures.limit) c.in_ok-run.ensures.history);
-      serves = c.run.ensures.serves;
+      stage = stage-run P.first (λ t. search_of P n) n c.run_thread.new.world.journal old c.push.new.self.items c.in_ok-run_thread.field-0 none c.in_ok-push.ensures.items
+          (subst (λ m. IsHistory P.first (λ t. search_of P m) m c.run_thread.new.world.journal (c.in_ok-run_thread.field-0 ∷ [])) (rw c.in-Some.is at c.in_ok-running.ensures.limit) c.in_ok-run_thread.ensures.history);
+      serves = c.run_thread.ensures.serves;
     }
 
 pub returns : goal.returns
