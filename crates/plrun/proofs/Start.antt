@@ -21,7 +21,7 @@ use Rattle.plhist.proofs.Alone.{main-alone}
 use Rattle.plsearch.specs.Solving.{Begins}
 use Rattle.plstore.specs.Looking.{Views}
 use Rattle.plrun.specs.Going.{IsRunning}
-use Rattle.plrun.specs.Overall.{IsHistory, Before, Behind}
+use Rattle.plrun.specs.Overall.{IsHistory}
 use Rattle.plrun.proofs.Grow.{one-worker}
 use Rattle.plrun.proofs.Rows.{start-due, start-served}
 
