@@ -163,6 +163,7 @@ impl Progress {
 
     /// Goes on without a step, up to what is due.
     #[tactic(auto, using(crate::proofs::Runs::goes_on))]
+    #[inline(always)]
     fn settle(&mut self, program: &Program) -> Result<Due, AllocError>
         requires within { self.old.used ≤ self.old.limit }
         requires of { IsOf program.now self.old.machine }
