@@ -148,8 +148,8 @@ fn close(
     if part.has(ends.first(part.front)?) {
         return None;
     }
-    if is_held(tables, sought, chain, part.front, number) {
-        return Some(number);
+    if let Some(here) = held(tables, sought, chain, part) {
+        return Some(here);
     }
     let newest = ends.newest(part.front)?;
     let before = near(chain.links(tables), part.front, newest, number, sought.g);
