@@ -83,6 +83,7 @@ fn serve(
 
 /// One turn of a thread: a slice of its steps, or an item that it asks; or it has come to this end.
 #[tactic(auto, unfolding(plsolver::specs::Says::Says))]
+#[inline(always)]
 fn turn(
     alloc: Global,
     program: &Program,

@@ -1,5 +1,7 @@
 -- Where a search waits for an answer or has ended, and what it makes of the answer.
-use Rattle.std.proofs.Common.{◌≡◌, ℕ, ◌-◌, ◌≤◌, false, List, [], ◌∷◌, refl, sym, ap, ap₂, ◌∙◌, subst, arith, min, le_refl, inl, inr}
+use Rattle.std.specs.Prelude.{IfSome}
+use Rattle.std.specs.Option.{option_map}
+use Rattle.std.proofs.Common.{Option, None, Some, ◌≡◌, ℕ, ◌-◌, ◌≤◌, false, List, [], ◌∷◌, refl, sym, ap, ap₂, ◌∙◌, subst, arith, min, le_refl, inl, inr}
 use Rattle.plevent.specs.Alive.{Stamped}
 use Rattle.plevent.specs.Search.{Item, View, Ask, Answer, Wants, Finishes, Got, Ending}
 use Rattle.plevent.specs.declared.request.ThreadEnd.{ThreadEnd}
@@ -34,13 +36,12 @@ use Rattle.plmachine.specs.declared.machine.Mode.TheVariants as modes
 use Rattle.plmachine.specs.declared.machine.Machine.{Machine as Reached}
 use Rattle.plmachine.specs.Machine.{below_in, cases_in, depth_of, element_of, local_of, machine, mode_of, now, result_of, run_in, then_of, IsFollowed, IsLast, IsPlain, MayAsk, MayCarry}
 use Rattle.plmachine.proofs.Moves.{machine-is}
-use Rattle.plsolver.specs.declared.progress.Progress.{Progress}
-use Rattle.plsolver.specs.declared.progress.Selected.{Selected}
-use Rattle.plsolver.specs.declared.progress.Due.{Due}
 use Rattle.plsolver.specs.declared.progress.Due.TheVariants as dues
+use Rattle.plsolver.specs.declared.progress.Pause.{Pause}
+use Rattle.plsolver.specs.declared.progress.Progress.{Progress}
 use Rattle.plsolver.specs.declared.solver.Turn.TheVariants as turns
 use Rattle.plsolver.specs.Says.{Says}
-use Rattle.plsolver.specs.Solver.{after_done, after_reply, next_after, rest_of, Asks as AsksFor, IsNoGoal, IsOf, IsReplyTo, IsRequestOf, ReplyFits, Waits, WaitsForReply, WaitsForView}
+use Rattle.plsolver.specs.Solver.{after_done, after_reply, next_after, rest_of, Asks as AsksFor, IsOf, IsReplyTo, IsRequestOf, PausesAt, ReplyFits, Settled, Waits, WaitsForReply, WaitsForView}
 use Rattle.plsolver.proofs.Runs.{at-place}
 
 -- ---- where it waits
@@ -78,13 +79,11 @@ stands P v s x q within at asks = λ n le.
     ∙ ap (ending_of k) (asks-rest P (cases_in P v s.machine) q (run_in v (k - s.used) [] s.machine))
     ∙ ap (λ u. record { next = Wants q; used = u; out = s.machine.out.items }) few
 
--- what is no goal
-pub is_no_goal : (d : Due) → ((x : Selected) → d ≡ dues.Goal x → ⊥) → IsNoGoal d
-is_no_goal (dues.Goal x) other = other x refl
-is_no_goal dues.Look other = tt
-is_no_goal dues.Fetch other = tt
-is_no_goal dues.Await other = tt
-is_no_goal dues.Over other = tt
+-- what pauses the search is due
+pub pause-due : {A B : Type 0} (P : Program) (s : Progress) (o : Option Pause) → (A → B) → IfSome o (λ pause. PausesAt P s pause × A) → IfSome (option_map dues.Paused o) (λ due. Settled P s due × B)
+unfolding Settled
+pause-due P s None f a = tt
+pause-due P s (Some x) f a = (a.0, f a.1)
 
 pub says-look : (P : Program) (s : Progress) → s.used ≤ s.limit → WaitsForView s → Says P s turns.Refresh
 unfolding Says meet

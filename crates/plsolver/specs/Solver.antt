@@ -52,6 +52,8 @@ use Rattle.plsolver.specs.declared.progress.Selected.{Selected}
 use Rattle.plsolver.specs.declared.progress.Selected.TheVariants as goals
 use Rattle.plsolver.specs.declared.progress.Due.{Due}
 use Rattle.plsolver.specs.declared.progress.Due.TheVariants as dues
+use Rattle.plsolver.specs.declared.progress.Pause.{Pause}
+use Rattle.plsolver.specs.declared.progress.Pause.TheVariants as pauses
 use Rattle.plsolver.specs.declared.progress.Progress.{Progress}
 use Rattle.plsolver.specs.Fetching.{IsFetching}
 
@@ -182,20 +184,16 @@ first_of (goals.Goal k v rest) = firsts.Goal k v rest
 abbrev pub IsSelected : Reached → Selected → Type 0
 IsSelected s x = (s.mode ≡ modes.Visit) × IsFirst s.stack (first_of x)
 
+-- nothing can be done before something else is
+unfoldable pub PausesAt : Program → Progress → Pause → Type 0
+PausesAt P s pauses.Look = WaitsForView s
+PausesAt P s pauses.Fetch = IsFetching s
+PausesAt P s pauses.Await = Waits s
+PausesAt P s pauses.Over = IsOver P s
+
 unfoldable pub Settled : Program → Progress → Due → Type 0
 Settled P s (dues.Goal x) = IsSelected s.machine x × (s.used + 1 ≤ s.limit)
-Settled P s dues.Look = WaitsForView s
-Settled P s dues.Fetch = IsFetching s
-Settled P s dues.Await = Waits s
-Settled P s dues.Over = IsOver P s
-
--- something other than a goal is due
-abbrev pub IsNoGoal : Due → Type 0
-IsNoGoal (dues.Goal x) = ⊥
-IsNoGoal dues.Look = Unit {0}
-IsNoGoal dues.Fetch = Unit {0}
-IsNoGoal dues.Await = Unit {0}
-IsNoGoal dues.Over = Unit {0}
+Settled P s (dues.Paused x) = PausesAt P s x
 
 -- the goal that stands first was selected
 abbrev pub Selects : Program → Reached → Reached → Type 0

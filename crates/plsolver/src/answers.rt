@@ -7,11 +7,11 @@ ghost use Rattle.plsearch.specs.Solving.{TakesOne};
 ghost use Rattle.plstack.specs.State.{walks_in};
 ghost use Rattle.plstore.specs.Looking.{Views};
 ghost use Rattle.plmachine.specs.Machine.{result_of};
-ghost use Rattle.plsolver.specs.Solver.{IsOf, Stays, latest_view, rest_of, Waits, ReplyFits, IsNoGoal, IsOver, IsRequestOf, Settled, after_done, after_reply, next_after};
+ghost use Rattle.plsolver.specs.Solver.{IsOf, Stays, latest_view, rest_of, Waits, ReplyFits, IsOver, IsRequestOf, PausesAt, after_done, after_reply, next_after};
 ghost use Rattle.plevent.specs.declared.request.Request.{Request as Requested};
 ghost use Rattle.plsolver.specs.Says.{Says, IsSlice};
 
-use crate::progress::{Due, Progress};
+use crate::progress::{Pause, Progress};
 use crate::solver::Turn;
 use plevent::request::{Reply, Request, ThreadEnd};
 use plmachine::machine::{Mode, Outcome, Question, Then};
@@ -41,21 +41,19 @@ impl Progress {
         Ok(())
     }
 
-    /// What is said where something other than a goal is due.
-    pub(crate) fn told(&self, program: &Program, due: Due) -> Result<Turn, AllocError>
+    /// What is said where the search pauses.
+    pub(crate) fn told(&self, program: &Program, pause: Pause) -> Result<Turn, AllocError>
         requires of { IsOf program.now self.now.machine }
         requires within { self.now.used ≤ self.now.limit }
-        requires due { Settled program.now self.now due }
-        requires another { IsNoGoal due }
+        requires due { PausesAt program.now self.now pause }
         ensures says { IfOk result (λ turn. Says program.now self.now turn) }
         ensures other { IfOk result (λ turn. IsSlice turn → ⊥) }
     {
-        match due {
-            Due::Goal(_) => unreachable!(),
-            Due::Look => Ok(Turn::Refresh),
-            Due::Fetch => self.wanted(program),
-            Due::Await => self.asked(program),
-            Due::Over => self.ended(program),
+        match pause {
+            Pause::Look => Ok(Turn::Refresh),
+            Pause::Fetch => self.wanted(program),
+            Pause::Await => self.asked(program),
+            Pause::Over => self.ended(program),
         }
     }
 

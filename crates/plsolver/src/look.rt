@@ -23,10 +23,10 @@ ghost use Rattle.plmachine.specs.declared.machine.Find.TheVariants.{All as AllOf
 ghost use Rattle.plmachine.specs.declared.machine.Mode.TheVariants.{Find as Finds};
 ghost use Rattle.plsolver.specs.Asking.{activations, in_cases, FindAsked, Onward};
 ghost use Rattle.plsolver.specs.Fetching.{like, mode_none, NoneInFront, NoneNames};
-ghost use Rattle.plsolver.specs.Solver.{latest_view, IsOf, Keeps, KeepsRest, Settled, Stays};
+ghost use Rattle.plsolver.specs.Solver.{latest_view, IsOf, Keeps, KeepsRest, PausesAt, Stays};
 
 use crate::error;
-use crate::progress::{Due, Progress};
+use crate::progress::{Pause, Progress};
 use crate::step::spot_behind;
 use plcells::cell::Cell;
 use plevent::ClauseName;
@@ -44,11 +44,11 @@ use std::alloc::AllocError;
 
 impl Progress {
     /// A look-up in hand goes on, as far as own updates tell: then there is none, or the journal is to be asked.
-    pub(crate) fn find(&mut self, program: &Program) -> Result<Option<Due>, AllocError>
+    pub(crate) fn find(&mut self, program: &Program) -> Result<Option<Pause>, AllocError>
         requires of { IsOf program.now self.old.machine }
         ensures keeps { Keeps program.now self.old self.new }
         ensures plain { IfOk result (λ o. IfNone o (IsPlain self.new.machine.mode)) }
-        ensures due { IfOk result (λ o. IfSome o (λ due. Settled program.now self.new due)) }
+        ensures due { IfOk result (λ o. IfSome o (λ pause. PausesAt program.now self.new pause)) }
         ensures walks { Onward 0 (activations self.old.machine) (in_cases self.new.machine.stack) }
         ensures asks { IfOk result (λ o. Onward 0 (activations self.old.machine) (activations self.new.machine)) }
     {
@@ -78,12 +78,12 @@ impl Progress {
         program: &Program,
         sought: Sought,
         view: View,
-    ) -> Result<Option<Due>, AllocError>
+    ) -> Result<Option<Pause>, AllocError>
         requires of { IsOf program.now self.old.machine }
         requires finds { self.old.machine.mode ≡ Finds (FirstOf sought view) }
         ensures keeps { Keeps program.now self.old self.new }
         ensures plain { IfOk result (λ o. IfNone o (IsPlain self.new.machine.mode)) }
-        ensures due { IfOk result (λ o. IfSome o (λ due. Settled program.now self.new due)) }
+        ensures due { IfOk result (λ o. IfSome o (λ pause. PausesAt program.now self.new pause)) }
         ensures walks { Onward 0 (activations self.old.machine) (in_cases self.new.machine.stack) }
         ensures asks { IfOk result (λ o. Onward 0 (activations self.old.machine) (activations self.new.machine)) }
     {
@@ -96,7 +96,7 @@ impl Progress {
                 Ok(None)
             }
             Step::Nothing => unreachable!(),
-            Step::Asks(_) => Ok(Some(Due::Fetch)),
+            Step::Asks(_) => Ok(Some(Pause::Fetch)),
         }
     }
 
@@ -106,17 +106,17 @@ impl Progress {
         program: &Program,
         goal: Cell,
         view: View,
-    ) -> Result<Option<Due>, AllocError>
+    ) -> Result<Option<Pause>, AllocError>
         requires of { IsOf program.now self.old.machine }
         requires finds { self.old.machine.mode ≡ Finds (ExistsOf goal view) }
         ensures keeps { Keeps program.now self.old self.new }
         ensures plain { IfOk result (λ o. IfNone o (IsPlain self.new.machine.mode)) }
-        ensures due { IfOk result (λ o. IfSome o (λ due. Settled program.now self.new due)) }
+        ensures due { IfOk result (λ o. IfSome o (λ pause. PausesAt program.now self.new pause)) }
         ensures walks { Onward 0 (activations self.old.machine) (in_cases self.new.machine.stack) }
         ensures asks { IfOk result (λ o. Onward 0 (activations self.old.machine) (activations self.new.machine)) }
     {
         if !self.is_named(goal, view)? {
-            return Ok(Some(Due::Fetch));
+            return Ok(Some(Pause::Fetch));
         }
         self.machine.mode = Mode::Back(Outcome::Fail);
         Ok(None)
@@ -128,17 +128,17 @@ impl Progress {
         program: &Program,
         head: Cell,
         view: View,
-    ) -> Result<Option<Due>, AllocError>
+    ) -> Result<Option<Pause>, AllocError>
         requires of { IsOf program.now self.old.machine }
         requires finds { self.old.machine.mode ≡ Finds (AllOf head view) }
         ensures keeps { Keeps program.now self.old self.new }
         ensures plain { IfOk result (λ o. IfNone o (IsPlain self.new.machine.mode)) }
-        ensures due { IfOk result (λ o. IfSome o (λ due. Settled program.now self.new due)) }
+        ensures due { IfOk result (λ o. IfSome o (λ pause. PausesAt program.now self.new pause)) }
         ensures walks { Onward 0 (activations self.old.machine) (in_cases self.new.machine.stack) }
         ensures asks { IfOk result (λ o. Onward 0 (activations self.old.machine) (activations self.new.machine)) }
     {
         if !self.is_named(head, view)? {
-            return Ok(Some(Due::Fetch));
+            return Ok(Some(Pause::Fetch));
         }
         self.begin_sweep(head, view);
         self.sweep(program)

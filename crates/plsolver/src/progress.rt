@@ -51,6 +51,13 @@ pub enum Selected {
 pub enum Due {
     /// A goal is to be selected.
     Goal(Selected),
+    /// Nothing can be done before something else is.
+    Paused(Pause),
+}
+
+/// Why a search pauses.
+#[derive(Clone, Copy)]
+pub enum Pause {
     /// A look-up, or what begins on a view, waits for it.
     Look,
     /// A look-up or a walk asks something in its view.
@@ -99,8 +106,9 @@ impl Progress {
         let mut left = fuel;
         loop {
             let due = self.settle(program)?;
-            let Due::Goal(selected) = due else {
-                return self.told(program, due);
+            let selected = match due {
+                Due::Goal(selected) => selected,
+                Due::Paused(pause) => return self.told(program, pause),
             };
             if left == 0 {
                 return Ok(Turn::Slice);
@@ -177,8 +185,8 @@ impl Progress {
         ensures walks { Onward 0 (activations self.old.machine) (in_cases self.new.machine.stack) }
         ensures settles { IfOk result (λ due. SettlesTo program.now self.old self.new) }
     {
-        if let Some(due) = self.find(program)? {
-            return Ok(due);
+        if let Some(pause) = self.find(program)? {
+            return Ok(Due::Paused(pause));
         }
         self.go_quietly(program)
     }

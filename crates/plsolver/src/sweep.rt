@@ -26,9 +26,9 @@ ghost use Rattle.plviews.specs.declared.view.View.{View as OfView};
 ghost use Rattle.plcells.specs.declared.cell.Cell.{Cell as OfCell};
 ghost use Rattle.plsolver.specs.Going.{GoesPast, IsSweeping, Publishes, StandsThere, SweptTo};
 ghost use Rattle.plsolver.specs.Knowing.{Steps};
-ghost use Rattle.plsolver.specs.Solver.{latest_view, IsOf, Keeps, KeepsRest, Settled, Stays};
+ghost use Rattle.plsolver.specs.Solver.{latest_view, IsOf, Keeps, KeepsRest, PausesAt, Stays};
 
-use crate::progress::{Due, Progress};
+use crate::progress::{Pause, Progress};
 use crate::step::Known;
 use plcells::cell::Cell;
 use plclause::clause::Clause;
@@ -100,19 +100,19 @@ impl Progress {
     }
 
     /// The clauses of a head are looked through as far as own updates tell; behind the last one the erasures are made.
-    pub(crate) fn sweep(&mut self, program: &Program) -> Result<Option<Due>, AllocError>
+    pub(crate) fn sweep(&mut self, program: &Program) -> Result<Option<Pause>, AllocError>
         requires of { IsOf program.now self.old.machine }
         requires sweeps { IsSweeping self.old }
         ensures keeps { Keeps program.now self.old self.new }
         ensures plain { IfOk result (λ o. IfNone o (IsPlain self.new.machine.mode)) }
-        ensures due { IfOk result (λ o. IfSome o (λ due. Settled program.now self.new due)) }
+        ensures due { IfOk result (λ o. IfSome o (λ pause. PausesAt program.now self.new pause)) }
         ensures walks { Onward 0 (activations self.old.machine) (in_cases self.new.machine.stack) }
         ensures asks { IfOk result (λ o. Onward 0 (activations self.old.machine) (activations self.new.machine)) }
     {
         'sweep: loop {
             match self.sweep_on()? {
                 Swept::On => {}
-                Swept::Asks => return Ok(Some(Due::Fetch)),
+                Swept::Asks => return Ok(Some(Pause::Fetch)),
                 Swept::Over => {
                     self.publish_swept(program)?;
                     return Ok(None);

@@ -12,9 +12,9 @@ ghost use Rattle.plstack.specs.declared.first.First.TheVariants.{Marker as Marke
 ghost use Rattle.plmachine.specs.Machine.{IsLast, IsMachine, IsTied};
 ghost use Rattle.plmachine.specs.declared.machine.Mode.TheVariants.{Ask as Asks};
 ghost use Rattle.plmachine.specs.declared.machine.Question.{Question as Asked};
-ghost use Rattle.plsolver.specs.Solver.{ErasesOwn, IsBack, IsOf, Quiet, Settled, Stays};
+ghost use Rattle.plsolver.specs.Solver.{ErasesOwn, IsBack, IsOf, Quiet, PausesAt, Stays};
 
-use crate::progress::{Due, Progress};
+use crate::progress::{Pause, Progress};
 use plevent::request::Request;
 use plevent::{Batch, ClauseName};
 use pllinks::level::Level;
@@ -27,11 +27,11 @@ use std::alloc::AllocError;
 impl Progress {
     /// One turn at what is asked: a clause is erased of what is open; all else is due.
     #[tactic(auto, using(crate::proofs::Ending::ends_same, crate::proofs::Ending::ends_refl))]
-    pub(crate) fn wait(&mut self, program: &Program) -> Result<Option<Due>, AllocError>
+    pub(crate) fn wait(&mut self, program: &Program) -> Result<Option<Pause>, AllocError>
         requires asks { (q : Asked) × (self.old.machine.mode ≡ Asks q) }
         requires of { IsOf program.now self.old.machine }
         ensures on { IfOk result (λ o. IfNone o (Quiet program.now self.old self.new)) }
-        ensures due { IfOk result (λ o. IfSome o (λ due. Settled program.now self.new due × Stays program.now self.old self.new)) }
+        ensures due { IfOk result (λ o. IfSome o (λ pause. PausesAt program.now self.new pause × Stays program.now self.old self.new)) }
         ensures err { OnErr result (Stays program.now self.old self.new) }
         ensures walks { EndsWalks self.old.machine.stack self.new.machine.stack }
     {
@@ -39,13 +39,13 @@ impl Progress {
             unreachable!()
         };
         let name = match question {
-            Question::Look(_) => return Ok(Some(Due::Look)),
-            Question::Begin(_, _) => return Ok(Some(Due::Look)),
-            Question::Await(_, _) => return Ok(Some(Due::Await)),
+            Question::Look(_) => return Ok(Some(Pause::Look)),
+            Question::Begin(_, _) => return Ok(Some(Pause::Look)),
+            Question::Await(_, _) => return Ok(Some(Pause::Await)),
             Question::Erase(name) => *name,
         };
         if !self.machine.layer.is_open() {
-            return Ok(Some(Due::Await));
+            return Ok(Some(Pause::Await));
         }
         self.erase(program, name)?;
         Ok(None)

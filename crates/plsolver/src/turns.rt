@@ -1,6 +1,7 @@
 //! The turns of a search that take no step: markers are passed, and results go outward.
 
 ghost use Rattle.std.specs.Prelude.{◌≡◌, ◌+◌, ◌-◌, ◌≤◌, ◌↔◌, IfOk, OnOk, OnErr, IfSome, IfNone, IsTrue, true, false, length, nat_lt, AllPairs};
+ghost use Rattle.std.specs.Option.{option_map};
 ghost use Rattle.std.specs.List.Sorted.{IsPartitionPoint};
 ghost use Rattle.plcells.specs.Store.{IsValue, value};
 ghost use Rattle.plprogram.specs.Program.{Program as Given};
@@ -13,9 +14,9 @@ ghost use Rattle.plstack.specs.First.{IsFirst};
 ghost use Rattle.plstack.specs.declared.first.First.TheVariants.{Marker as MarkerFirst};
 ghost use Rattle.plmachine.specs.Machine.{depth_of, IsBegun, IsPlain, IsTied};
 ghost use Rattle.plsolver.specs.Asking.{Further};
-ghost use Rattle.plsolver.specs.Solver.{IsOf, Keeps, Stays, Quiet, Settled, IsBack, IsSelected, HasChoice, throws_to, Collects};
+ghost use Rattle.plsolver.specs.Solver.{IsOf, Keeps, Stays, Quiet, PausesAt, Settled, IsBack, IsSelected, HasChoice, throws_to, Collects};
 
-use crate::progress::{Due, Progress, Selected};
+use crate::progress::{Due, Pause, Progress, Selected};
 use plcells::cell::Cell;
 use pllinks::item::MarkerKind;
 use pllinks::level::Level;
@@ -39,9 +40,9 @@ impl Progress {
     {
         match &self.machine.mode {
             Mode::Visit => self.pass(program),
-            Mode::Ask(_) => self.wait(program),
+            Mode::Ask(_) => Ok(paused(self.wait(program)?)),
             Mode::Find(_) => unreachable!(),
-            Mode::Back(_) => self.back(program),
+            Mode::Back(_) => Ok(paused(self.back(program)?)),
         }
     }
 
@@ -156,11 +157,11 @@ impl Progress {
 
     /// One turn with a result.
     #[tactic(auto, using(crate::proofs::Further::further_ends))]
-    fn back(&mut self, program: &Program) -> Result<Option<Due>, AllocError>
+    fn back(&mut self, program: &Program) -> Result<Option<Pause>, AllocError>
         requires back { IsBack self.old }
         requires of { IsOf program.now self.old.machine }
         ensures on { IfOk result (λ o. IfNone o (Quiet program.now self.old self.new)) }
-        ensures due { IfOk result (λ o. IfSome o (λ due. Settled program.now self.new due × Keeps program.now self.old self.new)) }
+        ensures due { IfOk result (λ o. IfSome o (λ pause. PausesAt program.now self.new pause × Keeps program.now self.old self.new)) }
         ensures err { OnErr result (Keeps program.now self.old self.new) }
         ensures walks { Further self.old.machine.stack self.new.machine.stack }
     {
@@ -184,12 +185,12 @@ impl Progress {
 
     /// One turn with failure: the next place of the innermost choice, or it is closed.
     #[tactic(auto, using(crate::proofs::Further::further_ends))]
-    fn fail(&mut self, program: &Program) -> Result<Option<Due>, AllocError>
+    fn fail(&mut self, program: &Program) -> Result<Option<Pause>, AllocError>
         requires fails { self.old.machine.mode ≡ Mode.Back Outcome.Fail }
         requires undone { HasUndo self.old.machine.stack → ⊥ }
         requires of { IsOf program.now self.old.machine }
         ensures on { IfOk result (λ o. IfNone o (Quiet program.now self.old self.new)) }
-        ensures due { IfOk result (λ o. IfSome o (λ due. Settled program.now self.new due × Keeps program.now self.old self.new)) }
+        ensures due { IfOk result (λ o. IfSome o (λ pause. PausesAt program.now self.new pause × Keeps program.now self.old self.new)) }
         ensures err { OnErr result (Keeps program.now self.old self.new) }
         ensures walks { Further self.old.machine.stack self.new.machine.stack }
     {
@@ -283,7 +284,7 @@ impl Progress {
 
     /// Closes the innermost case, which has no part in the result; without one the search is over.
     #[tactic(auto, using(crate::proofs::Ending::ends_same, crate::proofs::Ending::ends_refl))]
-    fn close(&mut self) -> Option<Due>
+    fn close(&mut self) -> Option<Pause>
         requires back { IsBack self.old }
         requires undone { HasUndo self.old.machine.stack → ⊥ }
         requires tried { self.old.machine.mode ≡ Mode.Back Outcome.Fail → HasChoice self.old.machine.stack → ⊥ }
@@ -291,12 +292,12 @@ impl Progress {
         requires caught { HasCatcher self.old.machine.stack → throws_to (depth_of self.old.machine - 1) self.old.machine.mode ≡ true → ⊥ }
         requires gathered { HasGatherer self.old.machine.stack → self.old.machine.mode ≡ Mode.Back Outcome.Fail → ⊥ }
         ensures on { IfNone result ((P : Given) → Quiet P self.old self.new) }
-        ensures due { IfSome result (λ due. ((P : Given) → Settled P self.new due) × (self.new ≡ self.old)) }
+        ensures due { IfSome result (λ pause. ((P : Given) → PausesAt P self.new pause) × (self.new ≡ self.old)) }
         ensures walks { EndsWalks self.old.machine.stack self.new.machine.stack }
     {
         match self.machine.stack.close() {
             Some(_) => None,
-            None => Some(Due::Over),
+            None => Some(Pause::Over),
         }
     }
 
@@ -332,6 +333,16 @@ impl Progress {
     {
         let stack = &self.machine.stack;
         stack.is_branch() || stack.is_clauses() || stack.is_answers()
+    }
+}
+
+/// What is due where the search pauses.
+fn paused(pause: Option<Pause>) -> Option<Due>
+    ensures { result ≡ option_map Due.Paused pause }
+{
+    match pause {
+        Some(pause) => Some(Due::Paused(pause)),
+        None => None,
     }
 }
 

@@ -19,15 +19,17 @@ ghost use Rattle.plstack.specs.Frames.{IsSpotSeen};
 ghost use Rattle.plstack.specs.State.{HasWalk};
 ghost use Rattle.plstack.specs.Walks.{AtWalk};
 ghost use Rattle.plstack.specs.declared.frame.Ahead.{Ahead as OfAhead};
+ghost use Rattle.plstack.specs.declared.frame.Point.{Point as OfPoint};
 ghost use Rattle.plstack.specs.declared.frame.Spot.TheVariants.{Known as KnownOf};
+ghost use Rattle.plstack.specs.declared.frame.Walk.{Walk as OfWalk};
 ghost use Rattle.plmachine.specs.Machine.{IsTied};
 ghost use Rattle.plsolver.specs.Asking.{Further, WalkAsked};
 ghost use Rattle.plsolver.specs.Fetching.{like, spot_ahead, ComesToJournal, IsBase};
 ghost use Rattle.plsolver.specs.Going.{head_at, walked_on, IsInView, IsToAsk, LooksBehind, SameCases, WalkedTo};
 ghost use Rattle.plsolver.specs.Knowing.{Holds, IsKnown, Steps};
-ghost use Rattle.plsolver.specs.Solver.{IsOf, Keeps, KeepsRest, Quiet, Settled, Stays};
+ghost use Rattle.plsolver.specs.Solver.{IsOf, Keeps, KeepsRest, Quiet, PausesAt, Stays};
 
-use crate::progress::{Due, Progress};
+use crate::progress::{Pause, Progress};
 use crate::step::{Known, spot_ahead, spot_behind};
 use plcells::cell::Cell;
 use plclause::clause::Clause;
@@ -57,23 +59,40 @@ pub enum Walked {
 
 impl Progress {
     /// The innermost case, a walk, goes on: over the program's text or among own clauses, as far as it takes no answer.
-    pub(crate) fn next_clause(&mut self, program: &Program) -> Result<Option<Due>, AllocError>
+    pub(crate) fn next_clause(&mut self, program: &Program) -> Result<Option<Pause>, AllocError>
         requires fails { self.old.machine.mode ≡ Mode.Back Outcome.Fail }
         requires walk { HasWalk self.old.machine.stack }
         requires of { IsOf program.now self.old.machine }
         ensures on { IfOk result (λ o. IfNone o (Quiet program.now self.old self.new)) }
-        ensures due { IfOk result (λ o. IfSome o (λ due. Settled program.now self.new due × Keeps program.now self.old self.new)) }
+        ensures due { IfOk result (λ o. IfSome o (λ pause. PausesAt program.now self.new pause × Keeps program.now self.old self.new)) }
         ensures err { OnErr result (Keeps program.now self.old self.new) }
         ensures walks { Further self.old.machine.stack self.new.machine.stack }
     {
         let at = self.machine.stack.rewind_walk();
+        // Most walks look at no own clauses.
+        if self.asks(&at) {
+            return Ok(Some(Pause::Fetch));
+        }
+        self.go_through(program)
+    }
+
+    /// A walk that need not ask the journal where it stands goes on.
+    #[inline(never)]
+    fn go_through(&mut self, program: &Program) -> Result<Option<Pause>, AllocError>
+        requires fails { self.old.machine.mode ≡ Mode.Back Outcome.Fail }
+        requires at { (p : OfPoint) × (w : OfWalk) × AtWalk self.old.machine.stack p w }
+        requires of { IsOf program.now self.old.machine }
+        ensures on { IfOk result (λ o. IfNone o (Quiet program.now self.old self.new)) }
+        ensures due { IfOk result (λ o. IfSome o (λ pause. PausesAt program.now self.new pause × Keeps program.now self.old self.new)) }
+        ensures err { OnErr result (Keeps program.now self.old self.new) }
+        ensures walks { Further self.old.machine.stack self.new.machine.stack }
+    {
+        let Some(at) = self.machine.stack.walking() else {
+            unreachable!()
+        };
         if let Spot::Text(number) = at.walk.spot {
             self.retry_text(program, at, number)?;
             return Ok(None);
-        }
-        // Most walks look at no own clauses.
-        if self.asks(&at) {
-            return Ok(Some(Due::Fetch));
         }
         self.walk_through(at)
     }
@@ -93,14 +112,14 @@ impl Progress {
     }
 
     /// A walk in a view goes through own clauses, up to one that fits, to where the journal is to be asked, or to its end.
-    fn walk_through(&mut self, at: Walking) -> Result<Option<Due>, AllocError>
+    fn walk_through(&mut self, at: Walking) -> Result<Option<Pause>, AllocError>
         requires fails { self.old.machine.mode ≡ Mode.Back Outcome.Fail }
         requires at { AtWalk self.old.machine.stack at.point at.walk }
         requires seen { IsSpotSeen self.old.machine.stack.basis.latest at.walk.spot }
         requires viewed { IsInView at.walk.spot }
         requires tied { IsTied self.old.machine }
         ensures on { IfOk result (λ o. IfNone o ((P : Given) → Quiet P self.old self.new)) }
-        ensures due { IfOk result (λ o. IfSome o (λ due. (P : Given) → Settled P self.new due × Keeps P self.old self.new)) }
+        ensures due { IfOk result (λ o. IfSome o (λ pause. (P : Given) → PausesAt P self.new pause × Keeps P self.old self.new)) }
         ensures err { OnErr result ((P : Given) → Keeps P self.old self.new) }
         ensures walks { Further self.old.machine.stack self.new.machine.stack }
     {
@@ -112,7 +131,7 @@ impl Progress {
                     self.machine.mode = mode_of(entered);
                     return Ok(None);
                 }
-                Walked::Asks => return Ok(Some(Due::Fetch)),
+                Walked::Asks => return Ok(Some(Pause::Fetch)),
                 Walked::Over => {
                     self.machine.stack.close();
                     return Ok(None);

@@ -9,11 +9,11 @@ use Rattle.plsolver.proofs.Advancing.{advances_settles, advances_steps}
 use Rattle.plsolver.proofs.Asked.{if_ok_all}
 use Rattle.plsolver.proofs.Further.{further_ends, onward_further, onward_trans}
 use Rattle.plsolver.proofs.Runs.{goes_on}
-use Rattle.plsolver.proofs.Waiting.{is_no_goal}
 use Rattle.plsolver.proofs.progress.Progress.advance.Goals as goal
 
-pub told-requires-clause-another : goal.told-requires-clause-another
-told-requires-clause-another c = is_no_goal c.in_ok-due.due c.in_default.not-Goal
+pub told-requires-clause-due : goal.told-requires-clause-due
+unfolding Settled
+told-requires-clause-due c = rw c.in-Paused.is at c.in_ok-due.ensures.due
 
 pub returns-then-left-eq0-clause-says : goal.returns-then-left-eq0-clause-says
 unfolding Says
@@ -60,8 +60,8 @@ returns-in_err-due-clause-walks c = in_part c.args.program.now c.args.self.now c
 pub returns-then-left-eq0-clause-walks : goal.returns-then-left-eq0-clause-walks
 returns-then-left-eq0-clause-walks c = in_part c.args.program.now c.args.self.now c.loop-due.self c.settle.new.self c.loop-due.invariant.advances c.settle.ensures.used c.settle.ensures.walks
 
-pub returns-in_default-clause-walks : goal.returns-in_default-clause-walks
-returns-in_default-clause-walks c = in_part c.args.program.now c.args.self.now c.loop-due.self c.settle.new.self c.loop-due.invariant.advances c.settle.ensures.used c.settle.ensures.walks
+pub returns-in-Paused-clause-walks : goal.returns-in-Paused-clause-walks
+returns-in-Paused-clause-walks c = in_part c.args.program.now c.args.self.now c.loop-due.self c.settle.new.self c.loop-due.invariant.advances c.settle.ensures.used c.settle.ensures.walks
 
 pub returns-in_err-step-clause-walks : goal.returns-in_err-step-clause-walks
 returns-in_err-step-clause-walks c =
@@ -74,5 +74,5 @@ returns-in_err-step-clause-walks c =
 pub returns-then-left-eq0-clause-advances : goal.returns-then-left-eq0-clause-advances
 returns-then-left-eq0-clause-advances c = advances_settles c.args.program.now c.args.self.now c.loop-due.self c.settle.new.self c.loop-due.invariant.advances c.in_ok-due.ensures.settles
 
-pub returns-in_default-clause-advances : goal.returns-in_default-clause-advances
-returns-in_default-clause-advances c = if_ok_all c.told.result (advances_settles c.args.program.now c.args.self.now c.loop-due.self c.settle.new.self c.loop-due.invariant.advances c.in_ok-due.ensures.settles)
+pub returns-in-Paused-clause-advances : goal.returns-in-Paused-clause-advances
+returns-in-Paused-clause-advances c = if_ok_all c.told.result (advances_settles c.args.program.now c.args.self.now c.loop-due.self c.settle.new.self c.loop-due.invariant.advances c.in_ok-due.ensures.settles)

@@ -9,7 +9,7 @@ use Rattle.plmachine.specs.declared.machine.Mode.TheVariants as modes
 use Rattle.plstack.proofs.Growing.{if_ok}
 use Rattle.plsolver.specs.declared.progress.Progress.{Progress}
 use Rattle.plsolver.specs.Asking.{activations, in_cases, SeeksOn}
-use Rattle.plsolver.specs.Solver.{Keeps, Settled}
+use Rattle.plsolver.specs.Solver.{Keeps, PausesAt}
 use Rattle.plsolver.proofs.Asked.{all-on}
 use Rattle.plsolver.proofs.Ending.{ends_refl}
 use Rattle.plsolver.proofs.Finding.{named-exists}
@@ -22,7 +22,7 @@ pub returns-in_err-is_named-clause-walks : goal.returns-in_err-is_named-clause-w
 returns-in_err-is_named-clause-walks c = onward_ends c.args.self.now.machine c.args.self.now.machine.stack (ends_refl _)
 
 pub returns-then-not-branch-clause-due : goal.returns-then-not-branch-clause-due
-unfolding Settled
+unfolding PausesAt
 returns-then-not-branch-clause-due c =
     (c.args.view.place, Query.Exists (indicator (value c.args.self.now.machine.stack.env.heap c.args.head)), inl (finds.All c.args.head c.args.view, c.requires.finds, refl, (sym c.in_ok-is_named.ensures ∙ c.if-not-branch.true, refl)))
 

@@ -11,7 +11,7 @@ use Rattle.plmachine.specs.declared.machine.Machine.{Machine as Reached}
 use Rattle.plmachine.specs.Machine.{IsPlain, MayAsk}
 use Rattle.plsolver.specs.Fetching.{like}
 use Rattle.plsolver.specs.Knowing.{Steps}
-use Rattle.plsolver.specs.Solver.{Settled}
+use Rattle.plsolver.specs.Solver.{PausesAt}
 use Rattle.plsolver.specs.Asking.{activations, Onward}
 use Rattle.plsolver.proofs.Asked.{becomes-own}
 use Rattle.plsolver.proofs.Ending.{ends_refl, ends_same}
@@ -55,7 +55,7 @@ returns-in_ok-walk_from-in-Next-clause-walks c =
     subst (Onward 0 (activations c.args.self.now.machine)) (plain_cases t (subst (λ (n : Reached). IsPlain n.mode) (sym c.in_ok-walk_from-in-Next.ensures.ok.frame) tt)) (returns-in_ok-walk_from-in-Next-clause-asks c)
 
 pub returns-in-Asks-clause-due : goal.returns-in-Asks-clause-due
-unfolding Settled
+unfolding PausesAt
 returns-in-Asks-clause-due c =
     let s = c.args.self.now.machine in
     let h = head_in c.args.sought.uses (value s.stack.env.heap c.args.sought.goal) in

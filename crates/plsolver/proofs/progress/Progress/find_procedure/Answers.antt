@@ -5,7 +5,7 @@ use Rattle.plstore.specs.declared.query.Query.{Query}
 use Rattle.plmachine.specs.declared.machine.Find.TheVariants as finds
 use Rattle.plmachine.specs.declared.machine.Mode.TheVariants as modes
 use Rattle.plmachine.specs.declared.machine.Outcome.TheVariants as outcomes
-use Rattle.plsolver.specs.Solver.{Settled}
+use Rattle.plsolver.specs.Solver.{PausesAt}
 use Rattle.plsolver.specs.Asking.{activations}
 use Rattle.plsolver.proofs.Ending.{ends_refl}
 use Rattle.plsolver.proofs.Finding.{named-exists, there-fails}
@@ -17,7 +17,7 @@ pub returns-in_err-is_named-clause-walks : goal.returns-in_err-is_named-clause-w
 returns-in_err-is_named-clause-walks c = onward_ends c.args.self.now.machine c.args.self.now.machine.stack (ends_refl _)
 
 pub returns-then-not-branch-clause-due : goal.returns-then-not-branch-clause-due
-unfolding Settled
+unfolding PausesAt
 returns-then-not-branch-clause-due c =
     (c.args.view.place, Query.Exists (indicator (value c.args.self.now.machine.stack.env.heap c.args.goal)), inl (finds.Exists c.args.goal c.args.view, c.requires.finds, refl, (sym c.in_ok-is_named.ensures ∙ c.if-not-branch.true, refl)))
 

@@ -1,6 +1,6 @@
 use Rattle.std.proofs.Common.{◌≡◌, ◌∙◌}
 use Rattle.plstack.specs.State.{walks_in, EndsWalks, State}
-use Rattle.plsolver.specs.Solver.{Settled}
+use Rattle.plsolver.specs.Solver.{PausesAt}
 use Rattle.plsolver.proofs.Asked.{seeks-trans}
 use Rattle.plsolver.proofs.Keeping.{keeps_trans}
 use Rattle.plsolver.proofs.Ending.{ends_same, ends_trans}
@@ -15,7 +15,7 @@ pub returns-in_err-sweep_on-clause-walks : goal.returns-in_err-sweep_on-clause-w
 returns-in_err-sweep_on-clause-walks c = onward_ends c.args.self.now.machine c.sweep_on.new.self.machine.stack (ends_same (walks_in c.args.self.now.machine.stack) (walks_in c.sweep_on.new.self.machine.stack) (c.sweep_on.ensures.walks ∙ c.sweep.invariant.walks))
 
 pub returns-in-Asks-clause-due : goal.returns-in-Asks-clause-due
-unfolding Settled
+unfolding PausesAt
 returns-in-Asks-clause-due c = rw c.in-Asks.is at c.in_ok-sweep_on.ensures.ok
 
 pub returns-in-Asks-clause-walks : goal.returns-in-Asks-clause-walks

@@ -1,7 +1,7 @@
 use Rattle.std.proofs.Common.{◌∙◌, refl, sym, subst, ap, inr}
 use Rattle.plmachine.specs.declared.machine.Mode.{Mode}
 use Rattle.plmachine.proofs.Moves.{on_err, tied-as}
-use Rattle.plsolver.specs.Solver.{QuietIn, Settled}
+use Rattle.plsolver.specs.Solver.{QuietIn, PausesAt}
 use Rattle.plsolver.proofs.Further.{further_ends, further_refl, further_trans}
 use Rattle.plsolver.proofs.Through.{closes-through, keeps-through, over-trans, visits-through}
 use Rattle.plsolver.proofs.progress.Progress.walk_through.Goals as goal
@@ -57,7 +57,7 @@ pub returns-in-Into-clause-walks : goal.returns-in-Into-clause-walks
 returns-in-Into-clause-walks c = further_trans c.args.self.now.machine.stack c.walk.self.machine.stack c.walk_on.new.self.machine.stack c.walk.invariant.walks c.walk_on.ensures.walks
 
 pub returns-in-Asks-clause-due : goal.returns-in-Asks-clause-due
-unfolding Settled
+unfolding PausesAt
 returns-in-Asks-clause-due c = λ P.
     let i = c.walk.invariant in
     let s = c.args.self.now in
