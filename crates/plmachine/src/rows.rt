@@ -39,6 +39,17 @@ impl Machine {
         ensures own { (db : Database) (own : List Update) → IsOwnSoFar self.old.stack.basis.latest db own → cases_of (record db { own = own }) self.old.stack ≡ cases_of db self.old.stack }
     {
         self.stack.visit(list);
+        // A mode is wide, and mostly it is this one already.
+        if !matches!(self.mode, Mode::Visit) {
+            self.turn_to_goals();
+        }
+    }
+
+    /// The visited list is what is gone on with.
+    #[inline(never)]
+    fn turn_to_goals(&mut self)
+        ensures { self.new ≡ record self.old { mode = Mode.Visit } }
+    {
         self.mode = Mode::Visit;
     }
 

@@ -59,7 +59,7 @@ impl Progress {
     {
         let selected = match self.machine.stack.first() {
             First::Nothing => {
-                self.machine.mode = Mode::Back(Outcome::Stop);
+                self.succeed();
                 return Ok(None);
             }
             First::Marker(kind, level, rest) => {
@@ -82,10 +82,26 @@ impl Progress {
         ensures frame { self.new ≡ record self.old { machine = record self.old.machine { mode = self.new.machine.mode } } }
     {
         if self.used == self.limit {
-            self.machine.mode = Mode::Back(Outcome::Spent);
+            self.spend();
             return None;
         }
         Some(Due::Goal(selected))
+    }
+
+    /// No goal is left: the list has succeeded. A mode is wide, so that the turns that set none are kept free of it.
+    #[inline(never)]
+    fn succeed(&mut self)
+        ensures { self.new ≡ record self.old { machine = record self.old.machine { mode = Mode.Back Outcome.Stop } } }
+    {
+        self.machine.mode = Mode::Back(Outcome::Stop);
+    }
+
+    /// No step is left.
+    #[inline(never)]
+    fn spend(&mut self)
+        ensures { self.new ≡ record self.old { machine = record self.old.machine { mode = Mode.Back Outcome.Spent } } }
+    {
+        self.machine.mode = Mode::Back(Outcome::Spent);
     }
 
     /// One turn at a marker.

@@ -1,6 +1,6 @@
 -- Frames that are put on a stack and taken off.
-use Rattle.std.proofs.Common.{◌≡◌, ℕ, zero, suc, ◌+◌, ◌-◌, ◌<◌, List, [], ◌∷◌, ◌++◌, length, length-append, slice_set, refl, sym, ap, ap₂, ◌∙◌, subst, arith, reverse, ◌⊎◌, inl, inr}
-use Rattle.std.proofs.Math.Seq.{set-append_seam}
+use Rattle.std.proofs.Common.{◌≡◌, ℕ, zero, suc, ◌+◌, ◌-◌, ◌<◌, List, [], ◌∷◌, ◌++◌, length, length-append, get_or, slice_set, refl, sym, ap, ap₂, ◌∙◌, subst, arith, reverse, ◌⊎◌, inl, inr}
+use Rattle.std.proofs.Math.Seq.{set-append_seam, get_or-append_seam}
 use Rattle.platoms.specs.Names.{Extends as ExtendsNames}
 use Rattle.plcode.specs.Steps.{goals_from}
 use Rattle.plcode.specs.Callees.{Compiled}
@@ -227,6 +227,11 @@ pub set-last : (frames rest : List Frame) (f g : Frame) (n : ℕ) → frames ≡
 set-last frames rest f g n e many =
     let at : n - 1 ≡ length rest = omega (arith, many, ap length e, length-append rest (f ∷ [])) in
     ap₂ (λ fs i. slice_set fs i g) e at ∙ set-append_seam rest f [] g
+
+pub get-last : (frames rest : List Frame) (f d : Frame) (n : ℕ) → frames ≡ rest ++ f ∷ [] → n ≡ length frames → get_or frames (n - 1) d ≡ f
+get-last frames rest f d n e many =
+    let at : n - 1 ≡ length rest = omega (arith, many, ap length e, length-append rest (f ∷ [])) in
+    ap₂ (λ fs i. get_or fs i d) e at ∙ get_or-append_seam rest f [] d
 
 pub counts-new : (old new : List Frame) (n : ℕ) → 0 < n → new ≡ old ++ Plain n ∷ [] → CountsUp n (reverse old) (reverse new)
 counts-new old new n some is =

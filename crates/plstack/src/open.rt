@@ -252,10 +252,32 @@ pub(crate) fn count_up(frames: &mut Vec<Frame>, n: u64)
     match plain_in(frames) {
         Some(m) if m <= u64::MAX - n => {
             let last = frames.len() - 1;
-            frames[last] = Frame::Plain(m + n);
+            count_on(&mut frames[last], n);
         }
-        _ => push_frame(frames, Frame::Plain(n)),
+        _ => push_plain(frames, n),
     }
+}
+
+/// So many more in a frame of choices with nothing left.
+fn count_on(frame: &mut Frame, n: u64)
+    requires { (m : ℕ) × (frame.old ≡ Frame.Plain m) × (m + n < 2 ^ 64) }
+    ensures { (m : ℕ) → frame.old ≡ Frame.Plain m → frame.new ≡ Frame.Plain (m + n) }
+{
+    if let Frame::Plain(m) = frame {
+        *m += n;
+    }
+}
+
+/// A new frame of so many choices with nothing left. A frame is wide, so that it is made apart.
+#[inline(never)]
+fn push_plain(frames: &mut Vec<Frame>, n: u64)
+    requires some { 0 < n }
+    requires room { vec_len frames.old < vec_capacity frames.old }
+    ensures counts { CountsUp n (reverse frames.old.items) (reverse frames.new.items) }
+    ensures len { vec_len frames.new ≡ vec_len frames.old + 1 }
+    ensures capacity { vec_capacity frames.old ≤ vec_capacity frames.new }
+{
+    push_frame(frames, Frame::Plain(n));
 }
 
 /// How many choices with nothing left the newest frame is, if it is such a one.

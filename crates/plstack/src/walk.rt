@@ -16,6 +16,8 @@ ghost use Rattle.plstack.specs.State.{cases_of, depth_in, goals_of, place_of, wa
 ghost use Rattle.plstack.specs.Cutting.{Settles};
 ghost use Rattle.plstack.specs.Trials.{ComesBack, IsMarked, IsOpened, ListsBody, PutsBody, PutsHead, Resolved};
 ghost use Rattle.plstack.specs.Walks.{AtWalk, EndsPlain, Finds, FitsCall, GoesOn, IsWalking, LeftSame, Moves, OpensWalk};
+ghost use Rattle.plstack.specs.declared.frame.Point.{Point as OfPoint};
+ghost use Rattle.plstack.specs.declared.frame.Walk.{Walk as OfWalk};
 
 use crate::copier::Copier;
 use crate::frame::{Frame, Marks, Point, Resume, Spot, Use, Walk};
@@ -433,7 +435,7 @@ impl Stack {
         ensures basis { self.new.basis ≡ self.old.basis }
     {
         match next {
-            Some(spot) => self.replace_walk(at, spot),
+            Some(spot) => self.replace_walk(spot),
             None => {
                 let marks = at.point.marks;
                 self.empty_walk(at);
@@ -443,24 +445,16 @@ impl Stack {
     }
 
     /// The innermost case, a walk, stands at another spot.
-    fn replace_walk(&mut self, at: Walking, spot: Spot)
-        requires walking { IsWalking self.old at.point at.walk }
+    fn replace_walk(&mut self, spot: Spot)
+        requires walking { (p : OfPoint) × (w : OfWalk) × IsWalking self.old p w }
         requires seen { IsSpotSeen self.old.basis.latest spot }
-        ensures goes { (db : Database) → GoesOn db self.old self.new at.point at.walk (Some spot) }
-        ensures moves { Moves self.old self.new at.walk (Some spot) }
-        ensures walking { IsWalking self.new at.point (record at.walk { spot = spot }) }
+        ensures goes { (p : OfPoint) (w : OfWalk) → IsWalking self.old p w → (db : Database) → GoesOn db self.old self.new p w (Some spot) }
+        ensures moves { (p : OfPoint) (w : OfWalk) → IsWalking self.old p w → Moves self.old self.new w (Some spot) }
+        ensures walking { (p : OfPoint) (w : OfWalk) → IsWalking self.old p w → IsWalking self.new p (record w { spot = spot }) }
         ensures same { self.new ≡ record self.old { frames = self.new.frames } }
     {
-        let Walking { point, walk } = at;
-        let Some(_) = self.frames.pop() else {
-            unreachable!()
-        };
-        let left = Walk {
-            goal: walk.goal,
-            uses: walk.uses,
-            spot,
-        };
-        push_frame(&mut self.frames, Frame::Open(point, Resume::Walk(left)));
+        let last = self.frames.len() - 1;
+        stand_at(&mut self.frames[last], spot);
     }
 
     /// Of the innermost case, a walk, nothing is left.
@@ -500,5 +494,15 @@ impl Stack {
         if opened.is_last {
             self.settle(opened.marks);
         }
+    }
+}
+
+/// The walk of a frame stands at another spot.
+fn stand_at(frame: &mut Frame, spot: Spot)
+    requires { (p : OfPoint) × (w : OfWalk) × (frame.old ≡ Frame.Open p (Resume.Walk w)) }
+    ensures { (p : OfPoint) (w : OfWalk) → frame.old ≡ Frame.Open p (Resume.Walk w) → frame.new ≡ Frame.Open p (Resume.Walk (record w { spot = spot })) }
+{
+    if let Frame::Open(_, Resume::Walk(walk)) = frame {
+        walk.spot = spot;
     }
 }

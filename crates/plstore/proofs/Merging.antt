@@ -4,6 +4,8 @@ use Rattle.std.specs.Prelude.{◌&&◌, not}
 use Rattle.std.proofs.lemmas.Bool.Decides.{nat_tests}
 use Rattle.plterm.specs.declared.indicator.Indicator.{Indicator}
 use Rattle.plevent.specs.declared.key.Key.{Key}
+use Rattle.plevent.specs.declared.key.Key.TheVariants.{Any, Int, Atom, Functor}
+use Rattle.plevent.specs.Keys.{first_key, may_fit}
 use Rattle.plevent.specs.declared.update.ClauseName.{ClauseName}
 use Rattle.plevent.specs.Alive.{add_if, is_of, or_else}
 use Rattle.plstore.specs.declared.chain.Chain.{Chain}
@@ -341,3 +343,34 @@ found-behind true g p k x rs i r o one is shown front e = shown-front g p k x rs
 found-behind false g p k x rs i r o one is shown front e =
     let q : length rs - (length rs - suc i) ≡ suc i = omega (arith, one.within) in
     shown-back g p k x rs i r o one is shown front (e ∙ ap (λ n. first_like k (up (is_of p) g rs n)) q)
+
+-- ---- along one chain
+
+add-same : {A : Type 0} (b : Bool) (x : A) → add_if b x x ≡ x
+add-same true x = refl
+add-same false x = refl
+
+pub first-one : (f : Bool) (x : Option ℕ) → first_head f x x ≡ x
+first-one f None = refl
+first-one f (Some i) = ap Some (add-same (comes f i i) i)
+
+pub moved-one : (i : ℕ) (link x : Option ℕ) → x ≡ Some i → link ≡ moved i link x
+moved-one i link x e = sym (ap (moved i link) e ∙ ap (λ b. add_if b link (Some i)) (nat-self i))
+
+and-true : (b : Bool) → b && true ≡ b
+and-true true = refl
+and-true false = refl
+
+any-fits : (k : Key) → may_fit Any k ≡ true
+any-fits Any = refl
+any-fits (Int j) = refl
+any-fits (Atom r) = refl
+any-fits (Functor r m) = refl
+
+-- a record of the procedure suits a goal of any key
+pub any-suits : (f : Bool) (p : Indicator) (k : Key) (g : ℕ) (rs : List Record) (i : ℕ) (r : Record) → k ≡ Any → get_or (marks f (is_of p) rs) i false ≡ true → r ≡ get_or rs i r → is_met g p k r ≡ seen g r
+any-suits f p k g rs i r any mark er =
+    let at : is_of p (get_or rs i r).clause ≡ true = side-class f (is_of p) (get_or rs i r) (sym (marks-is f (is_of p) rs i r (mark-in f (is_of p) rs i mark)) ∙ mark) in
+    let of : is_of p r.clause ≡ true = subst (λ (z : Record). is_of p z.clause ≡ true) (sym er) at in
+    let fit : fits k (own r) ≡ true = ap (λ (q : Key). fits q (own r)) any ∙ any-fits (first_key r.clause.head) in
+    ap₂ (λ a b. seen g r && (a && b)) fit of ∙ and-true (seen g r)

@@ -1,19 +1,23 @@
 //! From one clause of a walk to the next.
-ghost use Rattle.std.specs.Prelude.{◌≡◌, ◌<◌, IfSome, false, length};
+ghost use Rattle.std.specs.Prelude.{◌≡◌, ◌<◌, IfSome, Some, false, length};
 ghost use Rattle.plevent.specs.declared.update.ClauseName.{ClauseName as Named};
+ghost use Rattle.plevent.specs.declared.key.Key.TheVariants.{Any};
+ghost use Rattle.plstore.specs.Chains.{in_chain};
 ghost use Rattle.plstore.specs.Kept.{behind_all, picked, walk};
 ghost use Rattle.plstore.specs.Like.{first_like, past};
-ghost use Rattle.plstore.specs.Merged.{found_from, IsMerged};
+ghost use Rattle.plstore.specs.Links.{Marked};
+ghost use Rattle.plstore.specs.Merged.{found, found_from, IsMerged};
+ghost use Rattle.plstore.specs.Parts.{marks};
 ghost use Rattle.plstore.specs.Rising.{IsRising, OneIs};
 ghost use Rattle.plstore.specs.Tables.{Chained};
 
-use crate::chain::{Merged, merge};
+use crate::chain::{Chain, Merged, merge};
 use crate::named::find;
 use crate::part::Part;
 use crate::sought::Sought;
 use crate::tables::Tables;
-use crate::walk::{heads, heads_behind, record_at, seek};
-use plevent::ClauseName;
+use crate::walk::{heads, onward, record_at, seek, seek_any};
+use plevent::{ClauseName, Key};
 
 /// The name of the first clause that is sought.
 pub(crate) fn first_sought(tables: &Tables, sought: &Sought<'_>) -> Option<ClauseName>
@@ -91,26 +95,28 @@ fn sought_behind(tables: &Tables, sought: &Sought<'_>, number: usize) -> Option<
     if !sought.is_shown(one) {
         return None;
     }
+    if !one.front && matches!(sought.key, Key::Any) {
+        return any_behind(tables, sought, number);
+    }
     let part = Part {
         front: one.front,
         behind: Some(number),
     };
-    if !part.front {
-        return found_behind(tables, sought, part);
-    }
     sought_from(tables, sought, part)
 }
 
-/// The name of the first one of a part behind a record that was put behind.
-fn found_behind(tables: &Tables, sought: &Sought<'_>, part: Part) -> Option<ClauseName>
-    requires back { part.front ≡ false }
+/// The same for a goal of any key, behind a record of the procedure that was put behind: along the links of the procedure alone.
+fn any_behind(tables: &Tables, sought: &Sought<'_>, number: usize) -> Option<ClauseName>
+    requires any { sought.now.key.now ≡ Any }
+    requires held { Marked (marks false (in_chain sought.now.pred.now Chain.Procedure) tables.now.records.items) (Some number) }
     requires chained { Chained tables.now }
-    requires within { IfSome part.behind (λ i. i < length tables.now.records.items) }
-    ensures { result ≡ found_from sought.now tables.now.records.items part }
+    requires within { number < length tables.now.records.items }
+    ensures { result ≡ found sought.now tables.now.records.items (record { front = false; behind = Some number }) }
 {
-    let merged = merge(sought);
-    let Some(at) = heads_behind(tables, sought, &merged, part) else {
-        return merged_from(tables, sought, &merged, part);
+    let part = Part {
+        front: false,
+        behind: Some(number),
     };
-    seek(tables, sought, &merged, part, at)
+    let at = onward(tables, sought, Chain::Procedure, part, part.behind);
+    seek_any(tables, sought, part, at)
 }

@@ -1,5 +1,6 @@
 //! The walk over the clauses of two chains, merged by place.
 ghost use Rattle.std.specs.Prelude.{◌≡◌, ◌<◌, IfSome, Some, length, slice_index_or, true};
+ghost use Rattle.plevent.specs.declared.key.Key.TheVariants.{Any};
 ghost use Rattle.plstore.specs.Chains.{in_chain};
 ghost use Rattle.plstore.specs.Links.{Marked};
 ghost use Rattle.plstore.specs.Merged.{found, IsMerged, MayBegin, MayStand};
@@ -43,6 +44,32 @@ pub(crate) fn seek(
     None
 }
 
+/// The same for a goal of any key, along the links of the procedure: each record there is one of its clauses.
+pub(crate) fn seek_any(
+    tables: &Tables,
+    sought: &Sought<'_>,
+    part: Part,
+    from: Option<usize>,
+) -> Option<ClauseName>
+    requires chained { Chained tables.now }
+    requires any { sought.now.key.now ≡ Any }
+    requires from { MayBegin tables.now sought.now Chain.Procedure part from }
+    requires within { IfSome part.behind (λ i. i < length tables.now.records.items) }
+    ensures { result ≡ found sought.now tables.now.records.items part }
+{
+    let records = tables.records.as_slice();
+    let links = &tables.by_procedure;
+    let mut at = from;
+    while let Some(number) = at {
+        let record = record_at(records, number);
+        if record.is_seen(sought.g) {
+            return Some(record.name);
+        }
+        at = links.next_behind(number, sought.g);
+    }
+    None
+}
+
 /// Where the walk over a part stands in both chains at its beginning.
 pub(crate) fn heads(
     tables: &Tables,
@@ -64,29 +91,6 @@ pub(crate) fn heads(
     }
     let any = start(tables, sought, merged.any, ends.any, part);
     Heads { own, any }
-}
-
-/// The same where both are one chain, and the part begins behind a record of it: its ends are not asked for.
-pub(crate) fn heads_behind(
-    tables: &Tables,
-    sought: &Sought<'_>,
-    merged: &Merged,
-    part: Part,
-) -> Option<Heads>
-    requires chained { Chained tables.now }
-    requires within { IfSome part.behind (λ i. i < length tables.now.records.items) }
-    ensures own { IfSome result (λ at. MayBegin tables.now sought.now merged.now.own part at.own) }
-    ensures any { IfSome result (λ at. MayBegin tables.now sought.now merged.now.any part at.any) }
-{
-    if !merged.is_one() {
-        return None;
-    }
-    let held = held(tables, sought, merged.own, part)?;
-    let next = onward(tables, sought, merged.own, part, Some(held));
-    Some(Heads {
-        own: next,
-        any: next,
-    })
 }
 
 /// The first record of a chain in a part, but for those that are not seen.
@@ -111,7 +115,7 @@ fn start(
 }
 
 /// The first record of a chain in a part, but for those that are not seen, from one on.
-fn onward(
+pub(crate) fn onward(
     tables: &Tables,
     sought: &Sought<'_>,
     chain: Chain,
@@ -148,8 +152,8 @@ fn close(
     if part.has(ends.first(part.front)?) {
         return None;
     }
-    if let Some(here) = held(tables, sought, chain, part) {
-        return Some(here);
+    if is_held(tables, sought, chain, part.front, number) {
+        return Some(number);
     }
     let newest = ends.newest(part.front)?;
     let before = near(chain.links(tables), part.front, newest, number, sought.g);
@@ -157,17 +161,6 @@ fn close(
         return None;
     }
     Some(before)
-}
-
-/// The record behind which a part begins, if it is one of a chain.
-fn held(tables: &Tables, sought: &Sought<'_>, chain: Chain, part: Part) -> Option<usize>
-    ensures { IfSome result (λ i. MayStand part.front (in_chain sought.now.pred.now chain) sought.now.g tables.now.records.items (extent part (length tables.now.records.items)) (Some i)) }
-{
-    let number = part.behind?;
-    if !is_held(tables, sought, chain, part.front, number) {
-        return None;
-    }
-    Some(number)
 }
 
 /// Whether there is such a record on a side of a chain.

@@ -13,10 +13,10 @@ pub returns-clause-on : goal.returns-clause-on
 returns-clause-on c = if_closes _ c.due.result c.due.ensures.on c.args.program.now
 
 pub returns-in-Nothing-clause-on : goal.returns-in-Nothing-clause-on
-returns-in-Nothing-clause-on c = λ v ordered. quiet-stop c.args.program.now v c.args.self.now c.requires.visits c.in-Nothing.ensures
+returns-in-Nothing-clause-on c = λ v ordered. rw c.succeed.ensures (quiet-stop c.args.program.now v c.args.self.now c.requires.visits c.in-Nothing.ensures)
 
 pub returns-in-Nothing-clause-walks : goal.returns-in-Nothing-clause-walks
-returns-in-Nothing-clause-walks c = ends_refl _
+returns-in-Nothing-clause-walks c = subst (λ x. EndsWalks c.args.self.now.machine.stack x.machine.stack) (sym c.succeed.ensures) (ends_refl _)
 
 pub pass_marker-requires-clause-tied : goal.pass_marker-requires-clause-tied
 pass_marker-requires-clause-tied c = visits-tied c.args.program.now c.args.self.now.machine c.requires.visits c.requires.of

@@ -24,7 +24,16 @@ returns-in-Some-clause-place c = place-framed c.args.self.now c.replace_walk.new
 
 pub returns-in-Some-clause-walking : goal.returns-in-Some-clause-walking
 returns-in-Some-clause-walking c spot is =
-    subst (λ (x : Spot). IsWalking c.replace_walk.new.self c.args.at.point (record c.args.at.walk { spot = x })) (same-spot c.in-Some.spot spot (sym c.in-Some.is ∙ is)) c.replace_walk.ensures.walking
+    subst (λ (x : Spot). IsWalking c.replace_walk.new.self c.args.at.point (record c.args.at.walk { spot = x })) (same-spot c.in-Some.spot spot (sym c.in-Some.is ∙ is)) (c.replace_walk.ensures.walking c.args.at.point c.args.at.walk c.requires.walking)
 
 pub returns-in-None-clause-moves : goal.returns-in-None-clause-moves
 returns-in-None-clause-moves c = rw c.in-None.is (moves-between c.args.self.now c.args.self.now c.empty_walk.new.self c.settle.new.self c.args.at.walk None refl c.settle.ensures.frames c.empty_walk.ensures.moves)
+
+pub replace_walk-requires-clause-walking : goal.replace_walk-requires-clause-walking
+replace_walk-requires-clause-walking c = (c.args.at.point, c.args.at.walk, c.requires.walking)
+
+pub returns-in-Some-clause-goes : goal.returns-in-Some-clause-goes
+returns-in-Some-clause-goes c = λ db. rw c.in-Some.is (c.replace_walk.ensures.goes c.args.at.point c.args.at.walk c.requires.walking db)
+
+pub returns-in-Some-clause-moves : goal.returns-in-Some-clause-moves
+returns-in-Some-clause-moves c = rw c.in-Some.is (c.replace_walk.ensures.moves c.args.at.point c.args.at.walk c.requires.walking)
