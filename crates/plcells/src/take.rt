@@ -73,12 +73,22 @@ impl Heap {
         Ok(())
     }
 
+    /// How many nodes the term of a value has at least: as many as it has where each of its arguments is an atom, a number or a variable.
+    fn width(&self, v: Cell) -> usize
+        requires { IsValue self.now v }
+    {
+        match self.root(v) {
+            Cell::Str(p) => self.block(p).1 as usize + 1,
+            _ => 1,
+        }
+    }
+
     /// The term of a value, its variables by their numbers. Parts that are shared on the heap are written out each time.
     pub fn take(&self, alloc: Global, v: Cell) -> Result<Term, AllocError>
         requires { IsValue self.now v }
         ensures { IfOk result (λ t. t ≡ value self.now v) }
     {
-        let mut nodes = Vec::new(alloc);
+        let mut nodes = Vec::with_capacity(alloc, self.width(v))?;
         let mut stack = Vec::new(alloc);
         self.take_nodes(&mut nodes, &mut stack, v)?;
         Ok(Term::from_prefix(nodes))

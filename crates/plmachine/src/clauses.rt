@@ -95,9 +95,7 @@ impl Machine {
         if let Some(error) = unchangeable(self.alloc, program, &procedure)? {
             return self.raise_of(program, error, source, rest);
         }
-        let mut updates = Vec::new(self.alloc);
-        updates.push(update_of(side, clause))?;
-        self.publish(program, updates, rest)
+        self.publish_one(program, update_of(side, clause), rest)
     }
 
     /// clause/2.

@@ -1,7 +1,7 @@
 //! Clauses that are looked up, and updates that are made: of what is open at once, or else by what is asked.
 //!
 //! A row that is refused memory leaves the search where it was.
-ghost use Rattle.std.specs.Prelude.{◌≡◌, ℕ, ◌∷◌, List, IfOk, OnOk, OnErr};
+ghost use Rattle.std.specs.Prelude.{◌≡◌, ℕ, [], ◌∷◌, List, IfOk, OnOk, OnErr};
 ghost use Rattle.plcells.specs.Store.{value};
 ghost use Rattle.plevent.specs.Search.{Answer};
 ghost use Rattle.pltx.specs.Own.{any_open};
@@ -97,6 +97,29 @@ impl Machine {
             return Ok(());
         }
         let request = Request::Publish(Batch::new(updates));
+        self.ask(program, Question::Await(request, Then::GoesOn), rest);
+        Ok(())
+    }
+
+    /// The same of one update.
+    pub fn publish_one(
+        &mut self,
+        program: &Program,
+        update: Update,
+        rest: Continuation,
+    ) -> Result<(), AllocError>
+        requires rest { IsList self.old.stack rest }
+        requires fits { IsFit self.old.stack rest }
+        requires tied { IsTied self.old }
+        ensures ok { OnOk result (Moved program.now self.old self.new (publish (update ∷ []) (goals_of self.old.stack rest) self.old.stack.env.count (local_of self.old))) }
+        ensures err { OnErr result (Stays program.now self.old self.new) }
+    {
+        if self.layer.is_open() {
+            self.layer.make_one(update)?;
+            self.go_on(rest);
+            return Ok(());
+        }
+        let request = Request::Publish(Batch::of(update));
         self.ask(program, Question::Await(request, Then::GoesOn), rest);
         Ok(())
     }

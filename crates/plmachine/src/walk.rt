@@ -70,10 +70,8 @@ impl Machine {
         ensures ok { OnOk result (Moved program.now self.old self.new (publish (Declare p ∷ []) (goals_of self.old.stack self.old.stack.goals) self.old.stack.env.count (local_of self.old))) }
         ensures err { OnErr result (Stays program.now self.old self.new) }
     {
-        let mut updates = Vec::new(self.alloc);
-        updates.push(Update::Declare(p))?;
         let rest = self.stack.visited();
-        self.publish(program, updates, rest)
+        self.publish_one(program, Update::Declare(p), rest)
     }
 }
 

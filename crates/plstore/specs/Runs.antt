@@ -32,7 +32,7 @@ pub record IsRun (c : Class) (rs : List Record) (i : ℕ) (r : Run) : Type 0 whe
   pub up : slice_index_or (backs c rs) i false ≡ true → IsRunUp (backs c rs) rs i r
 
 abbrev pub no_place : Place
-no_place = record { run = None; from = None; group = record { up = 0; size = 0; first = 0 }; leap = record { to = 0; over = 0 } }
+no_place = record { run = None; from = 0; group = record { up = 0; size = 0; first = 0 }; leap = record { to = 0; over = 0 } }
 
 -- each run that is noted is one
 pub record HasRuns (c : Class) (rs : List Record) (places : List Place) : Type 0 where

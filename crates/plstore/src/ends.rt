@@ -13,9 +13,19 @@ use std::hash::Hash;
 #[derive(Clone, Copy)]
 pub(crate) struct Ends {
     pub(crate) since: Option<u64>,
-    pub(crate) newest_front: Option<usize>,
-    pub(crate) oldest_back: Option<usize>,
-    pub(crate) newest_back: Option<usize>,
+    pub(crate) newest_front: Option<u32>,
+    pub(crate) oldest_back: Option<u32>,
+    pub(crate) newest_back: Option<u32>,
+}
+
+/// The number of a record as an index.
+pub(crate) fn wide(number: Option<u32>) -> Option<usize>
+    ensures { result ≡ number }
+{
+    match number {
+        Some(number) => Some(number as usize),
+        None => None,
+    }
 }
 
 impl Ends {
@@ -44,18 +54,18 @@ impl Ends {
         ensures { result ≡ first_end front self }
     {
         if front {
-            self.newest_front
+            wide(self.newest_front)
         } else {
-            self.oldest_back
+            wide(self.oldest_back)
         }
     }
 
     /// The record of a side that was made last.
     pub(crate) fn newest(self, front: bool) -> Option<usize> {
         if front {
-            self.newest_front
+            wide(self.newest_front)
         } else {
-            self.newest_back
+            wide(self.newest_back)
         }
     }
 }
@@ -111,7 +121,7 @@ pub(crate) fn earlier(since: Option<u64>, place: u64) -> Option<u64>
 }
 
 /// The ends after one more record.
-pub(crate) fn grown(ends: Ends, front: bool, number: usize, place: u64) -> Ends
+pub(crate) fn grown(ends: Ends, front: bool, number: u32, place: u64) -> Ends
     ensures { result ≡ ends_after front number place ends }
 {
     let mut made = ends;
@@ -126,7 +136,7 @@ pub(crate) fn grown(ends: Ends, front: bool, number: usize, place: u64) -> Ends
 }
 
 /// Links one more record, for which there is room, with those of its side.
-pub(crate) fn link(next: &mut Vec<Option<usize>>, front: bool, number: usize, ends: Ends)
+pub(crate) fn link(next: &mut Vec<Option<u32>>, front: bool, number: u32, ends: Ends)
     requires room { vec_len next.old < vec_capacity next.old }
     requires last { (j : ℕ) → ends.newest_back ≡ Some j → j < length next.old.items }
     ensures linked { next.new.items ≡ links_after front number ends next.old.items }
@@ -139,12 +149,12 @@ pub(crate) fn link(next: &mut Vec<Option<usize>>, front: bool, number: usize, en
     }
     append(next, None);
     if let Some(last) = ends.newest_back {
-        next[last] = Some(number);
+        next[last as usize] = Some(number);
     }
 }
 
 /// Takes back the link of the last record, and the one to it.
-pub(crate) fn unlink(next: &mut Vec<Option<usize>>, front: bool, ends: Ends)
+pub(crate) fn unlink(next: &mut Vec<Option<u32>>, front: bool, ends: Ends)
     ensures { (xs : List (Option ℕ)) (n : ℕ) → next.old.items ≡ links_after front n ends xs → WasEnd ends.newest_back xs → next.new.items ≡ xs }
 {
     next.pop();
@@ -152,12 +162,12 @@ pub(crate) fn unlink(next: &mut Vec<Option<usize>>, front: bool, ends: Ends)
         return;
     }
     if let Some(last) = ends.newest_back {
-        cut_link(next.as_mut_slice(), last);
+        cut_link(next.as_mut_slice(), last as usize);
     }
 }
 
 /// The link of a record leads nowhere.
-fn cut_link(next: &mut [Option<usize>], number: usize)
+fn cut_link(next: &mut [Option<u32>], number: usize)
     ensures { next.new ≡ slice_set next.old number None }
 {
     if number < next.len() {
@@ -166,7 +176,7 @@ fn cut_link(next: &mut [Option<usize>], number: usize)
 }
 
 /// Appends a link, for which there is room.
-fn append(next: &mut Vec<Option<usize>>, to: Option<usize>)
+fn append(next: &mut Vec<Option<u32>>, to: Option<u32>)
     requires { vec_len next.old < vec_capacity next.old }
     ensures made { next.new.items ≡ next.old.items ++ to ∷ [] }
     ensures room { vec_capacity next.old ≤ vec_capacity next.new }

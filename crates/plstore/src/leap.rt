@@ -1,9 +1,10 @@
 //! Leaps: links over many records of a side, by which one close to another is found. Nothing but time depends on them.
 ghost use Rattle.std.specs.Prelude.{◌<◌, IfSome};
 
+use crate::ends::wide;
 use crate::group::short;
 use crate::links::Links;
-use crate::runs::{Place, passed_from};
+use crate::runs::{Place, before, passed_from};
 
 /// A link from a record to an older one of its side, and how many it leads over. With these one of n records is found in
 /// about log n steps.
@@ -88,8 +89,8 @@ fn lower(links: &Links, front: bool, at: usize, number: usize) -> Option<usize>
 /// The record of the side before one.
 fn older(links: &Links, front: bool, number: usize) -> Option<usize> {
     if front {
-        *links.next.get(number)?
+        wide(*links.next.get(number)?)
     } else {
-        links.places.get(number)?.before()
+        before(links.places.as_slice(), number)
     }
 }

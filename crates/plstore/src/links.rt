@@ -7,7 +7,7 @@ ghost use Rattle.plstore.specs.Room.{HasLinkRoom};
 ghost use Rattle.plstore.specs.Runs.{end_at, no_place, HasRuns, IsGone, SameRuns};
 ghost use Rattle.plstore.specs.Trail.{HadLinks, HadRuns, IsLonger, MoreRuns, SameLinks};
 
-use crate::ends::{Ends, ends_of, grown, link, set_ends, unlink};
+use crate::ends::{Ends, ends_of, grown, link, set_ends, unlink, wide};
 use crate::runs::{Buried, Place, add_place, bury, drop_place, run_end, unbury};
 use std::alloc::{AllocError, Global};
 use std::collections::HashMap;
@@ -17,7 +17,7 @@ use std::hash::Hash;
 #[derive(Drop)]
 pub(crate) struct Links {
     /// By the number of a record the next one of its side: downward in front, upward behind.
-    pub(crate) next: Vec<Option<usize>>,
+    pub(crate) next: Vec<Option<u32>>,
     /// By the number of a record what is known of the erased ones beside it.
     pub(crate) places: Vec<Place>,
 }
@@ -25,7 +25,7 @@ pub(crate) struct Links {
 /// A record that is added: its number, whether it is put before all others, and the place of its batch.
 #[derive(Clone, Copy)]
 pub(crate) struct Added {
-    pub(crate) number: usize,
+    pub(crate) number: u32,
     pub(crate) front: bool,
     pub(crate) place: u64,
 }
@@ -62,7 +62,7 @@ impl Links {
         ensures room { (n : ℕ) → HasLinkRoom (n + 1) self.old → HasLinkRoom n self.new }
     {
         link(&mut self.next, added.front, added.number, ends);
-        add_place(&mut self.places, added.front, added.number, ends);
+        add_place(&mut self.places, added.front, added.number as usize, ends);
     }
 
     /// Takes back the last record, which was added to such ends.
@@ -96,7 +96,7 @@ impl Links {
         requires { number < length self.now.next.items }
         ensures { result ≡ slice_index_or self.now.next.items number None }
     {
-        self.next[number]
+        wide(self.next[number])
     }
 
     /// The same, behind the run that begins there, as far as a walk at `g` passes over it.

@@ -24,28 +24,16 @@ pub(crate) struct Run {
 pub(crate) struct Place {
     /// The run that begins here.
     pub(crate) run: Option<Run>,
-    /// 32 bits of the number of the record whose link leads here. Nothing but time depends on it, nor on those below.
-    pub(crate) from: Option<u32>,
+    /// 32 bits of the number of the record whose link leads here; of its own where none does. Nothing but time depends on it, nor on those below.
+    pub(crate) from: u32,
     pub(crate) group: Group,
     pub(crate) leap: Leap,
 }
 
-impl Place {
-    /// The record whose link leads here.
-    pub(crate) fn before(&self) -> Option<usize> {
-        match self.from {
-            Some(number) => Some(number as usize),
-            None => None,
-        }
-    }
-}
-
-/// The number of a record in 32 bits.
-fn narrow(number: Option<usize>) -> Option<u32> {
-    match number {
-        Some(number) => Some(short(number)),
-        None => None,
-    }
+/// The record whose link leads to one.
+pub(crate) fn before(places: &[Place], number: usize) -> Option<usize> {
+    let from = places.get(number)?.from as usize;
+    if from == number { None } else { Some(from) }
 }
 
 /// A run that was noted, with what was noted before.
@@ -87,7 +75,7 @@ pub(crate) fn passed_from(places: &[Place], number: usize, g: u64) -> usize {
 /// Takes note that a record is erased by a batch at a place, and joins it with the runs before it and behind it.
 pub(crate) fn bury(
     places: &mut Vec<Place>,
-    next: &[Option<usize>],
+    next: &[Option<u32>],
     number: usize,
     place: u64,
 ) -> Buried
@@ -99,7 +87,7 @@ pub(crate) fn bury(
     bury_in(places.as_mut_slice(), next, number, place)
 }
 
-fn bury_in(places: &mut [Place], next: &[Option<usize>], number: usize, place: u64) -> Buried
+fn bury_in(places: &mut [Place], next: &[Option<u32>], number: usize, place: u64) -> Buried
     ensures runs { (c : Class) (rs : List Record) → IsLinked c rs next.now → ((d : Record) → IsGone place (slice_index_or rs number d).erased) → HasRuns c rs places.old → HasRuns c rs places.new }
     ensures noted { HadRuns result places.old places.new }
     ensures len { length places.new ≡ length places.old }
@@ -119,12 +107,12 @@ fn bury_in(places: &mut [Place], next: &[Option<usize>], number: usize, place: u
 
 /// Where the run begins that ends with the record before this one, if that is erased.
 fn start_before(places: &[Place], number: usize) -> Option<usize> {
-    let before = places.get(number)?.before()?;
-    Some(first_of(places, before))
+    let from = before(places, number)?;
+    Some(first_of(places, from))
 }
 
 /// Joins the run that begins here with the one behind it.
-fn lengthen(places: &mut [Place], next: &[Option<usize>], start: usize) -> Option<Noted>
+fn lengthen(places: &mut [Place], next: &[Option<u32>], start: usize) -> Option<Noted>
     ensures runs { (c : Class) (rs : List Record) → IsLinked c rs next.now → HasRuns c rs places.old → HasRuns c rs places.new }
     ensures noted { HadRun result places.old places.new }
     ensures len { length places.new ≡ length places.old }
@@ -150,7 +138,7 @@ fn run_at(places: &[Place], number: usize) -> Option<Run>
 }
 
 /// A run, with the one behind it.
-fn joined(places: &[Place], next: &[Option<usize>], own: Run) -> Run
+fn joined(places: &[Place], next: &[Option<u32>], own: Run) -> Run
     ensures { (c : Class) (rs : List Record) (i : ℕ) → IsLinked c rs next.now → HasRuns c rs places.now → IsRun c rs i own → IsRun c rs i result }
 {
     match run_behind(places, next, own.last) {
@@ -163,11 +151,11 @@ fn joined(places: &[Place], next: &[Option<usize>], own: Run) -> Run
 }
 
 /// The run that begins at the record to which the link of this one leads.
-fn run_behind(places: &[Place], next: &[Option<usize>], number: usize) -> Option<Run>
+fn run_behind(places: &[Place], next: &[Option<u32>], number: usize) -> Option<Run>
     ensures { (r : Ran) → result ≡ Some r → (n : ℕ) × (slice_index_or next.now number None ≡ Some n) × ((slice_index_or places.now n no_place).run ≡ Some r) }
 {
     if number < next.len() {
-        let behind = next[number]?;
+        let behind = next[number]? as usize;
         run_at(places, behind)
     } else {
         None
@@ -231,11 +219,11 @@ fn set_run(places: &mut [Place], first: usize, run: Option<Run>)
 }
 
 /// Notes of a record which one leads to it.
-fn set_from(places: &mut [Place], number: usize, from: Option<usize>)
+fn set_from(places: &mut [Place], number: usize, from: usize)
     ensures same { SameRuns places.old places.new }
 {
     if number < places.len() {
-        places[number].from = narrow(from);
+        places[number].from = short(from);
     }
 }
 
@@ -249,12 +237,13 @@ pub(crate) fn add_place(places: &mut Vec<Place>, front: bool, number: usize, end
 {
     let leap = leap_over(places.as_slice(), ends.newest(front), number);
     if !front {
-        append(places, ends.newest_back, number, leap);
+        let from = ends.newest(false).unwrap_or(number);
+        append(places, from, number, leap);
         return;
     }
-    append(places, None, number, leap);
-    if let Some(first) = ends.newest_front {
-        set_from(places.as_mut_slice(), first, Some(number));
+    append(places, number, number, leap);
+    if let Some(first) = ends.newest(true) {
+        set_from(places.as_mut_slice(), first, number);
     }
 }
 
@@ -266,22 +255,21 @@ pub(crate) fn drop_place(places: &mut Vec<Place>, front: bool, ends: Ends)
     if !front {
         return;
     }
-    if let Some(first) = ends.newest_front {
-        set_from(places.as_mut_slice(), first, None);
+    if let Some(first) = ends.newest(true) {
+        set_from(places.as_mut_slice(), first, first);
     }
 }
 
-fn append(places: &mut Vec<Place>, from: Option<usize>, number: usize, leap: Leap)
+fn append(places: &mut Vec<Place>, from: usize, number: usize, leap: Leap)
     requires { vec_len places.old < vec_capacity places.old }
     ensures runs { (c : Class) (rs : List Record) (r : Record) → HasRuns c rs places.old.items → HasRuns c (rs ++ r ∷ []) places.new.items }
     ensures more { MoreRuns places.old.items places.new.items }
     ensures room { vec_capacity places.old ≤ vec_capacity places.new }
     ensures len { vec_len places.new ≡ vec_len places.old + 1 }
 {
-    let from = narrow(from);
     let place = Place {
         run: None,
-        from,
+        from: short(from),
         group: alone(number),
         leap,
     };

@@ -1,5 +1,5 @@
 //! The tables of a store, and how an update changes them.
-ghost use Rattle.std.specs.Prelude.{◌≡◌, ◌+◌, ◌<◌, ◌++◌, ◌∷◌, [], IfSome, OnOk, MatchOption, slice_index_or, ℕ, None, Some, fold, length, nat_eq, ◌≢◌, vec_len};
+ghost use Rattle.std.specs.Prelude.{◌≡◌, ◌+◌, ◌<◌, ◌≤◌, ◌^◌, ◌++◌, ◌∷◌, [], true, IfSome, OnOk, MatchOption, slice_index_or, ℕ, None, Some, fold, length, nat_eq, ◌≢◌, vec_len};
 ghost use Rattle.std.specs.Vec.{vec_capacity};
 ghost use Rattle.plclause.specs.Indicators.{indicator};
 ghost use Rattle.plevent.specs.Alive.{stamped, named};
@@ -78,7 +78,17 @@ impl Tables {
     }
 }
 
-/// Makes room for so many updates.
+/// The most records of a store: their numbers have 32 bits.
+const MOST: usize = 1 << 32;
+
+/// Whether so many records, and more, have numbers.
+fn have_numbers(records: usize, more: usize) -> bool
+    ensures { result ≡ true → records + more ≤ 2 ^ 32 }
+{
+    records <= MOST && more <= MOST - records
+}
+
+/// Makes room for so many updates. Where there would be more records than numbers for them, memory is wanting.
 pub(crate) fn reserve(tables: &mut Tables, count: usize) -> Result<(), AllocError>
     requires chained { Chained tables.old }
     ensures room { OnOk result (HasRoom count tables.new) }
@@ -86,6 +96,9 @@ pub(crate) fn reserve(tables: &mut Tables, count: usize) -> Result<(), AllocErro
     ensures kept { kept_in tables.new ≡ kept_in tables.old }
     ensures chained { Chained tables.new }
 {
+    if !have_numbers(tables.records.len(), count) {
+        return Err(AllocError);
+    }
     tables.records.reserve(count)?;
     tables.declared.reserve(count)?;
     tables.index.reserve(count)?;
@@ -156,12 +169,13 @@ pub(crate) fn put(
     ensures was { WasPut pred result tables.old tables.new }
     ensures room { (n : ℕ) → HasRoom (n + 1) tables.old → HasRoom n tables.new }
 {
+    let number = tables.records.len();
     let added = Added {
-        number: tables.records.len(),
+        number: number as u32,
         front,
         place: name.place,
     };
-    tables.starts.note(name.place, added.number);
+    tables.starts.note(name.place, number);
     let slot = Slots::new(&pred).of_head(&clause.head().root());
     let by_procedure = add(&mut tables.by_procedure, &mut tables.index, pred, added);
     let by_slot = add(&mut tables.by_slot, &mut tables.slots, slot, added);

@@ -107,7 +107,7 @@ fn start(
     ensures { MayBegin tables.now sought.now chain part result }
 {
     // Behind the newest of those put behind there is none.
-    if !part.front && !part.reaches(ends.newest_back) {
+    if !part.front && !part.reaches(ends.newest(false)) {
         return None;
     }
     let at = close(tables, sought, chain, ends, part).or(ends.first(part.front));

@@ -129,6 +129,15 @@ impl Layer {
         }
     }
 
+    /// Makes one update inside of what is open.
+    pub fn make_one(&mut self, update: Update) -> Result<(), AllocError>
+        requires { any_open self.old.own ≡ true }
+        ensures made { OnOk result (self.new ≡ record self.old { own = all_made (update ∷ []) self.old.own }) }
+        ensures refused { OnErr result (self.new ≡ self.old) }
+    {
+        make_one(&mut self.own, update)
+    }
+
     /// Erases the clause of a name inside of what is open, unless an own update has erased it before.
     pub fn erase(&mut self, name: ClauseName) -> Result<Erasure, AllocError>
         requires { any_open self.old.own ≡ true }

@@ -36,6 +36,7 @@ returns-in-None-clause-chained c =
 
 pub returns-in-Some-clause-room : goal.returns-in-Some-clause-room
 returns-in-Some-clause-room c = λ n room. record {
+  numbers = omega (arith, room.numbers, c.in-Some.ensures.len);
   records = omega (arith, room.records, c.in-Some.ensures.room, c.in-Some.ensures.len);
   declared = omega (arith, room.declared);
   index = omega (arith, room.index);

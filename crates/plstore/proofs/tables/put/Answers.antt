@@ -35,8 +35,8 @@ returns-clause-chained c =
     let x = c.args.name in
     let clause = c.args.clause in
     let f = c.args.front in
-    let n = c.len.result in
-    let count = c.len.ensures ∙ t.records.ok.0 in
+    let n = c.len-number.result in
+    let count = c.len-number.ensures ∙ t.records.ok.0 in
     let E = ends_in same_indicator t.index in
     let is_slot = slot-is c.new.result.hasher c.args.pred clause c.of_head-slot.result c.new.ensures c.requires.pred _ (c.root.ensures ∙ c.head.ensures.value) c.of_head-slot.ensures in
     record {
@@ -50,6 +50,7 @@ returns-clause-chained c =
 
 pub returns-clause-room : goal.returns-clause-room
 returns-clause-room c = λ n room. record {
+  numbers = omega (arith, room.numbers, c.in-Ok.ensures.len);
   records = omega (arith, room.records, c.in-Ok.ensures.len, c.in-Ok.ensures.capacity);
   declared = omega (arith, room.declared);
   index = omega (arith, room.index, c.add-by_procedure.ensures.spare);
@@ -62,7 +63,7 @@ pub returns-clause-was : goal.returns-clause-was
 returns-clause-was c =
     let t = c.args.tables.now in
     let f = c.args.front in
-    let n = c.len.result in
+    let n = c.len-number.result in
     let b = c.args.name.place in
     let p = c.args.pred in
     let s = c.of_head-slot.result in
