@@ -8,7 +8,7 @@ ghost use Rattle.plstore.specs.Parts.{extent, marks};
 ghost use Rattle.plstore.specs.Tables.{chain_ends, Chained};
 
 use crate::chain::{Chain, Merged, MergedEnds};
-use crate::ends::Ends;
+use crate::ends::{Ends, wide};
 use crate::leap::near;
 use crate::part::{Heads, Part};
 use crate::record::Record;
@@ -107,7 +107,7 @@ fn start(
     ensures { MayBegin tables.now sought.now chain part result }
 {
     // Behind the newest of those put behind there is none.
-    if !part.front && !part.reaches(ends.newest(false)) {
+    if !part.front && !part.reaches(wide(ends.newest_back)) {
         return None;
     }
     let at = close(tables, sought, chain, ends, part).or(ends.first(part.front));

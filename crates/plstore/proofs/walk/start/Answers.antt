@@ -14,7 +14,7 @@ returns-then-not-reaches c =
     let t = c.args.tables.now in
     let part = c.args.part in
     let indexed = (chain-is t q.pred.now c.args.chain c.requires.chained).indexed in
-    let over = sym c.reaches.ensures ∙ c.if-not-reaches.true in
+    let over = ap (reaches part) (sym c.wide.ensures) ∙ sym c.reaches.ensures ∙ c.if-not-reaches.true in
     record {
       stands = stand-over part.front _ q.g t.records.items _ _ part.behind c.if-not-part.true indexed (ap (λ (e : Ends). reaches part e.newest_back) (sym c.requires.ends) ∙ over);
       order = omega arith;
