@@ -6,12 +6,12 @@ ghost use Rattle.plstore.specs.Chains.{in_chain};
 ghost use Rattle.plstore.specs.Kept.{behind_all, picked, walk};
 ghost use Rattle.plstore.specs.Like.{first_like, past};
 ghost use Rattle.plstore.specs.Links.{Marked};
-ghost use Rattle.plstore.specs.Merged.{found, found_from, IsMerged};
+ghost use Rattle.plstore.specs.Merged.{found, found_from};
 ghost use Rattle.plstore.specs.Parts.{marks};
 ghost use Rattle.plstore.specs.Rising.{IsRising, OneIs};
 ghost use Rattle.plstore.specs.Tables.{Chained};
 
-use crate::chain::{Chain, Merged, merge};
+use crate::chain::{Chain, merge};
 use crate::named::find;
 use crate::part::Part;
 use crate::sought::Sought;
@@ -33,28 +33,14 @@ fn sought_from(tables: &Tables, sought: &Sought<'_>, part: Part) -> Option<Claus
     requires within { IfSome part.behind (λ i. i < length tables.now.records.items) }
     ensures { result ≡ found_from sought.now tables.now.records.items part }
 {
-    merged_from(tables, sought, &merge(sought), part)
-}
-
-/// The same, where it is known which chains have what is sought.
-fn merged_from(
-    tables: &Tables,
-    sought: &Sought<'_>,
-    merged: &Merged,
-    part: Part,
-) -> Option<ClauseName>
-    requires chained { Chained tables.now }
-    requires merged { IsMerged sought.now.pred.now sought.now.key.now merged.now }
-    requires within { IfSome part.behind (λ i. i < length tables.now.records.items) }
-    ensures { result ≡ found_from sought.now tables.now.records.items part }
-{
+    let merged = merge(sought);
     let ends = merged.ends(tables, sought.pred);
-    let here = heads(tables, sought, merged, &ends, part);
-    let found = seek(tables, sought, merged, part, here);
+    let here = heads(tables, sought, &merged, &ends, part);
+    let found = seek(tables, sought, &merged, part, here);
     if part.front && found.is_none() {
         let behind = Part::whole(false);
-        let there = heads(tables, sought, merged, &ends, behind);
-        return seek(tables, sought, merged, behind, there);
+        let there = heads(tables, sought, &merged, &ends, behind);
+        return seek(tables, sought, &merged, behind, there);
     }
     found
 }
