@@ -95,7 +95,7 @@ fn row_of(
         }
         Request::EraseOne(name) => {
             let is_alive = store.alive(standing.size, name);
-            return erase_of(is_alive, name, alloc, thread);
+            return Ok(erase_of(is_alive, name, thread));
         }
         Request::Finish(end) => return Ok(finish_of(end, thread)),
         Request::HaltRun(number) => {
@@ -106,14 +106,14 @@ fn row_of(
 }
 
 /// The row of an erasure: a clause that is alive goes, by a batch of its own.
-fn erase_of(is_alive: bool, name: ClauseName, alloc: Global, thread: u32) -> Result<Row, AllocError>
-    ensures { IfOk result (λ r. r ≡ erase_row is_alive name thread) }
+fn erase_of(is_alive: bool, name: ClauseName, thread: u32) -> Row
+    ensures { result ≡ erase_row is_alive name thread }
 {
     if !is_alive {
-        return Ok((Reply::Gone, None));
+        return (Reply::Gone, None);
     }
-    let batch = Batch::new(vec![in alloc; Update::Erase(name)]?);
-    Ok((Reply::Erased, Some((thread, Act::Batch(batch)))))
+    let batch = Batch::of(Update::Erase(name));
+    (Reply::Erased, Some((thread, Act::Batch(batch))))
 }
 
 /// The row of an end: one that ends the run is asked for by `HaltRun` alone.
