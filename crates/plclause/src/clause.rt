@@ -6,6 +6,7 @@ ghost use Rattle.plclause.specs.Conversion.{converted};
 ghost use Rattle.plclause.specs.Soundness.{clause_from, IsCallable, IsSound};
 ghost use Rattle.plclause.specs.Indicators.{indicator};
 
+use crate::shared::SharedTerm;
 use plterm::indicator::Indicator;
 use plterm::name::Name;
 use plterm::numbers::Numbers;
@@ -19,7 +20,7 @@ use std::sync::Arc;
 #[derive(Drop)]
 struct Parts {
     head: Term,
-    body: Term,
+    body: SharedTerm,
     variables: u64,
 }
 
@@ -57,23 +58,32 @@ impl Clause {
         Clause::shared(alloc, head, body, seen.count())
     }
 
-    /// The clause of a head whose body is `true`, with its variables numbered anew. The body shares the name of the term `true` that is given;
+    /// The clause of a head whose body is `true`, with its variables numbered anew. The body is the term `true` that is given, shared with it;
     /// a head without variables is kept as it is.
-    pub fn fact(alloc: Global, head: Term, truth: &Term) -> Result<Clause, AllocError>
+    pub fn fact(alloc: Global, head: Term, truth: &SharedTerm) -> Result<Clause, AllocError>
         requires callable { IsCallable head }
         requires truth { truth.now ≡ atom (codes "true") }
         ensures { IfOk result (λ c. c ≡ clause_from head (atom (codes "true"))) }
     {
-        let body = truth.copied(alloc)?;
+        let body = truth.copied()?;
         if head.is_ground() {
-            return Clause::shared(alloc, head, body, 0);
+            return Clause::of(alloc, head, body, 0);
         }
         let (head, seen) = head.root().numbered(alloc, Numbers::new(alloc))?;
-        Clause::shared(alloc, head, body, seen.count())
+        Clause::of(alloc, head, body, seen.count())
     }
 
     /// The clause of these parts, which are shared from now on.
     fn shared(alloc: Global, head: Term, body: Term, variables: u64) -> Result<Clause, AllocError>
+        requires { IsSound (record { head = head; body = body; variables = variables }) }
+        ensures { IfOk result (λ c. c ≡ record { head = head; body = body; variables = variables }) }
+    {
+        let body = SharedTerm::new(alloc, body)?;
+        Clause::of(alloc, head, body, variables)
+    }
+
+    /// The same of a body that is shared already.
+    fn of(alloc: Global, head: Term, body: SharedTerm, variables: u64) -> Result<Clause, AllocError>
         requires { IsSound (record { head = head; body = body; variables = variables }) }
         ensures { IfOk result (λ c. c ≡ record { head = head; body = body; variables = variables }) }
     {
@@ -104,7 +114,7 @@ impl Clause {
         ensures goal { converted self.now.body ≡ Some self.now.body }
         ensures below { AllBelow self.now.variables self.now.body }
     {
-        &self.parts.body
+        self.parts.body.term()
     }
 
     /// How many variables the clause has: they are the numbers below.

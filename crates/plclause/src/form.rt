@@ -6,6 +6,7 @@ ghost use Rattle.plclause.specs.Heads.{head_of};
 
 use crate::clause::Clause;
 use crate::convert::convert;
+use crate::shared::SharedTerm;
 use plterm::name::Name;
 use plterm::node::Node;
 use plterm::term::Term;
@@ -33,12 +34,12 @@ pub fn clause_of(alloc: Global, term: &Term) -> Result<ClauseForm, AllocError>
     let root = term.root();
     match parted(&root) {
         Some((head, body)) => form_of(alloc, &head, &body),
-        None => fact_of(alloc, term.copied(alloc)?, &true_term(alloc)?),
+        None => fact_of(alloc, term.copied(alloc)?, &truth(alloc)?),
     }
 }
 
-/// The same for a caller that gives the term away and has the atom `true` as a term: of a head alone, the body is a copy that shares its name.
-pub fn clause_with(alloc: Global, term: Term, truth: &Term) -> Result<ClauseForm, AllocError>
+/// The same for a caller that gives the term away and has the atom `true` as a term: of a head alone, the body is that term, shared.
+pub fn clause_with(alloc: Global, term: Term, truth: &SharedTerm) -> Result<ClauseForm, AllocError>
     requires truth { truth.now ≡ atom (codes "true") }
     ensures { IfOk result (λ form. form ≡ clausal term) }
 {
@@ -69,8 +70,15 @@ fn parted<'a>(term: &TermRef<'a>) -> Option<(TermRef<'a>, TermRef<'a>)>
     }
 }
 
+/// The atom `true`, to be shared by facts.
+pub fn truth(alloc: Global) -> Result<SharedTerm, AllocError>
+    ensures { IfOk result (λ t. t ≡ atom (codes "true")) }
+{
+    SharedTerm::new(alloc, true_term(alloc)?)
+}
+
 /// The atom `true`.
-pub fn true_term(alloc: Global) -> Result<Term, AllocError>
+fn true_term(alloc: Global) -> Result<Term, AllocError>
     ensures { IfOk result (λ t. t ≡ atom (codes "true")) }
 {
     let name = Name::new(alloc, "true")?;
@@ -112,7 +120,7 @@ fn form_of(alloc: Global, head: &TermRef<'_>, body: &TermRef<'_>) -> Result<Clau
 }
 
 /// The clause of a head alone, whose body is `true`: nothing is converted.
-fn fact_of(alloc: Global, head: Term, truth: &Term) -> Result<ClauseForm, AllocError>
+fn fact_of(alloc: Global, head: Term, truth: &SharedTerm) -> Result<ClauseForm, AllocError>
     requires truth { truth.now ≡ atom (codes "true") }
     ensures { IfOk result (λ form. form ≡ clause_parts head (atom (codes "true"))) }
 {

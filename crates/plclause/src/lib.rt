@@ -6,3 +6,4 @@ pub mod convert;
 pub mod form;
 pub mod lists;
 pub mod named;
+pub mod shared;

@@ -9,7 +9,8 @@ ghost use Rattle.plenv.specs.Changes.{Puts, Stays};
 ghost use Rattle.plsearch.specs.Lookups.{clause_term};
 
 use plcells::cell::{Argument, Cell};
-use plclause::form::true_term;
+use plclause::form::truth;
+use plclause::shared::SharedTerm;
 use plenv::env::Environment;
 use plterm::name::Name;
 use plterm::term::Term;
@@ -22,9 +23,9 @@ pub struct Copier {
     stack: Vec<Argument>,
     /// The name of a clause as a term.
     neck: Name,
-    /// The name of the atom true, and the atom as a term.
+    /// The name of the atom true, and the atom as a term, which facts share.
     yes: Name,
-    truth: Term,
+    truth: SharedTerm,
     ghost is_neck: { neck ≡ codes ":-" },
     ghost is_yes: { yes ≡ codes "true" },
     ghost is_truth: { truth ≡ atom (codes "true") },
@@ -35,7 +36,7 @@ impl Copier {
     pub fn new(alloc: Global) -> Result<Copier, AllocError> {
         let neck = Name::new(alloc, ":-")?;
         let yes = Name::new(alloc, "true")?;
-        let truth = true_term(alloc)?;
+        let truth = truth(alloc)?;
         Ok(Copier {
             alloc,
             stack: Vec::new(alloc),
@@ -45,8 +46,8 @@ impl Copier {
         })
     }
 
-    /// The atom true, as a term.
-    pub(crate) fn truth(&self) -> &Term
+    /// The atom true, as a term that facts share.
+    pub(crate) fn truth(&self) -> &SharedTerm
         ensures { result.now ≡ atom (codes "true") }
     {
         &self.truth

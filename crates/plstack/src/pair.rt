@@ -8,7 +8,7 @@ ghost use Rattle.plstack.specs.Arguments.{KeepsArguments};
 
 use crate::stack::Stack;
 use plcells::cell::Cell;
-use plterm::term::Term;
+use plclause::shared::SharedTerm;
 use std::alloc::AllocError;
 
 impl Stack {
@@ -27,8 +27,8 @@ impl Stack {
         put
     }
 
-    /// The atom true, as a term.
-    pub fn truth(&self) -> &Term
+    /// The atom true, as a term that facts share.
+    pub fn truth(&self) -> &SharedTerm
         ensures { result.now ≡ atom (codes "true") }
     {
         self.copier.truth()

@@ -12,7 +12,7 @@ use Rattle.plstack.proofs.stack.Stack.replace_walk.Goals as goal
 
 -- what becomes of the newest frame
 stood : (frames rest : List Frame) (f g : Frame) (n : ℕ) (p : Point) (w : Walk) (spot : Spot) → frames ≡ rest ++ Open p (resumes.Walk w) ∷ [] → n ≡ length frames → f ≡ get_or frames (n - 1) f →
-      ((q : Point) (u : Walk) → f ≡ Open q (resumes.Walk u) → g ≡ Open q (resumes.Walk (record u { spot = spot }))) → slice_set frames (n - 1) g ≡ rest ++ Open p (resumes.Walk (record w { spot = spot })) ∷ []
+    ((q : Point) (u : Walk) → f ≡ Open q (resumes.Walk u) → g ≡ Open q (resumes.Walk (record u { spot = spot }))) → slice_set frames (n - 1) g ≡ rest ++ Open p (resumes.Walk (record w { spot = spot })) ∷ []
 stood frames rest f g n p w spot top many is becomes =
     set-last frames rest (Open p (resumes.Walk w)) g n top many ∙ ap (λ x. rest ++ x ∷ []) (becomes p w (is ∙ get-last frames rest (Open p (resumes.Walk w)) f n top many))
 
