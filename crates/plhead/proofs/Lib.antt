@@ -7,4 +7,3 @@ pub mod Rows
 pub mod Verdicts
 pub mod Steps
 pub mod Heads
-pub mod References

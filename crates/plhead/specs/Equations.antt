@@ -1,9 +1,8 @@
 -- Equations that are left to solve: a node's term against a value.
-use Rattle.std.specs.Prelude.{◌≡◌, ℕ, zero, suc, ◌+◌, ◌<◌, List, [], ◌∷◌, ◌++◌, length, map}
+use Rattle.std.specs.Prelude.{◌≡◌, ℕ, suc, ◌+◌, ◌<◌, List, [], ◌∷◌, ◌++◌, length, map}
 use Rattle.plterm.specs.Tree.{Tree}
 use Rattle.plsubst.specs.Subst.{bind}
 use Rattle.plcells.specs.declared.cell.Cell.{Cell}
-use Rattle.plcells.specs.declared.cell.Cell.TheVariants.{Ref}
 use Rattle.plcells.specs.Store.{Store, terms, value, AreValues, IsValue}
 use Rattle.plcells.specs.Walking.{weight}
 use Rattle.plcode.specs.declared.node.Node.{Node}
@@ -40,11 +39,6 @@ AreEquations e base nodes w (p ∷ ps) = IsEquation e base nodes w p × AreEquat
 abbrev pub pairs : ℕ → List Cell → List (ℕ × Cell)
 pairs at [] = []
 pairs at (v ∷ vs) = pairs (suc at) vs ++ (at, v) ∷ []
-
--- k cells from one on, each as a value
-abbrev pub references : ℕ → ℕ → List Cell
-references c zero = []
-references c (suc k) = Ref c ∷ references (suc c) k
 
 -- nodes from a place on stand on the list beside the terms of k cells from one on, the first one last
 pub record Pushes (h : Store) (old new : List (ℕ × Cell)) (at c k : ℕ) : Type 0 where

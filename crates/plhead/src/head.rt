@@ -12,7 +12,7 @@ ghost use Rattle.plenv.specs.declared.slot.Slot.TheVariants.{Free as FreeSlot};
 ghost use Rattle.plenv.specs.Env.{over, slot_at, variable, Covers, IsSlot};
 ghost use Rattle.plenv.specs.Changes.{Keeps, Unifies};
 ghost use Rattle.plenv.specs.Rows.{row_at, tree_at, CoversAll};
-ghost use Rattle.plhead.specs.Equations.{left, pairs, references, right, AreEquations, IsEquation};
+ghost use Rattle.plhead.specs.Equations.{left, right, AreEquations, IsEquation};
 ghost use Rattle.plhead.specs.Fitting.{Answers, Comes, NotUnifiable, Stands, UnifiesAll};
 
 use crate::compare::{Verdict, compare, verdict_of};
@@ -178,8 +178,9 @@ fn solve(
     Ok(true)
 }
 
-/// Unifies a node, of a clause whose slots begin at a place, and a value, on a list whose equations are done with.
-fn unify_node(
+/// Unifies an argument of a head, of a clause whose slots begin at a place, with a value, on a list whose equations are done with.
+#[inline(always)]
+fn unify_argument(
     env: &mut Environment,
     nodes: &[Node],
     base: u32,
@@ -202,73 +203,6 @@ fn unify_node(
             work.clear();
             push_arguments(work, env.heap(), first, cells, count)?;
             solve(env, nodes, base, work)
-        }
-    }
-}
-
-/// Nodes from a place on, beside as many cells: the arguments of two compounds.
-#[derive(Clone, Copy)]
-struct Arguments {
-    first: u32,
-    cells: u32,
-    count: u16,
-}
-
-/// Unifies nodes, of a clause whose slots begin at a place, with the terms of as many cells, one after the other.
-fn unify_arguments(
-    env: &mut Environment,
-    nodes: &[Node],
-    base: u32,
-    args: Arguments,
-    work: &mut Vec<(u32, Cell)>,
-) -> Result<bool, AllocError>
-    requires laid { IsLaid env.old.heap.names nodes.now }
-    requires packed { ArePacked nodes.now }
-    requires few { length nodes.now < 2 ^ 32 }
-    requires nodes { args.first + args.count ≤ length nodes.now }
-    requires cells { args.cells + args.count < 2 ^ 32 }
-    requires equations { AreEquations env.old base nodes.now (tree_at env.old.heap.names nodes.now) (pairs args.first (references args.cells args.count)) }
-    ensures answers { IfOk result (λ fits. (s t : Tree) → Stands env.old base (tree_at env.old.heap.names nodes.now) (pairs args.first (references args.cells args.count)) s t → Answers env.old env.new s t fits) }
-    ensures keeps { Keeps env.old env.new }
-{
-    for i in 0..args.count {
-        let v = env.heap().argument(args.cells + u32::from(i));
-        let equation = (args.first + u32::from(i), v);
-        if !unify_node(env, nodes, base, equation, work)? {
-            return Ok(false);
-        }
-    }
-    Ok(true)
-}
-
-/// Unifies an argument of a head, of a clause whose slots begin at a place, with a value.
-#[inline(always)]
-fn unify_argument(
-    env: &mut Environment,
-    nodes: &[Node],
-    base: u32,
-    equation: (u32, Cell),
-    work: &mut Vec<(u32, Cell)>,
-) -> Result<bool, AllocError>
-    requires sound { IsSound env.old.heap.names nodes.now }
-    requires packed { ArePacked nodes.now }
-    requires few { length nodes.now < 2 ^ 32 }
-    requires equation { IsEquation env.old base nodes.now (tree_at env.old.heap.names nodes.now) equation }
-    ensures yes { IfOk result (λ fits. fits ≡ true → Unifies env.old env.new (left env.old base (tree_at env.old.heap.names nodes.now) equation) (right env.old equation)) }
-    ensures no { IfOk result (λ fits. fits ≡ false → unify (left env.old base (tree_at env.old.heap.names nodes.now) equation) (right env.old equation) ≡ None) }
-    ensures keeps { Keeps env.old env.new }
-{
-    let (at, v) = equation;
-    match meet(env, nodes, base, at, v)? {
-        Verdict::Same => Ok(true),
-        Verdict::Clash => Ok(false),
-        Verdict::Args(first, cells, count) => {
-            let args = Arguments {
-                first,
-                cells,
-                count,
-            };
-            unify_arguments(env, nodes, base, args, work)
         }
     }
 }
