@@ -20,6 +20,8 @@ ghost use Rattle.plstack.specs.State.{cases_of, goals_of, kinds_in, place_of, wa
 ghost use Rattle.plstack.specs.Calls.{Calls, CallsNone, StaysAt};
 ghost use Rattle.plstack.specs.StaticCalls.{body_at, further, AreStatics, AtCall, Binds, Enters, FindsHit, FitsFirst, GoesOn, Hits, IsCalling, PushesCall};
 ghost use Rattle.plstack.specs.Trials.{IsMarked};
+ghost use Rattle.plstack.specs.declared.frame.Clauses.{Clauses as OfClauses};
+ghost use Rattle.plstack.specs.declared.frame.Point.{Point as OfPoint};
 
 use crate::fit::{Attempt, Hit, first_fit};
 use crate::frame::{Clauses, Frame, Point, Resume};
@@ -167,6 +169,16 @@ pub(crate) fn keep_values(saved: &mut Vec<Cell>, values: &[Cell])
     match saved.extend_from_slice(values) {
         Ok(()) => {}
         Err(_) => unreachable!(),
+    }
+}
+
+/// Of the call of a frame the clauses from a number on are left.
+fn leave_from(frame: &mut Frame, next: usize)
+    requires { (p : OfPoint) × (c : OfClauses) × (frame.old ≡ Frame.Open p (Resume.Clauses c)) }
+    ensures { (p : OfPoint) (c : OfClauses) → frame.old ≡ Frame.Open p (Resume.Clauses c) → frame.new ≡ Frame.Open p (Resume.Clauses (record c { next = next })) }
+{
+    if let Frame::Open(_, Resume::Clauses(call)) = frame {
+        call.next = next;
     }
 }
 
@@ -400,7 +412,7 @@ impl Stack {
         ensures walks { walks_in self.new ≡ walks_in self.old }
     {
         match next {
-            Some(next) => self.replace_call(at, next),
+            Some(next) => self.replace_call(next),
             None => {
                 let marks = at.point.marks;
                 self.empty_call(at);
@@ -410,23 +422,15 @@ impl Stack {
     }
 
     /// Of the innermost call the clauses from a number on are left.
-    fn replace_call(&mut self, at: Calling, next: usize)
-        requires { IsCalling self.old at.point at.call }
-        ensures goes { (db : Database) → GoesOn db self.old self.new at.point at.call (Some next) }
+    fn replace_call(&mut self, next: usize)
+        requires { (p : OfPoint) × (c : OfClauses) × IsCalling self.old p c }
+        ensures goes { (p : OfPoint) (c : OfClauses) → IsCalling self.old p c → (db : Database) → GoesOn db self.old self.new p c (Some next) }
         ensures place { place_of self.new ≡ place_of self.old }
         ensures basis { self.new.basis ≡ self.old.basis }
         ensures walks { walks_in self.new ≡ walks_in self.old }
     {
-        let Calling { point, call } = at;
-        let Some(_) = self.frames.pop() else {
-            unreachable!()
-        };
-        let left = Clauses {
-            procedure: call.procedure,
-            count: call.count,
-            next,
-        };
-        push_frame(&mut self.frames, Frame::Open(point, Resume::Clauses(left)));
+        let last = self.frames.len() - 1;
+        leave_from(&mut self.frames[last], next);
     }
 
     /// Of the innermost call nothing is left.

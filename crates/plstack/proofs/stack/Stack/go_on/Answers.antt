@@ -9,3 +9,9 @@ returns-in-None-clause-goes c = λ db.
 
 pub returns-in-None-clause-walks : goal.returns-in-None-clause-walks
 returns-in-None-clause-walks c = ap (λ fs. walks_of (reverse fs)) c.settle.ensures.frames ∙ c.empty_call.ensures.walks
+
+pub replace_call-requires : goal.replace_call-requires
+replace_call-requires c = (c.args.at.point, c.args.at.call, c.requires)
+
+pub returns-in-Some-clause-goes : goal.returns-in-Some-clause-goes
+returns-in-Some-clause-goes c = λ db. rw c.in-Some.is (c.replace_call.ensures.goes c.args.at.point c.args.at.call c.requires db)
