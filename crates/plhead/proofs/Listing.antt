@@ -10,7 +10,7 @@ use Rattle.plcells.proofs.Searching.{weight-some}
 use Rattle.plcode.specs.declared.node.Node.{Node}
 use Rattle.plcode.specs.Packed.{node_at, IsArgument}
 use Rattle.plenv.specs.Env.{Env, Covers, over}
-use Rattle.plhead.specs.Equations.{Terms, Solves, AreEquations, pairs, Pushes, left}
+use Rattle.plhead.specs.Equations.{Terms, Solves, AreEquations, pairs, Pushes}
 
 -- how many nodes the terms of the left sides have
 abbrev pub weigh : Terms → List (ℕ × Cell) → ℕ

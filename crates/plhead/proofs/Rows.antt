@@ -1,5 +1,5 @@
 -- Rows of equations: the arguments of two compounds, and those of a head.
-use Rattle.std.proofs.Common.{◌≡◌, ℕ, zero, suc, ◌+◌, ◌<◌, ◌≤◌, List, [], ◌∷◌, ◌++◌, length, map, refl, sym, ap, ◌∙◌, subst, arith, inl, inr}
+use Rattle.std.proofs.Common.{◌≡◌, ℕ, zero, suc, ◌+◌, ◌<◌, ◌≤◌, List, [], ◌∷◌, ◌++◌, length, map, refl, sym, ap, ◌∙◌, subst, arith, inl, inr, Bool, true, false, Result, Ok, Err, IfOk}
 use Rattle.std.proofs.lemmas.Bool.{cases_eq}
 use Rattle.std.proofs.lemmas.List.{length-map}
 use Rattle.plterm.specs.Tree.{Tree, compound, more, trees}
@@ -16,7 +16,7 @@ use Rattle.plenv.specs.Env.{Env, over}
 use Rattle.plenv.specs.Changes.{Unifies}
 use Rattle.plenv.specs.Rows.{AllBelowEach, CoversAll}
 use Rattle.plhead.specs.Equations.{Terms, Solves, left, right, IsEquation, AreEquations, pairs, Pushes}
-use Rattle.plhead.specs.Fitting.{HasArgs, Stands, UnifiesAll}
+use Rattle.plhead.specs.Fitting.{Answers, HasArgs, NotUnifiable, Stands, UnifiesAll}
 use Rattle.plhead.proofs.Trees.{length-spread}
 use Rattle.plhead.proofs.Listing.{solves-left, solves-right, solves-both, pairs-solved, solved-pairs, equations-both, pairs-equations, split-lighter, weigh}
 use Rattle.plhead.proofs.Solving.{apart, join, unifier-general, unifier-younger, Progress}
@@ -93,13 +93,20 @@ module _ (e : Env) (base : ℕ) (w : Terms) (nodes : List Node) (i c k at : ℕ)
     younger = come.younger;
   }
 
--- a compound's arguments alone
-pub args-stand : (e : Env) (base : ℕ) (w : Terms) (nodes : List Node) (i c k at : ℕ) (v : Cell) → HasArgs e.heap nodes w (w at) (value e.heap v) i c k
-    → (now : List (ℕ × Cell)) → Pushes e.heap [] now i c k → Stands e base w now (left e base w (at, v)) (right e (at, v))
-args-stand e base w nodes i c k at v args now pushed = record {
-  to = λ τ q. subst (Solves τ e base w) (sym pushed.items) (args-to e base w nodes i c k at v args [] now pushed τ q);
-  back = λ τ s. args-back e base w nodes i c k at v args [] now pushed τ (subst (Solves τ e base w) pushed.items s);
-}
+-- the unifier of rows under one name is that under any
+pub unifies-all : (old new : Env) (ts us : List Tree) (f : List ℕ) → Unifies old new (compound f (trees ts)) (compound f (trees us)) → UnifiesAll old new ts us
+unfolding bind
+unifies-all old new ts us f u =
+    let general = unifier-general (compound f (trees ts)) (compound f (trees us)) u.unifier u.is in
+    let younger = unifier-younger (compound f (trees ts)) (compound f (trees us)) u.unifier u.is in
+    record {
+      unifier = u.unifier;
+      is = λ g. unify-is (compound g (trees ts)) (compound g (trees us)) u.unifier (
+        ap (compound g) (compound-parts general.0),
+        λ τ q y. general.1 τ (ap (compound f) (compound-parts q)) y,
+      ) younger;
+      made = u.made;
+    }
 
 -- ---- a head's arguments against values
 module _ (e : Env) (base : ℕ) (w : Terms) (nodes : List Node) (at k : ℕ) (values : List Cell) (us : List Tree) (is : us ≡ spread w at k) (count : length values ≡ k) where
@@ -122,17 +129,22 @@ module _ (e : Env) (base : ℕ) (w : Terms) (nodes : List Node) (at k : ℕ) (va
     back = λ τ s. ap (compound f) (sym (sym (ap (λ ts. bind_all τ (trees ts)) row_is) ∙ solved-pairs τ e base w values at s));
   }
 
--- the unifier of rows under one name is that under any
-pub unifies-all : (old new : Env) (ts us : List Tree) (f : List ℕ) → Unifies old new (compound f (trees ts)) (compound f (trees us)) → UnifiesAll old new ts us
-unfolding bind
-unifies-all old new ts us f u =
-    let general = unifier-general (compound f (trees ts)) (compound f (trees us)) u.unifier u.is in
-    let younger = unifier-younger (compound f (trees ts)) (compound f (trees us)) u.unifier u.is in
-    record {
-      unifier = u.unifier;
-      is = λ g. unify-is (compound g (trees ts)) (compound g (trees us)) u.unifier (
-        ap (compound g) (compound-parts general.0),
-        λ τ q y. general.1 τ (ap (compound f) (compound-parts q)) y,
-      ) younger;
-      made = u.made;
-    }
+  -- what they come to
+  module _ {E : Type 0} (last : Env) (answer : Result Bool E) (answers : IfOk answer (λ b. (s t : Tree) → Stands e base w (pairs at values) s t → Answers e last s t b)) where
+    pub row-yes : IfOk answer (λ b. b ≡ true → UnifiesAll e last (map (value e.heap) values) (map (bind (over e base)) us))
+    unfolding Answers
+    row-yes = go answer answers
+      where
+        go : (a : Result Bool E) → IfOk a (λ b. (s t : Tree) → Stands e base w (pairs at values) s t → Answers e last s t b) → IfOk a (λ b. b ≡ true → UnifiesAll e last (map (value e.heap) values) (map (bind (over e base)) us))
+        go (Ok b) f = λ q.
+            unifies-all e last (map (value e.heap) values) (map (bind (over e base)) us) []
+            (subst (Answers e last (compound [] (trees (map (value e.heap) values))) (compound [] (trees (map (bind (over e base)) us)))) q (f _ _ (row-stands [])))
+        go (Err x) f = tt
+
+    pub row-no : IfOk answer (λ b. b ≡ false → NotUnifiable (map (value e.heap) values) (map (bind (over e base)) us))
+    unfolding Answers
+    row-no = go answer answers
+      where
+        go : (a : Result Bool E) → IfOk a (λ b. (s t : Tree) → Stands e base w (pairs at values) s t → Answers e last s t b) → IfOk a (λ b. b ≡ false → NotUnifiable (map (value e.heap) values) (map (bind (over e base)) us))
+        go (Ok b) f = λ q name. subst (Answers e last (compound name (trees (map (value e.heap) values))) (compound name (trees (map (bind (over e base)) us)))) q (f _ _ (row-stands name))
+        go (Err x) f = tt

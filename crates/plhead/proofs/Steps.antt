@@ -1,6 +1,5 @@
 -- Steps of the solution of equations.
-use Rattle.std.proofs.Common.{◌≡◌, ℕ, ◌<◌, List, [], length, ◌∷◌, ◌++◌, ◌^◌, sym, subst, None, Bool, true, false, Result, Ok, Err}
-use Rattle.std.specs.Prelude.{IfOk}
+use Rattle.std.proofs.Common.{◌≡◌, ℕ, ◌<◌, List, [], ◌∷◌, ◌++◌, sym, subst, None}
 use Rattle.plterm.specs.Tree.{Tree}
 use Rattle.plsubst.specs.Subst.{bind}
 use Rattle.plsubst.specs.Unify.{unify}
@@ -8,7 +7,6 @@ use Rattle.plcells.specs.declared.cell.Cell.{Cell}
 use Rattle.plcells.specs.Store.{value}
 use Rattle.plcode.specs.declared.node.Node.{Node}
 use Rattle.plcode.specs.Nodes.{IsSound}
-use Rattle.plcode.specs.Packed.{ArePacked}
 use Rattle.plcode.specs.Laying.{IsLaid}
 use Rattle.plcode.proofs.Values.{IsSound-names}
 use Rattle.plenv.specs.Env.{Env, over}
@@ -17,11 +15,11 @@ use Rattle.plenv.specs.Rows.{tree_at}
 use Rattle.plhead.specs.declared.compare.Verdict.{Verdict}
 use Rattle.plhead.specs.declared.compare.Verdict.TheVariants.{Same, Clash, Args}
 use Rattle.plhead.specs.Equations.{Terms, left, right, IsEquation, AreEquations, Pushes}
-use Rattle.plhead.specs.Fitting.{Answers, Comes, HasArgs, Stands}
+use Rattle.plhead.specs.Fitting.{Comes, HasArgs}
 use Rattle.plhead.proofs.Trees.{tree-names}
 use Rattle.plhead.proofs.Listing.{equations-left, equations-right, weigh}
 use Rattle.plhead.proofs.Solving.{came-on, equations-after, never-solved, Progress}
-use Rattle.plhead.proofs.Rows.{args-stand, split-equations, split-on, split-weight}
+use Rattle.plhead.proofs.Rows.{split-equations, split-on, split-weight}
 
 -- nodes stand for the same under the names that there are now
 module _ (old e : Env) (nodes : List Node) (laid : IsLaid old.heap.names nodes) (keeps : Keeps old e) where
@@ -76,41 +74,6 @@ module _ (e new : Env) (base : ℕ) (nodes : List Node) (at : ℕ) (v : Cell) (r
 
     pub alone-args : HasArgs new.heap nodes (tree_at e.heap.names nodes) (tree_at e.heap.names nodes at) (value e.heap v) i c k
     alone-args = subst (λ (x : Env). HasArgs x.heap nodes (tree_at e.heap.names nodes) (tree_at e.heap.names nodes at) (value e.heap v) i c k) (sym alone-split.1) alone-split.0
-
-    pub alone-laid : IsSound e.heap.names nodes → ArePacked nodes → length nodes < 2 ^ 32 → IsLaid new.heap.names nodes
-    alone-laid sound packed few = subst (λ (x : Env). IsLaid x.heap.names nodes) (sym alone-split.1) (record { table = alone-split.0.heap.names; sound = sound; packed = packed; few = few })
-
-    module _ (now : List (ℕ × Cell)) (pushed : Pushes new.heap [] now i c k) where
-      pushed_alone : Pushes e.heap [] now i c k
-      pushed_alone = subst (λ (x : Env). Pushes x.heap [] now i c k) alone-split.1 pushed
-
-      pub alone-equations : IsEquation e base nodes (tree_at e.heap.names nodes) (at, v) → AreEquations new base nodes (tree_at new.heap.names nodes) now
-      alone-equations q =
-          subst (λ (x : Env). AreEquations x base nodes (tree_at x.heap.names nodes) now) (sym alone-split.1)
-          (split-equations e base (tree_at e.heap.names nodes) nodes i c k at v alone-split.0 [] now pushed_alone q tt)
-
-      stands : Stands e base (tree_at e.heap.names nodes) now (left e base (tree_at e.heap.names nodes) (at, v)) (right e (at, v))
-      stands = args-stand e base (tree_at e.heap.names nodes) nodes i c k at v alone-split.0 now pushed_alone
-
-      module _ {E : Type 0} (last : Env) (answer : Result Bool E) (answers : IfOk answer (λ b. (s t : Tree) → Stands new base (tree_at new.heap.names nodes) now s t → Answers new last s t b)) where
-        answers_then : IfOk answer (λ b. (s t : Tree) → Stands e base (tree_at e.heap.names nodes) now s t → Answers e last s t b)
-        answers_then = subst (λ (x : Env). IfOk answer (λ b. (s t : Tree) → Stands x base (tree_at x.heap.names nodes) now s t → Answers x last s t b)) alone-split.1 answers
-
-        pub alone-yes : IfOk answer (λ b. b ≡ true → Unifies e last (left e base (tree_at e.heap.names nodes) (at, v)) (right e (at, v)))
-        unfolding Answers
-        alone-yes = go answer answers_then
-          where
-            go : (a : Result Bool E) → IfOk a (λ b. (s t : Tree) → Stands e base (tree_at e.heap.names nodes) now s t → Answers e last s t b) → IfOk a (λ b. b ≡ true → Unifies e last (left e base (tree_at e.heap.names nodes) (at, v)) (right e (at, v)))
-            go (Ok b) f = λ q. subst (Answers e last (left e base (tree_at e.heap.names nodes) (at, v)) (right e (at, v))) q (f _ _ stands)
-            go (Err x) f = tt
-
-        pub alone-no : IfOk answer (λ b. b ≡ false → unify (left e base (tree_at e.heap.names nodes) (at, v)) (right e (at, v)) ≡ None)
-        unfolding Answers
-        alone-no = go answer answers_then
-          where
-            go : (a : Result Bool E) → IfOk a (λ b. (s t : Tree) → Stands e base (tree_at e.heap.names nodes) now s t → Answers e last s t b) → IfOk a (λ b. b ≡ false → unify (left e base (tree_at e.heap.names nodes) (at, v)) (right e (at, v)) ≡ None)
-            go (Ok b) f = λ q. subst (Answers e last (left e base (tree_at e.heap.names nodes) (at, v)) (right e (at, v))) q (f _ _ stands)
-            go (Err x) f = tt
 
 -- the equation on top was taken off, and came to something
 module _ (old e new : Env) (base : ℕ) (nodes : List Node) (laid : IsLaid old.heap.names nodes) (keeps : Keeps old e)

@@ -1,10 +1,9 @@
 -- Equations that are left to solve: a node's term against a value.
-use Rattle.std.specs.Prelude.{◌≡◌, ℕ, suc, ◌+◌, ◌<◌, List, [], ◌∷◌, ◌++◌, length, map}
+use Rattle.std.specs.Prelude.{◌≡◌, ℕ, suc, ◌<◌, List, [], ◌∷◌, ◌++◌, length, map}
 use Rattle.plterm.specs.Tree.{Tree}
 use Rattle.plsubst.specs.Subst.{bind}
 use Rattle.plcells.specs.declared.cell.Cell.{Cell}
 use Rattle.plcells.specs.Store.{Store, terms, value, AreValues, IsValue}
-use Rattle.plcells.specs.Walking.{weight}
 use Rattle.plcode.specs.declared.node.Node.{Node}
 use Rattle.plcode.specs.Packed.{node_at, IsArgument}
 use Rattle.plenv.specs.Env.{Env, Covers, over}

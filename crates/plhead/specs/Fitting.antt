@@ -2,7 +2,7 @@
 use Rattle.std.specs.Prelude.{◌≡◌, ℕ, ◌+◌, ◌<◌, ◌≤◌, List, Some, None, suc, length, Bool, true, false}
 use Rattle.plterm.specs.Tree.{Tree, compound, trees}
 use Rattle.plsubst.specs.Subst.{bind}
-use Rattle.plsubst.specs.Unify.{unify, BindsYounger}
+use Rattle.plsubst.specs.Unify.{unify}
 use Rattle.platoms.specs.Names.{Table, functor_arity, functor_name}
 use Rattle.plcells.specs.declared.cell.Cell.{Cell}
 use Rattle.plcells.specs.Store.{Store, at as cell_at, terms, spread, IsHead, IsHeap}

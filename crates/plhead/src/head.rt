@@ -1,5 +1,5 @@
 //! Heads against values.
-ghost use Rattle.std.specs.Prelude.{◌≡◌, ◌↔◌, IsTrue, ℕ, ◌+◌, ◌^◌, ◌<◌, ◌≤◌, map, length, true, false, None, IfOk, OnOk, OnErr};
+ghost use Rattle.std.specs.Prelude.{◌≡◌, ◌↔◌, IsTrue, ℕ, ◌+◌, ◌^◌, ◌<◌, ◌≤◌, map, length, true, false, None, IfOk};
 ghost use Rattle.plterm.specs.Tree.{var, Tree};
 ghost use Rattle.plsubst.specs.Subst.{bind};
 ghost use Rattle.plsubst.specs.Unify.{unify};
@@ -12,11 +12,11 @@ ghost use Rattle.plenv.specs.declared.slot.Slot.TheVariants.{Free as FreeSlot};
 ghost use Rattle.plenv.specs.Env.{over, slot_at, variable, Covers, IsSlot};
 ghost use Rattle.plenv.specs.Changes.{Keeps, Unifies};
 ghost use Rattle.plenv.specs.Rows.{row_at, tree_at, CoversAll};
-ghost use Rattle.plhead.specs.Equations.{left, right, AreEquations, IsEquation};
+ghost use Rattle.plhead.specs.Equations.{AreEquations};
 ghost use Rattle.plhead.specs.Fitting.{Answers, Comes, NotUnifiable, Stands, UnifiesAll};
 
 use crate::compare::{Verdict, compare, verdict_of};
-use crate::work::push_arguments;
+use crate::work::{push_arguments, push_values};
 use plcells::cell::Cell;
 use plcells::heap::Heap;
 use plcode::node::Node;
@@ -178,35 +178,6 @@ fn solve(
     Ok(true)
 }
 
-/// Unifies an argument of a head, of a clause whose slots begin at a place, with a value, on a list whose equations are done with.
-#[inline(always)]
-fn unify_argument(
-    env: &mut Environment,
-    nodes: &[Node],
-    base: u32,
-    equation: (u32, Cell),
-    work: &mut Vec<(u32, Cell)>,
-) -> Result<bool, AllocError>
-    requires sound { IsSound env.old.heap.names nodes.now }
-    requires packed { ArePacked nodes.now }
-    requires few { length nodes.now < 2 ^ 32 }
-    requires equation { IsEquation env.old base nodes.now (tree_at env.old.heap.names nodes.now) equation }
-    ensures yes { IfOk result (λ fits. fits ≡ true → Unifies env.old env.new (left env.old base (tree_at env.old.heap.names nodes.now) equation) (right env.old equation)) }
-    ensures no { IfOk result (λ fits. fits ≡ false → unify (left env.old base (tree_at env.old.heap.names nodes.now) equation) (right env.old equation) ≡ None) }
-    ensures keeps { Keeps env.old env.new }
-{
-    let (at, v) = equation;
-    match meet(env, nodes, base, at, v)? {
-        Verdict::Same => Ok(true),
-        Verdict::Clash => Ok(false),
-        Verdict::Args(first, cells, count) => {
-            work.clear();
-            push_arguments(work, env.heap(), first, cells, count)?;
-            solve(env, nodes, base, work)
-        }
-    }
-}
-
 /// The arguments of a clause's head, and where its slots begin.
 #[derive(Clone, Copy)]
 pub struct Head {
@@ -249,12 +220,8 @@ impl Matcher {
         ensures no { IfOk result (λ fits. fits ≡ false → NotUnifiable (map (value env.old.heap) values.now) (map (bind (over env.old head.base)) (row_at env.old.heap.names nodes.now head.row))) }
         ensures keeps { Keeps env.old env.new }
     {
-        for (i, v) in values.iter().enumerate() {
-            let equation = (head.row.at + i as u32, *v);
-            if !unify_argument(env, nodes, head.base, equation, &mut self.work)? {
-                return Ok(false);
-            }
-        }
-        Ok(true)
+        self.work.clear();
+        push_values(&mut self.work, head.row.at, values)?;
+        solve(env, nodes, head.base, &mut self.work)
     }
 }

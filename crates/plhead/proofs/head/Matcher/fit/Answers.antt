@@ -1,57 +1,42 @@
-use Rattle.std.proofs.Common.{◌+◌, [], drop, map}
-use Rattle.plterm.specs.Tree.{compound, trees}
-use Rattle.plsubst.specs.Subst.{bind}
-use Rattle.plcells.specs.Store.{value}
-use Rattle.plenv.specs.Env.{over}
+use Rattle.std.proofs.Common.{◌∙◌, ◌++◌, IfOk, sym, ap, subst}
+use Rattle.plterm.specs.Tree.{Tree}
 use Rattle.plenv.specs.Rows.{row_at, tree_at}
-use Rattle.plhead.specs.Equations.{pairs}
+use Rattle.plhead.specs.Equations.{pairs, AreEquations}
+use Rattle.plhead.specs.Fitting.{Answers, Stands}
 use Rattle.plhead.proofs.Trees.{row-spread}
-use Rattle.plhead.proofs.Slots.{keeps-refl, keeps-trans}
-use Rattle.plhead.proofs.Solving.{solved}
-use Rattle.plhead.proofs.Steps.{sound-now}
-use Rattle.plhead.proofs.Rows.{row-equations, row-stands, unifies-all}
-use Rattle.plhead.proofs.Heads.{done, first-equations, first-progress, next-equation, next-equations, next-never, next-progress}
+use Rattle.plhead.proofs.Slots.{keeps-refl}
+use Rattle.plhead.proofs.Rows.{row-equations, row-no, row-yes}
 use Rattle.plhead.proofs.head.Matcher.fit.Goals as goal
 
-pub loop-i-init : goal.loop-i-init
-loop-i-init c = record {
-  equations = first-equations c.args.head.row.at c.args.values.now c.args.env.now c.args.head.base c.args.nodes.now (tree_at c.args.env.now.heap.names c.args.nodes.now)
-      (row-equations c.args.env.now c.args.head.base (tree_at c.args.env.now.heap.names c.args.nodes.now) c.args.nodes.now c.args.head.row.at c.args.head.row.count c.args.values.now (row_at c.args.env.now.heap.names c.args.nodes.now c.args.head.row) (row-spread c.args.env.now.heap.names c.args.nodes.now c.args.head.row.at c.args.head.row.count c.requires.row) c.requires.count c.requires.values c.requires.row c.requires.whole c.requires.covers);
-  progress = λ s t stands. first-progress c.args.head.row.at c.args.values.now c.args.env.now c.args.head.base (tree_at c.args.env.now.heap.names c.args.nodes.now) s t stands;
-  keeps = keeps-refl c.args.env.now;
-}
+pub returns-in_err-push_values-clause-keeps : goal.returns-in_err-push_values-clause-keeps
+returns-in_err-push_values-clause-keeps c = keeps-refl c.args.env.now
 
-pub unify_argument-requires-clause-sound : goal.unify_argument-requires-clause-sound
-unify_argument-requires-clause-sound c = sound-now c.args.env.now c.loop-i.env c.args.nodes.now c.requires.laid c.loop-i.invariant.keeps
-
-pub unify_argument-requires-clause-equation : goal.unify_argument-requires-clause-equation
-unify_argument-requires-clause-equation c = next-equation c.args.head.row.at c.args.values.now c.args.env.now c.loop-i.env c.args.head.base c.args.nodes.now c.requires.laid c.loop-i.invariant.keeps c.loop-i.i c.loop-i-test.true c.loop-i.invariant.equations
-
-pub returns-in_err-unify_argument-clause-keeps : goal.returns-in_err-unify_argument-clause-keeps
-returns-in_err-unify_argument-clause-keeps c = keeps-trans c.args.env.now c.loop-i.env c.unify_argument.new.env c.loop-i.invariant.keeps c.unify_argument.ensures.keeps
-
-pub returns-then-not-branch-clause-no : goal.returns-then-not-branch-clause-no
-returns-then-not-branch-clause-no c = λ e f.
-    let ts = map (value c.args.env.now.heap) c.args.values.now in
-    let us = map (bind (over c.args.env.now c.args.head.base)) (row_at c.args.env.now.heap.names c.args.nodes.now c.args.head.row) in
-    next-never c.args.head.row.at c.args.values.now c.args.env.now c.loop-i.env c.args.head.base c.args.nodes.now c.requires.laid c.loop-i.invariant.keeps c.loop-i.i c.loop-i-test.true c.loop-i.invariant.equations (c.in_ok-unify_argument.ensures.no c.if-not-branch.true) (compound f (trees ts)) (compound f (trees us))
-    (c.loop-i.invariant.progress (compound f (trees ts)) (compound f (trees us)) (row-stands c.args.env.now c.args.head.base (tree_at c.args.env.now.heap.names c.args.nodes.now) c.args.nodes.now c.args.head.row.at c.args.head.row.count c.args.values.now (row_at c.args.env.now.heap.names c.args.nodes.now c.args.head.row) (row-spread c.args.env.now.heap.names c.args.nodes.now c.args.head.row.at c.args.head.row.count c.requires.row) c.requires.count f))
-
-pub returns-then-not-branch-clause-keeps : goal.returns-then-not-branch-clause-keeps
-returns-then-not-branch-clause-keeps c = keeps-trans c.args.env.now c.loop-i.env c.unify_argument.new.env c.loop-i.invariant.keeps c.unify_argument.ensures.keeps
-
-pub loop-i-preserved : goal.loop-i-preserved
-loop-i-preserved c =
-    let made = c.in_ok-unify_argument.ensures.yes c.if-not-branch.false in
-    record {
-      equations = next-equations c.args.head.row.at c.args.values.now c.args.env.now c.loop-i.env c.args.head.base c.args.nodes.now c.requires.laid c.loop-i.invariant.keeps c.loop-i.i c.loop-i-test.true c.loop-i.invariant.equations c.unify_argument.new.env made;
-      progress = λ s t stands. next-progress c.args.head.row.at c.args.values.now c.args.env.now c.loop-i.env c.args.head.base c.args.nodes.now c.requires.laid c.loop-i.invariant.keeps c.loop-i.i c.loop-i-test.true c.loop-i.invariant.equations c.unify_argument.new.env made s t (c.loop-i.invariant.progress s t stands);
-      keeps = keeps-trans c.args.env.now c.loop-i.env c.unify_argument.new.env c.loop-i.invariant.keeps c.unify_argument.ensures.keeps;
-    }
+pub solve-requires-clause-equations : goal.solve-requires-clause-equations
+solve-requires-clause-equations c =
+    let e = c.args.env.now in
+    let r = c.args.head.row in
+    let t = e.heap.names in
+    let ns = c.args.nodes.now in
+    let items = c.in_ok-push_values.ensures ∙ ap (λ ws. ws ++ pairs r.at c.args.values.now) c.clear.ensures.items in
+    subst (AreEquations e c.args.head.base ns (tree_at t ns)) (sym items)
+    (row-equations e c.args.head.base (tree_at t ns) ns r.at r.count c.args.values.now (row_at t ns r) (row-spread t ns r.at r.count c.requires.row) c.requires.count c.requires.values c.requires.row c.requires.whole c.requires.covers)
 
 pub returns-clause-yes : goal.returns-clause-yes
-returns-clause-yes c = λ e.
-    let ts = map (value c.args.env.now.heap) c.args.values.now in
-    let us = map (bind (over c.args.env.now c.args.head.base)) (row_at c.args.env.now.heap.names c.args.nodes.now c.args.head.row) in
-    let come = c.loop-i.invariant.progress (compound [] (trees ts)) (compound [] (trees us)) (row-stands c.args.env.now c.args.head.base (tree_at c.args.env.now.heap.names c.args.nodes.now) c.args.nodes.now c.args.head.row.at c.args.head.row.count c.args.values.now (row_at c.args.env.now.heap.names c.args.nodes.now c.args.head.row) (row-spread c.args.env.now.heap.names c.args.nodes.now c.args.head.row.at c.args.head.row.count c.requires.row) c.requires.count []) in
-    unifies-all c.args.env.now c.loop-i.env ts us [] (solved c.args.env.now c.loop-i.env c.args.head.base (tree_at c.args.env.now.heap.names c.args.nodes.now) (compound [] (trees ts)) (compound [] (trees us)) (pairs (c.args.head.row.at + c.loop-i.i) (drop c.loop-i.i c.args.values.now)) come (done c.args.head.row.at c.args.values.now c.loop-i.i c.loop-i-test.false))
+returns-clause-yes c =
+    let e = c.args.env.now in
+    let r = c.args.head.row in
+    let t = e.heap.names in
+    let ns = c.args.nodes.now in
+    let items = c.in_ok-push_values.ensures ∙ ap (λ ws. ws ++ pairs r.at c.args.values.now) c.clear.ensures.items in
+    let answers = subst (λ ws. IfOk c.solve.result (λ b. (s u : Tree) → Stands e c.args.head.base (tree_at t ns) ws s u → Answers e c.solve.new.env s u b)) items c.solve.ensures.answers in
+    row-yes e c.args.head.base (tree_at t ns) ns r.at r.count c.args.values.now (row_at t ns r) (row-spread t ns r.at r.count c.requires.row) c.requires.count c.solve.new.env c.solve.result answers
+
+pub returns-clause-no : goal.returns-clause-no
+returns-clause-no c =
+    let e = c.args.env.now in
+    let r = c.args.head.row in
+    let t = e.heap.names in
+    let ns = c.args.nodes.now in
+    let items = c.in_ok-push_values.ensures ∙ ap (λ ws. ws ++ pairs r.at c.args.values.now) c.clear.ensures.items in
+    let answers = subst (λ ws. IfOk c.solve.result (λ b. (s u : Tree) → Stands e c.args.head.base (tree_at t ns) ws s u → Answers e c.solve.new.env s u b)) items c.solve.ensures.answers in
+    row-no e c.args.head.base (tree_at t ns) ns r.at r.count c.args.values.now (row_at t ns r) (row-spread t ns r.at r.count c.requires.row) c.requires.count c.solve.new.env c.solve.result answers
