@@ -135,7 +135,8 @@ impl Layer {
         ensures made { OnOk result (self.new ≡ record self.old { own = all_made (update ∷ []) self.old.own }) }
         ensures refused { OnErr result (self.new ≡ self.old) }
     {
-        make_one(&mut self.own, update)
+        make_one(&mut self.own, update)?;
+        Ok(())
     }
 
     /// Erases the clause of a name inside of what is open, unless an own update has erased it before.
