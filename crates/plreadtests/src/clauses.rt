@@ -1,16 +1,14 @@
 //! Clauses, and goals of terms (plclause).
 use crate::made::{shape, term_of};
 use plclause::convert::convert;
-use plclause::form::{ClauseForm, clause_of};
+use plclause::form::{ClauseForm, clause_of, clause_with, truth};
 use std::alloc::Global;
 use std::string::String;
 use std::test::Fail;
 
-/// What a term is as a clause, its variables numbered from 4: the head, the body, how many variables, and the
-/// procedure; or why it is none.
-fn form_of(alloc: Global, text: &str) -> Result<String, Fail> {
-    let term = term_of(alloc, text)?.copy(alloc, 4)?;
-    match clause_of(alloc, &term)? {
+/// What a term is as a clause: the head, the body, how many variables, and the procedure; or why it is none.
+fn told(alloc: Global, form: ClauseForm) -> Result<String, Fail> {
+    match form {
         ClauseForm::IsClause(clause) => {
             let clause = clause.copied()?;
             let head = shape(alloc, clause.head())?;
@@ -30,9 +28,23 @@ fn form_of(alloc: Global, text: &str) -> Result<String, Fail> {
     }
 }
 
-const FORMS: [(&str, &str); 5] = [
+/// The clause of a text's term, its variables numbered from 4.
+fn form_of(alloc: Global, text: &str) -> Result<String, Fail> {
+    let term = term_of(alloc, text)?.copy(alloc, 4)?;
+    told(alloc, clause_of(alloc, &term)?)
+}
+
+/// The same, where the term is given away and a fact's body is shared.
+fn form_with(alloc: Global, text: &str) -> Result<String, Fail> {
+    let term = term_of(alloc, text)?.copy(alloc, 4)?;
+    let body = truth(alloc)?;
+    told(alloc, clause_with(alloc, term, &body)?)
+}
+
+const FORMS: [(&str, &str); 6] = [
     ("p(X) :- X", "p/1 _0 <- call/1 _0, 1 variables, of p/1"),
     ("b", "b <- true, 0 variables, of b/0"),
+    ("p(X, Y, X)", "p/3 _0 _1 _0 <- true, 2 variables, of p/3"),
     ("p :- q, 1", "a bad body ,/2 q 1"),
     ("1 :- a", "a bad head"),
     ("X :- a", "no head"),
@@ -43,6 +55,7 @@ const FORMS: [(&str, &str); 5] = [
 fn forms(rt: HostRuntime) -> Result<(), Fail> {
     for (text, wanted) in FORMS {
         assert_eq!(rt; form_of(rt.alloc(), text)?.as_str(), wanted);
+        assert_eq!(rt; form_with(rt.alloc(), text)?.as_str(), wanted);
     }
     Ok(())
 }
