@@ -198,9 +198,10 @@ impl Progress {
             self.machine.stack.go_on_walk(at, None);
             return Walked::Over;
         };
+        let behind = at_spot(&at, spot);
         self.machine.stack.go_on_walk(at, Some(spot));
         match step {
-            Step::Next(_, _) | Step::Nothing => Walked::On(at_spot(&at, spot)),
+            Step::Next(_, _) | Step::Nothing => Walked::On(behind),
             Step::Asks(_) => Walked::Asks,
         }
     }
@@ -215,8 +216,9 @@ impl Progress {
         ensures frame { self.new ≡ record self.old { machine = record self.old.machine { stack = self.new.machine.stack } } }
         ensures walks { Further self.old.machine.stack self.new.machine.stack }
     {
+        let behind = walked_to(&at, rest);
         self.machine.stack.go_on_walk(at, rest);
-        walked_to(&at, rest)
+        behind
     }
 
     /// An own clause is tried.
@@ -235,9 +237,10 @@ impl Progress {
         ensures frame { self.new ≡ record self.old { machine = record self.old.machine { stack = self.new.machine.stack } } }
         ensures walks { Further self.old.machine.stack self.new.machine.stack }
     {
+        let behind = walked_to(&at, rest);
         match self.machine.stack.try_walk(at, next, rest)? {
             Some(entered) => Ok(Walked::Into(entered)),
-            None => Ok(walked_to(&at, rest)),
+            None => Ok(behind),
         }
     }
 

@@ -29,7 +29,7 @@ returns-in-None-clause-ok c =
     let s = c.args.self.now.machine in
     let p = c.requires.own in
     let st = c.try_walk.new.self in
-    subst (WalkedTo s (over s st) c.args.at) (sym c.walked_to.ensures)
+    subst (WalkedTo s (over s st) c.args.at) (sym c.walked_to-behind.ensures)
     (tries-past s st c.args.at c.requires.at p.0 p.1 p.2 p.3 c.args.rest p.4
     (λ P v ordered. (rw c.in-None.is at c.in_ok-entered.ensures.none) (database_of P v s.layer.own.updates) (finds-own s st c.args.at c.requires.at p.0 p.1 p.2 p.3 c.args.rest p.4 c.args.next.now p.5.0 p.5.1 p.5.2 P v ordered))
     c.try_walk.ensures.basis c.requires.seen (rw c.in-None.is at c.in_ok-entered.ensures.at_next) (rw c.in-None.is at c.in_ok-entered.ensures.values) (rw c.in-None.is at c.in_ok-entered.ensures.last))

@@ -22,7 +22,7 @@ returns-in-Next c =
     let is = sym c.spot_behind.ensures ∙ c.in-Some.is in
     let st = c.go_on_walk-2.new.self in
     record {
-      to = subst (GoesOnTo s (over s st) c.args.at) (sym c.at_spot.ensures)
+      to = subst (GoesOnTo s (over s st) c.args.at) (sym c.at_spot-behind.ensures)
           (walks-behind s st c.args.at c.requires.at p.0 p.1 p.2 c.args.step p.3 c.in-Some.spot is (not-asks c.args.step c.in-Next.is) c.requires.seen c.go_on_walk-2.ensures.goes (c.go_on_walk-2.ensures.same c.in-Some.spot refl) (c.go_on_walk-2.ensures.walking c.in-Some.spot refl));
       basis = c.go_on_walk-2.ensures.basis;
       frame = refl;

@@ -8,7 +8,7 @@ pub returns-clause-to : goal.returns-clause-to
 returns-clause-to c =
     let s = c.args.self.now.machine in
     let p = c.requires.gone in
-    subst (WalkedTo s (over s c.go_on_walk.new.self) c.args.at) (sym c.walked_to.ensures)
+    subst (WalkedTo s (over s c.go_on_walk.new.self) c.args.at) (sym c.walked_to-behind.ensures)
     (walks-past s c.go_on_walk.new.self c.args.at c.requires.at p.0 p.1 p.2 p.3 c.args.rest p.4 p.5 c.requires.seen c.go_on_walk.ensures.goes c.go_on_walk.ensures.basis c.go_on_walk.ensures.same c.go_on_walk.ensures.walking)
 
 pub returns-clause-walks : goal.returns-clause-walks
