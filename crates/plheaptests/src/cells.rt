@@ -1,16 +1,11 @@
-//! The cells of the heap: blocks, integers, variables, and unification there.
-ghost use Rattle.std.specs.Prelude.{◌≡◌, ◌<◌, IfOk};
-ghost use Rattle.plterm.specs.Variables.{AllBelow};
-ghost use Rattle.plcells.specs.Store.{AreValues, IsValue};
+//! The cells of the heap: blocks, integers and variables.
+ghost use Rattle.std.specs.Prelude.{◌<◌};
+ghost use Rattle.plcells.specs.Store.{IsValue};
 
 use crate::made::{empty, put_arguments, shown};
 use platoms::names::Names;
-use plbind::unify::{Scratch, unify, unify_in_choice};
 use plcells::cell::Cell;
 use plcells::heap::Heap;
-use plgoals::callable::arguments_of;
-use plload::goal::read_goal;
-use plterm::term::Term;
 use std::alloc::{AllocError, Global};
 use std::string::String;
 use std::test::Fail;
@@ -144,81 +139,6 @@ fn old_cells(alloc: Global) -> Result<String, AllocError> {
     heap.forget(0);
     let forgotten = heap.boundary();
     format!(in alloc; "{marked} {committed} {again} {forgotten}")
-}
-
-/// Puts a goal with at most one variable on a heap, that variable as it is given: the values of its arguments.
-fn put(alloc: Global, heap: &mut Heap, goal: &Term, x: Cell) -> Result<Vec<Cell>, AllocError>
-    requires goal { AllBelow 1 goal.now }
-    requires variable { IsValue heap.old x }
-    ensures { IfOk result (λ vs. AreValues heap.new vs.items) }
-{
-    let v = heap.put(alloc, goal, &[x])?;
-    let mut args = Vec::new(alloc);
-    let _number = arguments_of(heap, v, &mut args)?;
-    Ok(args)
-}
-
-/// The text of a value once it is unified with another, in a choice or not; `no`, where they have no unifier.
-fn unified(
-    alloc: Global,
-    heap: &mut Heap,
-    left: Cell,
-    right: Cell,
-    choice: bool,
-) -> Result<String, AllocError>
-    requires left { IsValue heap.old left }
-    requires right { IsValue heap.old right }
-{
-    let mut scratch = Scratch::new(alloc);
-    let fits = if choice {
-        unify_in_choice(heap, &mut scratch, left, right)?
-    } else {
-        unify(heap, &mut scratch, left, right)?
-    };
-    if !fits {
-        return "no".to_string(alloc);
-    }
-    shown(alloc, heap, left)
-}
-
-/// The sides of a goal with one variable, and what the left one is once they are unified.
-const UNIFIED: [(&str, &str); 6] = [
-    ("f(X, b) = f(a, b)", "f(a,b)"),
-    ("f(X, X) = f(g(c), g(c))", "f(g(c),g(c))"),
-    ("f(X, X) = f(a, b)", "no"),
-    ("X = f(X)", "no"),
-    ("X = X", "_1"),
-    ("[a|X] = [a, 5000000000]", "[a,5000000000]"),
-];
-
-/// What the left side of a goal is once the sides are unified, on a heap alone.
-fn on_heap(alloc: Global, text: &str, choice: bool) -> Result<String, Fail> {
-    let Some(goal) = read_goal(alloc, text)? else {
-        return Err("no goal".into());
-    };
-    let goal = goal.copy(alloc, 0)?;
-    if goal.variables(alloc)?.len() != 1 {
-        return Err("no one variable".into());
-    }
-    let mut heap = Heap::new(alloc, Names::new(alloc));
-    let x = heap.variable(0)?;
-    let args = put(alloc, &mut heap, &goal, Cell::Ref(x))?;
-    let [left, right] = args.as_slice() else {
-        return Err("no two sides".into());
-    };
-    Ok(unified(alloc, &mut heap, *left, *right, choice)?)
-}
-
-#[test]
-fn rows_of_unification(rt: HostRuntime) -> Result<(), Fail> {
-    let alloc = rt.alloc();
-    for (goal, wanted) in UNIFIED {
-        for choice in [false, true] {
-            let found = on_heap(alloc, goal, choice)?;
-            assert_eq!(rt; found.as_str(), wanted);
-        }
-    }
-    Ok(())
 }
 
 #[test]
