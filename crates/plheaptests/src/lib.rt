@@ -4,13 +4,9 @@
 #[cfg(test)]
 mod apart;
 #[cfg(test)]
-mod cells;
-#[cfg(test)]
 mod codes;
 #[cfg(test)]
 mod goals;
-#[cfg(test)]
-mod heads;
 #[cfg(test)]
 mod lists;
 #[cfg(test)]

@@ -28,31 +28,6 @@ fn released(alloc: Global) -> Result<String, Fail> {
     Ok(format!(in alloc; "{first} {second}")?)
 }
 
-/// Where the slots of the last of three clauses begin once they are moved down to the mark of the first one's, and how many there are.
-fn lowered_to_mark(alloc: Global) -> Result<String, Fail> {
-    let mut env = empty(alloc);
-    let _old = env.enter(4)?;
-    let _mark = env.mark();
-    let _second = env.enter(3)?;
-    let third = env.enter(2)?;
-    let place = env.lower(1, third);
-    let count = env.slot_count();
-    Ok(format!(in alloc; "{place} {count}")?)
-}
-
-/// How many slots there are once all are given back: with a mark of them in use, and once its choice is given up.
-fn committed(alloc: Global) -> Result<String, Fail> {
-    let mut env = empty(alloc);
-    let _base = env.enter(3)?;
-    let mark = env.mark();
-    env.release(0);
-    let before = env.slot_count();
-    env.commit(mark, 0, 0);
-    env.release(0);
-    let after = env.slot_count();
-    Ok(format!(in alloc; "{before} {after}")?)
-}
-
 #[test]
 fn slots(rt: HostRuntime) -> Result<(), Fail> {
     let alloc = rt.alloc();
@@ -60,20 +35,5 @@ fn slots(rt: HostRuntime) -> Result<(), Fail> {
     assert_eq!(rt; found.as_str(), "0 2 5 5");
     let found = released(alloc)?;
     assert_eq!(rt; found.as_str(), "5 3");
-    Ok(())
-}
-
-#[test]
-fn moved_slots(rt: HostRuntime) -> Result<(), Fail> {
-    let alloc = rt.alloc();
-    let found = lowered_to_mark(alloc)?;
-    assert_eq!(rt; found.as_str(), "4 6");
-    Ok(())
-}
-
-#[test]
-fn committed_slots(rt: HostRuntime) -> Result<(), Fail> {
-    let found = committed(rt.alloc())?;
-    assert_eq!(rt; found.as_str(), "3 0");
     Ok(())
 }
