@@ -233,6 +233,10 @@ get-last frames rest f d n e many =
     let at : n - 1 ≡ length rest = omega (arith, many, ap length e, length-append rest (f ∷ [])) in
     ap₂ (λ fs i. get_or fs i d) e at ∙ get_or-append_seam rest f [] d
 
+-- the newest frame is changed in place
+pub changed-last : (frames rest : List Frame) (old new f g : Frame) (n : ℕ) → frames ≡ rest ++ old ∷ [] → n ≡ length frames → f ≡ get_or frames (n - 1) f → (f ≡ old → g ≡ new) → slice_set frames (n - 1) g ≡ rest ++ new ∷ []
+changed-last frames rest old new f g n top many is becomes = set-last frames rest old g n top many ∙ ap (λ x. rest ++ x ∷ []) (becomes (is ∙ get-last frames rest old f n top many))
+
 pub counts-new : (old new : List Frame) (n : ℕ) → 0 < n → new ≡ old ++ Plain n ∷ [] → CountsUp n (reverse old) (reverse new)
 counts-new old new n some is =
     let after : reverse new ≡ Plain n ∷ reverse old = ap reverse is ∙ reverse-push old (Plain n) in

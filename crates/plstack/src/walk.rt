@@ -23,7 +23,7 @@ use crate::copier::Copier;
 use crate::frame::{Frame, Marks, Point, Resume, Spot, Use, Walk};
 use crate::head::misses_head;
 use crate::list::link_before;
-use crate::open::{count_up, push_frame};
+use crate::open::count_up;
 use crate::stack::Stack;
 use plcells::cell::Cell;
 use plclause::clause::Clause;

@@ -21,22 +21,25 @@ solve-requires-clause-equations c =
     subst (AreEquations e c.args.head.base ns (tree_at t ns)) (sym items)
     (row-equations e c.args.head.base (tree_at t ns) ns r.at r.count c.args.values.now (row_at t ns r) (row-spread t ns r.at r.count c.requires.row) c.requires.count c.requires.values c.requires.row c.requires.whole c.requires.covers)
 
+-- what the list of equations comes to, told of the head's arguments and their values
+answered : (c : goal.After-solve) → let e = c.args.env.now in let w = tree_at e.heap.names c.args.nodes.now in
+    IfOk c.solve.result (λ b. (s u : Tree) → Stands e c.args.head.base w (pairs c.args.head.row.at c.args.values.now) s u → Answers e c.solve.new.env s u b)
+answered c =
+    let e = c.args.env.now in
+    let w = tree_at e.heap.names c.args.nodes.now in
+    let items = c.in_ok-push_values.ensures ∙ ap (λ ws. ws ++ pairs c.args.head.row.at c.args.values.now) c.clear.ensures.items in
+    subst (λ ws. IfOk c.solve.result (λ b. (s u : Tree) → Stands e c.args.head.base w ws s u → Answers e c.solve.new.env s u b)) items c.solve.ensures.answers
+
 pub returns-clause-yes : goal.returns-clause-yes
 returns-clause-yes c =
-    let e = c.args.env.now in
     let r = c.args.head.row in
-    let t = e.heap.names in
+    let t = c.args.env.now.heap.names in
     let ns = c.args.nodes.now in
-    let items = c.in_ok-push_values.ensures ∙ ap (λ ws. ws ++ pairs r.at c.args.values.now) c.clear.ensures.items in
-    let answers = subst (λ ws. IfOk c.solve.result (λ b. (s u : Tree) → Stands e c.args.head.base (tree_at t ns) ws s u → Answers e c.solve.new.env s u b)) items c.solve.ensures.answers in
-    row-yes e c.args.head.base (tree_at t ns) ns r.at r.count c.args.values.now (row_at t ns r) (row-spread t ns r.at r.count c.requires.row) c.requires.count c.solve.new.env c.solve.result answers
+    row-yes c.args.env.now c.args.head.base (tree_at t ns) ns r.at r.count c.args.values.now (row_at t ns r) (row-spread t ns r.at r.count c.requires.row) c.requires.count c.solve.new.env c.solve.result (answered c)
 
 pub returns-clause-no : goal.returns-clause-no
 returns-clause-no c =
-    let e = c.args.env.now in
     let r = c.args.head.row in
-    let t = e.heap.names in
+    let t = c.args.env.now.heap.names in
     let ns = c.args.nodes.now in
-    let items = c.in_ok-push_values.ensures ∙ ap (λ ws. ws ++ pairs r.at c.args.values.now) c.clear.ensures.items in
-    let answers = subst (λ ws. IfOk c.solve.result (λ b. (s u : Tree) → Stands e c.args.head.base (tree_at t ns) ws s u → Answers e c.solve.new.env s u b)) items c.solve.ensures.answers in
-    row-no e c.args.head.base (tree_at t ns) ns r.at r.count c.args.values.now (row_at t ns r) (row-spread t ns r.at r.count c.requires.row) c.requires.count c.solve.new.env c.solve.result answers
+    row-no c.args.env.now c.args.head.base (tree_at t ns) ns r.at r.count c.args.values.now (row_at t ns r) (row-spread t ns r.at r.count c.requires.row) c.requires.count c.solve.new.env c.solve.result (answered c)
