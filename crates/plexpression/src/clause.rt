@@ -135,14 +135,59 @@ fn of_numbers(terms: &ClauseTerms, f: Binary, left: Operand, right: Operand) -> 
     Some(f.apply(x, y))
 }
 
-/// What an expression comes to that is no operation, or one of two numbers: no operation has to wait.
+/// What an operand comes to that is no operation, or one of two numbers as they stand.
+fn of_simple(terms: &ClauseTerms, operand: Operand) -> Result<Option<Evaluated>, AllocError>
+    requires { IsOperand terms.now.env.now terms.now.nodes.now terms.now.base operand }
+    ensures { IfOk result (λ o. IfSome o (λ found. found ≡ eval (tree terms.now.env.now terms.now.nodes.now terms.now.base operand))) }
+{
+    if let Some(number) = terms.number(operand) {
+        return Ok(Some(Ok(number)));
+    }
+    match terms.open(operand)? {
+        Opened::Known(found) => Ok(Some(found)),
+        Opened::Two(f, left, right) => Ok(of_numbers(terms, f, left, right)),
+        Opened::One(_, _) => Ok(None),
+    }
+}
+
+/// What an operation comes to whose operands came to this.
+fn joined(f: Binary, left: Evaluated, right: Evaluated) -> Evaluated
+    ensures { result ≡ with_two f left right }
+{
+    f.apply(left?, right?)
+}
+
+/// What an operation comes to whose operands are simple.
+fn of_two(
+    terms: &ClauseTerms,
+    f: Binary,
+    left: Operand,
+    right: Operand,
+) -> Result<Option<Evaluated>, AllocError>
+    requires left { IsOperand terms.now.env.now terms.now.nodes.now terms.now.base left }
+    requires right { IsOperand terms.now.env.now terms.now.nodes.now terms.now.base right }
+    ensures { IfOk result (λ o. IfSome o (λ found. found ≡ with_two f (eval (tree terms.now.env.now terms.now.nodes.now terms.now.base left)) (eval (tree terms.now.env.now terms.now.nodes.now terms.now.base right)))) }
+{
+    if let Some(found) = of_numbers(terms, f, left, right) {
+        return Ok(Some(found));
+    }
+    let Some(x) = of_simple(terms, left)? else {
+        return Ok(None);
+    };
+    let Some(y) = of_simple(terms, right)? else {
+        return Ok(None);
+    };
+    Ok(Some(joined(f, x, y)))
+}
+
+/// What an expression comes to that is no operation, or one of simple operands: no operation has to wait.
 fn at_once(terms: &ClauseTerms, operand: Operand) -> Result<Option<Evaluated>, AllocError>
     requires { IsOperand terms.now.env.now terms.now.nodes.now terms.now.base operand }
     ensures { IfOk result (λ o. IfSome o (λ found. found ≡ eval (tree terms.now.env.now terms.now.nodes.now terms.now.base operand))) }
 {
     match terms.open(operand)? {
         Opened::Known(found) => Ok(Some(found)),
-        Opened::Two(f, left, right) => Ok(of_numbers(terms, f, left, right)),
+        Opened::Two(f, left, right) => of_two(terms, f, left, right),
         Opened::One(_, _) => Ok(None),
     }
 }

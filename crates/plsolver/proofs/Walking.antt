@@ -217,7 +217,7 @@ module _ (s : Reached) (st : State) (at : Walking) (there : AtWalk s.stack at.po
 
   -- it goes on from what is ahead, if there is anything
   pub goes-past : (rest : Option Spot) → rest ≡ spot_ahead g y → SameCases s (over s st) → st.basis ≡ s.stack.basis → IsSpotSeen s.stack.basis.latest at.walk.spot → ((z : Spot) → rest ≡ Some z → AtWalk st at.point (record at.walk { spot = z })) →
-      ((z : Spot) → rest ≡ Some z → value st.env.heap at.walk.goal ≡ value s.stack.env.heap at.walk.goal) → (rest ≡ None → HasEnded s (over s st)) → WalkedTo s (over s st) at (walked_on at rest)
+      ((z : Spot) → rest ≡ Some z → value st.env.heap at.walk.goal ≡ value s.stack.env.heap at.walk.goal) → (rest ≡ None → HasEnded s (over s st)) → WalkedTo s (over s st) at (walked_on rest)
   goes-past None is cases basis seen walking same ended = ended refl
   goes-past (Some z) is cases basis seen walking same ended =
       goes-on s st at there z cases basis (walking z refl) (same z refl) (subst (IsLeftSeen s.stack.basis.latest) (sym is) (ahead-seen s.stack.basis.latest at.walk.spot g x y spot seen)) (ahead-viewed g y z (sym is))
@@ -225,7 +225,7 @@ module _ (s : Reached) (st : State) (at : Walking) (there : AtWalk s.stack at.po
 
   -- a clause that is not alive
   pub walks-past : (rest : Option Spot) → rest ≡ spot_ahead g y → Holds s.layer.own.updates g x None → IsSpotSeen s.stack.basis.latest at.walk.spot → ((db : Database) → GoesOn db s.stack st at.point at.walk rest) → st.basis ≡ s.stack.basis →
-      ((z : Spot) → rest ≡ Some z → st ≡ record s.stack { frames = st.frames }) → ((z : Spot) → rest ≡ Some z → IsWalking st at.point (record at.walk { spot = z })) → WalkedTo s (over s st) at (walked_on at rest)
+      ((z : Spot) → rest ≡ Some z → st ≡ record s.stack { frames = st.frames }) → ((z : Spot) → rest ≡ Some z → IsWalking st at.point (record at.walk { spot = z })) → WalkedTo s (over s st) at (walked_on rest)
   walks-past rest is gone seen goes basis same walking =
       goes-past rest is (cases-same s st at there rest left goes) basis seen (λ z e. at-again s.stack st at.point at.walk z there (same z e) (walking z e)) (λ z e. ap (λ (z : State). value z.env.heap at.walk.goal) (same z e))
       (λ none. cases-ended s st at there (λ P v ordered. subst (SameLeft (database_of P v s.layer.own.updates) at.walk.uses (value s.stack.env.heap at.walk.goal) at.walk.spot) none (left P v ordered)) (λ db. subst (GoesOn db s.stack st at.point at.walk) none (goes db)))
@@ -242,7 +242,7 @@ module _ (s : Reached) (st : State) (at : Walking) (there : AtWalk s.stack at.po
 
   -- and does not fit
   pub tries-past : (rest : Option Spot) → rest ≡ spot_ahead g y → SameCases s (over s st) → st.basis ≡ s.stack.basis → IsSpotSeen s.stack.basis.latest at.walk.spot → ((z : Spot) → rest ≡ Some z → AtWalk st at.point (record at.walk { spot = z })) →
-      ((z : Spot) → rest ≡ Some z → value st.env.heap at.walk.goal ≡ value s.stack.env.heap at.walk.goal) → (rest ≡ None → (db : Database) → EndsPlain db st) → WalkedTo s (over s st) at (walked_on at rest)
+      ((z : Spot) → rest ≡ Some z → value st.env.heap at.walk.goal ≡ value s.stack.env.heap at.walk.goal) → (rest ≡ None → (db : Database) → EndsPlain db st) → WalkedTo s (over s st) at (walked_on rest)
   tries-past rest is cases basis seen walking same ends =
       goes-past rest is cases basis seen walking same (λ none P v ordered. last-ends (database_of P v s.layer.own.updates) s.stack st (cases P v ordered) (ends none (database_of P v s.layer.own.updates)))
 

@@ -112,13 +112,13 @@ abbrev pub IsToAsk : Reached → Type 0
 IsToAsk s = (g : ℕ) × (q : Query) × WalksOn s g q
 
 -- it goes on from a spot, if it has not ended
-abbrev pub walked_on : Walking → Option Spot → Walked
-walked_on at None = walked.Over
-walked_on at (Some x) = walked.On (record at { walk = record at.walk { spot = x } })
+abbrev pub walked_on : Option Spot → Walked
+walked_on None = walked.Over
+walked_on (Some x) = walked.On x
 
 -- what a walk came to
 abbrev pub WalkedTo : Reached → Reached → Walking → Walked → Type 0
-WalkedTo old new at (walked.On next) = GoesOnTo old new at next
+WalkedTo old new at (walked.On x) = GoesOnTo old new at (record at { walk = record at.walk { spot = x } })
 WalkedTo old new at (walked.Into e) = (P : Program) (v : Views) → AreOrdered v → RetriesBy (database_of P v old.layer.own.updates) old.stack new.stack e.erased
 WalkedTo old new at walked.Asks = SameCases old new × IsToAsk new
 WalkedTo old new at walked.Over = HasEnded old new

@@ -204,9 +204,9 @@ impl Progress {
         };
         match at.walk.spot {
             Spot::Text(_) => unreachable!(),
-            Spot::Seek(view, _) => self.walked_behind(at, view, next_in(found)),
-            Spot::At(view, _, _) => self.walked_behind(at, view, next_in(found)),
-            Spot::Known(_, _, _) => self.walked(at, clause_in(found)),
+            Spot::Seek(view, _) => self.walked_behind(&at, view, next_in(found)),
+            Spot::At(view, _, _) => self.walked_behind(&at, view, next_in(found)),
+            Spot::Known(_, _, _) => self.walked(&at, clause_in(found)),
         }
     }
 }

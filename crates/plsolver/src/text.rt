@@ -33,12 +33,12 @@ impl Progress {
     pub(crate) fn retry_text(
         &mut self,
         program: &Program,
-        at: Walking,
+        at: &Walking,
         number: usize,
     ) -> Result<(), AllocError>
         requires fails { self.old.machine.mode ≡ Mode.Back Outcome.Fail }
-        requires at { AtWalk self.old.machine.stack at.point at.walk }
-        requires text { at.walk.spot ≡ TextOf number }
+        requires at { AtWalk self.old.machine.stack at.now.point at.now.walk }
+        requires text { at.now.walk.spot ≡ TextOf number }
         ensures ok { OnOk result (Quiet program.now self.old self.new) }
         ensures err { OnErr result (Stays program.now self.old self.new) }
         ensures walks { EndsWalks self.old.machine.stack self.new.machine.stack }
@@ -59,19 +59,19 @@ impl Progress {
     fn first_of_text(
         &mut self,
         clauses: &[Clause],
-        at: Walking,
+        at: &Walking,
         number: usize,
     ) -> Result<Option<Entered>, AllocError>
-        requires at { AtWalk self.old.machine.stack at.point at.walk }
-        requires text { at.walk.spot ≡ TextOf number }
-        ensures some { IfOk result (λ o. IfSome o (λ entered. (P : Given) (v : Views) (own : List Update) → clauses.now ≡ clauses_for P (indicator (head_in at.walk.uses (value self.old.machine.stack.env.heap at.walk.goal))) → RetriesBy (database_of P v own) self.old.machine.stack self.new.machine.stack entered.erased)) }
-        ensures none { IfOk result (λ o. IfNone o ((P : Given) (v : Views) (own : List Update) → clauses.now ≡ clauses_for P (indicator (head_in at.walk.uses (value self.old.machine.stack.env.heap at.walk.goal))) → (below : List Case) × (cases_of (database_of P v own) self.old.machine.stack ≡ Choice [] ∷ below) × (cases_of (database_of P v own) self.new.machine.stack ≡ Choice [] ∷ below))) }
-        ensures err { OnErr result ((P : Given) (v : Views) (own : List Update) → clauses.now ≡ clauses_for P (indicator (head_in at.walk.uses (value self.old.machine.stack.env.heap at.walk.goal))) → cases_of (database_of P v own) self.new.machine.stack ≡ cases_of (database_of P v own) self.old.machine.stack) }
+        requires at { AtWalk self.old.machine.stack at.now.point at.now.walk }
+        requires text { at.now.walk.spot ≡ TextOf number }
+        ensures some { IfOk result (λ o. IfSome o (λ entered. (P : Given) (v : Views) (own : List Update) → clauses.now ≡ clauses_for P (indicator (head_in at.now.walk.uses (value self.old.machine.stack.env.heap at.now.walk.goal))) → RetriesBy (database_of P v own) self.old.machine.stack self.new.machine.stack entered.erased)) }
+        ensures none { IfOk result (λ o. IfNone o ((P : Given) (v : Views) (own : List Update) → clauses.now ≡ clauses_for P (indicator (head_in at.now.walk.uses (value self.old.machine.stack.env.heap at.now.walk.goal))) → (below : List Case) × (cases_of (database_of P v own) self.old.machine.stack ≡ Choice [] ∷ below) × (cases_of (database_of P v own) self.new.machine.stack ≡ Choice [] ∷ below))) }
+        ensures err { OnErr result ((P : Given) (v : Views) (own : List Update) → clauses.now ≡ clauses_for P (indicator (head_in at.now.walk.uses (value self.old.machine.stack.env.heap at.now.walk.goal))) → cases_of (database_of P v own) self.new.machine.stack ≡ cases_of (database_of P v own) self.old.machine.stack) }
         ensures basis { self.new.machine.stack.basis ≡ self.old.machine.stack.basis }
         ensures frame { self.new ≡ record self.old { machine = record self.old.machine { stack = self.new.machine.stack } } }
         ensures walks { walks_in self.new.machine.stack ≡ walks_in self.old.machine.stack }
     {
-        let mut at = at;
+        let mut at = *at;
         let mut number = number;
         'clauses: while is_before_last(clauses, number) {
             let next = candidate::of_text(at.walk.uses, &clauses[number])?;
@@ -79,27 +79,27 @@ impl Progress {
             let rest = Some(spot);
             let behind = at_spot(&at, spot);
             let stack = &mut self.machine.stack;
-            if let Some(entered) = stack.try_walk(at, &next, rest)? {
+            if let Some(entered) = stack.try_walk(&at, &next, rest)? {
                 return Ok(Some(entered));
             }
             at = behind;
             number += 1;
         }
-        self.last_of_text(clauses, at, number)
+        self.last_of_text(clauses, &at, number)
     }
 
     /// Tries the last clause of the text, if there is one at a number.
     fn last_of_text(
         &mut self,
         clauses: &[Clause],
-        at: Walking,
+        at: &Walking,
         number: usize,
     ) -> Result<Option<Entered>, AllocError>
-        requires at { AtWalk self.old.machine.stack at.point at.walk }
-        requires text { at.walk.spot ≡ TextOf number }
+        requires at { AtWalk self.old.machine.stack at.now.point at.now.walk }
+        requires text { at.now.walk.spot ≡ TextOf number }
         requires last { length clauses.now ≤ number + 1 }
-        ensures some { IfOk result (λ o. IfSome o (λ entered. (P : Given) (v : Views) (own : List Update) → clauses.now ≡ clauses_for P (indicator (head_in at.walk.uses (value self.old.machine.stack.env.heap at.walk.goal))) → RetriesBy (database_of P v own) self.old.machine.stack self.new.machine.stack entered.erased)) }
-        ensures none { IfOk result (λ o. IfNone o ((P : Given) (v : Views) (own : List Update) → clauses.now ≡ clauses_for P (indicator (head_in at.walk.uses (value self.old.machine.stack.env.heap at.walk.goal))) → (below : List Case) × (cases_of (database_of P v own) self.old.machine.stack ≡ Choice [] ∷ below) × (cases_of (database_of P v own) self.new.machine.stack ≡ Choice [] ∷ below))) }
+        ensures some { IfOk result (λ o. IfSome o (λ entered. (P : Given) (v : Views) (own : List Update) → clauses.now ≡ clauses_for P (indicator (head_in at.now.walk.uses (value self.old.machine.stack.env.heap at.now.walk.goal))) → RetriesBy (database_of P v own) self.old.machine.stack self.new.machine.stack entered.erased)) }
+        ensures none { IfOk result (λ o. IfNone o ((P : Given) (v : Views) (own : List Update) → clauses.now ≡ clauses_for P (indicator (head_in at.now.walk.uses (value self.old.machine.stack.env.heap at.now.walk.goal))) → (below : List Case) × (cases_of (database_of P v own) self.old.machine.stack ≡ Choice [] ∷ below) × (cases_of (database_of P v own) self.new.machine.stack ≡ Choice [] ∷ below))) }
         ensures err { OnErr result ((P : Given) (v : Views) (own : List Update) → cases_of (database_of P v own) self.new.machine.stack ≡ cases_of (database_of P v own) self.old.machine.stack) }
         ensures basis { self.new.machine.stack.basis ≡ self.old.machine.stack.basis }
         ensures frame { self.new ≡ record self.old { machine = record self.old.machine { stack = self.new.machine.stack } } }

@@ -47,8 +47,8 @@ use std::alloc::AllocError;
 /// What a walk came to among own clauses.
 #[derive(Clone, Copy)]
 pub enum Walked {
-    /// It goes on from here.
-    On(Walking),
+    /// It goes on from this spot.
+    On(Spot),
     /// A clause fits, and is entered.
     Into(Entered),
     /// The journal is to be asked.
@@ -91,10 +91,10 @@ impl Progress {
             unreachable!()
         };
         if let Spot::Text(number) = at.walk.spot {
-            self.retry_text(program, at, number)?;
+            self.retry_text(program, &at, number)?;
             return Ok(None);
         }
-        self.walk_through(at)
+        self.walk_through(&at)
     }
 
     /// Whether a walk is to ask the journal where it stands.
@@ -112,21 +112,21 @@ impl Progress {
     }
 
     /// A walk in a view goes through own clauses, up to one that fits, to where the journal is to be asked, or to its end.
-    fn walk_through(&mut self, at: Walking) -> Result<Option<Pause>, AllocError>
+    fn walk_through(&mut self, at: &Walking) -> Result<Option<Pause>, AllocError>
         requires fails { self.old.machine.mode ≡ Mode.Back Outcome.Fail }
-        requires at { AtWalk self.old.machine.stack at.point at.walk }
-        requires seen { IsSpotSeen self.old.machine.stack.basis.latest at.walk.spot }
-        requires viewed { IsInView at.walk.spot }
+        requires at { AtWalk self.old.machine.stack at.now.point at.now.walk }
+        requires seen { IsSpotSeen self.old.machine.stack.basis.latest at.now.walk.spot }
+        requires viewed { IsInView at.now.walk.spot }
         requires tied { IsTied self.old.machine }
         ensures on { IfOk result (λ o. IfNone o ((P : Given) → Quiet P self.old self.new)) }
         ensures due { IfOk result (λ o. IfSome o (λ pause. (P : Given) → PausesAt P self.new pause × Keeps P self.old self.new)) }
         ensures err { OnErr result ((P : Given) → Keeps P self.old self.new) }
         ensures walks { Further self.old.machine.stack self.new.machine.stack }
     {
-        let mut at = at;
+        let mut at = *at;
         'walk: loop {
-            match self.walk_on(at)? {
-                Walked::On(next) => at = next,
+            match self.walk_on(&at)? {
+                Walked::On(spot) => at.walk.spot = spot,
                 Walked::Into(entered) => {
                     self.machine.mode = mode_of(entered);
                     return Ok(None);
@@ -141,13 +141,13 @@ impl Progress {
     }
 
     /// A walk in a view goes on: it is looked for what is behind its spot, or the clause there is tried.
-    fn walk_on(&mut self, at: Walking) -> Result<Walked, AllocError>
+    fn walk_on(&mut self, at: &Walking) -> Result<Walked, AllocError>
         requires fails { self.old.machine.mode ≡ Mode.Back Outcome.Fail }
-        requires at { AtWalk self.old.machine.stack at.point at.walk }
-        requires seen { IsSpotSeen self.old.machine.stack.basis.latest at.walk.spot }
-        requires viewed { IsInView at.walk.spot }
+        requires at { AtWalk self.old.machine.stack at.now.point at.now.walk }
+        requires seen { IsSpotSeen self.old.machine.stack.basis.latest at.now.walk.spot }
+        requires viewed { IsInView at.now.walk.spot }
         requires tied { IsTied self.old.machine }
-        ensures ok { IfOk result (λ w. WalkedTo self.old.machine self.new.machine at w) }
+        ensures ok { IfOk result (λ w. WalkedTo self.old.machine self.new.machine at.now w) }
         ensures err { OnErr result (SameCases self.old.machine self.new.machine) }
         ensures basis { self.new.machine.stack.basis ≡ self.old.machine.stack.basis }
         ensures frame { self.new ≡ record self.old { machine = record self.old.machine { stack = self.new.machine.stack } } }
@@ -159,7 +159,7 @@ impl Progress {
         match at.walk.spot {
             Spot::Text(_) => unreachable!(),
             Spot::Seek(view, reach) | Spot::At(view, _, reach) => {
-                let step = self.step_at(self.head_at(&at), view, reach)?;
+                let step = self.step_at(self.head_at(at), view, reach)?;
                 Ok(self.walk_behind(at, step))
             }
             Spot::Known(view, name, ahead) => {
@@ -184,12 +184,12 @@ impl Progress {
     }
 
     /// A walk stands where a step leads.
-    fn walk_behind(&mut self, at: Walking, step: Step) -> Walked
+    fn walk_behind(&mut self, at: &Walking, step: Step) -> Walked
         requires fails { self.old.machine.mode ≡ Mode.Back Outcome.Fail }
-        requires at { AtWalk self.old.machine.stack at.point at.walk }
-        requires seen { IsSpotSeen self.old.machine.stack.basis.latest at.walk.spot }
-        requires step { (g : OfView) × (r : OfReach) × LooksBehind at.walk.spot g r × Steps self.old.machine.layer.own.updates (head_at self.old.machine at.walk) g r step }
-        ensures to { WalkedTo self.old.machine self.new.machine at result }
+        requires at { AtWalk self.old.machine.stack at.now.point at.now.walk }
+        requires seen { IsSpotSeen self.old.machine.stack.basis.latest at.now.walk.spot }
+        requires step { (g : OfView) × (r : OfReach) × LooksBehind at.now.walk.spot g r × Steps self.old.machine.layer.own.updates (head_at self.old.machine at.now.walk) g r step }
+        ensures to { WalkedTo self.old.machine self.new.machine at.now result }
         ensures basis { self.new.machine.stack.basis ≡ self.old.machine.stack.basis }
         ensures frame { self.new ≡ record self.old { machine = record self.old.machine { stack = self.new.machine.stack } } }
         ensures walks { Further self.old.machine.stack self.new.machine.stack }
@@ -200,36 +200,36 @@ impl Progress {
         };
         self.machine.stack.go_on_walk(at, Some(spot));
         match step {
-            Step::Next(_, _) | Step::Nothing => Walked::On(at_spot(&at, spot)),
+            Step::Next(_, _) | Step::Nothing => Walked::On(spot),
             Step::Asks(_) => Walked::Asks,
         }
     }
 
     /// An own clause that is not alive is passed over.
-    fn walk_past(&mut self, at: Walking, rest: Option<Spot>) -> Walked
-        requires at { AtWalk self.old.machine.stack at.point at.walk }
-        requires seen { IsSpotSeen self.old.machine.stack.basis.latest at.walk.spot }
-        requires gone { (g : OfView) × (x : Named) × (y : Option OfAhead) × (at.walk.spot ≡ KnownOf g x y) × (rest ≡ spot_ahead g y) × Holds self.old.machine.layer.own.updates g x None }
-        ensures to { WalkedTo self.old.machine self.new.machine at result }
+    fn walk_past(&mut self, at: &Walking, rest: Option<Spot>) -> Walked
+        requires at { AtWalk self.old.machine.stack at.now.point at.now.walk }
+        requires seen { IsSpotSeen self.old.machine.stack.basis.latest at.now.walk.spot }
+        requires gone { (g : OfView) × (x : Named) × (y : Option OfAhead) × (at.now.walk.spot ≡ KnownOf g x y) × (rest ≡ spot_ahead g y) × Holds self.old.machine.layer.own.updates g x None }
+        ensures to { WalkedTo self.old.machine self.new.machine at.now result }
         ensures basis { self.new.machine.stack.basis ≡ self.old.machine.stack.basis }
         ensures frame { self.new ≡ record self.old { machine = record self.old.machine { stack = self.new.machine.stack } } }
         ensures walks { Further self.old.machine.stack self.new.machine.stack }
     {
         self.machine.stack.go_on_walk(at, rest);
-        walked_to(&at, rest)
+        walked_to(rest)
     }
 
     /// An own clause is tried.
     fn try_own(
         &mut self,
-        at: Walking,
+        at: &Walking,
         next: &Candidate,
         rest: Option<Spot>,
     ) -> Result<Walked, AllocError>
-        requires at { AtWalk self.old.machine.stack at.point at.walk }
-        requires seen { IsSpotSeen self.old.machine.stack.basis.latest at.walk.spot }
-        requires own { (g : OfView) × (x : Named) × (y : Option OfAhead) × (at.walk.spot ≡ KnownOf g x y) × (rest ≡ spot_ahead g y) × IsKnown self.old.machine.layer.own.updates at.walk.uses g x (Known.Is next.now) }
-        ensures ok { IfOk result (λ w. WalkedTo self.old.machine self.new.machine at w) }
+        requires at { AtWalk self.old.machine.stack at.now.point at.now.walk }
+        requires seen { IsSpotSeen self.old.machine.stack.basis.latest at.now.walk.spot }
+        requires own { (g : OfView) × (x : Named) × (y : Option OfAhead) × (at.now.walk.spot ≡ KnownOf g x y) × (rest ≡ spot_ahead g y) × IsKnown self.old.machine.layer.own.updates at.now.walk.uses g x (Known.Is next.now) }
+        ensures ok { IfOk result (λ w. WalkedTo self.old.machine self.new.machine at.now w) }
         ensures err { OnErr result (SameCases self.old.machine self.new.machine) }
         ensures basis { self.new.machine.stack.basis ≡ self.old.machine.stack.basis }
         ensures frame { self.new ≡ record self.old { machine = record self.old.machine { stack = self.new.machine.stack } } }
@@ -237,47 +237,47 @@ impl Progress {
     {
         match self.machine.stack.try_walk(at, next, rest)? {
             Some(entered) => Ok(Walked::Into(entered)),
-            None => Ok(walked_to(&at, rest)),
+            None => Ok(walked_to(rest)),
         }
     }
 
     /// The next clause of a walk was sought in the journal.
     pub(crate) fn walked_behind(
         &mut self,
-        at: Walking,
+        at: &Walking,
         view: View,
         found: Option<ClauseName>,
     ) -> Result<(), AllocError>
         requires fails { self.old.machine.mode ≡ Mode.Back Outcome.Fail }
         requires of { (P : Given) × IsOf P self.old.machine }
-        requires at { AtWalk self.old.machine.stack at.point at.walk }
-        requires seen { IsSpotSeen self.old.machine.stack.basis.latest at.walk.spot }
-        requires spot { (c : OfCursor) × LooksBehind at.walk.spot view (BaseOf c) }
-        ensures ok { OnOk result ((P : Given) (v : Views) (c : OfCursor) → AreOrdered v → LooksBehind at.walk.spot view (BaseOf c) → found ≡ next_like_of (first_key (head_at self.old.machine at.walk)) c (living (v view.place) (indicator (head_at self.old.machine at.walk))) → KeepsRest P v self.old self.new) }
+        requires at { AtWalk self.old.machine.stack at.now.point at.now.walk }
+        requires seen { IsSpotSeen self.old.machine.stack.basis.latest at.now.walk.spot }
+        requires spot { (c : OfCursor) × LooksBehind at.now.walk.spot view (BaseOf c) }
+        ensures ok { OnOk result ((P : Given) (v : Views) (c : OfCursor) → AreOrdered v → LooksBehind at.now.walk.spot view (BaseOf c) → found ≡ next_like_of (first_key (head_at self.old.machine at.now.walk)) c (living (v view.place) (indicator (head_at self.old.machine at.now.walk))) → KeepsRest P v self.old self.new) }
         ensures of { (P : Given) → IsOf P self.old.machine → IsOf P self.new.machine }
         ensures basis { self.new.machine.stack.basis ≡ self.old.machine.stack.basis }
         ensures frame { self.new ≡ record self.old { machine = self.new.machine } }
         ensures err { OnErr result ((P : Given) → Stays P self.old self.new) }
-        ensures asked { OnOk result ((v : Views) (c : OfCursor) → AreOrdered v → LooksBehind at.walk.spot view (BaseOf c) → found ≡ next_like_of (first_key (head_at self.old.machine at.walk)) c (living (v view.place) (indicator (head_at self.old.machine at.walk))) → WalkAsked v at.walk self.old.machine self.new.machine (like (head_at self.old.machine at.walk) c)) }
+        ensures asked { OnOk result ((v : Views) (c : OfCursor) → AreOrdered v → LooksBehind at.now.walk.spot view (BaseOf c) → found ≡ next_like_of (first_key (head_at self.old.machine at.now.walk)) c (living (v view.place) (indicator (head_at self.old.machine at.now.walk))) → WalkAsked v at.now.walk self.old.machine self.new.machine (like (head_at self.old.machine at.now.walk) c)) }
     {
-        let step = self.step_from(self.head_at(&at), view, found)?;
+        let step = self.step_from(self.head_at(at), view, found)?;
         let spot = spot_behind(at.walk.spot, step);
         self.machine.stack.go_on_walk(at, spot);
         Ok(())
     }
 
     /// The clause of a walk was sought in the journal: it is tried.
-    pub(crate) fn walked(&mut self, at: Walking, clause: Option<Clause>) -> Result<(), AllocError>
+    pub(crate) fn walked(&mut self, at: &Walking, clause: Option<Clause>) -> Result<(), AllocError>
         requires fails { self.old.machine.mode ≡ Mode.Back Outcome.Fail }
-        requires at { AtWalk self.old.machine.stack at.point at.walk }
-        requires seen { IsSpotSeen self.old.machine.stack.basis.latest at.walk.spot }
-        requires spot { (g : OfView) × (x : Named) × (y : Option OfAhead) × (at.walk.spot ≡ KnownOf g x y) }
-        ensures ok { OnOk result ((P : Given) (v : Views) (g : OfView) (x : Named) (y : Option OfAhead) → AreOrdered v → at.walk.spot ≡ KnownOf g x y → IsUntouched self.old.machine.layer.own.updates g x → clause ≡ clause_alive x (v g.place) → KeepsRest P v self.old self.new) }
+        requires at { AtWalk self.old.machine.stack at.now.point at.now.walk }
+        requires seen { IsSpotSeen self.old.machine.stack.basis.latest at.now.walk.spot }
+        requires spot { (g : OfView) × (x : Named) × (y : Option OfAhead) × (at.now.walk.spot ≡ KnownOf g x y) }
+        ensures ok { OnOk result ((P : Given) (v : Views) (g : OfView) (x : Named) (y : Option OfAhead) → AreOrdered v → at.now.walk.spot ≡ KnownOf g x y → IsUntouched self.old.machine.layer.own.updates g x → clause ≡ clause_alive x (v g.place) → KeepsRest P v self.old self.new) }
         ensures of { (P : Given) → IsOf P self.old.machine → IsOf P self.new.machine }
         ensures basis { self.new.machine.stack.basis ≡ self.old.machine.stack.basis }
         ensures frame { self.new ≡ record self.old { machine = self.new.machine } }
         ensures err { OnErr result ((P : Given) → Stays P self.old self.new) }
-        ensures asked { OnOk result ((v : Views) (g : OfView) (x : Named) (y : Option OfAhead) → at.walk.spot ≡ KnownOf g x y → IsUntouched self.old.machine.layer.own.updates g x → WalkAsked v at.walk self.old.machine self.new.machine (ClauseQuery x)) }
+        ensures asked { OnOk result ((v : Views) (g : OfView) (x : Named) (y : Option OfAhead) → at.now.walk.spot ≡ KnownOf g x y → IsUntouched self.old.machine.layer.own.updates g x → WalkAsked v at.now.walk self.old.machine self.new.machine (ClauseQuery x)) }
     {
         let Spot::Known(view, name, ahead) = at.walk.spot else {
             unreachable!()
@@ -333,11 +333,11 @@ pub(crate) fn at_spot(at: &Walking, spot: Spot) -> Walking
 }
 
 /// A walk goes on from a spot, if it has not ended.
-fn walked_to(at: &Walking, rest: Option<Spot>) -> Walked
-    ensures { result ≡ walked_on at.now rest }
+fn walked_to(rest: Option<Spot>) -> Walked
+    ensures { result ≡ walked_on rest }
 {
     match rest {
-        Some(spot) => Walked::On(at_spot(at, spot)),
+        Some(spot) => Walked::On(spot),
         None => Walked::Over,
     }
 }

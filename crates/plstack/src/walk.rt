@@ -358,18 +358,18 @@ impl Stack {
     /// on, if it fits. The walk stands then behind it, or nothing is left of it. After an `Err` the cases are as they were.
     pub fn try_walk(
         &mut self,
-        at: Walking,
+        at: &Walking,
         next: &Candidate,
         rest: Option<Spot>,
     ) -> Result<Option<Entered>, AllocError>
-        requires at { AtWalk self.old at.point at.walk }
+        requires at { AtWalk self.old at.now.point at.now.walk }
         requires seen { IsLeftSeen self.old.basis.latest rest }
-        ensures some { IfOk result (λ o. IfSome o (λ entered. (db : Database) → Finds db at.walk (value self.old.env.heap at.walk.goal) next.now rest → RetriesBy db self.old self.new entered.erased)) }
-        ensures none { IfOk result (λ o. IfNone o ((db : Database) → Finds db at.walk (value self.old.env.heap at.walk.goal) next.now rest → cases_of db self.new ≡ cases_of db self.old)) }
+        ensures some { IfOk result (λ o. IfSome o (λ entered. (db : Database) → Finds db at.now.walk (value self.old.env.heap at.now.walk.goal) next.now rest → RetriesBy db self.old self.new entered.erased)) }
+        ensures none { IfOk result (λ o. IfNone o ((db : Database) → Finds db at.now.walk (value self.old.env.heap at.now.walk.goal) next.now rest → cases_of db self.new ≡ cases_of db self.old)) }
         ensures last { IfOk result (λ o. IfNone o (rest ≡ None → (db : Database) → EndsPlain db self.new)) }
-        ensures at_next { IfOk result (λ o. IfNone o ((spot : Spot) → rest ≡ Some spot → AtWalk self.new at.point (record at.walk { spot = spot }))) }
-        ensures values { IfOk result (λ o. IfNone o ((spot : Spot) → rest ≡ Some spot → value self.new.env.heap at.walk.goal ≡ value self.old.env.heap at.walk.goal)) }
-        ensures moves { OnOk result (Moves self.old self.new at.walk rest) }
+        ensures at_next { IfOk result (λ o. IfNone o ((spot : Spot) → rest ≡ Some spot → AtWalk self.new at.now.point (record at.now.walk { spot = spot }))) }
+        ensures values { IfOk result (λ o. IfNone o ((spot : Spot) → rest ≡ Some spot → value self.new.env.heap at.now.walk.goal ≡ value self.old.env.heap at.now.walk.goal)) }
+        ensures moves { OnOk result (Moves self.old self.new at.now.walk rest) }
         ensures err { OnErr result ((db : Database) → cases_of db self.new ≡ cases_of db self.old) }
         ensures err_walks { OnErr result (walks_in self.new ≡ walks_in self.old) }
         ensures basis { self.new.basis ≡ self.old.basis }
@@ -379,7 +379,7 @@ impl Stack {
             return Ok(None);
         }
         let level = self.depth.down(1);
-        let fits = self.fit_walk(&at, level, next)?;
+        let fits = self.fit_walk(at, level, next)?;
         self.go_on_walk(at, rest);
         if !fits {
             return Ok(None);
@@ -424,14 +424,14 @@ impl Stack {
     }
 
     /// The innermost case, a walk, stands at another spot, or nothing is left of it.
-    pub fn go_on_walk(&mut self, at: Walking, next: Option<Spot>)
-        requires walking { IsWalking self.old at.point at.walk }
+    pub fn go_on_walk(&mut self, at: &Walking, next: Option<Spot>)
+        requires walking { IsWalking self.old at.now.point at.now.walk }
         requires seen { IsLeftSeen self.old.basis.latest next }
-        ensures goes { (db : Database) → GoesOn db self.old self.new at.point at.walk next }
-        ensures moves { Moves self.old self.new at.walk next }
+        ensures goes { (db : Database) → GoesOn db self.old self.new at.now.point at.now.walk next }
+        ensures moves { Moves self.old self.new at.now.walk next }
         ensures place { place_of self.new ≡ place_of self.old }
         ensures same { (spot : Spot) → next ≡ Some spot → self.new ≡ record self.old { frames = self.new.frames } }
-        ensures walking { (spot : Spot) → next ≡ Some spot → IsWalking self.new at.point (record at.walk { spot = spot }) }
+        ensures walking { (spot : Spot) → next ≡ Some spot → IsWalking self.new at.now.point (record at.now.walk { spot = spot }) }
         ensures basis { self.new.basis ≡ self.old.basis }
     {
         match next {
@@ -458,13 +458,13 @@ impl Stack {
     }
 
     /// Of the innermost case, a walk, nothing is left.
-    fn empty_walk(&mut self, at: Walking)
-        requires { IsWalking self.old at.point at.walk }
-        ensures goes { (db : Database) → GoesOn db self.old self.new at.point at.walk None }
-        ensures moves { Moves self.old self.new at.walk None }
+    fn empty_walk(&mut self, at: &Walking)
+        requires { IsWalking self.old at.now.point at.now.walk }
+        ensures goes { (db : Database) → GoesOn db self.old self.new at.now.point at.now.walk None }
+        ensures moves { Moves self.old self.new at.now.walk None }
         ensures same { self.new ≡ record self.old { frames = self.new.frames } }
-        ensures within { IsWithin at.point.marks.env self.new.env }
-        ensures older { AreOlder at.point.marks (reverse self.new.frames) }
+        ensures within { IsWithin at.now.point.marks.env self.new.env }
+        ensures older { AreOlder at.now.point.marks (reverse self.new.frames) }
     {
         let Some(_) = self.frames.pop() else {
             unreachable!()

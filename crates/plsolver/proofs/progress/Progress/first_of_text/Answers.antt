@@ -40,7 +40,7 @@ returns-in-Some-clause-some c = λ P v own whole.
     let k = c.clauses.number in
     let i = c.clauses.invariant in
     let w = c.clauses.at.walk in
-    let all = whole-now P c.args.self.now c.clauses.self c.args.at c.clauses.at k c.args.clauses.now i whole in
+    let all = whole-now P c.args.self.now c.clauses.self c.args.at.now c.clauses.at k c.args.clauses.now i whole in
     retries-same (database_of P v own) c.args.self.now.machine.stack s c.try_walk.new.self c.in-Some.entered.erased (i.cases P v own whole)
     ((rw c.in-Some.is at c.in_ok-entered.ensures.some) (database_of P v own)
     (text-next P v own w (value s.env.heap w.goal) k c.args.clauses.now c.index-clauses-number.result c.in_ok-next.next i.text all
@@ -62,13 +62,13 @@ clauses-preserved c =
     let none = rw c.in_default.is at c.in_ok-entered.ensures.none in
     let there = (rw c.in_default.is at c.in_ok-entered.ensures.at_next) spot refl in
     let values = (rw c.in_default.is at c.in_ok-entered.ensures.values) spot refl in
-    subst (λ (a : Walking). AtText c.args.self.now (record c.clauses.self { machine = record c.clauses.self.machine { stack = c.try_walk.new.self } }) c.args.at a (k + 1) c.args.clauses.now) (sym c.at_spot-behind.ensures) (record {
+    subst (λ (a : Walking). AtText c.args.self.now (record c.clauses.self { machine = record c.clauses.self.machine { stack = c.try_walk.new.self } }) c.args.at.now a (k + 1) c.args.clauses.now) (sym c.at_spot-behind.ensures) (record {
       at = there;
       text = refl;
       uses = i.uses;
       goal = values ∙ i.goal;
       cases = λ P v own whole.
-          let all = whole-now P c.args.self.now c.clauses.self c.args.at c.clauses.at k c.args.clauses.now i whole in
+          let all = whole-now P c.args.self.now c.clauses.self c.args.at.now c.clauses.at k c.args.clauses.now i whole in
           none (database_of P v own)
           (text-next P v own w (value s.env.heap w.goal) k c.args.clauses.now c.index-clauses-number.result c.in_ok-next.next i.text all
           (drop-at c.args.clauses.now k _ (omega (arith, c.clauses-test.true)) ∙ ap (λ x. x ∷ drop (suc k) c.args.clauses.now) (sym c.index-clauses-number.is)) c.in_ok-next.ensures)
@@ -90,14 +90,14 @@ returns-clause-some c =
     if_some_map c.last_of_text.result c.last_of_text.ensures.some
     (λ e f P v own whole.
     retries-same (database_of P v own) c.args.self.now.machine.stack c.clauses.self.machine.stack c.last_of_text.new.self.machine.stack e.erased (i.cases P v own whole)
-    (f P v own (whole-now P c.args.self.now c.clauses.self c.args.at c.clauses.at c.clauses.number c.args.clauses.now i whole)))
+    (f P v own (whole-now P c.args.self.now c.clauses.self c.args.at.now c.clauses.at c.clauses.number c.args.clauses.now i whole)))
 
 pub returns-clause-none : goal.returns-clause-none
 returns-clause-none c =
     let i = c.clauses.invariant in
     if_none_map c.last_of_text.result c.last_of_text.ensures.none
     (λ f P v own whole.
-    let x = f P v own (whole-now P c.args.self.now c.clauses.self c.args.at c.clauses.at c.clauses.number c.args.clauses.now i whole) in
+    let x = f P v own (whole-now P c.args.self.now c.clauses.self c.args.at.now c.clauses.at c.clauses.number c.args.clauses.now i whole) in
     (x.0, sym (i.cases P v own whole) ∙ x.1, x.2))
 
 pub returns-clause-err : goal.returns-clause-err

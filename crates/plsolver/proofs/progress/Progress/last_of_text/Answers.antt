@@ -9,7 +9,7 @@ use Rattle.plsolver.proofs.progress.Progress.last_of_text.Goals as goal
 pub returns-in_ok-next-in-Some-clause-none : goal.returns-in_ok-next-in-Some-clause-none
 returns-in_ok-next-in-Some-clause-none c =
     let s = c.args.self.now.machine.stack in
-    let w = c.args.at.walk in
+    let w = c.args.at.now.walk in
     let k = c.args.number in
     if_none_both c.try_walk.result c.try_walk.ensures.none c.try_walk.ensures.last
     (λ same ends P v own whole.
@@ -22,11 +22,11 @@ returns-in_ok-next-in-Some-clause-none c =
 pub returns-in-None-clause-none : goal.returns-in-None-clause-none
 returns-in-None-clause-none c = λ P v own whole.
     let s = c.args.self.now.machine.stack in
-    text-ends P v own s c.go_on_walk.new.self c.args.at.point c.args.at.walk c.args.number c.requires.at (c.go_on_walk.ensures.goes (database_of P v own)) c.requires.text
+    text-ends P v own s c.go_on_walk.new.self c.args.at.now.point c.args.at.now.walk c.args.number c.requires.at (c.go_on_walk.ensures.goes (database_of P v own)) c.requires.text
     (ap (drop c.args.number) (sym whole) ∙ drop-none c.args.clauses.now c.args.number (omega (arith, c.in-None.ensures.lookup)))
 
 pub returns-in_ok-next-in-Some-clause-walks : goal.returns-in_ok-next-in-Some-clause-walks
-returns-in_ok-next-in-Some-clause-walks c = text-ended c.args.self.now.machine.stack c.try_walk.new.self c.args.at.walk c.args.number c.requires.text c.try_walk.result c.try_walk.ensures.moves c.try_walk.ensures.err_walks
+returns-in_ok-next-in-Some-clause-walks c = text-ended c.args.self.now.machine.stack c.try_walk.new.self c.args.at.now.walk c.args.number c.requires.text c.try_walk.result c.try_walk.ensures.moves c.try_walk.ensures.err_walks
 
 pub returns-in-None-clause-walks : goal.returns-in-None-clause-walks
-returns-in-None-clause-walks c = text-off c.args.self.now.machine.stack c.go_on_walk.new.self c.args.at.walk c.args.number c.requires.text c.go_on_walk.ensures.moves
+returns-in-None-clause-walks c = text-off c.args.self.now.machine.stack c.go_on_walk.new.self c.args.at.now.walk c.args.number c.requires.text c.go_on_walk.ensures.moves

@@ -14,30 +14,30 @@ returns-in-Some-clause-ok c = λ P v ordered.
     let s = c.args.self.now.machine in
     let p = c.requires.own in
     (rw c.in-Some.is at c.in_ok-entered.ensures.some) (database_of P v s.layer.own.updates)
-    (finds-own s c.try_walk.new.self c.args.at c.requires.at p.0 p.1 p.2 p.3 c.args.rest p.4 c.args.next.now p.5.0 p.5.1 p.5.2 P v ordered)
+    (finds-own s c.try_walk.new.self c.args.at.now c.requires.at p.0 p.1 p.2 p.3 c.args.rest p.4 c.args.next.now p.5.0 p.5.1 p.5.2 P v ordered)
 
 pub returns-in-Some-clause-walks : goal.returns-in-Some-clause-walks
 returns-in-Some-clause-walks c =
     let p = c.requires.own in
-    moves-further c.args.self.now.machine.stack c.try_walk.new.self c.args.at.walk c.args.rest (known-viewed c.args.at.walk.spot p.0 p.1 p.2 p.3) c.in_ok-entered.ensures.moves
+    moves-further c.args.self.now.machine.stack c.try_walk.new.self c.args.at.now.walk c.args.rest (known-viewed c.args.at.now.walk.spot p.0 p.1 p.2 p.3) c.in_ok-entered.ensures.moves
     (λ z e.
     let is = sym p.4 ∙ e in
-    (ahead-viewed p.0 p.2 z is, ahead-further c.args.at.walk z p.0 p.1 p.2 p.3 is))
+    (ahead-viewed p.0 p.2 z is, ahead-further c.args.at.now.walk z p.0 p.1 p.2 p.3 is))
 
 pub returns-in-None-clause-ok : goal.returns-in-None-clause-ok
 returns-in-None-clause-ok c =
     let s = c.args.self.now.machine in
     let p = c.requires.own in
     let st = c.try_walk.new.self in
-    subst (WalkedTo s (over s st) c.args.at) (sym c.walked_to.ensures)
-    (tries-past s st c.args.at c.requires.at p.0 p.1 p.2 p.3 c.args.rest p.4
-    (λ P v ordered. (rw c.in-None.is at c.in_ok-entered.ensures.none) (database_of P v s.layer.own.updates) (finds-own s st c.args.at c.requires.at p.0 p.1 p.2 p.3 c.args.rest p.4 c.args.next.now p.5.0 p.5.1 p.5.2 P v ordered))
+    subst (WalkedTo s (over s st) c.args.at.now) (sym c.walked_to.ensures)
+    (tries-past s st c.args.at.now c.requires.at p.0 p.1 p.2 p.3 c.args.rest p.4
+    (λ P v ordered. (rw c.in-None.is at c.in_ok-entered.ensures.none) (database_of P v s.layer.own.updates) (finds-own s st c.args.at.now c.requires.at p.0 p.1 p.2 p.3 c.args.rest p.4 c.args.next.now p.5.0 p.5.1 p.5.2 P v ordered))
     c.try_walk.ensures.basis c.requires.seen (rw c.in-None.is at c.in_ok-entered.ensures.at_next) (rw c.in-None.is at c.in_ok-entered.ensures.values) (rw c.in-None.is at c.in_ok-entered.ensures.last))
 
 pub returns-in-None-clause-walks : goal.returns-in-None-clause-walks
 returns-in-None-clause-walks c =
     let p = c.requires.own in
-    moves-further c.args.self.now.machine.stack c.try_walk.new.self c.args.at.walk c.args.rest (known-viewed c.args.at.walk.spot p.0 p.1 p.2 p.3) c.in_ok-entered.ensures.moves
+    moves-further c.args.self.now.machine.stack c.try_walk.new.self c.args.at.now.walk c.args.rest (known-viewed c.args.at.now.walk.spot p.0 p.1 p.2 p.3) c.in_ok-entered.ensures.moves
     (λ z e.
     let is = sym p.4 ∙ e in
-    (ahead-viewed p.0 p.2 z is, ahead-further c.args.at.walk z p.0 p.1 p.2 p.3 is))
+    (ahead-viewed p.0 p.2 z is, ahead-further c.args.at.now.walk z p.0 p.1 p.2 p.3 is))

@@ -15,7 +15,7 @@ returns-in_err-step-in-Seek-clause-walks c = further_refl c.args.self.now.machin
 
 pub returns-in-Asks-clause-ok : goal.returns-in-Asks-clause-ok
 returns-in-Asks-clause-ok c =
-    let at = c.args.at in
+    let at = c.args.at.now in
     let untouched = rw c.in-Asks.is at c.in_ok-next-in-Known.ensures in (
       λ P v ordered. refl,
       (
@@ -36,7 +36,7 @@ returns-in-Asks-clause-walks c = further_refl c.args.self.now.machine.stack
 
 pub returns-then-asks_journal-clause-ok : goal.returns-then-asks_journal-clause-ok
 returns-then-asks_journal-clause-ok c =
-    let at = c.args.at in
+    let at = c.args.at.now in
     let m = c.args.self.now.machine in
     let asked = journal-asks m.layer.own.updates (head_at m at.walk) at.walk.spot (c.asks_journal.ensures c.if-asks_journal.true) in
     (λ P v ordered. refl, (asked.0, asked.1, record { point = at.point; walk = at.walk; at = c.requires.at; fails = c.requires.fails; asks = asked.2 }))

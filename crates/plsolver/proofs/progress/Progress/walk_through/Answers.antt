@@ -19,19 +19,19 @@ walk-init c = record {
   walks = further_refl c.args.self.now.machine.stack;
 }
 
-pub returns-in_err-next-clause-err : goal.returns-in_err-next-clause-err
-returns-in_err-next-clause-err c =
+pub returns-in_err-spot-clause-err : goal.returns-in_err-spot-clause-err
+returns-in_err-spot-clause-err c =
     let i = c.walk.invariant in
     on_err c.from_residual.result (λ P. keeps-through P c.args.self.now c.requires.fails c.walk_on.new.self (over-trans c.args.self.now c.walk.self c.walk_on.new.self i.frame c.walk_on.ensures.frame) (c.walk_on.ensures.basis ∙ i.basis)
-    (λ Q v ordered. c.in_err-next.ensures.err Q v ordered ∙ i.same Q v ordered))
+    (λ Q v ordered. c.in_err-spot.ensures.err Q v ordered ∙ i.same Q v ordered))
 
-pub returns-in_err-next-clause-walks : goal.returns-in_err-next-clause-walks
-returns-in_err-next-clause-walks c = further_trans c.args.self.now.machine.stack c.walk.self.machine.stack c.walk_on.new.self.machine.stack c.walk.invariant.walks c.walk_on.ensures.walks
+pub returns-in_err-spot-clause-walks : goal.returns-in_err-spot-clause-walks
+returns-in_err-spot-clause-walks c = further_trans c.args.self.now.machine.stack c.walk.self.machine.stack c.walk_on.new.self.machine.stack c.walk.invariant.walks c.walk_on.ensures.walks
 
 pub walk-preserved : goal.walk-preserved
 walk-preserved c =
     let i = c.walk.invariant in
-    let on = rw c.in-On.is at c.in_ok-next.ensures.ok in
+    let on = rw c.in-On.is at c.in_ok-spot.ensures.ok in
     record {
       fails = ap (λ x. x.machine.mode) c.walk_on.ensures.frame ∙ i.fails;
       at = on.walking;
@@ -49,7 +49,7 @@ returns-in-Into-clause-on c = λ P v ordered.
     let i = c.walk.invariant in
     let s = c.args.self.now in
     let w = c.walk_on.new.self in
-    let into = rw c.in-Into.is at c.in_ok-next.ensures.ok in
+    let into = rw c.in-Into.is at c.in_ok-spot.ensures.ok in
     subst (λ (m : Mode). QuietIn P v s (record w { machine = record w.machine { mode = m } })) (sym c.mode_of.ensures)
     (visits-through P s c.requires.fails v ordered c.walk.self w c.in-Into.entered.erased (over-trans s c.walk.self w i.frame c.walk_on.ensures.frame) (c.walk_on.ensures.basis ∙ i.basis) i.frame i.same (into P v ordered))
 
@@ -61,7 +61,7 @@ unfolding PausesAt
 returns-in-Asks-clause-due c = λ P.
     let i = c.walk.invariant in
     let s = c.args.self.now in
-    let asks = rw c.in-Asks.is at c.in_ok-next.ensures.ok in (
+    let asks = rw c.in-Asks.is at c.in_ok-spot.ensures.ok in (
       (asks.1.0, asks.1.1, inr asks.1.2),
       keeps-through P s c.requires.fails c.walk_on.new.self (over-trans s c.walk.self c.walk_on.new.self i.frame c.walk_on.ensures.frame) (c.walk_on.ensures.basis ∙ i.basis) (λ Q v ordered. asks.0 Q v ordered ∙ i.same Q v ordered),
     )
@@ -74,7 +74,7 @@ returns-in-Over-clause-on c = λ P v ordered.
     let i = c.walk.invariant in
     let s = c.args.self.now in
     let w = c.walk_on.new.self in
-    closes-through P s c.requires.fails v ordered c.walk.self w c.close.new.self c.close.result (over-trans s c.walk.self w i.frame c.walk_on.ensures.frame) (c.walk_on.ensures.basis ∙ i.basis) i.same (rw c.in-Over.is at c.in_ok-next.ensures.ok)
+    closes-through P s c.requires.fails v ordered c.walk.self w c.close.new.self c.close.result (over-trans s c.walk.self w i.frame c.walk_on.ensures.frame) (c.walk_on.ensures.basis ∙ i.basis) i.same (rw c.in-Over.is at c.in_ok-spot.ensures.ok)
     c.close.ensures.some c.close.ensures.none c.close.ensures.basis
 
 pub returns-in-Over-clause-walks : goal.returns-in-Over-clause-walks

@@ -19,7 +19,7 @@ pub returns-in_default-clause-clause-ok : goal.returns-in_default-clause-clause-
 returns-in_default-clause-clause-ok c = λ P v g x y ordered at untouched is.
     let s = c.args.self.now.machine in
     let st = c.go_on_walk.new.self in
-    let w = c.args.at.walk in
+    let w = c.args.at.now.walk in
     let k = c.in-Known in
     let db = database_of P v s.layer.own.updates in
     let none = sought-known v s.layer.own.updates g k.view x k.name y k.ahead c.args.clause (sym at ∙ k.is) untouched is ∙ c.in_default-clause.is in
@@ -27,8 +27,8 @@ returns-in_default-clause-clause-ok c = λ P v g x y ordered at untouched is.
       used = refl;
       limit = refl;
       rest = went-on P v s st c.requires.fails
-          (same-cases db s.stack st c.args.at.point w _ c.requires.at
-          (subst (GoesOn db s.stack st c.args.at.point w) c.spot_ahead-rest.ensures (c.go_on_walk.ensures.goes db))
+          (same-cases db s.stack st c.args.at.now.point w _ c.requires.at
+          (subst (GoesOn db s.stack st c.args.at.now.point w) c.spot_ahead-rest.ensures (c.go_on_walk.ensures.goes db))
           (gone-left db w.uses (value s.stack.env.heap w.goal) k.view w.spot k.name k.ahead k.is none));
     }
 
@@ -39,7 +39,7 @@ returns-in_err-entered-clause-err c =
 pub returns-in_default-2-clause-ok : goal.returns-in_default-2-clause-ok
 returns-in_default-2-clause-ok c = λ P v g x y ordered at untouched is.
     let s = c.args.self.now.machine in
-    let w = c.args.at.walk in
+    let w = c.args.at.now.walk in
     let k = c.in-Known in
     let db = database_of P v s.layer.own.updates in
     let some = sought-known v s.layer.own.updates g k.view x k.name y k.ahead c.args.clause (sym at ∙ k.is) untouched is ∙ c.in-Some.is in
@@ -55,7 +55,7 @@ pub returns-clause-ok : goal.returns-clause-ok
 returns-clause-ok c = λ P v g x y ordered at untouched is.
     let s = c.args.self.now.machine in
     let st = c.try_walk.new.self in
-    let w = c.args.at.walk in
+    let w = c.args.at.now.walk in
     let k = c.in-Known in
     let db = database_of P v s.layer.own.updates in
     let some = sought-known v s.layer.own.updates g k.view x k.name y k.ahead c.args.clause (sym at ∙ k.is) untouched is ∙ c.in-Some.is in
@@ -72,7 +72,7 @@ returns-clause-ok c = λ P v g x y ordered at untouched is.
 pub returns-in_default-clause-clause-asked : goal.returns-in_default-clause-clause-asked
 returns-in_default-clause-clause-asked c = λ v g x y at untouched.
     let s = c.args.self.now.machine in
-    let w = c.args.at.walk in
+    let w = c.args.at.now.walk in
     let k = c.in-Known in
     let same = same-known g k.view x k.name y k.ahead (sym at ∙ k.is) in
     let new = record s { stack = c.go_on_walk.new.self } in
@@ -83,7 +83,7 @@ returns-in_default-clause-clause-asked c = λ v g x y at untouched.
 pub returns-in_default-2-clause-asked : goal.returns-in_default-2-clause-asked
 returns-in_default-2-clause-asked c = λ v g x y at untouched.
     let s = c.args.self.now.machine in
-    let w = c.args.at.walk in
+    let w = c.args.at.now.walk in
     let k = c.in-Known in
     let same = same-known g k.view x k.name y k.ahead (sym at ∙ k.is) in
     let new = record s { stack = c.try_walk.new.self } in
@@ -94,7 +94,7 @@ returns-in_default-2-clause-asked c = λ v g x y at untouched.
 pub returns-clause-asked : goal.returns-clause-asked
 returns-clause-asked c = λ v g x y at untouched.
     let s = c.args.self.now.machine in
-    let w = c.args.at.walk in
+    let w = c.args.at.now.walk in
     let k = c.in-Known in
     let same = same-known g k.view x k.name y k.ahead (sym at ∙ k.is) in
     let new = record s { stack = c.try_walk.new.self; mode = c.mode_of.result } in

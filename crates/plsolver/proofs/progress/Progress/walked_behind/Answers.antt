@@ -15,7 +15,7 @@ pub returns-clause-ok : goal.returns-clause-ok
 returns-clause-ok c = λ P v cur ordered looks e.
     let s = c.args.self.now.machine in
     let st = c.go_on_walk.new.self in
-    let at = c.args.at in
+    let at = c.args.at.now in
     let g = c.args.view in
     let db = database_of P v s.layer.own.updates in
     let step = subst (λ h. StepsFound s.layer.own.updates h g c.args.found c.in_ok-step.step) c.head_at.ensures.is c.in_ok-step.ensures in
@@ -32,7 +32,7 @@ pub returns-clause-asked : goal.returns-clause-asked
 returns-clause-asked c = λ v cur ordered looks e.
     let s = c.args.self.now.machine in
     let st = c.go_on_walk.new.self in
-    let at = c.args.at in
+    let at = c.args.at.now in
     let g = c.args.view in
     let step = subst (λ h. StepsFound s.layer.own.updates h g c.args.found c.in_ok-step.step) c.head_at.ensures.is c.in_ok-step.ensures in
     walk-found v at.walk s (record s { stack = st }) (subst IsPlain (sym c.requires.fails) tt) (looks-viewed at.walk.spot g (reaches.Base cur) looks) g cur c.args.found c.in_ok-step.step looks

@@ -8,7 +8,7 @@ use Rattle.plstack.proofs.stack.Stack.go_on_walk.Goals as goal
 
 pub returns-in-None-clause-goes : goal.returns-in-None-clause-goes
 returns-in-None-clause-goes c = λ db.
-    rw c.in-None.is (goes_settled db c.args.self.now c.empty_walk.new.self c.settle.new.self c.args.at.point c.args.at.walk None (c.empty_walk.ensures.goes db) c.settle.ensures)
+    rw c.in-None.is (goes_settled db c.args.self.now c.empty_walk.new.self c.settle.new.self c.args.at.now.point c.args.at.now.walk None (c.empty_walk.ensures.goes db) c.settle.ensures)
 
 pub returns-in-None-clause-place : goal.returns-in-None-clause-place
 returns-in-None-clause-place c = c.settle.ensures.place ∙ place-framed c.args.self.now c.empty_walk.new.self c.empty_walk.ensures.same
@@ -24,16 +24,16 @@ returns-in-Some-clause-place c = place-framed c.args.self.now c.replace_walk.new
 
 pub returns-in-Some-clause-walking : goal.returns-in-Some-clause-walking
 returns-in-Some-clause-walking c spot is =
-    subst (λ (x : Spot). IsWalking c.replace_walk.new.self c.args.at.point (record c.args.at.walk { spot = x })) (same-spot c.in-Some.spot spot (sym c.in-Some.is ∙ is)) (c.replace_walk.ensures.walking c.args.at.point c.args.at.walk c.requires.walking)
+    subst (λ (x : Spot). IsWalking c.replace_walk.new.self c.args.at.now.point (record c.args.at.now.walk { spot = x })) (same-spot c.in-Some.spot spot (sym c.in-Some.is ∙ is)) (c.replace_walk.ensures.walking c.args.at.now.point c.args.at.now.walk c.requires.walking)
 
 pub returns-in-None-clause-moves : goal.returns-in-None-clause-moves
-returns-in-None-clause-moves c = rw c.in-None.is (moves-between c.args.self.now c.args.self.now c.empty_walk.new.self c.settle.new.self c.args.at.walk None refl c.settle.ensures.frames c.empty_walk.ensures.moves)
+returns-in-None-clause-moves c = rw c.in-None.is (moves-between c.args.self.now c.args.self.now c.empty_walk.new.self c.settle.new.self c.args.at.now.walk None refl c.settle.ensures.frames c.empty_walk.ensures.moves)
 
 pub replace_walk-requires-clause-walking : goal.replace_walk-requires-clause-walking
-replace_walk-requires-clause-walking c = (c.args.at.point, c.args.at.walk, c.requires.walking)
+replace_walk-requires-clause-walking c = (c.args.at.now.point, c.args.at.now.walk, c.requires.walking)
 
 pub returns-in-Some-clause-goes : goal.returns-in-Some-clause-goes
-returns-in-Some-clause-goes c = λ db. rw c.in-Some.is (c.replace_walk.ensures.goes c.args.at.point c.args.at.walk c.requires.walking db)
+returns-in-Some-clause-goes c = λ db. rw c.in-Some.is (c.replace_walk.ensures.goes c.args.at.now.point c.args.at.now.walk c.requires.walking db)
 
 pub returns-in-Some-clause-moves : goal.returns-in-Some-clause-moves
-returns-in-Some-clause-moves c = rw c.in-Some.is (c.replace_walk.ensures.moves c.args.at.point c.args.at.walk c.requires.walking)
+returns-in-Some-clause-moves c = rw c.in-Some.is (c.replace_walk.ensures.moves c.args.at.now.point c.args.at.now.walk c.requires.walking)
