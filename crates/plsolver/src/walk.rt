@@ -87,14 +87,13 @@ impl Progress {
         ensures err { OnErr result (Keeps program.now self.old self.new) }
         ensures walks { Further self.old.machine.stack self.new.machine.stack }
     {
-        let Some(at) = self.machine.stack.walking() else {
-            unreachable!()
-        };
+        let innermost = self.machine.stack.walking();
+        let Some(at) = &innermost else { unreachable!() };
         if let Spot::Text(number) = at.walk.spot {
-            self.retry_text(program, &at, number)?;
+            self.retry_text(program, at, number)?;
             return Ok(None);
         }
-        self.walk_through(&at)
+        self.walk_through(at)
     }
 
     /// Whether a walk is to ask the journal where it stands.

@@ -12,7 +12,7 @@ pub walked_behind-requires-clause-spot : goal.walked_behind-requires-clause-spot
 walked_behind-requires-clause-spot c =
     let w = c.in-Some.at.walk in
     let fits = c.requires.fits in
-    let b = walk-base c.args.self.now.machine c.in-Some.at.point w c.in-Some.ensures.some c.in-Seek.view c.in-Seek.field-1 (inl c.in-Seek.is) fits.0 fits.1 fits.2 in
+    let b = walk-base c.args.self.now.machine c.in-Some.at.point w (rw c.in-Some.is at c.walking-innermost.ensures.some) c.in-Seek.view c.in-Seek.field-1 (inl c.in-Seek.is) fits.0 fits.1 fits.2 in
     (b.0, subst (LooksBehind w.spot c.in-Seek.view) b.1 (inl c.in-Seek.is))
 
 pub returns-in-Seek-clause-ok : goal.returns-in-Seek-clause-ok
@@ -21,7 +21,7 @@ returns-in-Seek-clause-ok c =
     let w = c.in-Some.at.walk in
     on_ok_map c.walked_behind.result
     (λ keeps P v ordered g q on told.
-    let b = walk-base s c.in-Some.at.point w c.in-Some.ensures.some c.in-Seek.view c.in-Seek.field-1 (inl c.in-Seek.is) g q on in
+    let b = walk-base s c.in-Some.at.point w (rw c.in-Some.is at c.walking-innermost.ensures.some) c.in-Seek.view c.in-Seek.field-1 (inl c.in-Seek.is) g q on in
     keeps P v b.0 ordered (subst (LooksBehind w.spot c.in-Seek.view) b.1 (inl c.in-Seek.is))
     (next-told v c.in-Seek.view.place q (head_at s w) b.0 c.args.found c.next_in.result b.2 (subst (λ (k : ℕ). c.args.found ≡ found (v k) q) b.3 told) c.next_in.ensures))
     c.walked_behind.ensures.ok
@@ -32,8 +32,8 @@ returns-in-Seek-clause-asked c =
     let w = c.in-Some.at.walk in
     on_ok_map c.walked_behind.result
     (λ asked v ordered g q on told.
-    let b = walk-base s c.in-Some.at.point w c.in-Some.ensures.some c.in-Seek.view c.in-Seek.field-1 (inl c.in-Seek.is) g q on in
-    asked-walking v s c.walked_behind.new.self.machine c.in-Some.at.point w c.in-Some.ensures.some g q (like (head_at s w) b.0) on b.2
+    let b = walk-base s c.in-Some.at.point w (rw c.in-Some.is at c.walking-innermost.ensures.some) c.in-Seek.view c.in-Seek.field-1 (inl c.in-Seek.is) g q on in
+    asked-walking v s c.walked_behind.new.self.machine c.in-Some.at.point w (rw c.in-Some.is at c.walking-innermost.ensures.some) g q (like (head_at s w) b.0) on b.2
     (asked v b.0 ordered (subst (LooksBehind w.spot c.in-Seek.view) b.1 (inl c.in-Seek.is))
     (next-told v c.in-Seek.view.place q (head_at s w) b.0 c.args.found c.next_in.result b.2 (subst (λ (k : ℕ). c.args.found ≡ found (v k) q) b.3 told) c.next_in.ensures)))
     c.walked_behind.ensures.asked
@@ -42,7 +42,7 @@ pub walked_behind-requires-in-At-clause-spot : goal.walked_behind-requires-in-At
 walked_behind-requires-in-At-clause-spot c =
     let w = c.in-Some.at.walk in
     let fits = c.requires.fits in
-    let b = walk-base c.args.self.now.machine c.in-Some.at.point w c.in-Some.ensures.some c.in-At.view c.in-At.field-2 (inr (c.in-At.field-1, c.in-At.is)) fits.0 fits.1 fits.2 in
+    let b = walk-base c.args.self.now.machine c.in-Some.at.point w (rw c.in-Some.is at c.walking-innermost.ensures.some) c.in-At.view c.in-At.field-2 (inr (c.in-At.field-1, c.in-At.is)) fits.0 fits.1 fits.2 in
     (b.0, subst (LooksBehind w.spot c.in-At.view) b.1 (inr (c.in-At.field-1, c.in-At.is)))
 
 pub returns-in-At-clause-ok : goal.returns-in-At-clause-ok
@@ -51,7 +51,7 @@ returns-in-At-clause-ok c =
     let w = c.in-Some.at.walk in
     on_ok_map c.walked_behind-in-At.result
     (λ keeps P v ordered g q on told.
-    let b = walk-base s c.in-Some.at.point w c.in-Some.ensures.some c.in-At.view c.in-At.field-2 (inr (c.in-At.field-1, c.in-At.is)) g q on in
+    let b = walk-base s c.in-Some.at.point w (rw c.in-Some.is at c.walking-innermost.ensures.some) c.in-At.view c.in-At.field-2 (inr (c.in-At.field-1, c.in-At.is)) g q on in
     keeps P v b.0 ordered (subst (LooksBehind w.spot c.in-At.view) b.1 (inr (c.in-At.field-1, c.in-At.is)))
     (next-told v c.in-At.view.place q (head_at s w) b.0 c.args.found c.next_in-in-At.result b.2 (subst (λ (k : ℕ). c.args.found ≡ found (v k) q) b.3 told) c.next_in-in-At.ensures))
     c.walked_behind-in-At.ensures.ok
@@ -62,8 +62,8 @@ returns-in-At-clause-asked c =
     let w = c.in-Some.at.walk in
     on_ok_map c.walked_behind-in-At.result
     (λ asked v ordered g q on told.
-    let b = walk-base s c.in-Some.at.point w c.in-Some.ensures.some c.in-At.view c.in-At.field-2 (inr (c.in-At.field-1, c.in-At.is)) g q on in
-    asked-walking v s c.walked_behind-in-At.new.self.machine c.in-Some.at.point w c.in-Some.ensures.some g q (like (head_at s w) b.0) on b.2
+    let b = walk-base s c.in-Some.at.point w (rw c.in-Some.is at c.walking-innermost.ensures.some) c.in-At.view c.in-At.field-2 (inr (c.in-At.field-1, c.in-At.is)) g q on in
+    asked-walking v s c.walked_behind-in-At.new.self.machine c.in-Some.at.point w (rw c.in-Some.is at c.walking-innermost.ensures.some) g q (like (head_at s w) b.0) on b.2
     (asked v b.0 ordered (subst (LooksBehind w.spot c.in-At.view) b.1 (inr (c.in-At.field-1, c.in-At.is)))
     (next-told v c.in-At.view.place q (head_at s w) b.0 c.args.found c.next_in-in-At.result b.2 (subst (λ (k : ℕ). c.args.found ≡ found (v k) q) b.3 told) c.next_in-in-At.ensures)))
     c.walked_behind-in-At.ensures.asked
@@ -74,7 +74,7 @@ returns-in-Known-clause-ok c =
     let k = c.in-Known in
     on_ok_map c.walked.result
     (λ keeps P v ordered g q on told.
-    let b = walk-clause s c.in-Some.at.point c.in-Some.at.walk c.in-Some.ensures.some k.field-0 k.field-1 k.field-2 k.is g q on in
+    let b = walk-clause s c.in-Some.at.point c.in-Some.at.walk (rw c.in-Some.is at c.walking-innermost.ensures.some) k.field-0 k.field-1 k.field-2 k.is g q on in
     keeps P v k.field-0 k.field-1 k.field-2 ordered k.is b.1.0 (clause-told v k.field-0.place q k.field-1 c.args.found c.clause_in.result b.1.1 (subst (λ (k : ℕ). c.args.found ≡ found (v k) q) b.0 told) c.clause_in.ensures))
     c.walked.ensures.ok
 
@@ -84,6 +84,6 @@ returns-in-Known-clause-asked c =
     let k = c.in-Known in
     on_ok_map c.walked.result
     (λ asked v ordered g q on told.
-    let b = walk-clause s c.in-Some.at.point c.in-Some.at.walk c.in-Some.ensures.some k.field-0 k.field-1 k.field-2 k.is g q on in
-    asked-walking v s c.walked.new.self.machine c.in-Some.at.point c.in-Some.at.walk c.in-Some.ensures.some g q (Query.Clause k.field-1) on b.1.1 (asked v k.field-0 k.field-1 k.field-2 k.is b.1.0))
+    let b = walk-clause s c.in-Some.at.point c.in-Some.at.walk (rw c.in-Some.is at c.walking-innermost.ensures.some) k.field-0 k.field-1 k.field-2 k.is g q on in
+    asked-walking v s c.walked.new.self.machine c.in-Some.at.point c.in-Some.at.walk (rw c.in-Some.is at c.walking-innermost.ensures.some) g q (Query.Clause k.field-1) on b.1.1 (asked v k.field-0 k.field-1 k.field-2 k.is b.1.0))
     c.walked.ensures.asked

@@ -8,12 +8,12 @@ use Rattle.plsolver.proofs.progress.Progress.go_through.Goals as goal
 pub retry_text-requires-clause-at : goal.retry_text-requires-clause-at
 retry_text-requires-clause-at c =
     let at = c.requires.at in
-    at-walking c.args.self.now.machine.stack at.0 c.in-Some.at.point at.1 c.in-Some.at.walk at.2 c.in-Some.ensures.some
+    at-walking c.args.self.now.machine.stack at.0 c.in-Some.at.point at.1 c.in-Some.at.walk at.2 (rw c.in-Some.is at c.walking-innermost.ensures.some)
 
 pub walk_through-requires-clause-at : goal.walk_through-requires-clause-at
 walk_through-requires-clause-at c =
     let at = c.requires.at in
-    at-walking c.args.self.now.machine.stack at.0 c.in-Some.at.point at.1 c.in-Some.at.walk at.2 c.in-Some.ensures.some
+    at-walking c.args.self.now.machine.stack at.0 c.in-Some.at.point at.1 c.in-Some.at.walk at.2 (rw c.in-Some.is at c.walking-innermost.ensures.some)
 
 pub returns-in_err-retry_text-clause-err : goal.returns-in_err-retry_text-clause-err
 returns-in_err-retry_text-clause-err c = on_err c.from_residual.result (stays_keeps c.args.program.now c.args.self.now c.retry_text.new.self c.requires.of c.in_err-retry_text.ensures.err)
