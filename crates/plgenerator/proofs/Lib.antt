@@ -1,3 +1,4 @@
+pub mod Tuples
 pub mod Offsets
 pub mod Missing
 pub mod Rows

@@ -1,3 +1,4 @@
+pub mod Alone
 pub mod Fitting
 pub mod Turns
 pub mod Wanting

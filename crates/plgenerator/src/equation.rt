@@ -9,6 +9,7 @@ ghost use Rattle.plcells.specs.Equations.{IsEquation};
 ghost use Rattle.plbuiltin.specs.Solution.{together as tuple};
 ghost use Rattle.plbuiltin.specs.Pieces.{part as part_of, split as split_of, as_text};
 ghost use Rattle.plgenerator.specs.Turns.{IsPart, IsSplit};
+ghost use Rattle.plgenerator.specs.Alone.{alone, IsAlone};
 ghost use Rattle.plgenerator.specs.Answers.{solution_of, sought_terms};
 
 use crate::text::{behind, divided};
@@ -20,6 +21,7 @@ use plcells::equation::Equation;
 use plcells::heap::Heap;
 use plorder::shape::{Shape, shape_of};
 use plterm::name::Name;
+use plterm::node::Node;
 use plterm::term::Term;
 use std::alloc::{AllocError, Global};
 
@@ -62,17 +64,47 @@ fn side(alloc: Global, heap: &Heap, v: Cell, x: u64) -> Result<Term, AllocError>
     }
 }
 
+/// Four terms at once, each of one node.
+fn four(
+    alloc: Global,
+    first: Node,
+    second: Node,
+    third: Node,
+    fourth: Node,
+) -> Result<Term, AllocError>
+    requires first { IsAlone first }
+    requires second { IsAlone second }
+    requires third { IsAlone third }
+    requires fourth { IsAlone fourth }
+    ensures { IfOk result (λ t. t ≡ tuple (alone first ∷ alone second ∷ alone third ∷ alone fourth ∷ [])) }
+{
+    let name = Name::new(alloc, "-")?;
+    let nodes = vec![in alloc; Node::Compound(name, 4), first, second, third, fourth]?;
+    Ok(Term::from_prefix(nodes))
+}
+
+/// The node of an atom's text. An `Err` comes for want of memory, and where the text has more than 65,535 bytes.
+fn atom_node(alloc: Global, text: &str) -> Result<Node, AllocError>
+    ensures is { IfOk result (λ n. n ≡ Node.Atom text.now) }
+    ensures alone { IfOk result IsAlone }
+{
+    let name = Name::new(alloc, text)?;
+    if name.len() > 65535 {
+        return Err(AllocError);
+    }
+    Ok(Node::Atom(name))
+}
+
 /// What the values are unified with: the numbers of characters before a part, in it and behind it, and its text.
 fn part_term(alloc: Global, text: &str, part: Part) -> Result<Term, AllocError>
     requires { IsPart (chars text.now) part }
     ensures { IfOk result (λ t. t ≡ (part_of (chars text.now) [] part.offset.characters part.length part.after).right) }
 {
     let (name, _) = divided(behind(text, part.offset), part.length);
-    let before = Term::int(alloc, part.offset.characters.into())?;
-    let length = Term::int(alloc, part.length.into())?;
-    let after = Term::int(alloc, part.after.into())?;
-    let name = atom(alloc, name)?;
-    together(alloc, vec![in alloc; before, length, after, name]?)
+    let before = Node::Int(part.offset.characters.into());
+    let length = Node::Int(part.length.into());
+    let after = Node::Int(part.after.into());
+    four(alloc, before, length, after, atom_node(alloc, name)?)
 }
 
 /// The answer that a part of an atom is: its arguments behind the atom are unified with the numbers of characters before the part, in it and
@@ -88,11 +120,13 @@ pub fn part_equation(
     ensures there { (h : Store) → IsValue h sought.before → IsValue h sought.length → IsValue h sought.after → IsValue h sought.text → IfOk result (IsEquation h) }
 {
     let right = part_term(alloc, text, part)?;
-    let before = Term::var(alloc, 0)?;
-    let length = Term::var(alloc, 1)?;
-    let after = Term::var(alloc, 2)?;
-    let name = Term::var(alloc, 3)?;
-    let left = together(alloc, vec![in alloc; before, length, after, name]?)?;
+    let left = four(
+        alloc,
+        Node::Var(0),
+        Node::Var(1),
+        Node::Var(2),
+        Node::Var(3),
+    )?;
     let values = vec![in alloc; sought.before, sought.length, sought.after, sought.text]?;
     Ok(Equation {
         left,
