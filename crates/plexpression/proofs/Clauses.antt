@@ -1,5 +1,5 @@
 -- The terms of clauses as expressions.
-use Rattle.std.proofs.Common.{◌≡◌, ℕ, zero, suc, ◌+◌, ◌<◌, ◌≤◌, List, [], ◌∷◌, length, refl, sym, ap, ap₂, ◌∙◌, subst, arith, inl, inr, ℤ, Ok}
+use Rattle.std.proofs.Common.{◌≡◌, ℕ, zero, suc, ◌+◌, ◌<◌, ◌≤◌, List, [], ◌∷◌, length, refl, sym, ap, ap₂, ◌∙◌, subst, arith, inl, inr, ℤ, Ok, Some}
 use Rattle.std.proofs.lemmas.Bool.{cases_lt}
 use Rattle.std.proofs.lemmas.List.Elements.{All-nil, All-cons, All-head, All-tail}
 use Rattle.plterm.specs.Tree.{Tree, Trees, var, int, atom, compound, none, more, trees, list_of, trees-list_of, list_of-trees}
@@ -19,10 +19,14 @@ use Rattle.plhead.proofs.Trees.{length-spread, tree-at, named-at, compound-at}
 use Rattle.plarith.specs.declared.operand.Operand.TheVariants as operands
 use Rattle.plarith.specs.declared.operand.Opened.{Opened}
 use Rattle.plarith.specs.declared.operand.Opened.TheVariants.{Known, One, Two}
-use Rattle.plarith.specs.Evaluation.{not_evaluable}
+use Rattle.plarith.specs.declared.functor.Binary.{Binary}
+use Rattle.plarith.specs.Evaluation.{by_two, eval, not_evaluable}
+use Rattle.plarith.specs.Functors.{binary_of}
+use Rattle.plarith.specs.Operations.{binary}
 use Rattle.plarith.specs.Operands.{Opens}
 use Rattle.plarith.specs.Values.{IsOperand as IsHeapOperand, tree as heap_tree}
 use Rattle.plarith.proofs.Opening.{opens_integer, opens_atom, opens_one, opens_two, opens_many}
+use Rattle.plexpression.specs.declared.pair.Pair.{Pair}
 use Rattle.plexpression.specs.Nodes.{IsNode, IsOperand, IsPair, tree, seen_block}
 
 length-bind_all : (σ : ℕ → Tree) (ts : Trees) → length (list_of (bind_all σ ts)) ≡ length (list_of ts)
@@ -169,3 +173,13 @@ module _ (e : Env) (nodes : List Node) (base : ℕ) where
       go (node.Atom a) here w = let d : tree_at e.heap.names nodes at ≡ atom (atom_at e.heap.names a) = shows at (node.Atom a) is here in absurd (cc)
       go (node.Fun g k) here w = absurd w
       go (node.Sub from root) here w = absurd (other from root here)
+
+-- an operation of two numbers
+pub of-pair : (e : Env) (nodes : List Node) (base at : ℕ) (p : Pair) → IsPair e nodes base at p → (f : Binary) (x y : ℤ) → binary_of (functor_name e.heap.names p.functor) ≡ Some f →
+    tree e nodes base (operands.Node p.left) ≡ int x → tree e nodes base (operands.Node p.right) ≡ int y → eval (tree e nodes base (operands.Node at)) ≡ binary f x y
+unfolding bind eval
+of-pair e nodes base at p is f x y known left right =
+    let name = functor_name e.heap.names p.functor in
+    ap (λ t. eval (bind (over e base) t)) is.is
+    ∙ ap₂ (λ u v. by_two (binary_of name) name (eval u) (eval v)) left right
+    ∙ ap (λ o. by_two o name (Ok x) (Ok y)) known

@@ -14,6 +14,7 @@ ghost use Rattle.plarith.specs.Values.{IsOperand as IsHeapOperand, tree as heap_
 ghost use Rattle.plexpression.specs.Nodes.{IsOperand, IsNode, tree, seen_block};
 
 use crate::number::integer_at;
+use crate::standing::{as_it_stands, number_at};
 use plarith::error::{ArithError, Evaluated};
 use plarith::evaluate::evaluate;
 use plarith::functor::Binary;
@@ -88,29 +89,6 @@ impl Operands for ClauseTerms<'_> {
     }
 }
 
-/// The number that the variable of a slot stands for, if it stands for one.
-fn number_in_slot(env: &Environment, slot: u32) -> Option<i64>
-    requires { slot < length env.now.slots }
-    ensures { IfSome result (λ i. variable env.now slot ≡ int i) }
-{
-    match env.slot(slot) {
-        Slot::Free(_) => None,
-        Slot::Set(v) => integer_at(env.heap(), v),
-    }
-}
-
-/// The number that a node, of a clause whose slots begin at a place, stands for, if it stands for one.
-fn number_at(env: &Environment, nodes: &[Node], at: u32, base: u32) -> Option<i64>
-    requires { IsNode env.now nodes.now base at }
-    ensures { IfSome result (λ i. bind (over env.now base) (tree_at env.now.heap.names nodes.now at) ≡ int i) }
-{
-    match nodes[at as usize] {
-        Node::Int(i) => Some(i),
-        Node::Var(x) => number_in_slot(env, env.slot_of(base, x)),
-        _ => None,
-    }
-}
-
 impl ClauseTerms<'_> {
     /// The number that an operand is as it stands, if it is one.
     fn number(&self, operand: Operand) -> Option<i64>
@@ -168,9 +146,6 @@ fn of_two(
     requires right { IsOperand terms.now.env.now terms.now.nodes.now terms.now.base right }
     ensures { IfOk result (λ o. IfSome o (λ found. found ≡ with_two f (eval (tree terms.now.env.now terms.now.nodes.now terms.now.base left)) (eval (tree terms.now.env.now terms.now.nodes.now terms.now.base right)))) }
 {
-    if let Some(found) = of_numbers(terms, f, left, right) {
-        return Ok(Some(found));
-    }
     let Some(x) = of_simple(terms, left)? else {
         return Ok(None);
     };
@@ -207,6 +182,9 @@ pub fn eval_node(
     requires covers { Covers env.now base (tree_at env.now.heap.names nodes.now at) }
     ensures { IfOk result (λ found. found ≡ eval (bind (over env.now base) (tree_at env.now.heap.names nodes.now at))) }
 {
+    if let Some(found) = as_it_stands(env, nodes, at, base) {
+        return Ok(found);
+    }
     let terms = ClauseTerms { env, nodes, base };
     match at_once(&terms, Operand::Node(at))? {
         Some(found) => Ok(found),

@@ -4,3 +4,4 @@
 pub mod clause;
 pub mod number;
 pub mod pair;
+mod standing;

@@ -6,7 +6,7 @@ use Rattle.plsubst.specs.Subst.{bind}
 use Rattle.plcode.specs.declared.node.Node.TheVariants as node
 use Rattle.plenv.specs.Env.{over, variable}
 use Rattle.plexpression.proofs.Clauses.{shows, slot_within, variable_shown}
-use Rattle.plexpression.proofs.clause.number_at.Goals as goal
+use Rattle.plexpression.proofs.standing.number_at.Goals as goal
 
 pub slot_of-requires : goal.slot_of-requires
 slot_of-requires c = slot_within c.args.env.now c.args.nodes.now c.args.base c.args.at c.in-Var.x c.requires c.in-Var.is
