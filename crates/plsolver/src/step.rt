@@ -55,7 +55,7 @@ impl Progress {
         ensures { IfOk result (Steps self.now.machine.layer.own.updates (value self.now.machine.stack.env.heap head) view reach) }
     {
         let own = self.own();
-        if let Some(step) = view.at_once(reach) {
+        if let Some(step) = view.at_once(own, reach) {
             return Ok(step);
         }
         let heap = self.machine.stack.env().heap();

@@ -18,6 +18,7 @@ use Rattle.plstore.proofs.Cutting.{cut-is, under-cut}
 use Rattle.pltx.specs.declared.overlay.Overlay.{Overlay}
 use Rattle.pltx.specs.declared.target.Target.{Target}
 use Rattle.pltx.specs.Own.{erased_in, is_target, same_target, target_of, IsAddition}
+use Rattle.pltx.specs.Walks.{before_first}
 use Rattle.pltx.specs.Overlays.{drafts, drafted, mark_of, IsTracked, OnceEach}
 use Rattle.pltx.proofs.Marking.{mark-cut, mark-more, once-cut, once-more}
 
@@ -116,18 +117,19 @@ draft-cut : (n : ℕ) (us : List Update) (k k' : Kept) → k ≡ fold keep nothi
 draft-cut n us k k' is new = new ∙ ap (cut n) is ∙ cut-is n (drafted 0 us) (rises us) ∙ ap (fold keep nothing) (first-drafted n us)
 
 pub tracked-more : (o p : Overlay) (n : ℕ) (u : Update) → IsTracked o → n ≡ length o.updates.items → p.updates.items ≡ o.updates.items ++ u ∷ [] → p.draft ≡ fold keep o.draft (drafts n u) →
-    ((t : Target) → get same_target p.marks t ≡ add_if (is_target t (target_of u)) (Some n) (get same_target o.marks t)) → ((t : Target) → is_target t (target_of u) ≡ true → erased_in t o.updates.items ≡ false) → IsTracked p
-tracked-more o p n u was size updates draft marks fresh =
+    ((t : Target) → get same_target p.marks t ≡ add_if (is_target t (target_of u)) (Some n) (get same_target o.marks t)) → ((t : Target) → is_target t (target_of u) ≡ true → erased_in t o.updates.items ≡ false) → p.before_fronts ≡ before_first (o.updates.items ++ u ∷ []) → IsTracked p
+tracked-more o p n u was size updates draft marks fresh fronts =
     let us = o.updates.items in
     record {
       draft = draft ∙ ap (λ k. fold keep k (drafts n u)) was.draft ∙ sym (fold-append keep nothing (drafted 0 us) (drafts n u)) ∙ ap (fold keep nothing) (sym (drafted-push 0 n us u (omega (arith, size))) ∙ ap (drafted 0) (sym updates));
       marks = λ t. marks t ∙ ap (add_if (is_target t (target_of u)) (Some n)) (was.marks t) ∙ mark-more t n us u size (fresh t) ∙ ap (mark_of t 0) (sym updates);
       once = subst OnceEach (sym updates) (once-more us u was.once fresh);
+      fronts = fronts ∙ ap before_first (sym updates);
     }
 
 pub tracked-cut : (o p : Overlay) (n : ℕ) → IsTracked o → p.updates.items ≡ take n o.updates.items → p.draft ≡ cut n o.draft →
-    ((t : Target) → get same_target p.marks t ≡ add_if (erased_in t (drop n o.updates.items)) None (get same_target o.marks t)) → IsTracked p
-tracked-cut o p n was updates draft marks =
+    ((t : Target) → get same_target p.marks t ≡ add_if (erased_in t (drop n o.updates.items)) None (get same_target o.marks t)) → p.before_fronts ≡ before_first (take n o.updates.items) → IsTracked p
+tracked-cut o p n was updates draft marks fronts =
     let us = o.updates.items in
     let whole = take-append-drop n us in
     let once : OnceEach (take n us ++ drop n us) = subst OnceEach (sym whole) was.once in
@@ -135,21 +137,24 @@ tracked-cut o p n was updates draft marks =
       draft = draft-cut n us o.draft p.draft was.draft draft ∙ ap (λ us. fold keep nothing (drafted 0 us)) (sym updates);
       marks = λ t. marks t ∙ ap (add_if (erased_in t (drop n us)) None) (was.marks t ∙ ap (mark_of t 0) (sym whole)) ∙ mark-cut t 0 (take n us) (drop n us) once ∙ ap (mark_of t 0) (sym updates);
       once = subst OnceEach (sym updates) (once-cut (take n us) (drop n us) once);
+      fronts = fronts ∙ ap before_first (sym updates);
     }
 
 -- nothing is tracked
-pub tracked-none : (o : Overlay) → o.updates.items ≡ [] → o.draft ≡ nothing → IsEmpty o.marks → IsTracked o
-tracked-none o updates draft marks = record {
+pub tracked-none : (o : Overlay) → o.updates.items ≡ [] → o.draft ≡ nothing → IsEmpty o.marks → o.before_fronts ≡ 0 → IsTracked o
+tracked-none o updates draft marks fronts = record {
   draft = draft ∙ ap (λ us. fold keep nothing (drafted 0 us)) (sym updates);
   marks = λ t. ap (lookup (same_target t)) marks ∙ ap (mark_of t 0) (sym updates);
   once = subst OnceEach (sym updates) tt;
+  fronts = fronts ∙ ap before_first (sym updates);
 }
 
-pub tracked-same : (o p : Overlay) → IsTracked o → p.updates.items ≡ o.updates.items → p.draft ≡ o.draft → ((t : Target) → get same_target p.marks t ≡ get same_target o.marks t) → IsTracked p
-tracked-same o p was updates draft marks = record {
+pub tracked-same : (o p : Overlay) → IsTracked o → p.updates.items ≡ o.updates.items → p.draft ≡ o.draft → ((t : Target) → get same_target p.marks t ≡ get same_target o.marks t) → p.before_fronts ≡ o.before_fronts → IsTracked p
+tracked-same o p was updates draft marks fronts = record {
   draft = draft ∙ was.draft ∙ ap (λ us. fold keep nothing (drafted 0 us)) (sym updates);
   marks = λ t. marks t ∙ was.marks t ∙ ap (mark_of t 0) (sym updates);
   once = subst OnceEach (sym updates) was.once;
+  fronts = fronts ∙ was.fronts ∙ ap before_first (sym updates);
 }
 
 -- a procedure is named by the same updates

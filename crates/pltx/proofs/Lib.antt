@@ -4,5 +4,6 @@ pub mod Drafting
 pub mod Renaming
 pub mod Layers
 pub mod Putting
+pub mod Fronts
 pub mod Knowing
 mod Worked

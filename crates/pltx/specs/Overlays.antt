@@ -10,6 +10,7 @@ use Rattle.pltx.specs.declared.overlay.Overlay.{Overlay}
 use Rattle.pltx.specs.declared.own.OwnCursor.{OwnCursor}
 use Rattle.pltx.specs.declared.target.Target.{Target}
 use Rattle.pltx.specs.Own.{State, erased_in, is_target, same_target, target_of}
+use Rattle.pltx.specs.Walks.{before_first}
 
 -- update k as it is kept: alone in a batch at place k; the erasure of a committed clause is not kept there
 abbrev pub drafts : ℕ → Update → List Stamped
@@ -46,6 +47,7 @@ pub record IsTracked (o : Overlay) : Type 0 where
   pub draft : o.draft ≡ fold keep nothing (drafted 0 o.updates.items)
   pub marks : (t : Target) → get same_target o.marks t ≡ mark_of t 0 o.updates.items
   pub once : OnceEach o.updates.items
+  pub fronts : o.before_fronts ≡ before_first o.updates.items
 
 -- where nothing is open, there is nothing
 abbrev pub IsClosed : State → Type 0

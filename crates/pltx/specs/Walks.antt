@@ -1,10 +1,10 @@
 -- What a thread sees of its own updates: they are one last batch, at a place b above all, and update k is the name (b, k).
-use Rattle.std.specs.Prelude.{◌≢◌, ℕ, Bool, true, false, not, List, [], ◌∷◌, filter, take, Option, Some, None}
+use Rattle.std.specs.Prelude.{◌≢◌, ℕ, suc, Bool, true, false, not, List, [], ◌∷◌, filter, take, Option, Some, None}
 use Rattle.plterm.specs.declared.indicator.Indicator.{Indicator}
 use Rattle.plevent.specs.declared.update.Update.{Update}
 use Rattle.plevent.specs.declared.update.Update.TheVariants.{First, Last, Erase, EraseOwn, Declare}
 use Rattle.plevent.specs.declared.update.Living.{Living}
-use Rattle.plevent.specs.Alive.{Stamped, stamped, named, living}
+use Rattle.plevent.specs.Alive.{Stamped, add_if, stamped, named, living}
 use Rattle.plstore.specs.declared.record.Cursor.{Cursor}
 use Rattle.pltx.specs.declared.own.OwnCursor.{OwnCursor}
 use Rattle.pltx.specs.declared.target.Target.TheVariants.{Committed}
@@ -45,6 +45,11 @@ is_first (Last c) = false
 is_first (Erase y) = false
 is_first (EraseOwn k) = false
 is_first (Declare q) = false
+
+-- how many updates there are before the first that puts a clause before all others
+abbrev pub before_first : List Update → ℕ
+before_first [] = 0
+before_first (u ∷ us) = add_if (is_first u) 0 (suc (before_first us))
 
 -- the update that a number has, if any, puts a clause before all others
 abbrev pub puts_first : Option Update → Bool

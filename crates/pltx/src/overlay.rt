@@ -1,5 +1,5 @@
 //! Own updates, with what finds their clauses.
-ghost use Rattle.std.specs.Prelude.{◌≡◌, ◌≢◌, ℕ, false, ◌++◌, ◌<◌, ◌∷◌, [], fold, length, take, IfOk, OnErr, OnOk, vec_len};
+ghost use Rattle.std.specs.Prelude.{◌≡◌, ◌≢◌, ℕ, suc, true, false, ◌++◌, ◌<◌, ◌≤◌, ◌∷◌, [], fold, length, take, IfOk, OnErr, OnOk, vec_len};
 ghost use Rattle.std.specs.HashMap.{spare};
 ghost use Rattle.std.specs.Vec.{vec_capacity};
 ghost use Rattle.std.specs.Option.{option_copied, option_map};
@@ -17,6 +17,7 @@ ghost use Rattle.pltx.specs.declared.target.Erasure.TheVariants.{Erased, Gone};
 use crate::level::{Ended, Isolation, Level};
 use crate::marks::{mark, marked, unmark};
 use crate::own::OwnCursor;
+use crate::sides::is_first;
 use crate::target::{Erasure, Target};
 use plclause::clause::Clause;
 use plevent::{Batch, ClauseName, Key, Update};
@@ -39,6 +40,8 @@ pub(crate) struct Overlay {
     pub(crate) draft: Draft,
     /// By what is erased the number of the update that erased it.
     pub(crate) marks: HashMap<Target, u64>,
+    /// How many updates there are before the first that puts a clause before all others.
+    pub(crate) before_fronts: usize,
 }
 
 impl Overlay {
@@ -53,6 +56,7 @@ impl Overlay {
             levels: Vec::new(alloc),
             draft: Draft::new(alloc),
             marks: HashMap::new(alloc),
+            before_fronts: 0,
         }
     }
 
@@ -84,7 +88,9 @@ impl Overlay {
         let number = self.updates.len() as u64;
         self.updates.reserve(1)?;
         self.draft.add(&update, number)?;
+        let is_front = is_first(&update);
         append(&mut self.updates, update);
+        self.before_fronts = before_fronts(self.before_fronts, self.updates.len(), is_front);
         Ok(number)
     }
 
@@ -120,6 +126,7 @@ impl Overlay {
         let number = self.updates.len() as u64;
         erase_in(&mut self.draft, &target, number)?;
         append(&mut self.updates, target.erasing());
+        self.before_fronts = before_fronts(self.before_fronts, self.updates.len(), false);
         mark(&mut self.marks, target, number);
         Ok(())
     }
@@ -153,6 +160,7 @@ impl Overlay {
         ensures kept { IsOverlay self.new }
     {
         self.base = 0;
+        self.before_fronts = 0;
         self.marks = HashMap::new(self.alloc);
         self.draft = Draft::new(self.alloc);
         let updates = replace(&mut self.updates, Vec::new(self.alloc));
@@ -190,6 +198,7 @@ impl Overlay {
         unmark(&mut self.marks, &self.updates.as_slice()[start..]);
         self.draft.cut(start as u64);
         self.updates.truncate(start);
+        self.before_fronts = lower(self.before_fronts, start);
     }
 }
 
@@ -271,6 +280,26 @@ fn published(updates: Vec<Update>) -> Ended
         return Ended::Nothing;
     }
     Ended::Publish(Batch::new(updates))
+}
+
+/// How many updates there are before the first that puts a clause before all others, once the last one of these is made.
+fn before_fronts(before: usize, count: usize, is_front: bool) -> usize
+    ensures more { suc before ≡ count → is_front ≡ false → result ≡ count }
+    ensures same { (suc before ≡ count → is_front ≡ true) → result ≡ before }
+{
+    if count > before && count - before == 1 && !is_front {
+        count
+    } else {
+        before
+    }
+}
+
+/// The lower one.
+fn lower(before: usize, start: usize) -> usize
+    ensures start { start < before → result ≡ start }
+    ensures before { before ≤ start → result ≡ before }
+{
+    if start < before { start } else { before }
 }
 
 /// Appends an update, for which there is room.

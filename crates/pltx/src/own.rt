@@ -5,7 +5,7 @@ ghost use Rattle.plevent.specs.Alive.{add_if, exists, living, named};
 ghost use Rattle.plstore.specs.Like.{next_like_of};
 ghost use Rattle.plstore.specs.Looking.{clause_alive};
 ghost use Rattle.pltx.specs.Own.{added, begun, ended, ending, erased, erased_in, nothing, IsAddition, IsOpen};
-ghost use Rattle.pltx.specs.Walks.{cursor_at, own_backs, own_batch, own_fronts, AllErasedApart};
+ghost use Rattle.pltx.specs.Walks.{before_first, cursor_at, own_backs, own_batch, own_fronts, AllErasedApart};
 ghost use Rattle.pltx.specs.declared.target.Erasure.TheVariants.{Erased, Gone};
 
 use crate::level::{Ended, Isolation};
@@ -114,6 +114,13 @@ impl Own {
         ensures { (b : ℕ) → AllErasedApart b (take m self.now.updates) → option_map (named b) result ≡ next_like_of key.now (cursor_at b cursor) (own_backs (own_batch b m self.now.updates) pred.now) }
     {
         self.overlay.next_back(m, pred, key, cursor)
+    }
+
+    /// How many updates there are before the first that puts a clause before all others; all, where none does.
+    pub fn before_fronts(&self) -> u64
+        ensures { result ≡ before_first self.now.updates }
+    {
+        self.overlay.before_fronts as u64
     }
 
     /// The clause that an update made, where it is alive after the first `m`.

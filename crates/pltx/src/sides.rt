@@ -86,7 +86,8 @@ impl Overlay {
     }
 }
 
-fn is_first(update: &Update) -> bool
+/// Whether an update puts a clause before all others.
+pub(crate) fn is_first(update: &Update) -> bool
     ensures { result ≡ is_first update.now }
 {
     matches!(update, Update::First(_))

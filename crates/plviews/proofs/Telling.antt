@@ -20,7 +20,7 @@ use Rattle.plviews.specs.declared.lookup.Reach.TheVariants.{Front, Base, Back}
 use Rattle.plviews.specs.declared.lookup.Step.{Step}
 use Rattle.plviews.specs.Views.{own_part, whole, Sight, WithoutOwn}
 use Rattle.plviews.specs.Lookups.{base_rest, likely, rest_at, Begins, Says}
-use Rattle.plviews.proofs.Seen.{apart-backs, apart-fronts, known-filter, no-backs, no-fronts, rest-known, AllKnown}
+use Rattle.plviews.proofs.Seen.{apart-backs, apart-fronts, known-filter, no-backs, rest-known, AllKnown}
 use Rattle.plviews.proofs.Heads.{filter-turn, heads-append, heads-dropped, heads-fewer, heads-kept, heads-rest, none-head, Heads}
 
 begins-from : (us : List Stamped) (x : ClauseName) (xs ys : List Living) → AllKnown us xs → Heads x xs ys → Begins us x xs ys
@@ -96,13 +96,14 @@ pub none-there : (k : Key) (c : Cursor) → next_like_of k c [] ≡ None
 none-there k Cursor.Start = refl
 none-there k (Cursor.After x) = refl
 
+-- where none that is seen puts a clause in front
+pub front-none : (s : Sight) (p : Indicator) (k : Key) → own_fronts (own_part s) p ≡ [] → Ordered s.below → AllUnder s.place s.below → (c : OwnCursor) → likely k (rest_at s p (Front c)) ≡ likely k (base_rest s p Cursor.Start)
+front-none s p k none o un c =
+    let cur = cursor_at s.place c in
+    front-over s p k o un c (sym (ap (next_like_of k cur) none ∙ none-there k cur))
+
 -- where no own update is seen
 module _ (s : Sight) (p : Indicator) (k : Key) (without : WithoutOwn s) where
-  pub front-none : Ordered s.below → AllUnder s.place s.below → (c : OwnCursor) → likely k (rest_at s p (Front c)) ≡ likely k (base_rest s p Cursor.Start)
-  front-none o un c =
-      let cur = cursor_at s.place c in
-      front-over s p k o un c (sym (ap (λ own. next_like_of k cur (own_fronts (stamped s.place 0 own) p)) without ∙ ap (next_like_of k cur) (no-fronts s.place p) ∙ none-there k cur))
-
   pub back-none : (c : OwnCursor) → likely k (rest_at s p (Back c)) ≡ []
   back-none c =
       let cur = cursor_at s.place c in

@@ -136,14 +136,16 @@ impl<'a> Lookup<'a> {
 }
 
 impl View {
-    /// What comes next, where that is plain without a look at own updates: the journal is to be asked, or there is no further one.
-    pub fn at_once(self, reach: Reach) -> Option<Step>
-        ensures says { IfSome result (λ step. (own : List Update) (p : Procedure) (k : OfKey) → SaysAt own self p k reach step) }
+    /// What comes next, where that is plain without a look at single own updates: the journal is to be asked, or there is no further one.
+    pub fn at_once(self, own: &Own, reach: Reach) -> Option<Step>
+        ensures says { IfSome result (λ step. (p : Procedure) (k : OfKey) → SaysAt own.now.updates self p k reach step) }
         ensures leads { IfSome result (Leads self reach) }
     {
         match reach {
             Reach::Base(cursor) => Some(Step::Asks(cursor)),
-            Reach::Front(_) if self.count == 0 => Some(Step::Asks(Cursor::Start)),
+            Reach::Front(_) if self.count <= own.before_fronts() => {
+                Some(Step::Asks(Cursor::Start))
+            }
             Reach::Back(_) if self.count == 0 => Some(Step::Nothing),
             Reach::Front(_) | Reach::Back(_) => None,
         }

@@ -9,6 +9,6 @@ returns-in-Some c =
     let own = c.args.self.now.machine.layer.own.updates in
     let h = value c.args.self.now.machine.stack.env.heap c.args.head in
     record {
-      tells = tells-from own h c.args.view c.args.reach c.in-Some.step (c.own-own.ensures.apart c.args.view c.requires.seen) (c.in-Some.ensures.says own (indicator h) (first_key h));
+      tells = tells-from own h c.args.view c.args.reach c.in-Some.step (c.own-own.ensures.apart c.args.view c.requires.seen) (c.in-Some.ensures.says (indicator h) (first_key h));
       leads = c.in-Some.ensures.leads;
     }

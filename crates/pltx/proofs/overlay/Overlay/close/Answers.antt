@@ -6,7 +6,7 @@ pub returns-then-kept-clause-kept : goal.returns-then-kept-clause-kept
 returns-then-kept-clause-kept c =
     let none = ap (λ v. v.items) c.replace-updates.ensures.after ∙ c.new-3.ensures.items in
     record {
-      tracked = tracked-none _ none c.new-2.ensures c.new.ensures.empty;
+      tracked = tracked-none _ none c.new-2.ensures c.new.ensures.empty refl;
       closed = λ e. (none, refl);
     }
 
@@ -14,6 +14,6 @@ pub returns-clause-kept : goal.returns-clause-kept
 returns-clause-kept c =
     let none = ap (λ v. v.items) c.replace-updates.ensures.after ∙ c.new-3.ensures.items in
     record {
-      tracked = tracked-none _ none c.new-2.ensures c.new.ensures.empty;
+      tracked = tracked-none _ none c.new-2.ensures c.new.ensures.empty refl;
       closed = λ e. (none, refl);
     }
