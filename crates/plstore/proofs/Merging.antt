@@ -1,6 +1,6 @@
 -- Two chains that have each clause that is sought are walked as that of the procedure is.
 use Rattle.std.proofs.Common.{◌≡◌, ◌≢◌, ◌-◌, ◌⊎◌, inl, inr, refl, sym, ◌∙◌, ap, ap₂, subst, arith, ℕ, suc, zero, ◌<◌, ◌≤◌, Bool, true, false, cond, List, [], Option, Some, None, length, get_or, nat_eq, nat_lt}
-use Rattle.std.specs.Prelude.{◌&&◌, not}
+use Rattle.std.specs.Prelude.{◌&&◌, not, IfSome}
 use Rattle.std.proofs.lemmas.Bool.Decides.{nat_tests}
 use Rattle.plterm.specs.declared.indicator.Indicator.{Indicator}
 use Rattle.plevent.specs.declared.key.Key.{Key}
@@ -17,16 +17,19 @@ use Rattle.plstore.specs.declared.tables.Tables.{Tables}
 use Rattle.plstore.specs.Chains.{in_chain, IsChain}
 use Rattle.plstore.specs.Kept.{seen, picked, walk}
 use Rattle.plstore.specs.Like.{fits, first_like, is_met, past, suits}
-use Rattle.plstore.specs.Links.{back_of, backs, down, last_below, up, Class, IsIndexed, Marked}
-use Rattle.plstore.specs.Merged.{found_after, Covers, MayStand}
-use Rattle.plstore.specs.Parts.{after, comes, extent_behind, first_head, is_behind, left, marks, moved, reaches, side, side_of}
+use Rattle.plstore.specs.Links.{first_end, back_of, backs, down, last_below, up, Class, IsIndexed, Marked}
+use Rattle.plstore.specs.declared.chain.Merged.{Merged}
+use Rattle.plstore.specs.declared.part.Part.{Part}
+use Rattle.plstore.specs.declared.sought.Sought.{Sought}
+use Rattle.plstore.specs.Merged.{found, found_after, Covers, IsMerged, MayStand}
+use Rattle.plstore.specs.Parts.{after, comes, extent, extent_behind, first_head, is_behind, left, marks, moved, reaches, side, side_of}
 use Rattle.plstore.specs.Rising.{OneIs}
 use Rattle.plstore.specs.Runs.{end_at, no_place}
 use Rattle.plstore.specs.Tables.{chain_ends, links_in, Chained}
 use Rattle.plstore.proofs.Law.{cons_if, own}
 use Rattle.plstore.proofs.Bits.{cases, last-none, last-some}
 use Rattle.plstore.proofs.Chains.{drop-records, like-cons, some-record}
-use Rattle.plstore.proofs.Leading.{after-within, mark-in, marks-is, over-within, step-order, step-stands}
+use Rattle.plstore.proofs.Leading.{after-within, mark-in, marks-is, over-within, stand-first, step-order, step-stands}
 use Rattle.plstore.proofs.Same.{left-true, right-true, nat-same, nat-self}
 use Rattle.plstore.proofs.Visible.{down-list, up-list, first-is, shown-front, shown-back}
 
@@ -329,6 +332,33 @@ module _ (f : Bool) (p : Indicator) (k : Key) (g : ℕ) (rs : List Record) (c d 
     where
       nothing : (z : Option ℕ) → z ≡ None → left f (length rs) z ≤ 0
       nothing z q = subst (λ z. left f (length rs) z ≤ 0) (sym q) (omega arith)
+
+-- where neither chain has a record on a side, none is found there
+extent-within : (part : Part) (n : ℕ) → IfSome part.behind (λ i. i < n) → extent part n ≤ n
+extent-within part n w = by part.behind w
+  where
+    by : (o : Option ℕ) → IfSome o (λ i. i < n) → extent_behind part.front n o ≤ n
+    by None w = omega arith
+    by (Some i) w = omega (arith, after-within part.front n i w)
+
+pub none-found : (t : Tables) (s : Sought) (m : Merged) (part : Part) → Chained t → IsMerged s.pred.now s.key.now m → first_end part.front (chain_ends t s.pred.now m.own) ≡ None →
+    first_end part.front (chain_ends t s.pred.now m.any) ≡ None → IfSome part.behind (λ i. i < length t.records.items) → None ≡ found s t.records.items part
+none-found t s m part chained merged own any within =
+    let f = part.front in
+    let rs = t.records.items in
+    let p = s.pred.now in
+    let n = extent part (length rs) in
+    let stands : (ch : Chain) → first_end f (chain_ends t p ch) ≡ None → MayStand f (in_chain p ch) s.g rs n None =
+        λ ch e. subst (MayStand f (in_chain p ch) s.g rs n) e (stand-first f (in_chain p ch) s.g rs _ _ n (chain-is t p ch chained).indexed) in
+    seek-over _ _ _ _ _ _ _ _ _ _ (merged.covers rs) (record {
+      m = n;
+      within = extent-within part (length rs) within;
+      own = stands m.own own;
+      own_left = omega arith;
+      any = stands m.any any;
+      any_left = omega arith;
+      same = refl;
+    }) refl
 
 -- what is found behind a clause that is shown, and from the beginning
 all-behind : (p : Indicator) (k : Key) (g : ℕ) (rs : List Record) → first_like k (side false (is_of p) g rs (length rs)) ≡ first_like k (up (is_of p) g rs 0)

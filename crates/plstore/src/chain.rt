@@ -1,7 +1,8 @@
 //! What links the clauses that a walk passes.
-ghost use Rattle.std.specs.Prelude.{◌≡◌, true};
+ghost use Rattle.std.specs.Prelude.{◌≡◌, None, true};
 ghost use Rattle.plevent.specs.Alive.{is_of};
 ghost use Rattle.plstore.specs.Chains.{in_chain};
+ghost use Rattle.plstore.specs.Links.{first_end};
 ghost use Rattle.plstore.specs.Merged.{IsMerged};
 ghost use Rattle.plstore.specs.Tables.{chain_ends, links_in};
 
@@ -65,6 +66,16 @@ pub(crate) struct Merged {
 pub(crate) struct MergedEnds {
     pub(crate) own: Ends,
     pub(crate) any: Ends,
+}
+
+impl MergedEnds {
+    /// Whether neither chain has a record on a side.
+    pub(crate) fn are_none(&self, front: bool) -> bool
+        ensures own { result ≡ true → first_end front self.now.own ≡ None }
+        ensures any { result ≡ true → first_end front self.now.any ≡ None }
+    {
+        self.own.first(front).is_none() && self.any.first(front).is_none()
+    }
 }
 
 impl Merged {

@@ -6,12 +6,12 @@ ghost use Rattle.plstore.specs.Chains.{in_chain};
 ghost use Rattle.plstore.specs.Kept.{behind_all, picked, walk};
 ghost use Rattle.plstore.specs.Like.{first_like, past};
 ghost use Rattle.plstore.specs.Links.{Marked};
-ghost use Rattle.plstore.specs.Merged.{found, found_from};
+ghost use Rattle.plstore.specs.Merged.{found, found_from, IsMerged};
 ghost use Rattle.plstore.specs.Parts.{marks};
 ghost use Rattle.plstore.specs.Rising.{IsRising, OneIs};
-ghost use Rattle.plstore.specs.Tables.{Chained};
+ghost use Rattle.plstore.specs.Tables.{chain_ends, Chained};
 
-use crate::chain::{Chain, merge};
+use crate::chain::{Chain, Merged, MergedEnds, merge};
 use crate::named::find;
 use crate::part::Part;
 use crate::sought::Sought;
@@ -35,14 +35,33 @@ fn sought_from(tables: &Tables, sought: &Sought<'_>, part: Part) -> Option<Claus
 {
     let merged = merge(sought);
     let ends = merged.ends(tables, sought.pred);
-    let here = heads(tables, sought, &merged, &ends, part);
-    let found = seek(tables, sought, &merged, part, here);
+    let found = found_in(tables, sought, &merged, &ends, part);
     if part.front && found.is_none() {
-        let behind = Part::whole(false);
-        let there = heads(tables, sought, &merged, &ends, behind);
-        return seek(tables, sought, &merged, behind, there);
+        return found_in(tables, sought, &merged, &ends, Part::whole(false));
     }
     found
+}
+
+/// The name of the first one of a part of one side. Mostly there are no clauses in front.
+fn found_in(
+    tables: &Tables,
+    sought: &Sought<'_>,
+    merged: &Merged,
+    ends: &MergedEnds,
+    part: Part,
+) -> Option<ClauseName>
+    requires chained { Chained tables.now }
+    requires merged { IsMerged sought.now.pred.now sought.now.key.now merged.now }
+    requires own { ends.now.own ≡ chain_ends tables.now sought.now.pred.now merged.now.own }
+    requires any { ends.now.any ≡ chain_ends tables.now sought.now.pred.now merged.now.any }
+    requires within { IfSome part.behind (λ i. i < length tables.now.records.items) }
+    ensures { result ≡ found sought.now tables.now.records.items part }
+{
+    if ends.are_none(part.front) {
+        return None;
+    }
+    let heads = heads(tables, sought, merged, ends, part);
+    seek(tables, sought, merged, part, heads)
 }
 
 /// The name of the first clause that is sought among those put behind.
