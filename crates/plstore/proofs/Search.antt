@@ -24,6 +24,9 @@ less-other-back x y h = grind (arith, nat_tests)
 pub neither-less : (x y : ClauseName) → less x y ≡ false → less y x ≡ false → same_name x y ≡ true
 neither-less x y h k = grind (arith, nat_tests)
 
+same-equal : (x y : ClauseName) → x.number ≡ y.number → x.place ≡ y.place → same_name x y ≡ true
+same-equal x y n p = grind (arith, nat_tests)
+
 -- a change where one passes is a write, and where none passes it is none
 pub changed-none : (t : Record → Bool) (f : Record → Record) (rs : List Record) → ((k : ℕ) (d : Record) → k < length rs → t (get_or rs k d) ≡ false) → changed_where t f rs ≡ rs
 changed-none t f [] h = refl
@@ -75,9 +78,9 @@ above-middle rs x m r up h k d b l =
       | inr o ↦ elim o [ inl e ↦ here k e | inr gt ↦ less-trans x (get_or rs m d).name (get_or rs k d).name (here m refl) (up m k d gt l) ]
     ]
 
-pub one-is : (rs : List Record) (x : ClauseName) (m : ℕ) (r : Record) → IsRising rs → m < length rs → less (get_or rs m r).name x ≡ false → less x (get_or rs m r).name ≡ false → OneIs x rs m
-one-is rs x m r up l h g =
-    let here : (d : Record) → same_name (get_or rs m d).name x ≡ true = λ d. ap (λ q. same_name q.name x) (same-read rs m d r l) ∙ neither-less (get_or rs m r).name x h g in
+one-here : (rs : List Record) (x : ClauseName) (m : ℕ) (r : Record) → IsRising rs → m < length rs → same_name (get_or rs m r).name x ≡ true → OneIs x rs m
+one-here rs x m r up l same =
+    let here : (d : Record) → same_name (get_or rs m d).name x ≡ true = λ d. ap (λ q. same_name q.name x) (same-read rs m d r l) ∙ same in
     record {
       within = l;
       here = here;
@@ -86,6 +89,12 @@ one-is rs x m r up l h g =
         | inr o ↦ elim o [ inl e ↦ absurd (ne e) | inr gt ↦ same-other-back (get_or rs k d).name (get_or rs m d).name x (up m k d gt lk) (here d) ]
       ];
     }
+
+pub one-is : (rs : List Record) (x : ClauseName) (m : ℕ) (r : Record) → IsRising rs → m < length rs → less (get_or rs m r).name x ≡ false → less x (get_or rs m r).name ≡ false → OneIs x rs m
+one-is rs x m r up l h g = one-here rs x m r up l (neither-less (get_or rs m r).name x h g)
+
+pub one-equal : (rs : List Record) (x : ClauseName) (m : ℕ) (r : Record) → IsRising rs → m < length rs → r ≡ get_or rs m r → r.name.number ≡ x.number → r.name.place ≡ x.place → OneIs x rs m
+one-equal rs x m r up l is number place = one-here rs x m r up l (ap (λ q. same_name q.name x) (sym is) ∙ same-equal r.name x number place)
 
 -- no name is there where all are below or above it
 pub none-is : (rs : List Record) (x : ClauseName) (low high : ℕ) → high ≤ low →

@@ -1,5 +1,5 @@
 //! Where the record of a name stands.
-ghost use Rattle.std.specs.Prelude.{◌≡◌, ◌<◌, ◌≤◌, MatchOption};
+ghost use Rattle.std.specs.Prelude.{◌≡◌, ◌<◌, ◌≤◌, true, MatchOption};
 ghost use Rattle.plstore.specs.Rising.{less, IsRising, NoneIs, OneIs};
 
 use crate::record::Record;
@@ -17,14 +17,37 @@ enum Aim {
     Below(usize),
 }
 
-/// Where the record of a name stands: it is looked for from a guess on, in steps that grow, and then by halves.
+/// Where the record of a name stands, mostly where it is guessed.
 pub(crate) fn find(records: &[Record], starts: &Starts, name: ClauseName) -> Option<usize>
+    requires { IsRising records.now }
+    ensures { MatchOption result (NoneIs name records.now) (λ i. OneIs name records.now i) }
+{
+    let guess = starts.guess(name, records.len());
+    if is_at(records, guess, name) {
+        return Some(guess);
+    }
+    find_from(records, guess, name)
+}
+
+/// Whether the record of a name stands at a number.
+fn is_at(records: &[Record], number: usize, name: ClauseName) -> bool
+    requires { IsRising records.now }
+    ensures { result ≡ true → OneIs name records.now number }
+{
+    match records.get(number) {
+        Some(record) => record.name.number == name.number && record.name.place == name.place,
+        None => false,
+    }
+}
+
+/// Where the record of a name stands: it is looked for from a guess on, in steps that grow, and then by halves.
+fn find_from(records: &[Record], guess: usize, name: ClauseName) -> Option<usize>
     requires { IsRising records.now }
     ensures { MatchOption result (NoneIs name records.now) (λ i. OneIs name records.now i) }
 {
     let mut low = 0;
     let mut high = records.len();
-    let mut aim = Aim::At(starts.guess(name, high));
+    let mut aim = Aim::At(guess);
     while low < high {
         let middle = aim.within(low, high);
         let found = records[middle].name;

@@ -1,7 +1,7 @@
 use Rattle.std.proofs.Common.{◌≡◌, ◌<◌, ◌≤◌, ◌-◌, ℕ, true, length, get_or}
 use Rattle.plstore.specs.declared.record.Record.{Record}
 use Rattle.plstore.specs.Rising.{less}
-use Rattle.plstore.proofs.named.find.Given as goal
+use Rattle.plstore.proofs.named.find_from.Given as goal
 
 abbrev pub invariant-loop-low : goal.invariant-loop-low
 invariant-loop-low l = (l.low ≤ l.high) × (l.high ≤ length l.records) × ((k : ℕ) (d : Record) → k < l.low → less (get_or l.records k d).name l.name ≡ true) × ((k : ℕ) (d : Record) → l.high ≤ k → k < length l.records → less l.name (get_or l.records k d).name ≡ true)

@@ -1,6 +1,6 @@
 use Rattle.std.proofs.Common.{sym, ◌∙◌, arith, ◌<◌, length}
 use Rattle.plstore.proofs.Search.{below-middle, above-middle, one-is}
-use Rattle.plstore.proofs.named.find.Goals as goal
+use Rattle.plstore.proofs.named.find_from.Goals as goal
 
 pub loop-low-preserved-then-precedes : goal.loop-low-preserved-then-precedes
 loop-low-preserved-then-precedes c =
