@@ -306,3 +306,28 @@ value-framed mid new v same = ap (λ (x : State). value x.env.heap v) same
 pub fitted-at : (s mid : State) (p : Point) (w : Walk) (d k : ℕ) → d ≡ k → (x : Clause) → resolve d s.env.count (value s.env.heap w.goal) (goals_of s p.list) x ≡ Some (place_of mid) →
     resolve k s.env.count (value s.env.heap w.goal) (goals_of s p.list) x ≡ Some (place_of mid)
 fitted-at s mid p w d k same x e = subst (λ n. resolve n s.env.count (value s.env.heap w.goal) (goals_of s p.list) x ≡ Some (place_of mid)) same e
+
+-- the newest frame is one walk
+same-top : (s : State) (p q : Point) (w u : Walk) → IsWalking s p w → IsWalking s q u → (p ≡ q) × (w ≡ u)
+same-top s p q w u a b =
+    let e : Open p (resumes.Walk w) ∷ reverse a.rest ≡ Open q (resumes.Walk u) ∷ reverse b.rest =
+    sym (ap reverse a.top ∙ reverse-push a.rest (Open p (resumes.Walk w))) ∙ ap reverse b.top ∙ reverse-push b.rest (Open q (resumes.Walk u)) in (cc, cc)
+
+pub same-walking : (s : State) (p q : Point) (w u : Walk) → IsWalking s p w → IsWalking s q u → w ≡ u
+same-walking s p q w u a b = (same-top s p q w u a b).1
+
+pub at-walking : (s : State) (p q : Point) (w u : Walk) → AtWalk s p w → IsWalking s q u → AtWalk s q u
+at-walking s p q w u at on =
+    let same = same-top s p q w u at.walking on in
+    record {
+      walking = on;
+      now = subst (λ (z : Point). cut z.marks.env s.env ≡ s.env) same.0 at.now;
+      list = subst (λ (z : Point). IsList s z.list) same.0 at.list;
+      goal = subst (λ (z : Walk). IsValue s.env.heap z.goal) same.1 at.goal;
+    }
+
+-- what is said of it is said of each that it is
+pub each-walk : (T : Point → Walk → Type 0) (s : State) (q : Point) (u : Walk) → IsWalking s q u → (AtWalk s q u → T q u) → (p : Point) (w : Walk) → AtWalk s p w → T p w
+each-walk T s q u on f p w at =
+    let same = same-top s p q w u at.walking on in
+    subst (λ (x : Point). T x w) (sym same.0) (subst (λ (y : Walk). T q y) (sym same.1) (f (at-walking s p q w u at on)))

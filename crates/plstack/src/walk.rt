@@ -358,29 +358,31 @@ impl Stack {
     /// on, if it fits. The walk stands then behind it, or nothing is left of it. After an `Err` the cases are as they were.
     pub fn try_walk(
         &mut self,
-        at: &Walking,
         next: &Candidate,
         rest: Option<Spot>,
     ) -> Result<Option<Entered>, AllocError>
-        requires at { AtWalk self.old at.now.point at.now.walk }
+        requires at { (p : OfPoint) × (w : OfWalk) × AtWalk self.old p w }
         requires seen { IsLeftSeen self.old.basis.latest rest }
-        ensures some { IfOk result (λ o. IfSome o (λ entered. (db : Database) → Finds db at.now.walk (value self.old.env.heap at.now.walk.goal) next.now rest → RetriesBy db self.old self.new entered.erased)) }
-        ensures none { IfOk result (λ o. IfNone o ((db : Database) → Finds db at.now.walk (value self.old.env.heap at.now.walk.goal) next.now rest → cases_of db self.new ≡ cases_of db self.old)) }
+        ensures some { IfOk result (λ o. IfSome o (λ entered. (p : OfPoint) (w : OfWalk) → AtWalk self.old p w → (db : Database) → Finds db w (value self.old.env.heap w.goal) next.now rest → RetriesBy db self.old self.new entered.erased)) }
+        ensures none { IfOk result (λ o. IfNone o ((p : OfPoint) (w : OfWalk) → AtWalk self.old p w → (db : Database) → Finds db w (value self.old.env.heap w.goal) next.now rest → cases_of db self.new ≡ cases_of db self.old)) }
         ensures last { IfOk result (λ o. IfNone o (rest ≡ None → (db : Database) → EndsPlain db self.new)) }
-        ensures at_next { IfOk result (λ o. IfNone o ((spot : Spot) → rest ≡ Some spot → AtWalk self.new at.now.point (record at.now.walk { spot = spot }))) }
-        ensures values { IfOk result (λ o. IfNone o ((spot : Spot) → rest ≡ Some spot → value self.new.env.heap at.now.walk.goal ≡ value self.old.env.heap at.now.walk.goal)) }
-        ensures moves { OnOk result (Moves self.old self.new at.now.walk rest) }
+        ensures at_next { IfOk result (λ o. IfNone o ((p : OfPoint) (w : OfWalk) → AtWalk self.old p w → (spot : Spot) → rest ≡ Some spot → AtWalk self.new p (record w { spot = spot }))) }
+        ensures values { IfOk result (λ o. IfNone o ((p : OfPoint) (w : OfWalk) → AtWalk self.old p w → (spot : Spot) → rest ≡ Some spot → value self.new.env.heap w.goal ≡ value self.old.env.heap w.goal)) }
+        ensures moves { OnOk result ((p : OfPoint) (w : OfWalk) → AtWalk self.old p w → Moves self.old self.new w rest) }
         ensures err { OnErr result ((db : Database) → cases_of db self.new ≡ cases_of db self.old) }
         ensures err_walks { OnErr result (walks_in self.new ≡ walks_in self.old) }
         ensures basis { self.new.basis ≡ self.old.basis }
     {
+        let Some(at) = self.walking() else {
+            unreachable!()
+        };
         if is_apart(&self.env, at.walk.goal, next) {
-            self.go_on_walk(at, rest);
+            self.go_on_walk(rest);
             return Ok(None);
         }
         let level = self.depth.down(1);
-        let fits = self.fit_walk(at, level, next)?;
-        self.go_on_walk(at, rest);
+        let fits = self.fit_walk(level, next)?;
+        self.go_on_walk(rest);
         if !fits {
             return Ok(None);
         }
@@ -390,18 +392,21 @@ impl Stack {
 
     /// Resolves the goal of the innermost case, a walk, against a clause: whether they fit. The clause's body is visited then before the list
     /// behind the goal, and the unifier is put into all. Else all stands for what it did.
-    fn fit_walk(&mut self, at: &Walking, level: Level, next: &Candidate) -> Result<bool, AllocError>
-        requires at { AtWalk self.old at.now.point at.now.walk }
+    fn fit_walk(&mut self, level: Level, next: &Candidate) -> Result<bool, AllocError>
+        requires at { (p : OfPoint) × (w : OfWalk) × AtWalk self.old p w }
         requires level { depth_in self.old ≡ level + 1 }
-        ensures yes { IfOk result (λ fits. fits ≡ true → resolve level self.old.env.count (value self.old.env.heap at.now.walk.goal) (goals_of self.old at.now.point.list) (clause_by next.now.uses next.now.clause) ≡ Some (place_of self.new)) }
-        ensures no { IfOk result (λ fits. fits ≡ false → unify (value self.old.env.heap at.now.walk.goal) (shift self.old.env.count (clause_by next.now.uses next.now.clause).head) ≡ None) }
-        ensures left { OnOk result (LeftSame self.old self.new at.now.point at.now.walk) }
-        ensures at { IfOk result (λ fits. fits ≡ false → AtWalk self.new at.now.point at.now.walk) }
-        ensures value { IfOk result (λ fits. fits ≡ false → value self.new.env.heap at.now.walk.goal ≡ value self.old.env.heap at.now.walk.goal) }
+        ensures yes { IfOk result (λ fits. fits ≡ true → (p : OfPoint) (w : OfWalk) → AtWalk self.old p w → resolve level self.old.env.count (value self.old.env.heap w.goal) (goals_of self.old p.list) (clause_by next.now.uses next.now.clause) ≡ Some (place_of self.new)) }
+        ensures no { IfOk result (λ fits. fits ≡ false → (p : OfPoint) (w : OfWalk) → AtWalk self.old p w → unify (value self.old.env.heap w.goal) (shift self.old.env.count (clause_by next.now.uses next.now.clause).head) ≡ None) }
+        ensures left { OnOk result ((p : OfPoint) (w : OfWalk) → AtWalk self.old p w → LeftSame self.old self.new p w) }
+        ensures at { IfOk result (λ fits. fits ≡ false → (p : OfPoint) (w : OfWalk) → AtWalk self.old p w → AtWalk self.new p w) }
+        ensures value { IfOk result (λ fits. fits ≡ false → (p : OfPoint) (w : OfWalk) → AtWalk self.old p w → value self.new.env.heap w.goal ≡ value self.old.env.heap w.goal) }
         ensures cases { (db : Database) → cases_of db self.new ≡ cases_of db self.old }
         ensures frames { self.new.frames ≡ self.old.frames }
         ensures basis { self.new.basis ≡ self.old.basis }
     {
+        let Some(at) = self.walking() else {
+            unreachable!()
+        };
         let call = Trial {
             goal: at.walk.goal,
             mark: at.point.marks.env,
@@ -424,24 +429,35 @@ impl Stack {
     }
 
     /// The innermost case, a walk, stands at another spot, or nothing is left of it.
-    pub fn go_on_walk(&mut self, at: &Walking, next: Option<Spot>)
-        requires walking { IsWalking self.old at.now.point at.now.walk }
+    pub fn go_on_walk(&mut self, next: Option<Spot>)
+        requires walking { (p : OfPoint) × (w : OfWalk) × IsWalking self.old p w }
         requires seen { IsLeftSeen self.old.basis.latest next }
-        ensures goes { (db : Database) → GoesOn db self.old self.new at.now.point at.now.walk next }
-        ensures moves { Moves self.old self.new at.now.walk next }
+        ensures goes { (p : OfPoint) (w : OfWalk) → IsWalking self.old p w → (db : Database) → GoesOn db self.old self.new p w next }
+        ensures moves { (p : OfPoint) (w : OfWalk) → IsWalking self.old p w → Moves self.old self.new w next }
         ensures place { place_of self.new ≡ place_of self.old }
         ensures same { (spot : Spot) → next ≡ Some spot → self.new ≡ record self.old { frames = self.new.frames } }
-        ensures walking { (spot : Spot) → next ≡ Some spot → IsWalking self.new at.now.point (record at.now.walk { spot = spot }) }
+        ensures walking { (p : OfPoint) (w : OfWalk) → IsWalking self.old p w → (spot : Spot) → next ≡ Some spot → IsWalking self.new p (record w { spot = spot }) }
         ensures basis { self.new.basis ≡ self.old.basis }
     {
         match next {
             Some(spot) => self.replace_walk(spot),
-            None => {
-                let marks = at.point.marks;
-                self.empty_walk(at);
-                self.settle(marks);
-            }
+            None => self.end_walk(),
         }
+    }
+
+    /// Of the innermost case, a walk, nothing is left, and no more is old any more than what is held.
+    fn end_walk(&mut self)
+        requires { (p : OfPoint) × (w : OfWalk) × IsWalking self.old p w }
+        ensures goes { (p : OfPoint) (w : OfWalk) → IsWalking self.old p w → (db : Database) → GoesOn db self.old self.new p w None }
+        ensures moves { (p : OfPoint) (w : OfWalk) → IsWalking self.old p w → Moves self.old self.new w None }
+        ensures place { place_of self.new ≡ place_of self.old }
+        ensures basis { self.new.basis ≡ self.old.basis }
+    {
+        let Some(at) = self.walking() else {
+            unreachable!()
+        };
+        self.empty_walk();
+        self.settle(at.point.marks);
     }
 
     /// The innermost case, a walk, stands at another spot.
@@ -458,13 +474,13 @@ impl Stack {
     }
 
     /// Of the innermost case, a walk, nothing is left.
-    fn empty_walk(&mut self, at: &Walking)
-        requires { IsWalking self.old at.now.point at.now.walk }
-        ensures goes { (db : Database) → GoesOn db self.old self.new at.now.point at.now.walk None }
-        ensures moves { Moves self.old self.new at.now.walk None }
+    fn empty_walk(&mut self)
+        requires { (p : OfPoint) × (w : OfWalk) × IsWalking self.old p w }
+        ensures goes { (p : OfPoint) (w : OfWalk) → IsWalking self.old p w → (db : Database) → GoesOn db self.old self.new p w None }
+        ensures moves { (p : OfPoint) (w : OfWalk) → IsWalking self.old p w → Moves self.old self.new w None }
         ensures same { self.new ≡ record self.old { frames = self.new.frames } }
-        ensures within { IsWithin at.now.point.marks.env self.new.env }
-        ensures older { AreOlder at.now.point.marks (reverse self.new.frames) }
+        ensures within { (p : OfPoint) (w : OfWalk) → IsWalking self.old p w → IsWithin p.marks.env self.new.env }
+        ensures older { (p : OfPoint) (w : OfWalk) → IsWalking self.old p w → AreOlder p.marks (reverse self.new.frames) }
     {
         let Some(_) = self.frames.pop() else {
             unreachable!()
