@@ -199,13 +199,14 @@ impl Progress {
         ensures err { OnErr result ((P : Given) → Stays P self.old self.new) }
         ensures asked { OnOk result ((v : Views) → AreOrdered v → (g : ℕ) (q : Asked) → WalksOn self.old.machine g q → found ≡ found_of (v g) q → AsksNext v self.old.machine self.new.machine q) }
     {
-        let innermost = self.machine.stack.walking();
-        let Some(at) = &innermost else { unreachable!() };
+        let Some(at) = self.machine.stack.walking() else {
+            unreachable!()
+        };
         match at.walk.spot {
             Spot::Text(_) => unreachable!(),
-            Spot::Seek(view, _) => self.walked_behind(at, view, next_in(found)),
-            Spot::At(view, _, _) => self.walked_behind(at, view, next_in(found)),
-            Spot::Known(_, _, _) => self.walked(at, clause_in(found)),
+            Spot::Seek(view, _) => self.walked_behind(view, next_in(found)),
+            Spot::At(view, _, _) => self.walked_behind(view, next_in(found)),
+            Spot::Known(_, _, _) => self.walked(clause_in(found)),
         }
     }
 }

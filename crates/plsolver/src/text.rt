@@ -79,7 +79,7 @@ impl Progress {
             let rest = Some(spot);
             let behind = at_spot(&at, spot);
             let stack = &mut self.machine.stack;
-            if let Some(entered) = stack.try_walk(&at, &next, rest)? {
+            if let Some(entered) = stack.try_walk(&next, rest)? {
                 return Ok(Some(entered));
             }
             at = behind;
@@ -108,10 +108,10 @@ impl Progress {
         match clauses.get(number) {
             Some(clause) => {
                 let next = candidate::of_text(at.walk.uses, clause)?;
-                self.machine.stack.try_walk(at, &next, None)
+                self.machine.stack.try_walk(&next, None)
             }
             None => {
-                self.machine.stack.go_on_walk(at, None);
+                self.machine.stack.go_on_walk(None);
                 Ok(None)
             }
         }

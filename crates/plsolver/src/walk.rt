@@ -194,10 +194,10 @@ impl Progress {
         ensures walks { Further self.old.machine.stack self.new.machine.stack }
     {
         let Some(spot) = spot_behind(at.walk.spot, step) else {
-            self.machine.stack.go_on_walk(at, None);
+            self.machine.stack.go_on_walk(None);
             return Walked::Over;
         };
-        self.machine.stack.go_on_walk(at, Some(spot));
+        self.machine.stack.go_on_walk(Some(spot));
         match step {
             Step::Next(_, _) | Step::Nothing => Walked::On(spot),
             Step::Asks(_) => Walked::Asks,
@@ -214,7 +214,7 @@ impl Progress {
         ensures frame { self.new ≡ record self.old { machine = record self.old.machine { stack = self.new.machine.stack } } }
         ensures walks { Further self.old.machine.stack self.new.machine.stack }
     {
-        self.machine.stack.go_on_walk(at, rest);
+        self.machine.stack.go_on_walk(rest);
         walked_to(rest)
     }
 
@@ -234,7 +234,7 @@ impl Progress {
         ensures frame { self.new ≡ record self.old { machine = record self.old.machine { stack = self.new.machine.stack } } }
         ensures walks { Further self.old.machine.stack self.new.machine.stack }
     {
-        match self.machine.stack.try_walk(at, next, rest)? {
+        match self.machine.stack.try_walk(next, rest)? {
             Some(entered) => Ok(Walked::Into(entered)),
             None => Ok(walked_to(rest)),
         }
@@ -243,51 +243,52 @@ impl Progress {
     /// The next clause of a walk was sought in the journal.
     pub(crate) fn walked_behind(
         &mut self,
-        at: &Walking,
         view: View,
         found: Option<ClauseName>,
     ) -> Result<(), AllocError>
         requires fails { self.old.machine.mode ≡ Mode.Back Outcome.Fail }
         requires of { (P : Given) × IsOf P self.old.machine }
-        requires at { AtWalk self.old.machine.stack at.now.point at.now.walk }
-        requires seen { IsSpotSeen self.old.machine.stack.basis.latest at.now.walk.spot }
-        requires spot { (c : OfCursor) × LooksBehind at.now.walk.spot view (BaseOf c) }
-        ensures ok { OnOk result ((P : Given) (v : Views) (c : OfCursor) → AreOrdered v → LooksBehind at.now.walk.spot view (BaseOf c) → found ≡ next_like_of (first_key (head_at self.old.machine at.now.walk)) c (living (v view.place) (indicator (head_at self.old.machine at.now.walk))) → KeepsRest P v self.old self.new) }
+        requires at { (p : OfPoint) × (w : OfWalk) × AtWalk self.old.machine.stack p w × ((c : OfCursor) × LooksBehind w.spot view (BaseOf c)) }
+        ensures ok { OnOk result ((P : Given) (v : Views) (c : OfCursor) → (p : OfPoint) (w : OfWalk) → AtWalk self.old.machine.stack p w → AreOrdered v → LooksBehind w.spot view (BaseOf c) → found ≡ next_like_of (first_key (head_at self.old.machine w)) c (living (v view.place) (indicator (head_at self.old.machine w))) → KeepsRest P v self.old self.new) }
         ensures of { (P : Given) → IsOf P self.old.machine → IsOf P self.new.machine }
         ensures basis { self.new.machine.stack.basis ≡ self.old.machine.stack.basis }
         ensures frame { self.new ≡ record self.old { machine = self.new.machine } }
         ensures err { OnErr result ((P : Given) → Stays P self.old self.new) }
-        ensures asked { OnOk result ((v : Views) (c : OfCursor) → AreOrdered v → LooksBehind at.now.walk.spot view (BaseOf c) → found ≡ next_like_of (first_key (head_at self.old.machine at.now.walk)) c (living (v view.place) (indicator (head_at self.old.machine at.now.walk))) → WalkAsked v at.now.walk self.old.machine self.new.machine (like (head_at self.old.machine at.now.walk) c)) }
+        ensures asked { OnOk result ((v : Views) (c : OfCursor) → (p : OfPoint) (w : OfWalk) → AtWalk self.old.machine.stack p w → AreOrdered v → LooksBehind w.spot view (BaseOf c) → found ≡ next_like_of (first_key (head_at self.old.machine w)) c (living (v view.place) (indicator (head_at self.old.machine w))) → WalkAsked v w self.old.machine self.new.machine (like (head_at self.old.machine w) c)) }
     {
-        let step = self.step_from(self.head_at(at), view, found)?;
+        let Some(at) = self.machine.stack.walking() else {
+            unreachable!()
+        };
+        let step = self.step_from(self.head_at(&at), view, found)?;
         let spot = spot_behind(at.walk.spot, step);
-        self.machine.stack.go_on_walk(at, spot);
+        self.machine.stack.go_on_walk(spot);
         Ok(())
     }
 
     /// The clause of a walk was sought in the journal: it is tried.
-    pub(crate) fn walked(&mut self, at: &Walking, clause: Option<Clause>) -> Result<(), AllocError>
+    pub(crate) fn walked(&mut self, clause: Option<Clause>) -> Result<(), AllocError>
         requires fails { self.old.machine.mode ≡ Mode.Back Outcome.Fail }
-        requires at { AtWalk self.old.machine.stack at.now.point at.now.walk }
-        requires seen { IsSpotSeen self.old.machine.stack.basis.latest at.now.walk.spot }
-        requires spot { (g : OfView) × (x : Named) × (y : Option OfAhead) × (at.now.walk.spot ≡ KnownOf g x y) }
-        ensures ok { OnOk result ((P : Given) (v : Views) (g : OfView) (x : Named) (y : Option OfAhead) → AreOrdered v → at.now.walk.spot ≡ KnownOf g x y → IsUntouched self.old.machine.layer.own.updates g x → clause ≡ clause_alive x (v g.place) → KeepsRest P v self.old self.new) }
+        requires at { (p : OfPoint) × (w : OfWalk) × AtWalk self.old.machine.stack p w × ((g : OfView) × (x : Named) × (y : Option OfAhead) × (w.spot ≡ KnownOf g x y)) }
+        ensures ok { OnOk result ((P : Given) (v : Views) (g : OfView) (x : Named) (y : Option OfAhead) → (p : OfPoint) (w : OfWalk) → AtWalk self.old.machine.stack p w → AreOrdered v → w.spot ≡ KnownOf g x y → IsUntouched self.old.machine.layer.own.updates g x → clause ≡ clause_alive x (v g.place) → KeepsRest P v self.old self.new) }
         ensures of { (P : Given) → IsOf P self.old.machine → IsOf P self.new.machine }
         ensures basis { self.new.machine.stack.basis ≡ self.old.machine.stack.basis }
         ensures frame { self.new ≡ record self.old { machine = self.new.machine } }
         ensures err { OnErr result ((P : Given) → Stays P self.old self.new) }
-        ensures asked { OnOk result ((v : Views) (g : OfView) (x : Named) (y : Option OfAhead) → at.now.walk.spot ≡ KnownOf g x y → IsUntouched self.old.machine.layer.own.updates g x → WalkAsked v at.now.walk self.old.machine self.new.machine (ClauseQuery x)) }
+        ensures asked { OnOk result ((v : Views) (g : OfView) (x : Named) (y : Option OfAhead) → (p : OfPoint) (w : OfWalk) → AtWalk self.old.machine.stack p w → w.spot ≡ KnownOf g x y → IsUntouched self.old.machine.layer.own.updates g x → WalkAsked v w self.old.machine self.new.machine (ClauseQuery x)) }
     {
+        let Some(at) = self.machine.stack.walking() else {
+            unreachable!()
+        };
         let Spot::Known(view, name, ahead) = at.walk.spot else {
             unreachable!()
         };
         let rest = spot_ahead(view, ahead);
         let Some(clause) = clause else {
-            self.machine.stack.go_on_walk(at, rest);
+            self.machine.stack.go_on_walk(rest);
             return Ok(());
         };
         let next = candidate::of_name(at.walk.uses, name, &clause)?;
-        let Some(entered) = self.machine.stack.try_walk(at, &next, rest)? else {
+        let Some(entered) = self.machine.stack.try_walk(&next, rest)? else {
             return Ok(());
         };
         self.machine.mode = mode_of(entered);

@@ -23,7 +23,7 @@ pub returns-in_err-next-clause-frame : goal.returns-in_err-next-clause-frame
 returns-in_err-next-clause-frame c = c.clauses.invariant.frame
 
 pub try_walk-requires : goal.try_walk-requires
-try_walk-requires c = record { at = c.clauses.invariant.at; seen = tt }
+try_walk-requires c = record { at = (c.clauses.at.point, c.clauses.at.walk, c.clauses.invariant.at); seen = tt }
 
 pub returns-in_err-entered-clause-err : goal.returns-in_err-entered-clause-err
 returns-in_err-entered-clause-err c = on_err c.from_residual-in_err-entered.result (λ P v own whole. c.in_err-entered.ensures.err (database_of P v own) ∙ c.clauses.invariant.cases P v own whole)
@@ -42,7 +42,7 @@ returns-in-Some-clause-some c = λ P v own whole.
     let w = c.clauses.at.walk in
     let all = whole-now P c.args.self.now c.clauses.self c.args.at.now c.clauses.at k c.args.clauses.now i whole in
     retries-same (database_of P v own) c.args.self.now.machine.stack s c.try_walk.new.self c.in-Some.entered.erased (i.cases P v own whole)
-    ((rw c.in-Some.is at c.in_ok-entered.ensures.some) (database_of P v own)
+    ((rw c.in-Some.is at c.in_ok-entered.ensures.some) c.clauses.at.point c.clauses.at.walk c.clauses.invariant.at (database_of P v own)
     (text-next P v own w (value s.env.heap w.goal) k c.args.clauses.now c.index-clauses-number.result c.in_ok-next.next i.text all
     (drop-at c.args.clauses.now k _ (omega (arith, c.clauses-test.true)) ∙ ap (λ x. x ∷ drop (suc k) c.args.clauses.now) (sym c.index-clauses-number.is)) c.in_ok-next.ensures))
 
@@ -60,8 +60,8 @@ clauses-preserved c =
     let w = c.clauses.at.walk in
     let spot = spots.Text (k + 1) in
     let none = rw c.in_default.is at c.in_ok-entered.ensures.none in
-    let there = (rw c.in_default.is at c.in_ok-entered.ensures.at_next) spot refl in
-    let values = (rw c.in_default.is at c.in_ok-entered.ensures.values) spot refl in
+    let there = ((rw c.in_default.is at c.in_ok-entered.ensures.at_next) c.clauses.at.point c.clauses.at.walk c.clauses.invariant.at) spot refl in
+    let values = ((rw c.in_default.is at c.in_ok-entered.ensures.values) c.clauses.at.point c.clauses.at.walk c.clauses.invariant.at) spot refl in
     subst (λ (a : Walking). AtText c.args.self.now (record c.clauses.self { machine = record c.clauses.self.machine { stack = c.try_walk.new.self } }) c.args.at.now a (k + 1) c.args.clauses.now) (sym c.at_spot-behind.ensures) (record {
       at = there;
       text = refl;
@@ -69,12 +69,12 @@ clauses-preserved c =
       goal = values ∙ i.goal;
       cases = λ P v own whole.
           let all = whole-now P c.args.self.now c.clauses.self c.args.at.now c.clauses.at k c.args.clauses.now i whole in
-          none (database_of P v own)
+          none c.clauses.at.point c.clauses.at.walk c.clauses.invariant.at (database_of P v own)
           (text-next P v own w (value s.env.heap w.goal) k c.args.clauses.now c.index-clauses-number.result c.in_ok-next.next i.text all
           (drop-at c.args.clauses.now k _ (omega (arith, c.clauses-test.true)) ∙ ap (λ x. x ∷ drop (suc k) c.args.clauses.now) (sym c.index-clauses-number.is)) c.in_ok-next.ensures)
           ∙ i.cases P v own whole;
       basis = c.try_walk.ensures.basis ∙ i.basis;
-      walks = text-on s c.try_walk.new.self w k i.text (k + 1) c.in_ok-entered.ensures.moves ∙ i.walks;
+      walks = text-on s c.try_walk.new.self w k i.text (k + 1) (c.in_ok-entered.ensures.moves c.clauses.at.point c.clauses.at.walk c.clauses.invariant.at) ∙ i.walks;
       frame = ap (λ (x : Progress). record x { machine = record x.machine { stack = c.try_walk.new.self } }) i.frame;
     })
 
@@ -117,7 +117,7 @@ pub returns-in_err-entered-clause-walks : goal.returns-in_err-entered-clause-wal
 returns-in_err-entered-clause-walks c = c.in_err-entered.ensures.err_walks ∙ c.clauses.invariant.walks
 
 pub returns-in-Some-clause-walks : goal.returns-in-Some-clause-walks
-returns-in-Some-clause-walks c = text-on c.clauses.self.machine.stack c.try_walk.new.self c.clauses.at.walk c.clauses.number c.clauses.invariant.text (c.clauses.number + 1) c.in_ok-entered.ensures.moves ∙ c.clauses.invariant.walks
+returns-in-Some-clause-walks c = text-on c.clauses.self.machine.stack c.try_walk.new.self c.clauses.at.walk c.clauses.number c.clauses.invariant.text (c.clauses.number + 1) (c.in_ok-entered.ensures.moves c.clauses.at.point c.clauses.at.walk c.clauses.invariant.at) ∙ c.clauses.invariant.walks
 
 pub returns-clause-walks : goal.returns-clause-walks
 returns-clause-walks c = c.last_of_text.ensures.walks ∙ c.clauses.invariant.walks
