@@ -50,7 +50,7 @@ use Rattle.plsolver.specs.Going.{IsInView, LooksBehind}
 use Rattle.plsolver.proofs.Asking.{behind-next, names_from_if}
 use Rattle.plsolver.proofs.Behind.{looks-elim}
 use Rattle.plsolver.proofs.Further.{further_ends, looks_same, looks_trans, walks_same}
-use Rattle.plsolver.proofs.Seeking.{same-walking}
+use Rattle.plstack.proofs.Walking.{same-walking}
 
 pub on_ok_both : {T E A B C : Type 0} (r : Outcomes T E) → (A → B → C) → OnOk r A → OnOk r B → OnOk r C
 on_ok_both (Ok x) f a b = f a b

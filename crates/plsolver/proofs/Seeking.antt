@@ -1,6 +1,6 @@
 -- What is sought in a view: look-ups that were answered with what is seen there.
 use Rattle.std.specs.Prelude.{Result as Outcomes, Ok, Err}
-use Rattle.std.proofs.Common.{OnOk, OnErr, reverse, ◌⊎◌, inl, inr, ◌≡◌, ℕ, Bool, true, false, ◌||◌, List, [], ◌∷◌, map, Option, refl, sym, ap, ◌∙◌, subst, if◌then◌else◌}
+use Rattle.std.proofs.Common.{OnOk, OnErr, ◌⊎◌, inl, inr, ◌≡◌, ℕ, Bool, true, false, ◌||◌, List, [], map, Option, refl, sym, ap, ◌∙◌, subst, if◌then◌else◌}
 use Rattle.std.specs.List.{filter_map}
 use Rattle.plterm.specs.Tree.{Tree}
 use Rattle.plterm.specs.declared.indicator.Indicator.{Indicator}
@@ -27,7 +27,7 @@ use Rattle.plstore.specs.declared.query.Found.{Found}
 use Rattle.plstore.specs.declared.query.Found.TheVariants.{Next as NextFound, Clause as ClauseFound, Alive as AliveFound, Exists as ExistsFound}
 use Rattle.plstore.specs.Looking.{Views, clause_alive, found}
 use Rattle.plcells.specs.declared.cell.Cell.{Cell}
-use Rattle.plcells.specs.Store.{Store, value, IsValue}
+use Rattle.plcells.specs.Store.{Store, value}
 use Rattle.plevent.specs.declared.update.Update.{Update}
 use Rattle.plviews.specs.declared.lookup.Reach.{Reach}
 use Rattle.plviews.specs.declared.lookup.Reach.TheVariants as reaches
@@ -40,14 +40,10 @@ use Rattle.plmachine.specs.declared.machine.SweepSpot.TheVariants as sweeps
 use Rattle.plcode.proofs.Numbers.{indicator_same}
 use Rattle.plstack.specs.declared.frame.Use.TheVariants as uses
 use Rattle.plstack.specs.Places.{candidate_of, head_in, tried}
-use Rattle.plstack.specs.State.{State, goals_of, IsList}
-use Rattle.plenv.specs.Env.{cut}
-use Rattle.plstack.specs.Walks.{AtWalk, IsWalking}
+use Rattle.plstack.specs.State.{goals_of}
+use Rattle.plstack.specs.Walks.{IsWalking}
 use Rattle.plstack.specs.declared.frame.Point.{Point}
 use Rattle.plstack.specs.declared.frame.Walk.{Walk}
-use Rattle.plstack.specs.declared.frame.Resume.TheVariants as resumes
-use Rattle.plstack.specs.declared.frame.Frame.TheVariants.{Open}
-use Rattle.plstack.proofs.Frames.{reverse-push}
 use Rattle.plstack.specs.StaticCalls.{database_of}
 use Rattle.plstack.proofs.Stacks.{depth-in}
 use Rattle.plmachine.specs.declared.machine.Question.{Question}
@@ -60,6 +56,7 @@ use Rattle.plmachine.specs.Machine.{after, bare, depth_of, finding, local_of, lo
 use Rattle.plmachine.proofs.Clausal.{called-left, erased-left, told-left}
 use Rattle.plsolver.specs.Fetching.{like, ClauseAsks, FindAsks, IsClause, IsExists, IsFoundFor, IsNext, ReachAsks, SpotAsks, SweepAsks, WalksOn}
 use Rattle.plsolver.specs.Going.{LooksBehind}
+use Rattle.plstack.proofs.Walking.{same-walking}
 use Rattle.plsolver.proofs.Behind.{looks-elim}
 
 -- the machine of what is sought
@@ -156,26 +153,6 @@ exists-kind p (NextFound y) fits = absurd fits
 exists-kind p (ClauseFound y) fits = absurd fits
 exists-kind p (AliveFound b) fits = absurd fits
 exists-kind p (ExistsFound b) fits = tt
-
--- the innermost walk is the one
-same-top : (s : State) (p q : Point) (w u : Walk) → IsWalking s p w → IsWalking s q u → (p ≡ q) × (w ≡ u)
-same-top s p q w u a b =
-    let e : Open p (resumes.Walk w) ∷ reverse a.rest ≡ Open q (resumes.Walk u) ∷ reverse b.rest =
-    sym (ap reverse a.top ∙ reverse-push a.rest (Open p (resumes.Walk w))) ∙ ap reverse b.top ∙ reverse-push b.rest (Open q (resumes.Walk u)) in (cc, cc)
-
-pub same-walking : (s : State) (p q : Point) (w u : Walk) → IsWalking s p w → IsWalking s q u → w ≡ u
-same-walking s p q w u a b = (same-top s p q w u a b).1
-
--- and all is as it was at its opening
-pub at-walking : (s : State) (p q : Point) (w u : Walk) → AtWalk s p w → IsWalking s q u → AtWalk s q u
-at-walking s p q w u at on =
-    let same = same-top s p q w u at.walking on in
-    record {
-      walking = on;
-      now = subst (λ (z : Point). cut z.marks.env s.env ≡ s.env) same.0 at.now;
-      list = subst (λ (z : Point). IsList s z.list) same.0 at.list;
-      goal = subst (λ (z : Walk). IsValue s.env.heap z.goal) same.1 at.goal;
-    }
 
 -- a mode that seeks nothing
 pub finds-none : (m : Going) (f : Find) → m ≡ modes.Find f → (m ≡ modes.Visit) ⊎ (((q : Question) × (m ≡ modes.Ask q)) ⊎ ((r : Outcome) × (m ≡ modes.Back r))) → ⊥

@@ -1,7 +1,7 @@
 use Rattle.plmachine.proofs.Moves.{on_err, on_err_map}
 use Rattle.plsolver.proofs.Further.{further_ends}
 use Rattle.plsolver.proofs.Keeping.{stays_keeps}
-use Rattle.plsolver.proofs.Seeking.{at-walking}
+use Rattle.plstack.proofs.Walking.{at-walking}
 use Rattle.plsolver.proofs.Trying.{if_none_map, if_some_map}
 use Rattle.plsolver.proofs.progress.Progress.go_through.Goals as goal
 

@@ -1,7 +1,7 @@
 use Rattle.std.proofs.Common.{◌∙◌, refl, sym}
 use Rattle.plsolver.proofs.Asked.{behind-further, moves-further}
 use Rattle.plsolver.proofs.Behind.{not-asks}
-use Rattle.plsolver.proofs.Walking.{asks-behind, behind-viewed, ends-behind, looks-viewed, over, walks-behind}
+use Rattle.plsolver.proofs.Walking.{asks-behind, behind-viewed, ends-behind, looks-viewed, walks-behind}
 use Rattle.plsolver.proofs.progress.Progress.walk_behind.Goals as goal
 
 pub returns-in_default-clause-to : goal.returns-in_default-clause-to

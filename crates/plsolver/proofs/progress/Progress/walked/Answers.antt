@@ -2,7 +2,7 @@ use Rattle.std.proofs.Common.{ap, sym, subst, refl, ◌∙◌}
 use Rattle.plcells.specs.Store.{value}
 use Rattle.plstack.specs.StaticCalls.{database_of}
 use Rattle.plstack.specs.Walks.{Finds, GoesOn, Moves}
-use Rattle.plstack.proofs.Walking.{at-walking, each-walk}
+use Rattle.plstack.proofs.Walking.{each-walk}
 use Rattle.plstore.specs.declared.query.Query.{Query}
 use Rattle.plmachine.specs.declared.machine.Outcome.TheVariants as outcomes
 use Rattle.plmachine.specs.Machine.{now, IsPlain}

@@ -1,8 +1,8 @@
 use Rattle.std.proofs.Common.{sym, subst, refl}
 use Rattle.plcells.specs.Store.{value}
 use Rattle.plstack.specs.StaticCalls.{database_of}
-use Rattle.plstack.specs.Walks.{AtWalk, GoesOn, Moves}
-use Rattle.plstack.proofs.Walking.{at-walking, each-walk}
+use Rattle.plstack.specs.Walks.{GoesOn, Moves}
+use Rattle.plstack.proofs.Walking.{each-walk}
 use Rattle.plviews.specs.declared.lookup.Reach.TheVariants as reaches
 use Rattle.plmachine.specs.Machine.{IsPlain}
 use Rattle.plsolver.specs.Knowing.{StepsFound}
