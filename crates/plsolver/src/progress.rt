@@ -51,7 +51,7 @@ pub enum Selected {
 pub enum Due {
     /// A goal is to be selected.
     Goal(Selected),
-    /// Nothing can be done before something else is.
+    /// Nothing can be done before something else is, or the search has ended.
     Paused(Pause),
 }
 

@@ -15,7 +15,6 @@ ghost use Rattle.plstack.specs.Walks.{AtWalk};
 ghost use Rattle.plsolver.specs.Solver.{Quiet, Stays};
 
 use crate::progress::Progress;
-use crate::walk::at_spot;
 use plclause::clause::Clause;
 use plmachine::candidate;
 use plmachine::clauses::mode_of;
@@ -77,12 +76,11 @@ impl Progress {
             let next = candidate::of_text(at.walk.uses, &clauses[number])?;
             let spot = Spot::Text(number + 1);
             let rest = Some(spot);
-            let behind = at_spot(&at, spot);
             let stack = &mut self.machine.stack;
             if let Some(entered) = stack.try_walk(&next, rest)? {
                 return Ok(Some(entered));
             }
-            at = behind;
+            at.walk.spot = spot;
             number += 1;
         }
         self.last_of_text(clauses, &at, number)

@@ -39,7 +39,7 @@ use plmachine::clauses::mode_of;
 use plmachine::machine::{Mode, Outcome};
 use plmachine::sought::head_of;
 use plprogram::program::Program;
-use plstack::frame::{Spot, Walk};
+use plstack::frame::Spot;
 use plstack::walk::{Candidate, Entered, Walking};
 use plviews::{Reach, Step, View};
 use std::alloc::AllocError;
@@ -76,7 +76,8 @@ impl Progress {
         self.go_through(program)
     }
 
-    /// A walk that need not ask the journal where it stands goes on.
+    /// A walk that need not ask the journal where it stands goes on. It stands apart, since most walks ask the journal at once, and what a
+    /// function may need is set to zero where it begins.
     #[inline(never)]
     fn go_through(&mut self, program: &Program) -> Result<Option<Pause>, AllocError>
         requires fails { self.old.machine.mode ≡ Mode.Back Outcome.Fail }
@@ -314,21 +315,6 @@ fn is_base(reach: Reach) -> bool
     match reach {
         Reach::Base(_) => true,
         Reach::Front(_) | Reach::Back(_) => false,
-    }
-}
-
-/// A walk that stands at another spot.
-pub(crate) fn at_spot(at: &Walking, spot: Spot) -> Walking
-    ensures { result ≡ record at.now { walk = record at.now.walk { spot = spot } } }
-{
-    let walk = Walk {
-        goal: at.walk.goal,
-        uses: at.walk.uses,
-        spot,
-    };
-    Walking {
-        point: at.point,
-        walk,
     }
 }
 

@@ -1,11 +1,10 @@
-use Rattle.std.proofs.Common.{◌+◌, suc, refl, sym, subst, ap, ◌∙◌, arith, drop, ◌∷◌}
+use Rattle.std.proofs.Common.{◌+◌, suc, refl, sym, ap, ◌∙◌, arith, drop, ◌∷◌}
 use Rattle.plcells.specs.Store.{value}
 use Rattle.plstack.specs.declared.frame.Spot.TheVariants as spots
-use Rattle.plstack.specs.declared.walk.Walking.{Walking}
 use Rattle.plstack.specs.StaticCalls.{database_of}
 use Rattle.plmachine.proofs.Moves.{on_err, on_err_map}
 use Rattle.plsolver.specs.declared.progress.Progress.{Progress}
-use Rattle.plsolver.proofs.Texts.{AtText, drop-at, text-next, whole-now}
+use Rattle.plsolver.proofs.Texts.{drop-at, text-next, whole-now}
 use Rattle.plsolver.proofs.Trying.{if_none_map, if_some_map, retries-same}
 use Rattle.plsolver.proofs.Ending.{text-on}
 use Rattle.plsolver.proofs.progress.Progress.first_of_text.Goals as goal
@@ -62,7 +61,7 @@ clauses-preserved c =
     let none = rw c.in_default.is at c.in_ok-entered.ensures.none in
     let there = ((rw c.in_default.is at c.in_ok-entered.ensures.at_next) c.clauses.at.point c.clauses.at.walk c.clauses.invariant.at) spot refl in
     let values = ((rw c.in_default.is at c.in_ok-entered.ensures.values) c.clauses.at.point c.clauses.at.walk c.clauses.invariant.at) spot refl in
-    subst (λ (a : Walking). AtText c.args.self.now (record c.clauses.self { machine = record c.clauses.self.machine { stack = c.try_walk.new.self } }) c.args.at.now a (k + 1) c.args.clauses.now) (sym c.at_spot-behind.ensures) (record {
+    record {
       at = there;
       text = refl;
       uses = i.uses;
@@ -76,7 +75,7 @@ clauses-preserved c =
       basis = c.try_walk.ensures.basis ∙ i.basis;
       walks = text-on s c.try_walk.new.self w k i.text (k + 1) (c.in_ok-entered.ensures.moves c.clauses.at.point c.clauses.at.walk c.clauses.invariant.at) ∙ i.walks;
       frame = ap (λ (x : Progress). record x { machine = record x.machine { stack = c.try_walk.new.self } }) i.frame;
-    })
+    }
 
 pub last_of_text-requires-clause-at : goal.last_of_text-requires-clause-at
 last_of_text-requires-clause-at c = c.clauses.invariant.at
