@@ -14,7 +14,7 @@ use Rattle.plstore.specs.Runs.{HasRuns, IsGone, SameRuns}
 use Rattle.plstore.specs.Trail.{SameLinks, SameTables}
 use Rattle.plstore.specs.Slots.{in_slot}
 use Rattle.plstore.specs.Chains.{IsChain}
-use Rattle.plstore.specs.Tables.{Chained}
+use Rattle.plstore.specs.Tables.{AreKeyed, Chained}
 use Rattle.plstore.specs.declared.tables.Tables.{Tables}
 use Rattle.plstore.proofs.Index.{any-put, ends-alike, erase-keeps, no-records}
 use Rattle.plstore.proofs.Passing.{linked, runs-erase, runs-same, same-self, no-runs}
@@ -112,6 +112,7 @@ chained-same t u same was = record {
   slots = λ n. subst (λ rs. IsChain (in_slot n) rs u.by_slot (ends_in nat_eq u.slots n)) (sym same.records)
       (chain-same (in_slot n) t.records.items t.by_slot u.by_slot (ends_in nat_eq u.slots n) (ends_in nat_eq t.slots n) (was.slots n) same.by_slot (same.slots n));
   since = λ p g. ap (λ (e : Ends). since_below g e.since) (same.index p) ∙ was.since p g ∙ ap₂ (λ rs ds. is_there g p (record { records = rs; declared = ds })) (sym same.records) (sym same.declared);
+  keyed = λ k. subst AreKeyed (sym same.records) (was.keyed (same.unkeyed k));
 }
 
 pub links-alike : (old new : Links) → new.next.items ≡ old.next.items → new.places.items ≡ old.places.items → SameLinks old new

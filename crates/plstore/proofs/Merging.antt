@@ -341,7 +341,7 @@ extent-within part n w = by part.behind w
     by None w = omega arith
     by (Some i) w = omega (arith, after-within part.front n i w)
 
-pub none-found : (t : Tables) (s : Sought) (m : Merged) (part : Part) → Chained t → IsMerged s.pred.now s.key.now m → first_end part.front (chain_ends t s.pred.now m.own) ≡ None →
+pub none-found : (t : Tables) (s : Sought) (m : Merged) (part : Part) → Chained t → IsMerged s.pred.now s.key.now t.records.items m → first_end part.front (chain_ends t s.pred.now m.own) ≡ None →
     first_end part.front (chain_ends t s.pred.now m.any) ≡ None → IfSome part.behind (λ i. i < length t.records.items) → None ≡ found s t.records.items part
 none-found t s m part chained merged own any within =
     let f = part.front in
@@ -349,8 +349,8 @@ none-found t s m part chained merged own any within =
     let p = s.pred.now in
     let n = extent part (length rs) in
     let stands : (ch : Chain) → first_end f (chain_ends t p ch) ≡ None → MayStand f (in_chain p ch) s.g rs n None =
-        λ ch e. subst (MayStand f (in_chain p ch) s.g rs n) e (stand-first f (in_chain p ch) s.g rs _ _ n (chain-is t p ch chained).indexed) in
-    seek-over _ _ _ _ _ _ _ _ _ _ (merged.covers rs) (record {
+    λ ch e. subst (MayStand f (in_chain p ch) s.g rs n) e (stand-first f (in_chain p ch) s.g rs _ _ n (chain-is t p ch chained).indexed) in
+    seek-over _ _ _ _ _ _ _ _ _ _ merged.covers (record {
       m = n;
       within = extent-within part (length rs) within;
       own = stands m.own own;

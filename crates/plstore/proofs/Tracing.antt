@@ -49,6 +49,7 @@ before-same (Change.Put key l) a t u h same = record {
   index = at-same same_indicator key l.by_procedure _ _ _ h.index same.index;
   by_slot = longer-same h.last.front l.by_slot a.by_slot t.by_slot u.by_slot h.by_slot same.by_slot;
   slots = at-same nat_eq l.slot l.by_slot _ _ _ h.slots same.slots;
+  unkeyed = λ e. h.unkeyed (same.unkeyed e);
 }
 before-same (Change.Erased e) a t u h same = record {
   records = subst (WasRecord e.number a.records.items) (sym same.records) h.records;
@@ -57,6 +58,7 @@ before-same (Change.Erased e) a t u h same = record {
   index = λ p. same.index p ∙ h.index p;
   by_slot = record { next = same.by_slot.next ∙ h.by_slot.next; runs = (h.by_slot.runs.0, h.by_slot.runs.1, had-same e.by_slot.before _ _ _ h.by_slot.runs.2 same.by_slot.runs) };
   slots = λ n. same.slots n ∙ h.slots n;
+  unkeyed = λ e. h.unkeyed (same.unkeyed e);
 }
 before-same (Change.Declared key e) a t u h same = record {
   last = h.last;
@@ -66,6 +68,7 @@ before-same (Change.Declared key e) a t u h same = record {
   index = at-same same_indicator key e _ _ _ h.index same.index;
   by_slot = links-same a.by_slot t.by_slot u.by_slot h.by_slot same.by_slot;
   slots = λ n. same.slots n ∙ h.slots n;
+  unkeyed = λ e. h.unkeyed (same.unkeyed e);
 }
 
 pub leads-same : (ss : List Step) (t u : Tables) → SameTables t u → LeadsBack ss t → LeadsBack ss u

@@ -22,10 +22,10 @@ unfoldable pub Covers : Class → Class → Indicator → Key → List Record �
 Covers c d p k rs = (i : ℕ) (r : Record) → i < length rs → suits p k (lives_as (slice_index_or rs i r).name (slice_index_or rs i r).clause) ≡ true →
     (c (slice_index_or rs i r).clause ≡ true) ⊎ (d (slice_index_or rs i r).clause ≡ true)
 
--- two chains with the same links that have each clause that is sought
-pub record IsMerged (p : Indicator) (k : Key) (m : Merged) : Type 0 where
+-- two chains with the same links that have each of these clauses that is sought
+pub record IsMerged (p : Indicator) (k : Key) (rs : List Record) (m : Merged) : Type 0 where
   pub links : (t : Tables) → links_in t m.any ≡ links_in t m.own
-  pub covers : (rs : List Record) → Covers (in_chain p m.own) (in_chain p m.any) p k rs
+  pub covers : Covers (in_chain p m.own) (in_chain p m.any) p k rs
 
 -- a walk of m records may stand at a record of the class, or be over: it comes to none of the class before that is seen at g
 pub record MayStand (f : Bool) (c : Class) (g : ℕ) (rs : List Record) (m : ℕ) (at : Option ℕ) : Type 0 where

@@ -1,5 +1,5 @@
 -- What tables were before an update, told by what is noted of it and by the tables after it.
-use Rattle.std.specs.Prelude.{◌≡◌, ◌≢◌, ℕ, suc, ◌<◌, List, [], ◌∷◌, ◌++◌, length, nat_eq, slice_index_or, slice_set, cond, Bool, Option, Some, None, reverse}
+use Rattle.std.specs.Prelude.{◌≡◌, ◌≢◌, ℕ, suc, ◌<◌, List, [], ◌∷◌, ◌++◌, length, nat_eq, slice_index_or, slice_set, cond, Bool, false, Option, Some, None, reverse}
 use Rattle.std.specs.HashMap.{get, spare}
 use Rattle.plterm.specs.declared.indicator.Indicator.{Indicator}
 use Rattle.plterm.specs.Indicators.{same_indicator}
@@ -87,6 +87,7 @@ pub record SameTables (old new : Tables) : Type 0 where
   pub index : (p : Indicator) → ends_in same_indicator new.index p ≡ ends_in same_indicator old.index p
   pub by_slot : SameLinks old.by_slot new.by_slot
   pub slots : (n : ℕ) → ends_in nat_eq new.slots n ≡ ends_in nat_eq old.slots n
+  pub unkeyed : new.unkeyed ≡ false → old.unkeyed ≡ false
 
 -- the last record was put
 pub record WasPut (key : Indicator) (l : Linked) (old new : Tables) : Type 0 where
@@ -97,6 +98,7 @@ pub record WasPut (key : Indicator) (l : Linked) (old new : Tables) : Type 0 whe
   pub index : WasAt same_indicator key l.by_procedure (ends_in same_indicator old.index) (ends_in same_indicator new.index)
   pub by_slot : IsLonger last.front l.by_slot old.by_slot new.by_slot
   pub slots : WasAt nat_eq l.slot l.by_slot (ends_in nat_eq old.slots) (ends_in nat_eq new.slots)
+  pub unkeyed : new.unkeyed ≡ false → old.unkeyed ≡ false
 
 -- the record i was not erased
 abbrev pub WasRecord : ℕ → List Record → List Record → Type 0
@@ -110,6 +112,7 @@ pub record WasErased (e : Erasure) (old new : Tables) : Type 0 where
   pub index : (p : Indicator) → ends_in same_indicator new.index p ≡ ends_in same_indicator old.index p
   pub by_slot : HadLinks e.by_slot old.by_slot new.by_slot
   pub slots : (n : ℕ) → ends_in nat_eq new.slots n ≡ ends_in nat_eq old.slots n
+  pub unkeyed : new.unkeyed ≡ false → old.unkeyed ≡ false
 
 -- the last declaration was made
 pub record WasDeclared (key : Indicator) (e : Ends) (old new : Tables) : Type 0 where
@@ -120,6 +123,7 @@ pub record WasDeclared (key : Indicator) (e : Ends) (old new : Tables) : Type 0 
   pub index : WasAt same_indicator key e (ends_in same_indicator old.index) (ends_in same_indicator new.index)
   pub by_slot : SameLinks old.by_slot new.by_slot
   pub slots : (n : ℕ) → ends_in nat_eq new.slots n ≡ ends_in nat_eq old.slots n
+  pub unkeyed : new.unkeyed ≡ false → old.unkeyed ≡ false
 
 abbrev pub WasBefore : Change → Tables → Tables → Type 0
 WasBefore (Change.Put key l) old new = WasPut key l old new

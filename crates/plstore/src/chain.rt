@@ -4,7 +4,7 @@ ghost use Rattle.plevent.specs.Alive.{is_of};
 ghost use Rattle.plstore.specs.Chains.{in_chain};
 ghost use Rattle.plstore.specs.Links.{first_end};
 ghost use Rattle.plstore.specs.Merged.{IsMerged};
-ghost use Rattle.plstore.specs.Tables.{chain_ends, links_in};
+ghost use Rattle.plstore.specs.Tables.{chain_ends, links_in, Chained};
 
 use crate::ends::{Ends, ends_of};
 use crate::links::Links;
@@ -79,11 +79,15 @@ impl MergedEnds {
 }
 
 impl Merged {
-    /// Whether both are known to be one chain, that of the procedure.
+    /// Whether both are one chain.
     pub(crate) fn is_one(&self) -> bool
         ensures { result ≡ true → self.now.any ≡ self.now.own }
     {
-        matches!((self.own, self.any), (Chain::Procedure, Chain::Procedure))
+        match (self.own, self.any) {
+            (Chain::Procedure, Chain::Procedure) => true,
+            (Chain::Slot(own), Chain::Slot(any)) => own == any,
+            (Chain::Procedure, Chain::Slot(_)) | (Chain::Slot(_), Chain::Procedure) => false,
+        }
     }
 
     /// Where they begin and end.
@@ -100,10 +104,11 @@ impl Merged {
     }
 }
 
-/// The chain of the key's slot, and that of the clauses with a variable, or nothing, as their first argument. For a goal of
-/// any key both are the procedure's.
-pub(crate) fn merge(sought: &Sought<'_>) -> Merged
-    ensures { IsMerged sought.now.pred.now sought.now.key.now result }
+/// The chain of the key's slot, and that of the clauses with a variable, or nothing, as their first argument, unless there are
+/// none. For a goal of any key both are the procedure's.
+pub(crate) fn merge(tables: &Tables, sought: &Sought<'_>) -> Merged
+    requires { Chained tables.now }
+    ensures { IsMerged sought.now.pred.now sought.now.key.now tables.now.records.items result }
 {
     if matches!(sought.key, Key::Any) {
         return Merged {
@@ -112,8 +117,12 @@ pub(crate) fn merge(sought: &Sought<'_>) -> Merged
         };
     }
     let slots = Slots::new(sought.pred);
+    let own = Chain::Slot(slots.of_key(sought.key));
+    if !tables.unkeyed {
+        return Merged { own, any: own };
+    }
     Merged {
-        own: Chain::Slot(slots.of_key(sought.key)),
+        own,
         any: Chain::Slot(slots.any()),
     }
 }

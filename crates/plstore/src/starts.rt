@@ -15,6 +15,8 @@ pub(crate) struct Starts {
     numbers: Vec<usize>,
     /// The place of the last record.
     last: u64,
+    /// How many updates of the first batch made no record before the last one that did: most declare, and stand first.
+    behind: usize,
 }
 
 impl Starts {
@@ -22,14 +24,18 @@ impl Starts {
         Starts {
             numbers: Vec::new(alloc),
             last: 0,
+            behind: 0,
         }
     }
 
-    /// Takes note of one more record, at a place not below those before it. Nothing is noted where there is no memory for it,
-    /// or the places are far more than the records.
-    pub(crate) fn note(&mut self, place: u64, number: usize) {
-        self.last = place;
-        let spans = spans_to(place);
+    /// Takes note of one more record, of a name whose place is not below those before it. Nothing is noted where there is no
+    /// memory for it, or the places are far more than the records.
+    pub(crate) fn note(&mut self, name: ClauseName, number: usize) {
+        self.last = name.place;
+        if name.place == 0 {
+            self.behind = (name.number as usize).wrapping_sub(number);
+        }
+        let spans = spans_to(name.place);
         if number.saturating_add(SPARE) < spans {
             return;
         }
@@ -49,7 +55,7 @@ impl Starts {
     /// Where the record of a name may stand among so many: the last ones are of the last place.
     pub(crate) fn guess(&self, name: ClauseName, count: usize) -> usize {
         match name.place.checked_sub(1) {
-            None => name.number as usize,
+            None => (name.number as usize).wrapping_sub(self.behind),
             Some(_) if name.place == self.last => count.wrapping_sub(1),
             Some(before) => self
                 .guess_within(before, count)

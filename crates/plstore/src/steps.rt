@@ -33,7 +33,7 @@ fn sought_from(tables: &Tables, sought: &Sought<'_>, part: Part) -> Option<Claus
     requires within { IfSome part.behind (λ i. i < length tables.now.records.items) }
     ensures { result ≡ found_from sought.now tables.now.records.items part }
 {
-    let merged = merge(sought);
+    let merged = merge(tables, sought);
     let ends = merged.ends(tables, sought.pred);
     let found = found_in(tables, sought, &merged, &ends, part);
     if part.front && found.is_none() {
@@ -51,7 +51,7 @@ fn found_in(
     part: Part,
 ) -> Option<ClauseName>
     requires chained { Chained tables.now }
-    requires merged { IsMerged sought.now.pred.now sought.now.key.now merged.now }
+    requires merged { IsMerged sought.now.pred.now sought.now.key.now tables.now.records.items merged.now }
     requires own { ends.now.own ≡ chain_ends tables.now sought.now.pred.now merged.now.own }
     requires any { ends.now.any ≡ chain_ends tables.now sought.now.pred.now merged.now.any }
     requires within { IfSome part.behind (λ i. i < length tables.now.records.items) }

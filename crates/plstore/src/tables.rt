@@ -1,13 +1,15 @@
 //! The tables of a store, and how an update changes them.
-ghost use Rattle.std.specs.Prelude.{◌≡◌, ◌+◌, ◌<◌, ◌≤◌, ◌^◌, ◌++◌, ◌∷◌, [], true, IfSome, OnOk, MatchOption, slice_index_or, ℕ, None, Some, fold, length, nat_eq, ◌≢◌, vec_len};
+ghost use Rattle.std.specs.Prelude.{◌≡◌, ◌+◌, ◌<◌, ◌≤◌, ◌^◌, ◌++◌, ◌∷◌, [], true, false, IfSome, OnOk, MatchOption, slice_index_or, ℕ, None, Some, fold, length, nat_eq, ◌≢◌, vec_len};
 ghost use Rattle.std.specs.Vec.{vec_capacity};
 ghost use Rattle.plclause.specs.Indicators.{indicator};
 ghost use Rattle.plevent.specs.Alive.{stamped, named};
+ghost use Rattle.plevent.specs.declared.key.Key.TheVariants.{Any};
 ghost use Rattle.plstore.specs.Kept.{keep, made, erase_at, first_of, changed_where, is_named, nothing};
 ghost use Rattle.plstore.specs.Plan.{update_of, updates_of, IsPlanned, AllPlanned};
 ghost use Rattle.plstore.specs.Rising.{IsRising, InOrder};
 ghost use Rattle.plstore.specs.Room.{HasRoom};
 ghost use Rattle.plstore.specs.Runs.{IsGone};
+ghost use Rattle.plstore.specs.Slots.{slot_behind};
 ghost use Rattle.plstore.specs.Tables.{kept_in, Chained, IsStored};
 ghost use Rattle.plstore.specs.Trail.{SameTables, WasDeclared, WasErased, WasPut, WasRecord};
 ghost use Rattle.plstore.specs.declared.tables.Tables.{Tables as Tabled};
@@ -43,6 +45,8 @@ pub(crate) struct Tables {
     /// The same of each slot.
     pub(crate) slots: HashMap<u64, Ends>,
     pub(crate) by_slot: Links,
+    /// Whether a clause was ever put that has a variable, or nothing, as its first argument.
+    pub(crate) unkeyed: bool,
 }
 
 /// What a record that is put was linked with: the ends of its procedure, its slot, and the ends of that, all before it.
@@ -74,8 +78,17 @@ impl Tables {
             by_procedure: Links::new(alloc),
             slots: HashMap::new(alloc),
             by_slot: Links::new(alloc),
+            unkeyed: false,
         }
     }
+}
+
+/// Whether a clause was put that has no key of its own, where one of this slot is put behind others.
+fn unkeyed_with(was: bool, slots: Slots, slot: u64) -> bool
+    ensures before { result ≡ false → was ≡ false }
+    ensures this { result ≡ false → slot ≢ slot_behind slots.hasher Any }
+{
+    was || slot == slots.any()
 }
 
 /// The most records of a store: their numbers have 32 bits.
@@ -175,8 +188,10 @@ pub(crate) fn put(
         front,
         place: name.place,
     };
-    tables.starts.note(name.place, number);
-    let slot = Slots::new(&pred).of_head(&clause.head().root());
+    tables.starts.note(name, number);
+    let slots = Slots::new(&pred);
+    let slot = slots.of_head(&clause.head().root());
+    tables.unkeyed = unkeyed_with(tables.unkeyed, slots, slot);
     let by_procedure = add(&mut tables.by_procedure, &mut tables.index, pred, added);
     let by_slot = add(&mut tables.by_slot, &mut tables.slots, slot, added);
     let record = Record {

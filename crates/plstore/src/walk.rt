@@ -25,7 +25,7 @@ pub(crate) fn seek(
     heads: Heads,
 ) -> Option<ClauseName>
     requires chained { Chained tables.now }
-    requires merged { IsMerged sought.now.pred.now sought.now.key.now merged.now }
+    requires merged { IsMerged sought.now.pred.now sought.now.key.now tables.now.records.items merged.now }
     requires own { MayBegin tables.now sought.now merged.now.own part heads.own }
     requires any { MayBegin tables.now sought.now merged.now.any part heads.any }
     requires within { IfSome part.behind (λ i. i < length tables.now.records.items) }

@@ -23,6 +23,7 @@ returns-clause-chained c =
       slots = c.requires.chained.slots;
       since = since-kept k (kept_in t) _ (record { at = named c.args.place 0; update = Declare c.args.pred }) _ E _ c.requires.chained.since law since
           (λ p. ap (λ q. same_indicator q p) (sym c.requires.key)) (ap (λ ds. record { records = t.records.items; declared = ds }) c.in-Ok.ensures.items);
+      keyed = c.requires.chained.keyed;
     }
 
 pub returns-clause-was : goal.returns-clause-was
@@ -38,4 +39,5 @@ returns-clause-was c =
           c.ends_of-was.ensures c.set_ends.ensures.set (λ h. earlier-some c.ends_of-was.result.since c.args.place (sym c.earlier-ends.ensures ∙ h));
       by_slot = links-alike t.by_slot t.by_slot refl refl;
       slots = λ n. refl;
+      unkeyed = λ e. e;
     }

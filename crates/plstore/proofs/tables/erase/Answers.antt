@@ -7,7 +7,9 @@ use Rattle.plstore.specs.Links.{ends_in}
 use Rattle.plstore.specs.Runs.{IsGone}
 use Rattle.plstore.specs.Slots.{in_slot}
 use Rattle.plstore.specs.Chains.{IsChain}
+use Rattle.plstore.specs.Tables.{AreKeyed}
 use Rattle.plstore.proofs.Classes.{chain-erased, chain-kept, links-alike}
+use Rattle.plstore.proofs.Slotted.{keyed-erased}
 use Rattle.plstore.proofs.Since.{since-erased}
 use Rattle.plstore.proofs.tables.erase.Goals as goal
 
@@ -22,6 +24,7 @@ returns-in-Some-clause-chained c =
       slots = λ n. subst (λ rs. IsChain (in_slot n) rs c.bury-by_slot.new.self (ends_in nat_eq t.slots n)) (sym e)
           (chain-erased (in_slot n) c.args.of c.args.place c.in-Some.number t.records.items t.by_slot c.bury-by_slot.new.self _ (c.requires.chained.slots n) gone c.bury-by_slot.ensures.next c.bury-by_slot.ensures.runs);
       since = λ p g. c.requires.chained.since p g ∙ since-erased p g c.args.of c.args.place t.records.items c.erase_record.new.records.items t.declared.items e;
+      keyed = λ k. subst AreKeyed (sym e) (keyed-erased c.args.of c.args.place t.records.items (c.requires.chained.keyed k));
     }
 
 pub returns-in-None-clause-chained : goal.returns-in-None-clause-chained
@@ -32,6 +35,7 @@ returns-in-None-clause-chained c =
       procedures = λ p. subst (λ rs. IsChain (is_of p) rs t.by_procedure (ends_in same_indicator t.index p)) (sym e) (chain-kept (is_of p) c.args.of c.args.place t.records.items t.by_procedure _ (c.requires.chained.procedures p));
       slots = λ n. subst (λ rs. IsChain (in_slot n) rs t.by_slot (ends_in nat_eq t.slots n)) (sym e) (chain-kept (in_slot n) c.args.of c.args.place t.records.items t.by_slot _ (c.requires.chained.slots n));
       since = λ p g. c.requires.chained.since p g ∙ since-erased p g c.args.of c.args.place t.records.items c.erase_record.new.records.items t.declared.items e;
+      keyed = λ k. subst AreKeyed (sym e) (keyed-erased c.args.of c.args.place t.records.items (c.requires.chained.keyed k));
     }
 
 pub returns-in-Some-clause-room : goal.returns-in-Some-clause-room
@@ -53,6 +57,7 @@ returns-in-Some-clause-was c = record {
   index = λ p. refl;
   by_slot = record { next = ap (λ v. v.items) c.bury-by_slot.ensures.next; runs = c.bury-by_slot.ensures.noted };
   slots = λ n. refl;
+  unkeyed = λ e. e;
 }
 
 pub returns-in-None-clause-was : goal.returns-in-None-clause-was
@@ -65,4 +70,5 @@ returns-in-None-clause-was c =
       index = λ p. refl;
       by_slot = links-alike t.by_slot t.by_slot refl refl;
       slots = λ n. refl;
+      unkeyed = λ e. e;
     }

@@ -7,7 +7,7 @@ use Rattle.plevent.specs.Alive.{is_of}
 use Rattle.plstore.specs.Links.{ends_in}
 use Rattle.plstore.specs.Plan.{put_update}
 use Rattle.plstore.specs.Slots.{in_slot, slot_of}
-use Rattle.plstore.specs.Tables.{kept_in}
+use Rattle.plstore.specs.Tables.{kept_in, AreKeyed}
 use Rattle.plstore.specs.Kept.{made}
 use Rattle.plstore.specs.Links.{ends_after, links_after}
 use Rattle.plstore.proofs.Backward.{at-set, earlier-some, newest-end}
@@ -15,7 +15,7 @@ use Rattle.plstore.proofs.Classes.{chains-put}
 use Rattle.plstore.proofs.Index.{newest-within}
 use Rattle.plstore.proofs.Same.{indicator-self, nat-same, nat-self, same-is}
 use Rattle.plstore.proofs.Since.{since-grown, since-kept, put-kept, put-names}
-use Rattle.plstore.proofs.Slotted.{slot-is}
+use Rattle.plstore.proofs.Slotted.{keyed-put, own-key, slot-is}
 use Rattle.plstore.proofs.tables.put.Goals as goal
 
 pub add-by_procedure-requires-clause-last : goal.add-by_procedure-requires-clause-last
@@ -38,7 +38,7 @@ returns-clause-chained c =
     let n = c.len-number.result in
     let count = c.len-number.ensures ∙ t.records.ok.0 in
     let E = ends_in same_indicator t.index in
-    let is_slot = slot-is c.new.result.hasher c.args.pred clause c.of_head-slot.result c.new.ensures c.requires.pred _ (c.root.ensures ∙ c.head.ensures.value) c.of_head-slot.ensures in
+    let is_slot = slot-is c.new-slots.result.hasher c.args.pred clause c.of_head-slot.result c.new-slots.ensures c.requires.pred _ (c.root.ensures ∙ c.head.ensures.value) c.of_head-slot.ensures in
     record {
       procedures = chains-put same_indicator same-is (λ (c : Clause). indicator c.head) f x clause t.records.items t.by_procedure c.add-by_procedure.new.links E (ends_in same_indicator c.add-by_procedure.new.index) n c.args.pred
           c.requires.chained.procedures c.requires.pred count c.add-by_procedure.ensures.next c.add-by_procedure.ensures.ends c.add-by_procedure.ensures.runs c.push.new.self.items c.in-Ok.ensures.items;
@@ -46,6 +46,8 @@ returns-clause-chained c =
           c.requires.chained.slots is_slot count c.add-by_slot.ensures.next c.add-by_slot.ensures.ends c.add-by_slot.ensures.runs c.push.new.self.items c.in-Ok.ensures.items;
       since = since-kept c.args.pred (kept_in t) _ (record { at = x; update = put_update f clause }) _ E _ c.requires.chained.since c.add-by_procedure.ensures.ends (since-grown f n x.place (E c.args.pred))
           (λ p. put-names f clause p ∙ ap (λ q. same_indicator q p) (sym c.requires.pred)) (put-kept f x clause t.records.items t.declared.items c.push.new.self.items c.in-Ok.ensures.items);
+      keyed = λ k. subst AreKeyed (sym c.in-Ok.ensures.items)
+          (keyed-put x clause f t.records.items (c.requires.chained.keyed (c.unkeyed_with.ensures.before k)) (own-key c.new-slots.result.hasher clause _ _ (c.root.ensures ∙ c.head.ensures.value) c.of_head-slot.ensures (c.unkeyed_with.ensures.this k)));
     }
 
 pub returns-clause-room : goal.returns-clause-room
@@ -89,4 +91,5 @@ returns-clause-was c =
       };
       slots = at-set nat_eq nat-same s (nat-self s) c.add-by_slot.result (ends_after f n b (F s)) F (ends_in nat_eq c.add-by_slot.new.index) e c.add-by_slot.ensures.ends
           (λ h. earlier-some (F s).since b (sym (since-grown f n b (F s)) ∙ h));
+      unkeyed = c.unkeyed_with.ensures.before;
     }

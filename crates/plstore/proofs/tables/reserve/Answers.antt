@@ -11,6 +11,7 @@ returns-in_err-reserve-4-clause-same c = record {
   index = λ p. ap (λ o. unwrap_or o no_ends) (c.reserve-3.ensures.entries.2 p);
   by_slot = links-alike c.args.tables.now.by_slot c.args.tables.now.by_slot refl refl;
   slots = λ n. refl;
+  unkeyed = λ e. e;
 }
 
 pub returns-in_err-reserve-5-clause-same : goal.returns-in_err-reserve-5-clause-same
@@ -21,6 +22,7 @@ returns-in_err-reserve-5-clause-same c = record {
   index = λ p. ap (λ o. unwrap_or o no_ends) (c.reserve-3.ensures.entries.2 p);
   by_slot = links-alike c.args.tables.now.by_slot c.args.tables.now.by_slot refl refl;
   slots = λ n. ap (λ o. unwrap_or o no_ends) (c.reserve-5.ensures.entries.2 n);
+  unkeyed = λ e. e;
 }
 
 pub returns-in_err-reserve-6-clause-same : goal.returns-in_err-reserve-6-clause-same
@@ -31,6 +33,7 @@ returns-in_err-reserve-6-clause-same c = record {
   index = λ p. ap (λ o. unwrap_or o no_ends) (c.reserve-3.ensures.entries.2 p);
   by_slot = links-alike c.args.tables.now.by_slot c.reserve-6.new.self c.reserve-6.ensures.next c.reserve-6.ensures.places;
   slots = λ n. ap (λ o. unwrap_or o no_ends) (c.reserve-5.ensures.entries.2 n);
+  unkeyed = λ e. e;
 }
 
 pub returns-clause-same : goal.returns-clause-same
@@ -41,6 +44,7 @@ returns-clause-same c = record {
   index = λ p. ap (λ o. unwrap_or o no_ends) (c.reserve-3.ensures.entries.2 p);
   by_slot = links-alike c.args.tables.now.by_slot c.reserve-6.new.self c.reserve-6.ensures.next c.reserve-6.ensures.places;
   slots = λ n. ap (λ o. unwrap_or o no_ends) (c.reserve-5.ensures.entries.2 n);
+  unkeyed = λ e. e;
 }
 
 pub returns-in_err-reserve-4-clause-chained : goal.returns-in_err-reserve-4-clause-chained

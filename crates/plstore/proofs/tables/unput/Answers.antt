@@ -32,6 +32,7 @@ returns-in-Some c = record {
         index = λ p. c.restore_ends.ensures.set p ∙ sym (h.index.each p);
         by_slot = c.drop_last-in-Some.ensures was.by_slot (subst (λ (r : Record). IsLonger r.front c.args.linked.now.by_slot was.by_slot c.args.tables.now.by_slot) (sym last) h.by_slot);
         slots = λ n. c.restore_ends-2.ensures.set n ∙ sym (h.slots.each n);
+        unkeyed = h.unkeyed;
       };
 }
   where
