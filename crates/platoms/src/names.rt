@@ -112,19 +112,34 @@ impl Names {
         })
     }
 
-    /// The number of a name, which is a new one where the table does not have it. A full table takes no call.
-    pub fn atom(&mut self, name: Name) -> Result<u32, AllocError>
-        requires { IsName name }
-        ensures is { IfOk result (λ a. HasAtom self.new a name) }
+    /// The number of a name, which is a new one where the table does not have it: then a copy of the name stays there. A full table takes no
+    /// call.
+    pub fn atom(&mut self, name: &Name) -> Result<u32, AllocError>
+        requires { IsName name.now }
+        ensures is { IfOk result (λ a. HasAtom self.new a name.now) }
         ensures extends { Extends self.old self.new }
         ensures functors { self.new.functors ≡ self.old.functors }
         ensures table { IsTable self.new }
         ensures err { OnErr result (self.new ≡ self.old) }
     {
         let recent = place_of_name(name.as_str());
-        if let Some(a) = self.recent_atom(recent, &name) {
+        if let Some(a) = self.recent_atom(recent, name) {
             return Ok(a);
         }
+        let name = name.copied()?;
+        self.atom_in(recent, name)
+    }
+
+    /// The number of a name, looked for in the whole table, and noted as the one that was asked for last at a place.
+    fn atom_in(&mut self, recent: usize, name: Name) -> Result<u32, AllocError>
+        requires name { IsName name }
+        requires recent { recent < 64 }
+        ensures is { IfOk result (λ a. HasAtom self.new a name) }
+        ensures extends { Extends self.old self.new }
+        ensures functors { self.new.functors ≡ self.old.functors }
+        ensures table { IsTable self.new }
+        ensures err { OnErr result (self.new ≡ self.old) }
+    {
         if self.atoms.len() >= u32::MAX as usize {
             return Err(AllocError);
         }
@@ -136,7 +151,8 @@ impl Names {
     /// The number of a name, if it is the one that was asked for last at a place.
     fn recent_atom(&self, recent: usize, name: &Name) -> Option<u32>
         requires { recent < 64 }
-        ensures { IfSome result (λ a. HasAtom self.now a name.now) }
+        ensures is { IfSome result (λ a. HasAtom self.now a name.now) }
+        ensures table { IsTable self.now }
     {
         let a = self.recent_atoms[recent];
         let held = self.atoms.get_index(a as usize)?;

@@ -337,9 +337,9 @@ impl Heap {
     }
 
     /// The number of a name, which is a new one where the names do not have it. A full table takes no call.
-    pub fn atom(&mut self, name: Name) -> Result<u32, AllocError>
-        requires { IsName name }
-        ensures is { IfOk result (λ a. HasAtom self.new.names a name) }
+    pub fn atom(&mut self, name: &Name) -> Result<u32, AllocError>
+        requires { IsName name.now }
+        ensures is { IfOk result (λ a. HasAtom self.new.names a name.now) }
         ensures same { self.new ≡ renamed self.old self.new.names }
         ensures preserves { Preserves self.old self.new }
         ensures err { OnErr result (self.new ≡ self.old) }
@@ -367,7 +367,6 @@ impl Heap {
         ensures same { self.new ≡ renamed self.old self.new.names }
         ensures preserves { Preserves self.old self.new }
     {
-        let name = name.copied()?;
         let name = self.atom(name)?;
         self.functor(Functor { name, arity })
     }

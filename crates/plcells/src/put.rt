@@ -81,7 +81,6 @@ impl Heap {
                 stack.push(Argument::Value(v))?;
             }
             Node::Atom(name) => {
-                let name = name.copied()?;
                 let a = self.atom(name)?;
                 stack.push(Argument::Value(Cell::Atom(a)))?;
             }

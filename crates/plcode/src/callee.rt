@@ -54,7 +54,7 @@ pub(crate) fn number_of(
     if name.len() > LONGEST || arity > MOST {
         return Ok(None);
     }
-    let atom = names.atom(name)?;
+    let atom = names.atom(&name)?;
     if arity == 0 {
         return Ok(Some(Number::Atom(atom)));
     }

@@ -35,7 +35,7 @@ impl Draft {
         ensures { IfOk result (λ c. IsCode (text c)) }
     {
         let mut names = Names::new(alloc);
-        let fail = names.atom(name_of(alloc, "fail")?)?;
+        let fail = names.atom(&name_of(alloc, "fail")?)?;
         let mut nodes = Vec::new(alloc);
         nodes.push(Node::Atom(fail))?;
         let mut steps = Vec::new(alloc);

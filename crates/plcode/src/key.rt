@@ -56,11 +56,11 @@ pub fn key_of(code: &mut Draft, term: &TermRef<'_>) -> Result<Key, AllocError>
         Shape::Var(_) => Ok(Key::Any),
         Shape::Int(value) => Ok(Key::Int(value)),
         Shape::Atom(name) => {
-            let atom = code.names.atom(name.copied()?)?;
+            let atom = code.names.atom(name)?;
             Ok(Key::Atom(atom))
         }
         Shape::Compound(name, args) => {
-            let name = code.names.atom(name.copied()?)?;
+            let name = code.names.atom(name)?;
             let arity = args.len() as u16;
             let functor = code.names.functor(Functor { name, arity })?;
             Ok(Key::Fun(functor))

@@ -105,12 +105,12 @@ fn put_node(
             Ok(())
         }
         TermNode::Atom(name) => {
-            let atom = names.atom(name)?;
+            let atom = names.atom(&name)?;
             waiting.push(Node::Atom(atom))?;
             Ok(())
         }
         TermNode::Compound(name, arity) => {
-            let name = names.atom(name)?;
+            let name = names.atom(&name)?;
             let functor = names.functor(Functor { name, arity })?;
             put_block(nodes, waiting, functor, arity)?;
             Ok(())

@@ -19,7 +19,6 @@ fn atom_on(heap: &mut Heap, name: &Name) -> Result<Cell, AllocError>
     ensures preserves { Preserves heap.old heap.new }
     ensures err { OnErr result (heap.new ≡ renamed heap.old heap.new.names) }
 {
-    let name = name.copied()?;
     let a = heap.atom(name)?;
     Ok(Cell::Atom(a))
 }

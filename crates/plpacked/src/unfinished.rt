@@ -133,7 +133,7 @@ impl Unfinished {
                 self.values.push(Argument::Value(v))?;
             }
             Node::Atom(name) => {
-                let a = heap.atom(name)?;
+                let a = heap.atom(&name)?;
                 self.values.push(Argument::Value(Cell::Atom(a)))?;
             }
             Node::Compound(name, count) => {

@@ -22,7 +22,7 @@ returns-in_ok-functor-in-Compound-clause-key c =
     let t = c.functor.new.self in
     let ts = c.in-Compound.args in
     let name : functor_name t c.in_ok-functor-in-Compound.functor ≡ c.in-Compound.name.now =
-    ap (λ g. atom_at t g.name) is.is ∙ atom_same s t c.functor.ensures.extends c.in_ok-name-in-Compound.name named.within ∙ named.is ∙ c.in_ok-copied-in-Compound.ensures in
+    ap (λ g. atom_at t g.name) is.is ∙ atom_same s t c.functor.ensures.extends c.in_ok-name-in-Compound.name named.within ∙ named.is in
     record {
       within = is.within;
       args = trees ts;

@@ -22,9 +22,6 @@ returns-in_ok-push-in-Var-clause-keeps c = Keeps-refl c.args.self.now
 pub returns-in_err-v-in-Int-clause-keeps : goal.returns-in_err-v-in-Int-clause-keeps
 returns-in_err-v-in-Int-clause-keeps c = subst (Keeps c.args.self.now) (sym c.in_err-v-in-Int.ensures.err) (Keeps-refl c.args.self.now)
 
-pub returns-in_err-name-in-Atom-clause-keeps : goal.returns-in_err-name-in-Atom-clause-keeps
-returns-in_err-name-in-Atom-clause-keeps c = Keeps-refl c.args.self.now
-
 pub put_compound-requires-clause-given : goal.put_compound-requires-clause-given
 put_compound-requires-clause-given c = (given-stay c.args.self.now c.functor_named.new.self (reverse c.args.stack.now.items) c.in_ok-f-in-Compound.ensures.preserves c.requires.given).0
 
@@ -60,7 +57,7 @@ returns-in_ok-push-in-Atom-clause-ok c =
     let new = c.atom.new.self in
     let a = c.in_ok-a-in-Atom.a in
     let has = c.in_ok-a-in-Atom.ensures.is in
-    let is = ap atom (has.is ∙ c.in_ok-name-in-Atom.ensures) in
+    let is = ap atom has.is in
     rw (c.in_ok-push-in-Atom.ensures.items, c.in-Atom.is)
     (puts-leaf old new c.args.values.now (Atom c.in-Atom.name) c.args.stack.now.items (AtomCell a) (adds-renamed old new c.in_ok-a-in-Atom.ensures.same c.in_ok-a-in-Atom.ensures.preserves) c.requires.given has.within (λ ts. ap (λ t. t ∷ ts) (sym is)))
 

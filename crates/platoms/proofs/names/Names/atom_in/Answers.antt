@@ -2,7 +2,7 @@ use Rattle.std.proofs.Common.{◌∙◌, [], bytes_eq, sym, arith}
 use Rattle.std.proofs.lemmas.Slice.Eq.{bytes_eq-Decides}
 use Rattle.plterm.specs.Reading.{IsName}
 use Rattle.platoms.proofs.Tables.{get-is, insert_once, insert_all_fit, insert_longer}
-use Rattle.platoms.proofs.names.Names.atom.Goals as goal
+use Rattle.platoms.proofs.names.Names.atom_in.Goals as goal
 
 pub invariant_of-self-2 : goal.invariant_of-self-2
 invariant_of-self-2 c =
@@ -10,7 +10,7 @@ invariant_of-self-2 c =
     let xs = c.self.inside.atoms.keys in
     let x = c.args.name in
     rw c.in_ok-place.ensures.keys (record {
-      atoms = insert_all_fit bytes_eq bytes_eq-Decides [] IsName xs x old.atoms c.requires;
+      atoms = insert_all_fit bytes_eq bytes_eq-Decides [] IsName xs x old.atoms c.requires.name;
       functors = λ f lt. let k = old.functors f lt in record { name = omega (arith, k.name, insert_longer bytes_eq bytes_eq-Decides [] xs x); some = k.some; most = k.most };
       atom_once = insert_once bytes_eq bytes_eq-Decides [] xs x old.atom_once;
       functor_once = old.functor_once;
