@@ -1,4 +1,4 @@
-use Rattle.std.proofs.Common.{◌∙◌, refl, sym, ap, arith}
+use Rattle.std.proofs.Common.{◌∙◌, refl, sym, ap, subst, arith}
 use Rattle.std.specs.Prelude.{nat_eq}
 use Rattle.plterm.specs.Indicators.{same_indicator}
 use Rattle.plclause.specs.Clause.{Clause}
@@ -47,7 +47,7 @@ returns-clause-chained c =
       since = since-kept c.args.pred (kept_in t) _ (record { at = x; update = put_update f clause }) _ E _ c.requires.chained.since c.add-by_procedure.ensures.ends (since-grown f n x.place (E c.args.pred))
           (λ p. put-names f clause p ∙ ap (λ q. same_indicator q p) (sym c.requires.pred)) (put-kept f x clause t.records.items t.declared.items c.push.new.self.items c.in-Ok.ensures.items);
       keyed = λ k. subst AreKeyed (sym c.in-Ok.ensures.items)
-          (keyed-put x clause f t.records.items (c.requires.chained.keyed (c.unkeyed_with.ensures.before k)) (own-key c.new-slots.result.hasher clause _ _ (c.root.ensures ∙ c.head.ensures.value) c.of_head-slot.ensures (c.unkeyed_with.ensures.this k)));
+          (keyed-put x clause f t.records.items (c.requires.chained.keyed (c.unkeyed_with-tables.ensures.before k)) (own-key c.new-slots.result.hasher clause _ _ (c.root.ensures ∙ c.head.ensures.value) c.of_head-slot.ensures (c.unkeyed_with-tables.ensures.this k)));
     }
 
 pub returns-clause-room : goal.returns-clause-room
@@ -91,5 +91,5 @@ returns-clause-was c =
       };
       slots = at-set nat_eq nat-same s (nat-self s) c.add-by_slot.result (ends_after f n b (F s)) F (ends_in nat_eq c.add-by_slot.new.index) e c.add-by_slot.ensures.ends
           (λ h. earlier-some (F s).since b (sym (since-grown f n b (F s)) ∙ h));
-      unkeyed = c.unkeyed_with.ensures.before;
+      unkeyed = c.unkeyed_with-tables.ensures.before;
     }
