@@ -31,14 +31,12 @@ pub fn of_text(uses: Use, clause: &Clause) -> Result<Candidate, AllocError>
 }
 
 /// A clause that is alive as a candidate.
-pub fn of_name(uses: Use, name: ClauseName, clause: &Clause) -> Result<Candidate, AllocError>
-    ensures { IfOk result (λ x. x ≡ candidate_of uses (record { name = name; clause = clause.now })) }
+pub fn of_name(uses: Use, name: ClauseName, clause: Clause) -> Candidate
+    ensures { result ≡ candidate_of uses (record { name = name; clause = clause }) }
 {
-    let clause = clause.copied()?;
-    let erased = erased_for(uses, name);
-    Ok(Candidate {
+    Candidate {
         clause,
         uses,
-        erased,
-    })
+        erased: erased_for(uses, name),
+    }
 }

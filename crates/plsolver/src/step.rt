@@ -118,8 +118,8 @@ impl Progress {
     {
         match view.clause(self.own(), name) {
             Told::Clause(clause) => {
-                let candidate = candidate::of_name(uses, name, clause)?;
-                Ok(Known::Is(candidate))
+                let clause = clause.copied()?;
+                Ok(Known::Is(candidate::of_name(uses, name, clause)))
             }
             Told::Nothing => Ok(Known::Gone),
             Told::Asks => Ok(Known::Asks),

@@ -288,7 +288,7 @@ impl Progress {
             self.machine.stack.go_on_walk(rest);
             return Ok(());
         };
-        let next = candidate::of_name(at.walk.uses, name, &clause)?;
+        let next = candidate::of_name(at.walk.uses, name, clause);
         let Some(entered) = self.machine.stack.try_walk(&next, rest)? else {
             return Ok(());
         };

@@ -50,12 +50,12 @@ returns-in_default-2-clause-ok c = λ P v g x y.
     let k = c.in-Known in
     let db = database_of P v s.layer.own.updates in
     let some = sought-known v s.layer.own.updates g k.view x k.name y k.ahead c.args.clause (sym at ∙ k.is) untouched is ∙ c.in-Some-clause.is in
-    let finds = clause-found db w (value s.stack.env.heap w.goal) k.view k.name k.ahead c.in-Some-clause.clause c.in_ok-next.next k.is some c.in_ok-next.ensures in
+    let finds = clause-found db w (value s.stack.env.heap w.goal) k.view k.name k.ahead c.in-Some-clause.clause c.of_name-next.result k.is some c.of_name-next.ensures in
     record {
       used = refl;
       limit = refl;
       rest = went-on P v s c.try_walk.new.self c.requires.fails
-          ((rw c.in_default-2.is at c.in_ok-entered.ensures.none) q w there db (subst (Finds db w (value s.stack.env.heap w.goal) c.in_ok-next.next) (sym c.spot_ahead-rest.ensures) finds));
+          ((rw c.in_default-2.is at c.in_ok-entered.ensures.none) q w there db (subst (Finds db w (value s.stack.env.heap w.goal) c.of_name-next.result) (sym c.spot_ahead-rest.ensures) finds));
     })
 
 pub returns-clause-ok : goal.returns-clause-ok
@@ -69,13 +69,13 @@ returns-clause-ok c = λ P v g x y.
     let k = c.in-Known in
     let db = database_of P v s.layer.own.updates in
     let some = sought-known v s.layer.own.updates g k.view x k.name y k.ahead c.args.clause (sym at ∙ k.is) untouched is ∙ c.in-Some-clause.is in
-    let finds = clause-found db w (value s.stack.env.heap w.goal) k.view k.name k.ahead c.in-Some-clause.clause c.in_ok-next.next k.is some c.in_ok-next.ensures in
+    let finds = clause-found db w (value s.stack.env.heap w.goal) k.view k.name k.ahead c.in-Some-clause.clause c.of_name-next.result k.is some c.of_name-next.ensures in
     record {
       used = refl;
       limit = refl;
       rest = λ most left answers.
           went-into P v c.args.self.now st c.in-Some-2.entered.erased c.requires.fails c.try_walk.ensures.basis
-          ((rw c.in-Some-2.is at c.in_ok-entered.ensures.some) q w there db (subst (Finds db w (value s.stack.env.heap w.goal) c.in_ok-next.next) (sym c.spot_ahead-rest.ensures) finds)) most left answers
+          ((rw c.in-Some-2.is at c.in_ok-entered.ensures.some) q w there db (subst (Finds db w (value s.stack.env.heap w.goal) c.of_name-next.result) (sym c.spot_ahead-rest.ensures) finds)) most left answers
           ∙ ap (λ m. now P v (record s { stack = st; mode = m }) most left answers) (sym c.mode_of.ensures);
     })
 
