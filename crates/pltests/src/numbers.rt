@@ -10,7 +10,7 @@ fn number_of(alloc: Global, names: &mut Names, text: &str) -> Result<u32, AllocE
     if name.len() > 65535 {
         return Err(AllocError);
     }
-    names.atom(name)
+    names.atom(&name)
 }
 
 /// The number of a short name, that of its functor of two arguments, and whether this stands for that functor.
@@ -23,7 +23,7 @@ fn functor_of(
     if name.len() > 65535 {
         return Err(AllocError);
     }
-    let name = names.atom(name)?;
+    let name = names.atom(&name)?;
     let functor = Functor { name, arity: 2 };
     let number = names.functor(functor)?;
     Ok((name, number, names.functor_of(number) == functor))
