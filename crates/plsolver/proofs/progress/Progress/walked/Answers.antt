@@ -38,7 +38,7 @@ returns-in_default-clause-clause-ok c = λ P v g x y.
 
 pub returns-in_err-entered-clause-err : goal.returns-in_err-entered-clause-err
 returns-in_err-entered-clause-err c =
-    on_err c.from_residual-in_err-entered.result (λ P. stays-back P c.args.self.now c.try_walk.new.self outcomes.Fail c.requires.fails c.try_walk.ensures.basis c.in_err-entered.ensures.err_walks c.in_err-entered.ensures.err)
+    on_err c.from_residual.result (λ P. stays-back P c.args.self.now c.try_walk.new.self outcomes.Fail c.requires.fails c.try_walk.ensures.basis c.in_err-entered.ensures.err_walks c.in_err-entered.ensures.err)
 
 pub returns-in_default-2-clause-ok : goal.returns-in_default-2-clause-ok
 returns-in_default-2-clause-ok c = λ P v g x y.
