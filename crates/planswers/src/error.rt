@@ -69,7 +69,7 @@ pub fn atom_error(alloc: Global, heap: &Heap, v: Cell) -> Result<Option<Term>, A
     requires { IsValue heap.now v }
     ensures { IfOk result (λ error. error ≡ atom_error (value heap.now v)) }
 {
-    match shape_of(heap, v) {
+    match shape_of(heap, &v) {
         Shape::Variable(_) | Shape::Atom(_) => Ok(None),
         _ => Ok(Some(type_error(alloc, heap, "atom", v)?)),
     }

@@ -38,12 +38,12 @@ pub enum Checked {
 }
 
 /// The first element of a list, and what stands behind it.
-pub fn cell_of(heap: &Heap, v: Cell) -> Option<(Cell, Cell)>
-    requires { IsValue heap.now v }
-    ensures some { IfSome result (λ c. IsCell heap.now (value heap.now v) c.0 c.1) }
-    ensures none { IfNone result (elements_in_term (value heap.now v) ≡ ends (tail_at (value heap.now v))) }
+pub fn cell_of(heap: &Heap, v: &Cell) -> Option<(Cell, Cell)>
+    requires { IsValue heap.now v.now }
+    ensures some { IfSome result (λ c. IsCell heap.now (value heap.now v.now) c.0 c.1) }
+    ensures none { IfNone result (elements_in_term (value heap.now v.now) ≡ ends (tail_at (value heap.now v.now))) }
 {
-    let Cell::Str(p) = heap.root(v) else {
+    let Cell::Str(p) = heap.root(*v) else {
         return None;
     };
     let (f, arity) = heap.block(p);
@@ -53,16 +53,16 @@ pub fn cell_of(heap: &Heap, v: Cell) -> Option<(Cell, Cell)>
     let functor = heap.names().functor_of(f);
     let name = heap.names().atom_name(functor.name);
     if name.as_str() == "." {
-        Some((heap.argument(p + 1), heap.argument(p + 2)))
+        Some((heap.argument(p.arg(1)), heap.argument(p.arg(2))))
     } else {
         None
     }
 }
 
 /// What a term without elements is, as the tail of a list.
-pub fn tail_of(heap: &Heap, v: Cell) -> Tail
-    requires { IsValue heap.now v }
-    ensures { tail_as result ≡ tail_at (value heap.now v) }
+pub fn tail_of(heap: &Heap, v: &Cell) -> Tail
+    requires { IsValue heap.now v.now }
+    ensures { tail_as result ≡ tail_at (value heap.now v.now) }
 {
     match shape_of(heap, v) {
         Shape::Variable(_) => Tail::Unbound,
@@ -77,10 +77,10 @@ pub fn end_of(heap: &Heap, v: Cell) -> Tail
     ensures { tail_as result ≡ (elements_in_term (value heap.now v)).tail }
 {
     let mut rest = v;
-    while let Some((_, tail)) = cell_of(heap, rest) {
+    while let Some((_, tail)) = cell_of(heap, &rest) {
         rest = tail;
     }
-    tail_of(heap, rest)
+    tail_of(heap, &rest)
 }
 
 /// Whether the term of a value is a list, or may become one as its end is a variable. It takes time linear in the elements.
@@ -102,32 +102,32 @@ pub fn elements_of(alloc: Global, heap: &Heap, v: Cell) -> Result<Elements, Allo
 {
     let mut items = Vec::new(alloc);
     let mut rest = v;
-    while let Some((first, tail)) = cell_of(heap, rest) {
+    while let Some((first, tail)) = cell_of(heap, &rest) {
         items.push(first)?;
         rest = tail;
     }
-    let tail = tail_of(heap, rest);
+    let tail = tail_of(heap, &rest);
     Ok(Elements { items, tail })
 }
 
 /// The elements of a list, or the error of a term that is none: a variable in its place is looked for first.
-pub fn whole_list(alloc: Global, heap: &Heap, v: Cell) -> Result<Checked, AllocError>
-    requires { IsValue heap.now v }
-    ensures is { IfOk result (λ c. checked_as heap.now c ≡ checked_of (value heap.now v)) }
+pub fn whole_list(alloc: Global, heap: &Heap, v: &Cell) -> Result<Checked, AllocError>
+    requires { IsValue heap.now v.now }
+    ensures is { IfOk result (λ c. checked_as heap.now c ≡ checked_of (value heap.now v.now)) }
     ensures there { IfOk result (AreThere heap.now) }
 {
-    let Elements { items, tail } = elements_of(alloc, heap, v)?;
+    let Elements { items, tail } = elements_of(alloc, heap, *v)?;
     match tail {
         Tail::Empty => Ok(Checked::Whole(items)),
         Tail::Unbound => Ok(Checked::Amiss(instantiation_error(alloc)?)),
-        Tail::Other => Ok(Checked::Amiss(type_error(alloc, heap, "list", v)?)),
+        Tail::Other => Ok(Checked::Amiss(type_error(alloc, heap, "list", *v)?)),
     }
 }
 
 /// Whether a value is an unbound variable.
-pub fn is_variable(heap: &Heap, v: Cell) -> bool
-    requires { IsValue heap.now v }
-    ensures { result ≡ is_variable_of (value heap.now v) }
+pub fn is_variable(heap: &Heap, v: &Cell) -> bool
+    requires { IsValue heap.now v.now }
+    ensures { result ≡ is_variable_of (value heap.now v.now) }
 {
     matches!(shape_of(heap, v), Shape::Variable(_))
 }
@@ -146,7 +146,7 @@ fn any_variable(heap: &Heap, items: &[Cell]) -> bool
     ensures { result ≡ list_any is_variable_of (map (value heap.now) items.now) }
 {
     for v in items {
-        if is_variable(heap, *v) {
+        if is_variable(heap, v) {
             return true;
         }
     }

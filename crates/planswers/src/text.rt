@@ -29,14 +29,14 @@ pub fn text_in(
 {
     let mut text = String::new(alloc);
     let mut rest = v;
-    while let Some((first, tail)) = cell_of(heap, rest) {
+    while let Some((first, tail)) = cell_of(heap, &rest) {
         match character_of(alloc, heap, k, first)? {
             Ok(c) => text.push(c)?,
             Err(error) => return Ok(Err(error)),
         }
         rest = tail;
     }
-    match tail_of(heap, rest) {
+    match tail_of(heap, &rest) {
         Tail::Empty => Ok(Ok(text)),
         Tail::Unbound => Ok(Err(instantiation_error(alloc)?)),
         Tail::Other => Ok(Err(type_error(alloc, heap, "list", v)?)),
@@ -53,7 +53,7 @@ pub fn character_of(
     requires { IsValue heap.now v }
     ensures { IfOk result (λ c. c ≡ character_in k (value heap.now v)) }
 {
-    match (k, shape_of(heap, v)) {
+    match (k, shape_of(heap, &v)) {
         (_, Shape::Variable(_)) => Ok(Err(instantiation_error(alloc)?)),
         (Spelling::Characters, Shape::Atom(name)) => {
             match one_character(heap.names().atom_name(name).as_str()) {

@@ -10,10 +10,11 @@ use crate::evaluate::evaluate;
 use crate::operand::{Opened, Operand, Operands};
 use plcells::cell::Cell;
 use plcells::heap::Heap;
+use plcells::id::CellId;
 use std::alloc::{AllocError, Global};
 
 /// A compound on the heap.
-fn open_block(heap: &Heap, p: u32) -> Result<Opened, AllocError>
+fn open_block(heap: &Heap, p: CellId) -> Result<Opened, AllocError>
     requires within { p < length heap.now.cells }
     requires head { IsHead (at heap.now.cells p) }
     ensures { IfOk result (Opens (tree heap.now) (IsOperand heap.now) (term heap.now p)) }
@@ -22,10 +23,10 @@ fn open_block(heap: &Heap, p: u32) -> Result<Opened, AllocError>
     let functor = heap.names().functor_of(f);
     let name = heap.names().atom_name(functor.name);
     match arity {
-        1 => Opened::of_one(name, Operand::Value(heap.argument(p + 1))),
+        1 => Opened::of_one(name, Operand::Value(heap.argument(p.arg(1)))),
         2 => {
-            let left = Operand::Value(heap.argument(p + 1));
-            let right = Operand::Value(heap.argument(p + 2));
+            let left = Operand::Value(heap.argument(p.arg(1)));
+            let right = Operand::Value(heap.argument(p.arg(2)));
             Opened::of_two(name, left, right)
         }
         _ => Opened::unknown(name, arity),

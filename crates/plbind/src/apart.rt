@@ -8,6 +8,7 @@ ghost use Rattle.plcells.specs.Store.{terms, value, IsBlock, IsEnd, IsValue};
 
 use plcells::cell::Cell;
 use plcells::heap::Heap;
+use plcells::id::CellId;
 use plterm::name::Name;
 use plterm::walk::{Shape, TermRef, Terms};
 
@@ -34,7 +35,7 @@ fn is_integer_apart(number: i64, term: &TermRef<'_>) -> bool
 }
 
 /// Whether a compound is apart from a term, as far as its name and its arguments need not be looked at.
-fn is_compound_apart(heap: &Heap, p: u32, term: &TermRef<'_>) -> bool
+fn is_compound_apart(heap: &Heap, p: CellId, term: &TermRef<'_>) -> bool
     requires { IsValue heap.now (StrCell p) }
     ensures { result ≡ true → AreApart (value heap.now (StrCell p)) term.now }
 {
@@ -57,7 +58,7 @@ fn is_root_apart(heap: &Heap, v: Cell, term: &TermRef<'_>) -> bool
 }
 
 /// Whether an argument of a block, of which there are so many, is apart from the term in its place.
-fn are_arguments_apart(heap: &Heap, p: u32, count: u16, args: Terms<'_>) -> bool
+fn are_arguments_apart(heap: &Heap, p: CellId, count: u16, args: Terms<'_>) -> bool
     requires { (f : ℕ) × IsBlock heap.now p f count }
     ensures { result ≡ true → ListsApart (terms heap.now (p + 1) count) args.entry }
 {
@@ -66,7 +67,7 @@ fn are_arguments_apart(heap: &Heap, p: u32, count: u16, args: Terms<'_>) -> bool
         let Some(arg) = args.next_term() else {
             return false;
         };
-        let root = heap.root(heap.argument(p + 1 + u32::from(i)));
+        let root = heap.root(heap.argument(p.arg(1).after(u32::from(i))));
         if is_root_apart(heap, root, &arg) {
             return true;
         }

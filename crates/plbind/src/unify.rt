@@ -9,15 +9,16 @@ ghost use Rattle.plcells.specs.Store.{term, value, IsValue, IsEnd, IsInteger};
 
 use plcells::cell::Cell;
 use plcells::heap::Heap;
+use plcells::id::CellId;
 use std::alloc::{AllocError, Global};
 
 /// What two values are, where references end.
 #[derive(Clone, Copy)]
 pub enum Kind {
-    Variables(u32, u32),
+    Variables(CellId, CellId),
     /// The variable of a cell, and what it has to stand for.
-    Binding(u32, Cell),
-    Blocks(u32, u32),
+    Binding(CellId, Cell),
+    Blocks(CellId, CellId),
     Integers,
     Same,
     Clash,
@@ -29,30 +30,30 @@ pub enum Verdict {
     Same,
     Clash,
     /// The variable of the cell stands for the value.
-    Binds(u32, Cell),
+    Binds(CellId, Cell),
     /// The blocks' arguments, so many behind each.
-    Args(u32, u32, u16),
+    Args(CellId, CellId, u16),
 }
 
 /// A variable and another value.
 #[inline(always)]
-fn beside(x: u32, v: Cell) -> Kind
-    ensures { result ≡ kind_of (RefCell x) v }
+fn beside(x: CellId, v: &Cell) -> Kind
+    ensures { result ≡ kind_of (RefCell x) v.now }
 {
-    if let Cell::Ref(y) = v {
+    if let Cell::Ref(y) = *v {
         Kind::Variables(x, y)
     } else {
-        Kind::Binding(x, v)
+        Kind::Binding(x, *v)
     }
 }
 
 /// An atom and what is no variable.
 #[inline(always)]
-fn beside_atom(f: u32, v: Cell) -> Kind
-    requires { (j : ℕ) → v ≡ RefCell j → ⊥ }
-    ensures { result ≡ kind_of (AtomCell f) v }
+fn beside_atom(f: u32, v: &Cell) -> Kind
+    requires { (j : ℕ) → v.now ≡ RefCell j → ⊥ }
+    ensures { result ≡ kind_of (AtomCell f) v.now }
 {
-    match v {
+    match *v {
         Cell::Atom(g) => if f == g { Kind::Same } else { Kind::Clash },
         _ => Kind::Clash,
     }
@@ -60,11 +61,11 @@ fn beside_atom(f: u32, v: Cell) -> Kind
 
 /// A compound and what is no variable.
 #[inline(always)]
-fn beside_block(p: u32, v: Cell) -> Kind
-    requires { (j : ℕ) → v ≡ RefCell j → ⊥ }
-    ensures { result ≡ kind_of (StrCell p) v }
+fn beside_block(p: CellId, v: &Cell) -> Kind
+    requires { (j : ℕ) → v.now ≡ RefCell j → ⊥ }
+    ensures { result ≡ kind_of (StrCell p) v.now }
 {
-    match v {
+    match *v {
         Cell::Str(q) => Kind::Blocks(p, q),
         _ => Kind::Clash,
     }
@@ -72,27 +73,27 @@ fn beside_block(p: u32, v: Cell) -> Kind
 
 /// Whether a value is an integer.
 #[inline(always)]
-fn is_integer(v: Cell) -> bool
-    ensures { IsTrue result ↔ IsInteger v }
+fn is_integer(v: &Cell) -> bool
+    ensures { IsTrue result ↔ IsInteger v.now }
 {
     matches!(v, Cell::Int(_) | Cell::Wide(_))
 }
 
 /// What two values are, where references end.
 #[inline(always)]
-fn sort(a: Cell, b: Cell) -> Kind
-    ensures { result ≡ kind_of a b }
+fn sort(a: &Cell, b: &Cell) -> Kind
+    ensures { result ≡ kind_of a.now b.now }
 {
-    if let Cell::Ref(x) = a {
+    if let Cell::Ref(x) = *a {
         return beside(x, b);
     }
-    if let Cell::Ref(y) = b {
-        return Kind::Binding(y, a);
+    if let Cell::Ref(y) = *b {
+        return Kind::Binding(y, *a);
     }
     if is_integer(a) && is_integer(b) {
         return Kind::Integers;
     }
-    match a {
+    match *a {
         Cell::Str(p) => beside_block(p, b),
         Cell::Atom(f) => beside_atom(f, b),
         _ => Kind::Clash,
@@ -100,7 +101,12 @@ fn sort(a: Cell, b: Cell) -> Kind
 }
 
 /// Puts the pairs of two runs of cells on the list, the first one on top.
-fn push_pairs(work: &mut Vec<(u32, u32)>, a: u32, b: u32, k: u16) -> Result<(), AllocError>
+fn push_pairs(
+    work: &mut Vec<(CellId, CellId)>,
+    a: CellId,
+    b: CellId,
+    k: u16,
+) -> Result<(), AllocError>
     requires left { a + k < 2 ^ 32 }
     requires right { b + k < 2 ^ 32 }
     ensures { OnOk result (work.new.items ≡ work.old.items ++ pairs a b k) }
@@ -108,14 +114,14 @@ fn push_pairs(work: &mut Vec<(u32, u32)>, a: u32, b: u32, k: u16) -> Result<(), 
     let mut i = u32::from(k);
     while i > 0 {
         i -= 1;
-        work.push((a + i, b + i))?;
+        work.push((a.after(i), b.after(i)))?;
     }
     Ok(())
 }
 
 /// Of two variables the younger has to stand for the older.
 #[inline(always)]
-fn judge_variables(heap: &Heap, x: u32, y: u32) -> Verdict
+fn judge_variables(heap: &Heap, x: CellId, y: CellId) -> Verdict
     requires left { IsEnd heap.now (RefCell x) }
     requires right { IsEnd heap.now (RefCell y) }
     requires fits { IsValue heap.now (RefCell x) × IsValue heap.now (RefCell y) }
@@ -133,7 +139,7 @@ fn judge_variables(heap: &Heap, x: u32, y: u32) -> Verdict
 
 /// Two compounds have one functor and one term for each argument, or differ for good.
 #[inline(always)]
-fn judge_blocks(heap: &Heap, p: u32, q: u32) -> Verdict
+fn judge_blocks(heap: &Heap, p: CellId, q: CellId) -> Verdict
     requires left { IsValue heap.now (StrCell p) }
     requires right { IsValue heap.now (StrCell q) }
     ensures { Says heap.now (term heap.now p) (term heap.now q) result }
@@ -166,7 +172,7 @@ fn compare(heap: &Heap, a: Cell, b: Cell) -> Verdict
 {
     let v = heap.root(a);
     let w = heap.root(b);
-    match sort(v, w) {
+    match sort(&v, &w) {
         Kind::Variables(x, y) => judge_variables(heap, x, y),
         Kind::Binding(x, t) => Verdict::Binds(x, t),
         Kind::Blocks(p, q) => judge_blocks(heap, p, q),
@@ -181,15 +187,15 @@ fn compare(heap: &Heap, a: Cell, b: Cell) -> Verdict
 }
 
 /// Takes pairs apart, up to a variable that has to stand for a value.
-fn descend(heap: &Heap, work: &mut Vec<(u32, u32)>) -> Result<Verdict, AllocError>
+fn descend(heap: &Heap, work: &mut Vec<(CellId, CellId)>) -> Result<Verdict, AllocError>
     requires { IsInside heap.now work.old.items }
     ensures inside { OnOk result (IsInside heap.now work.new.items) }
     ensures leaves { IfOk result (λ v. Leaves heap.now work.old.items work.new.items v) }
 {
-    while let Some((a, b)) = work.pop() {
-        match compare(heap, heap.argument(a), heap.argument(b)) {
+    while let Some(pair) = work.pop() {
+        match compare(heap, heap.argument(pair.0), heap.argument(pair.1)) {
             Verdict::Same => {}
-            Verdict::Args(p, q, k) => push_pairs(work, p + 1, q + 1, k)?,
+            Verdict::Args(p, q, k) => push_pairs(work, p.arg(1), q.arg(1), k)?,
             Verdict::Clash => return Ok(Verdict::Clash),
             Verdict::Binds(x, v) => return Ok(Verdict::Binds(x, v)),
         }
@@ -199,12 +205,17 @@ fn descend(heap: &Heap, work: &mut Vec<(u32, u32)>) -> Result<Verdict, AllocErro
 
 /// Binds the variable of a cell, unless it stands in the value's term.
 #[inline(always)]
-fn bind_apart(heap: &mut Heap, stack: &mut Vec<u32>, x: u32, v: Cell) -> Result<bool, AllocError>
+fn bind_apart(
+    heap: &mut Heap,
+    stack: &mut Vec<CellId>,
+    x: CellId,
+    v: Cell,
+) -> Result<bool, AllocError>
     requires { (n : ℕ) × IsNear heap.old x v n }
     ensures ok { IfOk result (λ r. (n : ℕ) → IsNear heap.old x v n → Bindings heap.old heap.new v n r) }
     ensures err { OnErr result (heap.new ≡ heap.old) }
 {
-    if heap.occurs(stack, x, v)? {
+    if heap.occurs(stack, x, &v)? {
         return Ok(false);
     }
     heap.bind(x, v)?;
@@ -214,8 +225,8 @@ fn bind_apart(heap: &mut Heap, stack: &mut Vec<u32>, x: u32, v: Cell) -> Result<
 /// Room for the work of a unification, which keeps its memory between calls.
 #[derive(Drop)]
 pub struct Scratch {
-    work: Vec<(u32, u32)>,
-    stack: Vec<u32>,
+    work: Vec<(CellId, CellId)>,
+    stack: Vec<CellId>,
 }
 
 impl Scratch {
@@ -271,7 +282,7 @@ pub fn unify_in_choice(
         Verdict::Binds(x, v) => bind_apart(heap, &mut scratch.stack, x, v),
         Verdict::Args(p, q, k) => {
             scratch.work.clear();
-            push_pairs(&mut scratch.work, p + 1, q + 1, k)?;
+            push_pairs(&mut scratch.work, p.arg(1), q.arg(1), k)?;
             solve(heap, scratch)
         }
     }

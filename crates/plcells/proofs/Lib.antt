@@ -17,3 +17,4 @@ pub mod Nodes
 pub mod Putting
 pub mod Marking
 pub mod Cuts
+pub mod Ids

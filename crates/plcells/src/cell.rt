@@ -1,22 +1,24 @@
 //! The cells.
 
+use crate::id::{CellId, NumberPlace, WidePlace};
+
 /// A cell, of 8 bytes. No kind of cell holds more than one number.
 #[derive(Clone, Copy)]
 pub enum Cell {
     /// An unbound variable, by the place of its number.
-    Free(u32),
+    Free(NumberPlace),
     /// An unbound variable to which no other cell refers.
-    Lone(u32),
+    Lone(NumberPlace),
     /// The term of another cell, which is no block.
-    Ref(u32),
+    Ref(CellId),
     /// An integer of 32 bits.
     Int(i32),
     /// An integer, by its place among the wide ones.
-    Wide(u32),
+    Wide(WidePlace),
     /// An atom, by the number of its name.
     Atom(u32),
     /// The compound whose block begins at a cell.
-    Str(u32),
+    Str(CellId),
     /// The first cell of a block: a functor by its number. The arguments are the cells behind it.
     Fun(u32),
     /// The same, of a compound in which no variable can stand, now and later.
@@ -35,8 +37,8 @@ pub enum Argument {
 /// A variable that was bound: its cell, and the place of its number.
 #[derive(Clone, Copy)]
 pub struct Trailed {
-    pub cell: u32,
-    pub place: u32,
+    pub cell: CellId,
+    pub place: NumberPlace,
 }
 
 /// How much of a heap there was.

@@ -14,6 +14,7 @@ ghost use Rattle.plcells.specs.Committing.{older, Commits};
 ghost use Rattle.plcells.specs.Putting.{IsFunctorNamed, AreGiven};
 
 use crate::cell::{Argument, Cell, Mark, Trailed};
+use crate::id::{CellId, NumberPlace, WidePlace};
 use platoms::names::{Functor, Names};
 use plterm::name::Name;
 use std::alloc::{AllocError, Global};
@@ -26,7 +27,7 @@ pub struct Heap {
     numbers: Vec<u64>,
     wide: Vec<i64>,
     trail: Vec<Trailed>,
-    closed: Vec<u32>,
+    closed: Vec<CellId>,
     boundary: usize,
     names: Names,
 }
@@ -45,7 +46,7 @@ impl Model for Heap {
 
 /// Where a cell is an unbound variable, the place of its number.
 #[inline(always)]
-fn place_of(cell: Cell) -> Option<u32>
+fn place_of(cell: Cell) -> Option<NumberPlace>
     ensures some { (p : ℕ) → result ≡ Some p → plain cell ≡ FreeCell p }
     ensures none { result ≡ None → (p : ℕ) → plain cell ≡ FreeCell p → ⊥ }
 {
@@ -57,26 +58,26 @@ fn place_of(cell: Cell) -> Option<u32>
 
 /// From now on a cell refers to what a value refers to: its variable is lone no more.
 #[inline(always)]
-fn embed(cells: &mut Vec<Cell>, v: Cell)
-    requires { IsPlaced (length cells.old.items) v }
+fn embed(cells: &mut Vec<Cell>, v: &Cell)
+    requires { IsPlaced (length cells.old.items) v.now }
     ensures same { map plain cells.new.items ≡ map plain cells.old.items }
     ensures was { (d p : ℕ) → at cells.new.items d ≡ LoneCell p → at cells.old.items d ≡ LoneCell p }
-    ensures lone { (d p : ℕ) → at cells.new.items d ≡ LoneCell p → v ≡ RefCell d → ⊥ }
+    ensures lone { (d p : ℕ) → at cells.new.items d ≡ LoneCell p → v.now ≡ RefCell d → ⊥ }
 {
-    let Cell::Ref(c) = v else { return };
-    if let Cell::Lone(place) = cells[c as usize] {
-        cells[c as usize] = Cell::Free(place);
+    let Cell::Ref(c) = *v else { return };
+    if let Cell::Lone(place) = cells[c.place()] {
+        cells[c.place()] = Cell::Free(place);
     }
 }
 
 /// Takes off the numbers above a cell, which stand last.
-fn drop_above(closed: &mut Vec<u32>, x: usize)
+fn drop_above(closed: &mut Vec<CellId>, x: usize)
     requires { AreRising closed.old.items }
     ensures kept { closed.new.items ≡ take (length closed.new.items) closed.old.items }
     ensures below { (k : ℕ) → k < length closed.new.items → get_or closed.new.items k 0 ≤ x }
 {
     for n in (0..closed.len()).rev() {
-        if closed[n] as usize <= x {
+        if closed[n].place() <= x {
             closed.truncate(n + 1);
             return;
         }
@@ -86,14 +87,14 @@ fn drop_above(closed: &mut Vec<u32>, x: usize)
 
 /// Takes off the numbers of prefixes that are closed no more where a cell comes to hold a value.
 #[inline(always)]
-fn reopen(closed: &mut Vec<u32>, x: u32, v: Cell)
+fn reopen(closed: &mut Vec<CellId>, x: CellId, v: &Cell)
     requires { AreRising closed.old.items }
     ensures kept { closed.new.items ≡ take (length closed.new.items) closed.old.items }
-    ensures below { (d : ℕ) → IsTarget v d → x < d → (k : ℕ) → k < length closed.new.items → get_or closed.new.items k 0 ≤ x }
+    ensures below { (d : ℕ) → IsTarget v.now d → x < d → (k : ℕ) → k < length closed.new.items → get_or closed.new.items k 0 ≤ x }
 {
-    match v {
+    match *v {
         Cell::Ref(c) | Cell::Str(c) => if c > x {
-            drop_above(closed, x as usize);
+            drop_above(closed, x.place());
         },
         _ => {}
     }
@@ -119,7 +120,7 @@ fn embed_all(cells: &mut Vec<Cell>, values: &[Cell])
     ensures lone { (d p : ℕ) → at cells.new.items d ≡ LoneCell p → (k : ℕ) → k < length values.now → at values.now k ≡ RefCell d → ⊥ }
 {
     for v in values {
-        embed(cells, *v);
+        embed(cells, v);
     }
 }
 
@@ -157,7 +158,7 @@ fn push_arguments(
             Argument::Variable(number) => {
                 let place = numbers.len();
                 numbers.push(*number)?;
-                cells.push(Cell::Free(place as u32))?;
+                cells.push(Cell::Free(NumberPlace::new(place)))?;
             }
         }
     }
@@ -212,7 +213,7 @@ fn embed_arguments(cells: &mut Vec<Cell>, arguments: &[Argument])
 {
     for a in arguments {
         if let Argument::Value(v) = a {
-            embed(cells, *v);
+            embed(cells, v);
         }
     }
 }
@@ -230,23 +231,23 @@ fn push_variable(
 {
     let place = numbers.len();
     numbers.push(number)?;
-    if cells.push(Cell::Lone(place as u32)).is_err() {
+    if cells.push(Cell::Lone(NumberPlace::new(place))).is_err() {
         numbers.truncate(place);
         return Err(AllocError);
     }
     Ok(())
 }
 
-/// Notes that the cells so far refer to one another alone, where the last such note is some way below.
-fn close(closed: &mut Vec<u32>, count: u32) -> Result<(), AllocError>
+/// Notes that the cells below one refer to one another alone, where the last such note is some way below.
+fn close(closed: &mut Vec<CellId>, next: CellId) -> Result<(), AllocError>
     requires { AreRising closed.old.items }
-    ensures { IsClosing closed.old.items closed.new.items count }
+    ensures { IsClosing closed.old.items closed.new.items next }
 {
     let n = closed.len();
-    if n > 0 && (count < 64 || closed[n - 1] > count - 64) {
+    if n > 0 && next.place() < closed[n - 1].place() + 64 {
         return Ok(());
     }
-    closed.push(count)?;
+    closed.push(next)?;
     Ok(())
 }
 
@@ -261,7 +262,7 @@ fn take_off(cells: &mut Vec<Cell>, trail: &mut Vec<Trailed>, keep: usize)
         let Some(bound) = trail.pop() else {
             unreachable!()
         };
-        cells[bound.cell as usize] = Cell::Free(bound.place);
+        cells[bound.cell.place()] = Cell::Free(bound.place);
     }
 }
 
@@ -273,7 +274,7 @@ fn move_older(trail: &mut [Trailed], cells: usize) -> usize
     let mut kept: usize = 0;
     for i in 0..trail.len() {
         let bound = trail[i];
-        if (bound.cell as usize) < cells {
+        if bound.cell.place() < cells {
             trail[kept] = bound;
             kept += 1;
         }
@@ -316,6 +317,15 @@ impl Heap {
         ensures { result ≡ length self.now.cells }
     {
         self.cells.len()
+    }
+
+    /// The cell that comes next.
+    #[inline(always)]
+    pub fn next(&self) -> CellId
+        ensures is { result ≡ length self.now.cells }
+        ensures heap { IsHeap self.now }
+    {
+        CellId::at(self.cells.len())
     }
 
     /// How many cells are old: a mark in use is not above.
@@ -373,14 +383,14 @@ impl Heap {
 
     /// A cell as a value: a variable's is the reference to it.
     #[inline(always)]
-    pub fn argument(&self, c: u32) -> Cell
+    pub fn argument(&self, c: CellId) -> Cell
         requires within { c < length self.now.cells }
         requires plain { IsHead (at self.now.cells c) → ⊥ }
         ensures fits { IsValue self.now result }
         ensures same { value self.now result ≡ term self.now c }
         ensures heap { IsHeap self.now }
     {
-        match self.cells[c as usize] {
+        match self.cells[c.place()] {
             Cell::Free(_) | Cell::Lone(_) => Cell::Ref(c),
             cell => cell,
         }
@@ -398,7 +408,7 @@ impl Heap {
         let mut w = v;
         loop {
             let Cell::Ref(c) = w else { return w };
-            match self.cells[c as usize] {
+            match self.cells[c.place()] {
                 Cell::Free(_) | Cell::Lone(_) => return w,
                 cell => w = cell,
             }
@@ -407,32 +417,33 @@ impl Heap {
 
     /// The number of an unbound variable.
     #[inline(always)]
-    pub fn number(&self, c: u32) -> u64
+    pub fn number(&self, c: CellId) -> u64
         requires { IsEnd self.now (RefCell c) }
         ensures is { term self.now c ≡ var result }
         ensures heap { IsHeap self.now }
     {
-        match place_of(self.cells[c as usize]) {
-            Some(place) => self.numbers[place as usize],
+        match place_of(self.cells[c.place()]) {
+            Some(place) => self.numbers[place.get()],
             None => unreachable!(),
         }
     }
 
     /// Binds the variable of a cell to a value.
     #[inline(always)]
-    pub fn bind(&mut self, x: u32, v: Cell) -> Result<(), AllocError>
+    pub fn bind(&mut self, x: CellId, v: Cell) -> Result<(), AllocError>
         requires { (p : ℕ) × IsBinding self.old x p v }
         ensures ok { (p : ℕ) → IsBinding self.old x p v → OnOk result (Binds self.old self.new (number_at self.old p) (value self.old v)) }
         ensures err { OnErr result (self.new ≡ self.old) }
     {
-        let Some(place) = place_of(self.cells[x as usize]) else {
+        let at = x.place();
+        let Some(place) = place_of(self.cells[at]) else {
             unreachable!()
         };
-        let is_old = (x as usize) < self.boundary;
+        let is_old = at < self.boundary;
         note(&mut self.trail, is_old, Trailed { cell: x, place })?;
-        embed(&mut self.cells, v);
-        self.cells[x as usize] = v;
-        reopen(&mut self.closed, x, v);
+        embed(&mut self.cells, &v);
+        reopen(&mut self.closed, x, &v);
+        self.cells[at] = v;
         Ok(())
     }
 
@@ -494,15 +505,15 @@ impl Heap {
 
     /// Whether no cell refers to an unbound variable, as is known of some.
     #[inline(always)]
-    pub(crate) fn is_lone(&self, x: u32) -> bool
+    pub(crate) fn is_lone(&self, x: CellId) -> bool
         requires { IsEnd self.now (RefCell x) }
         ensures { result ≡ true → (n c : ℕ) → term self.now x ≡ var n → c < length self.now.cells → (c ≡ x → ⊥) → occurs n (term self.now c) ≡ false }
     {
-        matches!(self.cells[x as usize], Cell::Lone(_))
+        matches!(self.cells[x.place()], Cell::Lone(_))
     }
 
     /// A number so that an unbound variable stands in none of the terms of the cells below.
-    pub(crate) fn floor(&self, x: u32) -> u32
+    pub(crate) fn floor(&self, x: CellId) -> CellId
         requires { IsEnd self.now (RefCell x) }
         ensures { IsFloor self.now x result }
     {
@@ -513,7 +524,7 @@ impl Heap {
                 return last;
             }
         }
-        let mut floor = 0;
+        let mut floor = CellId::at(0);
         let mut low = 0;
         let mut high = count;
         while low < high {
@@ -536,7 +547,7 @@ impl Heap {
     {
         match v {
             Cell::Int(_) | Cell::Wide(_) | Cell::Atom(_) => true,
-            Cell::Str(p) => matches!(self.cells[p as usize], Cell::Ground(_)),
+            Cell::Str(p) => matches!(self.cells[p.place()], Cell::Ground(_)),
             _ => false,
         }
     }
@@ -557,20 +568,20 @@ impl Heap {
     }
 
     /// How many arguments a block has in which variables can stand.
-    pub(crate) fn open_arity(&self, p: u32) -> Option<u16>
+    pub(crate) fn open_arity(&self, p: CellId) -> Option<u16>
         requires within { p < length self.now.cells }
         requires head { IsHead (at self.now.cells p) }
         ensures some { (k : ℕ) → result ≡ Some k → HasTerms self.now p k }
         ensures none { result ≡ None → (n : ℕ) → occurs n (term self.now p) ≡ false }
     {
-        match self.cells[p as usize] {
+        match self.cells[p.place()] {
             Cell::Fun(f) => Some(self.names.functor_of(f).arity),
             _ => None,
         }
     }
 
     /// A new variable, lone as yet, with a number that no variable of the heap has.
-    pub fn variable(&mut self, number: u64) -> Result<u32, AllocError>
+    pub fn variable(&mut self, number: u64) -> Result<CellId, AllocError>
         requires { IsFresh self.old number }
         ensures ok { IfOk result (λ c. AddsVariable self.old self.new c number) }
         ensures err { OnErr result (self.new ≡ self.old) }
@@ -580,15 +591,15 @@ impl Heap {
             return Err(AllocError);
         }
         push_variable(&mut self.cells, &mut self.numbers, number)?;
-        Ok(place as u32)
+        Ok(CellId::at(place))
     }
 
     /// Notes for the occurs check that the cells so far refer to one another alone, where the last such note is some way below. The terms stay as they are.
     pub fn note_closed(&mut self) -> Result<(), AllocError>
         ensures { self.new ≡ self.old }
     {
-        let count = self.cells.len();
-        close(&mut self.closed, count as u32)
+        let next = self.next();
+        close(&mut self.closed, next)
     }
 
     /// A new compound of these arguments.
@@ -606,12 +617,17 @@ impl Heap {
         }
         push_block(&mut self.cells, f, values)?;
         embed_all(&mut self.cells, values);
-        Ok(Cell::Str(place as u32))
+        Ok(Cell::Str(CellId::at(place)))
     }
 
     /// A new block of these arguments: its first cell. In a ground one no variable can stand, now and later.
     #[inline(always)]
-    pub fn build(&mut self, f: u32, ground: bool, arguments: &[Argument]) -> Result<u32, AllocError>
+    pub fn build(
+        &mut self,
+        f: u32,
+        ground: bool,
+        arguments: &[Argument],
+    ) -> Result<CellId, AllocError>
         requires functor { IsFunctorOf self.old.names f (length arguments.now) }
         requires parts { AreParts self.old arguments.now }
         requires numbers { AreDistinct (numbers_of arguments.now) }
@@ -628,7 +644,7 @@ impl Heap {
         let head = head_of(f, ground);
         push_parts(&mut self.cells, &mut self.numbers, head, arguments)?;
         embed_arguments(&mut self.cells, arguments);
-        Ok(place as u32)
+        Ok(CellId::at(place))
     }
 
     /// An integer as a value.
@@ -645,18 +661,18 @@ impl Heap {
             return Err(AllocError);
         }
         self.wide.push(number)?;
-        Ok(Cell::Wide(place as u32))
+        Ok(Cell::Wide(WidePlace::new(place)))
     }
 
     /// The functor of a block by its number, and how many arguments it has.
     #[inline(always)]
-    pub fn block(&self, p: u32) -> (u32, u16)
+    pub fn block(&self, p: CellId) -> (u32, u16)
         requires within { p < length self.now.cells }
         requires head { IsHead (at self.now.cells p) }
         ensures block { IsBlock self.now p result.0 result.1 }
         ensures heap { IsHeap self.now }
     {
-        match self.cells[p as usize] {
+        match self.cells[p.place()] {
             Cell::Fun(f) => (f, self.names.functor_of(f).arity),
             Cell::Ground(f) => (f, self.names.functor_of(f).arity),
             _ => unreachable!(),
@@ -671,7 +687,7 @@ impl Heap {
     {
         match v {
             Cell::Int(number) => i64::from(number),
-            Cell::Wide(p) => self.wide[p as usize],
+            Cell::Wide(p) => self.wide[p.get()],
             _ => unreachable!(),
         }
     }

@@ -6,6 +6,7 @@
 pub mod cell;
 pub mod equation;
 pub mod heap;
+pub mod id;
 pub mod occurs;
 pub mod put;
 pub mod take;

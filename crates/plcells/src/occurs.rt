@@ -9,12 +9,19 @@ ghost use Rattle.plcells.specs.Walking.{weight, weigh, occurs_any, AreBlocks, Is
 
 use crate::cell::Cell;
 use crate::heap::Heap;
+use crate::id::CellId;
 use std::alloc::AllocError;
 
 impl Heap {
     /// Looks at the arguments of a block for the variable of the cell `x`, and puts those blocks on the stack in which it may still stand: none below `floor`.
     #[inline(always)]
-    fn look(&self, stack: &mut Vec<u32>, x: u32, floor: u32, p: u32) -> Result<bool, AllocError>
+    fn look(
+        &self,
+        stack: &mut Vec<CellId>,
+        x: CellId,
+        floor: CellId,
+        p: CellId,
+    ) -> Result<bool, AllocError>
         requires variable { IsEnd self.now (RefCell x) }
         requires floor { IsFloor self.now x floor }
         requires within { p < length self.now.cells }
@@ -29,7 +36,7 @@ impl Heap {
             return Ok(false);
         };
         for j in 0..count {
-            match self.root(self.argument(p + 1 + u32::from(j))) {
+            match self.root(self.argument(p.arg(1 + u32::from(j)))) {
                 Cell::Ref(c) => if c == x {
                     return Ok(true);
                 },
@@ -44,7 +51,12 @@ impl Heap {
 
     /// Whether the variable of the cell `x` stands in the compound whose block begins at a cell.
     #[inline(always)]
-    fn occurs_below(&self, stack: &mut Vec<u32>, x: u32, p: u32) -> Result<bool, AllocError>
+    fn occurs_below(
+        &self,
+        stack: &mut Vec<CellId>,
+        x: CellId,
+        p: CellId,
+    ) -> Result<bool, AllocError>
         requires variable { IsEnd self.now (RefCell x) }
         requires within { p < length self.now.cells }
         requires head { IsHead (at self.now.cells p) }
@@ -72,13 +84,13 @@ impl Heap {
 
     /// Whether the variable of the cell `x` stands in the term of a value. What is known not to hold it is not walked.
     #[inline(always)]
-    pub fn occurs(&self, stack: &mut Vec<u32>, x: u32, v: Cell) -> Result<bool, AllocError>
+    pub fn occurs(&self, stack: &mut Vec<CellId>, x: CellId, v: &Cell) -> Result<bool, AllocError>
         requires variable { IsEnd self.now (RefCell x) }
-        requires fits { IsValue self.now v }
-        ensures is { IfOk result (λ r. (n : ℕ) → term self.now x ≡ var n → r ≡ occurs n (value self.now v)) }
+        requires fits { IsValue self.now v.now }
+        ensures is { IfOk result (λ r. (n : ℕ) → term self.now x ≡ var n → r ≡ occurs n (value self.now v.now)) }
         ensures heap { OnOk result (IsHeap self.now) }
     {
-        match self.root(v) {
+        match self.root(*v) {
             Cell::Ref(c) => Ok(c == x),
             Cell::Str(p) => self.occurs_below(stack, x, p),
             _ => Ok(false),

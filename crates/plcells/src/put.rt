@@ -12,13 +12,14 @@ ghost use Rattle.plcells.specs.Putting.{standing, AreGiven, HasValue, PutsNode, 
 
 use crate::cell::{Argument, Cell};
 use crate::heap::Heap;
+use crate::id::CellId;
 use plterm::node::Node;
 use plterm::term::Term;
 use std::alloc::{AllocError, Global};
 
 impl Heap {
     /// A new block of these values. It is ground where none of them is known to hold a variable.
-    pub fn put_block(&mut self, f: u32, values: &[Argument]) -> Result<u32, AllocError>
+    pub fn put_block(&mut self, f: u32, values: &[Argument]) -> Result<CellId, AllocError>
         requires functor { IsFunctorOf self.old.names f (length values.now) }
         requires given { AreGiven self.old values.now }
         ensures ok { IfOk result (λ p. AddsBlock self.old self.new p (functor_name self.old.names f) (map (stands_for self.old) values.now) []) }
@@ -29,7 +30,7 @@ impl Heap {
     }
 
     /// A new block of these values, of which the last one is the first argument.
-    fn put_reversed(&mut self, f: u32, values: &mut [Argument]) -> Result<u32, AllocError>
+    fn put_reversed(&mut self, f: u32, values: &mut [Argument]) -> Result<CellId, AllocError>
         requires functor { IsFunctorOf self.old.names f (length values.old) }
         requires given { AreGiven self.old (reverse values.old) }
         ensures ok { IfOk result (λ p. AddsBlock self.old self.new p (functor_name self.old.names f) (map (stands_for self.old) (reverse values.old)) []) }

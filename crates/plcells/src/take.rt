@@ -7,19 +7,20 @@ ghost use Rattle.plcells.specs.Walking.{run, IsTaken};
 
 use crate::cell::Cell;
 use crate::heap::Heap;
+use crate::id::CellId;
 use plterm::node::Node;
 use plterm::term::Term;
 use std::alloc::{AllocError, Global};
 
 /// Puts a run of cells on a stack, the first one on top.
-pub fn push_run(stack: &mut Vec<u32>, first: u32, count: u16) -> Result<(), AllocError>
+pub fn push_run(stack: &mut Vec<CellId>, first: CellId, count: u16) -> Result<(), AllocError>
     requires { first + count < 2 ^ 32 }
     ensures { OnOk result (stack.new.items ≡ stack.old.items ++ run first count) }
 {
     let mut i = u32::from(count);
     while i > 0 {
         i -= 1;
-        stack.push(first + i)?;
+        stack.push(first.after(i))?;
     }
     Ok(())
 }
@@ -28,7 +29,7 @@ pub fn push_run(stack: &mut Vec<u32>, first: u32, count: u16) -> Result<(), Allo
 fn take_value(
     heap: &Heap,
     nodes: &mut Vec<Node>,
-    stack: &mut Vec<u32>,
+    stack: &mut Vec<CellId>,
     v: Cell,
 ) -> Result<(), AllocError>
     requires { IsValue heap.now v }
@@ -45,7 +46,7 @@ fn take_value(
             let functor = heap.names().functor_of(f);
             let name = heap.names().atom_name(functor.name).copied()?;
             nodes.push(Node::Compound(name, count))?;
-            push_run(stack, p + 1, count)?;
+            push_run(stack, p.arg(1), count)?;
         }
         number => nodes.push(Node::Int(heap.integer_of(number)))?,
     }
@@ -58,7 +59,7 @@ impl Heap {
     pub fn take_nodes(
         &self,
         nodes: &mut Vec<Node>,
-        stack: &mut Vec<u32>,
+        stack: &mut Vec<CellId>,
         v: Cell,
     ) -> Result<(), AllocError>
         requires { IsValue self.now v }

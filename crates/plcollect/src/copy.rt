@@ -7,6 +7,7 @@ ghost use Rattle.plcollect.specs.Copies.{IsCopyOf};
 use crate::seen::Seen;
 use plcells::cell::Cell;
 use plcells::heap::Heap;
+use plcells::id::CellId;
 use plterm::node::Node;
 use std::alloc::{AllocError, Global};
 
@@ -15,7 +16,7 @@ use std::alloc::{AllocError, Global};
 #[derive(Drop)]
 pub struct Copier {
     pub(crate) nodes: Vec<Node>,
-    stack: Vec<u32>,
+    stack: Vec<CellId>,
     seen: Seen,
 }
 

@@ -5,6 +5,7 @@ ghost use Rattle.plenv.specs.Blocks.{part_at as part_at_slot, AddsNoCell, AreRea
 use crate::slot::Slot;
 use plcells::cell::{Argument, Cell};
 use plcells::heap::Heap;
+use plcells::id::CellId;
 use plcode::node::Node;
 use std::alloc::AllocError;
 
@@ -12,7 +13,7 @@ use std::alloc::AllocError;
 #[derive(Clone, Copy)]
 pub(crate) struct Run {
     pub(crate) from: u32,
-    pub(crate) start: u32,
+    pub(crate) start: CellId,
     pub(crate) base: u32,
 }
 
@@ -30,9 +31,9 @@ fn part_at(slots: &[Slot], slot: usize) -> Argument
 
 /// A node as an argument.
 #[inline(always)]
-fn part(heap: &mut Heap, slots: &[Slot], node: Node, run: Run) -> Result<Argument, AllocError>
-    requires { IsReady heap.old run node }
-    ensures ok { IfOk result (λ x. IsPart heap.new slots.now run node x) }
+fn part(heap: &mut Heap, slots: &[Slot], node: Node, run: &Run) -> Result<Argument, AllocError>
+    requires { IsReady heap.old run.now node }
+    ensures ok { IfOk result (λ x. IsPart heap.new slots.now run.now node x) }
     ensures grows { AddsNoCell heap.old heap.new }
 {
     match node {
@@ -42,7 +43,7 @@ fn part(heap: &mut Heap, slots: &[Slot], node: Node, run: Run) -> Result<Argumen
             Ok(Argument::Value(v))
         }
         Node::Atom(a) => Ok(Argument::Value(Cell::Atom(a))),
-        Node::Sub(_, root) => Ok(Argument::Value(Cell::Str(run.start + (root - run.from)))),
+        Node::Sub(_, root) => Ok(Argument::Value(Cell::Str(run.start.after(root - run.from)))),
         Node::Fun(_, _) => unreachable!(),
     }
 }
@@ -65,10 +66,10 @@ pub(crate) fn gather(
     block: &mut Vec<Argument>,
     slots: &[Slot],
     row: &[Node],
-    run: Run,
+    run: &Run,
 ) -> Result<Gathered, AllocError>
-    requires { AreReady heap.old run row.now }
-    ensures ok { IfOk result (λ g. IsGathered heap.new slots.now run row.now block.new.items g) }
+    requires { AreReady heap.old run.now row.now }
+    ensures ok { IfOk result (λ g. IsGathered heap.new slots.now run.now row.now block.new.items g) }
     ensures grows { AddsNoCell heap.old heap.new }
 {
     block.clear();

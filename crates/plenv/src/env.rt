@@ -59,7 +59,10 @@ fn push_free(slots: &mut Vec<Slot>, number: u64, width: u32) -> Result<(), Alloc
     ensures kept { take (length slots.old.items) slots.new.items ≡ slots.old.items }
 {
     for x in 0..width {
-        slots.push(Slot::Free(number + u64::from(x)))?;
+        let slot = Slot::Free(number + u64::from(x));
+        // A free slot refers to no cell.
+        prove!(!matches!(&slot, Slot::Set(Cell::Ref(_))));
+        slots.push(slot)?;
     }
     Ok(())
 }

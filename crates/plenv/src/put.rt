@@ -18,11 +18,12 @@ use crate::env::{Environment, known, note};
 use crate::slot::{Noted, Row, Slot};
 use plcells::cell::Cell;
 use plcells::heap::Heap;
+use plcells::id::CellId;
 use plcode::node::Node;
 use std::alloc::AllocError;
 
 /// A new variable on the heap; the cells before it refer to one another alone, which is noted for the occurs check.
-fn add_variable(heap: &mut Heap, number: u64) -> Result<u32, AllocError>
+fn add_variable(heap: &mut Heap, number: u64) -> Result<CellId, AllocError>
     requires { IsFresh heap.old number }
     ensures ok { IfOk result (λ c. AddsVariable heap.old heap.new c number) }
     ensures err { OnErr result (heap.new ≡ heap.old) }
@@ -78,12 +79,17 @@ impl Environment {
     /// Puts the block at a place behind those before it, where no more than one of its variables has a free slot: how many arguments it has.
     /// That variable stands in the block, and its slot refers to it from now on.
     #[inline(always)]
-    fn put_block(&mut self, nodes: &[Node], place: u32, run: Run) -> Result<Option<u16>, AllocError>
+    fn put_block(
+        &mut self,
+        nodes: &[Node],
+        place: u32,
+        run: &Run,
+    ) -> Result<Option<u16>, AllocError>
         requires laid { IsLaid self.old.heap.names nodes.now }
-        requires block { (f : _) × ((k : _) × IsBlockAt nodes.now run.from place f k) }
-        requires built { AreBuilt self.old.heap nodes.now run place }
-        ensures some { IfOk result (λ r. (k : _) → r ≡ Some k → PutsBlock self.old self.new nodes.now run place k) }
-        ensures none { IfOk result (λ r. r ≡ None → (f k : _) → IsBlockAt nodes.now run.from place f k → HasFree self.old.slots run.base nodes.now place (suc (place + k))) }
+        requires block { (f : _) × ((k : _) × IsBlockAt nodes.now run.now.from place f k) }
+        requires built { AreBuilt self.old.heap nodes.now run.now place }
+        ensures some { IfOk result (λ r. (k : _) → r ≡ Some k → PutsBlock self.old self.new nodes.now run.now place k) }
+        ensures none { IfOk result (λ r. r ≡ None → (f k : _) → IsBlockAt nodes.now run.now.from place f k → HasFree self.old.slots run.now.base nodes.now place (suc (place + k))) }
         ensures stays { Stays self.old self.new }
         ensures names { self.new.heap.names ≡ self.old.heap.names }
         ensures freer { NoneFreed self.old self.new }
@@ -115,7 +121,7 @@ impl Environment {
                 note(&mut self.noted, is_old, set)?;
                 let p = self.heap.build(f, false, &self.block)?;
                 known(&self.heap);
-                self.slots[slot] = Slot::Set(Cell::Ref(p + 1 + at as u32));
+                self.slots[slot] = Slot::Set(Cell::Ref(p.arg(1 + at as u32)));
                 Ok(Some(arity))
             }
         }
@@ -140,15 +146,15 @@ impl Environment {
         ensures freer { NoneFreed self.old self.new }
     {
         known(&self.heap);
-        let start = self.heap.len() as u32;
+        let start = self.heap.next();
         let run = Run { from, start, base };
         let mut place = from;
         loop {
-            let Some(arity) = self.put_block(nodes, place, run)? else {
+            let Some(arity) = self.put_block(nodes, place, &run)? else {
                 return Ok(None);
             };
             if place == root {
-                return Ok(Some(Cell::Str(start + (root - from))));
+                return Ok(Some(Cell::Str(start.after(root - from))));
             }
             place += 1 + u32::from(arity);
         }

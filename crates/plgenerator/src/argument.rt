@@ -17,7 +17,7 @@ pub(crate) fn count_in(heap: &Heap, v: Cell) -> Option<u64>
     requires { IsValue heap.now v }
     ensures { IfSome result (λ n. value heap.now v ≡ int (pos n)) }
 {
-    match shape_of(heap, v) {
+    match shape_of(heap, &v) {
         Shape::Integer(i) if i >= 0 => Some(i as u64),
         _ => None,
     }
@@ -30,7 +30,7 @@ pub(crate) fn atom_in(heap: &Heap, v: Cell) -> Option<&Name>
     ensures name { IfSome result (λ name. IsName name.now) }
     ensures none { IfNone result ((s : List ℕ) → value heap.now v ≡ atom s → ⊥) }
 {
-    match shape_of(heap, v) {
+    match shape_of(heap, &v) {
         Shape::Atom(a) => Some(heap.names().atom_name(a)),
         _ => None,
     }
@@ -54,7 +54,7 @@ pub fn text_of(alloc: Global, heap: &Heap, v: Cell) -> Result<Option<Name>, Allo
     ensures name { IfOk result (λ text. IfSome text IsName) }
     ensures short { IfOk result (λ text. IfSome text (λ name. length name ≤ 65535)) }
 {
-    match shape_of(heap, v) {
+    match shape_of(heap, &v) {
         Shape::Atom(a) => Ok(Some(heap.names().atom_name(a).copied()?)),
         Shape::Integer(i) => {
             let mut buffer = Buffer::new();

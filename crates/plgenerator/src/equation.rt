@@ -55,7 +55,7 @@ fn side(alloc: Global, heap: &Heap, v: Cell, x: u64) -> Result<Term, AllocError>
     ensures is { (σ : ℕ → Tree) → σ x ≡ value heap.now v → IfOk result (λ t. bind σ t ≡ as_text (value heap.now v)) }
     ensures below { (n : ℕ) → x < n → IfOk result (AllBelow n) }
 {
-    match shape_of(heap, v) {
+    match shape_of(heap, &v) {
         Shape::Integer(i) => {
             let mut buffer = Buffer::new();
             atom(alloc, buffer.format(i))

@@ -66,7 +66,7 @@ fn next_part(
         return Ok(None);
     };
     let text = name.as_str();
-    let wanted = wanted(heap, sought)?;
+    let wanted = wanted(heap, &sought)?;
     let Some(part) = first_part(&wanted, text, part) else {
         return Ok(None);
     };

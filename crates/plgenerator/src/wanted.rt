@@ -36,12 +36,12 @@ fn wanted_length(heap: &Heap, text: &Option<Name>, v: Cell) -> Option<u64>
 }
 
 /// What the arguments say of a part.
-pub(crate) fn wanted(heap: &Heap, sought: Sought) -> Result<Wanted, AllocError>
-    requires before { IsValue heap.now sought.before }
-    requires length { IsValue heap.now sought.length }
-    requires after { IsValue heap.now sought.after }
-    requires text { IsValue heap.now sought.text }
-    ensures { IfOk result (AreWanted (sought_terms heap.now sought)) }
+pub(crate) fn wanted(heap: &Heap, sought: &Sought) -> Result<Wanted, AllocError>
+    requires before { IsValue heap.now sought.now.before }
+    requires length { IsValue heap.now sought.now.length }
+    requires after { IsValue heap.now sought.now.after }
+    requires text { IsValue heap.now sought.now.text }
+    ensures { IfOk result (AreWanted (sought_terms heap.now sought.now)) }
 {
     let before = count_in(heap, sought.before);
     let after = count_in(heap, sought.after);

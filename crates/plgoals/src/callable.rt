@@ -7,13 +7,14 @@ ghost use Rattle.plgoals.specs.Extended.{AreArguments};
 
 use plcells::cell::Cell;
 use plcells::heap::Heap;
+use plcells::id::CellId;
 use plcode::callee::Number;
 use std::alloc::AllocError;
 
 /// Makes a list the first arguments of a block, so many as it has.
 pub(crate) fn read_arguments(
     heap: &Heap,
-    p: u32,
+    p: CellId,
     count: u16,
     args: &mut Vec<Cell>,
 ) -> Result<(), AllocError>
@@ -22,7 +23,7 @@ pub(crate) fn read_arguments(
 {
     args.clear();
     for i in 0..count {
-        args.push(heap.argument(p + 1 + u32::from(i)))?;
+        args.push(heap.argument(p.arg(1 + u32::from(i))))?;
     }
     Ok(())
 }

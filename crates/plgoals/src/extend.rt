@@ -11,6 +11,7 @@ use crate::callable::read_arguments;
 use platoms::names::Functor;
 use plcells::cell::Cell;
 use plcells::heap::Heap;
+use plcells::id::CellId;
 use plterm::term::ARITY;
 use std::alloc::{AllocError, Global};
 
@@ -28,7 +29,7 @@ pub enum Extended {
 }
 
 /// The first arguments of a block, so many as it has.
-fn arguments(heap: &Heap, alloc: Global, p: u32, count: u16) -> Result<Vec<Cell>, AllocError>
+fn arguments(heap: &Heap, alloc: Global, p: CellId, count: u16) -> Result<Vec<Cell>, AllocError>
     requires { (f : ℕ) × IsBlock heap.now p f count }
     ensures { IfOk result (λ values. AreArguments heap.now p count values.items) }
 {

@@ -16,6 +16,7 @@ ghost use Rattle.plgoals.specs.Forms.{callee_of, shown_form, IsArrow, IsInside};
 
 use plcells::cell::Cell;
 use plcells::heap::Heap;
+use plcells::id::CellId;
 use plcode::callee::{Callee, Number};
 use plcode::program::ProgramCode;
 use plnames::kind::{BuiltIn, Control, Side};
@@ -278,8 +279,11 @@ fn either(heap: &Heap, code: &ProgramCode, a: Cell, b: Cell) -> Form
     ensures inside { IsInside heap.now (a ∷ b ∷ []) result }
     ensures no_call { (p : OfProcedure) → result ≡ forms.Call p → ⊥ }
 {
-    match arrow(heap, code, a) {
-        Some(p) => Form::IfThenElse(heap.argument(p + 1), heap.argument(p + 2), b),
+    match arrow(heap, code, &a) {
+        Some(p) => {
+            let condition = heap.argument(p.arg(1));
+            Form::IfThenElse(condition, heap.argument(p.arg(2)), b)
+        }
         None => Form::Either(a, b),
     }
 }
@@ -296,13 +300,13 @@ fn is_arrow(callee: Callee) -> bool
 }
 
 /// The block of a value that is a compound of `->`/2.
-fn arrow(heap: &Heap, code: &ProgramCode, v: Cell) -> Option<u32>
-    requires value { IsValue heap.now v }
+fn arrow(heap: &Heap, code: &ProgramCode, v: &Cell) -> Option<CellId>
+    requires value { IsValue heap.now v.now }
     requires kinds { HasKinds heap.now.names code.now.callees }
-    ensures some { IfSome result (IsArrow heap.now v) }
-    ensures none { IfNone result (IsNoArrow (value heap.now v)) }
+    ensures some { IfSome result (IsArrow heap.now v.now) }
+    ensures none { IfNone result (IsNoArrow (value heap.now v.now)) }
 {
-    let Cell::Str(p) = heap.root(v) else {
+    let Cell::Str(p) = heap.root(*v) else {
         return None;
     };
     let (f, _) = heap.block(p);

@@ -10,6 +10,7 @@ ghost use Rattle.plgoals.specs.Goals.{IsGoal, IsConstruct, Opens, Says, Spells};
 
 use plcells::cell::Cell;
 use plcells::heap::Heap;
+use plcells::id::CellId;
 use plterm::name::Name;
 use plterm::node::Node;
 use plterm::term::Term;
@@ -23,7 +24,7 @@ pub enum Kind {
     /// A variable, which is called: the value where its references end.
     Variable(Cell),
     /// A control construct: its block, which holds two goals.
-    Construct(u32),
+    Construct(CellId),
     /// Any other term, which is a goal as it stands: the value where its references end.
     Goal(Cell),
 }
@@ -37,7 +38,7 @@ fn holds_goals(name: &Name, count: u16) -> bool
 }
 
 /// Whether a block is a control construct.
-fn is_construct(heap: &Heap, p: u32) -> bool
+fn is_construct(heap: &Heap, p: CellId) -> bool
     requires within { p < length heap.now.cells }
     requires head { IsHead (at heap.now.cells p) }
     ensures yes { result ≡ true → IsConstruct heap.now p }
@@ -50,11 +51,11 @@ fn is_construct(heap: &Heap, p: u32) -> bool
 }
 
 /// What the term of a value is as a goal.
-fn kind_of(heap: &Heap, v: Cell) -> Kind
-    requires { IsValue heap.now v }
-    ensures { Says heap.now (value heap.now v) result }
+fn kind_of(heap: &Heap, v: &Cell) -> Kind
+    requires { IsValue heap.now v.now }
+    ensures { Says heap.now (value heap.now v.now) result }
 {
-    let root = heap.root(v);
+    let root = heap.root(*v);
     match root {
         Cell::Ref(_) => Kind::Variable(root),
         Cell::Atom(_) => Kind::Goal(root),
@@ -70,26 +71,26 @@ fn kind_of(heap: &Heap, v: Cell) -> Kind
 }
 
 /// Puts the goals of a control construct on a stack, the first one on top.
-fn push_goals(heap: &Heap, stack: &mut Vec<Cell>, p: u32) -> Result<(), AllocError>
+fn push_goals(heap: &Heap, stack: &mut Vec<Cell>, p: CellId) -> Result<(), AllocError>
     requires { IsConstruct heap.now p }
     ensures { OnOk result (Opens heap.now p stack.old.items stack.new.items) }
 {
-    let second = heap.argument(p + 2);
+    let second = heap.argument(p.arg(2));
     stack.push(second)?;
-    let first = heap.argument(p + 1);
+    let first = heap.argument(p.arg(1));
     stack.push(first)?;
     Ok(())
 }
 
 /// Whether a term is its own goal, as it is where no goal in it is a variable or a number.
-fn is_own_goal(heap: &Heap, alloc: Global, v: Cell) -> Result<bool, AllocError>
-    requires { IsValue heap.now v }
-    ensures { IfOk result (λ own. own ≡ true → converted (value heap.now v) ≡ Some (value heap.now v)) }
+fn is_own_goal(heap: &Heap, alloc: Global, v: &Cell) -> Result<bool, AllocError>
+    requires { IsValue heap.now v.now }
+    ensures { IfOk result (λ own. own ≡ true → converted (value heap.now v.now) ≡ Some (value heap.now v.now)) }
 {
     let mut stack = Vec::new(alloc);
-    stack.push(v)?;
+    stack.push(*v)?;
     while let Some(w) = stack.pop() {
-        match kind_of(heap, w) {
+        match kind_of(heap, &w) {
             Kind::Number | Kind::Variable(_) => return Ok(false),
             Kind::Goal(_) => continue,
             Kind::Construct(p) => {
@@ -131,7 +132,7 @@ impl Spelling {
     }
 
     /// Adds the node of a control construct.
-    fn push_construct(&mut self, heap: &Heap, p: u32) -> Result<(), AllocError>
+    fn push_construct(&mut self, heap: &Heap, p: CellId) -> Result<(), AllocError>
         requires { IsConstruct heap.now p }
         ensures nodes { OnOk result ((name : List ℕ) → (ts : Trees) → term heap.now p ≡ compound name ts → self.new.nodes.items ≡ self.old.nodes.items ++ Compound name 2 ∷ []) }
         ensures values { self.new.values.items ≡ self.old.values.items }
@@ -157,7 +158,7 @@ fn goal_nodes(heap: &Heap, alloc: Global, v: Cell) -> Result<Option<Spelling>, A
     let mut stack = Vec::new(alloc);
     stack.push(v)?;
     while let Some(w) = stack.pop() {
-        match kind_of(heap, w) {
+        match kind_of(heap, &w) {
             Kind::Number => return Ok(None),
             Kind::Variable(e) => {
                 goal.push_call(alloc, e)?;
@@ -206,12 +207,12 @@ pub fn goal_of(heap: &mut Heap, alloc: Global, v: Cell) -> Result<Option<Cell>, 
     ensures preserves { Preserves heap.old heap.new }
     ensures err { OnErr result (heap.new ≡ renamed heap.old heap.new.names) }
 {
-    match kind_of(heap, v) {
+    match kind_of(heap, &v) {
         Kind::Number => Ok(None),
         Kind::Goal(w) => Ok(Some(w)),
         Kind::Variable(_) => put_goal(heap, alloc, v),
         Kind::Construct(p) => {
-            if is_own_goal(heap, alloc, v)? {
+            if is_own_goal(heap, alloc, &v)? {
                 return Ok(Some(Cell::Str(p)));
             }
             put_goal(heap, alloc, v)

@@ -11,6 +11,7 @@ ghost use Rattle.plhead.specs.Fitting.{said, IsCompoundAt, Says};
 
 use plcells::cell::Cell;
 use plcells::heap::Heap;
+use plcells::id::CellId;
 use plcode::node::Node;
 
 /// What a node and a value come to.
@@ -21,7 +22,7 @@ pub enum Verdict {
     /// They never stand for one term.
     Clash,
     /// They do as soon as their arguments do: so many nodes and cells, from these places on.
-    Args(u32, u32, u16),
+    Args(u32, CellId, u16),
 }
 
 /// A verdict that leaves nothing.
@@ -59,7 +60,7 @@ fn is_atom(atom: u32, v: Cell) -> bool
 
 /// Two compounds have one functor, and so one argument for each of the other, or differ for good.
 #[inline(always)]
-fn compare_blocks(heap: &Heap, nodes: &[Node], root: u32, p: u32) -> Verdict
+fn compare_blocks(heap: &Heap, nodes: &[Node], root: u32, p: CellId) -> Verdict
     requires few { length nodes.now < 2 ^ 32 }
     requires node { (u : Tree) × IsCompoundAt heap.now.names nodes.now root u }
     requires value { IsValue heap.now (StrCell p) }
@@ -68,7 +69,7 @@ fn compare_blocks(heap: &Heap, nodes: &[Node], root: u32, p: u32) -> Verdict
     let (f, k) = heap.block(p);
     match nodes[root as usize] {
         Node::Fun(g, _) => if f == g {
-            Verdict::Args(root + 1, p + 1, k)
+            Verdict::Args(root + 1, p.arg(1), k)
         } else {
             Verdict::Clash
         },

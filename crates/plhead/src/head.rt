@@ -19,6 +19,7 @@ use crate::compare::{Verdict, compare, verdict_of};
 use crate::work::{push_arguments, push_values};
 use plcells::cell::Cell;
 use plcells::heap::Heap;
+use plcells::id::CellId;
 use plcode::node::Node;
 use plenv::env::Environment;
 use plenv::slot::{Row, Slot};
@@ -26,12 +27,12 @@ use std::alloc::{AllocError, Global};
 
 /// Whether a value is an unbound variable of a number above this one.
 #[inline(always)]
-fn is_younger(heap: &Heap, v: Cell, number: u64) -> bool
-    requires { IsValue heap.now v }
-    ensures variable { (n : ℕ) → value heap.now v ≡ var n → IsTrue result ↔ (number < n) }
-    ensures other { ((n : ℕ) → value heap.now v ≡ var n → ⊥) → result ≡ false }
+fn is_younger(heap: &Heap, v: &Cell, number: u64) -> bool
+    requires { IsValue heap.now v.now }
+    ensures variable { (n : ℕ) → value heap.now v.now ≡ var n → IsTrue result ↔ (number < n) }
+    ensures other { ((n : ℕ) → value heap.now v.now ≡ var n → ⊥) → result ≡ false }
 {
-    match heap.root(v) {
+    match heap.root(*v) {
         Cell::Ref(x) => number < heap.number(x),
         _ => false,
     }
@@ -49,7 +50,7 @@ fn meet_free(env: &mut Environment, slot: u32, number: u64, v: Cell) -> Result<b
     ensures no { IfOk result (λ fits. fits ≡ false → unify (var number) (value env.old.heap v) ≡ None) }
     ensures keeps { Keeps env.old env.new }
 {
-    if is_younger(env.heap(), v, number) {
+    if is_younger(env.heap(), &v, number) {
         let own = env.put_variable(slot)?;
         env.unify_in_choice(own, v)
     } else {
@@ -162,8 +163,8 @@ fn solve(
     ensures answers { IfOk result (λ fits. (s t : Tree) → Stands env.old base (tree_at env.old.heap.names nodes.now) work.old.items s t → Answers env.old env.new s t fits) }
     ensures keeps { Keeps env.old env.new }
 {
-    while let Some((at, v)) = work.pop() {
-        match meet(env, nodes, base, at, v)? {
+    while let Some(equation) = work.pop() {
+        match meet(env, nodes, base, equation.0, equation.1)? {
             Verdict::Same => {}
             Verdict::Clash => return Ok(false),
             Verdict::Args(first, cells, count) => push_arguments(

@@ -5,6 +5,7 @@ ghost use Rattle.plhead.specs.Equations.{pairs, Pushes};
 
 use plcells::cell::Cell;
 use plcells::heap::Heap;
+use plcells::id::CellId;
 use std::alloc::AllocError;
 
 /// Puts so many nodes from a place on beside the terms of as many cells on the list, the first on top.
@@ -13,7 +14,7 @@ pub(crate) fn push_arguments(
     work: &mut Vec<(u32, Cell)>,
     heap: &Heap,
     at: u32,
-    cells: u32,
+    cells: CellId,
     count: u16,
 ) -> Result<(), AllocError>
     requires few { at + count < 2 ^ 32 }
@@ -25,7 +26,7 @@ pub(crate) fn push_arguments(
     let mut i = u32::from(count);
     while i > 0 {
         i -= 1;
-        work.push((at + i, heap.argument(cells + i)))?;
+        work.push((at + i, heap.argument(cells.after(i))))?;
     }
     Ok(())
 }

@@ -76,11 +76,11 @@ impl Machine {
         ensures { IfOk result (λ s. (es : List Element) (n : ℕ) (w : Local) → halting (value self.now.stack.env.heap number) es n w ≡ ended_with s es n w) }
     {
         let heap = self.stack.env().heap();
-        if is_variable(heap, number) {
+        if is_variable(heap, &number) {
             let error = error::instantiation(self.alloc)?;
             return Ok(Status::Raises(error));
         }
-        if let Some(number) = integer_in(heap, number) {
+        if let Some(number) = integer_in(heap, &number) {
             return Ok(Status::Is(modulo_256(number)));
         }
         let culprit = heap.take(self.alloc, number)?;
@@ -90,12 +90,12 @@ impl Machine {
 }
 
 /// The integer that the term of a value is.
-pub(crate) fn integer_in(heap: &Heap, v: Cell) -> Option<i64>
-    requires { IsValue heap.now v }
-    ensures some { IfSome result (λ i. value heap.now v ≡ int i) }
-    ensures none { IfNone result (IsNoInteger (value heap.now v)) }
+pub(crate) fn integer_in(heap: &Heap, v: &Cell) -> Option<i64>
+    requires { IsValue heap.now v.now }
+    ensures some { IfSome result (λ i. value heap.now v.now ≡ int i) }
+    ensures none { IfNone result (IsNoInteger (value heap.now v.now)) }
 {
-    let root = heap.root(v);
+    let root = heap.root(*v);
     match root {
         Cell::Int(_) | Cell::Wide(_) => Some(heap.integer_of(root)),
         _ => None,

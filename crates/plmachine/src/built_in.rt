@@ -116,7 +116,7 @@ impl Machine {
         ensures err { OnErr result (Stays program.now self.old self.new) }
     {
         let goal = self.goal(source)?;
-        let p = indicator_of(self.alloc, self.stack.env().heap(), goal)?;
+        let p = indicator_of(self.alloc, self.stack.env().heap(), &goal)?;
         self.raise(program, error, &p, rest)
     }
 

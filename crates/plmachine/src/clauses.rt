@@ -119,7 +119,7 @@ impl Machine {
         ensures err { OnErr result (Stays program.now self.old self.new) }
     {
         let heap = self.stack.env().heap();
-        if let Some(error) = not_told(self.alloc, program, heap, head, body)? {
+        if let Some(error) = not_told(self.alloc, program, heap, &head, &body)? {
             return self.raise_of(program, error, source, rest);
         }
         self.retrieve_all(program, head, body, rest)
@@ -141,7 +141,7 @@ impl Machine {
         ensures ok { OnOk result (MovedBy program.now self.old self.new (λ v. retrieving (below_in v self.old) (clauses_for program.now (indicator (value self.old.stack.env.heap head))) (depth_of self.old) (value self.old.stack.env.heap head) (value self.old.stack.env.heap body) (goals_of self.old.stack rest) self.old.stack.env.count (local_of self.old))) }
         ensures err { OnErr result (Stays program.now self.old self.new) }
     {
-        let p = indicator_of(self.alloc, self.stack.env().heap(), head)?;
+        let p = indicator_of(self.alloc, self.stack.env().heap(), &head)?;
         if program.clauses_of(&p).is_empty() {
             return self.seek(program, Lookup::ToRetrieve(head, body), rest);
         }
@@ -167,9 +167,10 @@ impl Machine {
         ensures err { OnErr result (Stays program.now self.old self.new) }
     {
         let heap = self.stack.env().heap();
-        let neck = neck_of(heap, c);
-        let head = neck.map_or(c, |neck| neck.head);
-        if let Some(error) = unerasable(self.alloc, program, heap, head)? {
+        let neck = neck_of(heap, &c);
+        let parts = neck;
+        let head = parts.map_or(c, |parts| parts.head);
+        if let Some(error) = unerasable(self.alloc, program, heap, &head)? {
             return self.raise_of(program, error, source, rest);
         }
         let body = match neck {
@@ -198,7 +199,7 @@ impl Machine {
         ensures err { OnErr result (Stays program.now self.old self.new) }
     {
         let heap = self.stack.env().heap();
-        if let Some(error) = unerasable(self.alloc, program, heap, head)? {
+        if let Some(error) = unerasable(self.alloc, program, heap, &head)? {
             return self.raise_of(program, error, source, rest);
         }
         self.seek(program, Lookup::ToRetractAll(head), rest)
@@ -252,12 +253,12 @@ fn update_of(side: Side, clause: Clause) -> Update
 }
 
 /// The head and the body of a term `Head :- Body`.
-fn neck_of(heap: &Heap, c: Cell) -> Option<Neck>
-    requires { IsValue heap.now c }
-    ensures some { IfSome result (IsNeck heap.now c) }
-    ensures none { IfNone result (neck_parts (value heap.now c) ≡ None) }
+fn neck_of(heap: &Heap, c: &Cell) -> Option<Neck>
+    requires { IsValue heap.now c.now }
+    ensures some { IfSome result (IsNeck heap.now c.now) }
+    ensures none { IfNone result (neck_parts (value heap.now c.now) ≡ None) }
 {
-    let Cell::Str(p) = heap.root(c) else {
+    let Cell::Str(p) = heap.root(*c) else {
         return None;
     };
     let (f, arity) = heap.block(p);
@@ -269,8 +270,8 @@ fn neck_of(heap: &Heap, c: Cell) -> Option<Neck>
         return None;
     }
     Some(Neck {
-        head: heap.argument(p + 1),
-        body: heap.argument(p + 2),
+        head: heap.argument(p.arg(1)),
+        body: heap.argument(p.arg(2)),
     })
 }
 
@@ -279,12 +280,12 @@ fn not_told(
     alloc: Global,
     program: &Program,
     heap: &Heap,
-    head: Cell,
-    body: Cell,
+    head: &Cell,
+    body: &Cell,
 ) -> Result<Option<Term>, AllocError>
-    requires head { IsValue heap.now head }
-    requires body { IsValue heap.now body }
-    ensures { IfOk result (λ o. o ≡ or_else (no_head (value heap.now head)) (or_else (no_body (value heap.now body)) (unreadable (indicator (value heap.now head))))) }
+    requires head { IsValue heap.now head.now }
+    requires body { IsValue heap.now body.now }
+    ensures { IfOk result (λ o. o ≡ or_else (no_head (value heap.now head.now)) (or_else (no_body (value heap.now body.now)) (unreadable (indicator (value heap.now head.now))))) }
 {
     let error = no_head(alloc, heap, head)?;
     if error.is_some() {

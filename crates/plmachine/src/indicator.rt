@@ -10,11 +10,11 @@ use plterm::name::Name;
 use std::alloc::{AllocError, Global};
 
 /// The indicator of the term of a value.
-pub fn indicator_of(alloc: Global, heap: &Heap, v: Cell) -> Result<Indicator, AllocError>
-    requires { IsValue heap.now v }
-    ensures { IfOk result (λ p. p ≡ indicator (value heap.now v)) }
+pub fn indicator_of(alloc: Global, heap: &Heap, v: &Cell) -> Result<Indicator, AllocError>
+    requires { IsValue heap.now v.now }
+    ensures { IfOk result (λ p. p ≡ indicator (value heap.now v.now)) }
 {
-    match heap.root(v) {
+    match heap.root(*v) {
         Cell::Atom(atom) => {
             let name = heap.names().atom_name(atom).copied()?;
             Ok(Indicator { name, arity: 0 })

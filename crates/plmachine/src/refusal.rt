@@ -37,9 +37,9 @@ pub fn unchangeable(
 }
 
 /// The error where a head is no atom or compound.
-pub fn no_head(alloc: Global, heap: &Heap, head: Cell) -> Result<Option<Term>, AllocError>
-    requires { IsValue heap.now head }
-    ensures { IfOk result (λ o. o ≡ no_head (value heap.now head)) }
+pub fn no_head(alloc: Global, heap: &Heap, head: &Cell) -> Result<Option<Term>, AllocError>
+    requires { IsValue heap.now head.now }
+    ensures { IfOk result (λ o. o ≡ no_head (value heap.now head.now)) }
 {
     if is_variable(heap, head) {
         let error = error::instantiation(alloc)?;
@@ -49,9 +49,9 @@ pub fn no_head(alloc: Global, heap: &Heap, head: Cell) -> Result<Option<Term>, A
 }
 
 /// The error where no clause can have a body.
-pub fn no_body(alloc: Global, heap: &Heap, body: Cell) -> Result<Option<Term>, AllocError>
-    requires { IsValue heap.now body }
-    ensures { IfOk result (λ o. o ≡ no_body (value heap.now body)) }
+pub fn no_body(alloc: Global, heap: &Heap, body: &Cell) -> Result<Option<Term>, AllocError>
+    requires { IsValue heap.now body.now }
+    ensures { IfOk result (λ o. o ≡ no_body (value heap.now body.now)) }
 {
     let Some(number) = integer_in(heap, body) else {
         return Ok(None);
@@ -81,10 +81,10 @@ pub fn unerasable(
     alloc: Global,
     program: &Program,
     heap: &Heap,
-    head: Cell,
+    head: &Cell,
 ) -> Result<Option<Term>, AllocError>
-    requires { IsValue heap.now head }
-    ensures { IfOk result (λ o. o ≡ unerasable program.now (value heap.now head)) }
+    requires { IsValue heap.now head.now }
+    ensures { IfOk result (λ o. o ≡ unerasable program.now (value heap.now head.now)) }
 {
     let error = no_head(alloc, heap, head)?;
     if error.is_some() {

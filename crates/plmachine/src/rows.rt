@@ -258,7 +258,7 @@ impl Machine {
         ensures ok { OnOk result (Moved program.now self.old self.new (thrown (value self.old.stack.env.heap ball) (goals_of self.old.stack rest) (local_of self.old))) }
         ensures err { OnErr result (Stays program.now self.old self.new) }
     {
-        if is_variable(self.stack.env().heap(), ball) {
+        if is_variable(self.stack.env().heap(), &ball) {
             let p = Predicate::Throw.indicator(self.alloc)?;
             let error = error::instantiation(self.alloc)?;
             return self.raise(program, error, &p, rest);
@@ -272,9 +272,9 @@ impl Machine {
 }
 
 /// Whether the term of a value is a variable.
-pub fn is_variable(heap: &Heap, v: Cell) -> bool
-    requires { IsValue heap.now v }
-    ensures { result ≡ is_var (value heap.now v) }
+pub fn is_variable(heap: &Heap, v: &Cell) -> bool
+    requires { IsValue heap.now v.now }
+    ensures { result ≡ is_var (value heap.now v.now) }
 {
-    matches!(heap.root(v), Cell::Ref(_))
+    matches!(heap.root(*v), Cell::Ref(_))
 }

@@ -228,14 +228,14 @@ impl Machine {
         ensures frame { self.new ≡ record self.old { stack = self.new.stack } }
     {
         let list = self.stack.link(marker, *rest)?;
-        let ready = self.ready(goal)?;
+        let ready = self.ready(&goal)?;
         Ok((ready, list))
     }
 
     /// What a term comes to as a goal.
-    pub fn ready(&mut self, goal: Cell) -> Result<Ready, AllocError>
-        requires { IsValue self.old.stack.env.heap goal }
-        ensures ok { IfOk result (λ r. Readies self.new.stack (runnable (value self.old.stack.env.heap goal)) r) }
+    pub fn ready(&mut self, goal: &Cell) -> Result<Ready, AllocError>
+        requires { IsValue self.old.stack.env.heap goal.now }
+        ensures ok { IfOk result (λ r. Readies self.new.stack (runnable (value self.old.stack.env.heap goal.now)) r) }
         ensures grown { Grown self.old.stack self.new.stack }
         ensures frame { self.new ≡ record self.old { stack = self.new.stack } }
     {
@@ -243,10 +243,10 @@ impl Machine {
             let error = error::instantiation(self.alloc)?;
             return Ok(Ready::Raises(error));
         }
-        match self.stack.goal_of(self.alloc, goal)? {
+        match self.stack.goal_of(self.alloc, *goal)? {
             Some(made) => Ok(Ready::Runs(made)),
             None => {
-                let error = self.no_callable(goal)?;
+                let error = self.no_callable(*goal)?;
                 Ok(Ready::Raises(error))
             }
         }
@@ -272,19 +272,19 @@ impl Machine {
     {
         let goal = self.args[0];
         if self.args.len() == 1 {
-            return self.ready(goal);
+            return self.ready(&goal);
         }
         match self
             .stack
             .with_arguments(self.alloc, goal, &self.args[1..])?
         {
-            Extended::Is(made) => self.ready(made),
+            Extended::Is(made) => self.ready(&made),
             Extended::Unbound => {
                 let error = error::instantiation(self.alloc)?;
                 Ok(Ready::Raises(error))
             }
             Extended::Number => {
-                let error = self.no_callable(goal)?;
+                let error = self.no_callable(self.args[0])?;
                 Ok(Ready::Raises(error))
             }
             Extended::TooLong => {

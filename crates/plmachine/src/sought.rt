@@ -12,19 +12,19 @@ use plstack::frame::Use;
 use std::alloc::AllocError;
 
 /// The first argument of the term of a value, if it has one.
-fn first_argument(heap: &Heap, v: Cell) -> Option<Cell>
-    requires { IsValue heap.now v }
-    ensures some { IfSome result (HasFirst heap.now v) }
-    ensures none { IfNone result (HasNone (value heap.now v)) }
+fn first_argument(heap: &Heap, v: &Cell) -> Option<Cell>
+    requires { IsValue heap.now v.now }
+    ensures some { IfSome result (HasFirst heap.now v.now) }
+    ensures none { IfNone result (HasNone (value heap.now v.now)) }
 {
-    let Cell::Str(p) = heap.root(v) else {
+    let Cell::Str(p) = heap.root(*v) else {
         return None;
     };
     let (_, arity) = heap.block(p);
     if arity == 0 {
         return None;
     }
-    Some(heap.argument(p + 1))
+    Some(heap.argument(p.arg(1)))
 }
 
 /// The head of the clauses that a goal's term asks for.
@@ -33,7 +33,7 @@ fn told_head(heap: &Heap, goal: Cell) -> Cell
     ensures there { IsValue heap.now result }
     ensures is { value heap.now result ≡ head_told (value heap.now goal) }
 {
-    match first_argument(heap, goal) {
+    match first_argument(heap, &goal) {
         Some(head) => head,
         None => goal,
     }
@@ -74,9 +74,9 @@ fn key_of(heap: &Heap, v: Cell) -> Result<Key, AllocError>
 }
 
 /// The key of the first argument of a head.
-pub fn first_key(heap: &Heap, head: Cell) -> Result<Key, AllocError>
-    requires { IsValue heap.now head }
-    ensures { IfOk result (λ k. k ≡ first_of (value heap.now head)) }
+pub fn first_key(heap: &Heap, head: &Cell) -> Result<Key, AllocError>
+    requires { IsValue heap.now head.now }
+    ensures { IfOk result (λ k. k ≡ first_of (value heap.now head.now)) }
 {
     match first_argument(heap, head) {
         Some(v) => key_of(heap, v),

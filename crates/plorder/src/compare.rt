@@ -11,14 +11,15 @@ use crate::shape::{Block, Shape, shape_of};
 use platoms::names::Names;
 use plcells::cell::Cell;
 use plcells::heap::Heap;
+use plcells::id::CellId;
 use std::alloc::{AllocError, Global};
 use std::cmp::Ordering;
 
 /// Arguments to be compared from the left: the first cell on either side, and how many there are.
 #[derive(Clone, Copy)]
 pub struct Run {
-    pub left: u32,
-    pub right: u32,
+    pub left: CellId,
+    pub right: CellId,
     pub count: u16,
 }
 
@@ -109,8 +110,8 @@ fn judge_blocks(heap: &Heap, a: Block, b: Block) -> Verdict
     }
     match compare_functors(heap.names(), a.functor, b.functor) {
         Ordering::Equal => Verdict::Arguments(Run {
-            left: a.place + 1,
-            right: b.place + 1,
+            left: a.place.arg(1),
+            right: b.place.arg(1),
             count: a.arity,
         }),
         decided => Verdict::Decided(decided),
@@ -123,7 +124,7 @@ fn judge(heap: &Heap, a: Cell, b: Cell) -> Verdict
     requires right { IsValue heap.now b }
     ensures { Says heap.now (value heap.now a) (value heap.now b) result }
 {
-    match pair_of(shape_of(heap, a), shape_of(heap, b)) {
+    match pair_of(shape_of(heap, &a), shape_of(heap, &b)) {
         Pair::Variables(m, n) => Verdict::Decided(m.cmp(&n)),
         Pair::Integers(i, j) => Verdict::Decided(i.cmp(&j)),
         Pair::Atoms(f, g) => Verdict::Decided(compare_names(heap.names(), f, g)),
@@ -133,15 +134,15 @@ fn judge(heap: &Heap, a: Cell, b: Cell) -> Verdict
 }
 
 /// Puts a run on the list without its first pair, if there is another.
-fn push_rest(work: &mut Vec<Run>, run: Run) -> Result<(), AllocError>
-    requires left { run.left + run.count < 2 ^ 32 }
-    requires right { run.right + run.count < 2 ^ 32 }
-    ensures { OnOk result (work.new.items ≡ work.old.items ++ rest_of run) }
+fn push_rest(work: &mut Vec<Run>, run: &Run) -> Result<(), AllocError>
+    requires left { run.now.left + run.now.count < 2 ^ 32 }
+    requires right { run.now.right + run.now.count < 2 ^ 32 }
+    ensures { OnOk result (work.new.items ≡ work.old.items ++ rest_of run.now) }
 {
     if run.count > 1 {
         work.push(Run {
-            left: run.left + 1,
-            right: run.right + 1,
+            left: run.left.after(1),
+            right: run.right.after(1),
             count: run.count - 1,
         })?;
     }
@@ -154,7 +155,7 @@ fn settle(heap: &Heap, work: &mut Vec<Run>) -> Result<Ordering, AllocError>
     ensures { IfOk result (λ o. o ≡ runs_order heap.now work.old.items) }
 {
     'runs: while let Some(next) = work.pop() {
-        push_rest(work, next)?;
+        push_rest(work, &next)?;
         match judge(heap, heap.argument(next.left), heap.argument(next.right)) {
             Verdict::Decided(decided) => if decided.is_ne() {
                 return Ok(decided);

@@ -53,10 +53,10 @@ fn visit(heap: &Heap, work: &mut Vec<Span>, found: &mut Found, v: Cell) -> Resul
     ensures visits { OnOk result (Visits heap.now work.old.items work.new.items found.old.numbers found.new.numbers (value heap.now v)) }
     ensures found { OnOk result (IsFound heap.now found.new) }
 {
-    match shape_of(heap, v) {
+    match shape_of(heap, &v) {
         Shape::Variable(number) => note(heap, found, number, heap.root(v))?,
         Shape::Compound(block) => work.push(Span {
-            first: block.place + 1,
+            first: block.place.arg(1),
             count: block.arity,
         })?,
         _ => {}
@@ -74,7 +74,7 @@ pub fn variables_of(alloc: Global, heap: &Heap, v: Cell) -> Result<Vec<Cell>, Al
     let mut work = Vec::new(alloc);
     visit(heap, &mut work, &mut found, v)?;
     'spans: while let Some(span) = work.pop() {
-        push_rest(&mut work, span)?;
+        push_rest(&mut work, &span)?;
         visit(heap, &mut work, &mut found, heap.argument(span.first))?;
     }
     let Found { numbers: _, cells } = found;

@@ -4,11 +4,12 @@ ghost use Rattle.plorder.specs.Shapes.{IsOfShape};
 
 use plcells::cell::Cell;
 use plcells::heap::Heap;
+use plcells::id::CellId;
 
 /// A compound on the heap: where its block begins, the number of its functor, and how many arguments it has.
 #[derive(Clone, Copy)]
 pub struct Block {
-    pub place: u32,
+    pub place: CellId,
     pub functor: u32,
     pub arity: u16,
 }
@@ -27,11 +28,11 @@ pub enum Shape {
 }
 
 /// What the term of a value is.
-pub fn shape_of(heap: &Heap, v: Cell) -> Shape
-    requires { IsValue heap.now v }
-    ensures { IsOfShape heap.now (value heap.now v) result }
+pub fn shape_of(heap: &Heap, v: &Cell) -> Shape
+    requires { IsValue heap.now v.now }
+    ensures { IsOfShape heap.now (value heap.now v.now) result }
 {
-    let root = heap.root(v);
+    let root = heap.root(*v);
     match root {
         Cell::Ref(c) => Shape::Variable(heap.number(c)),
         Cell::Atom(name) => Shape::Atom(name),

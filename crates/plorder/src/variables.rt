@@ -7,23 +7,24 @@ ghost use Rattle.plorder.specs.Spans.{rest_of, all_ground, AreSpans, Looks};
 use crate::shape::{Shape, shape_of};
 use plcells::cell::Cell;
 use plcells::heap::Heap;
+use plcells::id::CellId;
 use std::alloc::AllocError;
 
 /// Arguments that are to be looked at: the first cell, and how many there are.
 #[derive(Clone, Copy)]
 pub struct Span {
-    pub first: u32,
+    pub first: CellId,
     pub count: u16,
 }
 
 /// Puts a span on the list without its first cell, if there is another.
-pub(crate) fn push_rest(work: &mut Vec<Span>, span: Span) -> Result<(), AllocError>
-    requires { span.first + span.count < 2 ^ 32 }
-    ensures { OnOk result (work.new.items ≡ work.old.items ++ rest_of span) }
+pub(crate) fn push_rest(work: &mut Vec<Span>, span: &Span) -> Result<(), AllocError>
+    requires { span.now.first + span.now.count < 2 ^ 32 }
+    ensures { OnOk result (work.new.items ≡ work.old.items ++ rest_of span.now) }
 {
     if span.count > 1 {
         work.push(Span {
-            first: span.first + 1,
+            first: span.first.after(1),
             count: span.count - 1,
         })?;
     }
@@ -35,10 +36,10 @@ fn look(heap: &Heap, work: &mut Vec<Span>, v: Cell) -> Result<bool, AllocError>
     requires { IsValue heap.now v }
     ensures { IfOk result (λ r. Looks heap.now work.old.items work.new.items (value heap.now v) r) }
 {
-    match shape_of(heap, v) {
+    match shape_of(heap, &v) {
         Shape::Variable(_) => return Ok(false),
         Shape::Compound(block) => work.push(Span {
-            first: block.place + 1,
+            first: block.place.arg(1),
             count: block.arity,
         })?,
         _ => {}
@@ -52,7 +53,7 @@ fn look_through(heap: &Heap, work: &mut Vec<Span>) -> Result<bool, AllocError>
     ensures { IfOk result (λ r. r ≡ all_ground heap.now work.old.items) }
 {
     'spans: while let Some(span) = work.pop() {
-        push_rest(work, span)?;
+        push_rest(work, &span)?;
         if !look(heap, work, heap.argument(span.first))? {
             return Ok(false);
         }

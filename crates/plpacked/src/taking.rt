@@ -6,6 +6,7 @@ ghost use Rattle.plpacked.specs.Taking.{IsWritten};
 
 use plcells::cell::Cell;
 use plcells::heap::Heap;
+use plcells::id::CellId;
 use plcells::take::push_run;
 use plpack::packing::{put_atom, put_compound, put_integer, put_variable};
 use plterm::numbers::Numbers;
@@ -16,7 +17,7 @@ fn write_value(
     heap: &Heap,
     out: &mut Vec<u8>,
     seen: &mut Numbers,
-    stack: &mut Vec<u32>,
+    stack: &mut Vec<CellId>,
     v: Cell,
 ) -> Result<(), AllocError>
     requires { IsValue heap.now v }
@@ -29,7 +30,7 @@ fn write_value(
             let (f, count) = heap.block(p);
             let functor = heap.names().functor_of(f);
             put_compound(out, heap.names().atom_name(functor.name).as_str(), count)?;
-            push_run(stack, p + 1, count)?;
+            push_run(stack, p.arg(1), count)?;
         }
         number => put_integer(out, heap.integer_of(number))?,
     }

@@ -7,6 +7,7 @@ ghost use Rattle.plpacked.specs.Unfinished.{end_from, Adds, AreVariables, Closes
 
 use plcells::cell::{Argument, Cell};
 use plcells::heap::Heap;
+use plcells::id::CellId;
 use plterm::node::Node;
 use std::alloc::{AllocError, Global};
 
@@ -35,14 +36,14 @@ pub(crate) enum Stage {
 pub(crate) struct Unfinished {
     pub values: Vec<Argument>,
     pub compounds: Vec<Open>,
-    pub variables: Vec<u32>,
+    pub variables: Vec<CellId>,
     pub number: u64,
 }
 
 /// The value of a variable of a term: one that was seen has its cell, and the next one is new.
 fn variable_value(
     heap: &mut Heap,
-    variables: &mut Vec<u32>,
+    variables: &mut Vec<CellId>,
     number: u64,
     x: u64,
 ) -> Result<Cell, AllocError>

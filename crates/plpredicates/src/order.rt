@@ -117,7 +117,7 @@ fn compare_answer(
     ensures is { IfOk result (λ answer. (s : Settings) (n : ℕ) → meant heap.now s n answer ≡ compare_of (value heap.now o ∷ value heap.now a ∷ value heap.now b ∷ []) s) }
     ensures there { IfOk result (IsThere heap.now) }
 {
-    match shape_of(heap, o) {
+    match shape_of(heap, &o) {
         Shape::Variable(_) => ordered(alloc, heap, o, a, b),
         Shape::Atom(name) if is_sign(heap.names().atom_name(name)) => ordered(alloc, heap, o, a, b),
         Shape::Atom(_) => outside(alloc, heap, "order", o),

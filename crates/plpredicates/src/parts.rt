@@ -56,7 +56,7 @@ fn arg(
     ensures is { IfOk result (λ answer. (s : Settings) (n : ℕ) → meant heap.now s n answer ≡ arg_of (value heap.now number) (value heap.now term) (value heap.now argument) s) }
     ensures there { IfOk result (IsThere heap.now) }
 {
-    match (shape_of(heap, number), shape_of(heap, term)) {
+    match (shape_of(heap, &number), shape_of(heap, &term)) {
         (Shape::Variable(_), _) | (_, Shape::Variable(_)) => unbound(alloc),
         (Shape::Integer(i), Shape::Compound(block)) => {
             if i < 0 {
@@ -79,7 +79,7 @@ fn is_argument(heap: &Heap, number: u64, block: Block, argument: Cell) -> Answer
     if number == 0 || number > u64::from(block.arity) {
         return Answer::Fails;
     }
-    Answer::Unifies(argument, heap.argument(block.place + number as u32))
+    Answer::Unifies(argument, heap.argument(block.place.arg(number as u32)))
 }
 
 /// functor/3 (8.5.1).
@@ -96,7 +96,7 @@ fn functor(
     ensures is { IfOk result (λ answer. (s : Settings) (n : ℕ) → meant heap.now s n answer ≡ functor_of (value heap.now term) (value heap.now name) (value heap.now arity) s n) }
     ensures there { IfOk result (IsThere heap.now) }
 {
-    match shape_of(heap, term) {
+    match shape_of(heap, &term) {
         Shape::Variable(_) => make(alloc, heap, term, name, arity),
         Shape::Compound(block) => {
             let functor = heap.names().functor_of(block.functor);
@@ -121,7 +121,7 @@ fn make(
     ensures is { IfOk result (λ answer. (s : Settings) (n : ℕ) → meant heap.now s n answer ≡ make_of (value heap.now term) (value heap.now name) (value heap.now arity) s n) }
     ensures there { IfOk result (IsThere heap.now) }
 {
-    match (shape_of(heap, name), shape_of(heap, arity)) {
+    match (shape_of(heap, &name), shape_of(heap, &arity)) {
         (Shape::Variable(_), _) | (_, Shape::Variable(_)) => unbound(alloc),
         (Shape::Compound(_), _) => wrong_type(alloc, heap, "atomic", name),
         (_, Shape::Integer(count)) if count < 0 => {
@@ -158,7 +158,7 @@ fn made(
     if count == 0 {
         return Ok(Answer::Unifies(term, name));
     }
-    let Shape::Atom(a) = shape_of(heap, name) else {
+    let Shape::Atom(a) = shape_of(heap, &name) else {
         return wrong_type(alloc, heap, "callable", name);
     };
     let functor = heap.names().atom_name(a).copied()?;
@@ -173,13 +173,13 @@ fn univ(alloc: Global, heap: &Heap, term: Cell, list: Cell) -> Result<Answer, Al
     ensures is { IfOk result (λ answer. (s : Settings) (n : ℕ) → meant heap.now s n answer ≡ univ_of (value heap.now term) (value heap.now list) s) }
     ensures there { IfOk result (IsThere heap.now) }
 {
-    match shape_of(heap, term) {
-        Shape::Variable(_) => match whole_list(alloc, heap, list)? {
+    match shape_of(heap, &term) {
+        Shape::Variable(_) => match whole_list(alloc, heap, &list)? {
             Checked::Amiss(error) => Ok(Answer::Raises(error)),
             Checked::Whole(items) => from_elements(alloc, heap, term, &items, list),
         },
         Shape::Compound(block) => {
-            let items = elements(alloc, heap, block)?;
+            let items = elements(alloc, heap, &block)?;
             is_list_of(alloc, list, &items)
         }
         _ => is_list_of(alloc, list, &[term]),
@@ -187,17 +187,17 @@ fn univ(alloc: Global, heap: &Heap, term: Cell, list: Cell) -> Result<Answer, Al
 }
 
 /// The name and the arguments of a compound.
-fn elements(alloc: Global, heap: &Heap, block: Block) -> Result<Vec<Cell>, AllocError>
+fn elements(alloc: Global, heap: &Heap, block: &Block) -> Result<Vec<Cell>, AllocError>
     requires names { IsTable heap.now.names }
-    requires block { IsBlock heap.now block.place block.functor block.arity }
-    ensures are { IfOk result (λ vs. map (value heap.now) vs.items ≡ atom (functor_name heap.now.names block.functor) ∷ terms heap.now (suc block.place) block.arity) }
+    requires block { IsBlock heap.now block.now.place block.now.functor block.now.arity }
+    ensures are { IfOk result (λ vs. map (value heap.now) vs.items ≡ atom (functor_name heap.now.names block.now.functor) ∷ terms heap.now (suc block.now.place) block.now.arity) }
     ensures there { IfOk result (λ vs. AreValues heap.now vs.items) }
 {
     let functor = heap.names().functor_of(block.functor);
     let mut items = Vec::new(alloc);
     items.push(Cell::Atom(functor.name))?;
     for k in 0..block.arity {
-        items.push(heap.argument(block.place + 1 + u32::from(k)))?;
+        items.push(heap.argument(block.place.arg(1 + u32::from(k))))?;
     }
     Ok(items)
 }
@@ -219,7 +219,7 @@ fn from_elements(
     let Some((head, arguments)) = items.split_first() else {
         return outside(alloc, heap, "non_empty_list", list);
     };
-    match shape_of(heap, *head) {
+    match shape_of(heap, head) {
         Shape::Variable(_) => unbound(alloc),
         Shape::Compound(_) => wrong_type(alloc, heap, "atomic", *head),
         _ if arguments.is_empty() => Ok(Answer::Unifies(term, *head)),

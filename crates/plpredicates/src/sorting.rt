@@ -34,7 +34,7 @@ pub(crate) fn sorting_answer(
     let [list, made] = args else {
         return Ok(Answer::Fails);
     };
-    match whole_list(alloc, heap, *list)? {
+    match whole_list(alloc, heap, list)? {
         Checked::Amiss(error) => Ok(Answer::Raises(error)),
         Checked::Whole(items) => in_order(alloc, heap, b, &items, *made),
     }
@@ -83,7 +83,7 @@ fn pair_fault(alloc: Global, heap: &Heap, v: Cell) -> Result<Option<Term>, Alloc
     requires { IsValue heap.now v }
     ensures { IfOk result (λ fault. fault ≡ pair_fault_of (value heap.now v)) }
 {
-    match shape_of(heap, v) {
+    match shape_of(heap, &v) {
         Shape::Variable(_) => Ok(Some(instantiation_error(alloc)?)),
         Shape::Compound(block) if is_pair(heap, block) => Ok(None),
         _ => Ok(Some(type_error(alloc, heap, "pair", v)?)),

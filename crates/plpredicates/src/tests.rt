@@ -29,7 +29,7 @@ fn holds(heap: &Heap, b: Tests, v: Cell) -> bool
     requires { IsValue heap.now v }
     ensures { result ≡ holds_of b (value heap.now v) }
 {
-    let shape = shape_of(heap, v);
+    let shape = shape_of(heap, &v);
     match b {
         Tests::Variable => matches!(shape, Shape::Variable(_)),
         Tests::Bound => !matches!(shape, Shape::Variable(_)),

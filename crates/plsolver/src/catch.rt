@@ -87,7 +87,7 @@ impl Progress {
         ensures err { OnErr result ((P : Given) → Stays P self.old self.new) }
         ensures walks { EndsWalks self.old.machine.stack self.new.machine.stack }
     {
-        match self.machine.ready(recovery)? {
+        match self.machine.ready(&recovery)? {
             Ready::Raises(error) => self.rethrow(error, list),
             Ready::Runs(goal) => {
                 let level = self.machine.stack.level();

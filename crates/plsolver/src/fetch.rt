@@ -56,8 +56,8 @@ impl Progress {
             unreachable!()
         };
         let heap = self.machine.stack.env().heap();
-        let p = indicator_of(self.machine.alloc, heap, head)?;
-        let key = first_key(heap, head)?;
+        let p = indicator_of(self.machine.alloc, heap, &head)?;
+        let key = first_key(heap, &head)?;
         Ok(Query::NextLike(p, key, cursor))
     }
 
@@ -67,7 +67,7 @@ impl Progress {
         ensures { IfOk result (λ q. q ≡ ExistsOf (indicator (value self.now.machine.stack.env.heap head))) }
     {
         let heap = self.machine.stack.env().heap();
-        let p = indicator_of(self.machine.alloc, heap, head)?;
+        let p = indicator_of(self.machine.alloc, heap, &head)?;
         Ok(Query::Exists(p))
     }
 

@@ -115,7 +115,7 @@ impl Progress {
         ensures walks { Onward 0 (activations self.old.machine) (in_cases self.new.machine.stack) }
         ensures asks { IfOk result (λ o. Onward 0 (activations self.old.machine) (activations self.new.machine)) }
     {
-        if !self.is_named(goal, view)? {
+        if !self.is_named(&goal, view)? {
             return Ok(Some(Pause::Fetch));
         }
         self.machine.mode = Mode::Back(Outcome::Fail);
@@ -137,7 +137,7 @@ impl Progress {
         ensures walks { Onward 0 (activations self.old.machine) (in_cases self.new.machine.stack) }
         ensures asks { IfOk result (λ o. Onward 0 (activations self.old.machine) (activations self.new.machine)) }
     {
-        if !self.is_named(head, view)? {
+        if !self.is_named(&head, view)? {
             return Ok(Some(Pause::Fetch));
         }
         self.begin_sweep(head, view);
@@ -213,7 +213,7 @@ impl Progress {
             self.machine.mode = Mode::Back(Outcome::Fail);
             return Ok(());
         }
-        let p = indicator_of(self.machine.alloc, self.machine.stack.env().heap(), goal)?;
+        let p = indicator_of(self.machine.alloc, self.machine.stack.env().heap(), &goal)?;
         self.missing(program, &p)
     }
 

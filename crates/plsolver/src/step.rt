@@ -59,8 +59,8 @@ impl Progress {
             return Ok(step);
         }
         let heap = self.machine.stack.env().heap();
-        let pred = indicator_of(self.machine.alloc, heap, head)?;
-        let key = first_key(heap, head)?;
+        let pred = indicator_of(self.machine.alloc, heap, &head)?;
+        let key = first_key(heap, &head)?;
         let lookup = Lookup {
             own,
             view,
@@ -89,9 +89,9 @@ impl Progress {
     }
 
     /// Whether an own update names the procedure of a head.
-    pub(crate) fn is_named(&self, head: Cell, view: View) -> Result<bool, AllocError>
-        requires head { IsValue self.now.machine.stack.env.heap head }
-        ensures { IfOk result (λ b. b ≡ exists (own_batch view.place view.count self.now.machine.layer.own.updates) (indicator (value self.now.machine.stack.env.heap head))) }
+    pub(crate) fn is_named(&self, head: &Cell, view: View) -> Result<bool, AllocError>
+        requires head { IsValue self.now.machine.stack.env.heap head.now }
+        ensures { IfOk result (λ b. b ≡ exists (own_batch view.place view.count self.now.machine.layer.own.updates) (indicator (value self.now.machine.stack.env.heap head.now))) }
     {
         if view.count == 0 {
             return Ok(false);

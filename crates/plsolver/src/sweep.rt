@@ -83,7 +83,7 @@ impl Progress {
             self.begin_sweep(head, view);
             return Ok(());
         }
-        let p = indicator_of(self.machine.alloc, self.machine.stack.env().heap(), head)?;
+        let p = indicator_of(self.machine.alloc, self.machine.stack.env().heap(), &head)?;
         self.machine.declare_one(program, p)
     }
 

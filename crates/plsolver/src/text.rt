@@ -20,7 +20,6 @@ use plmachine::candidate;
 use plmachine::clauses::mode_of;
 use plmachine::indicator::indicator_of;
 use plmachine::machine::{Mode, Outcome};
-use plmachine::sought::head_of;
 use plprogram::program::Program;
 use plstack::frame::Spot;
 use plstack::walk::{Entered, Walking};
@@ -42,9 +41,9 @@ impl Progress {
         ensures err { OnErr result (Stays program.now self.old self.new) }
         ensures walks { EndsWalks self.old.machine.stack self.new.machine.stack }
     {
+        let head = self.head_at(&at);
         let heap = self.machine.stack.env().heap();
-        let head = head_of(heap, at.walk.uses, at.walk.goal);
-        let p = indicator_of(self.machine.alloc, heap, head)?;
+        let p = indicator_of(self.machine.alloc, heap, &head)?;
         let clauses = program.clauses_of(&p);
         let Some(entered) = self.first_of_text(clauses, at, number)? else {
             self.machine.stack.close();

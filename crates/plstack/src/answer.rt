@@ -13,7 +13,7 @@ ghost use Rattle.plstack.specs.Answering.{Answered, PushesAnswers, TakesAnswer, 
 
 use crate::call::keep_values;
 use crate::frame::{Answers, Frame, Point, Resume};
-use crate::open::{count_up, deeper, push_frame};
+use crate::open::{count_up, deeper, push_within};
 use crate::stack::Stack;
 use crate::walk::Opened;
 use plcells::cell::Cell;
@@ -88,7 +88,7 @@ fn push_answers(frames: &mut Vec<Frame>, point: Point, count: u32, rest: Option<
     match rest {
         Some(turn) => {
             let answers = Answers { count, turn };
-            push_frame(frames, Frame::Open(point, Resume::Answers(answers)));
+            push_within(frames, Frame::Open(point, Resume::Answers(answers)));
             false
         }
         None => {
@@ -218,7 +218,7 @@ impl Stack {
             }
             Err(e) => {
                 let frame = Frame::Open(point, Resume::Answers(answers));
-                push_frame(&mut self.frames, frame);
+                push_within(&mut self.frames, frame);
                 Err(e)
             }
         }

@@ -7,7 +7,7 @@ ghost use Rattle.plstack.specs.Levels.{Choosing, FitsIn};
 ghost use Rattle.plstack.specs.State.{cases_of, goals_of, kinds_in, walks_in, AtHandler, Catches, Gathers, HasBranch, HasCatcher, HasGatherer, HasHandler, IsList, Leaves, Recovers, Retries};
 
 use crate::frame::{Frame, Handling, Marks, Resume};
-use crate::open::{count_up, push_frame};
+use crate::open::{count_up, push_within};
 use crate::stack::Stack;
 use pllinks::link::Continuation;
 use pllinks::list::ListId;
@@ -55,7 +55,10 @@ impl Stack {
         ensures basis { self.new.basis ≡ self.old.basis }
         ensures walks { walks_in self.new ≡ walks_in self.old }
     {
-        let Some(Frame::Open(point, Resume::Handle(handler))) = self.frames.pop() else {
+        let Some(Frame::Open(point, resume)) = self.frames.pop() else {
+            unreachable!()
+        };
+        let Resume::Handle(handler) = resume else {
             unreachable!()
         };
         self.env.undo(point.marks.env);
@@ -63,10 +66,8 @@ impl Stack {
         self.saved.truncate(point.marks.saved);
         self.goals = Continuation::alone(ListId::EMPTY);
         let list = point.list;
-        push_frame(
-            &mut self.frames,
-            Frame::Open(point, Resume::Handle(handler)),
-        );
+        let kept = handler;
+        push_within(&mut self.frames, Frame::Open(point, Resume::Handle(kept)));
         Handling { handler, list }
     }
 

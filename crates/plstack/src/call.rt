@@ -26,7 +26,7 @@ ghost use Rattle.plstack.specs.declared.frame.Point.{Point as OfPoint};
 use crate::fit::{Attempt, Hit, first_fit};
 use crate::frame::{Clauses, Frame, Point, Resume};
 use crate::key::first_key;
-use crate::open::{count_up, deeper, push_frame};
+use crate::open::{count_up, deeper, push_within};
 use crate::stack::Stack;
 use plcells::cell::Cell;
 use plcode::program::ProgramCode;
@@ -155,7 +155,7 @@ fn push_call(frames: &mut Vec<Frame>, point: &Point, call: Clauses, next: Option
     match next {
         Some(next) => {
             let left = Clauses { next, ..call };
-            push_frame(frames, Frame::Open(*point, Resume::Clauses(left)));
+            push_within(frames, Frame::Open(*point, Resume::Clauses(left)));
         }
         None => count_up(frames, 1),
     }

@@ -40,15 +40,15 @@ impl Stack {
                 return First::Nothing;
             };
             let behind = Continuation::alone(link.next);
-            match link.item {
+            match &link.item {
                 Item::Run(run) => {
                     list = Continuation {
-                        run,
+                        run: *run,
                         rest: link.next,
                     };
                 }
-                Item::Goal(level, v) => return First::Goal(level, v, behind),
-                Item::Marker(kind, level) => return First::Marker(kind, level, behind),
+                Item::Goal(level, v) => return First::Goal(*level, *v, behind),
+                Item::Marker(kind, level) => return First::Marker(*kind, *level, behind),
             }
         }
     }

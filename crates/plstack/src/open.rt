@@ -81,7 +81,7 @@ impl Stack {
             links: self.links.len(),
             saved: self.saved.len(),
         };
-        push_frame(&mut self.frames, Frame::Open(Point { marks, list }, resume));
+        push_within(&mut self.frames, Frame::Open(Point { marks, list }, resume));
         self.depth = depth;
         Ok(())
     }
@@ -104,7 +104,7 @@ impl Stack {
             links: self.links.len(),
             saved: self.saved.len(),
         };
-        push_frame(&mut self.frames, Frame::Open(Point { marks, list }, resume));
+        push_within(&mut self.frames, Frame::Open(Point { marks, list }, resume));
         count_up(&mut self.frames, 1);
         self.depth = depth;
         Ok(())
@@ -129,7 +129,7 @@ impl Stack {
         };
         count_up(&mut self.frames, 1);
         let undo = Frame::Open(Point { marks, list }, Resume::Undo);
-        push_frame(&mut self.frames, undo);
+        push_within(&mut self.frames, undo);
         count_up(&mut self.frames, 1);
         push_start(&mut self.basis.starts, view.count);
         self.basis.latest = view;
@@ -167,7 +167,7 @@ impl Stack {
             }
             Frame::Plain(n) => {
                 if n > 1 {
-                    push_frame(&mut self.frames, Frame::Plain(n - 1));
+                    push_within(&mut self.frames, Frame::Plain(n - 1));
                     return Some(Closed::Choice);
                 }
                 Some(Closed::Choice)
@@ -216,14 +216,14 @@ fn closed_as(resume: Resume) -> Closed
     }
 }
 
-/// One more frame, where there is room for it.
-pub(crate) fn push_frame(frames: &mut Vec<Frame>, frame: Frame)
-    requires room { vec_len frames.old < vec_capacity frames.old }
-    ensures is { frames.new.items ≡ frames.old.items ++ frame ∷ [] }
-    ensures len { vec_len frames.new ≡ vec_len frames.old + 1 }
-    ensures capacity { vec_capacity frames.old ≤ vec_capacity frames.new }
+/// One more item, where there is room for it.
+pub(crate) fn push_within<T: Copy>(items: &mut Vec<T>, item: T)
+    requires room { vec_len items.old < vec_capacity items.old }
+    ensures is { items.new.items ≡ items.old.items ++ item ∷ [] }
+    ensures len { vec_len items.new ≡ vec_len items.old + 1 }
+    ensures capacity { vec_capacity items.old ≤ vec_capacity items.new }
 {
-    match frames.push(frame) {
+    match items.push(item) {
         Ok(()) => {}
         Err(_) => unreachable!(),
     }
@@ -277,7 +277,7 @@ fn push_plain(frames: &mut Vec<Frame>, n: u64)
     ensures len { vec_len frames.new ≡ vec_len frames.old + 1 }
     ensures capacity { vec_capacity frames.old ≤ vec_capacity frames.new }
 {
-    push_frame(frames, Frame::Plain(n));
+    push_within(frames, Frame::Plain(n));
 }
 
 /// How many choices with nothing left the newest frame is, if it is such a one.

@@ -66,12 +66,19 @@ whole-term h v t s (Integer i) is other = absurd (other i refl)
 whole-term h v t s (Atom a) is other = ap (λ u. unifies u t s) is.2 ∙ sym (ap (λ u. whole (Ok t) u s) is.2)
 whole-term h v t s (Compound b) is other = let e = is.2 ∙ is.1.is in ap (λ u. unifies u t s) e ∙ sym (ap (λ u. whole (Ok t) u s) e)
 
--- five arguments
-pub list-five : (xs : List Cell) (d : Cell) → 5 ≤ length xs → length xs < 6 → xs ≡ get_or xs 0 d ∷ get_or xs 1 d ∷ get_or xs 2 d ∷ get_or xs 3 d ∷ get_or xs 4 d ∷ []
-list-five [] d ge lt = absurd (omega (arith, ge))
-list-five (a ∷ []) d ge lt = absurd (omega (arith, ge))
-list-five (a ∷ b ∷ []) d ge lt = absurd (omega (arith, ge))
-list-five (a ∷ b ∷ c ∷ []) d ge lt = absurd (omega (arith, ge))
-list-five (a ∷ b ∷ c ∷ e ∷ []) d ge lt = absurd (omega (arith, ge))
-list-five (a ∷ b ∷ c ∷ e ∷ f ∷ []) d ge lt = refl
-list-five (a ∷ b ∷ c ∷ e ∷ f ∷ g ∷ xs) d ge lt = absurd (omega (arith, lt))
+-- five arguments that were read
+pub list-five : (xs : List Cell) (a b c e f : Cell) → 5 ≤ length xs → length xs < 6 →
+    a ≡ get_or xs 0 a → b ≡ get_or xs 1 b → c ≡ get_or xs 2 c → e ≡ get_or xs 3 e → f ≡ get_or xs 4 f → xs ≡ a ∷ b ∷ c ∷ e ∷ f ∷ []
+list-five [] a b c e f ge lt p q r s t = absurd (omega (arith, ge))
+list-five (u ∷ []) a b c e f ge lt p q r s t = absurd (omega (arith, ge))
+list-five (u ∷ v ∷ []) a b c e f ge lt p q r s t = absurd (omega (arith, ge))
+list-five (u ∷ v ∷ w ∷ []) a b c e f ge lt p q r s t = absurd (omega (arith, ge))
+list-five (u ∷ v ∷ w ∷ x ∷ []) a b c e f ge lt p q r s t = absurd (omega (arith, ge))
+list-five (u ∷ v ∷ w ∷ x ∷ y ∷ []) a b c e f ge lt p q r s t =
+    let first : a ≡ u = p in
+    let second : b ≡ v = q in
+    let third : c ≡ w = r in
+    let fourth : e ≡ x = s in
+    let fifth : f ≡ y = t in
+    cc
+list-five (u ∷ v ∷ w ∷ x ∷ y ∷ z ∷ xs) a b c e f ge lt p q r s t = absurd (omega (arith, lt))

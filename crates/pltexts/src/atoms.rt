@@ -41,7 +41,7 @@ pub fn atoms_answer(
         (Atoms::Length, [text, length]) => atom_length(alloc, heap, *text, *length),
         (Atoms::Spelled(k), [text, list]) => spell(alloc, heap, k, *text, *list),
         (Atoms::CharacterCode, [c, code]) => char_code(alloc, heap, *c, *code),
-        (Atoms::NumberSpelled(k), [number, list]) => number_spelled(alloc, heap, k, *number, *list),
+        (Atoms::NumberSpelled(k), [number, list]) => number_spelled(alloc, heap, k, *number, list),
         (Atoms::Number, [text, number]) => atom_number(alloc, heap, *text, *number),
         (Atoms::Concatenation, _) => atom_concat(alloc, heap, args),
         (Atoms::Part, _) => sub_atom(alloc, heap, args),
@@ -56,7 +56,7 @@ fn atom_length(alloc: Global, heap: &Heap, text: Cell, length: Cell) -> Result<A
     ensures is { IfOk result (λ answer. (s : Settings) (n : ℕ) → meant heap.now s n answer ≡ atom_length (value heap.now text ∷ value heap.now length ∷ []) s) }
     ensures there { IfOk result (IsThere heap.now) }
 {
-    match shape_of(heap, text) {
+    match shape_of(heap, &text) {
         Shape::Variable(_) => unbound(alloc),
         Shape::Atom(name) => has_length(alloc, heap, heap.names().atom_name(name), length),
         _ => wrong_type(alloc, heap, "atom", text),
@@ -70,7 +70,7 @@ fn has_length(alloc: Global, heap: &Heap, name: &Name, length: Cell) -> Result<A
     ensures is { IfOk result (λ answer. (s : Settings) (n : ℕ) → meant heap.now s n answer ≡ has_length name.now (value heap.now length) s) }
     ensures there { IfOk result (IsThere heap.now) }
 {
-    match shape_of(heap, length) {
+    match shape_of(heap, &length) {
         Shape::Atom(_) | Shape::Compound(_) => wrong_type(alloc, heap, "integer", length),
         Shape::Integer(number) if number < 0 => {
             outside(alloc, heap, "not_less_than_zero", length)
@@ -100,7 +100,7 @@ fn spell(
     ensures is { IfOk result (λ answer. (s : Settings) (n : ℕ) → meant heap.now s n answer ≡ spell_of k (value heap.now text) (value heap.now list) s) }
     ensures there { IfOk result (IsThere heap.now) }
 {
-    match shape_of(heap, text) {
+    match shape_of(heap, &text) {
         Shape::Variable(_) => match text_in(alloc, heap, k, list)? {
             Ok(spelled) => is_atom(alloc, text, &spelled),
             Err(error) => Ok(Answer::Raises(error)),
@@ -147,14 +147,14 @@ fn char_code(alloc: Global, heap: &Heap, c: Cell, code: Cell) -> Result<Answer, 
     ensures is { IfOk result (λ answer. (s : Settings) (n : ℕ) → meant heap.now s n answer ≡ char_code_of (value heap.now c) (value heap.now code) s) }
     ensures there { IfOk result (IsThere heap.now) }
 {
-    if let Shape::Variable(_) = shape_of(heap, c) {
+    if let Shape::Variable(_) = shape_of(heap, &c) {
         return match character_of(alloc, heap, Spelling::Codes, code)? {
             Ok(found) => is_character(alloc, c, found),
             Err(error) => Ok(Answer::Raises(error)),
         };
     }
     match character_of(alloc, heap, Spelling::Characters, c)? {
-        Ok(found) => has_code(alloc, heap, found, code),
+        Ok(found) => has_code(alloc, heap, found, &code),
         Err(error) => Ok(Answer::Raises(error)),
     }
 }
@@ -170,16 +170,16 @@ fn is_character(alloc: Global, v: Cell, c: char) -> Result<Answer, AllocError>
 }
 
 /// Whether a value is the code of a character, or can be.
-fn has_code(alloc: Global, heap: &Heap, c: char, code: Cell) -> Result<Answer, AllocError>
-    requires { IsValue heap.now code }
-    ensures is { IfOk result (λ answer. (s : Settings) (n : ℕ) → meant heap.now s n answer ≡ has_code_of (Ok c) (value heap.now code) s) }
+fn has_code(alloc: Global, heap: &Heap, c: char, code: &Cell) -> Result<Answer, AllocError>
+    requires { IsValue heap.now code.now }
+    ensures is { IfOk result (λ answer. (s : Settings) (n : ℕ) → meant heap.now s n answer ≡ has_code_of (Ok c) (value heap.now code.now) s) }
     ensures there { IfOk result (IsThere heap.now) }
 {
-    let answer = Answer::Unifies(code, Cell::Int(u32::from(c) as i32));
+    let answer = Answer::Unifies(*code, Cell::Int(u32::from(c) as i32));
     if let Shape::Variable(_) = shape_of(heap, code) {
         return Ok(answer);
     }
-    match character_of(alloc, heap, Spelling::Codes, code)? {
+    match character_of(alloc, heap, Spelling::Codes, *code)? {
         Ok(_) => Ok(answer),
         Err(error) => Ok(Answer::Raises(error)),
     }
@@ -191,20 +191,20 @@ fn number_spelled(
     heap: &Heap,
     k: Spelling,
     number: Cell,
-    list: Cell,
+    list: &Cell,
 ) -> Result<Answer, AllocError>
     requires number { IsValue heap.now number }
-    requires list { IsValue heap.now list }
-    ensures is { IfOk result (λ answer. (s : Settings) (n : ℕ) → meant heap.now s n answer ≡ number_spelled_of k (value heap.now number) (value heap.now list) (text_in_term k (value heap.now list)) s) }
+    requires list { IsValue heap.now list.now }
+    ensures is { IfOk result (λ answer. (s : Settings) (n : ℕ) → meant heap.now s n answer ≡ number_spelled_of k (value heap.now number) (value heap.now list.now) (text_in_term k (value heap.now list.now)) s) }
     ensures there { IfOk result (IsThere heap.now) }
 {
-    let shape = shape_of(heap, number);
+    let shape = shape_of(heap, &number);
     if let Shape::Atom(_) | Shape::Compound(_) = shape {
         return wrong_type(alloc, heap, "number", number);
     }
-    match (text_in(alloc, heap, k, list)?, shape) {
+    match (text_in(alloc, heap, k, *list)?, shape) {
         (Ok(text), _) => is_number(alloc, number, text.as_str()),
-        (Err(_), Shape::Integer(i)) => is_number_spelled(alloc, k, list, i),
+        (Err(_), Shape::Integer(i)) => is_number_spelled(alloc, k, *list, i),
         (Err(error), _) => Ok(Answer::Raises(error)),
     }
 }
@@ -227,7 +227,7 @@ fn atom_number(alloc: Global, heap: &Heap, text: Cell, number: Cell) -> Result<A
     ensures is { IfOk result (λ answer. (s : Settings) (n : ℕ) → meant heap.now s n answer ≡ atom_number_of (value heap.now text) (value heap.now number) s) }
     ensures there { IfOk result (IsThere heap.now) }
 {
-    match (shape_of(heap, text), shape_of(heap, number)) {
+    match (shape_of(heap, &text), shape_of(heap, &number)) {
         (Shape::Variable(_), Shape::Variable(_)) => unbound(alloc),
         (Shape::Variable(_), Shape::Integer(i)) => {
             let mut buffer = Buffer::new();

@@ -46,7 +46,7 @@ pub(crate) fn current_op(
     ensures is { IfOk result (λ answer. (n : ℕ) → meant heap.now settings.now n answer ≡ current_op_of (value heap.now op.priority) (value heap.now op.kind) (value heap.now op.name) settings.now) }
     ensures there { IfOk result (IsThere heap.now) }
 {
-    match operator_error(alloc, heap, op)? {
+    match operator_error(alloc, heap, &op)? {
         Some(error) => Ok(Answer::Raises(error)),
         None => {
             let ops = settings.operators.list(alloc)?;
@@ -61,11 +61,11 @@ pub(crate) fn current_op(
 }
 
 /// The first error of its arguments.
-fn operator_error(alloc: Global, heap: &Heap, op: Pattern) -> Result<Option<Term>, AllocError>
-    requires priority { IsValue heap.now op.priority }
-    requires kind { IsValue heap.now op.kind }
-    requires name { IsValue heap.now op.name }
-    ensures { IfOk result (λ error. error ≡ first_error (priority_error (value heap.now op.priority) ∷ specifier_error (value heap.now op.kind) ∷ atom_error_of (value heap.now op.name) ∷ [])) }
+fn operator_error(alloc: Global, heap: &Heap, op: &Pattern) -> Result<Option<Term>, AllocError>
+    requires priority { IsValue heap.now op.now.priority }
+    requires kind { IsValue heap.now op.now.kind }
+    requires name { IsValue heap.now op.now.name }
+    ensures { IfOk result (λ error. error ≡ first_error (priority_error (value heap.now op.now.priority) ∷ specifier_error (value heap.now op.now.kind) ∷ atom_error_of (value heap.now op.now.name) ∷ [])) }
 {
     if let Some(error) = priority_error(alloc, heap, op.priority)? {
         return Ok(Some(error));
@@ -81,7 +81,7 @@ fn priority_error(alloc: Global, heap: &Heap, v: Cell) -> Result<Option<Term>, A
     requires { IsValue heap.now v }
     ensures { IfOk result (λ error. error ≡ priority_error (value heap.now v)) }
 {
-    match shape_of(heap, v) {
+    match shape_of(heap, &v) {
         Shape::Variable(_) => Ok(None),
         Shape::Integer(number) if number >= 0 && number <= 1200 => Ok(None),
         _ => Ok(Some(outside_error(alloc, heap, "operator_priority", v)?)),
@@ -93,7 +93,7 @@ fn specifier_error(alloc: Global, heap: &Heap, v: Cell) -> Result<Option<Term>, 
     requires { IsValue heap.now v }
     ensures { IfOk result (λ error. error ≡ specifier_error (value heap.now v)) }
 {
-    match shape_of(heap, v) {
+    match shape_of(heap, &v) {
         Shape::Variable(_) => Ok(None),
         Shape::Atom(name) if kind_named(heap.names().atom_name(name).as_str()).is_some() => {
             Ok(None)
@@ -151,7 +151,7 @@ pub(crate) fn current_flag(
     ensures is { IfOk result (λ answer. (n : ℕ) → meant heap.now settings.now n answer ≡ current_flag_of (value heap.now flag) (value heap.now v) settings.now) }
     ensures there { IfOk result (IsThere heap.now) }
 {
-    match flag_error(alloc, heap, flag)? {
+    match flag_error(alloc, heap, &flag)? {
         Some(error) => Ok(Answer::Raises(error)),
         None => {
             let groups = flag_groups(alloc, settings)?;
@@ -161,15 +161,15 @@ pub(crate) fn current_flag(
 }
 
 /// The error of a value that is to be a variable or the name of a flag.
-fn flag_error(alloc: Global, heap: &Heap, v: Cell) -> Result<Option<Term>, AllocError>
-    requires { IsValue heap.now v }
-    ensures { IfOk result (λ error. error ≡ flag_error (value heap.now v)) }
+fn flag_error(alloc: Global, heap: &Heap, v: &Cell) -> Result<Option<Term>, AllocError>
+    requires { IsValue heap.now v.now }
+    ensures { IfOk result (λ error. error ≡ flag_error (value heap.now v.now)) }
 {
     match shape_of(heap, v) {
         Shape::Variable(_) => Ok(None),
         Shape::Atom(name) if is_flag(heap.names().atom_name(name).as_str()) => Ok(None),
-        Shape::Atom(_) => Ok(Some(outside_error(alloc, heap, "prolog_flag", v)?)),
-        _ => Ok(Some(type_error(alloc, heap, "atom", v)?)),
+        Shape::Atom(_) => Ok(Some(outside_error(alloc, heap, "prolog_flag", *v)?)),
+        _ => Ok(Some(type_error(alloc, heap, "atom", *v)?)),
     }
 }
 

@@ -49,7 +49,7 @@ pub fn flags_answer(
 {
     match (b, args) {
         (Flags::Operator, [priority, kind, names]) => {
-            match asked(alloc, heap, *priority, *kind, *names)? {
+            match asked(alloc, heap, *priority, *kind, names)? {
                 Ok(asked) => operators(alloc, settings, &asked),
                 Err(error) => Ok(Answer::Raises(error)),
             }
@@ -74,19 +74,19 @@ fn asked(
     heap: &Heap,
     priority: Cell,
     kind: Cell,
-    names: Cell,
+    names: &Cell,
 ) -> Result<Result<Declaration, Term>, AllocError>
     requires priority { IsValue heap.now priority }
     requires kind { IsValue heap.now kind }
-    requires names { IsValue heap.now names }
-    ensures { IfOk result (λ r. asked_as r ≡ asked_of (value heap.now priority) (value heap.now kind) (value heap.now names)) }
+    requires names { IsValue heap.now names.now }
+    ensures { IfOk result (λ r. asked_as r ≡ asked_of (value heap.now priority) (value heap.now kind) (value heap.now names.now)) }
 {
-    let list = elements_of(alloc, heap, names)?;
-    if is_variable(heap, priority) || is_variable(heap, kind) || is_partial(heap, &list) {
+    let list = elements_of(alloc, heap, *names)?;
+    if is_variable(heap, &priority) || is_variable(heap, &kind) || is_partial(heap, &list) {
         return Ok(Err(error::instantiation_error(alloc)?));
     }
-    match (shape_of(heap, priority), shape_of(heap, kind)) {
-        (Shape::Integer(number), Shape::Atom(name)) => match names_in(alloc, heap, names, &list)? {
+    match (shape_of(heap, &priority), shape_of(heap, &kind)) {
+        (Shape::Integer(number), Shape::Atom(name)) => match names_in(alloc, heap, *names, &list)? {
             Ok(found) => of_domains(alloc, heap, number, name, found),
             Err(error) => Ok(Err(error)),
         },
@@ -154,7 +154,7 @@ fn names_of(
 {
     let mut names = Vec::new(alloc);
     for v in items {
-        match shape_of(heap, *v) {
+        match shape_of(heap, v) {
             Shape::Atom(name) => names.push(heap.names().atom_name(name).copied()?)?,
             _ => return Ok(Err(type_error(alloc, heap, "atom", *v)?)),
         }
@@ -167,7 +167,7 @@ fn one_name(alloc: Global, heap: &Heap, v: Cell) -> Result<Result<Vec<Name>, Ter
     requires { IsValue heap.now v }
     ensures { IfOk result (λ r. names_as r ≡ one_name_of (value heap.now v)) }
 {
-    let Shape::Atom(name) = shape_of(heap, v) else {
+    let Shape::Atom(name) = shape_of(heap, &v) else {
         return Ok(Err(type_error(alloc, heap, "list", v)?));
     };
     let name = heap.names().atom_name(name).copied()?;
@@ -215,11 +215,11 @@ fn set_flag(
     ensures is { IfOk result (λ answer. (n : ℕ) → meant heap.now settings.now n answer ≡ set_flag_of (value heap.now flag) (value heap.now v) settings.now) }
     ensures there { IfOk result (IsThere heap.now) }
 {
-    match (shape_of(heap, flag), shape_of(heap, v)) {
+    match (shape_of(heap, &flag), shape_of(heap, &v)) {
         (Shape::Variable(_), _) | (_, Shape::Variable(_)) => unbound(alloc),
         (Shape::Atom(name), _) => {
             let name = heap.names().atom_name(name).as_str();
-            match flag_named(name, value_named(heap, v)) {
+            match flag_named(name, value_named(heap, &v)) {
                 Ok(to) => set_to(alloc, settings, to),
                 Err(error) => unset(alloc, heap, error, flag, v),
             }
@@ -229,9 +229,9 @@ fn set_flag(
 }
 
 /// The name that a value is.
-fn value_named(heap: &Heap, v: Cell) -> Option<&Name>
-    requires { IsValue heap.now v }
-    ensures { option_copied result ≡ value_named (value heap.now v) }
+fn value_named<'h>(heap: &'h Heap, v: &Cell) -> Option<&'h Name>
+    requires { IsValue heap.now v.now }
+    ensures { option_copied result ≡ value_named (value heap.now v.now) }
 {
     match shape_of(heap, v) {
         Shape::Atom(name) => Some(heap.names().atom_name(name)),

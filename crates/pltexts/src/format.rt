@@ -67,11 +67,11 @@ pub(crate) fn format(
     ensures is { IfOk result (λ answer. (n : ℕ) → meant heap.now settings.now n answer ≡ format_to (value heap.now control) (given heap.now arguments) settings.now) }
     ensures there { IfOk result (IsThere heap.now) }
 {
-    let pieces = match control_pieces(alloc, heap, control)? {
+    let pieces = match control_pieces(alloc, heap, &control)? {
         Ok(pieces) => pieces,
         Err(error) => return Ok(Answer::Raises(error)),
     };
-    let values = values_of(alloc, heap, arguments)?;
+    let values = values_of(alloc, heap, &arguments)?;
     let call = Call {
         control,
         pieces,
@@ -88,10 +88,10 @@ pub(crate) fn format(
 fn control_pieces(
     alloc: Global,
     heap: &Heap,
-    v: Cell,
+    v: &Cell,
 ) -> Result<Result<Vec<Piece>, Term>, AllocError>
-    requires { IsValue heap.now v }
-    ensures { IfOk result (λ r. pieces_as r ≡ pieces_of_text (control_text (value heap.now v))) }
+    requires { IsValue heap.now v.now }
+    ensures { IfOk result (λ r. pieces_as r ≡ pieces_of_text (control_text (value heap.now v.now))) }
 {
     match shape_of(heap, v) {
         Shape::Atom(name) => {
@@ -107,21 +107,21 @@ fn control_pieces(
 fn listed_pieces(
     alloc: Global,
     heap: &Heap,
-    v: Cell,
+    v: &Cell,
 ) -> Result<Result<Vec<Piece>, Term>, AllocError>
-    requires { IsValue heap.now v }
-    ensures { IfOk result (λ r. pieces_as r ≡ pieces_of_text (listed_text (text_in_term Codes (value heap.now v)) (text_in_term Characters (value heap.now v)) (value heap.now v))) }
+    requires { IsValue heap.now v.now }
+    ensures { IfOk result (λ r. pieces_as r ≡ pieces_of_text (listed_text (text_in_term Codes (value heap.now v.now)) (text_in_term Characters (value heap.now v.now)) (value heap.now v.now))) }
 {
-    if let Ok(text) = text_in(alloc, heap, Spelling::Codes, v)? {
+    if let Ok(text) = text_in(alloc, heap, Spelling::Codes, *v)? {
         return Ok(Ok(pieces_of(alloc, text.as_bytes())?));
     }
-    if let Ok(text) = text_in(alloc, heap, Spelling::Characters, v)? {
+    if let Ok(text) = text_in(alloc, heap, Spelling::Characters, *v)? {
         return Ok(Ok(pieces_of(alloc, text.as_bytes())?));
     }
-    if is_partial(heap, &elements_of(alloc, heap, v)?) {
+    if is_partial(heap, &elements_of(alloc, heap, *v)?) {
         return Ok(Err(error::instantiation_error(alloc)?));
     }
-    Ok(Err(type_error(alloc, heap, "atom", v)?))
+    Ok(Err(type_error(alloc, heap, "atom", *v)?))
 }
 
 /// The pieces of a text.
@@ -162,18 +162,18 @@ fn behind_tilde(c: u8) -> Piece
 }
 
 /// The values of arguments: the elements of a list, or one value.
-fn values_of(alloc: Global, heap: &Heap, arguments: Option<Cell>) -> Result<Vec<Cell>, AllocError>
-    requires { IsGiven heap.now arguments }
-    ensures are { IfOk result (λ vs. map (value heap.now) vs.items ≡ arguments_of (given heap.now arguments)) }
+fn values_of(alloc: Global, heap: &Heap, arguments: &Option<Cell>) -> Result<Vec<Cell>, AllocError>
+    requires { IsGiven heap.now arguments.now }
+    ensures are { IfOk result (λ vs. map (value heap.now) vs.items ≡ arguments_of (given heap.now arguments.now)) }
     ensures there { IfOk result (λ vs. AreValues heap.now vs.items) }
 {
     let Some(v) = arguments else {
         return Ok(Vec::new(alloc));
     };
-    let list = elements_of(alloc, heap, v)?;
+    let list = elements_of(alloc, heap, *v)?;
     match list.tail {
         Tail::Empty => Ok(list.items),
-        Tail::Unbound | Tail::Other => Ok(vec![in alloc; v]?),
+        Tail::Unbound | Tail::Other => Ok(vec![in alloc; *v]?),
     }
 }
 
@@ -240,7 +240,7 @@ fn argument_text(
     requires { IsValue heap.now v }
     ensures { IfOk result (λ r. text_as r ≡ argument_text_of (directive_as directive) (value heap.now v) settings.now) }
 {
-    match (directive, shape_of(heap, v)) {
+    match (directive, shape_of(heap, &v)) {
         (Directive::Written(style), _) => {
             let term = heap.take(alloc, v)?;
             Ok(Ok(write_term(alloc, &term, &settings.operators, style)?))

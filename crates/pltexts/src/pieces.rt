@@ -61,9 +61,9 @@ fn parts_in(alloc: Global, heap: &Heap, v: Cell, sought: Sought) -> Result<Answe
     ensures is { IfOk result (λ answer. (s : Settings) (n : ℕ) → meant heap.now s n answer ≡ sub_atom_of (value heap.now v ∷ sought_terms heap.now sought) s) }
     ensures there { IfOk result (IsThere heap.now) }
 {
-    match shape_of(heap, v) {
+    match shape_of(heap, &v) {
         Shape::Variable(_) => unbound(alloc),
-        Shape::Atom(name) => match part_error(alloc, heap, sought)? {
+        Shape::Atom(name) => match part_error(alloc, heap, &sought)? {
             Some(error) => Ok(Answer::Raises(error)),
             None => parts(alloc, heap, v, name, sought),
         },
@@ -72,12 +72,12 @@ fn parts_in(alloc: Global, heap: &Heap, v: Cell, sought: Sought) -> Result<Answe
 }
 
 /// The first error of the arguments behind the atom.
-fn part_error(alloc: Global, heap: &Heap, sought: Sought) -> Result<Option<Term>, AllocError>
-    requires before { IsValue heap.now sought.before }
-    requires length { IsValue heap.now sought.length }
-    requires after { IsValue heap.now sought.after }
-    requires text { IsValue heap.now sought.text }
-    ensures { IfOk result (λ error. error ≡ first_error (atom_error_of (value heap.now sought.text) ∷ count_error (value heap.now sought.before) ∷ count_error (value heap.now sought.length) ∷ count_error (value heap.now sought.after) ∷ [])) }
+fn part_error(alloc: Global, heap: &Heap, sought: &Sought) -> Result<Option<Term>, AllocError>
+    requires before { IsValue heap.now sought.now.before }
+    requires length { IsValue heap.now sought.now.length }
+    requires after { IsValue heap.now sought.now.after }
+    requires text { IsValue heap.now sought.now.text }
+    ensures { IfOk result (λ error. error ≡ first_error (atom_error_of (value heap.now sought.now.text) ∷ count_error (value heap.now sought.now.before) ∷ count_error (value heap.now sought.now.length) ∷ count_error (value heap.now sought.now.after) ∷ [])) }
 {
     if let Some(error) = atom_error(alloc, heap, sought.text)? {
         return Ok(Some(error));
@@ -96,7 +96,7 @@ fn count_error(alloc: Global, heap: &Heap, v: Cell) -> Result<Option<Term>, Allo
     requires { IsValue heap.now v }
     ensures { IfOk result (λ error. error ≡ count_error (value heap.now v)) }
 {
-    match shape_of(heap, v) {
+    match shape_of(heap, &v) {
         Shape::Variable(_) => Ok(None),
         Shape::Integer(count) if count < 0 => {
             Ok(Some(outside_error(alloc, heap, "not_less_than_zero", v)?))
@@ -151,7 +151,7 @@ pub(crate) fn atom_concat(alloc: Global, heap: &Heap, args: &[Cell]) -> Result<A
     };
     match concatenation_error(alloc, heap, *front, *back, *whole)? {
         Some(error) => Ok(Answer::Raises(error)),
-        None => concatenated(alloc, heap, *front, *back, *whole),
+        None => concatenated(alloc, heap, front, back, whole),
     }
 }
 
@@ -168,7 +168,7 @@ fn concatenation_error(
     requires whole { IsValue heap.now whole }
     ensures { IfOk result (λ error. error ≡ first_error (lacks (value heap.now front) (value heap.now back) (value heap.now whole) ∷ atomic_error (value heap.now front) ∷ atomic_error (value heap.now back) ∷ atomic_error (value heap.now whole) ∷ [])) }
 {
-    if is_variable(heap, whole) && (is_variable(heap, front) || is_variable(heap, back)) {
+    if is_variable(heap, &whole) && (is_variable(heap, &front) || is_variable(heap, &back)) {
         return Ok(Some(instantiation_error(alloc)?));
     }
     if let Some(error) = atomic_error(alloc, heap, front)? {
@@ -185,7 +185,7 @@ fn atomic_error(alloc: Global, heap: &Heap, v: Cell) -> Result<Option<Term>, All
     requires { IsValue heap.now v }
     ensures { IfOk result (λ error. error ≡ atomic_error (value heap.now v)) }
 {
-    match shape_of(heap, v) {
+    match shape_of(heap, &v) {
         Shape::Compound(_) => Ok(Some(type_error(alloc, heap, "atomic", v)?)),
         _ => Ok(None),
     }
@@ -195,21 +195,21 @@ fn atomic_error(alloc: Global, heap: &Heap, v: Cell) -> Result<Option<Term>, All
 fn concatenated(
     alloc: Global,
     heap: &Heap,
-    front: Cell,
-    back: Cell,
-    whole: Cell,
+    front: &Cell,
+    back: &Cell,
+    whole: &Cell,
 ) -> Result<Answer, AllocError>
-    requires front { IsValue heap.now front }
-    requires back { IsValue heap.now back }
-    requires whole { IsValue heap.now whole }
-    ensures is { IfOk result (λ answer. (s : Settings) (n : ℕ) → meant heap.now s n answer ≡ concatenated (text_in (value heap.now front)) (text_in (value heap.now back)) (value heap.now front) (value heap.now back) (value heap.now whole) s) }
+    requires front { IsValue heap.now front.now }
+    requires back { IsValue heap.now back.now }
+    requires whole { IsValue heap.now whole.now }
+    ensures is { IfOk result (λ answer. (s : Settings) (n : ℕ) → meant heap.now s n answer ≡ concatenated (text_in (value heap.now front.now)) (text_in (value heap.now back.now)) (value heap.now front.now) (value heap.now back.now) (value heap.now whole.now) s) }
     ensures there { IfOk result (IsThere heap.now) }
 {
-    match (text_of(alloc, heap, front)?, text_of(alloc, heap, back)?) {
+    match (text_of(alloc, heap, *front)?, text_of(alloc, heap, *back)?) {
         (Some(first), Some(second)) => {
             let mut text = String::from_str(alloc, first.as_str())?;
             text.push_str(second.as_str())?;
-            is_whole(alloc, heap, whole, &text)
+            is_whole(alloc, heap, *whole, &text)
         }
         _ => divided(alloc, heap, front, back, whole),
     }
@@ -225,7 +225,7 @@ fn is_whole(alloc: Global, heap: &Heap, v: Cell, text: &str) -> Result<Answer, A
         Ok(term) => term,
         Err(error) => return Ok(Answer::Raises(error)),
     };
-    match shape_of(heap, v) {
+    match shape_of(heap, &v) {
         Shape::Integer(i) => {
             let mut buffer = Buffer::new();
             Ok(are_terms(alloc, atom(alloc, buffer.format(i))?, term))
@@ -238,25 +238,25 @@ fn is_whole(alloc: Global, heap: &Heap, v: Cell, text: &str) -> Result<Answer, A
 fn divided(
     alloc: Global,
     heap: &Heap,
-    front: Cell,
-    back: Cell,
-    whole: Cell,
+    front: &Cell,
+    back: &Cell,
+    whole: &Cell,
 ) -> Result<Answer, AllocError>
-    requires front { IsValue heap.now front }
-    requires back { IsValue heap.now back }
-    requires whole { IsValue heap.now whole }
-    ensures is { IfOk result (λ answer. (s : Settings) (n : ℕ) → meant heap.now s n answer ≡ divided (text_in (value heap.now whole)) (as_text (value heap.now front) ∷ as_text (value heap.now back) ∷ []) s) }
+    requires front { IsValue heap.now front.now }
+    requires back { IsValue heap.now back.now }
+    requires whole { IsValue heap.now whole.now }
+    ensures is { IfOk result (λ answer. (s : Settings) (n : ℕ) → meant heap.now s n answer ≡ divided (text_in (value heap.now whole.now)) (as_text (value heap.now front.now) ∷ as_text (value heap.now back.now) ∷ []) s) }
     ensures there { IfOk result (IsThere heap.now) }
 {
-    let Some(name) = text_of(alloc, heap, whole)? else {
+    let Some(name) = text_of(alloc, heap, *whole)? else {
         return Ok(Answer::Fails);
     };
     let text = name.as_str();
     let split = all_splits(text);
     if text.is_empty() {
-        let equation = split_equation(alloc, heap, (front, back), text, split)?;
+        let equation = split_equation(alloc, heap, (*front, *back), text, split)?;
         return Ok(Answer::Solves(equation));
     }
-    let values = vec![in alloc; front, back, whole]?;
+    let values = vec![in alloc; *front, *back, *whole]?;
     Ok(Answer::Several(values, Turn::Split(split)))
 }

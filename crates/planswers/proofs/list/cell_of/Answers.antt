@@ -31,7 +31,7 @@ returns-then-eq-clause-some c =
     let one = c.argument.ensures in
     let two = c.argument-then-eq.ensures in
     subst (λ t. IsCell h t c.argument.result c.argument-then-eq.result) e
-    (cell_at h c.in-Str.p f c.block-f.result.1 c.as_str.result.now c.block-f.ensures.block named c.argument.result c.argument-then-eq.result c.if-arity-ne2.false (sym c.eq.ensures ∙ c.if-eq.true) one.fits two.fits one.same two.same)
+    (cell_at h c.in-Str.p f c.block-f.result.1 c.as_str.result.now c.block-f.ensures.block named c.argument.result c.argument-then-eq.result c.if-arity-ne2.false (sym c.eq.ensures ∙ c.if-eq.true) one.fits two.fits (rw c.arg.ensures at one.same) (rw c.arg-then-eq.ensures at two.same))
 
 pub returns-else-eq-clause-none : goal.returns-else-eq-clause-none
 returns-else-eq-clause-none c =

@@ -12,7 +12,7 @@ returns-in-1 c =
     let h = c.args.heap.now in
     let f = c.block-f.result.0 in
     let named = c.atom_name-name.ensures.is ∙ ap (λ t. atom_at t c.functor_of-functor.result.name) c.names-2.ensures ∙ ap (λ k. atom_at h.names k.name) (c.functor_of-functor.ensures.is ∙ ap (λ t. functor_at t f) c.names.ensures) in
-    let opens = block_of_one h c.args.p f c.block-f.result.1 c.atom_name-name.result.now c.block-f.ensures.block named c.argument.result c.in-1.is c.argument.ensures.same c.argument.ensures.fits in
+    let opens = block_of_one h c.args.p f c.block-f.result.1 c.atom_name-name.result.now c.block-f.ensures.block named c.argument.result c.in-1.is (rw c.arg.ensures at c.argument.ensures.same) c.argument.ensures.fits in
     IfOk-weaker _ _ _ (λ o e. subst (Opens (tree h) (IsOperand h) (term h c.args.p)) (sym e) opens) c.of_one.ensures
 
 pub returns-in-2 : goal.returns-in-2
@@ -21,7 +21,7 @@ returns-in-2 c =
     let f = c.block-f.result.0 in
     let named = c.atom_name-name.ensures.is ∙ ap (λ t. atom_at t c.functor_of-functor.result.name) c.names-2.ensures ∙ ap (λ k. atom_at h.names k.name) (c.functor_of-functor.ensures.is ∙ ap (λ t. functor_at t f) c.names.ensures) in
     let opens =
-    block_of_two h c.args.p f c.block-f.result.1 c.atom_name-name.result.now c.block-f.ensures.block named c.argument-in-2.result c.argument-in-2-2.result c.in-2.is c.argument-in-2.ensures.same c.argument-in-2-2.ensures.same c.argument-in-2.ensures.fits
+    block_of_two h c.args.p f c.block-f.result.1 c.atom_name-name.result.now c.block-f.ensures.block named c.argument-in-2.result c.argument-in-2-2.result c.in-2.is (rw c.arg-in-2.ensures at c.argument-in-2.ensures.same) (rw c.arg-in-2-2.ensures at c.argument-in-2-2.ensures.same) c.argument-in-2.ensures.fits
     c.argument-in-2-2.ensures.fits in
     IfOk-weaker _ _ _ (λ o e. subst (Opens (tree h) (IsOperand h) (term h c.args.p)) (sym e) opens) c.of_two.ensures
 

@@ -8,37 +8,37 @@ use Rattle.plbind.proofs.Work.{taken_inside, taken_left, taken_right, taken_ligh
 use Rattle.plbind.proofs.unify.descend.Goals as goal
 
 pub argument-requires-clause-within : goal.argument-requires-clause-within
-argument-requires-clause-within c = (taken_left c.args.heap.now c.args.work.now.items c.loop-a.work.items c.pop.new.self.items c.in-Some.a c.in-Some.b c.in-Some.ensures.items c.loop-a.invariant.inside).0
+argument-requires-clause-within c = (taken_left c.args.heap.now c.args.work.now.items c.loop-pair.work.items c.pop.new.self.items c.in-Some.pair.0 c.in-Some.pair.1 c.in-Some.ensures.items c.loop-pair.invariant.inside).0
 
 pub argument-requires-clause-plain : goal.argument-requires-clause-plain
-argument-requires-clause-plain c = (taken_left c.args.heap.now c.args.work.now.items c.loop-a.work.items c.pop.new.self.items c.in-Some.a c.in-Some.b c.in-Some.ensures.items c.loop-a.invariant.inside).1
+argument-requires-clause-plain c = (taken_left c.args.heap.now c.args.work.now.items c.loop-pair.work.items c.pop.new.self.items c.in-Some.pair.0 c.in-Some.pair.1 c.in-Some.ensures.items c.loop-pair.invariant.inside).1
 
 pub argument-requires-in-Some-clause-within : goal.argument-requires-in-Some-clause-within
-argument-requires-in-Some-clause-within c = (taken_right c.args.heap.now c.args.work.now.items c.loop-a.work.items c.pop.new.self.items c.in-Some.a c.in-Some.b c.in-Some.ensures.items c.loop-a.invariant.inside).0
+argument-requires-in-Some-clause-within c = (taken_right c.args.heap.now c.args.work.now.items c.loop-pair.work.items c.pop.new.self.items c.in-Some.pair.0 c.in-Some.pair.1 c.in-Some.ensures.items c.loop-pair.invariant.inside).0
 
 pub argument-requires-in-Some-clause-plain : goal.argument-requires-in-Some-clause-plain
-argument-requires-in-Some-clause-plain c = (taken_right c.args.heap.now c.args.work.now.items c.loop-a.work.items c.pop.new.self.items c.in-Some.a c.in-Some.b c.in-Some.ensures.items c.loop-a.invariant.inside).1
+argument-requires-in-Some-clause-plain c = (taken_right c.args.heap.now c.args.work.now.items c.loop-pair.work.items c.pop.new.self.items c.in-Some.pair.0 c.in-Some.pair.1 c.in-Some.ensures.items c.loop-pair.invariant.inside).1
 
-pub loop-a-smaller-in-Same : goal.loop-a-smaller-in-Same
-loop-a-smaller-in-Same c = taken_lighter c.args.heap.now c.args.work.now.items c.loop-a.work.items c.pop.new.self.items c.in-Some.a c.in-Some.b c.in-Some.ensures.items
+pub loop-pair-smaller-in-Same : goal.loop-pair-smaller-in-Same
+loop-pair-smaller-in-Same c = taken_lighter c.args.heap.now c.args.work.now.items c.loop-pair.work.items c.pop.new.self.items c.in-Some.pair.0 c.in-Some.pair.1 c.in-Some.ensures.items
 
-pub loop-a-preserved-in-Same : goal.loop-a-preserved-in-Same
+pub loop-pair-preserved-in-Same : goal.loop-pair-preserved-in-Same
 unfolding Says
-loop-a-preserved-in-Same c =
+loop-pair-preserved-in-Same c =
     let h = c.args.heap.now in
-    let says = says-along h (value h c.argument.result) (value h c.argument-in-Some.result) (term h c.in-Some.a) (term h c.in-Some.b) Same c.argument.ensures.same c.argument-in-Some.ensures.same c.in-Same.ensures in
+    let says = says-along h (value h c.argument.result) (value h c.argument-in-Some.result) (term h c.in-Some.pair.0) (term h c.in-Some.pair.1) Same c.argument.ensures.same c.argument-in-Some.ensures.same c.in-Same.ensures in
     record {
-      inside = taken_inside h c.args.work.now.items c.loop-a.work.items c.pop.new.self.items c.in-Some.a c.in-Some.b c.in-Some.ensures.items c.loop-a.invariant.inside;
-      same = equal_same h c.args.work.now.items c.loop-a.work.items c.pop.new.self.items c.in-Some.a c.in-Some.b c.in-Some.ensures.items says c.loop-a.invariant.same;
+      inside = taken_inside h c.args.work.now.items c.loop-pair.work.items c.pop.new.self.items c.in-Some.pair.0 c.in-Some.pair.1 c.in-Some.ensures.items c.loop-pair.invariant.inside;
+      same = equal_same h c.args.work.now.items c.loop-pair.work.items c.pop.new.self.items c.in-Some.pair.0 c.in-Some.pair.1 c.in-Some.ensures.items says c.loop-pair.invariant.same;
     }
 
-pub overflow_add-p : goal.overflow_add-p
+pub arg-requires : goal.arg-requires
 unfolding Says
-overflow_add-p c = omega (arith, c.in-Args.ensures.left, c.in-Args.ensures.few)
+arg-requires c = omega (arith, c.in-Args.ensures.left, c.in-Args.ensures.few)
 
-pub overflow_add-q : goal.overflow_add-q
+pub arg-requires-in-Args : goal.arg-requires-in-Args
 unfolding Says
-overflow_add-q c = omega (arith, c.in-Args.ensures.right, c.in-Args.ensures.few)
+arg-requires-in-Args c = omega (arith, c.in-Args.ensures.right, c.in-Args.ensures.few)
 
 pub push_pairs-requires-clause-left : goal.push_pairs-requires-clause-left
 unfolding Says
@@ -48,46 +48,46 @@ pub push_pairs-requires-clause-right : goal.push_pairs-requires-clause-right
 unfolding Says
 push_pairs-requires-clause-right c = omega (arith, c.in-Args.ensures.right, c.in-Args.ensures.few)
 
-pub loop-a-smaller : goal.loop-a-smaller
+pub loop-pair-smaller : goal.loop-pair-smaller
 unfolding Says
-loop-a-smaller c =
+loop-pair-smaller c =
     let h = c.args.heap.now in
-    let says = says-along h (value h c.argument.result) (value h c.argument-in-Some.result) (term h c.in-Some.a) (term h c.in-Some.b) (Args c.in-Args.p c.in-Args.q c.in-Args.k) c.argument.ensures.same c.argument-in-Some.ensures.same c.in-Args.ensures in
-    rw c.in_ok-push_pairs-in-Args.ensures (
-    lighter_args h c.args.work.now.items c.loop-a.work.items c.pop.new.self.items c.in-Some.a c.in-Some.b c.in-Some.ensures.items c.in-Args.p c.in-Args.q c.in-Args.k (c.in-Args.p + 1) (c.in-Args.q + 1) says (omega arith) (omega arith))
+    let says = says-along h (value h c.argument.result) (value h c.argument-in-Some.result) (term h c.in-Some.pair.0) (term h c.in-Some.pair.1) (Args c.in-Args.p c.in-Args.q c.in-Args.k) c.argument.ensures.same c.argument-in-Some.ensures.same c.in-Args.ensures in
+    rw (c.in_ok-push_pairs-in-Args.ensures, c.arg.ensures, c.arg-in-Args.ensures) (
+    lighter_args h c.args.work.now.items c.loop-pair.work.items c.pop.new.self.items c.in-Some.pair.0 c.in-Some.pair.1 c.in-Some.ensures.items c.in-Args.p c.in-Args.q c.in-Args.k (c.in-Args.p + 1) (c.in-Args.q + 1) says (omega arith) (omega arith))
 
-pub loop-a-preserved : goal.loop-a-preserved
+pub loop-pair-preserved : goal.loop-pair-preserved
 unfolding Says
-loop-a-preserved c =
+loop-pair-preserved c =
     let h = c.args.heap.now in
-    let says = says-along h (value h c.argument.result) (value h c.argument-in-Some.result) (term h c.in-Some.a) (term h c.in-Some.b) (Args c.in-Args.p c.in-Args.q c.in-Args.k) c.argument.ensures.same c.argument-in-Some.ensures.same c.in-Args.ensures in
-    rw c.in_ok-push_pairs-in-Args.ensures (record {
-      inside = inside_args h c.args.work.now.items c.loop-a.work.items c.pop.new.self.items c.in-Some.a c.in-Some.b c.in-Some.ensures.items c.in-Args.p c.in-Args.q c.in-Args.k (c.in-Args.p + 1) (c.in-Args.q + 1) says (omega arith) (omega arith) c.loop-a.invariant.inside;
-      same = equal_args h c.args.work.now.items c.loop-a.work.items c.pop.new.self.items c.in-Some.a c.in-Some.b c.in-Some.ensures.items c.in-Args.p c.in-Args.q c.in-Args.k (c.in-Args.p + 1) (c.in-Args.q + 1) says (omega arith) (omega arith) c.loop-a.invariant.same;
+    let says = says-along h (value h c.argument.result) (value h c.argument-in-Some.result) (term h c.in-Some.pair.0) (term h c.in-Some.pair.1) (Args c.in-Args.p c.in-Args.q c.in-Args.k) c.argument.ensures.same c.argument-in-Some.ensures.same c.in-Args.ensures in
+    rw (c.in_ok-push_pairs-in-Args.ensures, c.arg.ensures, c.arg-in-Args.ensures) (record {
+      inside = inside_args h c.args.work.now.items c.loop-pair.work.items c.pop.new.self.items c.in-Some.pair.0 c.in-Some.pair.1 c.in-Some.ensures.items c.in-Args.p c.in-Args.q c.in-Args.k (c.in-Args.p + 1) (c.in-Args.q + 1) says (omega arith) (omega arith) c.loop-pair.invariant.inside;
+      same = equal_args h c.args.work.now.items c.loop-pair.work.items c.pop.new.self.items c.in-Some.pair.0 c.in-Some.pair.1 c.in-Some.ensures.items c.in-Args.p c.in-Args.q c.in-Args.k (c.in-Args.p + 1) (c.in-Args.q + 1) says (omega arith) (omega arith) c.loop-pair.invariant.same;
     })
 
 pub returns-in-Clash-clause-inside : goal.returns-in-Clash-clause-inside
-returns-in-Clash-clause-inside c = taken_inside c.args.heap.now c.args.work.now.items c.loop-a.work.items c.pop.new.self.items c.in-Some.a c.in-Some.b c.in-Some.ensures.items c.loop-a.invariant.inside
+returns-in-Clash-clause-inside c = taken_inside c.args.heap.now c.args.work.now.items c.loop-pair.work.items c.pop.new.self.items c.in-Some.pair.0 c.in-Some.pair.1 c.in-Some.ensures.items c.loop-pair.invariant.inside
 
 pub returns-in-Clash-clause-leaves : goal.returns-in-Clash-clause-leaves
 unfolding Says Leaves
 returns-in-Clash-clause-leaves c =
     let h = c.args.heap.now in
-    let says = says-along h (value h c.argument.result) (value h c.argument-in-Some.result) (term h c.in-Some.a) (term h c.in-Some.b) Clash c.argument.ensures.same c.argument-in-Some.ensures.same c.in-Clash.ensures in
-    leaves_clash h c.args.work.now.items c.loop-a.work.items c.pop.new.self.items c.in-Some.a c.in-Some.b c.in-Some.ensures.items c.loop-a.invariant.same says
+    let says = says-along h (value h c.argument.result) (value h c.argument-in-Some.result) (term h c.in-Some.pair.0) (term h c.in-Some.pair.1) Clash c.argument.ensures.same c.argument-in-Some.ensures.same c.in-Clash.ensures in
+    leaves_clash h c.args.work.now.items c.loop-pair.work.items c.pop.new.self.items c.in-Some.pair.0 c.in-Some.pair.1 c.in-Some.ensures.items c.loop-pair.invariant.same says
 
 pub returns-in-Binds-clause-inside : goal.returns-in-Binds-clause-inside
-returns-in-Binds-clause-inside c = taken_inside c.args.heap.now c.args.work.now.items c.loop-a.work.items c.pop.new.self.items c.in-Some.a c.in-Some.b c.in-Some.ensures.items c.loop-a.invariant.inside
+returns-in-Binds-clause-inside c = taken_inside c.args.heap.now c.args.work.now.items c.loop-pair.work.items c.pop.new.self.items c.in-Some.pair.0 c.in-Some.pair.1 c.in-Some.ensures.items c.loop-pair.invariant.inside
 
 pub returns-in-Binds-clause-leaves : goal.returns-in-Binds-clause-leaves
 unfolding Says Leaves
 returns-in-Binds-clause-leaves c =
     let h = c.args.heap.now in
-    let says = says-along h (value h c.argument.result) (value h c.argument-in-Some.result) (term h c.in-Some.a) (term h c.in-Some.b) (Binds c.in-Binds.x c.in-Binds.v) c.argument.ensures.same c.argument-in-Some.ensures.same c.in-Binds.ensures in
-    leaves_near h c.args.work.now.items c.loop-a.work.items c.pop.new.self.items c.in-Some.a c.in-Some.b c.in-Some.ensures.items c.in-Binds.x c.in-Binds.v c.loop-a.invariant.same says
+    let says = says-along h (value h c.argument.result) (value h c.argument-in-Some.result) (term h c.in-Some.pair.0) (term h c.in-Some.pair.1) (Binds c.in-Binds.x c.in-Binds.v) c.argument.ensures.same c.argument-in-Some.ensures.same c.in-Binds.ensures in
+    leaves_near h c.args.work.now.items c.loop-pair.work.items c.pop.new.self.items c.in-Some.pair.0 c.in-Some.pair.1 c.in-Some.ensures.items c.in-Binds.x c.in-Binds.v c.loop-pair.invariant.same says
 
 pub returns-clause-leaves : goal.returns-clause-leaves
 unfolding Leaves
 returns-clause-leaves c =
-    let none = nil_from_length c.loop-a.work.items (omega (arith, c.in_default.ensures.cases, c.loop-a.work.ok.0)) in
-    leaves_none c.args.heap.now c.args.work.now.items (subst (λ w. Equal c.args.heap.now c.args.work.now.items w) none c.loop-a.invariant.same)
+    let none = nil_from_length c.loop-pair.work.items (omega (arith, c.in_default.ensures.cases, c.loop-pair.work.ok.0)) in
+    leaves_none c.args.heap.now c.args.work.now.items (subst (λ w. Equal c.args.heap.now c.args.work.now.items w) none c.loop-pair.invariant.same)

@@ -1,13 +1,14 @@
-use Rattle.std.proofs.Common.{ap, subst, sym}
+use Rattle.std.proofs.Common.{◌∙◌, ap, subst, sym}
+use Rattle.std.proofs.lemmas.Bool.{eqb-true}
 use Rattle.plsubst.specs.Subst.{bind}
 use Rattle.plcells.specs.Store.{term, IsBlock}
 use Rattle.plbind.specs.Unifying.{Says}
 use Rattle.plbind.proofs.Verdicts.{blocks-args, blocks-clash}
 use Rattle.plbind.proofs.unify.judge_blocks.Goals as goal
 
-pub returns-then-p-q : goal.returns-then-p-q
+pub returns-then-eq : goal.returns-then-eq
 unfolding Says
-returns-then-p-q c = λ τ. ap (λ d. bind τ (term c.args.heap.now d)) c.if-p-q.true
+returns-then-eq c = λ τ. ap (λ d. bind τ (term c.args.heap.now d)) (eqb-true c.args.p c.args.q (sym c.eq.ensures ∙ c.if-eq.true))
 
 pub returns-then-f-g : goal.returns-then-f-g
 unfolding Says

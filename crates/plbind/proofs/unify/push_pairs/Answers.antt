@@ -12,7 +12,7 @@ loop-i-preserved c =
     record {
       most = omega (arith, c.loop-i.invariant.most);
       so_far =
-          c.in_ok-push.ensures.items
+          (rw (c.after.ensures, c.after-in-loop-i.ensures) at c.in_ok-push.ensures.items)
           ∙ pairs-more c.loop-i.work.items c.args.work.now.items c.args.a c.args.b i (c.args.k - suc i) so_far
           ∙ ap (λ k. c.args.work.now.items ++ pairs (c.args.a + i) (c.args.b + i) k) count;
     }

@@ -10,13 +10,13 @@ pub bind_apart-requires : goal.bind_apart-requires
 unfolding Says
 bind_apart-requires c = let near = c.in-Binds.ensures in (near.number, near.near)
 
-pub overflow_add-p : goal.overflow_add-p
+pub arg-requires : goal.arg-requires
 unfolding Says
-overflow_add-p c = omega (arith, c.in-Args.ensures.left, c.in-Args.ensures.few)
+arg-requires c = omega (arith, c.in-Args.ensures.left, c.in-Args.ensures.few)
 
-pub overflow_add-q : goal.overflow_add-q
+pub arg-requires-in-Args : goal.arg-requires-in-Args
 unfolding Says
-overflow_add-q c = omega (arith, c.in-Args.ensures.right, c.in-Args.ensures.few)
+arg-requires-in-Args c = omega (arith, c.in-Args.ensures.right, c.in-Args.ensures.few)
 
 pub push_pairs-requires-clause-left : goal.push_pairs-requires-clause-left
 unfolding Says
@@ -35,7 +35,7 @@ solve-requires c =
     let h = c.args.heap.now in
     let p = c.in-Args.p + 1 in
     let q = c.in-Args.q + 1 in
-    let e = c.in_ok-push_pairs-in-Args.ensures ∙ ap (λ xs. xs ++ pairs p q c.in-Args.k) c.clear.ensures.items in
+    let e = (rw (c.arg.ensures, c.arg-in-Args.ensures) at c.in_ok-push_pairs-in-Args.ensures) ∙ ap (λ xs. xs ++ pairs p q c.in-Args.k) c.clear.ensures.items in
     subst (IsInside h) (sym e) (args-inside h (value h c.args.a) (value h c.args.b) c.in-Args.p c.in-Args.q c.in-Args.k p q c.in-Args.ensures (omega arith) (omega arith))
 
 pub returns-in-Same-clause-yes : goal.returns-in-Same-clause-yes
@@ -78,7 +78,7 @@ returns-in_ok-push_pairs-in-Args-clause-yes c =
     let t = value h c.args.b in
     let p = c.in-Args.p + 1 in
     let q = c.in-Args.q + 1 in
-    let e = c.in_ok-push_pairs-in-Args.ensures ∙ ap (λ xs. xs ++ pairs p q c.in-Args.k) c.clear.ensures.items in
+    let e = (rw (c.arg.ensures, c.arg-in-Args.ensures) at c.in_ok-push_pairs-in-Args.ensures) ∙ ap (λ xs. xs ++ pairs p q c.in-Args.k) c.clear.ensures.items in
     let stands = subst (λ w. Stands h w s t) (sym e) (args-stand h s t c.in-Args.p c.in-Args.q c.in-Args.k p q c.in-Args.ensures (omega arith) (omega arith)) in
     solved-yes h c.solve.new.heap s t c.solve.result
     (if-ok (λ r. (u w : Tree) → Stands h c.push_pairs.new.work.items u w → Answers h c.solve.new.heap u w r) (Answers h c.solve.new.heap s t) c.solve.result (λ b f. f s t stands) c.solve.ensures.answers)
@@ -91,7 +91,7 @@ returns-in_ok-push_pairs-in-Args-clause-no c =
     let t = value h c.args.b in
     let p = c.in-Args.p + 1 in
     let q = c.in-Args.q + 1 in
-    let e = c.in_ok-push_pairs-in-Args.ensures ∙ ap (λ xs. xs ++ pairs p q c.in-Args.k) c.clear.ensures.items in
+    let e = (rw (c.arg.ensures, c.arg-in-Args.ensures) at c.in_ok-push_pairs-in-Args.ensures) ∙ ap (λ xs. xs ++ pairs p q c.in-Args.k) c.clear.ensures.items in
     let stands = subst (λ w. Stands h w s t) (sym e) (args-stand h s t c.in-Args.p c.in-Args.q c.in-Args.k p q c.in-Args.ensures (omega arith) (omega arith)) in
     solved-no h c.solve.new.heap s t c.solve.result
     (if-ok (λ r. (u w : Tree) → Stands h c.push_pairs.new.work.items u w → Answers h c.solve.new.heap u w r) (Answers h c.solve.new.heap s t) c.solve.result (λ b f. f s t stands) c.solve.ensures.answers)

@@ -1,4 +1,4 @@
-use Rattle.std.proofs.Common.{◌≡◌, ◌∙◌, length, ap, sym, subst, arith, refl, inl, inr}
+use Rattle.std.proofs.Common.{◌≡◌, ◌∙◌, length, ap, sym, subst, arith, inl, inr}
 use Rattle.std.proofs.lemmas.List.{length-map, take_all}
 use Rattle.plcells.specs.declared.cell.Cell.TheVariants.{Ref}
 use Rattle.plcells.specs.Store.{at}
@@ -15,7 +15,7 @@ embed-requires c =
     let xs = c.args.arguments.now in
     let len : length l.cells.items ≡ length c.args.cells.now.items = sym (length-map l.cells.items plain) ∙ ap length l.invariant.same ∙ length-map c.args.cells.now.items plain in
     subst (λ n. IsPlaced n c.in-Value.v) (sym len)
-    (subst (IsPlaced (length c.args.cells.now.items)) (value-cell xs 0 l.a-index _ c.in-Value.v c.loop-a-test.true c.in-Value.is)
+    (subst (IsPlaced (length c.args.cells.now.items)) (value-cell xs 0 l.a-index _ c.in-Value.v c.loop-a-test.true (sym c.a-item.is ∙ c.in-Value.is))
     (placed-at (length c.args.cells.now.items) (cells_of 0 xs) l.a-index c.requires (omega (arith, cells-length 0 xs, c.loop-a-test.true))))
 
 pub loop-a-preserved : goal.loop-a-preserved
@@ -26,7 +26,7 @@ loop-a-preserved c =
       | in-Value w ↦ rw w.cells-is (record {
         same = w.embed.ensures.same ∙ l.invariant.same;
         was = λ d p e. l.invariant.was d p (w.embed.ensures.was d p e);
-        lone = λ d p e n k f. elim (ref-more xs l.a-index _ _ c.loop-a-test.true w.in-Value.is n k d f) [
+        lone = λ d p e n k f. elim (ref-more xs l.a-index _ _ c.loop-a-test.true (sym c.a-item.is ∙ w.in-Value.is) n k d f) [
           | inl old ↦ l.invariant.lone d p (w.embed.ensures.was d p e) n k old
           | inr here ↦ w.embed.ensures.lone d p e (argument-same w.in-Value.v (Ref d) here)
         ];
@@ -34,7 +34,7 @@ loop-a-preserved c =
       | in_default w ↦ rw w.cells-is (record {
         same = l.invariant.same;
         was = l.invariant.was;
-        lone = λ d p e n k f. elim (ref-more xs l.a-index _ _ c.loop-a-test.true refl n k d f) [
+        lone = λ d p e n k f. elim (ref-more xs l.a-index _ _ c.loop-a-test.true (sym c.a-item.is) n k d f) [
           | inl old ↦ l.invariant.lone d p e n k old
           | inr here ↦ w.in_default.not-Value (Ref d) here
         ];

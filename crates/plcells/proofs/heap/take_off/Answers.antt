@@ -19,9 +19,9 @@ loop-trail-preserved c =
     let e = c.in-Some.ensures.items in
     let b = below-append (length l.cells.items) rest t (subst (AllBelow (length l.cells.items)) e l.invariant.below) in
     let room : c.args.keep ≤ length rest = omega (arith, c.loop-trail-test.true, c.len.ensures, c.pop.new.self.ok.0, c.in-Some.ensures.cases) in
-    record {
+    rw c.place.ensures.is (record {
       room = room;
       below = subst (λ n. AllBelow n rest) (sym (length-set l.cells.items t.cell (Free t.place))) b.0;
       cells = undo_step l.cells.items l.trail.items rest t c.args.keep e room ∙ l.invariant.cells;
       trail = undo_trail l.trail.items rest t c.args.keep e room ∙ l.invariant.trail;
-    }
+    })

@@ -12,7 +12,7 @@ loop-i-preserved c =
     record {
       most = omega (arith, c.loop-i.invariant.most);
       so_far =
-          c.in_ok-push.ensures.items
+          (rw c.after.ensures at c.in_ok-push.ensures.items)
           ∙ run-more c.loop-i.stack.items c.args.stack.now.items c.args.first i (c.args.count - suc i) so_far
           ∙ ap (λ k. c.args.stack.now.items ++ run (c.args.first + i) k) count;
     }

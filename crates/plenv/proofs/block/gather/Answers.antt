@@ -14,7 +14,7 @@ pub part-requires : goal.part-requires
 part-requires c =
     let l = c.loop-i in
     let n = node_at c.args.row.now l.i in
-    ready-still c.args.heap.now l.heap l.invariant.grows c.args.slots.now c.args.run n (ready-at c.args.heap.now c.args.run c.args.row.now l.i _ c.requires c.loop-i-test.true)
+    ready-still c.args.heap.now l.heap l.invariant.grows c.args.slots.now c.args.run.now n (ready-at c.args.heap.now c.args.run.now c.args.row.now l.i _ c.requires c.loop-i-test.true)
 
 pub returns-in_err-x-clause-grows : goal.returns-in_err-x-clause-grows
 returns-in_err-x-clause-grows c = no-cell-trans c.args.heap.now c.loop-i.heap c.part.new.heap c.loop-i.invariant.grows c.in_err-x.ensures.grows
@@ -26,8 +26,8 @@ pub returns-then-is_some-clause-ok : goal.returns-then-is_some-clause-ok
 returns-then-is_some-clause-ok c =
     let l = c.loop-i in
     let n = node_at c.args.row.now l.i in
-    has-free c.part.new.heap c.args.slots.now c.args.run c.args.row.now l.i n c.in-Variable.number c.loop-i-test.true refl
-    (subst (IsPart c.part.new.heap c.args.slots.now c.args.run n) c.in-Variable.is c.in_ok-x.ensures.ok)
+    has-free c.part.new.heap c.args.slots.now c.args.run.now c.args.row.now l.i n c.in-Variable.number c.loop-i-test.true refl
+    (subst (IsPart c.part.new.heap c.args.slots.now c.args.run.now n) c.in-Variable.is c.in_ok-x.ensures.ok)
 
 pub returns-in_err-push-clause-grows : goal.returns-in_err-push-clause-grows
 returns-in_err-push-clause-grows c = no-cell-trans c.args.heap.now c.loop-i.heap c.part.new.heap c.loop-i.invariant.grows c.in_ok-x.ensures.grows
@@ -38,7 +38,7 @@ loop-i-preserved c =
     let n = node_at c.args.row.now l.i in
     let new = c.part.new.heap in
     let slots = c.args.slots.now in
-    let r = c.args.run in
+    let r = c.args.run.now in
     let items = c.in_ok-push.ensures.items in
     let read = get_or_default c.args.row.now l.i (Var 0) n c.loop-i-test.true in
     let grows = no-cell-trans c.args.heap.now l.heap new l.invariant.grows c.in_ok-x.ensures.grows in

@@ -11,7 +11,7 @@ loop-i-preserved c =
     let i = c.loop-i.i in
     let vs = c.loop-i.args.items in
     let v = c.argument.result in
-    let here : c.args.p + 1 + c.from.result ≡ suc c.args.p + i = omega (arith, c.from.ensures) in
+    let here : c.arg.result ≡ suc c.args.p + i = omega (arith, c.arg.ensures, c.from.ensures) in
     let e = c.in_ok-push.ensures.items in
     record {
       values = values-pushed h vs c.push.new.self.items v c.loop-i.invariant.values c.argument.ensures.fits e;

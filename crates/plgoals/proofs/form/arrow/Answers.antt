@@ -12,9 +12,9 @@ returns-in_default c =
 pub returns-then-is_arrow-clause-some : goal.returns-then-is_arrow-clause-some
 returns-then-is_arrow-clause-some c =
     let h = c.args.heap.now in
-    arrow-is h c.args.code.now.callees c.args.v c.in-Str.p _ _ c.block-f.ensures.block (sym c.in-Str.ensures.same) c.requires.kinds (sym c.callee_of_functor.ensures ∙ c.is_arrow.ensures.yes c.if-is_arrow.true)
+    arrow-is h c.args.code.now.callees c.args.v.now c.in-Str.p _ _ c.block-f.ensures.block (sym c.in-Str.ensures.same) c.requires.kinds (sym c.callee_of_functor.ensures ∙ c.is_arrow.ensures.yes c.if-is_arrow.true)
 
 pub returns-clause-none : goal.returns-clause-none
 returns-clause-none c =
     let h = c.args.heap.now in
-    no-arrow h c.args.code.now.callees c.args.v c.in-Str.p _ _ c.block-f.ensures.block (sym c.in-Str.ensures.same) c.requires.kinds (λ e. c.is_arrow.ensures.no c.if-is_arrow.false (c.callee_of_functor.ensures ∙ e))
+    no-arrow h c.args.code.now.callees c.args.v.now c.in-Str.p _ _ c.block-f.ensures.block (sym c.in-Str.ensures.same) c.requires.kinds (λ e. c.is_arrow.ensures.no c.if-is_arrow.false (c.callee_of_functor.ensures ∙ e))

@@ -7,12 +7,12 @@ use Rattle.plhead.proofs.head.solve.Given as goal
 use Rattle.plhead.proofs.Listing.{weigh}
 use Rattle.plhead.proofs.Solving.{Progress}
 
-abbrev pub invariant-loop-at : goal.invariant-loop-at
-invariant-loop-at l = record {
+abbrev pub invariant-loop-equation : goal.invariant-loop-equation
+invariant-loop-equation l = record {
   equations : AreEquations l.env l.base l.nodes (tree_at l.initial.env.heap.names l.nodes) l.work.items;
   progress : (s t : Tree) → Stands l.initial.env l.base (tree_at l.initial.env.heap.names l.nodes) l.initial.work.items s t → Progress l.initial.env l.env l.base (tree_at l.initial.env.heap.names l.nodes) s t l.work.items;
   keeps : Keeps l.initial.env l.env;
 }
 
-abbrev pub decreases-loop-at : goal.decreases-loop-at
-decreases-loop-at l = weigh (tree_at l.initial.env.heap.names l.nodes) l.work.items
+abbrev pub decreases-loop-equation : goal.decreases-loop-equation
+decreases-loop-equation l = weigh (tree_at l.initial.env.heap.names l.nodes) l.work.items

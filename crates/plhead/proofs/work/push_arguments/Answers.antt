@@ -15,5 +15,5 @@ loop-i-preserved c =
     record {
       most = omega (arith, l.invariant.most);
       so_far = subst (Pushes h old c.push.new.self.items (c.args.at + i) (c.args.cells + i)) count
-          (pushes-more h old l.work.items c.push.new.self.items c.args.at c.args.cells i (c.args.count - suc i) c.argument.result so_far c.argument.ensures.fits c.argument.ensures.same c.in_ok-push.ensures.items);
+          (pushes-more h old l.work.items c.push.new.self.items c.args.at c.args.cells i (c.args.count - suc i) c.argument.result so_far c.argument.ensures.fits (rw c.after.ensures at c.argument.ensures.same) c.in_ok-push.ensures.items);
     }

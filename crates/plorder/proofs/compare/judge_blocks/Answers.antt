@@ -1,4 +1,5 @@
 use Rattle.std.proofs.Common.{◌≡◌, ◌∙◌, ap, ap₂, sym, arith, refl}
+use Rattle.std.proofs.lemmas.Bool.{eqb-true}
 use Rattle.std.specs.declared.cmp.Ordering.TheVariants.{Equal}
 use Rattle.plterm.specs.Order.{functor_order}
 use Rattle.platoms.specs.Names.{functor_name, functor_arity}
@@ -6,9 +7,9 @@ use Rattle.plorder.specs.Runs.{Says}
 use Rattle.plorder.proofs.Judging.{term-same, blocks-decided, blocks-run}
 use Rattle.plorder.proofs.compare.judge_blocks.Goals as goal
 
-pub returns-then-a-b : goal.returns-then-a-b
+pub returns-then-eq : goal.returns-then-eq
 unfolding Says
-returns-then-a-b c = term-same c.args.heap.now c.args.a.place c.args.b.place c.if-a-b.true
+returns-then-eq c = term-same c.args.heap.now c.args.a.place c.args.b.place (eqb-true c.args.a.place c.args.b.place (sym c.eq.ensures ∙ c.if-eq.true))
 
 pub returns-in-Equal : goal.returns-in-Equal
 unfolding Says

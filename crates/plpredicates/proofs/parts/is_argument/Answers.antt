@@ -20,4 +20,4 @@ returns-clause-is c = λ s n.
     let b = c.args.block in
     let a = value h c.args.argument in
     one_at h b.place b.functor b.arity c.requires.block a s c.args.number (value h c.argument.result)
-    (omega (arith, c.if-number-eq0.false)) (omega (arith, c.if-number-from.false, c.from.ensures)) c.argument.ensures.same
+    (omega (arith, c.if-number-eq0.false)) (omega (arith, c.if-number-from.false, c.from.ensures)) (rw c.arg.ensures at c.argument.ensures.same)

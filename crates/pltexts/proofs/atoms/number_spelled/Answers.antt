@@ -14,7 +14,7 @@ pub returns-in-Ok-default-clause-is : goal.returns-in-Ok-default-clause-is
 returns-in-Ok-default-clause-is c =
     let h = c.args.heap.now in
     let t = value h c.args.number in
-    let l = value h c.args.list in
+    let l = value h c.args.list.now in
     let k = c.args.k in
     let text = c.as_str.result.now in
     let found : text_in k l ≡ Ok text = search rules in
@@ -28,7 +28,7 @@ pub returns-in-Err-Integer-clause-is : goal.returns-in-Err-Integer-clause-is
 returns-in-Err-Integer-clause-is c =
     let h = c.args.heap.now in
     let t = value h c.args.number in
-    let l = value h c.args.list in
+    let l = value h c.args.list.now in
     let k = c.args.k in
     let i = c.in-Err-Integer.i in
     let number : t ≡ int i = search rules in

@@ -14,4 +14,4 @@ none_given h (Some v) other = absurd (other v refl)
 pub returns-in_default-clause-are : goal.returns-in_default-clause-are
 returns-in_default-clause-are c =
     let h = c.args.heap.now in
-    ap (map (value h)) c.new.ensures.items ∙ sym (none_given h c.args.arguments c.in_default.not-Some)
+    ap (map (value h)) c.new.ensures.items ∙ sym (none_given h c.args.arguments.now c.in_default.not-Some)

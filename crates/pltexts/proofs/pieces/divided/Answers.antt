@@ -11,9 +11,9 @@ use Rattle.pltexts.proofs.pieces.divided.Goals as goal
 pub returns-then-is_empty-clause-is : goal.returns-then-is_empty-clause-is
 returns-then-is_empty-clause-is c = λ s n.
     let h = c.args.heap.now in
-    let us = as_text (value h c.args.front) ∷ as_text (value h c.args.back) ∷ [] in
+    let us = as_text (value h c.args.front.now) ∷ as_text (value h c.args.back.now) ∷ [] in
     let text = c.as_str-text.result.now in
-    let found : text_of (value h c.args.whole) ≡ Some text = search rules in
+    let found : text_of (value h c.args.whole.now) ≡ Some text = search rules in
     let empty : length text ≡ 0 = grind arith in
     ap (λ x. Gives (x ∷ []) [] s) (c.in_ok-equation.ensures.is n)
     ∙ ap (λ ss. Gives ss [] s) (one-split text c.as_str-text.utf8 us c.all_splits-split.result empty c.all_splits-split.ensures.split)
@@ -22,12 +22,12 @@ returns-then-is_empty-clause-is c = λ s n.
 pub returns-clause-there : goal.returns-clause-there
 returns-clause-there c =
     let h = c.args.heap.now in
-    let us = as_text (value h c.args.front) ∷ as_text (value h c.args.back) ∷ [] in
+    let us = as_text (value h c.args.front.now) ∷ as_text (value h c.args.back.now) ∷ [] in
     let text = c.as_str-text.result.now in
     let split = c.all_splits-split.result in
-    let found : text_of (value h c.args.whole) ≡ Some text = search rules in
+    let found : text_of (value h c.args.whole.now) ≡ Some text = search rules in
     let full : length text ≡ 0 → ⊥ = λ e. grind arith in
-    let values : c.in_ok-values.values.items ≡ c.args.front ∷ c.args.back ∷ c.args.whole ∷ [] = search rules in
+    let values : c.in_ok-values.values.items ≡ c.args.front.now ∷ c.args.back.now ∷ c.args.whole.now ∷ [] = search rules in
     subst (λ vs. AreSeveral h vs (turns.Split split)) (sym values)
     (record {
       values = (c.requires.front, (c.requires.back, (c.requires.whole, tt)));

@@ -10,6 +10,6 @@ returns-in_default c =
     let apart = rw (← c.self.view_is) at c.requires.plain in
     rw (← c.self.view_is) (
     let is = c.self.invariant.heap in
-    let here = read-plain c.self.inside.cells.items c.args.c c.index.result.now (omega (arith, within, length-map c.self.inside.cells.items plain)) c.index.ensures in
+    let here = read-plain c.self.inside.cells.items c.args.c c.index.result.now (omega (arith, within, length-map c.self.inside.cells.items plain)) (rw c.place.ensures.is at c.index.ensures) in
     let r = argument-value _ is c.args.c c.index.result.now within here apart (λ p e. c.in_default.not-Free p e) (λ p e. c.in_default.not-Lone p e) in
     record { fits = r.0; same = r.1; heap = is })

@@ -11,7 +11,7 @@ returns-in-Fun-clause-block c =
     let within = rw (← c.self.view_is) at c.requires.within in
     rw (← c.self.view_is) (
     let cells = c.self.inside.cells.items in
-    let here = read-plain cells c.args.p c.index.result.now (omega (arith, within, length-map cells plain)) c.index.ensures in
+    let here = read-plain cells c.args.p c.index.result.now (omega (arith, within, length-map cells plain)) (rw c.place.ensures.is at c.index.ensures) in
     subst (IsBlock _ c.args.p c.in-Fun.f) (ap (λ f. f.arity) (sym c.functor_of.ensures.is)) (block-at _ c.args.p c.in-Fun.f c.index.result.now c.self.invariant.heap within here (inl c.in-Fun.is)))
 
 pub returns-in-Ground-clause-block : goal.returns-in-Ground-clause-block
@@ -19,5 +19,5 @@ returns-in-Ground-clause-block c =
     let within = rw (← c.self.view_is) at c.requires.within in
     rw (← c.self.view_is) (
     let cells = c.self.inside.cells.items in
-    let here = read-plain cells c.args.p c.index.result.now (omega (arith, within, length-map cells plain)) c.index.ensures in
+    let here = read-plain cells c.args.p c.index.result.now (omega (arith, within, length-map cells plain)) (rw c.place.ensures.is at c.index.ensures) in
     subst (IsBlock _ c.args.p c.in-Ground.f) (ap (λ f. f.arity) (sym c.functor_of-in-Ground.ensures.is)) (block-at _ c.args.p c.in-Ground.f c.index.result.now c.self.invariant.heap within here (inr c.in-Ground.is)))

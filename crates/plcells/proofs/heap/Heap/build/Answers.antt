@@ -62,5 +62,5 @@ returns-clause-ok c =
     let cells = build-cells h f c.args.ground m xs c.self.invariant.heap functor are c.requires.numbers solid c.head_of-head.ensures.ground c.head_of-head.ensures.open few s.cells.items after s.closed.items refl c.self.invariant same_after was e.lone in
     let store = as-grown h (m ∷ cs) (numbers_of xs) [] (map plain after) c.push_parts.new.numbers.items s.wide.items cells c.in_ok-push_parts.ensures.numbers (sym (append-nil s.wide.items)) in
     let made = build-added h f c.args.ground m xs c.self.invariant.heap functor are c.requires.numbers solid c.head_of-head.ensures.ground c.head_of-head.ensures.open few in
-    subst (λ st. AddsBlock h st c.len-place.result (functor_name s.names f) (map (stands_for h) xs) (numbers_of xs)) (sym store)
-    (subst (λ p. AddsBlock h (grown h (m ∷ cs) (numbers_of xs) []) p (functor_name s.names f) (map (stands_for h) xs) (numbers_of xs)) (sym place) made))
+    subst (λ st. AddsBlock h st c.at.result (functor_name s.names f) (map (stands_for h) xs) (numbers_of xs)) (sym store)
+    (subst (λ p. AddsBlock h (grown h (m ∷ cs) (numbers_of xs) []) p (functor_name s.names f) (map (stands_for h) xs) (numbers_of xs)) (sym (c.at.ensures ∙ place)) made))

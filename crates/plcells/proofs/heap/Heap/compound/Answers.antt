@@ -55,5 +55,5 @@ returns-clause-ok c =
     let cells = compound-cells h f vs c.self.invariant.heap functor are few s.cells.items after s.closed.items refl c.self.invariant same_after was e.lone in
     let made = compound-added h f vs c.self.invariant.heap functor are few in
     let t = compound (functor_name s.names f) (trees (map (value h) vs)) in
-    subst (λ st. AddsValue h st (Str c.len-place.result) t) (sym (as-grown h (Fun f ∷ vs) [] [] (map plain after) s.numbers.items s.wide.items cells (sym (append-nil s.numbers.items)) (sym (append-nil s.wide.items))))
-    (subst (λ x. AddsValue h (grown h (Fun f ∷ vs) [] []) (Str x) t) (sym place) made))
+    subst (λ st. AddsValue h st (Str c.at.result) t) (sym (as-grown h (Fun f ∷ vs) [] [] (map plain after) s.numbers.items s.wide.items cells (sym (append-nil s.numbers.items)) (sym (append-nil s.wide.items))))
+    (subst (λ x. AddsValue h (grown h (Fun f ∷ vs) [] []) (Str x) t) (sym (c.at.ensures ∙ place)) made))

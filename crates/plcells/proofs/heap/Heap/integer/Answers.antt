@@ -25,4 +25,4 @@ returns-clause-ok c =
     let h : Store = record { cells = map plain s.cells.items; numbers = s.numbers.items; wide = s.wide.items; trail = s.trail.items; boundary = s.boundary; names = s.names } in
     let made = wide-added h c.args.number c.self.invariant.heap in
     let same = as-grown h [] [] (c.args.number ∷ []) (map plain s.cells.items) s.numbers.items c.push.new.self.items (sym (append-nil (map plain s.cells.items))) (sym (append-nil s.numbers.items)) (c.in_ok-push.ensures.items ∙ ap (λ z. s.wide.items ++ z ∷ []) (to_z-of_z w64 c.args.number c.ranges.number)) in
-    subst (λ st. AddsValue h st (Wide c.len-place.result) (int c.args.number)) (sym same) (subst (λ x. AddsValue h (grown h [] [] (c.args.number ∷ [])) (Wide x) (int c.args.number)) (sym (omega (arith, c.len-place.ensures, s.wide.ok.0))) made))
+    subst (λ st. AddsValue h st (Wide c.new.result) (int c.args.number)) (sym same) (subst (λ x. AddsValue h (grown h [] [] (c.args.number ∷ [])) (Wide x) (int c.args.number)) (sym (omega (arith, c.new.ensures, c.len-place.ensures, s.wide.ok.0))) made))

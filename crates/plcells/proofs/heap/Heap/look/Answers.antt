@@ -1,11 +1,13 @@
 use Rattle.std.proofs.Common.{◌≡◌, ◌∙◌, ◌+◌, ◌||◌, suc, arith, ap, sym}
+use Rattle.std.proofs.lemmas.Bool.{eqb-true, eqb-false}
 use Rattle.plterm.specs.Tree.{trees}
 use Rattle.plsubst.specs.Subst.{occurs, occurs_in}
 use Rattle.plcells.specs.Store.{term, terms}
 use Rattle.plcells.specs.Walking.{weights, occurs_any}
 use Rattle.plcells.proofs.Searching.{weight-some, some-argument, none-argument, block-weight, same-some, other-none, leaf, skipped-left, skipped-lighter, pushed-left, pushed-lighter, blocks-push, start-left, start-lighter}
+use Rattle.plcells.proofs.Ids.{below}
 use Rattle.plcells.proofs.heap.Heap.look.Goals as goal
-use Rattle.plcells.proofs.heap.Heap.look.Goals.{in-Ref+else-c-x, in-Str+then-q-floor+in_ok-push-in-Str, in-Str+else-q-floor, in_default-root}
+use Rattle.plcells.proofs.heap.Heap.look.Goals.{in-Ref+else-eq, in-Str+then-ge+in_ok-push-in-Str, in-Str+else-ge, in_default-root}
 
 pub returns-in_default-clause-lighter : goal.returns-in_default-clause-lighter
 returns-in_default-clause-lighter c = λ e. omega (arith, weight-some (term c.args.self.now c.args.p))
@@ -19,34 +21,29 @@ loop-j-init c =
       lighter = start-lighter h c.args.stack.now.items;
     }
 
-pub overflow_add-p : goal.overflow_add-p
-overflow_add-p c =
-    let b = c.open_arity.ensures.some c.in-Some.count c.in-Some.is in
-    omega (arith, b.within, b.few, c.loop-j-test.true)
-
-pub overflow_add-p-in-loop-j : goal.overflow_add-p-in-loop-j
-overflow_add-p-in-loop-j c =
+pub arg-requires : goal.arg-requires
+arg-requires c =
     let b = c.open_arity.ensures.some c.in-Some.count c.in-Some.is in
     omega (arith, b.within, b.few, c.loop-j-test.true, c.from.ensures)
 
 pub argument-requires-clause-within : goal.argument-requires-clause-within
 argument-requires-clause-within c =
     let b = c.open_arity.ensures.some c.in-Some.count c.in-Some.is in
-    omega (arith, b.within, c.loop-j-test.true, c.from.ensures)
+    omega (arith, b.within, c.loop-j-test.true, c.from.ensures, c.arg.ensures)
 
 pub argument-requires-clause-plain : goal.argument-requires-clause-plain
 argument-requires-clause-plain c =
     let b = c.open_arity.ensures.some c.in-Some.count c.in-Some.is in
-    b.plain (c.args.p + 1 + c.from.result) (omega arith) (omega (arith, c.loop-j-test.true, c.from.ensures))
+    b.plain c.arg.result (omega (arith, c.arg.ensures)) (omega (arith, c.loop-j-test.true, c.from.ensures, c.arg.ensures))
 
-pub returns-then-c-x-clause-found : goal.returns-then-c-x-clause-found
-returns-then-c-x-clause-found c = λ e n numbered.
+pub returns-then-eq-clause-found : goal.returns-then-eq-clause-found
+returns-then-eq-clause-found c = λ e n numbered.
     let h = c.args.self.now in
     let b = c.open_arity.ensures.some c.in-Some.count c.in-Some.is in
-    let d = c.args.p + 1 + c.from.result in
+    let d = c.arg.result in
     let same : term h d ≡ term h c.in-Ref.c = sym c.argument.ensures.same ∙ sym c.in-Ref.ensures.same in
-    some-argument h c.args.p c.in-Some.count c.loop-j.j d n b (omega (arith, c.from.ensures)) c.loop-j-test.true
-    (ap (occurs n) same ∙ same-some h c.root.ensures.heap c.args.x n c.requires.variable numbered c.in-Ref.c c.if-c-x.true)
+    some-argument h c.args.p c.in-Some.count c.loop-j.j d n b (omega (arith, c.from.ensures, c.arg.ensures)) c.loop-j-test.true
+    (ap (occurs n) same ∙ same-some h c.root.ensures.heap c.args.x n c.requires.variable numbered c.in-Ref.c (eqb-true c.in-Ref.c c.args.x (sym c.eq.ensures ∙ c.if-eq.true)))
 
 pub loop-j-preserved : goal.loop-j-preserved
 loop-j-preserved c =
@@ -54,29 +51,29 @@ loop-j-preserved c =
     let old = c.args.stack.now.items in
     let p = c.args.p in
     let j = c.loop-j.j in
-    let d = c.args.p + 1 + c.from.result in
-    let is : d ≡ suc p + j = omega (arith, c.from.ensures) in
+    let d = c.arg.result in
+    let is : d ≡ suc p + j = omega (arith, c.from.ensures, c.arg.ensures) in
     let inv = c.loop-j.invariant in
     elim c.match-root.branch [
-      | in-Ref+else-c-x w ↦ rw w.stack-is (
+      | in-Ref+else-eq w ↦ rw w.stack-is (
           let same : term h d ≡ term h w.in-Ref.c = sym c.argument.ensures.same ∙ sym w.in-Ref.ensures.same in
           record {
             blocks = inv.blocks;
-            left = λ n numbered. skipped-left h p j d old c.loop-j.stack.items is n (inv.left n numbered) (ap (occurs n) same ∙ other-none h c.root.ensures.heap c.args.x n c.requires.variable numbered w.in-Ref.c w.in-Ref.ensures.end w.if-c-x.false);
+            left = λ n numbered. skipped-left h p j d old c.loop-j.stack.items is n (inv.left n numbered) (ap (occurs n) same ∙ other-none h c.root.ensures.heap c.args.x n c.requires.variable numbered w.in-Ref.c w.in-Ref.ensures.end (eqb-false w.in-Ref.c c.args.x (sym w.eq.ensures ∙ w.if-eq.false)));
             lighter = skipped-lighter h p j d old c.loop-j.stack.items is inv.lighter;
           })
-      | in-Str+then-q-floor+in_ok-push-in-Str w ↦ rw (w.stack-is, w.in_ok-push-in-Str.ensures.items) (
+      | in-Str+then-ge+in_ok-push-in-Str w ↦ rw (w.stack-is, w.in_ok-push-in-Str.ensures.items) (
           let same : term h w.in-Str.q ≡ term h d = w.in-Str.ensures.same ∙ c.argument.ensures.same in
           record {
             blocks = blocks-push h c.loop-j.stack.items w.in-Str.q inv.blocks w.in-Str.ensures.fits.0 w.in-Str.ensures.fits.1;
             left = λ n numbered. pushed-left h p j d old c.loop-j.stack.items is n (inv.left n numbered) w.in-Str.q same;
             lighter = pushed-lighter h p j d old c.loop-j.stack.items is inv.lighter w.in-Str.q same;
           })
-      | in-Str+else-q-floor w ↦ rw w.stack-is (
+      | in-Str+else-ge w ↦ rw w.stack-is (
           let same : term h d ≡ term h w.in-Str.q = sym c.argument.ensures.same ∙ sym w.in-Str.ensures.same in
           record {
             blocks = inv.blocks;
-            left = λ n numbered. skipped-left h p j d old c.loop-j.stack.items is n (inv.left n numbered) (ap (occurs n) same ∙ c.requires.floor n w.in-Str.q numbered w.if-q-floor.false);
+            left = λ n numbered. skipped-left h p j d old c.loop-j.stack.items is n (inv.left n numbered) (ap (occurs n) same ∙ c.requires.floor n w.in-Str.q numbered (below w.in-Str.q c.args.floor w.ge.ensures w.if-ge.false));
             lighter = skipped-lighter h p j d old c.loop-j.stack.items is inv.lighter;
           })
       | in_default-root w ↦ rw w.stack-is (

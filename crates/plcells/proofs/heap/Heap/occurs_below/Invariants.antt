@@ -8,7 +8,7 @@ use Rattle.plcells.proofs.heap.Heap.occurs_below.Given as goal
 abbrev pub invariant-loop-q : goal.invariant-loop-q
 invariant-loop-q l = record {
   blocks : AreBlocks l.self l.stack.items;
-  left : (n : ℕ) → term l.self l.x ≡ var n → occurs n (term l.self l.p) ≡ occurs_any n l.self l.stack.items;
+  left : (n : ℕ) → term l.self l.x ≡ var n → occurs n (term l.self l.fn.p) ≡ occurs_any n l.self l.stack.items;
 }
 
 abbrev pub decreases-loop-q : goal.decreases-loop-q

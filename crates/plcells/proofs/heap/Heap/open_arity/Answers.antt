@@ -11,7 +11,7 @@ returns-in-Fun-clause-some c =
     let within = rw (← c.self.view_is) at c.requires.within in
     rw (← c.self.view_is) (λ k e.
     let cells = c.self.inside.cells.items in
-    let here = read-plain cells c.args.p c.index.result.now (omega (arith, within, length-map cells plain)) c.index.ensures in
+    let here = read-plain cells c.args.p c.index.result.now (omega (arith, within, length-map cells plain)) (rw c.place.ensures.is at c.index.ensures) in
     let same = has-terms _ c.args.p c.in-Fun.f c.self.invariant.heap within (here ∙ ap plain c.in-Fun.is) in
     subst (HasTerms _ c.args.p) (ap (λ f. f.arity) (sym c.functor_of.ensures.is) ∙ some-same c.functor_of.result.arity k e) same)
 
@@ -23,7 +23,7 @@ returns-in_default c =
       some = λ k e. absurd (grind (arith, e));
       none = λ e n.
           let cells = c.self.inside.cells.items in
-          let here = read-plain cells c.args.p c.index.result.now (omega (arith, within, length-map cells plain)) c.index.ensures in
+          let here = read-plain cells c.args.p c.index.result.now (omega (arith, within, length-map cells plain)) (rw c.place.ensures.is at c.index.ensures) in
           let ground = ground-head (plain c.index.result.now) (subst IsHead here head) (λ f e. c.in_default.not-Fun f (plain-fun c.index.result.now f e)) in
           ground-none _ c.self.invariant.heap n c.args.p within (subst IsGround (sym here) ground);
     })

@@ -37,7 +37,7 @@ returns-in_ok-push-in-Var-clause-ok c =
     let before = c.args.stack.now.items in
     let lt : x < length vs = subst (HasValue vs) c.in-Var.is c.requires.value in
     let v = at vs x in
-    let push : c.push.new.self.items ≡ before ++ Value v ∷ [] = c.in_ok-push-in-Var.ensures.items ∙ ap (λ w. before ++ Value w ∷ []) (get_or_default vs x _ _ lt) in
+    let push : c.push.new.self.items ≡ before ++ Value v ∷ [] = c.in_ok-push-in-Var.ensures.items ∙ ap (λ w. before ++ Value w ∷ []) (c.index-values-x.is ∙ get_or_default vs x _ _ lt) in
     rw (push, c.in-Var.is) (puts-leaf h h vs (Var x) before v (adds-none h) c.requires.given (value-in h vs x _ v c.requires.values lt refl) (λ ts. refl))
 
 pub returns-in_ok-push-in-Int-clause-ok : goal.returns-in_ok-push-in-Int-clause-ok

@@ -32,4 +32,4 @@ returns-clause-ok c =
     let few : length (map plain s.cells.items) + 1 < 2 ^ 32 = omega (arith, place, c.if-place.false) in
     let made = variable-added h n c.self.invariant.heap fresh few in
     let same = as-grown h (Free (length s.numbers.items) ∷ []) (n ∷ []) [] (map plain c.push_variable.new.cells.items) c.push_variable.new.numbers.items s.wide.items (ap (map plain) r.cells ∙ map-append plain s.cells.items (Lone (length s.numbers.items) ∷ [])) r.numbers (sym (append-nil s.wide.items)) in
-    subst (λ st. AddsVariable h st c.len-place.result n) (sym same) (subst (λ x. AddsVariable h (grown h (Free (length s.numbers.items) ∷ []) (n ∷ []) []) x n) (sym place) made))
+    subst (λ st. AddsVariable h st c.at.result n) (sym same) (subst (λ x. AddsVariable h (grown h (Free (length s.numbers.items) ∷ []) (n ∷ []) []) x n) (sym (c.at.ensures ∙ place)) made))

@@ -22,7 +22,7 @@ gather-requires c =
     let s = c.self.inside in
     let e : Env = record { heap = s.heap; slots = s.slots.items; noted = s.noted.items; boundary = s.boundary; count = s.count } in
     let nodes = c.args.nodes.now in
-    let r = c.args.run in
+    let r = c.args.run.now in
     let row = take c.in-Fun.arity (drop (suc c.args.place) nodes) in
     let b = block-here nodes r.from c.args.place c.requires.block.0 c.requires.block.1.0 c.in-Fun.f c.in-Fun.arity c.requires.block.1.1 c.in-Fun.is in
     let w = b.within in
@@ -43,7 +43,7 @@ build-requires-clause-functor c =
     let s = c.self.inside in
     let e : Env = record { heap = s.heap; slots = s.slots.items; noted = s.noted.items; boundary = s.boundary; count = s.count } in
     let nodes = c.args.nodes.now in
-    let r = c.args.run in
+    let r = c.args.run.now in
     let row = take c.in-Fun.arity (drop (suc c.args.place) nodes) in
     let b = block-here nodes r.from c.args.place c.requires.block.0 c.requires.block.1.0 c.in-Fun.f c.in-Fun.arity c.requires.block.1.1 c.in-Fun.is in
     let w = b.within in
@@ -61,7 +61,7 @@ build-requires-clause-parts c =
     let s = c.self.inside in
     let e : Env = record { heap = s.heap; slots = s.slots.items; noted = s.noted.items; boundary = s.boundary; count = s.count } in
     let nodes = c.args.nodes.now in
-    let r = c.args.run in
+    let r = c.args.run.now in
     let row = take c.in-Fun.arity (drop (suc c.args.place) nodes) in
     let b = block-here nodes r.from c.args.place c.requires.block.0 c.requires.block.1.0 c.in-Fun.f c.in-Fun.arity c.requires.block.1.1 c.in-Fun.is in
     let w = b.within in
@@ -79,7 +79,7 @@ build-requires-in-One-clause-functor c =
     let s = c.self.inside in
     let e : Env = record { heap = s.heap; slots = s.slots.items; noted = s.noted.items; boundary = s.boundary; count = s.count } in
     let nodes = c.args.nodes.now in
-    let r = c.args.run in
+    let r = c.args.run.now in
     let row = take c.in-Fun.arity (drop (suc c.args.place) nodes) in
     let b = block-here nodes r.from c.args.place c.requires.block.0 c.requires.block.1.0 c.in-Fun.f c.in-Fun.arity c.requires.block.1.1 c.in-Fun.is in
     let w = b.within in
@@ -97,7 +97,7 @@ build-requires-in-One-clause-parts c =
     let s = c.self.inside in
     let e : Env = record { heap = s.heap; slots = s.slots.items; noted = s.noted.items; boundary = s.boundary; count = s.count } in
     let nodes = c.args.nodes.now in
-    let r = c.args.run in
+    let r = c.args.run.now in
     let row = take c.in-Fun.arity (drop (suc c.args.place) nodes) in
     let b = block-here nodes r.from c.args.place c.requires.block.0 c.requires.block.1.0 c.in-Fun.f c.in-Fun.arity c.requires.block.1.1 c.in-Fun.is in
     let w = b.within in
@@ -120,7 +120,7 @@ invariant_of-self-in-Whole c =
     let s = c.self.inside in
     let e : Env = record { heap = s.heap; slots = s.slots.items; noted = s.noted.items; boundary = s.boundary; count = s.count } in
     let nodes = c.args.nodes.now in
-    let r = c.args.run in
+    let r = c.args.run.now in
     let row = take c.in-Fun.arity (drop (suc c.args.place) nodes) in
     let b = block-here nodes r.from c.args.place c.requires.block.0 c.requires.block.1.0 c.in-Fun.f c.in-Fun.arity c.requires.block.1.1 c.in-Fun.is in
     let w = b.within in
@@ -147,7 +147,7 @@ returns-in_ok-build-in-Whole-clause-some c =
     let s = c.self.inside in
     let e : Env = record { heap = s.heap; slots = s.slots.items; noted = s.noted.items; boundary = s.boundary; count = s.count } in
     let nodes = c.args.nodes.now in
-    let r = c.args.run in
+    let r = c.args.run.now in
     let row = take c.in-Fun.arity (drop (suc c.args.place) nodes) in
     let b = block-here nodes r.from c.args.place c.requires.block.0 c.requires.block.1.0 c.in-Fun.f c.in-Fun.arity c.requires.block.1.1 c.in-Fun.is in
     let w = b.within in
@@ -165,7 +165,7 @@ offset_bounds-row-at c =
     let s = c.self.inside in
     let e : Env = record { heap = s.heap; slots = s.slots.items; noted = s.noted.items; boundary = s.boundary; count = s.count } in
     let nodes = c.args.nodes.now in
-    let r = c.args.run in
+    let r = c.args.run.now in
     let row = take c.in-Fun.arity (drop (suc c.args.place) nodes) in
     let b = block-here nodes r.from c.args.place c.requires.block.0 c.requires.block.1.0 c.in-Fun.f c.in-Fun.arity c.requires.block.1.1 c.in-Fun.is in
     let w = b.within in
@@ -182,7 +182,7 @@ bounds-in-One c =
     let s = c.self.inside in
     let e : Env = record { heap = s.heap; slots = s.slots.items; noted = s.noted.items; boundary = s.boundary; count = s.count } in
     let nodes = c.args.nodes.now in
-    let r = c.args.run in
+    let r = c.args.run.now in
     let row = take c.in-Fun.arity (drop (suc c.args.place) nodes) in
     let b = block-here nodes r.from c.args.place c.requires.block.0 c.requires.block.1.0 c.in-Fun.f c.in-Fun.arity c.requires.block.1.1 c.in-Fun.is in
     let w = b.within in
@@ -199,7 +199,7 @@ bounds-row-at c =
     let s = c.self.inside in
     let e : Env = record { heap = s.heap; slots = s.slots.items; noted = s.noted.items; boundary = s.boundary; count = s.count } in
     let nodes = c.args.nodes.now in
-    let r = c.args.run in
+    let r = c.args.run.now in
     let row = take c.in-Fun.arity (drop (suc c.args.place) nodes) in
     let b = block-here nodes r.from c.args.place c.requires.block.0 c.requires.block.1.0 c.in-Fun.f c.in-Fun.arity c.requires.block.1.1 c.in-Fun.is in
     let w = b.within in
@@ -216,7 +216,7 @@ unreachable-requires-in_default-row c =
     let s = c.self.inside in
     let e : Env = record { heap = s.heap; slots = s.slots.items; noted = s.noted.items; boundary = s.boundary; count = s.count } in
     let nodes = c.args.nodes.now in
-    let r = c.args.run in
+    let r = c.args.run.now in
     let row = take c.in-Fun.arity (drop (suc c.args.place) nodes) in
     let b = block-here nodes r.from c.args.place c.requires.block.0 c.requires.block.1.0 c.in-Fun.f c.in-Fun.arity c.requires.block.1.1 c.in-Fun.is in
     let w = b.within in
@@ -233,7 +233,7 @@ overflow_cast-slot_number c =
     let s = c.self.inside in
     let e : Env = record { heap = s.heap; slots = s.slots.items; noted = s.noted.items; boundary = s.boundary; count = s.count } in
     let nodes = c.args.nodes.now in
-    let r = c.args.run in
+    let r = c.args.run.now in
     let row = take c.in-Fun.arity (drop (suc c.args.place) nodes) in
     let b = block-here nodes r.from c.args.place c.requires.block.0 c.requires.block.1.0 c.in-Fun.f c.in-Fun.arity c.requires.block.1.1 c.in-Fun.is in
     let w = b.within in
@@ -252,7 +252,7 @@ index_mut-requires c =
     let s = c.self.inside in
     let e : Env = record { heap = s.heap; slots = s.slots.items; noted = s.noted.items; boundary = s.boundary; count = s.count } in
     let nodes = c.args.nodes.now in
-    let r = c.args.run in
+    let r = c.args.run.now in
     let row = take c.in-Fun.arity (drop (suc c.args.place) nodes) in
     let b = block-here nodes r.from c.args.place c.requires.block.0 c.requires.block.1.0 c.in-Fun.f c.in-Fun.arity c.requires.block.1.1 c.in-Fun.is in
     let w = b.within in
@@ -279,7 +279,7 @@ returns-in_err-p-in-One-clause-stays c =
     let s = c.self.inside in
     let e : Env = record { heap = s.heap; slots = s.slots.items; noted = s.noted.items; boundary = s.boundary; count = s.count } in
     let nodes = c.args.nodes.now in
-    let r = c.args.run in
+    let r = c.args.run.now in
     let row = take c.in-Fun.arity (drop (suc c.args.place) nodes) in
     let b = block-here nodes r.from c.args.place c.requires.block.0 c.requires.block.1.0 c.in-Fun.f c.in-Fun.arity c.requires.block.1.1 c.in-Fun.is in
     let w = b.within in
@@ -298,7 +298,7 @@ invariant_of-self-in-One c =
     let s = c.self.inside in
     let e : Env = record { heap = s.heap; slots = s.slots.items; noted = s.noted.items; boundary = s.boundary; count = s.count } in
     let nodes = c.args.nodes.now in
-    let r = c.args.run in
+    let r = c.args.run.now in
     let row = take c.in-Fun.arity (drop (suc c.args.place) nodes) in
     let b = block-here nodes r.from c.args.place c.requires.block.0 c.requires.block.1.0 c.in-Fun.f c.in-Fun.arity c.requires.block.1.1 c.in-Fun.is in
     let w = b.within in
@@ -312,10 +312,10 @@ invariant_of-self-in-One c =
     let slot = free-slot s.slots.items (r.base + c.in-Var.s) c.in-One.number (sym part) in
     let new = c.build-in-One.new.self in
     let p = c.in_ok-p-in-One.p in
-    let cell = p + 1 + c.in-One.at in
+    let cell = c.arg.result in
     let made = subst (λ ys. AddsBlock h new p (functor_name h.names c.in-Fun.f) (map (stands_for h) ys) (numbers_of ys)) c.deref-in-One.ensures.value c.in_ok-p-in-One.ensures.ok in
-    let fits = one-fits h new p (functor_name h.names c.in-Fun.f) xs made c.in-One.at c.in-One.number cell got.1.1 got.1.2 (omega arith) in
-    let is = one-is h new p (functor_name h.names c.in-Fun.f) xs made c.in-One.at c.in-One.number cell got.1.1 got.1.2 (omega arith) in
+    let fits = one-fits h new p (functor_name h.names c.in-Fun.f) xs made c.in-One.at c.in-One.number cell got.1.1 got.1.2 (omega (arith, c.arg.ensures)) in
+    let is = one-is h new p (functor_name h.names c.in-Fun.f) xs made c.in-One.at c.in-One.number cell got.1.1 got.1.2 (omega (arith, c.arg.ensures)) in
     rw c.in_ok-note-in-One.ensures.ok (slots-one e h new adds c.self.invariant (r.base + c.in-Var.s) c.in-One.number cell slot.0 slot.1 made.grows fits is (λ m f ne. made.fresh m f (one-other (numbers_of xs) c.in-One.number m got.1.0 ne)))
 
 pub returns-in_ok-p-in-One-clause-stays : goal.returns-in_ok-p-in-One-clause-stays
@@ -324,7 +324,7 @@ returns-in_ok-p-in-One-clause-stays c =
     let s = c.self.inside in
     let e : Env = record { heap = s.heap; slots = s.slots.items; noted = s.noted.items; boundary = s.boundary; count = s.count } in
     let nodes = c.args.nodes.now in
-    let r = c.args.run in
+    let r = c.args.run.now in
     let row = take c.in-Fun.arity (drop (suc c.args.place) nodes) in
     let b = block-here nodes r.from c.args.place c.requires.block.0 c.requires.block.1.0 c.in-Fun.f c.in-Fun.arity c.requires.block.1.1 c.in-Fun.is in
     let w = b.within in
@@ -338,10 +338,10 @@ returns-in_ok-p-in-One-clause-stays c =
     let slot = free-slot s.slots.items (r.base + c.in-Var.s) c.in-One.number (sym part) in
     let new = c.build-in-One.new.self in
     let p = c.in_ok-p-in-One.p in
-    let cell = p + 1 + c.in-One.at in
+    let cell = c.arg.result in
     let made = subst (λ ys. AddsBlock h new p (functor_name h.names c.in-Fun.f) (map (stands_for h) ys) (numbers_of ys)) c.deref-in-One.ensures.value c.in_ok-p-in-One.ensures.ok in
-    let fits = one-fits h new p (functor_name h.names c.in-Fun.f) xs made c.in-One.at c.in-One.number cell got.1.1 got.1.2 (omega arith) in
-    let is = one-is h new p (functor_name h.names c.in-Fun.f) xs made c.in-One.at c.in-One.number cell got.1.1 got.1.2 (omega arith) in
+    let fits = one-fits h new p (functor_name h.names c.in-Fun.f) xs made c.in-One.at c.in-One.number cell got.1.1 got.1.2 (omega (arith, c.arg.ensures)) in
+    let is = one-is h new p (functor_name h.names c.in-Fun.f) xs made c.in-One.at c.in-One.number cell got.1.1 got.1.2 (omega (arith, c.arg.ensures)) in
     rw c.in_ok-note-in-One.ensures.ok (stays-one e h new adds c.self.invariant (r.base + c.in-Var.s) c.in-One.number cell slot.0 slot.1 made.grows fits is))
 
 pub returns-in_ok-p-in-One-clause-some : goal.returns-in_ok-p-in-One-clause-some
@@ -352,7 +352,7 @@ returns-in_ok-p-in-One-clause-some c =
     let s = c.self.inside in
     let e : Env = record { heap = s.heap; slots = s.slots.items; noted = s.noted.items; boundary = s.boundary; count = s.count } in
     let nodes = c.args.nodes.now in
-    let r = c.args.run in
+    let r = c.args.run.now in
     let row = take c.in-Fun.arity (drop (suc c.args.place) nodes) in
     let b = block-here nodes r.from c.args.place c.requires.block.0 c.requires.block.1.0 c.in-Fun.f c.in-Fun.arity c.requires.block.1.1 c.in-Fun.is in
     let w = b.within in
@@ -362,10 +362,10 @@ returns-in_ok-p-in-One-clause-some c =
     let got = gathered-here h s.slots.items c.deref.result.now r nodes c.args.place c.in-Fun.arity xs c.in_ok-gather.field-0 (One c.in-One.at c.in-One.number) c.deref.ensures.value c.in-One.is c.in_ok-gather.ensures.ok in
     let new = c.build-in-One.new.self in
     let p = c.in_ok-p-in-One.p in
-    let cell = p + 1 + c.in-One.at in
+    let cell = c.arg.result in
     let made = subst (λ ys. AddsBlock h new p (functor_name h.names c.in-Fun.f) (map (stands_for h) ys) (numbers_of ys)) c.deref-in-One.ensures.value c.in_ok-p-in-One.ensures.ok in
-    let fits = one-fits h new p (functor_name h.names c.in-Fun.f) xs made c.in-One.at c.in-One.number cell got.1.1 got.1.2 (omega arith) in
-    let is = one-is h new p (functor_name h.names c.in-Fun.f) xs made c.in-One.at c.in-One.number cell got.1.1 got.1.2 (omega arith) in
+    let fits = one-fits h new p (functor_name h.names c.in-Fun.f) xs made c.in-One.at c.in-One.number cell got.1.1 got.1.2 (omega (arith, c.arg.ensures)) in
+    let is = one-is h new p (functor_name h.names c.in-Fun.f) xs made c.in-One.at c.in-One.number cell got.1.1 got.1.2 (omega (arith, c.arg.ensures)) in
     let same : c.in-Fun.arity ≡ k = (cc) in
     let x = subst (PutsBlock e (over_heap e new e.count) nodes r c.args.place) same
     (puts-block e h new adds c.self.invariant nodes laid r c.args.place c.in-Fun.f c.in-Fun.arity b built xs got.0 p made) in
@@ -384,7 +384,7 @@ returns-in-Several-clause-none c = λ none f k given.
     let s = c.self.inside in
     let e : Env = record { heap = s.heap; slots = s.slots.items; noted = s.noted.items; boundary = s.boundary; count = s.count } in
     let nodes = c.args.nodes.now in
-    let r = c.args.run in
+    let r = c.args.run.now in
     let w = given.within in
     let h = c.gather.new.heap in
     let xs = c.gather.new.block.items in

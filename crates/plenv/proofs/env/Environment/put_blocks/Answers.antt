@@ -13,8 +13,8 @@ use Rattle.plenv.proofs.env.Environment.put_blocks.Goals as goal
 pub loop-arity-init : goal.loop-arity-init
 loop-arity-init c =
     let now : Env = c.args.self.now in
-    let r : Run = record { from = c.args.from; start = c.len-start.result; base = c.args.base } in
-    let all : length now.heap.cells ≡ c.len-start.result = ap (λ (e : Env). length e.heap.cells) (sym c.self.view_is) ∙ sym c.len-start.ensures in
+    let r : Run = record { from = c.args.from; start = c.next-start.result; base = c.args.base } in
+    let all : length now.heap.cells ≡ c.next-start.result = ap (λ (e : Env). length e.heap.cells) (sym c.self.view_is) ∙ sym c.next-start.ensures.is in
     record {
       packed = c.requires.packed;
       built = built-start now.heap c.args.nodes.now r all;
@@ -45,8 +45,8 @@ returns-in_default-clause-none c = λ none f k is.
     (block-most nodes c.args.from c.args.root l.place b.0 b.1.0 f k l.invariant.packed b.1.1 is)
     (c.in_ok-arity.ensures.none c.in_default.is b.0 b.1.0 b.1.1)
 
-pub overflow_add-result : goal.overflow_add-result
-overflow_add-result c = omega (arith, c.in_ok-arity.ensures.few, c.loop-arity.invariant.built.length, c.if-place-root.true)
+pub after-requires : goal.after-requires
+after-requires c = omega (arith, c.in_ok-arity.ensures.few, c.loop-arity.invariant.built.length, c.if-place-root.true)
 
 pub returns-then-place-root-clause-some : goal.returns-then-place-root-clause-some
 returns-then-place-root-clause-some c = λ v some.
@@ -56,10 +56,11 @@ returns-then-place-root-clause-some c = λ v some.
     let new : Env = c.put_block.new.self in
     let nodes = c.args.nodes.now in
     let root = c.args.root in
-    let r : Run = record { from = c.args.from; start = c.len-start.result; base = c.args.base } in
-    let all : length now.heap.cells ≡ c.len-start.result = ap (λ (e : Env). length e.heap.cells) (sym c.self.view_is) ∙ sym c.len-start.ensures in
+    let r : Run = record { from = c.args.from; start = c.next-start.result; base = c.args.base } in
+    let all : length now.heap.cells ≡ c.next-start.result = ap (λ (e : Env). length e.heap.cells) (sym c.self.view_is) ∙ sym c.next-start.ensures.is in
     let at : l.place ≡ root = c.if-place-root.true in
-    let same : Str (c.len-start.result + (root - c.args.from)) ≡ v = (cc) in
+    let place = c.after.ensures in
+    let same : Str (c.next-start.result + (root - c.args.from)) ≡ v = (cc) in
     let made = subst (λ p. PutsBlock mid new nodes r p c.in-Some.arity) at (c.in_ok-arity.ensures.some c.in-Some.arity c.in-Some.is) in
     subst (λ w. Puts now new w (bind (over now c.args.base) (block_at now.heap.names nodes root))) same
     (puts-all now mid new nodes r root (built-start now.heap nodes r all) c.requires.covers l.invariant.stays l.invariant.names
@@ -88,7 +89,7 @@ loop-arity-preserved c =
     let mid : Env = l.self in
     let new : Env = c.put_block.new.self in
     let nodes = c.args.nodes.now in
-    let r : Run = record { from = c.args.from; start = c.len-start.result; base = c.args.base } in
+    let r : Run = record { from = c.args.from; start = c.next-start.result; base = c.args.base } in
     let made = c.in_ok-arity.ensures.some c.in-Some.arity c.in-Some.is in
     let kept = c.in_ok-arity.ensures.stays in
     let next : suc (l.place + c.in-Some.arity) ≡ l.place + (1 + c.from.result) = omega (arith, c.from.ensures) in

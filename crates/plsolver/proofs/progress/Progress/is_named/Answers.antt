@@ -15,7 +15,7 @@ or-false false = refl
 pub returns-then-view-eq0 : goal.returns-then-view-eq0
 returns-then-view-eq0 c =
     let s = c.args.self.now.machine in
-    let p = indicator (value s.stack.env.heap c.args.head) in
+    let p = indicator (value s.stack.env.heap c.args.head.now) in
     sym (ap (λ n. exists (own_batch c.args.view.place n s.layer.own.updates) p) c.if-view-eq0.true ∙ none-exists c.args.view.place p)
 
 pub returns : goal.returns

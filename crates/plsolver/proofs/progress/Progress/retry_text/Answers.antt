@@ -17,7 +17,7 @@ returns-in_err-entered-clause-err c =
     let P = c.args.program.now in
     let s = c.args.self.now in
     let named = rw (c.heap-heap.ensures.is, c.env.ensures) at c.in_ok-p.ensures in
-    let head = rw (c.heap-heap.ensures.is, c.env.ensures) at c.head_of-head.ensures.is in
+    let head = c.head_at-head.ensures.is in
     let whole = c.clauses_of-clauses.ensures ∙ ap (clauses_for P) (named ∙ ap indicator head) in
     on_err c.from_residual-in_err-entered.result (subst (Stays P s) (sym c.first_of_text.ensures.frame)
     (stays-fails P s c.first_of_text.new.self.machine.stack c.requires.fails c.first_of_text.ensures.basis c.first_of_text.ensures.walks (λ v. c.in_err-entered.ensures.err P v s.machine.layer.own.updates whole)))
@@ -28,7 +28,7 @@ returns-in_default-clause-ok c = λ v ordered.
     let s = c.args.self.now in
     let st = c.first_of_text.new.self.machine.stack in
     let named = rw (c.heap-heap.ensures.is, c.env.ensures) at c.in_ok-p.ensures in
-    let head = rw (c.heap-heap.ensures.is, c.env.ensures) at c.head_of-head.ensures.is in
+    let head = c.head_at-head.ensures.is in
     let whole = c.clauses_of-clauses.ensures ∙ ap (clauses_for P) (named ∙ ap indicator head) in
     let none = (rw c.in_default.is at c.in_ok-entered.ensures.none) P v s.machine.layer.own.updates whole in
     let closed = closes-choice st c.close.new.self c.close.result (db_in P v s.machine) none.0 none.2 c.close.ensures.some c.close.ensures.none c.close.ensures.basis in
@@ -41,7 +41,7 @@ returns-clause-ok c = λ v ordered.
     let s = c.args.self.now in
     let e = c.in-Some.entered in
     let named = rw (c.heap-heap.ensures.is, c.env.ensures) at c.in_ok-p.ensures in
-    let head = rw (c.heap-heap.ensures.is, c.env.ensures) at c.head_of-head.ensures.is in
+    let head = c.head_at-head.ensures.is in
     let whole = c.clauses_of-clauses.ensures ∙ ap (clauses_for P) (named ∙ ap indicator head) in
     let retries = (rw c.in-Some.is at c.in_ok-entered.ensures.some) P v s.machine.layer.own.updates whole in
     subst (λ (m : Mode). QuietIn P v s (record c.first_of_text.new.self { machine = record c.first_of_text.new.self.machine { mode = m } })) (sym c.mode_of.ensures)

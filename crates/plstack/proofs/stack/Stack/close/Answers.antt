@@ -20,7 +20,7 @@ pub returns-then-n-gt1-clause-some : goal.returns-then-n-gt1-clause-some
 unfolding cases_of
 returns-then-n-gt1-clause-some c = λ db.
     let e = c.in-Some.ensures.items ∙ ap (λ f. c.pop.new.self.items ++ f ∷ []) c.in-Plain.is in
-    rw (← c.self.view_is) ([], closed-plain db (inside c.self.inside) c.pop.new.self.items c.push_frame.new.frames.items c.in-Plain.n e c.if-n-gt1.true c.push_frame.ensures.is, λ not n m k. refl)
+    rw (← c.self.view_is) ([], closed-plain db (inside c.self.inside) c.pop.new.self.items c.push_within.new.items.items c.in-Plain.n e c.if-n-gt1.true c.push_within.ensures.is, λ not n m k. refl)
 
 pub returns-else-n-gt1-clause-some : goal.returns-else-n-gt1-clause-some
 unfolding cases_of
@@ -32,7 +32,7 @@ returns-else-n-gt1-clause-some c = λ db.
 pub returns-then-n-gt1-clause-walks : goal.returns-then-n-gt1-clause-walks
 returns-then-n-gt1-clause-walks c =
     let e = c.in-Some.ensures.items ∙ ap (λ f. c.pop.new.self.items ++ f ∷ []) c.in-Plain.is in
-    rw (← c.self.view_is) ([], sym (other-walks (inside c.self.inside).frames c.push_frame.new.frames.items c.pop.new.self.items (Plain c.in-Plain.n) (Plain (c.in-Plain.n - 1)) e c.push_frame.ensures.is refl))
+    rw (← c.self.view_is) ([], sym (other-walks (inside c.self.inside).frames c.push_within.new.items.items c.pop.new.self.items (Plain c.in-Plain.n) (Plain (c.in-Plain.n - 1)) e c.push_within.ensures.is refl))
 
 pub returns-else-n-gt1-clause-walks : goal.returns-else-n-gt1-clause-walks
 returns-else-n-gt1-clause-walks c =
@@ -42,7 +42,7 @@ returns-else-n-gt1-clause-walks c =
 pub invariant_of-self-then-n-gt1 : goal.invariant_of-self-then-n-gt1
 invariant_of-self-then-n-gt1 c =
     let e = c.in-Some.ensures.items ∙ ap (λ f. c.pop.new.self.items ++ f ∷ []) c.in-Plain.is in
-    rw (c.alone-self-inside.ensures, c.down-self-inside.ensures) (smaller-stack (inside c.self.inside) c.self.inside.depth c.pop.new.self.items c.push_frame.new.frames.items c.in-Plain.n e c.if-n-gt1.true c.push_frame.ensures.is c.self.invariant)
+    rw (c.alone-self-inside.ensures, c.down-self-inside.ensures) (smaller-stack (inside c.self.inside) c.self.inside.depth c.pop.new.self.items c.push_within.new.items.items c.in-Plain.n e c.if-n-gt1.true c.push_within.ensures.is c.self.invariant)
 
 pub invariant_of-self-else-n-gt1 : goal.invariant_of-self-else-n-gt1
 invariant_of-self-else-n-gt1 c =
@@ -100,8 +100,8 @@ pub returns-then-n-gt1-clause-own : goal.returns-then-n-gt1-clause-own
 returns-then-n-gt1-clause-own c = λ db own same.
     let s : State = inside c.self.inside in
     let e = c.in-Some.ensures.items ∙ ap (λ f. c.pop.new.self.items ++ f ∷ []) c.in-Plain.is in
-    let t = smaller-stack s c.self.inside.depth c.pop.new.self.items c.push_frame.new.frames.items c.in-Plain.n e c.if-n-gt1.true c.push_frame.ensures.is c.self.invariant in
-    own-same db own (record s { frames = c.push_frame.new.frames.items; goals = c.alone-self-inside.result }) t.0.seen same
+    let t = smaller-stack s c.self.inside.depth c.pop.new.self.items c.push_within.new.items.items c.in-Plain.n e c.if-n-gt1.true c.push_within.ensures.is c.self.invariant in
+    own-same db own (record s { frames = c.push_within.new.items.items; goals = c.alone-self-inside.result }) t.0.seen same
 
 pub returns-else-n-gt1-clause-own : goal.returns-else-n-gt1-clause-own
 returns-else-n-gt1-clause-own c = λ db own same.

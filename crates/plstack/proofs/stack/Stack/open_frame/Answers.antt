@@ -12,9 +12,9 @@ invariant_of-self-2 c =
     let list = rw (← c.self.view_is) at c.requires.list in
     let f = rw (← c.self.view_is) at c.requires.fits in
     let resume = rw (← c.self.view_is) at c.requires.resume in
-    let pushed = rw c.reserve.ensures.items at c.push_frame.ensures.is in
+    let pushed = rw c.reserve.ensures.items at c.push_within.ensures.is in
     let seen = rw (← c.self.view_is) at c.requires.seen in
-    rw c.in_ok-depth.ensures.ok (framed-stack s c.self.inside.depth c.self.invariant c.mark.new.self m c.mark.ensures.mark c.mark.ensures.now c.mark.ensures.same (omega (arith, c.len.ensures, c.self.inside.links.ok.0)) (omega (arith, c.len-2.ensures, c.self.inside.saved.ok.0)) c.args.list c.args.resume list f resume c.requires.none c.push_frame.new.frames.items pushed c.requires.stays seen)
+    rw c.in_ok-depth.ensures.ok (framed-stack s c.self.inside.depth c.self.invariant c.mark.new.self m c.mark.ensures.mark c.mark.ensures.now c.mark.ensures.same (omega (arith, c.len.ensures, c.self.inside.links.ok.0)) (omega (arith, c.len-2.ensures, c.self.inside.saved.ok.0)) c.args.list c.args.resume list f resume c.requires.none c.push_within.new.items.items pushed c.requires.stays seen)
 
 pub returns-clause-ok : goal.returns-clause-ok
 returns-clause-ok c =
@@ -23,5 +23,5 @@ returns-clause-ok c =
     let list = rw (← c.self.view_is) at c.requires.list in
     let f = rw (← c.self.view_is) at c.requires.fits in
     let resume = rw (← c.self.view_is) at c.requires.resume in
-    let pushed = rw c.reserve.ensures.items at c.push_frame.ensures.is in
-    rw (← c.self.view_is) (framed-opens s c.self.inside.depth c.self.invariant c.mark.new.self m c.mark.ensures.mark c.mark.ensures.now c.mark.ensures.same (omega (arith, c.len.ensures, c.self.inside.links.ok.0)) (omega (arith, c.len-2.ensures, c.self.inside.saved.ok.0)) c.args.list c.args.resume list f resume c.requires.none c.push_frame.new.frames.items pushed)
+    let pushed = rw c.reserve.ensures.items at c.push_within.ensures.is in
+    rw (← c.self.view_is) (framed-opens s c.self.inside.depth c.self.invariant c.mark.new.self m c.mark.ensures.mark c.mark.ensures.now c.mark.ensures.same (omega (arith, c.len.ensures, c.self.inside.links.ok.0)) (omega (arith, c.len-2.ensures, c.self.inside.saved.ok.0)) c.args.list c.args.resume list f resume c.requires.none c.push_within.new.items.items pushed)

@@ -14,7 +14,7 @@ invariant_of-self-2 c =
     let f = rw (← c.self.view_is) at c.requires.fits in
     let first = rw c.reserve.ensures.items at c.count_up.ensures.counts in
     let starts = rw c.reserve-2.ensures.items at c.push_start.ensures in
-    rw (c.in_ok-depth.ensures.ok, c.alone-self-inside.ensures) (transaction-stack s c.self.inside.depth c.self.invariant c.args.view view c.args.list list f c.count_up.new.frames.items first c.mark.new.self m c.mark.ensures.mark c.mark.ensures.now c.mark.ensures.same (omega (arith, c.len.ensures, c.self.inside.links.ok.0)) (omega (arith, c.len-2.ensures, c.self.inside.saved.ok.0)) c.push_frame.new.frames.items c.push_frame.ensures.is c.count_up-2.new.frames.items c.count_up-2.ensures.counts c.push_start.new.starts.items starts)
+    rw (c.in_ok-depth.ensures.ok, c.alone-self-inside.ensures) (transaction-stack s c.self.inside.depth c.self.invariant c.args.view view c.args.list list f c.count_up.new.frames.items first c.mark.new.self m c.mark.ensures.mark c.mark.ensures.now c.mark.ensures.same (omega (arith, c.len.ensures, c.self.inside.links.ok.0)) (omega (arith, c.len-2.ensures, c.self.inside.saved.ok.0)) c.push_within.new.items.items c.push_within.ensures.is c.count_up-2.new.frames.items c.count_up-2.ensures.counts c.push_start.new.starts.items starts)
 
 pub returns-clause-ok : goal.returns-clause-ok
 returns-clause-ok c =
@@ -25,4 +25,4 @@ returns-clause-ok c =
     let f = rw (← c.self.view_is) at c.requires.fits in
     let first = rw c.reserve.ensures.items at c.count_up.ensures.counts in
     let starts = rw c.reserve-2.ensures.items at c.push_start.ensures in
-    rw (← c.self.view_is, c.alone-self-inside.ensures) (transaction-opens s c.self.inside.depth c.self.invariant c.args.view view c.args.list list f c.count_up.new.frames.items first c.mark.new.self m c.mark.ensures.mark c.mark.ensures.now c.mark.ensures.same (omega (arith, c.len.ensures, c.self.inside.links.ok.0)) (omega (arith, c.len-2.ensures, c.self.inside.saved.ok.0)) c.push_frame.new.frames.items c.push_frame.ensures.is c.count_up-2.new.frames.items c.count_up-2.ensures.counts c.push_start.new.starts.items starts)
+    rw (← c.self.view_is, c.alone-self-inside.ensures) (transaction-opens s c.self.inside.depth c.self.invariant c.args.view view c.args.list list f c.count_up.new.frames.items first c.mark.new.self m c.mark.ensures.mark c.mark.ensures.now c.mark.ensures.same (omega (arith, c.len.ensures, c.self.inside.links.ok.0)) (omega (arith, c.len-2.ensures, c.self.inside.saved.ok.0)) c.push_within.new.items.items c.push_within.ensures.is c.count_up-2.new.frames.items c.count_up-2.ensures.counts c.push_start.new.starts.items starts)

@@ -58,7 +58,7 @@ invariant_of-self-in-Err c =
     let k : Answers = c.in-Some-Open-default-Answers.answers in
     let popped : s.frames ≡ c.pop.new.self.items ++ Open p (resumes.Answers k) ∷ [] = c.in-Some-Open-default-Answers.ensures.items ∙ ap (λ f. c.pop.new.self.items ++ f ∷ []) (c.in-Some-Open-default-Answers.field-0-is ∙ ap (Open p) c.in-Some-Open-default-Answers.field-0-1-is) in
     let kept = ap (λ (xs : List Cell). take (p.marks.saved + k.count - p.marks.saved) (drop p.marks.saved xs)) (c.deref.ensures.value ∙ c.truncate-2.ensures.items) ∙ run-kept p.marks.saved k.count (take (p.marks.saved + k.count) s.saved) ∙ kept-then s c.self.inside.depth c.self.invariant c.pop.new.self.items p (resumes.Answers k) popped in
-    let back : c.push_frame.new.frames.items ≡ s.frames = c.push_frame.ensures.is ∙ sym popped in
+    let back : c.push_within.new.items.items ≡ s.frames = c.push_within.ensures.is ∙ sym popped in
     let y = rw c.undo.ensures at c.in-Err.ensures.err in
     rw (c.truncate.ensures.items, c.truncate-2.ensures.items, c.alone-self-inside.ensures, back) (back-again s c.self.inside.depth c.self.invariant c.pop.new.self.items p k popped c.take_answer.new.env c.take_answer.ensures.env y)
 
@@ -102,7 +102,7 @@ returns-in-Err-clause-err c = λ db.
     let k : Answers = c.in-Some-Open-default-Answers.answers in
     let popped : s.frames ≡ c.pop.new.self.items ++ Open p (resumes.Answers k) ∷ [] = c.in-Some-Open-default-Answers.ensures.items ∙ ap (λ f. c.pop.new.self.items ++ f ∷ []) (c.in-Some-Open-default-Answers.field-0-is ∙ ap (Open p) c.in-Some-Open-default-Answers.field-0-1-is) in
     let kept = ap (λ (xs : List Cell). take (p.marks.saved + k.count - p.marks.saved) (drop p.marks.saved xs)) (c.deref.ensures.value ∙ c.truncate-2.ensures.items) ∙ run-kept p.marks.saved k.count (take (p.marks.saved + k.count) s.saved) ∙ kept-then s c.self.inside.depth c.self.invariant c.pop.new.self.items p (resumes.Answers k) popped in
-    let back : c.push_frame.new.frames.items ≡ s.frames = c.push_frame.ensures.is ∙ sym popped in
+    let back : c.push_within.new.items.items ≡ s.frames = c.push_within.ensures.is ∙ sym popped in
     let y = rw c.undo.ensures at c.in-Err.ensures.err in
     rw (← c.self.view_is, c.truncate.ensures.items, c.truncate-2.ensures.items, c.alone-self-inside.ensures, back) (back-again-cases s c.self.inside.depth c.self.invariant c.pop.new.self.items p k popped c.take_answer.new.env c.take_answer.ensures.env y db)
 
@@ -128,4 +128,4 @@ returns-in-Err-clause-walks c =
     let p : Point = c.in-Some-Open-default-Answers.point in
     let k : Answers = c.in-Some-Open-default-Answers.answers in
     let popped : s.frames ≡ c.pop.new.self.items ++ Open p (resumes.Answers k) ∷ [] = c.in-Some-Open-default-Answers.ensures.items ∙ ap (λ f. c.pop.new.self.items ++ f ∷ []) (c.in-Some-Open-default-Answers.field-0-is ∙ ap (Open p) c.in-Some-Open-default-Answers.field-0-1-is) in
-    rw (← c.self.view_is) (ap (λ fs. walks_of (reverse fs)) (c.push_frame.ensures.is ∙ sym popped))
+    rw (← c.self.view_is) (ap (λ fs. walks_of (reverse fs)) (c.push_within.ensures.is ∙ sym popped))
