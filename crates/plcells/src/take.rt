@@ -79,7 +79,10 @@ impl Heap {
         requires { IsValue self.now v }
     {
         match self.root(v) {
-            Cell::Str(p) => self.block(p).1 as usize + 1,
+            Cell::Str(p) => {
+                let (_, count) = self.block(p);
+                count as usize + 1
+            }
             _ => 1,
         }
     }
