@@ -75,10 +75,10 @@ impl Heap {
     }
 
     /// How many nodes the term of a value has at least: as many as it has where each of its arguments is an atom, a number or a variable.
-    fn width(&self, v: Cell) -> usize
-        requires { IsValue self.now v }
+    fn width(&self, v: &Cell) -> usize
+        requires { IsValue self.now v.now }
     {
-        match self.root(v) {
+        match self.root(*v) {
             Cell::Str(p) => {
                 let (_, count) = self.block(p);
                 count as usize + 1
@@ -92,7 +92,7 @@ impl Heap {
         requires { IsValue self.now v }
         ensures { IfOk result (λ t. t ≡ value self.now v) }
     {
-        let mut nodes = Vec::with_capacity(alloc, self.width(v))?;
+        let mut nodes = Vec::with_capacity(alloc, self.width(&v))?;
         let mut stack = Vec::new(alloc);
         self.take_nodes(&mut nodes, &mut stack, v)?;
         Ok(Term::from_prefix(nodes))
