@@ -1,6 +1,7 @@
 //! What links the clauses that a walk passes.
-ghost use Rattle.std.specs.Prelude.{◌≡◌, None, true};
+ghost use Rattle.std.specs.Prelude.{◌≡◌, ◌≢◌, None, true};
 ghost use Rattle.plevent.specs.Alive.{is_of};
+ghost use Rattle.plevent.specs.declared.key.Key.TheVariants.{Any};
 ghost use Rattle.plstore.specs.Chains.{in_chain};
 ghost use Rattle.plstore.specs.Links.{first_end};
 ghost use Rattle.plstore.specs.Merged.{IsMerged};
@@ -104,8 +105,25 @@ impl Merged {
     }
 }
 
-/// The chain of the key's slot, and that of the clauses with a variable, or nothing, as their first argument, unless there are
-/// none. For a goal of any key both are the procedure's.
+/// The chain of a key's slot, and that of the clauses with a variable, or nothing, as their first argument, unless there are
+/// none.
+fn merge_keyed(tables: &Tables, sought: &Sought<'_>) -> Merged
+    requires chained { Chained tables.now }
+    requires key { sought.now.key.now ≢ Any }
+    ensures { IsMerged sought.now.pred.now sought.now.key.now tables.now.records.items result }
+{
+    let slots = Slots::new(sought.pred);
+    let own = Chain::Slot(slots.of_key(sought.key));
+    if !tables.unkeyed {
+        return Merged { own, any: own };
+    }
+    Merged {
+        own,
+        any: Chain::Slot(slots.any()),
+    }
+}
+
+/// The chains of a goal's key. For a goal of any key both are the procedure's.
 pub(crate) fn merge(tables: &Tables, sought: &Sought<'_>) -> Merged
     requires { Chained tables.now }
     ensures { IsMerged sought.now.pred.now sought.now.key.now tables.now.records.items result }
@@ -116,13 +134,5 @@ pub(crate) fn merge(tables: &Tables, sought: &Sought<'_>) -> Merged
             any: Chain::Procedure,
         };
     }
-    let slots = Slots::new(sought.pred);
-    let own = Chain::Slot(slots.of_key(sought.key));
-    if !tables.unkeyed {
-        return Merged { own, any: own };
-    }
-    Merged {
-        own,
-        any: Chain::Slot(slots.any()),
-    }
+    merge_keyed(tables, sought)
 }

@@ -16,7 +16,7 @@ pub(crate) struct Starts {
     /// The place of the last record.
     last: u64,
     /// How many updates of the first batch made no record before the last one that did: most declare, and stand first.
-    behind: usize,
+    bare: usize,
 }
 
 impl Starts {
@@ -24,7 +24,7 @@ impl Starts {
         Starts {
             numbers: Vec::new(alloc),
             last: 0,
-            behind: 0,
+            bare: 0,
         }
     }
 
@@ -33,7 +33,7 @@ impl Starts {
     pub(crate) fn note(&mut self, name: ClauseName, number: usize) {
         self.last = name.place;
         if name.place == 0 {
-            self.behind = (name.number as usize).wrapping_sub(number);
+            self.bare = (name.number as usize).wrapping_sub(number);
         }
         let spans = spans_to(name.place);
         if number.saturating_add(SPARE) < spans {
@@ -55,7 +55,7 @@ impl Starts {
     /// Where the record of a name may stand among so many: the last ones are of the last place.
     pub(crate) fn guess(&self, name: ClauseName, count: usize) -> usize {
         match name.place.checked_sub(1) {
-            None => (name.number as usize).wrapping_sub(self.behind),
+            None => (name.number as usize).wrapping_sub(self.bare),
             Some(_) if name.place == self.last => count.wrapping_sub(1),
             Some(before) => self
                 .guess_within(before, count)

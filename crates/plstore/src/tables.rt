@@ -83,7 +83,7 @@ impl Tables {
     }
 }
 
-/// Whether a clause was put that has no key of its own, where one of this slot is put behind others.
+/// Whether a clause was put that has no key of its own, once one of this slot is put too.
 fn unkeyed_with(was: bool, slots: Slots, slot: u64) -> bool
     ensures before { result ≡ false → was ≡ false }
     ensures this { result ≡ false → slot ≢ slot_behind slots.hasher Any }

@@ -10,7 +10,8 @@ returns-then-is_root_apart c h =
     let at = c.args.p + 1 + c.loop-i.i in
     let n = c.args.count - suc c.loop-i.i in
     let all : suc n + c.loop-i.i ≡ c.args.count = omega arith in
-    let here : value heap c.root-root.result ≡ term heap at = c.root-root.ensures.same ∙ c.argument.ensures.same ∙ ap (λ i. term heap (c.args.p + 1 + i)) c.from.ensures in
+    let is : c.after.result ≡ at = omega (arith, c.after.ensures, c.arg.ensures, c.from.ensures) in
+    let here : value heap c.root-root.result ≡ term heap at = c.root-root.ensures.same ∙ c.argument.ensures.same ∙ ap (term heap) is in
     let apart = subst (λ t. AreApart t c.in-Some.arg) here (c.is_root_apart.ensures c.if-is_root_apart.true) in
     c.loop-i.invariant (suc n) all (subst (ListsApart (terms heap at (suc n))) (sym c.in-Some.ensures) (first-apart (term heap at) c.in-Some.arg (terms heap (suc at) n) c.next_term.new.self apart))
 
