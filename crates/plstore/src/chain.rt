@@ -128,11 +128,11 @@ pub(crate) fn merge(tables: &Tables, sought: &Sought<'_>) -> Merged
     requires { Chained tables.now }
     ensures { IsMerged sought.now.pred.now sought.now.key.now tables.now.records.items result }
 {
-    if matches!(sought.key, Key::Any) {
-        return Merged {
+    match sought.key {
+        Key::Any => Merged {
             own: Chain::Procedure,
             any: Chain::Procedure,
-        };
+        },
+        _ => merge_keyed(tables, sought),
     }
-    merge_keyed(tables, sought)
 }

@@ -1,4 +1,4 @@
-use Rattle.std.proofs.Common.{◌≡◌, ◌∙◌, refl, ap}
+use Rattle.std.proofs.Common.{◌∙◌, refl, ap}
 use Rattle.plevent.specs.declared.key.Key.TheVariants.{Any}
 use Rattle.plstore.specs.Slots.{slot_behind}
 use Rattle.plstore.proofs.Slotted.{keyed-cover, slots-cover}
