@@ -43,18 +43,18 @@ pub struct Entry {
 /// The number of a procedure; none, where its name is too long or its arguments are too many, so that nothing calls it.
 pub(crate) fn number_of(
     names: &mut Names,
-    name: Name,
+    name: &Name,
     arity: u16,
 ) -> Result<Option<Number>, AllocError>
     requires { IsTable names.old }
-    ensures number { IfOk result (λ n. IsNumbered names.new (record { name = name; arity = arity }) n) }
+    ensures number { IfOk result (λ n. IsNumbered names.new (record { name = name.now; arity = arity }) n) }
     ensures extends { Extends names.old names.new }
     ensures table { IsTable names.new }
 {
     if name.len() > LONGEST || arity > MOST {
         return Ok(None);
     }
-    let atom = names.atom(&name)?;
+    let atom = names.atom(name)?;
     if arity == 0 {
         return Ok(Some(Number::Atom(atom)));
     }

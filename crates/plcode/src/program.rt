@@ -59,7 +59,7 @@ fn row_entries(
 {
     let mut entries = Vec::new(alloc);
     for &(name, arity, kind) in rows {
-        let number = number_of(names, Name::new(alloc, name)?, arity)?;
+        let number = number_of(names, &Name::new(alloc, name)?, arity)?;
         entries.push(Entry {
             number,
             callee: kind_callee(kind),
@@ -84,7 +84,7 @@ fn add_procedures(
         let Ok(place) = u32::try_from(index) else {
             return Err(AllocError);
         };
-        let number = number_of(names, indicator.name.copied()?, indicator.arity)?;
+        let number = number_of(names, &indicator.name, indicator.arity)?;
         entries.push(Entry {
             number,
             callee: procedure_callee(place, clauses),

@@ -1,4 +1,4 @@
-use Rattle.std.proofs.Common.{◌≤◌, ◌++◌, List, length, append-nil, arith, subst, sym}
+use Rattle.std.proofs.Common.{◌≤◌, ◌++◌, List, length, append-nil, arith, refl, subst, sym}
 use Rattle.std.proofs.lemmas.List.{take_all}
 use Rattle.plterm.specs.declared.indicator.Indicator.{Indicator}
 use Rattle.plclause.specs.Clause.{Clause}
@@ -26,8 +26,8 @@ loop-index-preserved c =
       table = e.table;
       extends = Extends-trans c.args.names.now s t i.extends e.extends;
       entries = λ ws h.
-          procedure_more s t e.extends i.table c.loop-index.entries.items c.push.new.self.items _ c.in_ok-copied.field-0 c.in_ok-push.ensures.items c.args.program.now.procedures
-          c.loop-index.index c.in-Ok.place entry ws c.procedure_at.ensures.is c.in-Ok.ensures.1 (i.entries ws h) c.in_ok-copied.ensures e.number c.procedure_callee.ensures;
+          procedure_more s t e.extends i.table c.loop-index.entries.items c.push.new.self.items _ c.procedure_at.result.0.now.name c.in_ok-push.ensures.items c.args.program.now.procedures
+          c.loop-index.index c.in-Ok.place entry ws c.procedure_at.ensures.is c.in-Ok.ensures.1 (i.entries ws h) refl e.number c.procedure_callee.ensures;
     }
 
 pub returns-clause-entries : goal.returns-clause-entries
