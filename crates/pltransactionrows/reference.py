@@ -2,7 +2,7 @@
 """An interpreter of the language of the rows, apart from the program: what each row of this crate has to come to.
 
     crates/pltransactionrows/reference.py --check       compares all rows of this crate with it: outputs, statuses and journals
-    crates/pltransactionrows/reference.py --others      those of plrows and plgoalrows, as far as it has their predicates
+    crates/pltransactionrows/reference.py --others      those of plrows, as far as it has their predicates
     crates/pltransactionrows/reference.py --swipl       compares the rows of this crate with SWI-Prolog; where the two differ, the
                                                         comment in front of the row, or of its array, has to say so
     crates/pltransactionrows/reference.py TEXT GOAL     runs a program's text with a goal: the report, and what the journal gets
@@ -33,8 +33,8 @@ HERE = os.path.dirname(os.path.realpath(__file__))
 CRATES = os.path.dirname(HERE)
 SHARED = [os.path.join(HERE, "src", "row.rt")]
 CAUGHT = ":- initialization((catch(({}), error(Error, Of), (writeq(Error), write(' of '), writeq(Of))))).\n"
-OTHERS = ["plrows/src/" + name for name in ("calls", "control", "cuts", "database", "deep", "ends", "programs", "examples")]
-OTHERS += ["plgoalrows/src/*"]
+OTHERS = ["plrows/src/" + name for name in ("calls", "control", "cuts", "database", "deep", "ends", "programs", "examples*")]
+OTHERS += ["plrows/src/" + name for name in ("arithmetic", "build", "clauses", "erased", "findall", "format", "library", "order", "output", "parts", "sorting", "type_tests")]
 
 
 def own_rows():

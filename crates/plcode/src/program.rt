@@ -59,7 +59,8 @@ fn row_entries(
 {
     let mut entries = Vec::new(alloc);
     for &(name, arity, kind) in rows {
-        let number = number_of(names, &Name::new(alloc, name)?, arity)?;
+        let name = Name::new(alloc, name)?;
+        let number = number_of(names, &name, arity)?;
         entries.push(Entry {
             number,
             callee: kind_callee(kind),

@@ -39,14 +39,15 @@ fn names_by_number(rt: HostRuntime) -> Result<(), Fail> {
     Ok(())
 }
 
-// Names of one length that begin and end alike, asked for in turns, keep their numbers.
+/// Names of one length that begin and end alike, asked for in turns, and their numbers.
+const ALIKE: [(&str, u32); 4] = [("axb", 0), ("ayb", 1), ("axb", 0), ("ayb", 1)];
+
 #[test]
 fn names_that_are_alike(rt: HostRuntime) -> Result<(), Fail> {
     let alloc = rt.alloc();
     let mut names = Names::new(alloc);
-    assert_eq!(rt; number_of(alloc, &mut names, "axb")?, 0);
-    assert_eq!(rt; number_of(alloc, &mut names, "ayb")?, 1);
-    assert_eq!(rt; number_of(alloc, &mut names, "axb")?, 0);
-    assert_eq!(rt; number_of(alloc, &mut names, "ayb")?, 1);
+    for (text, number) in ALIKE {
+        assert!(rt; number_of(alloc, &mut names, text)? == number, "{text}");
+    }
     Ok(())
 }

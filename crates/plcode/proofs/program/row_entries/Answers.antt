@@ -13,6 +13,6 @@ loop-name-preserved c =
     record {
       table = e.table;
       extends = Extends-trans c.args.names.now s t i.extends e.extends;
-      entries = row_more s t e.extends i.table c.loop-name.entries.items c.push.new.self.items _ c.in_ok-new.field-0 c.in_ok-push.ensures.items c.args.rows.now c.loop-name.name-index _ lt i.entries
-          c.in_ok-new.ensures e.number c.kind_callee.ensures;
+      entries = row_more s t e.extends i.table c.loop-name.entries.items c.push.new.self.items _ c.in_ok-name.name c.in_ok-push.ensures.items c.args.rows.now c.loop-name.name-index _ lt i.entries
+          c.in_ok-name.ensures e.number c.kind_callee.ensures;
     }
