@@ -1,7 +1,6 @@
 -- What is called by a number.
 use Rattle.std.specs.Prelude.{◌≡◌, ◌==◌, ℕ, suc, ◌<◌, Bool, false, Option, Some, None, if◌then◌else◌, List, [], ◌∷◌, length, get_or}
 use Rattle.plterm.specs.declared.indicator.Indicator.{Indicator}
-use Rattle.plterm.specs.Indicators.{same_indicator}
 use Rattle.plnames.specs.declared.kind.Kind.{Kind}
 use Rattle.plnames.specs.declared.kind.Kind.TheVariants as kinds
 use Rattle.plnames.specs.Names.{Row, kind_of}
