@@ -14,6 +14,8 @@ mod made;
 #[cfg(test)]
 mod pairs;
 #[cfg(test)]
+mod plain;
+#[cfg(test)]
 mod slots;
 #[cfg(test)]
 mod unification;
