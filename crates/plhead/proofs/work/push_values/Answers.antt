@@ -1,4 +1,5 @@
 use Rattle.std.proofs.Common.{◌≡◌, ◌∙◌, ◌+◌, ◌-◌, ◌∷◌, ◌++◌, [], length, drop, get_or, arith, ap, sym, subst, append-nil, append_assoc, add-zero}
+use Rattle.std.proofs.lemmas.List.{get_or_default}
 use Rattle.plcells.specs.declared.cell.Cell.TheVariants.{Free}
 use Rattle.plhead.specs.Equations.{pairs}
 use Rattle.plhead.proofs.Heads.{done, taken}
@@ -20,10 +21,11 @@ loop-i-preserved c =
     let vs = c.args.values.now in
     let i = l.i - 1 in
     let up : l.i ≡ i + 1 = omega (arith, c.loop-i-test.true) in
+    let read : c.index-values-i.result ≡ get_or vs i (Free 0) = c.index-values-i.is ∙ get_or_default vs i _ _ (omega (arith, l.invariant.most, up)) in
     let so_far = subst (λ j. l.work.items ≡ old ++ pairs (at + j) (drop j vs)) up l.invariant.so_far in
     record {
       most = omega (arith, l.invariant.most);
-      so_far = c.in_ok-push.ensures.items ∙ ap (λ ws. ws ++ (at + i, get_or vs i (Free 0)) ∷ []) so_far ∙ append_assoc old (pairs (at + (i + 1)) (drop (i + 1) vs)) ((at + i, get_or vs i (Free 0)) ∷ [])
+      so_far = c.in_ok-push.ensures.items ∙ ap (λ v. l.work.items ++ (at + i, v) ∷ []) read ∙ ap (λ ws. ws ++ (at + i, get_or vs i (Free 0)) ∷ []) so_far ∙ append_assoc old (pairs (at + (i + 1)) (drop (i + 1) vs)) ((at + i, get_or vs i (Free 0)) ∷ [])
           ∙ ap (λ ps. old ++ ps) (sym (taken at vs i (omega (arith, l.invariant.most, up))));
     }
 
