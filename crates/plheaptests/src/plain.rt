@@ -12,19 +12,18 @@ use std::test::Fail;
 /// How often a variable is bound at most: none of the terms has so many.
 const ROUNDS: usize = 100;
 
-/// How many nodes the term has that begins at a place.
-fn width(nodes: &[Node], place: usize) -> usize {
+/// How many nodes the term has that they begin with.
+fn width(nodes: &[Node]) -> usize {
     let mut wanted: usize = 1;
-    let mut count = 0;
-    for at in place..nodes.len() {
+    let mut end = 0;
+    for at in 0..nodes.len() {
         if wanted == 0 {
             break;
         }
-        let arity = nodes[at].arity();
-        wanted = (wanted - 1).saturating_add(arity);
-        count += 1;
+        wanted = (wanted - 1).saturating_add(nodes[at].arity());
+        end = at + 1;
     }
-    count
+    end
 }
 
 /// The terms of both sides where these first differ; none where they are the same.
@@ -40,7 +39,7 @@ fn difference<'a>(left: &'a [Node], right: &'a [Node]) -> Option<(&'a [Node], &'
 /// The nodes of the term that begins at a place.
 fn part(nodes: &[Node], place: usize) -> &[Node] {
     let (_, behind) = nodes.split_at(place.min(nodes.len()));
-    let count = width(behind, 0);
+    let count = width(behind);
     let (term, _) = behind.split_at(count.min(behind.len()));
     term
 }

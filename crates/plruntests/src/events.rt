@@ -82,42 +82,70 @@ fn ends_and_requests(rt: HostRuntime) -> Result<(), Fail> {
     Ok(())
 }
 
-// Main is started by worker 2, publishes and ends.
+/// Whether main runs and stays, whether the run is over, and how many entries there are.
+fn told(standing: &Standing) -> (bool, bool, bool, u64) {
+    (
+        standing.runs(1),
+        standing.stays(1),
+        standing.is_over(),
+        standing.size,
+    )
+}
+
+/// What stands before main is started by worker 2, then, once it has published, and once it has ended.
+fn to_the_end(alloc: Global) -> Result<[(bool, bool, bool, u64); 4], AllocError> {
+    let mut standing = Standing::blank(alloc)?;
+    let blank = told(&standing);
+    standing.start(2, 1);
+    let started = told(&standing);
+    standing.publish();
+    let published = told(&standing);
+    standing.end(1, ThreadEnd::True);
+    Ok([blank, started, published, told(&standing)])
+}
+
+/// What stands once main, started by worker 2, has ended the run with 44, and once it has left.
+fn to_the_halt(alloc: Global) -> Result<[(bool, bool, bool, u64); 2], AllocError> {
+    let mut standing = Standing::blank(alloc)?;
+    standing.start(2, 1);
+    standing.halt(44);
+    let halted = told(&standing);
+    standing.leave(1);
+    Ok([halted, told(&standing)])
+}
+
 #[test]
 fn main_from_start_to_end(rt: HostRuntime) -> Result<(), Fail> {
-    let alloc = rt.alloc();
-    let mut standing = Standing::blank(alloc)?;
-    match standing.threads.first_new() {
-        None => return Err("no thread".into()),
-        Some(thread) => {
-            assert_eq!(rt; thread.number, 1);
-            assert!(rt; matches!(&thread.alias, Some(alias) if alias.as_str() == "main"));
-        }
-    }
-    assert!(rt; !standing.runs(1));
-    standing.start(2, 1);
-    assert!(rt; standing.runs(1));
-    assert!(rt; !standing.is_over());
-    standing.publish();
-    assert_eq!(rt; standing.size, 2);
-    standing.end(1, ThreadEnd::True);
-    assert!(rt; !standing.runs(1));
-    assert!(rt; standing.is_over());
-    assert_eq!(rt; standing.size, 3);
+    let stages = to_the_end(rt.alloc())?;
+    assert!(rt;
+        stages
+            == [
+                (false, false, false, 0),
+                (true, true, false, 1),
+                (true, true, false, 2),
+                (false, false, true, 3),
+            ]
+    );
     Ok(())
 }
 
-// Main is started, ends the run with 44, and leaves.
 #[test]
 fn main_leaves(rt: HostRuntime) -> Result<(), Fail> {
-    let mut standing = Standing::blank(rt.alloc())?;
-    assert!(rt; !standing.stays(1));
-    standing.start(2, 1);
-    standing.halt(44);
-    assert!(rt; standing.stays(1));
-    assert_eq!(rt; standing.size, 2);
-    standing.leave(1);
-    assert!(rt; !standing.stays(1));
-    assert_eq!(rt; standing.size, 3);
+    let stages = to_the_halt(rt.alloc())?;
+    assert!(rt; stages == [(true, true, true, 2), (true, false, true, 3)]);
+    Ok(())
+}
+
+// The first thread that is not started yet is main, thread 1.
+#[test]
+fn main_comes_first(rt: HostRuntime) -> Result<(), Fail> {
+    let standing = Standing::blank(rt.alloc())?;
+    match standing.threads.first_new() {
+        None => return Err("no thread".into()),
+        Some(thread) => {
+            let alias = thread.alias.as_ref().map_or("", |alias| alias.as_str());
+            assert!(rt; (thread.number, alias) == (1, "main"));
+        }
+    }
     Ok(())
 }

@@ -25,6 +25,11 @@ pub fn fact(alloc: Global, first: Option<i64>) -> Result<Clause, TermError> {
         None => Term::var(alloc, 0)?,
         Some(value) => Term::int(alloc, value)?,
     };
+    fact_of(alloc, first)
+}
+
+/// The clause of p/1 with this argument and the body true.
+pub fn fact_of(alloc: Global, first: Term) -> Result<Clause, TermError> {
     let mut args = Vec::new(alloc);
     args.push(first)?;
     let head = Term::compound(alloc, Name::new(alloc, "p")?, args)?;

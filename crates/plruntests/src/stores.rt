@@ -213,17 +213,23 @@ fn places(alloc: Global, store: &Store, g: u64) -> Result<(Option<u64>, Option<u
     Ok((Some(first.place), next.map(|name| name.place)))
 }
 
+/// The place of the first addition at which another clause than it is there, or behind whose erasure there is one.
+fn first_unlike(alloc: Global, store: &Store) -> Result<Option<u64>, AllocError> {
+    for i in 0..TIMES {
+        let place = 2 * i + 1;
+        let there = places(alloc, store, place + 1)?;
+        let gone = places(alloc, store, place + 2)?;
+        if there != (Some(place), None) || gone != (None, None) {
+            return Ok(Some(place));
+        }
+    }
+    Ok(None)
+}
+
 // At each time there is the one clause that was added last, or none, whatever came behind it.
 #[test]
 fn a_clause_that_is_renewed(rt: HostRuntime) -> Result<(), Fail> {
-    let alloc = rt.alloc();
-    let store = renewed(alloc)?;
-    for i in 0..TIMES {
-        let place = 2 * i + 1;
-        let there = places(alloc, &store, place + 1)?;
-        assert!(rt; there == (Some(place), None), "at {place}");
-        let gone = places(alloc, &store, place + 2)?;
-        assert!(rt; gone == (None, None), "behind {place}");
-    }
+    let store = renewed(rt.alloc())?;
+    assert_eq!(rt; first_unlike(rt.alloc(), &store)?, None);
     Ok(())
 }

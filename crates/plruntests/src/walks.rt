@@ -1,10 +1,11 @@
 //! Walks over the clauses of a procedure at a time (plworld, plstore).
-use crate::made::{clause, indicator};
+use crate::made::{clause, fact, fact_of, indicator};
+use plclause::clause::Clause;
 use plevent::{Batch, ClauseName, Key, Request, Update};
-use plload::load::load;
 use plstore::{Cursor, Found, Query};
 use plterm::error::TermError;
 use plterm::name::Name;
+use plterm::term::Term;
 use plworld::world::World;
 use std::alloc::{AllocError, Global};
 use std::fmt::Write;
@@ -77,47 +78,60 @@ fn renew(alloc: Global, world: &mut World) -> Result<(), TermError> {
     Ok(())
 }
 
+/// The place of the first addition at which another clause than it is there, or behind whose erasure there is one.
+fn first_unlike(alloc: Global, world: &World) -> Result<Option<u64>, Fail> {
+    for i in 1..=TIMES {
+        let there = walk(alloc, world, 2 * i + 1, (0, "any"))?;
+        let gone = walk(alloc, world, 2 * i + 2, (0, "any"))?;
+        let wanted = format!(in alloc; "{}.0 ", 2 * i)?;
+        if there.as_str() != wanted.as_str() || !gone.is_empty() {
+            return Ok(Some(2 * i));
+        }
+    }
+    Ok(None)
+}
+
 // At each of the times there is the one clause that was added last, or none, whatever came behind it.
 #[test]
 fn a_clause_that_is_renewed(rt: HostRuntime) -> Result<(), Fail> {
-    let alloc = rt.alloc();
-    let world = renewed(alloc)?;
-    for i in 1..=TIMES {
-        let found = walk(alloc, &world, 2 * i + 1, (0, "any"))?;
-        let wanted = format!(in alloc; "{}.0 ", 2 * i)?;
-        assert_eq!(rt; found.as_str(), wanted.as_str());
-        let found = walk(alloc, &world, 2 * i + 2, (0, "any"))?;
-        assert_eq!(rt; found.as_str(), "");
-    }
+    let world = renewed(rt.alloc())?;
+    assert_eq!(rt; first_unlike(rt.alloc(), &world)?, None);
     Ok(())
 }
 
-/// Clauses of p/1, behind a declaration.
-const TEXT: &str = ":- dynamic p/1. p(1). p(X). p(2). p(f(1)).";
-
-/// The first arguments of goals, and the clauses that may be for them.
+/// The first arguments of goals, and which of the clauses p(1), p(X), p(2) and p(f(1)) may be for them.
 const KEYED: [(&str, &str); 3] = [
     ("any", "0.1 0.2 0.3 0.4 "),
     ("2", "0.2 0.3 "),
     ("f(1)", "0.2 0.4 "),
 ];
 
-/// The world of a text's program.
-fn opened(alloc: Global, text: &str) -> Result<World, Fail> {
-    let Ok(program) = load(alloc, text.as_bytes()) else {
-        return Err("refused".into());
-    };
-    Ok(World::open(alloc, program.first())?)
+/// The clause p(f(1)).
+fn compound_fact(alloc: Global) -> Result<Clause, TermError> {
+    let mut args = Vec::new(alloc);
+    args.push(Term::int(alloc, 1)?)?;
+    let first = Term::compound(alloc, Name::new(alloc, "f")?, args)?;
+    fact_of(alloc, first)
+}
+
+/// A world whose program declares p/1 and has those clauses.
+fn opened(alloc: Global) -> Result<World, TermError> {
+    let mut updates = Vec::new(alloc);
+    updates.push(Update::Declare(indicator(alloc, 1)?))?;
+    for first in [Some(1), None, Some(2)] {
+        updates.push(Update::Last(fact(alloc, first)?))?;
+    }
+    updates.push(Update::Last(compound_fact(alloc)?))?;
+    Ok(World::open(alloc, &Batch::new(updates))?)
 }
 
 // A clause that cannot be for a goal by its first argument is passed over.
 #[test]
 fn clauses_by_key(rt: HostRuntime) -> Result<(), Fail> {
-    let alloc = rt.alloc();
-    let world = opened(alloc, TEXT)?;
+    let world = opened(rt.alloc())?;
     for (key, wanted) in KEYED {
-        let found = walk(alloc, &world, 1, (1, key))?;
-        assert_eq!(rt; found.as_str(), wanted);
+        let found = walk(rt.alloc(), &world, 1, (1, key))?;
+        assert!(rt; found.as_str() == wanted, "{key}");
     }
     Ok(())
 }
