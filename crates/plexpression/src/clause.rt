@@ -91,12 +91,12 @@ impl Operands for ClauseTerms<'_> {
 
 impl ClauseTerms<'_> {
     /// The number that an operand is as it stands, if it is one.
-    fn number(&self, operand: Operand) -> Option<i64>
-        requires { IsOperand self.now.env.now self.now.nodes.now self.now.base operand }
-        ensures { IfSome result (λ i. tree self.now.env.now self.now.nodes.now self.now.base operand ≡ int i) }
+    fn number(&self, operand: &Operand) -> Option<i64>
+        requires { IsOperand self.now.env.now self.now.nodes.now self.now.base operand.now }
+        ensures { IfSome result (λ i. tree self.now.env.now self.now.nodes.now self.now.base operand.now ≡ int i) }
     {
-        match operand {
-            Operand::Value(v) => integer_at(self.env.heap(), v),
+        match *operand {
+            Operand::Value(v) => integer_at(self.env.heap(), &v),
             Operand::Node(at) => number_at(self.env, self.nodes, at, self.base),
         }
     }
@@ -108,8 +108,8 @@ fn of_numbers(terms: &ClauseTerms, f: Binary, left: Operand, right: Operand) -> 
     requires right { IsOperand terms.now.env.now terms.now.nodes.now terms.now.base right }
     ensures { IfSome result (λ found. found ≡ with_two f (eval (tree terms.now.env.now terms.now.nodes.now terms.now.base left)) (eval (tree terms.now.env.now terms.now.nodes.now terms.now.base right))) }
 {
-    let x = terms.number(left)?;
-    let y = terms.number(right)?;
+    let x = terms.number(&left)?;
+    let y = terms.number(&right)?;
     Some(f.apply(x, y))
 }
 
@@ -118,7 +118,7 @@ fn of_simple(terms: &ClauseTerms, operand: Operand) -> Result<Option<Evaluated>,
     requires { IsOperand terms.now.env.now terms.now.nodes.now terms.now.base operand }
     ensures { IfOk result (λ o. IfSome o (λ found. found ≡ eval (tree terms.now.env.now terms.now.nodes.now terms.now.base operand))) }
 {
-    if let Some(number) = terms.number(operand) {
+    if let Some(number) = terms.number(&operand) {
         return Ok(Some(Ok(number)));
     }
     match terms.open(operand)? {

@@ -18,12 +18,12 @@ use plenv::slot::Slot;
 use std::alloc::AllocError;
 
 /// The integer that the term of a value is, if it is one.
-pub(crate) fn integer_at(heap: &Heap, v: Cell) -> Option<i64>
-    requires { IsValue heap.now v }
-    ensures some { IfSome result (λ i. value heap.now v ≡ int i) }
-    ensures none { IfNone result ((i : ℤ) → value heap.now v ≡ int i → ⊥) }
+pub(crate) fn integer_at(heap: &Heap, v: &Cell) -> Option<i64>
+    requires { IsValue heap.now v.now }
+    ensures some { IfSome result (λ i. value heap.now v.now ≡ int i) }
+    ensures none { IfNone result ((i : ℤ) → value heap.now v.now ≡ int i → ⊥) }
 {
-    let root = heap.root(v);
+    let root = heap.root(*v);
     match root {
         Cell::Ref(c) => {
             // That it is a variable is what the contract of its number says.
@@ -36,9 +36,9 @@ pub(crate) fn integer_at(heap: &Heap, v: Cell) -> Option<i64>
 }
 
 /// Whether the term of a value is this integer.
-fn is_number(heap: &Heap, v: Cell, number: i64) -> bool
-    requires { IsValue heap.now v }
-    ensures { IsTrue result ↔ (value heap.now v ≡ int number) }
+fn is_number(heap: &Heap, v: &Cell, number: i64) -> bool
+    requires { IsValue heap.now v.now }
+    ensures { IsTrue result ↔ (value heap.now v.now ≡ int number) }
 {
     match integer_at(heap, v) {
         Some(i) => i == number,
@@ -57,8 +57,8 @@ fn meet_value(env: &mut Environment, own: Cell, v: Cell) -> Result<bool, AllocEr
     ensures err { OnErr result (env.new ≡ env.old) }
     ensures other { ((n : ℕ) → value env.old.heap own ≡ var n → ⊥) → env.new ≡ env.old }
 {
-    match integer_at(env.heap(), own) {
-        Some(number) => Ok(is_number(env.heap(), v, number)),
+    match integer_at(env.heap(), &own) {
+        Some(number) => Ok(is_number(env.heap(), &v, number)),
         None => env.unify(own, v),
     }
 }
@@ -109,7 +109,7 @@ pub fn unify_number(
             let slot = env.slot_of(base, x);
             meet_slot(env, slot, v)
         }
-        Node::Int(number) => Ok(is_number(env.heap(), v, number)),
+        Node::Int(number) => Ok(is_number(env.heap(), &v, number)),
         Node::Atom(_) | Node::Sub(_, _) => Ok(false),
         Node::Fun(_, _) => unreachable!(),
     }

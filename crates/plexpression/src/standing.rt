@@ -24,7 +24,7 @@ fn number_in_slot(env: &Environment, slot: u32) -> Option<i64>
 {
     match env.slot(slot) {
         Slot::Free(_) => None,
-        Slot::Set(v) => integer_at(env.heap(), v),
+        Slot::Set(v) => integer_at(env.heap(), &v),
     }
 }
 

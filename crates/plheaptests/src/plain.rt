@@ -189,12 +189,15 @@ fn first_apart(alloc: Global, pairs: &[(&str, &str)]) -> Result<Option<usize>, F
     Ok(None)
 }
 
-// Pairs that look random come to the same by the machine and by the definition.
+/// All pairs that look random.
+const PAIRS: [&[(&str, &str)]; 5] = [&FIRST, &SECOND, &THIRD, &FOURTH, &FIFTH];
+
+// They come to the same by the machine and by the definition.
 #[test]
 fn pairs_by_definition(rt: HostRuntime) -> Result<(), Fail> {
     let alloc = rt.alloc();
-    for pairs in [FIRST, SECOND, THIRD, FOURTH, FIFTH] {
-        assert_eq!(rt; first_apart(alloc, &pairs)?, None);
+    for pairs in PAIRS {
+        assert_eq!(rt; first_apart(alloc, pairs)?, None);
     }
     Ok(())
 }
