@@ -74,16 +74,21 @@ fn four_times(alloc: Global, text: &str) -> Result<String, Fail> {
     Ok(made)
 }
 
-/// Whether the first procedure of a text is called by the number of some functor.
+/// Whether the first procedure is called by the number of some functor.
+fn calls_first(code: &ProgramCode) -> bool {
+    for functor in 0..1000 {
+        if code.callee_of_functor(functor) == Callee::Static(0) {
+            return true;
+        }
+    }
+    false
+}
+
+/// The same of a text's first procedure.
 fn is_called(alloc: Global, text: &str) -> Result<bool, Fail> {
     let program = program(alloc, text)?;
     let code = ProgramCode::new(alloc, &program)?;
-    for functor in 0..1000 {
-        if code.callee_of_functor(functor) == Callee::Static(0) {
-            return Ok(true);
-        }
-    }
-    Ok(false)
+    Ok(calls_first(&code))
 }
 
 #[test]
