@@ -54,14 +54,24 @@ fn left(alloc: Global, procedure: &Procedure, key: Key) -> Result<String, Fail> 
     Ok(found)
 }
 
-/// The same of a text's first procedure.
-fn places(alloc: Global, text: &str, key: Key) -> Result<String, Fail> {
+/// The code of a text's program.
+fn code_of(alloc: Global, text: &str) -> Result<ProgramCode, Fail> {
     let program = program(alloc, text)?;
-    let code = ProgramCode::new(alloc, &program)?;
+    Ok(ProgramCode::new(alloc, &program)?)
+}
+
+/// The places of the clauses of the first procedure that a key leaves, one after the other.
+fn left_of_first(alloc: Global, code: &ProgramCode, key: Key) -> Result<String, Fail> {
     match code.procedure(0) {
         Some(procedure) => left(alloc, procedure, key),
         None => Err("no procedure".into()),
     }
+}
+
+/// The same of a text's first procedure.
+fn places(alloc: Global, text: &str, key: Key) -> Result<String, Fail> {
+    let code = code_of(alloc, text)?;
+    left_of_first(alloc, &code, key)
 }
 
 /// A text four times.
@@ -86,8 +96,7 @@ fn calls_first(code: &ProgramCode) -> bool {
 
 /// The same of a text's first procedure.
 fn is_called(alloc: Global, text: &str) -> Result<bool, Fail> {
-    let program = program(alloc, text)?;
-    let code = ProgramCode::new(alloc, &program)?;
+    let code = code_of(alloc, text)?;
     Ok(calls_first(&code))
 }
 
