@@ -1,6 +1,7 @@
 //! Terms that are seen to be apart from a value.
 use crate::made::{empty, put_text};
 use plbind::apart::are_apart;
+use plenv::env::Environment;
 use plload::goal::read_goal;
 use std::alloc::Global;
 use std::test::Fail;
@@ -24,14 +25,19 @@ const APART: [(&str, &str, bool); 15] = [
     ("f(g(a))", "f(g(b))", false),
 ];
 
-/// Whether the value of a text and the term of another one are seen to be apart.
-fn apart(alloc: Global, value: &str, text: &str) -> Result<bool, Fail> {
-    let mut env = empty(alloc);
-    let v = put_text(&mut env, alloc, value)?;
+/// Whether the value of a text that is put and the term of another one are seen to be apart.
+fn apart_in(env: &mut Environment, alloc: Global, value: &str, text: &str) -> Result<bool, Fail> {
+    let v = put_text(env, alloc, value)?;
     let Some(term) = read_goal(alloc, text)? else {
         return Err("no goal".into());
     };
     Ok(are_apart(env.heap(), v, &term.root()))
+}
+
+/// Whether the value of a text and the term of another one are seen to be apart.
+fn apart(alloc: Global, value: &str, text: &str) -> Result<bool, Fail> {
+    let mut env = empty(alloc);
+    apart_in(&mut env, alloc, value, text)
 }
 
 #[test]

@@ -1,5 +1,6 @@
 //! Terms as goals, terms with further arguments, and the order of terms.
 use crate::made::{empty, put_arguments, shown, told};
+use plenv::env::Environment;
 use plorder::compare::{Room, compare};
 use plorder::variables::is_ground;
 use std::alloc::Global;
@@ -23,10 +24,9 @@ const CONVERTED: [(&str, &str); 12] = [
     ("g(call(1))", "call(1)"),
 ];
 
-/// The goal that the argument of a goal is; `none`, where it is not convertible.
-fn converted(alloc: Global, goal: &str) -> Result<String, Fail> {
-    let mut env = empty(alloc);
-    let args = put_arguments(&mut env, alloc, goal)?;
+/// The goal that the argument of a goal is which is put; `none`, where it is not convertible.
+fn converted_in(env: &mut Environment, alloc: Global, goal: &str) -> Result<String, Fail> {
+    let args = put_arguments(env, alloc, goal)?;
     let [argument] = args.as_slice() else {
         return Err("no one argument".into());
     };
@@ -34,6 +34,12 @@ fn converted(alloc: Global, goal: &str) -> Result<String, Fail> {
         Some(v) => Ok(shown(alloc, env.heap(), v)?),
         None => Ok("none".to_string(alloc)?),
     }
+}
+
+/// The goal that the argument of a goal is; `none`, where it is not convertible.
+fn converted(alloc: Global, goal: &str) -> Result<String, Fail> {
+    let mut env = empty(alloc);
+    converted_in(&mut env, alloc, goal)
 }
 
 /// A term and a further argument, as the arguments of a goal, and what call/2 makes of them.
@@ -45,15 +51,20 @@ const EXTENDED: [(&str, &str); 5] = [
     ("g([a], b)", "'.'(a,[],b)"),
 ];
 
-/// The first argument of a goal with the second one behind its own.
-fn extended(alloc: Global, goal: &str) -> Result<String, Fail> {
-    let mut env = empty(alloc);
-    let args = put_arguments(&mut env, alloc, goal)?;
+/// The first argument of a goal that is put with the second one behind its own.
+fn extended_in(env: &mut Environment, alloc: Global, goal: &str) -> Result<String, Fail> {
+    let args = put_arguments(env, alloc, goal)?;
     let [term, further] = args.as_slice() else {
         return Err("no two arguments".into());
     };
     let made = env.with_arguments(alloc, *term, &[*further])?;
     told(alloc, env.heap(), made)
+}
+
+/// The first argument of a goal with the second one behind its own.
+fn extended(alloc: Global, goal: &str) -> Result<String, Fail> {
+    let mut env = empty(alloc);
+    extended_in(&mut env, alloc, goal)
 }
 
 /// Two terms, as the arguments of a goal, how they are ordered, and whether each of them is ground.
@@ -80,10 +91,9 @@ fn word(order: Ordering) -> &'static str {
     }
 }
 
-/// How the arguments of a goal are ordered, and whether each of them is ground.
-fn ordered(alloc: Global, goal: &str) -> Result<String, Fail> {
-    let mut env = empty(alloc);
-    let args = put_arguments(&mut env, alloc, goal)?;
+/// How the arguments of a goal that is put are ordered, and whether each of them is ground.
+fn ordered_in(env: &mut Environment, alloc: Global, goal: &str) -> Result<String, Fail> {
+    let args = put_arguments(env, alloc, goal)?;
     let [left, right] = args.as_slice() else {
         return Err("no two arguments".into());
     };
@@ -94,6 +104,12 @@ fn ordered(alloc: Global, goal: &str) -> Result<String, Fail> {
     let second = is_ground(env.heap(), &mut work, *right)?;
     let order = word(order);
     Ok(format!(in alloc; "{order} {first} {second}")?)
+}
+
+/// How the arguments of a goal are ordered, and whether each of them is ground.
+fn ordered(alloc: Global, goal: &str) -> Result<String, Fail> {
+    let mut env = empty(alloc);
+    ordered_in(&mut env, alloc, goal)
 }
 
 #[test]

@@ -69,15 +69,20 @@ fn applied(env: &mut Environment, alloc: Global, name: Cell, cells: &[Cell]) -> 
     told(alloc, env.heap(), made)
 }
 
-/// The name in front of a goal's arguments with what is made of the others.
-fn listed(alloc: Global, how: Sort, goal: &str) -> Result<String, Fail> {
-    let mut env = empty(alloc);
-    let args = put_arguments(&mut env, alloc, goal)?;
+/// The name in front of the arguments of a goal that is put with what is made of the others.
+fn listed_in(env: &mut Environment, alloc: Global, how: Sort, goal: &str) -> Result<String, Fail> {
+    let args = put_arguments(env, alloc, goal)?;
     let Some((name, cells)) = args.split_first() else {
         return Err("no arguments".into());
     };
     let vs = in_order(alloc, env.heap(), how, cells)?;
-    applied(&mut env, alloc, *name, &vs)
+    applied(env, alloc, *name, &vs)
+}
+
+/// The name in front of a goal's arguments with what is made of the others.
+fn listed(alloc: Global, how: Sort, goal: &str) -> Result<String, Fail> {
+    let mut env = empty(alloc);
+    listed_in(&mut env, alloc, how, goal)
 }
 
 /// A name and a term, as the arguments of a goal, and the name with the variables of the term.
@@ -88,15 +93,20 @@ const VARIABLES: [(&str, &str); 4] = [
     ("g(f(a), h(b, 1, [c]))", "f(a)"),
 ];
 
-/// The first argument of a goal with the variables of the second one.
-fn with_variables(alloc: Global, goal: &str) -> Result<String, Fail> {
-    let mut env = empty(alloc);
-    let args = put_arguments(&mut env, alloc, goal)?;
+/// The first argument of a goal that is put with the variables of the second one.
+fn with_variables_in(env: &mut Environment, alloc: Global, goal: &str) -> Result<String, Fail> {
+    let args = put_arguments(env, alloc, goal)?;
     let [name, term] = args.as_slice() else {
         return Err("no two arguments".into());
     };
     let vs = variables_of(alloc, env.heap(), *term)?;
-    applied(&mut env, alloc, *name, &vs)
+    applied(env, alloc, *name, &vs)
+}
+
+/// The first argument of a goal with the variables of the second one.
+fn with_variables(alloc: Global, goal: &str) -> Result<String, Fail> {
+    let mut env = empty(alloc);
+    with_variables_in(&mut env, alloc, goal)
 }
 
 #[test]

@@ -2,6 +2,7 @@
 //! variable stands for the term on the other side, in both of them, until they are the same.
 use crate::made::{empty, put_arguments};
 use crate::pairs::{FIFTH, FIRST, FOURTH, SECOND, THIRD};
+use plenv::env::Environment;
 use plload::goal::read_goal;
 use plterm::node::Node;
 use plterm::term::Term;
@@ -150,10 +151,9 @@ fn sides(alloc: Global, goal: &str) -> Result<(Term, Term), Fail> {
     Ok((left, right))
 }
 
-/// What the left side of a goal is by the machine once the sides are unified; none where they have no unifier.
-fn unified(alloc: Global, goal: &str) -> Result<Option<Vec<Node>>, Fail> {
-    let mut env = empty(alloc);
-    let args = put_arguments(&mut env, alloc, goal)?;
+/// What the left side of a goal that is put is by the machine once the sides are unified; none where they have no unifier.
+fn unified_in(env: &mut Environment, alloc: Global, goal: &str) -> Result<Option<Vec<Node>>, Fail> {
+    let args = put_arguments(env, alloc, goal)?;
     let [left, right] = args.as_slice() else {
         return Err("no two sides".into());
     };
@@ -162,6 +162,12 @@ fn unified(alloc: Global, goal: &str) -> Result<Option<Vec<Node>>, Fail> {
     }
     let term = env.heap().take(alloc, *left)?;
     Ok(Some(prefix(alloc, &term)?))
+}
+
+/// What the left side of a goal is by the machine once the sides are unified; none where they have no unifier.
+fn unified(alloc: Global, goal: &str) -> Result<Option<Vec<Node>>, Fail> {
+    let mut env = empty(alloc);
+    unified_in(&mut env, alloc, goal)
 }
 
 /// Whether two runs of nodes are the same.

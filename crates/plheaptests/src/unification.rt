@@ -5,6 +5,7 @@ use crate::made::{empty, put_arguments, shown};
 use crate::pairs::{FIFTH, FIRST, FOURTH, SECOND, THIRD};
 use plcells::cell::Cell;
 use plcells::heap::Heap;
+use plenv::env::Environment;
 use std::alloc::Global;
 use std::string::String;
 use std::test::Fail;
@@ -44,10 +45,9 @@ const UNIFIED: [(&str, &str); 24] = [
     ("f(X, Y, X) = f(g(Y), Z, g(a))", "f(g(a),a,g(a))"),
 ];
 
-/// What the left side of a goal is once the sides are unified; `no`, where they have no unifier.
-pub(crate) fn unified(alloc: Global, goal: &str) -> Result<String, Fail> {
-    let mut env = empty(alloc);
-    let args = put_arguments(&mut env, alloc, goal)?;
+/// What the left side of a goal that is put is once the sides are unified; `no`, where they have no unifier.
+fn unified_in(env: &mut Environment, alloc: Global, goal: &str) -> Result<String, Fail> {
+    let args = put_arguments(env, alloc, goal)?;
     let [left, right] = args.as_slice() else {
         return Err("no two sides".into());
     };
@@ -55,6 +55,12 @@ pub(crate) fn unified(alloc: Global, goal: &str) -> Result<String, Fail> {
         return Ok("no".to_string(alloc)?);
     }
     Ok(shown(alloc, env.heap(), *left)?)
+}
+
+/// What the left side of a goal is once the sides are unified; `no`, where they have no unifier.
+pub(crate) fn unified(alloc: Global, goal: &str) -> Result<String, Fail> {
+    let mut env = empty(alloc);
+    unified_in(&mut env, alloc, goal)
 }
 
 /// Two terms that have no unifier, and what both are once that was found out.
@@ -76,10 +82,9 @@ fn both(alloc: Global, heap: &Heap, left: Cell, right: Cell) -> Result<String, F
     Ok(format!(in alloc; "{first} and {second}")?)
 }
 
-/// Both sides of a goal, once a unification has failed.
-fn kept(alloc: Global, goal: &str) -> Result<String, Fail> {
-    let mut env = empty(alloc);
-    let args = put_arguments(&mut env, alloc, goal)?;
+/// Both sides of a goal that is put, once a unification has failed.
+fn kept_in(env: &mut Environment, alloc: Global, goal: &str) -> Result<String, Fail> {
+    let args = put_arguments(env, alloc, goal)?;
     let [left, right] = args.as_slice() else {
         return Err("no two sides".into());
     };
@@ -87,6 +92,12 @@ fn kept(alloc: Global, goal: &str) -> Result<String, Fail> {
         return Ok("unified".to_string(alloc)?);
     }
     both(alloc, env.heap(), *left, *right)
+}
+
+/// Both sides of a goal, once a unification has failed.
+fn kept(alloc: Global, goal: &str) -> Result<String, Fail> {
+    let mut env = empty(alloc);
+    kept_in(&mut env, alloc, goal)
 }
 
 #[test]
