@@ -18,11 +18,11 @@ use plenv::slot::Mark;
 use std::alloc::AllocError;
 
 /// Whether a goal is seen to have no unifier with a clause's head, without putting that.
-pub(crate) fn misses_head(env: &Environment, goal: Cell, clause: &Clause) -> bool
-    requires { IsValue env.now.heap goal }
-    ensures { result ≡ true → unify (value env.now.heap goal) (shift env.now.count clause.now.head) ≡ None }
+pub(crate) fn misses_head(env: &Environment, goal: &Cell, clause: &Clause) -> bool
+    requires { IsValue env.now.heap goal.now }
+    ensures { result ≡ true → unify (value env.now.heap goal.now) (shift env.now.count clause.now.head) ≡ None }
 {
-    are_apart(env.heap(), goal, &clause.head().root())
+    are_apart(env.heap(), *goal, &clause.head().root())
 }
 
 /// Unifies a goal with a clause's head, its variables new: whether they have a unifier.
@@ -36,7 +36,7 @@ fn try_head(
     ensures is { IfOk result (λ has. has ≡ is_some (unify (value env.old.heap goal) (shift env.old.count clause.now.head))) }
     ensures keeps { Keeps env.old env.new }
 {
-    if misses_head(env, goal, clause) {
+    if misses_head(env, &goal, clause) {
         return Ok(false);
     }
     let head = put_head(env, copier, clause)?;

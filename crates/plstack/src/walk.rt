@@ -190,7 +190,7 @@ fn is_apart(env: &Environment, goal: Cell, next: &Candidate) -> bool
     ensures { result ≡ true → unify (value env.now.heap goal) (shift env.now.count (clause_by next.now.uses next.now.clause).head) ≡ None }
 {
     match next.uses {
-        Use::Call => misses_head(env, goal, &next.clause),
+        Use::Call => misses_head(env, &goal, &next.clause),
         Use::Tell | Use::Erase => false,
     }
 }

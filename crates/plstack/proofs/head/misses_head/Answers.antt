@@ -8,5 +8,5 @@ pub returns : goal.returns
 returns c h =
     let e = c.args.env.now in
     let x = c.args.clause.now in
-    let apart = subst (λ (heap : Store). AreApart (value heap c.args.goal) c.root.result) c.heap.ensures.is (c.are_apart.ensures h) in
-    apart-none (value e.heap c.args.goal) x.head e.count (subst (AreApart (value e.heap c.args.goal)) (c.root.ensures ∙ c.head.ensures.value) apart)
+    let apart = subst (λ (heap : Store). AreApart (value heap c.args.goal.now) c.root.result) c.heap.ensures.is (c.are_apart.ensures h) in
+    apart-none (value e.heap c.args.goal.now) x.head e.count (subst (AreApart (value e.heap c.args.goal.now)) (c.root.ensures ∙ c.head.ensures.value) apart)
