@@ -1,7 +1,12 @@
 //! What expressions come to.
-use crate::made::{one, results, two};
+ghost use Rattle.std.specs.Prelude.{IfOk};
+ghost use Rattle.plterm.specs.Variables.{AllBelow};
+
+use crate::made::{one, result, two};
 use plterm::name::Name;
 use plterm::term::Term;
+use std::alloc::{AllocError, Global};
+use std::string::String;
 use std::test::Fail;
 
 /// A functor, two integers, and what they come to.
@@ -81,70 +86,93 @@ const UNARY: [(&str, i64, &str); 11] = [
     ("mod", 1, "type_error(evaluable,(mod)/1)"),
 ];
 
+/// What a functor of two integers comes to.
+fn of_two(alloc: Global, name: &str, x: i64, y: i64) -> Result<String, Fail> {
+    let left = Term::int(alloc, x)?;
+    let right = Term::int(alloc, y)?;
+    let term = two(alloc, name, left, right)?;
+    result(alloc, &term, 0)
+}
+
 #[test]
 fn two_arguments(rt: HostRuntime) -> Result<(), Fail> {
     let alloc = rt.alloc();
     for (name, x, y, want) in BINARY {
-        let left = Term::int(alloc, x)?;
-        let right = Term::int(alloc, y)?;
-        let term = two(alloc, name, left, right)?;
-        let (heap, clause) = results(alloc, &term, 0)?;
-        assert_eq!(rt; heap.as_str(), want, "{x} {name} {y}");
-        assert_eq!(rt; clause.as_str(), want, "{x} {name} {y} in a clause");
+        let found = of_two(alloc, name, x, y)?;
+        assert!(rt; found.as_str() == want, "{x} {name} {y}");
     }
     Ok(())
+}
+
+/// What a functor of one integer comes to.
+fn of_one(alloc: Global, name: &str, x: i64) -> Result<String, Fail> {
+    let argument = Term::int(alloc, x)?;
+    let term = one(alloc, name, argument)?;
+    result(alloc, &term, 0)
 }
 
 #[test]
 fn one_argument(rt: HostRuntime) -> Result<(), Fail> {
     let alloc = rt.alloc();
     for (name, x, want) in UNARY {
-        let argument = Term::int(alloc, x)?;
-        let term = one(alloc, name, argument)?;
-        let (heap, clause) = results(alloc, &term, 0)?;
-        assert_eq!(rt; heap.as_str(), want, "{name} {x}");
-        assert_eq!(rt; clause.as_str(), want, "{name} {x} in a clause");
+        let found = of_one(alloc, name, x)?;
+        assert!(rt; found.as_str() == want, "{name} {x}");
     }
     Ok(())
+}
+
+/// What X + foo(1) comes to.
+fn unbound_first(alloc: Global) -> Result<String, Fail> {
+    let unbound = Term::var(alloc, 0)?;
+    let unknown = one(alloc, "foo", Term::int(alloc, 1)?)?;
+    let sum = two(alloc, "+", unbound, unknown)?;
+    result(alloc, &sum, 1)
+}
+
+/// What foo(X) + X comes to.
+fn unknown_first(alloc: Global) -> Result<String, Fail> {
+    let unknown = one(alloc, "foo", Term::var(alloc, 0)?)?;
+    let unbound = Term::var(alloc, 0)?;
+    let sum = two(alloc, "+", unknown, unbound)?;
+    result(alloc, &sum, 1)
+}
+
+/// What foo comes to.
+fn unknown_atom(alloc: Global) -> Result<String, Fail> {
+    match Term::atom(alloc, Name::new(alloc, "foo")?) {
+        Ok(atom) => result(alloc, &atom, 0),
+        Err(_) => Err("no atom".into()),
+    }
 }
 
 /// The first error from the left counts, and that of a functor before those of its arguments.
 #[test]
 fn first_error(rt: HostRuntime) -> Result<(), Fail> {
-    let alloc = rt.alloc();
-    let unbound = Term::var(alloc, 0)?;
-    let unknown = one(alloc, "foo", Term::int(alloc, 1)?)?;
-    let sum = two(alloc, "+", unbound, unknown)?;
-    let (heap, clause) = results(alloc, &sum, 1)?;
-    assert_eq!(rt; heap.as_str(), "instantiation_error");
-    assert_eq!(rt; clause.as_str(), "instantiation_error");
-    let unbound = Term::var(alloc, 0)?;
-    let unknown = one(alloc, "foo", unbound)?;
-    let unbound = Term::var(alloc, 0)?;
-    let sum = two(alloc, "+", unknown, unbound)?;
-    let (heap, clause) = results(alloc, &sum, 1)?;
-    assert_eq!(rt; heap.as_str(), "type_error(evaluable,foo/1)");
-    assert_eq!(rt; clause.as_str(), "type_error(evaluable,foo/1)");
-    let atom = Term::atom(alloc, Name::new(alloc, "foo")?);
-    let Ok(atom) = atom else {
-        return Err("no atom".into())
-    };
-    let (heap, clause) = results(alloc, &atom, 0)?;
-    assert_eq!(rt; heap.as_str(), "type_error(evaluable,foo/0)");
-    assert_eq!(rt; clause.as_str(), "type_error(evaluable,foo/0)");
+    let found = unbound_first(rt.alloc())?;
+    assert_eq!(rt; found.as_str(), "instantiation_error");
+    let found = unknown_first(rt.alloc())?;
+    assert_eq!(rt; found.as_str(), "type_error(evaluable,foo/1)");
+    let found = unknown_atom(rt.alloc())?;
+    assert_eq!(rt; found.as_str(), "type_error(evaluable,foo/0)");
     Ok(())
 }
 
-/// 1 + (1 + (1 + ..)), and ((.. + 1) + 1) + 1.
-#[test]
-fn deep(rt: HostRuntime) -> Result<(), Fail> {
-    let alloc = rt.alloc();
+/// 1 + (1 + (1 + ..)).
+fn ones(alloc: Global) -> Result<Term, AllocError>
+    ensures { IfOk result (λ t. AllBelow 0 t) }
+{
     let mut right = Term::int(alloc, 0)?;
     for _ in 0..200000u32 {
         right = two(alloc, "+", Term::int(alloc, 1)?, right)?;
     }
-    let (heap, clause) = results(alloc, &right, 0)?;
-    assert_eq!(rt; heap.as_str(), "200000");
-    assert_eq!(rt; clause.as_str(), "200000");
+    Ok(right)
+}
+
+/// Depth does not matter.
+#[test]
+fn deep(rt: HostRuntime) -> Result<(), Fail> {
+    let sum = ones(rt.alloc())?;
+    let found = result(rt.alloc(), &sum, 0)?;
+    assert_eq!(rt; found.as_str(), "200000");
     Ok(())
 }

@@ -76,11 +76,14 @@ fn shown(alloc: Global, found: &Evaluated) -> Result<String, AllocError> {
     }
 }
 
-/// Both of them as text.
-pub(crate) fn results(alloc: Global, term: &Term, count: u32) -> Result<(String, String), Fail>
+/// What an expression comes to, by its cells and by the nodes of a clause; both, where they differ.
+pub(crate) fn result(alloc: Global, term: &Term, count: u32) -> Result<String, Fail>
     requires { AllBelow count term.now }
 {
-    let first = on_heap(alloc, term, count)?;
-    let second = in_clause(alloc, term, count)?;
-    Ok((shown(alloc, &first)?, shown(alloc, &second)?))
+    let first = shown(alloc, &on_heap(alloc, term, count)?)?;
+    let second = shown(alloc, &in_clause(alloc, term, count)?)?;
+    if first.as_str() == second.as_str() {
+        return Ok(first);
+    }
+    Ok(format!(in alloc; "{first} on the heap, {second} in a clause")?)
 }

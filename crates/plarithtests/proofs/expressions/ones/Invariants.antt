@@ -1,5 +1,5 @@
 use Rattle.plterm.specs.Variables.{AllBelow}
-use Rattle.plarithtests.proofs.expressions.deep.Given as goal
+use Rattle.plarithtests.proofs.expressions.ones.Given as goal
 
 abbrev pub invariant-loop : goal.invariant-loop
 invariant-loop g l = AllBelow 0 l.right
