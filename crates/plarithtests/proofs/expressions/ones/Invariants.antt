@@ -2,4 +2,4 @@ use Rattle.plterm.specs.Variables.{AllBelow}
 use Rattle.plarithtests.proofs.expressions.ones.Given as goal
 
 abbrev pub invariant-loop : goal.invariant-loop
-invariant-loop g l = AllBelow 0 l.right
+invariant-loop l = AllBelow 0 l.right
