@@ -42,8 +42,16 @@ pub enum Selected {
     Both(Continuation),
     /// Any other goal of a clause's body: the run that begins with it, its step, and the list behind it.
     Step(Run, Step, Continuation),
-    /// A goal that is a term: its cut level, its value, and the list behind it.
-    Goal(Level, Cell, Continuation),
+    /// A goal that is a term.
+    Goal(TermGoal),
+}
+
+/// A goal that is a term: its cut level, its value, and the list behind it.
+#[derive(Clone, Copy)]
+pub struct TermGoal {
+    pub level: Level,
+    pub value: Cell,
+    pub rest: Continuation,
 }
 
 /// What is due.
@@ -110,6 +118,10 @@ impl Progress {
                 Due::Goal(selected) => selected,
                 Due::Paused(pause) => return self.told(program, pause),
             };
+            // (a type that stands deep in a variable's is known to the borrow checker's plan of a loop where a variable has it)
+            if let Selected::Goal(goal) = &selected {
+                let _value: Cell = goal.value;
+            }
             if left == 0 {
                 return Ok(Turn::Slice);
             }
@@ -165,7 +177,9 @@ impl Progress {
                 Ok(())
             }
             Selected::Step(run, step, rest) => self.machine.step(program, *run, *step, *rest),
-            Selected::Goal(level, goal, rest) => self.machine.term(program, *level, *goal, *rest),
+            Selected::Goal(goal) => self
+                .machine
+                .term(program, goal.level, goal.value, goal.rest),
         }
     }
 
