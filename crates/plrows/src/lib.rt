@@ -55,6 +55,8 @@ mod pieces;
 #[cfg(test)]
 mod programs;
 #[cfg(test)]
+mod schedules;
+#[cfg(test)]
 mod sorting;
 #[cfg(test)]
 mod texts;
