@@ -42,16 +42,23 @@ pub fn start(alloc: Global, program: &Program) -> Result<Machine, AllocError>
     })
 }
 
+/// An environment with nothing in it, of the names of a program's code.
+fn environment_of(alloc: Global, code: &ProgramCode) -> Result<Environment, AllocError>
+    ensures names { IfOk result (λ env. env.heap.names ≡ code.now.text.names) }
+    ensures count { IfOk result (λ env. env.count ≡ 0) }
+{
+    let names = code.names().copied(alloc)?;
+    Ok(Environment::new(alloc, names))
+}
+
 /// A stack with nothing on it, of a program's code.
 fn empty(alloc: Global, program: &Program) -> Result<Stack, AllocError>
     ensures empty { IfOk result (λ s. IsEmpty s) }
     ensures code { IfOk result (λ s. IsProgramCode program.now s.basis.code) }
 {
     let code = ProgramCode::new(alloc, program)?;
-    let names = code.names().copied(alloc)?;
-    let env = Environment::new(alloc, names);
-    let stack = Stack::new(alloc, code, env)?;
-    Ok(stack)
+    let env = environment_of(alloc, &code)?;
+    Stack::new(alloc, code, env)
 }
 
 /// The list of goals, each once.
