@@ -46,6 +46,8 @@ enum Move {
     Look(u64, Looked),
     IsOver,
     Front,
+    /// How many entries there are, by looking at them.
+    Entries,
     Stop,
     IsStopped,
 }
@@ -156,6 +158,7 @@ fn moved(alloc: Global, world: &mut World, by: Move) -> Result<String, TermError
         Move::Look(g, looked) => return Ok(look(alloc, world, g, looked)?),
         Move::IsOver => truth(world.is_over()),
         Move::Front => return Ok(format!(in alloc; "{}", world.front())?),
+        Move::Entries => return Ok(format!(in alloc; "{}", world.entries().len())?),
         Move::Stop => {
             world.stop();
             "stop"
@@ -232,8 +235,9 @@ const MOVES: [(&[Move], &str, &str); 11] = [
             Move::Look(2, Looked::Clause),
             Move::Look(3, Looked::Clause),
             Move::Front,
+            Move::Entries,
         ],
-        "main is started, published, no, yes, 3, ",
+        "main is started, published, no, yes, 3, 3, ",
         "0.0 nothing, 1.1 start, 1.1 a clause, ",
     ),
     // The run is over once main has ended.
