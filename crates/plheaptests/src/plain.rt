@@ -1,7 +1,8 @@
 //! Unification as it is defined, on the nodes of terms in prefix order, beside the machine's: where two terms first differ from the left, a
 //! variable stands for the term on the other side, in both of them, until they are the same.
-use crate::made::{empty, put_arguments};
+use crate::made::empty;
 use crate::pairs::{FIFTH, FIRST, FOURTH, SECOND, THIRD};
+use crate::unification::unified_side;
 use plenv::env::Environment;
 use plload::goal::read_goal;
 use plterm::node::Node;
@@ -153,14 +154,10 @@ fn sides(alloc: Global, goal: &str) -> Result<(Term, Term), Fail> {
 
 /// What the left side of a goal that is put is by the machine once the sides are unified; none where they have no unifier.
 fn unified_in(env: &mut Environment, alloc: Global, goal: &str) -> Result<Option<Vec<Node>>, Fail> {
-    let args = put_arguments(env, alloc, goal)?;
-    let [left, right] = args.as_slice() else {
-        return Err("no two sides".into());
-    };
-    if !env.unify(*left, *right)? {
+    let Some(v) = unified_side(env, alloc, goal)? else {
         return Ok(None);
-    }
-    let term = env.heap().take(alloc, *left)?;
+    };
+    let term = env.heap().take(alloc, v)?;
     Ok(Some(prefix(alloc, &term)?))
 }
 

@@ -1,4 +1,5 @@
 //! What two terms come to that are unified.
+ghost use Rattle.std.specs.Prelude.{IfOk, IfSome};
 ghost use Rattle.plcells.specs.Store.{IsValue};
 
 use crate::made::{empty, put_arguments, shown};
@@ -45,16 +46,31 @@ const UNIFIED: [(&str, &str); 24] = [
     ("f(X, Y, X) = f(g(Y), Z, g(a))", "f(g(a),a,g(a))"),
 ];
 
-/// What the left side of a goal that is put is once the sides are unified; `no`, where they have no unifier.
-fn unified_in(env: &mut Environment, alloc: Global, goal: &str) -> Result<String, Fail> {
+/// The value of the left side of a goal that is put, once the sides are unified; none where they have no unifier.
+pub(crate) fn unified_side(
+    env: &mut Environment,
+    alloc: Global,
+    goal: &str,
+) -> Result<Option<Cell>, Fail>
+    ensures { IfOk result (λ o. IfSome o (λ v. IsValue env.new.heap v)) }
+{
     let args = put_arguments(env, alloc, goal)?;
     let [left, right] = args.as_slice() else {
         return Err("no two sides".into());
     };
-    if !env.unify(*left, *right)? {
-        return Ok("no".to_string(alloc)?);
+    if env.unify(*left, *right)? {
+        Ok(Some(*left))
+    } else {
+        Ok(None)
     }
-    Ok(shown(alloc, env.heap(), *left)?)
+}
+
+/// What the left side of a goal that is put is once the sides are unified; `no`, where they have no unifier.
+fn unified_in(env: &mut Environment, alloc: Global, goal: &str) -> Result<String, Fail> {
+    match unified_side(env, alloc, goal)? {
+        Some(v) => Ok(shown(alloc, env.heap(), v)?),
+        None => Ok("no".to_string(alloc)?),
+    }
 }
 
 /// What the left side of a goal is once the sides are unified; `no`, where they have no unifier.
