@@ -1,6 +1,7 @@
 //! The entries of the journal.
 ghost use Rattle.std.specs.Prelude.{◌≡◌, IfOk};
 
+use crate::id::{ThreadId, WorkerId};
 use crate::request::ThreadEnd;
 use crate::update::Batch;
 use std::alloc::{AllocError, Global};
@@ -23,10 +24,10 @@ pub enum Act {
 /// One entry of the journal. Its place in the journal, from 0, is its time.
 #[derive(Drop)]
 pub struct Entry {
-    /// The worker that made it, from 1; 0 for the program's first batch.
-    pub worker: u32,
-    /// The thread that it is of, from 1; 0 for the program's first batch.
-    pub thread: u32,
+    /// The worker that made it; 0 for the program's first batch.
+    pub worker: WorkerId,
+    /// The thread that it is of; 0 for the program's first batch.
+    pub thread: ThreadId,
     pub act: Act,
 }
 

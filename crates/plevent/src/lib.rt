@@ -3,12 +3,14 @@
 #![tactic(auto)]
 
 pub mod act;
+pub mod id;
 pub mod key;
 pub mod request;
 pub mod standing;
 pub mod update;
 
 pub use act::{Act, Entry};
+pub use id::{JournalPlace, ThreadId, WorkerId};
 pub use key::Key;
 pub use request::{Reply, Request, ThreadEnd};
 pub use standing::{Standing, Thread, Threads};

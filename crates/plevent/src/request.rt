@@ -1,6 +1,7 @@
 //! What a thread asks of the world, and what it is told.
 ghost use Rattle.std.specs.Prelude.{◌≡◌, IfOk};
 
+use crate::id::ThreadId;
 use crate::update::{Batch, ClauseName};
 use plterm::name::Name;
 use plterm::term::Term;
@@ -83,7 +84,7 @@ impl Request {
 pub enum Reply {
     /// This thread is started now. Main has no goal of its own: it runs the program's.
     Started {
-        number: u32,
+        number: ThreadId,
         alias: Option<Name>,
         goal: Option<Term>,
     },

@@ -8,6 +8,7 @@ ghost use Rattle.plevent.specs.Reading.{changed_first, is_thread, stand, blank};
 ghost use Rattle.plevent.specs.Rows.{is_new, is_settled, is_halted, is_over, runs, stays};
 ghost use Rattle.plevent.specs.First.{NoneFirst, FirstAt};
 
+use crate::id::{ThreadId, WorkerId};
 use crate::request::ThreadEnd;
 use plterm::name::Name;
 use plterm::term::Term;
@@ -18,12 +19,12 @@ use std::marker::Model;
 #[derive(Drop)]
 pub struct Thread {
     /// Its number; main has 1.
-    pub number: u32,
+    pub number: ThreadId,
     pub alias: Option<Name>,
     /// The goal that it was created with; none of main.
     pub goal: Option<Term>,
     /// The worker that started it, if it is started.
-    pub worker: Option<u32>,
+    pub worker: Option<WorkerId>,
     /// Its end, if it has ended.
     pub ended: Option<ThreadEnd>,
     /// Whether it goes no further, since the run is over.
@@ -75,14 +76,14 @@ impl Threads {
     }
 
     /// Whether a thread is started and has not ended.
-    pub fn runs(&self, number: u32) -> bool
+    pub fn runs(&self, number: ThreadId) -> bool
         ensures { result ≡ list_any (λ x. is_thread number x && is_some x.worker && not (is_some x.ended)) self.now }
     {
         self.rows.iter().any(|x| x.number == number && x.worker.is_some() && !x.ended.is_some())
     }
 
     /// Whether a thread is started, and has neither ended nor left.
-    pub fn stays(&self, number: u32) -> bool
+    pub fn stays(&self, number: ThreadId) -> bool
         ensures { result ≡ list_any (λ x. is_thread number x && is_some x.worker && not (is_some x.ended) && not x.left) self.now }
     {
         self.rows.iter().any(|x| x.number == number
@@ -106,47 +107,47 @@ impl Threads {
     }
 
     /// A worker has started a thread.
-    fn start(&mut self, number: u32, worker: u32)
+    fn start(&mut self, number: ThreadId, worker: WorkerId)
         ensures { self.new ≡ changed_first (is_thread number) (λ x. record x { worker = Some worker }) self.old }
     {
         start_at(self.rows.as_mut_slice(), number, worker);
     }
 
     /// A thread has ended.
-    fn end(&mut self, number: u32, end: ThreadEnd)
+    fn end(&mut self, number: ThreadId, end: ThreadEnd)
         ensures { self.new ≡ changed_first (is_thread number) (λ x. record x { ended = Some end }) self.old }
     {
         end_at(self.rows.as_mut_slice(), number, end);
     }
 
     /// A thread goes no further.
-    fn leave(&mut self, number: u32)
+    fn leave(&mut self, number: ThreadId)
         ensures { self.new ≡ changed_first (is_thread number) (λ x. record x { left = true }) self.old }
     {
         leave_at(self.rows.as_mut_slice(), number);
     }
 }
 
-fn thread_index(rows: &[Thread], number: u32) -> Option<usize>
+fn thread_index(rows: &[Thread], number: ThreadId) -> Option<usize>
     ensures { result ≡ position (is_thread number) rows.now }
 {
     rows.iter().position(|t| t.number == number)
 }
 
 /// Where the first row of a thread stands.
-fn thread_place(rows: &[Thread], number: u32) -> Option<usize>
+fn thread_place(rows: &[Thread], number: ThreadId) -> Option<usize>
     ensures { MatchOption result (NoneFirst (is_thread number) rows.now) (λ i. FirstAt (is_thread number) rows.now i) }
 {
     thread_index(rows, number)
 }
 
-fn start_row(row: &mut Thread, worker: u32)
+fn start_row(row: &mut Thread, worker: WorkerId)
     ensures { row.new ≡ record row.old { worker = Some worker } }
 {
     row.worker = Some(worker);
 }
 
-fn start_at(rows: &mut [Thread], number: u32, worker: u32)
+fn start_at(rows: &mut [Thread], number: ThreadId, worker: WorkerId)
     ensures { rows.new ≡ changed_first (is_thread number) (λ x. record x { worker = Some worker }) rows.old }
 {
     if let Some(at) = thread_place(rows, number) {
@@ -160,7 +161,7 @@ fn end_row(row: &mut Thread, end: ThreadEnd)
     row.ended = Some(end);
 }
 
-fn end_at(rows: &mut [Thread], number: u32, end: ThreadEnd)
+fn end_at(rows: &mut [Thread], number: ThreadId, end: ThreadEnd)
     ensures { rows.new ≡ changed_first (is_thread number) (λ x. record x { ended = Some end }) rows.old }
 {
     if let Some(at) = thread_place(rows, number) {
@@ -174,7 +175,7 @@ fn leave_row(row: &mut Thread)
     row.left = true;
 }
 
-fn leave_at(rows: &mut [Thread], number: u32)
+fn leave_at(rows: &mut [Thread], number: ThreadId)
     ensures { rows.new ≡ changed_first (is_thread number) (λ x. record x { left = true }) rows.old }
 {
     if let Some(at) = thread_place(rows, number) {
@@ -193,7 +194,7 @@ impl Standing {
         let alias = Name::new(alloc, MAIN)?;
         let mut rows = Vec::new(alloc);
         rows.push(Thread {
-            number: 1,
+            number: ThreadId::MAIN,
             alias: Some(alias),
             goal: None,
             worker: None,
@@ -209,14 +210,14 @@ impl Standing {
     }
 
     /// Whether a thread is started and has not ended.
-    pub fn runs(&self, number: u32) -> bool
+    pub fn runs(&self, number: ThreadId) -> bool
         ensures { result ≡ runs number self.now }
     {
         self.threads.runs(number)
     }
 
     /// Whether a thread is started, and has neither ended nor left.
-    pub fn stays(&self, number: u32) -> bool
+    pub fn stays(&self, number: ThreadId) -> bool
         ensures { result ≡ stays number self.now }
     {
         self.threads.stays(number)
@@ -237,7 +238,7 @@ impl Standing {
     }
 
     /// One more entry: a worker has started a thread.
-    pub fn start(&mut self, worker: u32, thread: u32)
+    pub fn start(&mut self, worker: WorkerId, thread: ThreadId)
         requires { self.old.size < 2 ^ 63 }
         ensures { self.new ≡ stand self.old (record { worker = worker; thread = thread; act = Act.Start }) }
     {
@@ -254,7 +255,7 @@ impl Standing {
     }
 
     /// One more entry: a thread has ended.
-    pub fn end(&mut self, thread: u32, end: ThreadEnd)
+    pub fn end(&mut self, thread: ThreadId, end: ThreadEnd)
         requires { self.old.size < 2 ^ 63 }
         ensures { (w : ℕ) → self.new ≡ stand self.old (record { worker = w; thread = thread; act = Act.End end }) }
     {
@@ -274,7 +275,7 @@ impl Standing {
     }
 
     /// One more entry: a thread goes no further.
-    pub fn leave(&mut self, thread: u32)
+    pub fn leave(&mut self, thread: ThreadId)
         requires { self.old.size < 2 ^ 63 }
         ensures { (w : ℕ) → self.new ≡ stand self.old (record { worker = w; thread = thread; act = Act.Left }) }
     {

@@ -1,6 +1,7 @@
 //! Updates of the database, and batches of them.
 ghost use Rattle.std.specs.Prelude.{◌≡◌, ◌∷◌, [], IfOk};
 
+use crate::id::JournalPlace;
 use plclause::clause::Clause;
 use plterm::indicator::Indicator;
 use std::alloc::{AllocError, Global};
@@ -10,7 +11,7 @@ use std::marker::Model;
 #[derive(Clone, Copy, PartialEq, Eq, Hash)]
 pub struct ClauseName {
     /// Where the batch stands in the journal, from 0.
-    pub place: u64,
+    pub place: JournalPlace,
     /// Which of its updates it is, from 0.
     pub number: u64,
 }

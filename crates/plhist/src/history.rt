@@ -1,14 +1,14 @@
 //! A history: the journal, and the run of each thread.
 ghost use Rattle.std.specs.Prelude.{◌≡◌};
 
-use plevent::{Entry, ThreadEnd};
+use plevent::{Entry, JournalPlace, ThreadEnd, ThreadId};
 use std::marker::Model;
 
 /// The places of a thread's items, in their order: for each view that it took and each request that
 /// was answered, the number of entries that the journal had then.
 #[derive(Drop)]
 pub struct Places {
-    list: Vec<u64>,
+    list: Vec<JournalPlace>,
 }
 
 impl Model for Places {
@@ -20,13 +20,13 @@ impl Model for Places {
 }
 
 impl Places {
-    pub fn new(list: Vec<u64>) -> Places
+    pub fn new(list: Vec<JournalPlace>) -> Places
         ensures { result ≡ list.items }
     {
         Places { list }
     }
 
-    pub fn as_slice(&self) -> &[u64]
+    pub fn as_slice(&self) -> &[JournalPlace]
         ensures { result.now ≡ self.now }
     {
         self.list.as_slice()
@@ -71,7 +71,7 @@ pub enum RunEnd {
 /// What a thread did.
 #[derive(Drop)]
 pub struct Run {
-    pub thread: u32,
+    pub thread: ThreadId,
     pub places: Places,
     /// The steps that it took.
     pub steps: u64,

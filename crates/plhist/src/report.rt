@@ -6,17 +6,21 @@ ghost use Rattle.plhist.specs.Report.{alias_of, alias_text, end_text, run_end_te
 
 use crate::history::{History, Run, RunEnd};
 use itoa::Buffer;
-use plevent::ThreadEnd;
+use plevent::{ThreadEnd, ThreadId};
 use plops::table::OpTable;
 use plwrite::style::Style;
 use plwrite::write::write_term;
 use std::alloc::{AllocError, Global};
 
 /// The alias of a thread behind its number: main is the only thread that has one.
-fn alias(thread: u32) -> &'static str
+fn alias(thread: ThreadId) -> &'static str
     ensures { (h : List Entry) → result.now ≡ alias_text (alias_of thread (reading h).standing.threads) }
 {
-    if thread == 1 { " main" } else { "" }
+    if thread == ThreadId::MAIN {
+        " main"
+    } else {
+        ""
+    }
 }
 
 fn push_end(
@@ -75,7 +79,7 @@ fn push_run(alloc: Global, text: &mut Vec<u8>, run: &Run, ops: &OpTable) -> Resu
 {
     let mut buffer = Buffer::new();
     text.extend_from_slice(b"% thread ")?;
-    text.extend_from_slice(buffer.format(run.thread).as_bytes())?;
+    text.extend_from_slice(buffer.format(run.thread.get()).as_bytes())?;
     text.extend_from_slice(alias(run.thread).as_bytes())?;
     text.extend_from_slice(b": ")?;
     push_run_end(alloc, text, &run.end, ops)?;

@@ -5,7 +5,7 @@ ghost use Rattle.plhist.specs.Status.{number_of, line_of, kind_text, refusal_tex
 
 use crate::history::Journal;
 use itoa::Buffer;
-use plevent::{Act, Entry, ThreadEnd};
+use plevent::{Act, Entry, ThreadEnd, ThreadId};
 use plload::error::RefusalKind;
 use std::alloc::{AllocError, Global};
 
@@ -125,7 +125,7 @@ fn status_of_end(end: &ThreadEnd) -> Status
 fn status_after(entry: &Entry, before: Status) -> Status
     ensures { result ≡ status_after (nat_eq entry.now.thread 1) entry.now.act before }
 {
-    if entry.thread != 1 {
+    if entry.thread != ThreadId::MAIN {
         return before;
     }
     match &entry.act {

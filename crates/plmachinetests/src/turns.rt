@@ -3,7 +3,7 @@ ghost use Rattle.std.specs.Prelude.{◌≡◌, ◌≤◌, ℕ, true, IfOk, OnOk}
 ghost use Rattle.plsolver.specs.Fetching.{Fetches};
 ghost use Rattle.plsolver.specs.Solver.{IsOf, IsReplyTo, WaitsForReply, latest_view};
 
-use plevent::{Reply, Request, ThreadEnd};
+use plevent::{JournalPlace, Reply, Request, ThreadEnd, ThreadId, WorkerId};
 use plload::goal::read_goal;
 use plload::load::load;
 use plops::table::OpTable;
@@ -24,7 +24,7 @@ pub struct Going {
     solver: Solver,
     world: World,
     limit: u64,
-    latest: u64,
+    latest: JournalPlace,
 }
 
 /// A program with a goal.
@@ -57,7 +57,12 @@ fn serve(alloc: Global, program: &Program, going: &mut Going, request: &Request)
     ensures latest { going.new.latest ≡ going.old.latest }
 {
     let place = going.world.front();
-    let reply = going.world.step(alloc, 1, 1, request.copied(alloc)?)?;
+    let reply = going.world.step(
+        alloc,
+        WorkerId::FIRST,
+        ThreadId::MAIN,
+        request.copied(alloc)?,
+    )?;
     if !is_served(request, &reply) {
         return Err("another reply".into());
     }
@@ -109,7 +114,7 @@ fn turn(
         Turn::Slice => Ok(None),
         Turn::Refresh => {
             let g = going.world.front();
-            if g < going.latest {
+            if g.is_before(going.latest) {
                 return Err("an earlier view".into());
             }
             going.solver.refreshed(program, g)?;
@@ -146,11 +151,20 @@ pub fn word(alloc: Global, end: &ThreadEnd) -> Result<String, Fail> {
     }
 }
 
+/// Places as numbers.
+fn numbers(alloc: Global, places: &[JournalPlace]) -> Result<Vec<u64>, AllocError> {
+    let mut numbers = Vec::new(alloc);
+    for place in places {
+        numbers.push(place.get())?;
+    }
+    Ok(numbers)
+}
+
 /// An end, the steps that were taken, the places of the answers, and what was written.
 fn told(alloc: Global, going: &Going, end: &ThreadEnd) -> Result<String, Fail> {
     let end = word(alloc, end)?;
     let steps = going.solver.steps();
-    let places = going.solver.places();
+    let places = numbers(alloc, going.solver.places())?;
     let output = String::from_utf8(Vec::from_slice(alloc, going.solver.output())?)?;
     Ok(format!(in alloc; "{end} {steps} {places:?} {output}")?)
 }
@@ -158,7 +172,7 @@ fn told(alloc: Global, going: &Going, end: &ThreadEnd) -> Result<String, Fail> {
 /// A world in which main has started.
 fn started(alloc: Global, program: &Program) -> Result<World, AllocError> {
     let mut world = World::open(alloc, program.first())?;
-    world.step(alloc, 1, 0, Request::Start)?;
+    world.step(alloc, WorkerId::FIRST, ThreadId::NONE, Request::Start)?;
     Ok(world)
 }
 

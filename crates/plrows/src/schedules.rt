@@ -58,7 +58,7 @@ fn is_as_said(history: &History, row: &Schedule) -> bool {
     let (_, _, entries, status, steps, output) = *row;
     match only(history) {
         Some(run) => {
-            run.thread == 1
+            run.thread.get() == 1
                 && run.steps == steps
                 && run.output.as_slice() == output.as_bytes()
                 && history.journal.as_slice().len() == entries

@@ -8,7 +8,7 @@ ghost use Rattle.plrun.specs.Threads.{IsThread};
 ghost use Rattle.plrun.specs.Overall.{IsHistory};
 
 use crate::thread::{Running, run_thread};
-use plevent::{Reply, Request};
+use plevent::{Reply, Request, ThreadId, WorkerId};
 use plhist::{History, Journal, Run, Runs};
 use plprogram::program::Program;
 use plsolver::solver::Solver;
@@ -30,7 +30,7 @@ fn start(
     ensures over { IfOk result (λ o. IfNone o (Over world.old.journal × (world.new.journal ≡ world.old.journal))) }
     ensures serves { IsServing world.new }
 {
-    match world.step(alloc, 1, 0, Request::Start)? {
+    match world.step(alloc, WorkerId::FIRST, ThreadId::NONE, Request::Start)? {
         Reply::Started { number, .. } => {
             let solver = Solver::new(alloc, program, steps)?;
             Ok(Some(Running {

@@ -11,7 +11,7 @@ ghost use Rattle.plrun.specs.Halts.{told, told_places};
 ghost use Rattle.plrun.specs.Threads.{GoesOn, IsThread, run_now};
 ghost use Rattle.plrun.specs.Overall.{IsHistory};
 
-use plevent::{Request, ThreadEnd};
+use plevent::{JournalPlace, Request, ThreadEnd, ThreadId, WorkerId};
 use plhist::{Output, Places, Run, RunEnd};
 use plprogram::program::Program;
 use plsolver::solver::{Solver, Turn};
@@ -25,7 +25,7 @@ const SLICE: u64 = 256;
 /// A thread that was started.
 #[derive(Drop)]
 pub struct Running {
-    pub thread: u32,
+    pub thread: ThreadId,
     pub solver: Solver,
 }
 
@@ -76,7 +76,7 @@ fn serve(
     ensures serves { IsServing world.new }
 {
     let place = world.front();
-    let reply = world.step(alloc, 1, running.thread, request)?;
+    let reply = world.step(alloc, WorkerId::FIRST, running.thread, request)?;
     running.solver.reply(program, place, reply)?;
     Ok(())
 }
@@ -119,9 +119,9 @@ fn turn(
 fn tell(
     alloc: Global,
     world: &mut World,
-    thread: u32,
+    thread: ThreadId,
     end: &ThreadEnd,
-    places: &mut Vec<u64>,
+    places: &mut Vec<JournalPlace>,
 ) -> Result<(), AllocError>
     requires { IsServing world.old }
     ensures journal { OnOk result (world.new.journal ≡ told end.now thread world.old.journal) }
@@ -133,7 +133,7 @@ fn tell(
         ThreadEnd::True | ThreadEnd::False | ThreadEnd::Exception(_) | ThreadEnd::Budget => {
             let request = Request::Finish(end.copied(alloc)?);
             places.push(world.front())?;
-            world.step(alloc, 1, thread, request)?;
+            world.step(alloc, WorkerId::FIRST, thread, request)?;
             Ok(())
         }
     }

@@ -1,9 +1,10 @@
 //! Updates, requests and journals (plevent).
-use crate::made::clause;
+use crate::made::{clause, named};
 use plevent::act::{Act, Entry};
 use plevent::request::{Request, ThreadEnd};
 use plevent::standing::Standing;
-use plevent::update::{Batch, ClauseName, Update};
+use plevent::update::{Batch, Update};
+use plevent::{ThreadId, WorkerId};
 use plterm::error::TermError;
 use plterm::indicator::Indicator;
 use plterm::name::Name;
@@ -16,10 +17,7 @@ fn one_of_each(alloc: Global) -> Result<Vec<Update>, TermError> {
     let mut updates = Vec::new(alloc);
     updates.push(Update::First(clause(alloc, "true")?))?;
     updates.push(Update::Last(clause(alloc, "true")?))?;
-    updates.push(Update::Erase(ClauseName {
-        place: 3,
-        number: 1,
-    }))?;
+    updates.push(Update::Erase(named(3, 1)))?;
     updates.push(Update::EraseOwn(0))?;
     let name = Name::new(alloc, "q")?;
     updates.push(Update::Declare(Indicator { name, arity: 2 }))?;
@@ -55,8 +53,8 @@ fn batches_and_entries(rt: HostRuntime) -> Result<(), Fail> {
     let batch = Batch::new(one_of_each(alloc)?).copied(alloc)?;
     assert_eq!(rt; batch.as_slice().len(), 5);
     let entry = Entry {
-        worker: 1,
-        thread: 1,
+        worker: WorkerId::FIRST,
+        thread: ThreadId::MAIN,
         act: Act::Batch(batch),
     };
     let copy = batch_of(alloc, &entry)?.ok_or("another act")?;
@@ -96,9 +94,9 @@ fn told(standing: &Standing) -> (bool, bool, bool, u64) {
 fn to_the_end(alloc: Global) -> Result<[(bool, bool, bool, u64); 3], AllocError> {
     let mut standing = Standing::blank(alloc)?;
     let blank = told(&standing);
-    standing.start(2, 1);
+    standing.start(WorkerId::new(2), ThreadId::MAIN);
     let started = told(&standing);
-    standing.end(1, ThreadEnd::True);
+    standing.end(ThreadId::MAIN, ThreadEnd::True);
     Ok([blank, started, told(&standing)])
 }
 
@@ -127,11 +125,11 @@ enum Acts {
 /// What stands once main, started by worker 2, has done this.
 fn behind(alloc: Global, acts: Acts) -> Result<(bool, bool, bool, u64), AllocError> {
     let mut standing = Standing::blank(alloc)?;
-    standing.start(2, 1);
+    standing.start(WorkerId::new(2), ThreadId::MAIN);
     match acts {
         Acts::Publish => standing.publish(),
         Acts::Halt => standing.halt(44),
-        Acts::Leave => standing.leave(1),
+        Acts::Leave => standing.leave(ThreadId::MAIN),
     }
     Ok(told(&standing))
 }
@@ -159,7 +157,7 @@ fn main_comes_first(rt: HostRuntime) -> Result<(), Fail> {
         None => return Err("no thread".into()),
         Some(thread) => {
             let alias = thread.alias.as_ref().map_or("", |alias| alias.as_str());
-            assert!(rt; (thread.number, alias) == (1, "main"));
+            assert!(rt; (thread.number.get(), alias) == (1, "main"));
         }
     }
     Ok(())

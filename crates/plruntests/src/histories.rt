@@ -1,5 +1,5 @@
 //! Reports and statuses (plhist).
-use plevent::{Act, Batch, Entry, ThreadEnd};
+use plevent::{Act, Batch, Entry, JournalPlace, ThreadEnd, ThreadId, WorkerId};
 use plhist::history::{History, Journal, Output, Places, Run, RunEnd, Runs};
 use plhist::report::report_text;
 use plhist::status::{Status, kind_word, refusal_text, status_of};
@@ -47,8 +47,8 @@ fn journal_of(alloc: Global, end: ThreadEnd) -> Result<Journal, AllocError> {
         (1, act_of(end)),
     ] {
         entries.push(Entry {
-            worker: of,
-            thread: of,
+            worker: WorkerId::new(of),
+            thread: ThreadId::new(of),
             act,
         })?;
     }
@@ -59,8 +59,8 @@ fn journal_of(alloc: Global, end: ThreadEnd) -> Result<Journal, AllocError> {
 fn runs_of(alloc: Global, end: ThreadEnd, output: &str) -> Result<Runs, AllocError> {
     let mut runs = Vec::new(alloc);
     runs.push(Run {
-        thread: 1,
-        places: Places::new(Vec::from_slice(alloc, &[2])?),
+        thread: ThreadId::MAIN,
+        places: Places::new(Vec::from_slice(alloc, &[JournalPlace::new(2)])?),
         steps: 1,
         end: RunEnd::Ended(end),
         output: Output::new(Vec::from_slice(alloc, output.as_bytes())?),

@@ -1,7 +1,7 @@
 //! Walks over the clauses of a procedure at a time (plworld, plstore).
 use crate::made::{clause, fact, fact_of, indicator};
 use plclause::clause::Clause;
-use plevent::{Batch, ClauseName, Key, Request, Update};
+use plevent::{Batch, ClauseName, JournalPlace, Key, Request, ThreadId, Update, WorkerId};
 use plstore::{Cursor, Found, Query};
 use plterm::error::TermError;
 use plterm::name::Name;
@@ -16,7 +16,7 @@ use std::test::Fail;
 fn next(
     alloc: Global,
     world: &World,
-    g: u64,
+    g: JournalPlace,
     (arity, key): (u16, &str),
     cursor: Cursor,
 ) -> Result<Option<ClauseName>, Fail> {
@@ -39,14 +39,14 @@ fn key_of(alloc: Global, word: &str) -> Result<Key, AllocError> {
 }
 
 /// The names of these clauses in their order, at most five.
-fn walk(alloc: Global, world: &World, g: u64, goals: (u16, &str)) -> Result<String, Fail> {
+fn walk(alloc: Global, world: &World, g: JournalPlace, goals: (u16, &str)) -> Result<String, Fail> {
     let mut walk = String::new(alloc);
     let mut cursor = Cursor::Start;
     for _ in 0..5 {
         let Some(name) = next(alloc, world, g, goals, cursor)? else {
             return Ok(walk);
         };
-        write!(walk, "{}.{} ", name.place, name.number)?;
+        write!(walk, "{}.{} ", name.place.get(), name.number)?;
         cursor = Cursor::After(name);
     }
     Ok(walk)
@@ -60,7 +60,7 @@ fn renewed(alloc: Global) -> Result<World, TermError> {
     let mut declared = Vec::new(alloc);
     declared.push(Update::Declare(indicator(alloc, 0)?))?;
     let mut world = World::open(alloc, &Batch::new(declared))?;
-    world.step(alloc, 1, 0, Request::Start)?;
+    world.step(alloc, WorkerId::FIRST, ThreadId::NONE, Request::Start)?;
     for _ in 0..TIMES {
         renew(alloc, &mut world)?;
     }
@@ -72,17 +72,23 @@ fn renew(alloc: Global, world: &mut World) -> Result<(), TermError> {
     let place = world.front();
     let mut added = Vec::new(alloc);
     added.push(Update::Last(clause(alloc, "a")?))?;
-    world.step(alloc, 1, 1, Request::Publish(Batch::new(added)))?;
+    let publish = Request::Publish(Batch::new(added));
+    world.step(alloc, WorkerId::FIRST, ThreadId::MAIN, publish)?;
     let name = ClauseName { place, number: 0 };
-    world.step(alloc, 1, 1, Request::EraseOne(name))?;
+    world.step(
+        alloc,
+        WorkerId::FIRST,
+        ThreadId::MAIN,
+        Request::EraseOne(name),
+    )?;
     Ok(())
 }
 
 /// The place of the first addition at which another clause than it is there, or behind whose erasure there is one.
 fn first_unlike(alloc: Global, world: &World) -> Result<Option<u64>, Fail> {
     for i in 1..=TIMES {
-        let there = walk(alloc, world, 2 * i + 1, (0, "any"))?;
-        let gone = walk(alloc, world, 2 * i + 2, (0, "any"))?;
+        let there = walk(alloc, world, JournalPlace::new(2 * i + 1), (0, "any"))?;
+        let gone = walk(alloc, world, JournalPlace::new(2 * i + 2), (0, "any"))?;
         let wanted = format!(in alloc; "{}.0 ", 2 * i)?;
         if there.as_str() != wanted.as_str() || !gone.is_empty() {
             return Ok(Some(2 * i));
@@ -130,7 +136,7 @@ fn opened(alloc: Global) -> Result<World, TermError> {
 fn clauses_by_key(rt: HostRuntime) -> Result<(), Fail> {
     let world = opened(rt.alloc())?;
     for (key, wanted) in KEYED {
-        let found = walk(rt.alloc(), &world, 1, (1, key))?;
+        let found = walk(rt.alloc(), &world, JournalPlace::new(1), (1, key))?;
         assert!(rt; found.as_str() == wanted, "{key}");
     }
     Ok(())

@@ -1,6 +1,8 @@
 //! The journal and its requests (plworld): what is asked of a world, one thing after the other, and what it tells, with its journal at the end.
-use crate::made::{clause, indicator};
-use plevent::{Act, Batch, ClauseName, Entry, Key, Reply, Request, ThreadEnd, Update};
+use crate::made::{clause, indicator, named};
+use plevent::{
+    Act, Batch, Entry, JournalPlace, Key, Reply, Request, ThreadEnd, ThreadId, Update, WorkerId,
+};
 use plstore::{Cursor, Found, Query};
 use plterm::error::TermError;
 use plworld::world::World;
@@ -52,11 +54,6 @@ enum Move {
     IsStopped,
 }
 
-/// The name of a clause.
-fn named(place: u64, number: u64) -> ClauseName {
-    ClauseName { place, number }
-}
-
 /// A batch with the clause `p.` behind all others.
 fn batch(alloc: Global) -> Result<Batch, TermError> {
     let mut updates = Vec::new(alloc);
@@ -86,10 +83,10 @@ fn request_of(alloc: Global, asked: Asked) -> Result<Request, TermError> {
 fn reply_word(reply: &Reply) -> &'static str {
     match reply {
         Reply::Started {
-            number: 1,
+            number,
             alias: Some(alias),
             goal: None,
-        } if alias.as_str() == "main" => "main is started",
+        } if *number == ThreadId::MAIN && alias.as_str() == "main" => "main is started",
         Reply::RunOver => "run over",
         Reply::Stopped => "stopped",
         Reply::NotYet(Request::Start) => "no start yet",
@@ -108,8 +105,8 @@ fn reply_word(reply: &Reply) -> &'static str {
 fn ask(alloc: Global, world: &mut World, asked: Asked) -> Result<&'static str, TermError> {
     let request = request_of(alloc, asked)?;
     let (worker, thread) = match asked {
-        Asked::Start(worker) => (worker, 0),
-        _ => (1, 1),
+        Asked::Start(worker) => (WorkerId::new(worker), ThreadId::NONE),
+        _ => (WorkerId::FIRST, ThreadId::MAIN),
     };
     let reply = world.step(alloc, worker, thread, request)?;
     Ok(reply_word(&reply))
@@ -135,7 +132,7 @@ fn truth(is: bool) -> &'static str {
 fn found_word(alloc: Global, found: &Found) -> Result<String, AllocError> {
     let word = match found {
         Found::Next(Some(name)) => {
-            return format!(in alloc; "{}", name.place);
+            return format!(in alloc; "{}", name.place.get());
         }
         Found::Next(None) => "none",
         Found::Clause(clause) => truth(clause.is_some()),
@@ -147,7 +144,7 @@ fn found_word(alloc: Global, found: &Found) -> Result<String, AllocError> {
 /// What is found in a world at a time.
 fn look(alloc: Global, world: &World, g: u64, looked: Looked) -> Result<String, AllocError> {
     let query = query_of(alloc, looked)?;
-    let found = world.look(g, &query)?;
+    let found = world.look(JournalPlace::new(g), &query)?;
     found_word(alloc, &found)
 }
 
@@ -157,7 +154,7 @@ fn moved(alloc: Global, world: &mut World, by: Move) -> Result<String, TermError
         Move::Ask(asked) => ask(alloc, world, asked)?,
         Move::Look(g, looked) => return Ok(look(alloc, world, g, looked)?),
         Move::IsOver => truth(world.is_over()),
-        Move::Front => return Ok(format!(in alloc; "{}", world.front())?),
+        Move::Front => return Ok(format!(in alloc; "{}", world.front().get())?),
         Move::Entries => return Ok(format!(in alloc; "{}", world.entries().len())?),
         Move::Stop => {
             world.stop();
@@ -184,7 +181,7 @@ fn act_word(act: &Act) -> &'static str {
         Act::Batch(batch) => match batch.as_slice() {
             [] => "nothing",
             [Update::Last(_)] => "a clause",
-            [Update::Erase(name)] if (name.place, name.number) == (2, 0) => "an erasure",
+            [Update::Erase(name)] if (name.place.get(), name.number) == (2, 0) => "an erasure",
             _ => "another batch",
         },
         Act::Start => "start",
@@ -201,7 +198,12 @@ fn journal(alloc: Global, entries: &[Entry]) -> Result<String, AllocError> {
     let mut told = String::new(alloc);
     for entry in entries {
         let word = act_word(&entry.act);
-        write!(told, "{}.{} {word}, ", entry.worker, entry.thread)?;
+        write!(
+            told,
+            "{}.{} {word}, ",
+            entry.worker.get(),
+            entry.thread.get()
+        )?;
     }
     Ok(told)
 }

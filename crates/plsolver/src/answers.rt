@@ -13,6 +13,7 @@ ghost use Rattle.plsolver.specs.Says.{Says, IsSlice};
 
 use crate::progress::{Pause, Progress};
 use crate::solver::Turn;
+use plevent::JournalPlace;
 use plevent::request::{Reply, Request, ThreadEnd};
 use plmachine::machine::{Mode, Outcome, Question, Then};
 use plprogram::program::Program;
@@ -20,7 +21,12 @@ use std::alloc::{AllocError, Global};
 
 impl Progress {
     /// The reply to the request that is asked.
-    pub fn reply(&mut self, program: &Program, place: u64, reply: Reply) -> Result<(), AllocError>
+    pub fn reply(
+        &mut self,
+        program: &Program,
+        place: JournalPlace,
+        reply: Reply,
+    ) -> Result<(), AllocError>
         requires of { IsOf program.now self.old.machine }
         requires fits { ReplyFits self.old reply }
         requires within { self.old.used ≤ self.old.limit }

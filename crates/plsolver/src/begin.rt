@@ -11,6 +11,7 @@ ghost use Rattle.plsolver.specs.Solver.{Asks, IsOf, Stays, latest_view, rest_of,
 
 use crate::progress::Progress;
 use plcells::cell::Cell;
+use plevent::JournalPlace;
 use plmachine::machine::{Lookup, Mode, Question};
 use plprogram::program::Program;
 use pltx::Isolation;
@@ -19,7 +20,7 @@ use std::alloc::AllocError;
 
 impl Progress {
     /// The place of the view that is waited for.
-    pub fn refreshed(&mut self, program: &Program, g: u64) -> Result<(), AllocError>
+    pub fn refreshed(&mut self, program: &Program, g: JournalPlace) -> Result<(), AllocError>
         requires of { IsOf program.now self.old.machine }
         requires waits { WaitsForView self.old }
         requires latest { latest_view self.old ≤ g }
@@ -41,7 +42,7 @@ impl Progress {
     }
 
     /// What waited for a view goes on with that of a place.
-    fn take_view(&mut self, program: &Program, g: u64) -> Result<(), AllocError>
+    fn take_view(&mut self, program: &Program, g: JournalPlace) -> Result<(), AllocError>
         requires of { IsOf program.now self.old.machine }
         requires waits { WaitsForView self.old }
         requires latest { latest_view self.old ≤ g }
@@ -69,7 +70,12 @@ impl Progress {
     }
 
     /// A look-up goes on in the view of a place.
-    fn look_in(&mut self, program: &Program, lookup: Lookup, g: u64) -> Result<(), AllocError>
+    fn look_in(
+        &mut self,
+        program: &Program,
+        lookup: Lookup,
+        g: JournalPlace,
+    ) -> Result<(), AllocError>
         requires of { IsOf program.now self.old.machine }
         requires looks { Asks self.old (LookOf lookup) }
         requires latest { latest_view self.old ≤ g }

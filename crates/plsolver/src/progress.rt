@@ -16,6 +16,7 @@ use crate::solver::Turn;
 use crate::start::start;
 use plcells::cell::Cell;
 use plcode::op::Step;
+use plevent::JournalPlace;
 use pllinks::item::Run;
 use pllinks::level::Level;
 use pllinks::link::Continuation;
@@ -32,7 +33,7 @@ pub struct Progress {
     /// The most steps.
     pub limit: u64,
     /// The places of the answers taken.
-    pub places: Vec<u64>,
+    pub places: Vec<JournalPlace>,
 }
 
 /// A goal that is to be selected: the first of the visited list.

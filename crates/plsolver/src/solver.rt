@@ -16,6 +16,7 @@ ghost use Rattle.plsolver.specs.Asking.{AsksNext};
 ghost use Rattle.plsolver.specs.Says.{Says, IsSlice};
 
 use crate::progress::Progress;
+use plevent::JournalPlace;
 use plevent::request::{Reply, Request, ThreadEnd};
 use plprogram::program::Program;
 use plstore::{Found, Query};
@@ -77,7 +78,7 @@ impl Solver {
     }
 
     /// The places of the answers taken so far, in order.
-    pub fn places(&self) -> &[u64]
+    pub fn places(&self) -> &[JournalPlace]
         ensures { result.now ≡ self.now.places.items }
     {
         &self.progress.places
@@ -109,7 +110,12 @@ impl Solver {
     }
 
     /// The reply to the request that is asked. A refused growth leaves the solver as it was.
-    pub fn reply(&mut self, program: &Program, place: u64, reply: Reply) -> Result<(), AllocError>
+    pub fn reply(
+        &mut self,
+        program: &Program,
+        place: JournalPlace,
+        reply: Reply,
+    ) -> Result<(), AllocError>
         requires of { IsOf program.now self.old.machine }
         requires fits { ReplyFits self.old reply }
         requires within { self.old.used ≤ self.old.limit }
@@ -126,7 +132,7 @@ impl Solver {
 
     /// The place of the view that the look-up which waits has from now on, or that on which a transaction or a snapshot begins. A refused growth
     /// leaves the solver as it was.
-    pub fn refreshed(&mut self, program: &Program, g: u64) -> Result<(), AllocError>
+    pub fn refreshed(&mut self, program: &Program, g: JournalPlace) -> Result<(), AllocError>
         requires of { IsOf program.now self.old.machine }
         requires waits { WaitsForView self.old }
         requires latest { latest_view self.old ≤ g }
@@ -143,7 +149,7 @@ impl Solver {
     }
 
     /// The place of the view in which something is asked.
-    pub fn view(&self) -> u64
+    pub fn view(&self) -> JournalPlace
         requires fetching { (g : ℕ) × (q : Query) × Fetches self.now g q }
         requires of { (P : Given) × IsOf P self.now.machine }
         ensures is { (g : ℕ) (q : Query) → Fetches self.now g q → result ≡ g }

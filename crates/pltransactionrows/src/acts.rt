@@ -1,7 +1,7 @@
 //! What a run added to the journal, as text: each act behind main's start on a line of its own, as a term without operators, and then the
 //! places of what was asked, and the steps.
 use plclause::clause::Clause;
-use plevent::{Act, Batch, ClauseName, ThreadEnd, Update};
+use plevent::{Act, Batch, ClauseName, JournalPlace, ThreadEnd, Update};
 use plhist::History;
 use plops::table::OpTable;
 use plterm::error::TermError;
@@ -88,7 +88,7 @@ fn term_of(alloc: Global, update: &Update, from: u64) -> Result<Term, TermError>
 }
 
 fn erase(alloc: Global, name: &ClauseName) -> Result<Term, TermError> {
-    let place = count(alloc, name.place)?;
+    let place = count(alloc, name.place.get())?;
     let number = count(alloc, name.number)?;
     two(alloc, "erase", place, number)
 }
@@ -108,10 +108,10 @@ fn indicator(alloc: Global, pred: &Indicator) -> Result<Term, TermError> {
 }
 
 /// The list of some places.
-fn places(alloc: Global, places: &[u64]) -> Result<Term, TermError> {
+fn places(alloc: Global, places: &[JournalPlace]) -> Result<Term, TermError> {
     let mut list = atom(alloc, "[]")?;
     for place in places.iter().rev() {
-        list = two(alloc, ".", count(alloc, *place)?, list)?;
+        list = two(alloc, ".", count(alloc, place.get())?, list)?;
     }
     Ok(list)
 }

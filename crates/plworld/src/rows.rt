@@ -5,14 +5,17 @@ ghost use Rattle.plevent.specs.Reading.{reading};
 ghost use Rattle.plevent.specs.Rows.{is_new, is_workers, is_halted, is_leave, start_row, erase_row, finish_row, leave_row, row, served_while, served};
 ghost use Rattle.plworld.specs.Worlds.{IsWorld};
 
-use plevent::{Act, Batch, ClauseName, Reply, Request, Standing, Thread, ThreadEnd, Update};
+use plevent::{
+    Act, Batch, ClauseName, JournalPlace, Reply, Request, Standing, Thread, ThreadEnd, ThreadId,
+    Update,
+};
 use plstore::Store;
 use plterm::name::Name;
 use plterm::term::Term;
 use std::alloc::{AllocError, Global};
 
 /// A reply, and the act, if any, with the thread that its entry names.
-pub type Row = (Reply, Option<(u32, Act)>);
+pub type Row = (Reply, Option<(ThreadId, Act)>);
 
 /// The row of a request of a thread, after the journal that the standing and the store are those of: where a thread has
 /// ended the run, all stop, but for those that leave.
@@ -20,7 +23,7 @@ pub fn serve(
     standing: &Standing,
     store: &Store,
     alloc: Global,
-    thread: u32,
+    thread: ThreadId,
     request: Request,
 ) -> Result<Row, AllocError>
     ensures { IfOk result (λ r. (h : List Entry) → IsWorld h standing.now store.now → r ≡ served request thread (reading h)) }
@@ -36,7 +39,7 @@ fn serve_while(
     standing: &Standing,
     store: &Store,
     alloc: Global,
-    thread: u32,
+    thread: ThreadId,
     request: Request,
 ) -> Result<Row, AllocError>
     ensures { IfOk result (λ r. (h : List Entry) → IsWorld h standing.now store.now → r ≡ served_while request thread (reading h)) }
@@ -83,7 +86,7 @@ fn row_of(
     standing: &Standing,
     store: &Store,
     alloc: Global,
-    thread: u32,
+    thread: ThreadId,
     request: Request,
 ) -> Result<Row, AllocError>
     ensures { IfOk result (λ r. (h : List Entry) → IsWorld h standing.now store.now → r ≡ row request thread (reading h)) }
@@ -94,7 +97,7 @@ fn row_of(
             return Ok((Reply::Published, Some((thread, Act::Batch(batch)))));
         }
         Request::EraseOne(name) => {
-            let is_alive = store.alive(standing.size, name);
+            let is_alive = store.alive(JournalPlace::new(standing.size), name);
             return Ok(erase_of(is_alive, name, thread));
         }
         Request::Finish(end) => return Ok(finish_of(end, thread)),
@@ -106,7 +109,7 @@ fn row_of(
 }
 
 /// The row of an erasure: a clause that is alive goes, by a batch of its own.
-fn erase_of(is_alive: bool, name: ClauseName, thread: u32) -> Row
+fn erase_of(is_alive: bool, name: ClauseName, thread: ThreadId) -> Row
     ensures { result ≡ erase_row is_alive name thread }
 {
     if !is_alive {
@@ -117,7 +120,7 @@ fn erase_of(is_alive: bool, name: ClauseName, thread: u32) -> Row
 }
 
 /// The row of an end: one that ends the run is asked for by `HaltRun` alone.
-fn finish_of(end: ThreadEnd, thread: u32) -> Row
+fn finish_of(end: ThreadEnd, thread: ThreadId) -> Row
     ensures { result ≡ finish_row end thread }
 {
     match end {
@@ -129,7 +132,7 @@ fn finish_of(end: ThreadEnd, thread: u32) -> Row
 }
 
 /// The row of a thread that goes no further: where the run is over, one that has neither ended nor left leaves.
-fn leave_of(standing: &Standing, thread: u32) -> Row
+fn leave_of(standing: &Standing, thread: ThreadId) -> Row
     ensures { result ≡ leave_row standing.now thread }
 {
     if !standing.is_over() {

@@ -9,7 +9,7 @@ ghost use Rattle.plstore.specs.Rising.{AllBelowPlace};
 ghost use Rattle.plworld.specs.Worlds.{opening, reply_in, adds_in};
 
 use crate::rows::serve;
-use plevent::{Act, Batch, Entry, Reply, Request, Standing};
+use plevent::{Act, Batch, Entry, JournalPlace, Reply, Request, Standing, ThreadId, WorkerId};
 use plstore::{Found, Query, Store};
 use std::alloc::{AllocError, Global};
 use std::marker::Model;
@@ -48,7 +48,7 @@ impl World {
             stopped: false,
         };
         let batch = first.copied(alloc)?;
-        match world.add(alloc, 0, 0, Act::Batch(batch)) {
+        match world.add(alloc, WorkerId::NONE, ThreadId::NONE, Act::Batch(batch)) {
             Ok(()) => return Ok(world),
             Err(error) => return Err(error),
         }
@@ -59,8 +59,8 @@ impl World {
     pub fn step(
         &mut self,
         alloc: Global,
-        worker: u32,
-        thread: u32,
+        worker: WorkerId,
+        thread: ThreadId,
         request: Request,
     ) -> Result<Reply, AllocError>
         ensures reply { IfOk result (λ r. r ≡ reply_in self.old thread request) }
@@ -96,10 +96,10 @@ impl World {
     }
 
     /// How many entries there are: the place of the next one, and the time that it is now.
-    pub fn front(&self) -> u64
+    pub fn front(&self) -> JournalPlace
         ensures { result ≡ length self.now.journal }
     {
-        self.journal.len() as u64
+        JournalPlace::new(self.journal.len() as u64)
     }
 
     /// Whether the run is over: a thread has ended it, or each was started and has ended.
@@ -110,7 +110,7 @@ impl World {
     }
 
     /// What a query finds in the database as it was after the entries below `g`.
-    pub fn look(&self, g: u64, query: &Query) -> Result<Found, AllocError>
+    pub fn look(&self, g: JournalPlace, query: &Query) -> Result<Found, AllocError>
         ensures { IfOk result (λ f. f ≡ found (before g (reading self.now.journal).updates) query.now) }
     {
         self.store.look(g, query)
@@ -131,7 +131,13 @@ impl World {
     }
 
     /// Adds an entry.
-    fn add(&mut self, alloc: Global, worker: u32, thread: u32, act: Act) -> Result<(), AllocError>
+    fn add(
+        &mut self,
+        alloc: Global,
+        worker: WorkerId,
+        thread: ThreadId,
+        act: Act,
+    ) -> Result<(), AllocError>
         ensures made { OnOk result (self.new ≡ record self.old { journal = self.old.journal ++ record { worker = worker; thread = thread; act = act } ∷ [] }) }
         ensures refused { OnErr result (self.new ≡ self.old) }
     {
@@ -160,8 +166,8 @@ fn change(
     alloc: Global,
     standing: &mut Standing,
     store: &mut Store,
-    worker: u32,
-    thread: u32,
+    worker: WorkerId,
+    thread: ThreadId,
     act: &Act,
 ) -> Result<(), AllocError>
     requires size { standing.old.size < 2 ^ 63 }
@@ -177,7 +183,7 @@ fn change(
             return Ok(());
         }
         Act::Batch(batch) => {
-            store.apply(alloc, batch, standing.size)?;
+            store.apply(alloc, batch, JournalPlace::new(standing.size))?;
             standing.publish();
             return Ok(());
         }
