@@ -76,7 +76,7 @@ impl ThreadId {
 }
 
 /// A place in the journal, from 0: the time of the entry that stands there, and of a look at all entries before it.
-#[derive(Clone, Copy, Debug, PartialEq, Eq, Hash)]
+#[derive(Clone, Copy, Debug, PartialEq, Eq)]
 pub struct JournalPlace {
     index: u64,
 }

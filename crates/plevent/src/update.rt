@@ -1,7 +1,6 @@
 //! Updates of the database, and batches of them.
 ghost use Rattle.std.specs.Prelude.{◌≡◌, ◌∷◌, [], IfOk};
 
-use crate::id::JournalPlace;
 use plclause::clause::Clause;
 use plterm::indicator::Indicator;
 use std::alloc::{AllocError, Global};
@@ -11,7 +10,7 @@ use std::marker::Model;
 #[derive(Clone, Copy, PartialEq, Eq, Hash)]
 pub struct ClauseName {
     /// Where the batch stands in the journal, from 0.
-    pub place: JournalPlace,
+    pub place: u64,
     /// Which of its updates it is, from 0.
     pub number: u64,
 }

@@ -18,7 +18,6 @@ use crate::machine::{Machine, Mode, Outcome, Question};
 use crate::predicate::Predicate;
 use crate::running::Ready;
 use plcells::cell::Cell;
-use plevent::JournalPlace;
 use pllinks::item::{Item, MarkerKind};
 use pllinks::level::Level;
 use pllinks::link::Continuation;
@@ -78,7 +77,7 @@ impl Machine {
         &mut self,
         program: &Program,
         kind: Isolation,
-        place: JournalPlace,
+        place: u64,
         goal: Cell,
     ) -> Result<(), AllocError>
         requires goal { IsValue self.old.stack.env.heap goal }

@@ -188,7 +188,7 @@ fn begun(alloc: Global, program: &Program, limit: u64) -> Result<Going, AllocErr
         solver,
         world,
         limit,
-        latest: 0,
+        latest: JournalPlace::START,
     })
 }
 

@@ -1,9 +1,9 @@
 //! Updates, requests and journals (plevent).
-use crate::made::{clause, named};
+use crate::made::clause;
 use plevent::act::{Act, Entry};
 use plevent::request::{Request, ThreadEnd};
 use plevent::standing::Standing;
-use plevent::update::{Batch, Update};
+use plevent::update::{Batch, ClauseName, Update};
 use plevent::{ThreadId, WorkerId};
 use plterm::error::TermError;
 use plterm::indicator::Indicator;
@@ -17,7 +17,10 @@ fn one_of_each(alloc: Global) -> Result<Vec<Update>, TermError> {
     let mut updates = Vec::new(alloc);
     updates.push(Update::First(clause(alloc, "true")?))?;
     updates.push(Update::Last(clause(alloc, "true")?))?;
-    updates.push(Update::Erase(named(3, 1)))?;
+    updates.push(Update::Erase(ClauseName {
+        place: 3,
+        number: 1,
+    }))?;
     updates.push(Update::EraseOwn(0))?;
     let name = Name::new(alloc, "q")?;
     updates.push(Update::Declare(Indicator { name, arity: 2 }))?;
@@ -83,8 +86,8 @@ fn ends_and_requests(rt: HostRuntime) -> Result<(), Fail> {
 /// Whether main runs and stays, whether the run is over, and how many entries there are.
 fn told(standing: &Standing) -> (bool, bool, bool, u64) {
     (
-        standing.runs(1),
-        standing.stays(1),
+        standing.runs(ThreadId::MAIN),
+        standing.stays(ThreadId::MAIN),
         standing.is_over(),
         standing.size,
     )

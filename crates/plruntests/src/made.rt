@@ -1,19 +1,10 @@
 //! Clauses and procedures that tests are made of.
 use plclause::clause::Clause;
-use plevent::{ClauseName, JournalPlace};
 use plterm::error::TermError;
 use plterm::indicator::Indicator;
 use plterm::name::Name;
 use plterm::term::Term;
 use std::alloc::{AllocError, Global};
-
-/// The name of a clause.
-pub fn named(place: u64, number: u64) -> ClauseName {
-    ClauseName {
-        place: JournalPlace::new(place),
-        number,
-    }
-}
 
 /// The name p with an arity.
 pub fn indicator(alloc: Global, arity: u16) -> Result<Indicator, AllocError> {

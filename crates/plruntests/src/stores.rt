@@ -1,10 +1,10 @@
 //! The clauses of all batches (plstore).
-ghost use Rattle.std.specs.Prelude.{◌≡◌, ◌+◌, ◌<◌, ◌^◌, OnOk};
+ghost use Rattle.std.specs.Prelude.{◌+◌, ◌<◌, ◌^◌, OnOk};
 ghost use Rattle.plstore.specs.Rising.{AllBelowPlace};
 
-use crate::made::{clause, fact, indicator, named};
+use crate::made::{clause, fact, indicator};
 use plclause::clause::Clause;
-use plevent::{Batch, JournalPlace, Key, Update};
+use plevent::{Batch, ClauseName, Key, Update};
 use plstore::record::Cursor;
 use plstore::store::Store;
 use plterm::error::TermError;
@@ -12,13 +12,6 @@ use plterm::name::Name;
 use plterm::term::Term;
 use std::alloc::{AllocError, Global};
 use std::test::Fail;
-
-/// A place by its number.
-fn at(place: u64) -> JournalPlace
-    ensures { result ≡ place }
-{
-    JournalPlace::new(place)
-}
 
 /// A store with one batch, at 3: it makes p :- a and p :- b behind all others and p :- c before them, erases p :- a again,
 /// and declares p/2.
@@ -30,7 +23,7 @@ pub fn one_batch(alloc: Global) -> Result<Store, TermError> {
     updates.push(Update::EraseOwn(0))?;
     updates.push(Update::Declare(indicator(alloc, 2)?))?;
     let mut store = Store::new(alloc);
-    store.apply(alloc, &Batch::new(updates), at(3))?;
+    store.apply(alloc, &Batch::new(updates), 3)?;
     Ok(store)
 }
 
@@ -48,8 +41,8 @@ fn has_body(alloc: Global, clause: &Clause, body: &str) -> Result<bool, TermErro
 fn clauses_of_a_batch(rt: HostRuntime) -> Result<(), Fail> {
     let store = one_batch(rt.alloc())?;
     for (number, here, body) in CLAUSES {
-        let name = named(3, number);
-        assert!(rt; store.alive(at(4), name) == here, "clause {number}");
+        let name = ClauseName { place: 3, number };
+        assert!(rt; store.alive(4, name) == here, "clause {number}");
         let clause = store.clause(name).ok_or("no clause")?;
         assert!(rt; has_body(rt.alloc(), clause, body)?, "clause {number}");
     }
@@ -62,7 +55,7 @@ fn walk(alloc: Global, store: &Store, g: u64) -> Result<Vec<u64>, AllocError> {
     let mut walk = Vec::new(alloc);
     let mut cursor = Cursor::Start;
     for _ in 0..3 {
-        if let Some(name) = store.next_visible(at(g), &pred, cursor) {
+        if let Some(name) = store.next_visible(g, &pred, cursor) {
             walk.push(name.number)?;
             cursor = Cursor::After(name);
         }
@@ -88,7 +81,7 @@ fn procedures_of_a_batch(rt: HostRuntime) -> Result<(), Fail> {
     let store = one_batch(rt.alloc())?;
     for (arity, g, there) in EXISTS {
         let pred = indicator(rt.alloc(), arity)?;
-        assert!(rt; store.exists(at(g), &pred) == there, "p/{arity} at {g}");
+        assert!(rt; store.exists(g, &pred) == there, "p/{arity} at {g}");
     }
     Ok(())
 }
@@ -124,7 +117,7 @@ fn keyed(alloc: Global) -> Result<Store, TermError> {
     }
     updates.push(Update::EraseOwn(1))?;
     let mut store = Store::new(alloc);
-    store.apply(alloc, &Batch::new(updates), at(3))?;
+    store.apply(alloc, &Batch::new(updates), 3)?;
     Ok(store)
 }
 
@@ -160,10 +153,9 @@ fn next_number(
 ) -> Result<Option<u64>, AllocError> {
     let cursor = match behind {
         None => Cursor::Start,
-        Some(number) => Cursor::After(named(3, number)),
+        Some(number) => Cursor::After(ClauseName { place: 3, number }),
     };
-    let pred = indicator(alloc, 1)?;
-    let next = store.next_like(at(4), &pred, &Key::Int(first), cursor);
+    let next = store.next_like(4, &indicator(alloc, 1)?, &Key::Int(first), cursor);
     Ok(next.map(|name| name.number))
 }
 
@@ -190,12 +182,12 @@ fn renew(alloc: Global, store: &mut Store, place: u64) -> Result<(), TermError>
     let mut added = Vec::new(alloc);
     added.push(Update::Last(clause(alloc, "a")?))?;
     let addition = Batch::new(added);
-    store.apply(alloc, &addition, at(place))?;
-    let name = named(place, 0);
+    store.apply(alloc, &addition, place)?;
+    let name = ClauseName { place, number: 0 };
     let mut erased = Vec::new(alloc);
     erased.push(Update::Erase(name))?;
     let erasure = Batch::new(erased);
-    store.apply(alloc, &erasure, at(place + 1))?;
+    store.apply(alloc, &erasure, place + 1)?;
     Ok(())
 }
 
@@ -204,7 +196,7 @@ fn renewed(alloc: Global) -> Result<Store, TermError> {
     let mut declared = Vec::new(alloc);
     declared.push(Update::Declare(indicator(alloc, 0)?))?;
     let mut store = Store::new(alloc);
-    store.apply(alloc, &Batch::new(declared), at(0))?;
+    store.apply(alloc, &Batch::new(declared), 0)?;
     for i in 0..TIMES {
         renew(alloc, &mut store, 2 * i + 1)?;
     }
@@ -214,11 +206,11 @@ fn renewed(alloc: Global) -> Result<Store, TermError> {
 /// The places of the clauses of p/0 that are alive at a time, up to two.
 fn places(alloc: Global, store: &Store, g: u64) -> Result<(Option<u64>, Option<u64>), AllocError> {
     let pred = indicator(alloc, 0)?;
-    let Some(first) = store.next_visible(at(g), &pred, Cursor::Start) else {
+    let Some(first) = store.next_visible(g, &pred, Cursor::Start) else {
         return Ok((None, None));
     };
-    let next = store.next_visible(at(g), &pred, Cursor::After(first));
-    Ok((Some(first.place.get()), next.map(|name| name.place.get())))
+    let next = store.next_visible(g, &pred, Cursor::After(first));
+    Ok((Some(first.place), next.map(|name| name.place)))
 }
 
 /// The place of the first addition at which another clause than it is there, or behind whose erasure there is one.

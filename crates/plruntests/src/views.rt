@@ -2,10 +2,10 @@
 ghost use Rattle.std.specs.Prelude.{IfOk};
 ghost use Rattle.pltx.specs.Own.{IsOpen};
 
-use crate::made::{indicator, named};
+use crate::made::indicator;
 use crate::owns::three;
 use crate::stores::one_batch;
-use plevent::{ClauseName, JournalPlace, Key};
+use plevent::{ClauseName, Key};
 use plstore::Store;
 use plterm::error::TermError;
 use pltx::{Own, OwnCursor, Target};
@@ -13,21 +13,11 @@ use plviews::{Lookup, Reach, Step, Told, View};
 use std::alloc::{AllocError, Global};
 use std::test::Fail;
 
-/// Behind all batches of the store.
-fn nine() -> JournalPlace
-    ensures { result ≡ 9 }
-{
-    JournalPlace::new(9)
-}
-
 /// The places and numbers of the clauses of p/0 after the first own updates, on top of a store at 9, in their order.
 fn walk(alloc: Global, store: &Store, own: &Own, count: u64) -> Result<String, AllocError> {
     let pred = indicator(alloc, 0)?;
     let key = Key::Any;
-    let view = View {
-        place: nine(),
-        count,
-    };
+    let view = View { place: 9, count };
     let lookup = Lookup {
         own,
         view,
@@ -39,11 +29,11 @@ fn walk(alloc: Global, store: &Store, own: &Own, count: u64) -> Result<String, A
     for _ in 0..12 {
         match step {
             Step::Next(name, behind) => {
-                write!(walk, "{}.{} ", name.place.get(), name.number)?;
+                write!(walk, "{}.{} ", name.place, name.number)?;
                 step = lookup.next(behind);
             }
             Step::Asks(cursor) => {
-                let name = store.next_like(nine(), &pred, &key, cursor);
+                let name = store.next_like(9, &pred, &key, cursor);
                 step = lookup.found(name);
             }
             Step::Nothing => return Ok(walk),
@@ -57,7 +47,10 @@ fn four(alloc: Global) -> Result<Own, TermError>
     ensures { IfOk result (λ own. IsOpen own) }
 {
     let mut own = three(alloc)?;
-    own.erase(Target::Committed(named(3, 1)))?;
+    own.erase(Target::Committed(ClauseName {
+        place: 3,
+        number: 1,
+    }))?;
     Ok(own)
 }
 
@@ -93,10 +86,7 @@ const TOLD: [(u64, u64, &str); 5] = [
 ];
 
 fn told(own: &Own, name: ClauseName) -> &'static str {
-    let view = View {
-        place: nine(),
-        count: 4,
-    };
+    let view = View { place: 9, count: 4 };
     match view.clause(own, name) {
         Told::Clause(_) => "clause",
         Told::Nothing => "nothing",
@@ -110,7 +100,7 @@ fn clauses_by_name(rt: HostRuntime) -> Result<(), Fail> {
     let own = four(rt.alloc())?;
     for (place, number, wanted) in TOLD {
         assert!(rt;
-            told(&own, named(place, number)) == wanted,
+            told(&own, ClauseName { place, number }) == wanted,
             "clause {place} {number}"
         );
     }

@@ -16,12 +16,12 @@ use std::test::Fail;
 fn next(
     alloc: Global,
     world: &World,
-    g: JournalPlace,
+    g: u64,
     (arity, key): (u16, &str),
     cursor: Cursor,
 ) -> Result<Option<ClauseName>, Fail> {
     let query = Query::NextLike(indicator(alloc, arity)?, key_of(alloc, key)?, cursor);
-    match world.look(g, &query)? {
+    match world.look(JournalPlace::new(g), &query)? {
         Found::Next(name) => Ok(name),
         Found::Clause(_) | Found::Alive(_) | Found::Exists(_) => Err(
             "an answer of another kind".into(),
@@ -39,14 +39,14 @@ fn key_of(alloc: Global, word: &str) -> Result<Key, AllocError> {
 }
 
 /// The names of these clauses in their order, at most five.
-fn walk(alloc: Global, world: &World, g: JournalPlace, goals: (u16, &str)) -> Result<String, Fail> {
+fn walk(alloc: Global, world: &World, g: u64, goals: (u16, &str)) -> Result<String, Fail> {
     let mut walk = String::new(alloc);
     let mut cursor = Cursor::Start;
     for _ in 0..5 {
         let Some(name) = next(alloc, world, g, goals, cursor)? else {
             return Ok(walk);
         };
-        write!(walk, "{}.{} ", name.place.get(), name.number)?;
+        write!(walk, "{}.{} ", name.place, name.number)?;
         cursor = Cursor::After(name);
     }
     Ok(walk)
@@ -69,7 +69,7 @@ fn renewed(alloc: Global) -> Result<World, TermError> {
 
 /// Adds a clause of p/0, and erases it again.
 fn renew(alloc: Global, world: &mut World) -> Result<(), TermError> {
-    let place = world.front();
+    let place = world.front().get();
     let mut added = Vec::new(alloc);
     added.push(Update::Last(clause(alloc, "a")?))?;
     let publish = Request::Publish(Batch::new(added));
@@ -87,8 +87,8 @@ fn renew(alloc: Global, world: &mut World) -> Result<(), TermError> {
 /// The place of the first addition at which another clause than it is there, or behind whose erasure there is one.
 fn first_unlike(alloc: Global, world: &World) -> Result<Option<u64>, Fail> {
     for i in 1..=TIMES {
-        let there = walk(alloc, world, JournalPlace::new(2 * i + 1), (0, "any"))?;
-        let gone = walk(alloc, world, JournalPlace::new(2 * i + 2), (0, "any"))?;
+        let there = walk(alloc, world, 2 * i + 1, (0, "any"))?;
+        let gone = walk(alloc, world, 2 * i + 2, (0, "any"))?;
         let wanted = format!(in alloc; "{}.0 ", 2 * i)?;
         if there.as_str() != wanted.as_str() || !gone.is_empty() {
             return Ok(Some(2 * i));
@@ -136,7 +136,7 @@ fn opened(alloc: Global) -> Result<World, TermError> {
 fn clauses_by_key(rt: HostRuntime) -> Result<(), Fail> {
     let world = opened(rt.alloc())?;
     for (key, wanted) in KEYED {
-        let found = walk(rt.alloc(), &world, JournalPlace::new(1), (1, key))?;
+        let found = walk(rt.alloc(), &world, 1, (1, key))?;
         assert!(rt; found.as_str() == wanted, "{key}");
     }
     Ok(())

@@ -1,7 +1,8 @@
 //! The journal and its requests (plworld): what is asked of a world, one thing after the other, and what it tells, with its journal at the end.
-use crate::made::{clause, indicator, named};
+use crate::made::{clause, indicator};
 use plevent::{
-    Act, Batch, Entry, JournalPlace, Key, Reply, Request, ThreadEnd, ThreadId, Update, WorkerId,
+    Act, Batch, ClauseName, Entry, JournalPlace, Key, Reply, Request, ThreadEnd, ThreadId, Update,
+    WorkerId,
 };
 use plstore::{Cursor, Found, Query};
 use plterm::error::TermError;
@@ -52,6 +53,11 @@ enum Move {
     Entries,
     Stop,
     IsStopped,
+}
+
+/// The name of a clause.
+fn named(place: u64, number: u64) -> ClauseName {
+    ClauseName { place, number }
 }
 
 /// A batch with the clause `p.` behind all others.
@@ -132,7 +138,7 @@ fn truth(is: bool) -> &'static str {
 fn found_word(alloc: Global, found: &Found) -> Result<String, AllocError> {
     let word = match found {
         Found::Next(Some(name)) => {
-            return format!(in alloc; "{}", name.place.get());
+            return format!(in alloc; "{}", name.place);
         }
         Found::Next(None) => "none",
         Found::Clause(clause) => truth(clause.is_some()),
@@ -181,7 +187,7 @@ fn act_word(act: &Act) -> &'static str {
         Act::Batch(batch) => match batch.as_slice() {
             [] => "nothing",
             [Update::Last(_)] => "a clause",
-            [Update::Erase(name)] if (name.place.get(), name.number) == (2, 0) => "an erasure",
+            [Update::Erase(name)] if (name.place, name.number) == (2, 0) => "an erasure",
             _ => "another batch",
         },
         Act::Start => "start",

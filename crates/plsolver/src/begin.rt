@@ -34,7 +34,7 @@ impl Progress {
         ensures seeks { OnOk result (SeeksAnew self.new.machine.mode) }
     {
         self.places.reserve(1)?;
-        self.take_view(program, g)?;
+        self.take_view(program, g.get())?;
         match self.places.push(g) {
             Ok(()) => Ok(()),
             Err(_) => unreachable!(),
@@ -42,7 +42,7 @@ impl Progress {
     }
 
     /// What waited for a view goes on with that of a place.
-    fn take_view(&mut self, program: &Program, g: JournalPlace) -> Result<(), AllocError>
+    fn take_view(&mut self, program: &Program, g: u64) -> Result<(), AllocError>
         requires of { IsOf program.now self.old.machine }
         requires waits { WaitsForView self.old }
         requires latest { latest_view self.old ≤ g }
@@ -70,12 +70,7 @@ impl Progress {
     }
 
     /// A look-up goes on in the view of a place.
-    fn look_in(
-        &mut self,
-        program: &Program,
-        lookup: Lookup,
-        g: JournalPlace,
-    ) -> Result<(), AllocError>
+    fn look_in(&mut self, program: &Program, lookup: Lookup, g: u64) -> Result<(), AllocError>
         requires of { IsOf program.now self.old.machine }
         requires looks { Asks self.old (LookOf lookup) }
         requires latest { latest_view self.old ≤ g }

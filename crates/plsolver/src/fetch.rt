@@ -21,7 +21,7 @@ use crate::progress::Progress;
 use crate::solver::Turn;
 use plcells::cell::Cell;
 use plclause::clause::Clause;
-use plevent::{ClauseName, JournalPlace};
+use plevent::ClauseName;
 use plmachine::indicator::indicator_of;
 use plmachine::machine::{Find, Mode, SweepSpot};
 use plmachine::sought::{first_key, head_of};
@@ -109,7 +109,7 @@ impl Progress {
     }
 
     /// The place of the view in which something is asked.
-    pub(crate) fn view(&self) -> JournalPlace
+    pub(crate) fn view(&self) -> u64
         requires fetching { IsFetching self.now }
         requires of { (P : Given) × IsOf P self.now.machine }
         ensures is { (g : ℕ) (q : Asked) → Fetches self.now g q → result ≡ g }
@@ -122,7 +122,7 @@ impl Progress {
     }
 
     /// That of a walk.
-    fn walk_view(&self) -> JournalPlace
+    fn walk_view(&self) -> u64
         requires { (g : ℕ) × (q : Asked) × WalksOn self.now.machine g q }
         ensures is { (g : ℕ) (q : Asked) → WalksOn self.now.machine g q → result ≡ g }
         ensures seen { result ≤ latest_view self.now }

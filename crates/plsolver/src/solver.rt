@@ -155,7 +155,7 @@ impl Solver {
         ensures is { (g : ℕ) (q : Query) → Fetches self.now g q → result ≡ g }
         ensures seen { result ≤ latest_view self.now }
     {
-        self.progress.view()
+        JournalPlace::new(self.progress.view())
     }
 
     /// What was asked in a view, and found there. A refused growth leaves the solver as it was.

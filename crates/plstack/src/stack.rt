@@ -14,7 +14,6 @@ use crate::frame::{Frame, Handler, Resume};
 use plcells::cell::Cell;
 use plcode::program::ProgramCode;
 use plenv::env::Environment;
-use plevent::JournalPlace;
 use plhead::head::Matcher;
 use pllinks::level::Level;
 use pllinks::link::{Continuation, Link};
@@ -64,10 +63,7 @@ impl Stack {
         Ok(Stack {
             basis: Basis {
                 code,
-                latest: View {
-                    place: JournalPlace::START,
-                    count: 0,
-                },
+                latest: View { place: 0, count: 0 },
                 starts: Vec::new(alloc),
             },
             env,

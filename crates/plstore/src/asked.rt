@@ -14,12 +14,12 @@ use crate::sought::Sought;
 use crate::steps::{first_sought, sought_after};
 use crate::tables::Tables;
 use plclause::clause::Clause;
-use plevent::{ClauseName, JournalPlace};
+use plevent::ClauseName;
 use plterm::indicator::Indicator;
 
 impl Tables {
     /// Whether a clause is alive after the batches below `g`.
-    pub(crate) fn alive(&self, g: JournalPlace, name: ClauseName) -> bool
+    pub(crate) fn alive(&self, g: u64, name: ClauseName) -> bool
         requires { IsRising self.now.records.items }
         ensures { result ≡ here g name (kept_in self.now) }
     {
@@ -41,7 +41,7 @@ impl Tables {
     }
 
     /// The clause of a name, where it is alive after the batches below `g`.
-    pub(crate) fn clause_seen(&self, g: JournalPlace, name: ClauseName) -> Option<&Clause>
+    pub(crate) fn clause_seen(&self, g: u64, name: ClauseName) -> Option<&Clause>
         requires { IsRising self.now.records.items }
         ensures { option_copied result ≡ clause_seen g name (kept_in self.now) }
     {
@@ -64,7 +64,7 @@ impl Tables {
     }
 
     /// Whether some batch below `g` named the procedure.
-    pub(crate) fn exists(&self, g: JournalPlace, pred: &Indicator) -> bool
+    pub(crate) fn exists(&self, g: u64, pred: &Indicator) -> bool
         requires { Chained self.now }
         ensures { result ≡ is_there g pred.now (kept_in self.now) }
     {

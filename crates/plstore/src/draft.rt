@@ -13,7 +13,7 @@ use crate::steps::first_back;
 use crate::tables::Tables;
 use crate::trail::Traced;
 use plclause::clause::Clause;
-use plevent::{ClauseName, JournalPlace, Key, Update};
+use plevent::{ClauseName, Key, Update};
 use plterm::indicator::Indicator;
 use std::alloc::{AllocError, Global};
 use std::marker::Model;
@@ -53,7 +53,7 @@ impl Draft {
     }
 
     /// Makes an update, alone in its batch, at a place above those of all before it.
-    pub fn add(&mut self, update: &Update, place: JournalPlace) -> Result<(), AllocError>
+    pub fn add(&mut self, update: &Update, place: u64) -> Result<(), AllocError>
         requires { cut place self.old ≡ self.old }
         ensures made { OnOk result (self.new ≡ fold keep self.old (stamped place 0 (update.now ∷ []))) }
         ensures refused { OnErr result (self.new ≡ self.old) }
@@ -63,14 +63,14 @@ impl Draft {
     }
 
     /// Takes back the batches at `place` and above.
-    pub fn cut(&mut self, place: JournalPlace)
+    pub fn cut(&mut self, place: u64)
         ensures { self.new ≡ cut place self.old }
     {
         self.traced.cut(place);
     }
 
     /// Whether a clause is alive after the batches below `g`.
-    pub fn alive(&self, g: JournalPlace, name: ClauseName) -> bool
+    pub fn alive(&self, g: u64, name: ClauseName) -> bool
         ensures { result ≡ here g name self.now }
     {
         self.traced.tables.alive(g, name)
@@ -88,7 +88,7 @@ impl Draft {
     /// last, or is not among them.
     pub fn next_like(
         &self,
-        g: JournalPlace,
+        g: u64,
         pred: &Indicator,
         key: &Key,
         cursor: Cursor,
@@ -100,7 +100,7 @@ impl Draft {
     }
 
     /// The name of the first one that was put behind all others.
-    pub fn first_back(&self, g: JournalPlace, pred: &Indicator, key: &Key) -> Option<ClauseName>
+    pub fn first_back(&self, g: u64, pred: &Indicator, key: &Key) -> Option<ClauseName>
         ensures { result ≡ first_like key.now (picked (behind_all pred.now) g self.now.records) }
     {
         let sought = Sought { g, pred, key };
@@ -108,7 +108,7 @@ impl Draft {
     }
 
     /// Whether some batch below `g` named the procedure: it declared it, or made a clause of it.
-    pub fn exists(&self, g: JournalPlace, pred: &Indicator) -> bool
+    pub fn exists(&self, g: u64, pred: &Indicator) -> bool
         ensures { result ≡ is_there g pred.now self.now }
     {
         self.traced.tables.exists(g, pred)

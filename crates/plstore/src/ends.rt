@@ -5,7 +5,6 @@ ghost use Rattle.std.specs.HashMap.{get, spare};
 ghost use Rattle.plstore.specs.Links.{earlier, ends_after, ends_in, first_end, links_after, no_ends, since_below};
 ghost use Rattle.plstore.specs.Trail.{MaySet, WasEnd};
 
-use plevent::JournalPlace;
 use std::collections::HashMap;
 use std::hash::Hash;
 
@@ -13,7 +12,7 @@ use std::hash::Hash;
 /// made a clause of it.
 #[derive(Clone, Copy)]
 pub(crate) struct Ends {
-    pub(crate) since: Option<JournalPlace>,
+    pub(crate) since: Option<u64>,
     pub(crate) newest_front: Option<u32>,
     pub(crate) oldest_back: Option<u32>,
     pub(crate) newest_back: Option<u32>,
@@ -31,12 +30,12 @@ pub(crate) fn wide(number: Option<u32>) -> Option<usize>
 
 impl Ends {
     /// Whether a batch below `g` named the procedure.
-    pub(crate) fn is_since(self, g: JournalPlace) -> bool
+    pub(crate) fn is_since(self, g: u64) -> bool
         ensures { result ≡ since_below g self.since }
     {
         match self.since {
             None => false,
-            Some(place) => place.is_before(g),
+            Some(place) => place < g,
         }
     }
 
@@ -112,17 +111,17 @@ pub(crate) fn restore_ends<K: Eq + Hash + Drop>(index: &mut HashMap<K, Ends>, ke
 }
 
 /// The earlier of two places.
-pub(crate) fn earlier(since: Option<JournalPlace>, place: JournalPlace) -> Option<JournalPlace>
+pub(crate) fn earlier(since: Option<u64>, place: u64) -> Option<u64>
     ensures { result ≡ earlier since place }
 {
     match since {
-        Some(at) if at.is_before(place) => Some(at),
+        Some(at) if at < place => Some(at),
         Some(_) | None => Some(place),
     }
 }
 
 /// The ends after one more record.
-pub(crate) fn grown(ends: Ends, front: bool, number: u32, place: JournalPlace) -> Ends
+pub(crate) fn grown(ends: Ends, front: bool, number: u32, place: u64) -> Ends
     ensures { result ≡ ends_after front number place ends }
 {
     let mut made = ends;

@@ -5,7 +5,6 @@ use crate::ends::wide;
 use crate::group::short;
 use crate::links::Links;
 use crate::runs::{Place, before, passed_from};
-use plevent::JournalPlace;
 
 /// A link from a record to an older one of its side, and how many it leads over. With these one of n records is found in
 /// about log n steps.
@@ -53,13 +52,7 @@ fn leap_at(places: &[Place], number: usize) -> Leap {
 
 /// A record of a side close before another one in its walk, at `g`: where a run of erased ones begins that is passed over
 /// from there, if there is one.
-pub(crate) fn near(
-    links: &Links,
-    front: bool,
-    newest: usize,
-    number: usize,
-    g: JournalPlace,
-) -> usize {
+pub(crate) fn near(links: &Links, front: bool, newest: usize, number: usize, g: u64) -> usize {
     let above = lowest_above(links, front, newest, number);
     let close = match older(links, front, above) {
         Some(below) if !front && number < above => below,

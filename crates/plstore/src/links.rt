@@ -9,7 +9,6 @@ ghost use Rattle.plstore.specs.Trail.{HadLinks, HadRuns, IsLonger, MoreRuns, Sam
 
 use crate::ends::{Ends, ends_of, grown, link, set_ends, unlink, wide};
 use crate::runs::{Buried, Place, add_place, bury, drop_place, run_end, unbury};
-use plevent::JournalPlace;
 use std::alloc::{AllocError, Global};
 use std::collections::HashMap;
 use std::hash::Hash;
@@ -28,7 +27,7 @@ pub(crate) struct Links {
 pub(crate) struct Added {
     pub(crate) number: u32,
     pub(crate) front: bool,
-    pub(crate) place: JournalPlace,
+    pub(crate) place: u64,
 }
 
 impl Links {
@@ -75,7 +74,7 @@ impl Links {
     }
 
     /// Takes note that a record is erased by a batch at a place.
-    pub(crate) fn bury(&mut self, number: usize, place: JournalPlace) -> Buried
+    pub(crate) fn bury(&mut self, number: usize, place: u64) -> Buried
         ensures next { self.new.next ≡ self.old.next }
         ensures runs { (c : Class) (rs : List Record) → IsLinked c rs self.old.next.items → ((d : Record) → IsGone place (slice_index_or rs number d).erased) →
             HasRuns c rs self.old.places.items → HasRuns c rs self.new.places.items }
@@ -101,7 +100,7 @@ impl Links {
     }
 
     /// The same, behind the run that begins there, as far as a walk at `g` passes over it.
-    pub(crate) fn next_behind(&self, number: usize, g: JournalPlace) -> Option<usize>
+    pub(crate) fn next_behind(&self, number: usize, g: u64) -> Option<usize>
         requires within { number < length self.now.places.items }
         requires end { end_at g number (slice_index_or self.now.places.items number no_place).run < length self.now.next.items }
         ensures { result ≡ slice_index_or self.now.next.items (end_at g number (slice_index_or self.now.places.items number no_place).run) None }

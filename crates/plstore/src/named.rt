@@ -100,5 +100,5 @@ impl Aim {
 fn precedes(x: ClauseName, y: ClauseName) -> bool
     ensures { result ≡ less x y }
 {
-    x.place.is_before(y.place) || x.place == y.place && x.number < y.number
+    x.place < y.place || x.place == y.place && x.number < y.number
 }

@@ -8,7 +8,7 @@ ghost use Rattle.plevent.specs.Alive.{add_if, is_of};
 ghost use Rattle.plstore.specs.Kept.{seen, not_below};
 
 use plclause::clause::Clause;
-use plevent::{ClauseName, JournalPlace};
+use plevent::ClauseName;
 use plterm::indicator::Indicator;
 use plterm::term::Term;
 use plterm::walk::{Shape, Terms};
@@ -20,14 +20,14 @@ pub struct Record {
     pub clause: Clause,
     /// Whether it was put before all others.
     pub front: bool,
-    pub erased: Option<JournalPlace>,
+    pub erased: Option<u64>,
 }
 
 /// A procedure that was declared, and where.
 #[derive(Drop)]
 pub struct Declared {
     pub pred: Indicator,
-    pub place: JournalPlace,
+    pub place: u64,
 }
 
 /// Before the first clause of a walk, or behind one of its clauses.
@@ -39,14 +39,14 @@ pub enum Cursor {
 
 impl Record {
     /// Whether it is made, and not erased, by the batches below `g`.
-    pub fn is_seen(&self, g: JournalPlace) -> bool
+    pub fn is_seen(&self, g: u64) -> bool
         ensures { result ≡ seen g self.now }
     {
-        self.name.place.is_before(g) && self.is_kept(g)
+        self.name.place < g && self.is_kept(g)
     }
 
     /// Its clause, where it is made, and not erased, by the batches below `g`.
-    pub(crate) fn clause_at(&self, g: JournalPlace) -> Option<&Clause>
+    pub(crate) fn clause_at(&self, g: u64) -> Option<&Clause>
         ensures { option_copied result ≡ add_if (seen g self.now) (Some self.now.clause) None }
     {
         if self.is_seen(g) {
@@ -57,12 +57,12 @@ impl Record {
     }
 
     /// Whether no batch below `g` erased it.
-    fn is_kept(&self, g: JournalPlace) -> bool
+    fn is_kept(&self, g: u64) -> bool
         ensures { result ≡ not_below g self.now.erased }
     {
         match self.erased {
             None => true,
-            Some(place) => !place.is_before(g),
+            Some(place) => g <= place,
         }
     }
 }

@@ -10,14 +10,13 @@ ghost use Rattle.plstore.specs.Trail.{HadRun, HadRuns, MoreRuns, OneRun, WasRun}
 use crate::ends::Ends;
 use crate::group::{Group, United, alone, first_of, separate, short, unite};
 use crate::leap::{Leap, leap_over};
-use plevent::JournalPlace;
 
 /// Erased records of one side of a class that follow one another: from one on up to `last`, each erased by a batch at
 /// `latest` or below.
 #[derive(Clone, Copy)]
 pub(crate) struct Run {
     pub(crate) last: usize,
-    pub(crate) latest: JournalPlace,
+    pub(crate) latest: u64,
 }
 
 /// What is kept of a record beside its link.
@@ -54,21 +53,21 @@ pub(crate) struct Buried {
 }
 
 /// The last record of the run that begins here, as far as a walk at `g` passes over it; else this record.
-pub(crate) fn run_end(places: &[Place], number: usize, g: JournalPlace) -> usize
+pub(crate) fn run_end(places: &[Place], number: usize, g: u64) -> usize
     requires { number < length places.now }
     ensures { result ≡ end_at g number (slice_index_or places.now number no_place).run }
 {
     match places[number].run {
-        Some(run) if run.latest.is_before(g) => run.last,
+        Some(run) if run.latest < g => run.last,
         Some(_) | None => number,
     }
 }
 
 /// The first record of the run that this one is in, where a walk at `g` passes over that; else this record.
-pub(crate) fn passed_from(places: &[Place], number: usize, g: JournalPlace) -> usize {
+pub(crate) fn passed_from(places: &[Place], number: usize, g: u64) -> usize {
     let first = first_of(places, number);
     match run_at(places, first) {
-        Some(run) if run.latest.is_before(g) => first,
+        Some(run) if run.latest < g => first,
         Some(_) | None => number,
     }
 }
@@ -78,7 +77,7 @@ pub(crate) fn bury(
     places: &mut Vec<Place>,
     next: &[Option<u32>],
     number: usize,
-    place: JournalPlace,
+    place: u64,
 ) -> Buried
     ensures runs { (c : Class) (rs : List Record) → IsLinked c rs next.now → ((d : Record) → IsGone place (slice_index_or rs number d).erased) → HasRuns c rs places.old.items → HasRuns c rs places.new.items }
     ensures noted { HadRuns result places.old.items places.new.items }
@@ -88,7 +87,7 @@ pub(crate) fn bury(
     bury_in(places.as_mut_slice(), next, number, place)
 }
 
-fn bury_in(places: &mut [Place], next: &[Option<u32>], number: usize, place: JournalPlace) -> Buried
+fn bury_in(places: &mut [Place], next: &[Option<u32>], number: usize, place: u64) -> Buried
     ensures runs { (c : Class) (rs : List Record) → IsLinked c rs next.now → ((d : Record) → IsGone place (slice_index_or rs number d).erased) → HasRuns c rs places.old → HasRuns c rs places.new }
     ensures noted { HadRuns result places.old places.new }
     ensures len { length places.new ≡ length places.old }
@@ -163,11 +162,11 @@ fn run_behind(places: &[Place], next: &[Option<u32>], number: usize) -> Option<R
     }
 }
 
-fn later(a: JournalPlace, b: JournalPlace) -> JournalPlace
+fn later(a: u64, b: u64) -> u64
     ensures left { a ≤ result }
     ensures right { b ≤ result }
 {
-    if a.is_before(b) { b } else { a }
+    if a < b { b } else { a }
 }
 
 /// Notes a run at its first record, and joins the groups of that and of its last one.

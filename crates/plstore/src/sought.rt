@@ -5,13 +5,13 @@ ghost use Rattle.plstore.specs.Kept.{seen};
 ghost use Rattle.plstore.specs.Like.{is_met};
 
 use crate::record::Record;
-use plevent::{JournalPlace, Key};
+use plevent::Key;
 use plterm::indicator::Indicator;
 
 /// The clauses of a procedure that are alive after the batches below `g` and may be for a goal of a key.
 #[derive(Drop)]
 pub(crate) struct Sought<'a> {
-    pub(crate) g: JournalPlace,
+    pub(crate) g: u64,
     pub(crate) pred: &'a Indicator,
     pub(crate) key: &'a Key,
 }

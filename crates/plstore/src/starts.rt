@@ -1,5 +1,5 @@
 //! Starts: where the records of a place stand. Nothing but time depends on them.
-use plevent::{ClauseName, JournalPlace};
+use plevent::ClauseName;
 use std::alloc::Global;
 
 /// How many places one number is kept for.
@@ -14,7 +14,7 @@ const SPARE: usize = 1024;
 pub(crate) struct Starts {
     numbers: Vec<usize>,
     /// The place of the last record.
-    last: JournalPlace,
+    last: u64,
     /// How many updates of the first batch made no record before the last one that did: most declare, and stand first.
     bare: usize,
 }
@@ -23,7 +23,7 @@ impl Starts {
     pub(crate) fn new(alloc: Global) -> Starts {
         Starts {
             numbers: Vec::new(alloc),
-            last: JournalPlace::START,
+            last: 0,
             bare: 0,
         }
     }
@@ -32,7 +32,7 @@ impl Starts {
     /// memory for it, or the places are far more than the records.
     pub(crate) fn note(&mut self, name: ClauseName, number: usize) {
         self.last = name.place;
-        if name.place.get() == 0 {
+        if name.place == 0 {
             self.bare = (name.number as usize).wrapping_sub(number);
         }
         let spans = spans_to(name.place);
@@ -47,14 +47,14 @@ impl Starts {
     }
 
     /// Forgets the spans that begin above a place, which is that of the last record now.
-    pub(crate) fn forget_above(&mut self, place: JournalPlace) {
+    pub(crate) fn forget_above(&mut self, place: u64) {
         self.last = place;
         self.numbers.truncate(spans_to(place));
     }
 
     /// Where the record of a name may stand among so many: the last ones are of the last place.
     pub(crate) fn guess(&self, name: ClauseName, count: usize) -> usize {
-        match name.place.get().checked_sub(1) {
+        match name.place.checked_sub(1) {
             None => (name.number as usize).wrapping_sub(self.bare),
             Some(_) if name.place == self.last => count.wrapping_sub(1),
             Some(before) => self
@@ -81,6 +81,6 @@ impl Starts {
 }
 
 /// How many spans begin at a place or below.
-fn spans_to(place: JournalPlace) -> usize {
-    place.get().div_ceil(SPAN) as usize
+fn spans_to(place: u64) -> usize {
+    place.div_ceil(SPAN) as usize
 }

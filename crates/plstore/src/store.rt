@@ -13,7 +13,7 @@ use crate::record::{Cursor, Declared, Record};
 use crate::sought::Sought;
 use crate::tables::{Tables, erase, make, make_all, reserve};
 use plclause::clause::Clause;
-use plevent::{Batch, ClauseName, JournalPlace, Key, Update};
+use plevent::{Batch, ClauseName, Key, Update};
 use plterm::indicator::Indicator;
 use std::alloc::{AllocError, Global};
 use std::marker::Model;
@@ -49,12 +49,7 @@ impl Store {
     }
 
     /// Makes the updates of a batch, whose place is above those of all batches before it.
-    pub fn apply(
-        &mut self,
-        alloc: Global,
-        batch: &Batch,
-        place: JournalPlace,
-    ) -> Result<(), AllocError>
+    pub fn apply(&mut self, alloc: Global, batch: &Batch, place: u64) -> Result<(), AllocError>
         requires { AllBelowPlace place self.old.records }
         ensures made { OnOk result (self.new ≡ fold keep self.old (stamped place 0 batch.now)) }
         ensures refused { OnErr result (self.new ≡ self.old) }
@@ -70,7 +65,7 @@ impl Store {
     }
 
     /// Makes an update that is alone in its batch. An erasure takes no memory.
-    fn make_one(&mut self, update: &Update, place: JournalPlace) -> Result<(), AllocError>
+    fn make_one(&mut self, update: &Update, place: u64) -> Result<(), AllocError>
         requires { AllBelowPlace place self.old.records }
         ensures made { OnOk result (self.new ≡ keep self.old (record { at = named place 0; update = update.now })) }
         ensures refused { OnErr result (self.new ≡ self.old) }
@@ -86,7 +81,7 @@ impl Store {
     }
 
     /// Whether a clause is alive after the batches below `g`.
-    pub fn alive(&self, g: JournalPlace, name: ClauseName) -> bool
+    pub fn alive(&self, g: u64, name: ClauseName) -> bool
         ensures { result ≡ here g name self.now }
     {
         self.tables.alive(g, name)
@@ -101,12 +96,7 @@ impl Store {
 
     /// The name of the first clause of a procedure that is alive after the batches below `g`, or of the one behind that
     /// at the cursor; none where that one is the last, or is not among them.
-    pub fn next_visible(
-        &self,
-        g: JournalPlace,
-        pred: &Indicator,
-        cursor: Cursor,
-    ) -> Option<ClauseName>
+    pub fn next_visible(&self, g: u64, pred: &Indicator, cursor: Cursor) -> Option<ClauseName>
         ensures { result ≡ next_of cursor (names_of (walk g pred.now self.now.records)) }
     {
         self.next_like(g, pred, &Key::Any, cursor)
@@ -116,7 +106,7 @@ impl Store {
     /// over. The cursor may stand at any clause of the walk.
     pub fn next_like(
         &self,
-        g: JournalPlace,
+        g: u64,
         pred: &Indicator,
         key: &Key,
         cursor: Cursor,
@@ -128,14 +118,14 @@ impl Store {
     }
 
     /// Whether some batch below `g` named the procedure: it declared it, or made a clause of it.
-    pub fn exists(&self, g: JournalPlace, pred: &Indicator) -> bool
+    pub fn exists(&self, g: u64, pred: &Indicator) -> bool
         ensures { result ≡ is_there g pred.now self.now }
     {
         self.tables.exists(g, pred)
     }
 
     /// What a query finds in the database after the batches below `g`.
-    pub fn look(&self, g: JournalPlace, query: &Query) -> Result<Found, AllocError>
+    pub fn look(&self, g: u64, query: &Query) -> Result<Found, AllocError>
         ensures { IfOk result (λ f. f ≡ found_in g query.now self.now) }
     {
         match query {
@@ -163,7 +153,7 @@ impl Store {
     }
 
     /// The clause of a name, where it is alive after the batches below `g`.
-    fn clause_seen(&self, g: JournalPlace, name: ClauseName) -> Result<Option<Clause>, AllocError>
+    fn clause_seen(&self, g: u64, name: ClauseName) -> Result<Option<Clause>, AllocError>
         ensures { IfOk result (λ c. c ≡ clause_seen g name self.now) }
     {
         match self.tables.clause_seen(g, name) {

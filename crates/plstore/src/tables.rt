@@ -26,7 +26,7 @@ use crate::runs::Buried;
 use crate::slot::Slots;
 use crate::starts::Starts;
 use plclause::clause::Clause;
-use plevent::{ClauseName, JournalPlace};
+use plevent::ClauseName;
 use plterm::indicator::Indicator;
 use std::alloc::{AllocError, Global};
 use std::collections::HashMap;
@@ -122,7 +122,7 @@ pub(crate) fn reserve(tables: &mut Tables, count: usize) -> Result<(), AllocErro
 }
 
 /// Makes the updates of a batch, for which there is room.
-pub(crate) fn make_all(tables: &mut Tables, plan: Vec<Planned>, place: JournalPlace)
+pub(crate) fn make_all(tables: &mut Tables, plan: Vec<Planned>, place: u64)
     requires room { HasRoom (vec_len plan) tables.old }
     requires planned { AllPlanned plan.items }
     requires order { InOrder (named place 0) tables.old.records.items }
@@ -231,20 +231,15 @@ pub(crate) fn unput(tables: &mut Tables, key: Indicator, linked: &Linked)
 }
 
 /// The place of the last record.
-fn last_place(records: &[Record]) -> JournalPlace {
+fn last_place(records: &[Record]) -> u64 {
     match records.last() {
-        None => JournalPlace::START,
+        None => 0,
         Some(last) => last.name.place,
     }
 }
 
 /// Appends a declaration, for which there is room. Answers the ends of the procedure before.
-pub(crate) fn declare(
-    tables: &mut Tables,
-    pred: Indicator,
-    key: Indicator,
-    place: JournalPlace,
-) -> Ends
+pub(crate) fn declare(tables: &mut Tables, pred: Indicator, key: Indicator, place: u64) -> Ends
     requires room { HasRoom 1 tables.old }
     requires key { key ≡ pred }
     requires chained { Chained tables.old }
@@ -275,7 +270,7 @@ pub(crate) fn undeclare(tables: &mut Tables, key: Indicator, ends: Ends)
 }
 
 /// Marks the clause of a name as erased, if there is one and it is not. Answers what that changed.
-pub(crate) fn erase(tables: &mut Tables, of: ClauseName, place: JournalPlace) -> Option<Erasure>
+pub(crate) fn erase(tables: &mut Tables, of: ClauseName, place: u64) -> Option<Erasure>
     requires rising { IsRising tables.old.records.items }
     requires chained { Chained tables.old }
     ensures erased { tables.new.records.items ≡ changed_where (is_named of) (erase_at place) tables.old.records.items }
@@ -313,7 +308,7 @@ fn erase_record(
     records: &mut Vec<Record>,
     starts: &Starts,
     of: ClauseName,
-    place: JournalPlace,
+    place: u64,
 ) -> Option<usize>
     requires { IsRising records.old.items }
     ensures erased { records.new.items ≡ changed_where (is_named of) (erase_at place) records.old.items }
@@ -326,12 +321,7 @@ fn erase_record(
     erase_in(records.as_mut_slice(), starts, of, place)
 }
 
-fn erase_in(
-    records: &mut [Record],
-    starts: &Starts,
-    of: ClauseName,
-    place: JournalPlace,
-) -> Option<usize>
+fn erase_in(records: &mut [Record], starts: &Starts, of: ClauseName, place: u64) -> Option<usize>
     requires { IsRising records.old }
     ensures erased { records.new ≡ changed_where (is_named of) (erase_at place) records.old }
     ensures within { IfSome result (λ i. i < length records.old) }
@@ -348,7 +338,7 @@ fn erase_in(
 }
 
 /// The number of a record that was not erased before.
-fn fresh(was: Option<JournalPlace>, number: usize) -> Option<usize>
+fn fresh(was: Option<u64>, number: usize) -> Option<usize>
     ensures some { (i : ℕ) → result ≡ Some i → (was ≡ None) × (i ≡ number) }
     ensures none { result ≡ None → was ≢ None }
 {
@@ -359,7 +349,7 @@ fn fresh(was: Option<JournalPlace>, number: usize) -> Option<usize>
 }
 
 /// The first erasure counts.
-fn first(erased: Option<JournalPlace>, place: JournalPlace) -> Option<JournalPlace>
+fn first(erased: Option<u64>, place: u64) -> Option<u64>
     ensures { result ≡ first_of erased place }
 {
     match erased {

@@ -18,7 +18,7 @@ use crate::tables::{
     Erasure, Linked, Tables, declare, erase, put, reserve, revive, undeclare, unput,
 };
 use plclause::clause::Clause;
-use plevent::{ClauseName, JournalPlace};
+use plevent::ClauseName;
 use plterm::indicator::Indicator;
 use std::alloc::AllocError;
 
@@ -36,7 +36,7 @@ pub(crate) enum Change {
 /// A change, and the place of its batch.
 #[derive(Drop)]
 pub(crate) struct Step {
-    pub(crate) place: JournalPlace,
+    pub(crate) place: u64,
     pub(crate) change: Change,
 }
 
@@ -49,7 +49,7 @@ pub(crate) struct Traced {
 
 impl Traced {
     /// Makes an update, alone in its batch, whose place is above all before.
-    pub(crate) fn add(&mut self, planned: Planned, place: JournalPlace) -> Result<(), AllocError>
+    pub(crate) fn add(&mut self, planned: Planned, place: u64) -> Result<(), AllocError>
         requires planned { IsPlanned planned }
         requires above { cut place (kept_in self.old.tables) ≡ kept_in self.old.tables }
         requires traced { IsTraced self.old }
@@ -70,7 +70,7 @@ impl Traced {
         clause: Clause,
         pred: Indicator,
         front: bool,
-        place: JournalPlace,
+        place: u64,
     ) -> Result<(), AllocError>
         requires pred { pred ≡ indicator clause.head }
         requires above { cut place (kept_in self.old.tables) ≡ kept_in self.old.tables }
@@ -92,7 +92,7 @@ impl Traced {
         Ok(())
     }
 
-    fn erase(&mut self, of: ClauseName, place: JournalPlace) -> Result<(), AllocError>
+    fn erase(&mut self, of: ClauseName, place: u64) -> Result<(), AllocError>
         requires above { cut place (kept_in self.old.tables) ≡ kept_in self.old.tables }
         requires traced { IsTraced self.old }
         ensures made { OnOk result (kept_in self.new.tables ≡ keep (kept_in self.old.tables) (record { at = named place 0; update = Erase of })) }
@@ -109,12 +109,7 @@ impl Traced {
         }
     }
 
-    fn declare(
-        &mut self,
-        pred: Indicator,
-        key: Indicator,
-        place: JournalPlace,
-    ) -> Result<(), AllocError>
+    fn declare(&mut self, pred: Indicator, key: Indicator, place: u64) -> Result<(), AllocError>
         requires key { key ≡ pred }
         requires above { cut place (kept_in self.old.tables) ≡ kept_in self.old.tables }
         requires traced { IsTraced self.old }
@@ -143,7 +138,7 @@ impl Traced {
     }
 
     /// Notes a step, for which there is room.
-    fn note(&mut self, place: JournalPlace, change: Change)
+    fn note(&mut self, place: u64, change: Change)
         requires { vec_len self.old.trail < vec_capacity self.old.trail }
         ensures tables { self.new.tables ≡ self.old.tables }
         ensures trail { self.new.trail.items ≡ self.old.trail.items ++ record { place = place; change = change } ∷ [] }
@@ -155,7 +150,7 @@ impl Traced {
     }
 
     /// Takes back the updates of the batches at `place` and above.
-    pub(crate) fn cut(&mut self, place: JournalPlace)
+    pub(crate) fn cut(&mut self, place: u64)
         requires traced { IsTraced self.old }
         ensures kept { kept_in self.new.tables ≡ cut place (kept_in self.old.tables) }
         ensures traced { IsTraced self.new }
@@ -166,12 +161,12 @@ impl Traced {
     }
 
     /// Takes the last step, where its place is at `place` or above.
-    fn last_from(&mut self, place: JournalPlace) -> Option<Step>
+    fn last_from(&mut self, place: u64) -> Option<Step>
         ensures tables { self.new.tables ≡ self.old.tables }
         ensures last { IfSome result (λ s. (place ≤ s.place) × (self.old.trail.items ≡ self.new.trail.items ++ s ∷ [])) }
         ensures below { IfNone result (IsBelowPlace place (reverse self.old.trail.items) × (self.new.trail.items ≡ self.old.trail.items)) }
     {
-        if self.trail.last()?.place.is_before(place) {
+        if self.trail.last()?.place < place {
             return None;
         }
         self.trail.pop()

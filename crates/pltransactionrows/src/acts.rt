@@ -88,7 +88,7 @@ fn term_of(alloc: Global, update: &Update, from: u64) -> Result<Term, TermError>
 }
 
 fn erase(alloc: Global, name: &ClauseName) -> Result<Term, TermError> {
-    let place = count(alloc, name.place.get())?;
+    let place = count(alloc, name.place)?;
     let number = count(alloc, name.number)?;
     two(alloc, "erase", place, number)
 }

@@ -20,7 +20,7 @@ use crate::own::OwnCursor;
 use crate::sides::is_first;
 use crate::target::{Erasure, Target};
 use plclause::clause::Clause;
-use plevent::{Batch, ClauseName, JournalPlace, Key, Update};
+use plevent::{Batch, ClauseName, Key, Update};
 use plstore::{Cursor, Draft};
 use plterm::indicator::Indicator;
 use std::alloc::{AllocError, Global};
@@ -32,7 +32,7 @@ use std::mem::replace;
 pub(crate) struct Overlay {
     pub(crate) alloc: Global,
     /// The place of the journal that the outermost transaction began at.
-    pub(crate) base: JournalPlace,
+    pub(crate) base: u64,
     pub(crate) updates: Vec<Update>,
     /// The open levels, the innermost last.
     pub(crate) levels: Vec<Level>,
@@ -51,7 +51,7 @@ impl Overlay {
     {
         Overlay {
             alloc,
-            base: JournalPlace::START,
+            base: 0,
             updates: Vec::new(alloc),
             levels: Vec::new(alloc),
             draft: Draft::new(alloc),
@@ -61,7 +61,7 @@ impl Overlay {
     }
 
     /// Begins a transaction or a snapshot. The base counts for the outermost one alone.
-    pub(crate) fn begin(&mut self, kind: Isolation, base: JournalPlace) -> Result<(), AllocError>
+    pub(crate) fn begin(&mut self, kind: Isolation, base: u64) -> Result<(), AllocError>
         requires { IsOverlay self.old }
         ensures begun { OnOk result (state_of self.new ≡ begun kind base (state_of self.old)) }
         ensures refused { OnErr result (state_of self.new ≡ state_of self.old) }
@@ -87,7 +87,7 @@ impl Overlay {
     {
         let number = self.updates.len() as u64;
         self.updates.reserve(1)?;
-        self.draft.add(&update, JournalPlace::new(number))?;
+        self.draft.add(&update, number)?;
         let is_front = is_first(&update);
         append(&mut self.updates, update);
         self.before_fronts = before_fronts(self.before_fronts, self.updates.len(), is_front);
@@ -159,7 +159,7 @@ impl Overlay {
         ensures closed { state_of self.new ≡ nothing }
         ensures kept { IsOverlay self.new }
     {
-        self.base = JournalPlace::START;
+        self.base = 0;
         self.before_fronts = 0;
         self.marks = HashMap::new(self.alloc);
         self.draft = Draft::new(self.alloc);
@@ -196,7 +196,7 @@ impl Overlay {
             return;
         }
         unmark(&mut self.marks, &self.updates.as_slice()[start..]);
-        self.draft.cut(JournalPlace::new(start as u64));
+        self.draft.cut(start as u64);
         self.updates.truncate(start);
         self.before_fronts = lower(self.before_fronts, start);
     }
@@ -214,11 +214,8 @@ impl Overlay {
         requires { IsTracked self.now }
         ensures { (b : ℕ) → AllErasedApart b (take m self.now.updates.items) → option_map (named b) result ≡ next_like_of key.now (cursor_at b cursor) (living (own_batch b m self.now.updates.items) pred.now) }
     {
-        match self
-            .draft
-            .next_like(JournalPlace::new(m), pred, key, in_draft(cursor))
-        {
-            Some(name) => Some(name.place.get()),
+        match self.draft.next_like(m, pred, key, in_draft(cursor)) {
+            Some(name) => Some(name.place),
             None => None,
         }
     }
@@ -229,7 +226,7 @@ impl Overlay {
         ensures { (b : ℕ) → AllErasedApart b (take m self.now.updates.items) → option_copied result ≡ clause_alive (named b number) (own_batch b m self.now.updates.items) }
     {
         let name = draft_name(number);
-        if self.draft.alive(JournalPlace::new(m), name) {
+        if self.draft.alive(m, name) {
             return self.draft.clause(name);
         }
         None
@@ -240,7 +237,7 @@ impl Overlay {
         requires { IsTracked self.now }
         ensures { (b : ℕ) → result ≡ exists (own_batch b m self.now.updates.items) pred.now }
     {
-        self.draft.exists(JournalPlace::new(m), pred)
+        self.draft.exists(m, pred)
     }
 
     /// Whether one of the first `m` updates erased a clause.
@@ -270,7 +267,7 @@ fn draft_name(number: u64) -> ClauseName
     ensures { result ≡ named number 0 }
 {
     ClauseName {
-        place: JournalPlace::new(number),
+        place: number,
         number: 0,
     }
 }
@@ -326,7 +323,7 @@ fn erase_in(draft: &mut Draft, target: &Target, number: u64) -> Result<(), Alloc
         Target::Committed(_) => return Ok(()),
         Target::Own(own) => {
             let name = draft_name(*own);
-            return draft.add(&Update::Erase(name), JournalPlace::new(number));
+            return draft.add(&Update::Erase(name), number);
         }
     }
 }

@@ -10,7 +10,7 @@ ghost use Rattle.pltx.specs.Walks.{cursor_at, is_first, own_backs, own_batch, ow
 
 use crate::overlay::Overlay;
 use crate::own::OwnCursor;
-use plevent::{JournalPlace, Key, Update};
+use plevent::{Key, Update};
 use plterm::indicator::Indicator;
 
 impl Overlay {
@@ -58,8 +58,8 @@ impl Overlay {
         requires { IsTracked self.now }
         ensures { (b : ℕ) → AllErasedApart b (take m self.now.updates.items) → option_map (named b) result ≡ first_like key.now (own_backs (own_batch b m self.now.updates.items) pred.now) }
     {
-        match self.draft.first_back(JournalPlace::new(m), pred, key) {
-            Some(name) => Some(name.place.get()),
+        match self.draft.first_back(m, pred, key) {
+            Some(name) => Some(name.place),
             None => None,
         }
     }

@@ -7,14 +7,14 @@ ghost use Rattle.pltx.specs.declared.target.Target.TheVariants.{Committed};
 ghost use Rattle.plviews.specs.Views.{sight, whole, IsAsks, IsBase, IsTold, IsUntouched};
 
 use plclause::clause::Clause;
-use plevent::{ClauseName, JournalPlace};
+use plevent::ClauseName;
 use plterm::indicator::Indicator;
 use pltx::{Own, Target};
 
 /// The batches of the journal below a place, and then the first `count` own updates as one last batch, at that place.
 #[derive(Clone, Copy)]
 pub struct View {
-    pub place: JournalPlace,
+    pub place: u64,
     pub count: u64,
 }
 
