@@ -174,7 +174,7 @@ steps_on P s t new of a b = record {
 pub selected-goal : (s : Reached) (x : Selected) → IsSelected s x → (k : ℕ) × (t : Tree) × (rest : List Element) × (goals_of s.stack s.stack.goals ≡ Goal k t ∷ rest)
 selected-goal s (goals.Both next) is = (is.1.level, of_two (codes ",") is.1.left is.1.right, is.1.rest, is.1.goals)
 selected-goal s (goals.Step r x rest) is = (r.level, bind (over s.stack.env r.base) is.1.goal, goals_of s.stack rest, is.1.goals)
-selected-goal s (goals.Goal g) is = (g.level, value s.stack.env.heap g.value, goals_of s.stack g.rest, is.1.goals)
+selected-goal s (goals.Goal k v rest) is = (k, value s.stack.env.heap v, goals_of s.stack rest, is.1.goals)
 
 -- the row of the goal that stands first
 pub selects-row : (P : Program) (s new : Reached) (k : ℕ) (t : Tree) (rest : List Element) → goals_of s.stack s.stack.goals ≡ Goal k t ∷ rest →

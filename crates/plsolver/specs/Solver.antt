@@ -178,7 +178,7 @@ pub record TakesView (P : Program) (old new : Progress) (g : ℕ) : Type 0 where
 abbrev pub first_of : Selected → First
 first_of (goals.Both next) = firsts.Both next
 first_of (goals.Step r x rest) = firsts.Step r x rest
-first_of (goals.Goal g) = firsts.Goal g.level g.value g.rest
+first_of (goals.Goal k v rest) = firsts.Goal k v rest
 
 -- it stands first in the visited list
 abbrev pub IsSelected : Reached → Selected → Type 0

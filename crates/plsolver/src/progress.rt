@@ -1,6 +1,6 @@
 //! How far a search has come, and how it goes on.
 
-ghost use Rattle.std.specs.Prelude.{◌≡◌, ◌+◌, ◌≤◌, [], IfOk, OnOk, OnErr};
+ghost use Rattle.std.specs.Prelude.{◌≡◌, ◌+◌, ◌<◌, ◌≤◌, [], IfOk, OnOk, OnErr};
 ghost use Rattle.plprogram.specs.Program.{Program as Given};
 ghost use Rattle.plstack.specs.State.{walks_in, EndsWalks};
 ghost use Rattle.plstore.specs.Looking.{Views};
@@ -43,16 +43,8 @@ pub enum Selected {
     Both(Continuation),
     /// Any other goal of a clause's body: the run that begins with it, its step, and the list behind it.
     Step(Run, Step, Continuation),
-    /// A goal that is a term.
-    Goal(TermGoal),
-}
-
-/// A goal that is a term: its cut level, its value, and the list behind it.
-#[derive(Clone, Copy)]
-pub struct TermGoal {
-    pub level: Level,
-    pub value: Cell,
-    pub rest: Continuation,
+    /// A goal that is a term: its cut level, its value, and the list behind it.
+    Goal(Level, Cell, Continuation),
 }
 
 /// What is due.
@@ -112,7 +104,7 @@ impl Progress {
         ensures walks { AdvancesInPart program.now self.old self.new }
         ensures advances { IfOk result (λ turn. AdvancesTo program.now self.old self.new) }
     {
-        let mut left = fuel;
+        let until = self.steps_with(fuel);
         loop {
             let due = self.settle(program)?;
             let selected = match due {
@@ -120,14 +112,29 @@ impl Progress {
                 Due::Paused(pause) => return self.told(program, pause),
             };
             // (a type that stands deep in a variable's is known to the borrow checker's plan of a loop where a variable has it)
-            if let Selected::Goal(goal) = &selected {
-                let _value: Cell = goal.value;
+            if let Selected::Goal(_, value, _) = &selected {
+                let _value: Cell = *value;
             }
-            if left == 0 {
+            if self.used == until {
                 return Ok(Turn::Slice);
             }
             self.step(program, selected)?;
-            left -= 1;
+        }
+    }
+
+    /// How many steps there are once so much fuel is used, or all that may be taken.
+    fn steps_with(&self, fuel: u64) -> u64
+        requires within { self.now.used ≤ self.now.limit }
+        ensures from { self.now.used ≤ result }
+        ensures within { result ≤ self.now.limit }
+        ensures few { result ≤ self.now.used + fuel }
+        ensures all { result < self.now.limit → result ≡ self.now.used + fuel }
+    {
+        let room = self.limit - self.used;
+        if fuel < room {
+            self.used + fuel
+        } else {
+            self.limit
         }
     }
 
@@ -178,9 +185,7 @@ impl Progress {
                 Ok(())
             }
             Selected::Step(run, step, rest) => self.machine.step(program, *run, *step, *rest),
-            Selected::Goal(goal) => self
-                .machine
-                .term(program, goal.level, goal.value, goal.rest),
+            Selected::Goal(level, goal, rest) => self.machine.term(program, *level, *goal, *rest),
         }
     }
 

@@ -41,7 +41,7 @@ impl Progress {
         ensures err { OnErr result (Stays program.now self.old self.new) }
         ensures walks { EndsWalks self.old.machine.stack self.new.machine.stack }
     {
-        let head = self.head_at(&at);
+        let head = self.head_at(at);
         let heap = self.machine.stack.env().heap();
         let p = indicator_of(self.machine.alloc, heap, &head)?;
         let clauses = program.clauses_of(&p);

@@ -16,7 +16,7 @@ ghost use Rattle.plmachine.specs.Machine.{depth_of, IsBegun, IsPlain, IsTied};
 ghost use Rattle.plsolver.specs.Asking.{Further};
 ghost use Rattle.plsolver.specs.Solver.{IsOf, Keeps, Stays, Quiet, PausesAt, Settled, IsBack, IsSelected, HasChoice, throws_to, Collects};
 
-use crate::progress::{Due, Pause, Progress, Selected, TermGoal};
+use crate::progress::{Due, Pause, Progress, Selected};
 use plcells::cell::Cell;
 use pllinks::item::MarkerKind;
 use pllinks::level::Level;
@@ -68,7 +68,7 @@ impl Progress {
             }
             First::Both(next) => Selected::Both(next),
             First::Step(run, step, rest) => Selected::Step(run, step, rest),
-            First::Goal(level, value, rest) => Selected::Goal(TermGoal { level, value, rest }),
+            First::Goal(level, v, rest) => Selected::Goal(level, v, rest),
         };
         Ok(self.due(selected))
     }

@@ -15,9 +15,9 @@ pub told-requires-clause-due : goal.told-requires-clause-due
 unfolding Settled
 told-requires-clause-due c = rw c.in-Paused.is at c.in_ok-due.ensures.due
 
-pub returns-then-left-eq0-clause-says : goal.returns-then-left-eq0-clause-says
+pub returns-then-used-eq-until-clause-says : goal.returns-then-used-eq-until-clause-says
 unfolding Says
-returns-then-left-eq0-clause-says c = (c.in-Goal.selected, rw c.in-Goal.is at c.in_ok-due.ensures.due)
+returns-then-used-eq-until-clause-says c = (c.in-Goal.selected, rw c.in-Goal.is at c.in_ok-due.ensures.due)
 
 pub step-requires-clause-goal : goal.step-requires-clause-goal
 unfolding Settled
@@ -40,7 +40,7 @@ loop-due-preserved c =
     record {
       goes = goes_on P s t c.step.new.self (c.settle.ensures.limit ∙ i.limit) (goes_on P s c.loop-due.self t i.limit i.goes c.settle.ensures.goes) step.goes;
       of = c.step.ensures.of;
-      used = omega (arith, step.used, c.settle.ensures.used, i.used, c.if-left-eq0.false);
+      used = omega (arith, step.used, c.settle.ensures.used, i.used, c.if-used-eq-until.false);
       within = omega (arith, step.used, more, c.settle.ensures.limit, i.limit);
       limit = step.limit ∙ c.settle.ensures.limit ∙ i.limit;
       places = step.places ∙ c.settle.ensures.places ∙ i.places;
@@ -57,8 +57,8 @@ in_part P s mid t far used walks = record { reached = mid; advances = far; used 
 pub returns-in_err-due-clause-walks : goal.returns-in_err-due-clause-walks
 returns-in_err-due-clause-walks c = in_part c.args.program.now c.args.self.now c.loop-due.self c.settle.new.self c.loop-due.invariant.advances c.settle.ensures.used c.settle.ensures.walks
 
-pub returns-then-left-eq0-clause-walks : goal.returns-then-left-eq0-clause-walks
-returns-then-left-eq0-clause-walks c = in_part c.args.program.now c.args.self.now c.loop-due.self c.settle.new.self c.loop-due.invariant.advances c.settle.ensures.used c.settle.ensures.walks
+pub returns-then-used-eq-until-clause-walks : goal.returns-then-used-eq-until-clause-walks
+returns-then-used-eq-until-clause-walks c = in_part c.args.program.now c.args.self.now c.loop-due.self c.settle.new.self c.loop-due.invariant.advances c.settle.ensures.used c.settle.ensures.walks
 
 pub returns-in-Paused-clause-walks : goal.returns-in-Paused-clause-walks
 returns-in-Paused-clause-walks c = in_part c.args.program.now c.args.self.now c.loop-due.self c.settle.new.self c.loop-due.invariant.advances c.settle.ensures.used c.settle.ensures.walks
@@ -71,8 +71,8 @@ returns-in_err-step-clause-walks c =
     in_part c.args.program.now c.args.self.now c.loop-due.self new c.loop-due.invariant.advances (err.used ∙ c.settle.ensures.used)
     (onward_trans 0 0 0 (activations c.loop-due.self.machine) (in_cases t.machine.stack) (in_cases new.machine.stack) (omega arith) c.settle.ensures.walks (onward_further t.machine.stack new.machine.stack (further_ends t.machine.stack new.machine.stack c.step.ensures.walks)))
 
-pub returns-then-left-eq0-clause-advances : goal.returns-then-left-eq0-clause-advances
-returns-then-left-eq0-clause-advances c = advances_settles c.args.program.now c.args.self.now c.loop-due.self c.settle.new.self c.loop-due.invariant.advances c.in_ok-due.ensures.settles
+pub returns-then-used-eq-until-clause-advances : goal.returns-then-used-eq-until-clause-advances
+returns-then-used-eq-until-clause-advances c = advances_settles c.args.program.now c.args.self.now c.loop-due.self c.settle.new.self c.loop-due.invariant.advances c.in_ok-due.ensures.settles
 
 pub returns-in-Paused-clause-advances : goal.returns-in-Paused-clause-advances
 returns-in-Paused-clause-advances c = if_ok_all c.told.result (advances_settles c.args.program.now c.args.self.now c.loop-due.self c.settle.new.self c.loop-due.invariant.advances c.in_ok-due.ensures.settles)

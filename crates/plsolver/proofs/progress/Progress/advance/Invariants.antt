@@ -1,4 +1,4 @@
-use Rattle.std.proofs.Common.{◌≡◌, ◌+◌, ◌≤◌}
+use Rattle.std.proofs.Common.{◌≡◌, ◌+◌, ◌-◌, ◌<◌, ◌≤◌}
 use Rattle.plsolver.specs.Advancing.{AdvancesTo}
 use Rattle.plsolver.specs.Solver.{latest_view, GoesTo, IsOf}
 use Rattle.plsolver.proofs.progress.Progress.advance.Given as goal
@@ -7,7 +7,10 @@ abbrev pub invariant-loop-due : goal.invariant-loop-due
 invariant-loop-due l = record {
   goes : GoesTo l.program l.fn.self l.self;
   of : IsOf l.program l.self.machine;
-  used : l.self.used + l.left ≡ l.fn.self.used + l.fuel;
+  used : l.self.used ≤ l.until;
+  until : l.until ≤ l.fn.self.limit;
+  few : l.until ≤ l.fn.self.used + l.fuel;
+  all : l.until < l.fn.self.limit → l.until ≡ l.fn.self.used + l.fuel;
   rises : l.fn.self.used ≤ l.self.used;
   within : l.self.used ≤ l.fn.self.limit;
   limit : l.self.limit ≡ l.fn.self.limit;
@@ -17,4 +20,4 @@ invariant-loop-due l = record {
 }
 
 abbrev pub decreases-loop-due : goal.decreases-loop-due
-decreases-loop-due l = l.left
+decreases-loop-due l = l.until - l.self.used

@@ -63,7 +63,7 @@ returns-in-Goal-clause-ok c =
     let s = c.args.self.now in
     let first = subst (IsSelected s.machine) c.in-Goal.is c.requires.goal in
     on_ok_map c.term.result
-    (selects-row c.args.program.now s.machine c.term.new.self c.in-Goal.goal.level (value s.machine.stack.env.heap c.in-Goal.goal.value) (goals_of s.machine.stack c.in-Goal.goal.rest) first.1.goals) c.term.ensures.ok
+    (selects-row c.args.program.now s.machine c.term.new.self c.in-Goal.level (value s.machine.stack.env.heap c.in-Goal.goal) (goals_of s.machine.stack c.in-Goal.rest) first.1.goals) c.term.ensures.ok
 
 pub returns-in-Goal-clause-of : goal.returns-in-Goal-clause-of
 returns-in-Goal-clause-of c = either_of c.args.program.now c.args.self.now.machine c.term.new.self _ c.term.result c.requires.of (λ last. subst IsLast c.requires.goal.0 last) c.term.ensures.ok c.term.ensures.err
