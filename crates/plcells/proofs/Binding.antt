@@ -1,5 +1,5 @@
 -- What a binding makes of a heap.
-use Rattle.std.proofs.Common.{◌≡◌, ℕ, zero, suc, ◌+◌, ◌<◌, ◌≤◌, Bool, true, false, nat_eq, nat_lt, List, [], ◌∷◌, ◌++◌, length, refl, sym, ap, ◌∙◌, subst, arith, inl, inr, le_refl}
+use Rattle.std.proofs.Common.{◌≡◌, ℕ, zero, suc, ◌+◌, ◌<◌, ◌≤◌, Bool, true, false, nat_eq, nat_lt, List, [], ◌∷◌, ◌++◌, length, set, refl, sym, ap, ◌∙◌, subst, arith, inl, inr, le_refl}
 use Rattle.std.proofs.lemmas.Bool.{cases_eq}
 use Rattle.std.proofs.lemmas.List.{length-set, get_or-set_same, get_or-set_other}
 use Rattle.plterm.specs.Tree.{Tree, var, compound, more, trees}
@@ -8,10 +8,21 @@ use Rattle.platoms.specs.Names.{functor_name, functor_arity}
 use Rattle.plcells.specs.declared.cell.Cell.{Cell}
 use Rattle.plcells.specs.declared.cell.Trailed.{Trailed}
 use Rattle.plcells.specs.declared.cell.Cell.TheVariants.{Free, Lone, Ref, Int, Wide, Atom, Str, Fun, Ground}
-use Rattle.plcells.specs.Store.{Store, at, number_at, spread, shown_by, term, shown, Refers, IsHead, IsGround, IsSolid, HasArguments, Fits, IsHeap, AllBelow, IsValue, value, linked, trailed_if, IsBinding}
+use Rattle.plcells.specs.Store.{Store, at, number_at, spread, shown_by, term, shown, Refers, IsHead, IsGround, IsSolid, HasArguments, Fits, IsHeap, AllBelow, IsValue, value, trailed_if, IsBinding}
 use Rattle.plcells.proofs.Terms.{Solves, term-solved, heap-reads, term-at}
 use Rattle.plcells.proofs.Values.{value-head, value-free, value-fits}
 use Rattle.plcells.proofs.Absence.{bind_put-same, occurs-up}
+
+-- with the variable of the cell x, whose number is at p, bound to a value
+abbrev pub linked : Store → ℕ → ℕ → Cell → Store
+linked h x p v = record {
+  cells = set h.cells x v;
+  numbers = h.numbers;
+  wide = h.wide;
+  trail = trailed_if (nat_lt x h.boundary) h.trail (record { cell = x; place = p });
+  boundary = h.boundary;
+  names = h.names;
+}
 
 -- what a substitution makes of a run
 bind-spread : (σ : ℕ → Tree) (w : ℕ → Tree) (c k : ℕ) → bind_all σ (trees (spread w c k)) ≡ trees (spread (λ d. bind σ (w d)) c k)

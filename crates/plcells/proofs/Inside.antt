@@ -8,9 +8,9 @@ use Rattle.plcells.specs.declared.cell.Cell.{Cell}
 use Rattle.plcells.specs.declared.cell.Cell.TheVariants.{Free, Lone, Ref, Int, Wide, Atom, Str, Fun, Ground}
 use Rattle.plcells.specs.declared.cell.Mark.{Mark}
 use Rattle.plcells.specs.declared.cell.Trailed.{Trailed}
-use Rattle.plcells.specs.Store.{Store, at, Refers, IsHead, IsValue, IsBinding, linked, reset, cut, IsMark}
+use Rattle.plcells.specs.Store.{Store, at, Refers, IsHead, IsValue, IsBinding, reset, cut, IsMark}
 use Rattle.plcells.specs.Skipping.{plain, AreLone, IsClosed, AreClosed, AreRising, IsInside, IsPlaced, IsTarget}
-use Rattle.plcells.proofs.Binding.{IsHeap-linked}
+use Rattle.plcells.proofs.Binding.{IsHeap-linked, linked}
 use Rattle.plcells.proofs.Kept.{reset-length}
 
 abbrev empty : Table → Store

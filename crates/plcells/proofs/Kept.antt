@@ -6,8 +6,8 @@ use Rattle.plcells.specs.declared.cell.Cell.{Cell}
 use Rattle.plcells.specs.declared.cell.Cell.TheVariants.{Free, Lone, Ref, Int, Wide, Atom, Str, Fun, Ground}
 use Rattle.plcells.specs.declared.cell.Mark.{Mark}
 use Rattle.plcells.specs.declared.cell.Trailed.{Trailed}
-use Rattle.plcells.specs.Store.{Store, at, number_at, trailed_if, linked, IsBinding, reset, cut, IsWithin, IsMark, renamed, Keeps, one, frees, Binds, IsHeap, grown, bounded_by, noted_by, IsValue, value, AllBelow, HasArguments, Fits}
-use Rattle.plcells.proofs.Binding.{term-linked, value-linked, plain_still, free_old}
+use Rattle.plcells.specs.Store.{Store, at, number_at, trailed_if, IsBinding, reset, cut, IsWithin, IsMark, renamed, Keeps, one, frees, Binds, IsHeap, grown, bounded_by, noted_by, IsValue, value, AllBelow, HasArguments, Fits}
+use Rattle.plcells.proofs.Binding.{linked, term-linked, value-linked, plain_still, free_old}
 
 pub take_set : (n : ℕ) (xs : List Cell) (i : ℕ) (v : Cell) → take n (set xs i v) ≡ set (take n xs) i v
 take_set zero xs i v = refl

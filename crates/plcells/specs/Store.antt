@@ -173,17 +173,6 @@ abbrev pub trailed_if : Bool → List Trailed → Trailed → List Trailed
 trailed_if true ts t = ts ++ t ∷ []
 trailed_if false ts t = ts
 
--- with the variable of the cell x, whose number is at p, bound to a value
-abbrev pub linked : Store → ℕ → ℕ → Cell → Store
-linked h x p v = record {
-  cells = set h.cells x v;
-  numbers = h.numbers;
-  wide = h.wide;
-  trail = trailed_if (nat_lt x h.boundary) h.trail (record { cell = x; place = p });
-  boundary = h.boundary;
-  names = h.names;
-}
-
 -- what a binding of the variable of the cell x asks for
 pub record IsBinding (h : Store) (x p : ℕ) (v : Cell) : Type 0 where
   pub within : x < length h.cells

@@ -1,6 +1,7 @@
 -- The arguments of a compound.
 use Rattle.std.proofs.Common.{◌≡◌, ℕ, Bool, true, false, List, [], ◌∷◌, Option, Some, None, ◌<◌, length, refl, sym, ap, ◌∙◌, bytes_eq, arith, length-append}
-use Rattle.plterm.specs.Tree.{Tree, var, int, atom, compound, none, more, trees, list_of-trees}
+use Rattle.plterm.specs.Tree.{Tree, var, int, atom, compound, none, more, trees}
+use Rattle.plterm.proofs.Forests.{list_of-trees}
 use Rattle.plterm.specs.Reading.{spelling}
 use Rattle.plclause.specs.Lists.{only_argument, only_of, pair_of, pair_if, items, behind}
 

@@ -3,10 +3,10 @@ use Rattle.std.proofs.Common.{◌≡◌, ℕ, zero, suc, ◌≤◌, Bool, true, 
 use Rattle.std.proofs.lemmas.List.{take-append-drop}
 use Rattle.plterm.specs.declared.node.Node.{Node}
 use Rattle.plterm.specs.declared.node.Node.TheVariants.{Compound}
-use Rattle.plterm.specs.Tree.{Tree, int, compound, Trees, none, more, trees, list_of, list_of-trees}
+use Rattle.plterm.specs.Tree.{Tree, int, compound, Trees, none, more, trees, list_of}
 use Rattle.plterm.specs.Reading.{read, tree_of, spelling, spellings, Fits, AllFit, IsTerm}
 use Rattle.plterm.proofs.Spellings.{spellings-trees, length-take_room, whole_nodes}
-use Rattle.plterm.proofs.Forests.{AllFit-push}
+use Rattle.plterm.proofs.Forests.{AllFit-push, list_of-trees}
 use Rattle.plclause.specs.Conversion.{is_control, converted, all_converted}
 use Rattle.plclause.specs.Goals.{joined, goal_nodes}
 

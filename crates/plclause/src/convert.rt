@@ -63,8 +63,9 @@ fn put_goal(
     }
 }
 
-/// Whether the arguments are goals.
-fn holds_goals(name: &Name, count: usize) -> bool
+/// Whether the arguments of a compound with such a name and so many arguments are goals: it is a conjunction, a disjunction or a condition
+/// with what follows it (ISO/IEC 13211-1 7.6.2).
+pub fn holds_goals(name: &Name, count: usize) -> bool
     ensures { result ≡ is_control name.now count }
 {
     let text = name.as_str();

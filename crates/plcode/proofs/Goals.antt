@@ -5,7 +5,8 @@ use Rattle.std.proofs.lemmas.Bool.{eqb-true}
 use Rattle.std.proofs.lemmas.List.{take-append-drop}
 use Rattle.std.proofs.lemmas.List.Concat.{flat_map-append}
 use Rattle.std.proofs.lemmas.Slice.Eq.{bytes_eq-Decides}
-use Rattle.plterm.specs.Tree.{Tree, var, int, atom, compound, trees, list_of-trees}
+use Rattle.plterm.specs.Tree.{Tree, var, int, atom, compound, trees}
+use Rattle.plterm.proofs.Forests.{list_of-trees}
 use Rattle.plnames.specs.Names.{rows, kind_of, kind_in, Row}
 use Rattle.plnames.specs.declared.kind.Kind.{Kind}
 use Rattle.plnames.specs.declared.kind.Kind.TheVariants as kinds

@@ -5,7 +5,7 @@ use Rattle.std.specs.List.{position, position_or_len}
 use Rattle.std.proofs.lemmas.Bool.Decides.{nat_tests}
 use Rattle.std.proofs.lemmas.List.Quantifiers.{position-Some}
 use Rattle.plevent.specs.Reading.{changed_first}
-use Rattle.plevent.specs.Alive.{add_if as change_if}
+use Rattle.plevent.specs.Alive.{change_if}
 use Rattle.plevent.specs.First.{NoneFirst, FirstAt}
 
 changed-at : {A : Type 0} (t : A → Bool) (f : A → A) (xs : List A) (i : ℕ) (d : A) → i < length xs → t (get_or xs i d) ≡ true → ((k : ℕ) → k < i → t (get_or xs k d) ≡ false) →

@@ -9,7 +9,7 @@ use Rattle.plevent.specs.declared.request.Request.{Request}
 use Rattle.plevent.specs.declared.request.Reply.{Reply}
 use Rattle.plevent.specs.declared.act.Act.{Act}
 use Rattle.plevent.specs.declared.act.Entry.{Entry}
-use Rattle.plevent.specs.Alive.{Stamped, stamped, named, living, alive, clauses_alive, exists, is_alive, before, view}
+use Rattle.plevent.specs.Alive.{Stamped, stamped, named, living, names_of, clauses_alive, exists, is_alive, before, view}
 use Rattle.plevent.specs.Reading.{reading, main}
 use Rattle.plevent.specs.Rows.{served, is_over, adds, reply_to}
 
@@ -24,11 +24,11 @@ abbrev two_batches : List Stamped
 two_batches = stamped 0 0 (Declare p ∷ Last fact ∷ Last fact ∷ []) ++ stamped 4 0 (Erase (named 0 1) ∷ First fact ∷ [])
 
 -- the second batch erases one clause and puts another in front
-pub walk_before : alive (before 4 two_batches) p ≡ named 0 1 ∷ named 0 2 ∷ []
+pub walk_before : names_of (living (before 4 two_batches) p) ≡ named 0 1 ∷ named 0 2 ∷ []
 unfolding living before
 walk_before = refl
 
-pub walk_after : alive (before 5 two_batches) p ≡ named 4 1 ∷ named 0 2 ∷ []
+pub walk_after : names_of (living (before 5 two_batches) p) ≡ named 4 1 ∷ named 0 2 ∷ []
 unfolding living before
 walk_after = refl
 
@@ -50,16 +50,16 @@ unfolding exists
 declared = refl
 
 -- an erasure of a clause that is not made yet does nothing, and a second one neither
-pub too_early : alive (stamped 0 0 (EraseOwn 1 ∷ Last fact ∷ [])) p ≡ named 0 1 ∷ []
+pub too_early : names_of (living (stamped 0 0 (EraseOwn 1 ∷ Last fact ∷ [])) p) ≡ named 0 1 ∷ []
 unfolding living
 too_early = refl
 
-pub twice : alive (two_batches ++ stamped 5 0 (Erase (named 0 1) ∷ [])) p ≡ named 4 1 ∷ named 0 2 ∷ []
+pub twice : names_of (living (two_batches ++ stamped 5 0 (Erase (named 0 1) ∷ [])) p) ≡ named 4 1 ∷ named 0 2 ∷ []
 unfolding living
 twice = refl
 
 -- those put in front in one batch stand by falling number
-pub fronts : alive (view [] 0 (First fact ∷ First fact ∷ Last fact ∷ EraseOwn 0 ∷ []) 4) p ≡ named 0 1 ∷ named 0 2 ∷ []
+pub fronts : names_of (living (view [] 0 (First fact ∷ First fact ∷ Last fact ∷ EraseOwn 0 ∷ []) 4) p) ≡ named 0 1 ∷ named 0 2 ∷ []
 unfolding living before
 fronts = refl
 
@@ -98,7 +98,7 @@ unfolding served reading
 finish_adds = refl
 
 -- the batch has the place of its entry
-pub names_of_all : alive (reading ended).updates p ≡ named 2 0 ∷ []
+pub names_of_all : names_of (living (reading ended).updates p) ≡ named 2 0 ∷ []
 unfolding reading living
 names_of_all = refl
 
@@ -221,7 +221,7 @@ pub erase_is_told : reply_to published 1 (Request.EraseOne (named 2 0)) ≡ Repl
 unfolding served reading is_alive
 erase_is_told = refl
 
-pub erase_takes : alive (reading erased_one).updates p ≡ []
+pub erase_takes : names_of (living (reading erased_one).updates p) ≡ []
 unfolding reading living
 erase_takes = refl
 

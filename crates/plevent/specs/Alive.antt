@@ -30,9 +30,9 @@ same_name x y = nat_eq x.place y.place && nat_eq x.number y.number
 abbrev pub is_of : Indicator → Clause → Bool
 is_of p c = same_indicator (indicator c.head) p
 
-abbrev pub add_if : {A : Type 0} → Bool → A → A → A
-add_if true new old = new
-add_if false new old = old
+abbrev pub change_if : {A : Type 0} → Bool → A → A → A
+change_if true new old = new
+change_if false new old = old
 
 abbrev pub lives_as : ClauseName → Clause → Living
 lives_as x c = record { name = x; clause = c }
@@ -42,8 +42,8 @@ without y xs = filter (λ x. not (same_name x.name y)) xs
 
 -- what an update named x makes of the clauses of p that are alive, in their order
 abbrev pub changed : Indicator → ClauseName → Update → List Living → List Living
-changed p x (First c) xs = add_if (is_of p c) (lives_as x c ∷ xs) xs
-changed p x (Last c) xs = add_if (is_of p c) (xs ++ lives_as x c ∷ []) xs
+changed p x (First c) xs = change_if (is_of p c) (lives_as x c ∷ xs) xs
+changed p x (Last c) xs = change_if (is_of p c) (xs ++ lives_as x c ∷ []) xs
 changed p x (Erase y) xs = without y xs
 changed p x (EraseOwn k) xs = without (named x.place k) xs
 changed p x (Declare q) xs = xs
@@ -61,10 +61,7 @@ names_of xs = map (λ x. x.name) xs
 abbrev pub clauses_of : List Living → List Clause
 clauses_of xs = map (λ x. x.clause) xs
 
--- their names, and the clauses themselves
-abbrev pub alive : List Stamped → Indicator → List ClauseName
-alive us p = names_of (living us p)
-
+-- the clauses themselves
 abbrev pub clauses_alive : List Stamped → Indicator → List Clause
 clauses_alive us p = clauses_of (living us p)
 
@@ -122,7 +119,7 @@ or_else None b = b
 or_else (Some a) b = Some a
 
 abbrev pub made_in : ClauseName → Stamped → Option Clause
-made_in x s = add_if (same_name s.at x) (clause_in s.update) None
+made_in x s = change_if (same_name s.at x) (clause_in s.update) None
 
 -- the clause that was made with a name, alive or not
 abbrev pub clause_named : ClauseName → List Stamped → Option Clause

@@ -5,7 +5,7 @@ use Rattle.plevent.specs.declared.act.Act.{Act}
 use Rattle.plevent.specs.declared.act.Entry.{Entry}
 use Rattle.plevent.specs.declared.standing.Thread.{Thread}
 use Rattle.plevent.specs.declared.standing.Standing.{Standing}
-use Rattle.plevent.specs.Alive.{Stamped, stamped, add_if}
+use Rattle.plevent.specs.Alive.{Stamped, stamped, change_if}
 
 pub record Reading : Type 0 where
   -- the updates of all batches, in order, each with its own name
@@ -16,7 +16,7 @@ pub record Reading : Type 0 where
 -- the first element that passes a test is changed
 abbrev pub changed_first : {A : Type 0} → (A → Bool) → (A → A) → List A → List A
 changed_first test f [] = []
-changed_first test f (x ∷ xs) = add_if (test x) (f x ∷ xs) (x ∷ changed_first test f xs)
+changed_first test f (x ∷ xs) = change_if (test x) (f x ∷ xs) (x ∷ changed_first test f xs)
 
 abbrev pub is_thread : ℕ → Thread → Bool
 is_thread n t = nat_eq t.number n

@@ -11,7 +11,7 @@ use Rattle.plevent.specs.declared.standing.Thread.{Thread}
 use Rattle.plevent.specs.declared.standing.Standing.{Standing}
 use Rattle.plevent.specs.declared.update.ClauseName.{ClauseName}
 use Rattle.plevent.specs.declared.update.Update.TheVariants.{Erase}
-use Rattle.plevent.specs.Alive.{add_if, is_alive}
+use Rattle.plevent.specs.Alive.{change_if, is_alive}
 use Rattle.plevent.specs.Reading.{Reading, reading, is_thread}
 
 -- the reply, and the act, if any, with the thread that its entry names
@@ -43,7 +43,7 @@ stays t r = list_any (λ x. is_thread t x && is_some x.worker && not (is_some x.
 
 -- a start names the thread that is started, whoever asks
 abbrev pub start_row : Standing → Option Thread → Row
-start_row r None = (add_if (is_over r) Reply.RunOver (Reply.NotYet Request.Start), None)
+start_row r None = (change_if (is_over r) Reply.RunOver (Reply.NotYet Request.Start), None)
 start_row r (Some x) = (Reply.Started x.number x.alias x.goal, Some (x.number, Act.Start))
 
 -- an end is told; one that ends the run is asked for by HaltRun alone
@@ -61,7 +61,7 @@ erase_row false x t = (Reply.Gone, None)
 
 -- where the run is over, a thread that has neither ended nor left leaves; of another one there is nothing to add
 abbrev pub leave_row : Standing → ℕ → Row
-leave_row r t = add_if (is_over r) (Reply.Done, add_if (stays t r) (Some (t, Act.Left)) None) (Reply.NotYet Request.Leave, None)
+leave_row r t = change_if (is_over r) (Reply.Done, change_if (stays t r) (Some (t, Act.Left)) None) (Reply.NotYet Request.Leave, None)
 
 abbrev pub row : Request → ℕ → Reading → Row
 row Request.Start t r = start_row r.standing (find is_new r.standing.threads)
@@ -91,11 +91,11 @@ is_leave Request.Leave = true
 
 -- a thread that is not started, or has ended, waits
 abbrev pub served_while : Request → ℕ → Reading → Row
-served_while q t r = add_if (is_workers q || runs t r.standing) (row q t r) (Reply.NotYet q, None)
+served_while q t r = change_if (is_workers q || runs t r.standing) (row q t r) (Reply.NotYet q, None)
 
 -- where a thread has ended the run, all stop, but for those that leave
 unfoldable pub served : Request → ℕ → Reading → Row
-served q t r = add_if (is_halted r.standing && not (is_leave q)) (Reply.Stopped, None) (served_while q t r)
+served q t r = change_if (is_halted r.standing && not (is_leave q)) (Reply.Stopped, None) (served_while q t r)
 
 -- the entry of a row, asked by worker w
 abbrev pub entries_of : ℕ → Option (ℕ × Act) → List Entry

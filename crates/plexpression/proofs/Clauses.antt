@@ -2,7 +2,8 @@
 use Rattle.std.proofs.Common.{◌≡◌, ℕ, zero, suc, ◌+◌, ◌<◌, ◌≤◌, List, [], ◌∷◌, length, refl, sym, ap, ap₂, ◌∙◌, subst, arith, inl, inr, ℤ, Ok, Some}
 use Rattle.std.proofs.lemmas.Bool.{cases_lt}
 use Rattle.std.proofs.lemmas.List.Elements.{All-nil, All-cons, All-head, All-tail}
-use Rattle.plterm.specs.Tree.{Tree, Trees, var, int, atom, compound, none, more, trees, list_of, trees-list_of, list_of-trees}
+use Rattle.plterm.specs.Tree.{Tree, Trees, var, int, atom, compound, none, more, trees, list_of, trees-list_of}
+use Rattle.plterm.proofs.Forests.{list_of-trees}
 use Rattle.plterm.specs.Variables.{AllBelow, EachBelow}
 use Rattle.plsubst.specs.Subst.{bind, bind_all}
 use Rattle.platoms.specs.Names.{Table, functor_arity, functor_name}

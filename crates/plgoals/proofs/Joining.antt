@@ -3,7 +3,8 @@ use Rattle.std.proofs.Common.{◌≡◌, ℕ, zero, suc, ◌+◌, ◌<◌, ◌�
 use Rattle.std.specs.Prelude.{if◌then◌else◌, Result as Outcomes}
 use Rattle.std.proofs.lemmas.Bool.{le-leb, lt-leb}
 use Rattle.std.proofs.lemmas.List.{map-append, length-map}
-use Rattle.plterm.specs.Tree.{Tree, var, compound, trees, list_of-trees}
+use Rattle.plterm.specs.Tree.{Tree, var, compound, trees}
+use Rattle.plterm.proofs.Forests.{list_of-trees}
 use Rattle.platoms.specs.Names.{HasFunctor, atom_at, functor_name}
 use Rattle.platoms.proofs.Extending.{atom_same}
 use Rattle.plcells.specs.declared.cell.Cell.{Cell}

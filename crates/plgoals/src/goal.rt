@@ -1,7 +1,7 @@
 //! Terms of the heap, converted to goals.
 
 ghost use Rattle.std.specs.Prelude.{◌≡◌, ℕ, ◌<◌, ◌∷◌, ◌++◌, [], List, length, codes, true, false, IfOk, IfSome, IfNone, Some, None, OnOk, OnErr};
-ghost use Rattle.plclause.specs.Conversion.{converted, is_control};
+ghost use Rattle.plclause.specs.Conversion.{converted};
 ghost use Rattle.plcells.specs.Store.{at, term, value, IsHead, IsValue, Preserves, renamed};
 ghost use Rattle.plcells.specs.Putting.{AddsNoVariable};
 ghost use Rattle.plterm.specs.Tree.{Trees, compound};
@@ -11,6 +11,7 @@ ghost use Rattle.plgoals.specs.Goals.{IsGoal, IsConstruct, Opens, Says, Spells};
 use plcells::cell::Cell;
 use plcells::heap::Heap;
 use plcells::id::CellId;
+use plclause::convert::holds_goals;
 use plterm::name::Name;
 use plterm::node::Node;
 use plterm::term::Term;
@@ -29,14 +30,6 @@ pub enum Kind {
     Goal(Cell),
 }
 
-/// Whether the arguments of a compound are goals.
-fn holds_goals(name: &Name, count: u16) -> bool
-    ensures { result ≡ is_control name.now count }
-{
-    let text = name.as_str();
-    count == 2 && (text == "," || text == ";" || text == "->")
-}
-
 /// Whether a block is a control construct.
 fn is_construct(heap: &Heap, p: CellId) -> bool
     requires within { p < length heap.now.cells }
@@ -47,7 +40,7 @@ fn is_construct(heap: &Heap, p: CellId) -> bool
     let (f, count) = heap.block(p);
     let functor = heap.names().functor_of(f);
     let name = heap.names().atom_name(functor.name);
-    holds_goals(name, count)
+    holds_goals(name, usize::from(count))
 }
 
 /// What the term of a value is as a goal.

@@ -1,6 +1,7 @@
 -- Nodes and values that never stand for one term.
 use Rattle.std.proofs.Common.{◌≡◌, ℕ, ℤ, suc, ◌<◌, List, length, refl, sym, ap, ap₂, ◌∙◌, arith}
-use Rattle.plterm.specs.Tree.{Tree, var, int, atom, compound, trees, list_of, list_of-trees}
+use Rattle.plterm.specs.Tree.{Tree, var, int, atom, compound, trees, list_of}
+use Rattle.plterm.proofs.Forests.{list_of-trees}
 use Rattle.plsubst.specs.Subst.{bind}
 use Rattle.plsubst.proofs.Unify.{bind-bind, int≢atom, int≢compound}
 use Rattle.plsubst.proofs.UnifyUnique.{int≢var, atom≢var, compound≢var}

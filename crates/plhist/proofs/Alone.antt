@@ -4,7 +4,7 @@ use Rattle.plevent.specs.declared.act.Act.{Act}
 use Rattle.plevent.specs.declared.act.Entry.{Entry}
 use Rattle.plevent.specs.declared.standing.Thread.{Thread}
 use Rattle.plevent.specs.declared.standing.Standing.{Standing}
-use Rattle.plevent.specs.Alive.{add_if}
+use Rattle.plevent.specs.Alive.{change_if}
 use Rattle.plevent.specs.Reading.{Reading, reading, read, blank, new_thread, main, changed_first, is_thread, threads_after, halted_after}
 use Rattle.std.specs.Prelude.{None}
 
@@ -17,7 +17,7 @@ pub record MainAlone (r : Standing) : Type 0 where
   pub goal : row.goal ≡ None
 
 alone-changed : (b : Bool) (r : Standing) (n : ℕ) (o : Option ℕ) (f : Thread → Thread) (m : MainAlone r) → ((x : Thread) → (f x).number ≡ x.number) → ((x : Thread) → (f x).alias ≡ x.alias) → ((x : Thread) → (f x).goal ≡ x.goal) →
-    MainAlone (record { size = n; threads = add_if b (f m.row ∷ []) (m.row ∷ []); halted = o })
+    MainAlone (record { size = n; threads = change_if b (f m.row ∷ []) (m.row ∷ []); halted = o })
 alone-changed true r n o f m numbers aliases goals = record { row = f m.row; threads = refl; number = numbers m.row ∙ m.number; alias = aliases m.row ∙ m.alias; goal = goals m.row ∙ m.goal }
 alone-changed false r n o f m numbers aliases goals = record { row = m.row; threads = refl; number = m.number; alias = m.alias; goal = m.goal }
 

@@ -4,7 +4,7 @@ use Rattle.plevent.specs.declared.request.ThreadEnd.{ThreadEnd}
 use Rattle.plevent.specs.declared.act.Act.{Act}
 use Rattle.plevent.specs.declared.act.Entry.{Entry}
 use Rattle.plevent.specs.declared.standing.Thread.{Thread}
-use Rattle.plevent.specs.Alive.{add_if}
+use Rattle.plevent.specs.Alive.{change_if}
 use Rattle.plevent.specs.Reading.{Reading, reading, read, blank, threads_after, halted_after}
 use Rattle.plhist.specs.declared.status.Status.{Status}
 use Rattle.plhist.specs.Status.{end_of, status_of_end, status_of_main, status_after}
@@ -19,17 +19,17 @@ unfolding reading
 reading-push h e = after-append blank h (e ∷ [])
 
 end_changed : (b : Bool) (m : Thread) (x : ThreadEnd) → m.number ≡ 1 →
-    status_of_end (end_of 1 (add_if b (record m { ended = Some x } ∷ []) (m ∷ []))) ≡ add_if b (status_of_end (Some x)) (status_of_end (end_of 1 (m ∷ [])))
+    status_of_end (end_of 1 (change_if b (record m { ended = Some x } ∷ []) (m ∷ []))) ≡ change_if b (status_of_end (Some x)) (status_of_end (end_of 1 (m ∷ [])))
 end_changed true m x is = rw is refl
 end_changed false m x is = refl
 
 start_changed : (b : Bool) (m : Thread) (w : ℕ) → m.number ≡ 1 →
-    status_of_end (end_of 1 (add_if b (record m { worker = Some w } ∷ []) (m ∷ []))) ≡ status_of_end (end_of 1 (m ∷ []))
+    status_of_end (end_of 1 (change_if b (record m { worker = Some w } ∷ []) (m ∷ []))) ≡ status_of_end (end_of 1 (m ∷ []))
 start_changed true m w is = rw is refl
 start_changed false m w is = refl
 
 left_changed : (b : Bool) (m : Thread) → m.number ≡ 1 →
-    status_of_end (end_of 1 (add_if b (record m { left = true } ∷ []) (m ∷ []))) ≡ status_of_end (end_of 1 (m ∷ []))
+    status_of_end (end_of 1 (change_if b (record m { left = true } ∷ []) (m ∷ []))) ≡ status_of_end (end_of 1 (m ∷ []))
 left_changed true m is = rw is refl
 left_changed false m is = refl
 
@@ -68,10 +68,10 @@ status_row ts w t Act.Left m alone is =
     quiet true s = refl
     quiet false s = refl
 status_row ts w t (Act.End e) m alone is =
-    rw alone (end_changed (nat_eq m.number t) m e is ∙ ap (λ b. add_if b (status_of_end (Some e)) (status_of_end (end_of 1 (m ∷ [])))) (same_test m.number t is)
+    rw alone (end_changed (nat_eq m.number t) m e is ∙ ap (λ b. change_if b (status_of_end (Some e)) (status_of_end (end_of 1 (m ∷ [])))) (same_test m.number t is)
     ∙ sym (loud (nat_eq t 1) (status_of_end (end_of 1 (m ∷ [])))))
   where
-    loud : (b : Bool) (s : Status) → status_after b (Act.End e) s ≡ add_if b (status_of_end (Some e)) s
+    loud : (b : Bool) (s : Status) → status_after b (Act.End e) s ≡ change_if b (status_of_end (Some e)) s
     loud true s = refl
     loud false s = refl
 

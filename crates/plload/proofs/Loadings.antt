@@ -3,17 +3,18 @@ use Rattle.std.proofs.Common.{ℕ, ◌+◌, ◌<◌, ◌≤◌, List, length, Re
 use Rattle.std.specs.declared.alloc.AllocError.{AllocError}
 use Rattle.pllex.specs.declared.token.Token.{Token}
 use Rattle.pllex.specs.Tokens.{IsClause}
+use Rattle.plread.specs.Refusals.{start_of}
 use Rattle.plload.specs.declared.next.Next.{Next}
 use Rattle.plload.specs.declared.next.Next.TheVariants as nexts
 use Rattle.plprogram.specs.declared.settings.Settings.{Settings}
 use Rattle.plload.specs.Meaning.{Meaning, Adds, Runs as RunsGoal, Declares, Operates, Sets, Passes, Refused}
 use Rattle.plload.specs.Draft.{Draft, with_meaning}
-use Rattle.plload.specs.Loading.{IsNext, Follows, Stops, Moves, first_place, unread}
+use Rattle.plload.specs.Loading.{IsNext, Follows, Stops, Moves, unread}
 
 pub next_follows : (text : List ℕ) (from : ℕ) (s : Settings) (ts : List Token) (after : ℕ) (next : Next) → IsClause text from ts after → Follows text s ts after next → IsNext text from s next
 next_follows text from s ts after nexts.Over h f = absurd f
 next_follows text from s ts after (nexts.Stops place kind) h (e, k, none) =
-    subst (λ p. Stops text from s p kind) (sym e) (subst (λ q. Stops text from s (first_place ts) q) (sym k) (unread (record { clause = h; term = none })))
+    subst (λ p. Stops text from s p kind) (sym e) (subst (λ q. Stops text from s (start_of ts) q) (sym k) (unread (record { clause = h; term = none })))
 next_follows text from s ts after (nexts.Reads t first end) h (e, some, f) =
     (ts, record { clause = subst (λ a. IsClause text from ts a) (sym e) h; term = some }, f)
 

@@ -7,13 +7,14 @@ use Rattle.pllex.proofs.Clauses.{one_clause, no_fault, not_over, one_fault, faul
 use Rattle.plread.specs.Signs.{Sign}
 use Rattle.plread.specs.Spelling.{signs_of}
 use Rattle.plread.proofs.Unique.{spelled_once}
+use Rattle.plread.specs.Refusals.{start_of}
 use Rattle.plload.specs.declared.error.RefusalKind.{RefusalKind}
 use Rattle.plprogram.specs.declared.settings.Settings.{Settings}
 use Rattle.plprogram.specs.Settings.{iso_settings}
 use Rattle.plload.specs.Taking.{Takes, Refuses as Judged}
 use Rattle.plload.specs.Position.{line_of, column_of}
 use Rattle.plload.specs.Draft.{empty_draft, with_term}
-use Rattle.plload.specs.Loading.{levels, Spelled, first_place, Reads, judged, Stops, lexical, unread, refused, Goes, Ending, Fails, Runs, over, stops, goes, Outcome, Refuses, outcome_of, Comes, Loads}
+use Rattle.plload.specs.Loading.{levels, Spelled, Reads, judged, Stops, lexical, unread, refused, Goes, Ending, Fails, Runs, over, stops, goes, Outcome, Refuses, outcome_of, Comes, Loads}
 use Rattle.plload.specs.Listing.{with_line, Lists}
 
 -- ---- a clause
@@ -69,7 +70,7 @@ module _ (text : List ℕ) (from : ℕ) (s : Settings) where
   one_stop p q k l (lexical {fault} {place} h) (refused {ts} {after} r j) = absurd (no_fault text from ts after fault place r.clause h)
   one_stop p q k l (unread {ts} {after} r) (lexical {fault} {place} h) = absurd (no_fault text from ts after fault place r.clause h)
   one_stop p q k l (unread {ts} {after} r) (unread {ts = us} {after = end} m) =
-      record { place = ap first_place (one_reading text from s ts us after end None None r m).tokens; kind = refl }
+      record { place = ap start_of (one_reading text from s ts us after end None None r m).tokens; kind = refl }
   one_stop p q k l (unread {ts} {after} r) (refused {ts = us} {after = end} {t} m j) =
       let same = (one_reading text from s ts us after end None (Some t) r m).term in absurd cc
   one_stop p q k l (refused {ts} {after} r j) (lexical {fault} {place} h) = absurd (no_fault text from ts after fault place r.clause h)
@@ -80,7 +81,7 @@ module _ (text : List ℕ) (from : ℕ) (s : Settings) where
       let same = both.term in
       let term : t ≡ u = cc in
       let first : judged s u ≡ Judged kind = ap (judged s) (sym term) ∙ j in
-      record { place = ap first_place both.tokens; kind = cc }
+      record { place = ap start_of both.tokens; kind = cc }
 
   pub record OneGoing (t u : Tree) (after end : ℕ) (new other : Settings) : Type 0 where
     pub term : t ≡ u

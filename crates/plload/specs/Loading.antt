@@ -7,6 +7,7 @@ use Rattle.pllex.specs.Tokens.{IsClause, IsFault, IsOver}
 use Rattle.plread.specs.Spelling.{signs_of}
 use Rattle.plread.specs.Signs.{Sign}
 use Rattle.plread.specs.Reading.{Spells}
+use Rattle.plread.specs.Refusals.{start_of}
 use Rattle.plload.specs.declared.error.RefusalKind.{RefusalKind}
 use Rattle.plload.specs.declared.error.RefusalKind.TheVariants as kinds
 use Rattle.plload.specs.declared.next.Next.{Next}
@@ -28,11 +29,6 @@ abbrev pub Spelled : Settings → List Sign → Option Tree → Type 0
 Spelled s signs (Some t) = Spells s.operators levels signs t
 Spelled s signs None = (t : Tree) → Spells s.operators levels signs t → ⊥
 
--- the place of a clause's first token
-abbrev pub first_place : List Token → ℕ
-first_place [] = 0
-first_place (t ∷ ts) = t.start
-
 -- the next clause of the text has these tokens, and spells this term or none
 pub record Reads (text : List ℕ) (from : ℕ) (s : Settings) (ts : List Token) (after : ℕ) (found : Option Tree) : Type 0 where
   pub clause : IsClause text from ts after
@@ -46,9 +42,9 @@ judged s t = taken s (meaning t)
 -- reading or for its meaning.
 pub data Stops (text : List ℕ) (from : ℕ) (s : Settings) : ℕ → RefusalKind → Type 0 where
   lexical : {fault : Fault} {place : ℕ} → IsFault text from fault place → Stops text from s place kinds.Lex
-  unread : {ts : List Token} {after : ℕ} → Reads text from s ts after None → Stops text from s (first_place ts) kinds.Syntax
+  unread : {ts : List Token} {after : ℕ} → Reads text from s ts after None → Stops text from s (start_of ts) kinds.Syntax
   refused : {ts : List Token} {after : ℕ} {t : Tree} {kind : RefusalKind} →
-      Reads text from s ts after (Some t) → judged s t ≡ Judged kind → Stops text from s (first_place ts) kind
+      Reads text from s ts after (Some t) → judged s t ≡ Judged kind → Stops text from s (start_of ts) kind
 
 -- the next clause spells a term, which the settings take
 pub record Goes (text : List ℕ) (from : ℕ) (s : Settings) (t : Tree) (after : ℕ) (new : Settings) : Type 0 where
@@ -73,13 +69,13 @@ pub data Runs {A : Type 0} (add : A → Settings → Tree → A) (text : List �
 abbrev pub IsNext : List ℕ → ℕ → Settings → Next → Type 0
 IsNext text from s nexts.Over = IsOver text from
 IsNext text from s (nexts.Stops place kind) = Stops text from s place kind
-IsNext text from s (nexts.Reads t first after) = (ts : List Token) × Reads text from s ts after (Some t) × (first ≡ first_place ts)
+IsNext text from s (nexts.Reads t first after) = (ts : List Token) × Reads text from s ts after (Some t) × (first ≡ start_of ts)
 
 -- what a clause with these tokens comes to
 abbrev pub Follows : List ℕ → Settings → List Token → ℕ → Next → Type 0
 Follows text s ts after nexts.Over = ⊥
-Follows text s ts after (nexts.Stops place kind) = (place ≡ first_place ts) × (kind ≡ kinds.Syntax) × Spelled s (signs_of s.quotes text ts) None
-Follows text s ts after (nexts.Reads t first end) = (end ≡ after) × Spelled s (signs_of s.quotes text ts) (Some t) × (first ≡ first_place ts)
+Follows text s ts after (nexts.Stops place kind) = (place ≡ start_of ts) × (kind ≡ kinds.Syntax) × Spelled s (signs_of s.quotes text ts) None
+Follows text s ts after (nexts.Reads t first end) = (end ≡ after) × Spelled s (signs_of s.quotes text ts) (Some t) × (first ≡ start_of ts)
 
 -- a clause that is passed lies between here and the end of the text
 abbrev pub Moves : ℕ → ℕ → Next → Type 0

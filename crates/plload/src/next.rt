@@ -2,7 +2,8 @@
 ghost use Rattle.std.specs.Prelude.{◌≡◌, ◌<◌, ◌≤◌, length, IfOk};
 ghost use Rattle.pllex.specs.Named.{AreNamed};
 ghost use Rattle.plread.specs.Spelling.{signs_of};
-ghost use Rattle.plload.specs.Loading.{first_place, Follows, IsNext, Moves, Spelled};
+ghost use Rattle.plread.specs.Refusals.{start_of};
+ghost use Rattle.plload.specs.Loading.{Follows, IsNext, Moves, Spelled};
 
 use crate::error::RefusalKind;
 use pllex::clause::clause_tokens;
@@ -66,7 +67,7 @@ fn clause_next(
 
 /// The place of a clause's first token.
 fn first_place(tokens: &[Token]) -> usize
-    ensures { result ≡ first_place tokens.now }
+    ensures { result ≡ start_of tokens.now }
 {
     match tokens {
         [] => 0,

@@ -2,7 +2,8 @@
 use Rattle.std.proofs.Common.{◌≡◌, ℕ, ◌≤◌, List, [], ◌∷◌, length, map, refl, sym, ap, ◌∙◌, subst, arith}
 use Rattle.std.proofs.lemmas.List.{length-map}
 use Rattle.std.specs.Prelude.{Option, Some, None, IfSome, IfNone, ⊤}
-use Rattle.plterm.specs.Tree.{Tree, var, int, atom, compound, list_of-trees}
+use Rattle.plterm.specs.Tree.{Tree, var, int, atom, compound}
+use Rattle.plterm.proofs.Forests.{list_of-trees}
 use Rattle.plterm.specs.declared.indicator.Indicator.{Indicator}
 use Rattle.plclause.specs.Indicators.{indicator}
 use Rattle.platoms.specs.Names.{IsTable, Extends}

@@ -2,7 +2,7 @@
 use Rattle.std.proofs.Common.{◌≡◌, ◌≤◌, ℕ, Bool, true, false, List, [], ◌∷◌, length, map, take, refl, sym, ap, ◌∙◌, subst, arith, if◌then◌else◌}
 use Rattle.std.specs.Prelude.{not}
 use Rattle.std.proofs.lemmas.List.{length-append, take-append-le}
-use Rattle.plevent.specs.Alive.{add_if}
+use Rattle.plevent.specs.Alive.{change_if}
 use Rattle.plevent.specs.Search.{Answer, Ask}
 use Rattle.plevent.specs.declared.update.ClauseName.{ClauseName}
 use Rattle.plevent.specs.declared.update.Update.{Update}
@@ -106,11 +106,11 @@ makes P s new us l some tied stay is =
 
 -- ---- a clause that is erased
 
-gone-when : (b : Bool) → Gone ≡ add_if b Gone Erased → b ≡ true
+gone-when : (b : Bool) → Gone ≡ change_if b Gone Erased → b ≡ true
 gone-when true e = refl
 gone-when false e = absurd (cc)
 
-erased-when : (b : Bool) → Erased ≡ add_if b Gone Erased → b ≡ false
+erased-when : (b : Bool) → Erased ≡ change_if b Gone Erased → b ≡ false
 erased-when true e = absurd (cc)
 erased-when false e = refl
 
@@ -154,13 +154,13 @@ module _ (P : Program) (s new : Reached) (x : ClauseName) (l : Continuation) whe
   unfolding machine cases_of
   erase-asked is = λ v left answers. ap (machine P v left answers) is
 
-  module _ (e : Erasure) (answer : e ≡ add_if (erased_in (target_at s.layer.own.base x) s.layer.own.updates) Gone Erased) (some : any_open s.layer.own ≡ true) where
+  module _ (e : Erasure) (answer : e ≡ change_if (erased_in (target_at s.layer.own.base x) s.layer.own.updates) Gone Erased) (some : any_open s.layer.own ≡ true) where
     -- it was erased before
     module _ (was : e ≡ Gone) (is : new ≡ record s { layer = record s.layer { own = made (Erase x) s.layer.own }; mode = modes.Back outcomes.Fail }) where
       gone-same : new ≡ record s { mode = modes.Back outcomes.Fail }
       gone-same =
           is ∙ ap (λ (own : Own). record s { layer = record s.layer { own = own }; mode = modes.Back outcomes.Fail })
-          (ap (λ b. add_if b s.layer.own (added (erasing_update (target_at s.layer.own.base x)) s.layer.own)) (gone-when _ (sym was ∙ answer)))
+          (ap (λ b. change_if b s.layer.own (added (erasing_update (target_at s.layer.own.base x)) s.layer.own)) (gone-when _ (sym was ∙ answer)))
 
       gone-turns : (v : Views) (left : ℕ) (answers : List Answer) → turn P (erasing P v left answers s x (goals_of s.stack l)) ≡ move (cases_in P v s) (run_in v left answers s) (Give Fail (local_of s))
       gone-turns v left answers = turn-is P v left answers s x (goals_of s.stack l) some true (gone-when _ (sym was ∙ answer))

@@ -1,6 +1,7 @@
 -- The parts of terms, by what a value is.
 use Rattle.std.proofs.Common.{◌≡◌, ◌<◌, pos, ℕ, zero, suc, List, [], ◌∷◌, length, refl, sym, ap, ◌∙◌, arith}
-use Rattle.plterm.specs.Tree.{Tree, int, atom, compound, trees, list_of-trees}
+use Rattle.plterm.specs.Tree.{Tree, int, atom, compound, trees}
+use Rattle.plterm.proofs.Forests.{list_of-trees}
 use Rattle.plcells.specs.Store.{Store, term, terms, spread, IsBlock}
 use Rattle.platoms.specs.Names.{functor_name}
 use Rattle.plread.specs.Texts.{listed}

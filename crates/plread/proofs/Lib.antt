@@ -1,3 +1,4 @@
+pub mod Meeting
 pub mod Joined
 pub mod Steps
 pub mod Bounds

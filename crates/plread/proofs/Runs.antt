@@ -11,7 +11,8 @@ use Rattle.plread.specs.Words.{Lexicon}
 use Rattle.plread.specs.Views.{stack_view, Turned}
 use Rattle.plread.specs.Reading.{Reads, Spells}
 use Rattle.plread.specs.Answers.{IsSpelled}
-use Rattle.plread.specs.Machine.{State, After, Goes, Done, Fails, step, Meets, MeetsAfter, held, one_if}
+use Rattle.plread.specs.Machine.{State, After, Goes, Done, Fails, step, held, one_if}
+use Rattle.plread.proofs.Meeting.{Meets, MeetsAfter}
 use Rattle.plread.proofs.Steps.{Ready, kept, only}
 use Rattle.plread.proofs.Bounds.{Bounded, step_bounded}
 

@@ -10,7 +10,8 @@ use Rattle.plread.specs.Levels.{Level}
 use Rattle.plread.specs.Levels as frames
 use Rattle.plread.specs.Texts.{nil, curly, list_term}
 use Rattle.plread.specs.Reading.{count, Start, Stands, Opens, OpensList, OpensCurly, Calls, Before, NoStart, Next, Between, Behind, Stop, start_of, next_of, Reads, reads, Begins, leaf, bracket, list, braces, call, before_op, Extends, stop, between_op, behind_op, Arguments, last, another, Elements, closed, tailed, element}
-use Rattle.plread.specs.Machine.{max_of, After, Fails, wants, goes_on, stops, closes, curls, argues, lists, tails, ends, step_at, Extended, Completes, Follow, FollowList, with_list, Wanted, Given, Meets_at, MeetsAfter}
+use Rattle.plread.specs.Machine.{max_of, After, Fails, wants, goes_on, stops, closes, curls, argues, lists, tails, ends, step_at}
+use Rattle.plread.proofs.Meeting.{Extended, Completes, Follow, FollowList, with_list, Wanted, Given, Meets_at, MeetsAfter}
 
 first_of_few : (args : Trees) → suc (count args) ≤ 1024 → suc 0 + count args ≤ 1024
 first_of_few args h = omega arith

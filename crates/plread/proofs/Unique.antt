@@ -4,7 +4,8 @@ use Rattle.plterm.specs.Tree.{Tree}
 use Rattle.plops.specs.declared.table.OpTable.{OpTable}
 use Rattle.plread.specs.Signs.{Sign}
 use Rattle.plread.specs.Reading.{Spells}
-use Rattle.plread.specs.Machine.{State, After, Goes, Done, Fails, step, Meets, MeetsAfter, held, one_if}
+use Rattle.plread.specs.Machine.{State, After, Goes, Done, Fails, step, held, one_if}
+use Rattle.plread.proofs.Meeting.{Meets, MeetsAfter}
 use Rattle.plread.proofs.Steps.{kept}
 use Rattle.plread.proofs.Bounds.{Bounded, step_bounded}
 use Rattle.plread.proofs.Runs.{size, first, at_first}

@@ -5,5 +5,3 @@ pub mod Steps
 pub mod Ends
 pub mod Serve
 pub mod Start
-pub mod HaltingRows
-pub mod Halting

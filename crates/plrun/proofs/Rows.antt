@@ -11,7 +11,7 @@ use Rattle.plevent.specs.declared.standing.Thread.{Thread}
 use Rattle.plevent.specs.declared.standing.Standing.{Standing}
 use Rattle.plevent.specs.declared.update.ClauseName.{ClauseName}
 use Rattle.plevent.specs.declared.update.Update.TheVariants.{Erase}
-use Rattle.plevent.specs.Alive.{add_if, is_alive}
+use Rattle.plevent.specs.Alive.{change_if, is_alive}
 use Rattle.plevent.specs.Reading.{Reading, is_thread}
 use Rattle.plevent.specs.Rows.{row, erase_row, served, served_while, is_workers, is_leave, is_new, start_row, runs}
 use Rattle.plhist.specs.Follows.{last_of}
@@ -40,8 +40,8 @@ free-runs t r f = runs-found t r.threads f.row f.found (ap is_some f.started) (a
 pub row-served : (q : Request) (t : ℕ) (r : Reading) → is_workers q ≡ false → Free t r.standing → served q t r ≡ row q t r
 unfolding served
 row-served q t r workers f =
-    ap (λ o. add_if (is_some o && not (is_leave q)) (Reply.Stopped, None) (served_while q t r)) f.goes
-    ∙ ap₂ (λ a b. add_if (a || b) (row q t r) (Reply.NotYet q, None)) workers (free-runs t r.standing f)
+    ap (λ o. change_if (is_some o && not (is_leave q)) (Reply.Stopped, None) (served_while q t r)) f.goes
+    ∙ ap₂ (λ a b. change_if (a || b) (row q t r) (Reply.NotYet q, None)) workers (free-runs t r.standing f)
 
 started-by : (t : ℕ) (r : Standing) → Free t r → worker_of t r.threads ≡ Some 1
 started-by t r f = ap (option_and_then (λ x. x.worker)) f.found ∙ f.started
@@ -78,7 +78,7 @@ last-due e t r f = record { asked = last_of e; thread = t; may = last_may e t r.
 -- Start takes a new thread, if there is one
 pub start-served : (t : ℕ) (r : Reading) → r.standing.halted ≡ None → served Request.Start t r ≡ start_row r.standing (find is_new r.standing.threads)
 unfolding served
-start-served t r goes = ap (λ o. add_if (is_some o && true) (Reply.Stopped, None) (served_while Request.Start t r)) goes
+start-served t r goes = ap (λ o. change_if (is_some o && true) (Reply.Stopped, None) (served_while Request.Start t r)) goes
 
 pub start-due : (t : ℕ) (r : Reading) (x : Thread) → r.standing.halted ≡ None → find is_new r.standing.threads ≡ Some x → IsDue r (record { worker = 1; thread = x.number; act = Act.Start })
 start-due t r x goes is = record { asked = Request.Start; thread = t; may = (omega arith, omega arith); made = ap (λ y. y.1) (start-served t r goes) ∙ ap (λ o. (start_row r.standing o).1) is }

@@ -29,14 +29,14 @@ use Rattle.plsearch.specs.Solving.{TakesOne, StandsAt, EndsAt}
 use Rattle.plsolver.specs.Solver.{IsReplyTo}
 use Rattle.plstore.specs.Looking.{Views}
 use Rattle.plrun.specs.Going.{AreViews, Free, Going, IsClosed, IsRunning, IsHalted, IsStarted, Runs, Halts, views_of}
-use Rattle.plrun.specs.Halts.{IsCommon, told, told_places}
+use Rattle.plrun.specs.Halts.{told, told_places}
 use Rattle.plrun.specs.Overall.{IsHistory}
 use Rattle.plrun.proofs.Grow.{sound-push}
 use Rattle.plrun.proofs.Free.{is_plain}
 use Rattle.plrun.proofs.Rows.{row-served, publish-due, erase-due, last-served, last-due, act_of}
 use Rattle.plrun.proofs.Steps.{GoesAt, TakesAt, asks-same, going-goes, going-view, going-reply, going-act, older-views, own-views}
 use Rattle.plrun.proofs.Ends.{asked-last, ended-told}
-use Rattle.plrun.proofs.Halting.{HaltsWhenDone, HaltsNoSooner}
+use Rattle.plsearch.specs.Halts.{HaltsWhenDone, HaltsNoSooner, IsCommon}
 
 -- what is within a journal is within a longer one
 pub longer : (h later more : List Entry) (n : ℕ) → later ≡ h ++ more → n ≤ length h → n ≤ length later

@@ -10,7 +10,7 @@ use Rattle.plevent.specs.declared.act.Act.{Act}
 use Rattle.plevent.specs.declared.act.Entry.{Entry}
 use Rattle.plevent.specs.declared.standing.Thread.{Thread}
 use Rattle.plevent.specs.declared.standing.Standing.{Standing}
-use Rattle.plevent.specs.Alive.{add_if}
+use Rattle.plevent.specs.Alive.{change_if}
 use Rattle.plevent.specs.Reading.{reading, new_thread, main}
 use Rattle.plevent.specs.Rows.{served, served_while, start_row, adds, reply_to, entries_of, is_new, is_over}
 use Rattle.plevent.specs.Search.{Search}
@@ -75,7 +75,7 @@ over_row r m alone goes over = go m.worker refl
     go None is = absurd (true≢false (sym over ∙ rw (goes, alone) (rw is refl)))
     go (Some w) is =
         let none : find is_new r.threads ≡ None = rw alone (rw is refl) in
-        ap (start_row r) none ∙ ap (λ b. (add_if b Reply.RunOver (Reply.NotYet Request.Start), None)) over
+        ap (start_row r) none ∙ ap (λ b. (change_if b Reply.RunOver (Reply.NotYet Request.Start), None)) over
 
 -- where a run is over, no thread is started
 record Unstarted (h : List Entry) : Type 0 where
@@ -88,7 +88,7 @@ unfolding served
 over_served h over = go (reading h).standing.halted refl
   where
     stopped : (n : ℕ) → (reading h).standing.halted ≡ Some n → served Request.Start 0 (reading h) ≡ (Reply.Stopped, None)
-    stopped n is = ap (λ o. add_if (is_some o && true) (Reply.Stopped, None) (served_while Request.Start 0 (reading h))) is
+    stopped n is = ap (λ o. change_if (is_some o && true) (Reply.Stopped, None) (served_while Request.Start 0 (reading h))) is
 
     go : (o : Option ℕ) → (reading h).standing.halted ≡ o → Unstarted h
     go (Some n) is = record { told = Reply.Stopped; row = stopped n is; never = λ n a g same. cc }

@@ -18,7 +18,7 @@ use Rattle.plstore.proofs.Names.{before-ordered}
 use Rattle.plviews.specs.Views.{AreOrdered}
 use Rattle.plworld.proofs.Push.{names-rise, view-stays}
 use Rattle.plrun.specs.Going.{AreViews, Going, views_of}
-use Rattle.plrun.specs.Halts.{IsCommon, AreCommon}
+use Rattle.plsearch.specs.Halts.{IsCommon, AreCommon}
 use Rattle.plrun.proofs.Grow.{own-push, takes-grow, takes-push}
 use Rattle.plrun.proofs.Free.{free-plain, is_plain}
 

@@ -13,7 +13,7 @@ use Rattle.plhist.specs.Follows.{own, Taken, takes, from_start, asks_of, HasAske
 use Rattle.plhist.specs.Legal.{Legal, ByOneWorker, Over}
 use Rattle.plstore.specs.Looking.{Views}
 use Rattle.plviews.specs.Views.{AreOrdered}
-use Rattle.plrun.specs.Halts.{AreCommon}
+use Rattle.plsearch.specs.Halts.{AreCommon}
 
 -- worker 1 started it, it has not ended, and no thread has ended the run
 pub record Free (t : ℕ) (r : Standing) : Type 0 where

@@ -7,7 +7,7 @@ use Rattle.plevent.specs.declared.update.Update.{Update}
 use Rattle.plevent.specs.declared.act.Act.{Act}
 use Rattle.plevent.specs.declared.act.Entry.{Entry}
 use Rattle.plevent.specs.declared.standing.Thread.{Thread}
-use Rattle.plevent.specs.Alive.{add_if, is_alive}
+use Rattle.plevent.specs.Alive.{change_if, is_alive}
 use Rattle.plevent.specs.Reading.{Reading, reading, read}
 use Rattle.plevent.specs.Rows.{Row, is_over, is_halted, is_new, stays, is_workers, is_leave, runs, start_row, finish_row, erase_row, leave_row, row, served}
 use Rattle.plhist.specs.Legal.{worker_of, MayAsk, IsDue, AllDue, opening}
@@ -62,11 +62,11 @@ leave-makes q t r owner us is = absurd (over (is_over r.standing) is)
     left : ◌≡◌ {A = Option (ℕ × Act)} (Some (t, Act.Left)) (Some (owner, Act.Batch us)) → ⊥
     left is = let same : Act.Left ≡ Act.Batch us = ap act_in is in cc
 
-    stood : (b : Bool) → add_if {A = Option (ℕ × Act)} b (Some (t, Act.Left)) None ≡ Some (owner, Act.Batch us) → ⊥
+    stood : (b : Bool) → change_if {A = Option (ℕ × Act)} b (Some (t, Act.Left)) None ≡ Some (owner, Act.Batch us) → ⊥
     stood true is = left is
     stood false is = none-some (owner, Act.Batch us) is
 
-    over : (b : Bool) → Makes (add_if b (Reply.Done, add_if (stays t r.standing) (Some (t, Act.Left)) None) (Reply.NotYet Request.Leave, None)) owner us → ⊥
+    over : (b : Bool) → Makes (change_if b (Reply.Done, change_if (stays t r.standing) (Some (t, Act.Left)) None) (Reply.NotYet Request.Leave, None)) owner us → ⊥
     over true is = stood (stays t r.standing) is
     over false is = none-some (owner, Act.Batch us) is
 

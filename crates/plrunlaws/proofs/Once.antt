@@ -6,7 +6,7 @@ use Rattle.plevent.specs.declared.request.Reply.{Reply}
 use Rattle.plevent.specs.declared.act.Act.{Act}
 use Rattle.plevent.specs.declared.act.Entry.{Entry}
 use Rattle.plevent.specs.declared.standing.Thread.{Thread}
-use Rattle.plevent.specs.Alive.{add_if}
+use Rattle.plevent.specs.Alive.{change_if}
 use Rattle.plevent.specs.Reading.{Reading, reading, read, blank, changed_first, is_thread, threads_after, halted_after}
 use Rattle.plevent.specs.Rows.{is_halted, is_workers, is_leave, runs, served}
 use Rattle.plevent.specs.Search.{Ask, Got}
@@ -30,7 +30,7 @@ changed-ended : (t other : ℕ) (f : Thread → Thread) → ((x : Thread) → (f
 changed-ended t other f same keeps [] all = tt
 changed-ended t other f same keeps (x ∷ xs) all = go (is_thread other x) (changed-ended t other f same keeps xs all.1)
   where
-    go : (b : Bool) → AllEnded t (changed_first (is_thread other) f xs) → AllEnded t (add_if b (f x ∷ xs) (x ∷ changed_first (is_thread other) f xs))
+    go : (b : Bool) → AllEnded t (changed_first (is_thread other) f xs) → AllEnded t (change_if b (f x ∷ xs) (x ∷ changed_first (is_thread other) f xs))
     go true more = (λ is. keeps x (all.0 (sym (same x) ∙ is)), all.1)
     go false more = (all.0, more)
 
@@ -74,7 +74,7 @@ runs-not t (x ∷ xs) all is = runs-not t xs all.1 (sym (ap (λ b. b || list_any
 end-all : (t w : ℕ) (e : ThreadEnd) (row : Thread) (ts : List Thread) → ts ≡ row ∷ [] → AllEnded t (threads_after w t (Act.End e) ts)
 end-all t w e row ts alone = subst (λ l. AllEnded t (threads_after w t (Act.End e) l)) (sym alone) (go (nat_eq row.number t) refl)
   where
-    go : (b : Bool) → nat_eq row.number t ≡ b → AllEnded t (add_if b (record row { ended = Some e } ∷ []) (row ∷ []))
+    go : (b : Bool) → nat_eq row.number t ≡ b → AllEnded t (change_if b (record row { ended = Some e } ∷ []) (row ∷ []))
     go true is = (λ same. refl, tt)
     go false is = (λ same. absurd (never (sym (eq-eqb row.number t same) ∙ is)), tt)
       where

@@ -5,6 +5,8 @@ pub mod Ends
 pub mod Levels
 pub mod Bounds
 pub mod Cuts
+pub mod HaltingRows
+pub mod Halting
 mod Worked
 mod WorkedTransactions
 pub mod WorkedClauses

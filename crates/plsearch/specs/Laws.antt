@@ -10,6 +10,7 @@ use Rattle.plsearch.specs.Machines.Machine.{Machine, At, Back, Rest, turn}
 use Rattle.plsearch.specs.Machines.Levels.{AreAtMost, emptied}
 use Rattle.plsearch.specs.Machines.Weight.{Lighter}
 use Rattle.plsearch.specs.Search.{search_of}
+use Rattle.plsearch.specs.Halts.{HaltsNoSooner, HaltsWhenDone}
 
 -- a list is visited by one walk, and what comes behind a step or an answer by the search again
 abbrev pub VisitsByWalks : Type 0
@@ -39,3 +40,7 @@ CutsEmpty = (P : Program) (k : ℕ) (cs below : List Case) (ps : List Place) (p 
 abbrev pub CatchersEmpty : Type 0
 CatchersEmpty = (P : Program) (k : ℕ) (c r : Tree) (q : Place) (cs below : List Case) (p : Place) (run : Run) → deeper below 0 ≡ suc k → AreAtMost k p.goals →
     Rest P (record { mode = At p; cases = emptied cs (Handle (Catch c r) q ∷ below); run = run }) ≡ Rest P (record { mode = At p; cases = emptied cs (Choice [] ∷ below); run = run })
+
+-- The search ends the run where it has asked for that and is told that it is done, and in no other way.
+abbrev pub EndsRunWhenDone : Type 0
+EndsRunWhenDone = (P : Program) (limit : ℕ) → HaltsWhenDone (search_of P limit) × HaltsNoSooner (search_of P limit)

@@ -13,4 +13,5 @@ pub mod Engine
 pub mod Search
 pub mod Solving
 pub mod Machines
+pub mod Halts
 pub mod Laws

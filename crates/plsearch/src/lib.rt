@@ -8,7 +8,7 @@
 //! laws and for proofs.
 #![tactic(auto)]
 
-ghost use Rattle.plsearch.specs.Laws.{VisitsByWalks, TurnsKeepRest, TurnsEnd, EndsIgnoreAnswers, CutsEmpty, CatchersEmpty};
+ghost use Rattle.plsearch.specs.Laws.{VisitsByWalks, TurnsKeepRest, TurnsEnd, EndsIgnoreAnswers, CutsEmpty, CatchersEmpty, EndsRunWhenDone};
 
 /// A list of goals is visited by one walk, and what comes behind a step or an answer by the search again.
 #[tactic(auto, using(crate::proofs::Fuel::laws))]
@@ -44,4 +44,10 @@ pub fn cuts_empty()
 #[tactic(auto, using(crate::proofs::Cuts::laws))]
 pub fn catchers_empty()
     ensures { CatchersEmpty }
+{}
+
+/// A search that asks to end the run has ended so once that is done, and ends the run in no other way.
+#[tactic(auto, using(crate::proofs::Halting::laws))]
+pub fn ends_run_when_done()
+    ensures { EndsRunWhenDone }
 {}

@@ -8,7 +8,7 @@ use Rattle.plcells.specs.Store.{value}
 use Rattle.plclause.specs.Indicators.{indicator}
 use Rattle.plevent.specs.declared.update.ClauseName.{ClauseName}
 use Rattle.plevent.specs.declared.update.Living.{Living}
-use Rattle.plevent.specs.Alive.{Stamped, same_name, add_if, living, names_of}
+use Rattle.plevent.specs.Alive.{Stamped, same_name, change_if, living, names_of}
 use Rattle.plevent.specs.Keys.{first_key}
 use Rattle.plstore.specs.declared.query.Query.{Query}
 use Rattle.plstore.specs.declared.record.Cursor.{Cursor}
@@ -41,7 +41,7 @@ other-is x y e is = false≢true (sym e ∙ ap (same_name x) (sym is) ∙ same-s
 
 none-past : (z x : ClauseName) (ys : List Living) → NoneNamed z ys → NoneNamed z (past x ys)
 none-past z x [] n = tt
-none-past z x (y ∷ ys) n = elim (same_name x y.name) as (λ b. NoneNamed z (add_if b ys (past x ys))) [ true ↦ n.1 | false ↦ none-past z x ys n.1 ]
+none-past z x (y ∷ ys) n = elim (same_name x y.name) as (λ b. NoneNamed z (change_if b ys (past x ys))) [ true ↦ n.1 | false ↦ none-past z x ys n.1 ]
 
 module _ (t : Living → Bool) where
   -- the first name that passes a test is that of none that the list has not
@@ -62,23 +62,23 @@ module _ (t : Living → Bool) where
       by-case true r h =
           let is : x.name ≡ y = cc in
           subst (λ w. x.name ∷ names_of (filter t xs) ≡ w ∷ names_of (filter t (past w (x ∷ xs)))) is
-          (ap (λ b. x.name ∷ names_of (filter t (add_if b xs (past x.name xs)))) (sym (same-self x.name)))
+          (ap (λ b. x.name ∷ names_of (filter t (change_if b xs (past x.name xs)))) (sym (same-self x.name)))
       by-case false r h =
           r h
-          ∙ ap (λ b. y ∷ names_of (filter t (add_if b xs (past y xs)))) (sym (first-other x.name y xs a.0 h))
+          ∙ ap (λ b. y ∷ names_of (filter t (change_if b xs (past y xs)))) (sym (first-other x.name y xs a.0 h))
 
   -- and so behind a name
   next-then : (x y : ClauseName) (zs : List Living) → Apart zs → head (names_of (filter t (past x zs))) ≡ Some y → names_of (filter t (past x zs)) ≡ y ∷ names_of (filter t (past y zs))
   next-then x y [] a e = absurd (cc)
   next-then x y (z ∷ zs) a e = by-case (same_name x z.name) (next-then x y zs a.1) e
     where
-      by-case : (b : Bool) → (head (names_of (filter t (past x zs))) ≡ Some y → names_of (filter t (past x zs)) ≡ y ∷ names_of (filter t (past y zs))) → head (names_of (filter t (add_if b zs (past x zs)))) ≡ Some y → names_of (filter t (add_if b zs (past x zs))) ≡ y ∷ names_of (filter t (past y (z ∷ zs)))
+      by-case : (b : Bool) → (head (names_of (filter t (past x zs))) ≡ Some y → names_of (filter t (past x zs)) ≡ y ∷ names_of (filter t (past y zs))) → head (names_of (filter t (change_if b zs (past x zs)))) ≡ Some y → names_of (filter t (change_if b zs (past x zs))) ≡ y ∷ names_of (filter t (past y (z ∷ zs)))
       by-case true r h =
           first-then y zs a.1 h
-          ∙ ap (λ b. y ∷ names_of (filter t (add_if b zs (past y zs)))) (sym (first-other z.name y zs a.0 h))
+          ∙ ap (λ b. y ∷ names_of (filter t (change_if b zs (past y zs)))) (sym (first-other z.name y zs a.0 h))
       by-case false r h =
           r h
-          ∙ ap (λ b. y ∷ names_of (filter t (add_if b zs (past y zs)))) (sym (first-other z.name y (past x zs) (none-past z.name x zs a.0) h))
+          ∙ ap (λ b. y ∷ names_of (filter t (change_if b zs (past y zs)))) (sym (first-other z.name y (past x zs) (none-past z.name x zs a.0) h))
 
 -- a name and those behind it, if there is one
 abbrev pub names_from_if : List Stamped → Tree → Option ClauseName → List ClauseName

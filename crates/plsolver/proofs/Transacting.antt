@@ -3,7 +3,7 @@ use Rattle.std.proofs.Common.{◌≡◌, ℕ, zero, suc, ◌+◌, ◌≤◌, Boo
 use Rattle.std.specs.Prelude.{Result as Outcomes, Ok, Err, OnOk}
 use Rattle.std.proofs.lemmas.List.{length-take, reverse-append}
 use Rattle.plevent.specs.Search.{Answer}
-use Rattle.plevent.specs.Alive.{add_if}
+use Rattle.plevent.specs.Alive.{change_if}
 use Rattle.plevent.specs.declared.update.Update.{Update}
 use Rattle.plevent.specs.declared.update.ClauseName.{ClauseName}
 use Rattle.plevent.specs.declared.request.Request.TheVariants.{Publish}
@@ -93,19 +93,19 @@ take-again (suc n) (x ∷ xs) = ap (λ ys. x ∷ ys) (take-again n xs)
 -- at least as many as at its start are left, and up to there they are the same
 module _ (kept : Bool) (us : List Update) (start : ℕ) where
   abbrev left-over : List Update
-  left-over = add_if kept us (take start us)
+  left-over = change_if kept us (take start us)
 
   enough : start ≤ length us → start ≤ length left-over
   enough le = go kept
     where
-      go : (b : Bool) → start ≤ length (add_if b us (take start us))
+      go : (b : Bool) → start ≤ length (change_if b us (take start us))
       go true = le
       go false = omega (arith, le, length-take start us)
 
   so-far : take start left-over ≡ take start us
   so-far = go kept
     where
-      go : (b : Bool) → take start (add_if b us (take start us)) ≡ take start us
+      go : (b : Bool) → take start (change_if b us (take start us)) ≡ take start us
       go true = refl
       go false = take-again start us
 
@@ -151,13 +151,13 @@ module _ (s : Reached) (t : Reached) (success : Bool) (tied : IsTied s) (e : End
   -- one inside of another
   module _ (l m : Level) (ms : List Level) (levels : own.levels ≡ l ∷ m ∷ ms) (begins : l.start ≡ e.start) (outside : map (λ l. l.start) (m ∷ ms) ≡ reverse e.older) where
     abbrev left : Own
-    left = record own { updates = add_if (is_kept success l.kind) own.updates (take l.start own.updates); levels = m ∷ ms }
+    left = record own { updates = change_if (is_kept success l.kind) own.updates (take l.start own.updates); levels = m ∷ ms }
 
     inner-own : t.layer.own ≡ left
     inner-own = own-is ∙ ap (ended_at success own) levels
 
     inner-updates : t.layer.own.updates ≡ left-over (is_kept success l.kind) own.updates e.start
-    inner-updates = ap (λ (x : Own). x.updates) inner-own ∙ ap (λ n. add_if (is_kept success l.kind) own.updates (take n own.updates)) begins
+    inner-updates = ap (λ (x : Own). x.updates) inner-own ∙ ap (λ n. change_if (is_kept success l.kind) own.updates (take n own.updates)) begins
 
     at-start : t.stack.basis.latest.count ≡ e.start
     at-start = ap (λ (b : Basis). b.latest.count) e.is
@@ -207,12 +207,12 @@ place-ends old new e = ap (λ (b : Basis). b.latest.place) e.is
 pub publish-some : (own : Own) (us : List Update) → ending true own ≡ Ended.Publish us → us ≡ [] → ⊥
 publish-some own us ends none = go own.levels own.updates ends
   where
-    one : (b : Bool) (vs : List Update) → add_if b (own_published vs) Ended.Dropped ≡ Ended.Publish us → ⊥
+    one : (b : Bool) (vs : List Update) → change_if b (own_published vs) Ended.Dropped ≡ Ended.Publish us → ⊥
     one true [] e = cc
     one true (u ∷ vs) e = let f : u ∷ vs ≡ us = cc in let g : u ∷ vs ≡ [] = f ∙ none in cc
     one false vs e = cc
 
-    inner : (b : Bool) → add_if b Ended.Merged Ended.Dropped ≡ Ended.Publish us → ⊥
+    inner : (b : Bool) → change_if b Ended.Merged Ended.Dropped ≡ Ended.Publish us → ⊥
     inner true e = cc
     inner false e = cc
 

@@ -1,7 +1,8 @@
 -- A clause's head against a goal.
 use Rattle.std.proofs.Common.{◌≡◌, ℕ, zero, suc, ◌+◌, List, [], ◌∷◌, length, map, refl, sym, ap, ap₂, ◌∙◌, subst, arith, Option, Some, None}
 use Rattle.std.proofs.lemmas.List.{length-map}
-use Rattle.plterm.specs.Tree.{Tree, Trees, var, int, atom, compound, none, more, trees, list_of, list_of-trees}
+use Rattle.plterm.specs.Tree.{Tree, Trees, var, int, atom, compound, none, more, trees, list_of}
+use Rattle.plterm.proofs.Forests.{list_of-trees}
 use Rattle.plterm.specs.Variables.{AllBelow, EachBelow}
 use Rattle.plterm.specs.declared.indicator.Indicator.{Indicator}
 use Rattle.plsubst.specs.Subst.{bind, bind_all, shift}

@@ -1,6 +1,7 @@
 -- The key of a compound.
 use Rattle.std.proofs.Common.{ℕ, suc}
-use Rattle.plterm.specs.Tree.{trees, list_of-trees}
+use Rattle.plterm.specs.Tree.{trees}
+use Rattle.plterm.proofs.Forests.{list_of-trees}
 use Rattle.plcells.specs.Store.{Store, IsBlock, term, terms}
 use Rattle.plcode.specs.Keys.{IsCompound}
 use Rattle.plhead.proofs.Trees.{length-spread}

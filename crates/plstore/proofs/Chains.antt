@@ -1,14 +1,14 @@
 -- The links of a class pass all its clauses.
-use Rattle.std.proofs.Common.{◌≡◌, ◌+◌, refl, sym, ◌∙◌, ap, subst, arith, ℕ, suc, zero, ◌<◌, ◌≤◌, Bool, true, false, cond, List, [], ◌∷◌, ◌++◌, Some, None, length, get_or, take, drop, map, filter, reverse, drop-cons}
+use Rattle.std.proofs.Common.{◌≡◌, ◌+◌, refl, sym, ◌∙◌, ap, subst, arith, ℕ, suc, zero, ◌<◌, ◌≤◌, Bool, true, false, cond, List, [], ◌∷◌, ◌++◌, Option, Some, None, length, get_or, take, drop, map, filter, reverse, drop-cons}
 use Rattle.std.specs.Prelude.{◌&&◌}
 use Rattle.std.proofs.Math.Seq.{take-suc}
 use Rattle.std.proofs.lemmas.List.{append-nil, reverse-append, length-map}
+use Rattle.plevent.specs.declared.update.ClauseName.{ClauseName}
 use Rattle.plevent.specs.declared.update.Living.{Living}
-use Rattle.plevent.specs.Alive.{names_of, add_if, named}
+use Rattle.plevent.specs.Alive.{names_of, change_if, named}
 use Rattle.plterm.specs.Tree.{atom}
 use Rattle.plstore.specs.declared.record.Record.{Record}
 use Rattle.plstore.specs.Kept.{seen, picked, head}
-use Rattle.plstore.specs.Like.{first_where}
 use Rattle.plstore.specs.Links.{first_from, front_of, back_of, fronts, backs, down, up, Class}
 use Rattle.plstore.proofs.Law.{picked-append, picked-cons, cons_if, own}
 use Rattle.plstore.proofs.Bits.{get-in, drop-whole, drop-mark}
@@ -65,12 +65,12 @@ up-some p rs (suc m) k i s e = by-mark (get_or (backs p rs) k false) refl (λ e.
     by-mark : (v : Bool) → get_or (backs p rs) k false ≡ v → (first_from (suc k) (drop (suc k) (backs p rs)) ≡ Some i → UpIs p rs (suc k) i) → UpIs p rs k i
     by-mark true h next =
         let l : k < length (backs p rs) = omega (arith, length-map rs (back_of p)) in
-        let z : Some k ≡ Some i = sym (drop-mark (backs p rs) k l ∙ ap (λ v. add_if v (Some k) (first_from (suc k) (drop (suc k) (backs p rs)))) h) ∙ e in
+        let z : Some k ≡ Some i = sym (drop-mark (backs p rs) k l ∙ ap (λ v. change_if v (Some k) (first_from (suc k) (drop (suc k) (backs p rs)))) h) ∙ e in
         let q : k ≡ i = some-same z in
         record { above = omega arith; within = omega arith; mark = subst (λ n. get_or (backs p rs) n false ≡ true) q h }
     by-mark false h next =
         let l : k < length (backs p rs) = omega (arith, length-map rs (back_of p)) in
-        let z : first_from (suc k) (drop (suc k) (backs p rs)) ≡ Some i = sym (drop-mark (backs p rs) k l ∙ ap (λ v. add_if v (Some k) (first_from (suc k) (drop (suc k) (backs p rs)))) h) ∙ e in
+        let z : first_from (suc k) (drop (suc k) (backs p rs)) ≡ Some i = sym (drop-mark (backs p rs) k l ∙ ap (λ v. change_if v (Some k) (first_from (suc k) (drop (suc k) (backs p rs)))) h) ∙ e in
         let u = next z in
         record { above = omega (arith, u.above); within = u.within; mark = u.mark }
 
@@ -80,6 +80,10 @@ some-record = record { name = named 0 0; clause = record { head = atom []; body 
 -- a mark is that of a record
 pub mark-within : (t : Record → Bool) (rs : List Record) (i : ℕ) → get_or (map t rs) i false ≡ true → i < length rs
 mark-within t rs i h = let l = get-in (map t rs) i h in omega (arith, l, length-map rs t)
+
+-- the name of the first one that passes a test
+abbrev pub first_where : (Living → Bool) → List Living → Option ClauseName
+first_where t xs = head (names_of (filter t xs))
 
 -- the first that is sought
 pub like-cons : (k : Living → Bool) (v : Bool) (x : Living) (xs : List Living) → first_where k (cons_if v x xs) ≡ cond (v && k x) (Some x.name) (first_where k xs)

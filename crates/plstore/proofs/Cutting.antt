@@ -6,11 +6,11 @@ use Rattle.plclause.specs.Clause.{Clause}
 use Rattle.plevent.specs.declared.update.ClauseName.{ClauseName}
 use Rattle.plevent.specs.declared.update.Update.{Update}
 use Rattle.plevent.specs.declared.update.Update.TheVariants.{First, Last, Erase, EraseOwn, Declare}
-use Rattle.plevent.specs.Alive.{Stamped, before, named, add_if}
+use Rattle.plevent.specs.Alive.{Stamped, before, named, change_if}
 use Rattle.plstore.specs.declared.record.Record.{Record}
 use Rattle.plstore.specs.declared.record.Declared.{Declared}
 use Rattle.plstore.specs.Cut.{cut, erased_below, restored}
-use Rattle.plstore.specs.Kept.{Kept, keep, keep_record, keep_declared, kept, noted, made, nothing, changed_where, change_if, erase_at, first_of, is_named}
+use Rattle.plstore.specs.Kept.{Kept, keep, keep_record, keep_declared, kept, noted, made, nothing, changed_where, erase_at, first_of, is_named}
 use Rattle.std.proofs.lemmas.List.{append-nil}
 use Rattle.std.proofs.lemmas.List.Sums.{fold-append}
 use Rattle.plstore.specs.Rising.{AllBelowPlace, AllUnder, Rises}
@@ -65,7 +65,7 @@ noted-push g (e ∷ ds) d = ap (λ l. cond (is_before g e) (e ∷ l) l) (noted-p
 
 -- an erasure at g or above goes
 restored-above : (g b : ℕ) (o : Option ℕ) → g ≤ b → erased_below g (first_of o b) ≡ erased_below g o
-restored-above g b None h = ap (λ v. add_if v (Some b) None) (lt-false b g h)
+restored-above g b None h = ap (λ v. change_if v (Some b) None) (lt-false b g h)
 restored-above g b (Some e) h = refl
 
 restored-if : (g b : ℕ) (v : Bool) (r : Record) → g ≤ b → restored g (change_if v (erase_at b r) r) ≡ restored g r
@@ -171,7 +171,7 @@ earlier-push g [] d h all = (lt-true d.place g h, tt)
 earlier-push g (e ∷ ds) d h all = (all.0, earlier-push g ds d h all.1)
 
 erased-in : (g b : ℕ) (o : Option ℕ) → b < g → erased_below g o ≡ o → erased_below g (first_of o b) ≡ first_of o b
-erased-in g b None h e = ap (λ v. add_if v (Some b) None) (lt-true b g h)
+erased-in g b None h e = ap (λ v. change_if v (Some b) None) (lt-true b g h)
 erased-in g b (Some n) h e = e
 
 in-if : (g b : ℕ) (v : Bool) (r : Record) → b < g → erased_below g r.erased ≡ r.erased → erased_below g (change_if v (erase_at b r) r).erased ≡ (change_if v (erase_at b r) r).erased
@@ -206,9 +206,9 @@ erased-twice : (g h : ℕ) (o : Option ℕ) → g ≤ h → erased_below g (eras
 erased-twice g h None l = refl
 erased-twice g h (Some e) l = by-case (nat_lt e h) refl
   where
-    by-case : (v : Bool) → nat_lt e h ≡ v → erased_below g (add_if v (Some e) None) ≡ add_if (nat_lt e g) (Some e) None
+    by-case : (v : Bool) → nat_lt e h ≡ v → erased_below g (change_if v (Some e) None) ≡ change_if (nat_lt e g) (Some e) None
     by-case true w = refl
-    by-case false w = let m : g ≤ e = omega (arith, is-le e h w) in sym (ap (λ v. add_if v (Some e) None) (lt-false e g m))
+    by-case false w = let m : g ≤ e = omega (arith, is-le e h w) in sym (ap (λ v. change_if v (Some e) None) (lt-false e g m))
 
 records-twice : (g h : ℕ) (rs : List Record) → g ≤ h → records_cut g (records_cut h rs) ≡ records_cut g rs
 records-twice g h [] l = refl
@@ -236,8 +236,8 @@ erased-wider : (g h : ℕ) (o : Option ℕ) → h ≤ g → erased_below h o ≡
 erased-wider g h None l e = refl
 erased-wider g h (Some n) l e = by-case (nat_lt n h) refl e
   where
-    by-case : (v : Bool) → nat_lt n h ≡ v → add_if v (Some n) None ≡ Some n → erased_below g (Some n) ≡ Some n
-    by-case true w e = let m : n < g = omega (arith, is-lt n h w) in ap (λ v. add_if v (Some n) None) (lt-true n g m)
+    by-case : (v : Bool) → nat_lt n h ≡ v → change_if v (Some n) None ≡ Some n → erased_below g (Some n) ≡ Some n
+    by-case true w e = let m : n < g = omega (arith, is-lt n h w) in ap (λ v. change_if v (Some n) None) (lt-true n g m)
     by-case false w e = absurd (cc)
 
 wider-in : (g h : ℕ) (rs : List Record) → h ≤ g → AllIn h rs → AllIn g rs

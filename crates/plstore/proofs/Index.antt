@@ -4,10 +4,10 @@ use Rattle.std.specs.Prelude.{◌&&◌, not}
 use Rattle.std.proofs.lemmas.List.{get_or_append_left, get_or_at, drop-append-le, map-append, length-map, length-drop, get_or-set_same, get_or-set_other, length-set}
 use Rattle.plclause.specs.Clause.{Clause}
 use Rattle.plevent.specs.declared.update.ClauseName.{ClauseName}
-use Rattle.plevent.specs.Alive.{add_if, or_else}
+use Rattle.plevent.specs.Alive.{change_if, or_else}
 use Rattle.plstore.specs.declared.record.Record.{Record}
 use Rattle.plstore.specs.declared.ends.Ends.{Ends}
-use Rattle.plstore.specs.Kept.{made, changed_where, change_if, erase_at, is_named}
+use Rattle.plstore.specs.Kept.{made, changed_where, erase_at, is_named}
 use Rattle.plstore.specs.Links.{last_below, first_from, front_of, back_of, fronts, backs, ends_after, linked_at, links_after, no_ends, Class, IsIndexed}
 use Rattle.plstore.proofs.Bits.{get-in, length-push, last-snoc, last-push, first-snoc, LastIs, last-none, last-some, first-none, first-kept, get-drop, drop-whole, or-nothing, cases}
 
@@ -22,27 +22,27 @@ module _ (x : ClauseName) (c : Clause) (f : Bool) (rs : List Record) where
   backs-push : (p : Class) → backs p more ≡ backs p rs ++ (not f && p c) ∷ []
   backs-push p = map-append (back_of p) rs (made x c f ∷ [])
 
-  last-front : (p : Class) → last_below (fronts p more) (length more) ≡ add_if (f && p c) (Some (length rs)) (last_below (fronts p rs) (length rs))
+  last-front : (p : Class) → last_below (fronts p more) (length more) ≡ change_if (f && p c) (Some (length rs)) (last_below (fronts p rs) (length rs))
   last-front p =
       let bs = fronts p rs in
       let n : length bs ≡ length rs = length-map rs (front_of p) in
       let m : length more ≡ length (bs ++ (f && p c) ∷ []) = length-push rs (made x c f) ∙ ap suc (sym n) ∙ sym (length-push bs (f && p c)) in
       ap₂ last_below (fronts-push p) m ∙ last-push bs (f && p c)
-      ∙ ap (λ k. add_if (f && p c) (Some k) (last_below bs k)) n
+      ∙ ap (λ k. change_if (f && p c) (Some k) (last_below bs k)) n
 
-  last-back : (p : Class) → last_below (backs p more) (length more) ≡ add_if (not f && p c) (Some (length rs)) (last_below (backs p rs) (length rs))
+  last-back : (p : Class) → last_below (backs p more) (length more) ≡ change_if (not f && p c) (Some (length rs)) (last_below (backs p rs) (length rs))
   last-back p =
       let bs = backs p rs in
       let n : length bs ≡ length rs = length-map rs (back_of p) in
       let m : length more ≡ length (bs ++ (not f && p c) ∷ []) = length-push rs (made x c f) ∙ ap suc (sym n) ∙ sym (length-push bs (not f && p c)) in
       ap₂ last_below (backs-push p) m ∙ last-push bs (not f && p c)
-      ∙ ap (λ k. add_if (not f && p c) (Some k) (last_below bs k)) n
+      ∙ ap (λ k. change_if (not f && p c) (Some k) (last_below bs k)) n
 
-  first-back : (p : Class) → first_from 0 (backs p more) ≡ or_else (first_from 0 (backs p rs)) (add_if (not f && p c) (Some (length rs)) None)
+  first-back : (p : Class) → first_from 0 (backs p more) ≡ or_else (first_from 0 (backs p rs)) (change_if (not f && p c) (Some (length rs)) None)
   first-back p =
       let e : 0 + length (backs p rs) ≡ length rs = omega (arith, length-map rs (back_of p)) in
       ap (first_from 0) (backs-push p) ∙ first-snoc 0 (backs p rs) (not f && p c)
-      ∙ ap (λ n. or_else (first_from 0 (backs p rs)) (add_if (not f && p c) (Some n) None)) e
+      ∙ ap (λ n. or_else (first_from 0 (backs p rs)) (change_if (not f && p c) (Some n) None)) e
 
 -- marks of one more record, from those before it
 mark-old : (bs : List Bool) (v : Bool) (i : ℕ) → i < length bs → get_or (bs ++ v ∷ []) i false ≡ true → get_or bs i false ≡ true
@@ -54,11 +54,11 @@ mark-new bs v i e h = sym (get_or_at bs v [] false i (sym e)) ∙ h
 mark-over : (bs : List Bool) (v : Bool) (i : ℕ) → length bs < i → get_or (bs ++ v ∷ []) i false ≡ true → ⊥
 mark-over bs v i l h = let k = get-in (bs ++ v ∷ []) i h in absurd (omega (arith, k, length-push bs v))
 
-first-drop-snoc : (bs : List Bool) (v : Bool) (i : ℕ) → i < length bs → first_from (suc i) (drop (suc i) (bs ++ v ∷ [])) ≡ or_else (first_from (suc i) (drop (suc i) bs)) (add_if v (Some (length bs)) None)
+first-drop-snoc : (bs : List Bool) (v : Bool) (i : ℕ) → i < length bs → first_from (suc i) (drop (suc i) (bs ++ v ∷ [])) ≡ or_else (first_from (suc i) (drop (suc i) bs)) (change_if v (Some (length bs)) None)
 first-drop-snoc bs v i l =
     let e : suc i + length (drop (suc i) bs) ≡ length bs = omega (arith, length-drop (suc i) bs) in
     ap (first_from (suc i)) (drop-append-le (suc i) bs (v ∷ []) (omega arith)) ∙ first-snoc (suc i) (drop (suc i) bs) v
-    ∙ ap (λ n. or_else (first_from (suc i) (drop (suc i) bs)) (add_if v (Some n) None)) e
+    ∙ ap (λ n. or_else (first_from (suc i) (drop (suc i) bs)) (change_if v (Some n) None)) e
 
 linked-length : (o : Option ℕ) (n : ℕ) (xs : List (Option ℕ)) → length (linked_at o n xs) ≡ length xs
 linked-length None n xs = refl
@@ -90,7 +90,7 @@ module _ (x : ClauseName) (c : Clause) (rs : List Record) (next : List (Option �
       by-case false w = refl
 
   -- in front
-  newest-front : (v : Bool) → (cond v (ends_after true (length rs) x.place e) d).newest_front ≡ add_if v (Some (length rs)) (last_below (fronts p rs) (length rs))
+  newest-front : (v : Bool) → (cond v (ends_after true (length rs) x.place e) d).newest_front ≡ change_if v (Some (length rs)) (last_below (fronts p rs) (length rs))
   newest-front true = refl
   newest-front false = ip.front
 
@@ -133,11 +133,11 @@ module _ (x : ClauseName) (c : Clause) (rs : List Record) (next : List (Option �
   }
 
   -- behind
-  oldest-behind : (v : Bool) → p c ≡ v → (cond v (ends_after false (length rs) x.place e) d).oldest_back ≡ or_else (first_from 0 (backs p rs)) (add_if v (Some (length rs)) None)
+  oldest-behind : (v : Bool) → p c ≡ v → (cond v (ends_after false (length rs) x.place e) d).oldest_back ≡ or_else (first_from 0 (backs p rs)) (change_if v (Some (length rs)) None)
   oldest-behind true h = ap (λ (z : Ends). or_else z.oldest_back (Some (length rs))) (same h) ∙ ap (λ o. or_else o (Some (length rs))) ip.oldest
   oldest-behind false h = ip.oldest ∙ sym (or-nothing (first_from 0 (backs p rs)))
 
-  newest-behind : (v : Bool) → (cond v (ends_after false (length rs) x.place e) d).newest_back ≡ add_if v (Some (length rs)) (last_below (backs p rs) (length rs))
+  newest-behind : (v : Bool) → (cond v (ends_after false (length rs) x.place e) d).newest_back ≡ change_if v (Some (length rs)) (last_below (backs p rs) (length rs))
   newest-behind true = refl
   newest-behind false = ip.newest
 
@@ -207,7 +207,7 @@ module _ (x : ClauseName) (c : Clause) (rs : List Record) (next : List (Option �
       ]
     where
       before-end : (v : Bool) → p c ≡ v → get_or (backs p rs) i false ≡ true → i < length (backs p rs) →
-          get_or (linked_at e.newest_back (length rs) (next ++ None ∷ [])) i None ≡ or_else (first_from (suc i) (drop (suc i) (backs p rs))) (add_if v (Some (length (backs p rs))) None)
+          get_or (linked_at e.newest_back (length rs) (next ++ None ∷ [])) i None ≡ or_else (first_from (suc i) (drop (suc i) (backs p rs))) (change_if v (Some (length (backs p rs))) None)
       before-end true f h l = same-class i (same f) l h e.newest_back refl
       before-end false f h l = other-class i f l h ∙ sym (or-nothing (first_from (suc i) (drop (suc i) (backs p rs))))
 

@@ -10,11 +10,11 @@ use Rattle.plclause.specs.Clause.{Clause}
 use Rattle.plevent.specs.declared.update.ClauseName.{ClauseName}
 use Rattle.plterm.specs.declared.indicator.Indicator.{Indicator}
 use Rattle.plevent.specs.declared.update.Living.{Living}
-use Rattle.plevent.specs.Alive.{Stamped, same_name, is_of, named, add_if, lives_as, changed, change, without, living, before, lives, is_alive}
+use Rattle.plevent.specs.Alive.{Stamped, same_name, is_of, named, change_if, lives_as, changed, change, without, living, before, lives, is_alive}
 use Rattle.std.specs.List.{list_any}
 use Rattle.plstore.specs.declared.record.Record.{Record}
 use Rattle.plstore.specs.Rising.{Rises, AllUnder}
-use Rattle.plstore.specs.Kept.{changed_where, change_if, made, first_of, erase_at, is_named, kept, keep_record, not_below, seen, in_front, behind_all, livings, picked, walk, is_here}
+use Rattle.plstore.specs.Kept.{changed_where, made, first_of, erase_at, is_named, kept, keep_record, not_below, seen, in_front, behind_all, livings, picked, walk, is_here}
 
 abbrev pub own : Record → Living
 own r = lives_as r.name r.clause
@@ -159,16 +159,16 @@ made-below g x s h = ap (λ v. (v && true) && s) (lt-true x.place g h)
 made-above : (g : ℕ) (x : ClauseName) (s : Bool) → g ≤ x.place → (nat_lt x.place g && true) && s ≡ false
 made-above g x s h = ap (λ v. (v && true) && s) (lt-false x.place g h)
 
-front-more : (b : Bool) (x : Living) (us vs : List Living) → reverse (us ++ cons_if b x []) ++ vs ≡ add_if b (x ∷ reverse us ++ vs) (reverse us ++ vs)
+front-more : (b : Bool) (x : Living) (us vs : List Living) → reverse (us ++ cons_if b x []) ++ vs ≡ change_if b (x ∷ reverse us ++ vs) (reverse us ++ vs)
 front-more true x us vs = ap (λ l. l ++ vs) (reverse-append us (x ∷ []))
 front-more false x us vs = ap (λ l. reverse l ++ vs) (append-nil us)
 
-back-more : (b : Bool) (x : Living) (us vs : List Living) → us ++ (vs ++ cons_if b x []) ≡ add_if b ((us ++ vs) ++ x ∷ []) (us ++ vs)
+back-more : (b : Bool) (x : Living) (us vs : List Living) → us ++ (vs ++ cons_if b x []) ≡ change_if b ((us ++ vs) ++ x ∷ []) (us ++ vs)
 back-more true x us vs = sym (append_assoc us vs (x ∷ []))
 back-more false x us vs = ap (λ l. us ++ l) (append-nil vs)
 
 pub walk-first-after : (g : ℕ) (p : Indicator) (x : ClauseName) (c : Clause) (rs : List Record) → x.place < g →
-    walk g p (rs ++ made x c true ∷ []) ≡ add_if (is_of p c) (lives_as x c ∷ walk g p rs) (walk g p rs)
+    walk g p (rs ++ made x c true ∷ []) ≡ change_if (is_of p c) (lives_as x c ∷ walk g p rs) (walk g p rs)
 unfolding walk
 walk-first-after g p x c rs h =
     ap₂ (λ u v. reverse u ++ v)
@@ -177,7 +177,7 @@ walk-first-after g p x c rs h =
     ∙ front-more (is_of p c) (lives_as x c) (picked (in_front p) g rs) (picked (behind_all p) g rs)
 
 pub walk-last-after : (g : ℕ) (p : Indicator) (x : ClauseName) (c : Clause) (rs : List Record) → x.place < g →
-    walk g p (rs ++ made x c false ∷ []) ≡ add_if (is_of p c) (walk g p rs ++ lives_as x c ∷ []) (walk g p rs)
+    walk g p (rs ++ made x c false ∷ []) ≡ change_if (is_of p c) (walk g p rs ++ lives_as x c ∷ []) (walk g p rs)
 unfolding walk
 walk-last-after g p x c rs h =
     ap₂ (λ u v. reverse u ++ v)

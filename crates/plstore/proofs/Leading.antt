@@ -4,7 +4,7 @@ use Rattle.std.specs.Prelude.{IfSome}
 use Rattle.std.specs.Option.{option_or}
 use Rattle.std.proofs.lemmas.List.{length-drop, length-map}
 use Rattle.std.proofs.lemmas.Bool.Decides.{nat_tests}
-use Rattle.plevent.specs.Alive.{add_if}
+use Rattle.plevent.specs.Alive.{change_if}
 use Rattle.plstore.specs.declared.ends.Ends.{Ends}
 use Rattle.plstore.specs.declared.links.Links.{Links}
 use Rattle.plstore.specs.declared.record.Record.{Record}
@@ -14,12 +14,17 @@ use Rattle.plstore.specs.Chains.{IsChain}
 use Rattle.plstore.specs.Kept.{seen}
 use Rattle.plstore.specs.Links.{last_below, first_from, first_end, front_of, back_of, fronts, backs, Class, IsIndexed, IsLinked, Marked}
 use Rattle.plstore.specs.Merged.{MayStand}
-use Rattle.plstore.specs.Parts.{after, left, marks, side_of}
+use Rattle.plstore.specs.Parts.{after, left, marks}
 use Rattle.plstore.specs.Runs.{end_at, no_place, AllGone, HasRuns}
 use Rattle.plstore.proofs.Bits.{LastIs, cases, get-drop, last-none, last-some, none-first}
 use Rattle.plstore.proofs.Chains.{mark-within, up-some}
 use Rattle.plstore.proofs.Passing.{first-above, hidden, linked}
 use Rattle.plstore.proofs.Visible.{front-is, back-is}
+
+-- which records are of c, on one side
+abbrev pub side_of : Bool → Class → Record → Bool
+side_of true c r = front_of c r
+side_of false c r = back_of c r
 
 pub marks-is : (f : Bool) (c : Class) (rs : List Record) (j : ℕ) (d : Record) → j < length rs → get_or (marks f c rs) j false ≡ side_of f c (get_or rs j d)
 marks-is true c rs j d l = front-is c rs j d l
@@ -125,7 +130,7 @@ ends-at f c g rs places i n runs h e = subst (EndsAt f c g rs i) (sym e) (by-run
     here : EndsAt f c g rs i i
     here = record { order = omega arith; mark = h; passed = λ j d w m s b. b }
 
-    by-test : (r : Run) → (get_or places i no_place).run ≡ Some r → (v : Bool) → nat_lt r.latest g ≡ v → EndsAt f c g rs i (add_if v r.last i)
+    by-test : (r : Run) → (get_or places i no_place).run ≡ Some r → (v : Bool) → nat_lt r.latest g ≡ v → EndsAt f c g rs i (change_if v r.last i)
     by-test r k false t = here
     by-test r k true t = run-ends f c g rs places i r runs h k (lt-below r.latest g t)
 

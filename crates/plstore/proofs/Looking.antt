@@ -5,7 +5,7 @@ use Rattle.std.proofs.lemmas.Bool.Decides.{nat_tests}
 use Rattle.plevent.specs.declared.update.Update.{Update}
 use Rattle.plevent.specs.declared.update.Update.TheVariants.{First, Last, Erase, EraseOwn, Declare}
 use Rattle.plevent.specs.declared.update.ClauseName.{ClauseName}
-use Rattle.plevent.specs.Alive.{Stamped, same_name, add_if, before, names_of, is_alive, lives, clause_named, made_in, clause_in, or_else}
+use Rattle.plevent.specs.Alive.{Stamped, same_name, change_if, before, names_of, is_alive, lives, clause_named, made_in, clause_in, or_else}
 use Rattle.plstore.specs.declared.query.Query.{Query}
 use Rattle.plstore.specs.declared.query.Found.{Found}
 use Rattle.plstore.specs.Kept.{nothing, keep, next_of}
@@ -26,7 +26,7 @@ made-below g x (s ∷ us) h = by-case (nat_lt s.at.place g) refl (made-below g x
   where
     by-case : (v : Bool) → nat_lt s.at.place g ≡ v → clause_named x (before g us) ≡ clause_named x us → clause_named x (cond v (s ∷ before g us) (before g us)) ≡ or_else (made_in x s) (clause_named x us)
     by-case true e r = ap (or_else (made_in x s)) r
-    by-case false e r = r ∙ sym (ap (λ v. or_else (add_if v (clause_in s.update) None) (clause_named x us)) (other-above g x s.at h e))
+    by-case false e r = r ∙ sym (ap (λ v. or_else (change_if v (clause_in s.update) None) (clause_named x us)) (other-above g x s.at h e))
 
 -- a name at or above g is not alive below g
 not-makes : (x : ClauseName) (s : Stamped) → same_name s.at x ≡ false → lives x false s ≡ false
@@ -51,16 +51,16 @@ not-alive g x (s ∷ us) h = by-case (nat_lt s.at.place g) refl (not-alive g x u
     by-case true e r = ap (λ v. fold (lives x) v (before g us)) (not-makes x s (other e)) ∙ r
     by-case false e r = r
 
-clause-at : (g : ℕ) (x : ClauseName) (us : List Stamped) → add_if (is_alive x (before g us)) (clause_named x us) None ≡ clause_alive x (before g us)
+clause-at : (g : ℕ) (x : ClauseName) (us : List Stamped) → change_if (is_alive x (before g us)) (clause_named x us) None ≡ clause_alive x (before g us)
 unfolding is_alive
 clause-at g x us = by-case (nat_lt x.place g) refl
   where
-    by-case : (v : Bool) → nat_lt x.place g ≡ v → add_if (fold (lives x) false (before g us)) (clause_named x us) None ≡ add_if (fold (lives x) false (before g us)) (clause_named x (before g us)) None
-    by-case true e = ap (λ o. add_if (fold (lives x) false (before g us)) o None) (sym (made-below g x us e))
-    by-case false e = ap (λ v. add_if v (clause_named x us) None) (not-alive g x us e) ∙ sym (ap (λ v. add_if v (clause_named x (before g us)) None) (not-alive g x us e))
+    by-case : (v : Bool) → nat_lt x.place g ≡ v → change_if (fold (lives x) false (before g us)) (clause_named x us) None ≡ change_if (fold (lives x) false (before g us)) (clause_named x (before g us)) None
+    by-case true e = ap (λ o. change_if (fold (lives x) false (before g us)) o None) (sym (made-below g x us e))
+    by-case false e = ap (λ v. change_if v (clause_named x us) None) (not-alive g x us e) ∙ sym (ap (λ v. change_if v (clause_named x (before g us)) None) (not-alive g x us e))
 
 clause-found : (g : ℕ) (x : ClauseName) (us : List Stamped) → Rises 0 us → clause_seen g x (fold keep nothing us) ≡ clause_alive x (before g us)
-clause-found g x us up = ap₂ (λ v o. add_if v o None) (here-is g x us up) (clause-is x us) ∙ clause-at g x us
+clause-found g x us up = ap₂ (λ v o. change_if v o None) (here-is g x us up) (clause-is x us) ∙ clause-at g x us
 
 pub look-is : (g : ℕ) (q : Query) (us : List Stamped) → Rises 0 us → found_in g q (fold keep nothing us) ≡ found (before g us) q
 look-is g (Query.NextLike p k c) us up = ap (λ l. Found.Next (next_like_of k c l)) (walk-is g p us up)

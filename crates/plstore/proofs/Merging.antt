@@ -7,7 +7,7 @@ use Rattle.plevent.specs.declared.key.Key.{Key}
 use Rattle.plevent.specs.declared.key.Key.TheVariants.{Any, Int, Atom, Functor}
 use Rattle.plevent.specs.Keys.{first_key, may_fit}
 use Rattle.plevent.specs.declared.update.ClauseName.{ClauseName}
-use Rattle.plevent.specs.Alive.{add_if, is_of, or_else}
+use Rattle.plevent.specs.Alive.{change_if, is_of, or_else}
 use Rattle.plstore.specs.declared.chain.Chain.{Chain}
 use Rattle.plstore.specs.declared.chain.Chain.TheVariants.{Procedure, Slot}
 use Rattle.plstore.specs.declared.ends.Ends.{Ends}
@@ -22,14 +22,14 @@ use Rattle.plstore.specs.declared.chain.Merged.{Merged}
 use Rattle.plstore.specs.declared.part.Part.{Part}
 use Rattle.plstore.specs.declared.sought.Sought.{Sought}
 use Rattle.plstore.specs.Merged.{found, found_after, Covers, IsMerged, MayStand}
-use Rattle.plstore.specs.Parts.{after, comes, extent, extent_behind, first_head, is_behind, left, marks, moved, reaches, side, side_of}
+use Rattle.plstore.specs.Parts.{after, comes, extent, extent_behind, first_head, is_behind, left, marks, moved, reaches, side}
 use Rattle.plstore.specs.Rising.{OneIs}
 use Rattle.plstore.specs.Runs.{end_at, no_place}
 use Rattle.plstore.specs.Tables.{chain_ends, links_in, Chained}
 use Rattle.plstore.proofs.Law.{cons_if, own}
 use Rattle.plstore.proofs.Bits.{cases, last-none, last-some}
 use Rattle.plstore.proofs.Chains.{drop-records, like-cons, some-record}
-use Rattle.plstore.proofs.Leading.{after-within, mark-in, marks-is, over-within, stand-first, step-order, step-stands}
+use Rattle.plstore.proofs.Leading.{after-within, mark-in, marks-is, over-within, side_of, stand-first, step-order, step-stands}
 use Rattle.plstore.proofs.Same.{left-true, right-true, nat-same, nat-self}
 use Rattle.plstore.proofs.Visible.{down-list, up-list, first-is, shown-front, shown-back}
 
@@ -197,14 +197,14 @@ first-some f n None (Some b) i e = let q : b ≡ i = some-same e in subst (IsFir
 first-some f n (Some a) None i e = let q : a ≡ i = some-same e in subst (IsFirst f n (Some a) None) q (record { one = inl refl; own = omega arith; any = omega arith })
 first-some f n (Some a) (Some b) i e = by-test (comes f b a) refl (some-same e)
   where
-    by-test : (v : Bool) → comes f b a ≡ v → add_if v b a ≡ i → IsFirst f n (Some a) (Some b) i
+    by-test : (v : Bool) → comes f b a ≡ v → change_if v b a ≡ i → IsFirst f n (Some a) (Some b) i
     by-test true t q = let l = after-order f n b a t in subst (IsFirst f n (Some a) (Some b)) q (record { one = inr refl; own = omega (arith, l); any = omega arith })
     by-test false t q = let l = comes-not f n b a t in subst (IsFirst f n (Some a) (Some b)) q (record { one = inl refl; own = omega arith; any = omega (arith, l) })
 
 pub first-left : (f : Bool) (n m : ℕ) (x y : Option ℕ) → left f n x ≤ m → left f n y ≤ m → left f n (first_head f x y) ≤ m
 first-left f n m None y h k = k
 first-left f n m (Some a) None h k = h
-first-left f n m (Some a) (Some b) h k = elim (comes f b a) as (λ v. left f n (Some (add_if v b a)) ≤ m) [ true ↦ k | false ↦ h ]
+first-left f n m (Some a) (Some b) h k = elim (comes f b a) as (λ v. left f n (Some (change_if v b a)) ≤ m) [ true ↦ k | false ↦ h ]
 
 pub first-none : (f : Bool) (x y : Option ℕ) → first_head f x y ≡ None → (x ≡ None) × (y ≡ None)
 first-none f None None e = (refl, refl)
@@ -233,7 +233,7 @@ move : (f : Bool) (c : Class) (g : ℕ) (rs : List Record) (m i : ℕ) (x link :
 move f c g rs m i None link w st l hi here = (record { mark = tt; passed = λ j d b h s lt. st.passed j d b h s (omega (arith, lt, hi)) }, omega arith)
 move f c g rs m i (Some a) link w st l hi here = by-test (nat_eq a i) refl
   where
-    by-test : (v : Bool) → nat_eq a i ≡ v → MayStand f c g rs (after f (length rs) i) (add_if v link (Some a)) × (left f (length rs) (add_if v link (Some a)) ≤ after f (length rs) i)
+    by-test : (v : Bool) → nat_eq a i ≡ v → MayStand f c g rs (after f (length rs) i) (change_if v link (Some a)) × (left f (length rs) (change_if v link (Some a)) ≤ after f (length rs) i)
     by-test true t = here (ap Some (nat-same a i t))
     by-test false t =
         let b : a < length rs = mark-in f c rs a st.mark in
@@ -376,7 +376,7 @@ found-behind false g p k x rs i r o one is shown front e =
 
 -- ---- along one chain
 
-add-same : {A : Type 0} (b : Bool) (x : A) → add_if b x x ≡ x
+add-same : {A : Type 0} (b : Bool) (x : A) → change_if b x x ≡ x
 add-same true x = refl
 add-same false x = refl
 
@@ -385,7 +385,7 @@ first-one f None = refl
 first-one f (Some i) = ap Some (add-same (comes f i i) i)
 
 pub moved-one : (i : ℕ) (link x : Option ℕ) → x ≡ Some i → link ≡ moved i link x
-moved-one i link x e = sym (ap (moved i link) e ∙ ap (λ b. add_if b link (Some i)) (nat-self i))
+moved-one i link x e = sym (ap (moved i link) e ∙ ap (λ b. change_if b link (Some i)) (nat-self i))
 
 and-true : (b : Bool) → b && true ≡ b
 and-true true = refl

@@ -10,7 +10,7 @@ use Rattle.plevent.specs.declared.update.Update.{Update}
 use Rattle.plevent.specs.declared.update.Update.TheVariants.{First, Last, Erase, EraseOwn, Declare}
 use Rattle.plevent.specs.declared.update.ClauseName.{ClauseName}
 use Rattle.plevent.specs.declared.update.Living.{Living}
-use Rattle.plevent.specs.Alive.{Stamped, same_name, is_of, named, add_if, lives_as, without, changed, change, living, before, exists, names, is_alive, lives, clause_named, made_in, clause_in, or_else}
+use Rattle.plevent.specs.Alive.{Stamped, same_name, is_of, named, change_if, lives_as, without, changed, change, living, before, exists, names, is_alive, lives, clause_named, made_in, clause_in, or_else}
 use Rattle.plstore.specs.Rising.{less, AllAfter, Ordered}
 use Rattle.plstore.specs.Looking.{NoneNamed, Apart, Tells, clause_alive}
 use Rattle.plstore.proofs.Search.{less-other, less-other-back}
@@ -52,8 +52,8 @@ earlier-changed : (p : Indicator) (s : Stamped) (xs : List Living) (us : List St
 earlier-changed p s xs us h a = by-case s.update
   where
     by-case : (u : Update) → Earlier (changed p s.at u xs) us
-    by-case (First c) = elim (is_of p c) as (λ v. Earlier (add_if v (lives_as s.at c ∷ xs) xs) us) [ true ↦ (a, h) | false ↦ h ]
-    by-case (Last c) = elim (is_of p c) as (λ v. Earlier (add_if v (xs ++ lives_as s.at c ∷ []) xs) us) [ true ↦ earlier-last xs (lives_as s.at c) us h a | false ↦ h ]
+    by-case (First c) = elim (is_of p c) as (λ v. Earlier (change_if v (lives_as s.at c ∷ xs) xs) us) [ true ↦ (a, h) | false ↦ h ]
+    by-case (Last c) = elim (is_of p c) as (λ v. Earlier (change_if v (xs ++ lives_as s.at c ∷ []) xs) us) [ true ↦ earlier-last xs (lives_as s.at c) us h a | false ↦ h ]
     by-case (Erase y) = earlier-filter (λ x. not (same_name x.name y)) xs us h
     by-case (EraseOwn k) = earlier-filter (λ x. not (same_name x.name (named s.at.place k))) xs us h
     by-case (Declare q) = h
@@ -83,8 +83,8 @@ apart-changed : (p : Indicator) (s : Stamped) (xs : List Living) (us : List Stam
 apart-changed p s xs us a h = by-case s.update
   where
     by-case : (u : Update) → Apart (changed p s.at u xs)
-    by-case (First c) = elim (is_of p c) as (λ v. Apart (add_if v (lives_as s.at c ∷ xs) xs)) [ true ↦ (none-earlier xs s us h, a) | false ↦ a ]
-    by-case (Last c) = elim (is_of p c) as (λ v. Apart (add_if v (xs ++ lives_as s.at c ∷ []) xs)) [ true ↦ apart-last xs s c us a h | false ↦ a ]
+    by-case (First c) = elim (is_of p c) as (λ v. Apart (change_if v (lives_as s.at c ∷ xs) xs)) [ true ↦ (none-earlier xs s us h, a) | false ↦ a ]
+    by-case (Last c) = elim (is_of p c) as (λ v. Apart (change_if v (xs ++ lives_as s.at c ∷ []) xs)) [ true ↦ apart-last xs s c us a h | false ↦ a ]
     by-case (Erase y) = apart-filter (λ x. not (same_name x.name y)) xs a
     by-case (EraseOwn k) = apart-filter (λ x. not (same_name x.name (named s.at.place k))) xs a
     by-case (Declare q) = a
@@ -111,8 +111,8 @@ none-fold p (s ∷ us) h = ap (λ l. fold (change p) l us) (by-case s.update (le
     right-false false b e = e
 
     by-case : (u : Update) → names p u ≡ false → changed p s.at u [] ≡ []
-    by-case (First c) e = ap (λ v. add_if v (lives_as s.at c ∷ []) []) e
-    by-case (Last c) e = ap (λ v. add_if v (lives_as s.at c ∷ []) []) e
+    by-case (First c) e = ap (λ v. change_if v (lives_as s.at c ∷ []) []) e
+    by-case (Last c) e = ap (λ v. change_if v (lives_as s.at c ∷ []) []) e
     by-case (Erase y) e = refl
     by-case (EraseOwn k) e = refl
     by-case (Declare q) e = refl
@@ -154,8 +154,8 @@ knows-last x a o [] y h k = (k, tt)
 knows-last x a o (z ∷ xs) y h k = (h.0, knows-last x a o xs y h.1 k)
 
 -- an update that makes a clause
-step-made : (x : ClauseName) (at : ClauseName) (c : Clause) (a : Bool) (o : Option Clause) → Step a o ((a || same_name at x) && true) (or_else o (add_if (same_name at x) (Some c) None))
-step-made x at c a o d h = (ap (λ v. (v || same_name at x) && true) h.0, ap (λ r. or_else r (add_if (same_name at x) (Some c) None)) h.1)
+step-made : (x : ClauseName) (at : ClauseName) (c : Clause) (a : Bool) (o : Option Clause) → Step a o ((a || same_name at x) && true) (or_else o (change_if (same_name at x) (Some c) None))
+step-made x at c a o d h = (ap (λ v. (v || same_name at x) && true) h.0, ap (λ r. or_else r (change_if (same_name at x) (Some c) None)) h.1)
 
 fresh-none : (x : ClauseName) (s : Stamped) (o : Option Clause) (us : List Stamped) → Fresh x o (s ∷ us) → same_name s.at x ≡ true → o ≡ None
 fresh-none x s o us f e = elim f [
@@ -164,20 +164,20 @@ fresh-none x s o us f e = elim f [
 ]
 
 new-made : (x : ClauseName) (s : Stamped) (c : Clause) (a : Bool) (o : Option Clause) (us : List Stamped) → Fresh x o (s ∷ us) → same_name x s.at ≡ true →
-    ((a || same_name s.at x) && true ≡ true) × (or_else o (add_if (same_name s.at x) (Some c) None) ≡ Some c)
+    ((a || same_name s.at x) && true ≡ true) × (or_else o (change_if (same_name s.at x) (Some c) None) ≡ Some c)
 new-made x s c a o us f e =
     let t = name-true s.at x e in
-    (ap (λ v. (a || v) && true) t ∙ or-true a, ap₂ (λ r v. or_else r (add_if v (Some c) None)) (fresh-none x s o us f t) t)
+    (ap (λ v. (a || v) && true) t ∙ or-true a, ap₂ (λ r v. or_else r (change_if v (Some c) None)) (fresh-none x s o us f t) t)
   where
     or-true : (a : Bool) → (a || true) && true ≡ true
     or-true true = refl
     or-true false = refl
 
 -- one that makes none
-step-kept : (v : Bool) (a e : Bool) (o : Option Clause) → e ≡ false → Step a o ((a || false) && not e) (or_else o (add_if v None None))
+step-kept : (v : Bool) (a e : Bool) (o : Option Clause) → e ≡ false → Step a o ((a || false) && not e) (or_else o (change_if v None None))
 step-kept v a e o h c k = (ap₂ (λ p q. (p || false) && not q) k.0 h, sym (or-none v o) ∙ k.1)
 
-knows-erase : (x y : ClauseName) (v a : Bool) (o : Option Clause) (xs : List Living) → Knows x a o xs → Knows x ((a || false) && not (same_name x y)) (or_else o (add_if v None None)) (without y xs)
+knows-erase : (x y : ClauseName) (v a : Bool) (o : Option Clause) (xs : List Living) → Knows x a o xs → Knows x ((a || false) && not (same_name x y)) (or_else o (change_if v None None)) (without y xs)
 knows-erase x y v a o [] h = tt
 knows-erase x y v a o (z ∷ xs) h = by-case (same_name z.name y) refl (knows-erase x y v a o xs h.1)
   where
@@ -185,7 +185,7 @@ knows-erase x y v a o (z ∷ xs) h = by-case (same_name z.name y) refl (knows-er
     b = (a || false) && not (same_name x y)
 
     q : Option Clause
-    q = or_else o (add_if v None None)
+    q = or_else o (change_if v None None)
 
     by-case : (t : Bool) → same_name z.name y ≡ t → Knows x b q (without y xs) → Knows x b q (cond (not t) (z ∷ without y xs) (without y xs))
     by-case true e r = r
@@ -197,20 +197,20 @@ knows-changed x p a o s xs us f h = by-case s.update
   where
     by-case : (u : Update) → Knows x (lives x a (record { at = s.at; update = u })) (or_else o (made_in x (record { at = s.at; update = u }))) (changed p s.at u xs)
     by-case (First c) =
-        let old = knows-map x a ((a || same_name s.at x) && true) o (or_else o (add_if (same_name s.at x) (Some c) None)) xs (step-made x s.at c a o) h in
-        elim (is_of p c) as (λ v. Knows x ((a || same_name s.at x) && true) (or_else o (add_if (same_name s.at x) (Some c) None)) (add_if v (lives_as s.at c ∷ xs) xs)) [
+        let old = knows-map x a ((a || same_name s.at x) && true) o (or_else o (change_if (same_name s.at x) (Some c) None)) xs (step-made x s.at c a o) h in
+        elim (is_of p c) as (λ v. Knows x ((a || same_name s.at x) && true) (or_else o (change_if (same_name s.at x) (Some c) None)) (change_if v (lives_as s.at c ∷ xs) xs)) [
           | true ↦ (new-made x s c a o us f, old)
           | false ↦ old
         ]
     by-case (Last c) =
-        let old = knows-map x a ((a || same_name s.at x) && true) o (or_else o (add_if (same_name s.at x) (Some c) None)) xs (step-made x s.at c a o) h in
-        elim (is_of p c) as (λ v. Knows x ((a || same_name s.at x) && true) (or_else o (add_if (same_name s.at x) (Some c) None)) (add_if v (xs ++ lives_as s.at c ∷ []) xs)) [
-          | true ↦ knows-last x ((a || same_name s.at x) && true) (or_else o (add_if (same_name s.at x) (Some c) None)) xs (lives_as s.at c) old (new-made x s c a o us f)
+        let old = knows-map x a ((a || same_name s.at x) && true) o (or_else o (change_if (same_name s.at x) (Some c) None)) xs (step-made x s.at c a o) h in
+        elim (is_of p c) as (λ v. Knows x ((a || same_name s.at x) && true) (or_else o (change_if (same_name s.at x) (Some c) None)) (change_if v (xs ++ lives_as s.at c ∷ []) xs)) [
+          | true ↦ knows-last x ((a || same_name s.at x) && true) (or_else o (change_if (same_name s.at x) (Some c) None)) xs (lives_as s.at c) old (new-made x s c a o us f)
           | false ↦ old
         ]
     by-case (Erase y) = knows-erase x y (same_name s.at x) a o xs h
     by-case (EraseOwn k) = knows-erase x (named s.at.place k) (same_name s.at x) a o xs h
-    by-case (Declare q) = knows-map x a ((a || false) && true) o (or_else o (add_if (same_name s.at x) None None)) xs (step-kept (same_name s.at x) a false o refl) h
+    by-case (Declare q) = knows-map x a ((a || false) && true) o (or_else o (change_if (same_name s.at x) None None)) xs (step-kept (same_name s.at x) a false o refl) h
 
 fresh-next : (x : ClauseName) (o : Option Clause) (s : Stamped) (us : List Stamped) → AllAfter s.at us → Fresh x o (s ∷ us) → Fresh x (or_else o (made_in x s)) us
 fresh-next x o s us a f = elim f [
@@ -220,7 +220,7 @@ fresh-next x o s us a f = elim f [
   where
     by-case : (v : Bool) → same_name s.at x ≡ v → o ≡ None → Fresh x (or_else o (made_in x s)) us
     by-case true e n = inr (after-same s.at x us e a)
-    by-case false e n = inl (ap₂ (λ q v. or_else q (add_if v (clause_in s.update) None)) n e)
+    by-case false e n = inl (ap₂ (λ q v. or_else q (change_if v (clause_in s.update) None)) n e)
 
 knows-fold : (x : ClauseName) (p : Indicator) (a : Bool) (o : Option Clause) (xs : List Living) (us : List Stamped) → Fresh x o us → Ordered us → Knows x a o xs →
     Knows x (fold (lives x) a us) (or_else o (clause_named x us)) (fold (change p) xs us)
@@ -230,9 +230,9 @@ knows-fold x p a o xs (s ∷ us) f r h =
     subst (λ w. Knows x (fold (lives x) (lives x a s) us) w (fold (change p) (change p xs s) us)) (or-assoc-3 o (made_in x s) (clause_named x us))
     (knows-fold x p (lives x a s) q (change p xs s) us (fresh-next x o s us r.0 f) r.1 (knows-changed x p a o s xs us f h))
 
-tells-known : (x : ClauseName) (a : Bool) (o : Option Clause) (xs : List Living) → Knows x a o xs → Tells x (add_if a o None) xs
+tells-known : (x : ClauseName) (a : Bool) (o : Option Clause) (xs : List Living) → Knows x a o xs → Tells x (change_if a o None) xs
 tells-known x a o [] h = tt
-tells-known x a o (y ∷ ys) h = ((λ e. ap (λ v. add_if v o None) (h.0 e).0 ∙ (h.0 e).1), tells-known x a o ys h.1)
+tells-known x a o (y ∷ ys) h = ((λ e. ap (λ v. change_if v o None) (h.0 e).0 ∙ (h.0 e).1), tells-known x a o ys h.1)
 
 pub tells-alive : (x : ClauseName) (p : Indicator) (us : List Stamped) → Ordered us → Tells x (clause_alive x us) (living us p)
 unfolding living is_alive

@@ -5,12 +5,12 @@ use Rattle.std.proofs.Math.Seq.{take-append_seam}
 use Rattle.std.proofs.lemmas.List.{get_or_append_left, get_or_at, get_or-set_same, get_or-set_other, length-map, length-set, map-append}
 use Rattle.std.proofs.lemmas.Bool.Decides.{nat_tests}
 use Rattle.plevent.specs.declared.update.ClauseName.{ClauseName}
-use Rattle.plevent.specs.Alive.{add_if}
+use Rattle.plevent.specs.Alive.{change_if}
 use Rattle.plstore.specs.declared.record.Record.{Record}
 use Rattle.plstore.specs.declared.runs.Run.{Run}
 use Rattle.plstore.specs.declared.runs.Place.{Place}
 use Rattle.plstore.specs.declared.ends.Ends.{Ends}
-use Rattle.plstore.specs.Kept.{seen, not_below, first_of, erase_at, change_if, changed_where, is_named}
+use Rattle.plstore.specs.Kept.{seen, not_below, first_of, erase_at, changed_where, is_named}
 use Rattle.plstore.specs.Links.{last_below, first_from, front_of, back_of, fronts, backs, Class, IsLinked, IsIndexed}
 use Rattle.plstore.specs.Trail.{OneRun, run_at}
 use Rattle.plstore.specs.Runs.{IsGone, IsRunDown, IsRunUp, IsRun, no_place, HasRuns, SameRuns}
@@ -43,7 +43,7 @@ first-above bs m k i s e j l u h = by-size m k s e l
     some-same : {a b : ℕ} → Some a ≡ Some b → a ≡ b
     some-same e = cc
 
-    by-mark : (v : Bool) (k : ℕ) → get_or bs k false ≡ v → add_if v (Some k) (first_from (suc k) (drop (suc k) bs)) ≡ Some i → k ≤ j → (first_from (suc k) (drop (suc k) bs) ≡ Some i → suc k ≤ j → ⊥) → ⊥
+    by-mark : (v : Bool) (k : ℕ) → get_or bs k false ≡ v → change_if v (Some k) (first_from (suc k) (drop (suc k) bs)) ≡ Some i → k ≤ j → (first_from (suc k) (drop (suc k) bs) ≡ Some i → suc k ≤ j → ⊥) → ⊥
     by-mark true k g e l next = let q : k ≡ i = some-same e in absurd (omega arith)
     by-mark false k g e l next = elim (cases k j) [
       | inl lt ↦ next e (omega arith)

@@ -7,7 +7,7 @@ use Rattle.plterm.specs.declared.indicator.Indicator.{Indicator}
 use Rattle.plterm.specs.Indicators.{same_indicator}
 use Rattle.plclause.specs.Clause.{Clause}
 use Rattle.plevent.specs.declared.update.ClauseName.{ClauseName}
-use Rattle.plevent.specs.Alive.{Stamped, names, add_if, is_of}
+use Rattle.plevent.specs.Alive.{Stamped, names, change_if, is_of}
 use Rattle.plstore.specs.declared.ends.Ends.{Ends}
 use Rattle.plstore.specs.declared.record.Record.{Record}
 use Rattle.plstore.specs.declared.record.Declared.{Declared}
@@ -17,10 +17,10 @@ use Rattle.plstore.specs.Links.{earlier, ends_after, since_below}
 use Rattle.plstore.proofs.Same.{same-is}
 use Rattle.plstore.proofs.Whole.{there-keep, any-erased}
 
-since-or : (s b g : ℕ) → nat_lt (add_if (nat_lt s b) s b) g ≡ nat_lt s g || nat_lt b g
+since-or : (s b g : ℕ) → nat_lt (change_if (nat_lt s b) s b) g ≡ nat_lt s g || nat_lt b g
 since-or s b g = by-test (nat_lt s b) refl
   where
-    by-test : (v : Bool) → nat_lt s b ≡ v → nat_lt (add_if v s b) g ≡ nat_lt s g || nat_lt b g
+    by-test : (v : Bool) → nat_lt s b ≡ v → nat_lt (change_if v s b) g ≡ nat_lt s g || nat_lt b g
     by-test true e = grind (arith, nat_tests)
     by-test false e = grind (arith, nat_tests)
 

@@ -12,11 +12,11 @@ use Rattle.plevent.specs.declared.update.ClauseName.{ClauseName}
 use Rattle.plevent.specs.declared.key.Key.{Key}
 use Rattle.plevent.specs.declared.key.Key.TheVariants.{Any, Int, Atom, Functor}
 use Rattle.plevent.specs.Keys.{first_key, may_fit}
-use Rattle.plevent.specs.Alive.{is_of}
+use Rattle.plevent.specs.Alive.{is_of, change_if}
 use Rattle.plsubst.proofs.Unify.{same_int}
 use Rattle.plstore.specs.declared.record.Record.{Record}
 use Rattle.plstore.specs.Slots.{in_slot, pred_hash, slot, slot_behind, slot_of}
-use Rattle.plstore.specs.Kept.{made, changed_where, change_if, erase_at, is_named}
+use Rattle.plstore.specs.Kept.{made, changed_where, erase_at, is_named}
 use Rattle.plstore.specs.Merged.{Covers}
 use Rattle.plstore.specs.Tables.{AreKeyed}
 use Rattle.plstore.proofs.Bits.{cases, length-push}

@@ -11,7 +11,7 @@ use Rattle.plevent.specs.declared.key.Key.{Key}
 use Rattle.plevent.specs.declared.key.Key.TheVariants.{Any}
 use Rattle.plevent.specs.Keys.{first_key}
 use Rattle.plevent.specs.declared.update.Living.{Living}
-use Rattle.plevent.specs.Alive.{add_if, or_else, same_name, names_of, is_of}
+use Rattle.plevent.specs.Alive.{change_if, or_else, same_name, names_of, is_of}
 use Rattle.plstore.specs.declared.record.Record.{Record}
 use Rattle.plstore.specs.Kept.{seen, picked, in_front, behind_all, walk, head, behind, is_named, next_of}
 use Rattle.plstore.specs.declared.record.Cursor.{Cursor}
@@ -50,7 +50,7 @@ Passed p g x rs side m = (d : Record) → seen g (get_or rs m d) && side p (get_
 
 -- one that is passed
 past-skip : (x : ClauseName) (v : Bool) (y : Living) (us : List Living) → (v ≡ true → same_name x y.name ≡ false) → past x (cons_if v y us) ≡ past x us
-past-skip x true y us h = ap (λ b. add_if b us (past x us)) (h refl)
+past-skip x true y us h = ap (λ b. change_if b us (past x us)) (h refl)
 past-skip x false y us h = refl
 
 cons-append : (v : Bool) (y : Living) (us ys : List Living) → cons_if v y us ++ ys ≡ cons_if v y (us ++ ys)
@@ -104,7 +104,7 @@ not-in-walk g p x rs d hf hb =
 
 -- one that is found
 past-here : (x : ClauseName) (y : Living) (us : List Living) (v : Bool) → v ≡ true → same_name x y.name ≡ true → past x (cons_if v y us) ≡ us
-past-here x y us v e h = ap (λ v. past x (cons_if v y us)) e ∙ ap (λ b. add_if b us (past x us)) h
+past-here x y us v e h = ap (λ v. past x (cons_if v y us)) e ∙ ap (λ b. change_if b us (past x us)) h
 
 found-down : (p : Indicator) (g : ℕ) (x : ClauseName) (rs : List Record) (d : Record) (ys : List Living) (i n : ℕ) → i < n → n ≤ length rs → OneIs x rs i → seen g (get_or rs i d) && in_front p (get_or rs i d) ≡ true →
     past x (down (is_of p) g rs n ++ ys) ≡ down (is_of p) g rs i ++ ys
@@ -241,7 +241,7 @@ any-filter (x ∷ xs) = ap₂ (λ v ys. cond v (x ∷ ys) ys) (any-left (first_k
 
 past-names : (x : ClauseName) (xs : List Living) → head (names_of (past x xs)) ≡ behind x (names_of xs)
 past-names x [] = refl
-past-names x (y ∷ ys) = elim (same_name x y.name) as (λ v. head (names_of (add_if v ys (past x ys))) ≡ add_if v (head (names_of ys)) (behind x (names_of ys))) [ true ↦ refl | false ↦ past-names x ys ]
+past-names x (y ∷ ys) = elim (same_name x y.name) as (λ v. head (names_of (change_if v ys (past x ys))) ≡ change_if v (head (names_of ys)) (behind x (names_of ys))) [ true ↦ refl | false ↦ past-names x ys ]
 
 pub next-any : (c : Cursor) (xs : List Living) → next_like_of Any c xs ≡ next_of c (names_of xs)
 next-any Start xs = ap (λ l. head (names_of l)) (any-filter xs)

@@ -9,10 +9,10 @@ use Rattle.plclause.specs.Clause.{Clause}
 use Rattle.plterm.specs.declared.indicator.Indicator.{Indicator}
 use Rattle.plterm.specs.Indicators.{same_indicator}
 use Rattle.plevent.specs.declared.update.ClauseName.{ClauseName}
-use Rattle.plevent.specs.Alive.{Stamped, same_name, is_of, named, before, exists, names, is_alive, living, clause_named, made_in, clause_in, or_else, add_if}
+use Rattle.plevent.specs.Alive.{Stamped, same_name, is_of, named, before, exists, names, is_alive, living, clause_named, made_in, clause_in, or_else, change_if}
 use Rattle.plstore.specs.declared.record.Record.{Record}
 use Rattle.plstore.specs.declared.record.Declared.{Declared}
-use Rattle.plstore.specs.Kept.{Kept, nothing, keep, keep_record, keep_declared, kept, noted, made, changed_where, change_if, erase_at, is_named, record_names, declared_names, is_there, here, clause_of, walk}
+use Rattle.plstore.specs.Kept.{Kept, nothing, keep, keep_record, keep_declared, kept, noted, made, changed_where, erase_at, is_named, record_names, declared_names, is_there, here, clause_of, walk}
 use Rattle.plstore.specs.Rising.{Rises}
 use Rattle.plstore.proofs.Law.{walk-alive, walk-stays, alive-at}
 
@@ -122,13 +122,13 @@ find-append t [] r = refl
 find-append t (q ∷ rs) r = elim (t q) as (λ v. option_map (λ (r : Record). r.clause) (cond v (Some q) (find t (rs ++ r ∷ []))) ≡ or_else (option_map (λ (r : Record). r.clause) (cond v (Some q) (find t rs))) (option_map (λ (r : Record). r.clause) (find t (r ∷ []))))
     [ true ↦ refl | false ↦ find-append t rs r ]
 
-pub or-none : (b : Bool) (o : Option Clause) → o ≡ or_else o (add_if b None None)
+pub or-none : (b : Bool) (o : Option Clause) → o ≡ or_else o (change_if b None None)
 or-none true None = refl
 or-none false None = refl
 or-none b (Some c) = refl
 
-or-made : (x : ClauseName) (s : Stamped) (c : Clause) (f : Bool) → option_map (λ r. r.clause) (find (is_named x) (made s.at c f ∷ [])) ≡ add_if (same_name s.at x) (Some c) None
-or-made x s c f = elim (same_name s.at x) as (λ v. option_map (λ (r : Record). r.clause) (cond v (Some (made s.at c f)) None) ≡ add_if v (Some c) None) [ true ↦ refl | false ↦ refl ]
+or-made : (x : ClauseName) (s : Stamped) (c : Clause) (f : Bool) → option_map (λ r. r.clause) (find (is_named x) (made s.at c f ∷ [])) ≡ change_if (same_name s.at x) (Some c) None
+or-made x s c f = elim (same_name s.at x) as (λ v. option_map (λ (r : Record). r.clause) (cond v (Some (made s.at c f)) None) ≡ change_if v (Some c) None) [ true ↦ refl | false ↦ refl ]
 
 same-clause : (v : Bool) (b : ℕ) (r : Record) → (change_if v (erase_at b r) r).clause ≡ r.clause
 same-clause true b r = refl
@@ -158,7 +158,7 @@ find-erased b x y (r ∷ rs) =
 clause-keep : (x : ClauseName) (k : Kept) (s : Stamped) → clause_of x (keep k s) ≡ or_else (clause_of x k) (made_in x s)
 clause-keep x k s = by-case s.update
   where
-    by-case : (u : Update) → option_map (λ (r : Record). r.clause) (find (is_named x) (kept s.at u k.records)) ≡ or_else (clause_of x k) (add_if (same_name s.at x) (clause_in u) None)
+    by-case : (u : Update) → option_map (λ (r : Record). r.clause) (find (is_named x) (kept s.at u k.records)) ≡ or_else (clause_of x k) (change_if (same_name s.at x) (clause_in u) None)
     by-case (First c) = find-append (is_named x) k.records (made s.at c true) ∙ ap (λ o. or_else (clause_of x k) o) (or-made x s c true)
     by-case (Last c) = find-append (is_named x) k.records (made s.at c false) ∙ ap (λ o. or_else (clause_of x k) o) (or-made x s c false)
     by-case (Erase y) = find-erased s.at.place x y k.records ∙ or-none (same_name s.at x) (clause_of x k)

@@ -1,13 +1,13 @@
 -- What is kept of the batches below a place, of what is kept of all.
 use Rattle.std.specs.Prelude.{ℕ, map, filter, nat_lt, Option, Some, None}
-use Rattle.plevent.specs.Alive.{add_if}
+use Rattle.plevent.specs.Alive.{change_if}
 use Rattle.plstore.specs.declared.record.Record.{Record}
 use Rattle.plstore.specs.Kept.{Kept}
 
 -- an erasure, where it is below g
 abbrev pub erased_below : ℕ → Option ℕ → Option ℕ
 erased_below g None = None
-erased_below g (Some e) = add_if (nat_lt e g) (Some e) None
+erased_below g (Some e) = change_if (nat_lt e g) (Some e) None
 
 abbrev pub restored : ℕ → Record → Record
 restored g r = record r { erased = erased_below g r.erased }

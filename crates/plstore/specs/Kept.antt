@@ -10,7 +10,7 @@ use Rattle.plevent.specs.declared.update.Update.{Update}
 use Rattle.plevent.specs.declared.update.Update.TheVariants.{First, Last, Erase, EraseOwn, Declare}
 use Rattle.plevent.specs.declared.update.ClauseName.{ClauseName}
 use Rattle.plevent.specs.declared.update.Living.{Living}
-use Rattle.plevent.specs.Alive.{Stamped, same_name, is_of, named, add_if, lives_as}
+use Rattle.plevent.specs.Alive.{Stamped, same_name, is_of, named, change_if, lives_as}
 use Rattle.plstore.specs.declared.record.Record.{Record}
 use Rattle.plstore.specs.declared.record.Declared.{Declared}
 use Rattle.plstore.specs.declared.record.Cursor.{Cursor}
@@ -29,10 +29,6 @@ kept_code = code_by (List Record × List Declared) (coded× (coded_list record_r
 
 abbrev pub nothing : Kept
 nothing = record { records = []; declared = [] }
-
-abbrev pub change_if : {A : Type 0} → Bool → A → A → A
-change_if true new old = new
-change_if false new old = old
 
 abbrev pub changed_where : {A : Type 0} → (A → Bool) → (A → A) → List A → List A
 changed_where test f [] = []
@@ -129,7 +125,7 @@ head (x ∷ xs) = Some x
 
 abbrev pub behind : ClauseName → List ClauseName → Option ClauseName
 behind x [] = None
-behind x (y ∷ ys) = add_if (same_name x y) (head ys) (behind x ys)
+behind x (y ∷ ys) = change_if (same_name x y) (head ys) (behind x ys)
 
 abbrev pub next_of : Cursor → List ClauseName → Option ClauseName
 next_of Start xs = head xs

@@ -4,7 +4,7 @@ use Rattle.plevent.specs.declared.update.ClauseName.{ClauseName}
 use Rattle.plevent.specs.declared.key.Key.{Key}
 use Rattle.plevent.specs.declared.update.Living.{Living}
 use Rattle.plterm.specs.declared.indicator.Indicator.{Indicator}
-use Rattle.plevent.specs.Alive.{same_name, names_of, lives_as, add_if, is_of}
+use Rattle.plevent.specs.Alive.{same_name, names_of, lives_as, change_if, is_of}
 use Rattle.plevent.specs.Keys.{first_key, may_fit}
 use Rattle.plstore.specs.declared.record.Record.{Record}
 use Rattle.plstore.specs.declared.record.Cursor.{Cursor}
@@ -22,7 +22,7 @@ first_like k xs = head (names_of (filter (fits k) xs))
 -- those behind a name
 abbrev pub past : ClauseName → List Living → List Living
 past x [] = []
-past x (y ∷ ys) = add_if (same_name x y.name) ys (past x ys)
+past x (y ∷ ys) = change_if (same_name x y.name) ys (past x ys)
 
 abbrev pub rest : Cursor → List Living → List Living
 rest Start xs = xs
@@ -31,10 +31,6 @@ rest (After x) xs = past x xs
 -- the name of the first one behind a cursor
 abbrev pub next_like_of : Key → Cursor → List Living → Option ClauseName
 next_like_of k c xs = first_like k (rest c xs)
-
--- the name of the first one that passes a test
-abbrev pub first_where : (Living → Bool) → List Living → Option ClauseName
-first_where t xs = head (names_of (filter t xs))
 
 -- a clause may be for a goal of a key, and is of the procedure
 abbrev pub suits : Indicator → Key → Living → Bool

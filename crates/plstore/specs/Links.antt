@@ -5,7 +5,7 @@ use Rattle.std.specs.declared.hash.FoldHasher.{FoldHasher}
 use Rattle.std.specs.declared.hash.BuildHasherDefault.{BuildHasherDefault}
 use Rattle.plclause.specs.Clause.{Clause}
 use Rattle.plevent.specs.declared.update.Living.{Living}
-use Rattle.plevent.specs.Alive.{add_if, or_else}
+use Rattle.plevent.specs.Alive.{change_if, or_else}
 use Rattle.plstore.specs.declared.record.Record.{Record}
 use Rattle.plstore.specs.declared.ends.Ends.{Ends}
 use Rattle.plstore.specs.Kept.{picked}
@@ -13,11 +13,11 @@ use Rattle.plstore.specs.Kept.{picked}
 -- the last mark below n, and the first one of a list that begins at k
 abbrev pub last_below : List Bool → ℕ → Option ℕ
 last_below bs zero = None
-last_below bs (suc n) = add_if (slice_index_or bs n false) (Some n) (last_below bs n)
+last_below bs (suc n) = change_if (slice_index_or bs n false) (Some n) (last_below bs n)
 
 abbrev pub first_from : ℕ → List Bool → Option ℕ
 first_from k [] = None
-first_from k (b ∷ bs) = add_if b (Some k) (first_from (suc k) bs)
+first_from k (b ∷ bs) = change_if b (Some k) (first_from (suc k) bs)
 
 -- clauses whose records are linked with one another, as those of a procedure, or of a slot
 abbrev pub Class : Type 0
@@ -69,7 +69,7 @@ since_below g (Some s) = nat_lt s g
 -- the earlier of two places
 abbrev pub earlier : Option ℕ → ℕ → Option ℕ
 earlier None b = Some b
-earlier (Some s) b = Some (add_if (nat_lt s b) s b)
+earlier (Some s) b = Some (change_if (nat_lt s b) s b)
 
 -- the ends after one more record n, of a batch at b
 abbrev pub ends_after : Bool → ℕ → ℕ → Ends → Ends

@@ -3,7 +3,7 @@ use Rattle.std.specs.Prelude.{◌≡◌, ℕ, true, false, List, [], ◌∷◌, 
 use Rattle.plclause.specs.Clause.{Clause}
 use Rattle.plevent.specs.declared.update.ClauseName.{ClauseName}
 use Rattle.plevent.specs.declared.update.Living.{Living}
-use Rattle.plevent.specs.Alive.{Stamped, same_name, add_if, living, names_of, exists, is_alive, clause_named}
+use Rattle.plevent.specs.Alive.{Stamped, same_name, change_if, living, names_of, exists, is_alive, clause_named}
 use Rattle.plstore.specs.declared.query.Query.{Query}
 use Rattle.plstore.specs.declared.query.Found.{Found}
 use Rattle.plstore.specs.Kept.{Kept, walk, here, is_there, clause_of, next_of}
@@ -15,7 +15,7 @@ Views = ℕ → List Stamped
 
 -- the clause of a name, where it is alive
 abbrev pub clause_alive : ClauseName → List Stamped → Option Clause
-clause_alive x us = add_if (is_alive x us) (clause_named x us) None
+clause_alive x us = change_if (is_alive x us) (clause_named x us) None
 
 -- what a query finds after some updates
 abbrev pub found : List Stamped → Query → Found
@@ -27,7 +27,7 @@ found us (Query.Exists p) = Found.Exists (exists us p)
 
 -- the clause of a name, where it is seen at g
 abbrev pub clause_seen : ℕ → ClauseName → Kept → Option Clause
-clause_seen g x k = add_if (here g x k) (clause_of x k) None
+clause_seen g x k = change_if (here g x k) (clause_of x k) None
 
 -- what a query finds at g in what a store keeps
 abbrev pub found_in : ℕ → Query → Kept → Found

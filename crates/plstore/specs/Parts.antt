@@ -1,7 +1,7 @@
 -- What of a side a walk has still to pass.
 use Rattle.std.specs.Prelude.{ℕ, suc, ◌-◌, Bool, true, false, List, length, Option, Some, None, nat_eq, nat_lt}
 use Rattle.plevent.specs.declared.update.Living.{Living}
-use Rattle.plevent.specs.Alive.{add_if}
+use Rattle.plevent.specs.Alive.{change_if}
 use Rattle.plstore.specs.declared.part.Part.{Part}
 use Rattle.plstore.specs.declared.record.Record.{Record}
 use Rattle.plstore.specs.Links.{Class, fronts, backs, front_of, back_of, down, up}
@@ -48,17 +48,12 @@ extent part n = extent_behind part.front n part.behind
 abbrev pub first_head : Bool → Option ℕ → Option ℕ → Option ℕ
 first_head f None y = y
 first_head f (Some i) None = Some i
-first_head f (Some i) (Some j) = Some (add_if (comes f j i) j i)
+first_head f (Some i) (Some j) = Some (change_if (comes f j i) j i)
 
 -- where the record n is passed, a link leads on
 abbrev pub moved : ℕ → Option ℕ → Option ℕ → Option ℕ
 moved n link None = None
-moved n link (Some i) = add_if (nat_eq i n) link (Some i)
-
--- which records are of c, on one side
-abbrev pub side_of : Bool → Class → Record → Bool
-side_of true c r = front_of c r
-side_of false c r = back_of c r
+moved n link (Some i) = change_if (nat_eq i n) link (Some i)
 
 abbrev pub marks : Bool → Class → List Record → List Bool
 marks true c rs = fronts c rs

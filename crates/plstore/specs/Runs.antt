@@ -1,6 +1,6 @@
 -- Runs of erased records.
 use Rattle.std.specs.Prelude.{◌≡◌, ℕ, ◌≤◌, true, List, length, nat_lt, slice_index_or, Bool, false, Option, Some, None}
-use Rattle.plevent.specs.Alive.{add_if}
+use Rattle.plevent.specs.Alive.{change_if}
 use Rattle.plstore.specs.declared.record.Record.{Record}
 use Rattle.plstore.specs.declared.runs.Run.{Run}
 use Rattle.plstore.specs.declared.runs.Place.{Place}
@@ -46,4 +46,4 @@ pub record SameRuns (old new : List Place) : Type 0 where
 -- how far a walk at g passes over a run
 abbrev pub end_at : ℕ → ℕ → Option Run → ℕ
 end_at g i None = i
-end_at g i (Some r) = add_if (nat_lt r.latest g) r.last i
+end_at g i (Some r) = change_if (nat_lt r.latest g) r.last i

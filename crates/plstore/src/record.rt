@@ -4,7 +4,7 @@ ghost use Rattle.std.specs.Option.{option_copied};
 ghost use Rattle.plterm.specs.Indicators.{same_indicator};
 ghost use Rattle.plterm.specs.Tree.{trees, list_of};
 ghost use Rattle.plclause.specs.Indicators.{indicator};
-ghost use Rattle.plevent.specs.Alive.{add_if, is_of};
+ghost use Rattle.plevent.specs.Alive.{change_if, is_of};
 ghost use Rattle.plstore.specs.Kept.{seen, not_below};
 
 use plclause::clause::Clause;
@@ -47,7 +47,7 @@ impl Record {
 
     /// Its clause, where it is made, and not erased, by the batches below `g`.
     pub(crate) fn clause_at(&self, g: u64) -> Option<&Clause>
-        ensures { option_copied result ≡ add_if (seen g self.now) (Some self.now.clause) None }
+        ensures { option_copied result ≡ change_if (seen g self.now) (Some self.now.clause) None }
     {
         if self.is_seen(g) {
             Some(&self.clause)

@@ -1,6 +1,6 @@
 -- A machine whose lists fit its cases, and where as many transactions and snapshots are open as its cases say.
 use Rattle.std.proofs.Common.{◌≡◌, ℕ, suc, Bool, true, false, List, [], ◌∷◌, ◌++◌, length, refl, ap, ◌∙◌, arith}
-use Rattle.plevent.specs.Alive.{add_if}
+use Rattle.plevent.specs.Alive.{change_if}
 use Rattle.plevent.specs.declared.update.Update.{Update}
 use Rattle.plevent.specs.declared.update.Update.TheVariants.{First as FirstUpdate, Last as LastUpdate, Erase, EraseOwn, Declare}
 use Rattle.pltx.specs.declared.level.Isolation.{Isolation}
@@ -96,7 +96,7 @@ stands-ended success x n h = go x.levels refl
 made-levels : (u : Update) (x : State) → (made u x).levels ≡ x.levels
 made-levels u x = go u
   where
-    once : (t : Target) (b : Bool) → (add_if b x (added (erasing t) x)).levels ≡ x.levels
+    once : (t : Target) (b : Bool) → (change_if b x (added (erasing t) x)).levels ≡ x.levels
     once t true = refl
     once t false = refl
 

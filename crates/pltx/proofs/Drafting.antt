@@ -10,7 +10,7 @@ use Rattle.std.proofs.lemmas.List.Sums.{fold-append}
 use Rattle.plterm.specs.declared.indicator.Indicator.{Indicator}
 use Rattle.plevent.specs.declared.update.Update.{Update}
 use Rattle.plevent.specs.declared.update.Update.TheVariants.{First, Last, Erase, EraseOwn, Declare}
-use Rattle.plevent.specs.Alive.{Stamped, stamped, named, add_if, before, exists, names}
+use Rattle.plevent.specs.Alive.{Stamped, stamped, named, change_if, before, exists, names}
 use Rattle.plstore.specs.Cut.{cut}
 use Rattle.plstore.specs.Kept.{Kept, keep, nothing}
 use Rattle.plstore.specs.Rising.{AllUnder, Rises}
@@ -117,25 +117,25 @@ draft-cut : (n : ℕ) (us : List Update) (k k' : Kept) → k ≡ fold keep nothi
 draft-cut n us k k' is new = new ∙ ap (cut n) is ∙ cut-is n (drafted 0 us) (rises us) ∙ ap (fold keep nothing) (first-drafted n us)
 
 pub tracked-more : (o p : Overlay) (n : ℕ) (u : Update) → IsTracked o → n ≡ length o.updates.items → p.updates.items ≡ o.updates.items ++ u ∷ [] → p.draft ≡ fold keep o.draft (drafts n u) →
-    ((t : Target) → get same_target p.marks t ≡ add_if (is_target t (target_of u)) (Some n) (get same_target o.marks t)) → ((t : Target) → is_target t (target_of u) ≡ true → erased_in t o.updates.items ≡ false) → p.before_fronts ≡ before_first (o.updates.items ++ u ∷ []) → IsTracked p
+    ((t : Target) → get same_target p.marks t ≡ change_if (is_target t (target_of u)) (Some n) (get same_target o.marks t)) → ((t : Target) → is_target t (target_of u) ≡ true → erased_in t o.updates.items ≡ false) → p.before_fronts ≡ before_first (o.updates.items ++ u ∷ []) → IsTracked p
 tracked-more o p n u was size updates draft marks fresh fronts =
     let us = o.updates.items in
     record {
       draft = draft ∙ ap (λ k. fold keep k (drafts n u)) was.draft ∙ sym (fold-append keep nothing (drafted 0 us) (drafts n u)) ∙ ap (fold keep nothing) (sym (drafted-push 0 n us u (omega (arith, size))) ∙ ap (drafted 0) (sym updates));
-      marks = λ t. marks t ∙ ap (add_if (is_target t (target_of u)) (Some n)) (was.marks t) ∙ mark-more t n us u size (fresh t) ∙ ap (mark_of t 0) (sym updates);
+      marks = λ t. marks t ∙ ap (change_if (is_target t (target_of u)) (Some n)) (was.marks t) ∙ mark-more t n us u size (fresh t) ∙ ap (mark_of t 0) (sym updates);
       once = subst OnceEach (sym updates) (once-more us u was.once fresh);
       fronts = fronts ∙ ap before_first (sym updates);
     }
 
 pub tracked-cut : (o p : Overlay) (n : ℕ) → IsTracked o → p.updates.items ≡ take n o.updates.items → p.draft ≡ cut n o.draft →
-    ((t : Target) → get same_target p.marks t ≡ add_if (erased_in t (drop n o.updates.items)) None (get same_target o.marks t)) → p.before_fronts ≡ before_first (take n o.updates.items) → IsTracked p
+    ((t : Target) → get same_target p.marks t ≡ change_if (erased_in t (drop n o.updates.items)) None (get same_target o.marks t)) → p.before_fronts ≡ before_first (take n o.updates.items) → IsTracked p
 tracked-cut o p n was updates draft marks fronts =
     let us = o.updates.items in
     let whole = take-append-drop n us in
     let once : OnceEach (take n us ++ drop n us) = subst OnceEach (sym whole) was.once in
     record {
       draft = draft-cut n us o.draft p.draft was.draft draft ∙ ap (λ us. fold keep nothing (drafted 0 us)) (sym updates);
-      marks = λ t. marks t ∙ ap (add_if (erased_in t (drop n us)) None) (was.marks t ∙ ap (mark_of t 0) (sym whole)) ∙ mark-cut t 0 (take n us) (drop n us) once ∙ ap (mark_of t 0) (sym updates);
+      marks = λ t. marks t ∙ ap (change_if (erased_in t (drop n us)) None) (was.marks t ∙ ap (mark_of t 0) (sym whole)) ∙ mark-cut t 0 (take n us) (drop n us) once ∙ ap (mark_of t 0) (sym updates);
       once = subst OnceEach (sym updates) (once-cut (take n us) (drop n us) once);
       fronts = fronts ∙ ap before_first (sym updates);
     }

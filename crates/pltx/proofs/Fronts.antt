@@ -4,33 +4,33 @@ use Rattle.std.proofs.lemmas.Bool.{cases_lt}
 use Rattle.plterm.specs.declared.indicator.Indicator.{Indicator}
 use Rattle.plevent.specs.declared.update.Update.{Update}
 use Rattle.plevent.specs.declared.update.Update.TheVariants.{First, Last, Erase, EraseOwn, Declare}
-use Rattle.plevent.specs.Alive.{add_if, change, living, stamped}
+use Rattle.plevent.specs.Alive.{change_if, change, living, stamped}
 use Rattle.pltx.specs.declared.target.Target.{Target}
 use Rattle.pltx.specs.declared.target.Target.TheVariants.{Committed, Own}
 use Rattle.pltx.specs.Own.{erasing}
 use Rattle.pltx.specs.Walks.{before_first, is_first, no_last, own_batch, own_fronts}
 
-suc-if : (b : Bool) (m n : ℕ) → suc (add_if b m n) ≡ add_if b (suc m) (suc n)
+suc-if : (b : Bool) (m n : ℕ) → suc (change_if b m n) ≡ change_if b (suc m) (suc n)
 suc-if true m n = refl
 suc-if false m n = refl
 
 -- what one more makes of them, where all put no clause in front, and where one does
 abbrev OfAll : List Update → Type 0
-OfAll us = (before_first us ≡ length us) × ((u : Update) → before_first (us ++ u ∷ []) ≡ add_if (is_first u) (before_first us) (suc (before_first us)))
+OfAll us = (before_first us ≡ length us) × ((u : Update) → before_first (us ++ u ∷ []) ≡ change_if (is_first u) (before_first us) (suc (before_first us)))
 
 abbrev OfSome : List Update → Type 0
 OfSome us = (before_first us < length us) × ((u : Update) → before_first (us ++ u ∷ []) ≡ before_first us)
 
 behind : (v : Update) (us : List Update) → is_first v ≡ false → OfAll us ⊎ OfSome us → OfAll (v ∷ us) ⊎ OfSome (v ∷ us)
 behind v us e (inl (all, f)) = inl (
-  ap (λ b. add_if b 0 (suc (before_first us))) e ∙ ap suc all,
+  ap (λ b. change_if b 0 (suc (before_first us))) e ∙ ap suc all,
   λ u.
-      ap (λ b. add_if b 0 (suc (before_first (us ++ u ∷ [])))) e ∙ ap suc (f u) ∙ suc-if (is_first u) (before_first us) (suc (before_first us)) ∙ ap (λ m. add_if (is_first u) m (suc m)) (sym (ap (λ b. add_if b 0 (suc (before_first us))) e)),
+      ap (λ b. change_if b 0 (suc (before_first (us ++ u ∷ [])))) e ∙ ap suc (f u) ∙ suc-if (is_first u) (before_first us) (suc (before_first us)) ∙ ap (λ m. change_if (is_first u) m (suc m)) (sym (ap (λ b. change_if b 0 (suc (before_first us))) e)),
 )
 behind v us e (inr (some, f)) = inr (
-  omega (arith, some, ap (λ b. add_if b 0 (suc (before_first us))) e),
+  omega (arith, some, ap (λ b. change_if b 0 (suc (before_first us))) e),
   λ u.
-      ap (λ b. add_if b 0 (suc (before_first (us ++ u ∷ [])))) e ∙ ap suc (f u) ∙ sym (ap (λ b. add_if b 0 (suc (before_first us))) e),
+      ap (λ b. change_if b 0 (suc (before_first (us ++ u ∷ [])))) e ∙ ap suc (f u) ∙ sym (ap (λ b. change_if b 0 (suc (before_first us))) e),
 )
 
 kinds : (us : List Update) → OfAll us ⊎ OfSome us
@@ -49,9 +49,9 @@ more us u x counts stays = elim (kinds us) [
   | inr some ↦ stays (λ e. absurd (omega (arith, e, some.0))) ∙ sym (some.1 u)
 ]
   where
-    by : (b : Bool) → is_first u ≡ b → before_first us ≡ length us → before_first (us ++ u ∷ []) ≡ add_if (is_first u) (before_first us) (suc (before_first us)) → x ≡ before_first (us ++ u ∷ [])
-    by true e all is = stays (λ _. e) ∙ sym (is ∙ ap (λ c. add_if c (before_first us) (suc (before_first us))) e)
-    by false e all is = counts (ap suc all) e ∙ sym (ap suc all) ∙ sym (is ∙ ap (λ c. add_if c (before_first us) (suc (before_first us))) e)
+    by : (b : Bool) → is_first u ≡ b → before_first us ≡ length us → before_first (us ++ u ∷ []) ≡ change_if (is_first u) (before_first us) (suc (before_first us)) → x ≡ before_first (us ++ u ∷ [])
+    by true e all is = stays (λ _. e) ∙ sym (is ∙ ap (λ c. change_if c (before_first us) (suc (before_first us))) e)
+    by false e all is = counts (ap suc all) e ∙ sym (ap suc all) ∙ sym (is ∙ ap (λ c. change_if c (before_first us) (suc (before_first us))) e)
 
 -- of those that are left where updates are taken back
 low : (n : ℕ) (us : List Update) → n < before_first us → before_first (take n us) ≡ n

@@ -6,7 +6,7 @@ use Rattle.plclause.specs.Clause.{Clause}
 use Rattle.plevent.specs.declared.update.ClauseName.{ClauseName}
 use Rattle.plevent.specs.declared.update.Update.{Update}
 use Rattle.plevent.specs.declared.update.Update.TheVariants.{First, Last, Erase, EraseOwn, Declare}
-use Rattle.plevent.specs.Alive.{stamped, named, same_name, add_if, lives, is_alive, clause_named, or_else}
+use Rattle.plevent.specs.Alive.{stamped, named, same_name, change_if, lives, is_alive, clause_named, or_else}
 use Rattle.plstore.specs.declared.query.Query.{Query}
 use Rattle.plstore.specs.declared.query.Found.{Found}
 use Rattle.plstore.specs.Kept.{Kept, keep, nothing}
@@ -39,21 +39,21 @@ alive-renamed b n k (EraseOwn j ∷ us) v h =
     ap (λ e. fold (lives (named b n)) ((v || false) && not e) (stamped b (suc k) us)) (same-batch b n j) ∙ alive-renamed b n (suc k) us ((v || false) && not (same_name (named n 0) (named j 0))) h.1
 alive-renamed b n k (Declare q ∷ us) v h = alive-renamed b n (suc k) us ((v || false) && true) h.1
 
-no-clause : (v : Bool) (o : Option Clause) → or_else (add_if v None None) o ≡ o
+no-clause : (v : Bool) (o : Option Clause) → or_else (change_if v None None) o ≡ o
 no-clause true o = refl
 no-clause false o = refl
 
 named-renamed : (b n k : ℕ) (us : List Update) → clause_named (named b n) (stamped b k us) ≡ clause_named (named n 0) (drafted k us)
 named-renamed b n k [] = refl
-named-renamed b n k (First c ∷ us) = ap₂ (λ v o. or_else (add_if v (Some c) None) o) (same-batch b k n) (named-renamed b n (suc k) us)
-named-renamed b n k (Last c ∷ us) = ap₂ (λ v o. or_else (add_if v (Some c) None) o) (same-batch b k n) (named-renamed b n (suc k) us)
+named-renamed b n k (First c ∷ us) = ap₂ (λ v o. or_else (change_if v (Some c) None) o) (same-batch b k n) (named-renamed b n (suc k) us)
+named-renamed b n k (Last c ∷ us) = ap₂ (λ v o. or_else (change_if v (Some c) None) o) (same-batch b k n) (named-renamed b n (suc k) us)
 named-renamed b n k (Erase y ∷ us) = no-clause (same_name (named b k) (named b n)) (clause_named (named b n) (stamped b (suc k) us)) ∙ named-renamed b n (suc k) us
-named-renamed b n k (EraseOwn j ∷ us) = ap₂ (λ v o. or_else (add_if v None None) o) (same-batch b k n) (named-renamed b n (suc k) us)
-named-renamed b n k (Declare q ∷ us) = ap₂ (λ v o. or_else (add_if v None None) o) (same-batch b k n) (named-renamed b n (suc k) us)
+named-renamed b n k (EraseOwn j ∷ us) = ap₂ (λ v o. or_else (change_if v None None) o) (same-batch b k n) (named-renamed b n (suc k) us)
+named-renamed b n k (Declare q ∷ us) = ap₂ (λ v o. or_else (change_if v None None) o) (same-batch b k n) (named-renamed b n (suc k) us)
 
 own-renamed : (b n : ℕ) (us : List Update) → AllErasedApart b us → clause_alive (named b n) (stamped b 0 us) ≡ clause_alive (named n 0) (drafted 0 us)
 unfolding is_alive
-own-renamed b n us h = ap₂ (λ v o. add_if v o None) (alive-renamed b n 0 us false h) (named-renamed b n 0 us)
+own-renamed b n us h = ap₂ (λ v o. change_if v o None) (alive-renamed b n 0 us false h) (named-renamed b n 0 us)
 
 abbrev told : Found → Option Clause
 told (Found.Next x) = None

@@ -11,7 +11,7 @@ use Rattle.plevent.specs.declared.update.ClauseName.{ClauseName}
 use Rattle.plevent.specs.declared.update.Living.{Living}
 use Rattle.plevent.specs.declared.update.Update.{Update}
 use Rattle.plevent.specs.declared.update.Update.TheVariants.{First, Last, Erase, EraseOwn, Declare}
-use Rattle.plevent.specs.Alive.{Stamped, stamped, named, same_name, is_of, lives_as, add_if, without, change, changed, living, before, view}
+use Rattle.plevent.specs.Alive.{Stamped, stamped, named, same_name, is_of, lives_as, change_if, without, change, changed, living, before, view}
 use Rattle.plstore.specs.Rising.{AllUnder}
 use Rattle.pltx.specs.declared.target.Target.TheVariants.{Committed}
 use Rattle.pltx.specs.Own.{erased_in}
@@ -41,7 +41,7 @@ low-push : (b : ℕ) (xs : List Living) (x : ClauseName) (c : Clause) → x.plac
 low-push b [] x c h all = (h, tt)
 low-push b (y ∷ xs) x c h all = (all.0, low-push b xs x c h all.1)
 
-low-if : (b : ℕ) (v : Bool) (xs ys : List Living) → AllLow b xs → AllLow b ys → AllLow b (add_if v xs ys)
+low-if : (b : ℕ) (v : Bool) (xs ys : List Living) → AllLow b xs → AllLow b ys → AllLow b (change_if v xs ys)
 low-if b true xs ys h k = h
 low-if b false xs ys h k = k
 
@@ -65,11 +65,11 @@ without-three y fs xs bs =
     let t : Living → Bool = λ x. not (same_name x.name y) in
     filter-append t (fs ++ xs) bs ∙ ap (λ l. l ++ filter t bs) (filter-append t fs xs)
 
-front-three : (v : Bool) (x : Living) (fs xs bs : List Living) → add_if v (x ∷ three fs xs bs) (three fs xs bs) ≡ three (add_if v (x ∷ fs) fs) xs bs
+front-three : (v : Bool) (x : Living) (fs xs bs : List Living) → change_if v (x ∷ three fs xs bs) (three fs xs bs) ≡ three (change_if v (x ∷ fs) fs) xs bs
 front-three true x fs xs bs = refl
 front-three false x fs xs bs = refl
 
-back-three : (v : Bool) (x : Living) (fs xs bs : List Living) → add_if v (three fs xs bs ++ x ∷ []) (three fs xs bs) ≡ three fs xs (add_if v (bs ++ x ∷ []) bs)
+back-three : (v : Bool) (x : Living) (fs xs bs : List Living) → change_if v (three fs xs bs ++ x ∷ []) (three fs xs bs) ≡ three fs xs (change_if v (bs ++ x ∷ []) bs)
 back-three true x fs xs bs = append_assoc (fs ++ xs) bs (x ∷ [])
 back-three false x fs xs bs = refl
 
@@ -104,10 +104,10 @@ layers : (b k : ℕ) (p : Indicator) (us : List Update) (fs xs bs : List Living)
 layers b k p [] fs xs bs all = ap (λ l. three fs l bs) (sym (none-erased xs))
 layers b k p (First c ∷ us) fs xs bs all =
     ap (λ l. fold (change p) l (stamped b (suc k) us)) (front-three (is_of p c) (lives_as (named b k) c) fs xs bs)
-    ∙ layers b (suc k) p us (add_if (is_of p c) (lives_as (named b k) c ∷ fs) fs) xs bs all
+    ∙ layers b (suc k) p us (change_if (is_of p c) (lives_as (named b k) c ∷ fs) fs) xs bs all
 layers b k p (Last c ∷ us) fs xs bs all =
     ap (λ l. fold (change p) l (stamped b (suc k) us)) (back-three (is_of p c) (lives_as (named b k) c) fs xs bs)
-    ∙ layers b (suc k) p us fs xs (add_if (is_of p c) (bs ++ lives_as (named b k) c ∷ []) bs) all
+    ∙ layers b (suc k) p us fs xs (change_if (is_of p c) (bs ++ lives_as (named b k) c ∷ []) bs) all
 layers b k p (Erase y ∷ us) fs xs bs all =
     ap (λ l. fold (change p) l (stamped b (suc k) us)) (without-three y fs xs bs)
     ∙ layers b (suc k) p us (without y fs) (without y xs) (without y bs) (low-without b y xs all)

@@ -4,7 +4,7 @@ use Rattle.std.specs.Prelude.{◌||◌}
 use Rattle.std.proofs.lemmas.Bool.Decides.{nat_tests}
 use Rattle.plevent.specs.declared.update.Update.{Update}
 use Rattle.plevent.specs.declared.update.Update.TheVariants.{First, Last, Erase, EraseOwn, Declare}
-use Rattle.plevent.specs.Alive.{add_if, or_else}
+use Rattle.plevent.specs.Alive.{change_if, or_else}
 use Rattle.pltx.specs.declared.target.Target.{Target}
 use Rattle.pltx.specs.declared.target.Target.TheVariants.{Committed, Own}
 use Rattle.pltx.specs.Own.{erased_in, erasing, is_target, target_of, IsAddition}
@@ -33,13 +33,13 @@ erased-append t (u ∷ us) vs = ap (λ v. hit t u || v) (erased-append t us vs) 
 -- there is a mark exactly where some update erases
 pub none-marked : (t : Target) (k : ℕ) (us : List Update) → erased_in t us ≡ false → mark_of t k us ≡ None
 none-marked t k [] h = refl
-none-marked t k (u ∷ us) h = ap (λ v. add_if v (Some k) (mark_of t (suc k) us)) (or-left (hit t u) (erased_in t us) h) ∙ none-marked t (suc k) us (or-right (hit t u) (erased_in t us) h)
+none-marked t k (u ∷ us) h = ap (λ v. change_if v (Some k) (mark_of t (suc k) us)) (or-left (hit t u) (erased_in t us) h) ∙ none-marked t (suc k) us (or-right (hit t u) (erased_in t us) h)
 
 pub marked-none : (t : Target) (k : ℕ) (us : List Update) → mark_of t k us ≡ None → erased_in t us ≡ false
 marked-none t k [] h = refl
 marked-none t k (u ∷ us) h = by-case (hit t u) h (λ h. marked-none t (suc k) us h)
   where
-    by-case : (v : Bool) → add_if v (Some k) (mark_of t (suc k) us) ≡ None → (mark_of t (suc k) us ≡ None → erased_in t us ≡ false) → v || erased_in t us ≡ false
+    by-case : (v : Bool) → change_if v (Some k) (mark_of t (suc k) us) ≡ None → (mark_of t (suc k) us ≡ None → erased_in t us ≡ false) → v || erased_in t us ≡ false
     by-case true h rest = absurd (cc)
     by-case false h rest = rest h
 
@@ -57,16 +57,16 @@ or-nothing (Some n) = refl
 
 mark-append : (t : Target) (k : ℕ) (us vs : List Update) → mark_of t k (us ++ vs) ≡ or_else (mark_of t k us) (mark_of t (k + length us) vs)
 mark-append t k [] vs = ap (λ n. mark_of t n vs) (omega arith)
-mark-append t k (u ∷ us) vs = ap (add_if (hit t u) (Some k)) (mark-append t (suc k) us vs ∙ ap (λ n. or_else (mark_of t (suc k) us) (mark_of t n vs)) (omega arith)) ∙ out (hit t u)
+mark-append t k (u ∷ us) vs = ap (change_if (hit t u) (Some k)) (mark-append t (suc k) us vs ∙ ap (λ n. or_else (mark_of t (suc k) us) (mark_of t n vs)) (omega arith)) ∙ out (hit t u)
   where
-    out : (v : Bool) → add_if v (Some k) (or_else (mark_of t (suc k) us) (mark_of t (k + suc (length us)) vs)) ≡ or_else (add_if v (Some k) (mark_of t (suc k) us)) (mark_of t (k + suc (length us)) vs)
+    out : (v : Bool) → change_if v (Some k) (or_else (mark_of t (suc k) us) (mark_of t (k + suc (length us)) vs)) ≡ or_else (change_if v (Some k) (mark_of t (suc k) us)) (mark_of t (k + suc (length us)) vs)
     out true = refl
     out false = refl
 
-pub mark-more : (t : Target) (n : ℕ) (us : List Update) (u : Update) → n ≡ length us → (hit t u ≡ true → erased_in t us ≡ false) → add_if (hit t u) (Some n) (mark_of t 0 us) ≡ mark_of t 0 (us ++ u ∷ [])
-mark-more t n us u e fresh = by-case (hit t u) fresh ∙ ap (λ n. or_else (mark_of t 0 us) (add_if (hit t u) (Some n) None)) (omega (arith, e)) ∙ sym (mark-append t 0 us (u ∷ []))
+pub mark-more : (t : Target) (n : ℕ) (us : List Update) (u : Update) → n ≡ length us → (hit t u ≡ true → erased_in t us ≡ false) → change_if (hit t u) (Some n) (mark_of t 0 us) ≡ mark_of t 0 (us ++ u ∷ [])
+mark-more t n us u e fresh = by-case (hit t u) fresh ∙ ap (λ n. or_else (mark_of t 0 us) (change_if (hit t u) (Some n) None)) (omega (arith, e)) ∙ sym (mark-append t 0 us (u ∷ []))
   where
-    by-case : (v : Bool) → (v ≡ true → erased_in t us ≡ false) → add_if v (Some n) (mark_of t 0 us) ≡ or_else (mark_of t 0 us) (add_if v (Some n) None)
+    by-case : (v : Bool) → (v ≡ true → erased_in t us ≡ false) → change_if v (Some n) (mark_of t 0 us) ≡ or_else (mark_of t 0 us) (change_if v (Some n) None)
     by-case true h = ap (λ o. or_else o (Some n)) (sym (none-marked t 0 us (h refl)))
     by-case false h = sym (or-nothing (mark_of t 0 us))
 
@@ -85,7 +85,7 @@ none-below : (t : Target) (g k : ℕ) (us : List Update) → g ≤ k → number_
 none-below t g k [] l = refl
 none-below t g k (u ∷ us) l = by-case (hit t u) (none-below t g (suc k) us (omega arith))
   where
-    by-case : (v : Bool) → number_below g (mark_of t (suc k) us) ≡ false → number_below g (add_if v (Some k) (mark_of t (suc k) us)) ≡ false
+    by-case : (v : Bool) → number_below g (mark_of t (suc k) us) ≡ false → number_below g (change_if v (Some k) (mark_of t (suc k) us)) ≡ false
     by-case true h = lt-false k g l
     by-case false h = h
 
@@ -94,22 +94,22 @@ mark-below t g k zero us e = none-below t g k us (omega arith)
 mark-below t g k (suc m) [] e = refl
 mark-below t g k (suc m) (u ∷ us) e = by-case (hit t u) (mark-below t g (suc k) m us (omega arith))
   where
-    by-case : (v : Bool) → number_below g (mark_of t (suc k) us) ≡ erased_in t (take m us) → number_below g (add_if v (Some k) (mark_of t (suc k) us)) ≡ v || erased_in t (take m us)
+    by-case : (v : Bool) → number_below g (mark_of t (suc k) us) ≡ erased_in t (take m us) → number_below g (change_if v (Some k) (mark_of t (suc k) us)) ≡ v || erased_in t (take m us)
     by-case true h = lt-true k g (omega arith)
     by-case false h = h
 
 -- updates that are cut off
-pub mark-cut : (t : Target) (k : ℕ) (us vs : List Update) → OnceEach (us ++ vs) → add_if (erased_in t vs) None (mark_of t k (us ++ vs)) ≡ mark_of t k us
+pub mark-cut : (t : Target) (k : ℕ) (us vs : List Update) → OnceEach (us ++ vs) → change_if (erased_in t vs) None (mark_of t k (us ++ vs)) ≡ mark_of t k us
 mark-cut t k [] vs once = by-case (erased_in t vs) refl
   where
-    by-case : (v : Bool) → erased_in t vs ≡ v → add_if v None (mark_of t k vs) ≡ None
+    by-case : (v : Bool) → erased_in t vs ≡ v → change_if v None (mark_of t k vs) ≡ None
     by-case true e = refl
     by-case false e = none-marked t k vs e
 mark-cut t k (u ∷ us) vs once = by-case (hit t u) refl (mark-cut t (suc k) us vs once.1)
   where
-    by-case : (v : Bool) → hit t u ≡ v → add_if (erased_in t vs) None (mark_of t (suc k) (us ++ vs)) ≡ mark_of t (suc k) us →
-        add_if (erased_in t vs) None (add_if v (Some k) (mark_of t (suc k) (us ++ vs))) ≡ add_if v (Some k) (mark_of t (suc k) us)
-    by-case true e rest = ap (λ w. add_if w None (Some k)) (or-right (erased_in t us) (erased_in t vs) (sym (erased-append t us vs) ∙ once.0 t e))
+    by-case : (v : Bool) → hit t u ≡ v → change_if (erased_in t vs) None (mark_of t (suc k) (us ++ vs)) ≡ mark_of t (suc k) us →
+        change_if (erased_in t vs) None (change_if v (Some k) (mark_of t (suc k) (us ++ vs))) ≡ change_if v (Some k) (mark_of t (suc k) us)
+    by-case true e rest = ap (λ w. change_if w None (Some k)) (or-right (erased_in t us) (erased_in t vs) (sym (erased-append t us vs) ∙ once.0 t e))
     by-case false e rest = rest
 
 pub once-cut : (us vs : List Update) → OnceEach (us ++ vs) → OnceEach us

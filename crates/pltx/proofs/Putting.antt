@@ -13,11 +13,11 @@ use Rattle.plevent.specs.declared.update.ClauseName.{ClauseName}
 use Rattle.plevent.specs.declared.update.Living.{Living}
 use Rattle.plevent.specs.declared.update.Update.{Update}
 use Rattle.plevent.specs.declared.update.Update.TheVariants.{First, Last, Erase, EraseOwn, Declare}
-use Rattle.plevent.specs.Alive.{stamped, named, same_name, is_of, lives_as, add_if, without, change, living, names_of}
+use Rattle.plevent.specs.Alive.{stamped, named, same_name, is_of, lives_as, change_if, without, change, living, names_of}
 use Rattle.plstore.specs.declared.record.Record.{Record}
 use Rattle.plstore.specs.declared.record.Cursor.{Cursor}
 use Rattle.plstore.specs.declared.record.Cursor.TheVariants.{Start, After}
-use Rattle.plstore.specs.Kept.{Kept, keep, nothing, keep_record, made, changed_where, change_if, erase_at, is_named, seen, in_front, behind_all, picked, walk, head}
+use Rattle.plstore.specs.Kept.{Kept, keep, nothing, keep_record, made, changed_where, erase_at, is_named, seen, in_front, behind_all, picked, walk, head}
 use Rattle.plstore.specs.Like.{fits, first_like, past, next_like_of}
 use Rattle.plstore.proofs.Law.{cons_if, own, picked-cons}
 use Rattle.plstore.proofs.Whole.{keep-records, walk-is}
@@ -50,7 +50,7 @@ put-append : (t : ClauseName → Bool) (v : Bool) (xs ys : List Living) → AllP
 put-append t v [] ys h k = k
 put-append t v (x ∷ xs) ys h k = (h.0, put-append t v xs ys h.1 k)
 
-put-if : (t : ClauseName → Bool) (v w : Bool) (xs ys : List Living) → AllPut t v xs → AllPut t v ys → AllPut t v (add_if w xs ys)
+put-if : (t : ClauseName → Bool) (v w : Bool) (xs ys : List Living) → AllPut t v xs → AllPut t v ys → AllPut t v (change_if w xs ys)
 put-if t v true xs ys h k = h
 put-if t v false xs ys h k = k
 
@@ -81,7 +81,7 @@ stands-first m us = λ j u e. ap (slice_get us) (omega arith) ∙ by-place m us 
 front-side : (us : List Update) (b k : ℕ) (p : Indicator) (vs : List Update) (xs : List Living) → StandAt us k vs → AllPut (by_number us) true xs → AllPut (by_number us) true (fold (change p) xs (no_last (stamped b k vs)))
 front-side us b k p [] xs h all = all
 front-side us b k p (First c ∷ vs) xs h all =
-    front-side us b (suc k) p vs (add_if (is_of p c) (lives_as (named b k) c ∷ xs) xs) (stands-next us k (First c) vs h)
+    front-side us b (suc k) p vs (change_if (is_of p c) (lives_as (named b k) c ∷ xs) xs) (stands-next us k (First c) vs h)
     (put-if (by_number us) true (is_of p c) (lives_as (named b k) c ∷ xs) xs (stands-here us k (First c) vs h, all) all)
 front-side us b k p (Last c ∷ vs) xs h all = front-side us b (suc k) p vs xs (stands-next us k (Last c) vs h) all
 front-side us b k p (Erase y ∷ vs) xs h all = front-side us b (suc k) p vs (without y xs) (stands-next us k (Erase y) vs h) (put-filter (by_number us) true (λ x. not (same_name x.name y)) xs all)
@@ -94,7 +94,7 @@ back-side us b k p [] xs h all = all
 back-side us b k p (First c ∷ vs) xs h all = back-side us b (suc k) p vs xs (stands-next us k (First c) vs h) all
 back-side us b k p (Last c ∷ vs) xs h all =
     let x = lives_as (named b k) c in
-    back-side us b (suc k) p vs (add_if (is_of p c) (xs ++ x ∷ []) xs) (stands-next us k (Last c) vs h)
+    back-side us b (suc k) p vs (change_if (is_of p c) (xs ++ x ∷ []) xs) (stands-next us k (Last c) vs h)
     (put-if (by_number us) false (is_of p c) (xs ++ x ∷ []) xs (put-append (by_number us) false xs (x ∷ []) all (stands-here us k (Last c) vs h, tt)) all)
 back-side us b k p (Erase y ∷ vs) xs h all = back-side us b (suc k) p vs (without y xs) (stands-next us k (Erase y) vs h) (put-filter (by_number us) false (λ x. not (same_name x.name y)) xs all)
 back-side us b k p (EraseOwn j ∷ vs) xs h all =
@@ -112,14 +112,14 @@ backs-put b m us p = back-side us b 0 p (take m us) [] (stands-first m us) tt
 -- the next one of a side
 abbrev pub if_front : (ClauseName → Bool) → Option ClauseName → Option ClauseName
 if_front t None = None
-if_front t (Some x) = add_if (t x) (Some x) None
+if_front t (Some x) = change_if (t x) (Some x) None
 
 none-of-backs : (t : ClauseName → Bool) (key : Key) (ys : List Living) → AllPut t false ys → if_front t (first_like key ys) ≡ None
 none-of-backs t key [] all = refl
 none-of-backs t key (y ∷ ys) all = by-case (fits key y) (none-of-backs t key ys all.1)
   where
     by-case : (v : Bool) → if_front t (first_like key ys) ≡ None → if_front t (head (names_of (cond v (y ∷ filter (fits key) ys) (filter (fits key) ys)))) ≡ None
-    by-case true r = ap (λ v. add_if v (Some y.name) None) all.0
+    by-case true r = ap (λ v. change_if v (Some y.name) None) all.0
     by-case false r = r
 
 first-front : (t : ClauseName → Bool) (key : Key) (xs ys : List Living) → AllPut t true xs → AllPut t false ys → if_front t (first_like key (xs ++ ys)) ≡ first_like key xs
@@ -127,7 +127,7 @@ first-front t key [] ys h k = none-of-backs t key ys k
 first-front t key (x ∷ xs) ys h k = by-case (fits key x) (first-front t key xs ys h.1 k)
   where
     by-case : (v : Bool) → if_front t (first_like key (xs ++ ys)) ≡ first_like key xs → if_front t (head (names_of (cond v (x ∷ filter (fits key) (xs ++ ys)) (filter (fits key) (xs ++ ys))))) ≡ head (names_of (cond v (x ∷ filter (fits key) xs) (filter (fits key) xs)))
-    by-case true r = ap (λ v. add_if v (Some x.name) None) h.0
+    by-case true r = ap (λ v. change_if v (Some x.name) None) h.0
     by-case false r = r
 
 put-past : (t : ClauseName → Bool) (v : Bool) (x : ClauseName) (ys : List Living) → AllPut t v ys → AllPut t v (past x ys)
@@ -139,7 +139,7 @@ next-front t key Start xs ys h k = first-front t key xs ys h k
 next-front t key (After x) [] ys h k = none-of-backs t key (past x ys) (put-past t false x ys k)
 next-front t key (After x) (y ∷ xs) ys h k = by-case (same_name x y.name) (next-front t key (After x) xs ys h.1 k)
   where
-    by-case : (v : Bool) → if_front t (first_like key (past x (xs ++ ys))) ≡ first_like key (past x xs) → if_front t (first_like key (add_if v (xs ++ ys) (past x (xs ++ ys)))) ≡ first_like key (add_if v xs (past x xs))
+    by-case : (v : Bool) → if_front t (first_like key (past x (xs ++ ys))) ≡ first_like key (past x xs) → if_front t (first_like key (change_if v (xs ++ ys) (past x (xs ++ ys)))) ≡ first_like key (change_if v xs (past x xs))
     by-case true r = first-front t key xs ys h.1 k
     by-case false r = r
 
@@ -156,11 +156,11 @@ other-side us v w x y h k ne = by-case (same_name x y) refl
 -- a clause that was put behind others is none of those before
 behind-fronts : (us : List Update) (x : ClauseName) (xs ys : List Living) → by_number us x ≡ false → AllPut (by_number us) true xs → past x (xs ++ ys) ≡ past x ys
 behind-fronts us x [] ys e h = refl
-behind-fronts us x (y ∷ xs) ys e h = ap (λ v. add_if v (xs ++ ys) (past x (xs ++ ys))) (other-side us false true x y.name e h.0 false≢true) ∙ behind-fronts us x xs ys e h.1
+behind-fronts us x (y ∷ xs) ys e h = ap (λ v. change_if v (xs ++ ys) (past x (xs ++ ys))) (other-side us false true x y.name e h.0 false≢true) ∙ behind-fronts us x xs ys e h.1
 
 no-back : (us : List Update) (x : ClauseName) (ys : List Living) → by_number us x ≡ true → AllPut (by_number us) false ys → past x ys ≡ []
 no-back us x [] e h = refl
-no-back us x (y ∷ ys) e h = ap (λ v. add_if v ys (past x ys)) (other-side us true false x y.name e h.0 (λ q. false≢true (sym q))) ∙ no-back us x ys e h.1
+no-back us x (y ∷ ys) e h = ap (λ v. change_if v ys (past x ys)) (other-side us true false x y.name e h.0 (λ q. false≢true (sym q))) ∙ no-back us x ys e h.1
 
 module _ (us : List Update) (b m : ℕ) (p : Indicator) where
   abbrev fs : List Living

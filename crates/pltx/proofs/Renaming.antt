@@ -12,7 +12,7 @@ use Rattle.plevent.specs.declared.update.ClauseName.{ClauseName}
 use Rattle.plevent.specs.declared.update.Living.{Living}
 use Rattle.plevent.specs.declared.update.Update.{Update}
 use Rattle.plevent.specs.declared.update.Update.TheVariants.{First, Last, Erase, EraseOwn, Declare}
-use Rattle.plevent.specs.Alive.{stamped, named, same_name, is_of, lives_as, add_if, without, change, changed, living, names_of}
+use Rattle.plevent.specs.Alive.{stamped, named, same_name, is_of, lives_as, change_if, without, change, changed, living, names_of}
 use Rattle.plstore.specs.Kept.{head}
 use Rattle.plstore.specs.Like.{fits, first_like, past, rest, next_like_of}
 use Rattle.pltx.specs.declared.own.OwnCursor.{OwnCursor}
@@ -50,13 +50,13 @@ without-other : (b : ℕ) (y : ClauseName) (xs : List Living) → y.place ≢ b 
 without-other b y [] h = refl
 without-other b y (x ∷ xs) h = ap₂ (λ v l. cond (not v) (renamed b x ∷ l) l) (other-place b x.name.place y h) (without-other b y xs h)
 
-if-out : {A B : Type 0} (f : A → B) (v : Bool) (x y : A) → f (add_if v x y) ≡ add_if v (f x) (f y)
+if-out : {A B : Type 0} (f : A → B) (v : Bool) (x y : A) → f (change_if v x y) ≡ change_if v (f x) (f y)
 if-out f true x y = refl
 if-out f false x y = refl
 
 step : (b k : ℕ) (p : Indicator) (u : Update) (xs : List Living) → IsErasedApart b u → AllAlone xs → changed p (named b k) u (map (renamed b) xs) ≡ map (renamed b) (fold (change p) xs (drafts k u))
 step b k p (First c) xs h all = sym (if-out (map (renamed b)) (is_of p c) (lives_as (named k 0) c ∷ xs) xs)
-step b k p (Last c) xs h all = ap (λ l. add_if (is_of p c) l (map (renamed b) xs)) (sym (map-append (renamed b) xs (lives_as (named k 0) c ∷ []))) ∙ sym (if-out (map (renamed b)) (is_of p c) (xs ++ lives_as (named k 0) c ∷ []) xs)
+step b k p (Last c) xs h all = ap (λ l. change_if (is_of p c) l (map (renamed b) xs)) (sym (map-append (renamed b) xs (lives_as (named k 0) c ∷ []))) ∙ sym (if-out (map (renamed b)) (is_of p c) (xs ++ lives_as (named k 0) c ∷ []) xs)
 step b k p (Erase y) xs h all = without-other b y xs h
 step b k p (EraseOwn j) xs h all = without-own b j xs all
 step b k p (Declare q) xs h all = refl
@@ -74,7 +74,7 @@ alone-without y (x ∷ xs) all = by-case (not (same_name x.name y)) (alone-witho
     by-case true h = (all.0, h)
     by-case false h = h
 
-alone-if : (v : Bool) (xs ys : List Living) → AllAlone xs → AllAlone ys → AllAlone (add_if v xs ys)
+alone-if : (v : Bool) (xs ys : List Living) → AllAlone xs → AllAlone ys → AllAlone (change_if v xs ys)
 alone-if true xs ys h k = h
 alone-if false xs ys h k = k
 
@@ -119,7 +119,7 @@ first-renamed b key xs = ap (λ l. head (names_of l)) (filter-renamed b key xs) 
 past-renamed : (b k : ℕ) (xs : List Living) → AllAlone xs → past (named b k) (map (renamed b) xs) ≡ map (renamed b) (past (named k 0) xs)
 past-renamed b k [] all = refl
 past-renamed b k (x ∷ xs) all =
-    ap₂ (λ v l. add_if v (map (renamed b) xs) l) (same-own-back b k x.name all.0) (past-renamed b k xs all.1)
+    ap₂ (λ v l. change_if v (map (renamed b) xs) l) (same-own-back b k x.name all.0) (past-renamed b k xs all.1)
     ∙ sym (if-out (map (renamed b)) (same_name (named k 0) x.name) xs (past (named k 0) xs))
 
 rest-renamed : (b : ℕ) (c : OwnCursor) (xs : List Living) → AllAlone xs → rest (cursor_at b c) (map (renamed b) xs) ≡ map (renamed b) (rest (draft_cursor c) xs)

@@ -6,7 +6,7 @@ use Rattle.std.specs.declared.hash.FoldHasher.{FoldHasher}
 use Rattle.std.specs.declared.hash.BuildHasherDefault.{BuildHasherDefault}
 use Rattle.std.proofs.lemmas.Bool.Decides.{nat_tests}
 use Rattle.plevent.specs.declared.update.ClauseName.{ClauseName}
-use Rattle.plevent.specs.Alive.{same_name, add_if}
+use Rattle.plevent.specs.Alive.{same_name, change_if}
 use Rattle.plstore.proofs.Same.{nat-same, nat-self}
 use Rattle.pltx.specs.declared.target.Target.{Target}
 use Rattle.pltx.specs.declared.target.Target.TheVariants.{Committed, Own}
@@ -29,7 +29,7 @@ pub target-self : (t : Target) → same_target t t ≡ true
 target-self (Committed x) = name-self x
 target-self (Own k) = nat-self k
 
-pub cond-is : {A : Type 0} (b : Bool) (x y : A) → cond b x y ≡ add_if b x y
+pub cond-is : {A : Type 0} (b : Bool) (x y : A) → cond b x y ≡ change_if b x y
 cond-is true x y = refl
 cond-is false x y = refl
 

@@ -6,7 +6,7 @@ use Rattle.plclause.specs.Clause.{Clause}
 use Rattle.plevent.specs.declared.key.Key.TheVariants.{Any, Int}
 use Rattle.plevent.specs.declared.update.Update.{Update}
 use Rattle.plevent.specs.declared.update.Update.TheVariants.{First, Last, Erase, EraseOwn}
-use Rattle.plevent.specs.Alive.{Stamped, alive, exists, named, living, stamped, view, before}
+use Rattle.plevent.specs.Alive.{Stamped, exists, named, names_of, living, stamped, view, before}
 use Rattle.plstore.specs.Like.{next_like_of}
 use Rattle.pltx.specs.declared.level.Ended.{Ended}
 use Rattle.pltx.specs.declared.level.Isolation.TheVariants.{Transaction, Snapshot}
@@ -33,15 +33,15 @@ abbrev own : List Update
 own = three.updates
 
 -- the last one in front comes first
-pub in_order : alive (own_batch 9 3 own) p ≡ named 9 1 ∷ named 9 0 ∷ named 9 2 ∷ []
+pub in_order : names_of (living (own_batch 9 3 own) p) ≡ named 9 1 ∷ named 9 0 ∷ named 9 2 ∷ []
 unfolding living
 in_order = refl
 
-pub first_two : alive (own_batch 9 2 own) p ≡ named 9 1 ∷ named 9 0 ∷ []
+pub first_two : names_of (living (own_batch 9 2 own) p) ≡ named 9 1 ∷ named 9 0 ∷ []
 unfolding living
 first_two = refl
 
-pub none_yet : alive (own_batch 9 0 own) p ≡ []
+pub none_yet : names_of (living (own_batch 9 0 own) p) ≡ []
 unfolding living
 none_yet = refl
 
@@ -74,11 +74,11 @@ not_there = refl
 abbrev journal : List Stamped
 journal = stamped 2 0 (Last (fact 3) ∷ [])
 
-pub in_view : alive (view journal 9 own 3) p ≡ named 9 1 ∷ named 9 0 ∷ named 2 0 ∷ named 9 2 ∷ []
+pub in_view : names_of (living (view journal 9 own 3) p) ≡ named 9 1 ∷ named 9 0 ∷ named 2 0 ∷ named 9 2 ∷ []
 unfolding living before
 in_view = refl
 
-pub hidden_in_view : alive (view journal 9 (own ++ Erase (named 2 0) ∷ EraseOwn 0 ∷ []) 5) p ≡ named 9 1 ∷ named 9 2 ∷ []
+pub hidden_in_view : names_of (living (view journal 9 (own ++ Erase (named 2 0) ∷ EraseOwn 0 ∷ []) 5) p) ≡ named 9 1 ∷ named 9 2 ∷ []
 unfolding living before
 hidden_in_view = refl
 
@@ -93,7 +93,7 @@ same_base = refl
 abbrev one_gone : State
 one_gone = erased (Own 1) inner
 
-pub gone : alive (own_batch 9 4 one_gone.updates) p ≡ named 9 0 ∷ named 9 2 ∷ []
+pub gone : names_of (living (own_batch 9 4 one_gone.updates) p) ≡ named 9 0 ∷ named 9 2 ∷ []
 unfolding living
 gone = refl
 

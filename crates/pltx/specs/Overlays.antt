@@ -3,7 +3,7 @@ use Rattle.std.specs.Prelude.{◌≡◌, ℕ, suc, true, false, List, [], ◌∷
 use Rattle.std.specs.HashMap.{get}
 use Rattle.plevent.specs.declared.update.Update.{Update}
 use Rattle.plevent.specs.declared.update.Update.TheVariants.{First, Last, Erase, EraseOwn, Declare}
-use Rattle.plevent.specs.Alive.{Stamped, named, add_if}
+use Rattle.plevent.specs.Alive.{Stamped, named, change_if}
 use Rattle.plstore.specs.Kept.{keep, nothing}
 use Rattle.plstore.specs.declared.record.Cursor.{Cursor}
 use Rattle.pltx.specs.declared.overlay.Overlay.{Overlay}
@@ -32,7 +32,7 @@ draft_cursor (OwnCursor.After k) = Cursor.After (named k 0)
 -- the number of the first update from k on that erases it
 abbrev pub mark_of : Target → ℕ → List Update → Option ℕ
 mark_of t k [] = None
-mark_of t k (u ∷ us) = add_if (is_target t (target_of u)) (Some k) (mark_of t (suc k) us)
+mark_of t k (u ∷ us) = change_if (is_target t (target_of u)) (Some k) (mark_of t (suc k) us)
 
 -- no two updates erase one clause
 abbrev pub OnceEach : List Update → Type 0

@@ -7,7 +7,7 @@ use Rattle.plevent.specs.declared.update.Update.{Update}
 use Rattle.plevent.specs.declared.update.Update.TheVariants.{First, Last, Erase, EraseOwn, Declare}
 use Rattle.plevent.specs.contracts.update.Update as update_row
 use Rattle.plevent.specs.declared.update.ClauseName.{ClauseName}
-use Rattle.plevent.specs.Alive.{same_name, add_if}
+use Rattle.plevent.specs.Alive.{same_name, change_if}
 use Rattle.pltx.specs.declared.level.Isolation.{Isolation}
 use Rattle.pltx.specs.declared.level.Isolation.TheVariants.{Transaction, Snapshot}
 use Rattle.pltx.specs.declared.level.Level.{Level}
@@ -87,7 +87,7 @@ erased_in t us = list_any (λ u. is_target t (target_of u)) us
 
 -- an erasure is one more update, unless it was made before
 abbrev pub erased : Target → State → State
-erased t x = add_if (erased_in t x.updates) x (added (erasing t) x)
+erased t x = change_if (erased_in t x.updates) x (added (erasing t) x)
 
 -- what is erased by the name that a clause has in a view: own clauses have the base as their place
 abbrev pub target_at : ℕ → ClauseName → Target
@@ -117,8 +117,8 @@ published (u ∷ us) = Ended.Publish (u ∷ us)
 -- what the end of the innermost level comes to
 abbrev pub ending_at : Bool → List Update → List Level → Ended
 ending_at success us [] = Ended.Dropped
-ending_at success us (l ∷ []) = add_if (is_kept success l.kind) (published us) Ended.Dropped
-ending_at success us (l ∷ m ∷ ls) = add_if (is_kept success l.kind) Ended.Merged Ended.Dropped
+ending_at success us (l ∷ []) = change_if (is_kept success l.kind) (published us) Ended.Dropped
+ending_at success us (l ∷ m ∷ ls) = change_if (is_kept success l.kind) Ended.Merged Ended.Dropped
 
 abbrev pub ending : Bool → State → Ended
 ending success x = ending_at success x.updates x.levels
@@ -127,7 +127,7 @@ ending success x = ending_at success x.updates x.levels
 abbrev pub ended_at : Bool → State → List Level → State
 ended_at success x [] = x
 ended_at success x (l ∷ []) = nothing
-ended_at success x (l ∷ m ∷ ls) = record x { updates = add_if (is_kept success l.kind) x.updates (take l.start x.updates); levels = m ∷ ls }
+ended_at success x (l ∷ m ∷ ls) = record x { updates = change_if (is_kept success l.kind) x.updates (take l.start x.updates); levels = m ∷ ls }
 
 abbrev pub ended : Bool → State → State
 ended success x = ended_at success x x.levels

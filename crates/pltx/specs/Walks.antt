@@ -4,7 +4,7 @@ use Rattle.plterm.specs.declared.indicator.Indicator.{Indicator}
 use Rattle.plevent.specs.declared.update.Update.{Update}
 use Rattle.plevent.specs.declared.update.Update.TheVariants.{First, Last, Erase, EraseOwn, Declare}
 use Rattle.plevent.specs.declared.update.Living.{Living}
-use Rattle.plevent.specs.Alive.{Stamped, add_if, stamped, named, living}
+use Rattle.plevent.specs.Alive.{Stamped, change_if, stamped, named, living}
 use Rattle.plstore.specs.declared.record.Cursor.{Cursor}
 use Rattle.pltx.specs.declared.own.OwnCursor.{OwnCursor}
 use Rattle.pltx.specs.declared.target.Target.TheVariants.{Committed}
@@ -49,7 +49,7 @@ is_first (Declare q) = false
 -- how many updates there are before the first that puts a clause before all others
 abbrev pub before_first : List Update → ℕ
 before_first [] = 0
-before_first (u ∷ us) = add_if (is_first u) 0 (suc (before_first us))
+before_first (u ∷ us) = change_if (is_first u) 0 (suc (before_first us))
 
 -- the update that a number has, if any, puts a clause before all others
 abbrev pub puts_first : Option Update → Bool

@@ -1,7 +1,7 @@
 //! By what own updates erase, the number of the one that did.
 ghost use Rattle.std.specs.Prelude.{◌≡◌, ◌<◌, None, Some};
 ghost use Rattle.std.specs.HashMap.{get, spare};
-ghost use Rattle.plevent.specs.Alive.{add_if};
+ghost use Rattle.plevent.specs.Alive.{change_if};
 ghost use Rattle.pltx.specs.Own.{erased_in, is_target, same_target, target_of};
 ghost use Rattle.pltx.specs.declared.target.Target.{Target as Targeted};
 
@@ -22,7 +22,7 @@ pub(crate) fn marked(marks: &HashMap<Target, u64>, target: &Target) -> Option<u6
 /// Marks a target, for which there is room.
 pub(crate) fn mark(marks: &mut HashMap<Target, u64>, target: Target, number: u64)
     requires { 0 < spare marks.old }
-    ensures { (t : Targeted) → get same_target marks.new t ≡ add_if (same_target target t) (Some number) (get same_target marks.old t) }
+    ensures { (t : Targeted) → get same_target marks.new t ≡ change_if (same_target target t) (Some number) (get same_target marks.old t) }
 {
     match marks.insert(target, number) {
         Ok(_) => {}
@@ -32,7 +32,7 @@ pub(crate) fn mark(marks: &mut HashMap<Target, u64>, target: Target, number: u64
 
 /// Marks no more what these updates erase.
 pub(crate) fn unmark(marks: &mut HashMap<Target, u64>, updates: &[Update])
-    ensures { (t : Targeted) → get same_target marks.new t ≡ add_if (erased_in t updates.now) None (get same_target marks.old t) }
+    ensures { (t : Targeted) → get same_target marks.new t ≡ change_if (erased_in t updates.now) None (get same_target marks.old t) }
 {
     for update in updates {
         unmark_one(marks, update);
@@ -40,7 +40,7 @@ pub(crate) fn unmark(marks: &mut HashMap<Target, u64>, updates: &[Update])
 }
 
 fn unmark_one(marks: &mut HashMap<Target, u64>, update: &Update)
-    ensures { (t : Targeted) → get same_target marks.new t ≡ add_if (is_target t (target_of update.now)) None (get same_target marks.old t) }
+    ensures { (t : Targeted) → get same_target marks.new t ≡ change_if (is_target t (target_of update.now)) None (get same_target marks.old t) }
 {
     match target_of(update) {
         None => {}

@@ -3,7 +3,7 @@ ghost use Rattle.std.specs.Prelude.{◌≡◌, ◌≢◌, ℕ, suc, true, false,
 ghost use Rattle.std.specs.HashMap.{spare};
 ghost use Rattle.std.specs.Vec.{vec_capacity};
 ghost use Rattle.std.specs.Option.{option_copied, option_map};
-ghost use Rattle.plevent.specs.Alive.{add_if, exists, living, named};
+ghost use Rattle.plevent.specs.Alive.{change_if, exists, living, named};
 ghost use Rattle.plstore.specs.Like.{next_like_of};
 ghost use Rattle.plstore.specs.Looking.{clause_alive};
 ghost use Rattle.pltx.specs.Walks.{cursor_at, own_batch, AllErasedApart};
@@ -98,7 +98,7 @@ impl Overlay {
     pub(crate) fn erase(&mut self, target: Target) -> Result<Erasure, AllocError>
         requires open { IsOpen (state_of self.old) }
         requires kept { IsOverlay self.old }
-        ensures answer { IfOk result (λ e. e ≡ add_if (erased_in target self.old.updates.items) Gone Erased) }
+        ensures answer { IfOk result (λ e. e ≡ change_if (erased_in target self.old.updates.items) Gone Erased) }
         ensures erased { OnOk result (state_of self.new ≡ erased target (state_of self.old)) }
         ensures refused { OnErr result (state_of self.new ≡ state_of self.old) }
         ensures kept { IsOverlay self.new }
@@ -155,7 +155,7 @@ impl Overlay {
     fn close(&mut self, kept: bool) -> Ended
         requires levels { self.old.levels.items ≡ [] }
         requires tracked { IsTracked self.old }
-        ensures answer { result ≡ add_if kept (published self.old.updates.items) End.Dropped }
+        ensures answer { result ≡ change_if kept (published self.old.updates.items) End.Dropped }
         ensures closed { state_of self.new ≡ nothing }
         ensures kept { IsOverlay self.new }
     {
@@ -174,8 +174,8 @@ impl Overlay {
     fn leave(&mut self, start: usize, kept: bool) -> Ended
         requires levels { self.old.levels.items ≢ [] }
         requires tracked { IsTracked self.old }
-        ensures answer { result ≡ add_if kept End.Merged End.Dropped }
-        ensures left { state_of self.new ≡ record (state_of self.old) { updates = add_if kept self.old.updates.items (take start self.old.updates.items) } }
+        ensures answer { result ≡ change_if kept End.Merged End.Dropped }
+        ensures left { state_of self.new ≡ record (state_of self.old) { updates = change_if kept self.old.updates.items (take start self.old.updates.items) } }
         ensures kept { IsOverlay self.new }
     {
         if kept {

@@ -1,7 +1,7 @@
 //! The own updates of a thread's open transactions.
 ghost use Rattle.std.specs.Prelude.{◌≡◌, ◌≢◌, ℕ, length, slice_get, take, IfOk, OnErr, OnOk};
 ghost use Rattle.std.specs.Option.{option_copied, option_map};
-ghost use Rattle.plevent.specs.Alive.{add_if, exists, living, named};
+ghost use Rattle.plevent.specs.Alive.{change_if, exists, living, named};
 ghost use Rattle.plstore.specs.Like.{next_like_of};
 ghost use Rattle.plstore.specs.Looking.{clause_alive};
 ghost use Rattle.pltx.specs.Own.{added, begun, ended, ending, erased, erased_in, nothing, IsAddition, IsOpen};
@@ -78,7 +78,7 @@ impl Own {
     /// Erases a clause, unless an own update has erased it before.
     pub fn erase(&mut self, target: Target) -> Result<Erasure, AllocError>
         requires { IsOpen self.old }
-        ensures answer { IfOk result (λ e. e ≡ add_if (erased_in target self.old.updates) Gone Erased) }
+        ensures answer { IfOk result (λ e. e ≡ change_if (erased_in target self.old.updates) Gone Erased) }
         ensures erased { OnOk result (self.new ≡ erased target self.old) }
         ensures refused { OnErr result (self.new ≡ self.old) }
     {

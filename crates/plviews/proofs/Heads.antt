@@ -5,7 +5,7 @@ use Rattle.std.proofs.lemmas.Bool.Decides.{nat_tests}
 use Rattle.plclause.specs.Clause.{Clause}
 use Rattle.plevent.specs.declared.update.ClauseName.{ClauseName}
 use Rattle.plevent.specs.declared.update.Living.{Living}
-use Rattle.plevent.specs.Alive.{same_name, add_if, lives_as, names_of}
+use Rattle.plevent.specs.Alive.{same_name, change_if, lives_as, names_of}
 use Rattle.plstore.specs.declared.record.Cursor.{Cursor}
 use Rattle.plstore.specs.Kept.{head}
 use Rattle.plstore.specs.Like.{past, rest}
@@ -27,7 +27,7 @@ none-filter t x (y ∷ ys) h = elim (t y) as (λ v. NoneNamed x (cond v (y ∷ f
 
 none-past : (x z : ClauseName) (ys : List Living) → NoneNamed x ys → NoneNamed x (past z ys)
 none-past x z [] h = tt
-none-past x z (y ∷ ys) h = elim (same_name z y.name) as (λ v. NoneNamed x (add_if v ys (past z ys))) [ true ↦ h.1 | false ↦ none-past x z ys h.1 ]
+none-past x z (y ∷ ys) h = elim (same_name z y.name) as (λ v. NoneNamed x (change_if v ys (past z ys))) [ true ↦ h.1 | false ↦ none-past x z ys h.1 ]
 
 turned : (x y : ClauseName) → same_name y x ≡ false → same_name x y ≡ false
 turned x y h = grind (arith, nat_tests)
@@ -36,12 +36,12 @@ other-name : (x y : ClauseName) (xs ys : List Living) → Heads x xs ys → None
 other-name x y xs ys h n = turned x y (subst (NoneNamed y) h.list n).0
 
 skip : (t : Living → Bool) (x : ClauseName) (y : Living) (xs ys : List Living) → same_name x y.name ≡ false → Heads x xs (filter t (past x ys)) → Heads x xs (filter t (past x (y ∷ ys)))
-skip t x y xs ys e h = subst (λ v. Heads x xs (filter t (add_if v ys (past x ys)))) (sym e) h
+skip t x y xs ys e h = subst (λ v. Heads x xs (filter t (change_if v ys (past x ys)))) (sym e) h
 
 heads-here : (t : Living → Bool) (x : ClauseName) (y : Living) (ys : List Living) → x ≡ y.name → Heads x (y ∷ filter t ys) (filter t (past x (y ∷ ys)))
 heads-here t x y ys e = record {
   clause = y.clause;
-  list = sym (ap₂ (λ n v. lives_as n y.clause ∷ filter t (add_if v ys (past x ys))) e (ap (λ n. same_name n y.name) e ∙ name-self y.name));
+  list = sym (ap₂ (λ n v. lives_as n y.clause ∷ filter t (change_if v ys (past x ys))) e (ap (λ n. same_name n y.name) e ∙ name-self y.name));
 }
 
 heads-start : (t : Living → Bool) (x : ClauseName) (ys : List Living) → Apart ys → Some x ≡ head (names_of (filter t ys)) → Heads x (filter t ys) (filter t (past x ys))
@@ -57,8 +57,8 @@ heads-after : (t : Living → Bool) (z x : ClauseName) (ys : List Living) → Ap
 heads-after t z x [] a e = absurd (cc)
 heads-after t z x (y ∷ ys) a e = by-case (same_name z y.name) e (heads-after t z x ys a.1)
   where
-    by-case : (v : Bool) → Some x ≡ head (names_of (filter t (add_if v ys (past z ys)))) → (Some x ≡ head (names_of (filter t (past z ys))) → Heads x (filter t (past z ys)) (filter t (past x ys))) →
-        Heads x (filter t (add_if v ys (past z ys))) (filter t (past x (y ∷ ys)))
+    by-case : (v : Bool) → Some x ≡ head (names_of (filter t (change_if v ys (past z ys)))) → (Some x ≡ head (names_of (filter t (past z ys))) → Heads x (filter t (past z ys)) (filter t (past x ys))) →
+        Heads x (filter t (change_if v ys (past z ys))) (filter t (past x (y ∷ ys)))
     by-case true e r = let h = heads-start t x ys a.1 e in skip t x y (filter t ys) ys (other-name x y.name (filter t ys) (filter t (past x ys)) h (none-filter t y.name ys a.0)) h
     by-case false e r =
         let h = r e in

@@ -4,7 +4,7 @@ use Rattle.std.proofs.lemmas.Bool.Decides.{nat_tests}
 use Rattle.plevent.specs.declared.update.Update.{Update}
 use Rattle.plevent.specs.declared.update.Update.TheVariants.{First, Last, Erase, EraseOwn, Declare}
 use Rattle.plevent.specs.declared.update.ClauseName.{ClauseName}
-use Rattle.plevent.specs.Alive.{add_if}
+use Rattle.plevent.specs.Alive.{change_if}
 use Rattle.pltx.specs.declared.level.Isolation.TheVariants.{Transaction}
 use Rattle.pltx.specs.declared.level.Level.{Level}
 use Rattle.pltx.specs.declared.target.Target.{Target}
@@ -22,7 +22,7 @@ apart-push : (b : ℕ) (us : List Update) (u : Update) → AllErasedApart b us �
 apart-push b [] u h one = one
 apart-push b (x ∷ us) u h one = (h.0, apart-push b us u h.1 one)
 
-apart-if : (v : Bool) (b : ℕ) (us vs : List Update) → AllErasedApart b us → AllErasedApart b vs → AllErasedApart b (add_if v us vs)
+apart-if : (v : Bool) (b : ℕ) (us vs : List Update) → AllErasedApart b us → AllErasedApart b vs → AllErasedApart b (change_if v us vs)
 apart-if true b us vs h k = h
 apart-if false b us vs h k = k
 
@@ -52,14 +52,14 @@ erasing-apart b x = go (nat_eq x.place b) refl
 erased-apart : (t : Target) (s : State) → AllErasedApart s.base (erasing t ∷ []) → AllErasedApart s.base s.updates → AllErasedApart s.base (erased t s).updates
 erased-apart t s one h = go (erased_in t s.updates)
   where
-    go : (v : Bool) → AllErasedApart s.base (add_if v s (added (erasing t) s)).updates
+    go : (v : Bool) → AllErasedApart s.base (change_if v s (added (erasing t) s)).updates
     go true = h
     go false = apart-push s.base s.updates (erasing t) h one
 
 erased-same : (t : Target) (s : State) → ((erased t s).base ≡ s.base) × ((erased t s).levels ≡ s.levels)
 erased-same t s = go (erased_in t s.updates)
   where
-    go : (v : Bool) → ((add_if v s (added (erasing t) s)).base ≡ s.base) × ((add_if v s (added (erasing t) s)).levels ≡ s.levels)
+    go : (v : Bool) → ((change_if v s (added (erasing t) s)).base ≡ s.base) × ((change_if v s (added (erasing t) s)).levels ≡ s.levels)
     go true = (refl, refl)
     go false = (refl, refl)
 
@@ -105,7 +105,7 @@ grows-same s = record { more = []; is = ap (λ us. record s { updates = us }) (s
 erased-grows : (t : Target) (s : State) → Grows s (erased t s)
 erased-grows t s = go (erased_in t s.updates)
   where
-    go : (v : Bool) → Grows s (add_if v s (added (erasing t) s))
+    go : (v : Bool) → Grows s (change_if v s (added (erasing t) s))
     go true = grows-same s
     go false = record { more = erasing t ∷ []; is = refl }
 
@@ -147,7 +147,7 @@ with_levels s ls = record s { levels = ls }
 erased-levels : (t : Target) (s : State) (ls : List Level) → erased t (with_levels s ls) ≡ with_levels (erased t s) ls
 erased-levels t s ls = go (erased_in t s.updates)
   where
-    go : (v : Bool) → add_if v (with_levels s ls) (added (erasing t) (with_levels s ls)) ≡ with_levels (add_if v s (added (erasing t) s)) ls
+    go : (v : Bool) → change_if v (with_levels s ls) (added (erasing t) (with_levels s ls)) ≡ with_levels (change_if v s (added (erasing t) s)) ls
     go true = refl
     go false = refl
 

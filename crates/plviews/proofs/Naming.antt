@@ -9,7 +9,7 @@ use Rattle.plterm.specs.declared.indicator.Indicator.{Indicator}
 use Rattle.plevent.specs.declared.update.ClauseName.{ClauseName}
 use Rattle.plevent.specs.declared.update.Update.{Update}
 use Rattle.plevent.specs.declared.update.Update.TheVariants.{First, Last, Erase, EraseOwn, Declare}
-use Rattle.plevent.specs.Alive.{Stamped, stamped, named, same_name, add_if, lives, is_alive, clause_in, clause_named, made_in, names, or_else, exists}
+use Rattle.plevent.specs.Alive.{Stamped, stamped, named, same_name, change_if, lives, is_alive, clause_in, clause_named, made_in, names, or_else, exists}
 use Rattle.plstore.specs.Looking.{clause_alive}
 use Rattle.plstore.specs.Rising.{AllUnder}
 use Rattle.plstore.proofs.Whole.{or-assoc-3, or-nothing}
@@ -47,7 +47,7 @@ own-not-below b n (s ∷ us) un = ap (λ v. fold (lives (named b n)) v us) (not-
 
 own-unnamed : (b n : ℕ) (us : List Stamped) → AllUnder b us → clause_named (named b n) us ≡ None
 own-unnamed b n [] un = refl
-own-unnamed b n (s ∷ us) un = ap (λ v. or_else (add_if v (clause_in s.update) None) (clause_named (named b n) us)) (other-below b n s.at un.0) ∙ own-unnamed b n us un.1
+own-unnamed b n (s ∷ us) un = ap (λ v. or_else (change_if v (clause_in s.update) None) (clause_named (named b n) us)) (other-below b n s.at un.0) ∙ own-unnamed b n us un.1
 
 own-fold : (b n : ℕ) (us vs : List Stamped) → AllUnder b us → is_alive (named b n) (us ++ vs) ≡ is_alive (named b n) vs
 unfolding is_alive
@@ -56,7 +56,7 @@ own-fold b n us vs un = fold-append (lives (named b n)) false us vs ∙ ap (λ v
 pub own-alive : (s : Sight) (n : ℕ) → AllUnder s.place s.below → clause_alive (named s.place n) (whole s) ≡ clause_alive (named s.place n) (own_part s)
 own-alive s n un =
     let x = named s.place n in
-    ap₂ (λ v o. add_if v o None) (own-fold s.place n s.below (own_part s) un) (named-append x s.below (own_part s) ∙ ap (λ o. or_else o (clause_named x (own_part s))) (own-unnamed s.place n s.below un))
+    ap₂ (λ v o. change_if v o None) (own-fold s.place n s.below (own_part s) un) (named-append x s.below (own_part s) ∙ ap (λ o. or_else o (clause_named x (own_part s))) (own-unnamed s.place n s.below un))
 
 -- another name is made by no own update, and is not alive where one erases it
 other-place : (b k : ℕ) (x : ClauseName) → x.place ≢ b → same_name (named b k) x ≡ false
@@ -96,12 +96,12 @@ kept-on x b k (Declare q ∷ us) v h = kept-on x b (suc k) us ((v || false) && t
 
 none-made : (x : ClauseName) (b k : ℕ) (us : List Update) → x.place ≢ b → clause_named x (stamped b k us) ≡ None
 none-made x b k [] h = refl
-none-made x b k (u ∷ us) h = ap (λ v. or_else (add_if v (clause_in u) None) (clause_named x (stamped b (suc k) us))) (other-place b k x h) ∙ none-made x b (suc k) us h
+none-made x b k (u ∷ us) h = ap (λ v. or_else (change_if v (clause_in u) None) (clause_named x (stamped b (suc k) us))) (other-place b k x h) ∙ none-made x b (suc k) us h
 
 pub base-alive : (s : Sight) (x : ClauseName) → x.place ≢ s.place →
-    clause_alive x (whole s) ≡ add_if (is_alive x s.below && not (erased_in (Committed x) s.on_top)) (clause_named x s.below) None
+    clause_alive x (whole s) ≡ change_if (is_alive x s.below && not (erased_in (Committed x) s.on_top)) (clause_named x s.below) None
 base-alive s x h =
-    ap₂ (λ v o. add_if v o None) (alive-append x s.below (own_part s) ∙ kept-on x s.place 0 s.on_top (is_alive x s.below) h)
+    ap₂ (λ v o. change_if v o None) (alive-append x s.below (own_part s) ∙ kept-on x s.place 0 s.on_top (is_alive x s.below) h)
     (named-append x s.below (own_part s) ∙ ap (or_else (clause_named x s.below)) (none-made x s.place 0 s.on_top h) ∙ sym (or-nothing (clause_named x s.below)))
 
 and-false : (v : Bool) → v && false ≡ false
@@ -109,10 +109,10 @@ and-false true = refl
 and-false false = refl
 
 pub base-gone : (s : Sight) (x : ClauseName) → x.place ≢ s.place → erased_in (Committed x) s.on_top ≡ true → clause_alive x (whole s) ≡ None
-base-gone s x h e = base-alive s x h ∙ ap (λ v. add_if v (clause_named x s.below) None) (ap (λ v. is_alive x s.below && not v) e ∙ and-false (is_alive x s.below))
+base-gone s x h e = base-alive s x h ∙ ap (λ v. change_if v (clause_named x s.below) None) (ap (λ v. is_alive x s.below && not v) e ∙ and-false (is_alive x s.below))
 
 pub base-stays : (s : Sight) (x : ClauseName) → x.place ≢ s.place → erased_in (Committed x) s.on_top ≡ false → clause_alive x (whole s) ≡ clause_alive x s.below
-base-stays s x h e = base-alive s x h ∙ ap (λ v. add_if v (clause_named x s.below) None) (ap (λ v. is_alive x s.below && not v) e ∙ and-true (is_alive x s.below))
+base-stays s x h e = base-alive s x h ∙ ap (λ v. change_if v (clause_named x s.below) None) (ap (λ v. is_alive x s.below && not v) e ∙ and-true (is_alive x s.below))
 
 -- procedures
 or-turn : (a b : Bool) → a || b ≡ b || a

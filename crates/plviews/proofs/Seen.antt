@@ -7,7 +7,7 @@ use Rattle.plterm.specs.declared.indicator.Indicator.{Indicator}
 use Rattle.plevent.specs.declared.update.ClauseName.{ClauseName}
 use Rattle.plevent.specs.declared.update.Living.{Living}
 use Rattle.plevent.specs.declared.update.Update.{Update}
-use Rattle.plevent.specs.Alive.{Stamped, stamped, named, same_name, add_if, living}
+use Rattle.plevent.specs.Alive.{Stamped, stamped, named, same_name, change_if, living}
 use Rattle.plstore.specs.declared.record.Cursor.{Cursor}
 use Rattle.plstore.specs.Like.{past, rest}
 use Rattle.plstore.specs.Looking.{clause_alive, Apart, NoneNamed, Tells}
@@ -114,7 +114,7 @@ known-past : (us : List Stamped) (t : Living → Bool) (z : ClauseName) (xs : Li
 known-past us t z [] all = tt
 known-past us t z (x ∷ xs) all =
     let h = tail (t x) all in
-    elim (same_name z x.name) as (λ v. AllKnown us (filter t (add_if v xs (past z xs)))) [ true ↦ h | false ↦ known-past us t z xs h ]
+    elim (same_name z x.name) as (λ v. AllKnown us (filter t (change_if v xs (past z xs)))) [ true ↦ h | false ↦ known-past us t z xs h ]
   where
     tail : (v : Bool) → AllKnown us (cond v (x ∷ filter t xs) (filter t xs)) → AllKnown us (filter t xs)
     tail true h = h.1

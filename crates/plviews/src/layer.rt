@@ -1,6 +1,6 @@
 //! The own updates of a thread on top of a place of the journal.
 ghost use Rattle.std.specs.Prelude.{◌≡◌, true, false, [], ◌∷◌, length, IfOk, OnErr, OnOk, Some};
-ghost use Rattle.plevent.specs.Alive.{add_if};
+ghost use Rattle.plevent.specs.Alive.{change_if};
 ghost use Rattle.pltx.specs.Own.{all_made, any_open, begun, ended, ending, erased_in, made, nothing, target_at};
 ghost use Rattle.pltx.specs.Walks.{AllErasedApart};
 ghost use Rattle.pltx.specs.declared.target.Erasure.TheVariants.{Erased, Gone};
@@ -142,7 +142,7 @@ impl Layer {
     /// Erases the clause of a name inside of what is open, unless an own update has erased it before.
     pub fn erase(&mut self, name: ClauseName) -> Result<Erasure, AllocError>
         requires { any_open self.old.own ≡ true }
-        ensures answer { IfOk result (λ e. e ≡ add_if (erased_in (target_at self.old.own.base name) self.old.own.updates) Gone Erased) }
+        ensures answer { IfOk result (λ e. e ≡ change_if (erased_in (target_at self.old.own.base name) self.old.own.updates) Gone Erased) }
         ensures erased { OnOk result (self.new ≡ record self.old { own = made (Update.Erase name) self.old.own }) }
         ensures refused { OnErr result (self.new ≡ self.old) }
     {

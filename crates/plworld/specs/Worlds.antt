@@ -8,7 +8,7 @@ use Rattle.plevent.specs.declared.act.Act.{Act}
 use Rattle.plevent.specs.declared.act.Entry.{Entry}
 use Rattle.plevent.specs.declared.standing.Standing.{Standing}
 use Rattle.plevent.specs.contracts.act.Entry as entry_row
-use Rattle.plevent.specs.Alive.{add_if}
+use Rattle.plevent.specs.Alive.{change_if}
 use Rattle.plevent.specs.Reading.{reading}
 use Rattle.plevent.specs.Rows.{adds, reply_to}
 use Rattle.plstore.specs.Kept.{Kept, keep, nothing}
@@ -29,11 +29,11 @@ IsServing s = s.stopped ≡ false
 
 -- the reply to a request of thread t: a world that is stopped serves none
 abbrev pub reply_in : Shared → ℕ → Request → Reply
-reply_in s t q = add_if s.stopped Reply.Shut (reply_to s.journal t q)
+reply_in s t q = change_if s.stopped Reply.Shut (reply_to s.journal t q)
 
 -- what a request, asked by worker w, adds to the journal: where the world is stopped, nothing
 abbrev pub adds_in : Shared → ℕ → ℕ → Request → List Entry
-adds_in s w t q = add_if s.stopped [] (adds s.journal w t q)
+adds_in s w t q = change_if s.stopped [] (adds s.journal w t q)
 
 -- the journal of a new world: the program's first batch
 abbrev pub opening : List Update → List Entry

@@ -1,4 +1,4 @@
-use Rattle.plterm.specs.Tree.{list_of-trees}
+use Rattle.plterm.proofs.Forests.{list_of-trees}
 use Rattle.plclause.proofs.clause.indicator_of.Goals as goal
 
 pub returns-in-Compound : goal.returns-in-Compound

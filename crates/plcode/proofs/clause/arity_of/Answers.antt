@@ -1,5 +1,5 @@
 use Rattle.std.proofs.Common.{◌∙◌, length, ap, sym}
-use Rattle.plterm.specs.Tree.{list_of-trees}
+use Rattle.plterm.proofs.Forests.{list_of-trees}
 use Rattle.plsearch.specs.Forms.{arguments}
 use Rattle.plcode.proofs.clause.arity_of.Goals as goal
 

@@ -1,6 +1,7 @@
 use Rattle.std.proofs.Common.{◌≡◌, ◌∙◌, ℕ, List, length, take, subst, ap, sym, arith}
 use Rattle.std.proofs.lemmas.List.{take_all}
-use Rattle.plterm.specs.Tree.{Tree, list_of-trees}
+use Rattle.plterm.specs.Tree.{Tree}
+use Rattle.plterm.proofs.Forests.{list_of-trees}
 use Rattle.plsearch.specs.Forms.{arguments}
 use Rattle.plcode.specs.Laying.{IsRow}
 use Rattle.plcode.specs.Steps.{text, Args}

@@ -1,5 +1,6 @@
 use Rattle.std.proofs.Common.{◌≡◌, ◌∙◌, List, ℕ, length, ap, sym}
-use Rattle.plterm.specs.Tree.{compound, trees, list_of-trees}
+use Rattle.plterm.specs.Tree.{compound, trees}
+use Rattle.plterm.proofs.Forests.{list_of-trees}
 use Rattle.platoms.specs.Names.{atom_at, functor_name}
 use Rattle.platoms.proofs.Extending.{atom_same, Extends-trans}
 use Rattle.plcode.specs.Steps.{text}

@@ -2,7 +2,7 @@ use Rattle.std.proofs.Common.{◌∙◌, ◌∷◌, [], Result, Ok, Err, OnOk, I
 use Rattle.plsearch.specs.Search.{search_of}
 use Rattle.plsolver.specs.Solver.{rest_of}
 use Rattle.plrun.specs.Overall.{IsHistory}
-use Rattle.plrun.proofs.Halting.{halts-no-sooner}
+use Rattle.plsearch.proofs.Halting.{halts-no-sooner}
 use Rattle.plrun.proofs.Serve.{finished}
 use Rattle.plrun.proofs.thread.run.Goals as goal
 

@@ -3,7 +3,7 @@ use Rattle.plevent.specs.declared.request.Request.{Request}
 use Rattle.plsearch.specs.Search.{search_of}
 use Rattle.plsolver.specs.declared.progress.Progress.{Progress}
 use Rattle.plsolver.specs.Solver.{latest_view, rest_of, WaitsForReply}
-use Rattle.plrun.proofs.Halting.{halts-when-done}
+use Rattle.plsearch.proofs.Halting.{halts-when-done}
 use Rattle.plrun.proofs.Serve.{MayWait, longer, served-by, started-same, reply-fits}
 use Rattle.plworld.proofs.Serving.{grows-in, replies-in}
 use Rattle.plrun.proofs.thread.serve.Goals as goal

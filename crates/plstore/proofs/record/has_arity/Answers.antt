@@ -1,5 +1,5 @@
 use Rattle.std.proofs.Common.{sym, ◌∙◌, ap, nat_eq, length}
-use Rattle.plterm.specs.Tree.{list_of-trees}
+use Rattle.plterm.proofs.Forests.{list_of-trees}
 use Rattle.plstore.proofs.record.has_arity.Goals as goal
 
 pub returns : goal.returns

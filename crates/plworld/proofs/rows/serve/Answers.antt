@@ -4,7 +4,7 @@ use Rattle.plevent.specs.declared.request.Request.{Request}
 use Rattle.plevent.specs.declared.request.Reply.{Reply}
 use Rattle.plevent.specs.declared.act.Entry.{Entry}
 use Rattle.plevent.specs.declared.standing.Standing.{Standing}
-use Rattle.plevent.specs.Alive.{add_if}
+use Rattle.plevent.specs.Alive.{change_if}
 use Rattle.plevent.specs.Reading.{reading}
 use Rattle.plevent.specs.Rows.{is_halted, is_leave, served, served_while}
 use Rattle.plstore.specs.Kept.{Kept}
@@ -12,9 +12,9 @@ use Rattle.plworld.specs.Worlds.{IsWorld}
 use Rattle.plworld.proofs.rows.serve.Goals as goal
 
 -- the row, by whether the request is stopped
-served-by : (b : Bool) (h : List Entry) (s : Standing) (k : Kept) (q : Request) (t : ℕ) → IsWorld h s k → (is_halted s && not (is_leave q)) ≡ b → add_if b (Reply.Stopped, None) (served_while q t (reading h)) ≡ served q t (reading h)
+served-by : (b : Bool) (h : List Entry) (s : Standing) (k : Kept) (q : Request) (t : ℕ) → IsWorld h s k → (is_halted s && not (is_leave q)) ≡ b → change_if b (Reply.Stopped, None) (served_while q t (reading h)) ≡ served q t (reading h)
 unfolding served
-served-by b h s k q t w e = ap (λ b. add_if b (Reply.Stopped, None) (served_while q t (reading h))) (sym e ∙ ap (λ s. is_halted s && not (is_leave q)) w.standing)
+served-by b h s k q t w e = ap (λ b. change_if b (Reply.Stopped, None) (served_while q t (reading h))) (sym e ∙ ap (λ s. is_halted s && not (is_leave q)) w.standing)
 
 pub returns-then-stops : goal.returns-then-stops
 returns-then-stops c = λ h w. served-by true h _ _ c.args.request c.args.thread w (sym c.stops.ensures ∙ c.if-stops.true)

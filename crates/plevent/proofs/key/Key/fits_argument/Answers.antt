@@ -1,5 +1,5 @@
 use Rattle.std.proofs.Common.{◌∙◌, ap, sym, length}
-use Rattle.plterm.specs.Tree.{list_of-trees}
+use Rattle.plterm.proofs.Forests.{list_of-trees}
 use Rattle.plevent.specs.Keys.{fits_functor, key_of, may_fit}
 use Rattle.plevent.proofs.key.Key.fits_argument.Goals as goal
 

@@ -1,5 +1,5 @@
 use Rattle.std.proofs.Common.{◌∙◌, ap, sym, length}
-use Rattle.plterm.specs.Tree.{list_of-trees}
+use Rattle.plterm.proofs.Forests.{list_of-trees}
 use Rattle.plevent.specs.declared.key.Key.TheVariants.{Functor}
 use Rattle.plevent.specs.Keys.{key_of}
 use Rattle.plstore.specs.Slots.{slot_behind}

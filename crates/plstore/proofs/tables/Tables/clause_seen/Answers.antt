@@ -1,6 +1,6 @@
 use Rattle.std.proofs.Common.{◌∙◌, sym, ap, ap₂, subst, Some, None}
 use Rattle.std.specs.Option.{option_map}
-use Rattle.plevent.specs.Alive.{add_if}
+use Rattle.plevent.specs.Alive.{change_if}
 use Rattle.plstore.specs.declared.record.Record.{Record}
 use Rattle.plstore.specs.Kept.{clause_of, seen}
 use Rattle.plstore.specs.Rising.{NoneIs, OneIs}
@@ -11,7 +11,7 @@ use Rattle.plstore.proofs.tables.Tables.clause_seen.Goals as goal
 pub returns-in-None : goal.returns-in-None
 returns-in-None c =
     let k = kept_in c.args.self.now in
-    ap (λ b. add_if b (clause_of c.args.name k) None) (here-none c.args.g c.args.name k.records (subst (NoneIs c.args.name) c.deref.ensures.value c.in-None.ensures))
+    ap (λ b. change_if b (clause_of c.args.name k) None) (here-none c.args.g c.args.name k.records (subst (NoneIs c.args.name) c.deref.ensures.value c.in-None.ensures))
 
 pub returns-in-Some : goal.returns-in-Some
 returns-in-Some c =
@@ -19,5 +19,5 @@ returns-in-Some c =
     let r = c.index.result.now in
     let one = subst (λ l. OneIs c.args.name l c.in-Some.index) c.deref.ensures.value c.in-Some.ensures in
     c.clause_at.ensures
-    ∙ ap₂ (λ b o. add_if b o None) (ap (seen c.args.g) c.index.ensures ∙ here-one c.args.g c.args.name k.records c.in-Some.index r one)
+    ∙ ap₂ (λ b o. change_if b o None) (ap (seen c.args.g) c.index.ensures ∙ here-one c.args.g c.args.name k.records c.in-Some.index r one)
     (ap (λ (r : Record). Some r.clause) c.index.ensures ∙ sym (ap (option_map (λ (r : Record). r.clause)) (find-one c.args.name k.records c.in-Some.index r one)))

@@ -1,5 +1,5 @@
 use Rattle.std.proofs.Common.{refl, ◌∙◌, sym, ap, ap₂, length, ◌++◌, ◌∷◌, [], Some}
-use Rattle.plevent.specs.Alive.{add_if}
+use Rattle.plevent.specs.Alive.{change_if}
 use Rattle.pltx.specs.Own.{erasing, is_target}
 use Rattle.pltx.proofs.Drafting.{draft-above, tracked-more, tracked-same}
 use Rattle.pltx.proofs.Fronts.{erasing-plain, more-kept, one-more}
@@ -23,7 +23,7 @@ returns-clause-kept c =
     record {
       tracked = tracked-more o _ c.len-number.result (erasing s) c.requires.kept.tracked (c.len-number.ensures ∙ c.reserve.new.self.ok.0 ∙ ap length c.reserve.ensures.items)
           (c.append.ensures ∙ ap₂ (λ l u. l ++ u ∷ []) c.reserve.ensures.items c.erasing.ensures) c.in_ok-erase_in.ensures.made
-          (λ t. c.mark.ensures t ∙ ap₂ (λ a b. add_if (is_target t a) (Some c.len-number.result) b) (sym (erasing-some s)) (sym (get-is c.reserve-2.new.self t) ∙ c.reserve-2.ensures.entries.2 t ∙ get-is o.marks t)) (fresh-erasing s o.updates.items c.requires.fresh)
+          (λ t. c.mark.ensures t ∙ ap₂ (λ a b. change_if (is_target t a) (Some c.len-number.result) b) (sym (erasing-some s)) (sym (get-is c.reserve-2.new.self t) ∙ c.reserve-2.ensures.entries.2 t ∙ get-is o.marks t)) (fresh-erasing s o.updates.items c.requires.fresh)
           (more-kept o.updates.items (erasing s) c.before_fronts-self.result o.before_fronts _ _ c.requires.kept.tracked.fronts (one-more c.len.result c.append.new.updates.items c.reserve.new.self.items o.updates.items (erasing s) (c.len.ensures ∙ c.append.new.updates.ok.0) (c.append.ensures ∙ ap (λ u. c.reserve.new.self.items ++ u ∷ []) c.erasing.ensures) c.reserve.ensures.items) (erasing-plain s) c.before_fronts-self.ensures.more c.before_fronts-self.ensures.same);
       closed = λ e. absurd (c.requires.open e);
     }

@@ -21,17 +21,9 @@ use Rattle.plsearch.specs.Machines.Weight.{weight, Lighter}
 use Rattle.plsearch.specs.Search.{start_from, start_of, from_start, next_of, search_of}
 use Rattle.plsearch.proofs.Turns.{Rest-turn}
 use Rattle.plsearch.proofs.Weight.{lighter-turn}
-use Rattle.plrun.specs.Halts.{IsCommon, AreCommon}
-use Rattle.plrun.proofs.HaltingRows.{AreProper, IsProper, AllProper, AreProperCases, IsOther, MoveFits, ReturnFits, answered-fits, cut-other, mark-other, publishing-proper, resume-fits, select-fits}
-
--- a search that asks to end the run has ended so once that is done
-abbrev pub HaltsWhenDone : Search → Type 0
-HaltsWhenDone search = (n i : ℕ) (answers : List Answer) → AreCommon answers → (search n answers).next ≡ Wants (Ask (Request.HaltRun i)) →
-    (search n (answers ++ Got Reply.Done ∷ [])).next ≡ Finishes (ThreadEnd.Halt i)
-
--- and not before that is done
-abbrev pub HaltsNoSooner : Search → Type 0
-HaltsNoSooner search = (n i : ℕ) (answers : List Answer) → AreCommon answers → (search n answers).next ≡ Finishes (ThreadEnd.Halt i) → ⊥
+use Rattle.plsearch.specs.Halts.{IsCommon, AreCommon, HaltsNoSooner, HaltsWhenDone}
+use Rattle.plsearch.proofs.HaltingRows.{AreProper, IsProper, AllProper, AreProperCases, IsOther, MoveFits, ReturnFits, answered-fits, cut-other, mark-other, publishing-proper, resume-fits, select-fits}
+use Rattle.plsearch.specs.Laws.{EndsRunWhenDone}
 
 -- a machine that carries no end of the run, and has no answer that would make it one
 abbrev ModeFits : Mode → Type 0
@@ -334,3 +326,6 @@ unfolding search_of start_of Rest outs out
 halts-when-done P limit n i answers common is =
     let from = from_start P (min n limit) answers in
     ap next_of ((visit_comes P (start_of P) from (start_proper P.goals) common).when_done i (next_asks (out (Visit P) 0 (Choice []) (Visit P 1 (start_of P) from)).0 (Ask (Request.HaltRun i)) is))
+
+pub laws : EndsRunWhenDone
+laws P limit = (halts-when-done P limit, halts-no-sooner P limit)

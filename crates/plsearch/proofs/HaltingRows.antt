@@ -42,7 +42,7 @@ use Rattle.plsearch.specs.Replies.{outcome, follows, answered}
 use Rattle.plsearch.specs.Collecting.{copies_from, dropped, gathered}
 use Rattle.plsearch.specs.Handlers.{has, recovers, met_by, goes_on, resume}
 use Rattle.plsearch.specs.Engine.{stop_cut, mark}
-use Rattle.plrun.specs.Halts.{IsCommon}
+use Rattle.plsearch.specs.Halts.{IsCommon}
 
 -- what follows the request to end the run is that end, and behind a batch or an erasure the list goes on
 abbrev pub IsProper : Element → Type 0
