@@ -47,7 +47,6 @@ pub fn catchers_empty()
 {}
 
 /// A search that asks to end the run has ended so once that is done, and ends the run in no other way.
-#[tactic(auto, using(crate::proofs::Halting::laws))]
 pub fn ends_run_when_done()
     ensures { EndsRunWhenDone }
 {}

@@ -8,4 +8,5 @@ returns-clause-ok c = λ v.
     let s = c.args.self.now in
     let t = c.take_view.new.self in
     let frame = c.take_view.ensures.frame in
-    takes c.args.program.now v s (record t { places = c.push.new.self }) (Seen c.args.g (v c.args.g)) (ap (λ x. x.used) frame) (ap (λ x. x.limit) frame) (c.in_ok-take_view.ensures.ok.takes v)
+    let taken = rw c.get.ensures.is at c.in_ok-take_view.ensures.ok in
+    takes c.args.program.now v s (record t { places = c.push.new.self }) (Seen c.args.g (v c.args.g)) (ap (λ x. x.used) frame) (ap (λ x. x.limit) frame) (taken.takes v)
