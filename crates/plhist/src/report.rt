@@ -16,11 +16,8 @@ use std::alloc::{AllocError, Global};
 fn alias(thread: ThreadId) -> &'static str
     ensures { (h : List Entry) → result.now ≡ alias_text (alias_of thread (reading h).standing.threads) }
 {
-    if thread == ThreadId::MAIN {
-        " main"
-    } else {
-        ""
-    }
+    let number = thread.get();
+    if number == 1 { " main" } else { "" }
 }
 
 fn push_end(

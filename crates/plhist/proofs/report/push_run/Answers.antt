@@ -14,7 +14,7 @@ returns c = λ h.
     joined c.args.text.now.items (codes "% thread ") (decimal run.thread) (alias_text (alias_of run.thread (reading h).standing.threads)) (codes ": ") (run_end_text c.args.ops.now run.«end») (codes "\n") run.output (closing run.output)
     _ _ _ _ _ _ _ _
     c.in_ok-extend_from_slice.ensures.items
-    (c.in_ok-extend_from_slice-2.ensures.items ∙ ap (λ l. c.extend_from_slice.new.self.items ++ l) (c.as_bytes.ensures.value ∙ c.format.ensures.text))
+    (c.in_ok-extend_from_slice-2.ensures.items ∙ ap (λ l. c.extend_from_slice.new.self.items ++ l) (c.as_bytes.ensures.value ∙ c.format.ensures.text ∙ ap decimal c.get.ensures))
     (c.in_ok-extend_from_slice-3.ensures.items ∙ ap (λ l. c.extend_from_slice-2.new.self.items ++ l) (c.as_bytes-2.ensures.value ∙ c.alias.ensures h))
     c.in_ok-extend_from_slice-4.ensures.items
     c.in_ok-push_run_end.ensures
