@@ -40,7 +40,7 @@ fn is_construct(heap: &Heap, p: CellId) -> bool
     let (f, count) = heap.block(p);
     let functor = heap.names().functor_of(f);
     let name = heap.names().atom_name(functor.name);
-    holds_goals(name, usize::from(count))
+    holds_goals(name, count as usize)
 }
 
 /// What the term of a value is as a goal.
