@@ -15,9 +15,16 @@ pub told-requires-clause-due : goal.told-requires-clause-due
 unfolding Settled
 told-requires-clause-due c = rw c.in-Paused.is at c.in_ok-due.ensures.due
 
-pub returns-then-used-eq-until-clause-says : goal.returns-then-used-eq-until-clause-says
+pub returns-then-self-until-clause-says : goal.returns-then-self-until-clause-says
 unfolding Says
-returns-then-used-eq-until-clause-says c = (c.in-Goal.selected, rw c.in-Goal.is at c.in_ok-due.ensures.due)
+returns-then-self-until-clause-says c = (c.in-Goal.selected, rw c.in-Goal.is at c.in_ok-due.ensures.due)
+
+pub returns-then-self-until-clause-slice : goal.returns-then-self-until-clause-slice
+unfolding Settled
+returns-then-self-until-clause-slice c = λ _.
+    let i = c.loop-due.invariant in
+    let more = (rw c.in-Goal.is at c.in_ok-due.ensures.due).1 in
+    c.if-self-until.true ∙ i.all (omega (arith, c.if-self-until.true, more, c.settle.ensures.limit, i.limit))
 
 pub step-requires-clause-goal : goal.step-requires-clause-goal
 unfolding Settled
@@ -40,7 +47,10 @@ loop-due-preserved c =
     record {
       goes = goes_on P s t c.step.new.self (c.settle.ensures.limit ∙ i.limit) (goes_on P s c.loop-due.self t i.limit i.goes c.settle.ensures.goes) step.goes;
       of = c.step.ensures.of;
-      used = omega (arith, step.used, c.settle.ensures.used, i.used, c.if-used-eq-until.false);
+      used = omega (arith, step.used, c.settle.ensures.used, i.used, c.if-self-until.false);
+      until = i.until;
+      few = i.few;
+      all = i.all;
       within = omega (arith, step.used, more, c.settle.ensures.limit, i.limit);
       limit = step.limit ∙ c.settle.ensures.limit ∙ i.limit;
       places = step.places ∙ c.settle.ensures.places ∙ i.places;
@@ -57,8 +67,8 @@ in_part P s mid t far used walks = record { reached = mid; advances = far; used 
 pub returns-in_err-due-clause-walks : goal.returns-in_err-due-clause-walks
 returns-in_err-due-clause-walks c = in_part c.args.program.now c.args.self.now c.loop-due.self c.settle.new.self c.loop-due.invariant.advances c.settle.ensures.used c.settle.ensures.walks
 
-pub returns-then-used-eq-until-clause-walks : goal.returns-then-used-eq-until-clause-walks
-returns-then-used-eq-until-clause-walks c = in_part c.args.program.now c.args.self.now c.loop-due.self c.settle.new.self c.loop-due.invariant.advances c.settle.ensures.used c.settle.ensures.walks
+pub returns-then-self-until-clause-walks : goal.returns-then-self-until-clause-walks
+returns-then-self-until-clause-walks c = in_part c.args.program.now c.args.self.now c.loop-due.self c.settle.new.self c.loop-due.invariant.advances c.settle.ensures.used c.settle.ensures.walks
 
 pub returns-in-Paused-clause-walks : goal.returns-in-Paused-clause-walks
 returns-in-Paused-clause-walks c = in_part c.args.program.now c.args.self.now c.loop-due.self c.settle.new.self c.loop-due.invariant.advances c.settle.ensures.used c.settle.ensures.walks
@@ -71,8 +81,8 @@ returns-in_err-step-clause-walks c =
     in_part c.args.program.now c.args.self.now c.loop-due.self new c.loop-due.invariant.advances (err.used ∙ c.settle.ensures.used)
     (onward_trans 0 0 0 (activations c.loop-due.self.machine) (in_cases t.machine.stack) (in_cases new.machine.stack) (omega arith) c.settle.ensures.walks (onward_further t.machine.stack new.machine.stack (further_ends t.machine.stack new.machine.stack c.step.ensures.walks)))
 
-pub returns-then-used-eq-until-clause-advances : goal.returns-then-used-eq-until-clause-advances
-returns-then-used-eq-until-clause-advances c = advances_settles c.args.program.now c.args.self.now c.loop-due.self c.settle.new.self c.loop-due.invariant.advances c.in_ok-due.ensures.settles
+pub returns-then-self-until-clause-advances : goal.returns-then-self-until-clause-advances
+returns-then-self-until-clause-advances c = advances_settles c.args.program.now c.args.self.now c.loop-due.self c.settle.new.self c.loop-due.invariant.advances c.in_ok-due.ensures.settles
 
 pub returns-in-Paused-clause-advances : goal.returns-in-Paused-clause-advances
 returns-in-Paused-clause-advances c = if_ok_all c.told.result (advances_settles c.args.program.now c.args.self.now c.loop-due.self c.settle.new.self c.loop-due.invariant.advances c.in_ok-due.ensures.settles)
