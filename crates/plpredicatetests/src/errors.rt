@@ -1,0 +1,166 @@
+//! Errors (ISO/IEC 13211-1 7.12.2), as planswers makes them.
+ghost use Rattle.std.specs.Prelude.{◌≡◌, []};
+ghost use Rattle.plcells.specs.Store.{AreValues, IsValue};
+
+use crate::made::{empty, put_arguments, text_of, word};
+use planswers::answer::Answer;
+use planswers::error;
+use plcells::cell::Cell;
+use plcells::heap::Heap;
+use plterm::term::Term;
+use std::alloc::{AllocError, Global};
+use std::string::String;
+use std::test::Fail;
+
+/// What is amiss.
+#[derive(Clone, Copy)]
+enum Amiss {
+    Unbound,
+    Type,
+    Domain,
+    Permission,
+    Representation,
+    Syntax,
+    NoAtom,
+    Outside,
+    Value,
+    /// These three are raised by an answer.
+    RaisesUnbound,
+    RaisesType,
+    RaisesOutside,
+}
+
+/// The error that an answer raises, if it raises one.
+fn raised(answer: Answer) -> Option<Term> {
+    match answer {
+        Answer::Raises(error) => Some(error),
+        _ => None,
+    }
+}
+
+/// The error that is made of a word, and of no value.
+fn of_word(alloc: Global, amiss: Amiss) -> Result<Option<Term>, AllocError> {
+    let error = match amiss {
+        Amiss::Unbound => error::instantiation_error(alloc)?,
+        Amiss::Representation => error::representation_error(alloc, "max_arity")?,
+        _ => error::syntax_error(alloc, "illegal_number")?,
+    };
+    Ok(Some(error))
+}
+
+/// The error that is made of a term.
+fn of_term(alloc: Global, amiss: Amiss, culprit: Term) -> Result<Option<Term>, AllocError> {
+    let error = match amiss {
+        Amiss::Domain => error::domain_error(alloc, "order", culprit)?,
+        _ => error::permission_error(alloc, "modify", "flag", culprit)?,
+    };
+    Ok(Some(error))
+}
+
+/// The error that the answer to a value raises.
+fn of_answer(alloc: Global, heap: &Heap, amiss: Amiss, v: Cell) -> Result<Option<Term>, AllocError>
+    requires { IsValue heap.now v }
+{
+    let answer = match amiss {
+        Amiss::RaisesType => error::wrong_type(alloc, heap, "list", v)?,
+        Amiss::RaisesOutside => error::outside(alloc, heap, "order", v)?,
+        _ => error::unbound(alloc)?,
+    };
+    Ok(raised(answer))
+}
+
+/// The error of two values, the first of which is a flag where the second is its value; none, where there is no error.
+fn error_of(
+    alloc: Global,
+    heap: &Heap,
+    amiss: Amiss,
+    v: Cell,
+    w: Cell,
+) -> Result<Option<Term>, AllocError>
+    requires first { IsValue heap.now v }
+    requires second { IsValue heap.now w }
+{
+    match amiss {
+        Amiss::Unbound | Amiss::Representation | Amiss::Syntax => of_word(alloc, amiss),
+        Amiss::Domain | Amiss::Permission => of_term(alloc, amiss, heap.take(alloc, v)?),
+        Amiss::NoAtom => error::atom_error(alloc, heap, v),
+        Amiss::Type => Ok(Some(error::type_error(alloc, heap, "list", v)?)),
+        Amiss::Outside => Ok(Some(error::outside_error(alloc, heap, "order", v)?)),
+        Amiss::Value => Ok(Some(error::value_error(alloc, heap, v, w)?)),
+        _ => of_answer(alloc, heap, amiss, v),
+    }
+}
+
+/// What is amiss with the arguments of a goal, and their error.
+const ERRORS: [(Amiss, &str, &str); 15] = [
+    (Amiss::Unbound, "g(X, Y)", "instantiation_error"),
+    (Amiss::Type, "g(f(X, a), Y)", "type_error(list,f(_1,a))"),
+    (Amiss::Domain, "g(a, Y)", "domain_error(order,a)"),
+    (
+        Amiss::Permission,
+        "g(bounded, Y)",
+        "permission_error(modify,flag,bounded)",
+    ),
+    (
+        Amiss::Representation,
+        "g(X, Y)",
+        "representation_error(max_arity)",
+    ),
+    (Amiss::Syntax, "g(X, Y)", "syntax_error(illegal_number)"),
+    (Amiss::NoAtom, "g(1, Y)", "type_error(atom,1)"),
+    (Amiss::NoAtom, "g(f(a), Y)", "type_error(atom,f(a))"),
+    (Amiss::NoAtom, "g(a, Y)", "none"),
+    (Amiss::NoAtom, "g(X, Y)", "none"),
+    (Amiss::Outside, "g(12, Y)", "domain_error(order,12)"),
+    (
+        Amiss::Value,
+        "g(unknown, f(X))",
+        "domain_error(flag_value,unknown+f(_1))",
+    ),
+    (Amiss::RaisesUnbound, "g(a, Y)", "instantiation_error"),
+    (Amiss::RaisesType, "g([a|b], Y)", "type_error(list,[a|b])"),
+    (Amiss::RaisesOutside, "g(a, Y)", "domain_error(order,a)"),
+];
+
+/// The text of an error, if there is one.
+fn told(alloc: Global, error: &Option<Term>) -> Result<String, Fail> {
+    match error {
+        Some(error) => text_of(alloc, error),
+        None => word(alloc, "none"),
+    }
+}
+
+/// The error of some values.
+fn of_values(alloc: Global, heap: &Heap, amiss: Amiss, args: &[Cell]) -> Result<String, Fail>
+    requires { AreValues heap.now args.now }
+{
+    let [v, w] = args else {
+        return Err("no two arguments".into());
+    };
+    let error = error_of(alloc, heap, amiss, *v, *w)?;
+    told(alloc, &error)
+}
+
+/// The error of the arguments of a goal that is put on a heap with nothing on it.
+fn made_on(heap: &mut Heap, alloc: Global, amiss: Amiss, goal: &str) -> Result<String, Fail>
+    requires { heap.old.cells ≡ [] }
+{
+    let args = put_arguments(heap, alloc, goal)?;
+    of_values(alloc, heap, amiss, &args)
+}
+
+/// The error of the arguments of a goal.
+fn made(alloc: Global, amiss: Amiss, goal: &str) -> Result<String, Fail> {
+    let mut heap = empty(alloc);
+    made_on(&mut heap, alloc, amiss, goal)
+}
+
+#[test]
+fn rows_of_errors(rt: HostRuntime) -> Result<(), Fail> {
+    let alloc = rt.alloc();
+    for (amiss, goal, wanted) in ERRORS {
+        let found = made(alloc, amiss, goal)?;
+        assert_eq!(rt; found.as_str(), wanted);
+    }
+    Ok(())
+}
