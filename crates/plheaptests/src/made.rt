@@ -1,5 +1,7 @@
 //! Goals that are put into an environment, and the texts of values.
 ghost use Rattle.std.specs.Prelude.{◌≡◌, IfOk, OnOk};
+ghost use Rattle.plterm.specs.Reading.{IsName};
+ghost use Rattle.plterm.specs.Variables.{AllBelow};
 ghost use Rattle.plcells.specs.Store.{AreValues, IsValue};
 ghost use Rattle.plcells.specs.declared.cell.Cell.{Cell as OfCell};
 ghost use Rattle.plgoals.specs.declared.extend.Extended.TheVariants.{Is};
@@ -12,6 +14,7 @@ use plgoals::callable::arguments_of;
 use plgoals::extend::Extended;
 use plload::goal::read_goal;
 use plops::table::OpTable;
+use plterm::name::Name;
 use plterm::term::Term;
 use plwrite::style::Style;
 use plwrite::write::write_term;
@@ -59,6 +62,31 @@ pub(crate) fn put_arguments(
     let mut args = Vec::new(alloc);
     let _number = arguments_of(env.heap(), goal, &mut args)?;
     Ok(args)
+}
+
+/// The name of a text.
+pub(crate) fn name(alloc: Global, text: &str) -> Result<Name, Fail>
+    ensures { IfOk result (λ name. IsName name) }
+{
+    let name = Name::new(alloc, text)?;
+    if name.len() > 65535 {
+        return Err("too long for a name".into());
+    }
+    Ok(name)
+}
+
+/// The term of a goal of two variables, which are 0 and 1.
+pub(crate) fn two_variables(alloc: Global, text: &str) -> Result<Term, Fail>
+    ensures { IfOk result (λ t. AllBelow 2 t) }
+{
+    let Some(goal) = read_goal(alloc, text)? else {
+        return Err("no goal".into());
+    };
+    let copy = goal.copy(alloc, 0)?;
+    if goal.variables(alloc)?.len() != 2 {
+        return Err("not two variables".into());
+    }
+    Ok(copy)
 }
 
 /// The text of a value's term, quoted.
